@@ -213,7 +213,7 @@ static void lose_a_die(void) {
 }
 
 int main(void) {
-    static const struct onfiseq_geometry chip = {512, 16, 4, 8, 1, 0, 0, 0, 0};
+    static const struct onfiseq_geometry chip = {512, 16, 4, 8, 1, 0, 0, 0, 0, 0};
     if (onfiseq_live_begin(&live, &chip, DIES)) return 1;
     read_beside_an_erase();
     lose_power();

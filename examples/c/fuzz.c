@@ -32,7 +32,7 @@ static void must(int holds, const char *what) {
 }
 
 static struct onfiseq_geometry random_chip(void) {
-    struct onfiseq_geometry chip = {512u << draw(3), 16 * draw(5), 4 << draw(3), 8 << draw(4), (uint8_t)(1 + draw(4)), (uint8_t)draw(3), draw(16) != 0, draw(2), draw(2)};
+    struct onfiseq_geometry chip = {512u << draw(3), 16 * draw(5), 4 << draw(3), 8 << draw(4), (uint8_t)(1 + draw(4)), (uint8_t)draw(3), draw(16) != 0, draw(2), draw(2), 0};
     if (draw(32) == 0) chip.luns = (uint8_t)draw(256);
     if (draw(32) == 0) chip.pages = draw(0xffffffff);
     return chip;

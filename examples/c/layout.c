@@ -45,6 +45,7 @@ static void test_numbers(void) {
     IS(geometry.enhanced, 7);
     IS(geometry.multi_plane, 8);
     IS(geometry.cache, 9);
+    IS(geometry.optional, 265);
     IS(look.latch, 10);
     IS(look.register_, 11);
     IS(look.block, 12);
@@ -75,13 +76,14 @@ static void test_flags(void) {
 
 /* The records that no sample holds: a page, and a channel, which another size or version doesn't begin. */
 static void test_others(void) {
-    struct onfiseq_geometry chip = {512, 16, 4, 8, 2, 1, 1, 0, 1};
+    struct onfiseq_geometry chip = {512, 16, 4, 8, 2, 1, 1, 0, 1, 0};
     struct onfiseq_bus bus;
-    struct onfiseq_page page = onfiseq_read_page(NULL, 0);
+    struct onfiseq_page page = onfiseq_read_page(NULL, 0), wider = onfiseq_read_page_as(NULL, 0, 1);
     test(onfiseq_begin(&bus, &chip, 3) == 0 && onfiseq_look_at(&bus, 2, 1).is_there && !onfiseq_look_at(&bus, 3, 0).is_there && !onfiseq_look_at(&bus, 0, 2).is_there, "bus");
     test(onfiseq_begin_sized(&bus, sizeof bus, ONFISEQ_VERSION + 1, &chip, 3) == ONFISEQ_OTHER_VERSION, "another version");
     test(onfiseq_begin_sized(&bus, sizeof bus + 8, ONFISEQ_VERSION, &chip, 3) == ONFISEQ_OTHER_VERSION, "another size");
     test(page.fault == 1 && page.geometry.blocks == 0, "page");
+    test(wider.fault == 1 && wider.geometry.optional == 0, "page of the wider profile");
 }
 
 /* The records of the sequencer. */
@@ -143,7 +145,7 @@ static void test_turn(void) {
 /* A channel of the sequencer, which no sample holds: one that a job of its second target has the bus of. */
 static void test_live(void) {
     static const uint8_t file[20] = {'N', 'M', 'P', '2', 1, 0, 1, 0, 0, 0, 0, 0, 0, 0, 0, 0, 6, 0, 3, 0}; /* col 3 */
-    struct onfiseq_geometry chip = {512, 16, 4, 8, 1, 0, 1, 0, 1};
+    struct onfiseq_geometry chip = {512, 16, 4, 8, 1, 0, 1, 0, 1, 0};
     struct onfiseq_live live;
     struct onfiseq_job job, other;
     test(onfiseq_live_begin(&live, &chip, 2) == 0, "live");

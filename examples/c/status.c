@@ -10,7 +10,7 @@ static const struct onfiseq_item items[] = {
 };
 
 int main(void) {
-    struct onfiseq_geometry chip = {512, 16, 4, 8, 1, 0, 0, 0, 1};
+    struct onfiseq_geometry chip = {512, 16, 4, 8, 1, 0, 0, 0, 1, 0};
     struct onfiseq_bus bus;
     if (onfiseq_begin(&bus, &chip, 1)) return 1;
     for (size_t k = 0; k < sizeof items / sizeof *items; k++) {

@@ -46,7 +46,7 @@ static void run_reset(unsigned ce) {
 }
 
 int main(void) {
-    static const struct onfiseq_geometry chip = {512, 16, 4, 8, 1, 0, 0, 0, 0};
+    static const struct onfiseq_geometry chip = {512, 16, 4, 8, 1, 0, 0, 0, 0, 0};
     struct onfiseq_job job;
     if (onfiseq_live_begin(&live, &chip, TARGETS)) return 1;
     onfiseq_job_begin(&live, 0, 0, 0, program, sizeof program, 16, &job);

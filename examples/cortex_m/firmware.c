@@ -95,7 +95,7 @@ static bool run_job(const uint8_t *file, size_t length, uint32_t row) {
 }
 
 int run(void) {
-    static const struct onfiseq_geometry chip = {512, 16, 4, 8, 1, 0, false, false, false};
+    static const struct onfiseq_geometry chip = {512, 16, 4, 8, 1, 0, false, false, false, 0};
     for (unsigned k = 0; k < PAGES * PAGE; k++) pages[k / PAGE][k % PAGE] = (uint8_t)(k % PAGE);
     onfiseq_live_begin(&live, &chip, 1);
     if (!run_job(erase_block, sizeof erase_block, 4)) return 1;

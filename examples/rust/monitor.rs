@@ -12,6 +12,7 @@ struct Geometry {
     luns: u8,
     plane_bits: u8,
     declared: [u8; 3],
+    optional: u16,
 }
 
 #[repr(C)]

@@ -7,7 +7,7 @@ ghost use Rattle.std.specs.Prelude.{◌≡◌, false};
 ghost use Rattle.target_bus.specs.Bus.{is_output};
 
 use die_model::LunDie;
-use nand_geometry::{Geometry, Parts};
+use nand_geometry::{Geometry, Optional, Parts};
 use onfi_cycle::{Cycle, Kind, Lun};
 use std::alloc::Global;
 use std::time::Instant;
@@ -24,6 +24,7 @@ const ONE_LUN: Parts = Parts {
     enhanced: false,
     multi_plane: false,
     cache: false,
+    optional: Optional::NONE,
 };
 
 const PAGE_LEN: u32 = 4352;

@@ -7,7 +7,7 @@ use anyhow::{anyhow, bail};
 use die_model::LunDie;
 use micro_verify::verify;
 use micro_word::{Text, Word};
-use nand_geometry::{Geometry, Parts};
+use nand_geometry::{Geometry, Optional, Parts};
 use onfi_cycle::{Kind, Lun};
 use seq_core::{Core, Job, Stepped};
 use seq_live::{Live, Pins, step_on};
@@ -27,6 +27,7 @@ const ONE_LUN: Parts = Parts {
     enhanced: false,
     multi_plane: false,
     cache: false,
+    optional: Optional::NONE,
 };
 
 const PAGE_LEN: usize = 4352;

@@ -33,8 +33,8 @@ use Rattle.bus_record.specs.Rule.{by_option}
 use Rattle.target_record.specs.declared.record.OnfiseqTarget.{OnfiseqTarget}
 use Rattle.onfi_cycle.specs.declared.forbidden.Forbidden.{Forbidden}
 use Rattle.onfi_cycle.specs.declared.item.Item.{Item}
-use Rattle.bus_record.specs.Changing.{AreLittle, HaveRoom}
-use Rattle.bus_record.proofs.Done.{nothing_left}
+use Rattle.bus_record.specs.Changing.{AreLittle, HaveRoom, effect_of_input, luns_left}
+use Rattle.bus_record.proofs.Done.{input_left, input_keeps_room}
 use Rattle.target_record.specs.declared.record.OnfiseqLun.{OnfiseqLun}
 
 map_set : {X Y : Type 0} (f : X → Y) (xs : List X) (k : ℕ) (x : X) → map f (slice_set xs k x) ≡ slice_set (map f xs) k (f x)
@@ -128,10 +128,14 @@ after_output g n c s u kind permitted tail luns =
     target_cycled g c OutputCycle s u (ap (λ (k : Kind). target_cycle k c.byte) (sym kind)) tail
     (luns ∙ ap (λ (b : Bool). luns_after_cycle g s.tail b OutputCycle 0 s.luns) (sym (is_driven g n c s kind permitted)))
 
-pub after_input : (g : Parts) (c : Cycle) (s u : TargetView) → c.kind ≡ Din → u.tail ≡ facts_after (InputCycle c.byte) s.tail → u.luns ≡ s.luns → u ≡ target_after g (Cyc c) s
+-- an input takes no place in a queue
+pub input_room : (g : Parts) (s : TargetView) → TargetFits g s → HaveRoom (luns_left (effect_of_input s.tail) s.luns)
+input_room g s f = input_keeps_room s.tail s.luns (have_room_each s.luns (have_room g s f))
+
+pub after_input : (g : Parts) (c : Cycle) (s u : TargetView) → c.kind ≡ Din → u.tail ≡ facts_after (InputCycle c.byte) s.tail → u.luns ≡ luns_left (effect_of_input s.tail) s.luns → u ≡ target_after g (Cyc c) s
 after_input g c s u kind tail luns =
     target_cycled g c (InputCycle c.byte) s u (ap (λ (k : Kind). target_cycle k c.byte) (sym kind)) tail
-    (luns ∙ nothing_left g s.tail (InputCycle c.byte) (λ l m. refl) (has_driver s.luns) 0 s.luns)
+    (luns ∙ input_left g s.tail c.byte s.luns)
 
 -- ---- a step of a target
 

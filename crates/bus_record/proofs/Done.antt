@@ -1,26 +1,26 @@
--- What a command or an address does to the LUNs of its target, all at once, is what it does to each of them.
-use Rattle.std.proofs.Common.{◌≡◌, ℕ, zero, suc, ◌+◌, ◌<◌, ◌==◌, ◌≢◌, Bool, true, false, ◌&&◌, cond, not, Option, Some, None, List, [], ◌∷◌, map, refl, sym, ap, ◌∙◌, arith}
+-- What a command, an address or an input does to the LUNs of its target, all at once, is what it does to each of them.
+use Rattle.std.proofs.Common.{◌≡◌, ℕ, zero, suc, ◌+◌, ◌%◌, ◌<◌, ◌==◌, ◌≢◌, Bool, true, false, ◌&&◌, cond, not, Option, Some, None, List, [], ◌∷◌, map, refl, sym, ap, ◌∙◌, arith}
 use Rattle.std.proofs.lemmas.Bool.{eq-eqb}
 use Rattle.std.proofs.lemmas.Bool.Decides.{nat_tests}
 use Rattle.nand_geometry.specs.declared.parts.Parts.{Parts}
 use Rattle.nand_geometry.specs.Row.{parts_of}
 use Rattle.onfi_cycle.specs.declared.command.Command.{Command}
-use Rattle.onfi_cycle.specs.declared.command.Command.TheVariants.{Read, ReadConfirm, ChangeReadColumn, ChangeReadColumnConfirm, BlockErase, BlockEraseConfirm, BlockErasePlane, ReadStatus, ReadStatusEnhanced, PageProgram, ChangeWriteColumn, ProgramConfirm, ProgramPlane, ReadId, ReadParameterPage, Reset, ReadCacheSequential, ReadCacheEnd, Unknown}
+use Rattle.onfi_cycle.specs.declared.command.Command.TheVariants.{Read, ReadConfirm, ChangeReadColumn, ChangeReadColumnConfirm, BlockErase, BlockEraseConfirm, BlockErasePlane, ReadStatus, ReadStatusEnhanced, PageProgram, ChangeWriteColumn, ProgramConfirm, ProgramPlane, ReadId, ReadParameterPage, Reset, ReadCacheSequential, ReadCacheEnd, ReadUniqueId, GetFeatures, SetFeatures, ResetLun, SynchronousReset, Unknown}
 use Rattle.onfi_cycle.specs.declared.effect.Effect.{Effect}
-use Rattle.onfi_cycle.specs.declared.effect.Effect.TheVariants.{Unaffected, DataOutputEnabled, StatusSelected, StatusRowAwaited, SelectedForStatus, Deselected, IdRead, ParameterPageReadStarted, CacheReadContinued, CacheReadEnded, ResetStarted, ReadColumnChanged}
+use Rattle.onfi_cycle.specs.declared.effect.Effect.TheVariants.{Unaffected, DataOutputEnabled, StatusSelected, StatusRowAwaited, SelectedForStatus, Deselected, FeaturesReadStarted, FeaturesSet, UniqueIdReadStarted, ParameterPageReadStarted, CacheReadContinued, CacheReadEnded, ResetStarted, ReadColumnChanged}
 use Rattle.onfi_cycle.specs.declared.latch.Latch.{Latch}
 use Rattle.onfi_cycle.specs.declared.latch.Latch.TheVariants.{Off, Status, Data}
 use Rattle.onfi_cycle.specs.declared.opening.Opening.{Opening}
 use Rattle.onfi_cycle.specs.declared.tail_facts.TailFacts.{TailFacts}
 use Rattle.onfi_cycle.specs.declared.target_cycle.TargetCycle.{TargetCycle}
-use Rattle.onfi_cycle.specs.declared.target_cycle.TargetCycle.TheVariants.{CommandCycle, AddressCycle}
+use Rattle.onfi_cycle.specs.declared.target_cycle.TargetCycle.TheVariants.{CommandCycle, AddressCycle, InputCycle}
 use Rattle.onfi_cycle.specs.Applied.{one_after, luns_after_cycle}
-use Rattle.onfi_cycle.specs.Effect.{cycle_effect, address_effect, opening_address_effect, confirm_effect, is_off, names_lun}
+use Rattle.onfi_cycle.specs.Effect.{cycle_effect, address_effect, opening_address_effect, confirm_effect, ends_features, id_effect, is_off, names_lun}
 use Rattle.onfi_cycle.specs.Lun.{view_after}
 use Rattle.onfi_cycle.specs.LunView.{LunView}
 use Rattle.onfi_cycle.specs.Sequence.{row, row_with, wants_address, wants_command}
 use Rattle.onfi_cycle.specs.State.{has_driver}
-use Rattle.bus_record.specs.Changing.{driven, luns_left, effect_of_closer, effect_of_command, effect_after_opener, effect_of_address, effect_after_opening}
+use Rattle.bus_record.specs.Changing.{HaveRoom, driven, luns_left, effect_of_closer, effect_of_command, effect_of_identity, effect_after_opener, effect_of_address, effect_after_opening, effect_of_input}
 use Rattle.bus_record.specs.declared.target_effect.TargetEffect.TheVariants.{Nothing, OnEach, OnDriver, OnOne, Selection}
 
 -- 1. what a cycle does to each of them by itself
@@ -124,6 +124,7 @@ command_left g t Read vs = each_left g t (CommandCycle Read) DataOutputEnabled (
 command_left g t ReadStatus vs = each_left g t (CommandCycle ReadStatus) StatusSelected (λ s m. refl) (has_driver vs) 0 vs
 command_left g t ReadStatusEnhanced vs = each_left g t (CommandCycle ReadStatusEnhanced) StatusRowAwaited (λ s m. refl) (has_driver vs) 0 vs
 command_left g t Reset vs = each_left g t (CommandCycle Reset) ResetStarted (λ s m. refl) (has_driver vs) 0 vs
+command_left g t SynchronousReset vs = each_left g t (CommandCycle SynchronousReset) ResetStarted (λ s m. refl) (has_driver vs) 0 vs
 command_left g t ReadCacheSequential vs = driver_left g t (CommandCycle ReadCacheSequential) CacheReadContinued (λ s m. refl) (has_driver vs) vs
 command_left g t ReadCacheEnd vs = driver_left g t (CommandCycle ReadCacheEnd) CacheReadEnded (λ s m. refl) (has_driver vs) vs
 command_left g t ChangeReadColumnConfirm vs = column_left g t vs
@@ -138,9 +139,21 @@ command_left g t PageProgram vs = nothing_left g t (CommandCycle PageProgram) (�
 command_left g t ChangeWriteColumn vs = nothing_left g t (CommandCycle ChangeWriteColumn) (λ s m. always_rests (wants_command t ChangeWriteColumn && names_lun g (row t) m)) (has_driver vs) 0 vs
 command_left g t ReadId vs = nothing_left g t (CommandCycle ReadId) (λ s m. always_rests (wants_command t ReadId && names_lun g (row t) m)) (has_driver vs) 0 vs
 command_left g t ReadParameterPage vs = nothing_left g t (CommandCycle ReadParameterPage) (λ s m. always_rests (wants_command t ReadParameterPage && names_lun g (row t) m)) (has_driver vs) 0 vs
+command_left g t ReadUniqueId vs = nothing_left g t (CommandCycle ReadUniqueId) (λ s m. always_rests (wants_command t ReadUniqueId && names_lun g (row t) m)) (has_driver vs) 0 vs
+command_left g t GetFeatures vs = nothing_left g t (CommandCycle GetFeatures) (λ s m. always_rests (wants_command t GetFeatures && names_lun g (row t) m)) (has_driver vs) 0 vs
+command_left g t SetFeatures vs = nothing_left g t (CommandCycle SetFeatures) (λ s m. always_rests (wants_command t SetFeatures && names_lun g (row t) m)) (has_driver vs) 0 vs
+command_left g t ResetLun vs = nothing_left g t (CommandCycle ResetLun) (λ s m. always_rests (wants_command t ResetLun && names_lun g (row t) m)) (has_driver vs) 0 vs
 command_left g t Unknown vs = nothing_left g t (CommandCycle Unknown) (λ s m. always_rests (wants_command t Unknown && names_lun g (row t) m)) (has_driver vs) 0 vs
 
 -- 3. an address
+
+identity_left : (g : Parts) (t : TailFacts) (byte : ℕ) (e : Effect) (vs : List LunView) → ((s : Latch) (m : ℕ) → cycle_effect g t s (AddressCycle byte) m ≡ cond (wants_address t byte) e Unaffected)
+    → luns_left (effect_of_identity t byte e) vs ≡ luns_after_cycle g t (has_driver vs) (AddressCycle byte) 0 vs
+identity_left g t byte e vs is = at (wants_address t byte) refl
+  where
+    at : (b : Bool) → wants_address t byte ≡ b → luns_left (cond b (OnEach e) Nothing) vs ≡ luns_after_cycle g t (has_driver vs) (AddressCycle byte) 0 vs
+    at true w = each_left g t (AddressCycle byte) e (λ s m. is s m ∙ ap (λ (b : Bool). cond b e Unaffected) w) (has_driver vs) 0 vs
+    at false w = nothing_left g t (AddressCycle byte) (λ s m. is s m ∙ ap (λ (b : Bool). cond b e Unaffected) w) (has_driver vs) 0 vs
 
 opener_left : (g : Parts) (t : TailFacts) (byte : ℕ) (c : Command) (k : ℕ) (vs : List LunView) → ((s : Latch) (m : ℕ) → cycle_effect g t s (AddressCycle byte) m ≡ address_effect g t byte c k m)
     → luns_left (effect_after_opener g t byte c k) vs ≡ luns_after_cycle g t (has_driver vs) (AddressCycle byte) 0 vs
@@ -149,16 +162,17 @@ opener_left g t byte ReadStatusEnhanced k vs is = at (k == 2) refl
     at : (b : Bool) → (k == 2) ≡ b → luns_left (cond b (Selection (parts_of g (row_with t byte)).lun) Nothing) vs ≡ luns_after_cycle g t (has_driver vs) (AddressCycle byte) 0 vs
     at true w = selection_left g t (AddressCycle byte) (parts_of g (row_with t byte)).lun (λ s m. is s m ∙ ap (λ (b : Bool). cond b (cond (names_lun g (row_with t byte) m) SelectedForStatus Deselected) Unaffected) w) (has_driver vs) vs
     at false w = nothing_left g t (AddressCycle byte) (λ s m. is s m ∙ ap (λ (b : Bool). cond b (cond (names_lun g (row_with t byte) m) SelectedForStatus Deselected) Unaffected) w) (has_driver vs) 0 vs
-opener_left g t byte ReadId k vs is = at (wants_address t byte) refl
+opener_left g t byte ResetLun k vs is = at (k == 2) refl
   where
-    at : (b : Bool) → wants_address t byte ≡ b → luns_left (cond b (OnEach IdRead) Nothing) vs ≡ luns_after_cycle g t (has_driver vs) (AddressCycle byte) 0 vs
-    at true w = each_left g t (AddressCycle byte) IdRead (λ s m. is s m ∙ ap (λ (b : Bool). cond b IdRead Unaffected) w) (has_driver vs) 0 vs
-    at false w = nothing_left g t (AddressCycle byte) (λ s m. is s m ∙ ap (λ (b : Bool). cond b IdRead Unaffected) w) (has_driver vs) 0 vs
-opener_left g t byte ReadParameterPage k vs is = at (wants_address t byte) refl
-  where
-    at : (b : Bool) → wants_address t byte ≡ b → luns_left (cond b (OnEach ParameterPageReadStarted) Nothing) vs ≡ luns_after_cycle g t (has_driver vs) (AddressCycle byte) 0 vs
-    at true w = each_left g t (AddressCycle byte) ParameterPageReadStarted (λ s m. is s m ∙ ap (λ (b : Bool). cond b ParameterPageReadStarted Unaffected) w) (has_driver vs) 0 vs
-    at false w = nothing_left g t (AddressCycle byte) (λ s m. is s m ∙ ap (λ (b : Bool). cond b ParameterPageReadStarted Unaffected) w) (has_driver vs) 0 vs
+    at : (b : Bool) → (k == 2) ≡ b → luns_left (cond b (OnOne (parts_of g (row_with t byte)).lun ResetStarted) Nothing) vs ≡ luns_after_cycle g t (has_driver vs) (AddressCycle byte) 0 vs
+    at true w = named_left g t (AddressCycle byte) ResetStarted (parts_of g (row_with t byte)).lun (λ s m. is s m ∙ ap (λ (b : Bool). cond (b && names_lun g (row_with t byte) m) ResetStarted Unaffected) w) (has_driver vs) vs
+    at false w = nothing_left g t (AddressCycle byte) (λ s m. is s m ∙ ap (λ (b : Bool). cond (b && names_lun g (row_with t byte) m) ResetStarted Unaffected) w) (has_driver vs) 0 vs
+opener_left g t byte ReadId k vs is = identity_left g t byte (id_effect byte) vs is
+opener_left g t byte ReadParameterPage k vs is = identity_left g t byte ParameterPageReadStarted vs is
+opener_left g t byte ReadUniqueId k vs is = identity_left g t byte UniqueIdReadStarted vs is
+opener_left g t byte GetFeatures k vs is = identity_left g t byte (FeaturesReadStarted byte) vs is
+opener_left g t byte SetFeatures k vs is = nothing_left g t (AddressCycle byte) is (has_driver vs) 0 vs
+opener_left g t byte SynchronousReset k vs is = nothing_left g t (AddressCycle byte) is (has_driver vs) 0 vs
 opener_left g t byte Read k vs is = nothing_left g t (AddressCycle byte) is (has_driver vs) 0 vs
 opener_left g t byte ReadConfirm k vs is = nothing_left g t (AddressCycle byte) is (has_driver vs) 0 vs
 opener_left g t byte ChangeReadColumn k vs is = nothing_left g t (AddressCycle byte) is (has_driver vs) 0 vs
@@ -182,3 +196,24 @@ address_left g t byte vs = at t.opening refl
     at : (o : Option Opening) → t.opening ≡ o → luns_left (effect_after_opening g t byte o) vs ≡ luns_after_cycle g t (has_driver vs) (AddressCycle byte) 0 vs
     at None w = nothing_left g t (AddressCycle byte) (λ s m. ap (λ (x : Option Opening). opening_address_effect g t byte x m) w) (has_driver vs) 0 vs
     at (Some o) w = opener_left g t byte o.opener o.addresses vs (λ s m. ap (λ (x : Option Opening). opening_address_effect g t byte x m) w)
+
+-- 4. an input
+
+pub input_left : (g : Parts) (t : TailFacts) (byte : ℕ) (vs : List LunView) → luns_left (effect_of_input t) vs ≡ luns_after_cycle g t (has_driver vs) (InputCycle byte) 0 vs
+input_left g t byte vs = at (ends_features t) refl
+  where
+    at : (b : Bool) → ends_features t ≡ b → luns_left (cond b (OnEach (FeaturesSet (t.column % 256))) Nothing) vs ≡ luns_after_cycle g t (has_driver vs) (InputCycle byte) 0 vs
+    at true w = each_left g t (InputCycle byte) (FeaturesSet (t.column % 256)) (λ s m. ap (λ (b : Bool). cond b (FeaturesSet (t.column % 256)) Unaffected) w) (has_driver vs) 0 vs
+    at false w = nothing_left g t (InputCycle byte) (λ s m. ap (λ (b : Bool). cond b (FeaturesSet (t.column % 256)) Unaffected) w) (has_driver vs) 0 vs
+
+-- it takes no place in a queue
+set_keeps_room : (address : ℕ) (vs : List LunView) → HaveRoom vs → HaveRoom (map (view_after (FeaturesSet address)) vs)
+set_keeps_room address [] h = tt
+set_keeps_room address (v ∷ vs) h = (h.0, set_keeps_room address vs h.1)
+
+pub input_keeps_room : (t : TailFacts) (vs : List LunView) → HaveRoom vs → HaveRoom (luns_left (effect_of_input t) vs)
+input_keeps_room t vs h = at (ends_features t)
+  where
+    at : (b : Bool) → HaveRoom (luns_left (cond b (OnEach (FeaturesSet (t.column % 256))) Nothing) vs)
+    at true = set_keeps_room (t.column % 256) vs h
+    at false = h

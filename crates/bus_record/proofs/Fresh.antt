@@ -2,6 +2,7 @@
 use Rattle.std.proofs.Common.{◌≡◌, ℕ, zero, suc, ◌+◌, ◌<◌, ◌≤◌, [], ◌∷◌, length, map, take, replicate, refl, arith, false}
 use Rattle.std.specs.List.{All}
 use Rattle.nand_geometry.specs.declared.parts.Parts.{Parts}
+use Rattle.nand_geometry.specs.Optional.{no_optional}
 use Rattle.nand_geometry.specs.Limits.{InLimits}
 use Rattle.onfi_cycle.specs.Lun.{views_from}
 use Rattle.onfi_cycle.specs.State.{Follows, target_view, targets_from}
@@ -20,7 +21,7 @@ fresh_room g ce (suc count) n (suc k) d h = let low : k < length (views_from g [
 
 -- any geometry of so many LUNs will do
 abbrev pub some_geometry : ℕ → Parts
-some_geometry luns = record { page_bytes = 0; spare_bytes = 0; pages = 0; blocks = 0; luns = luns; plane_bits = 0; enhanced = false; multi_plane = false; cache = false }
+some_geometry luns = record { page_bytes = 0; spare_bytes = 0; pages = 0; blocks = 0; luns = luns; plane_bits = 0; enhanced = false; multi_plane = false; cache = false; optional = no_optional }
 
 same_views : (g : Parts) (t : OnfiseqTarget) → ((ce : ℕ) → target_of t ≡ target_view g [] ce) → (n m k : ℕ) → n ≤ m → map target_of (take n (replicate m t)) ≡ targets_from g [] n k
 same_views g t all zero m k h = refl

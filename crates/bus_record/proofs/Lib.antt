@@ -9,3 +9,4 @@ pub mod Asked
 pub mod Begun
 pub mod Sound
 pub mod Spots
+pub mod FeatureBytes

@@ -1,7 +1,7 @@
 -- A run of data cycles on a channel in the caller's memory.
 use Rattle.std.proofs.Common.{◌≡◌, ℕ, zero, suc, ◌+◌, ◌<◌, ◌≤◌, Bool, true, false, cond, List, [], ◌∷◌, Option, Some, None, length, map, take, get_or, slice_set, refl, sym, ap, ◌∙◌, arith, subst}
 use Rattle.std.specs.List.{slice_get, All}
-use Rattle.std.proofs.lemmas.List.{length-set}
+use Rattle.std.proofs.lemmas.List.{length-set, get_or-set_same, set-set}
 use Rattle.std.proofs.lemmas.List.Elements.{All-set}
 use Rattle.std.proofs.lemmas.Option.{slice_get-get_or}
 use Rattle.onfi_cycle.specs.declared.forbidden.Forbidden.{Forbidden}
@@ -13,7 +13,10 @@ use Rattle.onfi_cycle.specs.Inputs.{against_inputs, judged_inputs, fed_target}
 use Rattle.onfi_cycle.specs.Outputs.{against_rest, given_on, judged_outputs, given_target, AreFew}
 use Rattle.onfi_cycle.specs.Permitted.{judge}
 use Rattle.onfi_cycle.specs.Runs.{first_rule, judged_run, after_run}
-use Rattle.onfi_cycle.specs.State.{TargetView, BusView, bus, bus_after}
+use Rattle.nand_geometry.specs.declared.parts.Parts.{Parts}
+use Rattle.onfi_cycle.specs.Sequence.{takes_features}
+use Rattle.onfi_cycle.specs.State.{TargetView, BusView, bus, bus_after, target_after}
+use Rattle.onfi_cycle.proofs.Following.{applied}
 use Rattle.onfi_cycle.proofs.Inputs.{inputs_applied}
 use Rattle.onfi_cycle.proofs.Outputs.{outputs_applied, few_after}
 use Rattle.onfi_cycle.proofs.Inputs.{judged_some as inputs_judged_some}
@@ -29,7 +32,7 @@ use Rattle.onfi_cycle.specs.LunView.{LunView}
 use Rattle.onfi_cycle.specs.Effect.{is_data}
 use Rattle.target_record.specs.Record.{HasRoom, target_of}
 use Rattle.bus_record.specs.Rule.{by_option}
-use Rattle.bus_record.specs.Runs.{inputs_rule, inputs_pushed, outputs_rule, outputs_pushed}
+use Rattle.bus_record.specs.Runs.{each_taken, inputs_taken, inputs_rule, inputs_pushed, outputs_rule, outputs_pushed}
 use Rattle.bus_record.proofs.Pushed.{places_of, length_seen, get_seen, set_seen, judged_there, set_same, same_channel, after_keeps}
 
 -- what stands where no target does
@@ -106,11 +109,34 @@ left_there kind k ce count low d u change rule judges is applies = ap (bus (part
         ∙ (ap (bus (parts_of k.geometry)) (set_same (targets_in k) ce (target_of d))
         ∙ ap (λ (o : Option Forbidden). by_option o (after_run kind ce count (bus_view k)) (λ (x : Forbidden). bus_view k)) e)
 
+-- bytes of a Set Features, one by one
+each_applied : (g : Parts) (count ce : ℕ) (ts : List TargetView) (d : TargetView) → ce < length ts → bus g (slice_set ts ce (each_taken g ce count (get_or ts ce d))) ≡ after_run Din ce count (bus g ts)
+each_applied g zero ce ts d low = ap (bus g) (set_same ts ce d)
+each_applied g (suc n) ce ts d low =
+    let u = target_after g (cycle ce Din 0) (get_or ts ce d) in
+    let later = slice_set ts ce u in
+    let same = length-set ts ce u in
+    let there : ce < length later = omega (arith, same, low) in
+    sym (ap (bus g) (set-set ts ce u (each_taken g ce n u)))
+    ∙ (ap (λ (x : TargetView). bus g (slice_set later ce (each_taken g ce n x))) (sym (get_or-set_same ts ce u d low))
+    ∙ (each_applied g n ce later d there
+    ∙ ap (after_run Din ce n) (applied g ts (cycle ce Din 0) ce d u refl refl)))
+
+inputs_taken_applied : (g : Parts) (ts : List TargetView) (ce count : ℕ) (d w : TargetView) → BusFits (bus g ts) → 0 < count → ce < length ts → judged_inputs ce count (bus g ts) ≡ None → w ≡ inputs_taken g ce count (get_or ts ce d)
+    → bus g (slice_set ts ce w) ≡ after_run Din ce count (bus g ts)
+inputs_taken_applied g ts ce count d w fits some low none is = at (takes_features (get_or ts ce d).tail.phase) refl is
+  where
+    at : (b : Bool) → takes_features (get_or ts ce d).tail.phase ≡ b → w ≡ cond b (each_taken g ce count (get_or ts ce d)) (fed_target count (get_or ts ce d)) → bus g (slice_set ts ce w) ≡ after_run Din ce count (bus g ts)
+    at true e h = ap (λ (x : TargetView). bus g (slice_set ts ce x)) h ∙ each_applied g count ce ts d low
+    at false e h = inputs_applied g ts ce ce count d w refl fits some e none h
+
 pub inputs_left : (k : Kept) → IsSound k → (ce count : ℕ) → ce < k.count → 0 < count → (d u : OnfiseqTarget)
     → target_of u ≡ inputs_pushed (parts_of k.geometry) k.count ce count (target_of (get_or k.targets ce d)) → with_target k ce u ≡ run_pushed Din ce count (bus_view k)
 inputs_left k s ce count low some d u is =
-    left_there Din k ce count low d u (fed_target count) (inputs_rule (parts_of k.geometry) k.count ce count (target_of (get_or k.targets ce d))) (inputs_judged k s ce count low some d) is
-    (λ w none e. inputs_applied (parts_of k.geometry) (targets_in k) ce ce count (target_of d) w refl (fits_now k s ce low) some none e)
+    let same = seen_count k s in
+    let there : ce < length (targets_in k) = omega (arith, low, same) in
+    left_there Din k ce count low d u (inputs_taken (parts_of k.geometry) ce count) (inputs_rule (parts_of k.geometry) k.count ce count (target_of (get_or k.targets ce d))) (inputs_judged k s ce count low some d) is
+    (λ w none e. inputs_taken_applied (parts_of k.geometry) (targets_in k) ce count (target_of d) w (fits_now k s ce low) some there none e)
 
 pub outputs_left : (k : Kept) → IsSound k → (ce count : ℕ) → ce < k.count → 0 < count → (d u : OnfiseqTarget)
     → target_of u ≡ outputs_pushed (parts_of k.geometry) k.count ce count (target_of (get_or k.targets ce d)) → with_target k ce u ≡ run_pushed Dout ce count (bus_view k)

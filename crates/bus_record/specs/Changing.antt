@@ -1,15 +1,15 @@
 -- What a command or an address leaves of the LUNs of its target, all at once.
-use Rattle.std.specs.Prelude.{ℕ, ◌==◌, ◌≤◌, ◌<◌, ◌^◌, if◌then◌else◌, List, [], ◌∷◌, Option, Some, None, map}
+use Rattle.std.specs.Prelude.{ℕ, ◌%◌, ◌==◌, ◌≤◌, ◌<◌, ◌^◌, if◌then◌else◌, List, [], ◌∷◌, Option, Some, None, map}
 use Rattle.nand_geometry.specs.declared.parts.Parts.{Parts}
 use Rattle.nand_geometry.specs.Row.{parts_of}
 use Rattle.onfi_cycle.specs.declared.command.Command.{Command}
-use Rattle.onfi_cycle.specs.declared.command.Command.TheVariants.{Read, ReadConfirm, ChangeReadColumnConfirm, BlockEraseConfirm, BlockErasePlane, ReadStatus, ReadStatusEnhanced, ProgramConfirm, ProgramPlane, ReadId, ReadParameterPage, Reset, ReadCacheSequential, ReadCacheEnd}
+use Rattle.onfi_cycle.specs.declared.command.Command.TheVariants.{Read, ReadConfirm, ChangeReadColumnConfirm, BlockEraseConfirm, BlockErasePlane, ReadStatus, ReadStatusEnhanced, ProgramConfirm, ProgramPlane, ReadId, ReadParameterPage, Reset, ReadCacheSequential, ReadCacheEnd, ReadUniqueId, GetFeatures, ResetLun, SynchronousReset}
 use Rattle.onfi_cycle.specs.declared.effect.Effect.{Effect}
-use Rattle.onfi_cycle.specs.declared.effect.Effect.TheVariants.{DataOutputEnabled, StatusSelected, StatusRowAwaited, SelectedForStatus, Deselected, IdRead, ParameterPageReadStarted, CacheReadContinued, CacheReadEnded, ResetStarted, ReadColumnChanged}
+use Rattle.onfi_cycle.specs.declared.effect.Effect.TheVariants.{DataOutputEnabled, StatusSelected, StatusRowAwaited, SelectedForStatus, Deselected, IdRead, UniqueIdReadStarted, FeaturesReadStarted, FeaturesSet, ParameterPageReadStarted, CacheReadContinued, CacheReadEnded, ResetStarted, ReadColumnChanged}
 use Rattle.onfi_cycle.specs.declared.opening.Opening.{Opening}
 use Rattle.onfi_cycle.specs.declared.tail_facts.TailFacts.{TailFacts}
 use Rattle.onfi_cycle.specs.Applied.{one_after}
-use Rattle.onfi_cycle.specs.Effect.{confirm_effect, is_off}
+use Rattle.onfi_cycle.specs.Effect.{confirm_effect, id_effect, ends_features, is_off}
 use Rattle.onfi_cycle.specs.Lun.{view_after}
 use Rattle.onfi_cycle.specs.LunView.{LunView}
 use Rattle.onfi_cycle.specs.Sequence.{row, row_with, wants_address, wants_command}
@@ -54,6 +54,7 @@ effect_of_command g t Read = OnEach DataOutputEnabled
 effect_of_command g t ReadStatus = OnEach StatusSelected
 effect_of_command g t ReadStatusEnhanced = OnEach StatusRowAwaited
 effect_of_command g t Reset = OnEach ResetStarted
+effect_of_command g t SynchronousReset = OnEach ResetStarted
 effect_of_command g t ReadCacheSequential = OnDriver CacheReadContinued
 effect_of_command g t ReadCacheEnd = OnDriver CacheReadEnded
 effect_of_command g t ChangeReadColumnConfirm = effect_of_column_confirm t
@@ -69,14 +70,20 @@ effect_of_command g t _ = Nothing
 abbrev pub selection : Parts → TailFacts → ℕ → TargetEffect
 selection g t byte = Selection (parts_of g (row_with t byte)).lun
 
+abbrev pub reset_of_lun : Parts → TailFacts → ℕ → TargetEffect
+reset_of_lun g t byte = OnOne (parts_of g (row_with t byte)).lun ResetStarted
+
 abbrev pub effect_of_identity : TailFacts → ℕ → Effect → TargetEffect
 effect_of_identity t byte e = if wants_address t byte then OnEach e else Nothing
 
 -- one that comes after this opener and so many others
 abbrev pub effect_after_opener : Parts → TailFacts → ℕ → Command → ℕ → TargetEffect
 effect_after_opener g t byte ReadStatusEnhanced n = if n == 2 then selection g t byte else Nothing
-effect_after_opener g t byte ReadId n = effect_of_identity t byte IdRead
+effect_after_opener g t byte ResetLun n = if n == 2 then reset_of_lun g t byte else Nothing
+effect_after_opener g t byte ReadId n = effect_of_identity t byte (id_effect byte)
 effect_after_opener g t byte ReadParameterPage n = effect_of_identity t byte ParameterPageReadStarted
+effect_after_opener g t byte ReadUniqueId n = effect_of_identity t byte UniqueIdReadStarted
+effect_after_opener g t byte GetFeatures n = effect_of_identity t byte (FeaturesReadStarted byte)
 effect_after_opener g t byte _ n = Nothing
 
 abbrev pub effect_after_opening : Parts → TailFacts → ℕ → Option Opening → TargetEffect
@@ -85,3 +92,8 @@ effect_after_opening g t byte (Some o) = effect_after_opener g t byte o.opener o
 
 abbrev pub effect_of_address : Parts → TailFacts → ℕ → TargetEffect
 effect_of_address g t byte = effect_after_opening g t byte t.opening
+
+-- ---- an input
+
+abbrev pub effect_of_input : TailFacts → TargetEffect
+effect_of_input t = if ends_features t then OnEach (FeaturesSet (t.column % 256)) else Nothing

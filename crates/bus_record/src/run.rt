@@ -1,25 +1,28 @@
 //! Runs of data cycles on one target, at the cost of one cycle.
-ghost use Rattle.std.specs.Prelude.{◌≡◌, ◌+◌, ◌^◌, ◌<◌, ◌≤◌, None, length, map, take};
+ghost use Rattle.std.specs.Prelude.{◌≡◌, ◌+◌, ◌^◌, ◌<◌, ◌≤◌, true, None, length, map, take};
 ghost use Rattle.std.specs.List.{All};
 ghost use Rattle.nand_geometry.specs.Limits.{InLimits};
 ghost use Rattle.onfi_cycle.specs.Bounds.{TargetFits};
 ghost use Rattle.onfi_cycle.specs.Channel.{cycle};
 ghost use Rattle.onfi_cycle.specs.declared.item.Item.{Item as ItemValue};
-ghost use Rattle.onfi_cycle.specs.Inputs.{has_no_room, fed_target, judged_inputs, after_inputs};
+ghost use Rattle.onfi_cycle.specs.Sequence.{takes_features};
+ghost use Rattle.onfi_cycle.specs.Inputs.{against_inputs, has_no_room, fed_target, judged_inputs, after_inputs};
 ghost use Rattle.onfi_cycle.specs.Outputs.{has_fewer, against_rest, given_on, given_target, judged_outputs, after_outputs, AreFew};
 ghost use Rattle.bus_record.specs.Bus.{IsSound, bus_view};
 ghost use Rattle.target_record.specs.Record.{IsTarget};
 ghost use Rattle.bus_record.specs.Channel.{IsSameChannel};
 ghost use Rattle.target_record.specs.Geometry.{parts_of};
 ghost use Rattle.target_record.specs.Record.{IsRecord, lun_of, luns_of, tail_of, target_of};
-ghost use Rattle.bus_record.specs.Runs.{inputs_rule, inputs_pushed, outputs_rule, outputs_pushed};
+ghost use Rattle.bus_record.specs.Rule.{by_option};
+ghost use Rattle.bus_record.specs.Runs.{each_taken, inputs_taken, inputs_rule, inputs_pushed, outputs_rule, outputs_pushed};
 
 use crate::bus::OnfiseqBus;
 use crate::tail_change::note_output;
-use onfi_cycle::{Cycle, Forbidden, Kind};
+use crate::target_change::apply_input;
+use onfi_cycle::{Cycle, FEATURE_BYTES, Forbidden, Kind};
 use target_record::{
     OnfiseqGeometry, OnfiseqLun, OnfiseqTarget, driver, judge_input_of, judge_output_of,
-    output_column, register_len, shows_data,
+    output_column, register_len, shows_data, tail_of,
 };
 
 // A data cycle on a target; which byte it is isn't judged.
@@ -49,7 +52,6 @@ fn fed(kept: &OnfiseqTarget, count: usize) -> OnfiseqTarget
 {
     OnfiseqTarget {
         is_open: 0,
-        phase: if kept.phase == 1 { 1 } else { 0 },
         inputs: kept.inputs + count,
         is_empty: 0,
         ..*kept
@@ -119,6 +121,55 @@ fn give_run(luns: &mut [OnfiseqLun; 4], there: usize, count: usize)
     give_from(first, count);
 }
 
+// The target waits for bytes of a Set Features.
+#[inline(always)]
+fn takes_features(kept: &OnfiseqTarget) -> bool
+    ensures { result ≡ takes_features (tail_of kept.now).phase }
+{
+    tail_of(kept).phase.takes_features()
+}
+
+// So many bytes of a Set Features that a target takes, one by one.
+fn apply_each(geometry: &OnfiseqGeometry, kept: &mut OnfiseqTarget, ce: u8, count: usize)
+    requires limits { InLimits (parts_of geometry.now) }
+    requires numbers { IsTarget kept.old }
+    requires fits { TargetFits (parts_of geometry.now) (target_of kept.old) }
+    requires takes { takes_features (tail_of kept.old).phase ≡ true }
+    requires few { kept.old.inputs + count ≤ 4 }
+    ensures value { target_of kept.new ≡ each_taken (parts_of geometry.now) ce count (target_of kept.old) }
+    ensures numbers { IsTarget kept.new }
+{
+    let mut left = count;
+    while left > 0 {
+        apply_input(geometry, kept, data_cycle(ce, Kind::Din));
+        left -= 1;
+    }
+}
+
+// So many bytes of a Set Features on their target, whose first is permitted, if it takes as many.
+#[inline(never)]
+fn push_feature_bytes(
+    geometry: &OnfiseqGeometry,
+    kept: &mut OnfiseqTarget,
+    ce: u8,
+    count: usize,
+) -> Option<Forbidden>
+    requires limits { InLimits (parts_of geometry.now) }
+    requires numbers { IsTarget kept.old }
+    requires fits { TargetFits (parts_of geometry.now) (target_of kept.old) }
+    requires takes { takes_features (tail_of kept.old).phase ≡ true }
+    ensures rule { result ≡ against_inputs (parts_of geometry.now) count (tail_of kept.old) }
+    ensures state { target_of kept.new ≡ by_option result (inputs_taken (parts_of geometry.now) ce count (target_of kept.old)) (λ rule. target_of kept.old) }
+    ensures numbers { IsTarget kept.new }
+{
+    let left = FEATURE_BYTES - kept.inputs;
+    if left < count {
+        return Some(Forbidden::InputMisplaced);
+    }
+    apply_each(geometry, kept, ce, count);
+    None
+}
+
 // So many inputs on their target, if they break no rule.
 pub(crate) fn push_inputs_there(
     geometry: &OnfiseqGeometry,
@@ -136,6 +187,9 @@ pub(crate) fn push_inputs_there(
 {
     if let Some(rule) = judge_input_of(geometry, targets, kept, data_cycle(ce, Kind::Din)) {
         return Some(rule);
+    }
+    if takes_features(kept) {
+        return push_feature_bytes(geometry, kept, ce, count);
     }
     if has_no_room(geometry, kept, count) {
         return Some(Forbidden::ColumnOutside);

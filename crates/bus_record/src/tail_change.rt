@@ -1,11 +1,11 @@
 //! The facts of a target's tail after a cycle, written where they stand.
 ghost use Rattle.std.specs.Prelude.{◌≡◌, ◌==◌, ◌&&◌, true, false, IfSome, ℕ, ◌^◌, ◌<◌, ◌≤◌};
 ghost use Rattle.onfi_cycle.specs.declared.target_cycle.TargetCycle.{TargetCycle as TargetCycleValue};
-ghost use Rattle.onfi_cycle.specs.Command.{command, is_page_program};
-ghost use Rattle.onfi_cycle.specs.Sequence.{column_after_address, facts_after, next_column_place, opened, phase_after_address};
+ghost use Rattle.onfi_cycle.specs.Command.{command, is_page_program, is_set_features};
+ghost use Rattle.onfi_cycle.specs.Sequence.{column_after_address, facts_after, next_column_place, opened, phase_after_address, phase_after_input};
 ghost use Rattle.target_record.specs.Record.{is_set, phase_of, tail_of};
 
-use onfi_cycle::Command;
+use onfi_cycle::{Command, FEATURE_BYTES};
 use target_record::{OnfiseqTarget, is_set, opening_of};
 
 /// The facts of its tail after the command of a byte.
@@ -65,16 +65,40 @@ fn ends_program_row(kept: &OnfiseqTarget) -> bool
     }
 }
 
+// The next address is that of a Set Features.
+fn names_feature(kept: &OnfiseqTarget) -> bool
+    ensures { result ≡ opened (λ c n. is_set_features c && n == 0) (tail_of kept.now).opening }
+{
+    match opening_of(is_set(kept.is_open), kept.opener, kept.addresses) {
+        None => false,
+        Some(opening) => opening.opener == Command::SetFeatures && opening.addresses == 0,
+    }
+}
+
+// Its phase after an input that follows so many others.
+fn phase_after_input(kept: &OnfiseqTarget) -> u8
+    ensures { phase_of result ≡ phase_after_input kept.now.inputs (phase_of kept.now.phase) }
+{
+    match kept.phase {
+        0 | 2 | 3 => 0,
+        1 => 1,
+        _ if kept.inputs < FEATURE_BYTES - 1 => 4,
+        _ => 0,
+    }
+}
+
 // Its phase after an address.
 fn phase_after_address(kept: &OnfiseqTarget) -> u8
     ensures { phase_of result ≡ phase_after_address (tail_of kept.now).opening (tail_of kept.now).phase }
 {
     match kept.phase {
         0 if ends_program_row(kept) => 1,
+        0 if names_feature(kept) => 4,
         0 => 0,
         1 => 0,
         2 => 3,
-        _ => 1,
+        3 => 1,
+        _ => 0,
     }
 }
 
@@ -86,7 +110,8 @@ fn column_place(phase: u8) -> usize
         0 => 2,
         1 => 2,
         2 => 0,
-        _ => 1,
+        3 => 1,
+        _ => 2,
     }
 }
 
@@ -173,7 +198,7 @@ pub(crate) fn note_input(kept: &mut OnfiseqTarget)
     if !is_set(kept.is_empty) {
         kept.is_open = 0;
         kept.opener = 0;
-        kept.phase = if kept.phase == 1 { 1 } else { 0 };
+        kept.phase = phase_after_input(kept);
         kept.addresses = 0;
         kept.inputs += 1;
     }

@@ -13,7 +13,7 @@ ghost use Rattle.target_record.specs.Record.{target_of};
 
 use crate::luns_change::{change_first, give_first};
 use crate::tail_change::{note_address, note_command, note_input, note_output};
-use crate::target_effect::{effect_of_address, effect_of_command};
+use crate::target_effect::{effect_of_address, effect_of_command, effect_of_input};
 use onfi_cycle::{Command, Cycle};
 use target_record::{OnfiseqGeometry, OnfiseqTarget};
 
@@ -54,7 +54,9 @@ pub(crate) fn apply_input(geometry: &OnfiseqGeometry, kept: &mut OnfiseqTarget, 
 {
     let _geometry = *geometry;
     let _cycle = cycle;
+    let effect = effect_of_input(kept);
     note_input(kept);
+    change_first(&mut kept.luns, kept.count, effect);
 }
 
 /// What a permitted command leaves of its target.

@@ -1,13 +1,13 @@
 //! What a command or an address does to the LUNs of its target.
 ghost use Rattle.std.specs.Prelude.{◌≡◌};
 ghost use Rattle.nand_geometry.specs.Limits.{InLimits};
-ghost use Rattle.onfi_cycle.specs.Effect.{confirm_effect};
-ghost use Rattle.bus_record.specs.Changing.{effect_of_closer, effect_of_column_confirm, effect_of_command, selection, effect_of_identity, effect_of_address};
+ghost use Rattle.onfi_cycle.specs.Effect.{confirm_effect, id_effect};
+ghost use Rattle.bus_record.specs.Changing.{effect_of_closer, effect_of_column_confirm, effect_of_command, selection, reset_of_lun, effect_of_input, effect_of_identity, effect_of_address};
 ghost use Rattle.target_record.specs.Geometry.{parts_of};
 ghost use Rattle.target_record.specs.Record.{tail_of};
 
 use nand_geometry::Geometry;
-use onfi_cycle::{Command, Effect, PageAddress};
+use onfi_cycle::{Command, Effect, FEATURE_BYTES, PageAddress};
 use target_record::{OnfiseqGeometry, OnfiseqTarget, is_set, opening_of, tail_of, wants_command};
 
 /// What a cycle does to the LUNs of its target.
@@ -98,7 +98,7 @@ pub(crate) fn effect_of_command(
         Command::Read => TargetEffect::OnEach(Effect::DataOutputEnabled),
         Command::ReadStatus => TargetEffect::OnEach(Effect::StatusSelected),
         Command::ReadStatusEnhanced => TargetEffect::OnEach(Effect::StatusRowAwaited),
-        Command::Reset => TargetEffect::OnEach(Effect::ResetStarted),
+        Command::Reset | Command::SynchronousReset => TargetEffect::OnEach(Effect::ResetStarted),
         Command::ReadCacheSequential => TargetEffect::OnDriver(Effect::CacheReadContinued),
         Command::ReadCacheEnd => TargetEffect::OnDriver(Effect::CacheReadEnded),
         Command::ChangeReadColumnConfirm => effect_of_column_confirm(kept),
@@ -113,6 +113,10 @@ pub(crate) fn effect_of_command(
         | Command::ChangeWriteColumn
         | Command::ReadId
         | Command::ReadParameterPage
+        | Command::ReadUniqueId
+        | Command::GetFeatures
+        | Command::SetFeatures
+        | Command::ResetLun
         | Command::Unknown => TargetEffect::Nothing,
     }
 }
@@ -129,7 +133,47 @@ fn selection(geometry: &OnfiseqGeometry, kept: &OnfiseqTarget, byte: u8) -> Targ
     }
 }
 
-// What the address of a 90h or an ECh does, if it wants it.
+// What the last address of a FAh does.
+#[inline(never)]
+fn reset_of_lun(geometry: &OnfiseqGeometry, kept: &OnfiseqTarget, byte: u8) -> TargetEffect
+    requires { InLimits (parts_of geometry.now) }
+    ensures { result ≡ reset_of_lun (parts_of geometry.now) (tail_of kept.now) byte }
+{
+    let row = tail_of(kept).row_with(byte);
+    TargetEffect::OnOne {
+        lun: geometry.known().parts_of(row).lun,
+        effect: Effect::ResetStarted,
+    }
+}
+
+// What the address of a 90h does.
+fn id_effect(byte: u8) -> Effect
+    ensures { result ≡ id_effect byte }
+{
+    match byte {
+        0x20 => Effect::IdRead,
+        _ => Effect::IdentityRead {
+            jedec: byte == 0x40,
+        },
+    }
+}
+
+/// What an input does: the last one of a Set Features starts it.
+#[inline(always)]
+pub(crate) fn effect_of_input(kept: &OnfiseqTarget) -> TargetEffect
+    ensures { result ≡ effect_of_input (tail_of kept.now) }
+{
+    let tail = tail_of(kept);
+    if tail.phase.takes_features() && tail.inputs == FEATURE_BYTES - 1 {
+        TargetEffect::OnEach(Effect::FeaturesSet {
+            address: (tail.column % 256) as u8,
+        })
+    } else {
+        TargetEffect::Nothing
+    }
+}
+
+// What the address of what stands beside the array does, if it is wanted.
 fn effect_of_identity(kept: &OnfiseqTarget, byte: u8, effect: Effect) -> TargetEffect
     ensures { result ≡ effect_of_identity (tail_of kept.now) byte effect }
 {
@@ -155,10 +199,17 @@ pub(crate) fn effect_of_address(
     };
     match opening.opener {
         Command::ReadStatusEnhanced if opening.addresses == 2 => selection(geometry, kept, byte),
-        Command::ReadId => effect_of_identity(kept, byte, Effect::IdRead),
+        Command::ResetLun if opening.addresses == 2 => reset_of_lun(geometry, kept, byte),
+        Command::ReadId => effect_of_identity(kept, byte, id_effect(byte)),
         Command::ReadParameterPage => {
             effect_of_identity(kept, byte, Effect::ParameterPageReadStarted)
         }
+        Command::ReadUniqueId => effect_of_identity(kept, byte, Effect::UniqueIdReadStarted),
+        Command::GetFeatures => effect_of_identity(
+            kept,
+            byte,
+            Effect::FeaturesReadStarted { address: byte },
+        ),
         _ => TargetEffect::Nothing,
     }
 }

@@ -18,7 +18,7 @@ use Rattle.trace_data.specs.Numbers.{cycle_places, numbers_of, numbered_by}
 use Rattle.trace_data.specs.Runs.{runs_of}
 use Rattle.seq_inputs.specs.declared.fault.Fault.{Fault}
 use Rattle.seq_inputs.specs.Lines.{refusal_line}
-use Rattle.seq_inputs.specs.Inputs.{HasPage, PageIsRefused}
+use Rattle.seq_inputs.specs.Inputs.{HasPageAs, PageIsRefused}
 use Rattle.trace_commands.specs.declared.check_request.CheckRequest.{CheckRequest}
 use Rattle.trace_commands.specs.declared.recording_fault.RecordingFault.{RecordingFault}
 use Rattle.trace_commands.specs.Checks.{IsJudgedFile, FileIsRefused, ArePrinted, judged_trace, may_pass, fault_lines, assumed_lines, legal_text}
@@ -58,7 +58,7 @@ pub record IsReplayed (readies : Readies) (s : Channel) (known : List Bool) (ite
 
 -- the trace at the path, where these images are given: these faults are told of it, its outputs differ so from its dies, and it leaves these
 pub record AreFound (files : Option Store) (check : CheckRequest) (images : List GivenImage) (are_erased : Bool) (g : Parts) (told : List BrokenRule) (assumed : List NotShown) (found : List Difference) (dies : List Die) : Type 0 where
-  pub has_page : HasPage files check.page.now g
+  pub has_page : HasPageAs files check.profile check.page.now g
   pub opened : List Die
   pub known : List Bool
   pub are_opened : AreOpened files g (count_of check.targets) images are_erased opened known
@@ -73,7 +73,7 @@ pub record AreFound (files : Option Store) (check : CheckRequest) (images : List
 -- an image that is given is refused
 pub record ImagesAreRefused (files : Option Store) (check : CheckRequest) (images : List GivenImage) (fault : Fault) : Type 0 where
   pub g : Parts
-  pub has_page : HasPage files check.page.now g
+  pub has_page : HasPageAs files check.profile check.page.now g
   pub refuses : AreRefused files g (count_of check.targets) images fault
 
 -- the page is refused, or an image is

@@ -11,7 +11,7 @@ use Rattle.seq_core.specs.declared.job_fault.JobFault.TheVariants.{NoSuchLun}
 use Rattle.seq_inputs.specs.declared.fault.Fault.{Fault}
 use Rattle.seq_inputs.specs.declared.fault.Fault.TheVariants.{Job}
 use Rattle.seq_inputs.specs.declared.style.Style.TheVariants.{Plain}
-use Rattle.seq_inputs.specs.Inputs.{HasPage}
+use Rattle.seq_inputs.specs.Inputs.{HasPageAs}
 use Rattle.trace_faults.specs.declared.beginning.Beginning.TheVariants.{Start}
 use Rattle.trace_faults.specs.declared.broken_rule.BrokenRule.{BrokenRule}
 use Rattle.trace_faults.specs.declared.unshown.NotShown.{NotShown}
@@ -30,6 +30,7 @@ use Rattle.data_commands.specs.Checked.{AreFound, InputIsRefused}
 abbrev pub check_of : ImageRequest → CheckRequest
 check_of request = record {
   page = request.page;
+  profile = request.profile;
   targets = request.targets;
   input = request.input;
   tells_all = false;
@@ -80,7 +81,7 @@ LacksLun request g fault = (fault ≡ Job NoSuchLun) × (has_lun g (count_of req
 -- the page declares a geometry in which the channel has no such LUN
 pub record HasNoLun (files : Option Store) (request : ImageRequest) (fault : Fault) : Type 0 where
   pub g : Parts
-  pub has_page : HasPage files request.page.now g
+  pub has_page : HasPageAs files request.profile request.page.now g
   pub lacks : LacksLun request g fault
 
 -- the page or an image is refused, or there is no such LUN

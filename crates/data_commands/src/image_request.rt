@@ -1,5 +1,6 @@
 //! What an image is asked for.
 
+use nand_geometry::Profile;
 use onfi_cycle::Lun;
 use trace_commands::Targets;
 use trace_faults::Readies;
@@ -10,6 +11,8 @@ use trace_text::TraceForm;
 pub struct ImageRequest<'a> {
     /// The parameter page of each die.
     pub page: &'a str,
+    /// What the page is read for.
+    pub profile: Profile,
     pub targets: Targets,
     /// The text of the trace.
     pub input: &'a str,

@@ -41,6 +41,7 @@ fn check_of<'p>(request: ImageRequest<'p>) -> CheckRequest<'p>
 {
     CheckRequest {
         page: request.page,
+        profile: request.profile,
         targets: request.targets,
         input: request.input,
         tells_all: false,

@@ -2,7 +2,7 @@
 ghost use Rattle.std.specs.Prelude.{◌≡◌, ◌≤◌, true, IfOk, IfErr, OnOk, set};
 ghost use Rattle.die_model.specs.Die.{Die};
 ghost use Rattle.target_bus.specs.Bus.{number_of};
-ghost use Rattle.seq_inputs.specs.Inputs.{HasPage};
+ghost use Rattle.seq_inputs.specs.Inputs.{HasPageAs};
 ghost use Rattle.seq_inputs.specs.Stops.{IsRefusal, Says};
 ghost use Rattle.trace_commands.specs.Targets.{count_of};
 ghost use Rattle.data_commands.specs.Opened.{IsGiven, AreGiven, AreOpened, ImageIsRefused, AreRefused};
@@ -13,7 +13,7 @@ use die_model::ImageRefusal;
 use nand_geometry::Geometry;
 use seq_core::JobFault;
 use seq_files::Files;
-use seq_inputs::{Fault, Stop, geometry_at, read_file, words_of};
+use seq_inputs::{Fault, Stop, geometry_as, read_file, words_of};
 use std::alloc::Global;
 use trace_commands::Targets;
 use trace_data::OpenedDies;
@@ -95,14 +95,14 @@ pub(crate) fn open_channel<'p, F: Files>(
     files: &mut F,
     request: DataRequest<'p, '_>,
 ) -> Result<(Geometry, OpenedDies), Stop<'p>>
-    ensures page { IfOk result (λ r. HasPage (F.store files.old) request.entry.check.page.now r.0) }
+    ensures page { IfOk result (λ r. HasPageAs (F.store files.old) request.entry.check.profile request.entry.check.page.now r.0) }
     ensures channel { IfOk result (λ r. (r.1.geometry ≡ r.0) × (r.1.targets ≡ count_of request.entry.check.targets)) }
     ensures ok { IfOk result (λ r. AreOpened (F.store files.old) r.0 (count_of request.entry.check.targets) request.entry.images.now request.entry.are_erased
         r.1.dies.items r.1.known.items) }
     ensures err { IfErr result (Says (InputIsRefused (F.store files.old) request.entry.check request.entry.images.now)) }
     ensures stays { F.store files.new ≡ F.store files.old }
 {
-    let geometry = geometry_at(alloc, files, request.check.page)?;
+    let geometry = geometry_as(alloc, files, request.check.profile, request.check.page)?;
     let dies = open_dies(
         alloc,
         files,

@@ -16,7 +16,7 @@ use Rattle.die_model.specs.Loading.{first_row, first_page, first_bytes, entry_le
 use Rattle.die_model.specs.Die.{AreKept, IsDie}
 use Rattle.onfi_cycle.specs.declared.queued.Queued.{Queued}
 use Rattle.onfi_cycle.specs.declared.register.Register.{Register}
-use Rattle.onfi_cycle.specs.declared.register.Register.TheVariants.{Empty, Page, ParameterPage, Identifier}
+use Rattle.onfi_cycle.specs.declared.register.Register.TheVariants.{Empty, Page, ParameterPage, Identifier, Identity, JedecIdentity, UniqueId, Features}
 use Rattle.onfi_cycle.specs.Rules.{has_some, is_empty}
 use Rattle.std.specs.List.{starts_with}
 use Rattle.std.proofs.lemmas.Bool.{and_parts as first_true}
@@ -267,6 +267,10 @@ shows_none true true true failed closed Empty queue h at e = cc
 shows_none true true true failed closed (Page p) queue h at e = cc
 shows_none true true true failed closed ParameterPage queue h at e = cc
 shows_none true true true failed closed Identifier queue h at e = cc
+shows_none true true true failed closed Identity queue h at e = cc
+shows_none true true true failed closed JedecIdentity queue h at e = cc
+shows_none true true true failed closed UniqueId queue h at e = cc
+shows_none true true true failed closed (Features address) queue h at e = cc
 shows_none true true false failed closed r queue h at e = cc
 shows_none true false c failed closed r queue h at e = cc
 shows_none false b c failed closed r queue h at e = cc

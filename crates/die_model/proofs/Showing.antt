@@ -17,6 +17,10 @@ same_bytes parameters f g r.Empty h = refl
 same_bytes parameters f g (r.Page p) h = h p
 same_bytes parameters f g r.ParameterPage h = refl
 same_bytes parameters f g r.Identifier h = refl
+same_bytes parameters f g r.Identity h = refl
+same_bytes parameters f g r.JedecIdentity h = refl
+same_bytes parameters f g r.UniqueId h = refl
+same_bytes parameters f g (r.Features address) h = refl
 
 empty_is : (x : Register) → is_empty x ≡ true → x ≡ r.Empty
 empty_is r.Empty h = refl

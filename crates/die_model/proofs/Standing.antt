@@ -23,9 +23,9 @@ use Rattle.onfi_cycle.specs.declared.queued.Queued.TheVariants.{Erase, Program}
 use Rattle.onfi_cycle.specs.declared.tail_facts.TailFacts.{TailFacts}
 use Rattle.onfi_cycle.specs.declared.target_cycle.TargetCycle.{TargetCycle}
 use Rattle.onfi_cycle.specs.declared.target_cycle.TargetCycle.TheVariants.{CommandCycle, AddressCycle, InputCycle, OutputCycle}
-use Rattle.onfi_cycle.specs.Sequence.{opened, row_bytes, row_after_address, tail, with_cycle, begins_sequence, is_nil, input_column, opening, data_phase, phase_after_address, row_with, facts_of, filled, row, target_cycle, wants_command, wants_address, takes_inputs, wants_column}
+use Rattle.onfi_cycle.specs.Sequence.{opened, row_bytes, row_after_address, tail, with_cycle, begins_sequence, is_nil, input_column, opening, data_phase, phase_after_address, row_with, facts_of, filled, row, target_cycle, wants_command, wants_address, takes_data, wants_column}
 use Rattle.onfi_cycle.specs.Bounds.{names_program}
-use Rattle.onfi_cycle.specs.Effect.{names_lun, page_address, is_off, is_data, confirm_effect, command_effect, opening_address_effect, address_effect, cycle_effect}
+use Rattle.onfi_cycle.specs.Effect.{names_lun, page_address, is_off, is_data, confirm_effect, command_effect, opening_address_effect, address_effect, cycle_effect, id_effect, ends_features, input_effect}
 use Rattle.onfi_cycle.specs.Lun.{luns_of, effect_on, latch_alone, is_busy, busy_after, is_caching, is_cache_read, closer, closer_after, is_array_busy, array_busy_after, array_page, array_page_after, register, register_after, queue, queue_after, lun_view}
 use Rattle.onfi_cycle.specs.Content.{ArrayWork, ProgramsPage, queued_work, queued_work_after, pending_work, pending_work_after, has_failed, failed_after, content, content_after}
 use Rattle.onfi_cycle.specs.Permitted.{broken}
@@ -36,8 +36,8 @@ use Rattle.onfi_cycle.specs.declared.filling.Filling.TheVariants.{Leaves, Clears
 use Rattle.onfi_cycle.specs.Filling.{cycle_filling, filling, filled_by}
 use Rattle.die_model.specs.Standing.{HasBytes, IsFilling, IsDieOf, WorkedBy, RowsFit, DiesGoOn}
 use Rattle.onfi_cycle.specs.declared.data_phase.DataPhase.{DataPhase}
-use Rattle.onfi_cycle.specs.declared.data_phase.DataPhase.TheVariants.{Outside, Inputs, FirstColumn, SecondColumn}
-use Rattle.onfi_cycle.specs.Command.{is_page_program, at_last_row, addresses_the_array}
+use Rattle.onfi_cycle.specs.declared.data_phase.DataPhase.TheVariants.{Outside, Inputs, FirstColumn, SecondColumn, FeatureInputs}
+use Rattle.onfi_cycle.specs.Command.{is_page_program, at_last_row, addresses_the_array, is_set_features}
 use Rattle.onfi_cycle.specs.LunView.{LunView}
 use Rattle.std.specs.List.{slice_get}
 use Rattle.std.proofs.lemmas.Bool.Decides.{nat_tests}
@@ -45,6 +45,7 @@ use Rattle.std.proofs.lemmas.Bool.{or_left, and_parts as both, or_parts as neith
 use Rattle.onfi_cycle.proofs.Booleans.{and_rest, clash}
 use Rattle.nand_geometry.specs.Row.{parts_of}
 use Rattle.onfi_cycle.proofs.Passed.{permitted_keeps}
+use Rattle.onfi_cycle.proofs.RowBounds.{input_inside, no_features_inside}
 use Rattle.onfi_cycle.proofs.Keeping.{view_at}
 use Rattle.die_model.proofs.Tails.{stays, no_opening, blank}
 
@@ -63,15 +64,16 @@ command_programs g t latch k.Read lun = tt
 command_programs g t latch k.ReadStatus lun = tt
 command_programs g t latch k.ReadStatusEnhanced lun = tt
 command_programs g t latch k.Reset lun = tt
+command_programs g t latch k.SynchronousReset lun = tt
 command_programs g t latch k.ReadCacheSequential lun = choice g t lun (is_off latch) e.Unaffected e.CacheReadContinued (λ _. tt) tt
 command_programs g t latch k.ReadCacheEnd lun = choice g t lun (is_off latch) e.Unaffected e.CacheReadEnded (λ _. tt) tt
 command_programs g t latch k.ChangeReadColumnConfirm lun = choice g t lun (wants_command t k.ChangeReadColumnConfirm && not (is_off latch)) (e.ReadColumnChanged t.column) e.Unaffected (λ _. tt) tt
 command_programs g t latch k.ProgramConfirm lun =
     choice g t lun (wants_command t k.ProgramConfirm && names_lun g (row t) lun) (e.ProgramStarted false (page_address g (row t))) e.Unaffected
-    (λ h. record { named = or_left (takes_inputs t.phase) (wants_column t.phase) (both _ _ h).0; here = (both _ _ h).1; page = refl }) tt
+    (λ h. record { named = or_left (takes_data t.phase) (wants_column t.phase) (both _ _ h).0; here = (both _ _ h).1; page = refl }) tt
 command_programs g t latch k.ProgramPlane lun =
     choice g t lun (wants_command t k.ProgramPlane && names_lun g (row t) lun) (e.ProgramStarted true (page_address g (row t))) e.Unaffected
-    (λ h. record { named = or_left (takes_inputs t.phase) (wants_column t.phase) (both _ _ h).0; here = (both _ _ h).1; page = refl }) tt
+    (λ h. record { named = or_left (takes_data t.phase) (wants_column t.phase) (both _ _ h).0; here = (both _ _ h).1; page = refl }) tt
 command_programs g t latch c lun = choice g t lun (wants_command t c && names_lun g (row t) lun) (confirm_effect g t c) e.Unaffected (λ _. tt) tt
 
 address_programs : (g : Parts) (t : TailFacts) (byte : ℕ) (c : Command) (n lun : ℕ) → Programs g t lun (address_effect g t byte c n lun)
@@ -81,7 +83,10 @@ address_programs g t byte k.ReadStatusEnhanced n lun = at (n == 2) (names_lun g 
     at true true = tt
     at true false = tt
     at false b = tt
-address_programs g t byte k.ReadId n lun = choice g t lun (wants_address t byte) e.IdRead e.Unaffected (λ _. tt) tt
+address_programs g t byte k.ReadId n lun = choice g t lun (wants_address t byte) (id_effect byte) e.Unaffected (λ _. choice g t lun (byte == 0x20) e.IdRead (e.IdentityRead (byte == 0x40)) (λ _. tt) tt) tt
+address_programs g t byte k.ReadUniqueId n lun = choice g t lun (wants_address t byte) e.UniqueIdReadStarted e.Unaffected (λ _. tt) tt
+address_programs g t byte k.GetFeatures n lun = choice g t lun (wants_address t byte) (e.FeaturesReadStarted byte) e.Unaffected (λ _. tt) tt
+address_programs g t byte k.ResetLun n lun = choice g t lun (n == 2 && names_lun g (row_with t byte) lun) e.ResetStarted e.Unaffected (λ _. tt) tt
 address_programs g t byte k.ReadParameterPage n lun = choice g t lun (wants_address t byte) e.ParameterPageReadStarted e.Unaffected (λ _. tt) tt
 address_programs g t byte _ n lun = tt
 
@@ -92,7 +97,7 @@ opening_programs g t byte (Some o) lun = address_programs g t byte o.opener o.ad
 cycle_programs : (g : Parts) (t : TailFacts) (latch : Latch) (c : TargetCycle) (lun : ℕ) → Programs g t lun (cycle_effect g t latch c lun)
 cycle_programs g t latch (CommandCycle c) lun = command_programs g t latch c lun
 cycle_programs g t latch (AddressCycle byte) lun = opening_programs g t byte t.opening lun
-cycle_programs g t latch (InputCycle byte) lun = tt
+cycle_programs g t latch (InputCycle byte) lun = choice g t lun (ends_features t) (e.FeaturesSet (t.column % 256)) e.Unaffected (λ _. tt) tt
 cycle_programs g t latch OutputCycle lun = choice g t lun (is_data latch) e.DataOutput e.Unaffected (λ _. tt) tt
 
 effect_programs : (g : Parts) (past : List Item) (i : Item) (l : Lun) → Programs g (facts_of (tail past l.ce)) l.lun (effect_on g past i l)
@@ -182,30 +187,47 @@ calm_address : (g : Parts) (t : List TargetCycle) (byte lun : ℕ) (o : Option O
 calm_address g t byte lun None h n = refl
 calm_address g t byte lun (Some o) h n = at o.opener refl
   where
-    none_is : (p : DataPhase) → data_phase t ≡ p → (takes_inputs (phase_after_address (Some o) p) || wants_column (phase_after_address (Some o) p)) ≡ true → is_page_program o.opener ≡ false → false ≡ true
+    none_is : (p : DataPhase) → data_phase t ≡ p → (takes_data (phase_after_address (Some o) p) || wants_column (phase_after_address (Some o) p)) ≡ true → is_page_program o.opener ≡ false → false ≡ true
     none_is Inputs e n q = n
+    none_is FeatureInputs e n q = n
     none_is FirstColumn e n q = let x = sym h ∙ no_opening t (ap wants_column e) in cc
     none_is SecondColumn e n q = let x = sym h ∙ no_opening t (ap wants_column e) in cc
-    none_is Outside e n q = outside (is_page_program o.opener) (o.addresses == 4) q n
+    none_is Outside e n q = outside (is_page_program o.opener) (o.addresses == 4) (is_set_features o.opener && o.addresses == 0) q n
       where
-        outside : (a b : Bool) → a ≡ false → (takes_inputs (cond (a && b) Inputs Outside) || wants_column (cond (a && b) Inputs Outside)) ≡ true → false ≡ true
-        outside true b q n = cc
-        outside false b q n = n
+        outside : (a b c : Bool) → a ≡ false → (takes_data (cond (a && b) Inputs (cond c FeatureInputs Outside)) || wants_column (cond (a && b) Inputs (cond c FeatureInputs Outside))) ≡ true → false ≡ true
+        outside true b c q n = cc
+        outside false b true q n = n
+        outside false b false q n = n
 
-    named : (takes_inputs (phase_after_address (Some o) (data_phase t)) || wants_column (phase_after_address (Some o) (data_phase t))) ≡ true
-    named = sym (ap (λ (q : Option Opening). takes_inputs (phase_after_address q (data_phase t)) || wants_column (phase_after_address q (data_phase t))) h) ∙ n
+    named : (takes_data (phase_after_address (Some o) (data_phase t)) || wants_column (phase_after_address (Some o) (data_phase t))) ≡ true
+    named = sym (ap (λ (q : Option Opening). takes_data (phase_after_address q (data_phase t)) || wants_column (phase_after_address q (data_phase t))) h) ∙ n
 
     at : (c : Command) → o.opener ≡ c → busy_after (address_effect g (facts_of t) byte c o.addresses lun) false ≡ false
     at k.ReadStatusEnhanced q = calm_status (o.addresses == 2) (names_lun g (row_with (facts_of t) byte) lun)
-    at k.ReadId q = calm_choice (wants_address (facts_of t) byte) e.IdRead refl
+    at k.ReadId q = calm_choice (wants_address (facts_of t) byte) (id_effect byte) (calm_id (byte == 0x20))
+      where
+        calm_id : (b : Bool) → busy_after (cond b e.IdRead (e.IdentityRead (byte == 0x40))) false ≡ false
+        calm_id true = refl
+        calm_id false = refl
     at k.ReadParameterPage q = let x = none_is (data_phase t) refl named (ap is_page_program q) in cc
+    at k.ReadUniqueId q = let x = none_is (data_phase t) refl named (ap is_page_program q) in cc
+    at k.GetFeatures q = let x = none_is (data_phase t) refl named (ap is_page_program q) in cc
+    at k.ResetLun q = let x = none_is (data_phase t) refl named (ap is_page_program q) in cc
     at _ q = refl
+
+-- in the data of a program an input starts nothing
+no_end : (t : TailFacts) → (takes_data t.phase || wants_column t.phase) ≡ true → ends_features t ≡ false
+no_end t h = ap (λ (b : Bool). b && t.inputs == 3) (no_features_inside t.phase h)
+
+calm_input : (t : TailFacts) → (takes_data t.phase || wants_column t.phase) ≡ true → busy_after (input_effect t) false ≡ false
+calm_input t h = ap (λ (b : Bool). busy_after (cond b (e.FeaturesSet (t.column % 256)) e.Unaffected) false) (no_end t h)
 
 calm : (g : Parts) (t : List TargetCycle) (latch : Latch) (cycle : TargetCycle) (lun : ℕ) → names_program (facts_of (with_cycle cycle t)) ≡ true → busy_after (cycle_effect g (facts_of t) latch cycle lun) false ≡ false
 calm g t latch (CommandCycle c) lun h = calm_command g t latch c lun h
 calm g [] latch (AddressCycle byte) lun h = refl
 calm g (d ∷ t) latch (AddressCycle byte) lun h = calm_address g (d ∷ t) byte lun (opening (d ∷ t)) refl h
-calm g t latch (InputCycle byte) lun h = refl
+calm g [] latch (InputCycle byte) lun h = refl
+calm g (d ∷ t) latch (InputCycle byte) lun h = calm_input (facts_of (d ∷ t)) (input_inside (facts_of (d ∷ t)).inputs (facts_of (d ∷ t)).phase h)
 calm g t latch OutputCycle lun h = calm_choice (is_data latch) e.DataOutput refl
 
 carry : (g : Parts) (t u : List TargetCycle) (x : Effect) (old new : Die) → IsAfter x old new → busy_after x false ≡ false → row (facts_of u) ≡ row (facts_of t) → filled (page_len g) u ≡ filled (page_len g) t → HasBytes g t old → HasBytes g u new
@@ -265,6 +287,9 @@ pending_step (e.ReadStarted at from) bytes q p b f h = refl
 pending_step (e.EraseStarted queued at) bytes q p b f h = cc
 pending_step (e.ProgramStarted queued at) bytes q p b f h = cc
 pending_step e.ParameterPageReadStarted bytes q p b f h = refl
+pending_step e.UniqueIdReadStarted bytes q p b f h = refl
+pending_step (e.FeaturesReadStarted address) bytes q p b f h = refl
+pending_step (e.FeaturesSet address) bytes q p b f h = refl
 pending_step e.CacheReadContinued bytes q p b f h = refl
 pending_step e.CacheReadEnded bytes q p b f h = refl
 pending_step e.ResetStarted bytes q p b f h = refl
@@ -325,7 +350,7 @@ pub record IsInput (g : Parts) (past : List Item) (i : Item) (l : Lun) (at : Pag
   pub is : i ≡ Cyc c
   pub ce : (c.ce == l.ce) ≡ true
   pub cycle : target_cycle c.kind c.byte ≡ InputCycle byte
-  pub takes : takes_inputs (data_phase (tail past l.ce)) ≡ true
+  pub takes : takes_data (data_phase (tail past l.ce)) ≡ true
   pub here : names_lun g (row (facts_of (tail past l.ce))) l.lun ≡ true
   pub page : at ≡ page_address g (row (facts_of (tail past l.ce)))
   pub place : column ≡ input_column (facts_of (tail past l.ce))
@@ -344,9 +369,9 @@ is_input g past (Cyc c) l at column byte h = of (c.ce == l.ce) refl (target_cycl
         by : (b : Bool) → cond b (Clears (page_address g (row_with (facts_of (tail past l.ce)) x))) Leaves ≡ Fills at column byte → IsInput g past (Cyc c) l at column byte
         by true h = cc
         by false h = cc
-    of true e (InputCycle x) q h = by (takes_inputs (data_phase (tail past l.ce)) && names_lun g (row (facts_of (tail past l.ce))) l.lun) refl h
+    of true e (InputCycle x) q h = by (takes_data (data_phase (tail past l.ce)) && names_lun g (row (facts_of (tail past l.ce))) l.lun) refl h
       where
-        by : (b : Bool) → (takes_inputs (data_phase (tail past l.ce)) && names_lun g (row (facts_of (tail past l.ce))) l.lun) ≡ b → cond b (Fills (page_address g (row (facts_of (tail past l.ce)))) (input_column (facts_of (tail past l.ce))) x) Leaves ≡ Fills at column byte → IsInput g past (Cyc c) l at column byte
+        by : (b : Bool) → (takes_data (data_phase (tail past l.ce)) && names_lun g (row (facts_of (tail past l.ce))) l.lun) ≡ b → cond b (Fills (page_address g (row (facts_of (tail past l.ce)))) (input_column (facts_of (tail past l.ce))) x) Leaves ≡ Fills at column byte → IsInput g past (Cyc c) l at column byte
         by false t h = cc
         by true t h =
             let same : x ≡ byte = cc in
@@ -368,7 +393,7 @@ effect_at g past c l k same is =
     ap (λ (b : Bool). cond b (cycle_effect g (facts_of (tail past l.ce)) (latch_alone g past l) (target_cycle c.kind c.byte) l.lun) e.Unaffected) same
     ∙ ap (λ (z : TargetCycle). cycle_effect g (facts_of (tail past l.ce)) (latch_alone g past l) z l.lun) is
 
-inputs_there : (t : List TargetCycle) → takes_inputs (data_phase t) ≡ true → is_nil t ≡ false
+inputs_there : (t : List TargetCycle) → takes_data (data_phase t) ≡ true → is_nil t ≡ false
 inputs_there [] h = cc
 inputs_there (d ∷ t) h = refl
 
@@ -376,7 +401,7 @@ input_goes_on : (s : Channel) (past : List Item) (i : Item) (l : Lun) (old new :
 input_goes_on s past i l old new at column byte j fits f w =
     let g = s.geometry in
     let t = tail past l.ce in
-    let named = or_left (takes_inputs (data_phase t)) (wants_column (data_phase t)) j.takes in
+    let named = or_left (takes_data (data_phase t)) (wants_column (data_phase t)) j.takes in
     let before = f.open_program named j.here in
     let bytes = set (plane_bytes g old.planes at) column byte in
     let registers = set old.planes (at.block % planes g) bytes in
@@ -391,7 +416,8 @@ input_goes_on s past i l old new at column byte j fits f w =
     } in
     subst (IsDieOf s (i ∷ past) l) (sym w)
     (register_goes_on s past i l old at bytes
-    (ap (λ (z : Item). effect_on g past z l) j.is ∙ effect_at g past j.c l (InputCycle byte) j.ce j.cycle)
+    (ap (λ (z : Item). effect_on g past z l) j.is ∙ (effect_at g past j.c l (InputCycle byte) j.ce j.cycle
+    ∙ ap (λ (b : Bool). cond b (e.FeaturesSet ((facts_of t).column % 256)) e.Unaffected) (no_end (facts_of t) named)))
     f before.ready
     (ap (λ (p : PageAddress). some_queued_clashes g false p (queue g past l)) j.page ∙ fits.program j.here named)
     (λ n h. subst (λ (u : List TargetCycle). HasBytes g u (with_planes old registers)) (sym (ap (λ (z : Item). tail (z ∷ past) l.ce) j.is ∙ same_tail)) open_one))
@@ -418,7 +444,7 @@ is_last_address g past (Cyc c) l at h = of (c.ce == l.ce) refl (target_cycle c.k
     of false e k q h = cc
     of true e (CommandCycle x) q h = cc
     of true e OutputCycle q h = cc
-    of true e (InputCycle x) q h = by (takes_inputs (data_phase (tail past l.ce)) && names_lun g (row (facts_of (tail past l.ce))) l.lun) h
+    of true e (InputCycle x) q h = by (takes_data (data_phase (tail past l.ce)) && names_lun g (row (facts_of (tail past l.ce))) l.lun) h
       where
         by : (b : Bool) → cond b (Fills (page_address g (row (facts_of (tail past l.ce)))) (input_column (facts_of (tail past l.ce))) x) Leaves ≡ Clears at → IsLastAddress g past (Cyc c) l at
         by true h = cc

@@ -5,20 +5,21 @@ use Rattle.nand_geometry.specs.declared.parts.Parts.{Parts}
 use Rattle.onfi_cycle.specs.declared.command.Command.{Command}
 use Rattle.onfi_cycle.specs.declared.command.Command.TheVariants.{PageProgram, ChangeWriteColumn}
 use Rattle.onfi_cycle.specs.declared.data_phase.DataPhase.{DataPhase}
-use Rattle.onfi_cycle.specs.declared.data_phase.DataPhase.TheVariants.{Outside, Inputs, FirstColumn, SecondColumn}
+use Rattle.onfi_cycle.specs.declared.data_phase.DataPhase.TheVariants.{Outside, Inputs, FirstColumn, SecondColumn, FeatureInputs}
 use Rattle.onfi_cycle.specs.declared.opening.Opening.{Opening}
 use Rattle.onfi_cycle.specs.declared.target_cycle.TargetCycle.{TargetCycle}
 use Rattle.onfi_cycle.specs.declared.target_cycle.TargetCycle.TheVariants.{CommandCycle, AddressCycle, InputCycle, OutputCycle}
-use Rattle.onfi_cycle.specs.Command.{is_opener, is_page_program, at_last_row}
-use Rattle.onfi_cycle.specs.Sequence.{with_cycle, continued, opening, opened, one_address_more, data_phase, takes_inputs, wants_column, phase_after_command, phase_after_address, phase_after_input, row_bytes, row_after_address, facts_of, filled, row, row_with, input_column}
+use Rattle.onfi_cycle.specs.Command.{is_opener, is_page_program, at_last_row, is_set_features}
+use Rattle.onfi_cycle.specs.Sequence.{with_cycle, continued, opening, opened, one_address_more, data_phase, takes_data, wants_column, phase_after_command, phase_after_address, phase_after_input, row_bytes, row_after_address, facts_of, filled, row, row_with, input_column, inputs}
 use Rattle.onfi_cycle.specs.Bounds.{names_program}
 use Rattle.onfi_cycle.specs.Effect.{names_lun, page_address}
+use Rattle.onfi_cycle.proofs.RowBounds.{input_inside}
 use Rattle.onfi_cycle.specs.Rules.{ends_row}
 use Rattle.onfi_cycle.specs.declared.filling.Filling.TheVariants.{Leaves, Clears, Fills}
 use Rattle.onfi_cycle.specs.Filling.{cycle_filling}
 
 abbrev is_data : DataPhase → Bool
-is_data p = takes_inputs p || wants_column p
+is_data p = takes_data p || wants_column p
 
 no_data : (c : Command) → is_data (phase_after_command c Outside) ≡ false
 no_data ChangeWriteColumn = refl
@@ -29,17 +30,20 @@ from_data ChangeWriteColumn Inputs h = refl
 from_data ChangeWriteColumn Outside h = cc
 from_data ChangeWriteColumn FirstColumn h = cc
 from_data ChangeWriteColumn SecondColumn h = cc
+from_data ChangeWriteColumn FeatureInputs h = cc
 from_data _ p h = cc
 
 column_before : (o : Option Opening) (p : DataPhase) → wants_column (phase_after_address o p) ≡ true → wants_column p ≡ true
 column_before o FirstColumn h = refl
 column_before o SecondColumn h = refl
 column_before o Inputs h = cc
-column_before o Outside h = of (opened (λ c n. is_page_program c && n == 4) o) h
+column_before o FeatureInputs h = cc
+column_before o Outside h = of (opened (λ c n. is_page_program c && n == 4) o) (opened (λ c n. is_set_features c && n == 0) o) h
   where
-    of : (b : Bool) → wants_column (cond b Inputs Outside) ≡ true → false ≡ true
-    of true h = h
-    of false h = h
+    of : (b c : Bool) → wants_column (cond b Inputs (cond c FeatureInputs Outside)) ≡ true → false ≡ true
+    of true c h = h
+    of false true h = h
+    of false false h = h
 
 -- a column of the data is no address of an opener
 pub no_opening : (t : List TargetCycle) → wants_column (data_phase t) ≡ true → opening t ≡ None
@@ -51,6 +55,7 @@ no_opening (CommandCycle c ∷ []) h = let e = no_data c in let x : false ≡ tr
     columns Inputs e h = h
     columns FirstColumn e h = sym e
     columns SecondColumn e h = sym e
+    columns FeatureInputs e h = h
 no_opening (CommandCycle c ∷ (d ∷ t)) h = refl
 no_opening (AddressCycle byte ∷ t) h = ap one_address_more (no_opening t (column_before (opening t) (data_phase t) h))
 no_opening (InputCycle byte ∷ t) h = refl
@@ -109,26 +114,29 @@ stays_address g len t byte lun leaves named is = of (data_phase t) refl named
         let x : Clears (page_address g (row_with (facts_of t) byte)) ≡ Leaves = sym (ap (λ (b : Bool). cond b (Clears (page_address g (row_with (facts_of t) byte))) Leaves) (both_of _ _ ends here)) ∙ leaves in
         cc
 
-    last : (b : Bool) → opened (λ c n. is_page_program c && n == 4) (opening t) ≡ b → is_data (cond b Inputs Outside) ≡ true → Stays len t (AddressCycle byte ∷ t)
-    last true e h = opens (opening t) refl e
-    last false e h = cc
+    last : (b : Bool) → opened (λ c n. is_page_program c && n == 4) (opening t) ≡ b → (c : Bool) → is_data (cond b Inputs (cond c FeatureInputs Outside)) ≡ true → Stays len t (AddressCycle byte ∷ t)
+    last true e c h = opens (opening t) refl e
+    last false e true h = cc
+    last false e false h = cc
 
     of : (p : DataPhase) → data_phase t ≡ p → is_data (phase_after_address (opening t) p) ≡ true → Stays len t (AddressCycle byte ∷ t)
-    of Outside e h = last (opened (λ c n. is_page_program c && n == 4) (opening t)) refl h
+    of Outside e h = last (opened (λ c n. is_page_program c && n == 4) (opening t)) refl (opened (λ c n. is_set_features c && n == 0) (opening t)) h
     of Inputs e h = cc
+    of FeatureInputs e h = cc
     of FirstColumn e h = in_column (ap wants_column e) (ap is_data e)
     of SecondColumn e h = in_column (ap wants_column e) (ap is_data e)
 
 stays_input : (g : Parts) (len : ℕ) (t : List TargetCycle) (byte lun : ℕ) → cycle_filling g (facts_of t) (InputCycle byte) lun ≡ Leaves → names_program (facts_of (InputCycle byte ∷ t)) ≡ true → names_lun g (row (facts_of t)) lun ≡ true → Stays len t (InputCycle byte ∷ t)
 stays_input g len t byte lun leaves named is = of (data_phase t) refl named
   where
-    of : (p : DataPhase) → data_phase t ≡ p → is_data (phase_after_input p) ≡ true → Stays len t (InputCycle byte ∷ t)
+    of : (p : DataPhase) → data_phase t ≡ p → is_data (phase_after_input (inputs t) p) ≡ true → Stays len t (InputCycle byte ∷ t)
     of Inputs e h =
-        let x : Fills (page_address g (row (facts_of t))) (input_column (facts_of t)) byte ≡ Leaves = sym (ap (λ (b : Bool). cond b (Fills (page_address g (row (facts_of t))) (input_column (facts_of t)) byte) Leaves) (both_of _ _ (ap takes_inputs e) is)) ∙ leaves in
+        let x : Fills (page_address g (row (facts_of t))) (input_column (facts_of t)) byte ≡ Leaves = sym (ap (λ (b : Bool). cond b (Fills (page_address g (row (facts_of t))) (input_column (facts_of t)) byte) Leaves) (both_of _ _ (ap takes_data e) is)) ∙ leaves in
         cc
     of Outside e h = cc
     of FirstColumn e h = cc
     of SecondColumn e h = cc
+    of FeatureInputs e h = let x = input_inside (inputs t) FeatureInputs h in cc
 
 pub stays : (g : Parts) (len : ℕ) (t : List TargetCycle) (cycle : TargetCycle) (lun : ℕ) → cycle_filling g (facts_of t) cycle lun ≡ Leaves → names_program (facts_of (with_cycle cycle t)) ≡ true → names_lun g (row (facts_of (with_cycle cycle t))) lun ≡ true → Stays len t (with_cycle cycle t)
 stays g len t (CommandCycle c) lun leaves named is = stays_command len t c (is_opener c) named

@@ -10,7 +10,7 @@ use Rattle.onfi_cycle.specs.declared.queued.Queued.TheVariants.{Erase, Program}
 use Rattle.onfi_cycle.specs.declared.register.Register.{Register}
 use Rattle.onfi_cycle.specs.declared.register.Register.TheVariants.{Empty, Page}
 use Rattle.onfi_cycle.specs.declared.effect.Effect.{Effect}
-use Rattle.onfi_cycle.specs.declared.effect.Effect.TheVariants.{ReadStarted, EraseStarted, ProgramStarted, IdRead, ParameterPageReadStarted, CacheReadContinued, CacheReadEnded, ResetStarted}
+use Rattle.onfi_cycle.specs.declared.effect.Effect.TheVariants.{ReadStarted, EraseStarted, ProgramStarted, IdRead, ParameterPageReadStarted, CacheReadContinued, CacheReadEnded, ResetStarted, IdentityRead, UniqueIdReadStarted, FeaturesReadStarted, FeaturesSet}
 use Rattle.onfi_cycle.specs.Lun.{busy_after, array_busy_after, array_page_after, register_after, queue_after}
 use Rattle.onfi_cycle.specs.Content.{ArrayWork, ErasesBlock, ProgramsPage, queued_work_after, pending_work_after, content_after, failed_after, register_bytes, written}
 use Rattle.onfi_cycle.specs.Bounds.{is_row}
@@ -87,6 +87,10 @@ effect_of (w.Queue (Erase at)) = EraseStarted true at
 effect_of (w.Queue (Program at)) = ProgramStarted true at
 effect_of w.Identifier = IdRead
 effect_of w.Parameters = ParameterPageReadStarted
+effect_of (w.Identity jedec) = IdentityRead jedec
+effect_of w.UniqueId = UniqueIdReadStarted
+effect_of (w.Features address) = FeaturesReadStarted address
+effect_of (w.SetFeatures address) = FeaturesSet address
 effect_of w.Reset = ResetStarted
 effect_of w.Cache = CacheReadContinued
 effect_of w.CacheEnd = CacheReadEnded
@@ -98,6 +102,10 @@ work_begun (ProgramStarted queued at) = Some (if queued then w.Queue (Program at
 work_begun (EraseStarted queued at) = Some (if queued then w.Queue (Erase at) else w.Erase at)
 work_begun IdRead = Some w.Identifier
 work_begun ParameterPageReadStarted = Some w.Parameters
+work_begun (IdentityRead jedec) = Some (w.Identity jedec)
+work_begun UniqueIdReadStarted = Some w.UniqueId
+work_begun (FeaturesReadStarted address) = Some (w.Features address)
+work_begun (FeaturesSet address) = Some (w.SetFeatures address)
 work_begun ResetStarted = Some w.Reset
 work_begun CacheReadContinued = Some w.Cache
 work_begun CacheReadEnded = Some w.CacheEnd
@@ -110,6 +118,10 @@ caching_after (EraseStarted _ _) caching = false
 caching_after (ProgramStarted _ _) caching = false
 caching_after IdRead caching = false
 caching_after ParameterPageReadStarted caching = false
+caching_after (IdentityRead _) caching = false
+caching_after UniqueIdReadStarted caching = false
+caching_after (FeaturesReadStarted _) caching = false
+caching_after (FeaturesSet _) caching = false
 caching_after CacheReadEnded caching = false
 caching_after ResetStarted caching = false
 caching_after _ caching = caching

@@ -35,6 +35,10 @@ fn caching_after(effect: Effect, before: bool) -> bool
         | Effect::ProgramStarted { .. }
         | Effect::IdRead
         | Effect::ParameterPageReadStarted
+        | Effect::IdentityRead { .. }
+        | Effect::UniqueIdReadStarted
+        | Effect::FeaturesReadStarted { .. }
+        | Effect::FeaturesSet { .. }
         | Effect::CacheReadEnded
         | Effect::ResetStarted => false,
         _ => before,

@@ -17,6 +17,7 @@ mod lun_die;
 mod page;
 mod pages;
 mod refusal;
+mod unique_id;
 mod work;
 
 pub use lun_die::LunDie;

@@ -18,6 +18,7 @@ use crate::loading::{image_fault, keep_image};
 use crate::page::Page;
 use crate::pages::Pages;
 use crate::refusal::ImageRefusal;
+use crate::unique_id::{unique_id, unique_id_byte};
 use crate::work::Work;
 use arrayvec::ArrayVec;
 use nand_geometry::Geometry;
@@ -52,8 +53,17 @@ impl<A: Allocator> Model for LunDie<A> {
 /// How many copies of the parameter page its register holds.
 const PARAMETER_COPIES: usize = 3;
 
-/// What Read ID gives, "ONFI".
+/// What Read ID gives at the address 20h, "ONFI".
 const IDENTIFIER: [u8; 4] = [0x4f, 0x4e, 0x46, 0x49];
+
+/// What Read ID gives at the address 00h: the model knows no manufacturer and no device.
+const IDENTITY: [u8; 8] = [0; 8];
+
+/// What Read ID gives at the address 40h, "JEDEC" and a zero.
+const JEDEC: [u8; 6] = [0x4a, 0x45, 0x44, 0x45, 0x43, 0];
+
+/// What Get Features gives: the model keeps no features.
+const FEATURES: [u8; 4] = [0; 4];
 
 // The copies of the parameter page.
 fn parameter_copies<A: Allocator>(alloc: A, geometry: &Geometry) -> Result<Vec<u8, A>, AllocError>
@@ -155,6 +165,10 @@ impl<A: Allocator + Copy> LunDie<A> {
             Register::Page(_) => self.output.bytes().get(column).copied(),
             Register::ParameterPage => self.parameters.get(column).copied(),
             Register::Identifier => IDENTIFIER.get(column).copied(),
+            Register::Identity => IDENTITY.get(column).copied(),
+            Register::JedecIdentity => JEDEC.get(column).copied(),
+            Register::UniqueId => unique_id_byte(column),
+            Register::Features(_) => FEATURES.get(column).copied(),
         }
     }
 
@@ -168,6 +182,10 @@ impl<A: Allocator + Copy> LunDie<A> {
             Register::Page(_) => copy_part(self.output.bytes(), column, into),
             Register::ParameterPage => copy_part(self.parameters.as_slice(), column, into),
             Register::Identifier => copy_part(&IDENTIFIER, column, into),
+            Register::Identity => copy_part(&IDENTITY, column, into),
+            Register::JedecIdentity => copy_part(&JEDEC, column, into),
+            Register::UniqueId => copy_part(&unique_id(), column, into),
+            Register::Features(_) => copy_part(&FEATURES, column, into),
         }
     }
 

@@ -19,6 +19,14 @@ pub enum Work {
     Identifier,
     /// The parameter page is read into the register.
     Parameters,
+    /// The manufacturer and the device are put into the register, or what JEDEC says; that ends at once.
+    Identity { jedec: bool },
+    /// The unique identifier is read into the register.
+    UniqueId,
+    /// The feature of this address is read into the register.
+    Features(u8),
+    /// The feature of this address is set.
+    SetFeatures(u8),
     /// All work stops, and nothing stays queued.
     Reset,
     /// The page that the array has read is put into the register, and the array reads the next.
@@ -45,6 +53,10 @@ impl Work {
             Effect::EraseStarted { queued: true, row } => Some(Work::Queue(Queued::Erase(row))),
             Effect::IdRead => Some(Work::Identifier),
             Effect::ParameterPageReadStarted => Some(Work::Parameters),
+            Effect::IdentityRead { jedec } => Some(Work::Identity { jedec }),
+            Effect::UniqueIdReadStarted => Some(Work::UniqueId),
+            Effect::FeaturesReadStarted { address } => Some(Work::Features(address)),
+            Effect::FeaturesSet { address } => Some(Work::SetFeatures(address)),
             Effect::ResetStarted => Some(Work::Reset),
             Effect::CacheReadContinued => Some(Work::Cache),
             Effect::CacheReadEnded => Some(Work::CacheEnd),
@@ -67,6 +79,10 @@ impl Work {
             Work::Queue(Queued::Program(page)) => Effect::ProgramStarted { queued: true, page },
             Work::Identifier => Effect::IdRead,
             Work::Parameters => Effect::ParameterPageReadStarted,
+            Work::Identity { jedec } => Effect::IdentityRead { jedec },
+            Work::UniqueId => Effect::UniqueIdReadStarted,
+            Work::Features(address) => Effect::FeaturesReadStarted { address },
+            Work::SetFeatures(address) => Effect::FeaturesSet { address },
             Work::Reset => Effect::ResetStarted,
             Work::Cache => Effect::CacheReadContinued,
             Work::CacheEnd => Effect::CacheReadEnded,

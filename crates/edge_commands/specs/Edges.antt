@@ -3,7 +3,7 @@ use Rattle.std.specs.Prelude.{◌≡◌, ◌⊎◌, ◌++◌, ℕ, List, [], ◌
 use Rattle.std.specs.Option.{option_map}
 use Rattle.seq_files.specs.Store.{Store, Holds}
 use Rattle.nand_geometry.specs.declared.parts.Parts.{Parts}
-use Rattle.nand_geometry.specs.Reading.{read_of}
+use Rattle.nand_geometry.specs.Reading.{read_as}
 use Rattle.bus_capture.specs.declared.reading.Setup.{Setup}
 use Rattle.bus_capture.specs.declared.inferring.Stamped.{Stamped}
 use Rattle.bus_capture.specs.Inferring.{captured}
@@ -56,7 +56,7 @@ pub record AreEdgesJudged (files : Option Store) (request : EdgeRequest) : Type 
   pub page : List ℕ
   pub is_page : Holds files request.page.now page
   pub g : Parts
-  pub declares : read_of page ≡ Ok g
+  pub declares : read_as request.profile page ≡ Ok g
   pub judged : AreJudgedIn files request g
 
 -- ---- one whose edges aren't
@@ -77,7 +77,7 @@ pub record IsNotJudgedAt (files : Option Store) (request : EdgeRequest) (fault :
   pub page : List ℕ
   pub is_page : Holds files request.page.now page
   pub g : Parts
-  pub declares : read_of page ≡ Ok g
+  pub declares : read_as request.profile page ≡ Ok g
   pub refuses : IsNotJudgedIn files request g fault
 
 -- the timing file has a fault, or the capture has

@@ -1,6 +1,7 @@
 //! What the edges of a capture are judged for.
 
 use bus_capture::CaptureForm;
+use nand_geometry::Profile;
 use timing_commands::TimingSource;
 use trace_commands::Targets;
 
@@ -9,6 +10,8 @@ use trace_commands::Targets;
 pub struct EdgeRequest<'a> {
     /// The parameter page of each die.
     pub page: &'a str,
+    /// What the page is read for.
+    pub profile: Profile,
     pub targets: Targets,
     /// The capture.
     pub input: &'a str,

@@ -124,7 +124,12 @@ fn judge_at<'p, A: Allocator + Clone, F: Files>(
     ensures stays { F.store files.new ≡ F.store files.old }
 {
     let page = read_file(alloc.clone()?, files, request.page)?;
-    let geometry = geometry_in(alloc.clone()?, request.page, page.as_slice())?;
+    let geometry = geometry_in(
+        alloc.clone()?,
+        request.profile,
+        request.page,
+        page.as_slice(),
+    )?;
     let page_times = PageTimes::read(page.as_slice());
     let times = edge_times_at(alloc.clone()?, files, page_times, request.source)?;
     let mut judge = judge_file(alloc, files, request, geometry, times)?;

@@ -58,11 +58,18 @@ cycle_before last.Nothing = since.Command
 cycle_before (last.Command c) = since.Command
 cycle_before (last.Address c) = since.Address
 cycle_before last.Input = since.Input
+cycle_before (last.FeatureByte number) = since.Input
 cycle_before last.Output = since.Output
 
 abbrev pub is_address : LastCycle → Bool
 is_address (last.Address c) = true
 is_address _ = false
+
+-- the cycle that begins work
+abbrev pub work_before : LastCycle → Since
+work_before (last.Address c) = since.WorkAddress
+work_before (last.FeatureByte number) = since.WorkInput
+work_before _ = since.WorkCommand
 
 -- what a pause after this cycle begins with
 abbrev pub since_of : TimingFault → LastCycle → Since
@@ -70,7 +77,7 @@ since_of fault.AddressToInput l = since.LastAddress
 since_of fault.ColumnChange l = if is_address l then since.ColumnAddress else since.ColumnConfirm
 since_of fault.OutputToCommand l = since.LastOutput
 since_of fault.ReadyToOutput l = since.Ready
-since_of fault.ToBusy l = if is_address l then since.WorkAddress else since.WorkCommand
+since_of fault.ToBusy l = work_before l
 since_of fault.WriteCycle l = cycle_before l
 since_of fault.ReadCycle l = cycle_before l
 since_of fault.ToOutput l = cycle_before l

@@ -30,6 +30,7 @@ pub enum Since {
     /// The cycle that begins work.
     WorkCommand,
     WorkAddress,
+    WorkInput,
 }
 
 impl Since {
@@ -56,6 +57,7 @@ impl Since {
             Since::Ready => "the ready",
             Since::WorkCommand => "the command that begins work",
             Since::WorkAddress => "the address that begins work",
+            Since::WorkInput => "the input that begins work",
         }
     }
 }

@@ -1,7 +1,7 @@
 //! A cycle with the edges of its strobe.
 ghost use Rattle.std.specs.Prelude.{◌≡◌};
 ghost use Rattle.trace_timing.specs.Wanted.{AreBounded};
-ghost use Rattle.edge_timing.specs.Pauses.{timing_of, edge_of_output, edge_of_written, edge_of, is_address, cycle_before, since_of, time_of, pause_by, cycle_pause, busy_pause, ready_pause, pauses_of};
+ghost use Rattle.edge_timing.specs.Pauses.{timing_of, edge_of_output, edge_of_written, edge_of, is_address, cycle_before, work_before, since_of, time_of, pause_by, cycle_pause, busy_pause, ready_pause, pauses_of};
 
 use crate::distance::{Distance, between};
 use crate::edge::Edge;
@@ -98,8 +98,20 @@ fn cycle_before(last: LastCycle) -> Since
     match last {
         LastCycle::Nothing | LastCycle::Command(_) => Since::Command,
         LastCycle::Address(_) => Since::Address,
-        LastCycle::Input => Since::Input,
+        LastCycle::Input | LastCycle::FeatureByte { .. } => Since::Input,
         LastCycle::Output => Since::Output,
+    }
+}
+
+// The cycle that begins work.
+fn work_before(last: LastCycle) -> Since
+    ensures { result ≡ work_before last }
+{
+    match last {
+        LastCycle::Address(_) => Since::WorkAddress,
+        LastCycle::FeatureByte { .. } => Since::WorkInput,
+        LastCycle::Nothing | LastCycle::Command(_) | LastCycle::Input | LastCycle::Output =>
+            Since::WorkCommand,
     }
 }
 
@@ -118,13 +130,7 @@ fn since_of(fault: TimingFault, last: LastCycle) -> Since
         }
         TimingFault::OutputToCommand => Since::LastOutput,
         TimingFault::ReadyToOutput => Since::Ready,
-        TimingFault::ToBusy => {
-            if is_address(last) {
-                Since::WorkAddress
-            } else {
-                Since::WorkCommand
-            }
-        }
+        TimingFault::ToBusy => work_before(last),
         TimingFault::WriteCycle
         | TimingFault::ReadCycle
         | TimingFault::ToOutput

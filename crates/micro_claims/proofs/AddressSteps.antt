@@ -1,7 +1,8 @@
 -- Address cycles, one by one: from each place on, what a scene must allow, and the scene behind so many of them.
-use Rattle.std.proofs.Common.{◌≡◌, ℕ, zero, suc, ◌+◌, ◌*◌, ◌/◌, ◌%◌, ◌≤◌, ◌<◌, Bool, true, false, nat_le, List, [], ◌∷◌, length, refl, sym, ap, ◌∙◌, subst, arith, take, drop}
+use Rattle.std.proofs.Common.{◌≡◌, ℕ, zero, suc, ◌+◌, ◌*◌, ◌/◌, ◌%◌, ◌≤◌, ◌<◌, Bool, true, false, ◌&&◌, not, nat_le, List, [], ◌∷◌, length, refl, sym, ap, ◌∙◌, subst, arith, take, drop}
 use Rattle.nand_geometry.specs.declared.parts.Parts.{Parts}
 use Rattle.nand_geometry.specs.Limits.{page_len}
+use Rattle.nand_geometry.specs.Optional.{is_wide}
 use Rattle.nand_geometry.specs.Row.{row_of, parts_of, is_inside}
 use Rattle.onfi_cycle.specs.declared.command.Command.{Command}
 use Rattle.onfi_cycle.specs.declared.command.Command.TheVariants.{Read, ChangeReadColumn, BlockErase, PageProgram}
@@ -66,35 +67,40 @@ pub record RowGoes (g : Parts) (lun : ℕ) (a : Address) (view : LunView) (o : C
 abbrev pub scene_at : Command → Address → LunView → Bool → ℕ → Scene
 scene_at o a view sole n = record { facts = facts_behind (opener_facts o) (take n (bytes_of o a)); view = view; sole = sole }
 
+-- the profile forbids no address of these openers
+pub never : (b : Bool) → (b && false) ≡ false
+never true = refl
+never false = refl
+
 pub read_steps : (g : Parts) (lun : ℕ) (a : Address) (view : LunView) (sole : Bool) (n : ℕ) → n ≤ 4 → (n ≡ 1 → nat_le (page_len g) (carried a) ≡ false) → (n ≡ 4 → RowGoes g lun a view Read) → OneStep g lun (scene_at Read a view sole) (bytes_of Read a) n
-read_steps g lun a view sole zero few column row = record { allowed = record { wanted = refl; row = λ e. cc; column = λ e. cc; read_column = λ e. cc }; leads = refl }
-read_steps g lun a view sole (suc zero) few column row = record { allowed = record { wanted = refl; row = λ e. cc; column = λ e. column refl; read_column = λ e. cc }; leads = refl }
-read_steps g lun a view sole (suc (suc zero)) few column row = record { allowed = record { wanted = refl; row = λ e. cc; column = λ e. cc; read_column = λ e. cc }; leads = refl }
-read_steps g lun a view sole (suc (suc (suc zero))) few column row = record { allowed = record { wanted = refl; row = λ e. cc; column = λ e. cc; read_column = λ e. cc }; leads = refl }
+read_steps g lun a view sole zero few column row = record { allowed = record { wanted = refl; profile = never (not (is_wide g.optional)); row = λ e. cc; column = λ e. cc; read_column = λ e. cc }; leads = refl }
+read_steps g lun a view sole (suc zero) few column row = record { allowed = record { wanted = refl; profile = never (not (is_wide g.optional)); row = λ e. cc; column = λ e. column refl; read_column = λ e. cc }; leads = refl }
+read_steps g lun a view sole (suc (suc zero)) few column row = record { allowed = record { wanted = refl; profile = never (not (is_wide g.optional)); row = λ e. cc; column = λ e. cc; read_column = λ e. cc }; leads = refl }
+read_steps g lun a view sole (suc (suc (suc zero))) few column row = record { allowed = record { wanted = refl; profile = never (not (is_wide g.optional)); row = λ e. cc; column = λ e. cc; read_column = λ e. cc }; leads = refl }
 read_steps g lun a view sole (suc (suc (suc (suc zero)))) few column row =
     let r = row refl in
-    record { allowed = record { wanted = refl; row = λ e. record { inside = r.inside; names = r.names; ready = λ x. r.ready; goes = r.goes; no_cache = λ x. r.no_cache }; column = λ e. cc; read_column = λ e. cc }; leads = refl }
+    record { allowed = record { wanted = refl; profile = never (not (is_wide g.optional)); row = λ e. record { inside = r.inside; names = r.names; ready = λ x. r.ready; goes = r.goes; no_cache = λ x. r.no_cache }; column = λ e. cc; read_column = λ e. cc }; leads = refl }
 read_steps g lun a view sole (suc (suc (suc (suc (suc n))))) few column row = absurd (omega (arith, few))
 
 pub program_steps : (g : Parts) (lun : ℕ) (a : Address) (view : LunView) (sole : Bool) (n : ℕ) → n ≤ 4 → (n ≡ 1 → nat_le (page_len g) (carried a) ≡ false) → (n ≡ 4 → RowGoes g lun a view PageProgram) → OneStep g lun (scene_at PageProgram a view sole) (bytes_of PageProgram a) n
-program_steps g lun a view sole zero few column row = record { allowed = record { wanted = refl; row = λ e. cc; column = λ e. cc; read_column = λ e. cc }; leads = refl }
-program_steps g lun a view sole (suc zero) few column row = record { allowed = record { wanted = refl; row = λ e. cc; column = λ e. column refl; read_column = λ e. cc }; leads = refl }
-program_steps g lun a view sole (suc (suc zero)) few column row = record { allowed = record { wanted = refl; row = λ e. cc; column = λ e. cc; read_column = λ e. cc }; leads = refl }
-program_steps g lun a view sole (suc (suc (suc zero))) few column row = record { allowed = record { wanted = refl; row = λ e. cc; column = λ e. cc; read_column = λ e. cc }; leads = refl }
+program_steps g lun a view sole zero few column row = record { allowed = record { wanted = refl; profile = never (not (is_wide g.optional)); row = λ e. cc; column = λ e. cc; read_column = λ e. cc }; leads = refl }
+program_steps g lun a view sole (suc zero) few column row = record { allowed = record { wanted = refl; profile = never (not (is_wide g.optional)); row = λ e. cc; column = λ e. column refl; read_column = λ e. cc }; leads = refl }
+program_steps g lun a view sole (suc (suc zero)) few column row = record { allowed = record { wanted = refl; profile = never (not (is_wide g.optional)); row = λ e. cc; column = λ e. cc; read_column = λ e. cc }; leads = refl }
+program_steps g lun a view sole (suc (suc (suc zero))) few column row = record { allowed = record { wanted = refl; profile = never (not (is_wide g.optional)); row = λ e. cc; column = λ e. cc; read_column = λ e. cc }; leads = refl }
 program_steps g lun a view sole (suc (suc (suc (suc zero)))) few column row =
     let r = row refl in
-    record { allowed = record { wanted = refl; row = λ e. record { inside = r.inside; names = r.names; ready = λ x. r.ready; goes = r.goes; no_cache = λ x. r.no_cache }; column = λ e. cc; read_column = λ e. cc }; leads = refl }
+    record { allowed = record { wanted = refl; profile = never (not (is_wide g.optional)); row = λ e. record { inside = r.inside; names = r.names; ready = λ x. r.ready; goes = r.goes; no_cache = λ x. r.no_cache }; column = λ e. cc; read_column = λ e. cc }; leads = refl }
 program_steps g lun a view sole (suc (suc (suc (suc (suc n))))) few column row = absurd (omega (arith, few))
 
 pub erase_steps : (g : Parts) (lun : ℕ) (a : Address) (view : LunView) (sole : Bool) (n : ℕ) → n ≤ 2 → (n ≡ 2 → RowGoes g lun a view BlockErase) → OneStep g lun (scene_at BlockErase a view sole) (bytes_of BlockErase a) n
-erase_steps g lun a view sole zero few row = record { allowed = record { wanted = refl; row = λ e. cc; column = λ e. cc; read_column = λ e. cc }; leads = refl }
-erase_steps g lun a view sole (suc zero) few row = record { allowed = record { wanted = refl; row = λ e. cc; column = λ e. cc; read_column = λ e. cc }; leads = refl }
+erase_steps g lun a view sole zero few row = record { allowed = record { wanted = refl; profile = never (not (is_wide g.optional)); row = λ e. cc; column = λ e. cc; read_column = λ e. cc }; leads = refl }
+erase_steps g lun a view sole (suc zero) few row = record { allowed = record { wanted = refl; profile = never (not (is_wide g.optional)); row = λ e. cc; column = λ e. cc; read_column = λ e. cc }; leads = refl }
 erase_steps g lun a view sole (suc (suc zero)) few row =
     let r = row refl in
-    record { allowed = record { wanted = refl; row = λ e. record { inside = r.inside; names = r.names; ready = λ x. r.ready; goes = r.goes; no_cache = λ x. r.no_cache }; column = λ e. cc; read_column = λ e. cc }; leads = refl }
+    record { allowed = record { wanted = refl; profile = never (not (is_wide g.optional)); row = λ e. record { inside = r.inside; names = r.names; ready = λ x. r.ready; goes = r.goes; no_cache = λ x. r.no_cache }; column = λ e. cc; read_column = λ e. cc }; leads = refl }
 erase_steps g lun a view sole (suc (suc (suc n))) few row = absurd (omega (arith, few))
 
 pub column_steps : (g : Parts) (lun : ℕ) (a : Address) (view : LunView) (sole : Bool) (n : ℕ) → n ≤ 1 → (n ≡ 1 → (sole ≡ true) × (nat_le (register_len g view.register) (carried a) ≡ false)) → OneStep g lun (scene_at ChangeReadColumn a view sole) (bytes_of ChangeReadColumn a) n
-column_steps g lun a view sole zero few column = record { allowed = record { wanted = refl; row = λ e. cc; column = λ e. cc; read_column = λ e. cc }; leads = refl }
-column_steps g lun a view sole (suc zero) few column = record { allowed = record { wanted = refl; row = λ e. cc; column = λ e. cc; read_column = λ e. column refl }; leads = refl }
+column_steps g lun a view sole zero few column = record { allowed = record { wanted = refl; profile = never (not (is_wide g.optional)); row = λ e. cc; column = λ e. cc; read_column = λ e. cc }; leads = refl }
+column_steps g lun a view sole (suc zero) few column = record { allowed = record { wanted = refl; profile = never (not (is_wide g.optional)); row = λ e. cc; column = λ e. cc; read_column = λ e. column refl }; leads = refl }
 column_steps g lun a view sole (suc (suc n)) few column = absurd (omega (arith, few))

@@ -21,7 +21,7 @@ use Rattle.onfi_cycle.specs.declared.tail_facts.TailFacts.{TailFacts}
 use Rattle.onfi_cycle.specs.declared.target_cycle.TargetCycle.TheVariants.{CommandCycle}
 use Rattle.onfi_cycle.specs.LunView.{LunView}
 use Rattle.onfi_cycle.specs.Command.{command, is_opener, closes, address_cycles}
-use Rattle.onfi_cycle.specs.Sequence.{facts_after, is_open, wants_command, row, takes_inputs, input_column}
+use Rattle.onfi_cycle.specs.Sequence.{facts_after, is_open, wants_command, row, takes_data, input_column}
 use Rattle.onfi_cycle.specs.Effect.{is_off, is_data, names_lun, page_address, cycle_effect}
 use Rattle.onfi_cycle.specs.Lun.{resumed, column_at, view_after}
 use Rattle.onfi_cycle.specs.Rules.{may_change_column, is_page_or_parameters}
@@ -146,6 +146,7 @@ changes (Some w) (Some r) c shows fits ready shown page = (shows.0, rw (is_shown
     is_held (Page p) h = refl
     is_held ParameterPage h = refl
     is_held Identifier h = let none = not-true (holds_identifier r) page in cc
+    is_held _ h = cc
 
 pub sound_05 : (s : Channel) (j : Job) (k : KnownJob s j) (v : State) (past : List Item) (c : Scene) (done : List Done) (rest : List Line) (at byte : ℕ) → command byte ≡ ChangeReadColumn → IsScene s j.lun past c → Fits s.geometry j v done c true → NoReasons s.geometry j.text v (CommandWord byte) → accepts s.geometry (bounds_of j.text) None (state_after s.geometry v (CommandWord byte)) rest ≡ true → SoundWord s j past done rest at (CommandWord byte)
 sound_05 s j k v past c done rest at byte is scene f clear acc =
@@ -213,7 +214,7 @@ pub sound_10 : (s : Channel) (j : Job) (k : KnownJob s j) (v : State) (past : Li
 sound_10 s j k v past c done rest at byte is scene f clear acc =
     let g = s.geometry in
     let p = programming g j v.target (now_of j done) c.facts (place_wants ProgramConfirm) confirms (f.tail refl) (wanted g j.text v byte ProgramConfirm is refl refl clear).places in
-    let wants : wants_command c.facts ProgramConfirm ≡ true = ap takes_inputs p.program.phase in
+    let wants : wants_command c.facts ProgramConfirm ≡ true = ap takes_data p.program.phase in
     let names = row_names g j c.facts p.address (program_row g j v.target (now_of j done) c.facts p) p.row in
     let effect : cycle_effect g c.facts (shown_alone c) (CommandCycle ProgramConfirm) j.lun.lun ≡ ProgramStarted false (page_address g (row c.facts)) = rw (wants, names) refl in
     command_sound s j k v past c done rest at byte ProgramConfirm is scene f clear (wants, names) refl
@@ -311,7 +312,7 @@ pub sound_85 : (s : Channel) (j : Job) (k : KnownJob s j) (v : State) (past : Li
 sound_85 s j k v past c done rest at byte is scene f clear acc =
     let g = s.geometry in
     let p = programming g j v.target (now_of j done) c.facts (place_wants ChangeWriteColumn) changes_column (f.tail refl) (wanted g j.text v byte ChangeWriteColumn is refl refl clear).places in
-    let wants : wants_command c.facts ChangeWriteColumn ≡ true = ap takes_inputs p.program.phase in
+    let wants : wants_command c.facts ChangeWriteColumn ≡ true = ap takes_data p.program.phase in
     let effect : cycle_effect g c.facts (shown_alone c) (CommandCycle ChangeWriteColumn) j.lun.lun ≡ Unaffected = same_either (wants_command c.facts ChangeWriteColumn && names_lun g (row c.facts) j.lun.lun) in
     command_sound s j k v past c done rest at byte ChangeWriteColumn is scene f clear wants refl
     (record {

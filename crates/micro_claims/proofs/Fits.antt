@@ -14,7 +14,7 @@ use Rattle.onfi_cycle.specs.declared.queued.Queued.TheVariants.{Erase, Program}
 use Rattle.onfi_cycle.specs.declared.page_address.PageAddress.{PageAddress}
 use Rattle.onfi_cycle.specs.declared.read_column.ReadColumn.{ReadColumn}
 use Rattle.onfi_cycle.specs.declared.register.Register.{Register}
-use Rattle.onfi_cycle.specs.declared.register.Register.TheVariants.{Empty, Page, ParameterPage, Identifier}
+use Rattle.onfi_cycle.specs.declared.register.Register.TheVariants.{Page, ParameterPage, Identifier}
 use Rattle.onfi_cycle.specs.declared.tail_facts.TailFacts.{TailFacts}
 use Rattle.onfi_cycle.specs.declared.target_cycle.TargetCycle.TheVariants.{CommandCycle, AddressCycle}
 use Rattle.onfi_cycle.specs.LunView.{LunView}
@@ -210,10 +210,10 @@ ShowsFit None c = Unit {0}
 ShowsFit (Some w) c = (c.sole ≡ true) × (latch_among w c.view.latch ≡ true)
 
 abbrev pub among_held : (page parameters identifier : Bool) → Register → Bool
-among_held p q i Empty = false
 among_held p q i (Page a) = p
 among_held p q i ParameterPage = q
 among_held p q i Identifier = i
+among_held p q i _ = false
 
 abbrev pub register_among : Held → Register → Bool
 register_among r = among_held (holds_page r) (holds_parameters r) (holds_identifier r)

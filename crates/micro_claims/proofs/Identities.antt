@@ -3,15 +3,16 @@ use Rattle.std.proofs.Common.{◌≡◌, ℕ, zero, suc, ◌≤◌, ◌==◌, Bo
 use Rattle.std.proofs.lemmas.Bool.Decides.{nat_tests}
 use Rattle.std.proofs.lemmas.Bool.{not-false, and_parts, or_parts}
 use Rattle.nand_geometry.specs.declared.parts.Parts.{Parts}
+use Rattle.nand_geometry.specs.Optional.{is_wide}
 use Rattle.onfi_cycle.specs.declared.command.Command.{Command}
-use Rattle.onfi_cycle.specs.declared.command.Command.TheVariants.{ReadId, ReadParameterPage}
+use Rattle.onfi_cycle.specs.declared.command.Command.TheVariants.{ReadId, ReadParameterPage, ReadUniqueId, GetFeatures, SetFeatures}
 use Rattle.onfi_cycle.specs.declared.item.Item.{Item}
 use Rattle.onfi_cycle.specs.declared.item.Kind.TheVariants.{Adr}
 use Rattle.onfi_cycle.specs.declared.queued.Queued.{Queued}
 use Rattle.onfi_cycle.specs.declared.target_cycle.TargetCycle.TheVariants.{AddressCycle}
 use Rattle.onfi_cycle.specs.declared.tail_facts.TailFacts.{TailFacts}
 use Rattle.onfi_cycle.specs.LunView.{LunView}
-use Rattle.onfi_cycle.specs.Command.{command, reads_identity, takes_address}
+use Rattle.onfi_cycle.specs.Command.{command, reads_identity}
 use Rattle.onfi_cycle.specs.Sequence.{facts_after, is_open, wants_command, row}
 use Rattle.onfi_cycle.specs.Effect.{names_lun}
 use Rattle.onfi_cycle.specs.Lun.{view_after}
@@ -25,15 +26,16 @@ use Rattle.micro_program.specs.Program.{Job, Done, column_now, index_now}
 use Rattle.micro_program.specs.Moves.{address, gives, and_then}
 use Rattle.micro_claims.specs.Spans.{only}
 use Rattle.micro_claims.specs.State.{Registers, KnownTarget, State, Place, Closed, After, InData, InColumn, QueuedRows, NoRows, SomeRows, AnyRows, closed, bounds_of, Unknown, may_be_31}
-use Rattle.micro_claims.specs.Against.{may_be_open, may_be_queued, opener_refused, takes_identity_at, is_identity_byte, byte_of_column, address_out_of_place}
+use Rattle.micro_claims.specs.Against.{may_be_open, may_be_queued, opener_refused, takes_identity_at, takes_identity, is_identity_byte, byte_of_column, address_out_of_place}
 use Rattle.micro_claims.specs.Reasons.{breaks_cycle_forbidden}
 use Rattle.micro_claims.specs.Leaves.{identity_read, address_leaves_at, with_registers, paid, data_shown}
 use Rattle.micro_claims.specs.Accepts.{state_after, accepts}
 use Rattle.micro_program.proofs.Scenes.{Scene, IsScene, AddressAllowed, scene_behind}
-use Rattle.micro_claims.proofs.Fits.{Address, ShowsFit, TailFits, latch_among, facts_behind, bytes_of, RegistersFit, Opened, opener_facts, PlaceIs, RowsFit, LunFits, Fits, now_of}
+use Rattle.micro_claims.proofs.Fits.{Address, is_place, ShowsFit, TailFits, latch_among, facts_behind, bytes_of, RegistersFit, Opened, opener_facts, PlaceIs, RowsFit, LunFits, Fits, now_of}
 use Rattle.micro_claims.proofs.Numbers.{in_exactly}
 use Rattle.micro_claims.proofs.Tails.{every_place, no_place, closed_tail, closed_fits}
 use Rattle.micro_claims.proofs.Sounding.{KnownJob, NoReasons, unmoved, SoundWord, plain_sound}
+use Rattle.micro_claims.proofs.AddressSteps.{never}
 use Rattle.micro_claims.proofs.Commands.{plain_opener, same_either}
 use Rattle.micro_claims.proofs.MoreCommands.{declared, opener_free}
 use Rattle.micro_claims.proofs.SoundAddress.{not_caching, sound_address}
@@ -75,7 +77,7 @@ record Identity (g : Parts) (j : Job) (done : List Done) (from count : ℕ) (o :
   single : ltb 1 g.luns ≡ false
   one : count ≡ 1
   low : from ≤ 1
-  takes : takes_address o (byte_of_column from (column_now done)) ≡ true
+  takes : takes_identity o (byte_of_column from (column_now done)) ≡ true
 
 identity : (g : Parts) (j : Job) (v : State) (done : List Done) (from count : ℕ) (o : Command) → RegistersFit g j v.registers done → (ltb 1 g.luns || not (count == 1) || not (is_identity_byte o from (only v.registers.column))) ≡ false → Identity g j done from count o
 identity g j v done from count o f refused = by (only v.registers.column) refl (not-false _ both.1)
@@ -89,9 +91,9 @@ identity g j v done from count o f refused = by (only v.registers.column) refl (
     by : (x : Option ℕ) → only v.registers.column ≡ x → is_identity_byte o from x ≡ true → Identity g j done from count o
     by None e h = cc
     by (Some x) e h =
-        let two = and_parts (nat_le from 1) (takes_address o (byte_of_column from x)) h in
+        let two = and_parts (nat_le from 1) (takes_identity o (byte_of_column from x)) h in
         let is : column_now done ≡ x = only_is (column_now done) v.registers.column.lo v.registers.column.hi x f.column.least f.column.most e in
-        record { single = alone.0; one = eqb-true count 1 (not-false _ alone.1); low = grind (arith, nat_tests, two.0); takes = ap (λ (m : ℕ). takes_address o (byte_of_column from m)) is ∙ two.1 }
+        record { single = alone.0; one = eqb-true count 1 (not-false _ alone.1); low = grind (arith, nat_tests, two.0); takes = ap (λ (m : ℕ). takes_identity o (byte_of_column from m)) is ∙ two.1 }
 
 -- the byte of the word
 pub identity_bytes : (g : Parts) (j : Job) (done : List Done) (from : ℕ) → from ≤ 1 → address g j done from 1 ≡ Some (byte_of_column from (column_now done) ∷ [])
@@ -100,16 +102,16 @@ identity_bytes g j done (suc zero) low = refl
 identity_bytes g j done (suc (suc n)) low = absurd (omega (arith, low))
 
 -- 90h
-id_step : (s : Channel) (j : Job) (c : Scene) (byte : ℕ) → c.facts ≡ opener_facts ReadId → takes_address ReadId byte ≡ true → AddressAllowed s.geometry j.lun.lun c byte × (scene_behind s.geometry j.lun.lun (AddressCycle byte) c ≡ record { facts = facts_after (AddressCycle byte) (opener_facts ReadId); view = view_after IdRead c.view; sole = not (ltb 1 s.geometry.luns) })
+id_step : (s : Channel) (j : Job) (c : Scene) (byte : ℕ) → c.facts ≡ opener_facts ReadId → takes_identity ReadId byte ≡ true → AddressAllowed s.geometry j.lun.lun c byte × (scene_behind s.geometry j.lun.lun (AddressCycle byte) c ≡ record { facts = facts_after (AddressCycle byte) (opener_facts ReadId); view = view_after IdRead c.view; sole = not (ltb 1 s.geometry.luns) })
 id_step s j c byte is takes = subst (λ (x : Scene). AddressAllowed s.geometry j.lun.lun x byte × (scene_behind s.geometry j.lun.lun (AddressCycle byte) x ≡ record { facts = facts_after (AddressCycle byte) (opener_facts ReadId); view = view_after IdRead c.view; sole = not (ltb 1 s.geometry.luns) })) (sym whole)
-    (record { wanted = rw takes refl; row = λ e. cc; column = λ e. cc; read_column = λ e. cc }, rw takes refl)
+    (record { wanted = rw takes refl; profile = rw takes (never (not (is_wide s.geometry.optional))); row = λ e. cc; column = λ e. cc; read_column = λ e. cc }, rw takes refl)
   where
     whole : c ≡ record { facts = opener_facts ReadId; view = c.view; sole = c.sole }
     whole = λ i. record { facts = is i; view = c.view; sole = c.sole }
 
-ec_step : (s : Channel) (j : Job) (c : Scene) (byte : ℕ) → c.facts ≡ opener_facts ReadParameterPage → takes_address ReadParameterPage byte ≡ true → AddressAllowed s.geometry j.lun.lun c byte × (scene_behind s.geometry j.lun.lun (AddressCycle byte) c ≡ record { facts = facts_after (AddressCycle byte) (opener_facts ReadParameterPage); view = view_after ParameterPageReadStarted c.view; sole = not (ltb 1 s.geometry.luns) })
+ec_step : (s : Channel) (j : Job) (c : Scene) (byte : ℕ) → c.facts ≡ opener_facts ReadParameterPage → takes_identity ReadParameterPage byte ≡ true → AddressAllowed s.geometry j.lun.lun c byte × (scene_behind s.geometry j.lun.lun (AddressCycle byte) c ≡ record { facts = facts_after (AddressCycle byte) (opener_facts ReadParameterPage); view = view_after ParameterPageReadStarted c.view; sole = not (ltb 1 s.geometry.luns) })
 ec_step s j c byte is takes = subst (λ (x : Scene). AddressAllowed s.geometry j.lun.lun x byte × (scene_behind s.geometry j.lun.lun (AddressCycle byte) x ≡ record { facts = facts_after (AddressCycle byte) (opener_facts ReadParameterPage); view = view_after ParameterPageReadStarted c.view; sole = not (ltb 1 s.geometry.luns) })) (sym whole)
-    (record { wanted = rw takes refl; row = λ e. cc; column = λ e. cc; read_column = λ e. cc }, rw takes refl)
+    (record { wanted = rw takes refl; profile = never (not (is_wide s.geometry.optional)); row = λ e. cc; column = λ e. cc; read_column = λ e. cc }, rw takes refl)
   where
     whole : c ≡ record { facts = opener_facts ReadParameterPage; view = c.view; sole = c.sole }
     whole = λ i. record { facts = is i; view = c.view; sole = c.sole }
@@ -160,10 +162,13 @@ data Which (o : Command) : Type 0 where
   IsId : (e : ReadId ≡ o) → Which o
   IsEc : (e : ReadParameterPage ≡ o) → Which o
 
-which : (o : Command) → reads_identity o ≡ true → Which o
-which ReadId h = IsId refl
-which ReadParameterPage h = IsEc refl
-which _ h = cc
+which : (o : Command) (n : ℕ) → is_place o n ≡ true → reads_identity o ≡ true → Which o
+which ReadId n p h = IsId refl
+which ReadParameterPage n p h = IsEc refl
+which ReadUniqueId n p h = cc
+which GetFeatures n p h = cc
+which SetFeatures n p h = cc
+which _ n p h = cc
 
 record IdentityPlace (p : Place) : Type 0 where
   o : Command
@@ -193,7 +198,8 @@ sound_any_address s j k v past c done rest at from count scene f clear acc = by 
     at_place t e =
         let here = identity_place t.place (every_place takes_identity_at v.target.tail t.place e t.here) in
         let out = no_place (address_out_of_place s.geometry v from count) v.target.tail t.place clear.no_cycle_forbidden t.here in
-        by_opener s j k v past c done rest at from count here.n t.address here.o (which here.o here.reads) (t.here ∙ here.is) (subst (λ (x : Place). PlaceIs x t.address c.facts) here.is t.is) (subst (λ (x : Place). address_out_of_place s.geometry v from count x ≡ false) here.is out) scene f clear acc
+        let opened : Opened here.o here.n t.address c.facts = subst (λ (x : Place). PlaceIs x t.address c.facts) here.is t.is in
+        by_opener s j k v past c done rest at from count here.n t.address here.o (which here.o here.n opened.place here.reads) (t.here ∙ here.is) opened (subst (λ (x : Place). address_out_of_place s.geometry v from count x ≡ false) here.is out) scene f clear acc
 
     by : (b : Bool) → takes_identity_at v.target.tail ≡ b → SoundWord s j past done rest at (AddressWord from count)
     by false e = sound_address s j k v past c done rest at from count scene f clear e acc

@@ -16,7 +16,7 @@ use Rattle.onfi_cycle.specs.declared.queued.Queued.TheVariants.{Erase, Program}
 use Rattle.onfi_cycle.specs.declared.tail_facts.TailFacts.{TailFacts}
 use Rattle.onfi_cycle.specs.declared.target_cycle.TargetCycle.TheVariants.{CommandCycle}
 use Rattle.onfi_cycle.specs.Command.{command, closes, address_cycles, is_opener, wants_one_lun}
-use Rattle.onfi_cycle.specs.Sequence.{facts_after, is_open, wants_command, row, takes_inputs}
+use Rattle.onfi_cycle.specs.Sequence.{facts_after, is_open, wants_command, row, takes_data}
 use Rattle.onfi_cycle.specs.Effect.{page_address, cycle_effect}
 use Rattle.onfi_cycle.specs.Lun.{is_page_read, is_cache_read, view_after}
 use Rattle.onfi_cycle.specs.Channel.{Channel}
@@ -134,7 +134,7 @@ sound_11 s j k v past c done rest at byte is scene f clear acc =
     let g = s.geometry in
     let dec = declared g j.text v byte ProgramPlane is clear in
     let p = programming g j v.target (now_of j done) c.facts (place_wants ProgramPlane) queues (f.tail refl) (wanted g j.text v byte ProgramPlane is dec.fit refl clear).places in
-    let wants : wants_command c.facts ProgramPlane ≡ true = ap takes_inputs p.program.phase in
+    let wants : wants_command c.facts ProgramPlane ≡ true = ap takes_data p.program.phase in
     let row_is = program_row g j v.target (now_of j done) c.facts p in
     let names = row_names g j c.facts p.address row_is p.row in
     let page = page_of_row g j c.facts p.address row_is p.row in

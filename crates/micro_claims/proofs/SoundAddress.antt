@@ -5,6 +5,7 @@ use Rattle.std.proofs.lemmas.Nat.{div-mul-add, mod-mul-add}
 use Rattle.std.proofs.lemmas.Bool.{not-false, or_from, and_from, or_parts}
 use Rattle.nand_geometry.specs.declared.parts.Parts.{Parts}
 use Rattle.nand_geometry.specs.declared.row_parts.RowParts.{RowParts}
+use Rattle.nand_geometry.specs.Optional.{is_wide}
 use Rattle.nand_geometry.specs.Limits.{InLimits, planes, page_len}
 use Rattle.nand_geometry.specs.Row.{row_of, row_bytes_of}
 use Rattle.onfi_cycle.specs.declared.command.Command.{Command}
@@ -15,7 +16,7 @@ use Rattle.onfi_cycle.specs.declared.queued.Queued.{Queued}
 use Rattle.onfi_cycle.specs.declared.queued.Queued.TheVariants.{Erase, Program}
 use Rattle.onfi_cycle.specs.declared.page_address.PageAddress.{PageAddress}
 use Rattle.onfi_cycle.specs.declared.register.Register.{Register}
-use Rattle.onfi_cycle.specs.declared.register.Register.TheVariants.{Empty, Page, ParameterPage, Identifier}
+use Rattle.onfi_cycle.specs.declared.register.Register.TheVariants.{Empty, Page, ParameterPage, Identifier, Identity, JedecIdentity, UniqueId, Features}
 use Rattle.onfi_cycle.specs.declared.item.Kind.TheVariants.{Adr}
 use Rattle.onfi_cycle.specs.declared.tail_facts.TailFacts.{TailFacts}
 use Rattle.onfi_cycle.specs.declared.target_cycle.TargetCycle.TheVariants.{AddressCycle}
@@ -46,7 +47,7 @@ use Rattle.micro_claims.proofs.Commands.{shows_kept}
 use Rattle.micro_claims.proofs.Tails.{no_place}
 use Rattle.micro_claims.proofs.Words.{least_register}
 use Rattle.micro_claims.proofs.Sounding.{KnownJob, NoReasons, unmoved, SoundWord, plain_sound}
-use Rattle.micro_claims.proofs.AddressSteps.{Steps, many, carried, RowGoes, scene_at, read_steps, program_steps, erase_steps, column_steps}
+use Rattle.micro_claims.proofs.AddressSteps.{Steps, many, carried, RowGoes, scene_at, read_steps, program_steps, erase_steps, column_steps, never}
 use Rattle.micro_claims.proofs.Addressing.{PlaceClear, place_clear, address_now, address_bytes, AddressNow, of_now, same_facts, same_bytes, carried_is}
 use Rattle.micro_claims.proofs.NamesNow.{named_now}
 
@@ -432,6 +433,10 @@ reads s j v c done from count n w clear second = by v.target.shows w.shows v.lun
     most (Page p) = page_small s.geometry w.limits
     most ParameterPage = omega arith
     most Identifier = omega arith
+    most Identity = omega arith
+    most JedecIdentity = omega arith
+    most UniqueId = omega arith
+    most (Features a) = omega arith
 
     by : (o : Option Shown) → ShowsFit o c → (r : Option Held) → RegisterFits r c.view.register → is_at_most (bound_plus v.registers.column.hi 1) (cond (drives o) (least_length s.geometry r) 0) ≡ true → Reads s.geometry v c (column_now done)
     by None shows r fits inside = let low = surely (column_now done) v.registers.column.hi 1 0 w.registers.column.most inside in absurd (omega (arith, low))
@@ -499,7 +504,7 @@ goes_column s j v c done from count n old w clear here is now =
 -- one address behind 85h, and the second
 begun_column : (g : Parts) (lun : ℕ) (a : Address) (t : TailFacts) (view : LunView) (sole : Bool) (byte : ℕ) → ColumnBegun 0 a t → AddressAllowed g lun (record { facts = t; view = view; sole = sole }) byte × (scene_behind g lun (AddressCycle byte) (record { facts = t; view = view; sole = sole }) ≡ record { facts = facts_after (AddressCycle byte) t; view = view; sole = sole })
 begun_column g lun a t view sole byte b =
-    (record { wanted = rw (b.alone, b.program.phase) refl; row = λ e. rw_none b.alone e; column = λ e. no_second b.alone b.program.phase e; read_column = λ e. no_read b.alone e }, rw b.alone refl)
+    (record { wanted = rw (b.alone, b.program.phase) refl; profile = rw b.alone (never (not (is_wide g.optional))); row = λ e. rw_none b.alone e; column = λ e. no_second b.alone b.program.phase e; read_column = λ e. no_read b.alone e }, rw b.alone refl)
   where
     rw_none : {X : Type 0} → t.opening ≡ None → ends_row (λ d. true) t ≡ true → X
     rw_none e h = let none : ends_row (λ d. true) t ≡ false = ap (opened (λ c n. true && at_last_row c n)) e in cc
@@ -512,7 +517,7 @@ begun_column g lun a t view sole byte b =
 
 second_column_byte : (g : Parts) (lun : ℕ) (a : Address) (t : TailFacts) (view : LunView) (sole : Bool) (byte : ℕ) → ColumnBegun 1 a t → nat_le (page_len g) (column_with t byte) ≡ false → AddressAllowed g lun (record { facts = t; view = view; sole = sole }) byte × (scene_behind g lun (AddressCycle byte) (record { facts = t; view = view; sole = sole }) ≡ record { facts = facts_after (AddressCycle byte) t; view = view; sole = sole })
 second_column_byte g lun a t view sole byte b inside =
-    (record { wanted = rw (b.alone, b.program.phase) refl; row = λ e. rw_none b.alone e; column = λ e. inside; read_column = λ e. no_read b.alone e }, rw b.alone refl)
+    (record { wanted = rw (b.alone, b.program.phase) refl; profile = rw b.alone (never (not (is_wide g.optional))); row = λ e. rw_none b.alone e; column = λ e. inside; read_column = λ e. no_read b.alone e }, rw b.alone refl)
   where
     rw_none : {X : Type 0} → t.opening ≡ None → ends_row (λ d. true) t ≡ true → X
     rw_none e h = let none : ends_row (λ d. true) t ≡ false = ap (opened (λ c n. true && at_last_row c n)) e in cc

@@ -10,8 +10,9 @@ use Rattle.onfi_cycle.specs.declared.read_column.ReadColumn.{ReadColumn}
 use Rattle.onfi_cycle.specs.declared.tail_facts.TailFacts.{TailFacts}
 use Rattle.onfi_cycle.specs.declared.target_cycle.TargetCycle.TheVariants.{InputCycle, OutputCycle}
 use Rattle.onfi_cycle.specs.LunView.{LunView}
-use Rattle.onfi_cycle.specs.Sequence.{facts_after, extended_facts, is_open, input_column, takes_inputs}
-use Rattle.onfi_cycle.specs.Lun.{output_column, option_plus}
+use Rattle.onfi_cycle.specs.Sequence.{facts_after, extended_facts, is_open, input_column, takes_data}
+use Rattle.onfi_cycle.specs.Effect.{input_effect}
+use Rattle.onfi_cycle.specs.Lun.{output_column, option_plus, view_after}
 use Rattle.onfi_cycle.specs.Rules.{register_len, is_empty}
 use Rattle.micro_program.specs.Moves.{Take, gives}
 use Rattle.micro_program.proofs.Scenes.{Scene, scene_behind}
@@ -115,6 +116,10 @@ one_input a t b p = record { phase = rw (p.begun, p.phase) refl; row = rw p.begu
 input_more : (t : TailFacts) (b : ℕ) → t.is_empty ≡ false → input_column (facts_after (InputCycle b) t) ≡ input_column t + 1
 input_more t b e = rw e (omega arith)
 
+-- an input of a program does nothing to what the rules see of the LUN
+pub calm_view : (t : TailFacts) (v : LunView) → t.phase ≡ Inputs → view_after (input_effect t) v ≡ v
+calm_view t v phase = rw phase refl
+
 pub inputs_go : (g : Parts) (lun : ℕ) (a : Address) (bytes : List ℕ) (c : Scene) → InProgram a Inputs c.facts → input_column c.facts + length bytes ≤ page_len g → InputsGo g lun bytes a c
 inputs_go g lun a [] c p inside = record { facts = c.facts; allowed = tt; leads = refl; put = record { program = p; column = omega arith } }
 inputs_go g lun a (b ∷ bytes) c p inside =
@@ -125,7 +130,7 @@ inputs_go g lun a (b ∷ bytes) c p inside =
     let column = rest.put.column in
     record {
       facts = rest.facts;
-      allowed = ((ap takes_inputs p.phase, below), rest.allowed);
-      leads = rest.leads;
+      allowed = ((ap takes_data p.phase, below), rest.allowed);
+      leads = rest.leads ∙ ap (λ (v : LunView). record { facts = rest.facts; view = v; sole = c.sole }) (calm_view c.facts c.view p.phase);
       put = record { program = rest.put.program; column = omega (arith, column, more) };
     }

@@ -11,7 +11,7 @@ use Rattle.onfi_cycle.specs.declared.latch.Latch.{Latch}
 use Rattle.onfi_cycle.specs.declared.latch.Latch.TheVariants.{Off, Status, Data}
 use Rattle.onfi_cycle.specs.declared.read_column.ReadColumn.{ReadColumn}
 use Rattle.onfi_cycle.specs.declared.register.Register.{Register}
-use Rattle.onfi_cycle.specs.declared.register.Register.TheVariants.{Empty, Page, ParameterPage, Identifier}
+use Rattle.onfi_cycle.specs.declared.register.Register.TheVariants.{Empty, Page, ParameterPage, Identifier, Identity, JedecIdentity, UniqueId, Features}
 use Rattle.onfi_cycle.specs.LunView.{LunView}
 use Rattle.onfi_cycle.specs.Sequence.{is_open, input_column}
 use Rattle.onfi_cycle.specs.Lun.{output_column, option_plus}
@@ -72,6 +72,10 @@ least_register g (Some w) r f h small = by (holds_identifier w) (holds_page w) (
     by false true false ParameterPage f = cc
     by false false q ParameterPage f = omega arith
     by false p q Identifier f = cc
+    by i p q Identity f = cc
+    by i p q JedecIdentity f = cc
+    by i p q UniqueId f = cc
+    by i p q (Features a) f = cc
 
 -- what a `get` is against
 record GetClear (g : Parts) (v : State) (n buffer : ℕ) : Type 0 where
@@ -135,6 +139,7 @@ can_read g j l i n view lun latch ready held k is f inside small =
     not_empty (Some w) (Page p) f h = refl
     not_empty (Some w) ParameterPage f h = refl
     not_empty (Some w) Identifier f h = refl
+    not_empty (Some w) _ f h = cc
 
 -- the clear conditions of a `get`, of these parts of a claim
 record GetFree (g : Parts) (l : KnownLun) (o : Option Shown) (n : ℕ) : Type 0 where

@@ -4,7 +4,8 @@ use Rattle.nand_geometry.specs.declared.parts.Parts.{Parts}
 use Rattle.nand_geometry.specs.Limits.{page_len, planes}
 use Rattle.onfi_cycle.specs.declared.command.Command.{Command}
 use Rattle.onfi_cycle.specs.declared.command.Command.TheVariants.{Read, ChangeReadColumn, ChangeReadColumnConfirm, BlockErase, ReadStatus, ReadStatusEnhanced, PageProgram, ChangeWriteColumn, ProgramConfirm, ProgramPlane, ReadId, ReadParameterPage, ReadCacheSequential, ReadCacheEnd}
-use Rattle.onfi_cycle.specs.Command.{is_known, is_opener, address_cycles, closes, takes_address, reads_identity, wants_one_lun}
+use Rattle.onfi_cycle.specs.Base.{is_of_base}
+use Rattle.onfi_cycle.specs.Command.{is_opener, address_cycles, closes, reads_identity, wants_one_lun}
 use Rattle.onfi_cycle.specs.Sequence.{is_proper_beginning}
 use Rattle.onfi_cycle.specs.Rules.{is_undeclared}
 use Rattle.micro_claims.specs.Spans.{bound_plus, is_at_most, only}
@@ -132,9 +133,9 @@ queue_refuses (SomeRows erase queued drift) planes opener =
 
 -- ---- commands
 
--- not a command of the profile, or one that isn't declared
+-- not a command of the base profile, which programs use alone, or one that isn't declared
 abbrev pub is_unfit : Parts → Command → Bool
-is_unfit g c = not (is_known c) || is_undeclared g c
+is_unfit g c = not (is_of_base c) || is_undeclared g c
 
 -- 90h or ECh may not come, though nothing is open: only a target of one LUN is asked, as another refuses them by a rule that comes first
 abbrev pub identity_opener_refused : Parts → State → Bool
@@ -196,10 +197,16 @@ column_limit g s _ = page_len g
 abbrev pub byte_of_column : ℕ → ℕ → ℕ
 byte_of_column from column = if from == 0 then column % 256 else column / 256 % 256
 
+-- the address bytes of 90h and ECh that programs use, which are those of the base profile
+abbrev pub takes_identity : Command → ℕ → Bool
+takes_identity ReadId byte = byte == 0x20
+takes_identity ReadParameterPage byte = byte == 0x00
+takes_identity _ byte = false
+
 -- the byte of the column register, where it is known
 abbrev pub is_identity_byte : Command → ℕ → Option ℕ → Bool
 is_identity_byte opener from None = false
-is_identity_byte opener from (Some column) = nat_le from 1 && takes_address opener (byte_of_column from column)
+is_identity_byte opener from (Some column) = nat_le from 1 && takes_identity opener (byte_of_column from column)
 
 -- the one address of 90h or ECh
 abbrev pub identity_refused : Parts → State → (from count : ℕ) → Place → Bool

@@ -1,6 +1,7 @@
 -- What is accepted from the first state is safe; and some programs of which that is so.
 use Rattle.std.specs.Prelude.{◌≡◌, ℕ, ◌≤◌, true, false, List, [], ◌∷◌, None}
 use Rattle.nand_geometry.specs.declared.parts.Parts.{Parts}
+use Rattle.nand_geometry.specs.Optional.{no_optional}
 use Rattle.micro_word.specs.declared.word.Word.{Word}
 use Rattle.micro_word.specs.declared.word.Word.TheVariants.{End, Command, Address, Get, Put, Seek, Column, RowAdd, Row, Plane, Wait, Yield, ReadStatus, BranchOnStatus, Loop, Next}
 use Rattle.micro_word.specs.Text.{Microprogram}
@@ -16,7 +17,7 @@ AcceptedLinesAreSafe = (text : Microprogram) (g : Parts) → 1 ≤ text.rows →
 
 -- two such LUNs, each in two planes
 abbrev pub two_luns : Parts
-two_luns = record { page_bytes = 512; spare_bytes = 16; pages = 4; blocks = 8; luns = 2; plane_bits = 1; enhanced = true; multi_plane = true; cache = false }
+two_luns = record { page_bytes = 512; spare_bytes = 16; pages = 4; blocks = 8; luns = 2; plane_bits = 1; enhanced = true; multi_plane = true; cache = false; optional = no_optional }
 
 abbrev pub some_text : ℕ → ℕ → List Word → Microprogram
 some_text buffer budget words = record { rows = 1; buffer = buffer; budget = budget; words = words }
@@ -62,7 +63,7 @@ abbrev pub identity_words : List Word
 identity_words = Column 32 ∷ (Command 0x90 ∷ (Address 0 1 ∷ (Get 4 ∷ (Column 0 ∷ (Command 0xec ∷ (Address 0 1 ∷ (Wait ∷ (Command 0x00 ∷ (Get 768 ∷ (Command 0xff ∷ (Wait ∷ (End 0 ∷ []))))))))))))
 
 abbrev pub one_lun_with_cache : Parts
-one_lun_with_cache = record { page_bytes = 512; spare_bytes = 16; pages = 4; blocks = 8; luns = 1; plane_bits = 0; enhanced = false; multi_plane = false; cache = true }
+one_lun_with_cache = record { page_bytes = 512; spare_bytes = 16; pages = 4; blocks = 8; luns = 1; plane_bits = 0; enhanced = false; multi_plane = false; cache = true; optional = no_optional }
 
 abbrev pub with_rows : ℕ → ℕ → ℕ → List Word → Microprogram
 with_rows rows buffer budget words = record { rows = rows; buffer = buffer; budget = budget; words = words }

@@ -117,7 +117,14 @@ impl State {
                 self.read_cache(LastCloser::CACHE, self.lun.cached.next())
             },
             Command::ReadCacheEnd => self.read_cache(LastCloser::OTHER, self.lun.cached),
-            Command::ReadStatus | Command::ReadStatusEnhanced | Command::Unknown => {}
+            Command::ReadStatus
+            | Command::ReadStatusEnhanced
+            | Command::ReadUniqueId
+            | Command::GetFeatures
+            | Command::SetFeatures
+            | Command::ResetLun
+            | Command::SynchronousReset
+            | Command::Unknown => {}
         }
     }
 }

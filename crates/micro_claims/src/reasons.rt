@@ -1,6 +1,6 @@
 //! The reasons against a word, by what is known before it.
 ghost use Rattle.std.specs.Prelude.{◌≡◌, ◌^◌, ◌<◌, ◌==◌, ◌&&◌, not};
-ghost use Rattle.micro_claims.specs.Against.{next_address, is_unfit, opener_refused, closer_refused, command_out_of_place, command_past_rows, command_not_for_programs, has_second_column, column_limit, is_identity_byte, identity_refused, row_refused, surely_past, address_out_of_place, begins_elsewhere, column_past, row_outside, output_refused, output_past, input_past, may_be_unready};
+ghost use Rattle.micro_claims.specs.Against.{next_address, is_unfit, opener_refused, closer_refused, command_out_of_place, command_past_rows, command_not_for_programs, has_second_column, column_limit, takes_identity, is_identity_byte, identity_refused, row_refused, surely_past, address_out_of_place, begins_elsewhere, column_past, row_outside, output_refused, output_past, input_past, may_be_unready};
 ghost use Rattle.micro_claims.specs.Reasons.{breaks_cycle_forbidden, breaks_address_unaligned, breaks_handover_in_sequence, breaks_buffer_passed, breaks_row_or_plane_outside, breaks_column_too_large, breaks_no_status, breaks_ends_too_soon, breaks_over_budget, breaks_command_not_allowed, reason_against};
 ghost use Rattle.micro_claims.specs.Spans.{bound_plus, is_at_most};
 ghost use Rattle.micro_program.specs.Program.{cost};
@@ -30,11 +30,11 @@ pub fn cost(geometry: &Geometry, word: Word) -> u64
     }
 }
 
-// Not a command of the profile, or one that isn't declared.
+// Not a command of the base profile, which programs use alone, or one that isn't declared.
 fn is_unfit(geometry: &Geometry, command: Command) -> bool
     ensures { result ≡ is_unfit geometry.now command }
 {
-    !command.is_known() || is_undeclared(geometry, command)
+    !command.is_of_base() || is_undeclared(geometry, command)
 }
 
 // Programs may not use the command.
@@ -53,6 +53,17 @@ fn has_second_column(from: u8, count: u8) -> bool
     from <= 1 && u32::from(from) + u32::from(count) >= 2
 }
 
+// The address bytes of Read ID and Read Parameter Page that programs use, which are those of the base profile.
+fn takes_identity(opener: Command, byte: u8) -> bool
+    ensures { result ≡ takes_identity opener byte }
+{
+    match opener {
+        Command::ReadId => byte == 0x20,
+        Command::ReadParameterPage => byte == 0x00,
+        _ => false,
+    }
+}
+
 // The byte of the column register, where it is known.
 fn is_identity_byte(opener: Command, from: u8, column: Option<u32>) -> bool
     ensures { result ≡ is_identity_byte opener from column }
@@ -65,7 +76,7 @@ fn is_identity_byte(opener: Command, from: u8, column: Option<u32>) -> bool
             } else {
                 column / 256 % 256
             };
-            from <= 1 && opener.takes_address(byte as u8)
+            from <= 1 && takes_identity(opener, byte as u8)
         }
     }
 }

@@ -24,7 +24,12 @@ impl BarredCause {
     pub(crate) fn of(refused: &Refused<'_>, byte: u8) -> Option<BarredCause> {
         let parts = refused.geometry.parts();
         match Command::of(byte) {
-            Command::Unknown => Some(BarredCause::NoCommand { byte }),
+            Command::ReadUniqueId
+            | Command::GetFeatures
+            | Command::SetFeatures
+            | Command::ResetLun
+            | Command::SynchronousReset
+            | Command::Unknown => Some(BarredCause::NoCommand { byte }),
             Command::ReadStatus | Command::ReadStatusEnhanced => Some(BarredCause::Poll),
             Command::BlockErasePlane | Command::ProgramPlane => {
                 told_if(!parts.multi_plane, BarredCause::SeveralPlanes)

@@ -46,6 +46,11 @@ fn opener_of(closer: Command) -> Option<Command> {
         | Command::Reset
         | Command::ReadCacheSequential
         | Command::ReadCacheEnd
+        | Command::ReadUniqueId
+        | Command::GetFeatures
+        | Command::SetFeatures
+        | Command::ResetLun
+        | Command::SynchronousReset
         | Command::Unknown => None,
     }
 }
@@ -87,6 +92,11 @@ impl CommandCause {
             | Command::ProgramConfirm
             | Command::ProgramPlane
             | Command::Reset
+            | Command::ReadUniqueId
+            | Command::GetFeatures
+            | Command::SetFeatures
+            | Command::ResetLun
+            | Command::SynchronousReset
             | Command::Unknown => None,
         }
     }

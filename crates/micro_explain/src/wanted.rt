@@ -35,6 +35,11 @@ impl Wanted {
             | Command::Reset
             | Command::ReadCacheSequential
             | Command::ReadCacheEnd
+            | Command::ReadUniqueId
+            | Command::GetFeatures
+            | Command::SetFeatures
+            | Command::ResetLun
+            | Command::SynchronousReset
             | Command::Unknown => "nothing",
         }
     }

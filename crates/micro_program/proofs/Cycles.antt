@@ -1,6 +1,6 @@
 -- Single cycles: when they are permitted, what they make of the tail, and that they are of their LUN.
 use Rattle.std.specs.List.{list_any}
-use Rattle.std.proofs.Common.{◌≡◌, ℕ, true, false, cond, not, List, [], ◌∷◌, Some, None, refl, sym, ap, subst, arith, ltb, leb, eq-eqb}
+use Rattle.std.proofs.Common.{◌≡◌, ℕ, Bool, true, false, cond, not, List, [], ◌∷◌, Some, None, refl, sym, ap, subst, arith, ltb, leb, eq-eqb}
 use Rattle.std.proofs.lemmas.Bool.Decides.{nat_tests}
 use Rattle.std.proofs.lemmas.Bool.{and_parts, and_from}
 use Rattle.onfi_cycle.proofs.Booleans.{eqb_self}
@@ -14,6 +14,7 @@ use Rattle.onfi_cycle.specs.declared.command.Command.TheVariants.{BlockErase, Bl
 use Rattle.onfi_cycle.specs.declared.target_cycle.TargetCycle.{TargetCycle}
 use Rattle.onfi_cycle.specs.declared.target_cycle.TargetCycle.TheVariants.{CommandCycle, AddressCycle, OutputCycle}
 use Rattle.onfi_cycle.specs.declared.tail_facts.TailFacts.{TailFacts}
+use Rattle.nand_geometry.specs.Optional.{is_wide}
 use Rattle.onfi_cycle.specs.Command.{command}
 use Rattle.onfi_cycle.specs.Sequence.{tail, facts_of, with_cycle, target_cycle, is_open, row, row_with}
 use Rattle.onfi_cycle.specs.LunView.{LunView}
@@ -66,15 +67,27 @@ tail_erase past ce = rw (eqb_self ce) refl
 
 pub judge_erase_1 : (g : Parts) (luns : List LunView) (b : ℕ) → judge_cycle g (facts_of (CommandCycle BlockErase ∷ [])) luns (AddressCycle b) ≡ None
 unfolding breaks_command_unknown breaks_sequence_open breaks_several_luns breaks_no_column_to_change breaks_command_misplaced breaks_address_misplaced breaks_row_outside breaks_lun_busy breaks_queue_clash breaks_input_misplaced breaks_no_sole_driver breaks_data_not_ready breaks_column_outside breaks_cache_read_misplaced
-judge_erase_1 g luns b = rw never refl
+judge_erase_1 g luns b = at (is_wide g.optional) refl
+  where
+    at : (w : Bool) → is_wide g.optional ≡ w → judge_cycle g (facts_of (CommandCycle BlockErase ∷ [])) luns (AddressCycle b) ≡ None
+    at true e = rw (e, never) refl
+    at false e = rw (e, never) refl
 
 pub judge_erase_2 : (g : Parts) (luns : List LunView) (a b : ℕ) → judge_cycle g (facts_of (AddressCycle a ∷ (CommandCycle BlockErase ∷ []))) luns (AddressCycle b) ≡ None
 unfolding breaks_command_unknown breaks_sequence_open breaks_several_luns breaks_no_column_to_change breaks_command_misplaced breaks_address_misplaced breaks_row_outside breaks_lun_busy breaks_queue_clash breaks_input_misplaced breaks_no_sole_driver breaks_data_not_ready breaks_column_outside breaks_cache_read_misplaced
-judge_erase_2 g luns a b = rw never refl
+judge_erase_2 g luns a b = at (is_wide g.optional) refl
+  where
+    at : (w : Bool) → is_wide g.optional ≡ w → judge_cycle g (facts_of (AddressCycle a ∷ (CommandCycle BlockErase ∷ []))) luns (AddressCycle b) ≡ None
+    at true e = rw (e, never) refl
+    at false e = rw (e, never) refl
 
 pub judge_erase_3 : (g : Parts) (luns : List LunView) (r1 r2 r3 : ℕ) → is_inside g (parts_of g (row_of r1 r2 r3)) ≡ true → named_lun_is g (row_of r1 r2 r3) (λ v. v.busy) luns ≡ false → named_lun_is g (row_of r1 r2 r3) (λ v. some_queued_clashes g true (page_address g (row_of r1 r2 r3)) v.queue) luns ≡ false → named_lun_is g (row_of r1 r2 r3) caching luns ≡ false → judge_cycle g (facts_of (AddressCycle r2 ∷ (AddressCycle r1 ∷ (CommandCycle BlockErase ∷ [])))) luns (AddressCycle r3) ≡ None
 unfolding breaks_command_unknown breaks_sequence_open breaks_several_luns breaks_no_column_to_change breaks_command_misplaced breaks_address_misplaced breaks_row_outside breaks_lun_busy breaks_queue_clash breaks_input_misplaced breaks_no_sole_driver breaks_data_not_ready breaks_column_outside breaks_cache_read_misplaced
-judge_erase_3 g luns r1 r2 r3 inside busy clash cache = rw (inside, busy, clash, cache) refl
+judge_erase_3 g luns r1 r2 r3 inside busy clash cache = at (is_wide g.optional) refl
+  where
+    at : (w : Bool) → is_wide g.optional ≡ w → judge_cycle g (facts_of (AddressCycle r2 ∷ (AddressCycle r1 ∷ (CommandCycle BlockErase ∷ [])))) luns (AddressCycle r3) ≡ None
+    at true e = rw (e, inside, busy, clash, cache) refl
+    at false e = rw (e, inside, busy, clash, cache) refl
 
 -- the tail of an erase with its row
 abbrev pub addressed_erase : ℕ → ℕ → ℕ → List TargetCycle
@@ -131,15 +144,27 @@ tail_enhanced past ce = rw (eqb_self ce) refl
 
 pub judge_enhanced_1 : (g : Parts) (luns : List LunView) (b : ℕ) → judge_cycle g (facts_of (CommandCycle ReadStatusEnhanced ∷ [])) luns (AddressCycle b) ≡ None
 unfolding breaks_command_unknown breaks_sequence_open breaks_several_luns breaks_no_column_to_change breaks_command_misplaced breaks_address_misplaced breaks_row_outside breaks_lun_busy breaks_queue_clash breaks_input_misplaced breaks_no_sole_driver breaks_data_not_ready breaks_column_outside breaks_cache_read_misplaced
-judge_enhanced_1 g luns b = rw never refl
+judge_enhanced_1 g luns b = at (is_wide g.optional) refl
+  where
+    at : (w : Bool) → is_wide g.optional ≡ w → judge_cycle g (facts_of (CommandCycle ReadStatusEnhanced ∷ [])) luns (AddressCycle b) ≡ None
+    at true e = rw (e, never) refl
+    at false e = rw (e, never) refl
 
 pub judge_enhanced_2 : (g : Parts) (luns : List LunView) (a b : ℕ) → judge_cycle g (facts_of (AddressCycle a ∷ (CommandCycle ReadStatusEnhanced ∷ []))) luns (AddressCycle b) ≡ None
 unfolding breaks_command_unknown breaks_sequence_open breaks_several_luns breaks_no_column_to_change breaks_command_misplaced breaks_address_misplaced breaks_row_outside breaks_lun_busy breaks_queue_clash breaks_input_misplaced breaks_no_sole_driver breaks_data_not_ready breaks_column_outside breaks_cache_read_misplaced
-judge_enhanced_2 g luns a b = rw never refl
+judge_enhanced_2 g luns a b = at (is_wide g.optional) refl
+  where
+    at : (w : Bool) → is_wide g.optional ≡ w → judge_cycle g (facts_of (AddressCycle a ∷ (CommandCycle ReadStatusEnhanced ∷ []))) luns (AddressCycle b) ≡ None
+    at true e = rw (e, never) refl
+    at false e = rw (e, never) refl
 
 pub judge_enhanced_3 : (g : Parts) (luns : List LunView) (r1 r2 r3 : ℕ) → is_inside g (parts_of g (row_of r1 r2 r3)) ≡ true → judge_cycle g (facts_of (AddressCycle r2 ∷ (AddressCycle r1 ∷ (CommandCycle ReadStatusEnhanced ∷ [])))) luns (AddressCycle r3) ≡ None
 unfolding breaks_command_unknown breaks_sequence_open breaks_several_luns breaks_no_column_to_change breaks_command_misplaced breaks_address_misplaced breaks_row_outside breaks_lun_busy breaks_queue_clash breaks_input_misplaced breaks_no_sole_driver breaks_data_not_ready breaks_column_outside breaks_cache_read_misplaced
-judge_enhanced_3 g luns r1 r2 r3 inside = rw (inside, never) refl
+judge_enhanced_3 g luns r1 r2 r3 inside = at (is_wide g.optional) refl
+  where
+    at : (w : Bool) → is_wide g.optional ≡ w → judge_cycle g (facts_of (AddressCycle r2 ∷ (AddressCycle r1 ∷ (CommandCycle ReadStatusEnhanced ∷ [])))) luns (AddressCycle r3) ≡ None
+    at true e = rw (e, inside, never) refl
+    at false e = rw (e, inside, never) refl
 
 -- an output where nothing is open and one driver shows its status
 pub judge_output : (g : Parts) (t : TailFacts) (luns : List LunView) (v : LunView) → is_open t ≡ false → driver luns ≡ Some v → is_data v.latch ≡ false → judge_cycle g t luns OutputCycle ≡ None

@@ -6,7 +6,7 @@ use Rattle.nand_geometry.specs.declared.parts.Parts.{Parts}
 use Rattle.nand_geometry.specs.Limits.{page_len}
 use Rattle.nand_geometry.specs.Row.{parts_of}
 use Rattle.onfi_cycle.specs.declared.command.Command.{Command}
-use Rattle.onfi_cycle.specs.declared.command.Command.TheVariants.{Read, ReadConfirm, ChangeReadColumn, ChangeReadColumnConfirm, BlockErase, BlockEraseConfirm, BlockErasePlane, ReadStatus, ReadStatusEnhanced, PageProgram, ChangeWriteColumn, ProgramConfirm, ProgramPlane, ReadId, ReadParameterPage, Reset, ReadCacheSequential, ReadCacheEnd, Unknown}
+use Rattle.onfi_cycle.specs.declared.command.Command.TheVariants.{Read, ReadConfirm, ChangeReadColumn, ChangeReadColumnConfirm, BlockErase, BlockEraseConfirm, BlockErasePlane, ReadStatus, ReadStatusEnhanced, PageProgram, ChangeWriteColumn, ProgramConfirm, ProgramPlane, ReadId, ReadParameterPage, Reset, ReadCacheSequential, ReadCacheEnd, ReadUniqueId, GetFeatures, SetFeatures, ResetLun, SynchronousReset, Unknown}
 use Rattle.onfi_cycle.specs.declared.lun.Lun.{Lun}
 use Rattle.onfi_cycle.specs.declared.item.Item.{Item}
 use Rattle.onfi_cycle.specs.declared.opening.Opening.{Opening}
@@ -16,7 +16,7 @@ use Rattle.onfi_cycle.specs.declared.tail_facts.TailFacts.{TailFacts}
 use Rattle.onfi_cycle.specs.declared.target_cycle.TargetCycle.TheVariants.{CommandCycle, AddressCycle, InputCycle, OutputCycle}
 use Rattle.onfi_cycle.specs.LunView.{LunView}
 use Rattle.onfi_cycle.specs.Command.{at_last_row, addresses_the_array, is_change_read_column}
-use Rattle.onfi_cycle.specs.Sequence.{opened, is_open, takes_inputs, wants_command, wants_address, row_with, column_with, input_column}
+use Rattle.onfi_cycle.specs.Sequence.{opened, is_open, takes_data, takes_features, wants_command, wants_address, row_with, column_with, input_column}
 use Rattle.onfi_cycle.specs.Effect.{page_address}
 use Rattle.onfi_cycle.specs.Lun.{lun_view, luns_of, views_from}
 use Rattle.onfi_cycle.specs.Rules.{ends_row, named_lun_is, is_some_and, driver, second_of_page, second_column, caching, continues_cache, ends_cache, may_change_column, has_some, is_refused_by, register_len, has_no_byte, is_past_register, breaks_command_unknown, breaks_sequence_open, breaks_several_luns, breaks_no_column_to_change, breaks_command_misplaced, breaks_address_misplaced, breaks_row_outside, breaks_lun_busy, breaks_queue_clash, breaks_input_misplaced, breaks_no_sole_driver, breaks_data_not_ready, breaks_column_outside, breaks_cache_read_misplaced}
@@ -147,6 +147,11 @@ command_judged s l past c there k d a = by d a
     by ProgramPlane a = judge_11 s.geometry c.facts _ a.0.0 a.1
     by ChangeReadColumnConfirm a = judge_e0 s.geometry c.facts _ a.0
     by ChangeWriteColumn a = judge_85 s.geometry c.facts _ a
+    by ReadUniqueId a = absurd a
+    by GetFeatures a = absurd a
+    by SetFeatures a = absurd a
+    by ResetLun a = absurd a
+    by SynchronousReset a = absurd a
     by Unknown a = absurd a
 
 from_command : (g : Parts) (t u : TailFacts) (luns : List LunView) (c d : Command) → t ≡ u → c ≡ d → judge_cycle g u luns (CommandCycle d) ≡ None → judge_cycle g t luns (CommandCycle c) ≡ None
@@ -167,7 +172,7 @@ no_lun : (test : LunView → Bool) (o : Option LunView) → ((v : LunView) → t
 no_lun test None h = refl
 no_lun test (Some v) h = h v
 
-judge_address : (g : Parts) (t : TailFacts) (luns : List LunView) (b : ℕ) → breaks_address_misplaced t (AddressCycle b) ≡ false → breaks_row_outside g t (AddressCycle b) ≡ false → breaks_lun_busy g t luns (AddressCycle b) ≡ false → breaks_queue_clash g t luns (AddressCycle b) ≡ false → breaks_column_outside g t luns (AddressCycle b) ≡ false → breaks_cache_read_misplaced g t luns (AddressCycle b) ≡ false → judge_cycle g t luns (AddressCycle b) ≡ None
+judge_address : (g : Parts) (t : TailFacts) (luns : List LunView) (b : ℕ) → breaks_address_misplaced g t (AddressCycle b) ≡ false → breaks_row_outside g t (AddressCycle b) ≡ false → breaks_lun_busy g t luns (AddressCycle b) ≡ false → breaks_queue_clash g t luns (AddressCycle b) ≡ false → breaks_column_outside g t luns (AddressCycle b) ≡ false → breaks_cache_read_misplaced g t luns (AddressCycle b) ≡ false → judge_cycle g t luns (AddressCycle b) ≡ None
 unfolding breaks_command_unknown breaks_sequence_open breaks_several_luns breaks_no_column_to_change breaks_command_misplaced breaks_input_misplaced breaks_no_sole_driver breaks_data_not_ready
 judge_address g t luns b f7 f8 f9 f10 f14 f15 = rw (f7, f8, f9, f10, f14, f15) refl
 
@@ -194,8 +199,8 @@ address_judged s l past c byte there k a = at (ends_row (λ d. true) c.facts) re
     here : l.lun < s.geometry.luns
     here = there_lun s l there
 
-    f7 : breaks_address_misplaced c.facts (AddressCycle byte) ≡ false
-    f7 = is_not (wants_address c.facts byte) a.wanted
+    f7 : breaks_address_misplaced g c.facts (AddressCycle byte) ≡ false
+    f7 = or_from (not (wants_address c.facts byte)) _ (is_not (wants_address c.facts byte) a.wanted) a.profile
 
     f14 : breaks_column_outside g c.facts luns (AddressCycle byte) ≡ false
     f14 =
@@ -230,9 +235,13 @@ address_judged s l past c byte there k a = at (ends_row (λ d. true) c.facts) re
 
 -- 3. inputs and outputs
 
-pub input_judged : (g : Parts) (t : TailFacts) (luns : List LunView) (b : ℕ) → takes_inputs t.phase ≡ true → nat_le (page_len g) (input_column t) ≡ false → judge_cycle g t luns (InputCycle b) ≡ None
+never : (b : Bool) → (b && false) ≡ false
+never true = refl
+never false = refl
+
+pub input_judged : (g : Parts) (t : TailFacts) (luns : List LunView) (b : ℕ) → takes_data t.phase ≡ true → nat_le (page_len g) (input_column t) ≡ false → judge_cycle g t luns (InputCycle b) ≡ None
 unfolding breaks_command_unknown breaks_sequence_open breaks_several_luns breaks_no_column_to_change breaks_command_misplaced breaks_address_misplaced breaks_row_outside breaks_lun_busy breaks_queue_clash breaks_input_misplaced breaks_no_sole_driver breaks_data_not_ready breaks_column_outside breaks_cache_read_misplaced
-input_judged g t luns b takes inside = rw (takes, inside) refl
+input_judged g t luns b takes inside = rw (takes, inside, never (not (takes_features t.phase))) refl
 
 pub output_judged : (g : Parts) (t : TailFacts) (luns : List LunView) (v : LunView) → is_open t ≡ false → driver luns ≡ Some v → has_no_byte v ≡ false → is_past_register g v ≡ false → judge_cycle g t luns OutputCycle ≡ None
 unfolding breaks_command_unknown breaks_sequence_open breaks_several_luns breaks_no_column_to_change breaks_command_misplaced breaks_address_misplaced breaks_row_outside breaks_lun_busy breaks_queue_clash breaks_input_misplaced breaks_no_sole_driver breaks_data_not_ready breaks_column_outside breaks_cache_read_misplaced

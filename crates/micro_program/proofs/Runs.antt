@@ -1,6 +1,7 @@
 -- Worked runs, computed by the definitions. Traces are written in the order of time.
 use Rattle.std.specs.Prelude.{◌≡◌, ℕ, Bool, true, false, List, [], ◌∷◌, ◌++◌, reverse, replicate, refl, Option, Some, None}
 use Rattle.nand_geometry.specs.declared.parts.Parts.{Parts}
+use Rattle.nand_geometry.specs.Optional.{no_optional}
 use Rattle.nand_geometry.specs.Limits.{width}
 use Rattle.onfi_cycle.specs.declared.item.Kind.TheVariants.{Cmd, Adr, Dout}
 use Rattle.onfi_cycle.specs.declared.item.Item.{Item}
@@ -20,7 +21,7 @@ use Rattle.micro_program.specs.Actions.{Action, acts}
 
 -- a target with two LUNs, two planes and Read Status Enhanced
 abbrev two_luns : Parts
-two_luns = record { page_bytes = 512; spare_bytes = 16; pages = 4; blocks = 8; luns = 2; plane_bits = 1; enhanced = true; multi_plane = true; cache = false }
+two_luns = record { page_bytes = 512; spare_bytes = 16; pages = 4; blocks = 8; luns = 2; plane_bits = 1; enhanced = true; multi_plane = true; cache = false; optional = no_optional }
 
 -- one target, whose pages are erased
 abbrev pub on : Parts → Channel

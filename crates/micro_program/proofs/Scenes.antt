@@ -5,7 +5,7 @@ use Rattle.nand_geometry.specs.declared.parts.Parts.{Parts}
 use Rattle.nand_geometry.specs.Limits.{page_len}
 use Rattle.nand_geometry.specs.Row.{parts_of, is_inside}
 use Rattle.onfi_cycle.specs.declared.command.Command.{Command}
-use Rattle.onfi_cycle.specs.declared.command.Command.TheVariants.{Read, ReadConfirm, ChangeReadColumn, ChangeReadColumnConfirm, BlockErase, BlockEraseConfirm, BlockErasePlane, ReadStatus, ReadStatusEnhanced, PageProgram, ChangeWriteColumn, ProgramConfirm, ProgramPlane, ReadId, ReadParameterPage, Reset, ReadCacheSequential, ReadCacheEnd, Unknown}
+use Rattle.onfi_cycle.specs.declared.command.Command.TheVariants.{Read, ReadConfirm, ChangeReadColumn, ChangeReadColumnConfirm, BlockErase, BlockEraseConfirm, BlockErasePlane, ReadStatus, ReadStatusEnhanced, PageProgram, ChangeWriteColumn, ProgramConfirm, ProgramPlane, ReadId, ReadParameterPage, Reset, ReadCacheSequential, ReadCacheEnd, ReadUniqueId, GetFeatures, SetFeatures, ResetLun, SynchronousReset, Unknown}
 use Rattle.onfi_cycle.specs.declared.lun.Lun.{Lun}
 use Rattle.onfi_cycle.specs.declared.item.Item.{Item}
 use Rattle.onfi_cycle.specs.declared.latch.Latch.{Latch}
@@ -15,10 +15,10 @@ use Rattle.onfi_cycle.specs.declared.tail_facts.TailFacts.{TailFacts}
 use Rattle.onfi_cycle.specs.declared.target_cycle.TargetCycle.{TargetCycle}
 use Rattle.onfi_cycle.specs.declared.target_cycle.TargetCycle.TheVariants.{CommandCycle, AddressCycle, InputCycle, OutputCycle}
 use Rattle.onfi_cycle.specs.LunView.{LunView}
-use Rattle.onfi_cycle.specs.Sequence.{tail, facts_of, facts_after, is_open, takes_inputs, wants_command, wants_address, row, row_with, column_with, input_column}
+use Rattle.onfi_cycle.specs.Sequence.{tail, facts_of, facts_after, is_open, takes_data, wants_command, wants_address, row, row_with, column_with, input_column}
 use Rattle.onfi_cycle.specs.Effect.{page_address, names_lun, cycle_effect}
 use Rattle.onfi_cycle.specs.Lun.{drivers, is_only, lun_view, view_after}
-use Rattle.onfi_cycle.specs.Rules.{ends_row, second_of_page, second_column, caching, continues_cache, ends_cache, may_change_column, has_some, is_refused_by, register_len, has_no_byte, is_past_register}
+use Rattle.onfi_cycle.specs.Rules.{ends_row, second_of_page, second_column, caching, continues_cache, ends_cache, may_change_column, has_some, is_refused_by, register_len, has_no_byte, is_past_register, is_undeclared_address}
 use Rattle.onfi_cycle.specs.Command.{addresses_the_array, is_change_read_column}
 use Rattle.onfi_cycle.specs.Channel.{Channel}
 
@@ -73,6 +73,11 @@ CommandAllowed g lun c ProgramConfirm = CloserAllowed g lun c ProgramConfirm
 CommandAllowed g lun c ProgramPlane = CloserAllowed g lun c ProgramPlane × (g.multi_plane ≡ true)
 CommandAllowed g lun c ChangeReadColumnConfirm = (wants_command c.facts ChangeReadColumnConfirm ≡ true) × (c.sole ≡ true)
 CommandAllowed g lun c ChangeWriteColumn = wants_command c.facts ChangeWriteColumn ≡ true
+CommandAllowed g lun c ReadUniqueId = ⊥
+CommandAllowed g lun c GetFeatures = ⊥
+CommandAllowed g lun c SetFeatures = ⊥
+CommandAllowed g lun c ResetLun = ⊥
+CommandAllowed g lun c SynchronousReset = ⊥
 CommandAllowed g lun c Unknown = ⊥
 
 -- the last row cycle
@@ -85,6 +90,7 @@ pub record RowAllowed (g : Parts) (lun : ℕ) (c : Scene) (byte : ℕ) : Type 0 
 
 pub record AddressAllowed (g : Parts) (lun : ℕ) (c : Scene) (byte : ℕ) : Type 0 where
   pub wanted : wants_address c.facts byte ≡ true
+  pub profile : is_undeclared_address g c.facts byte ≡ false
   pub row : ends_row (λ d. true) c.facts ≡ true → RowAllowed g lun c byte
   pub column : second_of_page c.facts ≡ true → nat_le (page_len g) (column_with c.facts byte) ≡ false
   pub read_column : second_column is_change_read_column c.facts ≡ true → (c.sole ≡ true) × (nat_le (register_len g c.view.register) (column_with c.facts byte) ≡ false)
@@ -98,7 +104,7 @@ pub record OutputAllowed (g : Parts) (c : Scene) : Type 0 where
 abbrev pub Allowed : Parts → ℕ → Scene → TargetCycle → Type 0
 Allowed g lun c (CommandCycle d) = CommandAllowed g lun c d
 Allowed g lun c (AddressCycle byte) = AddressAllowed g lun c byte
-Allowed g lun c (InputCycle byte) = (takes_inputs c.facts.phase ≡ true) × (nat_le (page_len g) (input_column c.facts) ≡ false)
+Allowed g lun c (InputCycle byte) = (takes_data c.facts.phase ≡ true) × (nat_le (page_len g) (input_column c.facts) ≡ false)
 Allowed g lun c OutputCycle = OutputAllowed g c
 
 -- ---- what is left
@@ -117,6 +123,9 @@ abbrev pub opener_sole : Parts → Bool → Command → Bool
 opener_sole g sole ReadStatusEnhanced = false
 opener_sole g sole ReadId = not (ltb 1 g.luns)
 opener_sole g sole ReadParameterPage = not (ltb 1 g.luns)
+opener_sole g sole ReadUniqueId = false
+opener_sole g sole GetFeatures = false
+opener_sole g sole ResetLun = false
 opener_sole g sole _ = sole
 
 abbrev pub address_sole : Parts → Bool → Option Opening → Bool

@@ -1,10 +1,10 @@
 -- A cycle that a scene allows is own, and leads to the scene behind it.
-use Rattle.std.proofs.Common.{◌≡◌, inl, inr, ℕ, zero, suc, ◌+◌, Bool, true, false, ◌&&◌, cond, not, ltb, Option, Some, None, List, ◌∷◌, refl, sym, ap, ◌∙◌, subst, eqb-true, eq-eqb}
+use Rattle.std.proofs.Common.{◌≡◌, inl, inr, ℕ, zero, suc, ◌+◌, ◌%◌, ◌==◌, Bool, true, false, ◌&&◌, cond, not, ltb, Option, Some, None, List, ◌∷◌, refl, sym, ap, ◌∙◌, subst, eqb-true, eq-eqb}
 use Rattle.std.proofs.lemmas.Bool.{not-true, or_cases, and_parts, and_from}
 use Rattle.onfi_cycle.proofs.Booleans.{eqb_self}
 use Rattle.nand_geometry.specs.declared.parts.Parts.{Parts}
 use Rattle.onfi_cycle.specs.declared.command.Command.{Command}
-use Rattle.onfi_cycle.specs.declared.command.Command.TheVariants.{Read, ReadConfirm, ChangeReadColumnConfirm, BlockEraseConfirm, BlockErasePlane, ReadStatus, ReadStatusEnhanced, ProgramConfirm, ProgramPlane, ReadId, ReadParameterPage, Reset, ReadCacheSequential, ReadCacheEnd}
+use Rattle.onfi_cycle.specs.declared.command.Command.TheVariants.{Read, ReadConfirm, ChangeReadColumnConfirm, BlockEraseConfirm, BlockErasePlane, ReadStatus, ReadStatusEnhanced, ProgramConfirm, ProgramPlane, ReadId, ReadParameterPage, Reset, ReadCacheSequential, ReadCacheEnd, ReadUniqueId, GetFeatures, ResetLun, SynchronousReset}
 use Rattle.onfi_cycle.specs.declared.lun.Lun.{Lun}
 use Rattle.onfi_cycle.specs.declared.item.Item.{Item}
 use Rattle.onfi_cycle.specs.declared.item.Kind.{Kind}
@@ -12,14 +12,13 @@ use Rattle.onfi_cycle.specs.declared.latch.Latch.{Latch}
 use Rattle.onfi_cycle.specs.declared.latch.Latch.TheVariants.{Off, Status, Data}
 use Rattle.onfi_cycle.specs.declared.opening.Opening.{Opening}
 use Rattle.onfi_cycle.specs.declared.effect.Effect.{Effect}
-use Rattle.onfi_cycle.specs.declared.effect.Effect.TheVariants.{Unaffected, DataOutput, CacheReadContinued, CacheReadEnded}
+use Rattle.onfi_cycle.specs.declared.effect.Effect.TheVariants.{Unaffected, DataOutput, CacheReadContinued, CacheReadEnded, IdRead, IdentityRead, FeaturesSet}
 use Rattle.onfi_cycle.specs.declared.tail_facts.TailFacts.{TailFacts}
 use Rattle.onfi_cycle.specs.declared.target_cycle.TargetCycle.{TargetCycle}
 use Rattle.onfi_cycle.specs.declared.target_cycle.TargetCycle.TheVariants.{CommandCycle, AddressCycle, InputCycle, OutputCycle}
 use Rattle.onfi_cycle.specs.LunView.{LunView}
-use Rattle.onfi_cycle.specs.Command.{reads_identity}
 use Rattle.onfi_cycle.specs.Sequence.{facts_after, target_cycle, wants_command, wants_address, row, row_with}
-use Rattle.onfi_cycle.specs.Effect.{is_off, is_data, names_lun, command_effect, address_effect, opening_address_effect, cycle_effect}
+use Rattle.onfi_cycle.specs.Effect.{is_off, is_data, names_lun, command_effect, address_effect, opening_address_effect, id_effect, ends_features, cycle_effect}
 use Rattle.onfi_cycle.specs.Lun.{latch, latch_after, latch_alone, effect_on, drivers, drivers_from, is_only, lun_view, luns_of, view_after}
 use Rattle.onfi_cycle.specs.Rules.{ends_row}
 use Rattle.onfi_cycle.specs.Permitted.{broken, judge_cycle}
@@ -138,6 +137,7 @@ leaves_other e Data h = h refl
 -- the commands that leave a driver alone
 abbrev leaves_drivers : Command → Bool
 leaves_drivers Reset = false
+leaves_drivers SynchronousReset = false
 leaves_drivers ReadStatus = false
 leaves_drivers _ = true
 
@@ -153,6 +153,7 @@ command_leaves_off g lun c ReadCacheSequential h a m x on = leaves_other CacheRe
 command_leaves_off g lun c ReadCacheEnd h a m x on = leaves_other CacheReadEnded x (λ e. refl)
 command_leaves_off g lun c ReadStatusEnhanced h a m x on = refl
 command_leaves_off g lun c Reset h a m x on = cc
+command_leaves_off g lun c SynchronousReset h a m x on = cc
 command_leaves_off g lun c ReadStatus h a m x on = cc
 command_leaves_off g lun c d h a m x on = leaves_either (wants_command c.facts d && names_lun g (row c.facts) m) _ x (λ e. refl)
 
@@ -161,6 +162,9 @@ abbrev quiet : Command → Bool
 quiet ReadStatusEnhanced = false
 quiet ReadId = false
 quiet ReadParameterPage = false
+quiet ReadUniqueId = false
+quiet GetFeatures = false
+quiet ResetLun = false
 quiet _ = true
 
 address_leaves_off : (g : Parts) (t : TailFacts) (byte : ℕ) (lun : ℕ) (o : Opening) → t.opening ≡ Some o → quiet o.opener ≡ true → LeavesOff g lun t (AddressCycle byte)
@@ -170,13 +174,29 @@ address_leaves_off g t byte lun o e q m x on = ap (λ (p : Option Opening). is_o
     by ReadStatusEnhanced q = cc
     by ReadId q = cc
     by ReadParameterPage q = cc
+    by ReadUniqueId q = cc
+    by GetFeatures q = cc
+    by ResetLun q = cc
     by _ q = refl
 
 read_lights : (g : Parts) (t : TailFacts) (x y : Latch) (lun : ℕ) → wants_command t ReadConfirm ≡ true → names_lun g (row t) lun ≡ true → latch_after (command_effect g t x ReadConfirm lun) y ≡ Data
 read_lights g t x y lun wants names = rw (wants, names) refl
 
-identity_lights : (g : Parts) (t : TailFacts) (byte n : ℕ) (d : Command) (y : Latch) (lun : ℕ) → wants_address t byte ≡ true → reads_identity d ≡ true → latch_after (address_effect g t byte d n lun) y ≡ Data
-identity_lights g t byte n ReadId y lun wants h = rw wants refl
+-- the two openers of a program whose address makes its LUN show data
+abbrev lights_up : Command → Bool
+lights_up ReadId = true
+lights_up ReadParameterPage = true
+lights_up _ = false
+
+id_lights : (byte : ℕ) (y : Latch) → latch_after (id_effect byte) y ≡ Data
+id_lights byte y = at (byte == 0x20)
+  where
+    at : (b : Bool) → latch_after (cond b IdRead (IdentityRead (byte == 0x40))) y ≡ Data
+    at true = refl
+    at false = refl
+
+identity_lights : (g : Parts) (t : TailFacts) (byte n : ℕ) (d : Command) (y : Latch) (lun : ℕ) → wants_address t byte ≡ true → lights_up d ≡ true → latch_after (address_effect g t byte d n lun) y ≡ Data
+identity_lights g t byte n ReadId y lun wants h = rw wants (id_lights byte y)
 identity_lights g t byte n ReadParameterPage y lun wants h = rw wants refl
 identity_lights g t byte n _ y lun wants h = cc
 
@@ -198,6 +218,7 @@ sole_next s l past c there k kind byte d is a view h = by d is a view h
     by_command : (d : Command) → target_cycle kind byte ≡ CommandCycle d → CommandAllowed g l.lun c d → lun_view g (cycle l.ce kind byte ∷ past) l ≡ view_after (cycle_effect g c.facts (shown_alone c) (CommandCycle d) l.lun) c.view → command_sole g c.sole d ≡ true → is_only (drivers g (cycle l.ce kind byte ∷ past) l.ce) l.lun ≡ true
     by_command Reset is a view h = cc
     by_command ReadStatus is a view h = cc
+    by_command SynchronousReset is a view h = absurd a
     by_command ReadConfirm is a view h = elim (or_cases c.sole (not (ltb 1 g.luns)) h) [
       | inl e ↦ still (CommandCycle ReadConfirm) is (command_leaves_off g l.lun c ReadConfirm refl a) e
       | inr e ↦ sole_of_one s l (cycle l.ce kind byte ∷ past) there (not-true (ltb 1 g.luns) e) (off_by _ Data (latch_is (CommandCycle ReadConfirm) view ∙ read_lights g c.facts (shown_alone c) c.view.latch l.lun a.0 a.1) refl)
@@ -208,14 +229,17 @@ sole_next s l past c there k kind byte d is a view h = by d is a view h
     by_address b None e is a view h = still (AddressCycle b) is (λ m x on. rw e refl) h
     by_address b (Some o) e is a view h = by_opener o.opener refl h
       where
-        lights : (d : Command) → o.opener ≡ d → reads_identity d ≡ true → not (ltb 1 g.luns) ≡ true → is_only (drivers g (cycle l.ce kind byte ∷ past) l.ce) l.lun ≡ true
+        lights : (d : Command) → o.opener ≡ d → lights_up d ≡ true → not (ltb 1 g.luns) ≡ true → is_only (drivers g (cycle l.ce kind byte ∷ past) l.ce) l.lun ≡ true
         lights d f q one =
             let effect : cycle_effect g c.facts (shown_alone c) (AddressCycle b) l.lun ≡ address_effect g c.facts b o.opener o.addresses l.lun = ap (λ (p : Option Opening). opening_address_effect g c.facts b p l.lun) e in
             sole_of_one s l (cycle l.ce kind byte ∷ past) there (not-true (ltb 1 g.luns) one)
-            (off_by _ Data (latch_is (AddressCycle b) view ∙ (ap (λ (x : Effect). latch_after x c.view.latch) effect ∙ identity_lights g c.facts b o.addresses o.opener c.view.latch l.lun a.wanted (ap reads_identity f ∙ q))) refl)
+            (off_by _ Data (latch_is (AddressCycle b) view ∙ (ap (λ (x : Effect). latch_after x c.view.latch) effect ∙ identity_lights g c.facts b o.addresses o.opener c.view.latch l.lun a.wanted (ap lights_up f ∙ q))) refl)
 
         by_opener : (d : Command) → o.opener ≡ d → opener_sole g c.sole d ≡ true → is_only (drivers g (cycle l.ce kind byte ∷ past) l.ce) l.lun ≡ true
         by_opener ReadStatusEnhanced f h = cc
+        by_opener ReadUniqueId f h = cc
+        by_opener GetFeatures f h = cc
+        by_opener ResetLun f h = cc
         by_opener ReadId f h = lights ReadId f refl h
         by_opener ReadParameterPage f h = lights ReadParameterPage f refl h
         by_opener d f h = still (AddressCycle b) is (address_leaves_off g c.facts b l.lun o e (ap quiet f)) h
@@ -223,7 +247,7 @@ sole_next s l past c there k kind byte d is a view h = by d is a view h
     by : (d : TargetCycle) → target_cycle kind byte ≡ d → Allowed g l.lun c d → lun_view g (cycle l.ce kind byte ∷ past) l ≡ view_after (cycle_effect g c.facts (shown_alone c) d l.lun) c.view → sole_behind g c d ≡ true → is_only (drivers g (cycle l.ce kind byte ∷ past) l.ce) l.lun ≡ true
     by (CommandCycle e) is a view h = by_command e is a view h
     by (AddressCycle b) is a view h = by_address b c.facts.opening refl is a view h
-    by (InputCycle b) is a view h = still (InputCycle b) is (λ m x on. refl) h
+    by (InputCycle b) is a view h = still (InputCycle b) is (λ m x on. leaves_either (ends_features c.facts) (FeaturesSet (c.facts.column % 256)) x (λ e. refl)) h
     by OutputCycle is a view h = still OutputCycle is (λ m x on. leaves_either (is_data x) DataOutput x (λ e. refl)) h
 
 -- 4. both

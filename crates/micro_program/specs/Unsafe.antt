@@ -1,6 +1,7 @@
 -- Programs that aren't safe, so that the promise says something: each breaks it on a channel of one LUN.
 use Rattle.std.specs.Prelude.{◌≡◌, ℕ, true, false, List, [], ◌∷◌, Some, None}
 use Rattle.nand_geometry.specs.declared.parts.Parts.{Parts}
+use Rattle.nand_geometry.specs.Optional.{no_optional}
 use Rattle.micro_word.specs.declared.word.Word.{Word}
 use Rattle.micro_word.specs.declared.word.Word.TheVariants.{End, Command, Address, Get, Wait, Yield}
 use Rattle.micro_word.specs.Text.{Microprogram}
@@ -11,7 +12,7 @@ use Rattle.micro_program.specs.Safe.{Seat, Reaches, IsFine, may_step, after_step
 
 -- 512 + 16 bytes, 4 pages, 8 blocks, one LUN, no planes
 abbrev pub one_lun : Parts
-one_lun = record { page_bytes = 512; spare_bytes = 16; pages = 4; blocks = 8; luns = 1; plane_bits = 0; enhanced = false; multi_plane = false; cache = false }
+one_lun = record { page_bytes = 512; spare_bytes = 16; pages = 4; blocks = 8; luns = 1; plane_bits = 0; enhanced = false; multi_plane = false; cache = false; optional = no_optional }
 
 -- these words, with one row, no buffer and this budget
 abbrev pub text : ℕ → List Word → Microprogram

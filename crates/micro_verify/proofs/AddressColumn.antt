@@ -1,5 +1,5 @@
 -- The two addresses of 85h: how they are judged, what they leave, and where they stop.
-use Rattle.std.proofs.Common.{◌≡◌, ℕ, zero, suc, ◌+◌, ◌*◌, ◌/◌, ◌%◌, ◌≤◌, ◌<◌, Bool, true, false, ◌&&◌, ◌||◌, cond, nat_le, List, ◌∷◌, Option, Some, None, refl, ap, ◌∙◌, arith, length, take, drop}
+use Rattle.std.proofs.Common.{◌≡◌, ℕ, zero, suc, ◌+◌, ◌*◌, ◌/◌, ◌%◌, ◌≤◌, ◌<◌, ◌==◌, Bool, true, false, ◌&&◌, ◌||◌, cond, not, nat_le, List, ◌∷◌, Option, Some, None, refl, ap, ◌∙◌, arith, length, take, drop}
 use Rattle.std.proofs.Math.Bool.{or-false}
 use Rattle.nand_geometry.specs.declared.parts.Parts.{Parts}
 use Rattle.nand_geometry.specs.Limits.{page_len}
@@ -7,7 +7,7 @@ use Rattle.onfi_cycle.specs.declared.forbidden.Forbidden.TheVariants.{AddressMis
 use Rattle.onfi_cycle.specs.declared.opening.Opening.{Opening}
 use Rattle.onfi_cycle.specs.declared.target_cycle.TargetCycle.TheVariants.{AddressCycle}
 use Rattle.onfi_cycle.specs.declared.tail_facts.TailFacts.{TailFacts}
-use Rattle.onfi_cycle.specs.Command.{addresses_the_array, at_last_row}
+use Rattle.onfi_cycle.specs.Command.{addresses_the_array, at_last_row, is_read_id}
 use Rattle.onfi_cycle.specs.Sequence.{facts_after, opened, column_with}
 use Rattle.onfi_cycle.specs.Rules.{is_refused_by}
 use Rattle.onfi_cycle.specs.Channel.{Channel}
@@ -32,12 +32,12 @@ use Rattle.micro_verify.proofs.AddressStops.{address_stops, unwanted_judged}
 
 pub first_judged : (g : Parts) (c : Lone) (a : Address) (byte : ℕ) → ColumnBegun 0 a c.facts → judged g c (AddressCycle byte) ≡ None
 first_judged g c a byte b =
-    plain_judged g c byte (rw (b.alone, b.program.phase) refl) (ap (opened (λ d n. true && at_last_row d n)) b.alone) (ap (opened (λ d n. addresses_the_array d && at_last_row d n)) b.alone) (λ p q. ap (λ (o : Option Opening). is_refused_by g o p q) b.alone)
+    plain_judged g c byte (rw (b.alone, b.program.phase) refl) (ap (opened (λ d n. true && at_last_row d n)) b.alone) (ap (opened (λ d n. addresses_the_array d && at_last_row d n)) b.alone) (ap (λ (o : Option Opening). opened (λ d n. is_read_id d) o && not (byte == 0x20)) b.alone) (λ p q. ap (λ (o : Option Opening). is_refused_by g o p q) b.alone)
     ∙ (rw (b.alone, b.program.phase) refl)
 
 pub second_judged : (g : Parts) (c : Lone) (a : Address) (column : ℕ) → column < 65536 → ColumnBegun 1 (with_column a column) c.facts → judged g c (AddressCycle (column / 256 % 256)) ≡ column_rule (page_len g) column
 second_judged g c a column low b =
-    plain_judged g c (column / 256 % 256) (rw (b.alone, b.program.phase) refl) (ap (opened (λ d n. true && at_last_row d n)) b.alone) (ap (opened (λ d n. addresses_the_array d && at_last_row d n)) b.alone) (λ p q. ap (λ (o : Option Opening). is_refused_by g o p q) b.alone)
+    plain_judged g c (column / 256 % 256) (rw (b.alone, b.program.phase) refl) (ap (opened (λ d n. true && at_last_row d n)) b.alone) (ap (opened (λ d n. addresses_the_array d && at_last_row d n)) b.alone) (ap (λ (o : Option Opening). opened (λ d n. is_read_id d) o && not (column / 256 % 256 == 0x20)) b.alone) (λ p q. ap (λ (o : Option Opening). is_refused_by g o p q) b.alone)
     ∙ (rw (b.alone, b.program.phase) (ap (λ (x : Bool). cond x (Some ColumnOutside) None) (or-false _ ∙ ap (nat_le (page_len g)) whole)))
   where
     whole : column_with c.facts (column / 256 % 256) ≡ column

@@ -7,7 +7,7 @@ use Rattle.nand_geometry.specs.declared.parts.Parts.{Parts}
 use Rattle.nand_geometry.specs.Limits.{page_len, indices, planes}
 use Rattle.onfi_cycle.specs.declared.command.Command.{Command}
 use Rattle.onfi_cycle.specs.declared.command.Command.TheVariants.{ReadId, ReadParameterPage}
-use Rattle.onfi_cycle.specs.Command.{address_cycles, reads_identity, takes_address}
+use Rattle.onfi_cycle.specs.Command.{address_cycles, reads_identity}
 use Rattle.onfi_cycle.specs.Rules.{may_change_column}
 use Rattle.onfi_cycle.specs.Sequence.{input_column}
 use Rattle.onfi_cycle.specs.Channel.{Channel}
@@ -17,7 +17,7 @@ use Rattle.micro_claims.specs.declared.state.State.{State}
 use Rattle.micro_claims.specs.declared.place.Place.{Place}
 use Rattle.micro_claims.specs.declared.place.Place.TheVariants.{Closed, After, InData, InColumn, Unknown}
 use Rattle.micro_claims.specs.Spans.{only}
-use Rattle.micro_claims.specs.Against.{first_address, is_inside_address, byte_of_column, is_identity_byte, surely_past, identity_refused, row_refused, begins_elsewhere, address_out_of_place, column_past, row_outside}
+use Rattle.micro_claims.specs.Against.{first_address, is_inside_address, byte_of_column, is_identity_byte, takes_identity, surely_past, identity_refused, row_refused, begins_elsewhere, address_out_of_place, column_past, row_outside}
 use Rattle.micro_claims.specs.Reasons.{breaks_cycle_forbidden, breaks_address_unaligned, breaks_row_or_plane_outside, breaks_column_too_large, reason_against, breaks_handover_in_sequence, breaks_buffer_passed, breaks_no_status, breaks_ends_too_soon, breaks_command_not_allowed}
 use Rattle.micro_claims.specs.Accepts.{state_after}
 use Rattle.micro_program.specs.Program.{Job, column_now, index_now, plane_now}
@@ -31,7 +31,7 @@ use Rattle.micro_verify.proofs.Causes.{Goes, ExactWord, IsFit, reason_holds, rea
 use Rattle.micro_verify.proofs.IndexExact.{only_is}
 use Rattle.micro_verify.proofs.AddressCauses.{outside_is, elsewhere_there}
 use Rattle.micro_verify.proofs.AddressStops.{limit_of}
-use Rattle.micro_verify.proofs.AddressIdentity.{asked, asked_is}
+use Rattle.micro_verify.proofs.AddressIdentity.{asked, asks, asks_there, asked_is}
 use Rattle.micro_verify.proofs.AddressIdentityGoes.{goes_id, goes_parameters}
 use Rattle.micro_verify.proofs.OpenerStops.{AddressAt, Behind, opener_at, limit_is, limit_small, page_small}
 use Rattle.micro_verify.proofs.AddressRefused.{past_stops, refused_stops}
@@ -90,18 +90,18 @@ address_cause s text v r c from count some few k is m reason e = by reason (reas
 record OneByte (r : Run) (from count : ℕ) (o : Command) : Type 0 where
   one : count ≡ 1
   low : from ≤ 1
-  takes : takes_address o (byte_of_column from (column_now r.done)) ≡ true
+  takes : takes_identity o (byte_of_column from (column_now r.done)) ≡ true
 
 one_byte : (s : Channel) (text : Microprogram) (v : State) (r : Run) (c : Lone) (from count : ℕ) (o : Command) (n : ℕ) → Mirrors s.geometry (lone_job s.geometry text) v r.done c → identity_refused s.geometry v from count (After o n) ≡ false → OneByte r from count o
 one_byte s text v r c from count o n m clear =
     let known : only v.registers.column ≡ Some (column_now r.done) = only_is (column_now r.done) v.registers.column (let x = m.registers.column_low in omega (arith, x)) m.registers.column in
     let two = or_parts (ltb 1 s.geometry.luns || not (count == 1)) (not (is_identity_byte o from (only v.registers.column))) clear in
     let alone = or_parts (ltb 1 s.geometry.luns) (not (count == 1)) two.0 in
-    let byte = and_parts (nat_le from 1) (takes_address o (byte_of_column from (column_now r.done))) (sym (ap (is_identity_byte o from) known) ∙ not-false _ two.1) in
+    let byte = and_parts (nat_le from 1) (takes_identity o (byte_of_column from (column_now r.done))) (sym (ap (is_identity_byte o from) known) ∙ not-false _ two.1) in
     record { one = eqb-true count 1 (not-false _ alone.1); low = let x = byte.0 in grind (arith, nat_tests, x); takes = byte.1 }
 
 -- 90h or ECh
-identity_goes : (s : Channel) (text : Microprogram) (v : State) (r : Run) (c : Lone) (from count : ℕ) (o : Command) (n : ℕ) → IsFit s text → IsLone s r.past c → Mirrors s.geometry (lone_job s.geometry text) v r.done c → reads_identity o ≡ true → c ≡ asked o c.view → v.target.tail ≡ After o n → OneByte r from count o → Goes s text (state_after s.geometry v (AddressWord from count)) r (AddressWord from count)
+identity_goes : (s : Channel) (text : Microprogram) (v : State) (r : Run) (c : Lone) (from count : ℕ) (o : Command) (n : ℕ) → IsFit s text → IsLone s r.past c → Mirrors s.geometry (lone_job s.geometry text) v r.done c → asks o ≡ true → c ≡ asked o c.view → v.target.tail ≡ After o n → OneByte r from count o → Goes s text (state_after s.geometry v (AddressWord from count)) r (AddressWord from count)
 identity_goes s text v r c from count ReadId n k is m reads here single b = goes_id s text v r c from count n k is m here single b.one b.low b.takes
 identity_goes s text v r c from count ReadParameterPage n k is m reads here single b = goes_parameters s text v r c from count n k is m here single b.one b.low b.takes
 identity_goes s text v r c from count _ n k is m reads here single b = cc
@@ -142,9 +142,10 @@ address_exact s text v r c from count some few many k is m =
       where
         on : (b : Bool) → reads_identity o ≡ b → Goes s text (state_after g v (AddressWord from count)) r (AddressWord from count)
         on true reads =
+            let asks_o = asks_there o n is_place.place reads in
             let rest = cond (surely_past g v from count (After o n)) false (ltb (address_cycles o - n) count || (from == first_address o + n && nat_le 5 (from + count) && row_refused v (After o n))) in
             let clear = taken (address_cycles o - n == 0) (reads_identity o) (identity_refused g v from count (After o n)) rest reads out in
-            identity_goes s text v r c from count o n k is m reads (asked_is o n m.tail.address c reads is_place) single (one_byte s text v r c from count o n m clear)
+            identity_goes s text v r c from count o n k is m asks_o (asked_is o n m.tail.address c asks_o is_place) single (one_byte s text v r c from count o n m clear)
         on false other =
             let carries = carries_is o n is_place.place other in
             let behind : Behind s text r c o n = record { old = m.tail.address; opened = is_place; now = now; changes = changes } in

@@ -7,7 +7,6 @@ use Rattle.onfi_cycle.specs.declared.effect.Effect.{Effect}
 use Rattle.onfi_cycle.specs.declared.effect.Effect.TheVariants.{IdRead, ParameterPageReadStarted}
 use Rattle.onfi_cycle.specs.declared.item.Kind.TheVariants.{Adr}
 use Rattle.onfi_cycle.specs.declared.target_cycle.TargetCycle.TheVariants.{AddressCycle}
-use Rattle.onfi_cycle.specs.Command.{takes_address, reads_identity}
 use Rattle.onfi_cycle.specs.Sequence.{facts_after, wants_command}
 use Rattle.onfi_cycle.specs.Lun.{view_after}
 use Rattle.onfi_cycle.specs.LunView.{LunView}
@@ -16,7 +15,7 @@ use Rattle.micro_word.specs.declared.word.Word.TheVariants.{Address as AddressWo
 use Rattle.micro_word.specs.Text.{Microprogram}
 use Rattle.micro_claims.specs.declared.state.State.{State}
 use Rattle.micro_claims.specs.declared.place.Place.TheVariants.{After}
-use Rattle.micro_claims.specs.Against.{byte_of_column}
+use Rattle.micro_claims.specs.Against.{byte_of_column, takes_identity}
 use Rattle.micro_claims.specs.Leaves.{with_registers, paid, identity_read, address_leaves_at}
 use Rattle.micro_claims.specs.Accepts.{state_after}
 use Rattle.micro_program.specs.Moves.{address, gives, and_then}
@@ -28,7 +27,7 @@ use Rattle.micro_verify.proofs.Lone.{Lone, IsLone, lone_behind, judged}
 use Rattle.micro_verify.proofs.Mirrors.{Mirrors, RegistersMirror, Shut}
 use Rattle.micro_verify.proofs.Causes.{Goes, IsFit}
 use Rattle.micro_verify.proofs.WordsExact.{goes_by, registers_exact, shut_tail}
-use Rattle.micro_verify.proofs.AddressIdentity.{asked, identity_judged}
+use Rattle.micro_verify.proofs.AddressIdentity.{asked, asks, identity_judged}
 
 id_shut : (byte : ℕ) → Shut (facts_after (AddressCycle byte) (opener_facts ReadId))
 id_shut byte = record { closed = refl; address = λ b. refl; command = none }
@@ -66,7 +65,7 @@ byte_now r from = byte_of_column from (column_now r.done)
 -- the claim mirrors what is read, so that the word goes
 goes_identity : (s : Channel) (text : Microprogram) (v : State) (r : Run) (c : Lone) (o : Command) (effect : Effect) (from count n : ℕ)
     → IsFit s text → IsLone s r.past c → c ≡ asked o c.view → v.target.tail ≡ After o n → count ≡ 1 → from ≤ 1
-    → reads_identity o ≡ true → takes_address o (byte_now r from) ≡ true
+    → asks o ≡ true → takes_identity o (byte_now r from) ≡ true
     → lone_behind s.geometry (AddressCycle (byte_now r from)) (asked o c.view) ≡ read_after o effect (byte_now r from) c.view
     → address_leaves_at s.geometry v from count (After o n) ≡ identity_read v o
     → ((answer : Answer) → Mirrors s.geometry (lone_job s.geometry text) (with_registers (identity_read v o) (paid count (identity_read v o).registers)) (record { word = AddressWord from count; answer = answer } ∷ r.done) (read_after o effect (byte_now r from) c.view))
@@ -89,24 +88,24 @@ goes_identity s text v r c o effect from count n k is here single one low reads 
     byte : ℕ
     byte = byte_now r from
 
-pub goes_id : (s : Channel) (text : Microprogram) (v : State) (r : Run) (c : Lone) (from count n : ℕ) → IsFit s text → IsLone s r.past c → Mirrors s.geometry (lone_job s.geometry text) v r.done c → c ≡ asked ReadId c.view → v.target.tail ≡ After ReadId n → count ≡ 1 → from ≤ 1 → takes_address ReadId (byte_of_column from (column_now r.done)) ≡ true → Goes s text (state_after s.geometry v (AddressWord from count)) r (AddressWord from count)
+pub goes_id : (s : Channel) (text : Microprogram) (v : State) (r : Run) (c : Lone) (from count n : ℕ) → IsFit s text → IsLone s r.past c → Mirrors s.geometry (lone_job s.geometry text) v r.done c → c ≡ asked ReadId c.view → v.target.tail ≡ After ReadId n → count ≡ 1 → from ≤ 1 → takes_identity ReadId (byte_of_column from (column_now r.done)) ≡ true → Goes s text (state_after s.geometry v (AddressWord from count)) r (AddressWord from count)
 goes_id s text v r c from count n k is m here single one low takes =
     goes_identity s text v r c ReadId IdRead from count n k is here single one low refl takes (rw takes refl) refl
     (λ answer. record {
       registers = registers_still s.geometry v r from count answer m.registers;
       tail = shut_tail s.geometry (lone_job s.geometry text) (identity_read v ReadId) r.done (read_after ReadId IdRead (byte_now r from) c.view) refl (id_shut (byte_now r from));
       shows = refl;
-      lun = record { busy = m.lun.busy; register = refl; column = λ e. record { at = 0; is = refl; bound = refl; read = refl }; no_column = λ e. cc; queue = m.lun.queue; last = refl; caching = refl; other = refl; read = λ e. cc; cached_page = λ e. cc; cached_index = λ e. cc };
+      lun = record { busy = m.lun.busy; register = refl; known = refl; column = λ e. record { at = 0; is = refl; bound = refl; read = refl }; no_column = λ e. cc; queue = m.lun.queue; last = refl; caching = refl; other = refl; read = λ e. cc; cached_page = λ e. cc; cached_index = λ e. cc };
       along = λ e. cc;
     })
 
-pub goes_parameters : (s : Channel) (text : Microprogram) (v : State) (r : Run) (c : Lone) (from count n : ℕ) → IsFit s text → IsLone s r.past c → Mirrors s.geometry (lone_job s.geometry text) v r.done c → c ≡ asked ReadParameterPage c.view → v.target.tail ≡ After ReadParameterPage n → count ≡ 1 → from ≤ 1 → takes_address ReadParameterPage (byte_of_column from (column_now r.done)) ≡ true → Goes s text (state_after s.geometry v (AddressWord from count)) r (AddressWord from count)
+pub goes_parameters : (s : Channel) (text : Microprogram) (v : State) (r : Run) (c : Lone) (from count n : ℕ) → IsFit s text → IsLone s r.past c → Mirrors s.geometry (lone_job s.geometry text) v r.done c → c ≡ asked ReadParameterPage c.view → v.target.tail ≡ After ReadParameterPage n → count ≡ 1 → from ≤ 1 → takes_identity ReadParameterPage (byte_of_column from (column_now r.done)) ≡ true → Goes s text (state_after s.geometry v (AddressWord from count)) r (AddressWord from count)
 goes_parameters s text v r c from count n k is m here single one low takes =
     goes_identity s text v r c ReadParameterPage ParameterPageReadStarted from count n k is here single one low refl takes (rw takes refl) refl
     (λ answer. record {
       registers = registers_still s.geometry v r from count answer m.registers;
       tail = shut_tail s.geometry (lone_job s.geometry text) (identity_read v ReadParameterPage) r.done (read_after ReadParameterPage ParameterPageReadStarted (byte_now r from) c.view) refl (parameters_shut (byte_now r from));
       shows = refl;
-      lun = record { busy = refl; register = refl; column = λ e. record { at = 0; is = refl; bound = refl; read = refl }; no_column = λ e. cc; queue = m.lun.queue; last = refl; caching = refl; other = refl; read = λ e. cc; cached_page = λ e. cc; cached_index = λ e. cc };
+      lun = record { busy = refl; register = refl; known = refl; column = λ e. record { at = 0; is = refl; bound = refl; read = refl }; no_column = λ e. cc; queue = m.lun.queue; last = refl; caching = refl; other = refl; read = λ e. cc; cached_page = λ e. cc; cached_index = λ e. cc };
       along = λ e. cc;
     })

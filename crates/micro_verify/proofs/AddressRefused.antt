@@ -32,7 +32,7 @@ use Rattle.micro_verify.proofs.AddressCauses.{elsewhere_there, unwanted_there}
 use Rattle.micro_verify.proofs.AddressRules.{row_refused_is, past_is}
 use Rattle.micro_verify.proofs.AddressStops.{AtOpener, limit_of, address_stops, unwanted_judged, drop_length}
 use Rattle.micro_verify.proofs.AddressColumn.{now_column, in_column_past, in_column_more}
-use Rattle.micro_verify.proofs.AddressIdentity.{none_yet, asked_is, identity_stops}
+use Rattle.micro_verify.proofs.AddressIdentity.{asks_there, none_yet, asked_is, identity_stops}
 use Rattle.micro_verify.proofs.OpenerStops.{column_word, AddressAt, now_there, opener_at, limit_is, limit_small, page_small, sure_is, column_stops, row_stops, more_stops}
 use Rattle.micro_verify.proofs.AddressTests.{carries_is, takes_is, takes_first, array_cycles, more_left, second_parts, second_holds, and_third, PastTests, past_tests, begins_there, unsure, of_identity, too_many, row_tests}
 
@@ -182,9 +182,10 @@ refused_stops s text v r c from count w right column_first h =
             let refused = of_identity (address_cycles o - n == 0) (reads_identity o) (identity_refused g v from count (After o n)) (cond (surely_past g v from count (After o n)) false (ltb (address_cycles o - n) count || (from == first_address o + n && nat_le 5 (from + count) && row_refused v (After o n)))) left reads out in
             let column : only v.registers.column ≡ Some (column_now r.done) = only_is (column_now r.done) v.registers.column (let x = m.registers.column_low in omega (arith, x)) m.registers.column in
             let b = begun o n m.tail.address c.facts is in
-            let none : n ≡ 0 = none_yet o n m.tail.address c.facts reads is in
+            let asks_o = asks_there o n is.place reads in
+            let none : n ≡ 0 = none_yet o n m.tail.address c.facts asks_o is in
             let wants : wants_identity c.facts ≡ true = ap (opened (λ c n. reads_identity c && n == 0)) b.opening ∙ (λ i. reads i && none i == 0) in
-            identity_stops s text r c from count o w.fit.alone w.lone (asked_is o n m.tail.address c reads is) reads w.some w.few (column_first wants) _ _ _ (column_word s text v r c from count from refl w)
+            identity_stops s text r c from count o w.fit.base w.fit.alone w.lone (asked_is o n m.tail.address c asks_o is) asks_o w.some w.few (column_first wants) _ _ _ (column_word s text v r c from count from refl w)
             (sym (λ i. w.fit.one i || not (count == 1) || not (is_identity_byte o from (column i))) ∙ refused)
         on false other =
             let carries = carries_is o n is.place other in

@@ -1,7 +1,8 @@
 -- Addresses one by one: what each is judged, and what so many of them leave.
-use Rattle.std.proofs.Common.{◌≡◌, ℕ, zero, suc, ◌+◌, ◌≤◌, ◌<◌, Bool, true, false, ◌&&◌, ◌||◌, cond, nat_le, List, [], ◌∷◌, Option, Some, None, refl, sym, ap, ◌∙◌, subst, arith, length, take, drop}
+use Rattle.std.proofs.Common.{◌≡◌, ℕ, zero, suc, ◌+◌, ◌≤◌, ◌<◌, ◌==◌, Bool, true, false, ◌&&◌, ◌||◌, cond, not, nat_le, List, [], ◌∷◌, Option, Some, None, refl, sym, ap, ◌∙◌, subst, arith, length, take, drop}
 use Rattle.nand_geometry.specs.declared.parts.Parts.{Parts}
 use Rattle.nand_geometry.specs.Limits.{page_len}
+use Rattle.nand_geometry.specs.Optional.{is_wide}
 use Rattle.nand_geometry.specs.Row.{row_of, parts_of, is_inside}
 use Rattle.onfi_cycle.specs.declared.command.Command.{Command}
 use Rattle.onfi_cycle.specs.declared.command.Command.TheVariants.{Read, ChangeReadColumn, BlockErase, PageProgram}
@@ -14,11 +15,11 @@ use Rattle.std.specs.List.{slice_get}
 use Rattle.std.proofs.Math.Bool.{or-false}
 use Rattle.onfi_cycle.specs.declared.page_address.PageAddress.{PageAddress}
 use Rattle.onfi_cycle.specs.declared.queued.Queued.{Queued}
-use Rattle.onfi_cycle.specs.Command.{addresses_the_array, is_change_read_column}
-use Rattle.onfi_cycle.specs.Sequence.{wants_address, row_with, column_with}
+use Rattle.onfi_cycle.specs.Command.{addresses_the_array, is_change_read_column, is_read_id}
+use Rattle.onfi_cycle.specs.Sequence.{wants_address, opened, row_with, column_with}
 use Rattle.onfi_cycle.specs.LunView.{LunView}
 use Rattle.onfi_cycle.specs.Effect.{is_off, page_address}
-use Rattle.onfi_cycle.specs.Rules.{ends_row, second_of_page, second_column, driver_is, is_some_and, is_refused_by, refused_by, caching, register_len, breaks_command_unknown, breaks_sequence_open, breaks_several_luns, breaks_no_column_to_change, breaks_command_misplaced, breaks_address_misplaced, breaks_row_outside, breaks_lun_busy, breaks_queue_clash, breaks_input_misplaced, breaks_no_sole_driver, breaks_data_not_ready, breaks_column_outside, breaks_cache_read_misplaced}
+use Rattle.onfi_cycle.specs.Rules.{named_lun_is, ends_row, second_of_page, second_column, driver_is, is_some_and, is_refused_by, refused_by, caching, register_len, breaks_command_unknown, breaks_sequence_open, breaks_several_luns, breaks_no_column_to_change, breaks_command_misplaced, breaks_address_misplaced, breaks_row_outside, breaks_lun_busy, breaks_queue_clash, breaks_input_misplaced, breaks_no_sole_driver, breaks_data_not_ready, breaks_column_outside, breaks_cache_read_misplaced}
 use Rattle.micro_program.specs.Moves.{gives}
 use Rattle.micro_claims.proofs.Fits.{Address, bytes_of, opener_facts, facts_behind}
 use Rattle.micro_claims.proofs.AddressSteps.{nth, carried}
@@ -35,11 +36,16 @@ named_none None test h = refl
 named_none (Some v) test h = h v
 
 -- an address that is wanted and isn't the last of a row breaks F14 or no rule
-pub plain_judged : (g : Parts) (c : Lone) (byte : ℕ) → wants_address c.facts byte ≡ true → ends_row (λ d. true) c.facts ≡ false → ends_row addresses_the_array c.facts ≡ false → ((p : PageAddress) (q : List Queued) → is_refused_by g c.facts.opening p q ≡ false) → judged g c (AddressCycle byte) ≡ cond ((second_of_page c.facts && nat_le (page_len g) (column_with c.facts byte)) || (second_column is_change_read_column c.facts && driver_is (λ v. nat_le (register_len g v.register) (column_with c.facts byte)) (c.view ∷ []))) (Some ColumnOutside) None
+pub plain_judged : (g : Parts) (c : Lone) (byte : ℕ) → wants_address c.facts byte ≡ true → ends_row (λ d. true) c.facts ≡ false → ends_row addresses_the_array c.facts ≡ false → (opened (λ o n. is_read_id o) c.facts.opening && not (byte == 0x20)) ≡ false → ((p : PageAddress) (q : List Queued) → is_refused_by g c.facts.opening p q ≡ false) → judged g c (AddressCycle byte) ≡ cond ((second_of_page c.facts && nat_le (page_len g) (column_with c.facts byte)) || (second_column is_change_read_column c.facts && driver_is (λ v. nat_le (register_len g v.register) (column_with c.facts byte)) (c.view ∷ []))) (Some ColumnOutside) None
 unfolding breaks_command_unknown breaks_sequence_open breaks_several_luns breaks_no_column_to_change breaks_command_misplaced breaks_address_misplaced breaks_row_outside breaks_lun_busy breaks_queue_clash breaks_input_misplaced breaks_no_sole_driver breaks_data_not_ready breaks_column_outside breaks_cache_read_misplaced
-plain_judged g c byte wanted ends array refuses =
-    let none = named_none (slice_get (c.view ∷ []) (parts_of g (row_with c.facts byte)).lun) (λ v. is_refused_by g c.facts.opening (page_address g (row_with c.facts byte)) v.queue) (λ v. refuses _ _) in
-    rw (wanted, ends, array, none) refl
+plain_judged g c byte wanted ends array id refuses = at (is_wide g.optional) refl
+  where
+    none : named_lun_is g (row_with c.facts byte) (λ v. is_refused_by g c.facts.opening (page_address g (row_with c.facts byte)) v.queue) (c.view ∷ []) ≡ false
+    none = named_none (slice_get (c.view ∷ []) (parts_of g (row_with c.facts byte)).lun) (λ v. is_refused_by g c.facts.opening (page_address g (row_with c.facts byte)) v.queue) (λ v. refuses _ _)
+
+    at : (b : Bool) → is_wide g.optional ≡ b → judged g c (AddressCycle byte) ≡ cond ((second_of_page c.facts && nat_le (page_len g) (column_with c.facts byte)) || (second_column is_change_read_column c.facts && driver_is (λ v. nat_le (register_len g v.register) (column_with c.facts byte)) (c.view ∷ []))) (Some ColumnOutside) None
+    at true e = rw (wanted, e, ends, array, none) refl
+    at false e = rw (wanted, e, id, ends, array, none) refl
 
 -- the row is inside, and of the only LUN
 pub record RowThere (g : Parts) (a : Address) : Type 0 where
@@ -68,57 +74,69 @@ IsJudged g o a view i = judged g (cursor o a view i) (AddressCycle (nth i (bytes
 
 pub read_judged : (g : Parts) (a : Address) (view : LunView) (i : ℕ) → i ≤ 4 → (i ≡ 4 → RowThere g a) → IsJudged g Read a view i
 unfolding breaks_command_unknown breaks_sequence_open breaks_several_luns breaks_no_column_to_change breaks_command_misplaced breaks_address_misplaced breaks_row_outside breaks_lun_busy breaks_queue_clash breaks_input_misplaced breaks_no_sole_driver breaks_data_not_ready breaks_column_outside breaks_cache_read_misplaced
-read_judged g a view zero few row = plain_judged g (cursor Read a view 0) (nth 0 (bytes_of Read a)) refl refl refl (λ p q. refl)
-read_judged g a view (suc zero) few row = plain_judged g (cursor Read a view 1) (nth 1 (bytes_of Read a)) refl refl refl (λ p q. refl) ∙ ap (λ (b : Bool). cond b (Some ColumnOutside) None) (or-false (nat_le (page_len g) (carried a)))
-read_judged g a view (suc (suc zero)) few row = plain_judged g (cursor Read a view 2) (nth 2 (bytes_of Read a)) refl refl refl (λ p q. refl)
-read_judged g a view (suc (suc (suc zero))) few row = plain_judged g (cursor Read a view 3) (nth 3 (bytes_of Read a)) refl refl refl (λ p q. refl)
+read_judged g a view zero few row = plain_judged g (cursor Read a view 0) (nth 0 (bytes_of Read a)) refl refl refl refl (λ p q. refl)
+read_judged g a view (suc zero) few row = plain_judged g (cursor Read a view 1) (nth 1 (bytes_of Read a)) refl refl refl refl (λ p q. refl) ∙ ap (λ (b : Bool). cond b (Some ColumnOutside) None) (or-false (nat_le (page_len g) (carried a)))
+read_judged g a view (suc (suc zero)) few row = plain_judged g (cursor Read a view 2) (nth 2 (bytes_of Read a)) refl refl refl refl (λ p q. refl)
+read_judged g a view (suc (suc (suc zero))) few row = plain_judged g (cursor Read a view 3) (nth 3 (bytes_of Read a)) refl refl refl refl (λ p q. refl)
 read_judged g a view (suc (suc (suc (suc zero)))) few row =
     let r = row refl in
-    at r view.busy refl (refused_by g Read (page_address g (row_of a.r1 a.r2 a.r3)) view.queue) refl (caching view) refl
+    at r (is_wide g.optional) refl view.busy refl (refused_by g Read (page_address g (row_of a.r1 a.r2 a.r3)) view.queue) refl (caching view) refl
   where
-    at : RowThere g a → (b : Bool) → view.busy ≡ b → (q : Bool) → refused_by g Read (page_address g (row_of a.r1 a.r2 a.r3)) view.queue ≡ q → (k : Bool) → caching view ≡ k → IsJudged g Read a view 4
-    at r true e q f k h = rw (r.inside, r.lun, e) refl
-    at r false e true f k h = rw (r.inside, r.lun, e, f) refl
-    at r false e false f true h = rw (r.inside, r.lun, e, f, h) refl
-    at r false e false f false h = rw (r.inside, r.lun, e, f, h) refl
+    at : RowThere g a → (w : Bool) → is_wide g.optional ≡ w → (b : Bool) → view.busy ≡ b → (q : Bool) → refused_by g Read (page_address g (row_of a.r1 a.r2 a.r3)) view.queue ≡ q → (k : Bool) → caching view ≡ k → IsJudged g Read a view 4
+    at r true x true e q f k h = rw (x, r.inside, r.lun, e) refl
+    at r true x false e true f k h = rw (x, r.inside, r.lun, e, f) refl
+    at r true x false e false f true h = rw (x, r.inside, r.lun, e, f, h) refl
+    at r true x false e false f false h = rw (x, r.inside, r.lun, e, f, h) refl
+    at r false x true e q f k h = rw (x, r.inside, r.lun, e) refl
+    at r false x false e true f k h = rw (x, r.inside, r.lun, e, f) refl
+    at r false x false e false f true h = rw (x, r.inside, r.lun, e, f, h) refl
+    at r false x false e false f false h = rw (x, r.inside, r.lun, e, f, h) refl
 read_judged g a view (suc (suc (suc (suc (suc i))))) few row = absurd (omega (arith, few))
 
 pub program_judged : (g : Parts) (a : Address) (view : LunView) (i : ℕ) → i ≤ 4 → (i ≡ 4 → RowThere g a) → IsJudged g PageProgram a view i
 unfolding breaks_command_unknown breaks_sequence_open breaks_several_luns breaks_no_column_to_change breaks_command_misplaced breaks_address_misplaced breaks_row_outside breaks_lun_busy breaks_queue_clash breaks_input_misplaced breaks_no_sole_driver breaks_data_not_ready breaks_column_outside breaks_cache_read_misplaced
-program_judged g a view zero few row = plain_judged g (cursor PageProgram a view 0) (nth 0 (bytes_of PageProgram a)) refl refl refl (λ p q. refl)
-program_judged g a view (suc zero) few row = plain_judged g (cursor PageProgram a view 1) (nth 1 (bytes_of PageProgram a)) refl refl refl (λ p q. refl) ∙ ap (λ (b : Bool). cond b (Some ColumnOutside) None) (or-false (nat_le (page_len g) (carried a)))
-program_judged g a view (suc (suc zero)) few row = plain_judged g (cursor PageProgram a view 2) (nth 2 (bytes_of PageProgram a)) refl refl refl (λ p q. refl)
-program_judged g a view (suc (suc (suc zero))) few row = plain_judged g (cursor PageProgram a view 3) (nth 3 (bytes_of PageProgram a)) refl refl refl (λ p q. refl)
+program_judged g a view zero few row = plain_judged g (cursor PageProgram a view 0) (nth 0 (bytes_of PageProgram a)) refl refl refl refl (λ p q. refl)
+program_judged g a view (suc zero) few row = plain_judged g (cursor PageProgram a view 1) (nth 1 (bytes_of PageProgram a)) refl refl refl refl (λ p q. refl) ∙ ap (λ (b : Bool). cond b (Some ColumnOutside) None) (or-false (nat_le (page_len g) (carried a)))
+program_judged g a view (suc (suc zero)) few row = plain_judged g (cursor PageProgram a view 2) (nth 2 (bytes_of PageProgram a)) refl refl refl refl (λ p q. refl)
+program_judged g a view (suc (suc (suc zero))) few row = plain_judged g (cursor PageProgram a view 3) (nth 3 (bytes_of PageProgram a)) refl refl refl refl (λ p q. refl)
 program_judged g a view (suc (suc (suc (suc zero)))) few row =
     let r = row refl in
-    at r view.busy refl (refused_by g PageProgram (page_address g (row_of a.r1 a.r2 a.r3)) view.queue) refl (caching view) refl
+    at r (is_wide g.optional) refl view.busy refl (refused_by g PageProgram (page_address g (row_of a.r1 a.r2 a.r3)) view.queue) refl (caching view) refl
   where
-    at : RowThere g a → (b : Bool) → view.busy ≡ b → (q : Bool) → refused_by g PageProgram (page_address g (row_of a.r1 a.r2 a.r3)) view.queue ≡ q → (k : Bool) → caching view ≡ k → IsJudged g PageProgram a view 4
-    at r true e q f k h = rw (r.inside, r.lun, e) refl
-    at r false e true f k h = rw (r.inside, r.lun, e, f) refl
-    at r false e false f true h = rw (r.inside, r.lun, e, f, h) refl
-    at r false e false f false h = rw (r.inside, r.lun, e, f, h) refl
+    at : RowThere g a → (w : Bool) → is_wide g.optional ≡ w → (b : Bool) → view.busy ≡ b → (q : Bool) → refused_by g PageProgram (page_address g (row_of a.r1 a.r2 a.r3)) view.queue ≡ q → (k : Bool) → caching view ≡ k → IsJudged g PageProgram a view 4
+    at r true x true e q f k h = rw (x, r.inside, r.lun, e) refl
+    at r true x false e true f k h = rw (x, r.inside, r.lun, e, f) refl
+    at r true x false e false f true h = rw (x, r.inside, r.lun, e, f, h) refl
+    at r true x false e false f false h = rw (x, r.inside, r.lun, e, f, h) refl
+    at r false x true e q f k h = rw (x, r.inside, r.lun, e) refl
+    at r false x false e true f k h = rw (x, r.inside, r.lun, e, f) refl
+    at r false x false e false f true h = rw (x, r.inside, r.lun, e, f, h) refl
+    at r false x false e false f false h = rw (x, r.inside, r.lun, e, f, h) refl
 program_judged g a view (suc (suc (suc (suc (suc i))))) few row = absurd (omega (arith, few))
 
 pub erase_judged : (g : Parts) (a : Address) (view : LunView) (i : ℕ) → i ≤ 2 → (i ≡ 2 → RowThere g a) → IsJudged g BlockErase a view i
 unfolding breaks_command_unknown breaks_sequence_open breaks_several_luns breaks_no_column_to_change breaks_command_misplaced breaks_address_misplaced breaks_row_outside breaks_lun_busy breaks_queue_clash breaks_input_misplaced breaks_no_sole_driver breaks_data_not_ready breaks_column_outside breaks_cache_read_misplaced
-erase_judged g a view zero few row = plain_judged g (cursor BlockErase a view 0) (nth 0 (bytes_of BlockErase a)) refl refl refl (λ p q. refl)
-erase_judged g a view (suc zero) few row = plain_judged g (cursor BlockErase a view 1) (nth 1 (bytes_of BlockErase a)) refl refl refl (λ p q. refl)
+erase_judged g a view zero few row = plain_judged g (cursor BlockErase a view 0) (nth 0 (bytes_of BlockErase a)) refl refl refl refl (λ p q. refl)
+erase_judged g a view (suc zero) few row = plain_judged g (cursor BlockErase a view 1) (nth 1 (bytes_of BlockErase a)) refl refl refl refl (λ p q. refl)
 erase_judged g a view (suc (suc zero)) few row =
     let r = row refl in
-    at r view.busy refl (refused_by g BlockErase (page_address g (row_of a.r1 a.r2 a.r3)) view.queue) refl (caching view) refl
+    at r (is_wide g.optional) refl view.busy refl (refused_by g BlockErase (page_address g (row_of a.r1 a.r2 a.r3)) view.queue) refl (caching view) refl
   where
-    at : RowThere g a → (b : Bool) → view.busy ≡ b → (q : Bool) → refused_by g BlockErase (page_address g (row_of a.r1 a.r2 a.r3)) view.queue ≡ q → (k : Bool) → caching view ≡ k → IsJudged g BlockErase a view 2
-    at r true e q f k h = rw (r.inside, r.lun, e) refl
-    at r false e true f k h = rw (r.inside, r.lun, e, f) refl
-    at r false e false f true h = rw (r.inside, r.lun, e, f, h) refl
-    at r false e false f false h = rw (r.inside, r.lun, e, f, h) refl
+    at : RowThere g a → (w : Bool) → is_wide g.optional ≡ w → (b : Bool) → view.busy ≡ b → (q : Bool) → refused_by g BlockErase (page_address g (row_of a.r1 a.r2 a.r3)) view.queue ≡ q → (k : Bool) → caching view ≡ k → IsJudged g BlockErase a view 2
+    at r true x true e q f k h = rw (x, r.inside, r.lun, e) refl
+    at r true x false e true f k h = rw (x, r.inside, r.lun, e, f) refl
+    at r true x false e false f true h = rw (x, r.inside, r.lun, e, f, h) refl
+    at r true x false e false f false h = rw (x, r.inside, r.lun, e, f, h) refl
+    at r false x true e q f k h = rw (x, r.inside, r.lun, e) refl
+    at r false x false e true f k h = rw (x, r.inside, r.lun, e, f) refl
+    at r false x false e false f true h = rw (x, r.inside, r.lun, e, f, h) refl
+    at r false x false e false f false h = rw (x, r.inside, r.lun, e, f, h) refl
 erase_judged g a view (suc (suc (suc i))) few row = absurd (omega (arith, few))
 
 pub change_judged : (g : Parts) (a : Address) (view : LunView) (i : ℕ) → i ≤ 1 → is_off view.latch ≡ false → IsJudged g ChangeReadColumn a view i
 unfolding breaks_command_unknown breaks_sequence_open breaks_several_luns breaks_no_column_to_change breaks_command_misplaced breaks_address_misplaced breaks_row_outside breaks_lun_busy breaks_queue_clash breaks_input_misplaced breaks_no_sole_driver breaks_data_not_ready breaks_column_outside breaks_cache_read_misplaced
-change_judged g a view zero few shown = plain_judged g (cursor ChangeReadColumn a view 0) (nth 0 (bytes_of ChangeReadColumn a)) refl refl refl (λ p q. refl)
-change_judged g a view (suc zero) few shown = plain_judged g (cursor ChangeReadColumn a view 1) (nth 1 (bytes_of ChangeReadColumn a)) refl refl refl (λ p q. refl) ∙ ap (λ (b : Bool). cond b (Some ColumnOutside) None) (shown_alone view.latch shown)
+change_judged g a view zero few shown = plain_judged g (cursor ChangeReadColumn a view 0) (nth 0 (bytes_of ChangeReadColumn a)) refl refl refl refl (λ p q. refl)
+change_judged g a view (suc zero) few shown = plain_judged g (cursor ChangeReadColumn a view 1) (nth 1 (bytes_of ChangeReadColumn a)) refl refl refl refl (λ p q. refl) ∙ ap (λ (b : Bool). cond b (Some ColumnOutside) None) (shown_alone view.latch shown)
   where
     shown_alone : (x : Latch) → is_off view.latch ≡ false → driver_is (λ v. nat_le (register_len g v.register) (carried a)) (view ∷ []) ≡ nat_le (register_len g view.register) (carried a)
     shown_alone x e = rw e refl

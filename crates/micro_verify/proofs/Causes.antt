@@ -2,6 +2,7 @@
 use Rattle.std.proofs.Common.{◌≡◌, ℕ, suc, ◌+◌, ◌%◌, ◌≤◌, Bool, true, false, ◌&&◌, ◌||◌, cond, not, ltb, nat_le, List, [], ◌∷◌, Option, Some, None, refl, sym, ap, ◌∙◌, subst, arith, take, length}
 use Rattle.std.specs.List.{slice_get}
 use Rattle.nand_geometry.specs.declared.parts.Parts.{Parts}
+use Rattle.nand_geometry.specs.Optional.{is_wide}
 use Rattle.nand_geometry.specs.Limits.{indices}
 use Rattle.onfi_cycle.specs.declared.command.Command.{Command}
 use Rattle.onfi_cycle.specs.declared.command.Command.TheVariants.{ChangeWriteColumn, ProgramConfirm, ProgramPlane}
@@ -54,6 +55,7 @@ pub record ExactWord (s : Channel) (text : Microprogram) (v : State) (r : Run) (
 pub record IsFit (s : Channel) (text : Microprogram) : Type 0 where
   pub alone : IsAlone s
   pub one : ltb 1 s.geometry.luns ≡ false
+  pub base : is_wide s.geometry.optional ≡ false
   pub budget : text.budget ≤ greatest_bound
   pub rows : text.rows ≤ greatest_bound
   pub buffer : text.buffer ≤ greatest_bound
@@ -148,7 +150,7 @@ first_mirrors g text pages =
       tail = record { place = _; single = refl; address = no_address; is = empty_shut; now = λ e. cc; column = λ e. cc; row = λ e. cc; named = λ e. cc; changes = λ e. cc };
       shows = refl;
       along = λ e. cc;
-      lun = record { busy = refl; register = refl; column = λ e. cc; no_column = λ e. refl; last = refl; queue = refl; caching = refl; other = refl; read = λ e. cc; cached_page = λ e. cc; cached_index = λ e. cc };
+      lun = record { busy = refl; register = refl; known = refl; column = λ e. cc; no_column = λ e. refl; last = refl; queue = refl; caching = refl; other = refl; read = λ e. cc; cached_page = λ e. cc; cached_index = λ e. cc };
     }
   where
     zero_is : 0 % g.pages ≡ 0

@@ -9,7 +9,7 @@ use Rattle.nand_geometry.specs.declared.row_parts.RowParts.{RowParts}
 use Rattle.nand_geometry.specs.Limits.{planes}
 use Rattle.nand_geometry.specs.Row.{parts_of, row_of}
 use Rattle.onfi_cycle.specs.declared.command.Command.{Command}
-use Rattle.onfi_cycle.specs.declared.command.Command.TheVariants.{Read, ReadConfirm, ChangeReadColumn, ChangeReadColumnConfirm, BlockErase, BlockEraseConfirm, BlockErasePlane, ReadStatus as StatusCommand, ReadStatusEnhanced, PageProgram, ChangeWriteColumn, ProgramConfirm, ProgramPlane, ReadId, ReadParameterPage, Reset, ReadCacheSequential, ReadCacheEnd, Unknown as UnknownCommand}
+use Rattle.onfi_cycle.specs.declared.command.Command.TheVariants.{Read, ReadConfirm, ChangeReadColumn, ChangeReadColumnConfirm, BlockErase, BlockEraseConfirm, BlockErasePlane, ReadStatus as StatusCommand, ReadStatusEnhanced, PageProgram, ChangeWriteColumn, ProgramConfirm, ProgramPlane, ReadId, ReadParameterPage, Reset, ReadCacheSequential, ReadCacheEnd, Unknown as UnknownCommand, ReadUniqueId, GetFeatures, SetFeatures, ResetLun, SynchronousReset}
 use Rattle.onfi_cycle.specs.declared.data_phase.DataPhase.TheVariants.{Outside, Inputs}
 use Rattle.onfi_cycle.specs.declared.effect.Effect.{Effect}
 use Rattle.onfi_cycle.specs.declared.effect.Effect.TheVariants.{EraseStarted, ProgramStarted, ReadStarted, ReadColumnChanged, CacheReadContinued, CacheReadEnded, Unaffected}
@@ -19,16 +19,17 @@ use Rattle.onfi_cycle.specs.declared.latch.Latch.{Latch}
 use Rattle.onfi_cycle.specs.declared.latch.Latch.TheVariants.{Off, Status, Data}
 use Rattle.onfi_cycle.specs.declared.page_address.PageAddress.{PageAddress}
 use Rattle.onfi_cycle.specs.declared.register.Register.{Register}
-use Rattle.onfi_cycle.specs.declared.register.Register.TheVariants.{Empty, Page, ParameterPage, Identifier}
+use Rattle.onfi_cycle.specs.declared.register.Register.TheVariants.{Empty, Page, ParameterPage, UniqueId}
 use Rattle.onfi_cycle.specs.declared.row_bytes.RowBytes.{RowBytes}
 use Rattle.onfi_cycle.specs.declared.tail_facts.TailFacts.{TailFacts}
 use Rattle.onfi_cycle.specs.declared.target_cycle.TargetCycle.TheVariants.{CommandCycle}
 use Rattle.onfi_cycle.specs.LunView.{LunView}
-use Rattle.onfi_cycle.specs.Command.{command, closes, address_cycles, takes_address, is_opener, wants_one_lun}
-use Rattle.onfi_cycle.specs.Sequence.{facts_after, is_proper_beginning, wants_command, wants_column, takes_inputs, opened, row, input_column}
+use Rattle.onfi_cycle.specs.Base.{is_of_base}
+use Rattle.onfi_cycle.specs.Command.{command, closes, address_cycles, takes_address, is_known, is_opener, wants_one_lun}
+use Rattle.onfi_cycle.specs.Sequence.{facts_after, is_proper_beginning, wants_command, wants_column, takes_data, takes_inputs, opened, row, input_column}
 use Rattle.onfi_cycle.specs.Effect.{names_lun, cycle_effect, page_address, is_off, is_data}
 use Rattle.onfi_cycle.specs.Lun.{view_after, resumed, column_at}
-use Rattle.onfi_cycle.specs.Rules.{breaks_command_unknown, breaks_several_luns, may_change_column, is_page_or_parameters}
+use Rattle.onfi_cycle.specs.Rules.{breaks_command_unknown, breaks_several_luns, is_undeclared, may_change_column, is_page_or_parameters}
 use Rattle.onfi_cycle.specs.Channel.{Channel}
 use Rattle.micro_word.specs.declared.word.Word.TheVariants.{Command as CommandWord}
 use Rattle.micro_word.specs.Text.{Microprogram}
@@ -65,7 +66,7 @@ use Rattle.micro_claims.proofs.Sounding.{NoReasons, no_reasons}
 use Rattle.micro_claims.proofs.Commands.{same_either, out_of_place, wanted, row_names}
 use Rattle.micro_claims.proofs.MoreCommands.{declared, opener_free}
 use Rattle.micro_verify.proofs.Lone.{Lone, IsAlone, IsLone, lone_behind, judged, stops_there}
-use Rattle.micro_verify.proofs.Mirrors.{Mirrors, RegistersMirror, TailMirror, LunMirror, PlaceMirror, Shut, shows_of, held_of, place_queues, place_erases, row_goes_along, BoundIs, NameIs, ColumnMirror, exact_test, is_read_column, kept_plus, drift_from, RowsMirror, QueueMirror, RowMirror, AllMirror}
+use Rattle.micro_verify.proofs.Mirrors.{Mirrors, RegistersMirror, TailMirror, LunMirror, PlaceMirror, Shut, shows_of, held_of, is_modelled, place_queues, place_erases, row_goes_along, BoundIs, NameIs, ColumnMirror, exact_test, is_read_column, kept_plus, drift_from, RowsMirror, QueueMirror, RowMirror, AllMirror}
 use Rattle.micro_verify.proofs.Told.{told_command, wants_by, closes_none}
 use Rattle.micro_verify.proofs.Causes.{Goes, ExactWord, IsFit, reason_holds, reason_is, cost_cause, lowest_row_or_plane_outside}
 use Rattle.micro_verify.proofs.WordsExact.{goes_by, registers_exact, shut_tail, told_breaks, told_none}
@@ -82,12 +83,14 @@ fit_or_none true x h = cc
 fit_or_none false x h = refl
 
 -- among the words of the text that a program may not use
-for_programs : (u a w n : Bool) → (u || a || w || n) ≡ true → n ≡ false → (a || u || w) ≡ true
-for_programs true true w n h e = refl
-for_programs true false w n h e = refl
-for_programs false true w n h e = refl
-for_programs false false true n h e = refl
-for_programs false false false n h e = let both : true ≡ false = sym h ∙ e in cc
+for_programs : (x d k a w n : Bool) → ((x || d) || a || w || n) ≡ true → n ≡ false → (a || x || (k || d) || w) ≡ true
+for_programs x d k true w n h e = refl
+for_programs true d k false w n h e = refl
+for_programs false true true false w n h e = refl
+for_programs false true false false w n h e = refl
+for_programs false false true false w n h e = refl
+for_programs false false false false true n h e = refl
+for_programs false false false false false n h e = let both : true ≡ false = sym h ∙ e in cc
 
 next_outside : (rows n : ℕ) → not (nat_le (n + 2) rows) ≡ true → nat_le rows (n + 1) ≡ true
 next_outside rows n h = grind (arith, nat_tests, h)
@@ -114,10 +117,10 @@ command_cause s text v r c byte k is m seen reason e = by reason (reason_is s.ge
     g = s.geometry
 
     by : (reason : Reason) → reason_holds g text v (CommandWord byte) reason ≡ true → reason_against g (bounds_of text) v (CommandWord byte) ≡ Some reason → Cause s (lone_job g text) r (CommandWord byte) reason
-    by CycleForbidden h e = λ bytes. command_stops s text r c byte k.alone is (told_breaks _ _ (told_command g (lone_job g text) v r.done c (command byte) k.one k.pages m (fit_or_none (is_unfit g (command byte)) _ h)) h)
+    by CycleForbidden h e = λ bytes. command_stops s text r c byte k.alone is (told_breaks _ _ (told_command g (lone_job g text) v r.done c (command byte) k.one k.base k.pages m (fit_or_none (is_unfit g (command byte)) _ h)) h)
     by RowOrPlaneOutside h e = past_rows s text v r c k.rows is m.lun (command byte) h (lowest_row_or_plane_outside g text v (CommandWord byte) e)
     by OverBudget h e = cost_cause g v r (CommandWord byte) text.budget k.budget m.registers h
-    by CommandNotAllowed h e = for_programs (is_unfit g (command byte)) (asks_status (command byte)) (wants_one_lun (command byte) && ltb 1 g.luns) (continues_unseen (bounds_of text) (command byte)) h seen
+    by CommandNotAllowed h e = for_programs (not (is_of_base (command byte))) (is_undeclared g (command byte)) (not (is_known (command byte))) (asks_status (command byte)) (wants_one_lun (command byte) && ltb 1 g.luns) (continues_unseen (bounds_of text) (command byte)) h seen
     by _ h e = cc
 
 -- 2. what serves all that go
@@ -127,7 +130,7 @@ pub command_goes : (s : Channel) (text : Microprogram) (v : State) (r : Run) (c 
 unfolding state_after
 command_goes s text v r c byte d k is_d fit is m clear same tail shows lun along =
     goes_by s text (state_after g v (CommandWord byte)) r (CommandWord byte) (Give Cmd byte ∷ []) r.past c k.alone refl refl is
-    (ap (λ (x : Command). judged g c (CommandCycle x)) is_d ∙ told_none (command_out_of_place g v d) _ (told_command g j v r.done c d k.one k.pages m fit) (out_of_place g text v byte d is_d clear), tt)
+    (ap (λ (x : Command). judged g c (CommandCycle x)) is_d ∙ told_none (command_out_of_place g v d) _ (told_command g j v r.done c d k.one k.base k.pages m fit) (out_of_place g text v byte d is_d clear), tt)
     (λ answer. subst (λ (x : Command). Mirrors g j (with_registers (command_leaves g v x) (paid 1 (command_leaves g v x).registers)) (record { word = CommandWord byte; answer = answer } ∷ r.done) (lone_behind g (CommandCycle x) c)) (sym is_d)
     (record {
       registers = subst (λ (x : Registers). RegistersMirror g (paid 1 x) (record { word = CommandWord byte; answer = answer } ∷ r.done)) (sym same) (registers_exact g v.registers v.registers.polled r.done (CommandWord byte) answer (record { column = λ n. refl; plane = λ n. refl; index = λ b n. refl }) (λ n. refl) m.registers);
@@ -196,7 +199,7 @@ may_change v h = at v.latch v.busy v.register h
     at Data false Empty h = cc
     at Data false (Page p) h = refl
     at Data false ParameterPage h = refl
-    at Data false Identifier h = cc
+    at Data false _ h = cc
 
 changes_now : (s : Channel) (text : Microprogram) (v : State) (r : Run) (c : Lone) (byte : ℕ) → command byte ≡ ChangeReadColumn → Mirrors s.geometry (lone_job s.geometry text) v r.done c → NoReasons s.geometry text v (CommandWord byte) → may_change_column c.view ≡ true
 changes_now s text v r c byte is_d m clear =
@@ -223,7 +226,7 @@ goes_00 s text v r c byte k is_d is m clear =
     command_goes s text v r c byte Read k is_d refl is m clear refl
     (record { place = After Read 0; single = refl; address = no_address; is = record { place = refl; facts = refl }; now = λ e. cc; column = λ e. cc; row = λ e. cc; named = λ e. cc; changes = λ e. cc })
     (ap resumed_shows m.shows ∙ resumed_exact c.view.latch)
-    (record { busy = m.lun.busy; register = m.lun.register; column = m.lun.column; no_column = m.lun.no_column; last = m.lun.last; queue = m.lun.queue; caching = m.lun.caching; other = m.lun.other; read = m.lun.read; cached_page = m.lun.cached_page; cached_index = m.lun.cached_index })
+    (record { busy = m.lun.busy; register = m.lun.register; known = m.lun.known; column = m.lun.column; no_column = m.lun.no_column; last = m.lun.last; queue = m.lun.queue; caching = m.lun.caching; other = m.lun.other; read = m.lun.read; cached_page = m.lun.cached_page; cached_index = m.lun.cached_index })
     (λ e. cc)
 
 -- 4. closers
@@ -236,7 +239,7 @@ shut_facts t o p = record { closed = λ i. opened is_proper_beginning (o i) || t
     none d = at (is_data_command d) refl
       where
         at : (b : Bool) → is_data_command d ≡ b → wants_command t d ≡ false
-        at true e = (wants_by t d).0 e ∙ ap takes_inputs p
+        at true e = (wants_by t d).0 e ∙ ap takes_data p
         at false e = (wants_by t d).1 e ∙ ap (opened (λ c n. closes c d && n == address_cycles c)) o
 
 -- the address of an opener is whole
@@ -312,7 +315,7 @@ goes_d0 s text v r c byte k is_d is m clear =
     (shut_tail g j (command_leaves g v BlockEraseConfirm) r.done (lone_behind g (CommandCycle BlockEraseConfirm) c) refl (shut_facts (facts_after (CommandCycle BlockEraseConfirm) c.facts) (rw begun refl) (rw begun refl)))
     (m.shows ∙ ap (λ (e : Effect). shows_of (view_after e c.view).latch) (sym effect))
     (subst (λ (e : Effect). LunMirror g (command_leaves g v BlockEraseConfirm).lun (index_now 0 r.done) (view_after e c.view)) (sym effect)
-    (record { busy = refl; register = refl; column = λ e. cc; no_column = λ e. refl; last = refl; queue = refl; caching = refl; other = refl; read = λ e. cc; cached_page = λ e. cc; cached_index = λ e. cc }))
+    (record { busy = refl; register = refl; known = refl; column = λ e. cc; no_column = λ e. refl; last = refl; queue = refl; caching = refl; other = refl; read = λ e. cc; cached_page = λ e. cc; cached_index = λ e. cc }))
     (λ e. cc)
 
 -- 10h
@@ -321,7 +324,7 @@ goes_10 s text v r c byte k is_d is m clear =
     let g = s.geometry in
     let j = lone_job s.geometry text in
     let p = programming g j v.target (now_of j r.done) c ProgramConfirm refl m.tail (wanted g text v byte ProgramConfirm is_d refl refl clear).places in
-    let wants : wants_command c.facts ProgramConfirm ≡ true = ap takes_inputs p.program.phase in
+    let wants : wants_command c.facts ProgramConfirm ≡ true = ap takes_data p.program.phase in
     let names : names_lun g (row c.facts) 0 ≡ true = row_names g j c.facts p.address (program_row p.address c.facts p.program) p.row in
     let begun : c.facts.is_empty ≡ false = p.program.begun in
     let effect : cycle_effect g c.facts c.view.latch (CommandCycle ProgramConfirm) 0 ≡ ProgramStarted false (page_address g (row c.facts)) = rw (wants, names) refl in
@@ -329,7 +332,7 @@ goes_10 s text v r c byte k is_d is m clear =
     (shut_tail g j (command_leaves g v ProgramConfirm) r.done (lone_behind g (CommandCycle ProgramConfirm) c) refl (shut_facts (facts_after (CommandCycle ProgramConfirm) c.facts) (rw begun refl) (rw begun refl)))
     (m.shows ∙ ap (λ (e : Effect). shows_of (view_after e c.view).latch) (sym effect))
     (subst (λ (e : Effect). LunMirror g (command_leaves g v ProgramConfirm).lun (index_now 0 r.done) (view_after e c.view)) (sym effect)
-    (record { busy = refl; register = refl; column = λ e. cc; no_column = λ e. refl; last = refl; queue = refl; caching = refl; other = refl; read = λ e. cc; cached_page = λ e. cc; cached_index = λ e. cc }))
+    (record { busy = refl; register = refl; known = refl; column = λ e. cc; no_column = λ e. refl; last = refl; queue = refl; caching = refl; other = refl; read = λ e. cc; cached_page = λ e. cc; cached_index = λ e. cc }))
     (λ e. cc)
 
 -- FFh
@@ -340,7 +343,7 @@ goes_ff s text v r c byte k is_d is m clear =
     command_goes s text v r c byte Reset k is_d refl is m clear refl
     (record { place = Closed; single = refl; address = no_address; is = reset_shut; now = λ e. cc; column = λ e. cc; row = λ e. cc; named = λ e. cc; changes = λ e. cc })
     refl
-    (record { busy = refl; register = refl; column = λ e. cc; no_column = λ e. refl; last = refl; queue = refl; caching = refl; other = refl; read = λ e. cc; cached_page = λ e. cc; cached_index = λ e. cc })
+    (record { busy = refl; register = refl; known = refl; column = λ e. cc; no_column = λ e. refl; last = refl; queue = refl; caching = refl; other = refl; read = λ e. cc; cached_page = λ e. cc; cached_index = λ e. cc })
     (λ e. cc)
   where
     reset_shut : Shut (facts_after (CommandCycle Reset) c.facts)
@@ -375,17 +378,17 @@ read_column_is None t none h = absurd h
 read_column_is (Some k) t none h = record { at = t.column + 0; is = refl; bound = h ∙ ap (λ (n : ℕ). kept (t.column + n)) none; read = refl }
 
 -- E0h
-held_register : (v : LunView) → may_change_column v ≡ true → has_register (held_of v.register) ≡ true
-held_register v h = at v.latch v.busy v.register h
+held_register : (v : LunView) → is_modelled v.register ≡ true → may_change_column v ≡ true → has_register (held_of v.register) ≡ true
+held_register v k h = at v.latch v.busy v.register k h
   where
-    at : (x : Latch) (b : Bool) (r : Register) → (is_data x && (not b && is_page_or_parameters r)) ≡ true → has_register (held_of r) ≡ true
-    at Off b r h = cc
-    at Status b r h = cc
-    at Data true r h = cc
-    at Data false Empty h = cc
-    at Data false (Page p) h = refl
-    at Data false ParameterPage h = refl
-    at Data false Identifier h = cc
+    at : (x : Latch) (b : Bool) (r : Register) → is_modelled r ≡ true → (is_data x && (not b && is_page_or_parameters r)) ≡ true → has_register (held_of r) ≡ true
+    at Off b r k h = cc
+    at Status b r k h = cc
+    at Data true r k h = cc
+    at Data false (Page p) k h = refl
+    at Data false ParameterPage k h = refl
+    at Data false UniqueId k h = cc
+    at Data false _ k h = cc
 
 pub not_off : (v : LunView) → may_change_column v ≡ true → is_off v.latch ≡ false
 not_off v h = at v.latch h
@@ -412,8 +415,9 @@ goes_e0 s text v r c byte k is_d is m clear =
     (record {
       busy = m.lun.busy;
       register = m.lun.register;
+      known = m.lun.known;
       column = λ e. read_column_is v.target.column c.facts (ap (λ (t : TailFacts). t.inputs) w.facts) (w.column refl);
-      no_column = λ e. let both : true ≡ false = sym (ap has_register m.lun.register ∙ held_register c.view may) ∙ e in cc;
+      no_column = λ e. let both : true ≡ false = sym (ap has_register m.lun.register ∙ held_register c.view m.lun.known may) ∙ e in cc;
       last = m.lun.last;
       queue = m.lun.queue;
       caching = m.lun.caching;
@@ -485,6 +489,7 @@ goes_30 s text v r c byte k is_d is m clear =
     (record {
       busy = refl;
       register = refl;
+      known = refl;
       column = λ e. read_column_is v.target.column c.facts (ap (λ (t : TailFacts). t.inputs) w.facts) (w.column refl);
       no_column = λ e. cc;
       last = refl;
@@ -565,6 +570,7 @@ goes_d1 s text v r c byte k is_d is m clear =
     (record {
       busy = refl;
       register = refl;
+      known = refl;
       column = λ e. cc;
       no_column = λ e. refl;
       last = refl;
@@ -585,7 +591,7 @@ goes_11 s text v r c byte k is_d is m clear =
     let j = lone_job s.geometry text in
     let dec = declared g text v byte ProgramPlane is_d clear in
     let w = programming g j v.target (now_of j r.done) c ProgramPlane refl m.tail (wanted g text v byte ProgramPlane is_d dec.fit refl clear).places in
-    let wants : wants_command c.facts ProgramPlane ≡ true = ap takes_inputs w.program.phase in
+    let wants : wants_command c.facts ProgramPlane ≡ true = ap takes_data w.program.phase in
     let names : names_lun g (row c.facts) 0 ≡ true = row_names g j c.facts w.address (program_row w.address c.facts w.program) w.row in
     let begun : c.facts.is_empty ≡ false = w.program.begun in
     let page = page_of_row g j c.facts w.address (program_row w.address c.facts w.program) w.row in
@@ -597,6 +603,7 @@ goes_11 s text v r c byte k is_d is m clear =
     (record {
       busy = refl;
       register = refl;
+      known = refl;
       column = λ e. cc;
       no_column = λ e. refl;
       last = refl;
@@ -655,6 +662,7 @@ goes_31 s text v r c byte k is_d is m clear =
     (record {
       busy = refl;
       register = refl;
+      known = refl;
       column = λ e. record { at = 0; is = refl; bound = refl; read = refl };
       no_column = λ e. cc;
       last = refl;
@@ -685,7 +693,7 @@ goes_3f s text v r c byte k is_d is m clear =
     (shut_tail g j (command_leaves g v ReadCacheEnd) r.done (lone_behind g (CommandCycle ReadCacheEnd) c) refl end_shut)
     (ap (λ (e : Effect). shows_of (view_after e c.view).latch) (sym effect))
     (subst (λ (e : Effect). LunMirror g (command_leaves g v ReadCacheEnd).lun (index_now 0 r.done) (view_after e c.view)) (sym effect)
-    (record { busy = refl; register = refl; column = λ e. record { at = 0; is = refl; bound = refl; read = refl }; no_column = λ e. cc; last = refl; queue = m.lun.queue; caching = refl; other = refl; read = λ e. cc; cached_page = λ e. cc; cached_index = λ e. cc }))
+    (record { busy = refl; register = refl; known = refl; column = λ e. record { at = 0; is = refl; bound = refl; read = refl }; no_column = λ e. cc; last = refl; queue = m.lun.queue; caching = refl; other = refl; read = λ e. cc; cached_page = λ e. cc; cached_index = λ e. cc }))
     (λ e. cc)
 
 -- 7. each command
@@ -722,4 +730,9 @@ command_exact s text v r c byte k seen is m =
     by Reset is_d clear = goes_ff s text v r c byte k is_d is m clear
     by ReadCacheSequential is_d clear = goes_31 s text v r c byte k is_d is m clear
     by ReadCacheEnd is_d clear = goes_3f s text v r c byte k is_d is m clear
+    by ReadUniqueId is_d clear = let none = (declared s.geometry text v byte ReadUniqueId is_d clear).fit in cc
+    by GetFeatures is_d clear = let none = (declared s.geometry text v byte GetFeatures is_d clear).fit in cc
+    by SetFeatures is_d clear = let none = (declared s.geometry text v byte SetFeatures is_d clear).fit in cc
+    by ResetLun is_d clear = let none = (declared s.geometry text v byte ResetLun is_d clear).fit in cc
+    by SynchronousReset is_d clear = let none = (declared s.geometry text v byte SynchronousReset is_d clear).fit in cc
     by UnknownCommand is_d clear = let none = (declared s.geometry text v byte UnknownCommand is_d clear).fit in cc

@@ -125,6 +125,7 @@ lun_moved g l old new move view moves m =
     record {
       busy = m.busy;
       register = m.register;
+      known = m.known;
       column = m.column;
       no_column = m.no_column;
       queue = rows_go g old new move l.queue view.queue moves m.queue;

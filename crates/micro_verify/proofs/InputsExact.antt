@@ -48,7 +48,7 @@ astray : (g : Parts) (c : Lone) (byte : ℕ) → takes_inputs c.facts.phase ≡ 
 unfolding breaks_command_unknown breaks_sequence_open breaks_several_luns breaks_no_column_to_change breaks_command_misplaced breaks_address_misplaced breaks_row_outside breaks_lun_busy breaks_queue_clash breaks_input_misplaced breaks_no_sole_driver breaks_data_not_ready breaks_column_outside breaks_cache_read_misplaced
 astray g c byte h = rw h refl
 
-in_place : (g : Parts) (c : Lone) (byte : ℕ) → takes_inputs c.facts.phase ≡ true → judged g c (InputCycle byte) ≡ cond (nat_le (page_len g) (input_column c.facts)) (Some ColumnOutside) None
+in_place : (g : Parts) (c : Lone) (byte : ℕ) → c.facts.phase ≡ Inputs → judged g c (InputCycle byte) ≡ cond (nat_le (page_len g) (input_column c.facts)) (Some ColumnOutside) None
 unfolding breaks_command_unknown breaks_sequence_open breaks_several_luns breaks_no_column_to_change breaks_command_misplaced breaks_address_misplaced breaks_row_outside breaks_lun_busy breaks_queue_clash breaks_input_misplaced breaks_no_sole_driver breaks_data_not_ready breaks_column_outside breaks_cache_read_misplaced
 in_place g c byte h = rw h refl
 
@@ -80,6 +80,10 @@ one_input a t b p = inputs_facts a (facts_after (InputCycle b) t) (rw p.begun re
 input_more : (t : TailFacts) (b : ℕ) → t.is_empty ≡ false → input_column (facts_after (InputCycle b) t) ≡ input_column t + 1
 input_more t b e = rw e (omega arith)
 
+-- an input of a program leaves the LUN as it is
+calm_view : (g : Parts) (c : Lone) (byte : ℕ) → c.facts.phase ≡ Inputs → (lone_behind g (InputCycle byte) c).view ≡ c.view
+calm_view g c byte h = rw h refl
+
 record InputsPass (g : Parts) (a : Address) (bytes : List ℕ) (c : Lone) : Type 0 where
   pass : MovesPass g (gives Din bytes) c
   view_is : (lone_after g (gives Din bytes) c).view ≡ c.view
@@ -95,8 +99,8 @@ inputs_pass g a (b ∷ bytes) c p inside =
     let low : nat_le (page_len g) (input_column c.facts) ≡ false = grind (arith, nat_tests, inside) in
     let column = rest.column in
     record {
-      pass = (in_place g c b (ap takes_inputs p.program.phase) ∙ ap (λ (x : Bool). cond x (Some ColumnOutside) None) low, rest.pass);
-      view_is = rest.view_is;
+      pass = (in_place g c b p.program.phase ∙ ap (λ (x : Bool). cond x (Some ColumnOutside) None) low, rest.pass);
+      view_is = rest.view_is ∙ calm_view g c b p.program.phase;
       program = rest.program;
       column = omega (arith, column, more);
     }
@@ -223,7 +227,7 @@ put_exact s text v r c n some k is m =
         begins : (x : Bool) → nat_le (page_len g) (input_column c.facts) ≡ x → WordStops s j r (Put n) is_of_column_too_large
         begins true e =
             let x = cut 0 b.bytes (omega (arith, count, some)) in
-            put_stops s text r c n 0 is_of_column_too_large b x k.alone is tt ColumnOutside (in_place g c x.byte (ap takes_inputs p.inputs.program.phase) ∙ ap (λ (y : Bool). cond y (Some ColumnOutside) None) e) refl
+            put_stops s text r c n 0 is_of_column_too_large b x k.alone is tt ColumnOutside (in_place g c x.byte p.inputs.program.phase ∙ ap (λ (y : Bool). cond y (Some ColumnOutside) None) e) refl
         begins false e =
             let low : input_column c.facts < page_len g = grind (arith, nat_tests, e) in
             let few : page_len g - input_column c.facts < n = grind (arith, nat_tests, over, low) in
@@ -232,7 +236,7 @@ put_exact s text v r c n some k is m =
             let pass = inputs_pass g p.address (take (page_len g - input_column c.facts) b.bytes) c p.inputs (omega (arith, taken, low)) in
             let column = pass.column in
             let full : nat_le (page_len g) (input_column (lone_after g (gives Din (take (page_len g - input_column c.facts) b.bytes)) c).facts) ≡ true = let most : page_len g ≤ input_column (lone_after g (gives Din (take (page_len g - input_column c.facts) b.bytes)) c).facts = omega (arith, column, taken, low) in grind (arith, nat_tests, most) in
-            put_stops s text r c n (page_len g - input_column c.facts) is_of_column_too_large b x k.alone is pass.pass ColumnOutside (in_place g (lone_after g (gives Din (take (page_len g - input_column c.facts) b.bytes)) c) x.byte (ap takes_inputs pass.program.program.phase) ∙ ap (λ (y : Bool). cond y (Some ColumnOutside) None) full) refl
+            put_stops s text r c n (page_len g - input_column c.facts) is_of_column_too_large b x k.alone is pass.pass ColumnOutside (in_place g (lone_after g (gives Din (take (page_len g - input_column c.facts) b.bytes)) c) x.byte pass.program.program.phase ∙ ap (λ (y : Bool). cond y (Some ColumnOutside) None) full) refl
 
     by : (reason : Reason) → reason_holds g text v (Put n) reason ≡ true → reason_against g (bounds_of text) v (Put n) ≡ Some reason → Cause s j r (Put n) reason
     by CycleForbidden h e = λ lacks. stops_astray (not-true _ h) (bytes_there g text r n (not-false _ lacks))

@@ -146,11 +146,19 @@ shows_of Off = None
 shows_of Status = status_shown
 shows_of Data = data_shown
 
+-- what a program can read into the register of a LUN
+abbrev pub is_modelled : Register → Bool
+is_modelled Empty = true
+is_modelled (Page p) = true
+is_modelled ParameterPage = true
+is_modelled Identifier = true
+is_modelled _ = false
+
 abbrev pub held_of : Register → Option Held
-held_of Empty = None
 held_of (Page p) = Some (record { 0 = 1 })
 held_of ParameterPage = Some (record { 0 = 2 })
 held_of Identifier = Some (record { 0 = 4 })
+held_of _ = None
 
 pub record ColumnIs (k : OutputColumn) (c : ReadColumn) : Type 0 where
   pub at : ℕ
@@ -200,6 +208,7 @@ RowsMirror g now AnyRows qs = ⊥
 pub record LunMirror (g : Parts) (v : KnownLun) (now : ℕ) (view : LunView) : Type 0 where
   pub busy : v.busy ≡ view.busy
   pub register : v.register ≡ held_of view.register
+  pub known : is_modelled view.register ≡ true
   -- without a register the claim has no column, though the LUN may have one
   pub column : has_register v.register ≡ true → ColumnMirror v.column view.column
   pub no_column : has_register v.register ≡ false → v.column ≡ None

@@ -25,7 +25,7 @@ bself false = refl
 
 pub one_die : (g : Parts) → g.luns ≡ 1 → bus_fault g (new_die g ∷ []) ≡ None
 one_die g one =
-    rw (one, eqb_self g.page_bytes, eqb_self g.spare_bytes, eqb_self g.pages, eqb_self g.blocks, eqb_self g.plane_bits, bself g.enhanced, bself g.multi_plane, bself g.cache) refl
+    rw (one, eqb_self g.page_bytes, eqb_self g.spare_bytes, eqb_self g.pages, eqb_self g.blocks, eqb_self g.plane_bits, bself g.enhanced, bself g.multi_plane, bself g.cache, eqb_self g.optional.0) refl
 
 -- 2. its channel
 

@@ -92,7 +92,7 @@ limit_is s text v r c PageProgram n m carries changes = refl
 limit_is s text v r c BlockErase n m carries changes = refl
 limit_is s text v r c ChangeReadColumn n m carries changes =
     (λ i. cond (drives (m.shows i)) (least_length s.geometry (m.lun.register i)) 0)
-    ∙ (ap (λ (b : Bool). cond b (least_length s.geometry (held_of c.view.register)) 0) (shows_may_change c.view (changes refl)) ∙ length_is s.geometry c.view.register)
+    ∙ (ap (λ (b : Bool). cond b (least_length s.geometry (held_of c.view.register)) 0) (shows_may_change c.view (changes refl)) ∙ length_is s.geometry c.view.register m.lun.known)
 limit_is s text v r c _ n m carries changes = cc
 
 pub page_small : (g : Parts) → InLimits g → page_len g ≤ greatest_bound

@@ -9,7 +9,7 @@ use Rattle.onfi_cycle.specs.declared.latch.Latch.{Latch}
 use Rattle.onfi_cycle.specs.declared.latch.Latch.TheVariants.{Off, Status, Data}
 use Rattle.onfi_cycle.specs.declared.read_column.ReadColumn.{ReadColumn}
 use Rattle.onfi_cycle.specs.declared.register.Register.{Register}
-use Rattle.onfi_cycle.specs.declared.register.Register.TheVariants.{Empty, Page, ParameterPage, Identifier}
+use Rattle.onfi_cycle.specs.declared.register.Register.TheVariants.{Empty, Page, ParameterPage, Identifier, Identity, JedecIdentity, UniqueId, Features}
 use Rattle.onfi_cycle.specs.declared.tail_facts.TailFacts.{TailFacts}
 use Rattle.onfi_cycle.specs.declared.target_cycle.TargetCycle.TheVariants.{AddressCycle, OutputCycle}
 use Rattle.onfi_cycle.specs.LunView.{LunView}
@@ -40,7 +40,7 @@ use Rattle.micro_claims.proofs.Transfers.{read_on, read_one}
 use Rattle.micro_verify.specs.Lazy.{lone_job, Run}
 use Rattle.micro_verify.specs.Cause.{Cause, WordStops, is_of_cycle_forbidden, is_of_column_too_large}
 use Rattle.micro_verify.proofs.Lone.{Lone, IsAlone, IsLone, MovesPass, lone_after, lone_behind, judged, stops_there}
-use Rattle.micro_verify.proofs.Mirrors.{Mirrors, RegistersMirror, LunMirror, PlaceMirror, Shut, shows_of, held_of, ColumnMirror, ColumnIs, kept_plus, exact_test, open_same}
+use Rattle.micro_verify.proofs.Mirrors.{Mirrors, RegistersMirror, LunMirror, PlaceMirror, Shut, shows_of, held_of, is_modelled, ColumnMirror, ColumnIs, kept_plus, exact_test, open_same}
 use Rattle.micro_verify.proofs.Causes.{Goes, ExactWord, IsFit, reason_holds, reason_is, cost_cause, lowest_column_too_large}
 use Rattle.micro_verify.proofs.WordsExact.{goes_by, shut_tail, registers_moved}
 use Rattle.micro_verify.proofs.CommandsExact.{shut_facts}
@@ -172,7 +172,7 @@ shut_where Unknown a t is e = absurd is
 -- the claim has a column exactly where the next output has one, if there is a register
 no_byte : (g : Parts) (now : ℕ) (v : State) (view : LunView) → LunMirror g v.lun now view → (v.lun.busy || not (has_register v.lun.register) || not (has_column v.lun.column)) ≡ (view.busy || is_empty view.register || lacks (output_column view.column))
 no_byte g now v view m =
-    (λ i. m.busy i || not (has_register (m.register i)) || not (has_column v.lun.column)) ∙ at view.register m.register
+    (λ i. m.busy i || not (has_register (m.register i)) || not (has_column v.lun.column)) ∙ at view.register m.register m.known
   where
     columns : (k : Option OutputColumn) → ColumnMirror k view.column → not (has_column k) ≡ lacks (output_column view.column)
     columns None e = sym (ap lacks e)
@@ -181,25 +181,35 @@ no_byte g now v view m =
     with_register : (b : Bool) → has_register v.lun.register ≡ true → (b || false || not (has_column v.lun.column)) ≡ (b || false || lacks (output_column view.column))
     with_register b e = ap (λ (x : Bool). b || false || x) (columns v.lun.column (m.column e))
 
-    at : (r : Register) → v.lun.register ≡ held_of r → (view.busy || not (has_register (held_of r)) || not (has_column v.lun.column)) ≡ (view.busy || is_empty r || lacks (output_column view.column))
-    at Empty e = either view.busy _ _
+    at : (r : Register) → v.lun.register ≡ held_of r → is_modelled r ≡ true → (view.busy || not (has_register (held_of r)) || not (has_column v.lun.column)) ≡ (view.busy || is_empty r || lacks (output_column view.column))
+    at Empty e k = either view.busy _ _
       where
         either : (b x y : Bool) → (b || true || x) ≡ (b || true || y)
         either true x y = refl
         either false x y = refl
-    at (Page p) e = with_register view.busy (ap has_register e)
-    at ParameterPage e = with_register view.busy (ap has_register e)
-    at Identifier e = with_register view.busy (ap has_register e)
+    at (Page p) e k = with_register view.busy (ap has_register e)
+    at ParameterPage e k = with_register view.busy (ap has_register e)
+    at Identifier e k = with_register view.busy (ap has_register e)
+    at _ e k = cc
 
 refused_is : (g : Parts) (text : Microprogram) (v : State) (r : Run) (c : Lone) → Mirrors g (lone_job g text) v r.done c → output_refused v ≡ is_unseen c
 refused_is g text v r c m =
     λ i. open_same g (lone_job g text) v r.done c m i || not (drives (m.shows i)) || (may_show_data (m.shows i) && no_byte g (index_now 0 r.done) v c.view m.lun i)
 
-pub length_is : (g : Parts) (r : Register) → least_length g (held_of r) ≡ register_len g r
-length_is g Empty = refl
-length_is g (Page p) = refl
-length_is g ParameterPage = refl
-length_is g Identifier = refl
+pub length_is : (g : Parts) (r : Register) → is_modelled r ≡ true → least_length g (held_of r) ≡ register_len g r
+length_is g Empty h = refl
+length_is g (Page p) h = refl
+length_is g ParameterPage h = refl
+length_is g Identifier h = refl
+length_is g _ h = cc
+
+-- a register that isn't empty is one that the claim knows
+holds : (r : Register) → is_modelled r ≡ true → is_empty r ≡ false → has_register (held_of r) ≡ true
+holds Empty k h = cc
+holds (Page p) k h = refl
+holds ParameterPage k h = refl
+holds Identifier k h = refl
+holds _ k h = cc
 
 -- where an output is in place, what is shown
 data Seen (v : State) (c : Lone) : Type 0 where
@@ -220,14 +230,8 @@ seen g text v r c m h =
         let all : (c.view.busy || is_empty c.view.register || lacks (output_column c.view.column)) ≡ false = ap (λ (x : Latch). may_show_data (shows_of x) && (c.view.busy || is_empty c.view.register || lacks (output_column c.view.column))) (sym e) ∙ f in
         let two = or_parts (c.view.busy || is_empty c.view.register) (lacks (output_column c.view.column)) all in
         let one = or_parts c.view.busy (is_empty c.view.register) two.0 in
-        by v.lun.column refl (m.lun.column (ap has_register m.lun.register ∙ holds c.view.register one.1)) one.0 one.1 two.1
+        by v.lun.column refl (m.lun.column (ap has_register m.lun.register ∙ holds c.view.register m.lun.known one.1)) one.0 one.1 two.1
       where
-        holds : (r : Register) → is_empty r ≡ false → has_register (held_of r) ≡ true
-        holds Empty h = cc
-        holds (Page p) h = refl
-        holds ParameterPage h = refl
-        holds Identifier h = refl
-
         by : (k : Option OutputColumn) → v.lun.column ≡ k → ColumnMirror k c.view.column → c.view.busy ≡ false → is_empty c.view.register ≡ false → lacks (output_column c.view.column) ≡ false → Seen v c
         by None is h ready held l = let lost : lacks (output_column c.view.column) ≡ true = ap lacks h in let both : true ≡ false = sym lost ∙ l in cc
         by (Some k) is h ready held l = SeenData h.at k (record { closed = closed; latch = e; ready = ready; held = held; column = h.is }) is h h.bound
@@ -275,6 +279,10 @@ register_small s k Empty = omega arith
 register_small s k (Page p) = let x = k.is_channel.limits.page_bytes_most in let y = k.is_channel.limits.spare_bytes_most in omega (arith, x, y)
 register_small s k ParameterPage = omega arith
 register_small s k Identifier = omega arith
+register_small s k Identity = omega arith
+register_small s k JedecIdentity = omega arith
+register_small s k UniqueId = omega arith
+register_small s k (Features address) = omega arith
 
 -- 5. get
 
@@ -297,7 +305,7 @@ get_exact s text v r c n some k is m =
 
     past_test : (at : ℕ) (o : OutputColumn) → v.lun.column ≡ Some o → o.at.hi ≡ kept at → is_at_most (bound_plus (column_bound v.lun.column) n) (least_length g v.lun.register) ≡ nat_le (at + n) (register_len g c.view.register)
     past_test at o here bound =
-        (λ i. is_at_most (bound_plus (column_bound (here i)) n) (least_length g (m.lun.register i))) ∙ ((λ i. is_at_most (bound_plus (bound i) n) (length_is g c.view.register i)) ∙ exact_test at n (register_len g c.view.register) (register_small s k.alone c.view.register))
+        (λ i. is_at_most (bound_plus (column_bound (here i)) n) (least_length g (m.lun.register i))) ∙ ((λ i. is_at_most (bound_plus (bound i) n) (length_is g c.view.register m.lun.known i)) ∙ exact_test at n (register_len g c.view.register) (register_small s k.alone c.view.register))
 
     stops_past : Seen v c → output_past g v n ≡ true → WordStops s j r (Get n) is_of_column_too_large
     stops_past (SeenStatus x) h =
@@ -367,8 +375,9 @@ get_exact s text v r c n some k is m =
         (record {
           busy = m.lun.busy;
           register = m.lun.register;
+          known = m.lun.known;
           column = λ e. record { at = at + n; is = on_columns c.view.column n at x.column; bound = ap (λ (q : Option ℕ). bound_plus q n) bound ∙ kept_plus at n; read = some_read c.view.column.outputs };
-          no_column = λ e. let has : has_register v.lun.register ≡ true = ap has_register m.lun.register ∙ holds c.view.register x.held in let both : true ≡ false = sym has ∙ e in cc;
+          no_column = λ e. let has : has_register v.lun.register ≡ true = ap has_register m.lun.register ∙ holds c.view.register m.lun.known x.held in let both : true ≡ false = sym has ∙ e in cc;
           queue = m.lun.queue;
           last = m.lun.last;
           caching = m.lun.caching;
@@ -380,9 +389,3 @@ get_exact s text v r c n some k is m =
       where
         some_read : (k : ℕ) → true ≡ ltb 0 (k + n)
         some_read k = let more : 0 < k + n = omega (arith, some) in grind (arith, nat_tests, more)
-
-        holds : (r : Register) → is_empty r ≡ false → has_register (held_of r) ≡ true
-        holds Empty h = cc
-        holds (Page p) h = refl
-        holds ParameterPage h = refl
-        holds Identifier h = refl

@@ -129,6 +129,7 @@ refusals_have_causes g parameters text format fault whole straight h of_word =
     record {
       alone = alone;
       one = one;
+      base = straight.base;
       budget = let low = straight.budget in omega (arith, low);
       rows = few_rows g limits text.rows straight.rows;
       buffer = let low = straight.buffer in omega (arith, low);

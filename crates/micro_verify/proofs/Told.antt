@@ -4,8 +4,9 @@ use Rattle.std.proofs.Common.{◌≡◌, ℕ, ◌+◌, ◌≤◌, ◌==◌, Bool
 use Rattle.std.proofs.Math.Bool.{or-false}
 use Rattle.std.proofs.lemmas.Bool.{not-false}
 use Rattle.nand_geometry.specs.declared.parts.Parts.{Parts}
+use Rattle.nand_geometry.specs.Optional.{is_wide}
 use Rattle.onfi_cycle.specs.declared.command.Command.{Command}
-use Rattle.onfi_cycle.specs.declared.command.Command.TheVariants.{Read, ReadConfirm, ChangeReadColumn, ChangeReadColumnConfirm, BlockErase, BlockEraseConfirm, BlockErasePlane, ReadStatus, ReadStatusEnhanced, PageProgram, ChangeWriteColumn, ProgramConfirm, ProgramPlane, ReadId, ReadParameterPage, Reset, ReadCacheSequential, ReadCacheEnd, Unknown}
+use Rattle.onfi_cycle.specs.declared.command.Command.TheVariants.{Read, ReadConfirm, ChangeReadColumn, ChangeReadColumnConfirm, BlockErase, BlockEraseConfirm, BlockErasePlane, ReadStatus, ReadStatusEnhanced, PageProgram, ChangeWriteColumn, ProgramConfirm, ProgramPlane, ReadId, ReadParameterPage, Reset, ReadCacheSequential, ReadCacheEnd, ReadUniqueId, GetFeatures, SetFeatures, ResetLun, SynchronousReset, Unknown}
 use Rattle.onfi_cycle.specs.declared.data_phase.DataPhase.TheVariants.{FirstColumn, SecondColumn}
 use Rattle.onfi_cycle.specs.declared.forbidden.Forbidden.{Forbidden}
 use Rattle.onfi_cycle.specs.declared.latch.Latch.{Latch}
@@ -15,7 +16,7 @@ use Rattle.onfi_cycle.specs.declared.register.Register.TheVariants.{Empty, Page,
 use Rattle.onfi_cycle.specs.declared.tail_facts.TailFacts.{TailFacts}
 use Rattle.onfi_cycle.specs.declared.target_cycle.TargetCycle.TheVariants.{CommandCycle}
 use Rattle.onfi_cycle.specs.Command.{closes, address_cycles, is_opener}
-use Rattle.onfi_cycle.specs.Sequence.{is_open, wants_command, takes_inputs, opened}
+use Rattle.onfi_cycle.specs.Sequence.{is_open, wants_command, takes_data, opened}
 use Rattle.onfi_cycle.specs.Lun.{is_cache_read, is_page_read}
 use Rattle.onfi_cycle.specs.LunView.{LunView}
 use Rattle.onfi_cycle.specs.Effect.{is_data}
@@ -30,7 +31,7 @@ use Rattle.micro_claims.specs.Against.{place_wants, is_data_command, may_be_open
 use Rattle.micro_verify.specs.Cause.{is_of_cycle_forbidden}
 use Rattle.micro_claims.proofs.Fits.{Address}
 use Rattle.micro_verify.proofs.Lone.{Lone, judged}
-use Rattle.micro_verify.proofs.Mirrors.{Mirrors, PlaceMirror, begun, open_same, queue_same, shows_of, held_of, is_read_column, exact_test}
+use Rattle.micro_verify.proofs.Mirrors.{Mirrors, PlaceMirror, begun, open_same, queue_same, shows_of, held_of, is_modelled, is_read_column, exact_test}
 
 -- a test tells whether a rule of V7 is broken
 abbrev pub Told : Bool → Option Forbidden → Type 0
@@ -79,12 +80,12 @@ told_status g c one = at (is_open c.facts) refl
     at true e = rw e refl
     at false e = rw (e, one) tt
 
-told_reset : (g : Parts) (c : Lone) → ltb 1 g.luns ≡ false → Told (is_open c.facts || false) (judged g c (CommandCycle Reset))
+told_reset : (g : Parts) (c : Lone) → ltb 1 g.luns ≡ false → is_wide g.optional ≡ false → Told (is_open c.facts || false) (judged g c (CommandCycle Reset))
 unfolding breaks_command_unknown breaks_sequence_open breaks_several_luns breaks_no_column_to_change breaks_command_misplaced breaks_address_misplaced breaks_row_outside breaks_lun_busy breaks_queue_clash breaks_input_misplaced breaks_no_sole_driver breaks_data_not_ready breaks_column_outside breaks_cache_read_misplaced
-told_reset g c one = at (is_open c.facts) refl
+told_reset g c one base = at (is_open c.facts) refl
   where
     at : (o : Bool) → is_open c.facts ≡ o → Told (is_open c.facts || false) (judged g c (CommandCycle Reset))
-    at true e = rw e refl
+    at true e = rw (e, base) refl
     at false e = rw (e, one) tt
 
 told_enhanced : (g : Parts) (c : Lone) → g.enhanced ≡ true → Told (is_open c.facts || false) (judged g c (CommandCycle ReadStatusEnhanced))
@@ -96,19 +97,20 @@ told_enhanced g c enhanced = at (is_open c.facts) refl
     at false e = rw (e, enhanced) tt
 
 -- 05h
-told_change : (g : Parts) (c : Lone) → Told (is_open c.facts || (not (shows_only_data (shows_of c.view.latch)) || c.view.busy || not (has_page_or_parameters (held_of c.view.register)))) (judged g c (CommandCycle ChangeReadColumn))
+told_change : (g : Parts) (c : Lone) → is_modelled c.view.register ≡ true → Told (is_open c.facts || (not (shows_only_data (shows_of c.view.latch)) || c.view.busy || not (has_page_or_parameters (held_of c.view.register)))) (judged g c (CommandCycle ChangeReadColumn))
 unfolding breaks_command_unknown breaks_sequence_open breaks_several_luns breaks_no_column_to_change breaks_command_misplaced breaks_address_misplaced breaks_row_outside breaks_lun_busy breaks_queue_clash breaks_input_misplaced breaks_no_sole_driver breaks_data_not_ready breaks_column_outside breaks_cache_read_misplaced
-told_change g c = at (is_open c.facts) refl c.view.latch refl c.view.busy refl c.view.register refl
+told_change g c known = at (is_open c.facts) refl c.view.latch refl c.view.busy refl c.view.register refl known
   where
-    at : (o : Bool) → is_open c.facts ≡ o → (x : Latch) → c.view.latch ≡ x → (b : Bool) → c.view.busy ≡ b → (r : Register) → c.view.register ≡ r → Told (is_open c.facts || (not (shows_only_data (shows_of c.view.latch)) || c.view.busy || not (has_page_or_parameters (held_of c.view.register)))) (judged g c (CommandCycle ChangeReadColumn))
-    at true e x k b f r h = rw e refl
-    at false e Off k b f r h = rw (e, k) refl
-    at false e Status k b f r h = rw (e, k) refl
-    at false e Data k true f r h = rw (e, k, f) refl
-    at false e Data k false f Empty h = rw (e, k, f, h) refl
-    at false e Data k false f (Page p) h = rw (e, k, f, h) tt
-    at false e Data k false f ParameterPage h = rw (e, k, f, h) tt
-    at false e Data k false f Identifier h = rw (e, k, f, h) refl
+    at : (o : Bool) → is_open c.facts ≡ o → (x : Latch) → c.view.latch ≡ x → (b : Bool) → c.view.busy ≡ b → (r : Register) → c.view.register ≡ r → is_modelled c.view.register ≡ true → Told (is_open c.facts || (not (shows_only_data (shows_of c.view.latch)) || c.view.busy || not (has_page_or_parameters (held_of c.view.register)))) (judged g c (CommandCycle ChangeReadColumn))
+    at true e x k b f r h m = rw e refl
+    at false e Off k b f r h m = rw (e, k) refl
+    at false e Status k b f r h m = rw (e, k) refl
+    at false e Data k true f r h m = rw (e, k, f) refl
+    at false e Data k false f Empty h m = rw (e, k, f, h) refl
+    at false e Data k false f (Page p) h m = rw (e, k, f, h) tt
+    at false e Data k false f ParameterPage h m = rw (e, k, f, h) tt
+    at false e Data k false f Identifier h m = rw (e, k, f, h) refl
+    at false e Data k false f _ h m = let known = ap is_modelled (sym h) ∙ m in cc
 
 -- 90h and ECh
 told_identity : (g : Parts) (c : Lone) → ltb 1 g.luns ≡ false → Told (is_open c.facts || (c.view.busy || has_some c.view.queue || is_cache_read c.view.closer)) (judged g c (CommandCycle ReadId))
@@ -152,7 +154,7 @@ closes_none _ d h = refl
 
 -- the closers, by what they go on with
 abbrev pub WantsBy : TailFacts → Command → Type 0
-WantsBy t d = (is_data_command d ≡ true → wants_command t d ≡ takes_inputs t.phase) × (is_data_command d ≡ false → wants_command t d ≡ opened (λ c n. closes c d && n == address_cycles c) t.opening)
+WantsBy t d = (is_data_command d ≡ true → wants_command t d ≡ takes_data t.phase) × (is_data_command d ≡ false → wants_command t d ≡ opened (λ c n. closes c d && n == address_cycles c) t.opening)
 
 pub wants_by : (t : TailFacts) (d : Command) → WantsBy t d
 wants_by t ChangeWriteColumn = (λ e. refl, λ e. cc)
@@ -165,21 +167,21 @@ wants_same Closed a t d is = sym (is.command d)
 wants_same (After o n) a t d is = at (is_data_command d) refl
   where
     at : (b : Bool) → is_data_command d ≡ b → (closes o d && n == address_cycles o) ≡ wants_command t d
-    at true e = rw (closes_none o d e) (sym ((wants_by t d).0 e ∙ ap takes_inputs (begun o n a t is).phase))
+    at true e = rw (closes_none o d e) (sym ((wants_by t d).0 e ∙ ap takes_data (begun o n a t is).phase))
     at false e = sym ((wants_by t d).1 e ∙ ap (opened (λ c n. closes c d && n == address_cycles c)) (begun o n a t is).opening)
 wants_same InData a t d is = at (is_data_command d) refl
   where
     at : (b : Bool) → is_data_command d ≡ b → is_data_command d ≡ wants_command t d
-    at true e = e ∙ sym ((wants_by t d).0 e ∙ ap takes_inputs is.program.phase)
+    at true e = e ∙ sym ((wants_by t d).0 e ∙ ap takes_data is.program.phase)
     at false e = e ∙ sym (is.command d e)
 wants_same (InColumn n) a t d is = at (is_data_command d) refl
   where
-    no_inputs : (b : Bool) → takes_inputs (cond b FirstColumn SecondColumn) ≡ false
+    no_inputs : (b : Bool) → takes_data (cond b FirstColumn SecondColumn) ≡ false
     no_inputs true = refl
     no_inputs false = refl
 
     at : (b : Bool) → is_data_command d ≡ b → false ≡ wants_command t d
-    at true e = sym ((wants_by t d).0 e ∙ (ap takes_inputs is.program.phase ∙ no_inputs (n == 0)))
+    at true e = sym ((wants_by t d).0 e ∙ (ap takes_data is.program.phase ∙ no_inputs (n == 0)))
     at false e = sym ((wants_by t d).1 e ∙ ap (opened (λ c n. closes c d && n == address_cycles c)) is.alone)
 wants_same UnknownPlace a t d is = absurd is
 
@@ -317,8 +319,8 @@ wants_change (After Read n) h = cc
 wants_change (After BlockErase n) h = cc
 wants_change (After _ n) h = cc
 
-pub told_command : (g : Parts) (j : Job) (v : State) (done : List Done) (c : Lone) (d : Command) → ltb 1 g.luns ≡ false → g.pages ≤ greatest_bound → Mirrors g j v done c → is_unfit g d ≡ false → Told (command_out_of_place g v d) (judged g c (CommandCycle d))
-told_command g j v done c d one low m h = by d h
+pub told_command : (g : Parts) (j : Job) (v : State) (done : List Done) (c : Lone) (d : Command) → ltb 1 g.luns ≡ false → is_wide g.optional ≡ false → g.pages ≤ greatest_bound → Mirrors g j v done c → is_unfit g d ≡ false → Told (command_out_of_place g v d) (judged g c (CommandCycle d))
+told_command g j v done c d one base low m h = by d h
   where
     shut : may_be_open v ≡ is_open c.facts
     shut = open_same g j v done c m
@@ -340,8 +342,8 @@ told_command g j v done c d one low m h = by d h
     by BlockErase h = told_by _ _ _ (λ i. shut i || m.lun.busy i) (told_erase g c)
     by PageProgram h = told_by _ _ _ (λ i. shut i || m.lun.busy i) (told_program g c)
     by ReadStatus h = told_by _ _ _ (λ i. shut i || false) (told_status g c one)
-    by Reset h = told_by _ _ _ (λ i. shut i || false) (told_reset g c one)
-    by ChangeReadColumn h = told_by _ _ _ (λ i. shut i || (not (shows_only_data (m.shows i)) || m.lun.busy i || not (has_page_or_parameters (m.lun.register i)))) (told_change g c)
+    by Reset h = told_by _ _ _ (λ i. shut i || false) (told_reset g c one base)
+    by ChangeReadColumn h = told_by _ _ _ (λ i. shut i || (not (shows_only_data (m.shows i)) || m.lun.busy i || not (has_page_or_parameters (m.lun.register i)))) (told_change g c m.lun.known)
     by ReadId h = told_by _ _ _ (λ i. shut i || (not (one i) && (m.lun.busy i || queue_same g _ v.lun.queue c.view.queue m.lun.queue i || m.lun.caching i))) (told_identity g c one)
     by ReadParameterPage h = told_by _ _ _ (λ i. shut i || (not (one i) && (m.lun.busy i || queue_same g _ v.lun.queue c.view.queue m.lun.queue i || m.lun.caching i))) (told_parameters g c one)
     by ReadConfirm h = told_by _ _ _ (or-false _ ∙ wanted ReadConfirm) (told_30 g c)
@@ -362,4 +364,9 @@ told_command g j v done c d one low m h = by d h
         (fitting ReadCacheEnd h ∙ (ap (λ (b : Bool). may_be_open v || b) (or_where (not (drives v.target.shows) || v.lun.busy || may_be_other v.lun.last) _ _ (λ e. m.lun.read (or_second _ _ e)))
         ∙ (λ i. shut i || (not (drives (m.shows i)) || m.lun.busy i || m.lun.other i || not (is_cache_read c.view.closer)))))
         (told_3f g c h)
+    by ReadUniqueId h = cc
+    by GetFeatures h = cc
+    by SetFeatures h = cc
+    by ResetLun h = cc
+    by SynchronousReset h = cc
     by Unknown h = cc

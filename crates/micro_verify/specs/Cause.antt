@@ -2,6 +2,7 @@
 use Rattle.std.specs.Prelude.{◌≡◌, ℕ, ◌+◌, ◌*◌, ◌/◌, ◌<◌, ◌≤◌, ◌==◌, Bool, true, false, ◌&&◌, ◌||◌, not, nat_lt, nat_le, if◌then◌else◌, List, [], ◌∷◌, ◌++◌, Option, Some, None, take, slice_get, length}
 use Rattle.nand_geometry.specs.declared.parts.Parts.{Parts}
 use Rattle.nand_geometry.specs.Limits.{InLimits, planes, indices}
+use Rattle.nand_geometry.specs.Optional.{is_wide}
 use Rattle.onfi_cycle.specs.declared.command.Command.{Command}
 use Rattle.onfi_cycle.specs.declared.command.Command.TheVariants.{ReadCacheSequential}
 use Rattle.onfi_cycle.specs.declared.data_phase.DataPhase.{DataPhase}
@@ -13,6 +14,7 @@ use Rattle.onfi_cycle.specs.declared.opening.Opening.{Opening}
 use Rattle.onfi_cycle.specs.declared.page_address.PageAddress.{PageAddress}
 use Rattle.onfi_cycle.specs.declared.tail_facts.TailFacts.{TailFacts}
 use Rattle.onfi_cycle.specs.declared.target_cycle.TargetCycle.TheVariants.{CommandCycle}
+use Rattle.onfi_cycle.specs.Base.{is_of_base}
 use Rattle.onfi_cycle.specs.Command.{command, address_cycles, reads_identity}
 use Rattle.onfi_cycle.specs.Sequence.{tail, facts_of, is_open, opened, wants_second_column}
 use Rattle.onfi_cycle.specs.Lun.{is_busy, is_caching, queue, array_page}
@@ -134,7 +136,8 @@ abbrev pub costs_too_much : Parts → ℕ → Run → Word → Bool
 costs_too_much g budget r word = nat_lt 0 (cost g word) && not (nat_le (cost_now g r.done + cost g word) budget)
 
 abbrev pub is_not_for_programs : Parts → Word → Bool
-is_not_for_programs g (CommandWord byte) = asks_status (command byte) || breaks_command_unknown g (CommandCycle (command byte)) || breaks_several_luns g (CommandCycle (command byte))
+is_not_for_programs g (CommandWord byte) =
+    asks_status (command byte) || not (is_of_base (command byte)) || breaks_command_unknown g (CommandCycle (command byte)) || breaks_several_luns g (CommandCycle (command byte))
 is_not_for_programs g _ = false
 
 -- left out of V7: the bytes of the word may not be there. 90h and ECh take one byte of the column, so a row byte before all others is no
@@ -185,10 +188,11 @@ abbrev pub AllInRange : Format → ℕ → List Word → Type 0
 AllInRange format words [] = Unit {0}
 AllInRange format words (word ∷ rest) = IsInRange format words word × AllInRange format words rest
 
--- a straight text in range, for a geometry with one LUN
+-- a straight text in range, for a geometry with one LUN in the base profile, whose commands are those that programs use
 pub record IsStraight (g : Parts) (text : Microprogram) (format : Format) : Type 0 where
   pub limits : InLimits g
   pub one : g.luns ≡ 1
+  pub base : is_wide g.optional ≡ false
   pub rows : text.rows ≤ indices g
   pub leads_on : all_lead_on text.words ≡ true
   pub in_range : AllInRange format (length text.words) text.words

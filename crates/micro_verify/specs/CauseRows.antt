@@ -6,6 +6,7 @@ use Rattle.onfi_cycle.specs.declared.forbidden.Forbidden.TheVariants.{LunBusy, D
 use Rattle.onfi_cycle.specs.declared.item.Item.{Item}
 use Rattle.onfi_cycle.specs.declared.item.Item.TheVariants.{Rdy}
 use Rattle.nand_geometry.specs.declared.parts.Parts.{Parts}
+use Rattle.nand_geometry.specs.Optional.{no_optional}
 use Rattle.onfi_cycle.specs.Channel.{Channel, cycle}
 use Rattle.onfi_cycle.specs.Permitted.{broken}
 use Rattle.micro_word.specs.declared.word.Word.{Word}
@@ -47,7 +48,7 @@ rule_at text at i = and_then (lazy alone text at) (λ r. broken one_lun 1 r.past
 
 -- one LUN with two planes
 abbrev pub two_planes : Parts
-two_planes = record { page_bytes = 512; spare_bytes = 16; pages = 4; blocks = 8; luns = 1; plane_bits = 1; enhanced = false; multi_plane = true; cache = false }
+two_planes = record { page_bytes = 512; spare_bytes = 16; pages = 4; blocks = 8; luns = 1; plane_bits = 1; enhanced = false; multi_plane = true; cache = false; optional = no_optional }
 
 -- an erase is queued, and another one of its plane named
 abbrev pub queued : Microprogram

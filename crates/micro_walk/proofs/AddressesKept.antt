@@ -15,14 +15,12 @@ use Rattle.micro_claims.specs.declared.registers.Registers.{Registers}
 use Rattle.micro_claims.specs.declared.page_range.PageRange.{PageRange}
 use Rattle.micro_claims.specs.declared.place.Place.{Place}
 use Rattle.micro_claims.specs.declared.place.Place.TheVariants.{Closed, After, InData, InColumn, Unknown}
-use Rattle.micro_claims.specs.Against.{takes_identity_at}
 use Rattle.micro_claims.specs.Leaves.{with_target, data_shown, page_plus, address_leads_to, greatest_page_of, name_now, target_after_addresses, identity_read, address_leaves_at, address_leaves}
 use Rattle.micro_claims.specs.Order.{top, SpanAt, SpanIs, RegistersAt, HasColumn, NameIs, NamedIs, IsFineName, IsFineNamed, TargetAt, At, column_number, PlaceIs, Exactly}
 use Rattle.micro_walk.proofs.SpanLaws as numbers
 use Rattle.micro_walk.proofs.SpanLaws.{le_of}
 use Rattle.micro_claims.proofs.NamesNow.{same_block, page_in_block}
 use Rattle.micro_claims.proofs.Indices.{mod_both, mod_small}
-use Rattle.micro_claims.proofs.SoundAddress.{leaves_target}
 use Rattle.micro_walk.proofs.LeavesKept.{RangeIs, one_place, data_is, first_output}
 
 -- 1. pages
@@ -200,10 +198,28 @@ addressed g l v s a from count d same = record {
     fine true = name_fine g v.registers s.registers a.registers d.registers
     fine false = d.target.fine
 
-plain : (g : Parts) → InLimits g → (v s a : State) (from count : ℕ) → At g v s a → s.target.tail ≡ a.target.tail → takes_identity_at s.target.tail ≡ false → takes_identity_at a.target.tail ≡ false → At g v (address_leaves g s from count) (address_leaves g a from count)
+-- 90h and ECh show what they read behind their one address
+abbrev pub is_asked : Place → Bool
+is_asked (After ReadId n) = true
+is_asked (After ReadParameterPage n) = true
+is_asked _ = false
+
+left_plain : (g : Parts) (v : State) (from count : ℕ) (p : Place) → is_asked p ≡ false → address_leaves_at g v from count p ≡ with_target v (target_after_addresses g v from count)
+left_plain g v from count Closed h = refl
+left_plain g v from count InData h = refl
+left_plain g v from count (InColumn n) h = refl
+left_plain g v from count Unknown h = refl
+left_plain g v from count (After o n) h = by o h
+  where
+    by : (o : Command) → is_asked (After o n) ≡ false → address_leaves_at g v from count (After o n) ≡ with_target v (target_after_addresses g v from count)
+    by ReadId h = cc
+    by ReadParameterPage h = cc
+    by _ h = refl
+
+plain : (g : Parts) → InLimits g → (v s a : State) (from count : ℕ) → At g v s a → s.target.tail ≡ a.target.tail → is_asked s.target.tail ≡ false → is_asked a.target.tail ≡ false → At g v (address_leaves g s from count) (address_leaves g a from count)
 plain g l v s a from count d same h k =
-    subst (λ (x : State). At g v x (address_leaves g a from count)) (sym (leaves_target g s from count s.target.tail h))
-    (subst (λ (x : State). At g v (with_target s (target_after_addresses g s from count)) x) (sym (leaves_target g a from count a.target.tail k))
+    subst (λ (x : State). At g v x (address_leaves g a from count)) (sym (left_plain g s from count s.target.tail h))
+    (subst (λ (x : State). At g v (with_target s (target_after_addresses g s from count)) x) (sym (left_plain g a from count a.target.tail k))
     (record { registers = d.registers; target = addressed g l v s a from count d same; lun = d.lun }))
 
 identifier_at : (g : Parts) (v s a : State) → At g v s a → At g v (identity_read s ReadId) (identity_read a ReadId)
@@ -228,7 +244,7 @@ parameters_at g v s a d =
 
 -- what may take an identity takes it at its one place
 pub data Takes : Place → Type 0 where
-  no_identity : {p : Place} → takes_identity_at p ≡ false → Takes p
+  no_identity : {p : Place} → is_asked p ≡ false → Takes p
   identifier : (n : ℕ) → Takes (After ReadId n)
   parameters : (n : ℕ) → Takes (After ReadParameterPage n)
 
@@ -245,7 +261,7 @@ takes (After opener n) = at opener
     at _ = no_identity refl
 
 alone : (g : Parts) → InLimits g → (v s a : State) (from count : ℕ) (p : Place) → At g v s a → s.target.tail ≡ p → a.target.tail ≡ p → Takes p → At g v (address_leaves g s from count) (address_leaves g a from count)
-alone g l v s a from count p d e f (no_identity h) = plain g l v s a from count d (e ∙ sym f) (ap takes_identity_at e ∙ h) (ap takes_identity_at f ∙ h)
+alone g l v s a from count p d e f (no_identity h) = plain g l v s a from count d (e ∙ sym f) (ap is_asked e ∙ h) (ap is_asked f ∙ h)
 alone g l v s a from count _ d e f (identifier n) =
     subst (λ (x : State). At g v x (address_leaves g a from count)) (sym (ap (address_leaves_at g s from count) e))
     (subst (λ (x : State). At g v (identity_read s ReadId) x) (sym (ap (address_leaves_at g a from count) f)) (identifier_at g v s a d))

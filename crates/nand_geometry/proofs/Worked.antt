@@ -3,13 +3,14 @@ use Rattle.std.proofs.Common.{◌≡◌, true, false, List, ℕ, [], ◌∷◌, 
 use Rattle.nand_geometry.specs.declared.parts.Parts.{Parts}
 use Rattle.nand_geometry.specs.declared.page_fault.PageFault.TheVariants.{TooShort, NoSignature, WrongChecksum, LunsOutOfRange, PlanesOutOfRange, LunCommandsMissing}
 use Rattle.nand_geometry.specs.Limits.{width, page_len, planes, indices, fault_of}
+use Rattle.nand_geometry.specs.Optional.{no_optional}
 use Rattle.nand_geometry.specs.Page.{crc_bits, page}
 use Rattle.nand_geometry.specs.Reading.{is_signed, is_sound, declared_by, copy_fault, page_fault, read_of}
 use Rattle.nand_geometry.specs.Row.{row_bytes_of, row_parts_of, row_of}
 
 -- one LUN of 8 blocks of 4 pages of 512 + 16 bytes, in one plane
 abbrev one_lun : Parts
-one_lun = record { page_bytes = 512; spare_bytes = 16; pages = 4; blocks = 8; luns = 1; plane_bits = 0; enhanced = false; multi_plane = false; cache = false }
+one_lun = record { page_bytes = 512; spare_bytes = 16; pages = 4; blocks = 8; luns = 1; plane_bits = 0; enhanced = false; multi_plane = false; cache = false; optional = no_optional }
 
 -- two such LUNs, each in two planes
 abbrev two_luns : Parts

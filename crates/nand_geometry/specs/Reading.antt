@@ -5,6 +5,10 @@ use Rattle.nand_geometry.specs.declared.parts.Parts.{Parts}
 use Rattle.nand_geometry.specs.declared.page_fault.PageFault.{PageFault}
 use Rattle.nand_geometry.specs.declared.page_fault.PageFault.TheVariants.{TooShort, NoSignature, WrongChecksum, WideBus, AddressCycles, SizeOutOfRange, LunsOutOfRange, PlanesOutOfRange, LunCommandsMissing}
 use Rattle.nand_geometry.specs.Limits.{is_within, has_size_fault, has_lun_fault, has_plane_fault, has_status_fault, InLimits}
+use Rattle.nand_geometry.specs.declared.optional.Optional.{Optional}
+use Rattle.nand_geometry.specs.declared.optional.Profile.{Profile}
+use Rattle.nand_geometry.specs.declared.optional.Profile.TheVariants.{Base, Onfi}
+use Rattle.nand_geometry.specs.Optional.{no_optional, wide_with, as_read}
 use Rattle.nand_geometry.specs.Page.{crc, page, parameter_bytes}
 
 -- so many copies of 256 bytes each, from the beginning
@@ -43,7 +47,15 @@ is_good copy = is_signed copy && is_sound copy
 abbrev pub used : List ℕ → List ℕ
 used bytes = unwrap_or (find is_good (whole_copies bytes)) []
 
--- the numbers that a copy declares
+-- an interface of double data rate is declared
+abbrev pub has_double_rate : List ℕ → Bool
+has_double_rate copy = has_bit (slice_index copy 6) 5 || (has_bit (slice_index copy 7) 2 || has_bit (slice_index copy 7) 5)
+
+-- what a copy declares beyond the base profile
+unfoldable pub optional_by : List ℕ → Optional
+optional_by copy = wide_with (has_bit (slice_index copy 8) 2) (has_bit (slice_index copy 8) 5) (has_bit (slice_index copy 9) 1) (has_double_rate copy)
+
+-- the numbers that a copy declares, in the base profile
 unfoldable pub declared_by : List ℕ → Parts
 declared_by copy =
     record {
@@ -56,7 +68,13 @@ declared_by copy =
       enhanced = has_bit (slice_index copy 8) 3;
       multi_plane = has_bit (slice_index copy 6) 3;
       cache = has_bit (slice_index copy 8) 1;
+      optional = no_optional;
     }
+
+-- and in a profile
+abbrev pub declared_as : Profile → List ℕ → Parts
+declared_as Base copy = declared_by copy
+declared_as Onfi copy = record (declared_by copy) { optional = optional_by copy }
 
 -- a bus of 16 bits is declared
 abbrev pub has_wide_bus : List ℕ → Bool
@@ -98,9 +116,13 @@ abbrev pub or_fault : Parts → Option PageFault → Result Parts PageFault
 or_fault parts None = Ok parts
 or_fault parts (Some fault) = Err fault
 
--- what a parameter page is read as: the numbers of the copy that is used, or else the first fault
+-- what a parameter page is read as for a profile: the numbers of the copy that is used, or else the first fault
+abbrev pub read_as : Profile → List ℕ → Result Parts PageFault
+read_as profile bytes = or_fault (declared_as profile (used bytes)) (page_fault bytes)
+
+-- and for the base profile
 abbrev pub read_of : List ℕ → Result Parts PageFault
-read_of bytes = or_fault (declared_by (used bytes)) (page_fault bytes)
+read_of bytes = read_as Base bytes
 
 -- a place of a copy that has a field which is read, but for signature and checksum
 abbrev pub is_field : ℕ → Bool
@@ -109,20 +131,21 @@ is_field place = is_within 6 9 place || is_within 80 85 place || is_within 92 10
 -- the law: copies with the same bytes in those places declare the same numbers and have the same fault
 abbrev pub FieldsDecide : Type 0
 FieldsDecide =
-    (copy other : List ℕ) → ((place : ℕ) → is_field place ≡ true → slice_index copy place ≡ slice_index other place)
-    → (declared_by copy ≡ declared_by other) × (copy_fault copy ≡ copy_fault other)
+    (profile : Profile) (copy other : List ℕ) → ((place : ℕ) → is_field place ≡ true → slice_index copy place ≡ slice_index other place)
+    → (declared_as profile copy ≡ declared_as profile other) × (copy_fault copy ≡ copy_fault other)
 
 -- a whole copy that can't be used
 pub record IsDamaged (copy : List ℕ) : Type 0 where
   pub whole : length copy ≡ 256
   pub not_good : is_good copy ≡ false
 
--- the law: the page of a geometry is read as that geometry, whatever comes behind it and whatever damaged copies stand before it
+-- the law: the page of a geometry is read as that geometry, with what the profile keeps of its set, whatever comes behind it and whatever
+-- damaged copies stand before it
 abbrev pub PagesReadBack : Type 0
 PagesReadBack =
-    (g : Parts) (damaged : List (List ℕ)) (behind : List ℕ) → InLimits g → All IsDamaged damaged
-    → read_of (concat damaged ++ (page g ++ behind)) ≡ Ok g
+    (profile : Profile) (g : Parts) (damaged : List (List ℕ)) (behind : List ℕ) → InLimits g → All IsDamaged damaged
+    → read_as profile (concat damaged ++ (page g ++ behind)) ≡ Ok (as_read profile g)
 
 -- the law: so are the three copies in the register of the parameter page
 abbrev pub ParametersReadBack : Type 0
-ParametersReadBack = (g : Parts) → InLimits g → read_of (parameter_bytes g) ≡ Ok g
+ParametersReadBack = (profile : Profile) (g : Parts) → InLimits g → read_as profile (parameter_bytes g) ≡ Ok (as_read profile g)

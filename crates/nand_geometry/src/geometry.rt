@@ -5,11 +5,11 @@ use crate::checksum::checksum;
 use crate::field::{three_fields, width};
 use crate::parts::{MAX_LUNS, MAX_PLANE_BITS, MAX_ROW_BITS};
 use crate::reading::{
-    CHECKSUM_PLACE, COPY_LEN, declared_by, has_address_cycles, has_lun_operations, has_wide_bus,
+    CHECKSUM_PLACE, COPY_LEN, declared_as, has_address_cycles, has_lun_operations, has_wide_bus,
     is_signed, is_sound,
 };
 use crate::writing::{features_block, organization_block};
-use crate::{PageFault, Parts, RowParts};
+use crate::{PageFault, Parts, Profile, RowParts};
 use byteorder::{ByteOrder, LittleEndian};
 use std::marker::Model;
 
@@ -41,7 +41,7 @@ impl Model for Geometry {
 impl Geometry {
     ghost use Rattle.nand_geometry.specs.Limits.{InLimits, fault_of, page_len, planes, indices};
     ghost use Rattle.nand_geometry.specs.Page.{page};
-    ghost use Rattle.nand_geometry.specs.Reading.{declared_by, copy_fault, read_of};
+    ghost use Rattle.nand_geometry.specs.Reading.{declared_as, copy_fault, read_of, read_as};
     ghost use Rattle.nand_geometry.specs.Row.{row_number, row_of, row_bytes_of, parts_of, is_inside, row_parts_of};
 
     /// The geometry of these numbers.
@@ -76,20 +76,28 @@ impl Geometry {
         })
     }
 
-    /// The geometry that a chip's parameter page declares.
+    /// The geometry that a chip's parameter page declares, in the base profile: its `optional` is empty, whatever the page declares. `read_as` reads
+    /// a page for the wider profile.
+    pub fn read(bytes: &[u8]) -> Result<Geometry, PageFault>
+        ensures { MatchResult result (λ g. read_of bytes.now ≡ Ok g) (λ e. read_of bytes.now ≡ Err e) }
+    {
+        Geometry::read_as(Profile::Base, bytes)
+    }
+
+    /// The geometry that a chip's parameter page declares, in a profile.
     ///
     /// The page is the first whole copy of 256 bytes that begins with `ONFI` and ends with its checksum; a rest shorter
     /// than a copy is left alone. Of that copy these ONFI fields are read: the signature (bytes 0 to 3), features (6, 7)
     /// and optional commands (8, 9), whose bit places are our own choice, data bytes and spare bytes of a page (80 to 85),
     /// pages of a block and blocks of a LUN (92 to 99), LUNs (100), address cycles (101), the plane bits in 113, and the
-    /// checksum (254, 255). Nothing else is looked at, so a page of any revision is taken, also one that `page` wrote: its
+    /// checksum (254, 255). Of the same fields the wider profile reads what [`Optional`](crate::Optional) names. Nothing else is looked at, so a page of any revision is taken, also one that `page` wrote: its
     /// revision (4, 5) is zero, so Linux, which asks for one that it knows, wouldn't take it from a real chip.
     ///
     /// Errors, the first that stands, in this order: `P1` less than one copy of 256 bytes; `P2` the signature is in no
     /// whole copy; `P3` it is, but never with the right checksum; `P4` the bus has 16 bits; `P5` addresses aren't of two
     /// and three cycles; then those of `of`, where `P9` also stands for several LUNs without multiple LUN operations.
-    pub fn read(bytes: &[u8]) -> Result<Geometry, PageFault>
-        ensures { MatchResult result (λ g. read_of bytes.now ≡ Ok g) (λ e. read_of bytes.now ≡ Err e) }
+    pub fn read_as(profile: Profile, bytes: &[u8]) -> Result<Geometry, PageFault>
+        ensures { MatchResult result (λ g. read_as profile bytes.now ≡ Ok g) (λ e. read_as profile bytes.now ≡ Err e) }
     {
         if bytes.len() < COPY_LEN {
             return Err(PageFault::TooShort);
@@ -98,7 +106,7 @@ impl Geometry {
         for copy in bytes.chunks_exact(COPY_LEN) {
             if is_signed(copy) {
                 if is_sound(copy) {
-                    return Geometry::of_copy(copy);
+                    return Geometry::of_copy(profile, copy);
                 }
                 signed = true;
             }
@@ -110,11 +118,11 @@ impl Geometry {
         })
     }
 
-    /// The geometry that a copy of the parameter page declares, whose signature and checksum are right.
+    /// The geometry that a copy of the parameter page declares in a profile, whose signature and checksum are right.
     #[tactic(auto, using(crate::proofs::ReadingLemmas::wide_fault, crate::proofs::ReadingLemmas::cycles_fault, crate::proofs::ReadingLemmas::several_fault, crate::proofs::ReadingLemmas::no_copy_fault))]
-    fn of_copy(copy: &[u8]) -> Result<Geometry, PageFault>
+    fn of_copy(profile: Profile, copy: &[u8]) -> Result<Geometry, PageFault>
         requires { length copy.now ≡ COPY_LEN }
-        ensures { MatchResult result (λ g. (copy_fault copy.now ≡ None) × (g ≡ declared_by copy.now)) (λ e. copy_fault copy.now ≡ Some e) }
+        ensures { MatchResult result (λ g. (copy_fault copy.now ≡ None) × (g ≡ declared_as profile copy.now)) (λ e. copy_fault copy.now ≡ Some e) }
     {
         if has_wide_bus(copy) {
             return Err(PageFault::WideBus);
@@ -122,7 +130,7 @@ impl Geometry {
         if !has_address_cycles(copy) {
             return Err(PageFault::AddressCycles);
         }
-        match Geometry::of(declared_by(copy)) {
+        match Geometry::of(declared_as(profile, copy)) {
             Ok(geometry) if geometry.parts().luns > 1 && !has_lun_operations(copy) => {
                 Err(PageFault::LunCommandsMissing)
             }
@@ -131,7 +139,7 @@ impl Geometry {
         }
     }
 
-    /// The parameter page that declares this geometry; `read` gives the geometry back.
+    /// The parameter page that declares this geometry; `read_as` gives the geometry back, with what the profile keeps of its `optional`.
     ///
     /// These ONFI fields are written: the signature (bytes 0 to 3), features (6, 7), where operations of several LUNs are
     /// declared exactly where there are several LUNs, optional commands (8, 9), data bytes and spare bytes of a page (80

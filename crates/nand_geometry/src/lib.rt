@@ -10,6 +10,7 @@ pub mod checksum;
 mod field;
 mod geometry;
 pub mod laws;
+mod optional;
 mod page_fault;
 mod parts;
 mod reading;
@@ -17,6 +18,7 @@ mod row_parts;
 mod writing;
 
 pub use geometry::Geometry;
+pub use optional::{Optional, Profile};
 pub use page_fault::PageFault;
 pub use parts::{MAX_LUNS, Parts, SMALL_CHIP};
 pub use row_parts::RowParts;

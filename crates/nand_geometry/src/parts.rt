@@ -2,6 +2,8 @@
 ghost use Rattle.std.specs.Prelude.{◌≡◌};
 ghost use Rattle.nand_geometry.specs.Limits.{has_size_fault};
 
+use crate::Optional;
+
 /// The most LUNs of a target.
 pub const MAX_LUNS: usize = 4;
 
@@ -43,6 +45,8 @@ pub struct Parts {
     pub multi_plane: bool,
     /// Read cache is there.
     pub cache: bool,
+    /// What else is there, beyond the base profile: nothing, unless a page was read for the wider one.
+    pub optional: Optional,
 }
 
 /// The small chip of the examples, on which `onfiseq once` runs its files: one LUN of 8 blocks of 4 pages of 512 + 16 bytes, in one
@@ -57,6 +61,7 @@ pub const SMALL_CHIP: Parts = Parts {
     enhanced: false,
     multi_plane: false,
     cache: false,
+    optional: Optional::NONE,
 };
 
 impl Parts {

@@ -1,10 +1,11 @@
 //! What a copy of a parameter page declares (ONFI 4.x, Parameter Page Data Structure Definition).
 
 ghost use Rattle.std.specs.Prelude.{◌≡◌, ◌+◌, ◌≤◌, ◌<◌, length};
-ghost use Rattle.nand_geometry.specs.Reading.{has_bit, u16_at, u32_at, is_signed, is_sound, declared_by, has_wide_bus, has_address_cycles, has_lun_operations};
+ghost use Rattle.nand_geometry.specs.Reading.{has_bit, u16_at, u32_at, is_signed, is_sound, has_double_rate, optional_by, declared_by, declared_as, has_wide_bus, has_address_cycles, has_lun_operations};
 
-use crate::Parts;
 use crate::checksum::checksum;
+use crate::writing::flag;
+use crate::{Optional, Parts, Profile};
 use byteorder::{ByteOrder, LittleEndian};
 
 /// How many bytes a copy of the parameter page has.
@@ -79,9 +80,32 @@ pub fn has_lun_operations(copy: &[u8]) -> bool
     has_bit(copy[6], 1)
 }
 
-/// The numbers that the copy declares.
+/// An interface of double data rate is declared: NV-DDR, NV-DDR2 or NV-DDR3.
+fn has_double_rate(copy: &[u8]) -> bool
+    requires { length copy.now ≡ COPY_LEN }
+    ensures { result ≡ has_double_rate copy.now }
+{
+    has_bit(copy[6], 5) || has_bit(copy[7], 2) || has_bit(copy[7], 5)
+}
+
+/// What the copy declares beyond the base profile.
+#[tactic(auto, unfolding(crate::specs::Reading::optional_by))]
+fn optional_by(copy: &[u8]) -> Optional
+    requires { length copy.now ≡ COPY_LEN }
+    ensures { result ≡ optional_by copy.now }
+{
+    Optional(
+        Optional::WIDE.0
+            + flag(2, has_bit(copy[8], 2))
+            + flag(5, has_bit(copy[8], 5))
+            + flag(9, has_bit(copy[9], 1))
+            + flag(11, has_double_rate(copy)),
+    )
+}
+
+/// The numbers that the copy declares, in the base profile.
 #[tactic(auto, unfolding(crate::specs::Reading::declared_by))]
-pub fn declared_by(copy: &[u8]) -> Parts
+fn declared_by(copy: &[u8]) -> Parts
     requires { length copy.now ≡ COPY_LEN }
     ensures { result ≡ declared_by copy.now }
 {
@@ -95,5 +119,21 @@ pub fn declared_by(copy: &[u8]) -> Parts
         enhanced: has_bit(copy[8], 3),
         multi_plane: has_bit(copy[6], 3),
         cache: has_bit(copy[8], 1),
+        optional: Optional::NONE,
+    }
+}
+
+/// The numbers that the copy declares, in a profile.
+pub fn declared_as(profile: Profile, copy: &[u8]) -> Parts
+    requires { length copy.now ≡ COPY_LEN }
+    ensures { result ≡ declared_as profile copy.now }
+{
+    let declared = declared_by(copy);
+    match profile {
+        Profile::Base => declared,
+        Profile::Onfi => Parts {
+            optional: optional_by(copy),
+            ..declared
+        },
     }
 }

@@ -1,7 +1,8 @@
 //! The blocks of a parameter page (ONFI 4.x, Parameter Page Data Structure Definition), all but its checksum.
 
 ghost use Rattle.std.specs.Prelude.{◌≡◌, ◌<◌, take, slice_range};
-ghost use Rattle.nand_geometry.specs.Page.{low_bytes, flag, features, optional_commands, page_body};
+ghost use Rattle.nand_geometry.specs.Flag.{flag};
+ghost use Rattle.nand_geometry.specs.Page.{low_bytes, features, optional_commands, page_body};
 
 use crate::Parts;
 use byteorder::{ByteOrder, LittleEndian};
@@ -16,26 +17,32 @@ fn u32_bytes(number: u32) -> [u8; 4]
 }
 
 /// A bit of a field, where it is set.
-fn flag(bit: u32, set: bool) -> u16
-    requires { bit < 8 }
+pub(crate) fn flag(bit: u32, set: bool) -> u16
+    requires { bit < 12 }
     ensures value { result ≡ flag bit set }
-    ensures small { result < 256 }
+    ensures small { result < 4096 }
 {
     if set { 1 << bit } else { 0 }
 }
 
-/// Bit 1: operations of several LUNs; bit 3: program and erase of several planes.
+/// Bit 1: operations of several LUNs; bit 3: program and erase of several planes; bit 5: an interface of double data rate.
 fn features(parts: Parts) -> u16
     ensures { result ≡ features parts }
 {
-    flag(1, parts.luns > 1) + flag(3, parts.multi_plane)
+    let optional = parts.optional;
+    flag(1, parts.luns > 1) + flag(3, parts.multi_plane) + flag(5, optional.has_synchronous_reset())
 }
 
-/// Read cache is bit 1, Read Status Enhanced bit 3.
+/// Read cache is bit 1, Get and Set Features bit 2, Read Status Enhanced bit 3, Read Unique ID bit 5, Reset LUN bit 9.
 fn optional_commands(parts: Parts) -> u16
     ensures { result ≡ optional_commands parts }
 {
-    flag(1, parts.cache) + flag(3, parts.enhanced)
+    let optional = parts.optional;
+    flag(1, parts.cache)
+        + flag(2, optional.has_features())
+        + flag(3, parts.enhanced)
+        + flag(5, optional.has_unique_id())
+        + flag(9, optional.has_lun_reset())
 }
 
 /// Bytes 0 to 31: the revision information and features block, whose revision bytes are zero.

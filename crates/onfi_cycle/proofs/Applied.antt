@@ -5,7 +5,7 @@ use Rattle.std.proofs.lemmas.Bool.Decides.{nat_tests}
 use Rattle.nand_geometry.specs.declared.parts.Parts.{Parts}
 use Rattle.onfi_cycle.specs.declared.command.Command.{Command}
 use Rattle.onfi_cycle.specs.declared.opening.Opening.{Opening}
-use Rattle.onfi_cycle.specs.declared.command.Command.TheVariants.{Read, ReadConfirm, ChangeReadColumn, ChangeReadColumnConfirm, BlockErase, BlockEraseConfirm, BlockErasePlane, ReadStatus, ReadStatusEnhanced, PageProgram, ChangeWriteColumn, ProgramConfirm, ProgramPlane, ReadId, ReadParameterPage, Reset, ReadCacheSequential, ReadCacheEnd, Unknown}
+use Rattle.onfi_cycle.specs.declared.command.Command.TheVariants.{Read, ReadConfirm, ChangeReadColumn, ChangeReadColumnConfirm, BlockErase, BlockEraseConfirm, BlockErasePlane, ReadStatus, ReadStatusEnhanced, PageProgram, ChangeWriteColumn, ProgramConfirm, ProgramPlane, ReadId, ReadParameterPage, Reset, ReadCacheSequential, ReadCacheEnd, ReadUniqueId, GetFeatures, SetFeatures, ResetLun, SynchronousReset, Unknown}
 use Rattle.onfi_cycle.specs.declared.item.Cycle.{Cycle}
 use Rattle.onfi_cycle.specs.declared.effect.Effect.{Effect}
 use Rattle.onfi_cycle.specs.declared.effect.Effect.TheVariants.{Unaffected, BecameReady, ArrayBecameReady}
@@ -53,6 +53,11 @@ command_rests g t s ReadParameterPage n h = rw h refl
 command_rests g t s Reset n h = cc
 command_rests g t s ReadCacheSequential n h = cc
 command_rests g t s ReadCacheEnd n h = cc
+command_rests g t s ReadUniqueId n h = rw h refl
+command_rests g t s GetFeatures n h = rw h refl
+command_rests g t s SetFeatures n h = rw h refl
+command_rests g t s ResetLun n h = rw h refl
+command_rests g t s SynchronousReset n h = cc
 command_rests g t s Unknown n h = rw h refl
 
 address_rests : (g : Parts) (t : TailFacts) (byte : ℕ) (c : Command) (k n : ℕ) → acts_by_address c ≡ false → address_effect g t byte c k n ≡ Unaffected
@@ -74,6 +79,11 @@ address_rests g t byte ReadParameterPage k n h = cc
 address_rests g t byte Reset k n h = refl
 address_rests g t byte ReadCacheSequential k n h = refl
 address_rests g t byte ReadCacheEnd k n h = refl
+address_rests g t byte ReadUniqueId k n h = cc
+address_rests g t byte GetFeatures k n h = cc
+address_rests g t byte SetFeatures k n h = refl
+address_rests g t byte ResetLun k n h = cc
+address_rests g t byte SynchronousReset k n h = refl
 address_rests g t byte Unknown k n h = refl
 
 opening_rests : (g : Parts) (t : TailFacts) (byte : ℕ) (o : Option Opening) (n : ℕ) → opened (λ c k. acts_by_address c) o ≡ false → opening_address_effect g t byte o n ≡ Unaffected
@@ -95,7 +105,7 @@ luns_rest g t sole (CommandCycle c) n (v ∷ vs) h =
 luns_rest g t sole (AddressCycle byte) n (v ∷ vs) h =
     goes_on g t sole (AddressCycle byte) n v vs (opening_rests g t byte t.opening n h) (luns_rest g t sole (AddressCycle byte) (n + 1) vs h)
 luns_rest g t sole (InputCycle byte) n (v ∷ vs) h =
-    goes_on g t sole (InputCycle byte) n v vs (refl) (luns_rest g t sole (InputCycle byte) (n + 1) vs h)
+    goes_on g t sole (InputCycle byte) n v vs (rw h refl) (luns_rest g t sole (InputCycle byte) (n + 1) vs h)
 luns_rest g t sole OutputCycle n (v ∷ vs) h =
     goes_on g t sole OutputCycle n v vs (output_rests g t sole v.latch n (neither (is_data v.latch) (list_any (λ (w : LunView). is_data w.latch) vs) h).0) (luns_rest g t sole OutputCycle (n + 1) vs (neither (is_data v.latch) (list_any (λ (w : LunView). is_data w.latch) vs) h).1)
 

@@ -14,9 +14,9 @@ use Rattle.onfi_cycle.specs.declared.target_cycle.TargetCycle.{TargetCycle}
 use Rattle.onfi_cycle.specs.declared.target_cycle.TargetCycle.TheVariants.{CommandCycle, AddressCycle, InputCycle, OutputCycle}
 use Rattle.onfi_cycle.specs.declared.page_address.PageAddress.{PageAddress}
 use Rattle.onfi_cycle.specs.declared.register.Register.{Register}
-use Rattle.onfi_cycle.specs.declared.register.Register.TheVariants.{Empty, Page, ParameterPage, Identifier}
+use Rattle.onfi_cycle.specs.declared.register.Register.TheVariants.{Empty, Page, ParameterPage, Identifier, Identity, JedecIdentity, UniqueId, Features}
 use Rattle.onfi_cycle.specs.declared.effect.Effect.{Effect}
-use Rattle.onfi_cycle.specs.declared.effect.Effect.TheVariants.{ReadStarted, EraseStarted, ProgramStarted, ResetStarted, BecameReady, ParameterPageReadStarted, CacheReadContinued, CacheReadEnded}
+use Rattle.onfi_cycle.specs.declared.effect.Effect.TheVariants.{ReadStarted, EraseStarted, ProgramStarted, ResetStarted, BecameReady, ParameterPageReadStarted, UniqueIdReadStarted, FeaturesReadStarted, FeaturesSet, CacheReadContinued, CacheReadEnded}
 use Rattle.onfi_cycle.specs.Sequence.{tail, facts_of, filled, input_column, is_open, with_cycle}
 use Rattle.onfi_cycle.specs.LunView.{LunView}
 use Rattle.onfi_cycle.specs.Effect.{is_off, is_data}
@@ -60,6 +60,9 @@ pending_after_whole len (ProgramStarted true at) bytes q p h w v = tt
 pending_after_whole len (ProgramStarted false at) bytes q p h w v = (h, w)
 pending_after_whole len (ReadStarted at from) bytes q p h w v = tt
 pending_after_whole len ParameterPageReadStarted bytes q p h w v = tt
+pending_after_whole len UniqueIdReadStarted bytes q p h w v = tt
+pending_after_whole len (FeaturesReadStarted address) bytes q p h w v = tt
+pending_after_whole len (FeaturesSet feature) bytes q p h w v = tt
 pending_after_whole len CacheReadContinued bytes q p h w v = tt
 pending_after_whole len CacheReadEnded bytes q p h w v = tt
 pending_after_whole len ResetStarted bytes q p h w v = tt
@@ -110,6 +113,10 @@ register_bytes_len g parameters pages Empty h k = refl
 register_bytes_len g parameters pages (Page p) h k = k p
 register_bytes_len g parameters pages ParameterPage h k = h
 register_bytes_len g parameters pages Identifier h k = refl
+register_bytes_len g parameters pages Identity h k = refl
+register_bytes_len g parameters pages JedecIdentity h k = refl
+register_bytes_len g parameters pages UniqueId h k = refl
+register_bytes_len g parameters pages (Features address) h k = refl
 
 -- what shows, shows a byte
 shown_there : (latch : Latch) (st : ℕ) (bytes : List ℕ) (place : Option ℕ) (len : ℕ) → length bytes ≡ len → is_off latch ≡ false → (is_data latch && lacks place) ≡ false → (is_data latch && is_past place len) ≡ false → (b : ℕ) × (shown_by latch st (byte_at bytes place) ≡ Some b)

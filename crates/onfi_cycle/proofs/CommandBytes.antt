@@ -1,7 +1,7 @@
 -- Commands and their bytes.
 use Rattle.std.proofs.Common.{◌≡◌, ◌≢◌, ℕ, ◌==◌, Bool, true, false, cond, Some, refl, sym, ap, ◌∙◌, eqb-true}
 use Rattle.onfi_cycle.specs.declared.command.Command.{Command}
-use Rattle.onfi_cycle.specs.declared.command.Command.TheVariants.{Read, ReadConfirm, ChangeReadColumn, ChangeReadColumnConfirm, BlockErase, BlockEraseConfirm, BlockErasePlane, ReadStatus, ReadStatusEnhanced, PageProgram, ChangeWriteColumn, ProgramConfirm, ProgramPlane, ReadId, ReadParameterPage, Reset, ReadCacheSequential, ReadCacheEnd, Unknown}
+use Rattle.onfi_cycle.specs.declared.command.Command.TheVariants.{Read, ReadConfirm, ChangeReadColumn, ChangeReadColumnConfirm, BlockErase, BlockEraseConfirm, BlockErasePlane, ReadStatus, ReadStatusEnhanced, PageProgram, ChangeWriteColumn, ProgramConfirm, ProgramPlane, ReadId, ReadParameterPage, Reset, ReadCacheSequential, ReadCacheEnd, ReadUniqueId, GetFeatures, SetFeatures, ResetLun, SynchronousReset, Unknown}
 use Rattle.onfi_cycle.specs.Command.{command, opcode, CommandsHaveBytes}
 
 command_of_byte : (c : Command) (byte : ℕ) → opcode c ≡ Some byte → command byte ≡ c
@@ -24,6 +24,11 @@ command_of_byte ReadParameterPage byte h = let e : 0xec ≡ byte = cc in ap comm
 command_of_byte Reset byte h = let e : 0xff ≡ byte = cc in ap command (sym e)
 command_of_byte ReadCacheSequential byte h = let e : 0x31 ≡ byte = cc in ap command (sym e)
 command_of_byte ReadCacheEnd byte h = let e : 0x3f ≡ byte = cc in ap command (sym e)
+command_of_byte ReadUniqueId byte h = let e : 0xed ≡ byte = cc in ap command (sym e)
+command_of_byte GetFeatures byte h = let e : 0xee ≡ byte = cc in ap command (sym e)
+command_of_byte SetFeatures byte h = let e : 0xef ≡ byte = cc in ap command (sym e)
+command_of_byte ResetLun byte h = let e : 0xfa ≡ byte = cc in ap command (sym e)
+command_of_byte SynchronousReset byte h = let e : 0xfc ≡ byte = cc in ap command (sym e)
 command_of_byte Unknown byte h = cc
 
 -- one test of the table
@@ -55,7 +60,12 @@ byte_of_command byte =
     (one_test byte 0xff Reset _ refl
     (one_test byte 0x31 ReadCacheSequential _ refl
     (one_test byte 0x3f ReadCacheEnd _ refl
-    (λ known. absurd (known refl)))))))))))))))))))
+    (one_test byte 0xed ReadUniqueId _ refl
+    (one_test byte 0xee GetFeatures _ refl
+    (one_test byte 0xef SetFeatures _ refl
+    (one_test byte 0xfa ResetLun _ refl
+    (one_test byte 0xfc SynchronousReset _ refl
+    (λ known. absurd (known refl))))))))))))))))))))))))
 
 pub commands_have_bytes : CommandsHaveBytes
 commands_have_bytes = record { command_of_byte = command_of_byte; byte_of_command = byte_of_command }

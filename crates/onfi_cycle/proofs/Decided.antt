@@ -9,15 +9,15 @@ use Rattle.onfi_cycle.specs.declared.page_address.PageAddress.{PageAddress}
 use Rattle.onfi_cycle.specs.declared.queued.Queued.{Queued}
 use Rattle.onfi_cycle.specs.declared.queued.Queued.TheVariants.{Erase, Program}
 use Rattle.onfi_cycle.specs.declared.register.Register.{Register}
-use Rattle.onfi_cycle.specs.declared.register.Register.TheVariants.{Empty, Page}
+use Rattle.onfi_cycle.specs.declared.register.Register.TheVariants.{Empty, Page, Features}
 use Rattle.onfi_cycle.specs.declared.read_column.ReadColumn.{ReadColumn}
 use Rattle.onfi_cycle.specs.declared.effect.Effect.{Effect}
-use Rattle.onfi_cycle.specs.declared.effect.Effect.TheVariants.{StatusSelected, StatusRowAwaited, IdRead, ParameterPageReadStarted, CacheReadContinued, CacheReadEnded, DataOutput, BecameReady, ReadStarted, EraseStarted, ProgramStarted, ReadColumnChanged}
+use Rattle.onfi_cycle.specs.declared.effect.Effect.TheVariants.{StatusSelected, StatusRowAwaited, IdRead, IdentityRead, UniqueIdReadStarted, FeaturesReadStarted, ParameterPageReadStarted, CacheReadContinued, CacheReadEnded, DataOutput, BecameReady, ReadStarted, EraseStarted, ProgramStarted, ReadColumnChanged}
 use Rattle.onfi_cycle.specs.declared.tail_facts.TailFacts.{TailFacts}
 use Rattle.onfi_cycle.specs.Sequence.{row}
 use Rattle.onfi_cycle.specs.Effect.{page_address}
 use Rattle.onfi_cycle.specs.Lun.{effect_on, busy_after, closer_after, array_busy_after, array_page_after, register_after, read_column_after, queue_after, is_busy, is_caching, closer, is_array_busy, array_page, register, read_column, queue}
-use Rattle.onfi_cycle.specs.Decides.{or_before, last_decided, count_since, some_since, with_some, all_since, tail_of, closing, work_of, busy_decided, ends_array_work, array_busy_decided, reads_page, reads_on, page_read, pages_on, first_page, page_of_array, register_of, register_decided, changes_column, column_of, column_decided, is_given, gives_column, outputs_data, outputs_since, loses_column, is_status_command, is_cycle_of, empties_queue, queued_row}
+use Rattle.onfi_cycle.specs.Decides.{or_before, last_decided, count_since, some_since, with_some, all_since, tail_of, closing, work_of, busy_decided, ends_array_work, array_busy_decided, reads_page, reads_on, page_read, pages_on, first_page, page_of_array, byte_of, register_of, register_decided, changes_column, column_of, column_decided, is_given, gives_column, outputs_data, outputs_since, loses_column, is_status_command, is_cycle_of, empties_queue, queued_row}
 use Rattle.onfi_cycle.proofs.Meaning.{means, closer_of, is_ready, is_array_ready, is_column_change, is_data_output, is_status, Carries}
 
 -- what was decided before, unless this decides
@@ -96,17 +96,17 @@ plus_none p = λ i. record { block = p.block; page = add_none p.page i }
     add_none : (n : ℕ) → n ≡ n + 0
     add_none n = omega arith
 
-array_page_step : (g : Parts) (t : TailFacts) (e : Effect) (q : PageAddress) (n : ℕ) → Carries g t e → array_page_after e (pages_on q n) ≡ cond (reads_page (closer_of e)) (pages_on (page_address g (row t)) 0) (cond (reads_on (closer_of e)) (pages_on q (n + 1)) (pages_on q n))
-array_page_step g t (ReadStarted page column) q n carries = carries.0 ∙ plus_none (page_address g (row t))
-array_page_step g t CacheReadContinued q n carries = λ i. record { block = q.block; page = add_assoc_one q.page n i }
+array_page_step : (g : Parts) (t : TailFacts) (byte : ℕ) (e : Effect) (q : PageAddress) (n : ℕ) → Carries g t byte e → array_page_after e (pages_on q n) ≡ cond (reads_page (closer_of e)) (pages_on (page_address g (row t)) 0) (cond (reads_on (closer_of e)) (pages_on q (n + 1)) (pages_on q n))
+array_page_step g t byte (ReadStarted page column) q n carries = carries.0 ∙ plus_none (page_address g (row t))
+array_page_step g t byte CacheReadContinued q n carries = λ i. record { block = q.block; page = add_assoc_one q.page n i }
   where
     add_assoc_one : (a b : ℕ) → a + b + 1 ≡ a + (b + 1)
     add_assoc_one a b = omega arith
-array_page_step g t (EraseStarted true row) q n carries = refl
-array_page_step g t (EraseStarted false row) q n carries = refl
-array_page_step g t (ProgramStarted true page) q n carries = refl
-array_page_step g t (ProgramStarted false page) q n carries = refl
-array_page_step g t _ q n carries = refl
+array_page_step g t byte (EraseStarted true row) q n carries = refl
+array_page_step g t byte (EraseStarted false row) q n carries = refl
+array_page_step g t byte (ProgramStarted true page) q n carries = refl
+array_page_step g t byte (ProgramStarted false page) q n carries = refl
+array_page_step g t byte _ q n carries = refl
 
 -- the page so far, with one item more
 page_more : (b r : Bool) (p0 : PageAddress) (last : Option PageAddress) (n : ℕ) → cond b (pages_on p0 0) (cond r (pages_on (unwrap_or last first_page) (n + 1)) (pages_on (unwrap_or last first_page) n)) ≡ pages_on (unwrap_or (or_before (cond b (Some p0) None) last) first_page) (cond b 0 (cond r (n + 1) n))
@@ -123,48 +123,54 @@ array_page_is_decided g (i ∷ past) l =
     let last = last_decided (page_read g l) past in
     let n = count_since (λ past i. reads_page (closing g l past i)) (λ past i. reads_on (closing g l past i)) past in
     let F : Option Command → PageAddress = λ c. cond (reads_page c) (pages_on p0 0) (cond (reads_on c) (pages_on (unwrap_or last first_page) (n + 1)) (pages_on (unwrap_or last first_page) n)) in
-    ap (array_page_after e) (array_page_is_decided g past l) ∙ (array_page_step g (tail_of past l) e (unwrap_or last first_page) n m.carries ∙ (ap F (sym m.closes) ∙ page_more (reads_page (closing g l past i)) (reads_on (closing g l past i)) p0 last n))
+    ap (array_page_after e) (array_page_is_decided g past l) ∙ (array_page_step g (tail_of past l) (byte_of i) e (unwrap_or last first_page) n m.carries ∙ (ap F (sym m.closes) ∙ page_more (reads_page (closing g l past i)) (reads_on (closing g l past i)) p0 last n))
 
-register_step : (g : Parts) (past : List Item) (l : Lun) (e : Effect) (before : Register) → Carries g (tail_of past l) e → register_after e (array_page g past l) before ≡ unwrap_or (register_of g past l (closer_of e)) before
-register_step g past l (ReadStarted page column) before carries = ap Page carries.0
-register_step g past l (EraseStarted true row) before carries = refl
-register_step g past l (EraseStarted false row) before carries = refl
-register_step g past l (ProgramStarted true page) before carries = refl
-register_step g past l (ProgramStarted false page) before carries = refl
-register_step g past l _ before carries = refl
+register_step : (g : Parts) (past : List Item) (l : Lun) (byte : ℕ) (e : Effect) (before : Register) → Carries g (tail_of past l) byte e → register_after e (array_page g past l) before ≡ unwrap_or (register_of g past l byte (closer_of e)) before
+register_step g past l byte (ReadStarted page column) before carries = ap Page carries.0
+register_step g past l byte (EraseStarted true row) before carries = refl
+register_step g past l byte (EraseStarted false row) before carries = refl
+register_step g past l byte (ProgramStarted true page) before carries = refl
+register_step g past l byte (ProgramStarted false page) before carries = refl
+register_step g past l byte IdRead before carries = sym carries
+register_step g past l byte (IdentityRead jedec) before carries = sym carries
+register_step g past l byte (FeaturesReadStarted address) before carries = ap Features carries
+register_step g past l byte _ before carries = refl
 
 pub register_is_decided : (g : Parts) (past : List Item) (l : Lun) → register g past l ≡ unwrap_or (last_decided (register_decided g l) past) Empty
 register_is_decided g [] l = refl
 register_is_decided g (i ∷ past) l =
     let m = means g past i l in
-    register_step g past l (effect_on g past i l) (register g past l) m.carries ∙
-    (ap (λ c. unwrap_or (register_of g past l c) (register g past l)) (sym m.closes) ∙ (ap (unwrap_or (register_decided g l past i)) (register_is_decided g past l) ∙ sym (unwrap_before (register_decided g l past i) (last_decided (register_decided g l) past) Empty)))
+    register_step g past l (byte_of i) (effect_on g past i l) (register g past l) m.carries ∙
+    (ap (λ c. unwrap_or (register_of g past l (byte_of i) c) (register g past l)) (sym m.closes) ∙ (ap (unwrap_or (register_decided g l past i)) (register_is_decided g past l) ∙ sym (unwrap_before (register_decided g l past i) (last_decided (register_decided g l) past) Empty)))
 
 -- 5. the read column
 
 given_by : TailFacts → List Item → Lun → Bool → Option Command → Option ℕ
 given_by t past l changes c = cond changes (Some t.column) (column_of past l c)
 
-column_step : (past : List Item) (l : Lun) (g : Parts) (e : Effect) (k : ReadColumn) → Carries g (tail_of past l) e → read_column_after e k ≡ record {
+column_step : (past : List Item) (l : Lun) (g : Parts) (byte : ℕ) (e : Effect) (k : ReadColumn) → Carries g (tail_of past l) byte e → read_column_after e k ≡ record {
   given = or_before (given_by (tail_of past l) past l (is_column_change e) (closer_of e)) k.given;
   outputs = cond (is_given (given_by (tail_of past l) past l (is_column_change e) (closer_of e))) 0 (cond (is_data_output e) (k.outputs + 1) k.outputs);
   lost = cond (is_given (given_by (tail_of past l) past l (is_column_change e) (closer_of e))) false (k.lost || (is_status e && ltb 0 k.outputs));
 }
 unfolding given_by
-column_step past l g (ReadStarted page column) k carries = λ i. record { given = Some (carries.1 i); outputs = 0; lost = false }
-column_step past l g (ReadColumnChanged column) k carries = λ i. record { given = Some (carries i); outputs = 0; lost = false }
-column_step past l g (EraseStarted true row) k carries = λ i. record { given = k.given; outputs = k.outputs; lost = sym (or-false k.lost) i }
-column_step past l g (EraseStarted false row) k carries = λ i. record { given = k.given; outputs = k.outputs; lost = sym (or-false k.lost) i }
-column_step past l g (ProgramStarted true page) k carries = λ i. record { given = k.given; outputs = k.outputs; lost = sym (or-false k.lost) i }
-column_step past l g (ProgramStarted false page) k carries = λ i. record { given = k.given; outputs = k.outputs; lost = sym (or-false k.lost) i }
-column_step past l g IdRead k carries = refl
-column_step past l g ParameterPageReadStarted k carries = refl
-column_step past l g CacheReadContinued k carries = refl
-column_step past l g CacheReadEnded k carries = refl
-column_step past l g StatusSelected k carries = refl
-column_step past l g StatusRowAwaited k carries = refl
-column_step past l g DataOutput k carries = λ i. record { given = k.given; outputs = k.outputs + 1; lost = sym (or-false k.lost) i }
-column_step past l g _ k carries = λ i. record { given = k.given; outputs = k.outputs; lost = sym (or-false k.lost) i }
+column_step past l g byte (ReadStarted page column) k carries = λ i. record { given = Some (carries.1 i); outputs = 0; lost = false }
+column_step past l g byte (ReadColumnChanged column) k carries = λ i. record { given = Some (carries i); outputs = 0; lost = false }
+column_step past l g byte (EraseStarted true row) k carries = λ i. record { given = k.given; outputs = k.outputs; lost = sym (or-false k.lost) i }
+column_step past l g byte (EraseStarted false row) k carries = λ i. record { given = k.given; outputs = k.outputs; lost = sym (or-false k.lost) i }
+column_step past l g byte (ProgramStarted true page) k carries = λ i. record { given = k.given; outputs = k.outputs; lost = sym (or-false k.lost) i }
+column_step past l g byte (ProgramStarted false page) k carries = λ i. record { given = k.given; outputs = k.outputs; lost = sym (or-false k.lost) i }
+column_step past l g byte IdRead k carries = refl
+column_step past l g byte (IdentityRead jedec) k carries = refl
+column_step past l g byte UniqueIdReadStarted k carries = refl
+column_step past l g byte (FeaturesReadStarted address) k carries = refl
+column_step past l g byte ParameterPageReadStarted k carries = refl
+column_step past l g byte CacheReadContinued k carries = refl
+column_step past l g byte CacheReadEnded k carries = refl
+column_step past l g byte StatusSelected k carries = refl
+column_step past l g byte StatusRowAwaited k carries = refl
+column_step past l g byte DataOutput k carries = λ i. record { given = k.given; outputs = k.outputs + 1; lost = sym (or-false k.lost) i }
+column_step past l g byte _ k carries = λ i. record { given = k.given; outputs = k.outputs; lost = sym (or-false k.lost) i }
 
 column_table : List Item → Lun → (changes : Bool) → Option Command → (outputs status : Bool) → ReadColumn → ReadColumn
 column_table past l changes c outputs status k =
@@ -184,19 +190,19 @@ column_is_decided g (i ∷ past) l =
     let e = effect_on g past i l in
     let m = means g past i l in
     let before : read_column g past l ≡ column_so_far g past l = column_is_decided g past l in
-    let step : read_column_after e (read_column g past l) ≡ column_table past l (is_column_change e) (closer_of e) (is_data_output e) (is_status e) (read_column g past l) = column_step past l g e (read_column g past l) m.carries in
+    let step : read_column_after e (read_column g past l) ≡ column_table past l (is_column_change e) (closer_of e) (is_data_output e) (is_status e) (read_column g past l) = column_step past l g (byte_of i) e (read_column g past l) m.carries in
     let after : column_table past l (is_column_change e) (closer_of e) (is_data_output e) (is_status e) (read_column g past l) ≡ column_table past l (changes_column g l past i) (closing g l past i) (outputs_data g l past i) (is_cycle_of is_status_command l i) (column_so_far g past l) =
     λ j. column_table past l (sym m.changes j) (sym m.closes j) (sym m.outputs j) (sym m.status j) (before j) in
     step ∙ after
 
 -- 6. the queue
 
-queue_step : (g : Parts) (t : TailFacts) (e : Effect) (q : List Queued) → Carries g t e → queue_after e q ≡ cond (empties_queue (closer_of e)) [] (with_some (queued_row (page_address g (row t)) (closer_of e)) q)
-queue_step g t (EraseStarted true at) q carries = ap (λ p. Erase p ∷ q) carries
-queue_step g t (EraseStarted false at) q carries = refl
-queue_step g t (ProgramStarted true at) q carries = ap (λ p. Program p ∷ q) carries
-queue_step g t (ProgramStarted false at) q carries = refl
-queue_step g t _ q carries = refl
+queue_step : (g : Parts) (t : TailFacts) (byte : ℕ) (e : Effect) (q : List Queued) → Carries g t byte e → queue_after e q ≡ cond (empties_queue (closer_of e)) [] (with_some (queued_row (page_address g (row t)) (closer_of e)) q)
+queue_step g t byte (EraseStarted true at) q carries = ap (λ p. Erase p ∷ q) carries
+queue_step g t byte (EraseStarted false at) q carries = refl
+queue_step g t byte (ProgramStarted true at) q carries = ap (λ p. Program p ∷ q) carries
+queue_step g t byte (ProgramStarted false at) q carries = refl
+queue_step g t byte _ q carries = refl
 
 pub queue_is_decided : (g : Parts) (past : List Item) (l : Lun) → queue g past l ≡ all_since (λ past i. empties_queue (closing g l past i)) (λ past i. queued_row (page_address g (row (tail_of past l))) (closing g l past i)) past
 queue_is_decided g [] l = refl
@@ -204,4 +210,4 @@ queue_is_decided g (i ∷ past) l =
     let e = effect_on g past i l in
     let m = means g past i l in
     let F : Option Command → List Queued → List Queued = λ c q. cond (empties_queue c) [] (with_some (queued_row (page_address g (row (tail_of past l))) c) q) in
-    queue_step g (tail_of past l) e (queue g past l) m.carries ∙ (λ j. F (sym m.closes j) (queue_is_decided g past l j))
+    queue_step g (tail_of past l) (byte_of i) e (queue g past l) m.carries ∙ (λ j. F (sym m.closes j) (queue_is_decided g past l j))

@@ -9,7 +9,7 @@ use Rattle.onfi_cycle.proofs.Booleans.{and_rest}
 use Rattle.nand_geometry.specs.declared.parts.Parts.{Parts}
 use Rattle.nand_geometry.specs.Limits.{InLimits, page_bits}
 use Rattle.onfi_cycle.specs.declared.command.Command.{Command}
-use Rattle.onfi_cycle.specs.declared.command.Command.TheVariants.{Read, ReadConfirm, ChangeReadColumnConfirm, BlockErase, BlockEraseConfirm, BlockErasePlane, ReadStatus, ReadStatusEnhanced, ProgramConfirm, ProgramPlane, ReadId, ReadParameterPage, Reset, ReadCacheSequential, ReadCacheEnd}
+use Rattle.onfi_cycle.specs.declared.command.Command.TheVariants.{Read, ReadConfirm, ChangeReadColumnConfirm, BlockErase, BlockEraseConfirm, BlockErasePlane, ReadStatus, ReadStatusEnhanced, ProgramConfirm, ProgramPlane, ReadId, ReadParameterPage, Reset, ReadCacheSequential, ReadCacheEnd, ReadUniqueId, GetFeatures, SetFeatures, ResetLun, SynchronousReset}
 use Rattle.onfi_cycle.specs.declared.item.Item.{Item}
 use Rattle.onfi_cycle.specs.declared.item.Item.TheVariants.{Cyc, Rdy, Ard}
 use Rattle.onfi_cycle.specs.declared.forbidden.Forbidden.TheVariants.{NotThere}
@@ -17,17 +17,17 @@ use Rattle.onfi_cycle.specs.declared.latch.Latch.{Latch}
 use Rattle.onfi_cycle.specs.declared.latch.Latch.TheVariants.{Off, Status, Data}
 use Rattle.onfi_cycle.specs.declared.opening.Opening.{Opening}
 use Rattle.onfi_cycle.specs.declared.register.Register.{Register}
-use Rattle.onfi_cycle.specs.declared.register.Register.TheVariants.{Empty, Page, ParameterPage, Identifier}
+use Rattle.onfi_cycle.specs.declared.register.Register.TheVariants.{Empty, Page, ParameterPage, Identifier, Identity, JedecIdentity, UniqueId, Features}
 use Rattle.onfi_cycle.specs.declared.read_column.ReadColumn.{ReadColumn}
 use Rattle.onfi_cycle.specs.declared.tail_facts.TailFacts.{TailFacts}
 use Rattle.onfi_cycle.specs.declared.target_cycle.TargetCycle.{TargetCycle}
 use Rattle.onfi_cycle.specs.declared.target_cycle.TargetCycle.TheVariants.{CommandCycle, AddressCycle, InputCycle, OutputCycle}
 use Rattle.onfi_cycle.specs.declared.effect.Effect.{Effect}
-use Rattle.onfi_cycle.specs.declared.effect.Effect.TheVariants.{Unaffected, SelectedForStatus, Deselected, IdRead, ParameterPageReadStarted, CacheReadContinued, CacheReadEnded, ReadColumnChanged, DataOutput, BecameReady, ArrayBecameReady}
+use Rattle.onfi_cycle.specs.declared.effect.Effect.TheVariants.{Unaffected, SelectedForStatus, Deselected, IdRead, IdentityRead, UniqueIdReadStarted, FeaturesReadStarted, FeaturesSet, ParameterPageReadStarted, CacheReadContinued, CacheReadEnded, ReadColumnChanged, DataOutput, BecameReady, ArrayBecameReady, ResetStarted}
 use Rattle.onfi_cycle.specs.LunView.{LunView}
 use Rattle.onfi_cycle.specs.Command.{closes, address_cycles, is_opener, takes_address, reads_identity}
-use Rattle.onfi_cycle.specs.Sequence.{target_cycle, opened, takes_inputs, wants_column, wants_command, wants_address, row, row_with}
-use Rattle.onfi_cycle.specs.Effect.{is_off, is_data, names_lun, page_address, confirm_effect, command_effect, address_effect, opening_address_effect, cycle_effect}
+use Rattle.onfi_cycle.specs.Sequence.{target_cycle, opened, takes_data, takes_features, wants_column, wants_command, wants_address, row, row_with}
+use Rattle.onfi_cycle.specs.Effect.{is_off, is_data, names_lun, page_address, confirm_effect, command_effect, id_effect, address_effect, opening_address_effect, ends_features, cycle_effect}
 use Rattle.onfi_cycle.specs.Lun.{is_page_read, output_column, option_plus}
 use Rattle.onfi_cycle.specs.Rules.{driving, are_none, only, driver, is_some_and, driver_is, lacks, is_past, is_empty, register_len, has_no_byte, is_past_register, continues_cache, ends_cache, some_queued_clashes, breaks_not_there, breaks_data_not_ready, breaks_column_outside, breaks_cache_read_misplaced}
 use Rattle.onfi_cycle.specs.Permitted.{judge, judge_cycle}
@@ -140,9 +140,9 @@ can_start g t n v rs named is = record { inside = rs.inside named is; ready = rs
 erase_fits : (g : Parts) (t : TailFacts) (n : ℕ) (v : LunView) → RowFits g t n v → RowStands g t n v → names_lun g (row t) n ≡ true → names_erase t ≡ true → (some_queued_clashes g true (page_address g (row t)) v.queue ≡ false) × CanStart g v (page_address g (row t))
 erase_fits g t n v rf rs named is = (rf.erase named is, can_start g t n v rs named (erase_named t is))
 
-program_fits : (g : Parts) (t : TailFacts) (n : ℕ) (v : LunView) → RowFits g t n v → RowStands g t n v → names_lun g (row t) n ≡ true → takes_inputs t.phase ≡ true → (some_queued_clashes g false (page_address g (row t)) v.queue ≡ false) × CanStart g v (page_address g (row t))
+program_fits : (g : Parts) (t : TailFacts) (n : ℕ) (v : LunView) → RowFits g t n v → RowStands g t n v → names_lun g (row t) n ≡ true → takes_data t.phase ≡ true → (some_queued_clashes g false (page_address g (row t)) v.queue ≡ false) × CanStart g v (page_address g (row t))
 program_fits g t n v rf rs named is =
-    let whole : names_program t ≡ true = or_left (takes_inputs t.phase) (wants_column t.phase) is in
+    let whole : names_program t ≡ true = or_left (takes_data t.phase) (wants_column t.phase) is in
     (rf.program named whole, can_start g t n v rs named (program_named t whole))
 
 -- the closer of a row
@@ -178,6 +178,7 @@ command_fits g limits t luns n v tf rf rs found Read f15 = tt
 command_fits g limits t luns n v tf rf rs found ReadStatus f15 = tt
 command_fits g limits t luns n v tf rf rs found ReadStatusEnhanced f15 = tt
 command_fits g limits t luns n v tf rf rs found Reset f15 = tt
+command_fits g limits t luns n v tf rf rs found SynchronousReset f15 = tt
 command_fits g limits t luns n v tf rf rs found ReadCacheSequential f15 =
     choice g v (is_off (cond (has_driver luns) v.latch Off)) Unaffected CacheReadContinued (λ e. tt) (λ e. continued_fits g limits t luns v f15 (alone_drives luns n v found e))
 command_fits g limits t luns n v tf rf rs found ReadCacheEnd f15 = choice g v (is_off (cond (has_driver luns) v.latch Off)) Unaffected CacheReadEnded (λ e. tt) (λ e. ended_fits g t luns v f15 (alone_drives luns n v found e))
@@ -193,11 +194,14 @@ identity_waits t byte o is none reads h = at (wants_column t.phase) none (ap (λ
     low : (c : Command) (n : ℕ) → reads_identity c ≡ true → (is_opener c && ltb n (address_cycles c) && takes_address c byte) ≡ true → (reads_identity c && n == 0) ≡ true
     low ReadId n r h = let below = (both (ltb n 1) _ h).0 in let same : n ≡ 0 = grind (arith, nat_tests) in rw same refl
     low ReadParameterPage n r h = let below = (both (ltb n 1) _ h).0 in let same : n ≡ 0 = grind (arith, nat_tests) in rw same refl
+    low ReadUniqueId n r h = let below = (both (ltb n 1) _ h).0 in let same : n ≡ 0 = grind (arith, nat_tests) in rw same refl
+    low GetFeatures n r h = let below = (both (ltb n 1) _ h).0 in let same : n ≡ 0 = grind (arith, nat_tests) in rw same refl
+    low SetFeatures n r h = let below = (both (ltb n 1) _ h).0 in let same : n ≡ 0 = grind (arith, nat_tests) in rw same refl
     low _ n r h = cc
 
     at : (b : Bool) → b ≡ false → ((is_opener o.opener && ltb o.addresses (address_cycles o.opener) && takes_address o.opener byte) || b) ≡ true → names_identity t ≡ true
     at true e h = cc
-    at false e h = ap (opened (λ c n. reads_identity c && n == 0)) is ∙ low o.opener o.addresses reads (of _ h)
+    at false e h = or_left (opened (λ c n. reads_identity c && n == 0) t.opening) (takes_features t.phase) (ap (opened (λ c n. reads_identity c && n == 0)) is ∙ low o.opener o.addresses reads (of _ h))
       where
         of : (a : Bool) → (a || false) ≡ true → a ≡ true
         of true h = refl
@@ -206,7 +210,10 @@ identity_waits t byte o is none reads h = at (wants_column t.phase) none (ap (λ
 address_kind_fits : (g : Parts) (t : TailFacts) (byte : ℕ) (n : ℕ) (v : LunView) (c : Command) (m : ℕ) → (reads_identity c ≡ true → wants_address t byte ≡ true → v.busy ≡ false) → EffectFits g v (address_effect g t byte c m n)
 address_kind_fits g t byte n v ReadStatusEnhanced m ready =
     choice g v (m == 2) (cond (names_lun g (row_with t byte) n) SelectedForStatus Deselected) Unaffected (λ e. choice g v (names_lun g (row_with t byte) n) SelectedForStatus Deselected (λ e. tt) (λ e. tt)) (λ e. tt)
-address_kind_fits g t byte n v ReadId m ready = choice g v (wants_address t byte) IdRead Unaffected (λ e. ready refl e) (λ e. tt)
+address_kind_fits g t byte n v ReadId m ready = choice g v (wants_address t byte) (id_effect byte) Unaffected (λ e. choice g v (byte == 0x20) IdRead (IdentityRead (byte == 0x40)) (λ f. ready refl e) (λ f. ready refl e)) (λ e. tt)
+address_kind_fits g t byte n v ReadUniqueId m ready = choice g v (wants_address t byte) UniqueIdReadStarted Unaffected (λ e. ready refl e) (λ e. tt)
+address_kind_fits g t byte n v GetFeatures m ready = choice g v (wants_address t byte) (FeaturesReadStarted byte) Unaffected (λ e. ready refl e) (λ e. tt)
+address_kind_fits g t byte n v ResetLun m ready = choice g v (m == 2 && names_lun g (row_with t byte) n) ResetStarted Unaffected (λ e. tt) (λ e. tt)
 address_kind_fits g t byte n v ReadParameterPage m ready = choice g v (wants_address t byte) ParameterPageReadStarted Unaffected (λ e. ready refl e) (λ e. tt)
 address_kind_fits g t byte n v c m ready = tt
 
@@ -227,6 +234,10 @@ register_is_small g limits Empty = omega arith
 register_is_small g limits (Page p) = let a = limits.page_bytes_most in let b = limits.spare_bytes_most in omega arith
 register_is_small g limits ParameterPage = omega arith
 register_is_small g limits Identifier = omega arith
+register_is_small g limits Identity = omega arith
+register_is_small g limits JedecIdentity = omega arith
+register_is_small g limits UniqueId = omega arith
+register_is_small g limits (Features address) = omega arith
 
 outputs_are_small : (k : ReadColumn) (len : ℕ) → len ≤ 20480 → lacks (output_column k) ≡ false → is_past (output_column k) len ≡ false → k.outputs < 2 ^ 16
 outputs_are_small k len small found inside = at k.lost found inside
@@ -250,7 +261,8 @@ output_fits g limits t luns v f13 f14 d shows =
 cycle_fits : (g : Parts) → InLimits g → (t : TailFacts) (luns : List LunView) (n : ℕ) (v : LunView) → TailFits g t → RowFits g t n v → RowStands g t n v → slice_get luns n ≡ Some v → (cycle : TargetCycle) → KeepsRules g t luns cycle → EffectFits g v (cycle_effect g t (cond (has_driver luns) v.latch Off) cycle n)
 cycle_fits g limits t luns n v tf rf rs found (CommandCycle c) keeps = command_fits g limits t luns n v tf rf rs found c keeps.f15
 cycle_fits g limits t luns n v tf rf rs found (AddressCycle byte) keeps = address_fits g t byte n v tf rs
-cycle_fits g limits t luns n v tf rf rs found (InputCycle byte) keeps = tt
+cycle_fits g limits t luns n v tf rf rs found (InputCycle byte) keeps =
+    choice g v (ends_features t) (FeaturesSet (t.column % 256)) Unaffected (λ e. rs.identity (or_right (opened (λ c n. reads_identity c && n == 0) t.opening) (takes_features t.phase) (both (takes_features t.phase) _ e).0)) (λ e. tt)
 cycle_fits g limits t luns n v tf rf rs found OutputCycle keeps =
     choice g v (is_data (cond (has_driver luns) v.latch Off)) DataOutput Unaffected
     (λ e. output_fits g limits t luns v keeps.f13 keeps.f14 (alone_drives luns n v found (data_is_on _ e)) (alone_latch luns v e))

@@ -1,10 +1,10 @@
 -- The latch of a LUN on legal traces.
-use Rattle.std.proofs.Common.{◌≡◌, ℕ, zero, suc, ◌+◌, ◌<◌, ◌≤◌, ◌==◌, Bool, true, false, ◌&&◌, cond, not, List, [], ◌∷◌, Option, Some, None, refl, sym, ap, ◌∙◌, subst, arith, unwrap_or, eqb-true, eq-eqb}
+use Rattle.std.proofs.Common.{◌≡◌, ℕ, zero, suc, ◌+◌, ◌<◌, ◌≤◌, ◌==◌, Bool, true, false, ◌&&◌, cond, not, List, [], ◌∷◌, Option, Some, None, refl, sym, ap, ◌∙◌, subst, arith, unwrap_or, eqb-true, eq-eqb, ◌%◌}
 use Rattle.std.proofs.lemmas.Bool.Decides.{nat_tests}
 use Rattle.std.proofs.lemmas.Bool.{not-false, and_parts as both_true}
 use Rattle.nand_geometry.specs.declared.parts.Parts.{Parts}
 use Rattle.onfi_cycle.specs.declared.command.Command.{Command}
-use Rattle.onfi_cycle.specs.declared.command.Command.TheVariants.{Read, ReadConfirm, ChangeReadColumnConfirm, BlockEraseConfirm, BlockErasePlane, ReadStatus, ReadStatusEnhanced, ProgramConfirm, ProgramPlane, ReadId, ReadParameterPage, Reset, ReadCacheSequential, ReadCacheEnd}
+use Rattle.onfi_cycle.specs.declared.command.Command.TheVariants.{Read, ReadConfirm, ChangeReadColumnConfirm, BlockEraseConfirm, BlockErasePlane, ReadStatus, ReadStatusEnhanced, ProgramConfirm, ProgramPlane, ReadId, ReadParameterPage, Reset, ReadCacheSequential, ReadCacheEnd, ReadUniqueId, GetFeatures, ResetLun, SynchronousReset}
 use Rattle.onfi_cycle.specs.declared.lun.Lun.{Lun}
 use Rattle.onfi_cycle.specs.declared.latch.Latch.{Latch}
 use Rattle.onfi_cycle.specs.declared.latch.Latch.TheVariants.{Off, Status, Data}
@@ -15,14 +15,14 @@ use Rattle.onfi_cycle.specs.declared.opening.Opening.{Opening}
 use Rattle.onfi_cycle.specs.declared.target_cycle.TargetCycle.{TargetCycle}
 use Rattle.onfi_cycle.specs.declared.target_cycle.TargetCycle.TheVariants.{CommandCycle, AddressCycle, InputCycle, OutputCycle}
 use Rattle.onfi_cycle.specs.declared.effect.Effect.{Effect}
-use Rattle.onfi_cycle.specs.declared.effect.Effect.TheVariants.{Unaffected, DataOutputEnabled, SelectedForStatus, Deselected, IdRead, ParameterPageReadStarted, CacheReadContinued, CacheReadEnded, BecameReady, ArrayBecameReady, ReadColumnChanged, DataOutput}
+use Rattle.onfi_cycle.specs.declared.effect.Effect.TheVariants.{Unaffected, DataOutputEnabled, SelectedForStatus, Deselected, IdRead, IdentityRead, UniqueIdReadStarted, FeaturesReadStarted, FeaturesSet, ParameterPageReadStarted, CacheReadContinued, CacheReadEnded, BecameReady, ArrayBecameReady, ReadColumnChanged, DataOutput, ResetStarted}
 use Rattle.onfi_cycle.specs.LunView.{LunView}
 use Rattle.onfi_cycle.specs.Sequence.{target_cycle, row, row_with, wants_command, wants_address}
-use Rattle.onfi_cycle.specs.Effect.{is_off, is_data, names_lun, command_effect, address_effect, opening_address_effect, cycle_effect}
+use Rattle.onfi_cycle.specs.Effect.{is_off, is_data, names_lun, command_effect, address_effect, id_effect, opening_address_effect, cycle_effect, ends_features}
 use Rattle.onfi_cycle.specs.Lun.{latch, latch_after, latch_alone, effect_on, drivers_from, is_only, lun_view, views_from, luns_of}
 use Rattle.onfi_cycle.specs.Rules.{driving, are_none, only, driver, is_some_and, driver_is, breaks_cache_read_misplaced, continues_cache, ends_cache}
 use Rattle.onfi_cycle.specs.Permitted.{broken, is_permitted, is_legal}
-use Rattle.onfi_cycle.specs.Decides.{or_before, last_decided, tail_of, drives_alone, identity_closer, closing_address, closed_latch, read_latch, selected_latch, third_of_status, selecting_latch, latch_cycle, latch_decided}
+use Rattle.onfi_cycle.specs.Decides.{or_before, last_decided, tail_of, drives_alone, address_closer, closing_address, closed_latch, read_latch, selected_latch, third_of_status, selecting_latch, latch_cycle, latch_decided}
 use Rattle.onfi_cycle.proofs.Others.{permitted_none}
 use Rattle.onfi_cycle.proofs.Meaning.{driver_on, alone_off}
 use Rattle.onfi_cycle.proofs.Passed.{permitted_keeps}
@@ -143,6 +143,7 @@ command_step g past l la Read cache = read_step (latch g past l)
 command_step g past l la ReadStatus cache = refl
 command_step g past l la ReadStatusEnhanced cache = refl
 command_step g past l la Reset cache = refl
+command_step g past l la SynchronousReset cache = refl
 command_step g past l la ReadCacheSequential cache = cache_step (drives_alone g past l) (is_off la) (latch g past l) CacheReadContinued ReadCacheSequential refl refl (cache refl)
 command_step g past l la ReadCacheEnd cache = cache_step (drives_alone g past l) (is_off la) (latch g past l) CacheReadEnded ReadCacheEnd refl refl (cache refl)
 command_step g past l la ChangeReadColumnConfirm cache = same_either_way (wants_command (tail_of past l) ChangeReadColumnConfirm && not (is_off la)) (latch g past l) (ReadColumnChanged (tail_of past l).column) refl
@@ -157,7 +158,7 @@ identity_step : (b : Bool) (before : Latch) (e : Effect) (c : Command) → latch
 identity_step true before e c after closed = rw closed after
 identity_step false before e c after closed = refl
 
-address_step : (g : Parts) (past : List Item) (l : Lun) (byte : ℕ) (x : Option Opening) → latch_after (opening_address_effect g (tail_of past l) byte x l.lun) (latch g past l) ≡ unwrap_or (or_before (selecting_latch g past l byte x) (closed_latch (closing_address (tail_of past l) byte x))) (latch g past l)
+address_step : (g : Parts) (past : List Item) (l : Lun) (byte : ℕ) (x : Option Opening) → latch_after (opening_address_effect g (tail_of past l) byte x l.lun) (latch g past l) ≡ unwrap_or (or_before (selecting_latch g past l byte x) (closed_latch (closing_address g l (tail_of past l) byte x))) (latch g past l)
 address_step g past l byte None = refl
 address_step g past l byte (Some o) = at o.opener o.addresses
   where
@@ -166,16 +167,23 @@ address_step g past l byte (Some o) = at o.opener o.addresses
     selects true false = refl
     selects false n = refl
 
-    at : (c : Command) (n : ℕ) → latch_after (address_effect g (tail_of past l) byte c n l.lun) (latch g past l) ≡ unwrap_or (or_before (third_of_status c n (names_lun g (row_with (tail_of past l) byte) l.lun)) (closed_latch (identity_closer (wants_address (tail_of past l) byte) c))) (latch g past l)
+    shows_id : (b : Bool) → latch_after (cond b IdRead (IdentityRead (byte == 0x40))) (latch g past l) ≡ Data
+    shows_id true = refl
+    shows_id false = refl
+
+    at : (c : Command) (n : ℕ) → latch_after (address_effect g (tail_of past l) byte c n l.lun) (latch g past l) ≡ unwrap_or (or_before (third_of_status c n (names_lun g (row_with (tail_of past l) byte) l.lun)) (closed_latch (address_closer (wants_address (tail_of past l) byte) (names_lun g (row_with (tail_of past l) byte) l.lun) c n))) (latch g past l)
     at ReadStatusEnhanced n = selects (n == 2) (names_lun g (row_with (tail_of past l) byte) l.lun)
-    at ReadId n = identity_step (wants_address (tail_of past l) byte) (latch g past l) IdRead ReadId refl refl
+    at ReadId n = identity_step (wants_address (tail_of past l) byte) (latch g past l) (id_effect byte) ReadId (shows_id (byte == 0x20)) refl
     at ReadParameterPage n = identity_step (wants_address (tail_of past l) byte) (latch g past l) ParameterPageReadStarted ReadParameterPage refl refl
+    at ReadUniqueId n = identity_step (wants_address (tail_of past l) byte) (latch g past l) UniqueIdReadStarted ReadUniqueId refl refl
+    at GetFeatures n = identity_step (wants_address (tail_of past l) byte) (latch g past l) (FeaturesReadStarted byte) GetFeatures refl refl
+    at ResetLun n = row_step (n == 2 && names_lun g (row_with (tail_of past l) byte) l.lun) (latch g past l) ResetStarted (Some Reset) refl
     at _ n = refl
 
 cycle_step : (g : Parts) (past : List Item) (l : Lun) (la : Latch) (x : TargetCycle) → (is_cache_cycle x ≡ true → is_off la ≡ not (drives_alone g past l)) → latch_after (cycle_effect g (tail_of past l) la x l.lun) (latch g past l) ≡ unwrap_or (latch_cycle g past l x) (latch g past l)
 cycle_step g past l la (CommandCycle c) cache = command_step g past l la c cache
 cycle_step g past l la (AddressCycle byte) cache = address_step g past l byte (tail_of past l).opening
-cycle_step g past l la (InputCycle byte) cache = refl
+cycle_step g past l la (InputCycle byte) cache = same_either_way (ends_features (tail_of past l)) (latch g past l) (FeaturesSet ((tail_of past l).column % 256)) refl
 cycle_step g past l la OutputCycle cache = same_either_way (is_data la) (latch g past l) DataOutput refl
 
 -- what a permitted item leaves of the latch

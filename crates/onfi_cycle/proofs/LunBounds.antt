@@ -8,7 +8,7 @@ use Rattle.onfi_cycle.specs.declared.page_address.PageAddress.{PageAddress}
 use Rattle.onfi_cycle.specs.declared.queued.Queued.{Queued}
 use Rattle.onfi_cycle.specs.declared.queued.Queued.TheVariants.{Erase, Program}
 use Rattle.onfi_cycle.specs.declared.effect.Effect.{Effect}
-use Rattle.onfi_cycle.specs.declared.effect.Effect.TheVariants.{Unaffected, DataOutputEnabled, StatusSelected, StatusRowAwaited, SelectedForStatus, Deselected, ReadStarted, EraseStarted, ProgramStarted, IdRead, ParameterPageReadStarted, CacheReadContinued, CacheReadEnded, ReadColumnChanged, DataOutput, ResetStarted, BecameReady, ArrayBecameReady}
+use Rattle.onfi_cycle.specs.declared.effect.Effect.TheVariants.{Unaffected, DataOutputEnabled, StatusSelected, StatusRowAwaited, SelectedForStatus, Deselected, ReadStarted, EraseStarted, ProgramStarted, IdRead, IdentityRead, UniqueIdReadStarted, FeaturesReadStarted, FeaturesSet, ParameterPageReadStarted, CacheReadContinued, CacheReadEnded, ReadColumnChanged, DataOutput, ResetStarted, BecameReady, ArrayBecameReady}
 use Rattle.onfi_cycle.specs.LunView.{LunView}
 use Rattle.onfi_cycle.specs.Lun.{view_after}
 use Rattle.onfi_cycle.specs.Rules.{planes_clash, queued_clashes, some_queued_clashes}
@@ -78,6 +78,10 @@ lun_fits g limits (ProgramStarted true at) v h f =
     record { outputs = f.outputs; given = f.given; array_page = f.array_page; queue = queue_fits g limits (Program at) v.queue (not_in_use g false at v.queue h.0) (four_planes g.plane_bits at.block limits.plane_bits_most) f.queue }
 lun_fits g limits (ProgramStarted false at) v h f = record { outputs = f.outputs; given = f.given; array_page = f.array_page; queue = omega arith }
 lun_fits g limits IdRead v h f = record { outputs = omega arith; given = omega arith; array_page = f.array_page; queue = f.queue }
+lun_fits g limits (IdentityRead jedec) v h f = record { outputs = omega arith; given = omega arith; array_page = f.array_page; queue = f.queue }
+lun_fits g limits UniqueIdReadStarted v h f = record { outputs = omega arith; given = omega arith; array_page = f.array_page; queue = f.queue }
+lun_fits g limits (FeaturesReadStarted address) v h f = record { outputs = omega arith; given = omega arith; array_page = f.array_page; queue = f.queue }
+lun_fits g limits (FeaturesSet feature) v h f = record { outputs = f.outputs; given = f.given; array_page = f.array_page; queue = f.queue }
 lun_fits g limits ParameterPageReadStarted v h f = record { outputs = omega arith; given = omega arith; array_page = f.array_page; queue = f.queue }
 lun_fits g limits CacheReadContinued v h f = record { outputs = omega arith; given = omega arith; array_page = h.0; queue = f.queue }
 lun_fits g limits CacheReadEnded v h f = record { outputs = omega arith; given = omega arith; array_page = f.array_page; queue = f.queue }

@@ -1,24 +1,28 @@
 -- What each effect means, in the words of the trace.
-use Rattle.std.proofs.Common.{◌≡◌, ℕ, zero, suc, ◌+◌, ◌==◌, Bool, true, false, ◌&&◌, cond, not, List, [], ◌∷◌, Option, Some, None, refl, sym, ap, ◌∙◌, subst, eqb-true}
+use Rattle.std.proofs.Common.{◌≡◌, ℕ, zero, suc, ◌+◌, ◌==◌, Bool, true, false, ◌&&◌, cond, not, List, [], ◌∷◌, Option, Some, None, refl, sym, ap, ◌∙◌, subst, eqb-true, ◌%◌}
 use Rattle.std.proofs.lemmas.Bool.{not-false, not-true}
 use Rattle.nand_geometry.specs.declared.parts.Parts.{Parts}
 use Rattle.onfi_cycle.specs.declared.command.Command.{Command}
-use Rattle.onfi_cycle.specs.declared.command.Command.TheVariants.{Read, ReadConfirm, ChangeReadColumnConfirm, BlockEraseConfirm, BlockErasePlane, ReadStatus, ReadStatusEnhanced, ProgramConfirm, ProgramPlane, ReadId, ReadParameterPage, Reset, ReadCacheSequential, ReadCacheEnd}
+use Rattle.onfi_cycle.specs.declared.command.Command.TheVariants.{Read, ReadConfirm, ChangeReadColumnConfirm, BlockEraseConfirm, BlockErasePlane, ReadStatus, ReadStatusEnhanced, ProgramConfirm, ProgramPlane, ReadId, ReadParameterPage, Reset, ReadCacheSequential, ReadCacheEnd, ReadUniqueId, GetFeatures, SetFeatures, ResetLun, SynchronousReset}
+use Rattle.onfi_cycle.specs.Command.{command}
 use Rattle.onfi_cycle.specs.declared.lun.Lun.{Lun}
 use Rattle.onfi_cycle.specs.declared.latch.Latch.{Latch}
 use Rattle.onfi_cycle.specs.declared.latch.Latch.TheVariants.{Off}
+use Rattle.onfi_cycle.specs.declared.item.Kind.{Kind}
+use Rattle.onfi_cycle.specs.declared.item.Kind.TheVariants.{Cmd, Adr, Din, Dout}
+use Rattle.onfi_cycle.specs.declared.register.Register.TheVariants.{Identifier, Identity, JedecIdentity}
 use Rattle.onfi_cycle.specs.declared.item.Item.{Item}
 use Rattle.onfi_cycle.specs.declared.item.Item.TheVariants.{Cyc, Rdy, Ard}
 use Rattle.onfi_cycle.specs.declared.opening.Opening.{Opening}
 use Rattle.onfi_cycle.specs.declared.target_cycle.TargetCycle.{TargetCycle}
 use Rattle.onfi_cycle.specs.declared.target_cycle.TargetCycle.TheVariants.{CommandCycle, AddressCycle, InputCycle, OutputCycle}
 use Rattle.onfi_cycle.specs.declared.effect.Effect.{Effect}
-use Rattle.onfi_cycle.specs.declared.effect.Effect.TheVariants.{Unaffected, StatusSelected, StatusRowAwaited, SelectedForStatus, Deselected, IdRead, ParameterPageReadStarted, CacheReadContinued, CacheReadEnded, DataOutput, ResetStarted, BecameReady, ArrayBecameReady, ReadStarted, EraseStarted, ProgramStarted, ReadColumnChanged}
+use Rattle.onfi_cycle.specs.declared.effect.Effect.TheVariants.{Unaffected, StatusSelected, StatusRowAwaited, SelectedForStatus, Deselected, IdRead, IdentityRead, UniqueIdReadStarted, FeaturesReadStarted, FeaturesSet, ParameterPageReadStarted, CacheReadContinued, CacheReadEnded, DataOutput, ResetStarted, BecameReady, ArrayBecameReady, ReadStarted, EraseStarted, ProgramStarted, ReadColumnChanged}
 use Rattle.onfi_cycle.specs.declared.tail_facts.TailFacts.{TailFacts}
 use Rattle.onfi_cycle.specs.Sequence.{target_cycle, row, row_with, wants_command, wants_address}
-use Rattle.onfi_cycle.specs.Effect.{is_off, is_data, page_address, names_lun, command_effect, address_effect, opening_address_effect, cycle_effect}
+use Rattle.onfi_cycle.specs.Effect.{is_off, is_data, page_address, names_lun, command_effect, address_effect, opening_address_effect, cycle_effect, ends_features}
 use Rattle.onfi_cycle.specs.Lun.{latch, latch_alone, drivers_from, is_only, effect_on}
-use Rattle.onfi_cycle.specs.Decides.{tail_of, drives_alone, row_closer, identity_closer, closing_address, closing_cycle, closing, readies, readies_array, is_cycle_of, is_output, is_status_command, is_column_confirm, changes_column, outputs_data}
+use Rattle.onfi_cycle.specs.Decides.{tail_of, drives_alone, byte_of, id_register, row_closer, address_closer, closing_address, closing_cycle, closing, readies, readies_array, is_cycle_of, is_output, is_status_command, is_column_confirm, changes_column, outputs_data}
 
 -- the closer that an effect comes of
 abbrev pub closer_of : Effect → Option Command
@@ -26,7 +30,11 @@ closer_of (ReadStarted page column) = Some ReadConfirm
 closer_of (EraseStarted queued row) = cond queued (Some BlockErasePlane) (Some BlockEraseConfirm)
 closer_of (ProgramStarted queued page) = cond queued (Some ProgramPlane) (Some ProgramConfirm)
 closer_of IdRead = Some ReadId
+closer_of (IdentityRead jedec) = Some ReadId
 closer_of ParameterPageReadStarted = Some ReadParameterPage
+closer_of UniqueIdReadStarted = Some ReadUniqueId
+closer_of (FeaturesReadStarted address) = Some GetFeatures
+closer_of (FeaturesSet feature) = Some SetFeatures
 closer_of CacheReadContinued = Some ReadCacheSequential
 closer_of CacheReadEnded = Some ReadCacheEnd
 closer_of ResetStarted = Some Reset
@@ -53,13 +61,16 @@ is_status StatusSelected = true
 is_status StatusRowAwaited = true
 is_status _ = false
 
--- the row and the column that an effect carries are those of the tail
-abbrev pub Carries : Parts → TailFacts → Effect → Type 0
-Carries g t (ReadStarted page column) = (page ≡ page_address g (row t)) × (column ≡ t.column)
-Carries g t (EraseStarted queued at) = at ≡ page_address g (row t)
-Carries g t (ProgramStarted queued page) = page ≡ page_address g (row t)
-Carries g t (ReadColumnChanged column) = column ≡ t.column
-Carries g t _ = Unit {0}
+-- the row and the column that an effect carries are those of the tail, and what it reads beside the array is what the byte asks for
+abbrev pub Carries : Parts → TailFacts → ℕ → Effect → Type 0
+Carries g t byte (ReadStarted page column) = (page ≡ page_address g (row t)) × (column ≡ t.column)
+Carries g t byte (EraseStarted queued at) = at ≡ page_address g (row t)
+Carries g t byte (ProgramStarted queued page) = page ≡ page_address g (row t)
+Carries g t byte (ReadColumnChanged column) = column ≡ t.column
+Carries g t byte IdRead = id_register byte ≡ Identifier
+Carries g t byte (IdentityRead jedec) = id_register byte ≡ cond jedec JedecIdentity Identity
+Carries g t byte (FeaturesReadStarted address) = address ≡ byte
+Carries g t byte _ = Unit {0}
 
 -- what an item is to a LUN, said by its effect
 pub record Means (g : Parts) (past : List Item) (i : Item) (l : Lun) (e : Effect) : Type 0 where
@@ -69,7 +80,7 @@ pub record Means (g : Parts) (past : List Item) (i : Item) (l : Lun) (e : Effect
   pub changes : changes_column g l past i ≡ is_column_change e
   pub outputs : outputs_data g l past i ≡ is_data_output e
   pub status : is_cycle_of is_status_command l i ≡ is_status e
-  pub carries : Carries g (tail_of past l) e
+  pub carries : Carries g (tail_of past l) (byte_of i) e
 
 -- a driver is on
 pub driver_on : (latches : ℕ → Latch) (count n m : ℕ) → is_only (drivers_from latches count n) m ≡ true → is_off (latches m) ≡ false
@@ -100,45 +111,46 @@ alone_data g past l = at (drives_alone g past l)
     at false = refl
 
 -- what a cycle of its target is to a LUN
-record MeansCycle (g : Parts) (past : List Item) (l : Lun) (cycle : TargetCycle) (e : Effect) : Type 0 where
+record MeansCycle (g : Parts) (past : List Item) (l : Lun) (byte : ℕ) (cycle : TargetCycle) (e : Effect) : Type 0 where
   closes : closing_cycle g past l cycle ≡ closer_of e
   changes : (is_column_confirm cycle && (wants_command (tail_of past l) ChangeReadColumnConfirm && drives_alone g past l)) ≡ is_column_change e
   outputs : (is_output cycle && (drives_alone g past l && is_data (latch g past l))) ≡ is_data_output e
   status : is_status_command cycle ≡ is_status e
   no_ready : is_ready e ≡ false
   no_array_ready : is_array_ready e ≡ false
-  carries : Carries g (tail_of past l) e
+  carries : Carries g (tail_of past l) byte e
 
 -- of a choice of two effects
-either_means : (g : Parts) (past : List Item) (l : Lun) (cycle : TargetCycle) (b : Bool) (x y : Effect) → (b ≡ true → MeansCycle g past l cycle x) → (b ≡ false → MeansCycle g past l cycle y) → MeansCycle g past l cycle (cond b x y)
-either_means g past l cycle true x y hx hy = hx refl
-either_means g past l cycle false x y hx hy = hy refl
+either_means : (g : Parts) (past : List Item) (l : Lun) (byte : ℕ) (cycle : TargetCycle) (b : Bool) (x y : Effect) → (b ≡ true → MeansCycle g past l byte cycle x) → (b ≡ false → MeansCycle g past l byte cycle y) → MeansCycle g past l byte cycle (cond b x y)
+either_means g past l byte cycle true x y hx hy = hx refl
+either_means g past l byte cycle false x y hx hy = hy refl
 
 -- a cache read, which works on the one driver
-cache_means : (g : Parts) (past : List Item) (l : Lun) (c : Command) (e : Effect) → is_off (latch_alone g past l) ≡ not (drives_alone g past l) → (drives_alone g past l ≡ false → MeansCycle g past l (CommandCycle c) Unaffected) → (drives_alone g past l ≡ true → MeansCycle g past l (CommandCycle c) e) → MeansCycle g past l (CommandCycle c) (cond (is_off (latch_alone g past l)) Unaffected e)
-cache_means g past l c e off none one =
-    either_means g past l (CommandCycle c) (is_off (latch_alone g past l)) Unaffected e (λ h. none (not-true (drives_alone g past l) (sym off ∙ h))) (λ h. one (not-false (drives_alone g past l) (sym off ∙ h)))
+cache_means : (g : Parts) (past : List Item) (l : Lun) (byte : ℕ) (c : Command) (e : Effect) → is_off (latch_alone g past l) ≡ not (drives_alone g past l) → (drives_alone g past l ≡ false → MeansCycle g past l byte (CommandCycle c) Unaffected) → (drives_alone g past l ≡ true → MeansCycle g past l byte (CommandCycle c) e) → MeansCycle g past l byte (CommandCycle c) (cond (is_off (latch_alone g past l)) Unaffected e)
+cache_means g past l byte c e off none one =
+    either_means g past l byte (CommandCycle c) (is_off (latch_alone g past l)) Unaffected e (λ h. none (not-true (drives_alone g past l) (sym off ∙ h))) (λ h. one (not-false (drives_alone g past l) (sym off ∙ h)))
 
 -- a command that neither closes a row nor is another effect
-nothing_means : (g : Parts) (past : List Item) (l : Lun) (cycle : TargetCycle) → closing_cycle g past l cycle ≡ None → is_column_confirm cycle ≡ false → is_output cycle ≡ false → is_status_command cycle ≡ false → MeansCycle g past l cycle Unaffected
-nothing_means g past l cycle none change output status =
+nothing_means : (g : Parts) (past : List Item) (l : Lun) (byte : ℕ) (cycle : TargetCycle) → closing_cycle g past l cycle ≡ None → is_column_confirm cycle ≡ false → is_output cycle ≡ false → is_status_command cycle ≡ false → MeansCycle g past l byte cycle Unaffected
+nothing_means g past l byte cycle none change output status =
     record { closes = none; changes = rw change refl; outputs = rw output refl; status = status; no_ready = refl; no_array_ready = refl; carries = tt }
 
-command_means : (g : Parts) (past : List Item) (l : Lun) (c : Command) → MeansCycle g past l (CommandCycle c) (command_effect g (tail_of past l) (latch_alone g past l) c l.lun)
-command_means g past l Read = record { closes = refl; changes = refl; outputs = refl; status = refl; no_ready = refl; no_array_ready = refl; carries = tt }
-command_means g past l ReadStatus = record { closes = refl; changes = refl; outputs = refl; status = refl; no_ready = refl; no_array_ready = refl; carries = tt }
-command_means g past l ReadStatusEnhanced = record { closes = refl; changes = refl; outputs = refl; status = refl; no_ready = refl; no_array_ready = refl; carries = tt }
-command_means g past l Reset = record { closes = refl; changes = refl; outputs = refl; status = refl; no_ready = refl; no_array_ready = refl; carries = tt }
-command_means g past l ReadCacheSequential =
-    cache_means g past l ReadCacheSequential CacheReadContinued (alone_off g past l)
-    (λ h. nothing_means g past l (CommandCycle ReadCacheSequential) (rw h refl) refl refl refl)
+command_means : (g : Parts) (past : List Item) (l : Lun) (byte : ℕ) (c : Command) → MeansCycle g past l byte (CommandCycle c) (command_effect g (tail_of past l) (latch_alone g past l) c l.lun)
+command_means g past l byte Read = record { closes = refl; changes = refl; outputs = refl; status = refl; no_ready = refl; no_array_ready = refl; carries = tt }
+command_means g past l byte ReadStatus = record { closes = refl; changes = refl; outputs = refl; status = refl; no_ready = refl; no_array_ready = refl; carries = tt }
+command_means g past l byte ReadStatusEnhanced = record { closes = refl; changes = refl; outputs = refl; status = refl; no_ready = refl; no_array_ready = refl; carries = tt }
+command_means g past l byte Reset = record { closes = refl; changes = refl; outputs = refl; status = refl; no_ready = refl; no_array_ready = refl; carries = tt }
+command_means g past l byte SynchronousReset = record { closes = refl; changes = refl; outputs = refl; status = refl; no_ready = refl; no_array_ready = refl; carries = tt }
+command_means g past l byte ReadCacheSequential =
+    cache_means g past l byte ReadCacheSequential CacheReadContinued (alone_off g past l)
+    (λ h. nothing_means g past l byte (CommandCycle ReadCacheSequential) (rw h refl) refl refl refl)
     (λ h. record { closes = rw h refl; changes = refl; outputs = refl; status = refl; no_ready = refl; no_array_ready = refl; carries = tt })
-command_means g past l ReadCacheEnd =
-    cache_means g past l ReadCacheEnd CacheReadEnded (alone_off g past l)
-    (λ h. nothing_means g past l (CommandCycle ReadCacheEnd) (rw h refl) refl refl refl)
+command_means g past l byte ReadCacheEnd =
+    cache_means g past l byte ReadCacheEnd CacheReadEnded (alone_off g past l)
+    (λ h. nothing_means g past l byte (CommandCycle ReadCacheEnd) (rw h refl) refl refl refl)
     (λ h. record { closes = rw h refl; changes = refl; outputs = refl; status = refl; no_ready = refl; no_array_ready = refl; carries = tt })
-command_means g past l ChangeReadColumnConfirm =
-    either_means g past l (CommandCycle ChangeReadColumnConfirm) (wants_command (tail_of past l) ChangeReadColumnConfirm && not (is_off (latch_alone g past l))) (ReadColumnChanged (tail_of past l).column) Unaffected
+command_means g past l byte ChangeReadColumnConfirm =
+    either_means g past l byte (CommandCycle ChangeReadColumnConfirm) (wants_command (tail_of past l) ChangeReadColumnConfirm && not (is_off (latch_alone g past l))) (ReadColumnChanged (tail_of past l).column) Unaffected
     (λ h. record { closes = at (wants_command (tail_of past l) ChangeReadColumnConfirm && names_lun g (row (tail_of past l)) l.lun); changes = same ∙ h; outputs = refl; status = refl; no_ready = refl; no_array_ready = refl; carries = refl })
     (λ h. record { closes = at (wants_command (tail_of past l) ChangeReadColumnConfirm && names_lun g (row (tail_of past l)) l.lun); changes = same ∙ h; outputs = refl; status = refl; no_ready = refl; no_array_ready = refl; carries = tt })
   where
@@ -151,68 +163,78 @@ command_means g past l ChangeReadColumnConfirm =
 
     same : (wants_command (tail_of past l) ChangeReadColumnConfirm && drives_alone g past l) ≡ (wants_command (tail_of past l) ChangeReadColumnConfirm && not (is_off (latch_alone g past l)))
     same = ap (λ b. wants_command (tail_of past l) ChangeReadColumnConfirm && b) (not_not (drives_alone g past l) ∙ ap not (sym (alone_off g past l)))
-command_means g past l ReadConfirm =
-    either_means g past l (CommandCycle ReadConfirm) (wants_command (tail_of past l) ReadConfirm && names_lun g (row (tail_of past l)) l.lun) _ Unaffected
+command_means g past l byte ReadConfirm =
+    either_means g past l byte (CommandCycle ReadConfirm) (wants_command (tail_of past l) ReadConfirm && names_lun g (row (tail_of past l)) l.lun) _ Unaffected
     (λ h. record { closes = rw h refl; changes = refl; outputs = refl; status = refl; no_ready = refl; no_array_ready = refl; carries = (refl, refl) })
-    (λ h. nothing_means g past l (CommandCycle ReadConfirm) (rw h refl) refl refl refl)
-command_means g past l BlockEraseConfirm =
-    either_means g past l (CommandCycle BlockEraseConfirm) (wants_command (tail_of past l) BlockEraseConfirm && names_lun g (row (tail_of past l)) l.lun) _ Unaffected
+    (λ h. nothing_means g past l byte (CommandCycle ReadConfirm) (rw h refl) refl refl refl)
+command_means g past l byte BlockEraseConfirm =
+    either_means g past l byte (CommandCycle BlockEraseConfirm) (wants_command (tail_of past l) BlockEraseConfirm && names_lun g (row (tail_of past l)) l.lun) _ Unaffected
     (λ h. record { closes = rw h refl; changes = refl; outputs = refl; status = refl; no_ready = refl; no_array_ready = refl; carries = refl })
-    (λ h. nothing_means g past l (CommandCycle BlockEraseConfirm) (rw h refl) refl refl refl)
-command_means g past l BlockErasePlane =
-    either_means g past l (CommandCycle BlockErasePlane) (wants_command (tail_of past l) BlockErasePlane && names_lun g (row (tail_of past l)) l.lun) _ Unaffected
+    (λ h. nothing_means g past l byte (CommandCycle BlockEraseConfirm) (rw h refl) refl refl refl)
+command_means g past l byte BlockErasePlane =
+    either_means g past l byte (CommandCycle BlockErasePlane) (wants_command (tail_of past l) BlockErasePlane && names_lun g (row (tail_of past l)) l.lun) _ Unaffected
     (λ h. record { closes = rw h refl; changes = refl; outputs = refl; status = refl; no_ready = refl; no_array_ready = refl; carries = refl })
-    (λ h. nothing_means g past l (CommandCycle BlockErasePlane) (rw h refl) refl refl refl)
-command_means g past l ProgramConfirm =
-    either_means g past l (CommandCycle ProgramConfirm) (wants_command (tail_of past l) ProgramConfirm && names_lun g (row (tail_of past l)) l.lun) _ Unaffected
+    (λ h. nothing_means g past l byte (CommandCycle BlockErasePlane) (rw h refl) refl refl refl)
+command_means g past l byte ProgramConfirm =
+    either_means g past l byte (CommandCycle ProgramConfirm) (wants_command (tail_of past l) ProgramConfirm && names_lun g (row (tail_of past l)) l.lun) _ Unaffected
     (λ h. record { closes = rw h refl; changes = refl; outputs = refl; status = refl; no_ready = refl; no_array_ready = refl; carries = refl })
-    (λ h. nothing_means g past l (CommandCycle ProgramConfirm) (rw h refl) refl refl refl)
-command_means g past l ProgramPlane =
-    either_means g past l (CommandCycle ProgramPlane) (wants_command (tail_of past l) ProgramPlane && names_lun g (row (tail_of past l)) l.lun) _ Unaffected
+    (λ h. nothing_means g past l byte (CommandCycle ProgramConfirm) (rw h refl) refl refl refl)
+command_means g past l byte ProgramPlane =
+    either_means g past l byte (CommandCycle ProgramPlane) (wants_command (tail_of past l) ProgramPlane && names_lun g (row (tail_of past l)) l.lun) _ Unaffected
     (λ h. record { closes = rw h refl; changes = refl; outputs = refl; status = refl; no_ready = refl; no_array_ready = refl; carries = refl })
-    (λ h. nothing_means g past l (CommandCycle ProgramPlane) (rw h refl) refl refl refl)
-command_means g past l c =
-    either_means g past l (CommandCycle c) (wants_command (tail_of past l) c && names_lun g (row (tail_of past l)) l.lun) Unaffected Unaffected
-    (λ h. nothing_means g past l (CommandCycle c) refl refl refl refl)
-    (λ h. nothing_means g past l (CommandCycle c) refl refl refl refl)
+    (λ h. nothing_means g past l byte (CommandCycle ProgramPlane) (rw h refl) refl refl refl)
+command_means g past l byte c =
+    either_means g past l byte (CommandCycle c) (wants_command (tail_of past l) c && names_lun g (row (tail_of past l)) l.lun) Unaffected Unaffected
+    (λ h. nothing_means g past l byte (CommandCycle c) refl refl refl refl)
+    (λ h. nothing_means g past l byte (CommandCycle c) refl refl refl refl)
 
 -- an address closes what its opener is, and is nothing else that counts
-address_nothing : (g : Parts) (past : List Item) (l : Lun) (byte : ℕ) (e : Effect) → closing_cycle g past l (AddressCycle byte) ≡ closer_of e → is_column_change e ≡ false → is_data_output e ≡ false → is_status e ≡ false → is_ready e ≡ false → is_array_ready e ≡ false → Carries g (tail_of past l) e → MeansCycle g past l (AddressCycle byte) e
+address_nothing : (g : Parts) (past : List Item) (l : Lun) (byte : ℕ) (e : Effect) → closing_cycle g past l (AddressCycle byte) ≡ closer_of e → is_column_change e ≡ false → is_data_output e ≡ false → is_status e ≡ false → is_ready e ≡ false → is_array_ready e ≡ false → Carries g (tail_of past l) byte e → MeansCycle g past l byte (AddressCycle byte) e
 address_nothing g past l byte e closes change output status ready array carries =
     record { closes = closes; changes = sym change; outputs = sym output; status = sym status; no_ready = ready; no_array_ready = array; carries = carries }
 
-identity_means : (g : Parts) (past : List Item) (l : Lun) (byte : ℕ) (b : Bool) (c : Command) (e : Effect) → closing_cycle g past l (AddressCycle byte) ≡ cond b (Some c) None → closer_of e ≡ Some c → is_column_change e ≡ false → is_data_output e ≡ false → is_status e ≡ false → is_ready e ≡ false → is_array_ready e ≡ false → Carries g (tail_of past l) e → MeansCycle g past l (AddressCycle byte) (cond b e Unaffected)
+identity_means : (g : Parts) (past : List Item) (l : Lun) (byte : ℕ) (b : Bool) (c : Command) (e : Effect) → closing_cycle g past l (AddressCycle byte) ≡ cond b (Some c) None → closer_of e ≡ Some c → is_column_change e ≡ false → is_data_output e ≡ false → is_status e ≡ false → is_ready e ≡ false → is_array_ready e ≡ false → Carries g (tail_of past l) byte e → MeansCycle g past l byte (AddressCycle byte) (cond b e Unaffected)
 identity_means g past l byte true c e closes of change output status ready array carries = address_nothing g past l byte e (closes ∙ sym of) change output status ready array carries
 identity_means g past l byte false c e closes of change output status ready array carries = address_nothing g past l byte Unaffected closes refl refl refl refl refl tt
 
-address_means : (g : Parts) (past : List Item) (l : Lun) (byte : ℕ) (x : Option Opening) → (tail_of past l).opening ≡ x → MeansCycle g past l (AddressCycle byte) (opening_address_effect g (tail_of past l) byte x l.lun)
-address_means g past l byte None h = address_nothing g past l byte Unaffected (ap (closing_address (tail_of past l) byte) h) refl refl refl refl refl tt
-address_means g past l byte (Some o) h = at o.opener o.addresses (ap (closing_address (tail_of past l) byte) h)
+address_means : (g : Parts) (past : List Item) (l : Lun) (byte : ℕ) (x : Option Opening) → (tail_of past l).opening ≡ x → MeansCycle g past l byte (AddressCycle byte) (opening_address_effect g (tail_of past l) byte x l.lun)
+address_means g past l byte None h = address_nothing g past l byte Unaffected (ap (closing_address g l (tail_of past l) byte) h) refl refl refl refl refl tt
+address_means g past l byte (Some o) h = at o.opener o.addresses (ap (closing_address g l (tail_of past l) byte) h)
   where
-    at : (c : Command) (n : ℕ) → closing_cycle g past l (AddressCycle byte) ≡ identity_closer (wants_address (tail_of past l) byte) c → MeansCycle g past l (AddressCycle byte) (address_effect g (tail_of past l) byte c n l.lun)
+    id_means : (b : Bool) → (byte == 0x20) ≡ b → closing_cycle g past l (AddressCycle byte) ≡ cond (wants_address (tail_of past l) byte) (Some ReadId) None → MeansCycle g past l byte (AddressCycle byte) (cond (wants_address (tail_of past l) byte) (cond b IdRead (IdentityRead (byte == 0x40))) Unaffected)
+    id_means true e h = identity_means g past l byte (wants_address (tail_of past l) byte) ReadId IdRead h refl refl refl refl refl refl (rw e refl)
+    id_means false e h = identity_means g past l byte (wants_address (tail_of past l) byte) ReadId (IdentityRead (byte == 0x40)) h refl refl refl refl refl refl (rw e refl)
+
+    at : (c : Command) (n : ℕ) → closing_cycle g past l (AddressCycle byte) ≡ address_closer (wants_address (tail_of past l) byte) (names_lun g (row_with (tail_of past l) byte) l.lun) c n → MeansCycle g past l byte (AddressCycle byte) (address_effect g (tail_of past l) byte c n l.lun)
     at ReadStatusEnhanced n h =
-        either_means g past l (AddressCycle byte) (n == 2) _ Unaffected
-        (λ k. either_means g past l (AddressCycle byte) (names_lun g (row_with (tail_of past l) byte) l.lun) SelectedForStatus Deselected (λ m. address_nothing g past l byte SelectedForStatus h refl refl refl refl refl tt) (λ m. address_nothing g past l byte Deselected h refl refl refl refl refl tt))
+        either_means g past l byte (AddressCycle byte) (n == 2) _ Unaffected
+        (λ k. either_means g past l byte (AddressCycle byte) (names_lun g (row_with (tail_of past l) byte) l.lun) SelectedForStatus Deselected (λ m. address_nothing g past l byte SelectedForStatus h refl refl refl refl refl tt) (λ m. address_nothing g past l byte Deselected h refl refl refl refl refl tt))
         (λ k. address_nothing g past l byte Unaffected h refl refl refl refl refl tt)
-    at ReadId n h = identity_means g past l byte (wants_address (tail_of past l) byte) ReadId IdRead h refl refl refl refl refl refl tt
+    at ReadId n h = id_means (byte == 0x20) refl h
     at ReadParameterPage n h = identity_means g past l byte (wants_address (tail_of past l) byte) ReadParameterPage ParameterPageReadStarted h refl refl refl refl refl refl tt
+    at ReadUniqueId n h = identity_means g past l byte (wants_address (tail_of past l) byte) ReadUniqueId UniqueIdReadStarted h refl refl refl refl refl refl tt
+    at GetFeatures n h = identity_means g past l byte (wants_address (tail_of past l) byte) GetFeatures (FeaturesReadStarted byte) h refl refl refl refl refl refl refl
+    at ResetLun n h = identity_means g past l byte (n == 2 && names_lun g (row_with (tail_of past l) byte) l.lun) Reset ResetStarted h refl refl refl refl refl refl tt
     at _ n h = address_nothing g past l byte Unaffected h refl refl refl refl refl tt
 
-cycle_means : (g : Parts) (past : List Item) (l : Lun) (cycle : TargetCycle) → MeansCycle g past l cycle (cycle_effect g (tail_of past l) (latch_alone g past l) cycle l.lun)
-cycle_means g past l (CommandCycle c) = command_means g past l c
-cycle_means g past l (AddressCycle byte) = address_means g past l byte (tail_of past l).opening refl
-cycle_means g past l (InputCycle byte) = nothing_means g past l (InputCycle byte) refl refl refl refl
-cycle_means g past l OutputCycle =
-    either_means g past l OutputCycle (is_data (latch_alone g past l)) DataOutput Unaffected
+cycle_means : (g : Parts) (past : List Item) (l : Lun) (kind : Kind) (byte : ℕ) → MeansCycle g past l byte (target_cycle kind byte) (cycle_effect g (tail_of past l) (latch_alone g past l) (target_cycle kind byte) l.lun)
+cycle_means g past l Cmd byte = command_means g past l byte (command byte)
+cycle_means g past l Adr byte = address_means g past l byte (tail_of past l).opening refl
+cycle_means g past l Din byte =
+    either_means g past l byte (InputCycle byte) (ends_features (tail_of past l)) (FeaturesSet ((tail_of past l).column % 256)) Unaffected
+    (λ h. record { closes = rw h refl; changes = refl; outputs = refl; status = refl; no_ready = refl; no_array_ready = refl; carries = tt })
+    (λ h. nothing_means g past l byte (InputCycle byte) (rw h refl) refl refl refl)
+cycle_means g past l Dout byte =
+    either_means g past l byte OutputCycle (is_data (latch_alone g past l)) DataOutput Unaffected
     (λ h. record { closes = refl; changes = refl; outputs = sym (alone_data g past l) ∙ h; status = refl; no_ready = refl; no_array_ready = refl; carries = tt })
     (λ h. record { closes = refl; changes = refl; outputs = sym (alone_data g past l) ∙ h; status = refl; no_ready = refl; no_array_ready = refl; carries = tt })
 
 -- the effect of an item says what the item is to the LUN
 pub means : (g : Parts) (past : List Item) (i : Item) (l : Lun) → Means g past i l (effect_on g past i l)
 unfolding effect_on
-means g past (Cyc c) l = at (c.ce == l.ce) refl (cycle_means g past l (target_cycle c.kind c.byte))
+means g past (Cyc c) l = at (c.ce == l.ce) refl (cycle_means g past l c.kind c.byte)
   where
-    at : (b : Bool) → (c.ce == l.ce) ≡ b → MeansCycle g past l (target_cycle c.kind c.byte) (cycle_effect g (tail_of past l) (latch_alone g past l) (target_cycle c.kind c.byte) l.lun) → Means g past (Cyc c) l (cond b (cycle_effect g (tail_of past l) (latch_alone g past l) (target_cycle c.kind c.byte) l.lun) Unaffected)
+    at : (b : Bool) → (c.ce == l.ce) ≡ b → MeansCycle g past l c.byte (target_cycle c.kind c.byte) (cycle_effect g (tail_of past l) (latch_alone g past l) (target_cycle c.kind c.byte) l.lun) → Means g past (Cyc c) l (cond b (cycle_effect g (tail_of past l) (latch_alone g past l) (target_cycle c.kind c.byte) l.lun) Unaffected)
     at true h m = record { closes = rw h m.closes; ready = sym m.no_ready; array_ready = sym m.no_array_ready; changes = rw h m.changes; outputs = rw h m.outputs; status = rw h m.status; carries = m.carries }
     at false h m = record { closes = rw h refl; ready = refl; array_ready = refl; changes = rw h refl; outputs = rw h refl; status = rw h refl; carries = tt }
 means g past (Rdy ce lun fail) l = at (ce == l.ce && lun == l.lun) refl

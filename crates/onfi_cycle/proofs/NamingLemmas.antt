@@ -5,15 +5,15 @@ use Rattle.std.proofs.lemmas.List.{reverse-reverse}
 use Rattle.std.proofs.lemmas.Bool.{or_cases, and_parts}
 use Rattle.nand_geometry.specs.Row.{row_of}
 use Rattle.onfi_cycle.specs.declared.command.Command.{Command}
-use Rattle.onfi_cycle.specs.declared.command.Command.TheVariants.{Read, ChangeReadColumn, BlockErase, ReadStatusEnhanced, PageProgram, ChangeWriteColumn, ReadId, ReadParameterPage}
+use Rattle.onfi_cycle.specs.declared.command.Command.TheVariants.{Read, ChangeReadColumn, BlockErase, ReadStatusEnhanced, PageProgram, ChangeWriteColumn, ReadId, ReadParameterPage, ReadUniqueId, GetFeatures, SetFeatures, ResetLun}
 use Rattle.onfi_cycle.specs.declared.opening.Opening.{Opening}
 use Rattle.onfi_cycle.specs.declared.row_bytes.RowBytes.{RowBytes}
 use Rattle.onfi_cycle.specs.declared.data_phase.DataPhase.{DataPhase}
-use Rattle.onfi_cycle.specs.declared.data_phase.DataPhase.TheVariants.{Outside, Inputs, FirstColumn, SecondColumn}
+use Rattle.onfi_cycle.specs.declared.data_phase.DataPhase.TheVariants.{Outside, Inputs, FirstColumn, SecondColumn, FeatureInputs}
 use Rattle.onfi_cycle.specs.declared.target_cycle.TargetCycle.{TargetCycle}
 use Rattle.onfi_cycle.specs.declared.target_cycle.TargetCycle.TheVariants.{CommandCycle, AddressCycle, InputCycle, OutputCycle}
-use Rattle.onfi_cycle.specs.Command.{is_opener, address_cycles, takes_address, is_page_program}
-use Rattle.onfi_cycle.specs.Sequence.{opening, opened, one_address_more, next_address_place, data_phase, phase_after_command, phase_after_address, phase_after_input, phase_after_last_address, facts_of, row, row_with, column, column_with, wants_address, wants_column}
+use Rattle.onfi_cycle.specs.Command.{is_opener, address_cycles, takes_address, is_page_program, is_set_features}
+use Rattle.onfi_cycle.specs.Sequence.{opening, opened, one_address_more, next_address_place, data_phase, phase_after_command, phase_after_address, phase_after_input, phase_after_last_address, facts_of, row, row_with, column, column_with, wants_address, wants_column, inputs}
 use Rattle.onfi_cycle.specs.Table.{IsSequence, IsBeginning}
 use Rattle.onfi_cycle.specs.Naming.{since_command, row_cycles, column_cycles, AreWhole, TailsName}
 use Rattle.onfi_cycle.proofs.TableLemmas.{IsOpening, opening_shape, addresses, beginning_wants, reverse_more}
@@ -83,6 +83,20 @@ opening_rows ReadId (a ∷ (x ∷ more)) h = absurd (omega arith)
 opening_rows ReadParameterPage [] h = λ r1 r2 r3 older is. cc
 opening_rows ReadParameterPage (a ∷ []) h = λ r1 r2 r3 older is. cc
 opening_rows ReadParameterPage (a ∷ (x ∷ more)) h = absurd (omega arith)
+opening_rows ReadUniqueId [] h = λ r1 r2 r3 older is. cc
+opening_rows ReadUniqueId (a ∷ []) h = λ r1 r2 r3 older is. cc
+opening_rows ReadUniqueId (a ∷ (x ∷ more)) h = absurd (omega arith)
+opening_rows GetFeatures [] h = λ r1 r2 r3 older is. cc
+opening_rows GetFeatures (a ∷ []) h = λ r1 r2 r3 older is. cc
+opening_rows GetFeatures (a ∷ (x ∷ more)) h = absurd (omega arith)
+opening_rows SetFeatures [] h = λ r1 r2 r3 older is. cc
+opening_rows SetFeatures (a ∷ []) h = λ r1 r2 r3 older is. cc
+opening_rows SetFeatures (a ∷ (x ∷ more)) h = absurd (omega arith)
+opening_rows ResetLun [] h = λ r1 r2 r3 older is. cc
+opening_rows ResetLun (a ∷ []) h = λ r1 r2 r3 older is. cc
+opening_rows ResetLun (a ∷ (b ∷ [])) h = λ r1 r2 r3 older is. cc
+opening_rows ResetLun (a ∷ (b ∷ (c ∷ []))) h = λ r1 r2 r3 older is. same_row a b c r1 r2 r3 older is
+opening_rows ResetLun (a ∷ (b ∷ (c ∷ (x ∷ more)))) h = absurd (omega arith)
 opening_rows c [] h = λ r1 r2 r3 older is. cc
 opening_rows c (x ∷ bs) h = absurd (omega arith)
 
@@ -121,6 +135,20 @@ opening_columns ReadId (a ∷ (x ∷ more)) h = absurd (omega arith)
 opening_columns ReadParameterPage [] h = λ w c1 c2 older is s. cc
 opening_columns ReadParameterPage (a ∷ []) h = λ w c1 c2 older is s. cc
 opening_columns ReadParameterPage (a ∷ (x ∷ more)) h = absurd (omega arith)
+opening_columns ReadUniqueId [] h = λ w c1 c2 older is s. cc
+opening_columns ReadUniqueId (a ∷ []) h = λ w c1 c2 older is s. cc
+opening_columns ReadUniqueId (a ∷ (x ∷ more)) h = absurd (omega arith)
+opening_columns GetFeatures [] h = λ w c1 c2 older is s. cc
+opening_columns GetFeatures (a ∷ []) h = λ w c1 c2 older is s. cc
+opening_columns GetFeatures (a ∷ (x ∷ more)) h = absurd (omega arith)
+opening_columns SetFeatures [] h = λ w c1 c2 older is s. cc
+opening_columns SetFeatures (a ∷ []) h = λ w c1 c2 older is s. cc
+opening_columns SetFeatures (a ∷ (x ∷ more)) h = absurd (omega arith)
+opening_columns ResetLun [] h = λ w c1 c2 older is s. cc
+opening_columns ResetLun (a ∷ []) h = λ w c1 c2 older is s. cc
+opening_columns ResetLun (a ∷ (b ∷ [])) h = λ w c1 c2 older is s. cc
+opening_columns ResetLun (a ∷ (b ∷ (c ∷ []))) h = λ w c1 c2 older is s. cc
+opening_columns ResetLun (a ∷ (b ∷ (c ∷ (x ∷ more)))) h = absurd (omega arith)
 opening_columns c [] h = λ w c1 c2 older is s. cc
 opening_columns c (x ∷ bs) h = absurd (omega arith)
 
@@ -132,11 +160,12 @@ record WaitsForColumn (t : List TargetCycle) : Type 0 where
 
 not_while_outside : (t : List TargetCycle) (x : Option Opening) → wants_column (phase_after_last_address x) ≡ true → WaitsForColumn t
 not_while_outside t None h = cc
-not_while_outside t (Some o) h = at (is_page_program o.opener && o.addresses == 4) h
+not_while_outside t (Some o) h = at (is_page_program o.opener && o.addresses == 4) (is_set_features o.opener && o.addresses == 0) h
   where
-    at : (v : Bool) → wants_column (cond v Inputs Outside) ≡ true → WaitsForColumn t
-    at true h = cc
-    at false h = cc
+    at : (v w : Bool) → wants_column (cond v Inputs (cond w FeatureInputs Outside)) ≡ true → WaitsForColumn t
+    at true w h = cc
+    at false true h = cc
+    at false false h = cc
 
 waits_after_command : (c : Command) (t : List TargetCycle) → wants_column (phase_after_command c (data_phase t)) ≡ true → WaitsForColumn (CommandCycle c ∷ t)
 waits_after_command ChangeWriteColumn [] h = cc
@@ -150,16 +179,24 @@ waits_after_address b t FirstColumn before h =
     record { no_opening = ap one_address_more w.no_opening; addresses = w.addresses + 1; after = ap one_address_more w.after }
 waits_after_address b t SecondColumn before h = cc
 waits_after_address b t Inputs before h = cc
+waits_after_address b t FeatureInputs before h = cc
 
-no_column_after_input : (d : DataPhase) → wants_column (phase_after_input d) ≡ true → ⊥
-no_column_after_input Inputs h = cc
-no_column_after_input _ h = cc
+no_column_after_input : (n : ℕ) (d : DataPhase) → wants_column (phase_after_input n d) ≡ true → ⊥
+no_column_after_input n Inputs h = cc
+no_column_after_input n Outside h = cc
+no_column_after_input n FirstColumn h = cc
+no_column_after_input n SecondColumn h = cc
+no_column_after_input n FeatureInputs h = at (ltb n 3) h
+  where
+    at : (b : Bool) → wants_column (cond b FeatureInputs Outside) ≡ true → ⊥
+    at true h = cc
+    at false h = cc
 
 waits_for_column : (t : List TargetCycle) → wants_column (data_phase t) ≡ true → WaitsForColumn t
 waits_for_column [] h = cc
 waits_for_column (CommandCycle c ∷ t) h = waits_after_command c t h
 waits_for_column (AddressCycle b ∷ t) h = waits_after_address b t (data_phase t) (λ e. waits_for_column t (ap wants_column e)) h
-waits_for_column (InputCycle b ∷ t) h = absurd (no_column_after_input (data_phase t) h)
+waits_for_column (InputCycle b ∷ t) h = absurd (no_column_after_input (inputs t) (data_phase t) h)
 waits_for_column (OutputCycle ∷ t) h = cc
 
 -- where a tail with one address more has an opening, written out
@@ -220,6 +257,7 @@ HasColumns Outside t = Unit {0}
 HasColumns Inputs t = AreWhole (column_cycles t)
 HasColumns FirstColumn t = AreWhole (column_cycles t)
 HasColumns SecondColumn t = HasHalf t
+HasColumns FeatureInputs t = Unit {0}
 
 whole_more : (a b : ℕ) (older : List ℕ) → AreWhole older → AreWhole (a ∷ (b ∷ older))
 whole_more a b older (pairs, h) = (suc pairs, omega arith)
@@ -231,9 +269,16 @@ columns_after_command : (c : Command) (t : List TargetCycle) (d : DataPhase) →
 columns_after_command ChangeWriteColumn t Inputs h = h
 columns_after_command c t d h = tt
 
-columns_after_input : (b : ℕ) (t : List TargetCycle) (d : DataPhase) → HasColumns d t → HasColumns (phase_after_input d) (InputCycle b ∷ t)
+columns_after_input : (b : ℕ) (t : List TargetCycle) (d : DataPhase) → HasColumns d t → HasColumns (phase_after_input (inputs t) d) (InputCycle b ∷ t)
 columns_after_input b t Inputs h = h
-columns_after_input b t _ h = tt
+columns_after_input b t Outside h = tt
+columns_after_input b t FirstColumn h = tt
+columns_after_input b t SecondColumn h = tt
+columns_after_input b t FeatureInputs h = at (ltb (inputs t) 3)
+  where
+    at : (v : Bool) → HasColumns (cond v FeatureInputs Outside) (InputCycle b ∷ t)
+    at true = tt
+    at false = tt
 
 -- the fifth address of a program, written out
 program_columns : (bs : List ℕ) → length bs ≡ 5 → AreWhole (column_cycles (reverse (CommandCycle PageProgram ∷ addresses bs)))
@@ -251,11 +296,12 @@ page_program_only _ h = cc
 
 columns_after_last_address : (b : ℕ) (t : List TargetCycle) (x : Option Opening) → opening t ≡ x → HasColumns (phase_after_last_address x) (AddressCycle b ∷ t)
 columns_after_last_address b t None e = tt
-columns_after_last_address b t (Some o) e = at (is_page_program o.opener && o.addresses == 4) refl
+columns_after_last_address b t (Some o) e = at (is_page_program o.opener && o.addresses == 4) refl (is_set_features o.opener && o.addresses == 0)
   where
-    at : (v : Bool) → (is_page_program o.opener && o.addresses == 4) ≡ v → HasColumns (cond v Inputs Outside) (AddressCycle b ∷ t)
-    at false k = tt
-    at true k =
+    at : (v : Bool) → (is_page_program o.opener && o.addresses == 4) ≡ v → (w : Bool) → HasColumns (cond v Inputs (cond w FeatureInputs Outside)) (AddressCycle b ∷ t)
+    at false k true = tt
+    at false k false = tt
+    at true k w =
         let both = and_parts (is_page_program o.opener) (o.addresses == 4) k in
         let more : Opening = record { opener = o.opener; addresses = o.addresses + 1 } in
         let s = opening_shape (AddressCycle b ∷ t) more (ap one_address_more e) in
@@ -266,6 +312,7 @@ columns_after_last_address b t (Some o) e = at (is_page_program o.opener && o.ad
 columns_after_address : (b : ℕ) (t : List TargetCycle) (d : DataPhase) → data_phase t ≡ d → HasColumns d t → HasColumns (phase_after_address (opening t) d) (AddressCycle b ∷ t)
 columns_after_address b t Outside e h = columns_after_last_address b t (opening t) refl
 columns_after_address b t Inputs e h = tt
+columns_after_address b t FeatureInputs e h = tt
 columns_after_address b t FirstColumn e h =
     let w = waits_for_column t (ap wants_column e) in
     record { low = b; older = column_cycles t; is = rw w.after refl; whole = h; first = rw (w.no_opening, e) refl }

@@ -10,15 +10,17 @@ use Rattle.onfi_cycle.specs.declared.item.Item.TheVariants.{Cyc, Rdy, Ard}
 use Rattle.onfi_cycle.specs.declared.latch.Latch.{Latch}
 use Rattle.onfi_cycle.specs.declared.latch.Latch.TheVariants.{Off}
 use Rattle.onfi_cycle.specs.declared.command.Command.{Command}
-use Rattle.onfi_cycle.specs.declared.command.Command.TheVariants.{Read, ProgramConfirm, ProgramPlane, ReadConfirm, ReadCacheSequential, ReadCacheEnd, ReadStatus, ReadStatusEnhanced, ReadId, BlockEraseConfirm, BlockErasePlane, ChangeReadColumnConfirm, ReadParameterPage, Reset}
-use Rattle.onfi_cycle.specs.Command.{at_last_row, reads_identity, wants_one_lun}
+use Rattle.onfi_cycle.specs.declared.command.Command.TheVariants.{Read, ProgramConfirm, ProgramPlane, ReadConfirm, ReadCacheSequential, ReadCacheEnd, ReadStatus, ReadStatusEnhanced, ReadId, BlockEraseConfirm, BlockErasePlane, ChangeReadColumnConfirm, ReadParameterPage, Reset, ChangeWriteColumn, ReadUniqueId, GetFeatures, SetFeatures, ResetLun, SynchronousReset}
+use Rattle.onfi_cycle.specs.Command.{is_opener, is_page_program, is_set_features, at_last_row, reads_identity, wants_one_lun}
+use Rattle.onfi_cycle.specs.declared.data_phase.DataPhase.{DataPhase}
+use Rattle.onfi_cycle.specs.declared.data_phase.DataPhase.TheVariants.{Outside, Inputs, FirstColumn, SecondColumn, FeatureInputs}
 use Rattle.onfi_cycle.specs.declared.target_cycle.TargetCycle.{TargetCycle}
 use Rattle.onfi_cycle.specs.declared.target_cycle.TargetCycle.TheVariants.{CommandCycle, AddressCycle, InputCycle, OutputCycle}
 use Rattle.onfi_cycle.specs.declared.effect.Effect.{Effect}
-use Rattle.onfi_cycle.specs.declared.effect.Effect.TheVariants.{Unaffected, SelectedForStatus, Deselected, BecameReady, ArrayBecameReady}
+use Rattle.onfi_cycle.specs.declared.effect.Effect.TheVariants.{Unaffected, SelectedForStatus, Deselected, BecameReady, ArrayBecameReady, ResetStarted}
 use Rattle.onfi_cycle.specs.declared.opening.Opening.{Opening}
 use Rattle.onfi_cycle.specs.declared.tail_facts.TailFacts.{TailFacts}
-use Rattle.onfi_cycle.specs.Sequence.{target_of, facts_of, row_with, target_cycle, with_cycle, one_address_more, tail, opening, opened, wants_command, row}
+use Rattle.onfi_cycle.specs.Sequence.{takes_features, phase_after_command, phase_after_last_address, phase_after_address, phase_after_input, data_phase, inputs, continued, target_of, facts_of, row_with, target_cycle, with_cycle, one_address_more, tail, opening, opened, wants_command, row}
 use Rattle.onfi_cycle.specs.Effect.{names_lun, command_effect, address_effect, opening_address_effect, cycle_effect, effect_given}
 use Rattle.onfi_cycle.specs.Lun.{effect_on, latch_alone, drivers, is_only, latch, latch_after, read_column, read_column_after, luns_of}
 use Rattle.onfi_cycle.specs.declared.item.Cycle.{Cycle}
@@ -49,6 +51,7 @@ quiet_command g t s Read l m ne one named driver = refl
 quiet_command g t s ReadStatus l m ne one named driver = cc
 quiet_command g t s ReadStatusEnhanced l m ne one named driver = refl
 quiet_command g t s Reset l m ne one named driver = cc
+quiet_command g t s SynchronousReset l m ne one named driver = cc
 quiet_command g t s ReadCacheSequential l m ne one named driver = rw (driver refl) refl
 quiet_command g t s ReadCacheEnd l m ne one named driver = rw (driver refl) refl
 quiet_command g t s ChangeReadColumnConfirm l m ne one named driver = rw (driver refl) (quiet_named (wants_command t ChangeReadColumnConfirm) false _ refl)
@@ -60,14 +63,21 @@ quiet_command g t s ProgramPlane l m ne one named driver = quiet_named (wants_co
 quiet_command g t s c l m ne one named driver = quiet_choice (wants_command t c && names_lun g (row t) l) Unaffected Unaffected refl refl
 
 -- an address of another LUN
-quiet_address : (g : Parts) (t : TailFacts) (byte : ℕ) (c : Command) (n l m : ℕ) → l ≢ m → reads_identity c ≡ false → ((c ≡ ReadStatusEnhanced) → n ≡ 2 → names_lun g (row_with t byte) m ≡ true) → is_quiet (address_effect g t byte c n l) ≡ true
+quiet_address : (g : Parts) (t : TailFacts) (byte : ℕ) (c : Command) (n l m : ℕ) → l ≢ m → reads_identity c ≡ false → (at_last_row c n ≡ true → names_lun g (row_with t byte) m ≡ true) → is_quiet (address_effect g t byte c n l) ≡ true
 quiet_address g t byte ReadStatusEnhanced n l m ne id row = at (n == 2) refl
   where
     at : (b : Bool) → (n == 2) ≡ b → is_quiet (cond b (cond (names_lun g (row_with t byte) l) SelectedForStatus Deselected) Unaffected) ≡ true
-    at true e = rw (not_both _ l m ne (row refl (grind (arith, nat_tests)))) refl
+    at true e = rw (not_both _ l m ne (row e)) refl
+    at false e = refl
+quiet_address g t byte ResetLun n l m ne id row = at (n == 2) refl
+  where
+    at : (b : Bool) → (n == 2) ≡ b → is_quiet (cond (b && names_lun g (row_with t byte) l) ResetStarted Unaffected) ≡ true
+    at true e = rw (not_both _ l m ne (row e)) refl
     at false e = refl
 quiet_address g t byte ReadId n l m ne id row = cc
 quiet_address g t byte ReadParameterPage n l m ne id row = cc
+quiet_address g t byte ReadUniqueId n l m ne id row = cc
+quiet_address g t byte GetFeatures n l m ne id row = cc
 quiet_address g t byte c n l m ne id row = refl
 
 -- a chain of rules that answers none has passed its first rule
@@ -90,10 +100,10 @@ keeps_several_luns g n past c h =
     let luns = luns_of g past c.ce in
     let after_1 = first_passed (breaks_not_there n luns (Cyc c)) Forbidden.NotThere (judge_cycle g t luns cycle) h in
     let after_2 = first_passed (breaks_command_unknown g cycle) Forbidden.CommandUnknown _ after_1.1 in
-    let after_3 = first_passed (breaks_sequence_open t cycle) Forbidden.SequenceOpen _ after_2.1 in
+    let after_3 = first_passed (breaks_sequence_open g t cycle) Forbidden.SequenceOpen _ after_2.1 in
     (first_passed (breaks_several_luns g cycle) Forbidden.SeveralLuns _ after_3.1).0
 
--- an opener other than 90 and EC
+-- an opener other than those that read or set what stands beside the array
 abbrev is_other_opening : Option Opening → Bool
 is_other_opening o = not (opened (λ c n. reads_identity c) o)
 
@@ -101,7 +111,7 @@ other_with_more : (o : Option Opening) → is_other_opening o ≡ true → is_ot
 other_with_more None h = refl
 other_with_more (Some o) h = h
 
--- on a target with several LUNs no tail begins with 90 or EC
+-- on a target with several LUNs no tail begins with one of these
 other_with_cycle : (g : Parts) (cycle : TargetCycle) (t : List TargetCycle) → ltb 1 g.luns ≡ true → breaks_several_luns g cycle ≡ false → is_other_opening (opening t) ≡ true → is_other_opening (opening (with_cycle cycle t)) ≡ true
 unfolding breaks_several_luns
 other_with_cycle g (CommandCycle c) t several f4 h = at c t f4
@@ -109,6 +119,9 @@ other_with_cycle g (CommandCycle c) t several f4 h = at c t f4
     at : (c : Command) (t : List TargetCycle) → (wants_one_lun c && ltb 1 g.luns) ≡ false → is_other_opening (opening (with_cycle (CommandCycle c) t)) ≡ true
     at ReadId t f4 = absurd (clash _ several f4)
     at ReadParameterPage t f4 = absurd (clash _ several f4)
+    at ReadUniqueId t f4 = absurd (clash _ several f4)
+    at GetFeatures t f4 = absurd (clash _ several f4)
+    at SetFeatures t f4 = absurd (clash _ several f4)
     at c [] f4 = refl
     at c (d ∷ t) f4 = refl
 other_with_cycle g (AddressCycle byte) [] several f4 h = refl
@@ -118,16 +131,72 @@ other_with_cycle g (InputCycle byte) (d ∷ t) several f4 h = refl
 other_with_cycle g OutputCycle [] several f4 h = refl
 other_with_cycle g OutputCycle (d ∷ t) several f4 h = refl
 
-pub other_openings : (g : Parts) (n : ℕ) (past : List Item) (ce : ℕ) → ltb 1 g.luns ≡ true → is_legal g n past ≡ true → is_other_opening (opening (tail past ce)) ≡ true
-other_openings g n [] ce several h = refl
+-- and none is in the bytes of a Set Features
+
+no_features_by_command : (c : Command) (p : DataPhase) → takes_features (phase_after_command c p) ≡ false
+no_features_by_command ChangeWriteColumn Inputs = refl
+no_features_by_command ChangeWriteColumn _ = refl
+no_features_by_command _ p = refl
+
+set_is_identity : (c : Command) → not (reads_identity c) ≡ true → is_set_features c ≡ false
+set_is_identity SetFeatures h = cc
+set_is_identity _ h = refl
+
+no_features_at_last : (o : Option Opening) → is_other_opening o ≡ true → takes_features (phase_after_last_address o) ≡ false
+no_features_at_last None h = refl
+no_features_at_last (Some o) h = rw (set_is_identity o.opener h) (at (is_page_program o.opener && o.addresses == 4))
+  where
+    at : (b : Bool) → takes_features (cond b Inputs Outside) ≡ false
+    at true = refl
+    at false = refl
+
+no_features_by_address : (o : Option Opening) (p : DataPhase) → is_other_opening o ≡ true → takes_features (phase_after_address o p) ≡ false
+no_features_by_address o Outside h = no_features_at_last o h
+no_features_by_address o Inputs h = refl
+no_features_by_address o FirstColumn h = refl
+no_features_by_address o SecondColumn h = refl
+no_features_by_address o FeatureInputs h = refl
+
+no_features_by_input : (n : ℕ) (p : DataPhase) → takes_features p ≡ false → takes_features (phase_after_input n p) ≡ false
+no_features_by_input n Outside h = refl
+no_features_by_input n Inputs h = refl
+no_features_by_input n FirstColumn h = refl
+no_features_by_input n SecondColumn h = refl
+no_features_by_input n FeatureInputs h = cc
+
+no_features_with : (cycle : TargetCycle) (t : List TargetCycle) → is_other_opening (opening t) ≡ true → takes_features (data_phase t) ≡ false → takes_features (data_phase (with_cycle cycle t)) ≡ false
+no_features_with (CommandCycle c) t o h = at (is_opener c) t
+  where
+    at : (b : Bool) (t : List TargetCycle) → takes_features (data_phase (cond b (CommandCycle c ∷ []) (continued (CommandCycle c) t))) ≡ false
+    at true t = no_features_by_command c Outside
+    at false [] = refl
+    at false (d ∷ t) = no_features_by_command c (data_phase (d ∷ t))
+no_features_with (AddressCycle byte) [] o h = refl
+no_features_with (AddressCycle byte) (d ∷ t) o h = no_features_by_address (opening (d ∷ t)) (data_phase (d ∷ t)) o
+no_features_with (InputCycle byte) [] o h = refl
+no_features_with (InputCycle byte) (d ∷ t) o h = no_features_by_input (inputs (d ∷ t)) (data_phase (d ∷ t)) h
+no_features_with OutputCycle [] o h = refl
+no_features_with OutputCycle (d ∷ t) o h = refl
+
+-- a tail of a target with several LUNs
+pub record IsOther (t : List TargetCycle) : Type 0 where
+  pub opens : is_other_opening (opening t) ≡ true
+  pub no_features : takes_features (data_phase t) ≡ false
+
+pub other_openings : (g : Parts) (n : ℕ) (past : List Item) (ce : ℕ) → ltb 1 g.luns ≡ true → is_legal g n past ≡ true → IsOther (tail past ce)
+other_openings g n [] ce several h = record { opens = refl; no_features = refl }
 other_openings g n (Cyc c ∷ past) ce several h =
     let legal = both_true (is_permitted g n past (Cyc c)) (is_legal g n past) h in
     let before = other_openings g n past ce several legal.1 in
     let f4 = keeps_several_luns g n past c (permitted_none g n past (Cyc c) legal.0) in
     at (c.ce == ce) before f4
   where
-    at : (b : Bool) → is_other_opening (opening (tail past ce)) ≡ true → breaks_several_luns g (target_cycle c.kind c.byte) ≡ false → is_other_opening (opening (cond b (with_cycle (target_cycle c.kind c.byte) (tail past ce)) (tail past ce))) ≡ true
-    at true before f4 = other_with_cycle g (target_cycle c.kind c.byte) (tail past ce) several f4 before
+    at : (b : Bool) → IsOther (tail past ce) → breaks_several_luns g (target_cycle c.kind c.byte) ≡ false → IsOther (cond b (with_cycle (target_cycle c.kind c.byte) (tail past ce)) (tail past ce))
+    at true before f4 =
+        record {
+          opens = other_with_cycle g (target_cycle c.kind c.byte) (tail past ce) several f4 before.opens;
+          no_features = no_features_with (target_cycle c.kind c.byte) (tail past ce) before.opens before.no_features;
+        }
     at false before f4 = before
 other_openings g n (Rdy a b f ∷ past) ce several h = other_openings g n past ce several (both_true (is_permitted g n past (Rdy a b f)) (is_legal g n past) h).1
 other_openings g n (Ard a b ∷ past) ce several h = other_openings g n past ce several (both_true (is_permitted g n past (Ard a b)) (is_legal g n past) h).1
@@ -164,7 +233,7 @@ driver_no_row ReadCacheEnd h = refl
 driver_no_row _ h = cc
 
 -- a cycle of another LUN
-quiet_cycle : (g : Parts) (past : List Item) (ce l m : ℕ) (cycle : TargetCycle) → l ≢ m → ltb 1 g.luns ≡ true → breaks_several_luns g cycle ≡ false → is_other_opening (opening (tail past ce)) ≡ true → keeps_to g past (record { ce = ce; lun = m }) cycle ≡ true → is_quiet (cycle_effect g (facts_of (tail past ce)) (latch_alone g past (record { ce = ce; lun = l })) cycle l) ≡ true
+quiet_cycle : (g : Parts) (past : List Item) (ce l m : ℕ) (cycle : TargetCycle) → l ≢ m → ltb 1 g.luns ≡ true → breaks_several_luns g cycle ≡ false → IsOther (tail past ce) → keeps_to g past (record { ce = ce; lun = m }) cycle ≡ true → is_quiet (cycle_effect g (facts_of (tail past ce)) (latch_alone g past (record { ce = ce; lun = l })) cycle l) ≡ true
 unfolding breaks_several_luns
 quiet_cycle g past ce l m (CommandCycle c) ne several f4 other keep =
     quiet_command g (facts_of (tail past ce)) (latch_alone g past (record { ce = ce; lun = l })) c l m ne
@@ -172,14 +241,14 @@ quiet_cycle g past ce l m (CommandCycle c) ne several f4 other keep =
     (chosen_true (closes_row c) _ _ keep)
     (λ h. shows_nothing g past (record { ce = ce; lun = l }) (record { ce = ce; lun = m }) refl ne
     (chosen_true (needs_driver c) _ _ (chosen_false (closes_row c) _ _ keep (driver_no_row c h)) h))
-quiet_cycle g past ce l m (AddressCycle byte) ne several f4 other keep = at (opening (tail past ce)) other keep
+quiet_cycle g past ce l m (AddressCycle byte) ne several f4 other keep = at (opening (tail past ce)) other.opens keep
   where
     at : (o : Option Opening) → is_other_opening o ≡ true → cond (opened (λ c n. true && at_last_row c n) o) (names_lun g (row_with (facts_of (tail past ce)) byte) m) true ≡ true → is_quiet (opening_address_effect g (facts_of (tail past ce)) byte o l) ≡ true
     at None other keep = refl
     at (Some o) other keep =
         quiet_address g (facts_of (tail past ce)) byte o.opener o.addresses l m ne (not-true (reads_identity o.opener) other)
-        (λ e f. chosen_true (at_last_row o.opener o.addresses) _ _ keep (rw (e, f) refl))
-quiet_cycle g past ce l m (InputCycle byte) ne several f4 other keep = refl
+        (λ e. chosen_true (at_last_row o.opener o.addresses) _ _ keep e)
+quiet_cycle g past ce l m (InputCycle byte) ne several f4 other keep = rw other.no_features refl
 quiet_cycle g past ce l m OutputCycle ne several f4 other keep =
     rw (shows_nothing g past (record { ce = ce; lun = l }) (record { ce = ce; lun = m }) refl ne keep) refl
 

@@ -17,11 +17,11 @@ use Rattle.onfi_cycle.proofs.Others.{first_passed}
 -- the rules that a cycle keeps
 pub record KeepsRules (g : Parts) (t : TailFacts) (luns : List LunView) (cycle : TargetCycle) : Type 0 where
   pub f2 : breaks_command_unknown g cycle ≡ false
-  pub f3 : breaks_sequence_open t cycle ≡ false
+  pub f3 : breaks_sequence_open g t cycle ≡ false
   pub f4 : breaks_several_luns g cycle ≡ false
   pub f5 : breaks_no_column_to_change luns cycle ≡ false
   pub f6 : breaks_command_misplaced t cycle ≡ false
-  pub f7 : breaks_address_misplaced t cycle ≡ false
+  pub f7 : breaks_address_misplaced g t cycle ≡ false
   pub f8 : breaks_row_outside g t cycle ≡ false
   pub f9 : breaks_lun_busy g t luns cycle ≡ false
   pub f10 : breaks_queue_clash g t luns cycle ≡ false
@@ -34,11 +34,11 @@ pub record KeepsRules (g : Parts) (t : TailFacts) (luns : List LunView) (cycle :
 pub keeps_rules : (g : Parts) (t : TailFacts) (luns : List LunView) (cycle : TargetCycle) → judge_cycle g t luns cycle ≡ None → KeepsRules g t luns cycle
 keeps_rules g t luns cycle h =
     let a2 = first_passed (breaks_command_unknown g cycle) CommandUnknown _ h in
-    let a3 = first_passed (breaks_sequence_open t cycle) SequenceOpen _ a2.1 in
+    let a3 = first_passed (breaks_sequence_open g t cycle) SequenceOpen _ a2.1 in
     let a4 = first_passed (breaks_several_luns g cycle) SeveralLuns _ a3.1 in
     let a5 = first_passed (breaks_no_column_to_change luns cycle) NoColumnToChange _ a4.1 in
     let a6 = first_passed (breaks_command_misplaced t cycle) CommandMisplaced _ a5.1 in
-    let a7 = first_passed (breaks_address_misplaced t cycle) AddressMisplaced _ a6.1 in
+    let a7 = first_passed (breaks_address_misplaced g t cycle) AddressMisplaced _ a6.1 in
     let a8 = first_passed (breaks_row_outside g t cycle) RowOutside _ a7.1 in
     let a9 = first_passed (breaks_lun_busy g t luns cycle) LunBusy _ a8.1 in
     let a10 = first_passed (breaks_queue_clash g t luns cycle) QueueClash _ a9.1 in

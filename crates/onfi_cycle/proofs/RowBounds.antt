@@ -1,16 +1,16 @@
 -- The row that a tail names goes together with the queue of its LUN, from its last address to its closer.
-use Rattle.std.proofs.Common.{◌≡◌, ℕ, suc, ◌+◌, ◌==◌, Bool, true, false, ◌&&◌, ◌||◌, cond, List, [], Option, Some, None, refl, sym, ap, ◌∙◌, arith, eqb-true}
+use Rattle.std.proofs.Common.{◌≡◌, ℕ, suc, ◌+◌, ◌==◌, Bool, true, false, ◌&&◌, ◌||◌, cond, ltb, List, [], Option, Some, None, refl, sym, ap, ◌∙◌, arith, eqb-true, ◌%◌}
 use Rattle.std.proofs.lemmas.Bool.Decides.{nat_tests}
 use Rattle.std.specs.List.{slice_get}
 use Rattle.std.proofs.Math.Bool.{and-false}
 use Rattle.nand_geometry.specs.declared.parts.Parts.{Parts}
 use Rattle.nand_geometry.specs.Row.{row_of, parts_of}
 use Rattle.onfi_cycle.specs.declared.command.Command.{Command}
-use Rattle.onfi_cycle.specs.declared.command.Command.TheVariants.{BlockErase, ReadStatusEnhanced, PageProgram, ChangeWriteColumn, ReadId, ReadParameterPage}
+use Rattle.onfi_cycle.specs.declared.command.Command.TheVariants.{BlockErase, ReadStatusEnhanced, PageProgram, ChangeWriteColumn, ReadId, ReadParameterPage, ReadUniqueId, GetFeatures, ResetLun}
 use Rattle.onfi_cycle.specs.declared.data_phase.DataPhase.{DataPhase}
-use Rattle.onfi_cycle.specs.declared.data_phase.DataPhase.TheVariants.{Outside, Inputs, FirstColumn, SecondColumn}
+use Rattle.onfi_cycle.specs.declared.data_phase.DataPhase.TheVariants.{Outside, Inputs, FirstColumn, SecondColumn, FeatureInputs}
 use Rattle.onfi_cycle.specs.declared.effect.Effect.{Effect}
-use Rattle.onfi_cycle.specs.declared.effect.Effect.TheVariants.{Unaffected, SelectedForStatus, Deselected, IdRead, ParameterPageReadStarted, BecameReady, ArrayBecameReady}
+use Rattle.onfi_cycle.specs.declared.effect.Effect.TheVariants.{Unaffected, SelectedForStatus, Deselected, IdRead, ParameterPageReadStarted, BecameReady, ArrayBecameReady, IdentityRead, UniqueIdReadStarted, FeaturesReadStarted, FeaturesSet}
 use Rattle.onfi_cycle.specs.declared.forbidden.Forbidden.TheVariants.{NotThere}
 use Rattle.onfi_cycle.specs.declared.item.Item.{Item}
 use Rattle.onfi_cycle.specs.declared.item.Item.TheVariants.{Cyc, Rdy, Ard}
@@ -23,9 +23,9 @@ use Rattle.onfi_cycle.specs.declared.tail_facts.TailFacts.{TailFacts}
 use Rattle.onfi_cycle.specs.declared.target_cycle.TargetCycle.{TargetCycle}
 use Rattle.onfi_cycle.specs.declared.target_cycle.TargetCycle.TheVariants.{CommandCycle, AddressCycle, InputCycle, OutputCycle}
 use Rattle.onfi_cycle.specs.LunView.{LunView}
-use Rattle.onfi_cycle.specs.Command.{is_page_program, at_last_row}
-use Rattle.onfi_cycle.specs.Sequence.{target_cycle, begins_sequence, facts_of, facts_after, extended_facts, opened, one_address_more, row_after_address, takes_inputs, wants_column, wants_command, wants_address, phase_after_command, phase_after_address, phase_after_input, row, row_with}
-use Rattle.onfi_cycle.specs.Effect.{names_lun, page_address, cycle_effect, address_effect, opening_address_effect}
+use Rattle.onfi_cycle.specs.Command.{is_page_program, at_last_row, is_set_features}
+use Rattle.onfi_cycle.specs.Sequence.{target_cycle, begins_sequence, facts_of, facts_after, extended_facts, opened, one_address_more, row_after_address, takes_data, wants_column, wants_command, wants_address, phase_after_command, phase_after_address, phase_after_input, row, row_with, takes_features}
+use Rattle.onfi_cycle.specs.Effect.{names_lun, page_address, cycle_effect, address_effect, opening_address_effect, id_effect, ends_features}
 use Rattle.onfi_cycle.specs.Lun.{queue_after, view_after}
 use Rattle.onfi_cycle.specs.Rules.{some_queued_clashes, is_some_and, named_lun_is, refused_by, is_refused_by, breaks_not_there, breaks_queue_clash}
 use Rattle.onfi_cycle.specs.Permitted.{judge, judge_cycle}
@@ -51,16 +51,19 @@ either_keeps : (b : Bool) (x y : Effect) (q : List Queued) → queue_after x q �
 either_keeps true x y q hx hy = hx
 either_keeps false x y q hx hy = hy
 
-address_keeps : (g : Parts) (t : TailFacts) (byte : ℕ) (c : Command) (m n : ℕ) (q : List Queued) → queue_after (address_effect g t byte c m n) q ≡ q
-address_keeps g t byte ReadStatusEnhanced m n q =
-    either_keeps (m == 2) (cond (names_lun g (row_with t byte) n) SelectedForStatus Deselected) Unaffected q (either_keeps (names_lun g (row_with t byte) n) SelectedForStatus Deselected q refl refl) refl
-address_keeps g t byte ReadId m n q = either_keeps (wants_address t byte) IdRead Unaffected q refl refl
-address_keeps g t byte ReadParameterPage m n q = either_keeps (wants_address t byte) ParameterPageReadStarted Unaffected q refl refl
-address_keeps g t byte c m n q = refl
+abbrev pub is_reset_lun : Command → Bool
+is_reset_lun ResetLun = true
+is_reset_lun _ = false
 
-opening_keeps : (g : Parts) (t : TailFacts) (byte n : ℕ) (o : Option Opening) (q : List Queued) → queue_after (opening_address_effect g t byte o n) q ≡ q
-opening_keeps g t byte n None q = refl
-opening_keeps g t byte n (Some o) q = address_keeps g t byte o.opener o.addresses n q
+address_keeps : (g : Parts) (t : TailFacts) (byte : ℕ) (c : Command) (m n : ℕ) (q : List Queued) → is_reset_lun c ≡ false → queue_after (address_effect g t byte c m n) q ≡ q
+address_keeps g t byte ReadStatusEnhanced m n q h =
+    either_keeps (m == 2) (cond (names_lun g (row_with t byte) n) SelectedForStatus Deselected) Unaffected q (either_keeps (names_lun g (row_with t byte) n) SelectedForStatus Deselected q refl refl) refl
+address_keeps g t byte ReadId m n q h = either_keeps (wants_address t byte) (id_effect byte) Unaffected q (either_keeps (byte == 0x20) IdRead (IdentityRead (byte == 0x40)) q refl refl) refl
+address_keeps g t byte ReadParameterPage m n q h = either_keeps (wants_address t byte) ParameterPageReadStarted Unaffected q refl refl
+address_keeps g t byte ReadUniqueId m n q h = either_keeps (wants_address t byte) UniqueIdReadStarted Unaffected q refl refl
+address_keeps g t byte GetFeatures m n q h = either_keeps (wants_address t byte) (FeaturesReadStarted byte) Unaffected q refl refl
+address_keeps g t byte ResetLun m n q h = cc
+address_keeps g t byte c m n q h = refl
 
 -- a command: an opener names no row yet; of the others a Change Write Column alone goes on with a program
 pub begun_outside : (c : Command) → phase_after_command c Outside ≡ Outside
@@ -71,11 +74,12 @@ pub record ChangesColumn (c : Command) (p : DataPhase) : Type 0 where
   pub command : c ≡ ChangeWriteColumn
   pub phase : p ≡ Inputs
 
-pub goes_on_inside : (c : Command) (p : DataPhase) → (takes_inputs (phase_after_command c p) || wants_column (phase_after_command c p)) ≡ true → ChangesColumn c p
+pub goes_on_inside : (c : Command) (p : DataPhase) → (takes_data (phase_after_command c p) || wants_column (phase_after_command c p)) ≡ true → ChangesColumn c p
 goes_on_inside ChangeWriteColumn Inputs h = record { command = refl; phase = refl }
 goes_on_inside ChangeWriteColumn Outside h = cc
 goes_on_inside ChangeWriteColumn FirstColumn h = cc
 goes_on_inside ChangeWriteColumn SecondColumn h = cc
+goes_on_inside ChangeWriteColumn FeatureInputs h = cc
 goes_on_inside c p h = cc
 
 begun_row : (g : Parts) (n : ℕ) (v : LunView) (cycle : TargetCycle) → begins_sequence cycle ≡ true → RowFits g (extended_facts cycle (facts_of [])) n v
@@ -134,23 +138,35 @@ program_judged g p q PageProgram m h e = passes (m == 4) e h
     passes false e h = cc
 program_judged g p q c m h e = cc
 
-in_data : (b : Bool) → (takes_inputs (cond b Inputs Outside) || wants_column (cond b Inputs Outside)) ≡ true → b ≡ true
-in_data true h = refl
-in_data false h = cc
+in_data : (b c : Bool) → (takes_data (cond b Inputs (cond c FeatureInputs Outside)) || wants_column (cond b Inputs (cond c FeatureInputs Outside))) ≡ true → b ≡ true
+in_data true c h = refl
+in_data false true h = cc
+in_data false false h = cc
 
 -- where no opener stands alone, an address goes on in the data of a program
-pub later_address : (p : DataPhase) → (takes_inputs (phase_after_address None p) || wants_column (phase_after_address None p)) ≡ true → (takes_inputs p || wants_column p) ≡ true
+pub later_address : (p : DataPhase) → (takes_data (phase_after_address None p) || wants_column (phase_after_address None p)) ≡ true → (takes_data p || wants_column p) ≡ true
 later_address Outside h = cc
 later_address FirstColumn h = refl
 later_address SecondColumn h = refl
 later_address Inputs h = cc
+later_address FeatureInputs h = cc
 
 -- behind an opener, its last address
-pub last_address : (o : Opening) (p : DataPhase) → (wants_column p ≡ true → Some o ≡ None) → (takes_inputs (phase_after_address (Some o) p) || wants_column (phase_after_address (Some o) p)) ≡ true → (is_page_program o.opener && o.addresses == 4) ≡ true
-last_address o Outside alone h = in_data (is_page_program o.opener && o.addresses == 4) h
+pub last_address : (o : Opening) (p : DataPhase) → (wants_column p ≡ true → Some o ≡ None) → (takes_data (phase_after_address (Some o) p) || wants_column (phase_after_address (Some o) p)) ≡ true → (is_page_program o.opener && o.addresses == 4) ≡ true
+last_address o Outside alone h = in_data (is_page_program o.opener && o.addresses == 4) (is_set_features o.opener && o.addresses == 0) h
 last_address o FirstColumn alone h = let never = alone refl in cc
 last_address o SecondColumn alone h = let never = alone refl in cc
 last_address o Inputs alone h = cc
+last_address o FeatureInputs alone h = cc
+
+-- a Reset LUN names no row of the array
+no_program : (c : Command) (b : Bool) → is_reset_lun c ≡ true → (is_page_program c && b) ≡ true → false ≡ true
+no_program ResetLun b r h = h
+no_program _ b r h = r
+
+no_erase : (c : Command) (b : Bool) → is_reset_lun c ≡ true → (is_block_erase c && b) ≡ true → false ≡ true
+no_erase ResetLun b r h = h
+no_erase _ b r h = r
 
 abbrev opened_by_erase : Option Opening → Bool
 opened_by_erase o = opened (λ c n. is_block_erase c && n == 3) o
@@ -159,9 +175,6 @@ address_row : (g : Parts) (t : TailFacts) (la : Latch) (luns : List LunView) (n 
 unfolding breaks_queue_clash
 address_row g t la luns n v byte f10 found tf f = at t.opening refl f10
   where
-    kept : queue_after (opening_address_effect g t byte t.opening n) v.queue ≡ v.queue
-    kept = opening_keeps g t byte n t.opening v.queue
-
     next : TailFacts
     next = extended_facts (AddressCycle byte) t
 
@@ -173,7 +186,7 @@ address_row g t la luns n v byte f10 found tf f = at t.opening refl f10
               erase_judged g (page_address g (row_with t byte)) v.queue o.opener o.addresses (free named) (ap (opened_by_erase) (sym opened) ∙ h);
           program = λ named h.
               ap (λ r. some_queued_clashes g false (page_address g r) v.queue) same ∙
-              program_judged g (page_address g (row_with t byte)) v.queue o.opener o.addresses (free named) (last_address o t.phase (λ e. sym is ∙ tf.in_column e) (ap (λ p. takes_inputs p || wants_column p) (sym phase) ∙ h));
+              program_judged g (page_address g (row_with t byte)) v.queue o.opener o.addresses (free named) (last_address o t.phase (λ e. sym is ∙ tf.in_column e) (ap (λ p. takes_data p || wants_column p) (sym phase) ∙ h));
         }
       where
         free : names_lun g (row next) n ≡ true → is_refused_by g (Some o) (page_address g (row_with t byte)) v.queue ≡ false
@@ -185,31 +198,62 @@ address_row g t la luns n v byte f10 found tf f = at t.opening refl f10
           erase = λ named h. none next.opening opened h;
           program = λ named h.
               ap (λ r. some_queued_clashes g false (page_address g r) v.queue) same ∙
-              f.program (ap (λ r. names_lun g r n) (sym same) ∙ named) (later_address t.phase (ap (λ p. takes_inputs p || wants_column p) (sym phase) ∙ h));
+              f.program (ap (λ r. names_lun g r n) (sym same) ∙ named) (later_address t.phase (ap (λ p. takes_data p || wants_column p) (sym phase) ∙ h));
         }
       where
         none : {A : Type 0} → (o : Option Opening) → o ≡ None → opened_by_erase o ≡ true → A
         none None e h = cc
         none (Some o) e h = cc
 
+    resets : (o : Opening) → t.opening ≡ Some o → is_reset_lun o.opener ≡ true → (w : LunView) → next.opening ≡ one_address_more (Some o) → next.phase ≡ phase_after_address (Some o) t.phase → RowFits g next n w
+    resets o is r w opened phase =
+        record {
+          erase = λ named h. let no = no_erase o.opener (o.addresses + 1 == 3) r (ap (opened_by_erase) (sym opened) ∙ h) in cc;
+          program = λ named h. let no = no_program o.opener (o.addresses == 4) r (last_address o t.phase (λ e. sym is ∙ tf.in_column e) (ap (λ p. takes_data p || wants_column p) (sym phase) ∙ h)) in cc;
+        }
+
     at : (o : Option Opening) → t.opening ≡ o → named_lun_is g (row_with t byte) (λ v. is_refused_by g o (page_address g (row_with t byte)) v.queue) luns ≡ false → RowFits g next n (view_after (cycle_effect g t la (AddressCycle byte) n) v)
     at None e passed =
-        same_queue g next n v (view_after (cycle_effect g t la (AddressCycle byte) n) v) kept
+        same_queue g next n v (view_after (cycle_effect g t la (AddressCycle byte) n) v) (ap (λ o. queue_after (opening_address_effect g t byte o n) v.queue) e)
         (later (ap one_address_more e) (ap (λ o. phase_after_address o t.phase) e) (ap (λ o. row_of (row_after_address o byte t.row).r1 (row_after_address o byte t.row).r2 (row_after_address o byte t.row).r3) e))
-    at (Some o) e passed =
-        same_queue g next n v (view_after (cycle_effect g t la (AddressCycle byte) n) v) kept
-        (first o e (ap one_address_more e) (ap (λ o. phase_after_address o t.phase) e) (ap (λ o. row_of (row_after_address o byte t.row).r1 (row_after_address o byte t.row).r2 (row_after_address o byte t.row).r3) e) passed)
+    at (Some o) e passed = by (is_reset_lun o.opener) refl
+      where
+        by : (b : Bool) → is_reset_lun o.opener ≡ b → RowFits g next n (view_after (cycle_effect g t la (AddressCycle byte) n) v)
+        by true r = resets o e r (view_after (cycle_effect g t la (AddressCycle byte) n) v) (ap one_address_more e) (ap (λ o. phase_after_address o t.phase) e)
+        by false r =
+            same_queue g next n v (view_after (cycle_effect g t la (AddressCycle byte) n) v)
+            (ap (λ o. queue_after (opening_address_effect g t byte o n) v.queue) e ∙ address_keeps g t byte o.opener o.addresses n v.queue r)
+            (first o e (ap one_address_more e) (ap (λ o. phase_after_address o t.phase) e) (ap (λ o. row_of (row_after_address o byte t.row).r1 (row_after_address o byte t.row).r2 (row_after_address o byte t.row).r3) e) passed)
 
-pub input_inside : (p : DataPhase) → (takes_inputs (phase_after_input p) || wants_column (phase_after_input p)) ≡ true → (takes_inputs p || wants_column p) ≡ true
-input_inside Outside h = cc
-input_inside FirstColumn h = cc
-input_inside SecondColumn h = cc
-input_inside Inputs h = refl
+pub input_inside : (n : ℕ) (p : DataPhase) → (takes_data (phase_after_input n p) || wants_column (phase_after_input n p)) ≡ true → (takes_data p || wants_column p) ≡ true
+input_inside n Outside h = cc
+input_inside n FirstColumn h = cc
+input_inside n SecondColumn h = cc
+input_inside n Inputs h = refl
+input_inside n FeatureInputs h = at (ltb n 3) h
+  where
+    at : (b : Bool) → (takes_data (cond b FeatureInputs Outside) || wants_column (cond b FeatureInputs Outside)) ≡ true → false ≡ true
+    at true h = h
+    at false h = h
+
+-- in the data of a program there are no bytes of a Set Features
+pub no_features_inside : (p : DataPhase) → (takes_data p || wants_column p) ≡ true → takes_features p ≡ false
+no_features_inside Outside h = refl
+no_features_inside FirstColumn h = refl
+no_features_inside SecondColumn h = refl
+no_features_inside Inputs h = refl
+no_features_inside FeatureInputs h = cc
 
 extended_row : (g : Parts) (t : TailFacts) (la : Latch) (luns : List LunView) (n : ℕ) (v : LunView) (cycle : TargetCycle) → t.is_empty ≡ false → KeepsRules g t luns cycle → slice_get luns n ≡ Some v → TailFits g t → RowFits g t n v → RowFits g (extended_facts cycle t) n (view_after (cycle_effect g t la cycle n) v)
 extended_row g t la luns n v (CommandCycle c) some keeps found tf f = command_row g t la n v c some f
 extended_row g t la luns n v (AddressCycle byte) some keeps found tf f = address_row g t la luns n v byte keeps.f10 found tf f
-extended_row g t la luns n v (InputCycle byte) some keeps found tf f = record { erase = λ named h. cc; program = λ named h. f.program named (input_inside t.phase h) }
+extended_row g t la luns n v (InputCycle byte) some keeps found tf f =
+    record {
+      erase = λ named h. cc;
+      program = λ named h.
+          ap (some_queued_clashes g false (page_address g (row t))) (either_keeps (ends_features t) (FeaturesSet (t.column % 256)) Unaffected v.queue refl refl)
+          ∙ f.program named (input_inside t.inputs t.phase h);
+    }
 extended_row g t la luns n v OutputCycle some keeps found tf f = record { erase = λ named h. cc; program = λ named h. cc }
 
 cycle_row : (g : Parts) (t : TailFacts) (la : Latch) (luns : List LunView) (n : ℕ) (v : LunView) (cycle : TargetCycle) → KeepsRules g t luns cycle → slice_get luns n ≡ Some v → TailFits g t → RowFits g t n v → RowFits g (facts_after cycle t) n (view_after (cycle_effect g t la cycle n) v)

@@ -1,16 +1,17 @@
 -- The row that a tail names is inside the geometry and its LUN ready, from its last address to its closer.
 use Rattle.std.specs.List.{list_any}
-use Rattle.std.proofs.Common.{◌≡◌, ℕ, suc, ◌+◌, ◌==◌, ◌≤◌, Bool, true, false, ◌&&◌, ◌||◌, cond, not, List, [], ◌∷◌, Option, Some, None, refl, sym, ap, ◌∙◌, arith, length, ltb, subst, zero}
+use Rattle.std.proofs.Common.{◌≡◌, ℕ, suc, ◌+◌, ◌==◌, ◌≤◌, Bool, true, false, ◌&&◌, ◌||◌, cond, not, List, [], ◌∷◌, Option, Some, None, refl, sym, ap, ◌∙◌, arith, length, ltb, subst, zero, ◌<◌}
 use Rattle.std.proofs.lemmas.Bool.Decides.{nat_tests}
 use Rattle.std.specs.List.{slice_get}
-use Rattle.std.proofs.lemmas.Bool.{not-false, not-true, or_right, and_parts as both}
+use Rattle.std.proofs.lemmas.Bool.{not-false, not-true, or_left, or_right, and_parts as both}
 use Rattle.std.proofs.Math.Bool.{and-false, or-false}
 use Rattle.onfi_cycle.proofs.Booleans.{and_rest}
 use Rattle.nand_geometry.specs.declared.parts.Parts.{Parts}
 use Rattle.nand_geometry.specs.Row.{parts_of, is_inside}
 use Rattle.onfi_cycle.specs.declared.command.Command.{Command}
-use Rattle.onfi_cycle.specs.declared.command.Command.TheVariants.{Read, BlockErase, PageProgram, ChangeWriteColumn, ReadId, ReadParameterPage}
-use Rattle.onfi_cycle.specs.declared.data_phase.DataPhase.TheVariants.{Inputs}
+use Rattle.onfi_cycle.specs.declared.command.Command.TheVariants.{Read, BlockErase, PageProgram, ChangeWriteColumn, ReadId, ReadParameterPage, ReadUniqueId, GetFeatures, SetFeatures}
+use Rattle.onfi_cycle.specs.declared.data_phase.DataPhase.{DataPhase}
+use Rattle.onfi_cycle.specs.declared.data_phase.DataPhase.TheVariants.{Inputs, Outside, FirstColumn, SecondColumn, FeatureInputs}
 use Rattle.onfi_cycle.specs.declared.effect.Effect.{Effect}
 use Rattle.onfi_cycle.specs.declared.effect.Effect.TheVariants.{Unaffected, BecameReady, ArrayBecameReady}
 use Rattle.onfi_cycle.specs.declared.forbidden.Forbidden.TheVariants.{NotThere}
@@ -23,9 +24,9 @@ use Rattle.onfi_cycle.specs.declared.tail_facts.TailFacts.{TailFacts}
 use Rattle.onfi_cycle.specs.declared.target_cycle.TargetCycle.{TargetCycle}
 use Rattle.onfi_cycle.specs.declared.target_cycle.TargetCycle.TheVariants.{CommandCycle, AddressCycle, InputCycle, OutputCycle}
 use Rattle.onfi_cycle.specs.LunView.{LunView}
-use Rattle.onfi_cycle.specs.Command.{is_page_program, at_last_row, addresses_the_array, reads_identity}
-use Rattle.onfi_cycle.specs.Sequence.{target_cycle, begins_sequence, facts_of, facts_after, extended_facts, opened, one_address_more, row_after_address, wants_command, phase_after_command, phase_after_address, row, row_with}
-use Rattle.onfi_cycle.specs.Effect.{names_lun, page_address, cycle_effect, address_effect, opening_address_effect}
+use Rattle.onfi_cycle.specs.Command.{is_page_program, at_last_row, addresses_the_array, reads_identity, is_set_features}
+use Rattle.onfi_cycle.specs.Sequence.{target_cycle, begins_sequence, facts_of, facts_after, extended_facts, opened, one_address_more, row_after_address, wants_command, phase_after_command, phase_after_address, row, row_with, takes_features, phase_after_input}
+use Rattle.onfi_cycle.specs.Effect.{names_lun, page_address, cycle_effect, address_effect, opening_address_effect, ends_features}
 use Rattle.onfi_cycle.specs.Lun.{busy_after, view_after}
 use Rattle.onfi_cycle.specs.Rules.{ends_row, breaks_not_there, breaks_several_luns, breaks_row_outside, breaks_lun_busy}
 use Rattle.onfi_cycle.specs.Permitted.{judge, judge_cycle}
@@ -33,7 +34,8 @@ use Rattle.onfi_cycle.specs.State.{tail_after, effect_alone, has_driver}
 use Rattle.onfi_cycle.specs.Bounds.{TailFits, RowStands, is_read, is_block_erase, names_read, names_erase, names_program, names_row, names_identity, is_row}
 use Rattle.onfi_cycle.proofs.Others.{first_passed}
 use Rattle.onfi_cycle.proofs.Passed.{KeepsRules, keeps_rules}
-use Rattle.onfi_cycle.proofs.RowBounds.{goes_on_inside, begun_outside, judged_row, next_is, later_address, last_address, input_inside}
+use Rattle.onfi_cycle.proofs.RowBounds.{goes_on_inside, begun_outside, judged_row, next_is, later_address, last_address, input_inside, no_features_inside}
+use Rattle.onfi_cycle.proofs.TailBounds.{command_in_features, input_in_features}
 
 -- a tail that names no row and waits for no address of an identity
 unnamed : (g : Parts) (t : TailFacts) (n : ℕ) (v : LunView) → names_row t ≡ false → names_identity t ≡ false → RowStands g t n v
@@ -77,31 +79,40 @@ identity_stands g t luns n v c keeps count found h = of c h keeps.f4 keeps.f9
     of : (c : Command) → reads_identity c ≡ true → breaks_several_luns g (CommandCycle c) ≡ false → breaks_lun_busy g t luns (CommandCycle c) ≡ false → Identity v n
     of ReadId h f4 f9 = when f4 f9
     of ReadParameterPage h f4 f9 = when f4 f9
+    of ReadUniqueId h f4 f9 = when f4 f9
+    of GetFeatures h f4 f9 = when f4 f9
+    of SetFeatures h f4 f9 = when f4 f9
     of _ h f4 f9 = cc
 
+neither_starts : (b busy : Bool) → busy_after (cond b Unaffected Unaffected) busy ≡ busy
+neither_starts true busy = refl
+neither_starts false busy = refl
+
 identity_keeps : (g : Parts) (t : TailFacts) (la : Latch) (n : ℕ) (c : Command) (busy : Bool) → reads_identity c ≡ true → busy_after (cycle_effect g t la (CommandCycle c) n) busy ≡ busy
-identity_keeps g t la n ReadId busy h = either (wants_command t ReadId && names_lun g (row t) n)
-  where
-    either : (b : Bool) → busy_after (cond b Unaffected Unaffected) busy ≡ busy
-    either true = refl
-    either false = refl
-identity_keeps g t la n ReadParameterPage busy h = either (wants_command t ReadParameterPage && names_lun g (row t) n)
-  where
-    either : (b : Bool) → busy_after (cond b Unaffected Unaffected) busy ≡ busy
-    either true = refl
-    either false = refl
+identity_keeps g t la n ReadId busy h = neither_starts (wants_command t ReadId && names_lun g (row t) n) busy
+identity_keeps g t la n ReadParameterPage busy h = neither_starts (wants_command t ReadParameterPage && names_lun g (row t) n) busy
+identity_keeps g t la n ReadUniqueId busy h = neither_starts (wants_command t ReadUniqueId && names_lun g (row t) n) busy
+identity_keeps g t la n GetFeatures busy h = neither_starts (wants_command t GetFeatures && names_lun g (row t) n) busy
+identity_keeps g t la n SetFeatures busy h = neither_starts (wants_command t SetFeatures && names_lun g (row t) n) busy
 identity_keeps g t la n _ busy h = cc
 
 no_row_yet : (c : Command) → names_row (extended_facts (CommandCycle c) (facts_of [])) ≡ false
 no_row_yet c = rw (and-false (is_read c), and-false (is_block_erase c), begun_outside c) refl
+
+begun_identity : (c : Command) → names_identity (extended_facts (CommandCycle c) (facts_of [])) ≡ true → reads_identity c ≡ true
+begun_identity c h = of (reads_identity c) (rw (begun_outside c) at h)
+  where
+    of : (b : Bool) → ((b && true) || false) ≡ true → b ≡ true
+    of true h = refl
+    of false h = cc
 
 begun_stands : (g : Parts) (t : TailFacts) (la : Latch) (luns : List LunView) (n : ℕ) (v : LunView) (cycle : TargetCycle) → KeepsRules g t luns cycle → length luns ≡ g.luns → slice_get luns n ≡ Some v → begins_sequence cycle ≡ true → RowStands g (extended_facts cycle (facts_of [])) n (view_after (cycle_effect g t la cycle n) v)
 begun_stands g t la luns n v (CommandCycle c) keeps count found h =
     record {
       inside = λ named r. let no = no_row_yet c in cc;
       ready = λ named r. let no = no_row_yet c in cc;
-      identity = λ r. let is = (both (reads_identity c) _ r).0 in identity_keeps g t la n c v.busy is ∙ (identity_stands g t luns n v c keeps count found is).ready;
-      alone = λ r. (identity_stands g t luns n v c keeps count found (both (reads_identity c) _ r).0).alone;
+      identity = λ r. let is = begun_identity c r in identity_keeps g t la n c v.busy is ∙ (identity_stands g t luns n v c keeps count found is).ready;
+      alone = λ r. (identity_stands g t luns n v c keeps count found (begun_identity c r)).alone;
     }
 begun_stands g t la luns n v (AddressCycle byte) keeps count found h = cc
 begun_stands g t la luns n v (InputCycle byte) keeps count found h = cc
@@ -132,8 +143,8 @@ command_stands g t la n v c some f = of t.is_empty some
         record {
           inside = λ named r. let is = goes_on_inside c t.phase r in f.inside named (inputs_named is.phase);
           ready = λ named r. let is = goes_on_inside c t.phase r in kept c is.command v.busy ∙ f.ready named (inputs_named is.phase);
-          identity = λ r. cc;
-          alone = λ r. cc;
+          identity = λ r. let no = command_in_features c t.phase in cc;
+          alone = λ r. let no = command_in_features c t.phase in cc;
         }
 
 -- ---- an address
@@ -172,6 +183,34 @@ lies_inside g r h = of (ltb (parts_of g r).lun g.luns) (ltb (parts_of g r).block
     of true false c h = cc
     of false b c h = cc
 
+-- the address of a Set Features does nothing yet, and its bytes come at the LUN that was ready for it
+pub no_features_alone : (p : DataPhase) → takes_features (phase_after_address None p) ≡ false
+no_features_alone Outside = refl
+no_features_alone Inputs = refl
+no_features_alone FirstColumn = refl
+no_features_alone SecondColumn = refl
+no_features_alone FeatureInputs = refl
+
+pub features_begin : (o : Opening) (p : DataPhase) → takes_features (phase_after_address (Some o) p) ≡ true → (is_set_features o.opener && o.addresses == 0) ≡ true
+features_begin o Outside h = at (is_page_program o.opener && o.addresses == 4) (is_set_features o.opener && o.addresses == 0) h
+  where
+    at : (b c : Bool) → takes_features (cond b Inputs (cond c FeatureInputs Outside)) ≡ true → c ≡ true
+    at true c h = cc
+    at false true h = refl
+    at false false h = cc
+features_begin o Inputs h = cc
+features_begin o FirstColumn h = cc
+features_begin o SecondColumn h = cc
+features_begin o FeatureInputs h = cc
+
+set_rests : (g : Parts) (t : TailFacts) (byte : ℕ) (c : Command) (m n : ℕ) → is_set_features c ≡ true → address_effect g t byte c m n ≡ Unaffected
+set_rests g t byte SetFeatures m n h = refl
+set_rests g t byte _ m n h = cc
+
+set_is_identity : (c : Command) (b : Bool) → (is_set_features c && b) ≡ true → (reads_identity c && b) ≡ true
+set_is_identity SetFeatures b h = h
+set_is_identity _ b h = cc
+
 not_zero : (m : ℕ) → (m + 1 == 0) ≡ true → false ≡ true
 not_zero m h = grind (arith, nat_tests)
 
@@ -190,8 +229,8 @@ address_stands g t la luns n v byte keeps found tf f = at t.opening refl
         record {
           inside = λ named h. f.inside named (program_named t (later_address t.phase h));
           ready = λ named h. f.ready named (program_named t (later_address t.phase h));
-          identity = λ h. cc;
-          alone = λ h. cc;
+          identity = λ h. let no = no_features_alone t.phase in cc;
+          alone = λ h. let no = no_features_alone t.phase in cc;
         }
 
     ends : (o : Opening) → t.opening ≡ Some o → names_row (next (Some o)) ≡ true → (addresses_the_array o.opener && at_last_row o.opener o.addresses) ≡ true
@@ -220,9 +259,25 @@ address_stands g t la luns n v byte keeps found tf f = at t.opening refl
               let last = ends o is h in
               ap (λ (e : Effect). busy_after e v.busy) (array_rests g t byte o.opener o.addresses n (both (addresses_the_array o.opener) _ last).0)
               ∙ lun_is_ready o is last named;
-          identity = λ h. let no = not_zero o.addresses (both (reads_identity o.opener) _ h).1 in cc;
-          alone = λ h. let no = not_zero o.addresses (both (reads_identity o.opener) _ h).1 in cc;
+          identity = λ h.
+              let begin = begins_features o h in
+              ap (λ (e : Effect). busy_after e v.busy) (set_rests g t byte o.opener o.addresses n (both (is_set_features o.opener) _ begin).0) ∙ f.identity (waits o is begin);
+          alone = λ h. f.alone (waits o is (begins_features o h));
         }
+      where
+        begins_features : (o : Opening) → names_identity (next (Some o)) ≡ true → (is_set_features o.opener && o.addresses == 0) ≡ true
+        begins_features o h = features_begin o t.phase (second (reads_identity o.opener) (o.addresses + 1 == 0) (not_zero o.addresses) _ h)
+          where
+            second : (a b : Bool) → (b ≡ true → false ≡ true) → (c : Bool) → ((a && b) || c) ≡ true → c ≡ true
+            second a b never true h = refl
+            second true true never false h = let x = never refl in cc
+            second true false never false h = cc
+            second false b never false h = cc
+
+        waits : (o : Opening) → t.opening ≡ Some o → (is_set_features o.opener && o.addresses == 0) ≡ true → names_identity t ≡ true
+        waits o is begin =
+            or_left (opened (λ c n. reads_identity c && n == 0) t.opening) (takes_features t.phase)
+            (ap (opened (λ c n. reads_identity c && n == 0)) is ∙ set_is_identity o.opener (o.addresses == 0) begin)
 
     at : (o : Option Opening) → t.opening ≡ o → RowStands g (next t.opening) n (after t.opening)
     at None e = subst (λ (o : Option Opening). RowStands g (next o) n (after o)) (sym e) later
@@ -235,11 +290,36 @@ extended_stands g t la luns n v (CommandCycle c) some keeps found tf f = command
 extended_stands g t la luns n v (AddressCycle byte) some keeps found tf f = address_stands g t la luns n v byte keeps found tf f
 extended_stands g t la luns n v (InputCycle byte) some keeps found tf f =
     record {
-      inside = λ named h. f.inside named (program_named t (input_inside t.phase h));
-      ready = λ named h. f.ready named (program_named t (input_inside t.phase h));
-      identity = λ h. cc;
-      alone = λ h. cc;
+      inside = λ named h. f.inside named (program_named t (input_inside t.inputs t.phase h));
+      ready = λ named h.
+          let inside = input_inside t.inputs t.phase h in
+          rests (ap (λ b. b && t.inputs == 3) (no_features_inside t.phase inside)) (f.ready named (program_named t inside));
+      identity = λ h. rests (not_last h) (f.identity (still h));
+      alone = λ h. f.alone (still h);
     }
+  where
+    rests : ends_features t ≡ false → v.busy ≡ false → busy_after (cycle_effect g t la (InputCycle byte) n) v.busy ≡ false
+    rests e b = rw e b
+
+    was : (n : ℕ) (p : DataPhase) → takes_features (phase_after_input n p) ≡ true → takes_features p ≡ true
+    was n Outside h = cc
+    was n Inputs h = cc
+    was n FirstColumn h = cc
+    was n SecondColumn h = cc
+    was n FeatureInputs h = refl
+
+    still : names_identity (extended_facts (InputCycle byte) t) ≡ true → names_identity t ≡ true
+    still h = or_right (opened (λ c n. reads_identity c && n == 0) t.opening) (takes_features t.phase) (was t.inputs t.phase h)
+
+    not_last : names_identity (extended_facts (InputCycle byte) t) ≡ true → ends_features t ≡ false
+    not_last h = let few = input_in_features t.inputs t.phase h in both_or_not (takes_features t.phase) (fewer t.inputs few)
+      where
+        fewer : (k : ℕ) → k + 1 < 4 → (k == 3) ≡ false
+        fewer k low = grind (arith, nat_tests)
+
+        both_or_not : (a : Bool) → (t.inputs == 3) ≡ false → (a && t.inputs == 3) ≡ false
+        both_or_not true e = e
+        both_or_not false e = refl
 extended_stands g t la luns n v OutputCycle some keeps found tf f = record { inside = λ named h. cc; ready = λ named h. cc; identity = λ h. cc; alone = λ h. cc }
 
 cycle_stands : (g : Parts) (t : TailFacts) (la : Latch) (luns : List LunView) (n : ℕ) (v : LunView) (cycle : TargetCycle) → KeepsRules g t luns cycle → length luns ≡ g.luns → slice_get luns n ≡ Some v → TailFits g t → RowStands g t n v → RowStands g (facts_after cycle t) n (view_after (cycle_effect g t la cycle n) v)
@@ -249,7 +329,7 @@ cycle_stands g t la luns n v cycle keeps count found tf f = at (begins_sequence 
     w = view_after (cycle_effect g t la cycle n) v
 
     empty : t.is_empty ≡ true → RowStands g t n w
-    empty e = unnamed g t n w (rw (tf.nothing e, tf.outside e) refl) (rw (tf.nothing e) refl)
+    empty e = unnamed g t n w (rw (tf.nothing e, tf.outside e) refl) (rw (tf.nothing e, tf.outside e) refl)
 
     on : (e : Bool) → t.is_empty ≡ e → RowStands g (cond e t (extended_facts cycle t)) n w
     on true e = empty e

@@ -1,23 +1,23 @@
 -- The rules follow the table of sequences.
-use Rattle.std.proofs.Common.{◌≡◌, ℕ, ◌+◌, ◌≤◌, ◌==◌, ◌⊎◌, Bool, true, false, ◌&&◌, ◌||◌, cond, List, [], ◌∷◌, ◌++◌, reverse, length, Option, Some, None, refl, sym, ap, ◌∙◌, subst, inl, inr, arith, ltb, eqb-true, append_assoc, append-nil}
+use Rattle.std.proofs.Common.{◌≡◌, ℕ, ◌+◌, ◌≤◌, ◌==◌, ◌⊎◌, Bool, true, false, ◌&&◌, ◌||◌, cond, List, [], ◌∷◌, ◌++◌, reverse, length, Option, Some, None, refl, sym, ap, ◌∙◌, subst, inl, inr, arith, ltb, eqb-true, append_assoc, append-nil, ◌<◌}
 use Rattle.std.proofs.lemmas.Bool.Decides.{nat_tests}
 use Rattle.std.proofs.lemmas.List.{reverse-append, reverse-reverse}
-use Rattle.std.proofs.lemmas.Bool.{or_cases, or_right, and_parts, and_from}
+use Rattle.std.proofs.lemmas.Bool.{or_cases, or_right, and_parts, and_from, or_left}
 use Rattle.onfi_cycle.proofs.Booleans.{clash}
 use Rattle.onfi_cycle.specs.declared.command.Command.{Command}
-use Rattle.onfi_cycle.specs.declared.command.Command.TheVariants.{Read, ReadConfirm, ChangeReadColumn, ChangeReadColumnConfirm, BlockErase, BlockEraseConfirm, BlockErasePlane, ReadStatusEnhanced, PageProgram, ChangeWriteColumn, ProgramConfirm, ProgramPlane, ReadId, ReadParameterPage}
+use Rattle.onfi_cycle.specs.declared.command.Command.TheVariants.{Read, ReadConfirm, ChangeReadColumn, ChangeReadColumnConfirm, BlockErase, BlockEraseConfirm, BlockErasePlane, ReadStatusEnhanced, PageProgram, ChangeWriteColumn, ProgramConfirm, ProgramPlane, ReadId, ReadParameterPage, ReadUniqueId, GetFeatures, SetFeatures, ResetLun, SynchronousReset}
 use Rattle.onfi_cycle.specs.declared.opening.Opening.{Opening}
 use Rattle.onfi_cycle.specs.declared.data_phase.DataPhase.{DataPhase}
-use Rattle.onfi_cycle.specs.declared.data_phase.DataPhase.TheVariants.{Outside, Inputs, FirstColumn, SecondColumn}
+use Rattle.onfi_cycle.specs.declared.data_phase.DataPhase.TheVariants.{Outside, Inputs, FirstColumn, SecondColumn, FeatureInputs}
 use Rattle.onfi_cycle.specs.declared.tail_facts.TailFacts.{TailFacts}
 use Rattle.onfi_cycle.specs.declared.target_cycle.TargetCycle.{TargetCycle}
 use Rattle.onfi_cycle.specs.declared.target_cycle.TargetCycle.TheVariants.{CommandCycle, AddressCycle, InputCycle, OutputCycle}
-use Rattle.onfi_cycle.specs.Command.{is_opener, address_cycles, takes_address, closes, is_page_program}
-use Rattle.onfi_cycle.specs.Sequence.{begins_sequence, one_address_more, opening, opened, data_phase, phase_after_command, phase_after_address, phase_after_input, phase_after_last_address, facts_of, extended_facts, wants, wants_command, wants_address, is_proper_beginning, is_open, takes_inputs, wants_column}
+use Rattle.onfi_cycle.specs.Command.{is_opener, address_cycles, takes_address, closes, is_page_program, is_set_features}
+use Rattle.onfi_cycle.specs.Sequence.{begins_sequence, one_address_more, opening, opened, data_phase, phase_after_command, phase_after_address, phase_after_input, phase_after_last_address, facts_of, extended_facts, wants, wants_command, wants_address, is_proper_beginning, is_open, takes_inputs, wants_column, takes_data, takes_features, inputs}
 use Rattle.onfi_cycle.specs.Table.{IsProgramData, IsProgramCloser, IsSequence, IsBeginning, IsProperBeginning, TailsFollowTheTable}
 use Rattle.onfi_cycle.specs.Table.IsProgramData.{nothing, input, column}
 use Rattle.onfi_cycle.specs.Table.IsProgramCloser.{whole, plane}
-use Rattle.onfi_cycle.specs.Table.IsSequence.{read, change_read_column, erase, erase_plane, read_status, read_status_enhanced, program, read_id, read_parameter_page, reset, read_cache_sequential, read_cache_end}
+use Rattle.onfi_cycle.specs.Table.IsSequence.{read, change_read_column, erase, erase_plane, read_status, read_status_enhanced, program, read_id, read_parameter_page, reset, read_cache_sequential, read_cache_end, read_manufacturer, read_jedec, read_unique_id, get_features, set_features, reset_lun, synchronous_reset}
 
 -- 1. A sequence, read in the order of time, is wanted cycle by cycle.
 
@@ -42,16 +42,16 @@ scans (c ∷ cs) = begins_sequence c && wanted_along (facts_of (c ∷ [])) cs
 
 -- the data of a program, up to its closer
 data_scans : (f : TailFacts) (bytes : List TargetCycle) (closer : Command) → IsProgramData bytes → IsProgramCloser closer → f.phase ≡ Inputs → wanted_along f (bytes ++ (CommandCycle closer ∷ [])) ≡ true
-data_scans f _ _ nothing whole h = and_from (takes_inputs f.phase) true (ap takes_inputs h) refl
-data_scans f _ _ nothing plane h = and_from (takes_inputs f.phase) true (ap takes_inputs h) refl
+data_scans f _ _ nothing whole h = and_from (takes_data f.phase) true (ap takes_data h) refl
+data_scans f _ _ nothing plane h = and_from (takes_data f.phase) true (ap takes_data h) refl
 data_scans f _ closer (input byte more rest) k h =
-    and_from (takes_inputs f.phase) _ (ap takes_inputs h) (data_scans (extended_facts (InputCycle byte) f) more closer rest k (ap phase_after_input h))
+    and_from (takes_inputs f.phase) _ (ap takes_inputs h) (data_scans (extended_facts (InputCycle byte) f) more closer rest k (ap (phase_after_input f.inputs) h))
 data_scans f _ closer (column c1 c2 more rest) k h =
     let f1 = extended_facts (CommandCycle ChangeWriteColumn) f in
     let f2 = extended_facts (AddressCycle c1) f1 in
     let e1 : f1.phase ≡ FirstColumn = ap (phase_after_command ChangeWriteColumn) h in
     let e2 : f2.phase ≡ SecondColumn = ap (phase_after_address f1.opening) e1 in
-    and_from (takes_inputs f.phase) _ (ap takes_inputs h)
+    and_from (takes_data f.phase) _ (ap takes_data h)
     (and_from (wants_address f1 c1) _ (or_right (opens_for f1 c1) (wants_column f1.phase) (ap wants_column e1))
     (and_from (wants_address f2 c2) _ (or_right (opens_for f2 c2) (wants_column f2.phase) (ap wants_column e2))
     (data_scans (extended_facts (AddressCycle c2) f2) more closer rest k (ap (phase_after_address f2.opening) e2))))
@@ -74,6 +74,13 @@ sequence_scans _ read_parameter_page = refl
 sequence_scans _ reset = refl
 sequence_scans _ read_cache_sequential = refl
 sequence_scans _ read_cache_end = refl
+sequence_scans _ read_manufacturer = refl
+sequence_scans _ read_jedec = refl
+sequence_scans _ read_unique_id = refl
+sequence_scans _ (get_features feature) = refl
+sequence_scans _ (set_features feature p1 p2 p3 p4) = refl
+sequence_scans _ (reset_lun r1 r2 r3) = refl
+sequence_scans _ synchronous_reset = refl
 
 -- where cycles in the order of time scan, each is wanted by the facts before it
 wanted_at : (f : TailFacts) (cs : List TargetCycle) (c : TargetCycle) (more : List TargetCycle) → wanted_along f (cs ++ (c ∷ more)) ≡ true → wants (facts_along f cs) c ≡ true
@@ -167,11 +174,29 @@ record IsInProgram (behind t : List TargetCycle) : Type 0 where
   is_data : IsProgramData bytes
   is : reverse t ≡ program_with c1 c2 r1 r2 r3 (bytes ++ behind)
 
+-- some inputs
+abbrev input_cycles : List ℕ → List TargetCycle
+input_cycles [] = []
+input_cycles (b ∷ bs) = InputCycle b ∷ input_cycles bs
+
+input_cycles_append : (bs : List ℕ) (b : ℕ) → input_cycles bs ++ (InputCycle b ∷ []) ≡ input_cycles (bs ++ (b ∷ []))
+input_cycles_append [] b = refl
+input_cycles_append (x ∷ bs) b = ap (λ l. InputCycle x ∷ l) (input_cycles_append bs b)
+
+-- a Set Features with some of its bytes
+record IsInFeatures (t : List TargetCycle) : Type 0 where
+  feature : ℕ
+  bytes : List ℕ
+  count : length bytes ≡ inputs t
+  few : length bytes < 4
+  is : reverse t ≡ CommandCycle SetFeatures ∷ (AddressCycle feature ∷ input_cycles bytes)
+
 -- what the phase of a tail tells
 abbrev HasPhase : DataPhase → List TargetCycle → Type 0
 HasPhase Outside t = Unit {0}
 HasPhase Inputs t = IsInProgram [] t
 HasPhase FirstColumn t = IsInProgram (CommandCycle ChangeWriteColumn ∷ []) t
+HasPhase FeatureInputs t = IsInFeatures t
 HasPhase SecondColumn t = (c : ℕ) × IsInProgram (CommandCycle ChangeWriteColumn ∷ (AddressCycle c ∷ [])) t
 
 data_append : (a b : List TargetCycle) → IsProgramData a → IsProgramData b → IsProgramData (a ++ b)
@@ -244,15 +269,50 @@ fifth_address t b o shape opener count =
       is = reverse_more (AddressCycle b) t ∙ ap (λ l. l ++ (AddressCycle b ∷ [])) before;
     }
 
+set_features_is : (c : Command) → is_set_features c ≡ true → c ≡ SetFeatures
+set_features_is SetFeatures h = refl
+set_features_is _ h = cc
+
+none_of : (bs : List ℕ) → length bs ≡ 0 → bs ≡ []
+none_of [] h = refl
+none_of (b ∷ bs) h = absurd (omega arith)
+
+-- the address of a Set Features
+feature_address : (t : List TargetCycle) (b : ℕ) (o : Opening) → IsOpening o t → o.opener ≡ SetFeatures → o.addresses ≡ 0 → IsInFeatures (AddressCycle b ∷ t)
+feature_address t b o shape opener count =
+    let none = none_of shape.bytes (shape.count ∙ count) in
+    let before : reverse t ≡ CommandCycle SetFeatures ∷ [] = shape.is ∙ (ap (λ c. CommandCycle c ∷ addresses shape.bytes) opener ∙ ap (λ l. CommandCycle SetFeatures ∷ addresses l) none) in
+    record {
+      feature = b;
+      bytes = [];
+      count = refl;
+      few = omega arith;
+      is = reverse_more (AddressCycle b) t ∙ ap (λ l. l ++ (AddressCycle b ∷ [])) before;
+    }
+
+-- one byte more, where another is to come
+feature_more : (t : List TargetCycle) (b : ℕ) → IsInFeatures t → inputs t < 3 → IsInFeatures (InputCycle b ∷ t)
+feature_more t b p low =
+    record {
+      feature = p.feature;
+      bytes = p.bytes ++ (b ∷ []);
+      count = length_more p.bytes b ∙ ap (λ n. n + 1) p.count;
+      few = omega (arith, low, p.count, length_more p.bytes b);
+      is = reverse_more (InputCycle b) t ∙ (ap (λ l. l ++ (InputCycle b ∷ [])) p.is ∙ ap (λ l. CommandCycle SetFeatures ∷ (AddressCycle p.feature ∷ l)) (input_cycles_append p.bytes b));
+    }
+
 last_address_phase : (t : List TargetCycle) (b : ℕ) (x : Option Opening) → ((p : Opening) → x ≡ Some p → IsOpening p t) → HasPhase (phase_after_last_address x) (AddressCycle b ∷ t)
 last_address_phase t b None shape = tt
-last_address_phase t b (Some o) shape = at (is_page_program o.opener && o.addresses == 4) refl
+last_address_phase t b (Some o) shape = at (is_page_program o.opener && o.addresses == 4) refl (is_set_features o.opener && o.addresses == 0) refl
   where
-    at : (v : Bool) → (is_page_program o.opener && o.addresses == 4) ≡ v → HasPhase (cond v Inputs Outside) (AddressCycle b ∷ t)
-    at true e =
+    at : (v : Bool) → (is_page_program o.opener && o.addresses == 4) ≡ v → (w : Bool) → (is_set_features o.opener && o.addresses == 0) ≡ w → HasPhase (cond v Inputs (cond w FeatureInputs Outside)) (AddressCycle b ∷ t)
+    at true e w k =
         let both = and_parts (is_page_program o.opener) (o.addresses == 4) e in
         fifth_address t b o (shape o refl) (page_program_is o.opener both.0) (eqb-true o.addresses 4 both.1)
-    at false e = tt
+    at false e true k =
+        let both = and_parts (is_set_features o.opener) (o.addresses == 0) k in
+        feature_address t b o (shape o refl) (set_features_is o.opener both.0) (eqb-true o.addresses 0 both.1)
+    at false e false k = tt
 
 address_phase : (t : List TargetCycle) (b : ℕ) (d : DataPhase) → HasPhase d t → HasPhase (phase_after_address (opening t) d) (AddressCycle b ∷ t)
 address_phase t b Outside h = last_address_phase t b (opening t) (opening_shape t)
@@ -261,14 +321,22 @@ address_phase t b SecondColumn (c, p) =
     in_program_whole (CommandCycle ChangeWriteColumn ∷ (AddressCycle c ∷ (AddressCycle b ∷ []))) (AddressCycle b ∷ t) (column c b [] nothing)
     (in_program_more (CommandCycle ChangeWriteColumn ∷ (AddressCycle c ∷ [])) t (AddressCycle b) p)
 address_phase t b Inputs h = tt
+address_phase t b FeatureInputs h = tt
 
 command_phase : (t : List TargetCycle) (c : Command) (d : DataPhase) → HasPhase d t → HasPhase (phase_after_command c d) (CommandCycle c ∷ t)
 command_phase t ChangeWriteColumn Inputs h = in_program_more [] t (CommandCycle ChangeWriteColumn) h
 command_phase t c d h = tt
 
-input_phase : (t : List TargetCycle) (b : ℕ) (d : DataPhase) → HasPhase d t → HasPhase (phase_after_input d) (InputCycle b ∷ t)
+input_phase : (t : List TargetCycle) (b : ℕ) (d : DataPhase) → HasPhase d t → HasPhase (phase_after_input (inputs t) d) (InputCycle b ∷ t)
 input_phase t b Inputs h = in_program_whole (InputCycle b ∷ []) (InputCycle b ∷ t) (input b [] nothing) (in_program_more [] t (InputCycle b) h)
-input_phase t b _ h = tt
+input_phase t b FeatureInputs h = at (ltb (inputs t) 3) refl
+  where
+    at : (v : Bool) → ltb (inputs t) 3 ≡ v → HasPhase (cond v FeatureInputs Outside) (InputCycle b ∷ t)
+    at true e = feature_more t b h (grind (arith, nat_tests))
+    at false e = tt
+input_phase t b Outside h = tt
+input_phase t b FirstColumn h = tt
+input_phase t b SecondColumn h = tt
 
 phase_shape : (t : List TargetCycle) → HasPhase (data_phase t) t
 phase_shape [] = tt
@@ -321,6 +389,32 @@ program_begins (a ∷ (b ∷ (c ∷ (d ∷ [])))) h = (AddressCycle 0 ∷ (Comma
 program_begins (a ∷ (b ∷ (c ∷ (d ∷ (e ∷ []))))) h = (CommandCycle ProgramConfirm ∷ [], program a b c d e [] ProgramConfirm nothing whole)
 program_begins (a ∷ (b ∷ (c ∷ (d ∷ (e ∷ (x ∷ more)))))) h = absurd (omega arith)
 
+reset_begins : (bs : List ℕ) → length bs ≤ 3 → IsBeginning (CommandCycle ResetLun ∷ addresses bs)
+reset_begins [] h = (AddressCycle 0 ∷ (AddressCycle 0 ∷ (AddressCycle 0 ∷ [])), reset_lun 0 0 0)
+reset_begins (a ∷ []) h = (AddressCycle 0 ∷ (AddressCycle 0 ∷ []), reset_lun a 0 0)
+reset_begins (a ∷ (b ∷ [])) h = (AddressCycle 0 ∷ [], reset_lun a b 0)
+reset_begins (a ∷ (b ∷ (c ∷ []))) h = ([], reset_lun a b c)
+reset_begins (a ∷ (b ∷ (c ∷ (x ∷ more)))) h = absurd (omega arith)
+
+-- a Set Features with its address and some of its bytes
+features_begin : (f : ℕ) (bs : List ℕ) → length bs ≤ 4 → IsBeginning (CommandCycle SetFeatures ∷ (AddressCycle f ∷ input_cycles bs))
+features_begin f [] h = (InputCycle 0 ∷ (InputCycle 0 ∷ (InputCycle 0 ∷ (InputCycle 0 ∷ []))), set_features f 0 0 0 0)
+features_begin f (a ∷ []) h = (InputCycle 0 ∷ (InputCycle 0 ∷ (InputCycle 0 ∷ [])), set_features f a 0 0 0)
+features_begin f (a ∷ (b ∷ [])) h = (InputCycle 0 ∷ (InputCycle 0 ∷ []), set_features f a b 0 0)
+features_begin f (a ∷ (b ∷ (c ∷ []))) h = (InputCycle 0 ∷ [], set_features f a b c 0)
+features_begin f (a ∷ (b ∷ (c ∷ (d ∷ [])))) h = ([], set_features f a b c d)
+features_begin f (a ∷ (b ∷ (c ∷ (d ∷ (x ∷ more))))) h = absurd (omega arith)
+
+-- the address of a Read ID
+id_begins : (b : ℕ) → (b == 0x20 || (b == 0x00 || b == 0x40)) ≡ true → IsBeginning (CommandCycle ReadId ∷ (AddressCycle b ∷ []))
+id_begins b h = at (b == 0x20) (b == 0x00) (b == 0x40) refl refl refl h
+  where
+    at : (x y z : Bool) → (b == 0x20) ≡ x → (b == 0x00) ≡ y → (b == 0x40) ≡ z → (x || (y || z)) ≡ true → IsBeginning (CommandCycle ReadId ∷ (AddressCycle b ∷ []))
+    at true y z e f g h = subst (λ x. IsBeginning (CommandCycle ReadId ∷ (AddressCycle x ∷ []))) (sym (eqb-true b 0x20 e)) ([], read_id)
+    at false true z e f g h = subst (λ x. IsBeginning (CommandCycle ReadId ∷ (AddressCycle x ∷ []))) (sym (eqb-true b 0x00 f)) ([], read_manufacturer)
+    at false false true e f g h = subst (λ x. IsBeginning (CommandCycle ReadId ∷ (AddressCycle x ∷ []))) (sym (eqb-true b 0x40 g)) ([], read_jedec)
+    at false false false e f g h = cc
+
 -- one address more after an opener that wants it
 address_begins : (c : Command) (bs : List ℕ) (b : ℕ) → (is_opener c && ltb (length bs) (address_cycles c) && takes_address c b) ≡ true → IsBeginning (CommandCycle c ∷ addresses (bs ++ (b ∷ [])))
 address_begins Read bs b h = read_begins (bs ++ (b ∷ [])) (grind (arith, nat_tests, length_more bs b, h))
@@ -328,10 +422,17 @@ address_begins ChangeReadColumn bs b h = change_begins (bs ++ (b ∷ [])) (grind
 address_begins BlockErase bs b h = erase_begins (bs ++ (b ∷ [])) (grind (arith, nat_tests, length_more bs b, h))
 address_begins ReadStatusEnhanced bs b h = status_begins (bs ++ (b ∷ [])) (grind (arith, nat_tests, length_more bs b, h))
 address_begins PageProgram bs b h = program_begins (bs ++ (b ∷ [])) (grind (arith, nat_tests, length_more bs b, h))
-address_begins ReadId [] b h = subst (λ x. IsBeginning (CommandCycle ReadId ∷ (AddressCycle x ∷ []))) (sym (eqb-true b 0x20 h)) ([], read_id)
+address_begins ReadId [] b h = id_begins b h
 address_begins ReadId (x ∷ bs) b h = absurd (grind (arith, nat_tests, h))
 address_begins ReadParameterPage [] b h = subst (λ x. IsBeginning (CommandCycle ReadParameterPage ∷ (AddressCycle x ∷ []))) (sym (eqb-true b 0x00 h)) ([], read_parameter_page)
 address_begins ReadParameterPage (x ∷ bs) b h = absurd (grind (arith, nat_tests, h))
+address_begins ReadUniqueId [] b h = subst (λ x. IsBeginning (CommandCycle ReadUniqueId ∷ (AddressCycle x ∷ []))) (sym (eqb-true b 0x00 h)) ([], read_unique_id)
+address_begins ReadUniqueId (x ∷ bs) b h = absurd (grind (arith, nat_tests, h))
+address_begins GetFeatures [] b h = ([], get_features b)
+address_begins GetFeatures (x ∷ bs) b h = absurd (grind (arith, nat_tests, h))
+address_begins SetFeatures [] b h = features_begin b [] (omega arith)
+address_begins SetFeatures (x ∷ bs) b h = absurd (grind (arith, nat_tests, h))
+address_begins ResetLun bs b h = reset_begins (bs ++ (b ∷ [])) (grind (arith, nat_tests, length_more bs b, h))
 address_begins c bs b h = absurd (grind (arith, nat_tests, h))
 
 -- a closer straight after the addresses of its opener
@@ -407,7 +508,7 @@ opened_command t d (Some o) shape h =
     ([], subst IsSequence (sym (append-nil whole_list)) (closer_ends o.opener d s.bytes counted))
 
 -- a command in the data of a program
-data_command : (t : List TargetCycle) (c : Command) (d : DataPhase) → HasPhase d t → takes_inputs d ≡ true → (IsInProgram [] t → IsBeginning (reverse (CommandCycle c ∷ t))) → IsBeginning (reverse (CommandCycle c ∷ t))
+data_command : (t : List TargetCycle) (c : Command) (d : DataPhase) → HasPhase d t → takes_data d ≡ true → (IsInProgram [] t → IsBeginning (reverse (CommandCycle c ∷ t))) → IsBeginning (reverse (CommandCycle c ∷ t))
 data_command t c Inputs p h f = f p
 data_command t c _ p h f = cc
 
@@ -449,7 +550,13 @@ wanted_address t b h =
 
 wanted_input : (t : List TargetCycle) (b : ℕ) (d : DataPhase) → HasPhase d t → takes_inputs d ≡ true → IsBeginning (reverse (InputCycle b ∷ t))
 wanted_input t b Inputs p h = in_program_begins [] (InputCycle b ∷ t) [] (input_phase t b Inputs p) nothing
-wanted_input t b _ p h = cc
+wanted_input t b FeatureInputs p h =
+    begins_as (reverse (InputCycle b ∷ t)) (CommandCycle SetFeatures ∷ (AddressCycle p.feature ∷ input_cycles (p.bytes ++ (b ∷ []))))
+    (reverse_more (InputCycle b) t ∙ (ap (λ l. l ++ (InputCycle b ∷ [])) p.is ∙ ap (λ l. CommandCycle SetFeatures ∷ (AddressCycle p.feature ∷ l)) (input_cycles_append p.bytes b)))
+    (features_begin p.feature (p.bytes ++ (b ∷ [])) (omega (arith, p.few, length_more p.bytes b)))
+wanted_input t b Outside p h = cc
+wanted_input t b FirstColumn p h = cc
+wanted_input t b SecondColumn p h = cc
 
 -- a tail with a wanted cycle is a beginning of a sequence
 pub wanted_begins : (t : List TargetCycle) (c : TargetCycle) → wants (facts_of t) c ≡ true → IsBeginning (reverse (c ∷ t))
@@ -493,6 +600,10 @@ proper_next PageProgram bs h = next_or_closer PageProgram ProgramConfirm bs 0 re
 proper_next ReadStatusEnhanced bs h = address_next ReadStatusEnhanced bs 0 (grind (arith, nat_tests, h))
 proper_next ReadId bs h = address_next ReadId bs 0x20 (grind (arith, nat_tests, h))
 proper_next ReadParameterPage bs h = address_next ReadParameterPage bs 0x00 (grind (arith, nat_tests, h))
+proper_next ReadUniqueId bs h = address_next ReadUniqueId bs 0x00 (grind (arith, nat_tests, h))
+proper_next GetFeatures bs h = address_next GetFeatures bs 0 (grind (arith, nat_tests, h))
+proper_next SetFeatures bs h = address_next SetFeatures bs 0 (grind (arith, nat_tests, h))
+proper_next ResetLun bs h = address_next ResetLun bs 0 (grind (arith, nat_tests, h))
 proper_next c bs h = absurd (grind (arith, nat_tests, h))
 
 proper_as : (t : List TargetCycle) (next : TargetCycle) → IsBeginning (reverse (next ∷ t)) → IsProperBeginning (reverse t)
@@ -507,7 +618,10 @@ opened_is_proper t (Some o) shape h =
 
 inputs_are_proper : (t : List TargetCycle) (d : DataPhase) → HasPhase d t → takes_inputs d ≡ true → IsProperBeginning (reverse t)
 inputs_are_proper t Inputs p h = proper_as t (CommandCycle ProgramConfirm) (program_ends t ProgramConfirm whole p)
-inputs_are_proper t _ p h = cc
+inputs_are_proper t FeatureInputs p h = proper_as t (InputCycle 0) (wanted_input t 0 FeatureInputs p refl)
+inputs_are_proper t Outside p h = cc
+inputs_are_proper t FirstColumn p h = cc
+inputs_are_proper t SecondColumn p h = cc
 
 pub open_is_proper : (t : List TargetCycle) → is_open (facts_of t) ≡ true → IsProperBeginning (reverse t)
 open_is_proper t h =
@@ -546,9 +660,9 @@ opened_by_command None d h = cc
 opened_by_command (Some o) d h = closed_is_proper o.opener d o.addresses h
 
 command_opens : (x : TailFacts) (c : Command) → wants_command x c ≡ true → is_open x ≡ true
-command_opens x ChangeWriteColumn h = middle_true (opened is_proper_beginning x.opening) (takes_inputs x.phase) (wants_column x.phase) h
-command_opens x ProgramConfirm h = middle_true (opened is_proper_beginning x.opening) (takes_inputs x.phase) (wants_column x.phase) h
-command_opens x ProgramPlane h = middle_true (opened is_proper_beginning x.opening) (takes_inputs x.phase) (wants_column x.phase) h
+command_opens x ChangeWriteColumn h = middle_true (opened is_proper_beginning x.opening) (takes_inputs x.phase) (wants_column x.phase) (or_left (takes_data x.phase) (takes_features x.phase) h)
+command_opens x ProgramConfirm h = middle_true (opened is_proper_beginning x.opening) (takes_inputs x.phase) (wants_column x.phase) (or_left (takes_data x.phase) (takes_features x.phase) h)
+command_opens x ProgramPlane h = middle_true (opened is_proper_beginning x.opening) (takes_inputs x.phase) (wants_column x.phase) (or_left (takes_data x.phase) (takes_features x.phase) h)
 command_opens x c h = left_true (opened is_proper_beginning x.opening) (takes_inputs x.phase) (wants_column x.phase) (opened_by_command x.opening c h)
 
 -- the command 00 with no address
@@ -565,6 +679,10 @@ begun_is_proper ReadStatusEnhanced n b h k = grind (arith, nat_tests, h)
 begun_is_proper PageProgram n b h k = grind (arith, nat_tests, h)
 begun_is_proper ReadId n b h k = grind (arith, nat_tests, h)
 begun_is_proper ReadParameterPage n b h k = grind (arith, nat_tests, h)
+begun_is_proper ReadUniqueId n b h k = grind (arith, nat_tests, h)
+begun_is_proper GetFeatures n b h k = grind (arith, nat_tests, h)
+begun_is_proper SetFeatures n b h k = grind (arith, nat_tests, h)
+begun_is_proper ResetLun n b h k = grind (arith, nat_tests, h)
 begun_is_proper c n b h k = absurd (grind (arith, nat_tests, h))
 
 no_bytes : (bs : List ℕ) → length bs ≡ 0 → bs ≡ []

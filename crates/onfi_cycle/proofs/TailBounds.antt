@@ -1,19 +1,20 @@
 -- What stays small of a tail while only permitted items come.
-use Rattle.std.proofs.Common.{◌≡◌, ℕ, ◌+◌, ◌^◌, ◌<◌, ◌≤◌, ◌==◌, Bool, true, false, ◌&&◌, ◌||◌, cond, not, ltb, List, [], Option, Some, None, refl, arith, IfSome}
+use Rattle.std.proofs.Common.{◌≡◌, ℕ, ◌+◌, ◌^◌, ◌<◌, ◌≤◌, ◌==◌, Bool, true, false, ◌&&◌, ◌||◌, cond, not, ltb, List, [], Option, Some, None, refl, arith, IfSome, leb}
 use Rattle.std.proofs.lemmas.Bool.Decides.{nat_tests}
-use Rattle.std.proofs.lemmas.Bool.{not-false}
+use Rattle.std.proofs.lemmas.Bool.{not-false, or_parts}
 use Rattle.nand_geometry.specs.declared.parts.Parts.{Parts}
+use Rattle.nand_geometry.specs.Limits.{page_len}
 use Rattle.onfi_cycle.specs.declared.command.Command.{Command}
 use Rattle.onfi_cycle.specs.declared.command.Command.TheVariants.{Read, ChangeReadColumn, BlockErase, ReadStatusEnhanced, PageProgram, ChangeWriteColumn, ReadId, ReadParameterPage}
 use Rattle.onfi_cycle.specs.declared.data_phase.DataPhase.{DataPhase}
-use Rattle.onfi_cycle.specs.declared.data_phase.DataPhase.TheVariants.{Outside, Inputs, FirstColumn, SecondColumn}
+use Rattle.onfi_cycle.specs.declared.data_phase.DataPhase.TheVariants.{Outside, Inputs, FirstColumn, SecondColumn, FeatureInputs}
 use Rattle.onfi_cycle.specs.declared.opening.Opening.{Opening}
 use Rattle.onfi_cycle.specs.declared.tail_facts.TailFacts.{TailFacts}
 use Rattle.onfi_cycle.specs.declared.target_cycle.TargetCycle.{TargetCycle}
 use Rattle.onfi_cycle.specs.declared.target_cycle.TargetCycle.TheVariants.{CommandCycle, AddressCycle, InputCycle, OutputCycle}
 use Rattle.onfi_cycle.specs.LunView.{LunView}
-use Rattle.onfi_cycle.specs.Command.{address_cycles, is_opener, takes_address, is_page_program}
-use Rattle.onfi_cycle.specs.Sequence.{target_cycle, begins_sequence, facts_of, facts_after, extended_facts, opened, one_address_more, wants_column, phase_after_command, phase_after_address, phase_after_last_address, phase_after_input}
+use Rattle.onfi_cycle.specs.Command.{address_cycles, is_opener, takes_address, is_page_program, is_set_features}
+use Rattle.onfi_cycle.specs.Sequence.{takes_features, target_cycle, begins_sequence, facts_of, facts_after, extended_facts, opened, one_address_more, wants_column, phase_after_command, phase_after_address, phase_after_last_address, phase_after_input}
 use Rattle.onfi_cycle.specs.Rules.{breaks_not_there, breaks_address_misplaced, breaks_column_outside}
 use Rattle.onfi_cycle.specs.Permitted.{judge, judge_cycle}
 use Rattle.onfi_cycle.specs.State.{tail_after}
@@ -41,23 +42,48 @@ command_in_column ChangeWriteColumn Inputs h = refl
 command_in_column ChangeWriteColumn Outside h = cc
 command_in_column ChangeWriteColumn FirstColumn h = cc
 command_in_column ChangeWriteColumn SecondColumn h = cc
+command_in_column ChangeWriteColumn FeatureInputs h = cc
 command_in_column c p h = cc
 
-last_in_column : (b : Bool) → wants_column (cond b Inputs Outside) ≡ false
-last_in_column true = refl
-last_in_column false = refl
+last_in_column : (b c : Bool) → wants_column (cond b Inputs (cond c FeatureInputs Outside)) ≡ false
+last_in_column true c = refl
+last_in_column false true = refl
+last_in_column false false = refl
 
 address_in_column : (o : Option Opening) (p : DataPhase) → wants_column (phase_after_address o p) ≡ true → wants_column p ≡ true
-address_in_column o Outside h = let no : wants_column (phase_after_last_address o) ≡ false = last_in_column (opened (λ c n. is_page_program c && n == 4) o) in cc
+address_in_column o Outside h = let no : wants_column (phase_after_last_address o) ≡ false = last_in_column (opened (λ c n. is_page_program c && n == 4) o) (opened (λ c n. is_set_features c && n == 0) o) in cc
 address_in_column o FirstColumn h = refl
 address_in_column o SecondColumn h = refl
 address_in_column o Inputs h = cc
+address_in_column o FeatureInputs h = cc
 
-input_in_column : (p : DataPhase) → wants_column (phase_after_input p) ≡ false
-input_in_column Outside = refl
-input_in_column FirstColumn = refl
-input_in_column SecondColumn = refl
-input_in_column Inputs = refl
+input_in_column : (n : ℕ) (p : DataPhase) → wants_column (phase_after_input n p) ≡ false
+input_in_column n Outside = refl
+input_in_column n FirstColumn = refl
+input_in_column n SecondColumn = refl
+input_in_column n Inputs = refl
+input_in_column n FeatureInputs = at (ltb n 3)
+  where
+    at : (b : Bool) → wants_column (cond b FeatureInputs Outside) ≡ false
+    at true = refl
+    at false = refl
+
+-- a Set Features has four bytes
+pub command_in_features : (c : Command) (p : DataPhase) → takes_features (phase_after_command c p) ≡ false
+command_in_features ChangeWriteColumn Inputs = refl
+command_in_features ChangeWriteColumn _ = refl
+command_in_features c p = refl
+
+pub input_in_features : (n : ℕ) (p : DataPhase) → takes_features (phase_after_input n p) ≡ true → n + 1 < 4
+input_in_features n Outside h = cc
+input_in_features n FirstColumn h = cc
+input_in_features n SecondColumn h = cc
+input_in_features n Inputs h = cc
+input_in_features n FeatureInputs h = at (ltb n 3) refl h
+  where
+    at : (b : Bool) → ltb n 3 ≡ b → takes_features (cond b FeatureInputs Outside) ≡ true → n + 1 < 4
+    at true e h = grind (arith, nat_tests)
+    at false e h = cc
 
 -- an opener with its next address
 next_address : (o : Option Opening) (p : DataPhase) (byte : ℕ) → (wants_column p ≡ true → o ≡ None) → not (opened (λ c n. is_opener c && ltb n (address_cycles c) && takes_address c byte) o || wants_column p) ≡ false → IfSome (one_address_more o) (λ o. o.addresses ≤ 5)
@@ -86,6 +112,7 @@ command_fits g c t some f =
       in_column = λ h. rw some refl;
       nothing = λ h. cc;
       outside = λ h. cc;
+      features = λ h. omega arith;
     }
 
 opener_fits : (g : Parts) (c : Command) → TailFits g (extended_facts (CommandCycle c) (facts_of []))
@@ -97,19 +124,21 @@ opener_fits g c =
       in_column = λ h. let inside : Outside ≡ Inputs = command_in_column c Outside h in cc;
       nothing = λ h. cc;
       outside = λ h. cc;
+      features = λ h. omega arith;
     }
 
 -- an address
-address_fits : (g : Parts) (byte : ℕ) (t : TailFacts) → breaks_address_misplaced t (AddressCycle byte) ≡ false → (extended_facts (AddressCycle byte) t).column < 2 ^ 16 → TailFits g t → TailFits g (extended_facts (AddressCycle byte) t)
+address_fits : (g : Parts) (byte : ℕ) (t : TailFacts) → breaks_address_misplaced g t (AddressCycle byte) ≡ false → (extended_facts (AddressCycle byte) t).column < 2 ^ 16 → TailFits g t → TailFits g (extended_facts (AddressCycle byte) t)
 unfolding breaks_address_misplaced
 address_fits g byte t f7 small f =
     record {
       column = small;
       inputs = omega arith;
-      addresses = next_address t.opening t.phase byte f.in_column f7;
+      addresses = next_address t.opening t.phase byte f.in_column (or_parts _ _ f7).0;
       in_column = λ h. none (f.in_column (address_in_column t.opening t.phase h));
       nothing = λ h. cc;
       outside = λ h. cc;
+      features = λ h. omega arith;
     }
   where
     none : t.opening ≡ None → one_address_more t.opening ≡ None
@@ -121,19 +150,24 @@ unfolding breaks_column_outside
 input_fits g luns byte t f14 f =
     record {
       column = f.column;
-      inputs = grind (arith, nat_tests);
+      inputs = few (takes_features t.phase) refl f14;
       addresses = tt;
       in_column = λ h. refl;
       nothing = λ h. cc;
       outside = λ h. cc;
+      features = input_in_features t.inputs t.phase;
     }
+  where
+    few : (b : Bool) → takes_features t.phase ≡ b → (not b && leb (page_len g) (t.column + t.inputs)) ≡ false → t.inputs + 1 ≤ page_len g + 4
+    few true e h = let low = f.features e in omega (arith, low)
+    few false e h = grind (arith, nat_tests)
 
 output_fits : (g : Parts) (t : TailFacts) → TailFits g t → TailFits g (extended_facts OutputCycle t)
 output_fits g t f =
-    record { column = f.column; inputs = omega arith; addresses = tt; in_column = λ h. refl; nothing = λ h. cc; outside = λ h. cc }
+    record { column = f.column; inputs = omega arith; addresses = tt; in_column = λ h. refl; nothing = λ h. cc; outside = λ h. cc; features = λ h. omega arith }
 
 -- a cycle that goes on with a tail
-extended_fits : (g : Parts) (luns : List LunView) (cycle : TargetCycle) (t : TailFacts) → t.is_empty ≡ false → breaks_address_misplaced t cycle ≡ false → breaks_column_outside g t luns cycle ≡ false → (extended_facts cycle t).column < 2 ^ 16 → TailFits g t → TailFits g (extended_facts cycle t)
+extended_fits : (g : Parts) (luns : List LunView) (cycle : TargetCycle) (t : TailFacts) → t.is_empty ≡ false → breaks_address_misplaced g t cycle ≡ false → breaks_column_outside g t luns cycle ≡ false → (extended_facts cycle t).column < 2 ^ 16 → TailFits g t → TailFits g (extended_facts cycle t)
 extended_fits g luns (CommandCycle c) t some f7 f14 small f = command_fits g c t some f
 extended_fits g luns (AddressCycle byte) t some f7 f14 small f = address_fits g byte t f7 small f
 extended_fits g luns (InputCycle byte) t some f7 f14 small f = input_fits g luns byte t f14 f
@@ -146,7 +180,7 @@ begun_fits g (InputCycle byte) h = cc
 begun_fits g OutputCycle h = cc
 
 -- a permitted cycle
-cycle_fits : (g : Parts) (luns : List LunView) (cycle : TargetCycle) (t : TailFacts) → breaks_address_misplaced t cycle ≡ false → breaks_column_outside g t luns cycle ≡ false → (facts_after cycle t).column < 2 ^ 16 → TailFits g t → TailFits g (facts_after cycle t)
+cycle_fits : (g : Parts) (luns : List LunView) (cycle : TargetCycle) (t : TailFacts) → breaks_address_misplaced g t cycle ≡ false → breaks_column_outside g t luns cycle ≡ false → (facts_after cycle t).column < 2 ^ 16 → TailFits g t → TailFits g (facts_after cycle t)
 cycle_fits g luns cycle t f7 f14 small f = at (begins_sequence cycle) refl small
   where
     on : (e : Bool) → t.is_empty ≡ e → (cond e t (extended_facts cycle t)).column < 2 ^ 16 → TailFits g (cond e t (extended_facts cycle t))
@@ -168,4 +202,4 @@ tail_fits g n luns (Ard _ _) t h small f = f
 
 -- what is kept of a target that has seen nothing
 pub no_tail_fits : (g : Parts) → TailFits g (facts_of [])
-no_tail_fits g = record { column = omega arith; inputs = omega arith; addresses = tt; in_column = λ h. refl; nothing = λ h. refl; outside = λ h. refl }
+no_tail_fits g = record { column = omega arith; inputs = omega arith; addresses = tt; in_column = λ h. refl; nothing = λ h. refl; outside = λ h. refl; features = λ h. omega arith }

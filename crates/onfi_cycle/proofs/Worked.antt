@@ -1,6 +1,7 @@
 -- Worked traces, computed by the definitions. Traces are written in the order of time.
 use Rattle.std.specs.Prelude.{◌≡◌, ℕ, Bool, true, false, ◌&&◌, if◌then◌else◌, List, [], ◌∷◌, reverse, refl, Option, Some, None, is_none, replicate}
 use Rattle.nand_geometry.specs.declared.parts.Parts.{Parts}
+use Rattle.nand_geometry.specs.Optional.{no_optional}
 use Rattle.nand_geometry.specs.Limits.{width}
 use Rattle.onfi_cycle.specs.declared.item.Kind.TheVariants.{Cmd, Adr, Din, Dout}
 use Rattle.onfi_cycle.specs.declared.lun.Lun.{Lun}
@@ -18,15 +19,15 @@ use Rattle.onfi_cycle.specs.Permitted.{broken, is_legal, judge_known_cycle}
 
 -- 512 + 16 bytes, 4 pages, 8 blocks, one LUN, no planes
 abbrev one_lun : Parts
-one_lun = record { page_bytes = 512; spare_bytes = 16; pages = 4; blocks = 8; luns = 1; plane_bits = 0; enhanced = false; multi_plane = false; cache = false }
+one_lun = record { page_bytes = 512; spare_bytes = 16; pages = 4; blocks = 8; luns = 1; plane_bits = 0; enhanced = false; multi_plane = false; cache = false; optional = no_optional }
 
 -- the same with two LUNs, two planes and Read Status Enhanced
 abbrev two_luns : Parts
-two_luns = record { page_bytes = 512; spare_bytes = 16; pages = 4; blocks = 8; luns = 2; plane_bits = 1; enhanced = true; multi_plane = true; cache = false }
+two_luns = record { page_bytes = 512; spare_bytes = 16; pages = 4; blocks = 8; luns = 2; plane_bits = 1; enhanced = true; multi_plane = true; cache = false; optional = no_optional }
 
 -- one LUN with read cache
 abbrev with_cache : Parts
-with_cache = record { page_bytes = 512; spare_bytes = 16; pages = 4; blocks = 8; luns = 1; plane_bits = 0; enhanced = false; multi_plane = false; cache = true }
+with_cache = record { page_bytes = 512; spare_bytes = 16; pages = 4; blocks = 8; luns = 1; plane_bits = 0; enhanced = false; multi_plane = false; cache = true; optional = no_optional }
 
 abbrev c : ℕ → Item
 c byte = Cyc (record { ce = 0; kind = Cmd; byte = byte })
@@ -245,7 +246,7 @@ page_of block page = record { block = block; page = page }
 
 -- a channel whose pages have four bytes would not be in the limits; here only the first bytes are looked at
 abbrev small : Parts
-small = record { page_bytes = 4; spare_bytes = 0; pages = 4; blocks = 8; luns = 1; plane_bits = 0; enhanced = false; multi_plane = true; cache = false }
+small = record { page_bytes = 4; spare_bytes = 0; pages = 4; blocks = 8; luns = 1; plane_bits = 0; enhanced = false; multi_plane = true; cache = false; optional = no_optional }
 
 abbrev all_ones : Lun → PageAddress → List ℕ
 all_ones l p = replicate 4 0xff

@@ -1,17 +1,17 @@
 -- A permitted item works on one LUN at most; and what a running state keeps to.
-use Rattle.std.proofs.Common.{◌≡◌, ◌≢◌, ℕ, zero, suc, ◌+◌, ◌<◌, ◌≤◌, ◌==◌, Bool, true, false, ◌&&◌, ◌||◌, cond, not, ltb, List, [], ◌∷◌, Option, Some, None, refl, sym, ap, ◌∙◌, arith, subst, eqb-true}
+use Rattle.std.proofs.Common.{◌≡◌, ◌≢◌, ℕ, zero, suc, ◌+◌, ◌<◌, ◌≤◌, ◌==◌, Bool, true, false, ◌&&◌, ◌||◌, cond, not, ltb, List, [], ◌∷◌, Option, Some, None, refl, sym, ap, ◌∙◌, arith, subst, eqb-true, ◌%◌}
 use Rattle.std.proofs.lemmas.Bool.Decides.{nat_tests}
 use Rattle.std.specs.List.{slice_get, All}
 use Rattle.std.proofs.lemmas.Option.{slice_get_within, get_or_from_slice_get}
-use Rattle.std.proofs.lemmas.Bool.{and_parts as both}
+use Rattle.std.proofs.lemmas.Bool.{or_right, and_parts as both}
 use Rattle.nand_geometry.specs.declared.parts.Parts.{Parts}
 use Rattle.nand_geometry.specs.Limits.{InLimits}
 use Rattle.nand_geometry.specs.Row.{parts_of}
 use Rattle.onfi_cycle.specs.declared.command.Command.{Command}
-use Rattle.onfi_cycle.specs.declared.command.Command.TheVariants.{Read, ChangeReadColumnConfirm, ReadStatus, ReadStatusEnhanced, PageProgram, ReadId, ReadParameterPage, Reset, ReadCacheSequential, ReadCacheEnd}
+use Rattle.onfi_cycle.specs.declared.command.Command.TheVariants.{Read, ChangeReadColumnConfirm, ReadStatus, ReadStatusEnhanced, PageProgram, ReadId, ReadParameterPage, Reset, ReadCacheSequential, ReadCacheEnd, ReadUniqueId, GetFeatures, ResetLun, SynchronousReset}
 use Rattle.onfi_cycle.specs.declared.item.Cycle.{Cycle}
 use Rattle.onfi_cycle.specs.declared.effect.Effect.{Effect}
-use Rattle.onfi_cycle.specs.declared.effect.Effect.TheVariants.{Unaffected, SelectedForStatus, Deselected, IdRead, ParameterPageReadStarted, CacheReadContinued, CacheReadEnded, ReadColumnChanged, DataOutput, BecameReady, ArrayBecameReady}
+use Rattle.onfi_cycle.specs.declared.effect.Effect.TheVariants.{Unaffected, SelectedForStatus, Deselected, IdRead, ParameterPageReadStarted, CacheReadContinued, CacheReadEnded, ReadColumnChanged, DataOutput, BecameReady, ArrayBecameReady, UniqueIdReadStarted, FeaturesReadStarted, FeaturesSet, ResetStarted}
 use Rattle.onfi_cycle.specs.declared.filling.Filling.{Filling}
 use Rattle.onfi_cycle.specs.declared.filling.Filling.TheVariants.{Leaves, Clears, Fills}
 use Rattle.onfi_cycle.specs.declared.item.Item.{Item}
@@ -24,9 +24,9 @@ use Rattle.onfi_cycle.specs.declared.tail_facts.TailFacts.{TailFacts}
 use Rattle.onfi_cycle.specs.declared.target_cycle.TargetCycle.{TargetCycle}
 use Rattle.onfi_cycle.specs.declared.target_cycle.TargetCycle.TheVariants.{CommandCycle, AddressCycle, InputCycle, OutputCycle}
 use Rattle.onfi_cycle.specs.LunView.{LunView}
-use Rattle.onfi_cycle.specs.Command.{is_page_program, at_last_row, reads_identity}
-use Rattle.onfi_cycle.specs.Sequence.{target_of, target_cycle, tail, facts_of, opened, takes_inputs, wants_command, wants_address, wants_column, row, row_with, input_column}
-use Rattle.onfi_cycle.specs.Effect.{is_off, is_data, names_lun, page_address, confirm_effect, command_effect, address_effect, opening_address_effect, cycle_effect}
+use Rattle.onfi_cycle.specs.Command.{is_page_program, at_last_row, reads_identity, is_reset}
+use Rattle.onfi_cycle.specs.Sequence.{target_of, target_cycle, tail, facts_of, opened, takes_data, wants_command, wants_address, wants_column, row, row_with, input_column, takes_features}
+use Rattle.onfi_cycle.specs.Effect.{is_off, is_data, names_lun, page_address, confirm_effect, command_effect, address_effect, opening_address_effect, cycle_effect, id_effect, ends_features}
 use Rattle.onfi_cycle.specs.Filling.{cycle_filling, filling}
 use Rattle.onfi_cycle.specs.Lun.{latch, latch_alone, drivers, is_only, effect_on, lun_view, luns_of}
 use Rattle.onfi_cycle.specs.Rules.{ends_row, breaks_several_luns}
@@ -42,10 +42,14 @@ use Rattle.onfi_cycle.proofs.Following.{found_target, effect_by_state, effect_el
 same_number : (g : Parts) (r n m : ℕ) → names_lun g r n ≡ true → names_lun g r m ≡ true → n ≡ m
 same_number g r n m a b = sym (eqb-true (parts_of g r).lun n a) ∙ eqb-true (parts_of g r).lun m b
 
+abbrev is_reset_cycle : TargetCycle → Bool
+is_reset_cycle (CommandCycle c) = is_reset c
+is_reset_cycle _ = false
+
 -- of two LUNs of a target, what each kind of cycle asks
 record MayShare (g : Parts) (t : TailFacts) (la lb : Latch) (cycle : TargetCycle) (n m : ℕ) : Type 0 where
   identity : names_identity t ≡ true → n ≡ m
-  reset : breaks_several_luns g cycle ≡ false → cycle ≡ CommandCycle Reset → n ≡ m
+  reset : breaks_several_luns g cycle ≡ false → is_reset_cycle cycle ≡ true → n ≡ m
   driver : is_off la ≡ false → is_off lb ≡ false → n ≡ m
   outside : wants_column t.phase ≡ true → t.opening ≡ None
 
@@ -63,6 +67,7 @@ one_of_command g t la lb Read n m f4 s a b = cc
 one_of_command g t la lb ReadStatus n m f4 s a b = cc
 one_of_command g t la lb ReadStatusEnhanced n m f4 s a b = cc
 one_of_command g t la lb Reset n m f4 s a b = s.reset f4 refl
+one_of_command g t la lb SynchronousReset n m f4 s a b = s.reset f4 refl
 one_of_command g t la lb ReadCacheSequential n m f4 s a b = s.driver (unless (is_off la) CacheReadContinued a) (unless (is_off lb) CacheReadContinued b)
 one_of_command g t la lb ReadCacheEnd n m f4 s a b = s.driver (unless (is_off la) CacheReadEnded a) (unless (is_off lb) CacheReadEnded b)
 one_of_command g t la lb ChangeReadColumnConfirm n m f4 s a b = let no = nothing (wants_command t ChangeReadColumnConfirm && not (is_off la)) a in cc
@@ -75,13 +80,18 @@ one_of_command g t la lb c n m f4 s a b =
     (both (wants_command t c) _ (chosen (wants_command t c && names_lun g (row t) n) (confirm_effect g t c) a)).1
     (both (wants_command t c) _ (chosen (wants_command t c && names_lun g (row t) m) (confirm_effect g t c) b)).1
 
--- an address clears the register of the LUN that its row names, or is that of an identity
+-- an address clears the register of the LUN that its row names, or resets that LUN, or is that of an identity
 filled_when : (b : Bool) (x : Filling) → fills (cond b x Leaves) ≡ true → b ≡ true
 filled_when true x h = refl
 filled_when false x h = cc
 
-is_identity : (g : Parts) (t : TailFacts) (byte n : ℕ) → (wants_column t.phase ≡ true → t.opening ≡ None) → begins (opening_address_effect g t byte t.opening n) ≡ true → names_identity t ≡ true
-is_identity g t byte n alone h = at t.opening refl h
+-- what an address that begins work is
+data Begun (g : Parts) (t : TailFacts) (byte n : ℕ) : Type 0 where
+  identity : names_identity t ≡ true → Begun g t byte n
+  reset : names_lun g (row_with t byte) n ≡ true → Begun g t byte n
+
+is_begun : (g : Parts) (t : TailFacts) (byte n : ℕ) → (wants_column t.phase ≡ true → t.opening ≡ None) → begins (opening_address_effect g t byte t.opening n) ≡ true → Begun g t byte n
+is_begun g t byte n alone h = at t.opening refl h
   where
     outside : (o : Opening) → t.opening ≡ Some o → (b : Bool) → wants_column t.phase ≡ b → wants_column t.phase ≡ false
     outside o is true e = let none = alone e in cc
@@ -92,49 +102,58 @@ is_identity g t byte n alone h = at t.opening refl h
     selects true false h = h
     selects false d h = h
 
-    kind : (c : Command) (k : ℕ) → begins (address_effect g t byte c k n) ≡ true → (reads_identity c ≡ true) × (wants_address t byte ≡ true)
-    kind ReadStatusEnhanced k h = let no = selects (k == 2) (names_lun g (row_with t byte) n) h in cc
-    kind ReadId k h = (refl, chosen (wants_address t byte) IdRead h)
-    kind ReadParameterPage k h = (refl, chosen (wants_address t byte) ParameterPageReadStarted h)
-    kind c k h = cc
+    reads : (o : Opening) → t.opening ≡ Some o → reads_identity o.opener ≡ true → wants_address t byte ≡ true → Begun g t byte n
+    reads o e r w = identity (identity_waits t byte o e (outside o e (wants_column t.phase) refl) r w)
 
-    at : (o : Option Opening) → t.opening ≡ o → begins (opening_address_effect g t byte o n) ≡ true → names_identity t ≡ true
+    kind : (o : Opening) → t.opening ≡ Some o → (c : Command) → o.opener ≡ c → (k : ℕ) → begins (address_effect g t byte c k n) ≡ true → Begun g t byte n
+    kind o e ReadStatusEnhanced is k h = let no = selects (k == 2) (names_lun g (row_with t byte) n) h in cc
+    kind o e ReadId is k h = reads o e (ap reads_identity is) (chosen (wants_address t byte) (id_effect byte) h)
+    kind o e ReadParameterPage is k h = reads o e (ap reads_identity is) (chosen (wants_address t byte) ParameterPageReadStarted h)
+    kind o e ReadUniqueId is k h = reads o e (ap reads_identity is) (chosen (wants_address t byte) UniqueIdReadStarted h)
+    kind o e GetFeatures is k h = reads o e (ap reads_identity is) (chosen (wants_address t byte) (FeaturesReadStarted byte) h)
+    kind o e ResetLun is k h = reset (both (k == 2) _ (chosen (k == 2 && names_lun g (row_with t byte) n) ResetStarted h)).1
+    kind o e c is k h = cc
+
+    at : (o : Option Opening) → t.opening ≡ o → begins (opening_address_effect g t byte o n) ≡ true → Begun g t byte n
     at None e h = cc
-    at (Some o) e h = let k = kind o.opener o.addresses h in identity_waits t byte o e (outside o e (wants_column t.phase) refl) k.0 k.1
-
-not_both : (t : TailFacts) → ends_row is_page_program t ≡ true → names_identity t ≡ true → false ≡ true
-not_both t a b = at t.opening a b
-  where
-    of : (c : Command) (k : ℕ) → (is_page_program c && at_last_row c k) ≡ true → (reads_identity c && k == 0) ≡ true → false ≡ true
-    of PageProgram k a b = b
-    of _ k a b = a
-
-    at : (o : Option Opening) → opened (λ c n. is_page_program c && at_last_row c n) o ≡ true → opened (λ c n. reads_identity c && n == 0) o ≡ true → false ≡ true
-    at None a b = a
-    at (Some o) a b = of o.opener o.addresses a b
+    at (Some o) e h = kind o e o.opener refl o.addresses h
 
 either : {A : Type 0} (a b : Bool) → (a || b) ≡ true → (a ≡ true → A) → (b ≡ true → A) → A
 either true b h f k = f refl
 either false b h f k = k h
 
+-- the row names the LUN, or an identity is asked for
+one_of_two : (g : Parts) (t : TailFacts) (byte n m : ℕ) → (names_identity t ≡ true → n ≡ m) → Begun g t byte n → Begun g t byte m → n ≡ m
+one_of_two g t byte n m same (identity i) y = same i
+one_of_two g t byte n m same (reset a) (identity i) = same i
+one_of_two g t byte n m same (reset a) (reset b) = same_number g (row_with t byte) n m a b
+
 one_of_address : (g : Parts) (t : TailFacts) (la lb : Latch) (byte n m : ℕ) → MayShare g t la lb (AddressCycle byte) n m → (fills (cycle_filling g t (AddressCycle byte) n) || begins (cycle_effect g t la (AddressCycle byte) n)) ≡ true → (fills (cycle_filling g t (AddressCycle byte) m) || begins (cycle_effect g t lb (AddressCycle byte) m)) ≡ true → n ≡ m
 one_of_address g t la lb byte n m s a b =
-    either _ _ a
-    (λ x. either _ _ b (λ y. same_number g (row_with t byte) n m (cleared n x).1 (cleared m y).1) (λ y. let no = not_both t (cleared n x).0 (is_identity g t byte m s.outside y) in cc))
-    (λ x. s.identity (is_identity g t byte n s.outside x))
+    one_of_two g t byte n m s.identity
+    (either _ _ a (cleared n) (is_begun g t byte n s.outside))
+    (either _ _ b (cleared m) (is_begun g t byte m s.outside))
   where
-    cleared : (k : ℕ) → fills (cycle_filling g t (AddressCycle byte) k) ≡ true → (ends_row is_page_program t ≡ true) × (names_lun g (row_with t byte) k ≡ true)
-    cleared k h = both _ _ (filled_when (ends_row is_page_program t && names_lun g (row_with t byte) k) (Clears (page_address g (row_with t byte))) h)
+    cleared : (k : ℕ) → fills (cycle_filling g t (AddressCycle byte) k) ≡ true → Begun g t byte k
+    cleared k h = reset (both (ends_row is_page_program t) (names_lun g (row_with t byte) k) (filled_when (ends_row is_page_program t && names_lun g (row_with t byte) k) (Clears (page_address g (row_with t byte))) h)).1
 
-one_of_input : (g : Parts) (t : TailFacts) (byte n m : ℕ) → fills (cycle_filling g t (InputCycle byte) n) ≡ true → fills (cycle_filling g t (InputCycle byte) m) ≡ true → n ≡ m
-one_of_input g t byte n m a b = same_number g (row t) n m (named n a) (named m b)
+abbrev filled_by_data : Parts → TailFacts → ℕ → Bool
+filled_by_data g t k = takes_data t.phase && names_lun g (row t) k
+
+one_of_input : (g : Parts) (t : TailFacts) (la lb : Latch) (byte n m : ℕ) → MayShare g t la lb (InputCycle byte) n m → (fills (cycle_filling g t (InputCycle byte) n) || begins (cycle_effect g t la (InputCycle byte) n)) ≡ true → (fills (cycle_filling g t (InputCycle byte) m) || begins (cycle_effect g t lb (InputCycle byte) m)) ≡ true → n ≡ m
+one_of_input g t la lb byte n m s a b = at (ends_features t) refl
   where
-    named : (k : ℕ) → fills (cycle_filling g t (InputCycle byte) k) ≡ true → names_lun g (row t) k ≡ true
-    named k h = (both (takes_inputs t.phase) _ (filled_when (takes_inputs t.phase && names_lun g (row t) k) (Fills (page_address g (row t)) (input_column t) byte) h)).1
+    names : (x : Bool) → x ≡ false → (k : ℕ) → (fills (cond (filled_by_data g t k) (Fills (page_address g (row t)) (input_column t) byte) Leaves) || begins (cond x (FeaturesSet (t.column % 256)) Unaffected)) ≡ true → names_lun g (row t) k ≡ true
+    names true e k h = cc
+    names false e k h = (both (takes_data t.phase) (names_lun g (row t) k) (filled_when (filled_by_data g t k) (Fills (page_address g (row t)) (input_column t) byte) (left_of (fills (cond (filled_by_data g t k) (Fills (page_address g (row t)) (input_column t) byte) Leaves)) h))).1
+      where
+        left_of : (p : Bool) → (p || false) ≡ true → p ≡ true
+        left_of true h = refl
+        left_of false h = cc
 
-or_false : (b : Bool) → (b || false) ≡ true → b ≡ true
-or_false true h = refl
-or_false false h = cc
+    at : (x : Bool) → ends_features t ≡ x → n ≡ m
+    at true e = s.identity (or_right (opened (λ c n. reads_identity c && n == 0) t.opening) (takes_features t.phase) (both (takes_features t.phase) _ e).0)
+    at false e = same_number g (row t) n m (names (ends_features t) e n a) (names (ends_features t) e m b)
 
 no_output : (la : Latch) → begins (cond (is_data la) DataOutput Unaffected) ≡ true → false ≡ true
 no_output la h = of (is_data la) h
@@ -149,7 +168,7 @@ works_by g t la cycle n = fills (cycle_filling g t cycle n) || begins (cycle_eff
 one_of_cycle : (g : Parts) (t : TailFacts) (la lb : Latch) (cycle : TargetCycle) (n m : ℕ) → breaks_several_luns g cycle ≡ false → MayShare g t la lb cycle n m → works_by g t la cycle n ≡ true → works_by g t lb cycle m ≡ true → n ≡ m
 one_of_cycle g t la lb (CommandCycle c) n m f4 s a b = one_of_command g t la lb c n m f4 s a b
 one_of_cycle g t la lb (AddressCycle byte) n m f4 s a b = one_of_address g t la lb byte n m s a b
-one_of_cycle g t la lb (InputCycle byte) n m f4 s a b = one_of_input g t byte n m (or_false _ a) (or_false _ b)
+one_of_cycle g t la lb (InputCycle byte) n m f4 s a b = one_of_input g t la lb byte n m s a b
 one_of_cycle g t la lb OutputCycle n m f4 s a b = let no = no_output la a in cc
 
 -- two that are the only one
@@ -188,9 +207,10 @@ ready_rests g past (Ard ce lun) l h = let no = of (ce == l.ce && lun == l.lun) h
     of true h = h
     of false h = h
 
-few_luns : (g : Parts) (cycle : TargetCycle) → breaks_several_luns g cycle ≡ false → cycle ≡ CommandCycle Reset → g.luns ≤ 1
+few_luns : (g : Parts) (cycle : TargetCycle) → breaks_several_luns g cycle ≡ false → is_reset_cycle cycle ≡ true → g.luns ≤ 1
 unfolding breaks_several_luns
 few_luns g (CommandCycle Reset) f4 e = let low : ltb 1 g.luns ≡ false = f4 in grind (arith, nat_tests)
+few_luns g (CommandCycle SynchronousReset) f4 e = let low : ltb 1 g.luns ≡ false = f4 in grind (arith, nat_tests)
 few_luns g cycle f4 e = cc
 
 -- what a state that fits knows of one of its LUNs

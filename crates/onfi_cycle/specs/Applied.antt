@@ -3,14 +3,14 @@ use Rattle.std.specs.List.{list_any}
 use Rattle.std.specs.Prelude.{ℕ, zero, suc, ◌+◌, Bool, true, false, ◌||◌, List, [], ◌∷◌, if◌then◌else◌}
 use Rattle.nand_geometry.specs.declared.parts.Parts.{Parts}
 use Rattle.onfi_cycle.specs.declared.command.Command.{Command}
-use Rattle.onfi_cycle.specs.declared.command.Command.TheVariants.{Read, ReadStatus, ReadStatusEnhanced, ReadId, ReadParameterPage, Reset, ChangeReadColumnConfirm, ReadCacheSequential, ReadCacheEnd}
+use Rattle.onfi_cycle.specs.declared.command.Command.TheVariants.{Read, ReadStatus, ReadStatusEnhanced, ReadId, ReadParameterPage, Reset, ChangeReadColumnConfirm, ReadCacheSequential, ReadCacheEnd, ReadUniqueId, GetFeatures, ResetLun, SynchronousReset}
 use Rattle.onfi_cycle.specs.declared.effect.Effect.{Effect}
 use Rattle.onfi_cycle.specs.declared.latch.Latch.TheVariants.{Off}
 use Rattle.onfi_cycle.specs.declared.tail_facts.TailFacts.{TailFacts}
 use Rattle.onfi_cycle.specs.declared.target_cycle.TargetCycle.{TargetCycle}
 use Rattle.onfi_cycle.specs.declared.target_cycle.TargetCycle.TheVariants.{CommandCycle, AddressCycle, InputCycle, OutputCycle}
 use Rattle.onfi_cycle.specs.LunView.{LunView}
-use Rattle.onfi_cycle.specs.Effect.{cycle_effect, is_data}
+use Rattle.onfi_cycle.specs.Effect.{cycle_effect, is_data, ends_features}
 use Rattle.onfi_cycle.specs.Lun.{view_after}
 use Rattle.onfi_cycle.specs.Sequence.{opened, wants_command}
 
@@ -40,6 +40,7 @@ needs_no_row Read = true
 needs_no_row ReadStatus = true
 needs_no_row ReadStatusEnhanced = true
 needs_no_row Reset = true
+needs_no_row SynchronousReset = true
 needs_no_row ReadCacheSequential = true
 needs_no_row ReadCacheEnd = true
 needs_no_row ChangeReadColumnConfirm = true
@@ -50,11 +51,14 @@ abbrev pub acts_by_address : Command → Bool
 acts_by_address ReadStatusEnhanced = true
 acts_by_address ReadId = true
 acts_by_address ReadParameterPage = true
+acts_by_address ReadUniqueId = true
+acts_by_address GetFeatures = true
+acts_by_address ResetLun = true
 acts_by_address _ = false
 
 -- the cycle may do something to a LUN of its target; where it can't, all stay as they are
 abbrev pub may_act : TailFacts → List LunView → TargetCycle → Bool
 may_act t luns (CommandCycle c) = needs_no_row c || wants_command t c
 may_act t luns (AddressCycle byte) = opened (λ c n. acts_by_address c) t.opening
-may_act t luns (InputCycle byte) = false
+may_act t luns (InputCycle byte) = ends_features t
 may_act t luns OutputCycle = list_any (λ v. is_data v.latch) luns

@@ -11,9 +11,9 @@ use Rattle.onfi_cycle.specs.declared.queued.Queued.TheVariants.{Erase, Program}
 use Rattle.onfi_cycle.specs.declared.tail_facts.TailFacts.{TailFacts}
 use Rattle.onfi_cycle.specs.declared.data_phase.DataPhase.TheVariants.{Outside}
 use Rattle.onfi_cycle.specs.LunView.{LunView}
-use Rattle.onfi_cycle.specs.Sequence.{opened, takes_inputs, wants_column, row}
+use Rattle.onfi_cycle.specs.Sequence.{opened, takes_data, takes_features, wants_column, row}
 use Rattle.onfi_cycle.specs.declared.effect.Effect.{Effect}
-use Rattle.onfi_cycle.specs.declared.effect.Effect.TheVariants.{DataOutput, EraseStarted, ProgramStarted, ReadStarted, ReadColumnChanged, IdRead, ParameterPageReadStarted, CacheReadContinued, CacheReadEnded}
+use Rattle.onfi_cycle.specs.declared.effect.Effect.TheVariants.{DataOutput, EraseStarted, ProgramStarted, ReadStarted, ReadColumnChanged, IdRead, IdentityRead, UniqueIdReadStarted, FeaturesReadStarted, FeaturesSet, ParameterPageReadStarted, CacheReadContinued, CacheReadEnded}
 use Rattle.onfi_cycle.specs.Effect.{names_lun, page_address}
 use Rattle.onfi_cycle.specs.Rules.{some_queued_clashes}
 use Rattle.onfi_cycle.specs.State.{TargetView, BusView}
@@ -21,11 +21,12 @@ use Rattle.onfi_cycle.specs.State.{TargetView, BusView}
 -- the counts of a tail, and how its parts stand to one another
 pub record TailFits (g : Parts) (t : TailFacts) : Type 0 where
   pub column : t.column < 2 ^ 16
-  pub inputs : t.inputs ≤ page_len g
+  pub inputs : t.inputs ≤ page_len g + 4
   pub addresses : IfSome t.opening (λ o. o.addresses ≤ 5)
   pub in_column : wants_column t.phase ≡ true → t.opening ≡ None
   pub nothing : t.is_empty ≡ true → t.opening ≡ None
   pub outside : t.is_empty ≡ true → t.phase ≡ Outside
+  pub features : takes_features t.phase ≡ true → t.inputs < 4
 
 abbrev pub plane_of : Parts → Queued → ℕ
 plane_of g (Erase p) = p.block % planes g
@@ -66,21 +67,21 @@ abbrev pub names_erase : TailFacts → Bool
 names_erase t = opened (λ c n. is_block_erase c && n == 3) t.opening
 
 abbrev pub names_program : TailFacts → Bool
-names_program t = takes_inputs t.phase || wants_column t.phase
+names_program t = takes_data t.phase || wants_column t.phase
 
 abbrev pub names_row : TailFacts → Bool
 names_row t = names_read t || (names_erase t || names_program t)
 
--- a Read ID or a Read Parameter Page waits for its address
+-- an opener that reads or sets what stands beside the array waits for its address, or a Set Features for its bytes
 abbrev pub names_identity : TailFacts → Bool
-names_identity t = opened (λ c n. reads_identity c && n == 0) t.opening
+names_identity t = opened (λ c n. reads_identity c && n == 0) t.opening || takes_features t.phase
 
 -- the page lies inside a LUN
 abbrev pub is_row : Parts → PageAddress → Bool
 is_row g p = nat_lt p.block g.blocks && nat_lt p.page g.pages
 
--- the row that the tail names is inside the geometry, and its LUN is ready; a Read ID or a Read Parameter Page waits at the one LUN of its
--- target, and that is ready
+-- the row that the tail names is inside the geometry, and its LUN is ready; what reads or sets what stands beside the array waits at the one
+-- LUN of its target, and that is ready
 pub record RowStands (g : Parts) (t : TailFacts) (n : ℕ) (v : LunView) : Type 0 where
   pub inside : names_lun g (row t) n ≡ true → names_row t ≡ true → is_row g (page_address g (row t)) ≡ true
   pub ready : names_lun g (row t) n ≡ true → names_row t ≡ true → v.busy ≡ false
@@ -121,6 +122,10 @@ EffectFits g v (ProgramStarted queued at) = (some_queued_clashes g false at v.qu
 EffectFits g v (ReadStarted page column) = (page.page < 2 ^ 32) × (column < 2 ^ 16) × CanStart g v page
 EffectFits g v (ReadColumnChanged column) = column < 2 ^ 16
 EffectFits g v IdRead = v.busy ≡ false
+EffectFits g v (IdentityRead jedec) = v.busy ≡ false
+EffectFits g v UniqueIdReadStarted = v.busy ≡ false
+EffectFits g v (FeaturesReadStarted address) = v.busy ≡ false
+EffectFits g v (FeaturesSet address) = v.busy ≡ false
 EffectFits g v ParameterPageReadStarted = v.busy ≡ false
 EffectFits g v CacheReadContinued = (v.array_page.page + 1 < 2 ^ 32) × (v.busy ≡ false)
 EffectFits g v CacheReadEnded = v.busy ≡ false

@@ -1,7 +1,7 @@
--- The commands of the profile: their bytes, and what each asks of its sequence.
+-- The commands of the profiles: their bytes, and what each asks of its sequence.
 use Rattle.std.specs.Prelude.{◌≡◌, ◌≢◌, ℕ, ◌==◌, Bool, true, false, ◌||◌, if◌then◌else◌, Option, Some, None}
 use Rattle.onfi_cycle.specs.declared.command.Command.{Command}
-use Rattle.onfi_cycle.specs.declared.command.Command.TheVariants.{Read, ReadConfirm, ChangeReadColumn, ChangeReadColumnConfirm, BlockErase, BlockEraseConfirm, BlockErasePlane, ReadStatus, ReadStatusEnhanced, PageProgram, ChangeWriteColumn, ProgramConfirm, ProgramPlane, ReadId, ReadParameterPage, Reset, ReadCacheSequential, ReadCacheEnd, Unknown}
+use Rattle.onfi_cycle.specs.declared.command.Command.TheVariants.{Read, ReadConfirm, ChangeReadColumn, ChangeReadColumnConfirm, BlockErase, BlockEraseConfirm, BlockErasePlane, ReadStatus, ReadStatusEnhanced, PageProgram, ChangeWriteColumn, ProgramConfirm, ProgramPlane, ReadId, ReadParameterPage, Reset, ReadCacheSequential, ReadCacheEnd, ReadUniqueId, GetFeatures, SetFeatures, ResetLun, SynchronousReset, Unknown}
 
 -- the command of a byte
 unfoldable pub command : ℕ → Command
@@ -24,7 +24,12 @@ command byte =
     else (if byte == 0xff then Reset
     else (if byte == 0x31 then ReadCacheSequential
     else (if byte == 0x3f then ReadCacheEnd
-    else Unknown)))))))))))))))))
+    else (if byte == 0xed then ReadUniqueId
+    else (if byte == 0xee then GetFeatures
+    else (if byte == 0xef then SetFeatures
+    else (if byte == 0xfa then ResetLun
+    else (if byte == 0xfc then SynchronousReset
+    else Unknown))))))))))))))))))))))
 
 -- the byte of a command
 abbrev pub opcode : Command → Option ℕ
@@ -46,6 +51,11 @@ opcode ReadParameterPage = Some 0xec
 opcode Reset = Some 0xff
 opcode ReadCacheSequential = Some 0x31
 opcode ReadCacheEnd = Some 0x3f
+opcode ReadUniqueId = Some 0xed
+opcode GetFeatures = Some 0xee
+opcode SetFeatures = Some 0xef
+opcode ResetLun = Some 0xfa
+opcode SynchronousReset = Some 0xfc
 opcode Unknown = None
 
 -- each command but Unknown has one byte, and each byte that isn't Unknown is that of its command
@@ -53,7 +63,7 @@ pub record CommandsHaveBytes : Type 0 where
   pub command_of_byte : (c : Command) (byte : ℕ) → opcode c ≡ Some byte → command byte ≡ c
   pub byte_of_command : (byte : ℕ) → command byte ≢ Unknown → opcode (command byte) ≡ Some byte
 
--- the commands of the profile
+-- the commands of some profile
 abbrev pub is_known : Command → Bool
 is_known Unknown = false
 is_known _ = true
@@ -79,6 +89,10 @@ address_cycles ReadStatusEnhanced = 3
 address_cycles PageProgram = 5
 address_cycles ReadId = 1
 address_cycles ReadParameterPage = 1
+address_cycles ReadUniqueId = 1
+address_cycles GetFeatures = 1
+address_cycles SetFeatures = 1
+address_cycles ResetLun = 3
 address_cycles _ = 0
 
 -- the opener's sequence goes on after its addresses
@@ -97,10 +111,11 @@ closes BlockErase BlockEraseConfirm = true
 closes BlockErase BlockErasePlane = true
 closes _ _ = false
 
--- the one address byte of Read ID, and that of Read Parameter Page
+-- the address bytes of Read ID, and the one of Read Parameter Page and of Read Unique ID
 abbrev pub takes_address : Command → ℕ → Bool
-takes_address ReadId byte = byte == 0x20
+takes_address ReadId byte = byte == 0x20 || (byte == 0x00 || byte == 0x40)
 takes_address ReadParameterPage byte = byte == 0x00
+takes_address ReadUniqueId byte = byte == 0x00
 takes_address _ byte = true
 
 -- after this many address cycles the next one is the last of a row
@@ -108,6 +123,7 @@ abbrev pub at_last_row : Command → ℕ → Bool
 at_last_row Read n = n == 4
 at_last_row BlockErase n = n == 2
 at_last_row ReadStatusEnhanced n = n == 2
+at_last_row ResetLun n = n == 2
 at_last_row PageProgram n = n == 4
 at_last_row _ n = false
 
@@ -118,6 +134,20 @@ is_change_read_column _ = false
 abbrev pub is_page_program : Command → Bool
 is_page_program PageProgram = true
 is_page_program _ = false
+
+abbrev pub is_set_features : Command → Bool
+is_set_features SetFeatures = true
+is_set_features _ = false
+
+abbrev pub is_read_id : Command → Bool
+is_read_id ReadId = true
+is_read_id _ = false
+
+-- the resets that may come in an open sequence
+abbrev pub is_reset : Command → Bool
+is_reset Reset = true
+is_reset SynchronousReset = true
+is_reset _ = false
 
 -- the openers whose row is of the array
 abbrev pub addresses_the_array : Command → Bool
@@ -132,10 +162,13 @@ addresses_a_page Read = true
 addresses_a_page PageProgram = true
 addresses_a_page _ = false
 
--- the openers that read what stands beside the array
+-- the openers that read what stands beside the array, or set it
 abbrev pub reads_identity : Command → Bool
 reads_identity ReadId = true
 reads_identity ReadParameterPage = true
+reads_identity ReadUniqueId = true
+reads_identity GetFeatures = true
+reads_identity SetFeatures = true
 reads_identity _ = false
 
 -- the openers that want a ready LUN on their target
@@ -149,4 +182,8 @@ wants_one_lun ReadStatus = true
 wants_one_lun ReadId = true
 wants_one_lun ReadParameterPage = true
 wants_one_lun Reset = true
+wants_one_lun ReadUniqueId = true
+wants_one_lun GetFeatures = true
+wants_one_lun SetFeatures = true
+wants_one_lun SynchronousReset = true
 wants_one_lun _ = false

@@ -1,5 +1,5 @@
 -- What the pages of a LUN contain, and what a LUN shows.
-use Rattle.std.specs.Prelude.{ℕ, ◌+◌, ◌==◌, Bool, true, false, ◌&&◌, if◌then◌else◌, List, [], ◌∷◌, Option, Some, None, bit_and, replicate, slice_get, slice_set}
+use Rattle.std.specs.Prelude.{ℕ, zero, suc, ◌+◌, ◌==◌, Bool, true, false, ◌&&◌, if◌then◌else◌, List, [], ◌∷◌, ◌++◌, Option, Some, None, bit_and, replicate, slice_get, slice_set}
 use Rattle.nand_geometry.specs.declared.parts.Parts.{Parts}
 use Rattle.nand_geometry.specs.Limits.{page_len}
 use Rattle.onfi_cycle.specs.declared.lun.Lun.{Lun}
@@ -8,9 +8,9 @@ use Rattle.onfi_cycle.specs.declared.latch.Latch.TheVariants.{Off, Status, Data}
 use Rattle.onfi_cycle.specs.declared.item.Item.{Item}
 use Rattle.onfi_cycle.specs.declared.page_address.PageAddress.{PageAddress}
 use Rattle.onfi_cycle.specs.declared.register.Register.{Register}
-use Rattle.onfi_cycle.specs.declared.register.Register.TheVariants.{Empty, Page, ParameterPage, Identifier}
+use Rattle.onfi_cycle.specs.declared.register.Register.TheVariants.{Empty, Page, ParameterPage, Identifier, Identity, JedecIdentity, UniqueId, Features}
 use Rattle.onfi_cycle.specs.declared.effect.Effect.{Effect}
-use Rattle.onfi_cycle.specs.declared.effect.Effect.TheVariants.{ParameterPageReadStarted, CacheReadContinued, CacheReadEnded, ResetStarted, BecameReady, ReadStarted, EraseStarted, ProgramStarted}
+use Rattle.onfi_cycle.specs.declared.effect.Effect.TheVariants.{ParameterPageReadStarted, UniqueIdReadStarted, FeaturesReadStarted, FeaturesSet, CacheReadContinued, CacheReadEnded, ResetStarted, BecameReady, ReadStarted, EraseStarted, ProgramStarted}
 use Rattle.onfi_cycle.specs.Sequence.{tail, filled}
 use Rattle.onfi_cycle.specs.Lun.{effect_on, latch, is_busy, is_array_busy, read_column, output_column, register}
 
@@ -58,6 +58,9 @@ pending_work_after (EraseStarted queued at) bytes works pending = if queued then
 pending_work_after (ProgramStarted queued at) bytes works pending = if queued then [] else ProgramsPage at bytes ∷ works
 pending_work_after (ReadStarted _ _) bytes works pending = []
 pending_work_after ParameterPageReadStarted bytes works pending = []
+pending_work_after UniqueIdReadStarted bytes works pending = []
+pending_work_after (FeaturesReadStarted _) bytes works pending = []
+pending_work_after (FeaturesSet _) bytes works pending = []
 pending_work_after CacheReadContinued bytes works pending = []
 pending_work_after CacheReadEnded bytes works pending = []
 pending_work_after ResetStarted bytes works pending = []
@@ -100,12 +103,22 @@ status g past l =
     else (if has_failed g past l then 0xe1
     else 0xe0))
 
--- the bytes of a register; parameters are those of the parameter page, three copies
+-- so many times sixteen zeros and their complement
+abbrev pub identifiers : ℕ → List ℕ
+identifiers zero = []
+identifiers (suc count) = replicate 16 0 ++ (replicate 16 0xff ++ identifiers count)
+
+-- the bytes of a register; parameters are those of the parameter page, three copies. Of a chip's manufacturer, identifier and features nothing is
+-- known: they are zeros
 abbrev pub register_bytes : List ℕ → (PageAddress → List ℕ) → Register → List ℕ
 register_bytes parameters pages Empty = []
 register_bytes parameters pages (Page p) = pages p
 register_bytes parameters pages ParameterPage = parameters
 register_bytes parameters pages Identifier = 0x4f ∷ (0x4e ∷ (0x46 ∷ (0x49 ∷ [])))
+register_bytes parameters pages Identity = replicate 8 0
+register_bytes parameters pages JedecIdentity = 0x4a ∷ (0x45 ∷ (0x44 ∷ (0x45 ∷ (0x43 ∷ (0 ∷ [])))))
+register_bytes parameters pages UniqueId = identifiers 16
+register_bytes parameters pages (Features address) = replicate 4 0
 
 abbrev pub byte_at : List ℕ → Option ℕ → Option ℕ
 byte_at bytes None = None

@@ -2,7 +2,7 @@
 use Rattle.std.specs.Prelude.{◌≡◌, ℕ, ◌+◌, ◌<◌, ◌==◌, Bool, true, false, ◌||◌, ◌&&◌, nat_lt, if◌then◌else◌, List, [], ◌∷◌, Option, Some, None, unwrap_or}
 use Rattle.nand_geometry.specs.declared.parts.Parts.{Parts}
 use Rattle.onfi_cycle.specs.declared.command.Command.{Command}
-use Rattle.onfi_cycle.specs.declared.command.Command.TheVariants.{Read, ReadConfirm, ChangeReadColumnConfirm, BlockEraseConfirm, BlockErasePlane, ReadStatus, ReadStatusEnhanced, ProgramConfirm, ProgramPlane, ReadId, ReadParameterPage, Reset, ReadCacheSequential, ReadCacheEnd}
+use Rattle.onfi_cycle.specs.declared.command.Command.TheVariants.{Read, ReadConfirm, ChangeReadColumnConfirm, BlockEraseConfirm, BlockErasePlane, ReadStatus, ReadStatusEnhanced, ProgramConfirm, ProgramPlane, ReadId, ReadParameterPage, Reset, ReadCacheSequential, ReadCacheEnd, ReadUniqueId, GetFeatures, SetFeatures, ResetLun, SynchronousReset}
 use Rattle.onfi_cycle.specs.declared.lun.Lun.{Lun}
 use Rattle.onfi_cycle.specs.declared.latch.Latch.{Latch}
 use Rattle.onfi_cycle.specs.declared.latch.Latch.TheVariants.{Off, Status, Data}
@@ -15,10 +15,10 @@ use Rattle.onfi_cycle.specs.declared.page_address.PageAddress.{PageAddress}
 use Rattle.onfi_cycle.specs.declared.queued.Queued.{Queued}
 use Rattle.onfi_cycle.specs.declared.queued.Queued.TheVariants.{Erase, Program}
 use Rattle.onfi_cycle.specs.declared.register.Register.{Register}
-use Rattle.onfi_cycle.specs.declared.register.Register.TheVariants.{Empty, Page, ParameterPage, Identifier}
+use Rattle.onfi_cycle.specs.declared.register.Register.TheVariants.{Empty, Page, ParameterPage, Identifier, Identity, JedecIdentity, UniqueId, Features}
 use Rattle.onfi_cycle.specs.declared.tail_facts.TailFacts.{TailFacts}
 use Rattle.onfi_cycle.specs.Sequence.{target_cycle, tail, facts_of, row, row_with, wants_command, wants_address}
-use Rattle.onfi_cycle.specs.Effect.{is_data, page_address, names_lun}
+use Rattle.onfi_cycle.specs.Effect.{is_data, page_address, names_lun, ends_features}
 use Rattle.onfi_cycle.specs.Lun.{latch, drivers, is_only, is_busy, is_caching, closer, is_array_busy, array_page, register, read_column, queue}
 use Rattle.onfi_cycle.specs.Permitted.{is_legal}
 
@@ -73,27 +73,31 @@ row_closer named ProgramConfirm = if named then Some ProgramConfirm else None
 row_closer named ProgramPlane = if named then Some ProgramPlane else None
 row_closer named _ = None
 
--- a command that closes something on the LUN: a closer of a row that names it, Reset, and the cache reads of the one driver
+-- a command that closes something on the LUN: a closer of a row that names it, a reset of the target, and the cache reads of the one driver
 abbrev pub closing_command : Parts → List Item → Lun → Command → Option Command
 closing_command g past l Reset = Some Reset
+closing_command g past l SynchronousReset = Some Reset
 closing_command g past l ReadCacheSequential = if drives_alone g past l then Some ReadCacheSequential else None
 closing_command g past l ReadCacheEnd = if drives_alone g past l then Some ReadCacheEnd else None
 closing_command g past l c = row_closer (wants_command (tail_of past l) c && names_lun g (row (tail_of past l)) l.lun) c
 
--- the address of Read ID, and that of Read Parameter Page, close these
-abbrev pub identity_closer : Bool → Command → Option Command
-identity_closer wanted ReadId = if wanted then Some ReadId else None
-identity_closer wanted ReadParameterPage = if wanted then Some ReadParameterPage else None
-identity_closer wanted _ = None
+-- the one address of an opener that reads what stands beside the array closes it, and the last one of Reset LUN, where it names the LUN
+abbrev pub address_closer : (wanted named : Bool) → Command → ℕ → Option Command
+address_closer wanted named ReadId n = if wanted then Some ReadId else None
+address_closer wanted named ReadParameterPage n = if wanted then Some ReadParameterPage else None
+address_closer wanted named ReadUniqueId n = if wanted then Some ReadUniqueId else None
+address_closer wanted named GetFeatures n = if wanted then Some GetFeatures else None
+address_closer wanted named ResetLun n = if n == 2 && named then Some Reset else None
+address_closer wanted named _ n = None
 
-abbrev pub closing_address : TailFacts → ℕ → Option Opening → Option Command
-closing_address t byte None = None
-closing_address t byte (Some o) = identity_closer (wants_address t byte) o.opener
+abbrev pub closing_address : Parts → Lun → TailFacts → ℕ → Option Opening → Option Command
+closing_address g l t byte None = None
+closing_address g l t byte (Some o) = address_closer (wants_address t byte) (names_lun g (row_with t byte) l.lun) o.opener o.addresses
 
 abbrev pub closing_cycle : Parts → List Item → Lun → TargetCycle → Option Command
 closing_cycle g past l (CommandCycle c) = closing_command g past l c
-closing_cycle g past l (AddressCycle byte) = closing_address (tail_of past l) byte (tail_of past l).opening
-closing_cycle g past l (InputCycle byte) = None
+closing_cycle g past l (AddressCycle byte) = closing_address g l (tail_of past l) byte (tail_of past l).opening
+closing_cycle g past l (InputCycle byte) = if ends_features (tail_of past l) then Some SetFeatures else None
 closing_cycle g past l OutputCycle = None
 
 -- the command that closes something on the LUN, if the item does
@@ -184,18 +188,30 @@ page_of_array g l past =
     pages_on (unwrap_or (last_decided (page_read g l) past) first_page)
     (count_since (λ past i. reads_page (closing g l past i)) (λ past i. reads_on (closing g l past i)) past)
 
--- what a closer leaves in the register: a page, the parameter page, the identifier or nothing
-abbrev pub register_of : Parts → List Item → Lun → Option Command → Option Register
-register_of g past l None = None
-register_of g past l (Some ReadConfirm) = Some (Page (page_address g (row (tail_of past l))))
-register_of g past l (Some ReadParameterPage) = Some ParameterPage
-register_of g past l (Some ReadId) = Some Identifier
-register_of g past l (Some ReadCacheSequential) = Some (Page (array_page g past l))
-register_of g past l (Some ReadCacheEnd) = Some (Page (array_page g past l))
-register_of g past l (Some c) = Some Empty
+-- the byte of a cycle
+abbrev pub byte_of : Item → ℕ
+byte_of (Cyc c) = c.byte
+byte_of (Rdy ce lun fail) = 0
+byte_of (Ard ce lun) = 0
+
+-- what the address of a Read ID asks for
+abbrev pub id_register : ℕ → Register
+id_register byte = if byte == 0x20 then Identifier else (if byte == 0x40 then JedecIdentity else Identity)
+
+-- what a closer leaves in the register: a page, what stands beside the array, or nothing; the byte is that of the item
+abbrev pub register_of : Parts → List Item → Lun → ℕ → Option Command → Option Register
+register_of g past l byte None = None
+register_of g past l byte (Some ReadConfirm) = Some (Page (page_address g (row (tail_of past l))))
+register_of g past l byte (Some ReadParameterPage) = Some ParameterPage
+register_of g past l byte (Some ReadId) = Some (id_register byte)
+register_of g past l byte (Some ReadUniqueId) = Some UniqueId
+register_of g past l byte (Some GetFeatures) = Some (Features byte)
+register_of g past l byte (Some ReadCacheSequential) = Some (Page (array_page g past l))
+register_of g past l byte (Some ReadCacheEnd) = Some (Page (array_page g past l))
+register_of g past l byte (Some c) = Some Empty
 
 abbrev pub register_decided : Parts → Lun → List Item → Item → Option Register
-register_decided g l past i = register_of g past l (closing g l past i)
+register_decided g l past i = register_of g past l (byte_of i) (closing g l past i)
 
 -- 5. the read column
 
@@ -209,6 +225,8 @@ column_of past l None = None
 column_of past l (Some ReadConfirm) = Some (tail_of past l).column
 column_of past l (Some ReadParameterPage) = Some 0
 column_of past l (Some ReadId) = Some 0
+column_of past l (Some ReadUniqueId) = Some 0
+column_of past l (Some GetFeatures) = Some 0
 column_of past l (Some ReadCacheSequential) = Some 0
 column_of past l (Some ReadCacheEnd) = Some 0
 column_of past l (Some c) = None
@@ -261,6 +279,8 @@ closed_latch (Some Reset) = Some Off
 closed_latch (Some ReadConfirm) = Some Data
 closed_latch (Some ReadParameterPage) = Some Data
 closed_latch (Some ReadId) = Some Data
+closed_latch (Some ReadUniqueId) = Some Data
+closed_latch (Some GetFeatures) = Some Data
 closed_latch (Some ReadCacheSequential) = Some Data
 closed_latch (Some ReadCacheEnd) = Some Data
 closed_latch (Some c) = None
@@ -287,7 +307,7 @@ latch_cycle g past l (CommandCycle ReadStatus) = Some Status
 latch_cycle g past l (CommandCycle Read) = read_latch (latch g past l)
 latch_cycle g past l (CommandCycle c) = closed_latch (closing_command g past l c)
 latch_cycle g past l (AddressCycle byte) =
-    or_before (selecting_latch g past l byte (tail_of past l).opening) (closed_latch (closing_address (tail_of past l) byte (tail_of past l).opening))
+    or_before (selecting_latch g past l byte (tail_of past l).opening) (closed_latch (closing_address g l (tail_of past l) byte (tail_of past l).opening))
 latch_cycle g past l (InputCycle byte) = None
 latch_cycle g past l OutputCycle = None
 

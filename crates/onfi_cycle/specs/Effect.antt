@@ -1,9 +1,9 @@
 -- What an item does to a LUN.
-use Rattle.std.specs.Prelude.{ℕ, ◌==◌, Bool, true, false, ◌&&◌, not, if◌then◌else◌, List, Option, Some, None, ◌<◌, ◌^◌}
+use Rattle.std.specs.Prelude.{ℕ, ◌==◌, ◌%◌, Bool, true, false, ◌&&◌, not, if◌then◌else◌, List, Option, Some, None, ◌<◌, ◌^◌}
 use Rattle.nand_geometry.specs.declared.parts.Parts.{Parts}
 use Rattle.nand_geometry.specs.Row.{parts_of}
 use Rattle.onfi_cycle.specs.declared.command.Command.{Command}
-use Rattle.onfi_cycle.specs.declared.command.Command.TheVariants.{Read, ProgramConfirm, ProgramPlane, ReadConfirm, ReadCacheSequential, ReadCacheEnd, ReadStatus, ReadStatusEnhanced, ReadId, BlockEraseConfirm, BlockErasePlane, ChangeReadColumnConfirm, ReadParameterPage, Reset}
+use Rattle.onfi_cycle.specs.declared.command.Command.TheVariants.{Read, ProgramConfirm, ProgramPlane, ReadConfirm, ReadCacheSequential, ReadCacheEnd, ReadStatus, ReadStatusEnhanced, ReadId, BlockEraseConfirm, BlockErasePlane, ChangeReadColumnConfirm, ReadParameterPage, Reset, ReadUniqueId, GetFeatures, ResetLun, SynchronousReset}
 use Rattle.onfi_cycle.specs.declared.lun.Lun.{Lun}
 use Rattle.onfi_cycle.specs.declared.latch.Latch.{Latch}
 use Rattle.onfi_cycle.specs.declared.latch.Latch.TheVariants.{Off, Status, Data}
@@ -13,10 +13,10 @@ use Rattle.onfi_cycle.specs.declared.target_cycle.TargetCycle.{TargetCycle}
 use Rattle.onfi_cycle.specs.declared.target_cycle.TargetCycle.TheVariants.{CommandCycle, AddressCycle, InputCycle, OutputCycle}
 use Rattle.onfi_cycle.specs.declared.page_address.PageAddress.{PageAddress}
 use Rattle.onfi_cycle.specs.declared.effect.Effect.{Effect}
-use Rattle.onfi_cycle.specs.declared.effect.Effect.TheVariants.{Unaffected, DataOutputEnabled, StatusSelected, StatusRowAwaited, SelectedForStatus, Deselected, IdRead, ParameterPageReadStarted, CacheReadContinued, CacheReadEnded, DataOutput, ResetStarted, BecameReady, ArrayBecameReady, ReadStarted, EraseStarted, ProgramStarted, ReadColumnChanged}
+use Rattle.onfi_cycle.specs.declared.effect.Effect.TheVariants.{Unaffected, DataOutputEnabled, StatusSelected, StatusRowAwaited, SelectedForStatus, Deselected, IdRead, IdentityRead, UniqueIdReadStarted, FeaturesReadStarted, FeaturesSet, ParameterPageReadStarted, CacheReadContinued, CacheReadEnded, DataOutput, ResetStarted, BecameReady, ArrayBecameReady, ReadStarted, EraseStarted, ProgramStarted, ReadColumnChanged}
 use Rattle.onfi_cycle.specs.declared.opening.Opening.{Opening}
 use Rattle.onfi_cycle.specs.declared.tail_facts.TailFacts.{TailFacts}
-use Rattle.onfi_cycle.specs.Sequence.{target_cycle, tail, facts_of, wants_command, wants_address, row, row_with}
+use Rattle.onfi_cycle.specs.Sequence.{target_cycle, tail, facts_of, takes_features, wants_command, wants_address, row, row_with}
 
 abbrev pub is_off : Latch → Bool
 is_off Off = true
@@ -51,27 +51,43 @@ command_effect g t latch_alone Read lun = DataOutputEnabled
 command_effect g t latch_alone ReadStatus lun = StatusSelected
 command_effect g t latch_alone ReadStatusEnhanced lun = StatusRowAwaited
 command_effect g t latch_alone Reset lun = ResetStarted
+command_effect g t latch_alone SynchronousReset lun = ResetStarted
 command_effect g t latch_alone ReadCacheSequential lun = if is_off latch_alone then Unaffected else CacheReadContinued
 command_effect g t latch_alone ReadCacheEnd lun = if is_off latch_alone then Unaffected else CacheReadEnded
 command_effect g t latch_alone ChangeReadColumnConfirm lun = if wants_command t ChangeReadColumnConfirm && not (is_off latch_alone) then ReadColumnChanged t.column else Unaffected
 command_effect g t latch_alone c lun = if wants_command t c && names_lun g (row t) lun then confirm_effect g t c else Unaffected
 
+-- what the address of a Read ID does
+abbrev pub id_effect : ℕ → Effect
+id_effect byte = if byte == 0x20 then IdRead else IdentityRead (byte == 0x40)
+
 -- what an address does that comes after this opener and so many others
 abbrev pub address_effect : Parts → TailFacts → ℕ → Command → ℕ → ℕ → Effect
 address_effect g t byte ReadStatusEnhanced n lun = if n == 2 then (if names_lun g (row_with t byte) lun then SelectedForStatus else Deselected) else Unaffected
-address_effect g t byte ReadId n lun = if wants_address t byte then IdRead else Unaffected
+address_effect g t byte ReadId n lun = if wants_address t byte then id_effect byte else Unaffected
 address_effect g t byte ReadParameterPage n lun = if wants_address t byte then ParameterPageReadStarted else Unaffected
+address_effect g t byte ReadUniqueId n lun = if wants_address t byte then UniqueIdReadStarted else Unaffected
+address_effect g t byte GetFeatures n lun = if wants_address t byte then FeaturesReadStarted byte else Unaffected
+address_effect g t byte ResetLun n lun = if n == 2 && names_lun g (row_with t byte) lun then ResetStarted else Unaffected
 address_effect g t byte _ n lun = Unaffected
 
 abbrev pub opening_address_effect : Parts → TailFacts → ℕ → Option Opening → ℕ → Effect
 opening_address_effect g t byte None lun = Unaffected
 opening_address_effect g t byte (Some o) lun = address_effect g t byte o.opener o.addresses lun
 
+-- an input is the last one of a Set Features
+abbrev pub ends_features : TailFacts → Bool
+ends_features t = takes_features t.phase && t.inputs == 3
+
+-- what an input does: the fourth byte of a Set Features starts it, for the feature of its one address byte, which the tail keeps as its column
+abbrev pub input_effect : TailFacts → Effect
+input_effect t = if ends_features t then FeaturesSet (t.column % 256) else Unaffected
+
 -- what a cycle does to a LUN of its target, after this tail
 abbrev pub cycle_effect : Parts → TailFacts → Latch → TargetCycle → ℕ → Effect
 cycle_effect g t latch_alone (CommandCycle c) lun = command_effect g t latch_alone c lun
 cycle_effect g t latch_alone (AddressCycle byte) lun = opening_address_effect g t byte t.opening lun
-cycle_effect g t latch_alone (InputCycle byte) lun = Unaffected
+cycle_effect g t latch_alone (InputCycle byte) lun = input_effect t
 cycle_effect g t latch_alone OutputCycle lun = if is_data latch_alone then DataOutput else Unaffected
 
 -- what an item does to a LUN, by the facts of its target's tail

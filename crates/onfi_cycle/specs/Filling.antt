@@ -9,7 +9,7 @@ use Rattle.onfi_cycle.specs.declared.tail_facts.TailFacts.{TailFacts}
 use Rattle.onfi_cycle.specs.declared.target_cycle.TargetCycle.{TargetCycle}
 use Rattle.onfi_cycle.specs.declared.target_cycle.TargetCycle.TheVariants.{CommandCycle, AddressCycle, InputCycle, OutputCycle}
 use Rattle.onfi_cycle.specs.Command.{is_page_program}
-use Rattle.onfi_cycle.specs.Sequence.{target_cycle, takes_inputs, row, row_with, input_column}
+use Rattle.onfi_cycle.specs.Sequence.{target_cycle, takes_data, row, row_with, input_column}
 use Rattle.onfi_cycle.specs.Effect.{names_lun, page_address}
 use Rattle.onfi_cycle.specs.Rules.{ends_row}
 use Rattle.onfi_cycle.specs.declared.filling.Filling.{Filling}
@@ -19,7 +19,7 @@ use Rattle.onfi_cycle.specs.declared.filling.Filling.TheVariants.{Leaves, Clears
 abbrev pub cycle_filling : Parts → TailFacts → TargetCycle → ℕ → Filling
 cycle_filling g t (CommandCycle c) lun = Leaves
 cycle_filling g t (AddressCycle byte) lun = if ends_row is_page_program t && names_lun g (row_with t byte) lun then Clears (page_address g (row_with t byte)) else Leaves
-cycle_filling g t (InputCycle byte) lun = if takes_inputs t.phase && names_lun g (row t) lun then Fills (page_address g (row t)) (input_column t) byte else Leaves
+cycle_filling g t (InputCycle byte) lun = if takes_data t.phase && names_lun g (row t) lun then Fills (page_address g (row t)) (input_column t) byte else Leaves
 cycle_filling g t OutputCycle lun = Leaves
 
 abbrev pub filling : Parts → TailFacts → Item → Lun → Filling

@@ -5,9 +5,9 @@ use Rattle.nand_geometry.specs.Limits.{page_len}
 use Rattle.onfi_cycle.specs.declared.item.Item.{Item}
 use Rattle.onfi_cycle.specs.declared.item.Kind.TheVariants.{Din}
 use Rattle.onfi_cycle.specs.declared.forbidden.Forbidden.{Forbidden}
-use Rattle.onfi_cycle.specs.declared.forbidden.Forbidden.TheVariants.{ColumnOutside}
+use Rattle.onfi_cycle.specs.declared.forbidden.Forbidden.TheVariants.{InputMisplaced, ColumnOutside}
 use Rattle.onfi_cycle.specs.declared.tail_facts.TailFacts.{TailFacts}
-use Rattle.onfi_cycle.specs.Sequence.{phase_after_input, input_column}
+use Rattle.onfi_cycle.specs.Sequence.{takes_features, input_column}
 use Rattle.onfi_cycle.specs.State.{TargetView, BusView, changed_at}
 use Rattle.onfi_cycle.specs.Runs.{with_run, broken_run, judged_run, after_run}
 
@@ -27,12 +27,12 @@ judged_inputs = judged_run Din
 abbrev pub after_inputs : ℕ → ℕ → BusView → BusView
 after_inputs = after_run Din
 
--- a tail with so many inputs more, one at least
+-- a tail in the data of a program with so many inputs more, one at least
 abbrev pub fed_tail : ℕ → TailFacts → TailFacts
 fed_tail count t =
-    record { opening = None; phase = phase_after_input t.phase; row = t.row; column = t.column; inputs = t.inputs + count; is_empty = false }
+    record { opening = None; phase = t.phase; row = t.row; column = t.column; inputs = t.inputs + count; is_empty = false }
 
--- a target after so many inputs, one at least, whose first is permitted
+-- a target after so many inputs of a program, one at least, whose first is permitted
 abbrev pub fed_target : ℕ → TargetView → TargetView
 fed_target count s = record { tail = fed_tail count s.tail; luns = s.luns }
 
@@ -43,6 +43,12 @@ fed_bus ce count s = record { geometry = s.geometry; targets = changed_at (fed_t
 abbrev pub has_no_room : Parts → ℕ → TailFacts → Bool
 has_no_room g count t = nat_lt (page_len g) (input_column t + count)
 
--- what is against so many inputs, one at least, whose first is permitted
+-- a Set Features takes fewer inputs more than these
+abbrev pub takes_fewer_features : ℕ → TailFacts → Bool
+takes_fewer_features count t = nat_lt 4 (t.inputs + count)
+
+-- what is against so many inputs, one at least, whose first is permitted: the page has no place for all, or a Set Features takes fewer
 abbrev pub against_inputs : Parts → ℕ → TailFacts → Option Forbidden
-against_inputs g count t = if has_no_room g count t then Some ColumnOutside else None
+against_inputs g count t =
+    if takes_features t.phase then (if takes_fewer_features count t then Some InputMisplaced else None)
+    else (if has_no_room g count t then Some ColumnOutside else None)

@@ -1,4 +1,5 @@
 pub mod Command
+pub mod Base
 pub mod Sequence
 pub mod Table
 pub mod Naming

@@ -2,7 +2,7 @@
 use Rattle.std.specs.Prelude.{ℕ, zero, suc, ◌+◌, ◌==◌, Bool, true, false, ◌||◌, ◌&&◌, nat_lt, if◌then◌else◌, List, [], ◌∷◌, Option, Some, None}
 use Rattle.nand_geometry.specs.declared.parts.Parts.{Parts}
 use Rattle.onfi_cycle.specs.declared.command.Command.{Command}
-use Rattle.onfi_cycle.specs.declared.command.Command.TheVariants.{ProgramConfirm, ProgramPlane, ReadConfirm, ReadCacheSequential, ReadCacheEnd, ReadId, BlockEraseConfirm, BlockErasePlane, ReadParameterPage, Reset}
+use Rattle.onfi_cycle.specs.declared.command.Command.TheVariants.{ProgramConfirm, ProgramPlane, ReadConfirm, ReadCacheSequential, ReadCacheEnd, ReadId, BlockEraseConfirm, BlockErasePlane, ReadParameterPage, Reset, ReadUniqueId, GetFeatures, SetFeatures}
 use Rattle.onfi_cycle.specs.declared.lun.Lun.{Lun}
 use Rattle.onfi_cycle.specs.declared.latch.Latch.{Latch}
 use Rattle.onfi_cycle.specs.declared.latch.Latch.TheVariants.{Off, Status, Data}
@@ -11,11 +11,11 @@ use Rattle.onfi_cycle.specs.declared.page_address.PageAddress.{PageAddress}
 use Rattle.onfi_cycle.specs.declared.queued.Queued.{Queued}
 use Rattle.onfi_cycle.specs.declared.queued.Queued.TheVariants.{Erase, Program}
 use Rattle.onfi_cycle.specs.declared.register.Register.{Register}
-use Rattle.onfi_cycle.specs.declared.register.Register.TheVariants.{Empty, Page, ParameterPage, Identifier}
+use Rattle.onfi_cycle.specs.declared.register.Register.TheVariants.{Empty, Page, ParameterPage, Identifier, Identity, JedecIdentity, UniqueId, Features}
 use Rattle.onfi_cycle.specs.declared.read_column.ReadColumn.{ReadColumn}
 use Rattle.onfi_cycle.specs.LunView.{LunView}
 use Rattle.onfi_cycle.specs.declared.effect.Effect.{Effect}
-use Rattle.onfi_cycle.specs.declared.effect.Effect.TheVariants.{DataOutputEnabled, StatusSelected, StatusRowAwaited, SelectedForStatus, Deselected, IdRead, ParameterPageReadStarted, CacheReadContinued, CacheReadEnded, DataOutput, ResetStarted, BecameReady, ArrayBecameReady, ReadStarted, EraseStarted, ProgramStarted, ReadColumnChanged}
+use Rattle.onfi_cycle.specs.declared.effect.Effect.TheVariants.{DataOutputEnabled, StatusSelected, StatusRowAwaited, SelectedForStatus, Deselected, IdRead, IdentityRead, UniqueIdReadStarted, FeaturesReadStarted, FeaturesSet, ParameterPageReadStarted, CacheReadContinued, CacheReadEnded, DataOutput, ResetStarted, BecameReady, ArrayBecameReady, ReadStarted, EraseStarted, ProgramStarted, ReadColumnChanged}
 use Rattle.onfi_cycle.specs.Effect.{effect_given, is_off}
 
 -- of so many LUNs from number n on, those that a latch has on
@@ -46,7 +46,10 @@ latch_after SelectedForStatus latch = Status
 latch_after Deselected latch = Off
 latch_after (ReadStarted _ _) latch = Data
 latch_after IdRead latch = Data
+latch_after (IdentityRead _) latch = Data
 latch_after ParameterPageReadStarted latch = Data
+latch_after UniqueIdReadStarted latch = Data
+latch_after (FeaturesReadStarted _) latch = Data
 latch_after CacheReadContinued latch = Data
 latch_after CacheReadEnded latch = Data
 latch_after ResetStarted latch = Off
@@ -75,6 +78,9 @@ busy_after (ReadStarted _ _) busy = true
 busy_after (EraseStarted _ _) busy = true
 busy_after (ProgramStarted _ _) busy = true
 busy_after ParameterPageReadStarted busy = true
+busy_after UniqueIdReadStarted busy = true
+busy_after (FeaturesReadStarted _) busy = true
+busy_after (FeaturesSet _) busy = true
 busy_after CacheReadContinued busy = true
 busy_after CacheReadEnded busy = true
 busy_after ResetStarted busy = true
@@ -91,7 +97,11 @@ closer_after (ReadStarted _ _) last = Some ReadConfirm
 closer_after (EraseStarted queued _) last = Some (if queued then BlockErasePlane else BlockEraseConfirm)
 closer_after (ProgramStarted queued _) last = Some (if queued then ProgramPlane else ProgramConfirm)
 closer_after IdRead last = Some ReadId
+closer_after (IdentityRead _) last = Some ReadId
 closer_after ParameterPageReadStarted last = Some ReadParameterPage
+closer_after UniqueIdReadStarted last = Some ReadUniqueId
+closer_after (FeaturesReadStarted _) last = Some GetFeatures
+closer_after (FeaturesSet _) last = Some SetFeatures
 closer_after CacheReadContinued last = Some ReadCacheSequential
 closer_after CacheReadEnded last = Some ReadCacheEnd
 closer_after ResetStarted last = Some Reset
@@ -122,7 +132,11 @@ array_busy_after (ReadStarted _ _) busy caching array_busy = false
 array_busy_after (EraseStarted _ _) busy caching array_busy = false
 array_busy_after (ProgramStarted _ _) busy caching array_busy = false
 array_busy_after IdRead busy caching array_busy = false
+array_busy_after (IdentityRead _) busy caching array_busy = false
 array_busy_after ParameterPageReadStarted busy caching array_busy = false
+array_busy_after UniqueIdReadStarted busy caching array_busy = false
+array_busy_after (FeaturesReadStarted _) busy caching array_busy = false
+array_busy_after (FeaturesSet _) busy caching array_busy = false
 array_busy_after CacheReadContinued busy caching array_busy = false
 array_busy_after CacheReadEnded busy caching array_busy = false
 array_busy_after ResetStarted busy caching array_busy = false
@@ -151,7 +165,11 @@ register_after (ReadStarted at _) p r = Page at
 register_after (EraseStarted _ _) p r = Empty
 register_after (ProgramStarted _ _) p r = Empty
 register_after IdRead p r = Identifier
+register_after (IdentityRead jedec) p r = if jedec then JedecIdentity else Identity
 register_after ParameterPageReadStarted p r = ParameterPage
+register_after UniqueIdReadStarted p r = UniqueId
+register_after (FeaturesReadStarted address) p r = Features address
+register_after (FeaturesSet _) p r = Empty
 register_after CacheReadContinued p r = Page p
 register_after CacheReadEnded p r = Page p
 register_after ResetStarted p r = Empty
@@ -169,7 +187,10 @@ abbrev pub read_column_after : Effect → ReadColumn → ReadColumn
 read_column_after (ReadStarted _ from) k = column_at from
 read_column_after (ReadColumnChanged from) k = column_at from
 read_column_after IdRead k = column_at 0
+read_column_after (IdentityRead _) k = column_at 0
 read_column_after ParameterPageReadStarted k = column_at 0
+read_column_after UniqueIdReadStarted k = column_at 0
+read_column_after (FeaturesReadStarted _) k = column_at 0
 read_column_after CacheReadContinued k = column_at 0
 read_column_after CacheReadEnded k = column_at 0
 read_column_after DataOutput k = record k { outputs = k.outputs + 1 }
@@ -195,7 +216,7 @@ queue_after (ProgramStarted queued at) queue = if queued then Program at ∷ que
 queue_after ResetStarted queue = []
 queue_after _ queue = queue
 
--- the changes whose D1 or 11 stands after the last D0, 10 or FF of the LUN, the newest first
+-- the changes whose D1 or 11 stands after the last D0, 10 or reset of the LUN, the newest first
 abbrev pub queue : Parts → List Item → Lun → List Queued
 queue g [] l = []
 queue g (i ∷ past) l = queue_after (effect_on g past i l) (queue g past l)

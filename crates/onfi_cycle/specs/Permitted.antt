@@ -15,11 +15,11 @@ use Rattle.onfi_cycle.specs.Rules.{breaks_not_there, breaks_command_unknown, bre
 -- the first of F3 to F15 that a cycle breaks
 abbrev pub judge_known_cycle : Parts → TailFacts → List LunView → TargetCycle → Option Forbidden
 judge_known_cycle g t luns cycle =
-    if breaks_sequence_open t cycle then Some SequenceOpen
+    if breaks_sequence_open g t cycle then Some SequenceOpen
     else (if breaks_several_luns g cycle then Some SeveralLuns
     else (if breaks_no_column_to_change luns cycle then Some NoColumnToChange
     else (if breaks_command_misplaced t cycle then Some CommandMisplaced
-    else (if breaks_address_misplaced t cycle then Some AddressMisplaced
+    else (if breaks_address_misplaced g t cycle then Some AddressMisplaced
     else (if breaks_row_outside g t cycle then Some RowOutside
     else (if breaks_lun_busy g t luns cycle then Some LunBusy
     else (if breaks_queue_clash g t luns cycle then Some QueueClash

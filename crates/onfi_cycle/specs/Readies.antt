@@ -1,20 +1,21 @@
 -- How many readies are still to come on a channel, and which items bring more: those that start work.
-use Rattle.std.specs.Prelude.{◌≡◌, ℕ, ◌+◌, ◌==◌, ◌≤◌, Bool, true, false, ◌&&◌, if◌then◌else◌, List, [], ◌∷◌, Option, Some, None, slice_get}
+use Rattle.std.specs.Prelude.{◌≡◌, ℕ, ◌+◌, ◌==◌, ◌≤◌, Bool, true, false, ◌&&◌, ◌||◌, nat_lt, if◌then◌else◌, List, [], ◌∷◌, Option, Some, None, slice_get}
 use Rattle.onfi_cycle.specs.declared.command.Command.{Command}
-use Rattle.onfi_cycle.specs.declared.command.Command.TheVariants.{ReadConfirm, BlockEraseConfirm, BlockErasePlane, ProgramConfirm, ProgramPlane, ReadParameterPage, Reset, ReadCacheSequential, ReadCacheEnd}
+use Rattle.onfi_cycle.specs.declared.command.Command.TheVariants.{ReadConfirm, BlockEraseConfirm, BlockErasePlane, ProgramConfirm, ProgramPlane, ReadParameterPage, Reset, ReadCacheSequential, ReadCacheEnd, ReadUniqueId, GetFeatures, SetFeatures, ResetLun, SynchronousReset}
 use Rattle.onfi_cycle.specs.declared.tail_facts.TailFacts.{TailFacts}
 use Rattle.onfi_cycle.specs.declared.target_cycle.TargetCycle.{TargetCycle}
 use Rattle.onfi_cycle.specs.declared.target_cycle.TargetCycle.TheVariants.{CommandCycle}
 use Rattle.onfi_cycle.specs.declared.item.Item.{Item}
 use Rattle.onfi_cycle.specs.declared.item.Item.TheVariants.{Cyc, Rdy, Ard}
 use Rattle.onfi_cycle.specs.LunView.{LunView}
-use Rattle.onfi_cycle.specs.Sequence.{target_of, target_cycle, opened}
+use Rattle.onfi_cycle.specs.Command.{address_cycles}
+use Rattle.onfi_cycle.specs.Sequence.{target_of, target_cycle, opened, takes_features}
 use Rattle.onfi_cycle.specs.Lun.{is_cache_read}
 use Rattle.onfi_cycle.specs.Channel.{is_cycle}
 use Rattle.onfi_cycle.specs.State.{TargetView, BusView, judged, bus_after}
 use Rattle.onfi_cycle.specs.Bounds.{BusFits}
 
--- the commands that start work, or whose address does
+-- the commands that start work, or whose address or inputs do
 abbrev pub starts : Command → Bool
 starts ReadConfirm = true
 starts BlockEraseConfirm = true
@@ -25,6 +26,11 @@ starts ReadParameterPage = true
 starts Reset = true
 starts ReadCacheSequential = true
 starts ReadCacheEnd = true
+starts ReadUniqueId = true
+starts GetFeatures = true
+starts SetFeatures = true
+starts ResetLun = true
+starts SynchronousReset = true
 starts _ = false
 
 abbrev pub cycle_starts : TargetCycle → Bool
@@ -37,21 +43,26 @@ starts_work (Cyc c) = cycle_starts (target_cycle c.kind c.byte)
 starts_work (Rdy ce lun fail) = false
 starts_work (Ard ce lun) = false
 
-abbrev pub is_parameter_page : Command → Bool
-is_parameter_page ReadParameterPage = true
-is_parameter_page _ = false
+-- the openers whose work an address or an input starts
+abbrev pub starts_later : Command → Bool
+starts_later ReadParameterPage = true
+starts_later ReadUniqueId = true
+starts_later GetFeatures = true
+starts_later SetFeatures = true
+starts_later ResetLun = true
+starts_later _ = false
 
--- a Read Parameter Page waits for its address
-abbrev pub awaits_parameters : TailFacts → Bool
-awaits_parameters t = opened (λ c n. is_parameter_page c && n == 0) t.opening
+-- the opener's work is started by an address or an input that is still to come
+abbrev pub awaits_start : TailFacts → Bool
+awaits_start t = opened (λ c n. starts_later c && nat_lt n (address_cycles c)) t.opening || takes_features t.phase
 
 abbrev pub one_if : Bool → ℕ
 one_if b = if b then 1 else 0
 
--- the readies still to come of a LUN: of its work, of its array, of the array once the work of a cache read ends, and of a parameter
--- page whose address is still to come
+-- the readies still to come of a LUN: of its work, of its array, of the array once the work of a cache read ends, and of work whose opener
+-- has come and whose address or input, which starts it, hasn't
 abbrev pub due_at : TailFacts → LunView → ℕ
-due_at t v = one_if v.busy + (one_if v.array_busy + (one_if (v.busy && is_cache_read v.closer) + one_if (awaits_parameters t)))
+due_at t v = one_if v.busy + (one_if v.array_busy + (one_if (v.busy && is_cache_read v.closer) + one_if (awaits_start t)))
 
 abbrev pub due_of : TailFacts → List LunView → ℕ
 due_of t [] = 0

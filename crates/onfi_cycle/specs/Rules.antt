@@ -5,20 +5,21 @@ use Rattle.nand_geometry.specs.declared.parts.Parts.{Parts}
 use Rattle.nand_geometry.specs.Limits.{page_len, planes}
 use Rattle.nand_geometry.specs.Row.{parts_of, is_inside}
 use Rattle.onfi_cycle.specs.declared.command.Command.{Command}
-use Rattle.onfi_cycle.specs.declared.command.Command.TheVariants.{Read, ChangeReadColumn, BlockErase, BlockErasePlane, ReadStatusEnhanced, PageProgram, ProgramPlane, ReadCacheSequential, ReadCacheEnd}
+use Rattle.onfi_cycle.specs.declared.command.Command.TheVariants.{Read, ChangeReadColumn, BlockErase, BlockErasePlane, ReadStatusEnhanced, PageProgram, ProgramPlane, ReadCacheSequential, ReadCacheEnd, ReadUniqueId, GetFeatures, SetFeatures, ResetLun, SynchronousReset}
 use Rattle.onfi_cycle.specs.declared.item.Item.{Item}
 use Rattle.onfi_cycle.specs.declared.item.Item.TheVariants.{Cyc, Rdy, Ard}
-use Rattle.onfi_cycle.specs.Command.{is_known, is_opener, at_last_row, is_change_read_column, addresses_the_array, addresses_a_page, reads_identity, wants_ready, wants_one_lun}
+use Rattle.nand_geometry.specs.Optional.{is_wide, has_features, has_unique_id, has_lun_reset, has_synchronous_reset}
+use Rattle.onfi_cycle.specs.Command.{is_known, is_opener, is_read_id, is_reset, at_last_row, is_change_read_column, addresses_the_array, addresses_a_page, reads_identity, wants_ready, wants_one_lun}
 use Rattle.onfi_cycle.specs.declared.target_cycle.TargetCycle.{TargetCycle}
 use Rattle.onfi_cycle.specs.declared.target_cycle.TargetCycle.TheVariants.{CommandCycle, AddressCycle, InputCycle, OutputCycle}
 use Rattle.onfi_cycle.specs.declared.page_address.PageAddress.{PageAddress}
 use Rattle.onfi_cycle.specs.declared.queued.Queued.{Queued}
 use Rattle.onfi_cycle.specs.declared.queued.Queued.TheVariants.{Erase, Program}
 use Rattle.onfi_cycle.specs.declared.register.Register.{Register}
-use Rattle.onfi_cycle.specs.declared.register.Register.TheVariants.{Empty, Page, ParameterPage, Identifier}
+use Rattle.onfi_cycle.specs.declared.register.Register.TheVariants.{Empty, Page, ParameterPage, Identifier, Identity, JedecIdentity, UniqueId, Features}
 use Rattle.onfi_cycle.specs.declared.opening.Opening.{Opening}
 use Rattle.onfi_cycle.specs.declared.tail_facts.TailFacts.{TailFacts}
-use Rattle.onfi_cycle.specs.Sequence.{opened, takes_inputs, wants_second_column, wants_command, wants_address, is_open, row_with, column_with, input_column}
+use Rattle.onfi_cycle.specs.Sequence.{opened, takes_features, takes_inputs, wants_second_column, wants_command, wants_address, is_open, row_with, column_with, input_column}
 use Rattle.onfi_cycle.specs.Effect.{is_off, is_data, page_address}
 use Rattle.onfi_cycle.specs.LunView.{LunView}
 use Rattle.onfi_cycle.specs.Lun.{is_cache_read, is_page_read, output_column}
@@ -68,6 +69,11 @@ is_undeclared g BlockErasePlane = not g.multi_plane
 is_undeclared g ProgramPlane = not g.multi_plane
 is_undeclared g ReadCacheSequential = not g.cache
 is_undeclared g ReadCacheEnd = not g.cache
+is_undeclared g ReadUniqueId = not (has_unique_id g.optional)
+is_undeclared g GetFeatures = not (has_features g.optional)
+is_undeclared g SetFeatures = not (has_features g.optional)
+is_undeclared g ResetLun = not (has_lun_reset g.optional)
+is_undeclared g SynchronousReset = not (has_synchronous_reset g.optional)
 is_undeclared g _ = false
 
 -- how many bytes a register has
@@ -76,10 +82,15 @@ register_len g Empty = 0
 register_len g (Page p) = page_len g
 register_len g ParameterPage = 768
 register_len g Identifier = 4
+register_len g Identity = 8
+register_len g JedecIdentity = 6
+register_len g UniqueId = 512
+register_len g (Features address) = 4
 
 abbrev pub is_page_or_parameters : Register → Bool
 is_page_or_parameters (Page p) = true
 is_page_or_parameters ParameterPage = true
+is_page_or_parameters UniqueId = true
 is_page_or_parameters _ = false
 
 abbrev pub is_empty : Register → Bool
@@ -122,17 +133,17 @@ unfoldable pub breaks_command_unknown : Parts → TargetCycle → Bool
 breaks_command_unknown g (CommandCycle c) = not (is_known c) || is_undeclared g c
 breaks_command_unknown g _ = false
 
--- F3: an opener while a sequence is open
-unfoldable pub breaks_sequence_open : TailFacts → TargetCycle → Bool
-breaks_sequence_open t (CommandCycle c) = is_opener c && is_open t
-breaks_sequence_open t _ = false
+-- F3: an opener while a sequence is open, but a reset in the wider profile
+unfoldable pub breaks_sequence_open : Parts → TailFacts → TargetCycle → Bool
+breaks_sequence_open g t (CommandCycle c) = is_opener c && (is_open t && not (is_reset c && is_wide g.optional))
+breaks_sequence_open g t _ = false
 
--- F4: 70, 90, EC or FF on a target with several LUNs
+-- F4: 70, FF, FC, or what reads or sets what stands beside the array, on a target with several LUNs
 unfoldable pub breaks_several_luns : Parts → TargetCycle → Bool
 breaks_several_luns g (CommandCycle c) = wants_one_lun c && nat_lt 1 g.luns
 breaks_several_luns g _ = false
 
--- 05h finds something to read: data is shown, no work goes on, and a page or the parameter page is in the register
+-- 05h finds something to read: data is shown, no work goes on, and a page, the parameter page or the unique identifier is in the register
 abbrev pub may_change_column : LunView → Bool
 may_change_column v = is_data v.latch && (not v.busy && is_page_or_parameters v.register)
 
@@ -146,10 +157,14 @@ unfoldable pub breaks_command_misplaced : TailFacts → TargetCycle → Bool
 breaks_command_misplaced t (CommandCycle c) = not (is_opener c) && not (wants_command t c)
 breaks_command_misplaced t _ = false
 
--- F7: an address that the tail doesn't want
-unfoldable pub breaks_address_misplaced : TailFacts → TargetCycle → Bool
-breaks_address_misplaced t (AddressCycle byte) = not (wants_address t byte)
-breaks_address_misplaced t _ = false
+-- the address of a Read ID that the base profile hasn't
+abbrev pub is_undeclared_address : Parts → TailFacts → ℕ → Bool
+is_undeclared_address g t byte = not (is_wide g.optional) && (opened (λ c n. is_read_id c) t.opening && not (byte == 0x20))
+
+-- F7: an address that the tail doesn't want, or that needs the wider profile
+unfoldable pub breaks_address_misplaced : Parts → TailFacts → TargetCycle → Bool
+breaks_address_misplaced g t (AddressCycle byte) = not (wants_address t byte) || is_undeclared_address g t byte
+breaks_address_misplaced g t _ = false
 
 -- F8: the last row cycle of a row outside the geometry
 unfoldable pub breaks_row_outside : Parts → TailFacts → TargetCycle → Bool
@@ -172,14 +187,14 @@ refused_by g _ p q = false
 abbrev pub is_refused_by : Parts → Option Opening → PageAddress → List Queued → Bool
 is_refused_by g o p q = opened (λ c n. at_last_row c n && refused_by g c p q) o
 
--- F10: 90, EC or the last row cycle of 00 on a LUN with a queue; the last row cycle of 60 or 80 that doesn't go together with it
+-- F10: what reads or sets what stands beside the array, or the last row cycle of 00 on a LUN with a queue; the last row cycle of 60 or 80 that doesn't go together with it
 unfoldable pub breaks_queue_clash : Parts → TailFacts → List LunView → TargetCycle → Bool
 breaks_queue_clash g t luns (CommandCycle c) = reads_identity c && list_any (λ v. has_some v.queue) luns
 breaks_queue_clash g t luns (AddressCycle byte) =
     named_lun_is g (row_with t byte) (λ v. is_refused_by g t.opening (page_address g (row_with t byte)) v.queue) luns
 breaks_queue_clash g t luns _ = false
 
--- F11: an input where no program waits for data
+-- F11: an input where neither a program nor a Set Features waits for data
 unfoldable pub breaks_input_misplaced : TailFacts → TargetCycle → Bool
 breaks_input_misplaced t (InputCycle byte) = not (takes_inputs t.phase)
 breaks_input_misplaced t _ = false
@@ -210,11 +225,11 @@ second_column among t = opened (λ c n. among c && n == 1) t.opening
 abbrev pub second_of_page : TailFacts → Bool
 second_of_page t = second_column addresses_a_page t || wants_second_column t.phase
 
--- F14: the last cycle of a column that the page (for 05 the register) doesn't have, an input behind the page's end, an output of data behind the register's
+-- F14: the last cycle of a column that the page (for 05 the register) doesn't have, an input of a program behind the page's end, an output of data behind the register's
 unfoldable pub breaks_column_outside : Parts → TailFacts → List LunView → TargetCycle → Bool
 breaks_column_outside g t luns (AddressCycle byte) =
     (second_of_page t && nat_le (page_len g) (column_with t byte)) || (second_column is_change_read_column t && driver_is (λ v. nat_le (register_len g v.register) (column_with t byte)) luns)
-breaks_column_outside g t luns (InputCycle byte) = nat_le (page_len g) (input_column t)
+breaks_column_outside g t luns (InputCycle byte) = not (takes_features t.phase) && nat_le (page_len g) (input_column t)
 breaks_column_outside g t luns OutputCycle = driver_is (is_past_register g) luns
 breaks_column_outside g t luns (CommandCycle c) = false
 
@@ -229,7 +244,7 @@ abbrev pub ends_cache : LunView → Bool
 ends_cache v = not v.busy && caching v
 
 -- F15: 31 or 3F without one driver that isn't busy; 31 after another closer than 30 or 31, or with no page left in the block;
--- 3F without a cache read; the last row cycle of 00, 60 or 80, or 90 or EC, while one goes on
+-- 3F without a cache read; the last row cycle of 00, 60 or 80, or what reads or sets what stands beside the array, while one goes on
 unfoldable pub breaks_cache_read_misplaced : Parts → TailFacts → List LunView → TargetCycle → Bool
 breaks_cache_read_misplaced g t luns (CommandCycle ReadCacheSequential) = not (driver_is (continues_cache g) luns)
 breaks_cache_read_misplaced g t luns (CommandCycle ReadCacheEnd) = not (driver_is ends_cache luns)

@@ -7,7 +7,7 @@ use Rattle.onfi_cycle.specs.declared.target_cycle.TargetCycle.TheVariants.{Comma
 use Rattle.onfi_cycle.specs.declared.row_bytes.RowBytes.{RowBytes}
 use Rattle.onfi_cycle.specs.declared.opening.Opening.{Opening}
 use Rattle.onfi_cycle.specs.declared.data_phase.DataPhase.{DataPhase}
-use Rattle.onfi_cycle.specs.declared.data_phase.DataPhase.TheVariants.{Outside, Inputs, FirstColumn, SecondColumn}
+use Rattle.onfi_cycle.specs.declared.data_phase.DataPhase.TheVariants.{Outside, Inputs, FirstColumn, SecondColumn, FeatureInputs}
 use Rattle.onfi_cycle.specs.declared.tail_facts.TailFacts.{TailFacts}
 use Rattle.onfi_cycle.specs.declared.command.Command.{Command}
 use Rattle.onfi_cycle.specs.declared.command.Command.TheVariants.{Read, ChangeWriteColumn, ProgramConfirm, ProgramPlane}
@@ -15,7 +15,7 @@ use Rattle.onfi_cycle.specs.declared.item.Kind.{Kind}
 use Rattle.onfi_cycle.specs.declared.item.Kind.TheVariants.{Cmd, Adr, Din, Dout}
 use Rattle.onfi_cycle.specs.declared.item.Item.{Item}
 use Rattle.onfi_cycle.specs.declared.item.Item.TheVariants.{Cyc, Rdy, Ard}
-use Rattle.onfi_cycle.specs.Command.{command, is_opener, address_cycles, wants_closer, closes, takes_address, is_page_program}
+use Rattle.onfi_cycle.specs.Command.{command, is_opener, address_cycles, wants_closer, closes, takes_address, is_page_program, is_set_features}
 
 -- where an item happens
 abbrev pub target_of : Item → ℕ
@@ -75,9 +75,19 @@ abbrev pub opened : (Command → ℕ → Bool) → Option Opening → Bool
 opened test None = false
 opened test (Some o) = test o.opener o.addresses
 
+-- the data of a Page Program goes on
+abbrev pub takes_data : DataPhase → Bool
+takes_data Inputs = true
+takes_data _ = false
+
+-- a Set Features waits for more of its four bytes
+abbrev pub takes_features : DataPhase → Bool
+takes_features FeatureInputs = true
+takes_features _ = false
+
+-- the next cycle may be an input
 abbrev pub takes_inputs : DataPhase → Bool
-takes_inputs Inputs = true
-takes_inputs _ = false
+takes_inputs phase = takes_data phase || takes_features phase
 
 -- the column of a Change Write Column isn't whole yet
 abbrev pub wants_column : DataPhase → Bool
@@ -89,30 +99,44 @@ abbrev pub wants_second_column : DataPhase → Bool
 wants_second_column SecondColumn = true
 wants_second_column _ = false
 
--- the fifth address of a Page Program begins its data
+-- the fifth address of a Page Program begins its data, and the one of a Set Features its four bytes
 abbrev pub phase_after_last_address : Option Opening → DataPhase
-phase_after_last_address o = if opened (λ c n. is_page_program c && n == 4) o then Inputs else Outside
+phase_after_last_address o =
+    if opened (λ c n. is_page_program c && n == 4) o then Inputs
+    else (if opened (λ c n. is_set_features c && n == 0) o then FeatureInputs
+    else Outside)
 
 abbrev pub phase_after_address : Option Opening → DataPhase → DataPhase
 phase_after_address o Outside = phase_after_last_address o
 phase_after_address o FirstColumn = SecondColumn
 phase_after_address o SecondColumn = Inputs
 phase_after_address o Inputs = Outside
+phase_after_address o FeatureInputs = Outside
 
 abbrev pub phase_after_command : Command → DataPhase → DataPhase
 phase_after_command ChangeWriteColumn Inputs = FirstColumn
 phase_after_command _ _ = Outside
 
-abbrev pub phase_after_input : DataPhase → DataPhase
-phase_after_input Inputs = Inputs
-phase_after_input _ = Outside
+-- after an input behind so many others; the fourth byte of a Set Features ends it
+abbrev pub phase_after_input : ℕ → DataPhase → DataPhase
+phase_after_input inputs Inputs = Inputs
+phase_after_input inputs FeatureInputs = if nat_lt inputs 3 then FeatureInputs else Outside
+phase_after_input inputs _ = Outside
 
--- where a tail is in the data of a program
+-- the inputs since the last other cycle
+abbrev pub inputs : List TargetCycle → ℕ
+inputs [] = 0
+inputs (CommandCycle c ∷ t) = 0
+inputs (AddressCycle byte ∷ t) = 0
+inputs (InputCycle byte ∷ t) = inputs t + 1
+inputs (OutputCycle ∷ t) = 0
+
+-- where a tail is in the data of a program, or of a Set Features
 abbrev pub data_phase : List TargetCycle → DataPhase
 data_phase [] = Outside
 data_phase (CommandCycle c ∷ t) = phase_after_command c (data_phase t)
 data_phase (AddressCycle byte ∷ t) = phase_after_address (opening t) (data_phase t)
-data_phase (InputCycle byte ∷ t) = phase_after_input (data_phase t)
+data_phase (InputCycle byte ∷ t) = phase_after_input (inputs t) (data_phase t)
 data_phase (OutputCycle ∷ t) = Outside
 
 -- three bytes, the oldest pushed out by one more
@@ -152,14 +176,6 @@ column (AddressCycle byte ∷ t) = column_after_address (next_address_place (ope
 column (InputCycle byte ∷ t) = column t
 column (OutputCycle ∷ t) = column t
 
--- the inputs since the last other cycle
-abbrev pub inputs : List TargetCycle → ℕ
-inputs [] = 0
-inputs (CommandCycle c ∷ t) = 0
-inputs (AddressCycle byte ∷ t) = 0
-inputs (InputCycle byte ∷ t) = inputs t + 1
-inputs (OutputCycle ∷ t) = 0
-
 abbrev pub is_nil : List TargetCycle → Bool
 is_nil [] = true
 is_nil (c ∷ t) = false
@@ -176,9 +192,9 @@ wants_address t byte =
 
 -- the next cycle may be this command, which is no opener
 abbrev pub wants_command : TailFacts → Command → Bool
-wants_command t ChangeWriteColumn = takes_inputs t.phase
-wants_command t ProgramConfirm = takes_inputs t.phase
-wants_command t ProgramPlane = takes_inputs t.phase
+wants_command t ChangeWriteColumn = takes_data t.phase
+wants_command t ProgramConfirm = takes_data t.phase
+wants_command t ProgramPlane = takes_data t.phase
 wants_command t d = opened (λ c n. closes c d && n == address_cycles c) t.opening
 
 -- the tail with this cycle is a beginning of a sequence
@@ -241,7 +257,7 @@ extended_facts (AddressCycle byte) t =
       is_empty = false;
     }
 extended_facts (InputCycle byte) t =
-    record { opening = None; phase = phase_after_input t.phase; row = t.row; column = t.column; inputs = t.inputs + 1; is_empty = false }
+    record { opening = None; phase = phase_after_input t.inputs t.phase; row = t.row; column = t.column; inputs = t.inputs + 1; is_empty = false }
 extended_facts OutputCycle t = record { opening = None; phase = Outside; row = t.row; column = t.column; inputs = 0; is_empty = false }
 
 -- what a cycle makes of them: an opener begins anew, and where there is no tail nothing else begins one

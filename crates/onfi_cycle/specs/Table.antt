@@ -1,7 +1,7 @@
--- The sequences of the profile, written out, each in the order of time; and what a tail is to them.
+-- The sequences of the profiles, written out, each in the order of time; and what a tail is to them.
 use Rattle.std.specs.Prelude.{◌≡◌, ◌≢◌, ◌↔◌, ℕ, true, false, List, [], ◌∷◌, ◌++◌, reverse}
 use Rattle.onfi_cycle.specs.declared.command.Command.{Command}
-use Rattle.onfi_cycle.specs.declared.command.Command.TheVariants.{Read, ReadConfirm, ChangeReadColumn, ChangeReadColumnConfirm, BlockErase, BlockEraseConfirm, BlockErasePlane, ReadStatus, ReadStatusEnhanced, PageProgram, ChangeWriteColumn, ProgramConfirm, ProgramPlane, ReadId, ReadParameterPage, Reset, ReadCacheSequential, ReadCacheEnd}
+use Rattle.onfi_cycle.specs.declared.command.Command.TheVariants.{Read, ReadConfirm, ChangeReadColumn, ChangeReadColumnConfirm, BlockErase, BlockEraseConfirm, BlockErasePlane, ReadStatus, ReadStatusEnhanced, PageProgram, ChangeWriteColumn, ProgramConfirm, ProgramPlane, ReadId, ReadParameterPage, Reset, ReadCacheSequential, ReadCacheEnd, ReadUniqueId, GetFeatures, SetFeatures, ResetLun, SynchronousReset}
 use Rattle.onfi_cycle.specs.declared.target_cycle.TargetCycle.{TargetCycle}
 use Rattle.onfi_cycle.specs.declared.target_cycle.TargetCycle.TheVariants.{CommandCycle, AddressCycle, InputCycle}
 use Rattle.onfi_cycle.specs.Sequence.{begins_sequence, facts_of, wants, is_open}
@@ -31,6 +31,13 @@ pub data IsSequence : List TargetCycle → Type 0 where
   reset : IsSequence (CommandCycle Reset ∷ [])
   read_cache_sequential : IsSequence (CommandCycle ReadCacheSequential ∷ [])
   read_cache_end : IsSequence (CommandCycle ReadCacheEnd ∷ [])
+  read_manufacturer : IsSequence (CommandCycle ReadId ∷ (AddressCycle 0x00 ∷ []))
+  read_jedec : IsSequence (CommandCycle ReadId ∷ (AddressCycle 0x40 ∷ []))
+  read_unique_id : IsSequence (CommandCycle ReadUniqueId ∷ (AddressCycle 0x00 ∷ []))
+  get_features : (feature : ℕ) → IsSequence (CommandCycle GetFeatures ∷ (AddressCycle feature ∷ []))
+  set_features : (feature p1 p2 p3 p4 : ℕ) → IsSequence (CommandCycle SetFeatures ∷ (AddressCycle feature ∷ (InputCycle p1 ∷ (InputCycle p2 ∷ (InputCycle p3 ∷ (InputCycle p4 ∷ []))))))
+  reset_lun : (r1 r2 r3 : ℕ) → IsSequence (CommandCycle ResetLun ∷ (AddressCycle r1 ∷ (AddressCycle r2 ∷ (AddressCycle r3 ∷ []))))
+  synchronous_reset : IsSequence (CommandCycle SynchronousReset ∷ [])
 
 -- cycles in the order of time are a beginning of a sequence
 abbrev pub IsBeginning : List TargetCycle → Type 0

@@ -150,6 +150,20 @@ fn judge_inputs_on(
     }
 }
 
+// Goes on by so many inputs, which are permitted on these targets, one by one.
+fn apply_each_input_on(geometry: &Geometry, targets: &mut [TargetState], ce: u8, count: usize)
+    requires fits { BusFits (bus geometry.now targets.old) }
+    requires permitted { judged_inputs ce count (bus geometry.now targets.old) ≡ None }
+    ensures value { bus geometry.now targets.new ≡ after_inputs ce count (bus geometry.now targets.old) }
+    ensures fits { BusFits (bus geometry.now targets.new) }
+{
+    let mut left = count;
+    while left > 0 {
+        apply_on(geometry, targets, data_cycle(ce, Kind::Din));
+        left -= 1;
+    }
+}
+
 // Goes on by so many inputs, one at least, which are permitted on these targets.
 fn apply_inputs_on(geometry: &Geometry, targets: &mut [TargetState], ce: u8, count: usize)
     requires fits { BusFits (bus geometry.now targets.old) }
@@ -159,7 +173,11 @@ fn apply_inputs_on(geometry: &Geometry, targets: &mut [TargetState], ce: u8, cou
     ensures fits { BusFits (bus geometry.now targets.new) }
 {
     let target = &mut targets[usize::from(ce)];
-    target.feed(count);
+    if target.takes_features() {
+        apply_each_input_on(geometry, targets, ce, count);
+    } else {
+        target.feed(count);
+    }
 }
 
 impl BusState {

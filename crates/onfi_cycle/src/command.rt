@@ -1,6 +1,7 @@
 //! The commands: their bytes, and what each asks of its sequence.
 ghost use Rattle.std.specs.Prelude.{ℕ, ◌≡◌, ◌<◌, ◌^◌, Option};
-ghost use Rattle.onfi_cycle.specs.Command.{command, opcode, is_known, is_opener, address_cycles, closes, takes_address, at_last_row, addresses_the_array, reads_identity, wants_ready, wants_one_lun};
+ghost use Rattle.onfi_cycle.specs.Command.{command, opcode, is_known, is_opener, address_cycles, closes, takes_address, at_last_row, addresses_the_array, reads_identity, is_reset, wants_ready, wants_one_lun};
+ghost use Rattle.onfi_cycle.specs.Base.{is_of_base};
 ghost use Rattle.onfi_cycle.specs.Sequence.{is_proper_beginning};
 
 /// The byte of [`Command::ReadStatus`], with which a host polls the one LUN of a target.
@@ -9,7 +10,7 @@ pub const READ_STATUS: u8 = 0x70;
 /// The byte of [`Command::ReadStatusEnhanced`], with which a host polls a LUN of several by a row of it.
 pub const READ_STATUS_ENHANCED: u8 = 0x78;
 
-/// The commands of the profile. Each name is the one of ONFI 4.x; the section that defines it
+/// The commands of the profiles. Each name is the one of ONFI 4.x; the section that defines it
 /// bears that name, and stands in the table of docs/model/MODEL.md. [`Command::of`] and [`Command::opcode`] lead from
 /// bytes to commands and back.
 #[derive(Clone, Copy, Debug, PartialEq, Eq)]
@@ -50,12 +51,22 @@ pub enum Command {
     ReadCacheSequential,
     /// 3Fh, Read Cache Definition.
     ReadCacheEnd,
+    /// EDh, Read Unique ID Definition.
+    ReadUniqueId,
+    /// EEh, Get Features Definition.
+    GetFeatures,
+    /// EFh, Set Features Definition.
+    SetFeatures,
+    /// FAh, Reset LUN Definition.
+    ResetLun,
+    /// FCh, Synchronous Reset Definition.
+    SynchronousReset,
     /// Any other byte.
     Unknown,
 }
 
 impl Command {
-    /// The command of a byte, `Unknown` for a byte that the profile doesn't have (docs/model/MODEL.md, "Commands").
+    /// The command of a byte, `Unknown` for a byte that no profile has (docs/model/MODEL.md, "Commands").
     #[tactic(auto, unfolding(crate::specs::Command::command))]
     pub fn of(byte: u8) -> Command
         ensures { result ≡ command byte }
@@ -79,6 +90,11 @@ impl Command {
             0xff => Command::Reset,
             0x31 => Command::ReadCacheSequential,
             0x3f => Command::ReadCacheEnd,
+            0xed => Command::ReadUniqueId,
+            0xee => Command::GetFeatures,
+            0xef => Command::SetFeatures,
+            0xfa => Command::ResetLun,
+            0xfc => Command::SynchronousReset,
             _ => Command::Unknown,
         }
     }
@@ -106,15 +122,35 @@ impl Command {
             Command::Reset => Some(0xff),
             Command::ReadCacheSequential => Some(0x31),
             Command::ReadCacheEnd => Some(0x3f),
+            Command::ReadUniqueId => Some(0xed),
+            Command::GetFeatures => Some(0xee),
+            Command::SetFeatures => Some(0xef),
+            Command::ResetLun => Some(0xfa),
+            Command::SynchronousReset => Some(0xfc),
             Command::Unknown => None,
         }
     }
 
-    /// The command is one of the profile.
+    /// The command is one of some profile.
     pub fn is_known(self) -> bool
         ensures { result ≡ is_known self }
     {
         self != Command::Unknown
+    }
+
+    /// The command is one of the base profile.
+    pub fn is_of_base(self) -> bool
+        ensures { result ≡ is_of_base self }
+    {
+        !matches!(
+            self,
+            Command::ReadUniqueId
+                | Command::GetFeatures
+                | Command::SetFeatures
+                | Command::ResetLun
+                | Command::SynchronousReset
+                | Command::Unknown
+        )
     }
 
     /// The command begins a sequence.
@@ -140,9 +176,13 @@ impl Command {
     {
         match self {
             Command::Read | Command::PageProgram => 5,
-            Command::BlockErase | Command::ReadStatusEnhanced => 3,
+            Command::BlockErase | Command::ReadStatusEnhanced | Command::ResetLun => 3,
             Command::ChangeReadColumn => 2,
-            Command::ReadId | Command::ReadParameterPage => 1,
+            Command::ReadId
+            | Command::ReadParameterPage
+            | Command::ReadUniqueId
+            | Command::GetFeatures
+            | Command::SetFeatures => 1,
             _ => 0,
         }
     }
@@ -164,13 +204,14 @@ impl Command {
         }
     }
 
-    /// Read ID takes the address 20h alone, and Read Parameter Page 00h.
+    /// Read ID takes the addresses 20h, 00h and 40h, Read Parameter Page and Read Unique ID 00h. In the base profile Read ID takes 20h alone,
+    /// which a rule says.
     pub fn takes_address(self, byte: u8) -> bool
         ensures { result ≡ takes_address self byte }
     {
         match self {
-            Command::ReadId => byte == 0x20,
-            Command::ReadParameterPage => byte == 0x00,
+            Command::ReadId => byte == 0x20 || byte == 0x00 || byte == 0x40,
+            Command::ReadParameterPage | Command::ReadUniqueId => byte == 0x00,
             _ => true,
         }
     }
@@ -181,7 +222,7 @@ impl Command {
     {
         match self {
             Command::Read | Command::PageProgram => addresses == 4,
-            Command::BlockErase | Command::ReadStatusEnhanced => addresses == 2,
+            Command::BlockErase | Command::ReadStatusEnhanced | Command::ResetLun => addresses == 2,
             _ => false,
         }
     }
@@ -196,11 +237,25 @@ impl Command {
         )
     }
 
-    /// The opener reads what stands beside the array.
+    /// The opener reads what stands beside the array, or sets it.
     pub fn reads_identity(self) -> bool
         ensures { result ≡ reads_identity self }
     {
-        matches!(self, Command::ReadId | Command::ReadParameterPage)
+        matches!(
+            self,
+            Command::ReadId
+                | Command::ReadParameterPage
+                | Command::ReadUniqueId
+                | Command::GetFeatures
+                | Command::SetFeatures
+        )
+    }
+
+    /// It is one of the resets that may come in an open sequence.
+    pub fn is_reset(self) -> bool
+        ensures { result ≡ is_reset self }
+    {
+        matches!(self, Command::Reset | Command::SynchronousReset)
     }
 
     /// The opener wants a ready LUN on its target.
@@ -218,7 +273,14 @@ impl Command {
     {
         matches!(
             self,
-            Command::ReadStatus | Command::ReadId | Command::ReadParameterPage | Command::Reset
+            Command::ReadStatus
+                | Command::ReadId
+                | Command::ReadParameterPage
+                | Command::Reset
+                | Command::ReadUniqueId
+                | Command::GetFeatures
+                | Command::SetFeatures
+                | Command::SynchronousReset
         )
     }
 

@@ -1,13 +1,16 @@
-//! Where a tail is in the data of a Page Program.
+//! Where a tail is in the data of a Page Program or of a Set Features.
 ghost use Rattle.std.specs.Prelude.{◌≡◌};
-ghost use Rattle.onfi_cycle.specs.Sequence.{phase_after_command, phase_after_address, phase_after_input, takes_inputs, wants_column, wants_second_column};
+ghost use Rattle.onfi_cycle.specs.Sequence.{phase_after_command, phase_after_address, phase_after_input, takes_data, takes_features, takes_inputs, wants_column, wants_second_column};
 
 use crate::{Command, Opening};
 
-/// Where a tail is in the data of a Page Program.
+/// How many bytes a Set Features sets.
+pub const FEATURE_BYTES: usize = 4;
+
+/// Where a tail is in the data of a Page Program or of a Set Features.
 #[derive(Clone, Copy, Debug, PartialEq, Eq)]
 pub enum DataPhase {
-    /// Not in the data of a program.
+    /// In neither.
     Outside,
     /// Inputs may come, a Change Write Column, or a closer.
     Inputs,
@@ -15,14 +18,30 @@ pub enum DataPhase {
     FirstColumn,
     /// A Change Write Column waits for its second column byte.
     SecondColumn,
+    /// A Set Features waits for more of its four bytes.
+    FeatureInputs,
 }
 
 impl DataPhase {
+    /// The data of a Page Program goes on.
+    pub fn takes_data(self) -> bool
+        ensures { result ≡ takes_data self }
+    {
+        matches!(self, DataPhase::Inputs)
+    }
+
+    /// A Set Features waits for more of its bytes.
+    pub fn takes_features(self) -> bool
+        ensures { result ≡ takes_features self }
+    {
+        matches!(self, DataPhase::FeatureInputs)
+    }
+
     /// The next cycle may be an input.
     pub fn takes_inputs(self) -> bool
         ensures { result ≡ takes_inputs self }
     {
-        matches!(self, DataPhase::Inputs)
+        self.takes_data() || self.takes_features()
     }
 
     /// A Change Write Column waits for a byte of its column.
@@ -56,20 +75,22 @@ impl DataPhase {
         match self {
             DataPhase::FirstColumn => DataPhase::SecondColumn,
             DataPhase::SecondColumn => DataPhase::Inputs,
-            DataPhase::Inputs => DataPhase::Outside,
+            DataPhase::Inputs | DataPhase::FeatureInputs => DataPhase::Outside,
             DataPhase::Outside => match opening {
                 Some(opening) if opening.ends_program_row() => DataPhase::Inputs,
+                Some(opening) if opening.names_feature() => DataPhase::FeatureInputs,
                 _ => DataPhase::Outside,
             },
         }
     }
 
-    /// After an input.
-    pub(crate) fn after_input(self) -> DataPhase
-        ensures { result ≡ phase_after_input self }
+    /// After an input that follows so many others.
+    pub(crate) fn after_input(self, inputs: usize) -> DataPhase
+        ensures { result ≡ phase_after_input inputs self }
     {
         match self {
             DataPhase::Inputs => DataPhase::Inputs,
+            DataPhase::FeatureInputs if inputs < FEATURE_BYTES - 1 => DataPhase::FeatureInputs,
             _ => DataPhase::Outside,
         }
     }

@@ -26,8 +26,16 @@ pub enum Effect {
     EraseStarted { queued: bool, row: PageAddress },
     /// 10h, or 11h if queued.
     ProgramStarted { queued: bool, page: PageAddress },
-    /// The address of 90h: its register is the identifier.
+    /// The address 20h of 90h: its register is the identifier.
     IdRead,
+    /// The address 00h of 90h, or 40h for what JEDEC says: its register is that.
+    IdentityRead { jedec: bool },
+    /// The address of EDh: it reads its unique identifier.
+    UniqueIdReadStarted,
+    /// The address of EEh: it reads this feature.
+    FeaturesReadStarted { address: u8 },
+    /// The fourth byte of EFh: it sets this feature.
+    FeaturesSet { address: u8 },
     /// The address of ECh: it reads its parameter page.
     ParameterPageReadStarted,
     /// 31h: it gives the page that its array has read, and its array reads the next.
@@ -38,7 +46,7 @@ pub enum Effect {
     ReadColumnChanged { column: u32 },
     /// It gives a byte of its register.
     DataOutput,
-    /// FFh.
+    /// FFh or FCh, or FAh for this LUN.
     ResetStarted,
     /// It becomes ready, with failure or without.
     BecameReady { failed: bool },
@@ -60,7 +68,10 @@ impl Effect {
             Effect::Deselected | Effect::ResetStarted => Latch::Off,
             Effect::ReadStarted { .. }
             | Effect::IdRead
+            | Effect::IdentityRead { .. }
             | Effect::ParameterPageReadStarted
+            | Effect::UniqueIdReadStarted
+            | Effect::FeaturesReadStarted { .. }
             | Effect::CacheReadContinued
             | Effect::CacheReadEnded => Latch::Data,
             _ => before,
@@ -76,6 +87,9 @@ impl Effect {
             | Effect::EraseStarted { .. }
             | Effect::ProgramStarted { .. }
             | Effect::ParameterPageReadStarted
+            | Effect::UniqueIdReadStarted
+            | Effect::FeaturesReadStarted { .. }
+            | Effect::FeaturesSet { .. }
             | Effect::CacheReadContinued
             | Effect::CacheReadEnded
             | Effect::ResetStarted => true,
@@ -94,8 +108,11 @@ impl Effect {
             Effect::EraseStarted { queued: false, .. } => Some(Command::BlockEraseConfirm),
             Effect::ProgramStarted { queued: true, .. } => Some(Command::ProgramPlane),
             Effect::ProgramStarted { queued: false, .. } => Some(Command::ProgramConfirm),
-            Effect::IdRead => Some(Command::ReadId),
+            Effect::IdRead | Effect::IdentityRead { .. } => Some(Command::ReadId),
             Effect::ParameterPageReadStarted => Some(Command::ReadParameterPage),
+            Effect::UniqueIdReadStarted => Some(Command::ReadUniqueId),
+            Effect::FeaturesReadStarted { .. } => Some(Command::GetFeatures),
+            Effect::FeaturesSet { .. } => Some(Command::SetFeatures),
             Effect::CacheReadContinued => Some(Command::ReadCacheSequential),
             Effect::CacheReadEnded => Some(Command::ReadCacheEnd),
             Effect::ResetStarted => Some(Command::Reset),
@@ -114,7 +131,11 @@ impl Effect {
             | Effect::EraseStarted { .. }
             | Effect::ProgramStarted { .. }
             | Effect::IdRead
+            | Effect::IdentityRead { .. }
             | Effect::ParameterPageReadStarted
+            | Effect::UniqueIdReadStarted
+            | Effect::FeaturesReadStarted { .. }
+            | Effect::FeaturesSet { .. }
             | Effect::CacheReadContinued
             | Effect::CacheReadEnded
             | Effect::ResetStarted => false,
@@ -144,11 +165,16 @@ impl Effect {
     {
         match self {
             Effect::ReadStarted { page, .. } => Register::Page(page),
-            Effect::EraseStarted { .. } | Effect::ProgramStarted { .. } | Effect::ResetStarted => {
-                Register::Empty
-            }
+            Effect::EraseStarted { .. }
+            | Effect::ProgramStarted { .. }
+            | Effect::FeaturesSet { .. }
+            | Effect::ResetStarted => Register::Empty,
             Effect::IdRead => Register::Identifier,
+            Effect::IdentityRead { jedec: true } => Register::JedecIdentity,
+            Effect::IdentityRead { jedec: false } => Register::Identity,
             Effect::ParameterPageReadStarted => Register::ParameterPage,
+            Effect::UniqueIdReadStarted => Register::UniqueId,
+            Effect::FeaturesReadStarted { address } => Register::Features(address),
             Effect::CacheReadContinued | Effect::CacheReadEnded => Register::Page(array_page),
             _ => before,
         }
@@ -165,7 +191,10 @@ impl Effect {
                 ReadColumn::given(column)
             }
             Effect::IdRead
+            | Effect::IdentityRead { .. }
             | Effect::ParameterPageReadStarted
+            | Effect::UniqueIdReadStarted
+            | Effect::FeaturesReadStarted { .. }
             | Effect::CacheReadContinued
             | Effect::CacheReadEnded => ReadColumn::given(0),
             Effect::DataOutput => ReadColumn {

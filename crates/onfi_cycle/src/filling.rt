@@ -45,7 +45,7 @@ fn cycle_filling(geometry: &Geometry, tail: TailFacts, cycle: TargetCycle, lun: 
         }
         TargetCycle::InputCycle(byte) => {
             let row = tail.named_row();
-            if tail.phase.takes_inputs() && names_lun(geometry, row, lun) {
+            if tail.phase.takes_data() && names_lun(geometry, row, lun) {
                 let column = tail.input_column() as usize;
                 Filling::Fills(PageAddress::of_row(geometry, row), column, byte)
             } else {

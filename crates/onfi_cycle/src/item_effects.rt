@@ -1,7 +1,8 @@
 //! What an item does to a LUN, by the facts of its target's tail.
 ghost use Rattle.std.specs.Prelude.{◌≡◌};
-ghost use Rattle.onfi_cycle.specs.Effect.{names_lun, confirm_effect, command_effect, address_effect, opening_address_effect, cycle_effect, item_effect, IsSmallEffect};
+ghost use Rattle.onfi_cycle.specs.Effect.{names_lun, confirm_effect, command_effect, address_effect, opening_address_effect, id_effect, ends_features, input_effect, cycle_effect, item_effect, IsSmallEffect};
 
+use crate::data_phase::FEATURE_BYTES;
 use crate::{Command, Effect, Item, Latch, Lun, PageAddress, TailFacts, TargetCycle};
 use nand_geometry::Geometry;
 
@@ -60,7 +61,7 @@ fn command_effect(
         Command::Read => Effect::DataOutputEnabled,
         Command::ReadStatus => Effect::StatusSelected,
         Command::ReadStatusEnhanced => Effect::StatusRowAwaited,
-        Command::Reset => Effect::ResetStarted,
+        Command::Reset | Command::SynchronousReset => Effect::ResetStarted,
         Command::ReadCacheSequential if drives => Effect::CacheReadContinued,
         Command::ReadCacheEnd if drives => Effect::CacheReadEnded,
         Command::ReadCacheSequential | Command::ReadCacheEnd => Effect::Unaffected,
@@ -92,6 +93,19 @@ fn selection_effect(geometry: &Geometry, tail: TailFacts, byte: u8, lun: u8) -> 
     }
 }
 
+/// What the address of a Read ID does.
+fn id_effect(byte: u8) -> Effect
+    ensures value { result ≡ id_effect byte }
+    ensures small { IsSmallEffect result }
+{
+    match byte {
+        0x20 => Effect::IdRead,
+        _ => Effect::IdentityRead {
+            jedec: byte == 0x40,
+        },
+    }
+}
+
 /// What an address does to a LUN of its target, after this tail.
 fn address_effect(geometry: &Geometry, tail: TailFacts, byte: u8, lun: u8) -> Effect
     ensures value { result ≡ opening_address_effect geometry.now tail byte tail.opening lun }
@@ -104,9 +118,38 @@ fn address_effect(geometry: &Geometry, tail: TailFacts, byte: u8, lun: u8) -> Ef
         Command::ReadStatusEnhanced if opening.addresses == 2 => {
             selection_effect(geometry, tail, byte, lun)
         }
-        Command::ReadId if tail.wants_address(byte) => Effect::IdRead,
+        Command::ResetLun
+            if opening.addresses == 2 && names_lun(geometry, tail.row_with(byte), lun) => {
+            Effect::ResetStarted
+        }
+        Command::ReadId if tail.wants_address(byte) => id_effect(byte),
         Command::ReadParameterPage if tail.wants_address(byte) => Effect::ParameterPageReadStarted,
+        Command::ReadUniqueId if tail.wants_address(byte) => Effect::UniqueIdReadStarted,
+        Command::GetFeatures if tail.wants_address(byte) => Effect::FeaturesReadStarted {
+            address: byte,
+        },
         _ => Effect::Unaffected,
+    }
+}
+
+/// The next input is the last one of a Set Features.
+pub(crate) fn ends_features(tail: TailFacts) -> bool
+    ensures { result ≡ ends_features tail }
+{
+    tail.phase.takes_features() && tail.inputs == FEATURE_BYTES - 1
+}
+
+/// What an input does: the last one of a Set Features starts it.
+fn input_effect(tail: TailFacts) -> Effect
+    ensures value { result ≡ input_effect tail }
+    ensures small { IsSmallEffect result }
+{
+    if ends_features(tail) {
+        Effect::FeaturesSet {
+            address: (tail.column % 256) as u8,
+        }
+    } else {
+        Effect::Unaffected
     }
 }
 
@@ -131,7 +174,7 @@ pub fn cycle_effect(
             lun,
         ),
         TargetCycle::AddressCycle(byte) => address_effect(geometry, tail, byte, lun),
-        TargetCycle::InputCycle(_) => Effect::Unaffected,
+        TargetCycle::InputCycle(_) => input_effect(tail),
         TargetCycle::OutputCycle if latch_alone.is_data() => Effect::DataOutput,
         TargetCycle::OutputCycle => Effect::Unaffected,
     }

@@ -40,7 +40,7 @@ mod target_state;
 
 pub use bus_state::BusState;
 pub use command::{Command, READ_STATUS, READ_STATUS_ENHANCED};
-pub use data_phase::DataPhase;
+pub use data_phase::{DataPhase, FEATURE_BYTES};
 pub use effect::Effect;
 pub use filling::Filling;
 pub use forbidden::Forbidden;
@@ -55,7 +55,9 @@ pub use page_address::PageAddress;
 pub use queued::{Queued, RowQueue, WorkQueue};
 pub use read_column::ReadColumn;
 pub use readies::{readies_are_due, starts_work};
-pub use register::{IDENTIFIER_BYTES, PARAMETER_BYTES, Register};
+pub use register::{
+    IDENTIFIER_BYTES, IDENTITY_BYTES, JEDEC_BYTES, PARAMETER_BYTES, Register, UNIQUE_ID_BYTES,
+};
 pub use row_bytes::RowBytes;
 pub use rules::{driver, is_undeclared, judge, judge_cycle, judge_known_cycle};
 pub use status::Status;

@@ -1,6 +1,6 @@
 //! The beginning of a tail.
 ghost use Rattle.std.specs.Prelude.{◌≡◌, ◌+◌, ◌-◌, ◌<◌, ◌^◌, ◌&&◌, ◌==◌, nat_lt};
-ghost use Rattle.onfi_cycle.specs.Command.{is_opener, address_cycles, takes_address, closes, at_last_row, is_page_program};
+ghost use Rattle.onfi_cycle.specs.Command.{is_opener, address_cycles, takes_address, closes, at_last_row, is_page_program, is_set_features};
 ghost use Rattle.onfi_cycle.specs.Sequence.{is_proper_beginning};
 
 use crate::Command;
@@ -56,6 +56,13 @@ impl Opening {
         ensures { result ≡ at_last_row self.opener self.addresses }
     {
         self.opener.at_last_row(self.addresses)
+    }
+
+    /// The next address is the one of a Set Features.
+    pub(crate) fn names_feature(self) -> bool
+        ensures { result ≡ (is_set_features self.opener && self.addresses == 0) }
+    {
+        self.opener == Command::SetFeatures && self.addresses == 0
     }
 
     /// The next address is the last of a Page Program.

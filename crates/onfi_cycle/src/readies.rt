@@ -1,10 +1,10 @@
 //! How many readies are still to come, and which items bring more.
 ghost use Rattle.std.specs.Prelude.{◌≡◌, ◌≤◌, ◌*◌, length};
-ghost use Rattle.onfi_cycle.specs.Readies.{starts, starts_work, awaits_parameters, due_at, due_of, ReadiesAreDue};
+ghost use Rattle.onfi_cycle.specs.Readies.{starts, starts_work, starts_later, awaits_start, due_at, due_of, ReadiesAreDue};
 
-use crate::{Command, Item, LunFacts, Opening, RowQueue, TailFacts, TargetCycle};
+use crate::{Command, Item, LunFacts, RowQueue, TailFacts, TargetCycle};
 
-// The command starts work, or its address does.
+// The command starts work, or its address or input does.
 fn starts(command: Command) -> bool
     ensures { result ≡ starts command }
 {
@@ -19,11 +19,16 @@ fn starts(command: Command) -> bool
             | Command::Reset
             | Command::ReadCacheSequential
             | Command::ReadCacheEnd
+            | Command::ReadUniqueId
+            | Command::GetFeatures
+            | Command::SetFeatures
+            | Command::ResetLun
+            | Command::SynchronousReset
     )
 }
 
-/// The item may start work on a LUN, so that a ready of it may come. Of a parameter page its command counts, and not its
-/// address.
+/// The item may start work on a LUN, so that a ready of it may come. Of an opener whose work an address or an input starts the opener counts,
+/// and not that one.
 pub fn starts_work(item: Item) -> bool
     ensures { result ≡ starts_work item }
 {
@@ -36,17 +41,31 @@ pub fn starts_work(item: Item) -> bool
     }
 }
 
-// A Read Parameter Page waits for its address.
-fn awaits_parameters(tail: &TailFacts) -> bool
-    ensures { result ≡ awaits_parameters tail.now }
+// The opener's work is started by an address or an input.
+fn starts_later(opener: Command) -> bool
+    ensures { result ≡ starts_later opener }
 {
     matches!(
-        tail.opening,
-        Some(Opening {
-            opener: Command::ReadParameterPage,
-            addresses: 0,
-        })
+        opener,
+        Command::ReadParameterPage
+            | Command::ReadUniqueId
+            | Command::GetFeatures
+            | Command::SetFeatures
+            | Command::ResetLun
     )
+}
+
+// Work of the opener is still to be started by an address or an input.
+fn awaits_start(tail: &TailFacts) -> bool
+    ensures { result ≡ awaits_start tail.now }
+{
+    let opens = match tail.opening {
+        None => false,
+        Some(opening) => {
+            starts_later(opening.opener) && opening.addresses < opening.opener.address_cycles()
+        }
+    };
+    opens || tail.phase.takes_features()
 }
 
 // The readies still to come of a LUN.
@@ -56,8 +75,7 @@ fn due_at(tail: &TailFacts, lun: &LunFacts<RowQueue>) -> usize
 {
     let of_cache = lun.busy && lun.is_caching();
     usize::from(lun.busy)
-        + (usize::from(lun.array_busy)
-            + (usize::from(of_cache) + usize::from(awaits_parameters(tail))))
+        + (usize::from(lun.array_busy) + (usize::from(of_cache) + usize::from(awaits_start(tail))))
 }
 
 /// The readies still to come of the LUNs of a target.

@@ -11,6 +11,18 @@ pub const PARAMETER_BYTES: u32 = 768;
 /// The bytes of the register after a Read ID.
 pub const IDENTIFIER_BYTES: u32 = 4;
 
+/// The bytes of the register after a Read ID with the address 00h.
+pub const IDENTITY_BYTES: u32 = 8;
+
+/// The bytes of the register after a Read ID with the address 40h.
+pub const JEDEC_BYTES: u32 = 6;
+
+/// The bytes of the register after a Read Unique ID: sixteen times the identifier and its complement.
+pub const UNIQUE_ID_BYTES: u32 = 512;
+
+/// The bytes of a feature.
+const FEATURES_BYTES: u32 = 4;
+
 /// What a LUN's register holds.
 #[derive(Clone, Copy, Debug, PartialEq, Eq)]
 pub enum Register {
@@ -21,6 +33,14 @@ pub enum Register {
     ParameterPage,
     /// The identifier, 4F 4E 46 49.
     Identifier,
+    /// The manufacturer and the device.
+    Identity,
+    /// `JEDEC`, and a zero.
+    JedecIdentity,
+    /// Sixteen times the unique identifier and its complement.
+    UniqueId,
+    /// The four bytes of the feature of this address.
+    Features(u8),
 }
 
 impl Register {
@@ -33,6 +53,10 @@ impl Register {
             Register::Page(_) => geometry.page_len(),
             Register::ParameterPage => PARAMETER_BYTES,
             Register::Identifier => IDENTIFIER_BYTES,
+            Register::Identity => IDENTITY_BYTES,
+            Register::JedecIdentity => JEDEC_BYTES,
+            Register::UniqueId => UNIQUE_ID_BYTES,
+            Register::Features(_) => FEATURES_BYTES,
         }
     }
 
@@ -47,6 +71,9 @@ impl Register {
     pub fn has_columns(self) -> bool
         ensures { result ≡ is_page_or_parameters self }
     {
-        matches!(self, Register::Page(_) | Register::ParameterPage)
+        matches!(
+            self,
+            Register::Page(_) | Register::ParameterPage | Register::UniqueId
+        )
     }
 }

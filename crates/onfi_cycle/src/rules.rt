@@ -5,7 +5,7 @@ ghost use Rattle.std.specs.Option.{option_copied};
 ghost use Rattle.nand_geometry.specs.Row.{parts_of};
 ghost use Rattle.onfi_cycle.specs.declared.target_cycle.TargetCycle.{TargetCycle};
 ghost use Rattle.onfi_cycle.specs.Effect.{is_off};
-ghost use Rattle.onfi_cycle.specs.Rules.{breaks_not_there, breaks_command_unknown, breaks_sequence_open, breaks_several_luns, breaks_no_column_to_change, breaks_command_misplaced, breaks_address_misplaced, breaks_row_outside, breaks_lun_busy, breaks_queue_clash, breaks_input_misplaced, breaks_no_sole_driver, breaks_data_not_ready, breaks_column_outside, breaks_cache_read_misplaced, driving, are_none, driver, is_undeclared, planes_clash, queued_clashes, some_queued_clashes, refused_by, is_refused_by, caching, has_some};
+ghost use Rattle.onfi_cycle.specs.Rules.{breaks_not_there, breaks_command_unknown, breaks_sequence_open, breaks_several_luns, breaks_no_column_to_change, breaks_command_misplaced, breaks_address_misplaced, breaks_row_outside, breaks_lun_busy, breaks_queue_clash, breaks_input_misplaced, breaks_no_sole_driver, breaks_data_not_ready, breaks_column_outside, breaks_cache_read_misplaced, driving, are_none, driver, is_undeclared, is_undeclared_address, planes_clash, queued_clashes, some_queued_clashes, refused_by, is_refused_by, caching, has_some};
 ghost use Rattle.onfi_cycle.specs.Permitted.{judge, judge_cycle, judge_known_cycle};
 
 use crate::{
@@ -81,6 +81,10 @@ pub fn is_undeclared(geometry: &Geometry, command: Command) -> bool
         Command::ReadStatusEnhanced => !parts.enhanced,
         Command::BlockErasePlane | Command::ProgramPlane => !parts.multi_plane,
         Command::ReadCacheSequential | Command::ReadCacheEnd => !parts.cache,
+        Command::ReadUniqueId => !parts.optional.has_unique_id(),
+        Command::GetFeatures | Command::SetFeatures => !parts.optional.has_features(),
+        Command::ResetLun => !parts.optional.has_lun_reset(),
+        Command::SynchronousReset => !parts.optional.has_synchronous_reset(),
         _ => false,
     }
 }
@@ -97,11 +101,15 @@ fn breaks_command_unknown(geometry: &Geometry, cycle: TargetCycle) -> bool
 }
 
 #[tactic(auto, unfolding(crate::specs::Rules::breaks_sequence_open))]
-fn breaks_sequence_open(tail: TailFacts, cycle: TargetCycle) -> bool
-    ensures { result ≡ breaks_sequence_open tail cycle }
+fn breaks_sequence_open(geometry: &Geometry, tail: TailFacts, cycle: TargetCycle) -> bool
+    ensures { result ≡ breaks_sequence_open geometry.now tail cycle }
 {
     match cycle {
-        TargetCycle::CommandCycle(command) => command.is_opener() && tail.is_open(),
+        TargetCycle::CommandCycle(command) => {
+            command.is_opener()
+                && tail.is_open()
+                && !(command.is_reset() && geometry.parts().optional.is_wide())
+        }
         _ => false,
     }
 }
@@ -139,12 +147,25 @@ fn breaks_command_misplaced(tail: TailFacts, cycle: TargetCycle) -> bool
     }
 }
 
+/// The address of a Read ID that the base profile hasn't.
+fn is_undeclared_address(geometry: &Geometry, tail: TailFacts, byte: u8) -> bool
+    ensures { result ≡ is_undeclared_address geometry.now tail byte }
+{
+    let reads_id = match tail.opening {
+        None => false,
+        Some(opening) => opening.opener == Command::ReadId,
+    };
+    !geometry.parts().optional.is_wide() && reads_id && byte != 0x20
+}
+
 #[tactic(auto, unfolding(crate::specs::Rules::breaks_address_misplaced))]
-fn breaks_address_misplaced(tail: TailFacts, cycle: TargetCycle) -> bool
-    ensures { result ≡ breaks_address_misplaced tail cycle }
+fn breaks_address_misplaced(geometry: &Geometry, tail: TailFacts, cycle: TargetCycle) -> bool
+    ensures { result ≡ breaks_address_misplaced geometry.now tail cycle }
 {
     match cycle {
-        TargetCycle::AddressCycle(byte) => !tail.wants_address(byte),
+        TargetCycle::AddressCycle(byte) => {
+            !tail.wants_address(byte) || is_undeclared_address(geometry, tail, byte)
+        }
         _ => false,
     }
 }
@@ -331,7 +352,9 @@ fn breaks_column_outside<Q: WorkQueue>(
                 };
             past_page || past_register
         }
-        TargetCycle::InputCycle(_) => geometry.page_len() as u64 <= tail.input_column(),
+        TargetCycle::InputCycle(_) => {
+            !tail.phase.takes_features() && geometry.page_len() as u64 <= tail.input_column()
+        }
         TargetCycle::OutputCycle => match driver(luns) {
             None => false,
             Some(lun) => lun.is_past_register(geometry),
@@ -392,7 +415,7 @@ fn judge_command<Q: WorkQueue>(
         } else {
             None
         }
-    } else if breaks_sequence_open(tail, cycle) {
+    } else if breaks_sequence_open(geometry, tail, cycle) {
         Some(Forbidden::SequenceOpen)
     } else if breaks_several_luns(geometry, cycle) {
         Some(Forbidden::SeveralLuns)
@@ -418,7 +441,7 @@ fn judge_end_of_row<Q: WorkQueue>(
     byte: u8,
 ) -> Option<Forbidden>
     requires small { (tail.column < 2 ^ 16) × (tail.inputs < 2 ^ 63) }
-    requires wanted { breaks_address_misplaced tail (TargetCycle.AddressCycle byte) ≡ false }
+    requires wanted { breaks_address_misplaced geometry.now tail (TargetCycle.AddressCycle byte) ≡ false }
     ensures { result ≡ judge_known_cycle geometry.now tail luns.now (TargetCycle.AddressCycle byte) }
 {
     let cycle = TargetCycle::AddressCycle(byte);
@@ -449,7 +472,7 @@ fn judge_address<Q: WorkQueue>(
     ensures { result ≡ judge_known_cycle geometry.now tail luns.now (TargetCycle.AddressCycle byte) }
 {
     let cycle = TargetCycle::AddressCycle(byte);
-    if breaks_address_misplaced(tail, cycle) {
+    if breaks_address_misplaced(geometry, tail, cycle) {
         Some(Forbidden::AddressMisplaced)
     } else if tail.ends_row() {
         judge_end_of_row(geometry, tail, luns, byte)

@@ -23,9 +23,8 @@ fn apply_to_queue(queue: &mut RowQueue, effect: Effect)
     match effect {
         Effect::EraseStarted { queued: true, row } => queue.insert(0, Queued::Erase(row)),
         Effect::ProgramStarted { queued: true, page } => queue.insert(0, Queued::Program(page)),
-        Effect::EraseStarted { .. } | Effect::ProgramStarted { .. } | Effect::ResetStarted => {
-            queue.clear()
-        }
+        Effect::EraseStarted { .. } | Effect::ProgramStarted { .. } | Effect::ResetStarted =>
+            queue.clear(),
         _ => {}
     }
 }

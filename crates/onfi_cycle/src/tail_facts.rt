@@ -1,10 +1,11 @@
 //! The tail of a target, by its facts: one cycle at a time, with nothing kept but the facts.
 ghost use Rattle.std.specs.Prelude.{ℕ, [], ◌≡◌, ◌+◌, ◌^◌, ◌<◌, ◌≤◌, true, IfSome};
 ghost use Rattle.onfi_cycle.specs.Command.{addresses_the_array, is_change_read_column};
-ghost use Rattle.onfi_cycle.specs.Sequence.{AreSmall, target_cycle, begins_sequence, facts_of, facts_after, extended_facts, next_address_place, column_after_address, takes_inputs, wants_address, wants_command, wants, is_proper_beginning, is_open, row, row_with, column_with, input_column, target_of};
+ghost use Rattle.onfi_cycle.specs.Sequence.{AreSmall, target_cycle, begins_sequence, facts_of, facts_after, extended_facts, next_address_place, column_after_address, takes_data, takes_inputs, wants_address, wants_command, wants, is_proper_beginning, is_open, row, row_with, column_with, input_column, target_of};
 ghost use Rattle.onfi_cycle.specs.Rules.{ends_row, second_of_page, second_column};
-ghost use Rattle.onfi_cycle.specs.Inputs.{fed_tail, has_no_room};
+ghost use Rattle.onfi_cycle.specs.Inputs.{fed_tail, takes_fewer_features, has_no_room};
 
+use crate::data_phase::FEATURE_BYTES;
 use crate::{Command, DataPhase, Opening, RowBytes, TargetCycle};
 use nand_geometry::Geometry;
 
@@ -130,7 +131,7 @@ impl TailFacts {
             TargetCycle::AddressCycle(byte) => self.extend_by_address(byte),
             TargetCycle::InputCycle(_) => {
                 self.opening = None;
-                self.phase = self.phase.after_input();
+                self.phase = self.phase.after_input(self.inputs);
                 self.inputs += 1;
             }
             TargetCycle::OutputCycle => {
@@ -141,13 +142,12 @@ impl TailFacts {
         }
     }
 
-    /// Goes on with a tail by so many inputs, one at least.
+    /// Goes on with a tail that is in the data of a program by so many inputs, one at least.
     pub(crate) fn extend_by_inputs(&mut self, count: usize)
         requires { self.old.inputs + count < 2 ^ 63 }
         ensures { self.new ≡ fed_tail count self.old }
     {
         self.opening = None;
-        self.phase = self.phase.after_input();
         self.inputs += count;
         self.is_empty = false;
     }
@@ -169,7 +169,7 @@ impl TailFacts {
     {
         match command {
             Command::ChangeWriteColumn | Command::ProgramConfirm | Command::ProgramPlane => {
-                self.phase.takes_inputs()
+                self.phase.takes_data()
             }
             _ => match self.opening {
                 None => false,
@@ -278,6 +278,14 @@ impl TailFacts {
         ensures { result ≡ input_column self }
     {
         u64::from(self.column) + self.inputs as u64
+    }
+
+    /// A Set Features takes fewer inputs more than these.
+    pub(crate) fn takes_fewer_features(self, count: usize) -> bool
+        requires { self.inputs < 2 ^ 63 }
+        ensures { result ≡ takes_fewer_features count self }
+    {
+        FEATURE_BYTES < self.inputs || FEATURE_BYTES - self.inputs < count
     }
 
     /// The page has no place for so many inputs more.

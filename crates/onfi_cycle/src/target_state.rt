@@ -7,7 +7,7 @@ ghost use Rattle.nand_geometry.specs.Limits.{InLimits};
 ghost use Rattle.onfi_cycle.specs.LunView.{LunView};
 ghost use Rattle.onfi_cycle.specs.Effect.{is_data};
 ghost use Rattle.onfi_cycle.specs.Applied.{luns_after_cycle, asks_driver, one_after, needs_no_row, acts_by_address, may_act};
-ghost use Rattle.onfi_cycle.specs.Sequence.{facts_after};
+ghost use Rattle.onfi_cycle.specs.Sequence.{facts_after, takes_data, takes_features};
 ghost use Rattle.onfi_cycle.specs.Filling.{filling};
 ghost use Rattle.onfi_cycle.specs.Readies.{target_due};
 ghost use Rattle.onfi_cycle.specs.State.{TargetView, target_view, effect_alone, has_driver, target_after, without_sequence};
@@ -16,6 +16,7 @@ ghost use Rattle.onfi_cycle.specs.Bounds.{LunsFit, TargetFits};
 ghost use Rattle.onfi_cycle.specs.Outputs.{AreFew, given_on, given_target, against_rest};
 ghost use Rattle.onfi_cycle.specs.Inputs.{fed_target, against_inputs};
 
+use crate::item_effects::ends_features;
 use crate::readies::due_of;
 use crate::{
     Command, Effect, Filling, Forbidden, Item, Latch, Lun, LunFacts, LunState, RowQueue, TailFacts,
@@ -81,6 +82,7 @@ fn needs_no_row(command: Command) -> bool
             | Command::ReadStatus
             | Command::ReadStatusEnhanced
             | Command::Reset
+            | Command::SynchronousReset
             | Command::ReadCacheSequential
             | Command::ReadCacheEnd
             | Command::ChangeReadColumnConfirm
@@ -93,7 +95,12 @@ fn acts_by_address(opener: Command) -> bool
 {
     matches!(
         opener,
-        Command::ReadStatusEnhanced | Command::ReadId | Command::ReadParameterPage
+        Command::ReadStatusEnhanced
+            | Command::ReadId
+            | Command::ReadParameterPage
+            | Command::ReadUniqueId
+            | Command::GetFeatures
+            | Command::ResetLun
     )
 }
 
@@ -109,7 +116,7 @@ fn may_act(tail: &TailFacts, luns: &[LunFacts<RowQueue>], cycle: TargetCycle) ->
             None => false,
             Some(opening) => acts_by_address(opening.opener),
         },
-        TargetCycle::InputCycle(_) => false,
+        TargetCycle::InputCycle(_) => ends_features(*tail),
         TargetCycle::OutputCycle => some_shows_data(luns),
     }
 }
@@ -270,7 +277,14 @@ impl TargetState {
         }
     }
 
-    /// It takes so many inputs more, one at least.
+    /// A Set Features waits for more of its bytes.
+    pub(crate) fn takes_features(&self) -> bool
+        ensures { result ≡ takes_features self.now.tail.phase }
+    {
+        self.tail.phase.takes_features()
+    }
+
+    /// It takes so many inputs of a program more, one at least.
     pub(crate) fn feed(&mut self, count: usize)
         requires few { self.old.tail.inputs + count < 2 ^ 63 }
         ensures { self.new ≡ fed_target count self.old }
@@ -284,7 +298,13 @@ impl TargetState {
         requires fits { TargetFits geometry.now self.now }
         ensures { result ≡ against_inputs geometry.now count self.now.tail }
     {
-        if self.tail.has_no_room(geometry, count) {
+        if self.tail.phase.takes_features() {
+            if self.tail.takes_fewer_features(count) {
+                Some(Forbidden::InputMisplaced)
+            } else {
+                None
+            }
+        } else if self.tail.has_no_room(geometry, count) {
             Some(Forbidden::ColumnOutside)
         } else {
             None

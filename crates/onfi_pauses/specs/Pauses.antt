@@ -1,7 +1,7 @@
 -- The pauses that a datasheet asks for before a cycle, by the last cycle of its target and whether a ready came since. Nothing is said of how long they are.
-use Rattle.std.specs.Prelude.{ℕ, Bool, true, false, ◌&&◌, not, Option, Some, None, if◌then◌else◌}
+use Rattle.std.specs.Prelude.{ℕ, ◌+◌, ◌==◌, Bool, true, false, ◌&&◌, not, nat_lt, Option, Some, None, if◌then◌else◌}
 use Rattle.onfi_cycle.specs.declared.command.Command.{Command}
-use Rattle.onfi_cycle.specs.declared.command.Command.TheVariants.{ReadConfirm, ChangeReadColumnConfirm, BlockEraseConfirm, BlockErasePlane, ChangeWriteColumn, ProgramConfirm, ProgramPlane, ReadParameterPage, Reset, ReadCacheSequential, ReadCacheEnd, Unknown}
+use Rattle.onfi_cycle.specs.declared.command.Command.TheVariants.{ReadConfirm, ChangeReadColumnConfirm, BlockEraseConfirm, BlockErasePlane, ChangeWriteColumn, ProgramConfirm, ProgramPlane, ReadParameterPage, Reset, ReadCacheSequential, ReadCacheEnd, ReadUniqueId, GetFeatures, SetFeatures, ResetLun, SynchronousReset, Unknown}
 use Rattle.onfi_cycle.specs.Command.{command}
 use Rattle.onfi_cycle.specs.declared.item.Kind.{Kind}
 use Rattle.onfi_cycle.specs.declared.item.Kind.TheVariants.{Cmd, Adr, Din, Dout}
@@ -19,13 +19,18 @@ starts BlockErasePlane = true
 starts ProgramConfirm = true
 starts ProgramPlane = true
 starts Reset = true
+starts SynchronousReset = true
 starts ReadCacheSequential = true
 starts ReadCacheEnd = true
 starts _ = false
 
--- a parameter page begins its work by its address
+-- an address of the command begins work; of Reset LUN the third one does, and nothing that waits for tWB comes behind the two before it
+-- but a reset
 abbrev pub starts_by_address : Command → Bool
 starts_by_address ReadParameterPage = true
+starts_by_address ReadUniqueId = true
+starts_by_address GetFeatures = true
+starts_by_address ResetLun = true
 starts_by_address _ = false
 
 abbrev pub begins_work : LastCycle → Bool
@@ -33,6 +38,7 @@ begins_work last.Nothing = false
 begins_work (last.Command c) = starts c
 begins_work (last.Address c) = starts_by_address c
 begins_work last.Input = false
+begins_work (last.FeatureByte number) = number == 4
 begins_work last.Output = false
 
 -- before a data output: after E0h that of a column change, after any other cycle that was given tWHR
@@ -42,6 +48,7 @@ of_output (last.Command ChangeReadColumnConfirm) = Some ColumnChange
 of_output (last.Command c) = Some ToOutput
 of_output (last.Address c) = Some ToOutput
 of_output last.Input = Some ToOutput
+of_output (last.FeatureByte number) = Some ToOutput
 of_output last.Output = None
 
 -- before a data input: after the column of 85h that of a column change, after any other address tADL
@@ -51,6 +58,7 @@ of_input (last.Command c) = None
 of_input (last.Address ChangeWriteColumn) = Some ColumnChange
 of_input (last.Address c) = Some AddressToInput
 of_input last.Input = None
+of_input (last.FeatureByte number) = None
 of_input last.Output = Some OutputToCommand
 
 -- before a command or an address
@@ -59,6 +67,7 @@ of_command last.Nothing = None
 of_command (last.Command c) = None
 of_command (last.Address c) = None
 of_command last.Input = None
+of_command (last.FeatureByte number) = None
 of_command last.Output = Some OutputToCommand
 
 abbrev pub of_cycle : LastCycle → Kind → Option Pause
@@ -92,11 +101,18 @@ command_of (last.Command c) = c
 command_of (last.Address c) = c
 command_of last.Nothing = Unknown
 command_of last.Input = Unknown
+command_of (last.FeatureByte number) = Unknown
 command_of last.Output = Unknown
+
+-- once an input has come: those behind the address of a Set Features are its four bytes
+abbrev pub after_input : LastCycle → LastCycle
+after_input (last.Address SetFeatures) = last.FeatureByte 1
+after_input (last.FeatureByte number) = if nat_lt number 4 then last.FeatureByte (number + 1) else last.Input
+after_input _ = last.Input
 
 -- once a cycle has come
 abbrev pub last_after : LastCycle → Kind → (byte : ℕ) → LastCycle
 last_after l Cmd byte = last.Command (command byte)
 last_after l Adr byte = last.Address (command_of l)
-last_after l Din byte = last.Input
+last_after l Din byte = after_input l
 last_after l Dout byte = last.Output

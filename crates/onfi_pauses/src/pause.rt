@@ -1,8 +1,8 @@
 //! The pauses before a cycle, by what came last on its target.
 ghost use Rattle.std.specs.Prelude.{◌≡◌};
-ghost use Rattle.onfi_pauses.specs.Pauses.{begins_work, of_output, of_input, of_command, of_cycle, of_busy, of_ready, pauses_before, command_of, last_after};
+ghost use Rattle.onfi_pauses.specs.Pauses.{begins_work, of_output, of_input, of_command, of_cycle, of_busy, of_ready, pauses_before, command_of, after_input, last_after};
 
-use onfi_cycle::{Command, Kind};
+use onfi_cycle::{Command, FEATURE_BYTES, Kind};
 
 /// A pause before a cycle, by its name in ONFI.
 #[derive(Clone, Copy, Debug, PartialEq, Eq)]
@@ -28,7 +28,10 @@ pub enum LastCycle {
     Command(Command),
     /// An address of this command.
     Address(Command),
+    /// An input, but those of a Set Features.
     Input,
+    /// The first to the fourth byte of a Set Features.
+    FeatureByte { number: u8 },
     Output,
 }
 
@@ -57,10 +60,18 @@ impl LastCycle {
                     | Command::ProgramConfirm
                     | Command::ProgramPlane
                     | Command::Reset
+                    | Command::SynchronousReset
                     | Command::ReadCacheSequential
                     | Command::ReadCacheEnd
             ),
-            LastCycle::Address(command) => matches!(command, Command::ReadParameterPage),
+            LastCycle::Address(command) => matches!(
+                command,
+                Command::ReadParameterPage
+                    | Command::ReadUniqueId
+                    | Command::GetFeatures
+                    | Command::ResetLun
+            ),
+            LastCycle::FeatureByte { number } => number == FEATURE_BYTES as u8,
             LastCycle::Nothing | LastCycle::Input | LastCycle::Output => false,
         }
     }
@@ -71,7 +82,28 @@ impl LastCycle {
     {
         match self {
             LastCycle::Command(command) | LastCycle::Address(command) => command,
-            LastCycle::Nothing | LastCycle::Input | LastCycle::Output => Command::Unknown,
+            LastCycle::Nothing
+            | LastCycle::Input
+            | LastCycle::FeatureByte { .. }
+            | LastCycle::Output => Command::Unknown,
+        }
+    }
+
+    // The last cycle once an input has come.
+    fn after_input(self) -> LastCycle
+        ensures { result ≡ after_input self }
+    {
+        match self {
+            LastCycle::Address(Command::SetFeatures) => LastCycle::FeatureByte { number: 1 },
+            LastCycle::FeatureByte { number } if number < FEATURE_BYTES as u8 => {
+                LastCycle::FeatureByte { number: number + 1 }
+            }
+            LastCycle::Nothing
+            | LastCycle::Command(_)
+            | LastCycle::Address(_)
+            | LastCycle::Input
+            | LastCycle::FeatureByte { .. }
+            | LastCycle::Output => LastCycle::Input,
         }
     }
 
@@ -82,7 +114,7 @@ impl LastCycle {
         match kind {
             Kind::Cmd => LastCycle::Command(Command::of(byte)),
             Kind::Adr => LastCycle::Address(self.command()),
-            Kind::Din => LastCycle::Input,
+            Kind::Din => self.after_input(),
             Kind::Dout => LastCycle::Output,
         }
     }
@@ -92,9 +124,10 @@ impl LastCycle {
     {
         match self {
             LastCycle::Command(Command::ChangeReadColumnConfirm) => Some(Pause::ColumnChange),
-            LastCycle::Command(_) | LastCycle::Address(_) | LastCycle::Input => Some(
-                Pause::ToOutput,
-            ),
+            LastCycle::Command(_)
+            | LastCycle::Address(_)
+            | LastCycle::Input
+            | LastCycle::FeatureByte { .. } => Some(Pause::ToOutput),
             LastCycle::Nothing | LastCycle::Output => None,
         }
     }
@@ -106,7 +139,10 @@ impl LastCycle {
             LastCycle::Address(Command::ChangeWriteColumn) => Some(Pause::ColumnChange),
             LastCycle::Address(_) => Some(Pause::AddressToInput),
             LastCycle::Output => Some(Pause::OutputToCommand),
-            LastCycle::Nothing | LastCycle::Command(_) | LastCycle::Input => None,
+            LastCycle::Nothing
+            | LastCycle::Command(_)
+            | LastCycle::Input
+            | LastCycle::FeatureByte { .. } => None,
         }
     }
 
@@ -116,8 +152,11 @@ impl LastCycle {
     {
         match self {
             LastCycle::Output => Some(Pause::OutputToCommand),
-            LastCycle::Nothing | LastCycle::Command(_) | LastCycle::Address(_) | LastCycle::Input =>
-                None,
+            LastCycle::Nothing
+            | LastCycle::Command(_)
+            | LastCycle::Address(_)
+            | LastCycle::Input
+            | LastCycle::FeatureByte { .. } => None,
         }
     }
 

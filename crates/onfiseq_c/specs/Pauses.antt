@@ -1,6 +1,8 @@
 -- The pauses before a cycle, by what came last on its target, as numbers.
-use Rattle.std.specs.Prelude.{ℕ, ◌==◌, ◌||◌, if◌then◌else◌, Option, Some, None}
+use Rattle.std.specs.Prelude.{ℕ, ◌+◌, ◌-◌, ◌==◌, Bool, true, false, ◌&&◌, ◌||◌, nat_le, if◌then◌else◌, Option, Some, None}
 use Rattle.onfi_cycle.specs.declared.item.Kind.{Kind}
+use Rattle.onfi_cycle.specs.declared.command.Command.{Command}
+use Rattle.onfi_cycle.specs.declared.command.Command.TheVariants.{SetFeatures}
 use Rattle.onfi_cycle.specs.Command.{command}
 use Rattle.onfi_pauses.specs.declared.pause.LastCycle.{LastCycle}
 use Rattle.onfi_pauses.specs.declared.pause.LastCycle.TheVariants as last
@@ -13,13 +15,14 @@ use Rattle.bus_record.specs.Item.{kind_of}
 use Rattle.onfiseq_c.specs.declared.pause.OnfiseqLast.{OnfiseqLast}
 use Rattle.onfiseq_c.specs.declared.pause.OnfiseqPauses.{OnfiseqPauses}
 
--- the last cycle: C, A, I or O, and anything else where none has come
+-- the last cycle: C, A, I or O, 1 to 4 for such a byte of a Set Features, and anything else where none has come
 abbrev pub last_of : OnfiseqLast → LastCycle
 last_of l =
     if l.kind == 67 then last.Command (command l.command)
     else (if l.kind == 65 then last.Address (command l.command)
     else (if l.kind == 73 then last.Input
-    else (if l.kind == 79 then last.Output else last.Nothing)))
+    else (if nat_le 49 l.kind && nat_le l.kind 52 then last.FeatureByte (l.kind - 48)
+    else (if l.kind == 79 then last.Output else last.Nothing))))
 
 -- a status output is an output
 abbrev pub letter_of : ℕ → ℕ
@@ -46,13 +49,23 @@ before_kind l None = record { cycle = 0; busy = 0; ready = 0 }
 abbrev pub before : OnfiseqLast → (kind : ℕ) → OnfiseqPauses
 before l kind = before_kind l (kind_of (letter_of kind))
 
+abbrev pub is_set_features : Command → Bool
+is_set_features SetFeatures = true
+is_set_features _ = false
+
+-- the letter of an input: those behind the address of a Set Features are its four bytes
+abbrev pub input_letter : OnfiseqLast → ℕ
+input_letter l =
+    if l.kind == 65 && is_set_features (command l.command) then 49
+    else (if nat_le 49 l.kind && nat_le l.kind 51 then l.kind + 1 else 73)
+
 -- once a cycle has come, or a ready: the command stays while its addresses and data come
 abbrev pub noted : OnfiseqLast → (kind byte : ℕ) → OnfiseqLast
 noted l kind byte =
     if kind == 67 then record { kind = 67; command = byte; ready = 0 }
     else (if kind == 82 then record l { ready = 1 }
     else (if kind == 65 then record { kind = 65; command = l.command; ready = 0 }
-    else (if kind == 73 then record { kind = 73; command = l.command; ready = 0 }
+    else (if kind == 73 then record { kind = input_letter l; command = l.command; ready = 0 }
     else (if kind == 79 then record { kind = 79; command = l.command; ready = 0 } else l))))
 
 -- 0 for a cycle or a ready, else that it is no item

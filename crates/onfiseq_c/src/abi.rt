@@ -70,6 +70,7 @@ fn sample_geometry() -> OnfiseqGeometry {
         enhanced: 7,
         multi_plane: 8,
         cache: 9,
+        optional: 9 + 256,
     }
 }
 

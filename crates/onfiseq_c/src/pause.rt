@@ -1,13 +1,13 @@
 //! The pauses that a datasheet asks for before a cycle.
 ghost use Rattle.std.specs.Prelude.{◌≡◌};
-ghost use Rattle.onfiseq_c.specs.Pauses.{before, last_of, letter_of, note_code, noted, number_of};
+ghost use Rattle.onfiseq_c.specs.Pauses.{before, input_letter, last_of, letter_of, note_code, noted, number_of};
 
 use bus_record::{NO_ITEM, kind_of};
 use onfi_cycle::Command;
 use onfi_pauses::{LastCycle, Pause, pauses_before};
 use target_record::is_set;
 
-/// What came last on a target. `kind` is that of its last cycle, C, A, I or O, and 0 where none has come; `command` is the byte of its last command, and
+/// What came last on a target. `kind` is that of its last cycle, C, A, I or O, 1 to 4 for such a byte of a Set Features, and 0 where none has come; `command` is the byte of its last command, and
 /// `ready` is 1 where a ready came after that cycle.
 #[repr(C)]
 #[derive(Clone, Copy)]
@@ -35,6 +35,9 @@ fn last_of(last: &OnfiseqLast) -> LastCycle
         b'C' => LastCycle::Command(Command::of(last.command)),
         b'A' => LastCycle::Address(Command::of(last.command)),
         b'I' => LastCycle::Input,
+        b'1'..=b'4' => LastCycle::FeatureByte {
+            number: last.kind - b'0',
+        },
         b'O' => LastCycle::Output,
         _ => LastCycle::Nothing,
     }
@@ -47,6 +50,17 @@ fn letter_of(kind: u8) -> u8
     match kind {
         b'S' => b'O',
         _ => kind,
+    }
+}
+
+// The letter of an input: those behind the address of a Set Features are its four bytes.
+fn input_letter(last: &OnfiseqLast) -> u8
+    ensures { result ≡ input_letter last.now }
+{
+    match last.kind {
+        b'A' if Command::of(last.command) == Command::SetFeatures => b'1',
+        b'1'..=b'3' => last.kind + 1,
+        _ => b'I',
     }
 }
 
@@ -101,6 +115,11 @@ pub extern "C" fn onfiseq_note(last: &mut OnfiseqLast, kind: u8, byte: u8) -> u3
         }
         b'R' => {
             last.ready = 1;
+            0
+        }
+        b'I' => {
+            last.kind = input_letter(last);
+            last.ready = 0;
             0
         }
         letter if kind_of(letter).is_some() => {

@@ -5,7 +5,7 @@ use Rattle.nand_geometry.specs.declared.parts.Parts.{Parts}
 use Rattle.trace_text.specs.declared.recorded_item.RecordedItem.{RecordedItem}
 use Rattle.trace_text.specs.declared.refusal.TraceRefusal.TheVariants.{Fault as TraceFaultAt}
 use Rattle.trace_text.specs.Recorded.{recorded_items}
-use Rattle.seq_inputs.specs.Inputs.{HasPage}
+use Rattle.seq_inputs.specs.Inputs.{HasPageAs}
 use Rattle.trace_commands.specs.declared.recording_fault.RecordingFault.{RecordingFault}
 use Rattle.trace_commands.specs.declared.recording_fault.RecordingFault.TheVariants.{Trace}
 use Rattle.operation_commands.specs.declared.ops_request.OpsRequest.{OpsRequest}
@@ -13,7 +13,7 @@ use Rattle.operation_commands.specs.declared.ops_request.OpsRequest.{OpsRequest}
 -- the page and the recorded text of a trace are there
 pub record CanBeListed (files : Option Store) (request : OpsRequest) : Type 0 where
   pub g : Parts
-  pub has_page : HasPage files request.page.now g
+  pub has_page : HasPageAs files request.profile request.page.now g
   pub text : List ℕ
   pub is_there : Holds files request.input.now text
   pub items : List RecordedItem

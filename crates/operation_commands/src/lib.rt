@@ -6,6 +6,7 @@
 mod busy;
 mod data_lines;
 mod fault_lines;
+mod faults_found;
 mod filter;
 mod item_groups;
 mod listed_trace;

@@ -14,6 +14,7 @@ ghost use Rattle.operation_commands.specs.Ops.{CanBeListed, RefusesText, IsNoTra
 use crate::busy::Busy;
 use crate::data_lines::{Data, push_data};
 use crate::fault_lines::push_beneath;
+use crate::faults_found::FaultsFound;
 use crate::filter::is_printed;
 use crate::item_groups::ItemGroups;
 use crate::listed_trace::ListedTrace;
@@ -26,15 +27,12 @@ use nand_geometry::Geometry;
 use onfi_cycle::Item;
 use seq_files::Files;
 use seq_inputs::{
-    Console, Exit, Stop, Style, end_without_memory, finish, geometry_at, read_file, text_of,
+    Console, Exit, Stop, Style, end_without_memory, finish, geometry_as, read_file, text_of,
 };
 use std::alloc::{AllocError, Allocator};
 use std::io::Write;
 use trace_commands::{Ending, RecordingFault, RecordingStop, end_stopped, words_of_trace};
-use trace_faults::{
-    Beginning, BrokenRule, MiddleFaults, NotShown, Readies, find_faults, find_faults_from_middle,
-    find_not_shown,
-};
+use trace_faults::Readies;
 use trace_ops::{Operation, Operations, find_operations};
 use trace_text::{RecordedItem, TraceForm, TraceRefusal, parse_timed};
 
@@ -60,45 +58,6 @@ fn read_items<'p, A: Allocator + Clone>(
     }
 }
 
-// What is wrong with a trace, and what was taken for granted or for ready.
-#[derive(Drop)]
-struct FaultsFound<A: Allocator> {
-    faults: Vec<BrokenRule, A>,
-    granted: Vec<BrokenRule, A>,
-    not_shown: Vec<NotShown, A>,
-}
-
-// The faults of a trace that begins there.
-fn find_all<A: Allocator + Clone>(
-    alloc: A,
-    request: OpsRequest<'_>,
-    geometry: &Geometry,
-    items: &[Item],
-) -> Result<FaultsFound<A>, AllocError> {
-    let targets = request.targets.count();
-    let readies = Readies::Shown;
-    match request.beginning {
-        Beginning::Start => Ok(FaultsFound {
-            faults: find_faults(alloc.clone()?, geometry, targets, items, readies)?,
-            granted: Vec::new(alloc.clone()?),
-            not_shown: find_not_shown(alloc, geometry, targets, items, readies)?,
-        }),
-        Beginning::Middle => {
-            let MiddleFaults {
-                faults,
-                granted,
-                not_shown,
-                ..
-            } = find_faults_from_middle(alloc, geometry, targets, items, readies)?;
-            Ok(FaultsFound {
-                faults,
-                granted,
-                not_shown,
-            })
-        }
-    }
-}
-
 // The operations of a trace, and what is said of them.
 fn list_items<A: Allocator + Clone>(
     alloc: A,
@@ -112,7 +71,11 @@ fn list_items<A: Allocator + Clone>(
         .collect(alloc.clone()?)?;
     let items = items.as_slice();
     let targets = request.targets.count();
-    let Operations { operations, marks } = find_operations(
+    let Operations {
+        operations,
+        marks,
+        verdicts,
+    } = find_operations(
         alloc.clone()?,
         geometry,
         targets,
@@ -125,7 +88,7 @@ fn list_items<A: Allocator + Clone>(
         faults,
         granted,
         not_shown,
-    } = find_all(alloc, request, geometry, items)?;
+    } = FaultsFound::of(alloc, verdicts.as_slice())?;
     Ok(ListedTrace {
         geometry: *geometry,
         items: found,
@@ -241,7 +204,7 @@ fn list_at<'p, A: Allocator + Clone, F: Files>(
     ensures err { IfErr result (SaysOf (PageIsRefused (F.store files.old) request.entry.page.now) (IsNoTrace (F.store files.old) request.entry.input.now)) }
     ensures stays { F.store files.new ≡ F.store files.old }
 {
-    let geometry = geometry_at(alloc.clone()?, files, request.page)?;
+    let geometry = geometry_as(alloc.clone()?, files, request.profile, request.page)?;
     let bytes = read_file(alloc.clone()?, files, request.input)?;
     let text = text_of(request.input, bytes.as_slice())?;
     let items = read_items(alloc.clone()?, request.input, text)?;

@@ -1,5 +1,6 @@
 //! What a list of operations is asked for.
 
+use nand_geometry::Profile;
 use trace_commands::Targets;
 use trace_faults::Beginning;
 
@@ -44,6 +45,8 @@ pub struct OpsFilter<'a> {
 pub struct OpsRequest<'a> {
     /// The parameter page of each die.
     pub page: &'a str,
+    /// What the page is read for.
+    pub profile: Profile,
     pub targets: Targets,
     /// The text of the trace, in the recorded form.
     pub input: &'a str,

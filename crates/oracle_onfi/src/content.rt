@@ -4,7 +4,7 @@ ghost use Rattle.std.specs.List.{zip};
 ghost use Rattle.nand_geometry.specs.Limits.{page_len};
 ghost use Rattle.onfi_cycle.specs.Sequence.{AreSmall, filled, tail};
 ghost use Rattle.onfi_cycle.specs.Lun.{output_column, read_column, register};
-ghost use Rattle.onfi_cycle.specs.Content.{and_bytes, byte_at, content, has_failed, left_by, left_by_all, pending_work, pending_work_after, queued_work, queued_work_after, register_bytes, same_page, shown, status};
+ghost use Rattle.onfi_cycle.specs.Content.{and_bytes, byte_at, content, has_failed, identifiers, left_by, left_by_all, pending_work, pending_work_after, queued_work, queued_work_after, register_bytes, same_page, shown, status};
 ghost use Rattle.onfi_cycle.specs.Content.ArrayWork.{ErasesBlock, ProgramsPage};
 ghost use Rattle.oracle_onfi.specs.Driven.{driven_byte};
 ghost use Rattle.oracle_onfi.specs.Filled.{filled_after};
@@ -173,6 +173,9 @@ fn pending_work_after(
         | Effect::ProgramStarted { .. }
         | Effect::ReadStarted { .. }
         | Effect::ParameterPageReadStarted
+        | Effect::UniqueIdReadStarted
+        | Effect::FeaturesReadStarted { .. }
+        | Effect::FeaturesSet { .. }
         | Effect::CacheReadContinued
         | Effect::CacheReadEnded
         | Effect::ResetStarted
@@ -365,7 +368,25 @@ pub fn register_bytes(
         Register::Page(p) => content(alloc, geometry, opening, past, lun, p),
         Register::ParameterPage => parameters.to_vec(alloc),
         Register::Identifier => b"ONFI".to_vec(alloc),
+        Register::Identity => [0; 8].to_vec(alloc),
+        Register::JedecIdentity => b"JEDEC\0".to_vec(alloc),
+        Register::UniqueId => identifiers(alloc, 16),
+        Register::Features(_) => [0; 4].to_vec(alloc),
     }
+}
+
+/// So many times sixteen zeros and their complement.
+fn identifiers(alloc: Global, count: u8) -> Result<Vec<u8>, AllocError>
+    ensures { IfOk result (λ v. v.items ≡ identifiers count) }
+{
+    if count == 0 {
+        return Ok(Vec::new(alloc));
+    }
+    let rest = identifiers(alloc, count - 1)?;
+    let mut bytes = [0; 16].to_vec(alloc)?;
+    bytes.extend_from_slice(&[0xff; 16])?;
+    bytes.extend_from_slice(&rest)?;
+    Ok(bytes)
 }
 
 /// The byte of the LUN's register at its read column, None where there is no column, or it is past the register.

@@ -9,7 +9,7 @@ ghost use Rattle.seq_inputs.specs.Refusals.{line_of};
 
 use crate::copies::PageCopies;
 use crate::declared::Declared;
-use nand_geometry::Geometry;
+use nand_geometry::{Geometry, Profile};
 use seq_files::Files;
 use seq_inputs::{
     Console, Exit, Stop, end_without_memory, fail, finish, geometry_in, read_file, say_words,
@@ -45,7 +45,7 @@ fn show_at<'p, A: Allocator + Clone, F: Files, E: Write>(
     ensures stays { F.store files.new ≡ F.store files.old }
 {
     let bytes = read_file(alloc.clone()?, files, path)?;
-    match geometry_in(alloc.clone()?, path, bytes.as_slice()) {
+    match geometry_in(alloc.clone()?, Profile::Base, path, bytes.as_slice()) {
         Ok(geometry) => Ok(lines_of(alloc, &geometry, bytes.as_slice())?),
         Err(stop) => {
             say_copies(alloc, errors, bytes.as_slice());

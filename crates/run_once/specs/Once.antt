@@ -1,6 +1,7 @@
 -- What running a word file once comes to: the line of its refusal, or the text of its run.
 use Rattle.std.specs.Prelude.{◌≡◌, ℕ, Bool, true, false, List, [], ◌∷◌, ◌++◌, ◌⊎◌, Option, Some, None, Result, Ok, Err, replicate, reverse}
 use Rattle.nand_geometry.specs.declared.parts.Parts.{Parts}
+use Rattle.nand_geometry.specs.Optional.{no_optional}
 use Rattle.onfi_cycle.specs.declared.lun.Lun.{Lun}
 use Rattle.onfi_cycle.specs.Permitted.{is_legal}
 use Rattle.onfi_cycle.specs.Channel.{Channel}
@@ -29,7 +30,7 @@ use Rattle.seq_inputs.specs.Lines.{refusal_line, end_line}
 
 -- one LUN of 8 blocks of 4 pages of 512 + 16 bytes
 abbrev pub one_lun : Parts
-one_lun = record { page_bytes = 512; spare_bytes = 16; pages = 4; blocks = 8; luns = 1; plane_bits = 0; enhanced = false; multi_plane = false; cache = false }
+one_lun = record { page_bytes = 512; spare_bytes = 16; pages = 4; blocks = 8; luns = 1; plane_bits = 0; enhanced = false; multi_plane = false; cache = false; optional = no_optional }
 
 -- its LUN, on a channel of one target
 abbrev pub the_lun : Lun

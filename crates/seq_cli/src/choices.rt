@@ -10,6 +10,7 @@ pub(crate) enum Choices {
     OneToFour,
     OneToEight,
     OneTwoFour,
+    Profiles,
 }
 
 impl Choices {
@@ -23,6 +24,7 @@ impl Choices {
                 arg.value_parser(["1", "2", "3", "4", "5", "6", "7", "8"].as_slice())
             }
             Choices::OneTwoFour => arg.value_parser(["1", "2", "4"].as_slice()),
+            Choices::Profiles => arg.value_parser(["base", "onfi"].as_slice()),
         }
     }
 }

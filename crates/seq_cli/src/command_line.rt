@@ -13,7 +13,7 @@ use bus_signals::{Family, named, plain_of};
 use clap::{ArgMatches, Error};
 use data_commands::{GivenImage, ImageRequest};
 use edge_commands::EdgeRequest;
-use nand_geometry::Parts;
+use nand_geometry::{Optional, Parts, Profile};
 use onfi_cycle::Lun;
 use seq_commands::{LintOutput, LintRequest, NoteRules};
 use seq_inputs::Style;
@@ -177,6 +177,7 @@ impl Verb {
             Verb::Ops => read_ops(
                 matches,
                 page,
+                read_profile(matches),
                 read_targets(find_word(matches, "TARGETS")),
                 find_word(matches, "TRACE"),
                 read_beginning(matches),
@@ -289,6 +290,14 @@ fn read_style(matches: &ArgMatches<'_>) -> Style {
     }
 }
 
+// What a page is read for; the parser takes no other word than base and onfi.
+fn read_profile(matches: &ArgMatches<'_>) -> Profile {
+    match matches.get_str("profile") {
+        Some("onfi") => Profile::Onfi,
+        _ => Profile::Base,
+    }
+}
+
 // The form of a trace.
 fn read_form(matches: &ArgMatches<'_>) -> TraceForm {
     if matches.get_flag("recorded") {
@@ -353,6 +362,7 @@ fn read_edges<'a>(matches: &ArgMatches<'a>) -> Result<EdgeRequest<'a>, Mistake<'
     } = read_edge_options(matches)?;
     Ok(EdgeRequest {
         page: find_word(matches, "PAGE"),
+        profile: read_profile(matches),
         targets: read_targets(find_word(matches, "TARGETS")),
         input,
         form: form_of_capture(matches, input),
@@ -377,6 +387,7 @@ fn read_capture<'a>(matches: &ArgMatches<'a>) -> Result<CaptureRequest<'a>, Mist
     let input = find_word(matches, "IN");
     Ok(CaptureRequest {
         page: find_word(matches, "PAGE"),
+        profile: read_profile(matches),
         targets: read_targets(find_word(matches, "TARGETS")),
         input,
         form: form_of_capture(matches, input),
@@ -474,6 +485,7 @@ fn read_chip<'a>(matches: &ArgMatches<'a>) -> Result<Parts, Mistake<'a>> {
         enhanced: matches.get_flag("status-enhanced"),
         multi_plane: plane_bits > 0,
         cache: matches.get_flag("cache"),
+        optional: Optional::NONE,
     })
 }
 
@@ -536,6 +548,7 @@ fn read_beginning(matches: &ArgMatches<'_>) -> Beginning {
 fn read_check<'a>(matches: &ArgMatches<'a>) -> CheckRequest<'a> {
     CheckRequest {
         page: find_word(matches, "PAGE"),
+        profile: read_profile(matches),
         targets: read_targets(find_word(matches, "TARGETS")),
         input: find_word(matches, "TRACE"),
         tells_all: matches.get_flag("all"),
@@ -554,6 +567,7 @@ fn read_check<'a>(matches: &ArgMatches<'a>) -> CheckRequest<'a> {
 fn read_image_request<'a>(matches: &ArgMatches<'a>) -> ImageRequest<'a> {
     ImageRequest {
         page: find_word(matches, "PAGE"),
+        profile: read_profile(matches),
         targets: read_targets(find_word(matches, "TARGETS")),
         input: find_word(matches, "TRACE"),
         form: read_form(matches),
@@ -608,6 +622,7 @@ fn read_draw<'a>(matches: &ArgMatches<'a>, form: DrawForm) -> DrawRequest<'a> {
     DrawRequest {
         form,
         page: find_word(matches, "PAGE"),
+        profile: read_profile(matches),
         targets: read_targets(find_word(matches, "TARGETS")),
         lines: read_form(matches),
         input: find_word(matches, "TRACE"),

@@ -78,6 +78,14 @@ const VENDOR: Declared = Declared {
     ..REQUIRED
 };
 
+const PROFILE: Declared = Declared {
+    name: "profile",
+    form: Form::Value("PROFILE"),
+    help: "`onfi` takes besides the commands of the base profile the optional ones that the page declares; `base` if nothing is said",
+    choices: Choices::Profiles,
+    ..REQUIRED
+};
+
 const MAP: Declared = Declared {
     name: "map",
     form: Form::Value("ROLE=NAME"),
@@ -266,6 +274,7 @@ pub(crate) const CAPTURE: Declaration = Declaration {
     arguments: &[
         PAGE_OF_EACH,
         TARGETS,
+        PROFILE,
         Declared {
             name: "IN",
             help: "The capture, a value change dump or a CSV, as docs/use/CAPTURES.md has it",
@@ -299,6 +308,7 @@ pub(crate) const CHECK: Declaration = Declaration {
     arguments: &[
         PAGE_OF_EACH,
         TARGETS,
+        PROFILE,
         Declared {
             form: Form::Words,
             ..TRACE
@@ -386,6 +396,7 @@ pub(crate) const TIMING: Declaration = Declaration {
     arguments: &[
         PAGE_OF_EACH,
         TARGETS,
+        PROFILE,
         Declared {
             name: "IN",
             help: "The capture, a value change dump or a CSV, as docs/use/CAPTURES.md has it",
@@ -425,6 +436,7 @@ pub(crate) const WRITE_IMAGE: Declaration = Declaration {
     arguments: &[
         PAGE_OF_EACH,
         TARGETS,
+        PROFILE,
         TRACE,
         Declared {
             name: "CE",
@@ -460,6 +472,7 @@ pub(crate) const OPS: Declaration = Declaration {
     arguments: &[
         PAGE_OF_EACH,
         TARGETS,
+        PROFILE,
         TRACE,
         Declared {
             name: "from-middle",
@@ -537,6 +550,7 @@ pub(crate) const DRAW_WAVE: Declaration = Declaration {
     arguments: &[
         PAGE_OF_EACH,
         TARGETS,
+        PROFILE,
         TRACE,
         Declared {
             name: "OUT",
@@ -554,6 +568,7 @@ pub(crate) const DRAW_PICTURE: Declaration = Declaration {
     arguments: &[
         PAGE_OF_EACH,
         TARGETS,
+        PROFILE,
         TRACE,
         Declared {
             name: "OUT",

@@ -2,6 +2,7 @@
 
 use crate::command::Command;
 use clap::ArgMatches;
+use nand_geometry::Profile;
 use operation_commands::{OpsFilter, OpsForm, OpsRequest, OpsText};
 use shown_text::Shown;
 use std::fmt;
@@ -199,12 +200,14 @@ fn read_form(matches: &ArgMatches<'_>) -> OpsForm {
 pub(crate) fn read_ops<'a>(
     matches: &ArgMatches<'a>,
     page: &'a str,
+    profile: Profile,
     targets: Targets,
     input: &'a str,
     beginning: Beginning,
 ) -> Result<Command<'a>, OpsMistake<'a>> {
     Ok(Command::ListOperations(OpsRequest {
         page,
+        profile,
         targets,
         input,
         beginning,

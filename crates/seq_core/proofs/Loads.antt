@@ -50,7 +50,8 @@ same_parts_is g h e =
     let a5 = and_parts (g.luns == h.luns) _ a4.1 in
     let a6 = and_parts (g.plane_bits == h.plane_bits) _ a5.1 in
     let a7 = and_parts (same_bool g.enhanced h.enhanced) _ a6.1 in
-    let a8 = and_parts (same_bool g.multi_plane h.multi_plane) (same_bool g.cache h.cache) a7.1 in
+    let a8 = and_parts (same_bool g.multi_plane h.multi_plane) _ a7.1 in
+    let a9 = and_parts (same_bool g.cache h.cache) (g.optional.0 == h.optional.0) a8.1 in
     let e1 = eqb-true g.page_bytes h.page_bytes a1.0 in
     let e2 = eqb-true g.spare_bytes h.spare_bytes a2.0 in
     let e3 = eqb-true g.pages h.pages a3.0 in
@@ -59,8 +60,9 @@ same_parts_is g h e =
     let e6 = eqb-true g.plane_bits h.plane_bits a6.0 in
     let e7 = same_bool_is g.enhanced h.enhanced a7.0 in
     let e8 = same_bool_is g.multi_plane h.multi_plane a8.0 in
-    let e9 = same_bool_is g.cache h.cache a8.1 in
-    λ i. record { page_bytes = e1 i; spare_bytes = e2 i; pages = e3 i; blocks = e4 i; luns = e5 i; plane_bits = e6 i; enhanced = e7 i; multi_plane = e8 i; cache = e9 i }
+    let e9 = same_bool_is g.cache h.cache a9.0 in
+    let e10 = eqb-true g.optional.0 h.optional.0 a9.1 in
+    λ i. record { page_bytes = e1 i; spare_bytes = e2 i; pages = e3 i; blocks = e4 i; luns = e5 i; plane_bits = e6 i; enhanced = e7 i; multi_plane = e8 i; cache = e9 i; optional = record { 0 = e10 i } }
 
 -- what a load without a fault has found
 pub record Loadable (s : Channel) (w : World) (l : Lun) (j : Job) : Type 0 where

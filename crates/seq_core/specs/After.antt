@@ -31,7 +31,7 @@ same_bool false b = not b
 -- two geometries have the same numbers
 abbrev pub same_parts : Parts → Parts → Bool
 same_parts g h =
-    g.page_bytes == h.page_bytes && (g.spare_bytes == h.spare_bytes && (g.pages == h.pages && (g.blocks == h.blocks && (g.luns == h.luns && (g.plane_bits == h.plane_bits && (same_bool g.enhanced h.enhanced && (same_bool g.multi_plane h.multi_plane && same_bool g.cache h.cache)))))))
+    g.page_bytes == h.page_bytes && (g.spare_bytes == h.spare_bytes && (g.pages == h.pages && (g.blocks == h.blocks && (g.luns == h.luns && (g.plane_bits == h.plane_bits && (same_bool g.enhanced h.enhanced && (same_bool g.multi_plane h.multi_plane && (same_bool g.cache h.cache && g.optional.0 == h.optional.0))))))))
 
 -- the first fault of a load: the slot has a job, the LUN isn't there or isn't the job's, or the job is of another geometry
 abbrev pub load_fault : Channel → World → Lun → Job → Option LoadFault

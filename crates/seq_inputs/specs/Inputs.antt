@@ -3,7 +3,9 @@ use Rattle.std.specs.Prelude.{◌≡◌, ◌⊎◌, ◌∷◌, [], ◌==◌, ◌
 use Rattle.std.specs.List.{starts_with}
 use Rattle.seq_files.specs.Store.{Store, Holds}
 use Rattle.nand_geometry.specs.declared.parts.Parts.{Parts}
-use Rattle.nand_geometry.specs.Reading.{read_of}
+use Rattle.nand_geometry.specs.declared.optional.Profile.{Profile}
+use Rattle.nand_geometry.specs.declared.optional.Profile.TheVariants.{Base}
+use Rattle.nand_geometry.specs.Reading.{read_as, read_of}
 use Rattle.micro_word.specs.declared.refusal.WordRefusal.TheVariants.{Fault as WordFaultAt}
 use Rattle.micro_asm.specs.declared.refusal.AsmRefusal.TheVariants.{Fault as AsmFaultAt}
 use Rattle.micro_asm.specs.Reading.{Spells, reading as source_reading}
@@ -18,13 +20,17 @@ use Rattle.seq_inputs.specs.declared.fault.Fault.TheVariants.{Page, Source, File
 
 -- ---- parameter pages
 
--- the page at this path declares the geometry
-pub record HasPage (files : Option Store) (path : List ℕ) (g : Parts) : Type 0 where
+-- the page at this path declares the geometry, read for this profile
+pub record HasPageAs (files : Option Store) (profile : Profile) (path : List ℕ) (g : Parts) : Type 0 where
   pub page : List ℕ
   pub is_page : Holds files path page
-  pub declares : read_of page ≡ Ok g
+  pub declares : read_as profile page ≡ Ok g
 
--- the first fault of a parameter page
+-- in the base profile
+abbrev pub HasPage : Option Store → List ℕ → Parts → Type 0
+HasPage files path g = HasPageAs files Base path g
+
+-- the first fault of a parameter page, which is the same in each profile
 abbrev pub RefusesPage : List ℕ → Fault → Type 0
 RefusesPage page (Page fault) = read_of page ≡ Err fault
 RefusesPage page _ = ⊥

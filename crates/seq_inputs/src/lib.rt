@@ -29,8 +29,9 @@ pub use fault::Fault;
 pub use headed::{Headed, is_headless, read_headed, with_least_header};
 pub use lines::{push_end_line, push_refusal_line};
 pub use reading::{
-    VerifiedProgram, geometry_at, geometry_in, is_source, read_file, read_program, read_source,
-    read_words, text_of, try_file, verified_at, verify_program, words_at, write_file, write_files,
+    VerifiedProgram, geometry_as, geometry_at, geometry_in, is_source, read_file, read_program,
+    read_source, read_words, text_of, try_file, verified_at, verify_program, words_at, write_file,
+    write_files,
 };
 pub use refusal::Refusal;
 pub use stop::{MOST_BUFFER_BYTES, Stop};

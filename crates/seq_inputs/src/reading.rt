@@ -1,12 +1,12 @@
 //! What a command reads: files, and what they are.
-ghost use Rattle.std.specs.Prelude.{◌≡◌, IfOk, IfErr, OnOk, OnErr, Ok, None, map};
-ghost use Rattle.nand_geometry.specs.Reading.{read_of};
+ghost use Rattle.std.specs.Prelude.{◌≡◌, IfOk, IfErr, OnOk, OnErr, MatchResult, Ok, Err, None, map};
+ghost use Rattle.nand_geometry.specs.Reading.{read_as, read_of};
 ghost use Rattle.micro_word.specs.Text.{IsFileOf};
 ghost use Rattle.micro_asm.specs.Reading.{Spells};
 ghost use Rattle.micro_program.specs.Safe.{IsSafe};
 ghost use Rattle.micro_walk.specs.Faults.{fault_of};
 ghost use Rattle.seq_files.specs.Store.{Holds, with_file, with_all, written_of};
-ghost use Rattle.seq_inputs.specs.Inputs.{HasPage, PageIsRefused, RefusesPage, HasFile, FileIsRefused, RefusesFile, is_blank, is_source, RefusesSource, IsProgram, RefusesProgram, HasText, RefusesReason, FileOrTextIsRefused};
+ghost use Rattle.seq_inputs.specs.Inputs.{HasPage, HasPageAs, PageIsRefused, RefusesPage, HasFile, FileIsRefused, RefusesFile, is_blank, is_source, RefusesSource, IsProgram, RefusesProgram, HasText, RefusesReason, FileOrTextIsRefused};
 ghost use Rattle.seq_inputs.specs.Stops.{Says, RefusesNothing};
 
 use crate::counted::CountedHeader;
@@ -19,7 +19,7 @@ use micro_claims::Fault as TextFault;
 use micro_program::Verified;
 use micro_walk::examine;
 use micro_word::{Text, WordRefusal, read};
-use nand_geometry::Geometry;
+use nand_geometry::{Geometry, PageFault, Profile};
 use seq_files::{FileFault, Files, NewFile, NotWritten};
 use std::alloc::{Allocator, Global};
 
@@ -115,16 +115,27 @@ pub fn text_of<'p, 'b, A: Allocator>(path: &'p str, bytes: &'b [u8]) -> Result<&
     }
 }
 
-/// The geometry that the parameter page in these bytes declares.
+// The geometry that these bytes declare for a profile; its fault is the same in each.
+fn read_page(profile: Profile, bytes: &[u8]) -> Result<Geometry, PageFault>
+    ensures { MatchResult result (λ g. read_as profile bytes.now ≡ Ok g) (λ e. read_of bytes.now ≡ Err e) }
+{
+    match Geometry::read_as(profile, bytes) {
+        Ok(geometry) => Ok(geometry),
+        Err(fault) => Err(fault),
+    }
+}
+
+/// The geometry that the parameter page in these bytes declares, read for a profile.
 pub fn geometry_in<'p, A: Allocator>(
     alloc: A,
+    profile: Profile,
     path: &'p str,
     bytes: &[u8],
 ) -> Result<Geometry, Stop<'p, A>>
-    ensures ok { IfOk result (λ g. read_of bytes.now ≡ Ok g) }
+    ensures ok { IfOk result (λ g. read_as profile bytes.now ≡ Ok g) }
     ensures err { IfErr result (Says (RefusesPage bytes.now)) }
 {
-    match Geometry::read(bytes) {
+    match read_page(profile, bytes) {
         Ok(geometry) => Ok(geometry),
         Err(fault) => {
             let fault = Fault::Page { fault };
@@ -133,7 +144,22 @@ pub fn geometry_in<'p, A: Allocator>(
     }
 }
 
-/// The geometry of the page at a path.
+/// The geometry of the page at a path, read for a profile.
+pub fn geometry_as<'p, A: Allocator + Clone, F: Files>(
+    alloc: A,
+    files: &mut F,
+    profile: Profile,
+    path: &'p str,
+) -> Result<Geometry, Stop<'p, A>>
+    ensures ok { IfOk result (λ g. HasPageAs (F.store files.old) profile path.now g) }
+    ensures err { IfErr result (Says (PageIsRefused (F.store files.old) path.now)) }
+    ensures stays { F.store files.new ≡ F.store files.old }
+{
+    let bytes = read_file(alloc.clone()?, files, path)?;
+    geometry_in(alloc, profile, path, bytes.as_slice())
+}
+
+/// The geometry of the page at a path, in the base profile.
 pub fn geometry_at<'p, A: Allocator + Clone, F: Files>(
     alloc: A,
     files: &mut F,
@@ -143,8 +169,7 @@ pub fn geometry_at<'p, A: Allocator + Clone, F: Files>(
     ensures err { IfErr result (Says (PageIsRefused (F.store files.old) path.now)) }
     ensures stays { F.store files.new ≡ F.store files.old }
 {
-    let bytes = read_file(alloc.clone()?, files, path)?;
-    geometry_in(alloc, path, bytes.as_slice())
+    geometry_as(alloc, files, Profile::Base, path)
 }
 
 /// The microprogram of a word file, of either format, that has this path.

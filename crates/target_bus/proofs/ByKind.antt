@@ -1,5 +1,5 @@
 -- What a cycle can't do, by its kind.
-use Rattle.std.proofs.Common.{◌≡◌, ℕ, ◌+◌, ◌<◌, ◌≤◌, ◌==◌, Bool, true, false, cond, List, Some, None, Result, Ok, Err, OnErr, length, refl, sym, ap, ◌∙◌, arith}
+use Rattle.std.proofs.Common.{◌≡◌, ℕ, ◌+◌, ◌%◌, ◌<◌, ◌≤◌, ◌==◌, Bool, true, false, ◌&&◌, cond, List, Some, None, Result, Ok, Err, OnErr, length, refl, sym, ap, ◌∙◌, arith}
 use Rattle.std.proofs.lemmas.Bool.Decides.{nat_tests}
 use Rattle.std.proofs.lemmas.Bool.{or_from, or_left}
 use Rattle.nand_geometry.specs.declared.parts.Parts.{Parts}
@@ -10,9 +10,11 @@ use Rattle.onfi_cycle.specs.declared.item.Kind.{Kind}
 use Rattle.onfi_cycle.specs.declared.item.Kind.TheVariants.{Cmd, Adr, Din, Dout}
 use Rattle.onfi_cycle.specs.declared.lun.Lun.{Lun}
 use Rattle.onfi_cycle.specs.declared.tail_facts.TailFacts.{TailFacts}
-use Rattle.onfi_cycle.specs.declared.effect.Effect.TheVariants.{Unaffected}
+use Rattle.onfi_cycle.specs.declared.data_phase.DataPhase.{DataPhase}
+use Rattle.onfi_cycle.specs.declared.data_phase.DataPhase.TheVariants.{Outside, Inputs, FirstColumn, SecondColumn, FeatureInputs}
+use Rattle.onfi_cycle.specs.declared.effect.Effect.TheVariants.{Unaffected, FeaturesSet}
 use Rattle.onfi_cycle.specs.declared.filling.Filling.TheVariants.{Leaves}
-use Rattle.onfi_cycle.specs.Sequence.{tail, facts_of, target_cycle}
+use Rattle.onfi_cycle.specs.Sequence.{tail, facts_of, target_cycle, takes_data, takes_features}
 use Rattle.onfi_cycle.specs.Effect.{cycle_effect}
 use Rattle.onfi_cycle.specs.Filling.{filling, cycle_filling}
 use Rattle.onfi_cycle.specs.Lun.{effect_on, latch_alone}
@@ -37,13 +39,24 @@ leaves g t c l h = by c.kind (c.ce == l.ce) h
     by Adr b h = cc
     by Din b h = cc
 
--- an input does nothing to a LUN but to its page registers
-pub unaffected : (g : Parts) (past : List Item) (c : Cycle) (l : Lun) → is_input c.kind ≡ true → Unaffected ≡ effect_on g past (Cyc c) l
+-- in the data of a program no feature is set
+no_feature : (p : DataPhase) (k : ℕ) → takes_data p ≡ true → (takes_features p && k == 3) ≡ false
+no_feature Outside k h = cc
+no_feature Inputs k h = refl
+no_feature FirstColumn k h = cc
+no_feature SecondColumn k h = cc
+no_feature FeatureInputs k h = cc
+
+-- an input of a program does nothing to a LUN but to its page registers
+pub unaffected : (g : Parts) (past : List Item) (c : Cycle) (l : Lun) → is_input c.kind ≡ true → takes_data (facts_of (tail past l.ce)).phase ≡ true → Unaffected ≡ effect_on g past (Cyc c) l
 unfolding effect_on
-unaffected g past c l h = by c.kind (c.ce == l.ce) h
+unaffected g past c l h takes = by c.kind (c.ce == l.ce) h
   where
-    by : (k : Kind) (b : Bool) → is_input k ≡ true → Unaffected ≡ cond b (cycle_effect g (facts_of (tail past l.ce)) (latch_alone g past l) (target_cycle k c.byte) l.lun) Unaffected
-    by Din true h = refl
+    t : TailFacts
+    t = facts_of (tail past l.ce)
+
+    by : (k : Kind) (b : Bool) → is_input k ≡ true → Unaffected ≡ cond b (cycle_effect g t (latch_alone g past l) (target_cycle k c.byte) l.lun) Unaffected
+    by Din true h = sym (ap (λ (b : Bool). cond b (FeaturesSet (t.column % 256)) Unaffected) (no_feature t.phase t.inputs takes))
     by Din false h = refl
     by Cmd b h = cc
     by Adr b h = cc
@@ -61,19 +74,24 @@ leaves_more g past c n none f = λ m low. at m (m == n) refl low
 abbrev pub filled : ℕ → Filling → Worked
 filled lun x = record { lun = lun; filling = x; effect = Unaffected }
 
-pub none_filled : (state : BusView) (opened : List Entries) (dies : List Die) (past : List Item) (c : Cycle) (luns n : ℕ) → IsStanding state opened dies past → broken state.geometry (length state.targets) past (Cyc c) ≡ None → is_input c.kind ≡ true → luns ≡ state.geometry.luns → luns ≤ n → ((g : Parts) (targets : ℕ) (past : List Item) → Follows g targets state past → c.ce < targets → LeavesBelow g past (Cyc c) c.ce n) → FindsWork state.geometry past (Cyc c) c.ce 0 None
-none_filled state opened dies past c luns n f h input same all rest = λ m least low.
-    or_from _ _ (none m (omega (arith, low, same, all))) (ap begins (sym (unaffected state.geometry past c (lun_at c.ce m) input)))
+-- the target of a cycle is in the data of a program, whatever its state stands for
+abbrev pub InData : BusView → Cycle → Type 0
+InData state c = (g : Parts) (n : ℕ) (past : List Item) → Follows g n state past → c.ce < n → takes_data (facts_of (tail past c.ce)).phase ≡ true
+
+pub none_filled : (state : BusView) (opened : List Entries) (dies : List Die) (past : List Item) (c : Cycle) (luns n : ℕ) → IsStanding state opened dies past → broken state.geometry (length state.targets) past (Cyc c) ≡ None → is_input c.kind ≡ true → InData state c → luns ≡ state.geometry.luns → luns ≤ n → ((g : Parts) (targets : ℕ) (past : List Item) → Follows g targets state past → c.ce < targets → LeavesBelow g past (Cyc c) c.ce n) → FindsWork state.geometry past (Cyc c) c.ce 0 None
+none_filled state opened dies past c luns n f h input takes same all rest = λ m least low.
+    or_from _ _ (none m (omega (arith, low, same, all)))
+    (ap begins (sym (unaffected state.geometry past c (lun_at c.ce m) input (takes state.geometry (length state.targets) past f.follows (cycle_there state.geometry (length state.targets) past c h)))))
   where
     none : LeavesBelow state.geometry past (Cyc c) c.ce n
     none = rest state.geometry (length state.targets) past f.follows (cycle_there state.geometry (length state.targets) past c h)
 
-pub one_filled : (state : BusView) (opened : List Entries) (dies : List Die) (past : List Item) (c : Cycle) (luns n : ℕ) (x : Filling) → IsStanding state opened dies past → broken state.geometry (length state.targets) past (Cyc c) ≡ None → is_input c.kind ≡ true → luns ≡ state.geometry.luns → n < luns → fills x ≡ true → ((g : Parts) (targets : ℕ) (past : List Item) → Follows g targets state past → c.ce < targets → x ≡ filling g (facts_of (tail past c.ce)) (Cyc c) (lun_at c.ce n)) → FindsWork state.geometry past (Cyc c) c.ce 0 (Some (filled n x))
-one_filled state opened dies past c luns n x f h input same low one fillings =
+pub one_filled : (state : BusView) (opened : List Entries) (dies : List Die) (past : List Item) (c : Cycle) (luns n : ℕ) (x : Filling) → IsStanding state opened dies past → broken state.geometry (length state.targets) past (Cyc c) ≡ None → is_input c.kind ≡ true → InData state c → luns ≡ state.geometry.luns → n < luns → fills x ≡ true → ((g : Parts) (targets : ℕ) (past : List Item) → Follows g targets state past → c.ce < targets → x ≡ filling g (facts_of (tail past c.ce)) (Cyc c) (lun_at c.ce n)) → FindsWork state.geometry past (Cyc c) c.ce 0 (Some (filled n x))
+one_filled state opened dies past c luns n x f h input takes same low one fillings =
     record {
       lun = omega (arith, low, same);
       filling_is = is;
-      effect_is = unaffected state.geometry past c (lun_at c.ce n) input;
+      effect_is = unaffected state.geometry past c (lun_at c.ce n) input (takes state.geometry (length state.targets) past f.follows (cycle_there state.geometry (length state.targets) past c h));
       works = or_left _ _ (ap fills (sym is) ∙ one);
     }
   where

@@ -1,6 +1,6 @@
 -- A run of inputs: which page register it fills, and how the dies stand after it.
 use Rattle.std.proofs.Common.{◌≡◌, ℕ, zero, suc, ◌+◌, ◌%◌, ◌<◌, ◌≤◌, ◌==◌, Bool, true, false, ◌&&◌, cond, eq-eqb, List, [], ◌∷◌, ◌++◌, Option, Some, None, refl, sym, ap, subst, ◌∙◌, arith, length, length-set, map, reverse, set, get_or}
-use Rattle.std.proofs.lemmas.Bool.{not-false, or_from, or_left}
+use Rattle.std.proofs.lemmas.Bool.{or_from, or_left, and_parts}
 use Rattle.std.proofs.lemmas.List.{set-get_or, get_or-set_same}
 use Rattle.std.proofs.lemmas.Option.{slice_get_within}
 use Rattle.std.proofs.lemmas.Nat.{pow_pos}
@@ -9,7 +9,7 @@ use Rattle.std.specs.List.{slice_get}
 use Rattle.nand_geometry.specs.declared.parts.Parts.{Parts}
 use Rattle.nand_geometry.specs.Limits.{page_len, planes}
 use Rattle.onfi_cycle.specs.declared.data_phase.DataPhase.{DataPhase}
-use Rattle.onfi_cycle.specs.declared.data_phase.DataPhase.TheVariants.{Outside, Inputs, FirstColumn, SecondColumn}
+use Rattle.onfi_cycle.specs.declared.data_phase.DataPhase.TheVariants.{Outside, Inputs, FirstColumn, SecondColumn, FeatureInputs}
 use Rattle.onfi_cycle.specs.declared.filling.Filling.TheVariants.{Leaves, Fills}
 use Rattle.onfi_cycle.specs.declared.item.Item.{Item}
 use Rattle.onfi_cycle.specs.declared.item.Kind.TheVariants.{Din}
@@ -17,11 +17,10 @@ use Rattle.onfi_cycle.specs.declared.page_address.PageAddress.{PageAddress}
 use Rattle.onfi_cycle.specs.declared.tail_facts.TailFacts.{TailFacts}
 use Rattle.onfi_cycle.specs.declared.target_cycle.TargetCycle.{TargetCycle}
 use Rattle.onfi_cycle.specs.declared.target_cycle.TargetCycle.TheVariants.{InputCycle}
-use Rattle.onfi_cycle.specs.Sequence.{tail, facts_of, facts_after, takes_inputs, phase_after_input, row, input_column}
+use Rattle.onfi_cycle.specs.Sequence.{tail, facts_of, facts_after, extended_facts, takes_data, takes_inputs, phase_after_input, row, input_column}
 use Rattle.onfi_cycle.specs.Effect.{names_lun, page_address}
 use Rattle.onfi_cycle.specs.Filling.{filling, cycle_filling}
 use Rattle.onfi_cycle.specs.Content.{written}
-use Rattle.onfi_cycle.specs.Rules.{breaks_input_misplaced}
 use Rattle.onfi_cycle.specs.Permitted.{broken}
 use Rattle.onfi_cycle.specs.Channel.{cycle}
 use Rattle.onfi_cycle.specs.State.{BusView, Follows, judged, bus_after, target_view}
@@ -30,17 +29,16 @@ use Rattle.onfi_cycle.specs.Readies.{bus_due}
 use Rattle.onfi_cycle.specs.Inputs.{with_inputs, judged_inputs, after_inputs, fed_tail}
 use Rattle.onfi_cycle.specs.Working.{fills, begins}
 use Rattle.onfi_cycle.proofs.Following.{found_target, permitted_there}
-use Rattle.onfi_cycle.proofs.Passed.{permitted_keeps}
 use Rattle.onfi_cycle.proofs.Steps.{facts_of_cycle}
 use Rattle.onfi_cycle.proofs.Working.{facts_fit}
 use Rattle.onfi_cycle.proofs.Runs.{splits, cycle_judged, cycle_followed, first_permitted}
 use Rattle.onfi_cycle.proofs.Inputs.{inputs_are_data, inputs_inside}
 use Rattle.die_model.specs.Die.{Die, filled_with}
 use Rattle.target_bus.specs.declared.working.FilledLun.{FilledLun}
-use Rattle.target_bus.specs.Bus.{Entries, number_of, lun_at, is_filled, IsFilledAt, FindsFilled, IsStanding, IsRunning, StandOnByInputs, ArePut}
+use Rattle.target_bus.specs.Bus.{Entries, number_of, lun_at, is_filled, IsFilledAt, FindsFilled, FindsWork, IsStanding, IsRunning, StandOnByInputs, ArePut}
 use Rattle.target_bus.proofs.ByKind.{filled, unaffected}
 use Rattle.target_bus.proofs.Runs.{with_pushed}
-use Rattle.target_bus.proofs.Standing.{stands_on, none_works, one_works, cycle_there, die_there, same_channel, traced}
+use Rattle.target_bus.proofs.Standing.{only_data, stands_on, none_works, one_works, cycle_there, die_there, same_channel, traced}
 
 abbrev input : ℕ → ℕ → Item
 input ce byte = cycle ce Din byte
@@ -54,28 +52,40 @@ filling_is : (g : Parts) (past : List Item) (ce lun byte : ℕ) → filling g (f
 filling_is g past ce lun byte = ap (λ (b : Bool). cond b (cycle_filling g (facts past ce) (InputCycle byte) lun) Leaves) (eq-eqb ce ce refl)
 
 still_filled : (g : Parts) (k : ℕ) (t : TailFacts) (lun : ℕ) → is_filled g (fed_tail k t) lun ≡ is_filled g t lun
-still_filled g k t lun = ap (λ (b : Bool). b && names_lun g (row t) lun) (same t.phase)
+still_filled g k t lun = refl
+
+-- the data of a program goes on with each input
+phase_stays : (p : DataPhase) (k : ℕ) → takes_data p ≡ true → phase_after_input k p ≡ p
+phase_stays Outside k h = cc
+phase_stays Inputs k h = refl
+phase_stays FirstColumn k h = cc
+phase_stays SecondColumn k h = cc
+phase_stays FeatureInputs k h = cc
+
+-- an input behind an opener
+pub facts_more : (past : List Item) (ce byte : ℕ) → takes_inputs (facts past ce).phase ≡ true → facts (input ce byte ∷ past) ce ≡ extended_facts (InputCycle byte) (facts past ce)
+facts_more past ce byte h = facts_of_cycle (record { ce = ce; kind = Din; byte = byte }) past ce refl ∙ more (tail past ce) h
   where
-    same : (p : DataPhase) → takes_inputs (phase_after_input p) ≡ takes_inputs p
-    same Outside = refl
-    same Inputs = refl
-    same FirstColumn = refl
-    same SecondColumn = refl
+    more : (t : List TargetCycle) → takes_inputs (facts_of t).phase ≡ true → facts_after (InputCycle byte) (facts_of t) ≡ extended_facts (InputCycle byte) (facts_of t)
+    more [] takes = cc
+    more (c ∷ t) takes = refl
 
-takes_here : (g : Parts) (n : ℕ) (past : List Item) (ce byte : ℕ) → broken g n past (input ce byte) ≡ None → takes_inputs (facts past ce).phase ≡ true
-unfolding breaks_input_misplaced
-takes_here g n past ce byte h = not-false _ (permitted_keeps g n past (record { ce = ce; kind = Din; byte = byte }) h).f11
+facts_next : (past : List Item) (ce byte : ℕ) → takes_data (facts past ce).phase ≡ true → facts (input ce byte ∷ past) ce ≡ fed_tail 1 (facts past ce)
+facts_next past ce byte takes =
+    let t = facts past ce in
+    facts_more past ce byte (or_left _ _ takes) ∙
+    ap (λ (p : DataPhase). record { opening = None; phase = p; row = t.row; column = t.column; inputs = t.inputs + 1; is_empty = false }) (phase_stays t.phase t.inputs takes)
 
-facts_next : (g : Parts) (n : ℕ) (past : List Item) (ce byte : ℕ) → broken g n past (input ce byte) ≡ None → facts (input ce byte ∷ past) ce ≡ fed_tail 1 (facts past ce)
-facts_next g n past ce byte h = facts_of_cycle (record { ce = ce; kind = Din; byte = byte }) past ce refl ∙ fed (tail past ce) (takes_here g n past ce byte h)
-  where
-    fed : (t : List TargetCycle) → takes_inputs (facts_of t).phase ≡ true → facts_after (InputCycle byte) (facts_of t) ≡ fed_tail 1 (facts_of t)
-    fed [] takes = cc
-    fed (c ∷ t) takes = refl
+data_next : (past : List Item) (ce byte : ℕ) → takes_data (facts past ce).phase ≡ true → takes_data (facts (input ce byte ∷ past) ce).phase ≡ true
+data_next past ce byte takes = ap (λ (t : TailFacts). takes_data t.phase) (facts_next past ce byte takes) ∙ takes
 
-filled_next : (g : Parts) (n : ℕ) (past : List Item) (ce byte lun : ℕ) (page : PageAddress) (column : ℕ) → broken g n past (input ce byte) ≡ None → IsFilledAt g (facts past ce) lun page column → IsFilledAt g (facts (input ce byte ∷ past) ce) lun page (column + 1)
-filled_next g n past ce byte lun page column h f =
-    subst (λ (t : TailFacts). IsFilledAt g t lun page (column + 1)) (sym (facts_next g n past ce byte h))
+-- what is filled is in the data of a program
+in_data : (g : Parts) (t : TailFacts) (lun : ℕ) (page : PageAddress) (column : ℕ) → IsFilledAt g t lun page column → takes_data t.phase ≡ true
+in_data g t lun page column f = (and_parts (takes_data t.phase) _ f.fills).0
+
+filled_next : (g : Parts) (past : List Item) (ce byte lun : ℕ) (page : PageAddress) (column : ℕ) → IsFilledAt g (facts past ce) lun page column → IsFilledAt g (facts (input ce byte ∷ past) ce) lun page (column + 1)
+filled_next g past ce byte lun page column f =
+    subst (λ (t : TailFacts). IsFilledAt g t lun page (column + 1)) (sym (facts_next past ce byte (in_data g (facts past ce) lun page column f)))
     (record {
       there = f.there;
       fills = still_filled g 1 (facts past ce) lun ∙ f.fills;
@@ -113,19 +123,23 @@ filled_twice plane column byte bytes d low =
 
 -- 3. one input
 
-one_followed : (s : BusView) (past : List Item) (ce byte : ℕ) → judged s (input ce 0) ≡ None → Follows s.geometry (length s.targets) s past → Follows s.geometry (length s.targets) (bus_after (input ce 0) s) (input ce byte ∷ past)
+pub one_followed : (s : BusView) (past : List Item) (ce byte : ℕ) → judged s (input ce 0) ≡ None → Follows s.geometry (length s.targets) s past → Follows s.geometry (length s.targets) (bus_after (input ce 0) s) (input ce byte ∷ past)
 one_followed s past ce byte h f = cycle_followed Din inputs_are_data s.geometry (length s.targets) s past ce byte h f
 
-one_permitted : (s : BusView) (past : List Item) (ce byte : ℕ) → judged s (input ce 0) ≡ None → Follows s.geometry (length s.targets) s past → broken s.geometry (length s.targets) past (input ce byte) ≡ None
+pub one_permitted : (s : BusView) (past : List Item) (ce byte : ℕ) → judged s (input ce 0) ≡ None → Follows s.geometry (length s.targets) s past → broken s.geometry (length s.targets) past (input ce byte) ≡ None
 one_permitted s past ce byte h f = sym (cycle_judged Din inputs_are_data s.geometry (length s.targets) s past ce byte f) ∙ h
 
-one_rests : (s : BusView) (opened : List Entries) (dies : List Die) (past : List Item) (ce byte : ℕ) → IsStanding s opened dies past → BusFits s → judged s (input ce 0) ≡ None → FindsFilled s.geometry (facts past ce) 0 None → IsStanding (bus_after (input ce 0) s) opened dies (input ce byte ∷ past)
-one_rests s opened dies past ce byte f fits h none =
-    let permitted = one_permitted s past ce byte h f.follows in
+-- an input that works on no LUN
+pub one_idle : (s : BusView) (opened : List Entries) (dies : List Die) (past : List Item) (ce byte : ℕ) → IsStanding s opened dies past → BusFits s → judged s (input ce 0) ≡ None → FindsWork s.geometry past (input ce byte) ce 0 None → IsStanding (bus_after (input ce 0) s) opened dies (input ce byte ∷ past)
+one_idle s opened dies past ce byte f fits h none =
     stands_on s (bus_after (input ce 0) s) opened dies dies past (input ce byte) f (one_followed s past ce byte h f.follows) refl
-    (none_works s opened dies past (record { ce = ce; kind = Din; byte = byte }) f permitted (facts_fit s.geometry (length s.targets) s past fits f.follows)
+    (none_works s opened dies past (record { ce = ce; kind = Din; byte = byte }) f (one_permitted s past ce byte h f.follows) (facts_fit s.geometry (length s.targets) s past fits f.follows) none)
+
+one_rests : (s : BusView) (opened : List Entries) (dies : List Die) (past : List Item) (ce byte : ℕ) → IsStanding s opened dies past → BusFits s → judged s (input ce 0) ≡ None → takes_data (facts past ce).phase ≡ true → FindsFilled s.geometry (facts past ce) 0 None → IsStanding (bus_after (input ce 0) s) opened dies (input ce byte ∷ past)
+one_rests s opened dies past ce byte f fits h takes none =
+    one_idle s opened dies past ce byte f fits h
     (λ m least low. or_from _ _ (ap fills (filling_is s.geometry past ce m byte ∙ ap (λ (b : Bool). cond b (Fills (page_address s.geometry (row (facts past ce))) (input_column (facts past ce)) byte) Leaves) (none m least low)))
-    (ap begins (sym (unaffected s.geometry past (record { ce = ce; kind = Din; byte = byte }) (lun_at ce m) refl)))))
+    (ap begins (sym (unaffected s.geometry past (record { ce = ce; kind = Din; byte = byte }) (lun_at ce m) refl takes))))
 
 one_fills : (s : BusView) (opened : List Entries) (dies : List Die) (past : List Item) (ce byte lun k : ℕ) (page : PageAddress) (column : ℕ) (d : Die) → IsStanding s opened dies past → BusFits s → judged s (input ce 0) ≡ None → IsFilledAt s.geometry (facts past ce) lun page column → k ≡ number_of s.geometry (lun_at ce lun) → slice_get dies k ≡ Some d → IsStanding (bus_after (input ce 0) s) opened (set dies k (filled_with (page.block % planes d.geometry) column (byte ∷ []) d)) (input ce byte ∷ past)
 one_fills s opened dies past ce byte lun k page column d f fits h here place found =
@@ -141,23 +155,22 @@ one_fills s opened dies past ce byte lun k page column d f fits h here place fou
     (record {
       lun = here.there;
       filling_is = is;
-      effect_is = unaffected s.geometry past (record { ce = ce; kind = Din; byte = byte }) (lun_at ce lun) refl;
+      effect_is = unaffected s.geometry past (record { ce = ce; kind = Din; byte = byte }) (lun_at ce lun) refl (in_data s.geometry (facts past ce) lun page column here);
       works = or_left _ _ (ap fills (sym is));
     })
     place found refl)
 
 -- 4. a run of them
 
-none_next : (g : Parts) (n : ℕ) (past : List Item) (ce byte : ℕ) → broken g n past (input ce byte) ≡ None → FindsFilled g (facts past ce) 0 None → FindsFilled g (facts (input ce byte ∷ past) ce) 0 None
-none_next g n past ce byte h none = λ m least low.
-    ap (λ (t : TailFacts). is_filled g t m) (facts_next g n past ce byte h) ∙ (still_filled g 1 (facts past ce) m ∙ none m least low)
+none_next : (g : Parts) (past : List Item) (ce byte : ℕ) → takes_data (facts past ce).phase ≡ true → FindsFilled g (facts past ce) 0 None → FindsFilled g (facts (input ce byte ∷ past) ce) 0 None
+none_next g past ce byte takes none = λ m least low. ap (λ (t : TailFacts). is_filled g t m) (facts_next past ce byte takes) ∙ (still_filled g 1 (facts past ce) m ∙ none m least low)
 
-pub run_rests : (ce : ℕ) (bytes : List ℕ) (s : BusView) (opened : List Entries) (dies : List Die) (past : List Item) → IsStanding s opened dies past → BusFits s → judged_inputs ce (length bytes) s ≡ None → FindsFilled s.geometry (facts past ce) 0 None → IsStanding (after_inputs ce (length bytes) s) opened dies (with_inputs ce bytes past)
-run_rests ce [] s opened dies past f fits h none = f
-run_rests ce (byte ∷ bytes) s opened dies past f fits h none =
+pub run_rests : (ce : ℕ) (bytes : List ℕ) (s : BusView) (opened : List Entries) (dies : List Die) (past : List Item) → IsStanding s opened dies past → BusFits s → judged_inputs ce (length bytes) s ≡ None → takes_data (facts past ce).phase ≡ true → FindsFilled s.geometry (facts past ce) 0 None → IsStanding (after_inputs ce (length bytes) s) opened dies (with_inputs ce bytes past)
+run_rests ce [] s opened dies past f fits h takes none = f
+run_rests ce (byte ∷ bytes) s opened dies past f fits h takes none =
     let parts = splits Din ce (length bytes) s h in
-    run_rests ce bytes (bus_after (input ce 0) s) opened dies (input ce byte ∷ past) (one_rests s opened dies past ce byte f fits parts.first none) (inputs_are_data.fits s ce parts.first fits) parts.rest
-    (none_next s.geometry (length s.targets) past ce byte (one_permitted s past ce byte parts.first f.follows) none)
+    run_rests ce bytes (bus_after (input ce 0) s) opened dies (input ce byte ∷ past) (one_rests s opened dies past ce byte f fits parts.first takes none) (inputs_are_data.fits s ce parts.first fits) parts.rest
+    (data_next past ce byte takes) (none_next s.geometry past ce byte takes none)
 
 plane_there : (s : BusView) (opened : List Entries) (dies : List Die) (past : List Item) (k : ℕ) (page : PageAddress) (d : Die) → IsStanding s opened dies past → slice_get dies k ≡ Some d → page.block % planes d.geometry < length d.planes
 plane_there s opened dies past k page d f found =
@@ -177,7 +190,7 @@ run_fills ce lun k page opened (byte ∷ bytes) column s dies past d f fits h he
     subst (λ (ds : List Die). IsStanding (after_inputs ce (length bytes) (bus_after (input ce 0) s)) opened ds (with_inputs ce bytes (input ce byte ∷ past))) same
     (run_fills ce lun k page opened bytes (column + 1) (bus_after (input ce 0) s) (set dies k one) (input ce byte ∷ past) one
     (one_fills s opened dies past ce byte lun k page column d f fits parts.first here place found) (inputs_are_data.fits s ce parts.first fits) parts.rest
-    (filled_next s.geometry (length s.targets) past ce byte lun page column (one_permitted s past ce byte parts.first f.follows) here)
+    (filled_next s.geometry past ce byte lun page column here)
     place (found_set dies k one (slice_get_within dies k d found)))
 
 -- 5. as the code finds it
@@ -197,7 +210,8 @@ found_filled s opened dies past ce luns count o p f some h same found is =
 -- the page has a place for each byte
 pub columns_there : (s : BusView) (opened : List Entries) (dies : List Die) (past : List Item) (ce count k : ℕ) (x : FilledLun) (d : Die) → IsStanding s opened dies past → BusFits s → 0 < count → judged_inputs ce count s ≡ None → FindsFilled s.geometry (facts past ce) 0 (Some x) → slice_get dies k ≡ Some d → x.column + count ≤ page_len d.geometry
 columns_there s opened dies past ce count k x d f fits some h here found =
-    let inside = inputs_inside s ce count (target_view s.geometry past ce) fits some (found_target s.geometry (length s.targets) s past ce f.follows (inputs_there s ce count some h)) h in
+    let plain = only_data (facts past ce).phase (in_data s.geometry (facts past ce) x.lun x.page x.column here) in
+    let inside = inputs_inside s ce count (target_view s.geometry past ce) fits some (found_target s.geometry (length s.targets) s past ce f.follows (inputs_there s ce count some h)) plain h in
     let column = here.column_is in
     let len = ap page_len (f.stand k d found).geometry in
     omega (arith, inside, column, len)

@@ -7,3 +7,4 @@ pub mod ByKind
 pub mod Runs
 pub mod Outputs
 pub mod Inputs
+pub mod Features

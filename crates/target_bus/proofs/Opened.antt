@@ -28,9 +28,6 @@ beq_is false false h = refl
 beq_is true false h = cc
 beq_is false true h = cc
 
-abbrev parts : ℕ → ℕ → ℕ → ℕ → ℕ → ℕ → Bool → Bool → Bool → Parts
-parts a b c d e f x y z = record { page_bytes = a; spare_bytes = b; pages = c; blocks = d; luns = e; plane_bits = f; enhanced = x; multi_plane = y; cache = z }
-
 same_is : (g h : Parts) → same_parts g h ≡ true → g ≡ h
 same_is g h e =
     let halves = both (same_sizes g h) _ e in
@@ -41,15 +38,29 @@ same_is g h e =
     let f = both (g.plane_bits == h.plane_bits) _ halves.1 in
     let x = both (beq g.enhanced h.enhanced) _ f.1 in
     let y = both (beq g.multi_plane h.multi_plane) _ x.1 in
-    ap (λ (n : ℕ). parts n g.spare_bytes g.pages g.blocks g.luns g.plane_bits g.enhanced g.multi_plane g.cache) (eqb-true _ _ a.0) ∙
-    (ap (λ (n : ℕ). parts h.page_bytes n g.pages g.blocks g.luns g.plane_bits g.enhanced g.multi_plane g.cache) (eqb-true _ _ b.0) ∙
-    (ap (λ (n : ℕ). parts h.page_bytes h.spare_bytes n g.blocks g.luns g.plane_bits g.enhanced g.multi_plane g.cache) (eqb-true _ _ c.0) ∙
-    (ap (λ (n : ℕ). parts h.page_bytes h.spare_bytes h.pages n g.luns g.plane_bits g.enhanced g.multi_plane g.cache) (eqb-true _ _ d.0) ∙
-    (ap (λ (n : ℕ). parts h.page_bytes h.spare_bytes h.pages h.blocks n g.plane_bits g.enhanced g.multi_plane g.cache) (eqb-true _ _ d.1) ∙
-    (ap (λ (n : ℕ). parts h.page_bytes h.spare_bytes h.pages h.blocks h.luns n g.enhanced g.multi_plane g.cache) (eqb-true _ _ f.0) ∙
-    (ap (λ (n : Bool). parts h.page_bytes h.spare_bytes h.pages h.blocks h.luns h.plane_bits n g.multi_plane g.cache) (beq_is _ _ x.0) ∙
-    (ap (λ (n : Bool). parts h.page_bytes h.spare_bytes h.pages h.blocks h.luns h.plane_bits h.enhanced n g.cache) (beq_is _ _ y.0) ∙
-    ap (λ (n : Bool). parts h.page_bytes h.spare_bytes h.pages h.blocks h.luns h.plane_bits h.enhanced h.multi_plane n) (beq_is _ _ y.1))))))))
+    let z = both (beq g.cache h.cache) _ y.1 in
+    let page_bytes = eqb-true _ _ a.0 in
+    let spare_bytes = eqb-true _ _ b.0 in
+    let pages = eqb-true _ _ c.0 in
+    let blocks = eqb-true _ _ d.0 in
+    let luns = eqb-true _ _ d.1 in
+    let plane_bits = eqb-true _ _ f.0 in
+    let enhanced = beq_is _ _ x.0 in
+    let multi_plane = beq_is _ _ y.0 in
+    let cache = beq_is _ _ z.0 in
+    let optional = eqb-true g.optional.0 h.optional.0 z.1 in
+    λ i. record {
+      page_bytes = page_bytes i;
+      spare_bytes = spare_bytes i;
+      pages = pages i;
+      blocks = blocks i;
+      luns = luns i;
+      plane_bits = plane_bits i;
+      enhanced = enhanced i;
+      multi_plane = multi_plane i;
+      cache = cache i;
+      optional = record { 0 = optional i };
+    }
 
 pub each_new : (g : Parts) (dies : List Die) (k : ℕ) (d : Die) → are_new g dies ≡ true → slice_get dies k ≡ Some d → (d.geometry ≡ g) × (is_new d ≡ true)
 each_new g [] k d h found = cc

@@ -1,5 +1,5 @@
 -- The dies go on with the past.
-use Rattle.std.proofs.Common.{◌≡◌, ◌≢◌, ℕ, ◌+◌, ◌*◌, ◌<◌, ◌≤◌, ◌==◌, Bool, true, false, ◌&&◌, ◌||◌, ◌++◌, cond, not, ltb, leb, eq-eqb, eqb-true, reverse, List, [], ◌∷◌, Option, Some, None, Result, Ok, Err, IfOk, OnErr, IsOk, refl, sym, ap, subst, ◌∙◌, arith, length, set, ◌^◌}
+use Rattle.std.proofs.Common.{◌≡◌, ◌≢◌, ℕ, ◌+◌, ◌*◌, ◌%◌, ◌<◌, ◌≤◌, ◌==◌, Bool, true, false, ◌&&◌, ◌||◌, ◌++◌, cond, not, ltb, leb, eq-eqb, eqb-true, reverse, List, [], ◌∷◌, Option, Some, None, Result, Ok, Err, IfOk, OnErr, IsOk, refl, sym, ap, subst, ◌∙◌, arith, length, set, ◌^◌}
 use Rattle.std.proofs.lemmas.Bool.Decides.{nat_tests}
 use Rattle.std.proofs.lemmas.Option.{slice_get_within, slice_get_past}
 use Rattle.std.specs.List.{slice_get}
@@ -12,8 +12,10 @@ use Rattle.onfi_cycle.proofs.Booleans.{clash}
 use Rattle.nand_geometry.specs.declared.parts.Parts.{Parts}
 use Rattle.nand_geometry.specs.Limits.{InLimits, page_len}
 use Rattle.onfi_cycle.specs.declared.command.Command.{Command}
-use Rattle.onfi_cycle.specs.declared.command.Command.TheVariants.{Read, ReadConfirm, ChangeReadColumnConfirm, BlockEraseConfirm, BlockErasePlane, ReadStatus, ReadStatusEnhanced, ProgramConfirm, ProgramPlane, ReadId, ReadParameterPage, Reset, ReadCacheSequential, ReadCacheEnd}
+use Rattle.onfi_cycle.specs.declared.command.Command.TheVariants.{Read, ReadConfirm, ChangeReadColumnConfirm, BlockEraseConfirm, BlockErasePlane, ReadStatus, ReadStatusEnhanced, ProgramConfirm, ProgramPlane, ReadId, ReadParameterPage, Reset, ReadCacheSequential, ReadCacheEnd, ReadUniqueId, GetFeatures, ResetLun, SynchronousReset}
 use Rattle.onfi_cycle.specs.declared.item.Cycle.{Cycle}
+use Rattle.onfi_cycle.specs.declared.data_phase.DataPhase.{DataPhase}
+use Rattle.onfi_cycle.specs.declared.data_phase.DataPhase.TheVariants.{Outside, Inputs, FirstColumn, SecondColumn, FeatureInputs}
 use Rattle.onfi_cycle.specs.declared.effect.Effect.{Effect}
 use Rattle.onfi_cycle.specs.declared.effect.Effect.TheVariants as e
 use Rattle.onfi_cycle.specs.declared.filling.Filling.{Filling}
@@ -29,8 +31,8 @@ use Rattle.onfi_cycle.specs.declared.tail_facts.TailFacts.{TailFacts}
 use Rattle.onfi_cycle.specs.declared.target_cycle.TargetCycle.{TargetCycle}
 use Rattle.onfi_cycle.specs.declared.target_cycle.TargetCycle.TheVariants.{CommandCycle, AddressCycle, InputCycle, OutputCycle}
 use Rattle.onfi_cycle.specs.LunView.{LunView}
-use Rattle.onfi_cycle.specs.Sequence.{tail, facts_of, target_cycle, input_column, wants_command, wants_address, row, row_with}
-use Rattle.onfi_cycle.specs.Effect.{is_off, is_data, names_lun, confirm_effect, command_effect, address_effect, opening_address_effect, cycle_effect}
+use Rattle.onfi_cycle.specs.Sequence.{tail, facts_of, target_cycle, takes_data, takes_features, input_column, wants_command, wants_address, row, row_with}
+use Rattle.onfi_cycle.specs.Effect.{is_off, is_data, names_lun, confirm_effect, command_effect, address_effect, opening_address_effect, id_effect, ends_features, cycle_effect}
 use Rattle.onfi_cycle.specs.Filling.{filling, cycle_filling}
 use Rattle.onfi_cycle.specs.Lun.{effect_on, latch_alone, luns_of, lun_view}
 use Rattle.onfi_cycle.specs.Rules.{breaks_not_there, breaks_column_outside, lun_is, is_some_and, some_queued_clashes}
@@ -91,10 +93,14 @@ command_no_ready g t la Read n = refl
 command_no_ready g t la ReadStatus n = refl
 command_no_ready g t la ReadStatusEnhanced n = refl
 command_no_ready g t la Reset n = refl
+command_no_ready g t la SynchronousReset n = refl
 command_no_ready g t la ReadCacheSequential n = either IsNoReady (is_off la) e.Unaffected e.CacheReadContinued refl refl
 command_no_ready g t la ReadCacheEnd n = either IsNoReady (is_off la) e.Unaffected e.CacheReadEnded refl refl
 command_no_ready g t la ChangeReadColumnConfirm n = either IsNoReady (wants_command t ChangeReadColumnConfirm && not (is_off la)) (e.ReadColumnChanged t.column) e.Unaffected refl refl
 command_no_ready g t la c n = either IsNoReady (wants_command t c && names_lun g (row t) n) (confirm_effect g t c) e.Unaffected (confirm_no_ready g t c) refl
+
+id_no_ready : (byte : ℕ) → IsNoReady (id_effect byte)
+id_no_ready byte = either IsNoReady (byte == 0x20) e.IdRead (e.IdentityRead (byte == 0x40)) refl refl
 
 address_no_ready : (g : Parts) (t : TailFacts) (byte : ℕ) (o : Option Opening) (n : ℕ) → IsNoReady (opening_address_effect g t byte o n)
 address_no_ready g t byte None n = refl
@@ -102,14 +108,17 @@ address_no_ready g t byte (Some o) n = of o.opener
   where
     of : (c : Command) → IsNoReady (address_effect g t byte c o.addresses n)
     of ReadStatusEnhanced = either IsNoReady (o.addresses == 2) (cond (names_lun g (row_with t byte) n) e.SelectedForStatus e.Deselected) e.Unaffected (either IsNoReady (names_lun g (row_with t byte) n) e.SelectedForStatus e.Deselected refl refl) refl
-    of ReadId = either IsNoReady (wants_address t byte) e.IdRead e.Unaffected refl refl
+    of ReadId = either IsNoReady (wants_address t byte) (id_effect byte) e.Unaffected (id_no_ready byte) refl
     of ReadParameterPage = either IsNoReady (wants_address t byte) e.ParameterPageReadStarted e.Unaffected refl refl
+    of ReadUniqueId = either IsNoReady (wants_address t byte) e.UniqueIdReadStarted e.Unaffected refl refl
+    of GetFeatures = either IsNoReady (wants_address t byte) (e.FeaturesReadStarted byte) e.Unaffected refl refl
+    of ResetLun = either IsNoReady (o.addresses == 2 && names_lun g (row_with t byte) n) e.ResetStarted e.Unaffected refl refl
     of c = refl
 
 cycle_no_ready : (g : Parts) (t : TailFacts) (la : Latch) (k : TargetCycle) (n : ℕ) → IsNoReady (cycle_effect g t la k n)
 cycle_no_ready g t la (CommandCycle c) n = command_no_ready g t la c n
 cycle_no_ready g t la (AddressCycle byte) n = address_no_ready g t byte t.opening n
-cycle_no_ready g t la (InputCycle byte) n = refl
+cycle_no_ready g t la (InputCycle byte) n = either IsNoReady (ends_features t) (e.FeaturesSet (t.column % 256)) e.Unaffected refl refl
 cycle_no_ready g t la OutputCycle n = either IsNoReady (is_data la) e.DataOutput e.Unaffected refl refl
 
 pub no_ready : (g : Parts) (past : List Item) (c : Cycle) (l : Lun) → IsNoReady (effect_on g past (Cyc c) l)
@@ -129,11 +138,11 @@ works_here g past c l h = at (c.ce == l.ce) refl h
 
 -- 2. what a die can begin
 
-record SameDie (g : Parts) (v : LunView) (d : Die) : Type 0 where
-  geometry : d.geometry ≡ g
-  busy : d.busy ≡ v.busy
-  queue : d.queued ≡ v.queue
-  array_page : d.array_page ≡ v.array_page
+pub record SameDie (g : Parts) (v : LunView) (d : Die) : Type 0 where
+  pub geometry : d.geometry ≡ g
+  pub busy : d.busy ≡ v.busy
+  pub queue : d.queued ≡ v.queue
+  pub array_page : d.array_page ≡ v.array_page
 
 small_queue : (g : Parts) (v : LunView) (d : Die) → SameDie g v d → LunFits g v → length d.queued < 16
 small_queue g v d s f = let same = ap length s.queue in let few = f.queue in omega (arith, same, few)
@@ -150,18 +159,29 @@ row_there g v d at s h = ap (λ (k : Parts). is_row k at) s.geometry ∙ h
 apart : (g : Parts) (v : LunView) (d : Die) (erase : Bool) (at : PageAddress) → SameDie g v d → some_queued_clashes g erase at v.queue ≡ false → not (some_queued_clashes d.geometry erase at d.queued) ≡ true
 apart g v d erase at s h = ap not (ap (λ (k : Parts). some_queued_clashes k erase at d.queued) s.geometry ∙ (ap (some_queued_clashes g erase at) s.queue ∙ h))
 
-can_begin : (g : Parts) (v : LunView) (d : Die) (x : Effect) → SameDie g v d → LunFits g v → EffectFits g v x → CanBeginSome (work_begun x) d
+pub can_begin : (g : Parts) (v : LunView) (d : Die) (x : Effect) → SameDie g v d → LunFits g v → EffectFits g v x → CanBeginSome (work_begun x) d
 can_begin g v d (e.ReadStarted at column) s f h = record { row = row_there g v d at s h.2.inside; together = refl; ready = is_ready g v d s h.2.ready; room = small_queue g v d s f; next = small_page g v d s f }
 can_begin g v d (e.EraseStarted true at) s f h = record { row = row_there g v d at s h.1.inside; together = apart g v d true at s h.0; ready = is_ready g v d s h.1.ready; room = small_queue g v d s f; next = small_page g v d s f }
 can_begin g v d (e.EraseStarted false at) s f h = record { row = row_there g v d at s h.1.inside; together = apart g v d true at s h.0; ready = is_ready g v d s h.1.ready; room = small_queue g v d s f; next = small_page g v d s f }
 can_begin g v d (e.ProgramStarted true at) s f h = record { row = row_there g v d at s h.1.inside; together = apart g v d false at s h.0; ready = is_ready g v d s h.1.ready; room = small_queue g v d s f; next = small_page g v d s f }
 can_begin g v d (e.ProgramStarted false at) s f h = record { row = row_there g v d at s h.1.inside; together = apart g v d false at s h.0; ready = is_ready g v d s h.1.ready; room = small_queue g v d s f; next = small_page g v d s f }
 can_begin g v d e.IdRead s f h = record { row = refl; together = refl; ready = is_ready g v d s h; room = small_queue g v d s f; next = small_page g v d s f }
+can_begin g v d (e.IdentityRead jedec) s f h = record { row = refl; together = refl; ready = is_ready g v d s h; room = small_queue g v d s f; next = small_page g v d s f }
+can_begin g v d e.UniqueIdReadStarted s f h = record { row = refl; together = refl; ready = is_ready g v d s h; room = small_queue g v d s f; next = small_page g v d s f }
+can_begin g v d (e.FeaturesReadStarted address) s f h = record { row = refl; together = refl; ready = is_ready g v d s h; room = small_queue g v d s f; next = small_page g v d s f }
+can_begin g v d (e.FeaturesSet address) s f h = record { row = refl; together = refl; ready = is_ready g v d s h; room = small_queue g v d s f; next = small_page g v d s f }
 can_begin g v d e.ParameterPageReadStarted s f h = record { row = refl; together = refl; ready = is_ready g v d s h; room = small_queue g v d s f; next = small_page g v d s f }
 can_begin g v d e.CacheReadContinued s f h = record { row = refl; together = refl; ready = is_ready g v d s h.1; room = small_queue g v d s f; next = small_page g v d s f }
 can_begin g v d e.CacheReadEnded s f h = record { row = refl; together = refl; ready = is_ready g v d s h; room = small_queue g v d s f; next = small_page g v d s f }
 can_begin g v d e.ResetStarted s f h = record { row = refl; together = refl; ready = refl; room = small_queue g v d s f; next = small_page g v d s f }
 can_begin g v d x s f h = tt
+
+pub only_data : (p : DataPhase) → takes_data p ≡ true → takes_features p ≡ false
+only_data Outside h = cc
+only_data Inputs h = refl
+only_data FirstColumn h = cc
+only_data SecondColumn h = cc
+only_data FeatureInputs h = cc
 
 -- an input comes inside the page
 input_inside : (g : Parts) (n : ℕ) (past : List Item) (i : Item) (l : Lun) (at : PageAddress) (column byte : ℕ) → broken g n past i ≡ None → filling g (facts_of (tail past l.ce)) i l ≡ Fills at column byte → column < page_len g
@@ -171,7 +191,8 @@ input_inside g n past i l at column byte h is =
     let rules = permitted_keeps g n past j.c (sym (ap (broken g n past) j.is) ∙ h) in
     let same : j.c.ce ≡ l.ce = eqb-true j.c.ce l.ce j.ce in
     let f14 : breaks_column_outside g (facts_of (tail past l.ce)) (luns_of g past l.ce) (InputCycle byte) ≡ false = subst (λ (k : TargetCycle). breaks_column_outside g (facts_of (tail past l.ce)) (luns_of g past l.ce) k ≡ false) j.cycle (subst (λ (ce : ℕ). breaks_column_outside g (facts_of (tail past ce)) (luns_of g past ce) (target_cycle j.c.kind j.c.byte) ≡ false) same rules.f14) in
-    below (page_len g) column (input_column (facts_of (tail past l.ce))) j.place f14
+    let page : leb (page_len g) (input_column (facts_of (tail past l.ce))) ≡ false = ap (λ (b : Bool). not b && leb (page_len g) (input_column (facts_of (tail past l.ce)))) (sym (only_data (facts_of (tail past l.ce)).phase j.takes)) ∙ f14 in
+    below (page_len g) column (input_column (facts_of (tail past l.ce))) j.place page
   where
     below : (a b c : ℕ) → b ≡ c → leb a c ≡ false → b < a
     below a b c e f = grind (arith, nat_tests)
@@ -204,10 +225,14 @@ command_programs g t la Read n h = refl
 command_programs g t la ReadStatus n h = refl
 command_programs g t la ReadStatusEnhanced n h = refl
 command_programs g t la Reset n h = refl
+command_programs g t la SynchronousReset n h = refl
 command_programs g t la ReadCacheSequential n h = either IsNoProgram (is_off la) e.Unaffected e.CacheReadContinued refl refl
 command_programs g t la ReadCacheEnd n h = either IsNoProgram (is_off la) e.Unaffected e.CacheReadEnded refl refl
 command_programs g t la ChangeReadColumnConfirm n h = either IsNoProgram (wants_command t ChangeReadColumnConfirm && not (is_off la)) (e.ReadColumnChanged t.column) e.Unaffected refl refl
 command_programs g t la c n h = either IsNoProgram (wants_command t c && names_lun g (row t) n) (confirm_effect g t c) e.Unaffected (confirm_programs g t c h) refl
+
+id_programs : (byte : ℕ) → IsNoProgram (id_effect byte)
+id_programs byte = either IsNoProgram (byte == 0x20) e.IdRead (e.IdentityRead (byte == 0x40)) refl refl
 
 address_programs : (g : Parts) (t : TailFacts) (byte : ℕ) (o : Option Opening) (n : ℕ) → IsNoProgram (opening_address_effect g t byte o n)
 address_programs g t byte None n = refl
@@ -215,14 +240,17 @@ address_programs g t byte (Some o) n = of o.opener
   where
     of : (c : Command) → IsNoProgram (address_effect g t byte c o.addresses n)
     of ReadStatusEnhanced = either IsNoProgram (o.addresses == 2) (cond (names_lun g (row_with t byte) n) e.SelectedForStatus e.Deselected) e.Unaffected (either IsNoProgram (names_lun g (row_with t byte) n) e.SelectedForStatus e.Deselected refl refl) refl
-    of ReadId = either IsNoProgram (wants_address t byte) e.IdRead e.Unaffected refl refl
+    of ReadId = either IsNoProgram (wants_address t byte) (id_effect byte) e.Unaffected (id_programs byte) refl
     of ReadParameterPage = either IsNoProgram (wants_address t byte) e.ParameterPageReadStarted e.Unaffected refl refl
+    of ReadUniqueId = either IsNoProgram (wants_address t byte) e.UniqueIdReadStarted e.Unaffected refl refl
+    of GetFeatures = either IsNoProgram (wants_address t byte) (e.FeaturesReadStarted byte) e.Unaffected refl refl
+    of ResetLun = either IsNoProgram (o.addresses == 2 && names_lun g (row_with t byte) n) e.ResetStarted e.Unaffected refl refl
     of c = refl
 
 cycle_programs : (g : Parts) (t : TailFacts) (la : Latch) (k : TargetCycle) (n : ℕ) → cycle_starts k ≡ false → IsNoProgram (cycle_effect g t la k n)
 cycle_programs g t la (CommandCycle c) n h = command_programs g t la c n h
 cycle_programs g t la (AddressCycle byte) n h = address_programs g t byte t.opening n
-cycle_programs g t la (InputCycle byte) n h = refl
+cycle_programs g t la (InputCycle byte) n h = either IsNoProgram (ends_features t) (e.FeaturesSet (t.column % 256)) e.Unaffected refl refl
 cycle_programs g t la OutputCycle n h = either IsNoProgram (is_data la) e.DataOutput e.Unaffected refl refl
 
 pub no_program : (g : Parts) (past : List Item) (c : Cycle) (l : Lun) → starts_work (Cyc c) ≡ false → is_program (effect_on g past (Cyc c) l) ≡ false

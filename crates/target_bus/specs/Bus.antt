@@ -1,5 +1,5 @@
 -- A channel with its dies: what has happened on it, and how each die stands for its LUN.
-use Rattle.std.specs.Prelude.{◌≡◌, ℕ, ◌+◌, ◌-◌, ◌*◌, ◌/◌, ◌%◌, ◌<◌, ◌≤◌, ◌==◌, Bool, true, false, ◌||◌, ◌&&◌, not, if◌then◌else◌, List, [], ◌∷◌, Option, Some, None, length, reverse, slice_get, slice_index_or}
+use Rattle.std.specs.Prelude.{◌≡◌, ℕ, ◌+◌, ◌-◌, ◌*◌, ◌/◌, ◌%◌, ◌<◌, ◌≤◌, ◌==◌, Bool, true, false, ◌||◌, ◌&&◌, not, nat_lt, if◌then◌else◌, List, [], ◌∷◌, Option, Some, None, length, reverse, slice_get, slice_index_or}
 use Rattle.std.specs.Bool.{beq}
 use Rattle.std.specs.List.{list_all}
 use Rattle.nand_geometry.specs.declared.parts.Parts.{Parts}
@@ -16,7 +16,7 @@ use Rattle.onfi_cycle.specs.declared.effect.Effect.{Effect}
 use Rattle.onfi_cycle.specs.declared.latch.Latch.{Latch}
 use Rattle.onfi_cycle.specs.declared.latch.Latch.TheVariants.{Status, Data}
 use Rattle.onfi_cycle.specs.declared.tail_facts.TailFacts.{TailFacts}
-use Rattle.onfi_cycle.specs.Sequence.{tail, facts_of, takes_inputs, row, input_column}
+use Rattle.onfi_cycle.specs.Sequence.{tail, facts_of, takes_data, takes_features, row, input_column}
 use Rattle.onfi_cycle.specs.Effect.{names_lun, page_address}
 use Rattle.onfi_cycle.specs.Filling.{filling}
 use Rattle.onfi_cycle.specs.Lun.{effect_on, option_plus}
@@ -84,7 +84,8 @@ same_sizes g h =
     g.page_bytes == h.page_bytes && (g.spare_bytes == h.spare_bytes && (g.pages == h.pages && (g.blocks == h.blocks && g.luns == h.luns)))
 
 abbrev pub same_features : Parts → Parts → Bool
-same_features g h = g.plane_bits == h.plane_bits && (beq g.enhanced h.enhanced && (beq g.multi_plane h.multi_plane && beq g.cache h.cache))
+same_features g h =
+    g.plane_bits == h.plane_bits && (beq g.enhanced h.enhanced && (beq g.multi_plane h.multi_plane && (beq g.cache h.cache && g.optional.0 == h.optional.0)))
 
 -- two geometries have the same numbers
 abbrev pub same_parts : Parts → Parts → Bool
@@ -192,7 +193,7 @@ LeavesBelow g past i ce n = (m : ℕ) → m < n → fills (filling g (facts_of (
 
 -- inputs fill a page register of the LUN of this number
 abbrev pub is_filled : Parts → TailFacts → ℕ → Bool
-is_filled g t lun = takes_inputs t.phase && names_lun g (row t) lun
+is_filled g t lun = takes_data t.phase && names_lun g (row t) lun
 
 -- they fill the register of this page's plane, from this column on
 pub record IsFilledAt (g : Parts) (t : TailFacts) (lun : ℕ) (page : PageAddress) (column : ℕ) : Type 0 where
@@ -205,6 +206,10 @@ pub record IsFilledAt (g : Parts) (t : TailFacts) (lun : ℕ) (page : PageAddres
 abbrev pub FindsFilled : Parts → TailFacts → ℕ → Option FilledLun → Type 0
 FindsFilled g t n None = (m : ℕ) → n ≤ m → m < g.luns → is_filled g t m ≡ false
 FindsFilled g t n (Some f) = IsFilledAt g t f.lun f.page f.column
+
+-- the feature whose last byte comes with so many inputs more, if it comes with them
+abbrev pub feature_set : TailFacts → ℕ → Option ℕ
+feature_set t count = if takes_features t.phase && (nat_lt t.inputs 4 && count == 4 - t.inputs) then Some (t.column % 256) else None
 
 -- a running state and its dies stand for a past
 pub record IsStanding (state : BusView) (opened : List Entries) (dies : List Die) (past : List Item) : Type 0 where

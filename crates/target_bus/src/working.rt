@@ -5,20 +5,22 @@ ghost use Rattle.nand_geometry.specs.Limits.{page_len, planes};
 ghost use Rattle.onfi_cycle.specs.declared.item.Kind.TheVariants.{Din};
 ghost use Rattle.onfi_cycle.specs.declared.item.Item.{Item};
 ghost use Rattle.onfi_cycle.specs.declared.item.Item.TheVariants.{Cyc};
-ghost use Rattle.onfi_cycle.specs.Lun.{effect_on};
-ghost use Rattle.onfi_cycle.specs.Sequence.{facts_of, tail};
+ghost use Rattle.onfi_cycle.specs.Sequence.{facts_of, tail, takes_data};
 ghost use Rattle.onfi_cycle.specs.Filling.{filling};
 ghost use Rattle.onfi_cycle.specs.Channel.{is_cycle, cycle};
 ghost use Rattle.onfi_cycle.specs.State.{Follows};
 ghost use Rattle.onfi_cycle.specs.Working.{fills, begins};
 ghost use Rattle.onfi_cycle.specs.Readies.{starts_work};
-ghost use Rattle.onfi_cycle.specs.declared.effect.Effect.TheVariants.{BecameReady, ArrayBecameReady};
+ghost use Rattle.onfi_cycle.specs.declared.effect.Effect.TheVariants.{BecameReady, ArrayBecameReady, FeaturesSet};
+ghost use Rattle.onfi_cycle.specs.declared.filling.Filling.TheVariants.{Leaves};
 ghost use Rattle.die_model.specs.Die.{Die, IsAfter, is_program, filled_with};
 ghost use Rattle.die_model.specs.Standing.{CanWork, WorkedBy};
-ghost use Rattle.target_bus.specs.Bus.{FindsWork, FindsFilled, Permits, PermitsInputs, StandOn, StandOnByInputs, is_input, may_fill};
+ghost use Rattle.target_bus.specs.Bus.{FindsWork, FindsFilled, Permits, PermitsInputs, StandOn, StandOnByInputs, feature_set, is_input, may_fill};
 
 use die_model::LunDie;
-use onfi_cycle::{BusState, Cycle, Effect, Filling, Item, Kind, Lun, PageAddress};
+use onfi_cycle::{
+    BusState, Cycle, Effect, FEATURE_BYTES, Filling, Item, Kind, Lun, PageAddress, TailFacts,
+};
 use std::alloc::{AllocError, Allocator};
 
 // A page register changes.
@@ -38,6 +40,10 @@ fn begins(effect: Effect) -> bool
             | Effect::EraseStarted { .. }
             | Effect::ProgramStarted { .. }
             | Effect::IdRead
+            | Effect::IdentityRead { .. }
+            | Effect::UniqueIdReadStarted
+            | Effect::FeaturesReadStarted { .. }
+            | Effect::FeaturesSet { .. }
             | Effect::ParameterPageReadStarted
             | Effect::CacheReadContinued
             | Effect::CacheReadEnded
@@ -71,15 +77,39 @@ fn is_input(kind: Kind) -> bool
     kind == Kind::Din
 }
 
-// What a cycle does to a LUN that is there: an input does nothing.
-fn effect_by(state: &BusState, cycle: Cycle, lun: Lun) -> Effect
-    ensures { (g : Parts) (n : ℕ) (past : List Item) → Follows g n state.now past → lun.ce < n → lun.lun < g.luns
-        → result ≡ effect_on g past (Cyc cycle) lun }
+// A target is in the data of a Page Program, so that an input fills a page register and does nothing else.
+fn takes_data(state: &BusState, ce: u8) -> bool
+    ensures { (g : Parts) (n : ℕ) (past : List Item) → Follows g n state.now past → ce < n
+        → result ≡ takes_data (facts_of (tail past ce)).phase }
 {
-    if is_input(cycle.kind) {
-        Effect::Unaffected
+    match state.tail(ce) {
+        None => false,
+        Some(tail) => tail.phase.takes_data(),
+    }
+}
+
+// The feature whose last byte comes with so many inputs more, if it comes with them.
+fn feature_set(tail: TailFacts, count: usize) -> Option<u8>
+    ensures { result ≡ feature_set tail count }
+{
+    if tail.phase.takes_features()
+        && tail.inputs < FEATURE_BYTES
+        && count == FEATURE_BYTES - tail.inputs
+    {
+        Some((tail.column % 256) as u8)
     } else {
-        state.effect(Item::Cyc(cycle), lun)
+        None
+    }
+}
+
+// The same of a target.
+fn feature_of(state: &BusState, ce: u8, count: usize) -> Option<u8>
+    ensures { (g : Parts) (n : ℕ) (past : List Item) → Follows g n state.now past → ce < n
+        → result ≡ feature_set (facts_of (tail past ce)) count }
+{
+    match state.tail(ce) {
+        None => None,
+        Some(tail) => feature_set(tail, count),
     }
 }
 
@@ -103,7 +133,7 @@ fn find_work(state: &BusState, cycle: Cycle, luns: u8, lun: u8) -> Option<Worked
     }
     let here = Lun { ce: cycle.ce, lun };
     let filling = filling_by(state, cycle, here);
-    let effect = effect_by(state, cycle, here);
+    let effect = state.effect(Item::Cyc(cycle), here);
     if fills(filling) || begins(effect) {
         return Some(Worked {
             lun,
@@ -150,7 +180,7 @@ fn finish_array_in<A: Allocator + Copy>(dies: &mut [LunDie<A>], place: usize)
     dies[place].array_ready();
 }
 
-// Works a permitted input on the dies: it changes a page register of one of them.
+// Works a permitted input of a Page Program on the dies: it changes a page register of one of them.
 fn work_input<A: Allocator + Copy>(
     state: &BusState,
     dies: &mut [LunDie<A>],
@@ -159,6 +189,8 @@ fn work_input<A: Allocator + Copy>(
     requires few { length dies.old ≤ 16 }
     requires permitted { Permits state.now dies.old (Cyc cycle) }
     requires input { is_input cycle.kind ≡ true }
+    requires in_data { (g : Parts) (n : ℕ) (past : List Item) → Follows g n state.now past → cycle.ce < n
+        → takes_data (facts_of (tail past cycle.ce)).phase ≡ true }
     ensures ok { IfOk result (λ _. StandOn state.now dies.old dies.new (Cyc cycle)) }
     ensures err { OnErr result (dies.new ≡ dies.old) }
     ensures memory { starts_work (Cyc cycle) ≡ false → IsOk result }
@@ -215,7 +247,7 @@ pub fn work<A: Allocator + Copy>(
     ensures err { OnErr result (dies.new ≡ dies.old) }
     ensures memory { starts_work (Cyc cycle) ≡ false → IsOk result }
 {
-    if is_input(cycle.kind) {
+    if is_input(cycle.kind) && takes_data(state, cycle.ce) {
         work_input(state, dies, cycle)
     } else {
         work_found(state, dies, cycle)
@@ -272,6 +304,71 @@ fn fill_in<A: Allocator + Copy>(
     dies[place].fill_from(filled.page, filled.column, bytes);
 }
 
+// Works a run of permitted inputs of a Page Program on the dies, one at least: they change a page register of one of them.
+fn work_data<A: Allocator + Copy>(state: &BusState, dies: &mut [LunDie<A>], ce: u8, bytes: &[u8])
+    requires few { length dies.old ≤ 16 }
+    requires some { 0 < length bytes.now }
+    requires permitted { PermitsInputs state.now dies.old ce (length bytes.now) }
+    requires in_data { (g : Parts) (n : ℕ) (past : List Item) → Follows g n state.now past → ce < n
+        → takes_data (facts_of (tail past ce)).phase ≡ true }
+    ensures { StandOnByInputs state.now dies.old dies.new ce bytes.now }
+{
+    // Its contract says that what is kept fits.
+    state.facts_fit();
+    let luns = state.geometry().parts().luns;
+    match find_filled(state, ce, luns, 0) {
+        None => {}
+        Some(filled) => {
+            let here = Lun {
+                ce,
+                lun: filled.lun,
+            };
+            fill_in(dies, here.place(luns), filled, bytes);
+        }
+    }
+}
+
+// Sets a feature of the die of a number, which takes no memory.
+fn set_in<A: Allocator + Copy>(dies: &mut [LunDie<A>], place: usize, address: u8)
+    requires inside { place < length dies.old }
+    requires can { (d : Die) → slice_get dies.old place ≡ Some d → CanWork Leaves (FeaturesSet address) d }
+    ensures { (old : Die) × (new : Die) × (slice_get dies.old place ≡ Some old)
+        × WorkedBy old.geometry Leaves (FeaturesSet address) old new × (dies.new ≡ slice_set dies.old place new) }
+{
+    match work_in(
+        dies,
+        place,
+        Filling::Leaves,
+        Effect::FeaturesSet { address },
+    ) {
+        Ok(()) => {}
+        Err(_) => unreachable!(),
+    }
+}
+
+// Works a run of permitted inputs of a Set Features on the dies, one at least: the last of its bytes sets the feature.
+fn work_feature_bytes<A: Allocator + Copy>(
+    state: &BusState,
+    dies: &mut [LunDie<A>],
+    ce: u8,
+    count: usize,
+)
+    requires few { length dies.old ≤ 16 }
+    requires some { 0 < count }
+    requires permitted { PermitsInputs state.now dies.old ce count }
+    requires no_data { (g : Parts) (n : ℕ) (past : List Item) → Follows g n state.now past → ce < n
+        → takes_data (facts_of (tail past ce)).phase ≡ false }
+    ensures { (bytes : List ℕ) → length bytes ≡ count → StandOnByInputs state.now dies.old dies.new ce bytes }
+{
+    // Its contract says that what is kept fits.
+    state.facts_fit();
+    let luns = state.geometry().parts().luns;
+    match feature_of(state, ce, count) {
+        None => {}
+        Some(address) => set_in(dies, Lun { ce, lun: 0 }.place(luns), address),
+    }
+}
+
 /// Works a run of permitted inputs on the dies: on one of them at most.
 pub fn work_inputs<A: Allocator + Copy>(
     state: &BusState,
@@ -286,18 +383,10 @@ pub fn work_inputs<A: Allocator + Copy>(
     if bytes.is_empty() {
         return;
     }
-    // Its contract says that what is kept fits.
-    state.facts_fit();
-    let luns = state.geometry().parts().luns;
-    match find_filled(state, ce, luns, 0) {
-        None => {}
-        Some(filled) => {
-            let here = Lun {
-                ce,
-                lun: filled.lun,
-            };
-            fill_in(dies, here.place(luns), filled, bytes);
-        }
+    if takes_data(state, ce) {
+        work_data(state, dies, ce, bytes);
+    } else {
+        work_feature_bytes(state, dies, ce, bytes.len());
     }
 }
 

@@ -17,7 +17,7 @@ use Rattle.onfi_cycle.specs.Bounds.{LunFits, LunsFit, RowFits, RowStands, TailFi
 use Rattle.onfi_cycle.specs.Effect.{names_lun, page_address}
 use Rattle.onfi_cycle.specs.LunView.{LunView}
 use Rattle.onfi_cycle.specs.Rules.{some_queued_clashes}
-use Rattle.onfi_cycle.specs.Sequence.{row, wants_column}
+use Rattle.onfi_cycle.specs.Sequence.{row, takes_features, wants_column}
 use Rattle.onfi_cycle.specs.State.{TargetView}
 use Rattle.target_record.specs.declared.geometry.OnfiseqGeometry.{OnfiseqGeometry}
 use Rattle.target_record.specs.declared.record.OnfiseqLun.{OnfiseqLun}
@@ -74,17 +74,22 @@ is_at_rest phase.Outside h = refl
 is_at_rest phase.Inputs h = cc
 is_at_rest phase.FirstColumn h = cc
 is_at_rest phase.SecondColumn h = cc
+is_at_rest phase.FeatureInputs h = cc
 
 few_addresses : (o : Option Opening) → is_short o ≡ true → IfSome o (λ x. x.addresses ≤ 5)
 few_addresses None h = tt
 few_addresses (Some x) h = grind (arith, nat_tests, h)
 
+few_inputs : (n : ℕ) → nat_lt n 4 ≡ true → n < 4
+few_inputs n h = grind (arith, nat_tests, h)
+
 tail_is : (g : Parts) (t : TailFacts) → tail_fits g t ≡ true → TailFits g t
 tail_is g t e =
     let a = and_parts (nat_lt t.column 65536) _ e in
-    let b = and_parts (nat_le t.inputs (page_len g)) _ a.1 in
+    let b = and_parts (nat_le t.inputs (page_len g + 4)) _ a.1 in
     let c = and_parts (is_short t.opening) _ b.1 in
     let d = and_parts (stands_alone t) _ c.1 in
+    let f = and_parts (not t.is_empty || is_outside t.phase) _ d.1 in
     let column = a.0 in
     let inputs = b.0 in
     record {
@@ -93,7 +98,8 @@ tail_is g t e =
       addresses = few_addresses t.opening c.0;
       in_column = λ h. column_alone t.opening (wants_column t.phase) t.is_empty d.0 h;
       nothing = λ h. empty_alone t.opening (wants_column t.phase) t.is_empty d.0 h;
-      outside = λ h. is_at_rest t.phase (if_so t.is_empty (is_outside t.phase) d.1 h);
+      outside = λ h. is_at_rest t.phase (if_so t.is_empty (is_outside t.phase) f.0 h);
+      features = λ h. few_inputs t.inputs (if_so (takes_features t.phase) (nat_lt t.inputs 4) f.1 h);
     }
 
 -- ---- a LUN
@@ -189,14 +195,18 @@ short_taken : (o : Option Opening) → IfSome o (λ x. x.addresses ≤ 5) → is
 short_taken None h = refl
 short_taken (Some x) h = grind (arith, nat_tests, h)
 
+few_taken : (n : ℕ) → n < 4 → nat_lt n 4 ≡ true
+few_taken n h = grind (arith, nat_tests, h)
+
 tail_taken : (g : Parts) (t : TailFacts) → TailFits g t → tail_fits g t ≡ true
 tail_taken g t f =
     let column = f.column in
     let inputs = f.inputs in
     let a : nat_lt t.column 65536 ≡ true = grind (arith, nat_tests, column) in
-    let b : nat_le t.inputs (page_len g) ≡ true = grind (arith, nat_tests, inputs) in
+    let b : nat_le t.inputs (page_len g + 4) ≡ true = grind (arith, nat_tests, inputs) in
     and_from _ _ a (and_from _ _ b (and_from _ _ (short_taken t.opening f.addresses)
-    (and_from _ _ (alone_taken t.opening (wants_column t.phase) t.is_empty f.in_column f.nothing) (rest_taken t.is_empty t.phase f.outside))))
+    (and_from _ _ (alone_taken t.opening (wants_column t.phase) t.is_empty f.in_column f.nothing)
+    (and_from _ _ (rest_taken t.is_empty t.phase f.outside) (if_taken (takes_features t.phase) (nat_lt t.inputs 4) (λ h. few_taken t.inputs (f.features h)))))))
 
 given_taken : (o : Option ℕ) → IfSome o (λ from. from < 2 ^ 16) → given_fits o ≡ true
 given_taken None h = refl

@@ -1,15 +1,15 @@
 -- What the numbers of a target in the caller's memory stand for.
-use Rattle.std.specs.Prelude.{ℕ, ◌≤◌, ◌<◌, ◌^◌, ◌==◌, not, length, Bool, if◌then◌else◌, List, Option, Some, None, map, take}
+use Rattle.std.specs.Prelude.{ℕ, ◌%◌, ◌≤◌, ◌<◌, ◌^◌, ◌==◌, not, length, Bool, if◌then◌else◌, List, Option, Some, None, map, take}
 use Rattle.std.specs.List.{All}
 use Rattle.onfi_cycle.specs.declared.command.Command.{Command}
 use Rattle.onfi_cycle.specs.declared.latch.Latch.{Latch}
 use Rattle.onfi_cycle.specs.declared.latch.Latch.TheVariants.{Off, Status, Data}
 use Rattle.onfi_cycle.specs.declared.data_phase.DataPhase.{DataPhase}
-use Rattle.onfi_cycle.specs.declared.data_phase.DataPhase.TheVariants.{Outside, Inputs, FirstColumn, SecondColumn}
+use Rattle.onfi_cycle.specs.declared.data_phase.DataPhase.TheVariants.{Outside, Inputs, FirstColumn, SecondColumn, FeatureInputs}
 use Rattle.onfi_cycle.specs.declared.opening.Opening.{Opening}
 use Rattle.onfi_cycle.specs.declared.page_address.PageAddress.{PageAddress}
 use Rattle.onfi_cycle.specs.declared.register.Register.{Register}
-use Rattle.onfi_cycle.specs.declared.register.Register.TheVariants.{Empty, Page, ParameterPage, Identifier}
+use Rattle.onfi_cycle.specs.declared.register.Register.TheVariants.{Empty, Page, ParameterPage, Identifier, Identity, JedecIdentity, UniqueId, Features}
 use Rattle.onfi_cycle.specs.declared.queued.Queued.{Queued}
 use Rattle.onfi_cycle.specs.declared.queued.Queued.TheVariants.{Erase, Program}
 use Rattle.onfi_cycle.specs.declared.tail_facts.TailFacts.{TailFacts}
@@ -28,7 +28,7 @@ abbrev pub latch_of : ℕ → Latch
 latch_of code = if code == 0 then Off else (if code == 1 then Status else Data)
 
 abbrev pub phase_of : ℕ → DataPhase
-phase_of code = if code == 0 then Outside else (if code == 1 then Inputs else (if code == 2 then FirstColumn else SecondColumn))
+phase_of code = if code == 0 then Outside else (if code == 1 then Inputs else (if code == 2 then FirstColumn else (if code == 3 then SecondColumn else FeatureInputs)))
 
 abbrev pub closer_of : Bool → ℕ → Option Command
 closer_of has byte = if has then Some (command byte) else None
@@ -41,7 +41,14 @@ page_address block page = record { block = block; page = page }
 
 abbrev pub register_of : ℕ → ℕ → ℕ → Register
 register_of code block page =
-    if code == 0 then Empty else (if code == 1 then Page (page_address block page) else (if code == 2 then ParameterPage else Identifier))
+    if code == 0 then Empty
+    else (if code == 1 then Page (page_address block page)
+    else (if code == 2 then ParameterPage
+    else (if code == 3 then Identifier
+    else (if code == 4 then Identity
+    else (if code == 5 then JedecIdentity
+    else (if code == 6 then UniqueId
+    else Features (block % 256)))))))
 
 abbrev pub given_of : Bool → ℕ → Option ℕ
 given_of has column = if has then Some column else None

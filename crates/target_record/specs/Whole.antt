@@ -5,7 +5,7 @@ use Rattle.std.specs.Option.{is_none}
 use Rattle.nand_geometry.specs.declared.parts.Parts.{Parts}
 use Rattle.nand_geometry.specs.Limits.{InLimits, fault_of, page_len}
 use Rattle.onfi_cycle.specs.declared.data_phase.DataPhase.{DataPhase}
-use Rattle.onfi_cycle.specs.declared.data_phase.DataPhase.TheVariants.{Outside, Inputs, FirstColumn, SecondColumn}
+use Rattle.onfi_cycle.specs.declared.data_phase.DataPhase.TheVariants.{Outside, Inputs, FirstColumn, SecondColumn, FeatureInputs}
 use Rattle.onfi_cycle.specs.declared.opening.Opening.{Opening}
 use Rattle.onfi_cycle.specs.declared.page_address.PageAddress.{PageAddress}
 use Rattle.onfi_cycle.specs.declared.tail_facts.TailFacts.{TailFacts}
@@ -13,7 +13,7 @@ use Rattle.onfi_cycle.specs.Bounds.{TargetFits, is_row, names_erase, names_ident
 use Rattle.onfi_cycle.specs.Effect.{names_lun, page_address}
 use Rattle.onfi_cycle.specs.LunView.{LunView}
 use Rattle.onfi_cycle.specs.Rules.{some_queued_clashes}
-use Rattle.onfi_cycle.specs.Sequence.{row, wants_column}
+use Rattle.onfi_cycle.specs.Sequence.{row, takes_features, wants_column}
 use Rattle.onfi_cycle.specs.State.{TargetView}
 use Rattle.target_record.specs.declared.geometry.OnfiseqGeometry.{OnfiseqGeometry}
 use Rattle.target_record.specs.declared.record.OnfiseqLun.{OnfiseqLun}
@@ -40,6 +40,7 @@ is_outside Outside = true
 is_outside Inputs = false
 is_outside FirstColumn = false
 is_outside SecondColumn = false
+is_outside FeatureInputs = false
 
 -- an opening stands neither beside the column of a Change Write Column nor in an empty tail
 abbrev pub stands_alone : TailFacts → Bool
@@ -47,7 +48,9 @@ stands_alone t = is_none t.opening || (not (wants_column t.phase) && not t.is_em
 
 abbrev pub tail_fits : Parts → TailFacts → Bool
 tail_fits g t =
-    nat_lt t.column 65536 && (nat_le t.inputs (page_len g) && (is_short t.opening && (stands_alone t && (not t.is_empty || is_outside t.phase))))
+    nat_lt t.column 65536
+    && (nat_le t.inputs (page_len g + 4)
+    && (is_short t.opening && (stands_alone t && ((not t.is_empty || is_outside t.phase) && (not (takes_features t.phase) || nat_lt t.inputs 4)))))
 
 -- ---- a LUN
 

@@ -4,10 +4,11 @@ ghost use Rattle.nand_geometry.specs.Limits.{InLimits, page_len};
 ghost use Rattle.target_record.specs.Geometry.{parts_of, no_geometry};
 
 use crate::record::{flag, is_set};
-use nand_geometry::{Geometry, Parts};
+use nand_geometry::{Geometry, Optional, Parts};
 
 /// A geometry: sizes in bytes, pages of a block, blocks and LUNs; `plane_bits` is the binary logarithm of the planes of a LUN.
-/// `enhanced`, `multi_plane` and `cache` are 0 for no, and anything else for yes.
+/// `enhanced`, `multi_plane` and `cache` are 0 for no, and anything else for yes; `optional` is 0 in the base profile, and else the bits of what the chip has beside
+/// it.
 #[repr(C)]
 #[derive(Clone, Copy)]
 pub struct OnfiseqGeometry {
@@ -20,6 +21,7 @@ pub struct OnfiseqGeometry {
     pub enhanced: u8,
     pub multi_plane: u8,
     pub cache: u8,
+    pub optional: u16,
 }
 
 impl OnfiseqGeometry {
@@ -37,6 +39,7 @@ impl OnfiseqGeometry {
             enhanced: is_set(self.enhanced),
             multi_plane: is_set(self.multi_plane),
             cache: is_set(self.cache),
+            optional: Optional(self.optional),
         }
     }
 
@@ -69,6 +72,7 @@ impl OnfiseqGeometry {
             enhanced: flag(parts.enhanced),
             multi_plane: flag(parts.multi_plane),
             cache: flag(parts.cache),
+            optional: parts.optional.0,
         }
     }
 
@@ -86,6 +90,7 @@ impl OnfiseqGeometry {
             enhanced: 0,
             multi_plane: 0,
             cache: 0,
+            optional: 0,
         }
     }
 }

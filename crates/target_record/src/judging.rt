@@ -12,7 +12,7 @@ ghost use Rattle.onfi_cycle.specs.Lun.{output_column};
 ghost use Rattle.onfi_cycle.specs.LunView.{LunView};
 ghost use Rattle.onfi_cycle.specs.Sequence.{is_open, target_cycle, wants_command};
 ghost use Rattle.onfi_cycle.specs.Permitted.{judge, judge_cycle, judge_known_cycle};
-ghost use Rattle.onfi_cycle.specs.Rules.{are_none, breaks_address_misplaced, breaks_cache_read_misplaced, breaks_column_outside, breaks_command_unknown, breaks_no_column_to_change, caching, continues_cache, driver, driving, ends_cache, ends_row, has_no_byte, has_some, is_past_register, lun_is, is_refused_by, is_undeclared, may_change_column, planes_clash, queued_clashes, refused_by, register_len, second_column, second_of_page, some_queued_clashes};
+ghost use Rattle.onfi_cycle.specs.Rules.{are_none, is_undeclared_address, breaks_address_misplaced, breaks_cache_read_misplaced, breaks_column_outside, breaks_command_unknown, breaks_no_column_to_change, caching, continues_cache, driver, driving, ends_cache, ends_row, has_no_byte, has_some, is_past_register, lun_is, is_refused_by, is_undeclared, may_change_column, planes_clash, queued_clashes, refused_by, register_len, second_column, second_of_page, some_queued_clashes};
 ghost use Rattle.onfi_cycle.specs.Command.{command, addresses_the_array, is_change_read_column, is_opener};
 ghost use Rattle.onfi_cycle.specs.Bounds.{TargetFits};
 ghost use Rattle.target_record.specs.Geometry.{parts_of};
@@ -25,7 +25,7 @@ use crate::record::{
     OnfiseqLun, OnfiseqQueued, OnfiseqTarget, closer_of, given_of, is_set, latch_of, opening_of,
     phase_of, queued_of, register_of, tail_of,
 };
-use nand_geometry::Geometry;
+use nand_geometry::{Geometry, Optional};
 use onfi_cycle::{
     Command, Cycle, DataPhase, Forbidden, Item, Kind, PageAddress, Queued, ReadColumn, Register,
     TailFacts, is_cache_read, is_page_read,
@@ -84,6 +84,10 @@ pub fn register_len(geometry: &OnfiseqGeometry, lun: &OnfiseqLun) -> u64
         Register::Page(_) => geometry.page_len(),
         Register::ParameterPage => 768,
         Register::Identifier => 4,
+        Register::Identity => 8,
+        Register::JedecIdentity => 6,
+        Register::UniqueId => 512,
+        Register::Features(_) => 4,
     }
 }
 
@@ -240,7 +244,7 @@ pub fn wants_command(kept: &OnfiseqTarget, command: Command) -> bool
 {
     match command {
         Command::ChangeWriteColumn | Command::ProgramConfirm | Command::ProgramPlane => {
-            phase_of(kept.phase).takes_inputs()
+            phase_of(kept.phase).takes_data()
         }
         _ => match opening_of(is_set(kept.is_open), kept.opener, kept.addresses) {
             None => false,
@@ -262,6 +266,12 @@ fn is_undeclared(geometry: &OnfiseqGeometry, command: Command) -> bool
         Command::ReadStatusEnhanced => !is_set(geometry.enhanced),
         Command::BlockErasePlane | Command::ProgramPlane => !is_set(geometry.multi_plane),
         Command::ReadCacheSequential | Command::ReadCacheEnd => !is_set(geometry.cache),
+        Command::ReadUniqueId => !Optional(geometry.optional).has_unique_id(),
+        Command::GetFeatures | Command::SetFeatures => {
+            !Optional(geometry.optional).has_features()
+        }
+        Command::ResetLun => !Optional(geometry.optional).has_lun_reset(),
+        Command::SynchronousReset => !Optional(geometry.optional).has_synchronous_reset(),
         _ => false,
     }
 }
@@ -322,7 +332,7 @@ fn judge_opener(
     requires numbers { All IsRecord luns.now }
     ensures { (t : TailValue) → is_open t ≡ in_sequence → result ≡ judge_known_cycle (parts_of geometry.now) t (luns_of luns.now) (TargetCycle.CommandCycle command) }
 {
-    if in_sequence {
+    if in_sequence && !(command.is_reset() && Optional(geometry.optional).is_wide()) {
         Some(Forbidden::SequenceOpen)
     } else if command.wants_one_lun() && 1 < geometry.luns {
         Some(Forbidden::SeveralLuns)
@@ -508,7 +518,7 @@ fn judge_end_of_row(
 ) -> Option<Forbidden>
     requires limits { InLimits (parts_of geometry.now) }
     requires numbers { All IsRecord luns.now }
-    requires wanted { breaks_address_misplaced tail (TargetCycle.AddressCycle byte) ≡ false }
+    requires wanted { breaks_address_misplaced (parts_of geometry.now) tail (TargetCycle.AddressCycle byte) ≡ false }
     requires last { ends_row (λ c. true) tail ≡ true }
     ensures { result ≡ judge_known_cycle (parts_of geometry.now) tail (luns_of luns.now) (TargetCycle.AddressCycle byte) }
 {
@@ -526,6 +536,25 @@ fn judge_end_of_row(
     }
 }
 
+// The address isn't wanted, or needs the wider profile.
+#[tactic(auto, unfolding(onfi_cycle::specs::Rules::breaks_address_misplaced))]
+fn breaks_address_misplaced(geometry: &OnfiseqGeometry, tail: TailFacts, byte: u8) -> bool
+    ensures { result ≡ breaks_address_misplaced (parts_of geometry.now) tail (TargetCycle.AddressCycle byte) }
+{
+    !tail.wants_address(byte) || is_undeclared_address(geometry, tail, byte)
+}
+
+// The address of a Read ID that the base profile hasn't.
+fn is_undeclared_address(geometry: &OnfiseqGeometry, tail: TailFacts, byte: u8) -> bool
+    ensures { result ≡ is_undeclared_address (parts_of geometry.now) tail byte }
+{
+    let reads_id = match tail.opening {
+        None => false,
+        Some(opening) => opening.opener == Command::ReadId,
+    };
+    !Optional(geometry.optional).is_wide() && reads_id && byte != 0x20
+}
+
 // The first of F3 to F15 that an address breaks. One that isn't the last of a row can break F7 and F14 alone.
 #[tactic(auto, unfolding(onfi_cycle::specs::Rules::breaks_sequence_open, onfi_cycle::specs::Rules::breaks_several_luns, onfi_cycle::specs::Rules::breaks_no_column_to_change, onfi_cycle::specs::Rules::breaks_command_misplaced, onfi_cycle::specs::Rules::breaks_address_misplaced, onfi_cycle::specs::Rules::breaks_row_outside, onfi_cycle::specs::Rules::breaks_lun_busy, onfi_cycle::specs::Rules::breaks_queue_clash, onfi_cycle::specs::Rules::breaks_input_misplaced, onfi_cycle::specs::Rules::breaks_no_sole_driver, onfi_cycle::specs::Rules::breaks_data_not_ready, onfi_cycle::specs::Rules::breaks_cache_read_misplaced))]
 #[inline(always)]
@@ -539,7 +568,7 @@ fn judge_address(
     requires numbers { All IsRecord luns.now }
     ensures { result ≡ judge_known_cycle (parts_of geometry.now) tail (luns_of luns.now) (TargetCycle.AddressCycle byte) }
 {
-    if !tail.wants_address(byte) {
+    if breaks_address_misplaced(geometry, tail, byte) {
         Some(Forbidden::AddressMisplaced)
     } else if ends_row(tail) {
         judge_end_of_row(geometry, tail, luns, byte)
@@ -559,8 +588,11 @@ fn judge_input(geometry: &OnfiseqGeometry, kept: &OnfiseqTarget) -> Option<Forbi
     requires { (kept.now.column < 2 ^ 16) × (kept.now.inputs < 2 ^ 63) }
     ensures { (luns : List LunView) (byte : ℕ) → result ≡ judge_known_cycle (parts_of geometry.now) (tail_of kept.now) luns (TargetCycle.InputCycle byte) }
 {
-    if !phase_of(kept.phase).takes_inputs() {
+    let phase = phase_of(kept.phase);
+    if !phase.takes_inputs() {
         Some(Forbidden::InputMisplaced)
+    } else if phase.takes_features() {
+        None
     } else if geometry.page_len() <= u64::from(kept.column) + kept.inputs as u64 {
         Some(Forbidden::ColumnOutside)
     } else {

@@ -134,6 +134,29 @@ fn read_parameter_page(kept: &mut OnfiseqLun)
     kept.busy = 1;
 }
 
+// It reads what stands beside its array, after this closer, and is busy with it.
+#[inline(always)]
+fn read_beside(kept: &mut OnfiseqLun, closer: Command, register: Register)
+    requires { IsRecord kept.old }
+    ensures value { lun_of kept.new ≡ record (lun_of kept.old) { latch = LatchValue.Data; busy = true; closer = Some closer; array_busy = false; register = register; column = column_at 0 } }
+    ensures numbers { IsRecord kept.new }
+{
+    give_register(kept, closer, register, 0);
+    kept.busy = 1;
+}
+
+// It sets a feature.
+#[inline(always)]
+fn set_features(kept: &mut OnfiseqLun, address: u8)
+    requires { IsRecord kept.old }
+    ensures value { lun_of kept.new ≡ view_after (EffectValue.FeaturesSet address) (lun_of kept.old) }
+    ensures numbers { IsRecord kept.new }
+{
+    let _address = address;
+    set_register(kept, Command::SetFeatures, Register::Empty);
+    kept.busy = 1;
+}
+
 /// A LUN goes on by an effect.
 pub fn change(kept: &mut OnfiseqLun, effect: Effect)
     requires numbers { IsRecord kept.old }
@@ -166,7 +189,20 @@ pub fn change(kept: &mut OnfiseqLun, effect: Effect)
             start_work(kept, Command::ProgramConfirm);
         }
         Effect::IdRead => give_register(kept, Command::ReadId, Register::Identifier, 0),
+        Effect::IdentityRead { jedec: true } => {
+            give_register(kept, Command::ReadId, Register::JedecIdentity, 0);
+        }
+        Effect::IdentityRead { jedec: false } => {
+            give_register(kept, Command::ReadId, Register::Identity, 0);
+        }
         Effect::ParameterPageReadStarted => read_parameter_page(kept),
+        Effect::UniqueIdReadStarted => {
+            read_beside(kept, Command::ReadUniqueId, Register::UniqueId);
+        }
+        Effect::FeaturesReadStarted { address } => {
+            read_beside(kept, Command::GetFeatures, Register::Features(address));
+        }
+        Effect::FeaturesSet { address } => set_features(kept, address),
         Effect::CacheReadContinued => {
             let next = kept.array_page + 1;
             give_cached(kept, Command::ReadCacheSequential, next);

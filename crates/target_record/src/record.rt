@@ -106,7 +106,8 @@ pub(crate) fn phase_of(code: u8) -> DataPhase
         0 => DataPhase::Outside,
         1 => DataPhase::Inputs,
         2 => DataPhase::FirstColumn,
-        _ => DataPhase::SecondColumn,
+        3 => DataPhase::SecondColumn,
+        _ => DataPhase::FeatureInputs,
     }
 }
 
@@ -119,6 +120,7 @@ pub(crate) fn phase_code(phase: DataPhase) -> u8
         DataPhase::Inputs => 1,
         DataPhase::FirstColumn => 2,
         DataPhase::SecondColumn => 3,
+        DataPhase::FeatureInputs => 4,
     }
 }
 
@@ -193,7 +195,11 @@ pub fn register_of(code: u8, block: u32, page: u64) -> Register
         0 => Register::Empty,
         1 => Register::Page(PageAddress { block, page }),
         2 => Register::ParameterPage,
-        _ => Register::Identifier,
+        3 => Register::Identifier,
+        4 => Register::Identity,
+        5 => Register::JedecIdentity,
+        6 => Register::UniqueId,
+        _ => Register::Features((block % 256) as u8),
     }
 }
 
@@ -228,6 +234,26 @@ pub(crate) fn register_record(register: Register) -> RegisterRecord
         Register::Identifier => RegisterRecord {
             code: 3,
             block: 0,
+            page: 0,
+        },
+        Register::Identity => RegisterRecord {
+            code: 4,
+            block: 0,
+            page: 0,
+        },
+        Register::JedecIdentity => RegisterRecord {
+            code: 5,
+            block: 0,
+            page: 0,
+        },
+        Register::UniqueId => RegisterRecord {
+            code: 6,
+            block: 0,
+            page: 0,
+        },
+        Register::Features(address) => RegisterRecord {
+            code: 7,
+            block: u32::from(address),
             page: 0,
         },
     }

@@ -15,7 +15,7 @@ use crate::record::{
     OnfiseqLun, OnfiseqQueued, OnfiseqTarget, given_of, is_set, queued_of, tail_of,
 };
 use nand_geometry::Geometry;
-use onfi_cycle::{Command, DataPhase, Opening, PageAddress, Queued, TailFacts};
+use onfi_cycle::{Command, DataPhase, FEATURE_BYTES, Opening, PageAddress, Queued, TailFacts};
 
 // ---- the numbers of a record
 
@@ -62,10 +62,11 @@ fn tail_fits(geometry: &OnfiseqGeometry, tail: TailFacts) -> bool
     ensures { result ≡ tail_fits (parts_of geometry.now) tail }
 {
     tail.column < 65536
-        && tail.inputs as u64 <= geometry.page_len()
+        && tail.inputs as u64 <= geometry.page_len() + FEATURE_BYTES as u64
         && is_short(tail.opening)
         && stands_alone(tail)
         && (!tail.is_empty || matches!(tail.phase, DataPhase::Outside))
+        && (!tail.phase.takes_features() || tail.inputs < FEATURE_BYTES)
 }
 
 // ---- what the tail names
@@ -94,7 +95,7 @@ fn names_erase(tail: TailFacts) -> bool
 fn names_program(tail: TailFacts) -> bool
     ensures { result ≡ names_program tail }
 {
-    tail.phase.takes_inputs() || tail.phase.wants_column()
+    tail.phase.takes_data() || tail.phase.wants_column()
 }
 
 fn names_row(tail: TailFacts) -> bool
@@ -103,14 +104,15 @@ fn names_row(tail: TailFacts) -> bool
     names_read(tail) || names_erase(tail) || names_program(tail)
 }
 
-// A Read ID or a Read Parameter Page waits for its address.
+// What reads or sets what stands beside the array waits for its address, or a Set Features for its bytes.
 fn names_identity(tail: TailFacts) -> bool
     ensures { result ≡ names_identity tail }
 {
-    match tail.opening {
+    let opens = match tail.opening {
         None => false,
         Some(opening) => opening.opener.reads_identity() && opening.addresses == 0,
-    }
+    };
+    opens || tail.phase.takes_features()
 }
 
 // ---- the queue of a LUN

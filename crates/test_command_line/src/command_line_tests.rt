@@ -3,6 +3,7 @@
 use crate::once_tests::{new_console, no_line_is_wrong};
 use bus_capture::CaptureForm;
 use clap::error::ErrorKind as UsageKind;
+use nand_geometry::Profile;
 use run_once::once_on;
 use seq_cli::{Command, Mistake, parse};
 use seq_inputs::Exit;
@@ -182,6 +183,7 @@ fn options_of_a_run(rt: HostRuntime) -> Result<(), Fail> {
 
 const CAPTURE: CaptureRequest<'static> = CaptureRequest {
     page: "p",
+    profile: Profile::Base,
     targets: Targets::Two,
     input: "x",
     form: CaptureForm::Dump,

@@ -1,6 +1,7 @@
 use clap::error::ErrorKind as UsageKind;
 use linked_list_allocator::LocalHeap;
 use micro_claims::Reason;
+use nand_geometry::Profile;
 use run_once::once_on;
 use seq_cli::{Command, Mistake, parse};
 use seq_files::{SlowReader, SlowWriter};
@@ -355,6 +356,7 @@ fn command_lines(rt: HostRuntime) -> Result<(), Fail> {
 // A check of a trace, strict and until its first fault.
 const CHECK: CheckRequest<'static> = CheckRequest {
     page: "a",
+    profile: Profile::Base,
     targets: Targets::One,
     input: "b",
     tells_all: false,

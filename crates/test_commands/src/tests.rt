@@ -1,5 +1,5 @@
 use crate::command::Command;
-use nand_geometry::{Geometry, Parts, SMALL_CHIP};
+use nand_geometry::{Geometry, Parts, Profile, SMALL_CHIP};
 use seq_files::MapFiles;
 use seq_inputs::{Console, Exit, Fault, Refusal, Style};
 use std::alloc::Global;
@@ -36,6 +36,7 @@ pub(crate) const VERIFY: Command<'static> = Command::Verify {
 
 pub(crate) const CHECK: Command<'static> = Command::Check(CheckRequest {
     page: "die.page",
+    profile: Profile::Base,
     targets: Targets::One,
     input: "in",
     tells_all: false,

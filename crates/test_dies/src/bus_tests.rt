@@ -423,11 +423,6 @@ const PROGRAMS_AND_ERASES: &[Row] = &[
     ),
 ];
 
-#[test]
-fn pages_are_programmed_and_erased(rt: HostRuntime) -> Result<(), Fail> {
-    play_rows(&rt, rt.alloc(), PROGRAMS_AND_ERASES)
-}
-
 const TOGETHER: &[Row] = &[
     (
         TWO_LUNS,
@@ -479,11 +474,6 @@ const TOGETHER: &[Row] = &[
     (TWO_PLANES, 1, "C60 A00x3 Cd1 R0 C60 A0c A00 A00!a", &[]),
 ];
 
-#[test]
-fn planes_work_together(rt: HostRuntime) -> Result<(), Fail> {
-    play_rows(&rt, rt.alloc(), TOGETHER)
-}
-
 const SHOWN: &[Row] = &[
     (
         ONE_LUN,
@@ -519,11 +509,6 @@ const SHOWN: &[Row] = &[
     ),
 ];
 
-#[test]
-fn registers_are_shown(rt: HostRuntime) -> Result<(), Fail> {
-    play_rows(&rt, rt.alloc(), SHOWN)
-}
-
 const REFUSED: &[Row] = &[
     (ONE_LUN, 1, "C60 A00x3 Cd0 C60!9", &[]),
     (TWO_LUNS, 2, "C60 A00x3 Cd0 C60 A00x2 A00!9", &[]),
@@ -557,11 +542,6 @@ const REFUSED: &[Row] = &[
     ),
 ];
 
-#[test]
-fn what_is_forbidden_changes_nothing(rt: HostRuntime) -> Result<(), Fail> {
-    play_rows(&rt, rt.alloc(), REFUSED)
-}
-
 const IN_TURN: &[Row] = &[
     // Rows: one bit of the LUN, three of the block, two of the page.
     (
@@ -585,11 +565,6 @@ const IN_TURN: &[Row] = &[
         &[],
     ),
 ];
-
-#[test]
-fn luns_and_targets_in_turn(rt: HostRuntime) -> Result<(), Fail> {
-    play_rows(&rt, rt.alloc(), IN_TURN)
-}
 
 const CACHE_READS: &[Row] = &[
     (
@@ -632,11 +607,6 @@ const CACHE_READS: &[Row] = &[
         &[],
     ),
 ];
-
-#[test]
-fn cache_reads(rt: HostRuntime) -> Result<(), Fail> {
-    play_rows(&rt, rt.alloc(), CACHE_READS)
-}
 
 const RESETS: &[Row] = &[
     (
@@ -686,10 +656,6 @@ const RESETS: &[Row] = &[
 
 // Each kind of work, abandoned by a reset: a read, a program, an erase, a queued program while it is worked and behind it, a queued
 // erase, and a cache read.
-#[test]
-fn resets_abandon(rt: HostRuntime) -> Result<(), Fail> {
-    play_rows(&rt, rt.alloc(), RESETS)
-}
 
 #[test]
 fn dies_that_are_no_channel(rt: HostRuntime) -> Result<(), Fail> {
@@ -1058,5 +1024,24 @@ fn kept_places(rt: HostRuntime) -> Result<(), Fail> {
     play(&rt, &mut bus, steps.as_slice(), "four polls and an opener")?;
     assert_eq!(rt; heap.used(), taken);
     assert_eq!(rt; bus.trace().len(), 9);
+    Ok(())
+}
+
+// What the seven tables above say: pages are programmed and erased, planes work together, registers are shown, what is forbidden changes nothing, luns and targets in turn, cache reads, resets abandon.
+const TABLES: [&[Row]; 7] = [
+    PROGRAMS_AND_ERASES,
+    TOGETHER,
+    SHOWN,
+    REFUSED,
+    IN_TURN,
+    CACHE_READS,
+    RESETS,
+];
+
+#[test]
+fn each_table_comes_so(rt: HostRuntime) -> Result<(), Fail> {
+    for rows in TABLES {
+        play_rows(&rt, rt.alloc(), rows)?;
+    }
     Ok(())
 }

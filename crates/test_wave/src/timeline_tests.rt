@@ -101,7 +101,7 @@ fn the_time_of_an_erase(rt: HostRuntime) -> Result<(), Fail> {
     };
     assert_eq!(rt; timeline.spans.as_slice(), &[busy][..]);
     assert_eq!(rt; timeline.failures.len(), 0);
-    assert_eq!(rt; timeline.broken, None);
+    assert_eq!(rt; timeline.broken.len(), 0);
     Ok(())
 }
 
@@ -124,7 +124,7 @@ fn an_interrupted_sequence(rt: HostRuntime) -> Result<(), Fail> {
     Ok(())
 }
 
-// Outputs have a box of their own, and so has all that comes from a broken rule on.
+// Outputs have a box of their own, and so has what breaks a rule; the next opener begins another.
 #[test]
 fn outputs_and_a_broken_rule(rt: HostRuntime) -> Result<(), Fail> {
     let timeline = timeline_of(rt.alloc(), SMALL_CHIP, 1, BROKEN)?;
@@ -132,18 +132,20 @@ fn outputs_and_a_broken_rule(rt: HostRuntime) -> Result<(), Fail> {
         item: 13,
         rule: Forbidden::InputMisplaced,
     };
-    assert_eq!(rt; timeline.broken, Some(broken));
+    assert_eq!(rt; timeline.broken.as_slice(), &[broken][..]);
     assert_eq!(rt;
         timeline.pieces.as_slice(),
         &[
             piece(0, 0, 7),
             piece(1, 8, 9),
             piece(2, 9, 13),
-            piece(3, 13, 16)
+            piece(3, 13, 14),
+            piece(4, 14, 15),
+            piece(5, 15, 16)
         ][..]
     );
     assert_eq!(rt;
-        timeline.sequences.last(),
+        timeline.sequences.get(3),
         Some(&Sequence {
             ce: 0,
             label: Label::Unjudged

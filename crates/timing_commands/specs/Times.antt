@@ -2,7 +2,7 @@
 use Rattle.std.specs.Prelude.{◌≡◌, ◌⊎◌, ◌++◌, [], ◌∷◌, ◌==◌, ℕ, Bool, true, false, List, Option, None, Ok, map, take}
 use Rattle.seq_files.specs.Store.{Store, Holds}
 use Rattle.nand_geometry.specs.declared.parts.Parts.{Parts}
-use Rattle.nand_geometry.specs.Reading.{read_of}
+use Rattle.nand_geometry.specs.Reading.{read_as}
 use Rattle.trace_text.specs.declared.recorded_item.RecordedItem.{RecordedItem}
 use Rattle.trace_text.specs.Recorded.{recorded_items}
 use Rattle.onfi_cycle.specs.declared.item.Item.{Item}
@@ -108,7 +108,7 @@ pub record AreJudged (files : Option Store) (request : TimesRequest) (told : Lis
   pub page : List ℕ
   pub is_page : Holds files request.check.page.now page
   pub g : Parts
-  pub declares : read_of page ≡ Ok g
+  pub declares : read_as request.check.profile page ≡ Ok g
   pub timings : Timings
   pub are_timings : AreTimings files request.source (times_in page) timings
   pub longest : LongestTimes

@@ -136,7 +136,11 @@ fn find_long<A: Allocator + Clone>(
     ensures { IfOk result (λ long. long.items ≡ long_of check.entry geometry.now ruler timed.now) }
 {
     let items = items_of(alloc.clone()?, timed)?;
-    let Operations { operations, marks } = find_operations(
+    let Operations {
+        operations,
+        marks,
+        ..
+    } = find_operations(
         alloc.clone()?,
         geometry,
         check.targets.count(),
@@ -216,7 +220,7 @@ fn judge_times<'p, A: Allocator + Clone, F: Files, P: CheckProgress>(
 {
     let check = uncopied(request.check);
     let page = read_file(alloc.clone()?, files, check.page)?;
-    let geometry = geometry_in(alloc.clone()?, check.page, page.as_slice())?;
+    let geometry = geometry_in(alloc.clone()?, check.profile, check.page, page.as_slice())?;
     let times = PageTimes::read(page.as_slice());
     let limits = limits_at(alloc.clone()?, files, times, request.source)?;
     let ruler = ruler_of(request, &geometry, limits.timings);

@@ -14,6 +14,8 @@ pub enum Wanted {
     Data,
     /// One of the two bytes of a column.
     Column { number: u8 },
+    /// One of the four bytes of a feature.
+    FeatureByte { number: usize },
 }
 
 // What an opener with these addresses wants next, if it wants anything.
@@ -37,6 +39,7 @@ fn wanted_by(opening: Opening) -> Option<Wanted> {
 pub fn opener_of(tail: TailFacts) -> Option<u8> {
     match tail.phase {
         DataPhase::Inputs | DataPhase::FirstColumn | DataPhase::SecondColumn => Some(0x80),
+        DataPhase::FeatureInputs => Some(0xef),
         DataPhase::Outside => tail.opening?.opener.opcode(),
     }
 }
@@ -48,6 +51,9 @@ impl Wanted {
             DataPhase::Inputs => Some(Wanted::Data),
             DataPhase::FirstColumn => Some(Wanted::Column { number: 1 }),
             DataPhase::SecondColumn => Some(Wanted::Column { number: 2 }),
+            DataPhase::FeatureInputs => Some(Wanted::FeatureByte {
+                number: tail.inputs.saturating_add(1),
+            }),
             DataPhase::Outside => wanted_by(tail.opening?),
         }
     }
@@ -62,6 +68,9 @@ impl fmt::Display for Wanted {
             Wanted::Closer(byte) => write!(f, "wants `{byte:02x}` next"),
             Wanted::Data => f.write_str("takes data up to its `10`"),
             Wanted::Column { number } => write!(f, "wants byte {number} of a column next"),
+            Wanted::FeatureByte { number } => {
+                write!(f, "wants byte {number} of its feature next")
+            }
         }
     }
 }

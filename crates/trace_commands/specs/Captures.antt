@@ -15,7 +15,7 @@ use Rattle.trace_commands.specs.declared.capture_converter.CaptureConverter.{Cap
 use Rattle.trace_text.specs.Line.{text}
 use Rattle.trace_text.specs.declared.recorded_item.TimedItem.{TimedItem}
 use Rattle.trace_text.specs.Recorded.{timed_text}
-use Rattle.seq_inputs.specs.Inputs.{HasPage}
+use Rattle.seq_inputs.specs.Inputs.{HasPageAs}
 use Rattle.seq_files.specs.declared.converting.NotConverted.{NotConverted}
 use Rattle.seq_files.specs.declared.converting.NotConverted.TheVariants.{Input, Output, Refused}
 use Rattle.bus_capture.specs.declared.fault.CaptureRefusal.{CaptureRefusal}
@@ -88,7 +88,7 @@ pub record IsConverted (files later : Option Store) (request : CaptureRequest) (
 -- so is it, of targets of the geometry of the page
 pub record IsCaptured (files later : Option Store) (request : CaptureRequest) : Type 0 where
   pub g : Parts
-  pub has_page : HasPage files request.page.now g
+  pub has_page : HasPageAs files request.profile request.page.now g
   pub setup : Setup
   pub is_setup : IsSetup request g setup
   pub converted : IsConverted files later request setup
@@ -108,7 +108,7 @@ pub record IsShown (files : Option Store) (request : CaptureRequest) (setup : Se
 -- so is it, of targets of the geometry of the page
 pub record IsShownFor (files : Option Store) (request : CaptureRequest) (printed : List ℕ) : Type 0 where
   pub g : Parts
-  pub has_page : HasPage files request.page.now g
+  pub has_page : HasPageAs files request.profile request.page.now g
   pub setup : Setup
   pub is_setup : IsSetup request g setup
   pub shown : IsShown files request setup printed
@@ -140,7 +140,7 @@ pub record ConversionRefuses (files : Option Store) (request : CaptureRequest) (
 
 pub record CaptureIsRefused (files : Option Store) (request : CaptureRequest) (fault : RecordingFault) : Type 0 where
   pub g : Parts
-  pub has_page : HasPage files request.page.now g
+  pub has_page : HasPageAs files request.profile request.page.now g
   pub setup : Setup
   pub is_setup : IsSetup request g setup
   pub refused : ConversionRefuses files request setup fault

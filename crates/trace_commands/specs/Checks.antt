@@ -3,6 +3,7 @@ use Rattle.std.specs.Prelude.{◌≡◌, ◌⊎◌, ◌++◌, [], ◌∷◌, ℕ
 use Rattle.std.specs.Fmt.{decimal}
 use Rattle.std.specs.Option.{option_map}
 use Rattle.seq_files.specs.Store.{Store, Holds, with_file}
+use Rattle.nand_geometry.specs.declared.optional.Profile.{Profile}
 use Rattle.nand_geometry.specs.declared.parts.Parts.{Parts}
 use Rattle.onfi_cycle.specs.declared.item.Item.{Item}
 use Rattle.onfi_cycle.specs.Permitted.{is_legal}
@@ -18,7 +19,7 @@ use Rattle.trace_faults.specs.declared.beginning.Beginning.TheVariants.{Start, M
 use Rattle.trace_faults.specs.declared.unshown.NotShown.{NotShown}
 use Rattle.trace_faults.specs.Faults.{faults_of, not_shown_of, completed}
 use Rattle.trace_faults.specs.Middle.{verdicts_of, all_broken, all_not_shown}
-use Rattle.seq_inputs.specs.Inputs.{HasPage}
+use Rattle.seq_inputs.specs.Inputs.{HasPageAs}
 use Rattle.trace_commands.specs.declared.recording_fault.RecordingFault.{RecordingFault}
 use Rattle.trace_commands.specs.declared.recording_fault.RecordingFault.TheVariants.{Trace, Item as ItemAt}
 use Rattle.trace_commands.specs.Recordings.{fault_line}
@@ -104,7 +105,7 @@ pub record IsJudgedFile (files later : Option Store) (request : CheckRequest) (g
 -- the same with the geometry of the page
 pub record IsJudged (files later : Option Store) (request : CheckRequest) (told : List BrokenRule) (assumed : List NotShown) : Type 0 where
   pub g : Parts
-  pub has_page : HasPage files request.page.now g
+  pub has_page : HasPageAs files request.profile request.page.now g
   pub text : List ℕ
   pub is_there : Holds files request.input.now text
   pub judged : IsJudgedText files later request g text told assumed
@@ -117,7 +118,7 @@ IsLegalAs Middle readies g targets items = faults_as Middle readies g targets it
 -- the trace at the path is legal on a channel of so many targets, with these readies that are taken for granted
 pub record IsLegalTrace (files later : Option Store) (request : CheckRequest) (assumed : List NotShown) : Type 0 where
   pub g : Parts
-  pub has_page : HasPage files request.page.now g
+  pub has_page : HasPageAs files request.profile request.page.now g
   pub text : List ℕ
   pub is_there : Holds files request.input.now text
   pub items : List Item
@@ -138,8 +139,9 @@ pub record FileIsRefused (files : Option Store) (form : TraceForm) (input : List
   pub refuses : RefusesTrace form text fault
 
 pub record TraceIsRefused (files : Option Store) (form : TraceForm) (page input : List ℕ) (fault : RecordingFault) : Type 0 where
+  pub profile : Profile
   pub g : Parts
-  pub has_page : HasPage files page g
+  pub has_page : HasPageAs files profile page g
   pub text : List ℕ
   pub is_there : Holds files input text
   pub refuses : RefusesTrace form text fault

@@ -10,7 +10,7 @@ use Rattle.vendor_file.specs.declared.step.Step.{Step}
 use Rattle.vendor_file.specs.Carried.{kept_places, broken_lines}
 use Rattle.bus_capture.specs.declared.inferring.Stamped.{Stamped}
 use Rattle.bus_capture.specs.declared.reading.Setup.{Setup}
-use Rattle.seq_inputs.specs.Inputs.{HasPage}
+use Rattle.seq_inputs.specs.Inputs.{HasPageAs}
 use Rattle.trace_commands.specs.declared.recording_fault.RecordingFault.{RecordingFault}
 use Rattle.trace_commands.specs.declared.capture_request.CaptureRequest.{CaptureRequest}
 use Rattle.trace_commands.specs.declared.vendor_capture_request.VendorCaptureRequest.{VendorCaptureRequest}
@@ -52,7 +52,7 @@ pub record IsKeptShown (files : Option Store) (request : CaptureRequest) (setup 
 -- so does it, of targets of the geometry of the page, with the sequences of the file
 pub record IsKeptShownFor (files : Option Store) (request : VendorCaptureRequest) (made : List ℕ) : Type 0 where
   pub g : Parts
-  pub has_page : HasPage files request.capture.page.now g
+  pub has_page : HasPageAs files request.capture.profile request.capture.page.now g
   pub steps : List Step
   pub has_sequences : HasSequences files request.vendor.now steps
   pub setup : Setup
@@ -83,7 +83,7 @@ KeptRefuses files request setup steps fault = ConversionRefuses files request se
 
 pub record KeptIsRefused (files : Option Store) (request : VendorCaptureRequest) (fault : RecordingFault) : Type 0 where
   pub g : Parts
-  pub has_page : HasPage files request.capture.page.now g
+  pub has_page : HasPageAs files request.capture.profile request.capture.page.now g
   pub steps : List Step
   pub has_sequences : HasSequences files request.vendor.now steps
   pub setup : Setup

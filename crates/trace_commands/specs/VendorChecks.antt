@@ -13,7 +13,7 @@ use Rattle.vendor_file.specs.declared.step.Step.{Step}
 use Rattle.vendor_file.specs.Lines.{sequences_in}
 use Rattle.vendor_file.specs.Linux.{linux}
 use Rattle.vendor_file.specs.Carried.{kept_items, kept_places, broken_lines, carried_faults, carried_readies, merged}
-use Rattle.seq_inputs.specs.Inputs.{HasPage}
+use Rattle.seq_inputs.specs.Inputs.{HasPageAs}
 use Rattle.trace_commands.specs.declared.recording_fault.RecordingFault.{RecordingFault}
 use Rattle.trace_commands.specs.declared.recording_fault.RecordingFault.TheVariants.{Vendor, Item as ItemAt}
 use Rattle.trace_commands.specs.Recordings.{fault_line}
@@ -82,7 +82,7 @@ pub record IsJudgedVendorText (files later : Option Store) (request : CheckReque
 -- the same of the trace at the path, with the sequences of the file
 pub record IsJudgedVendor (files later : Option Store) (request : VendorCheckRequest) (told : List BrokenRule) (assumed : List NotShown) : Type 0 where
   pub g : Parts
-  pub has_page : HasPage files request.check.page.now g
+  pub has_page : HasPageAs files request.check.profile request.check.page.now g
   pub steps : List Step
   pub has_sequences : HasSequences files request.vendor.now steps
   pub text : List ℕ

@@ -8,7 +8,7 @@ use Rattle.trace_text.specs.Forms.{IsTraceText}
 use Rattle.trace_files.specs.Files.{drawing_of}
 use Rattle.vendor_file.specs.declared.step.Step.{Step}
 use Rattle.vendor_file.specs.Carried.{kept_items}
-use Rattle.seq_inputs.specs.Inputs.{HasPage}
+use Rattle.seq_inputs.specs.Inputs.{HasPageAs}
 use Rattle.trace_commands.specs.declared.recording_fault.RecordingFault.{RecordingFault}
 use Rattle.trace_commands.specs.declared.vendor_draw_request.VendorDrawRequest.{VendorDrawRequest}
 use Rattle.trace_commands.specs.Targets.{count_of}
@@ -18,7 +18,7 @@ use Rattle.trace_commands.specs.VendorChecks.{HasSequences, VendorIsRefused}
 -- the trace at the path is drawn in its form without the items of sequences, and no other file changes
 pub record IsVendorDrawn (files later : Option Store) (request : VendorDrawRequest) : Type 0 where
   pub g : Parts
-  pub has_page : HasPage files request.draw.page.now g
+  pub has_page : HasPageAs files request.draw.profile request.draw.page.now g
   pub steps : List Step
   pub has_sequences : HasSequences files request.vendor.now steps
   pub text : List ℕ

@@ -5,6 +5,7 @@ ghost use Rattle.bus_capture.specs.declared.inferring.Stamped.{Stamped};
 ghost use Rattle.bus_capture.specs.Inferring.{captured_after};
 ghost use Rattle.trace_commands.specs.Captures.{items_in, timed_in, seen_text, IsConverter};
 
+use crate::capture_unit::unit_of;
 use crate::latest_lines::LatestLines;
 use bus_capture::{CaptureFault, CaptureReader, CaptureRefusal, Setup, Stamped};
 use onfi_cycle::Item;
@@ -101,6 +102,8 @@ pub(crate) struct CaptureTally {
     pub(crate) items: usize,
     pub(crate) unselected: u64,
     pub(crate) strobe_changes: u64,
+    /// How many femtoseconds 1 of a written time is, where times are written and the capture says it.
+    pub(crate) unit: Option<u64>,
 }
 
 /// Of a text that may go on no more bytes are kept than these: a header, a word or a row that is longer is out of memory, as an input without an end may be.
@@ -115,6 +118,9 @@ pub(crate) struct CaptureConverter<'m, A: Allocator> {
     latest: LatestLines<A>,
     items: usize,
     unselected: u64,
+    // A piece was read.
+    has_begun: bool,
+    unit: Option<u64>,
 }
 
 impl<'m, A: Allocator + Clone> CaptureConverter<'m, A> {
@@ -137,6 +143,8 @@ impl<'m, A: Allocator + Clone> CaptureConverter<'m, A> {
             latest,
             items: 0,
             unselected: 0,
+            has_begun: false,
+            unit: None,
         })
     }
 }
@@ -160,11 +168,15 @@ impl<'m, A: Allocator + Clone> CaptureConverter<'m, A> {
         }
     }
 
-    // Keeps the lines of a piece.
+    // Keeps the lines of a piece, and looks in the first for the unit of the times.
     fn keep_lines(&mut self, piece: &[u8]) -> Result<(), CaptureRefusal>
         ensures same { (self.new.reader ≡ self.old.reader) × (self.new.has_times ≡ self.old.has_times) }
         ensures err { IfErr result (λ e. e ≡ CaptureRefusal.OutOfMemory) }
     {
+        if !self.has_begun {
+            self.unit = unit_of(self.has_times, piece);
+        }
+        self.has_begun = true;
         match self.latest.push(piece) {
             Ok(()) => Ok(()),
             Err(_) => Err(CaptureRefusal::OutOfMemory),
@@ -177,6 +189,7 @@ impl<'m, A: Allocator + Clone> CaptureConverter<'m, A> {
             items: self.items,
             unselected: self.unselected,
             strobe_changes: self.strobe_changes(),
+            unit: self.unit,
         }
     }
 

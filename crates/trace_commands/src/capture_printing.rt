@@ -13,13 +13,14 @@ ghost use Rattle.trace_commands.specs.Recordings.{fault_line};
 use crate::capture_converter::{CaptureTally, push_text};
 use crate::capture_reading::see_capture;
 use crate::capture_request::CaptureRequest;
+use crate::capture_unit::unit_of;
 use crate::capturing::say_tally;
 use crate::ending::Ending;
 use crate::mappings::mappings_of;
 use crate::recording_stop::{RecordingStop, end_stopped};
 use bus_capture::Setup;
 use seq_files::Files;
-use seq_inputs::{Console, Exit, Style, end_without_memory, finish, geometry_at, read_file};
+use seq_inputs::{Console, Exit, Style, end_without_memory, finish, geometry_as, read_file};
 use std::alloc::Allocator;
 use std::io::Write;
 
@@ -55,6 +56,7 @@ fn show_capture<'p, A: Allocator + Clone, F: Files>(
             items: seen.stamped.len(),
             unselected: seen.unselected,
             strobe_changes: 0,
+            unit: unit_of(request.has_times, capture.as_slice()),
         },
     })
 }
@@ -69,7 +71,7 @@ fn show_at<'p, A: Allocator + Clone, F: Files>(
     ensures err { IfErr result (SaysOf (PageIsRefused (F.store files.old) request.entry.page.now) (CaptureIsRefused (F.store files.old) request.entry)) }
     ensures stays { F.store files.new ≡ F.store files.old }
 {
-    let geometry = geometry_at(alloc.clone()?, files, request.page)?;
+    let geometry = geometry_as(alloc.clone()?, files, request.profile, request.page)?;
     let mappings = mappings_of(alloc.clone()?, request.mappings)?;
     let setup = Setup {
         form: request.form,

@@ -2,12 +2,15 @@
 
 use crate::targets::Targets;
 use bus_capture::CaptureForm;
+use nand_geometry::Profile;
 
 /// What a capture is read for. `-` as a path that is read is standard input.
 #[derive(Clone, Copy, Debug, PartialEq, Eq)]
 pub struct CaptureRequest<'a> {
     /// The parameter page of each die.
     pub page: &'a str,
+    /// What the page is read for.
+    pub profile: Profile,
     pub targets: Targets,
     /// The capture.
     pub input: &'a str,

@@ -12,6 +12,7 @@ ghost use Rattle.trace_commands.specs.Recordings.{fault_line};
 
 use crate::capture_converter::{CaptureConverter, CaptureTally};
 use crate::capture_request::CaptureRequest;
+use crate::capture_unit::TimeUnit;
 use crate::capture_words::words_of_fault;
 use crate::ending::Ending;
 use crate::mappings::mappings_of;
@@ -19,7 +20,7 @@ use crate::recording_fault::RecordingFault;
 use crate::recording_stop::{RecordingStop, end_stopped};
 use bus_capture::{CaptureRefusal, Setup};
 use seq_files::{Files, NotConverted};
-use seq_inputs::{Console, Exit, Stop, Style, end_without_memory, finish, geometry_at};
+use seq_inputs::{Console, Exit, Stop, Style, end_without_memory, finish, geometry_as};
 use std::alloc::Allocator;
 use std::io::Write;
 
@@ -83,7 +84,7 @@ fn capture_at<'p, A: Allocator + Clone, F: Files>(
     ensures err { IfErr result (SaysOf (PageIsRefused (F.store files.old) request.entry.page.now) (CaptureIsRefused (F.store files.old) request.entry)) }
     ensures stays { OnErr result (F.store files.new ≡ F.store files.old) }
 {
-    let geometry = geometry_at(alloc.clone()?, files, request.page)?;
+    let geometry = geometry_as(alloc.clone()?, files, request.profile, request.page)?;
     let mappings = mappings_of(alloc.clone()?, request.mappings)?;
     let setup = Setup {
         form: request.form,
@@ -101,6 +102,9 @@ const STILL: u64 = 2;
 /// Says how much a capture shows.
 pub(crate) fn say_tally<E: Write>(errors: &mut E, tally: CaptureTally) {
     let _ = writeln!(errors, "items: {}", tally.items);
+    if let Some(unit) = tally.unit {
+        let _ = writeln!(errors, "times in {}", TimeUnit(unit));
+    }
     if tally.unselected != 0 {
         let _ = writeln!(
             errors,

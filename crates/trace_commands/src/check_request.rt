@@ -1,6 +1,7 @@
 //! What a check is asked for.
 
 use crate::targets::Targets;
+use nand_geometry::Profile;
 use seq_inputs::Style;
 use trace_faults::{Beginning, Readies};
 use trace_text::TraceForm;
@@ -10,6 +11,8 @@ use trace_text::TraceForm;
 pub struct CheckRequest<'a> {
     /// The parameter page of each die.
     pub page: &'a str,
+    /// What the page is read for.
+    pub profile: Profile,
     pub targets: Targets,
     /// The text of the trace.
     pub input: &'a str,

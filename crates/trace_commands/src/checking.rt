@@ -29,7 +29,7 @@ use host_notes::{HostNoteAt, find_host_notes};
 use nand_geometry::Geometry;
 use onfi_cycle::Item;
 use seq_files::Files;
-use seq_inputs::{Console, Exit, Stop, end_without_memory, geometry_at, read_file, text_of};
+use seq_inputs::{Console, Exit, Stop, end_without_memory, geometry_as, read_file, text_of};
 use std::alloc::{AllocError, Allocator};
 use std::io::Write;
 use trace_faults::{
@@ -398,7 +398,7 @@ fn check_at<'p, A: Allocator + Clone, F: Files, P: CheckProgress>(
         (TraceIsRefused (F.store files.old) request.entry.form request.entry.page.now request.entry.input.now)) }
     ensures stays { OnErr result (F.store files.new ≡ F.store files.old) }
 {
-    let geometry = geometry_at(alloc.clone()?, files, request.page)?;
+    let geometry = geometry_as(alloc.clone()?, files, request.profile, request.page)?;
     judge_file(alloc, files, progress, request, &geometry)
 }
 

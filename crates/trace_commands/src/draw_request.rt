@@ -1,6 +1,7 @@
 //! What a drawing is asked for.
 
 use crate::targets::Targets;
+use nand_geometry::Profile;
 use trace_files::DrawForm;
 use trace_text::TraceForm;
 
@@ -10,6 +11,8 @@ pub struct DrawRequest<'a> {
     pub form: DrawForm,
     /// The parameter page of each die.
     pub page: &'a str,
+    /// What the page is read for.
+    pub profile: Profile,
     pub targets: Targets,
     /// The form of the text.
     pub lines: TraceForm,

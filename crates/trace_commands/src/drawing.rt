@@ -18,7 +18,7 @@ use crate::recording_stop::{RecordingStop, end_stopped};
 use crate::traces::items_of;
 use seq_files::Files;
 use seq_inputs::{
-    Console, Exit, Style, end_without_memory, finish, geometry_at, read_file, text_of, try_file,
+    Console, Exit, Style, end_without_memory, finish, geometry_as, read_file, text_of, try_file,
     write_file,
 };
 use std::alloc::Allocator;
@@ -36,7 +36,7 @@ fn draw_at<'p, A: Allocator + Clone, F: Files>(
         (TraceIsRefused (F.store files.old) request.entry.lines request.entry.page.now request.entry.input.now)) }
     ensures stays { OnErr result (F.store files.new ≡ F.store files.old) }
 {
-    let geometry = geometry_at(alloc.clone()?, files, request.page)?;
+    let geometry = geometry_as(alloc.clone()?, files, request.profile, request.page)?;
     let bytes = read_file(alloc.clone()?, files, request.input)?;
     let text = text_of(request.input, bytes.as_slice())?;
     let items = items_of(alloc.clone()?, request.input, text, request.lines)?;

@@ -10,6 +10,7 @@ mod capture_converter;
 mod capture_printing;
 mod capture_reading;
 mod capture_request;
+mod capture_unit;
 mod capture_words;
 mod capturing;
 mod carried_watcher;

@@ -16,6 +16,7 @@ ghost use Rattle.trace_commands.specs.VendorCaptures.{IsKeptText, IsKeptShown, I
 use crate::capture_converter::{CaptureTally, push_text};
 use crate::capture_reading::see_capture;
 use crate::capture_request::CaptureRequest;
+use crate::capture_unit::unit_of;
 use crate::capturing::say_tally;
 use crate::ending::Ending;
 use crate::kept_capture::{KeptCapture, seen_at};
@@ -28,7 +29,7 @@ use crate::vendor_sequences::sequences_at;
 use bus_capture::{Capture, Setup, Stamped};
 use seq_files::Files;
 use seq_inputs::{
-    Console, Exit, Style, Words, end_without_memory, finish, geometry_at, read_file, write_file,
+    Console, Exit, Style, Words, end_without_memory, finish, geometry_as, read_file, write_file,
 };
 use std::alloc::{AllocError, Allocator};
 use std::io::Write;
@@ -85,6 +86,7 @@ fn keep_text<'p, A: Allocator + Clone>(
     setup: &Setup<'_>,
     steps: &[Step],
     seen: &Capture<A>,
+    unit: Option<u64>,
 ) -> Result<KeptTrace<A>, RecordingStop<'p, A>>
     requires few { setup.now.targets ≤ 4 }
     requires inside { AreInside seen.now.stamped.items }
@@ -103,6 +105,7 @@ fn keep_text<'p, A: Allocator + Clone>(
                 items: left.len(),
                 unselected: seen.unselected,
                 strobe_changes: 0,
+                unit,
             },
             amount: kept.amount,
         }),
@@ -127,7 +130,8 @@ fn show_kept<'p, A: Allocator + Clone, F: Files>(
         Ok(seen) => seen,
         Err(stop) => return Err(stop),
     };
-    match keep_text(alloc, request, setup, steps, &seen) {
+    let unit = unit_of(request.has_times, capture.as_slice());
+    match keep_text(alloc, request, setup, steps, &seen, unit) {
         Ok(kept) => Ok(kept),
         Err(stop) => Err(stop),
     }
@@ -144,7 +148,7 @@ fn show_kept_at<'p, A: Allocator + Clone, F: Files>(
     ensures stays { F.store files.new ≡ F.store files.old }
 {
     let capture = request.capture;
-    let geometry = geometry_at(alloc.clone()?, files, capture.page)?;
+    let geometry = geometry_as(alloc.clone()?, files, capture.profile, capture.page)?;
     let steps = match sequences_at(alloc.clone()?, files, request.vendor) {
         Ok(steps) => steps,
         Err(stop) => return Err(stop),

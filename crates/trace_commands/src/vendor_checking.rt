@@ -32,7 +32,7 @@ use host_notes::HostNoteAt;
 use nand_geometry::Geometry;
 use onfi_cycle::Item;
 use seq_files::Files;
-use seq_inputs::{Console, Exit, end_without_memory, geometry_at, read_file, text_of};
+use seq_inputs::{Console, Exit, end_without_memory, geometry_as, read_file, text_of};
 use std::alloc::{AllocError, Allocator};
 use std::io::Write;
 use trace_faults::{BrokenRule, DoubtedByte, JudgedTrace, OutsideSequence, judge_trace};
@@ -227,7 +227,7 @@ fn check_vendor_at<'p, A: Allocator + Clone, F: Files>(
     ensures stays { OnErr result (F.store files.new ≡ F.store files.old) }
 {
     let check = request.check;
-    let geometry = geometry_at(alloc.clone()?, files, check.page)?;
+    let geometry = geometry_as(alloc.clone()?, files, check.profile, check.page)?;
     let steps = match sequences_at(alloc.clone()?, files, request.vendor) {
         Ok(steps) => steps,
         Err(stop) => return Err(stop),

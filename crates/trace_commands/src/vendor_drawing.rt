@@ -27,7 +27,7 @@ use nand_geometry::Geometry;
 use onfi_cycle::Item;
 use seq_files::Files;
 use seq_inputs::{
-    Console, Exit, Style, end_without_memory, finish, geometry_at, read_file, text_of, try_file,
+    Console, Exit, Style, end_without_memory, finish, geometry_as, read_file, text_of, try_file,
     write_file,
 };
 use std::alloc::{AllocError, Allocator};
@@ -91,7 +91,7 @@ fn draw_vendor_at<'p, A: Allocator + Clone, F: Files>(
     ensures stays { OnErr result (F.store files.new ≡ F.store files.old) }
 {
     let draw = request.draw;
-    let geometry = geometry_at(alloc.clone()?, files, draw.page)?;
+    let geometry = geometry_as(alloc.clone()?, files, draw.profile, draw.page)?;
     let steps = match sequences_at(alloc.clone()?, files, request.vendor) {
         Ok(steps) => steps,
         Err(stop) => return Err(stop),

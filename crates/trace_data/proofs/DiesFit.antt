@@ -16,7 +16,7 @@ bself true = refl
 bself false = refl
 
 new_self : (g : Parts) → same_parts g g ≡ true
-new_self g = rw (eqb_self g.page_bytes, eqb_self g.spare_bytes, eqb_self g.pages, eqb_self g.blocks, eqb_self g.luns, eqb_self g.plane_bits, bself g.enhanced, bself g.multi_plane, bself g.cache) refl
+new_self g = rw (eqb_self g.page_bytes, eqb_self g.spare_bytes, eqb_self g.pages, eqb_self g.blocks, eqb_self g.luns, eqb_self g.plane_bits, bself g.enhanced, bself g.multi_plane, bself g.cache, eqb_self g.optional.0) refl
 
 pub erased_is_new : (g : Parts) → is_new_of g (new_die g) ≡ true
 erased_is_new g = and_from _ _ (new_self g) refl

@@ -1,5 +1,5 @@
 -- What an item leaves of the works on the LUNs of a channel, and where a page has its bytes from.
-use Rattle.std.proofs.Common.{◌≡◌, ◌≢◌, ℕ, zero, suc, ◌<◌, ◌≤◌, ◌==◌, Bool, true, false, List, [], ◌∷◌, ◌++◌, Some, refl, sym, ap, ◌∙◌, arith, length, set, replicate}
+use Rattle.std.proofs.Common.{◌≡◌, ◌≢◌, ℕ, zero, suc, ◌%◌, ◌<◌, ◌≤◌, ◌==◌, Bool, true, false, cond, List, [], ◌∷◌, ◌++◌, Some, refl, sym, ap, ◌∙◌, arith, length, set, replicate}
 use Rattle.std.proofs.lemmas.Bool.Decides.{nat_tests}
 use Rattle.std.proofs.lemmas.Option.{slice_get_within}
 use Rattle.std.specs.List.{slice_get}
@@ -10,6 +10,9 @@ use Rattle.onfi_cycle.specs.declared.latch.Latch.TheVariants as latch
 use Rattle.onfi_cycle.specs.declared.item.Item.{Item}
 use Rattle.onfi_cycle.specs.declared.item.Kind.TheVariants.{Din, Dout}
 use Rattle.onfi_cycle.specs.declared.effect.Effect.{Effect}
+use Rattle.onfi_cycle.specs.declared.effect.Effect.TheVariants.{Unaffected, FeaturesSet}
+use Rattle.onfi_cycle.specs.Effect.{ends_features}
+use Rattle.onfi_cycle.specs.Sequence.{facts_of, tail}
 use Rattle.onfi_cycle.specs.Lun.{effect_on, latch_alone}
 use Rattle.onfi_cycle.specs.Channel.{cycle}
 use Rattle.target_bus.specs.Bus.{numbered}
@@ -71,7 +74,7 @@ one_new_more (suc n) = ap (λ (all : List Works). no_works ∷ all) (one_new_mor
 pub stand_at_first : (g : Parts) (count : ℕ) → AreWorks g [] (replicate count no_works)
 stand_at_first g count k w found = none_begun count k w found
 
--- ---- data cycles begin and end no work
+-- ---- data cycles begin and end no work on a page
 
 output_leaves : (g : Parts) (past : List Item) (ce byte n : ℕ) (l : Lun) (w : Works) → works_after (effect_on g past (cycle ce Dout byte) l) n w ≡ w
 unfolding effect_on
@@ -83,13 +86,18 @@ output_leaves g past ce byte n l w = at (ce == l.ce) (latch_alone g past l) refl
     at true latch.Status e f = rw (e, f) refl
     at true latch.Data e f = rw (e, f) refl
 
+-- a feature that is set is no work on a page
+set_leaves : (ends : Bool) (address n : ℕ) (w : Works) → works_after (cond ends (FeaturesSet address) Unaffected) n w ≡ w
+set_leaves true address n w = refl
+set_leaves false address n w = refl
+
 input_leaves : (g : Parts) (past : List Item) (ce byte n : ℕ) (l : Lun) (w : Works) → works_after (effect_on g past (cycle ce Din byte) l) n w ≡ w
 unfolding effect_on
 input_leaves g past ce byte n l w = at (ce == l.ce) refl
   where
     at : (here : Bool) → (ce == l.ce) ≡ here → works_after (effect_on g past (cycle ce Din byte) l) n w ≡ w
     at false e = rw (e) refl
-    at true e = rw (e) refl
+    at true e = rw (e) (set_leaves (ends_features (facts_of (tail past l.ce))) ((facts_of (tail past l.ce)).column % 256) n w)
 
 pub stay_at_output : (g : Parts) (past : List Item) (ce byte : ℕ) (all : List Works) → AreWorks g past all → AreWorks g (cycle ce Dout byte ∷ past) all
 stay_at_output g past ce byte all are k w found = are k w found ∙ sym (output_leaves g past ce byte (length past) (numbered g k) (works_on g past (numbered g k)))

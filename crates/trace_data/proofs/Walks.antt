@@ -9,7 +9,7 @@ use Rattle.onfi_cycle.specs.declared.lun.Lun.{Lun}
 use Rattle.onfi_cycle.specs.declared.latch.Latch.{Latch}
 use Rattle.onfi_cycle.specs.declared.latch.Latch.TheVariants.{Off, Status, Data}
 use Rattle.onfi_cycle.specs.declared.register.Register.{Register}
-use Rattle.onfi_cycle.specs.declared.register.Register.TheVariants.{Empty, Page, ParameterPage, Identifier}
+use Rattle.onfi_cycle.specs.declared.register.Register.TheVariants.{Empty, Page, ParameterPage, Identifier, Identity, JedecIdentity, UniqueId, Features}
 use Rattle.onfi_cycle.specs.declared.item.Item.{Item}
 use Rattle.onfi_cycle.specs.declared.item.Item.TheVariants.{Cyc}
 use Rattle.onfi_cycle.specs.declared.item.Cycle.{Cycle}
@@ -65,6 +65,10 @@ shown_lun l Status register column x h = cc
 shown_lun l Data Empty column x h = cc
 shown_lun l Data ParameterPage column x h = cc
 shown_lun l Data Identifier column x h = cc
+shown_lun l Data Identity column x h = cc
+shown_lun l Data JedecIdentity column x h = cc
+shown_lun l Data UniqueId column x h = cc
+shown_lun l Data (Features address) column x h = cc
 shown_lun l Data (Page p) None x h = cc
 shown_lun l Data (Page p) (Some column) x h = sym (ap (λ (o : Option PageShown). lun_in o) h)
   where

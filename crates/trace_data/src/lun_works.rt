@@ -100,6 +100,10 @@ impl LunWorks {
             | Effect::Deselected
             | Effect::ReadStarted { .. }
             | Effect::IdRead
+            | Effect::IdentityRead { .. }
+            | Effect::UniqueIdReadStarted
+            | Effect::FeaturesReadStarted { .. }
+            | Effect::FeaturesSet { .. }
             | Effect::ParameterPageReadStarted
             | Effect::CacheReadContinued
             | Effect::CacheReadEnded

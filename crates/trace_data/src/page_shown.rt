@@ -25,7 +25,16 @@ fn shown_of(lun: Lun, look: Option<LunState>) -> Option<PageShown>
             }
             (Latch::Off | Latch::Status, _, _)
             | (Latch::Data, Register::Empty, _)
-            | (Latch::Data, Register::ParameterPage | Register::Identifier, _)
+            | (
+                Latch::Data,
+                Register::ParameterPage
+                | Register::Identifier
+                | Register::Identity
+                | Register::JedecIdentity
+                | Register::UniqueId
+                | Register::Features(_),
+                _,
+            )
             | (Latch::Data, Register::Page(_), None) => None,
         },
     }

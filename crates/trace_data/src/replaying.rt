@@ -143,7 +143,7 @@ fn take_output(
     }
 }
 
-// An input comes, which begins and ends no work.
+// An input comes, which begins and ends no work on a page.
 #[tactic(auto, using(crate::proofs::Walks::input_stands))]
 fn take_input(bus: &mut Bus, works: &[LunWorks], ce: u8, byte: u8) -> Result<(), BusRefusal>
     requires { Stands bus.old works.now }

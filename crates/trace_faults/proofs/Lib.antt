@@ -3,3 +3,4 @@ pub mod Shown
 pub mod Inside
 pub mod Middles
 pub mod Wholes
+pub mod Knowing

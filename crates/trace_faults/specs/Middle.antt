@@ -84,6 +84,10 @@ doubts_lun state k ce number = is_doubtful (looked state (record { ce = ce; lun 
 abbrev pub doubts : BusView → Known → ℕ → Bool
 doubts state k ce = doubts_lun state k ce 0 || (doubts_lun state k ce 1 || (doubts_lun state k ce 2 || doubts_lun state k ce 3))
 
+-- all is known of the target
+abbrev pub is_whole : Known → Bool
+is_whole k = k.opened && (is_all k.zeroth && (is_all k.first && (is_all k.second && is_all k.third)))
+
 -- ---- what an item shows of its target
 
 abbrev pub is_reset_cycle : TargetCycle → Bool

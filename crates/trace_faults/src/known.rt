@@ -1,6 +1,6 @@
 //! What a recording that began in the middle has shown of a target.
 ghost use Rattle.std.specs.Prelude.{◌≡◌, get_or, slice_set, nat_lt};
-ghost use Rattle.trace_faults.specs.Middle.{nothing_known, all_known, first_known, all_first_known, known_of, knows, is_doubtful, doubts_ready, doubts_lun, doubts, learned};
+ghost use Rattle.trace_faults.specs.Middle.{nothing_known, all_known, first_known, all_first_known, known_of, knows, is_doubtful, doubts_ready, doubts_lun, doubts, is_whole, learned};
 
 use crate::looks::Looks;
 use crate::lun_known::LunKnown;
@@ -94,6 +94,17 @@ impl Known {
         )
     }
 
+    /// All is known of the target, so no item tells more of it.
+    pub(crate) fn is_whole(self) -> bool
+        ensures { result ≡ is_whole self }
+    {
+        self.opened
+            && self.zeroth.is_all()
+            && self.first.is_all()
+            && self.second.is_all()
+            && self.third.is_all()
+    }
+
     // Whether the LUN of this number is there, and not all is known of it.
     fn doubts_lun(self, state: &BusState, ce: u8, lun: u8) -> bool
         ensures { result ≡ doubts_lun state.now self ce lun }
@@ -102,9 +113,13 @@ impl Known {
     }
 
     /// Whether there is a LUN of its target of which not all is known.
+    #[tactic(auto, using(crate::proofs::Knowing::no_doubts))]
     pub(crate) fn doubts(self, state: &BusState, ce: u8) -> bool
         ensures { result ≡ doubts state.now self ce }
     {
+        if self.is_whole() {
+            return false;
+        }
         self.doubts_lun(state, ce, 0)
             || self.doubts_lun(state, ce, 1)
             || self.doubts_lun(state, ce, 2)

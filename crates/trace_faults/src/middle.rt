@@ -67,14 +67,26 @@ fn note_learned(known: &mut AllKnown, item: Item, before: Looks, after: Looks)
     note_known(known, target, now);
 }
 
-// Goes on after an item that was judged.
-fn go_on_judged(state: &mut TraceState, known: &mut AllKnown, item: Item)
+// Goes on after an item that was judged, and notes what it shows.
+fn go_on_learning(state: &mut TraceState, known: &mut AllKnown, item: Item)
     ensures state { state.new ≡ gone_on item state.old }
     ensures known { known.new ≡ (judged_on item (record { state = state.old; known = known.old })).known }
 {
     let before = Looks::of(&state.bus, item.target());
     let _ = state.go_on(item);
     note_learned(known, item, before, Looks::of(&state.bus, item.target()));
+}
+
+// Goes on after an item that was judged.
+fn go_on_judged(state: &mut TraceState, known: &mut AllKnown, item: Item)
+    ensures state { state.new ≡ gone_on item state.old }
+    ensures known { known.new ≡ (judged_on item (record { state = state.old; known = known.old })).known }
+{
+    if known_of(known, item.target()).is_whole() {
+        let _ = state.go_on(item);
+        return;
+    }
+    go_on_learning(state, known, item);
 }
 
 // Goes on after an item of which this is said.

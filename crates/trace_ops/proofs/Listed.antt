@@ -6,7 +6,7 @@ use Rattle.trace_faults.specs.declared.known.Known.{Known}
 use Rattle.trace_faults.specs.declared.readies.Readies.{Readies}
 use Rattle.trace_faults.specs.declared.trace_state.TraceState.{TraceState}
 use Rattle.trace_faults.specs.declared.verdict.Verdict.{Verdict}
-use Rattle.trace_faults.specs.Middle.{Seen, verdict, seen_after}
+use Rattle.trace_faults.specs.Middle.{Seen, verdict, seen_after, verdicts_from}
 use Rattle.trace_ops.specs.declared.judged.Judged.{Judged}
 use Rattle.trace_ops.specs.declared.looks.Looks.{Looks}
 use Rattle.trace_ops.specs.declared.operation.Operation.{Operation}
@@ -93,3 +93,12 @@ marks_go_on readies one_lun seen seen' n i later rest l l' j k marks marks' whol
     ∙ ap (λ (items : List Item). marks_from readies one_lun seen n items l) (sym cons) in
     ap (λ (ms : List ℕ). ms ++ marks_from readies one_lun seen' (n + 1) later l') more
     ∙ append_assoc marks (k ∷ []) (marks_from readies one_lun seen' (n + 1) later l') ∙ ap (λ (ms : List ℕ). marks ++ ms) all ∙ before
+
+pub verdicts_go_on : (readies : Readies) (one_lun : Bool) (seen seen' : Seen) (n : ℕ) (i : Item) (later rest : List Item) (j : Judged) (verdicts verdicts' whole : List Verdict) →
+    rest ≡ i ∷ later → j ≡ Next readies one_lun seen n i later → seen' ≡ seen_after readies seen i later → verdicts' ≡ verdicts ++ j.said ∷ [] →
+    verdicts ++ verdicts_from readies seen rest ≡ whole → verdicts' ++ verdicts_from readies seen' later ≡ whole
+verdicts_go_on readies one_lun seen seen' n i later rest j verdicts verdicts' whole cons is next more before =
+    let all : j.said ∷ verdicts_from readies seen' later ≡ verdicts_from readies seen rest =
+    ap (λ (s : Seen). j.said ∷ verdicts_from readies s later) next ∙ ap (λ (x : Judged). x.said ∷ verdicts_from readies (seen_after readies seen i later) later) is
+    ∙ ap (λ (items : List Item). verdicts_from readies seen items) (sym cons) in
+    ap (λ (vs : List Verdict). vs ++ verdicts_from readies seen' later) more ∙ append_assoc verdicts (j.said ∷ []) (verdicts_from readies seen' later) ∙ ap (λ (vs : List Verdict). verdicts ++ vs) all ∙ before

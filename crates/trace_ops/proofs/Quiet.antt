@@ -4,7 +4,7 @@ use Rattle.onfi_cycle.specs.declared.item.Item.{Item}
 use Rattle.onfi_cycle.specs.declared.item.Item.TheVariants.{Cyc, Rdy, Ard}
 use Rattle.onfi_cycle.specs.declared.lun_state.LunState.{LunState}
 use Rattle.onfi_cycle.specs.declared.register.Register.{Register}
-use Rattle.onfi_cycle.specs.declared.register.Register.TheVariants.{Empty, Page, ParameterPage, Identifier}
+use Rattle.onfi_cycle.specs.declared.register.Register.TheVariants.{Empty, Page, ParameterPage, Identifier, Identity, JedecIdentity, UniqueId, Features}
 use Rattle.trace_ops.specs.declared.change.Change.{Change}
 use Rattle.trace_ops.specs.declared.change.Change.TheVariants.{Opened, Cycle, LoneReady, End, Begin, Poll, Show, Hold, SetLun, Fold, Unfold}
 use Rattle.trace_ops.specs.declared.judged.Judged.{Judged}
@@ -76,6 +76,10 @@ module _ (P : List Operation → Type 0) (step : (k : ℕ) (c : Change) (ops : L
   by_register (Page at) k ops p = step k (Hold at) ops refl p
   by_register ParameterPage k ops p = p
   by_register Identifier k ops p = p
+  by_register Identity k ops p = p
+  by_register JedecIdentity k ops p = p
+  by_register UniqueId k ops p = p
+  by_register (Features address) k ops p = p
 
   by_hold : (look : Option LunState) (k : ℕ) (ops : List Operation) → P ops → P (held_by look k ops)
   by_hold None k ops p = p

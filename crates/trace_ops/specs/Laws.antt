@@ -11,10 +11,10 @@ use Rattle.trace_faults.specs.declared.readies.Readies.{Readies}
 use Rattle.trace_faults.specs.declared.verdict.Verdict.{Verdict}
 use Rattle.trace_faults.specs.declared.beginning.Beginning.TheVariants.{Start}
 use Rattle.trace_faults.specs.Faults.{faults_of}
-use Rattle.trace_faults.specs.Middle.{first_seen_as, verdicts_from, all_broken}
+use Rattle.trace_faults.specs.Middle.{all_broken}
 use Rattle.trace_ops.specs.declared.operation.Operation.{Operation}
 use Rattle.trace_ops.specs.Operation.{is_clean, is_output}
-use Rattle.trace_ops.specs.Listing.{ops_of, marks_of}
+use Rattle.trace_ops.specs.Listing.{ops_of, marks_of, verdicts_as}
 
 -- ---- each item belongs to one operation
 
@@ -88,10 +88,6 @@ NothingIsLost =
     length items < 2 ^ 64 → AreCounted items (ops_of readies beginning g targets items)
 
 -- ---- no fault is hidden
-
--- what is said of each item of a trace
-abbrev pub verdicts_as : Readies → Beginning → Parts → ℕ → List Item → List Verdict
-verdicts_as readies beginning g targets items = verdicts_from readies (first_seen_as beginning g targets items) items
 
 -- of a trace that is judged from its start these are the faults that `check` tells; from the middle on they are so by definition
 abbrev pub FaultsAreTold : Type 0

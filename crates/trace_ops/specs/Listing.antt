@@ -10,7 +10,7 @@ use Rattle.onfi_cycle.specs.declared.latch.Latch.{Latch}
 use Rattle.onfi_cycle.specs.declared.latch.Latch.TheVariants.{Off, Status, Data}
 use Rattle.onfi_cycle.specs.declared.lun_state.LunState.{LunState}
 use Rattle.onfi_cycle.specs.declared.register.Register.{Register}
-use Rattle.onfi_cycle.specs.declared.register.Register.TheVariants.{Empty, Page, ParameterPage, Identifier}
+use Rattle.onfi_cycle.specs.declared.register.Register.TheVariants.{Empty, Page, ParameterPage, Identifier, Identity, JedecIdentity, UniqueId, Features}
 use Rattle.onfi_cycle.specs.Command.{command, is_opener}
 use Rattle.onfi_cycle.specs.Look.{looked}
 use Rattle.onfi_cycle.specs.Sequence.{target_of}
@@ -19,7 +19,7 @@ use Rattle.trace_faults.specs.declared.beginning.Beginning.{Beginning as Start}
 use Rattle.trace_faults.specs.declared.readies.Readies.{Readies}
 use Rattle.trace_faults.specs.declared.verdict.Verdict.{Verdict}
 use Rattle.trace_faults.specs.declared.verdict.Verdict.TheVariants.{Permitted, PassedOver, Granted, Broken, NotShown as WithoutReady}
-use Rattle.trace_faults.specs.Middle.{Seen, verdict, seen_after, first_seen_as}
+use Rattle.trace_faults.specs.Middle.{Seen, verdict, seen_after, first_seen_as, verdicts_from}
 use Rattle.trace_ops.specs.declared.operation.Beginning.TheVariants as begins
 use Rattle.trace_ops.specs.declared.operation.Ending.{Ending}
 use Rattle.trace_ops.specs.declared.operation.Ending.TheVariants as ends
@@ -390,6 +390,10 @@ held_in Empty k ops = ops
 held_in (Page at) k ops = changed_at k (change.Hold at) ops
 held_in ParameterPage k ops = ops
 held_in Identifier k ops = ops
+held_in Identity k ops = ops
+held_in JedecIdentity k ops = ops
+held_in UniqueId k ops = ops
+held_in (Features address) k ops = ops
 
 abbrev pub held_by : Option LunState → (k : ℕ) → List Operation → List Operation
 held_by None k ops = ops
@@ -506,3 +510,7 @@ ops_of readies beginning g targets items = ops_from readies (has_one_lun g) (fir
 
 abbrev pub marks_of : Readies → Start → Parts → ℕ → List Item → List ℕ
 marks_of readies beginning g targets items = marks_from readies (has_one_lun g) (first_seen_as beginning g targets items) 0 items nothing_listed
+
+-- what is said of each item of a trace
+abbrev pub verdicts_as : Readies → Start → Parts → ℕ → List Item → List Verdict
+verdicts_as readies beginning g targets items = verdicts_from readies (first_seen_as beginning g targets items) items

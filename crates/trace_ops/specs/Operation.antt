@@ -2,7 +2,8 @@
 use Rattle.std.specs.Prelude.{ℕ, ◌+◌, ◌==◌, ◌&&◌, ◌||◌, not, Bool, true, false, nat_lt, nat_le, List, slice_get, slice_set, slice_index, replicate, Option, Some, None, is_some, if◌then◌else◌}
 use Rattle.onfi_cycle.specs.declared.item.Kind.{Kind}
 use Rattle.onfi_cycle.specs.declared.item.Kind.TheVariants.{Cmd, Adr, Din, Dout}
-use Rattle.onfi_cycle.specs.Command.{command, is_known}
+use Rattle.onfi_cycle.specs.Command.{command}
+use Rattle.onfi_cycle.specs.Base.{is_of_base}
 use Rattle.trace_faults.specs.declared.verdict.Verdict.{Verdict}
 use Rattle.trace_faults.specs.declared.verdict.Verdict.TheVariants.{Permitted, PassedOver, Granted, Broken, NotShown as WithoutReady}
 use Rattle.trace_ops.specs.declared.operation.Beginning.{Beginning}
@@ -68,9 +69,9 @@ abbrev pub is_byte : Option ℕ → ℕ → Bool
 is_byte None byte = false
 is_byte (Some other) byte = other == byte
 
--- a command of which the model knows nothing
+-- a command that isn't one of the base profile
 abbrev pub is_unknown : ℕ → Bool
-is_unknown byte = not (is_known (command byte))
+is_unknown byte = not (is_of_base (command byte))
 
 -- 15h, 32h and 35h close a sequence as 10h and 30h do
 abbrev pub closes_as_known : ℕ → Bool

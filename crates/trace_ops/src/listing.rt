@@ -3,7 +3,7 @@ ghost use Rattle.std.specs.Prelude.{◌≡◌, ◌≤◌, ◌++◌, ◌∷◌, [
 ghost use Rattle.onfi_cycle.specs.Sequence.{target_of};
 ghost use Rattle.trace_ops.specs.declared.judged.Judged.{Judged as JudgedValue};
 ghost use Rattle.trace_ops.specs.declared.places.Places.{Places as PlacesValue};
-ghost use Rattle.trace_ops.specs.Listing.{Listing, is_new_opener, change_of, is_address, is_address_kind, is_alone_op, unfolded, noted_at, foreign_ended, polled_on, polled_by, polled, ready_end, with_ready, taken_by, listed, mark_in, owner_in, with_ends, has_one_lun, ops_of, marks_of};
+ghost use Rattle.trace_ops.specs.Listing.{Listing, is_new_opener, change_of, is_address, is_address_kind, is_alone_op, unfolded, noted_at, foreign_ended, polled_on, polled_by, polled, ready_end, with_ready, taken_by, listed, mark_in, owner_in, with_ends, has_one_lun, ops_of, marks_of, verdicts_as};
 
 use crate::begins::begin_all;
 use crate::change::{Change, change_at, change_if};
@@ -18,7 +18,7 @@ use crate::selects::select_all;
 use nand_geometry::Geometry;
 use onfi_cycle::{Item, Kind};
 use std::alloc::{AllocError, Allocator};
-use trace_faults::{Beginning, Readies, TraceJudge};
+use trace_faults::{Beginning, Readies, TraceJudge, Verdict};
 
 // The opener of a new operation is no byte of it.
 fn is_new_opener(owner: Option<usize>, kind: Kind) -> bool
@@ -239,18 +239,20 @@ fn take<A: Allocator>(
     Ok(number)
 }
 
-/// The operations of a trace, and to which of them each item belongs.
+/// The operations of a trace, to which of them each item belongs, and what is said of it.
 #[derive(Drop)]
 pub struct Operations<A: Allocator> {
     /// In the order of their first items.
     pub operations: Vec<Operation, A>,
     /// Of each item the number of its operation, from 0.
     pub marks: Vec<usize, A>,
+    /// Of each item whether it is permitted.
+    pub verdicts: Vec<Verdict, A>,
 }
 
 /// The operations of a trace that begins there, on a channel of so many targets of this geometry, 4 at most. Items are judged as
-/// [`find_faults`](trace_faults::find_faults) and [`find_faults_from_middle`](trace_faults::find_faults_from_middle) judge them. It takes 8 bytes an item and
-/// some 200 an operation.
+/// [`find_faults`](trace_faults::find_faults) and [`find_faults_from_middle`](trace_faults::find_faults_from_middle) judge them. It takes some 16 bytes an item
+/// and 200 an operation.
 pub fn find_operations<A: Allocator + Clone>(
     alloc: A,
     geometry: &Geometry,
@@ -262,19 +264,26 @@ pub fn find_operations<A: Allocator + Clone>(
     requires { targets ≤ 4 }
     ensures operations { IfOk result (λ found. found.operations.items ≡ ops_of readies beginning geometry.now targets items.now) }
     ensures marks { IfOk result (λ found. found.marks.items ≡ marks_of readies beginning geometry.now targets items.now) }
+    ensures verdicts { IfOk result (λ found. found.verdicts.items ≡ verdicts_as readies beginning geometry.now targets items.now) }
 {
     let one_lun = geometry.parts().luns == 1;
     let mut judge = TraceJudge::new(geometry, targets, items, beginning);
     let mut places = Places::nobody();
     let mut operations = Vec::new(alloc.clone()?);
-    let mut marks = Vec::new(alloc);
+    let mut marks = Vec::new(alloc.clone()?);
+    let mut verdicts = Vec::new(alloc);
     let mut number = 0;
     let mut rest = items;
     'rest: while let Some((first, later)) = rest.split_first() {
         let judged = judge_item(&mut judge, readies, one_lun, number, *first, later);
         marks.push(take(&mut operations, &mut places, &judged)?)?;
+        verdicts.push(judged.said)?;
         number += 1;
         rest = later;
     }
-    Ok(Operations { operations, marks })
+    Ok(Operations {
+        operations,
+        marks,
+        verdicts,
+    })
 }

@@ -109,11 +109,11 @@ pub(crate) fn is_byte(found: Option<u8>, byte: u8) -> bool
     }
 }
 
-/// A command of which the model knows nothing.
+/// A command that isn't one of the base profile.
 pub(crate) fn is_unknown(byte: u8) -> bool
     ensures { result ≡ is_unknown byte }
 {
-    !Command::of(byte).is_known()
+    !Command::of(byte).is_of_base()
 }
 
 /// 15h, 32h and 35h close a sequence as 10h and 30h do.

@@ -127,7 +127,13 @@ fn hold<A: Allocator>(ops: &mut Vec<Operation, A>, number: usize, lun: Option<Lu
     if let Some(lun) = lun {
         match lun.register {
             Register::Page(page) => change_at(ops, number, Change::Hold { page }),
-            Register::Empty | Register::ParameterPage | Register::Identifier => {}
+            Register::Empty
+            | Register::ParameterPage
+            | Register::Identifier
+            | Register::Identity
+            | Register::JedecIdentity
+            | Register::UniqueId
+            | Register::Features(_) => {}
         }
     }
 }

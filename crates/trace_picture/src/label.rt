@@ -69,7 +69,12 @@ fn opener_name(opener: Command) -> &'static str {
         Command::ReadStatus | Command::ReadStatusEnhanced => "status",
         Command::ReadId => "id",
         Command::ReadParameterPage => "parameters",
+        Command::ReadUniqueId => "unique id",
+        Command::GetFeatures => "get features",
+        Command::SetFeatures => "set features",
         Command::Reset => "reset",
+        Command::ResetLun => "reset lun",
+        Command::SynchronousReset => "sync reset",
         Command::ReadCacheSequential => "next page",
         Command::ReadCacheEnd => "last page",
         Command::ReadConfirm

@@ -22,6 +22,9 @@ const MARGIN: u64 = 30;
 // How far apart the numbers of items stand at least, in tenths of a point.
 const TICK: u64 = 520;
 
+// How many broken rules have a line.
+const MOST_BROKEN: usize = 100;
+
 const STYLE: &str =
     "<style>.n{font-size:12px;font-weight:bold;text-anchor:end;fill:#222}.l{font-size:11px;text-anchor:end;fill:#444}\
 .t{font-size:9px;fill:#666}.w{font-size:9.5px;fill:#fff}.g{stroke:#ddd}.k{stroke:#eee}.busy{fill:#c98a10}.array{fill:#f1dca8}\
@@ -153,9 +156,10 @@ impl<A: Allocator> Picture<A> {
             "<rect width=\"100%\" height=\"100%\" fill=\"#fff\"/>\n<text x=\"10\" y=\"18\" class=\"h\">{} items, ",
             self.items
         )?;
-        match self.timeline.broken {
-            None => f.write_str("legal</text>\n"),
-            Some(broken) => write!(f, "{broken}</text>\n"),
+        match self.timeline.broken.as_slice() {
+            [] => f.write_str("legal</text>\n"),
+            [broken] => write!(f, "{broken}</text>\n"),
+            [broken, more @ ..] => write!(f, "{broken}, and {} more</text>\n", more.len()),
         }
     }
 
@@ -394,15 +398,15 @@ impl<A: Allocator> fmt::Display for Picture<A> {
             self.write_failure(f, failure)?;
         }
         self.write_boxes(f)?;
-        if let Some(broken) = self.timeline.broken {
-            self.write_broken(f, broken)?;
+        for broken in self.timeline.broken.iter().take(MOST_BROKEN) {
+            self.write_broken(f, *broken)?;
         }
         f.write_str("</svg>\n")
     }
 }
 
 /// The picture of a trace on a channel of so many targets, 4 at most, of this geometry: an SVG of its own, with no script, and no font but the browser's.
-/// An item that breaks a rule is drawn, and what comes after it is grey. `AllocError` is answered only where memory was refused.
+/// An item that breaks a rule has a red line, up to the hundredth; it is grey, and so is what goes on with it up to the next opener of its target. `AllocError` is answered only where memory was refused.
 pub fn draw<A: Allocator + Clone>(
     alloc: A,
     geometry: &Geometry,

@@ -7,8 +7,9 @@ use crate::lane::Lane;
 use crate::piece::{Piece, Sequence};
 use crate::span::{Failure, Span, Worker};
 use nand_geometry::Geometry;
-use onfi_cycle::{BusState, Command, Cycle, Item, Kind, Lun};
+use onfi_cycle::{BusState, Command, Cycle, Forbidden, Item, Kind, Lun};
 use std::alloc::{AllocError, Allocator};
+use trace_faults::{Beginning, Readies, TraceJudge, Verdict};
 
 // How many LUNs a channel has at most.
 const LUNS: usize = 16;
@@ -24,8 +25,8 @@ pub struct Timeline<A: Allocator> {
     pub spans: Vec<Span, A>,
     /// The failures that readies told.
     pub failures: Vec<Failure, A>,
-    /// Where a rule is broken first.
-    pub broken: Option<Broken>,
+    /// Where a rule is broken.
+    pub broken: Vec<Broken, A>,
 }
 
 // What is known while a timeline is made: of each target the box that goes on, and of each LUN since when it and its array have worked.
@@ -51,6 +52,15 @@ fn entry_at(entries: &[Option<usize>], place: usize) -> Option<usize> {
     match entries.get(place) {
         None => None,
         Some(entry) => *entry,
+    }
+}
+
+// The rule that an item breaks, by what is said of it.
+fn broken_by(said: Verdict) -> Option<Forbidden> {
+    match said {
+        Verdict::Broken(rule) => Some(rule),
+        Verdict::Permitted | Verdict::PassedOver | Verdict::Granted(_) | Verdict::NotShown(_) =>
+            None,
     }
 }
 
@@ -227,8 +237,8 @@ impl<A: Allocator> Timeline<A> {
         }
     }
 
-    // Adds a cycle after an item that broke a rule.
-    fn draw_unjudged(&mut self, ce: u8, item: usize) -> Result<(), AllocError> {
+    // Adds a cycle that breaks a rule, and is grey as what goes on with it; the lane of its target then.
+    fn draw_broken(&mut self, ce: u8, item: usize) -> Result<Lane, AllocError> {
         if let Some(piece) = self.pieces.last() {
             let sequence = piece.sequence;
             let is_ours = match self.sequences.get(sequence) {
@@ -236,82 +246,82 @@ impl<A: Allocator> Timeline<A> {
                 Some(sequence) => sequence.ce == ce && sequence.label == Label::Unjudged,
             };
             if is_ours {
-                return self.go_on(sequence, item);
+                self.go_on(sequence, item)?;
+                return Ok(Lane::begun(sequence, Command::Unknown));
             }
         }
-        self.begin(ce, Label::Unjudged, item)?;
+        let place = self.begin(ce, Label::Unjudged, item)?;
+        Ok(Lane::begun(place, Command::Unknown))
+    }
+
+    // Adds a cycle, which breaks this rule or none.
+    fn draw_cycle_of(
+        &mut self,
+        running: &mut Running,
+        geometry: &Geometry,
+        cycle: Cycle,
+        item: usize,
+        rule: Option<Forbidden>,
+    ) -> Result<(), AllocError> {
+        let at = usize::from(cycle.ce);
+        if at < 4 {
+            running.lanes[at] = match rule {
+                None => self.draw_cycle(geometry, running.lanes[at], cycle, item)?,
+                Some(_) => self.draw_broken(cycle.ce, item)?,
+            };
+        }
         Ok(())
     }
 
-    // Adds an item that breaks no rule.
+    // Adds an item, which breaks this rule or none.
     fn draw_item(
         &mut self,
         running: &mut Running,
-        state: &mut BusState,
+        geometry: &Geometry,
         item: Item,
         place: usize,
+        rule: Option<Forbidden>,
     ) -> Result<(), AllocError> {
-        let ce = item.target();
         match item {
-            Item::Cyc(cycle) => {
-                let at = usize::from(ce);
-                if at < 4 {
-                    let geometry = state.geometry();
-                    running.lanes[at] = self.draw_cycle(
-                        &geometry,
-                        running.lanes[at],
-                        cycle,
-                        place,
-                    )?;
-                }
-            }
-            Item::Rdy { ce, lun, fail } if fail => {
+            Item::Cyc(cycle) => self.draw_cycle_of(running, geometry, cycle, place, rule),
+            Item::Rdy { ce, lun, fail } if fail && rule.is_none() => {
                 self.failures.push(Failure {
                     ce,
                     lun,
                     item: place,
                 })?;
+                Ok(())
             }
-            Item::Rdy { .. } | Item::Ard { .. } => {}
-        }
-        self.look_at_all(running, state, ce, place)
-    }
-
-    // Adds an item: what it does where no rule is broken so far.
-    fn draw_next(
-        &mut self,
-        running: &mut Running,
-        state: &mut BusState,
-        item: Item,
-        place: usize,
-    ) -> Result<(), AllocError> {
-        if self.broken.is_none() {
-            match state.judge(item) {
-                Some(rule) => self.broken = Some(Broken { item: place, rule }),
-                None => {
-                    state.apply(item);
-                    return self.draw_item(running, state, item, place);
-                }
-            }
-        }
-        match item {
-            Item::Cyc(cycle) => self.draw_unjudged(cycle.ce, place),
             Item::Rdy { .. } | Item::Ard { .. } => Ok(()),
         }
     }
 
+    // Adds the next item, behind which these come: it is judged on what those before it left, permitted or not.
+    fn draw_next(
+        &mut self,
+        running: &mut Running,
+        judge: &mut TraceJudge,
+        item: Item,
+        later: &[Item],
+        place: usize,
+    ) -> Result<(), AllocError> {
+        let rule = broken_by(judge.take(Readies::Written, item, later));
+        if let Some(rule) = rule {
+            self.broken.push(Broken { item: place, rule })?;
+        }
+        let geometry = judge.state.bus.geometry();
+        self.draw_item(running, &geometry, item, place, rule)?;
+        self.look_at_all(running, &judge.state.bus, item.target(), place)
+    }
+
     // Adds the time of what still works at the end.
     fn push_open_spans(&mut self, running: &Running) -> Result<(), AllocError> {
-        let end = match self.broken {
-            None => None,
-            Some(broken) => Some(broken.item),
-        };
         for ce in 0..4u8 {
             for lun in 0..4u8 {
                 let place = usize::from(ce) * 4 + usize::from(lun);
                 let of = Lun { ce, lun };
-                self.push_span(of, Worker::Lun, entry_at(&running.busy, place), end)?;
-                self.push_span(of, Worker::Array, entry_at(&running.array, place), end)?;
+                self.push_span(of, Worker::Lun, entry_at(&running.busy, place), None)?;
+                self.push_span(of, Worker::Array, entry_at(&running.array, place), None)?;
             }
         }
         Ok(())
@@ -325,8 +335,8 @@ impl<A: Allocator + Clone> Timeline<A> {
             sequences: Vec::new(alloc.clone()?),
             pieces: Vec::new(alloc.clone()?),
             spans: Vec::new(alloc.clone()?),
-            failures: Vec::new(alloc),
-            broken: None,
+            failures: Vec::new(alloc.clone()?),
+            broken: Vec::new(alloc),
         })
     }
 
@@ -340,14 +350,15 @@ impl<A: Allocator + Clone> Timeline<A> {
         requires { targets ≤ 4 }
     {
         let mut timeline = Timeline::empty(alloc)?;
-        let mut state = BusState::new(*geometry, targets);
+        let mut judge = TraceJudge::new(geometry, targets, items, Beginning::Start);
         let mut running = Running {
             lanes: [Lane::new(); 4],
             busy: [None; LUNS],
             array: [None; LUNS],
         };
         for (place, item) in items.iter().enumerate() {
-            timeline.draw_next(&mut running, &mut state, *item, place)?;
+            let (_, later) = items.split_at(place);
+            timeline.draw_next(&mut running, &mut judge, *item, later, place)?;
         }
         timeline.push_open_spans(&running)?;
         Ok(timeline)

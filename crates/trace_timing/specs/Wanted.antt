@@ -66,6 +66,7 @@ cycle_want_by t has_command last.Nothing kind None = None
 cycle_want_by t has_command (last.Command c) kind None = Some (want_of_strobe t kind)
 cycle_want_by t has_command (last.Address c) kind None = Some (want_of_strobe t kind)
 cycle_want_by t has_command last.Input kind None = Some (want_of_strobe t kind)
+cycle_want_by t has_command (last.FeatureByte number) kind None = Some (want_of_strobe t kind)
 cycle_want_by t has_command last.Output kind None = Some (want_of_strobe t kind)
 
 -- what is wanted since the last cycle of the target, beside tWB

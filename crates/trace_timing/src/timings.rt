@@ -95,6 +95,7 @@ impl Timings {
                 LastCycle::Command(_)
                 | LastCycle::Address(_)
                 | LastCycle::Input
+                | LastCycle::FeatureByte { .. }
                 | LastCycle::Output,
                 None,
             ) => Some(self.want_of_strobe(kind)),

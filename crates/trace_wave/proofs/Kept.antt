@@ -1,13 +1,13 @@
 -- Items that start no work and end none leave the lines of the model as they are.
-use Rattle.std.proofs.Common.{◌≡◌, ℕ, zero, suc, ◌+◌, ◌<◌, ◌==◌, Bool, true, false, ◌&&◌, cond, not, List, ◌∷◌, Option, Some, None, refl, sym, ap, ◌∙◌, subst, length}
+use Rattle.std.proofs.Common.{◌≡◌, ℕ, zero, suc, ◌+◌, ◌%◌, ◌<◌, ◌==◌, Bool, true, false, ◌&&◌, ◌||◌, cond, not, List, ◌∷◌, Option, Some, None, refl, sym, ap, ◌∙◌, subst, length}
 use Rattle.std.proofs.lemmas.Bool.{not-true, eqb-true}
 use Rattle.std.proofs.lemmas.Option.{slice_get_within}
 use Rattle.std.specs.List.{slice_get}
 use Rattle.nand_geometry.specs.declared.parts.Parts.{Parts}
 use Rattle.onfi_cycle.specs.declared.command.Command.{Command}
-use Rattle.onfi_cycle.specs.declared.command.Command.TheVariants.{Read, ChangeReadColumnConfirm, ReadStatus, ReadStatusEnhanced, ReadConfirm, BlockEraseConfirm, BlockErasePlane, ProgramConfirm, ProgramPlane, ReadId, ReadParameterPage, Reset, ReadCacheSequential, ReadCacheEnd}
+use Rattle.onfi_cycle.specs.declared.command.Command.TheVariants.{Read, ChangeReadColumnConfirm, ReadStatus, ReadStatusEnhanced, ReadConfirm, BlockEraseConfirm, BlockErasePlane, ProgramConfirm, ProgramPlane, ReadId, ReadParameterPage, Reset, ReadCacheSequential, ReadCacheEnd, ReadUniqueId, GetFeatures, ResetLun, SynchronousReset}
 use Rattle.onfi_cycle.specs.declared.effect.Effect.{Effect}
-use Rattle.onfi_cycle.specs.declared.effect.Effect.TheVariants.{Unaffected, SelectedForStatus, Deselected, ReadColumnChanged, DataOutput}
+use Rattle.onfi_cycle.specs.declared.effect.Effect.TheVariants.{Unaffected, FeaturesSet, SelectedForStatus, Deselected, ReadColumnChanged, DataOutput}
 use Rattle.onfi_cycle.specs.declared.item.Kind.{Kind}
 use Rattle.onfi_cycle.specs.declared.item.Kind.TheVariants.{Cmd, Adr, Din, Dout}
 use Rattle.onfi_cycle.specs.declared.item.Item.{Item}
@@ -17,12 +17,12 @@ use Rattle.onfi_cycle.specs.declared.lun.Lun.{Lun}
 use Rattle.onfi_cycle.specs.declared.opening.Opening.{Opening}
 use Rattle.onfi_cycle.specs.declared.tail_facts.TailFacts.{TailFacts}
 use Rattle.onfi_cycle.specs.Command.{command, reads_identity}
-use Rattle.onfi_cycle.specs.Sequence.{target_of, target_cycle, opened, wants_command, row, row_with, tail, facts_of}
-use Rattle.onfi_cycle.specs.Effect.{is_off, is_data, names_lun, confirm_effect, command_effect, address_effect, opening_address_effect, cycle_effect, item_effect}
+use Rattle.onfi_cycle.specs.Sequence.{target_of, target_cycle, opened, wants_command, row, row_with, takes_features, tail, facts_of}
+use Rattle.onfi_cycle.specs.Effect.{is_off, is_data, names_lun, confirm_effect, command_effect, address_effect, opening_address_effect, ends_features, cycle_effect, item_effect}
 use Rattle.onfi_cycle.specs.Lun.{busy_after, array_busy_after, effect_on, latch_alone}
 use Rattle.onfi_cycle.specs.Readies.{starts}
 use Rattle.onfi_cycle.specs.State.{TargetView, BusView, Follows, judged, judged_on}
-use Rattle.trace_wave.specs.Keeping.{kind_keeps_work, keeps_work}
+use Rattle.trace_wave.specs.Keeping.{is_reset_lun, kind_keeps_work, keeps_work}
 use Rattle.trace_wave.specs.Levels.{shown, tells_failure, some_busy, readies, target_levels, targets_levels, model_levels, rule_bits}
 use Rattle.trace_wave.specs.Levels as L
 use Rattle.trace_wave.proofs.Counted.{length_targets}
@@ -52,29 +52,36 @@ command_keeps g t la Read n h = record { busy = λ b. refl; array = λ b c a. re
 command_keeps g t la ReadStatus n h = record { busy = λ b. refl; array = λ b c a. refl }
 command_keeps g t la ReadStatusEnhanced n h = record { busy = λ b. refl; array = λ b c a. refl }
 command_keeps g t la Reset n h = cc
+command_keeps g t la SynchronousReset n h = cc
 command_keeps g t la ReadCacheSequential n h = cc
 command_keeps g t la ReadCacheEnd n h = cc
 command_keeps g t la ChangeReadColumnConfirm n h =
     either (wants_command t ChangeReadColumnConfirm && not (is_off la)) (ReadColumnChanged t.column) Unaffected (record { busy = λ b. refl; array = λ b c a. refl }) unaffected
 command_keeps g t la c n h = either (wants_command t c && names_lun g (row t) n) (confirm_effect g t c) Unaffected (confirm_keeps g t c h) unaffected
 
-address_keeps : (g : Parts) (t : TailFacts) (byte n lun : ℕ) (c : Command) → reads_identity c ≡ false → Keeps (address_effect g t byte c n lun)
+address_keeps : (g : Parts) (t : TailFacts) (byte n lun : ℕ) (c : Command) → (reads_identity c || is_reset_lun c) ≡ false → Keeps (address_effect g t byte c n lun)
 address_keeps g t byte n lun ReadStatusEnhanced h =
     either (n == 2) (cond (names_lun g (row_with t byte) lun) SelectedForStatus Deselected) Unaffected
     (either (names_lun g (row_with t byte) lun) SelectedForStatus Deselected (record { busy = λ b. refl; array = λ b c a. refl }) (record { busy = λ b. refl; array = λ b c a. refl })) unaffected
 address_keeps g t byte n lun ReadId h = cc
 address_keeps g t byte n lun ReadParameterPage h = cc
+address_keeps g t byte n lun ReadUniqueId h = cc
+address_keeps g t byte n lun GetFeatures h = cc
+address_keeps g t byte n lun ResetLun h = cc
 address_keeps g t byte n lun c h = unaffected
 
-opening_keeps : (g : Parts) (t : TailFacts) (byte lun : ℕ) (o : Option Opening) → not (opened (λ c n. reads_identity c) o) ≡ true → Keeps (opening_address_effect g t byte o lun)
+opening_keeps : (g : Parts) (t : TailFacts) (byte lun : ℕ) (o : Option Opening) → not (opened (λ c n. reads_identity c || is_reset_lun c) o) ≡ true → Keeps (opening_address_effect g t byte o lun)
 opening_keeps g t byte lun None h = unaffected
-opening_keeps g t byte lun (Some o) h = address_keeps g t byte o.addresses lun o.opener (not-true (reads_identity o.opener) h)
+opening_keeps g t byte lun (Some o) h = address_keeps g t byte o.addresses lun o.opener (not-true (reads_identity o.opener || is_reset_lun o.opener) h)
 
 cycle_keeps : (g : Parts) (past : List Item) (la : Latch) (ce byte lun : ℕ) (kind : Kind)
     → kind_keeps_work past ce kind (Cyc (record { ce = ce; kind = kind; byte = byte })) ≡ true → Keeps (cycle_effect g (facts_of (tail past ce)) la (target_cycle kind byte) lun)
 cycle_keeps g past la ce byte lun Cmd h = command_keeps g (facts_of (tail past ce)) la (command byte) lun (not-true (starts (command byte)) h)
 cycle_keeps g past la ce byte lun Adr h = opening_keeps g (facts_of (tail past ce)) byte lun (facts_of (tail past ce)).opening h
-cycle_keeps g past la ce byte lun Din h = unaffected
+cycle_keeps g past la ce byte lun Din h =
+    let t = facts_of (tail past ce) in
+    let none : ends_features t ≡ false = ap (λ (b : Bool). b && t.inputs == 3) (not-true (takes_features t.phase) h) in
+    subst Keeps (sym (ap (λ (b : Bool). cond b (FeaturesSet (t.column % 256)) Unaffected) none)) unaffected
 cycle_keeps g past la ce byte lun Dout h = either (is_data la) DataOutput Unaffected (record { busy = λ b. refl; array = λ b c a. refl }) unaffected
 
 item_keeps : (g : Parts) (past : List Item) (la : Latch) (i : Item) (l : Lun) → keeps_work past i ≡ true → Keeps (item_effect g (facts_of (tail past l.ce)) la i l)

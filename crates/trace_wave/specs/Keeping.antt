@@ -1,13 +1,15 @@
 -- What is kept while a dump is written.
-use Rattle.std.specs.Prelude.{◌≡◌, ℕ, Bool, true, false, not, List, [], ◌∷◌, Option, Some, None, take}
+use Rattle.std.specs.Prelude.{◌≡◌, ℕ, Bool, true, false, ◌||◌, not, List, [], ◌∷◌, Option, Some, None, take}
 use Rattle.nand_geometry.specs.declared.parts.Parts.{Parts}
 use Rattle.onfi_cycle.specs.declared.item.Kind.{Kind}
 use Rattle.onfi_cycle.specs.declared.item.Kind.TheVariants.{Cmd, Adr, Din, Dout}
 use Rattle.onfi_cycle.specs.declared.item.Item.{Item}
 use Rattle.onfi_cycle.specs.declared.item.Item.TheVariants.{Cyc, Rdy, Ard}
 use Rattle.onfi_cycle.specs.declared.tail_facts.TailFacts.{TailFacts}
+use Rattle.onfi_cycle.specs.declared.command.Command.{Command}
+use Rattle.onfi_cycle.specs.declared.command.Command.TheVariants.{ResetLun}
 use Rattle.onfi_cycle.specs.Command.{reads_identity}
-use Rattle.onfi_cycle.specs.Sequence.{opened, facts_of, tail}
+use Rattle.onfi_cycle.specs.Sequence.{opened, takes_features, facts_of, tail}
 use Rattle.onfi_cycle.specs.Readies.{starts_work}
 use Rattle.onfi_cycle.specs.State.{Follows}
 use Rattle.bus_lines.specs.declared.lines.Lines.{Lines}
@@ -25,14 +27,18 @@ pub record Stands (g : Parts) (targets : ℕ) (past : List Item) (c : Channel) :
   pub follows : Follows g targets c.state past
   pub newest : c.newest ≡ newest_of past
 
+abbrev pub is_reset_lun : Command → Bool
+is_reset_lun ResetLun = true
+is_reset_lun _ = false
+
 -- an address after this tail starts no work and ends none
 abbrev pub address_keeps_work : TailFacts → Bool
-address_keeps_work t = not (opened (λ c n. reads_identity c) t.opening)
+address_keeps_work t = not (opened (λ c n. reads_identity c || is_reset_lun c) t.opening)
 
 abbrev pub kind_keeps_work : List Item → ℕ → Kind → Item → Bool
 kind_keeps_work past ce Cmd i = not (starts_work i)
 kind_keeps_work past ce Adr i = address_keeps_work (facts_of (tail past ce))
-kind_keeps_work past ce Din i = true
+kind_keeps_work past ce Din i = not (takes_features (facts_of (tail past ce)).phase)
 kind_keeps_work past ce Dout i = true
 
 -- an item starts no work and ends none

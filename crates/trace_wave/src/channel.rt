@@ -1,15 +1,23 @@
 //! What the lines of the model are told from: the running state of the channel, and its newest item.
-ghost use Rattle.std.specs.Prelude.{◌≡◌, ℕ, ◌<◌, ◌≤◌, List, [], ◌∷◌, None, false, IsTrue};
+ghost use Rattle.std.specs.Prelude.{◌≡◌, ℕ, ◌<◌, ◌≤◌, List, [], ◌∷◌, None, false, ◌||◌, not, IsTrue};
 ghost use Rattle.nand_geometry.specs.declared.parts.Parts.{Parts};
 ghost use Rattle.onfi_cycle.specs.declared.item.Item.{Item as ItemValue};
+ghost use Rattle.onfi_cycle.specs.Command.{reads_identity};
 ghost use Rattle.onfi_cycle.specs.Permitted.{broken};
 ghost use Rattle.onfi_cycle.specs.State.{judged};
-ghost use Rattle.onfi_cycle.specs.Sequence.{target_of, facts_of, tail};
-ghost use Rattle.trace_wave.specs.Keeping.{Stands, address_keeps_work, keeps_work};
+ghost use Rattle.onfi_cycle.specs.Sequence.{target_of, facts_of, tail, takes_features};
+ghost use Rattle.trace_wave.specs.Keeping.{Stands, is_reset_lun, address_keeps_work, keeps_work};
 ghost use Rattle.trace_wave.specs.Levels.{is_busy, has_busy_array, tells_failure, model_levels};
 
 use nand_geometry::Geometry;
-use onfi_cycle::{BusState, Forbidden, Item, Kind, Lun, starts_work};
+use onfi_cycle::{BusState, Command, Forbidden, Item, Kind, Lun, starts_work};
+
+// An address behind this opener may start work, or end some.
+fn may_start_by_address(opener: Command) -> bool
+    ensures { result ≡ (reads_identity opener || is_reset_lun opener) }
+{
+    opener.reads_identity() || matches!(opener, Command::ResetLun)
+}
 
 /// A channel after a legal past: its running state, and the newest item.
 #[derive(Drop)]
@@ -122,8 +130,19 @@ impl Channel {
             None => false,
             Some(tail) => match tail.opening {
                 None => true,
-                Some(opening) => !opening.opener.reads_identity(),
+                Some(opening) => !may_start_by_address(opening.opener),
             },
+        }
+    }
+
+    // An input of a target starts no work, as it is none of a Set Features.
+    #[inline(always)]
+    fn input_keeps_work(&self, ce: u8) -> bool
+        ensures { (g : Parts) (targets : ℕ) (past : List ItemValue) → Stands g targets past self.now → ce < targets → result ≡ not (takes_features (facts_of (tail past ce)).phase) }
+    {
+        match self.state.tail(ce) {
+            None => false,
+            Some(tail) => !tail.phase.takes_features(),
         }
     }
 
@@ -136,7 +155,8 @@ impl Channel {
             Item::Cyc(cycle) => match cycle.kind {
                 Kind::Cmd => !starts_work(item),
                 Kind::Adr => self.address_keeps_work(cycle.ce),
-                Kind::Din | Kind::Dout => true,
+                Kind::Din => self.input_keeps_work(cycle.ce),
+                Kind::Dout => true,
             },
             Item::Rdy { .. } | Item::Ard { .. } => false,
         }

@@ -2,7 +2,8 @@
 use Rattle.std.specs.Prelude.{ℕ, ◌+◌, ◌==◌, ◌&&◌, ◌||◌, not, Bool, true, false, if◌then◌else◌, List, [], ◌∷◌, ◌++◌, replicate, Option, Some, None, Result, Ok, Err}
 use Rattle.micro_asm.specs.Line.{fields, before_comment}
 use Rattle.micro_asm.specs.Reading.{lines}
-use Rattle.onfi_cycle.specs.Command.{command, is_known, takes_address}
+use Rattle.onfi_cycle.specs.Command.{command, takes_address}
+use Rattle.onfi_cycle.specs.Base.{is_of_base}
 use Rattle.onfi_cycle.specs.declared.command.Command.{Command as Named}
 use Rattle.onfi_cycle.specs.declared.command.Command.TheVariants.{ReadId, ReadParameterPage}
 use Rattle.vendor_file.specs.declared.fault.VendorFault.{VendorFault}
@@ -55,13 +56,13 @@ sequence_by (Some byte) words = steps_from (begun_by byte) words
 
 -- ---- what may begin one
 
--- the command is one of the profile's, declared or not
+-- the command is one of the base profile, declared or not
 abbrev pub is_profile : ℕ → Bool
-is_profile byte = is_known (command byte)
+is_profile byte = is_of_base (command byte)
 
--- an address that the profile hasn't of 90 or EC
+-- an address that the base profile hasn't of 90 or EC
 abbrev pub is_other : Named → ℕ → Bool
-is_other ReadId byte = not (takes_address ReadId byte)
+is_other ReadId byte = not (byte == 0x20)
 is_other ReadParameterPage byte = not (takes_address ReadParameterPage byte)
 is_other _ byte = false
 
@@ -69,7 +70,7 @@ abbrev pub begins_otherwise : Named → List Step → Bool
 begins_otherwise c (Address byte ∷ steps) = is_other c byte
 begins_otherwise c _ = false
 
--- a command of the profile begins none but with such an address
+-- a command of the base profile begins none but with such an address
 abbrev pub is_free : List Step → Bool
 is_free (Begin byte ∷ steps) = not (is_profile byte) || begins_otherwise (command byte) steps
 is_free _ = false

@@ -118,19 +118,20 @@ fn steps_of<A: Allocator>(alloc: A, first: &[u8], words: &[u8]) -> Result<Vec<St
     }
 }
 
-/// The command is one of the profile's, declared or not.
+/// The command is one of the base profile, declared or not.
 pub(crate) fn is_profile(byte: u8) -> bool
     ensures { result ≡ is_profile byte }
 {
-    Command::of(byte).is_known()
+    Command::of(byte).is_of_base()
 }
 
-// An address that the profile hasn't of 90 or EC.
+// An address that the base profile hasn't of 90 or EC.
 fn is_other(command: Command, byte: u8) -> bool
     ensures { result ≡ is_other command byte }
 {
     match command {
-        Command::ReadId | Command::ReadParameterPage => !command.takes_address(byte),
+        Command::ReadId => byte != 0x20,
+        Command::ReadParameterPage => !command.takes_address(byte),
         _ => false,
     }
 }

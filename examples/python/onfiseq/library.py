@@ -20,6 +20,7 @@ _text = ctypes.c_char_p
 LIBRARIES: Dict[str, Dict[str, Tuple[Any, List[Any]]]] = {
     "onfiseq_c": {
         "onfiseq_read_page": (Page, [_text, size]),
+        "onfiseq_read_page_as": (Page, [_text, size, u8]),
         "onfiseq_check": (Answer, [_to(Geometry), u8, _to(Item), size]),
         "onfiseq_begin_sized": (u32, [_to(Bus), size, u32, _to(Geometry), u8]),
         "onfiseq_push": (u32, [_to(Bus), _to(Item)]),

@@ -17,7 +17,7 @@ class Geometry(ctypes.Structure):
 
     _fields_ = [("page_bytes", u32), ("spare_bytes", u32), ("pages", u32), ("blocks", u32), ("luns", u8), ("plane_bits", u8)] + [
         (name, u8) for name in ("enhanced", "multi_plane", "cache")
-    ]
+    ] + [("optional", u16)]
 
 
 class Page(ctypes.Structure):

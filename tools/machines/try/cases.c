@@ -40,8 +40,8 @@ static void print_bytes(const char *name, const uint8_t *bytes, size_t count) {
 }
 
 static void print_chip(const struct onfiseq_geometry *chip, unsigned targets) {
-    printf("\"chip\":[%lu,%lu,%lu,%lu,%u,%u,%u,%u,%u],\"targets\":%u", (unsigned long)chip->page_bytes, (unsigned long)chip->spare_bytes, (unsigned long)chip->pages,
-           (unsigned long)chip->blocks, chip->luns, chip->plane_bits, chip->enhanced, chip->multi_plane, chip->cache, targets);
+    printf("\"chip\":[%lu,%lu,%lu,%lu,%u,%u,%u,%u,%u,%u],\"targets\":%u", (unsigned long)chip->page_bytes, (unsigned long)chip->spare_bytes, (unsigned long)chip->pages,
+           (unsigned long)chip->blocks, chip->luns, chip->plane_bits, chip->enhanced, chip->multi_plane, chip->cache, chip->optional, targets);
 }
 
 /* ---- traces */

@@ -30,8 +30,8 @@ class Sum {
 
 const bytesOf = text => Uint8Array.from((text.match(/../g) || []).map(it => parseInt(it, 16)));
 const itemOf = ([ce, kind, byte, fail]) => ({ ce, kind, byte, fail });
-function geometryOf([page_bytes, spare_bytes, pages, blocks, luns, plane_bits, enhanced, multi_plane, cache]) {
-    return { page_bytes, spare_bytes, pages, blocks, luns, plane_bits, enhanced, multi_plane, cache };
+function geometryOf([page_bytes, spare_bytes, pages, blocks, luns, plane_bits, enhanced, multi_plane, cache, optional]) {
+    return { page_bytes, spare_bytes, pages, blocks, luns, plane_bits, enhanced, multi_plane, cache, optional };
 }
 
 class Replay {

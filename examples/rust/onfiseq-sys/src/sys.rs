@@ -17,6 +17,7 @@ pub struct Geometry {
     pub enhanced: u8,
     pub multi_plane: u8,
     pub cache: u8,
+    pub optional: u16,
 }
 
 #[repr(C)]
@@ -97,6 +98,7 @@ const _: () = {
 
 extern "C" {
     pub fn onfiseq_read_page(page: *const u8, length: usize) -> Page;
+    pub fn onfiseq_read_page_as(page: *const u8, length: usize, profile: u8) -> Page;
     pub fn onfiseq_check(geometry: *const Geometry, targets: u8, items: *const Item, count: usize) -> Answer;
     pub fn onfiseq_begin_sized(bus: *mut Bus, size: usize, version: u32, geometry: *const Geometry, targets: u8) -> u32;
     pub fn onfiseq_push(bus: *mut Bus, item: *const Item) -> u32;

@@ -2,7 +2,7 @@
 
 use onfiseq_sys::{Channel, Fault, Geometry, Item, Part};
 
-const CHIP: Geometry = Geometry { page_bytes: 512, spare_bytes: 16, pages: 4, blocks: 8, luns: 1, plane_bits: 0, enhanced: 0, multi_plane: 0, cache: 0 };
+const CHIP: Geometry = Geometry { page_bytes: 512, spare_bytes: 16, pages: 4, blocks: 8, luns: 1, plane_bits: 0, enhanced: 0, multi_plane: 0, cache: 0, optional: 0 };
 const ERASE: [Item; 5] = [Item::command(0, 0x60), Item::address(0, 4), Item::address(0, 0), Item::address(0, 0), Item::command(0, 0xd0)];
 
 fn channel() -> Channel {

@@ -1,11 +1,12 @@
 use Rattle.std.proofs.Common.{◌<◌, length, arith, false}
 use Rattle.nand_geometry.specs.declared.parts.Parts.{Parts}
+use Rattle.nand_geometry.specs.Optional.{no_optional}
 use Rattle.onfi_cycle.proofs.Following.{more_luns, luns_so_far, fresh_target}
 use Rattle.onfi_cycle.proofs.target_state.TargetState.new.Goals as goal
 
 -- any geometry will do here
 some_geometry : Parts
-some_geometry = record { page_bytes = 0; spare_bytes = 0; pages = 0; blocks = 0; luns = 0; plane_bits = 0; enhanced = false; multi_plane = false; cache = false }
+some_geometry = record { page_bytes = 0; spare_bytes = 0; pages = 0; blocks = 0; luns = 0; plane_bits = 0; enhanced = false; multi_plane = false; cache = false; optional = no_optional }
 
 pub push-requires : goal.push-requires
 push-requires c =

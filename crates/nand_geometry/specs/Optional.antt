@@ -1,0 +1,45 @@
+-- What a chip has beyond the base profile, as a set of bits.
+use Rattle.std.specs.Prelude.{ℕ, ◌+◌, ◌==◌, Bool, true}
+use Rattle.std.specs.Int.RustNames.{bit_and}
+use Rattle.nand_geometry.specs.declared.optional.Optional.{Optional}
+use Rattle.nand_geometry.specs.declared.optional.Profile.{Profile}
+use Rattle.nand_geometry.specs.declared.optional.Profile.TheVariants.{Base, Onfi}
+use Rattle.nand_geometry.specs.declared.parts.Parts.{Parts}
+use Rattle.nand_geometry.specs.Flag.{flag}
+
+-- nothing: the base profile
+abbrev pub no_optional : Optional
+no_optional = record { 0 = 0 }
+
+-- all bits of a number are in the set
+abbrev pub has_all : Optional → ℕ → Bool
+has_all o bits = bit_and o.0 bits == bits
+
+abbrev pub has_features : Optional → Bool
+has_features o = has_all o 4
+
+abbrev pub has_unique_id : Optional → Bool
+has_unique_id o = has_all o 32
+
+abbrev pub has_lun_reset : Optional → Bool
+has_lun_reset o = has_all o 512
+
+abbrev pub has_synchronous_reset : Optional → Bool
+has_synchronous_reset o = has_all o 2048
+
+abbrev pub is_wide : Optional → Bool
+is_wide o = has_all o 32768
+
+-- the set of a chip that is read as one of the wider profile, by what it declares
+abbrev pub wide_with : (features unique_id lun_reset synchronous_reset : Bool) → Optional
+wide_with features unique_id lun_reset synchronous_reset =
+    record { 0 = 32768 + flag 2 features + flag 5 unique_id + flag 9 lun_reset + flag 11 synchronous_reset }
+
+-- what is left of a set where a page that declares it is read for a profile
+abbrev pub kept_optional : Profile → Optional → Optional
+kept_optional Base o = no_optional
+kept_optional Onfi o = wide_with (has_features o) (has_unique_id o) (has_lun_reset o) (has_synchronous_reset o)
+
+-- a geometry as its own page is read for a profile
+abbrev pub as_read : Profile → Parts → Parts
+as_read profile g = record g { optional = kept_optional profile g.optional }

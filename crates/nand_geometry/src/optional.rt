@@ -1,0 +1,95 @@
+//! The commands beyond the base profile that a chip has.
+ghost use Rattle.std.specs.Prelude.{⊤, ◌≡◌, [], ◌∷◌, codes};
+ghost use Rattle.nand_geometry.specs.Optional.{no_optional, is_wide, has_features, has_unique_id, has_lun_reset, has_synchronous_reset};
+
+use bitflags::{Flag, Flags, bitflag_items};
+
+/// Which commands a parameter page is read for.
+#[derive(Clone, Copy, Debug, PartialEq, Eq)]
+pub enum Profile {
+    /// The commands of the base profile alone, whatever else the page declares.
+    Base,
+    /// Besides, the optional commands of ONFI that the page declares, and what each ONFI chip has.
+    Onfi,
+}
+
+/// What a chip has beyond the base profile: none of it in the base profile itself.
+#[derive(Clone, Copy, Debug, PartialEq, Eq)]
+pub struct Optional(pub u16);
+
+bitflag_items! {
+    impl Optional: u16 {
+        /// EEh and EFh, Get Features and Set Features (byte 8 bit 2 of the parameter page).
+        const FEATURES = 4;
+        /// EDh, Read Unique ID (byte 8 bit 5).
+        const UNIQUE_ID = 32;
+        /// FAh, Reset LUN (byte 9 bit 1).
+        const RESET_LUN = 512;
+        /// FCh, Synchronous Reset (byte 6 bit 5, or byte 7 bit 2 or 5: an interface of double data rate).
+        const SYNCHRONOUS_RESET = 2048;
+        /// What each chip of the profile has: 90h with the addresses 00h and 40h, and FFh in an open sequence.
+        const WIDE = 32_768;
+    }
+}
+
+impl Flags for Optional {
+    type Bits = u16;
+
+    ghost exact = { ⊤ };
+
+    ghost table = { (codes "FEATURES", 4) ∷ (codes "UNIQUE_ID", 32) ∷ (codes "RESET_LUN", 512) ∷ (codes "SYNCHRONOUS_RESET", 2048) ∷ (codes "WIDE", 32768) ∷ [] };
+
+    ghost set_of = { λ o. o.0 };
+
+    fn flags<'a>() -> &'a [Flag<Optional>] {
+        Optional::FLAGS
+    }
+
+    fn bits(&self) -> u16 {
+        self.0
+    }
+
+    fn from_bits_retain(bits: u16) -> Optional {
+        Optional(bits)
+    }
+}
+
+impl Optional {
+    /// Nothing beyond the base profile.
+    pub const NONE: Optional = Optional(0);
+
+    /// The chip is read as one of the wider profile.
+    pub fn is_wide(self) -> bool
+        ensures { result ≡ is_wide self }
+    {
+        self.contains(Optional::WIDE)
+    }
+
+    /// The chip has Get Features and Set Features.
+    pub fn has_features(self) -> bool
+        ensures { result ≡ has_features self }
+    {
+        self.contains(Optional::FEATURES)
+    }
+
+    /// The chip has Read Unique ID.
+    pub fn has_unique_id(self) -> bool
+        ensures { result ≡ has_unique_id self }
+    {
+        self.contains(Optional::UNIQUE_ID)
+    }
+
+    /// The chip has Reset LUN.
+    pub fn has_lun_reset(self) -> bool
+        ensures { result ≡ has_lun_reset self }
+    {
+        self.contains(Optional::RESET_LUN)
+    }
+
+    /// The chip has Synchronous Reset.
+    pub fn has_synchronous_reset(self) -> bool
+        ensures { result ≡ has_synchronous_reset self }
+    {
+        self.contains(Optional::SYNCHRONOUS_RESET)
+    }
+}

@@ -1,0 +1,5 @@
+pub mod Decoded
+pub mod OldRules
+pub mod OldTails
+pub mod Same
+pub mod Widened

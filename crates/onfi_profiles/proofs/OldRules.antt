@@ -1,0 +1,179 @@
+-- After a past that is legal in the base profile an item is judged as it was.
+use Rattle.std.proofs.Common.{◌≡◌, ℕ, ◌==◌, Bool, true, false, ◌&&◌, ◌||◌, cond, not, ltb, nat_le, List, Option, Some, None, refl, sym, ap, ◌∙◌}
+use Rattle.std.proofs.Math.Bool.{or-false}
+use Rattle.nand_geometry.specs.declared.parts.Parts.{Parts}
+use Rattle.nand_geometry.specs.Limits.{page_len}
+use Rattle.onfi_cycle.specs.declared.command.Command.{Command}
+use Rattle.onfi_cycle.specs.declared.command.Command.TheVariants.{ChangeWriteColumn, ProgramConfirm, ProgramPlane, ReadId, ReadUniqueId, GetFeatures, SetFeatures, ResetLun, SynchronousReset, Unknown}
+use Rattle.onfi_cycle.specs.declared.data_phase.DataPhase.{DataPhase}
+use Rattle.onfi_cycle.specs.declared.data_phase.DataPhase.TheVariants.{Outside, Inputs, FirstColumn, SecondColumn, FeatureInputs}
+use Rattle.onfi_cycle.specs.declared.forbidden.Forbidden.{Forbidden}
+use Rattle.onfi_cycle.specs.declared.forbidden.Forbidden.TheVariants.{NotThere, CommandUnknown, SequenceOpen, SeveralLuns, NoColumnToChange, CommandMisplaced, AddressMisplaced, RowOutside, LunBusy, QueueClash, InputMisplaced, NoSoleDriver, DataNotReady, ColumnOutside, CacheReadMisplaced}
+use Rattle.onfi_cycle.specs.declared.item.Item.{Item}
+use Rattle.onfi_cycle.specs.declared.item.Item.TheVariants.{Cyc, Rdy, Ard}
+use Rattle.onfi_cycle.specs.declared.opening.Opening.{Opening}
+use Rattle.onfi_cycle.specs.declared.tail_facts.TailFacts.{TailFacts}
+use Rattle.onfi_cycle.specs.declared.target_cycle.TargetCycle.{TargetCycle}
+use Rattle.onfi_cycle.specs.declared.target_cycle.TargetCycle.TheVariants.{CommandCycle, AddressCycle, InputCycle, OutputCycle}
+use Rattle.onfi_cycle.specs.LunView.{LunView}
+use Rattle.onfi_cycle.specs.Base.{is_of_base}
+use Rattle.onfi_cycle.specs.Command.{is_known, is_opener, is_read_id, is_reset, address_cycles, takes_address}
+use Rattle.onfi_cycle.specs.Sequence.{target_of, target_cycle, tail, facts_of, opened, takes_data, takes_features, takes_inputs, wants_column, wants_command, wants_address, is_open, is_proper_beginning, input_column}
+use Rattle.onfi_cycle.specs.Lun.{luns_of}
+use Rattle.onfi_cycle.specs.Rules.{driver_is, is_undeclared, breaks_not_there, breaks_command_unknown, breaks_sequence_open, breaks_several_luns, breaks_no_column_to_change, breaks_command_misplaced, breaks_address_misplaced, breaks_row_outside, breaks_lun_busy, breaks_queue_clash, breaks_input_misplaced, breaks_no_sole_driver, breaks_data_not_ready, breaks_column_outside, breaks_cache_read_misplaced}
+use Rattle.onfi_cycle.specs.Permitted.{judge_cycle, judge_item, judge}
+use Rattle.onfi_profiles.specs.Widening.{in_base}
+use Rattle.onfi_profiles.specs.Tails.{base_takes_inputs, base_takes_address, base_wants_command, base_wants_address, base_is_open, base_facts}
+use Rattle.onfi_profiles.specs.Judging.{base_undeclared, base_command_unknown, base_sequence_open, base_command_misplaced, base_address_misplaced, base_input_misplaced, base_no_sole_driver, base_column_outside, base_judge_cycle, base_judge_item, base_judge, JudgesBase}
+use Rattle.onfi_profiles.proofs.OldTails.{AreOfBase, facts_base, tails_kept}
+
+-- 1. parts of rules
+
+inputs_same : (p : DataPhase) → takes_features p ≡ false → takes_inputs p ≡ base_takes_inputs p
+inputs_same Outside f = refl
+inputs_same Inputs f = refl
+inputs_same FirstColumn f = refl
+inputs_same SecondColumn f = refl
+inputs_same FeatureInputs f = cc
+
+open_same : (t : TailFacts) → AreOfBase t → is_open t ≡ base_is_open t
+open_same t a = ap (λ (b : Bool). opened is_proper_beginning t.opening || b || wants_column t.phase) (inputs_same t.phase a.phase)
+
+unknown_same : (g : Parts) (c : Command) → (not (is_known c) || is_undeclared (in_base g) c) ≡ (not (is_of_base c) || base_undeclared (in_base g) c)
+unknown_same g ReadUniqueId = refl
+unknown_same g GetFeatures = refl
+unknown_same g SetFeatures = refl
+unknown_same g ResetLun = refl
+unknown_same g SynchronousReset = refl
+unknown_same g Unknown = refl
+unknown_same g c = refl
+
+data_same : (p : DataPhase) → takes_data p ≡ base_takes_inputs p
+data_same Outside = refl
+data_same Inputs = refl
+data_same FirstColumn = refl
+data_same SecondColumn = refl
+data_same FeatureInputs = refl
+
+wants_same : (t : TailFacts) (c : Command) → wants_command t c ≡ base_wants_command t c
+wants_same t ChangeWriteColumn = data_same t.phase
+wants_same t ProgramConfirm = data_same t.phase
+wants_same t ProgramPlane = data_same t.phase
+wants_same t c = refl
+
+-- the addresses of 90h that came with the wider profile are forbidden
+id_address : (l a z w : Bool) → w ≡ false → (not ((l && (a || z)) || w) || (true && not a)) ≡ not ((l && a) || w)
+id_address true true z false h = refl
+id_address false true z false h = refl
+id_address true false true false h = refl
+id_address true false false false h = refl
+id_address false false z false h = refl
+id_address l a z true h = cc
+
+not_none : (o : Opening) (b : Bool) → (b ≡ true → Some o ≡ None) → b ≡ false
+not_none o true h = let none = h refl in cc
+not_none o false h = refl
+
+address_same : (t : TailFacts) (byte : ℕ) → AreOfBase t
+    → (not (wants_address t byte) || (true && (opened (λ c n. is_read_id c) t.opening && not (byte == 0x20)))) ≡ not (base_wants_address t byte)
+address_same t byte a = by t.opening a.opener a.alone
+  where
+    by : (o : Option Opening) → opened (λ c n. not (is_of_base c)) o ≡ false → (wants_column t.phase ≡ true → o ≡ None)
+        → (not (opened (λ c n. is_opener c && ltb n (address_cycles c) && takes_address c byte) o || wants_column t.phase) || (true && (opened (λ c n. is_read_id c) o && not (byte == 0x20))))
+        ≡ not (opened (λ c n. is_opener c && ltb n (address_cycles c) && base_takes_address c byte) o || wants_column t.phase)
+    by None b h = or-false _
+    by (Some o) b h = of o.opener o.addresses b (not_none o (wants_column t.phase) h)
+      where
+        of : (c : Command) (n : ℕ) → not (is_of_base c) ≡ false → wants_column t.phase ≡ false
+            → (not ((is_opener c && ltb n (address_cycles c) && takes_address c byte) || wants_column t.phase) || (true && (is_read_id c && not (byte == 0x20))))
+            ≡ not ((is_opener c && ltb n (address_cycles c) && base_takes_address c byte) || wants_column t.phase)
+        of ReadId n b w = id_address (ltb n 1) (byte == 0x20) (byte == 0x00 || byte == 0x40) (wants_column t.phase) w
+        of ReadUniqueId n b w = cc
+        of c n b w = or-false _
+
+no_exception : (a o r : Bool) → (a && (o && not (r && false))) ≡ (a && o)
+no_exception false o r = refl
+no_exception true true true = refl
+no_exception true true false = refl
+no_exception true false r = refl
+
+-- 2. the rules
+
+f2 : (g : Parts) (k : TargetCycle) → breaks_command_unknown (in_base g) k ≡ base_command_unknown (in_base g) k
+unfolding breaks_command_unknown
+f2 g (CommandCycle c) = unknown_same g c
+f2 g (AddressCycle byte) = refl
+f2 g (InputCycle byte) = refl
+f2 g OutputCycle = refl
+
+f3 : (g : Parts) (t : TailFacts) (k : TargetCycle) → AreOfBase t → breaks_sequence_open (in_base g) t k ≡ base_sequence_open t k
+unfolding breaks_sequence_open
+f3 g t (CommandCycle c) a = no_exception (is_opener c) (is_open t) (is_reset c) ∙ ap (λ (b : Bool). is_opener c && b) (open_same t a)
+f3 g t (AddressCycle byte) a = refl
+f3 g t (InputCycle byte) a = refl
+f3 g t OutputCycle a = refl
+
+f6 : (t : TailFacts) (k : TargetCycle) → breaks_command_misplaced t k ≡ base_command_misplaced t k
+unfolding breaks_command_misplaced
+f6 t (CommandCycle c) = ap (λ (b : Bool). not (is_opener c) && not b) (wants_same t c)
+f6 t (AddressCycle byte) = refl
+f6 t (InputCycle byte) = refl
+f6 t OutputCycle = refl
+
+f7 : (g : Parts) (t : TailFacts) (k : TargetCycle) → AreOfBase t → breaks_address_misplaced (in_base g) t k ≡ base_address_misplaced t k
+unfolding breaks_address_misplaced
+f7 g t (AddressCycle byte) a = address_same t byte a
+f7 g t (CommandCycle c) a = refl
+f7 g t (InputCycle byte) a = refl
+f7 g t OutputCycle a = refl
+
+f11 : (t : TailFacts) (k : TargetCycle) → AreOfBase t → breaks_input_misplaced t k ≡ base_input_misplaced t k
+unfolding breaks_input_misplaced
+f11 t (InputCycle byte) a = ap not (inputs_same t.phase a.phase)
+f11 t (CommandCycle c) a = refl
+f11 t (AddressCycle byte) a = refl
+f11 t OutputCycle a = refl
+
+f12 : (t : TailFacts) (luns : List LunView) (k : TargetCycle) → AreOfBase t → breaks_no_sole_driver t luns k ≡ base_no_sole_driver t luns k
+unfolding breaks_no_sole_driver
+f12 t luns OutputCycle a = ap (λ (b : Bool). b || not (driver_is (λ v. true) luns)) (open_same t a)
+f12 t luns (CommandCycle c) a = refl
+f12 t luns (AddressCycle byte) a = refl
+f12 t luns (InputCycle byte) a = refl
+
+f14 : (g : Parts) (t : TailFacts) (luns : List LunView) (k : TargetCycle) → AreOfBase t → breaks_column_outside (in_base g) t luns k ≡ base_column_outside (in_base g) t luns k
+unfolding breaks_column_outside
+f14 g t luns (InputCycle byte) a = ap (λ (b : Bool). not b && nat_le (page_len g) (input_column t)) a.phase
+f14 g t luns (CommandCycle c) a = refl
+f14 g t luns (AddressCycle byte) a = refl
+f14 g t luns OutputCycle a = refl
+
+-- 3. all of them
+
+cycle_same : (g : Parts) (t : TailFacts) (luns : List LunView) (k : TargetCycle) → AreOfBase t → judge_cycle (in_base g) t luns k ≡ base_judge_cycle (in_base g) t luns k
+cycle_same g t luns k a = λ i.
+    cond (f2 g k i) (Some CommandUnknown)
+    (cond (f3 g t k a i) (Some SequenceOpen)
+    (cond (breaks_several_luns (in_base g) k) (Some SeveralLuns)
+    (cond (breaks_no_column_to_change luns k) (Some NoColumnToChange)
+    (cond (f6 t k i) (Some CommandMisplaced)
+    (cond (f7 g t k a i) (Some AddressMisplaced)
+    (cond (breaks_row_outside (in_base g) t k) (Some RowOutside)
+    (cond (breaks_lun_busy (in_base g) t luns k) (Some LunBusy)
+    (cond (breaks_queue_clash (in_base g) t luns k) (Some QueueClash)
+    (cond (f11 t k a i) (Some InputMisplaced)
+    (cond (f12 t luns k a i) (Some NoSoleDriver)
+    (cond (breaks_data_not_ready luns k) (Some DataNotReady)
+    (cond (f14 g t luns k a i) (Some ColumnOutside)
+    (cond (breaks_cache_read_misplaced (in_base g) t luns k) (Some CacheReadMisplaced) None)))))))))))))
+
+item_same : (g : Parts) (t : TailFacts) (luns : List LunView) (i : Item) → AreOfBase t → judge_item (in_base g) t luns i ≡ base_judge_item (in_base g) t luns i
+item_same g t luns (Cyc c) a = cycle_same g t luns (target_cycle c.kind c.byte) a
+item_same g t luns (Rdy ce lun fail) a = refl
+item_same g t luns (Ard ce lun) a = refl
+
+pub judged_so : JudgesBase
+judged_so g targets past i h =
+    let luns = luns_of (in_base g) past (target_of i) in
+    ap (λ (t : TailFacts). judge (in_base g) targets t luns i) (tails_kept g targets past (target_of i) h)
+    ∙ ap (λ (o : Option Forbidden). cond (breaks_not_there targets luns i) (Some NotThere) o) (item_same g (base_facts past (target_of i)) luns i (facts_base g targets past (target_of i) h))

@@ -1,0 +1,203 @@
+-- After a past that is legal in the base profile a tail is what it was.
+use Rattle.std.proofs.Common.{◌≡◌, ℕ, ◌+◌, ◌==◌, Bool, true, false, ◌&&◌, ◌||◌, cond, not, List, [], ◌∷◌, Option, Some, None, refl, sym, ap, subst, ◌∙◌, eqb-true}
+use Rattle.std.specs.Option.{is_none}
+use Rattle.std.proofs.lemmas.Bool.{and_parts}
+use Rattle.nand_geometry.specs.declared.parts.Parts.{Parts}
+use Rattle.onfi_cycle.specs.declared.command.Command.{Command}
+use Rattle.onfi_cycle.specs.declared.command.Command.TheVariants.{ChangeWriteColumn, ReadUniqueId, GetFeatures, SetFeatures, ResetLun, SynchronousReset, Unknown}
+use Rattle.onfi_cycle.specs.declared.data_phase.DataPhase.{DataPhase}
+use Rattle.onfi_cycle.specs.declared.data_phase.DataPhase.TheVariants.{Outside, Inputs, FirstColumn, SecondColumn, FeatureInputs}
+use Rattle.onfi_cycle.specs.declared.item.Cycle.{Cycle}
+use Rattle.onfi_cycle.specs.declared.item.Item.{Item}
+use Rattle.onfi_cycle.specs.declared.item.Item.TheVariants.{Cyc, Rdy, Ard}
+use Rattle.onfi_cycle.specs.declared.opening.Opening.{Opening}
+use Rattle.onfi_cycle.specs.declared.tail_facts.TailFacts.{TailFacts}
+use Rattle.onfi_cycle.specs.declared.target_cycle.TargetCycle.{TargetCycle}
+use Rattle.onfi_cycle.specs.declared.target_cycle.TargetCycle.TheVariants.{CommandCycle, AddressCycle, InputCycle, OutputCycle}
+use Rattle.onfi_cycle.specs.Base.{is_of_base}
+use Rattle.onfi_cycle.specs.Command.{is_known, is_page_program, is_set_features}
+use Rattle.onfi_cycle.specs.Sequence.{target_cycle, tail, facts_of, opened, takes_features, wants_column, one_address_more, row_after_address, column_after_address, next_address_place, phase_after_command, phase_after_last_address, phase_after_address, phase_after_input, begins_sequence, extended_facts, facts_after}
+use Rattle.onfi_cycle.specs.Rules.{is_undeclared, breaks_command_unknown}
+use Rattle.onfi_cycle.specs.Permitted.{broken, is_permitted, is_legal}
+use Rattle.onfi_cycle.proofs.Steps.{facts_of_cycle}
+use Rattle.onfi_cycle.proofs.Passed.{permitted_keeps}
+use Rattle.onfi_profiles.specs.Widening.{in_base}
+use Rattle.onfi_profiles.specs.Tails.{base_phase_after_last_address, base_phase_after_address, base_phase_after_input, base_extended_facts, base_facts_after, base_facts, TailsBase}
+use Rattle.onfi_profiles.proofs.Widened.{none_is}
+
+-- 1. what a tail of the base profile can be
+
+pub record AreOfBase (t : TailFacts) : Type 0 where
+  pub opener : opened (λ c n. not (is_of_base c)) t.opening ≡ false
+  pub phase : takes_features t.phase ≡ false
+  pub alone : wants_column t.phase ≡ true → t.opening ≡ None
+  pub nothing : t.is_empty ≡ true → t.phase ≡ Outside
+
+nothing_yet : AreOfBase (facts_of [])
+nothing_yet = record { opener = refl; phase = refl; alone = λ e. refl; nothing = λ e. refl }
+
+-- 2. its cycles
+
+abbrev pub is_base_cycle : TargetCycle → Bool
+is_base_cycle (CommandCycle c) = is_of_base c
+is_base_cycle _ = true
+
+base_command : (g : Parts) (c : Command) → (not (is_known c) || is_undeclared (in_base g) c) ≡ false → is_of_base c ≡ true
+base_command g ReadUniqueId h = let no : true ≡ false = h in cc
+base_command g GetFeatures h = let no : true ≡ false = h in cc
+base_command g SetFeatures h = let no : true ≡ false = h in cc
+base_command g ResetLun h = let no : true ≡ false = h in cc
+base_command g SynchronousReset h = let no : true ≡ false = h in cc
+base_command g Unknown h = cc
+base_command g c h = refl
+
+base_cycle : (g : Parts) (k : TargetCycle) → breaks_command_unknown (in_base g) k ≡ false → is_base_cycle k ≡ true
+unfolding breaks_command_unknown
+base_cycle g (CommandCycle c) h = base_command g c h
+base_cycle g (AddressCycle byte) h = refl
+base_cycle g (InputCycle byte) h = refl
+base_cycle g OutputCycle h = refl
+
+-- 3. phases
+
+last_same : (o : Option Opening) → opened (λ c n. not (is_of_base c)) o ≡ false → phase_after_last_address o ≡ base_phase_after_last_address o
+last_same None b = refl
+last_same (Some o) b = by o.opener o.addresses b
+  where
+    by : (c : Command) (n : ℕ) → not (is_of_base c) ≡ false → cond (is_page_program c && n == 4) Inputs (cond (is_set_features c && n == 0) FeatureInputs Outside) ≡ cond (is_page_program c && n == 4) Inputs Outside
+    by SetFeatures n b = cc
+    by c n b = refl
+
+address_same : (o : Option Opening) (p : DataPhase) → opened (λ c n. not (is_of_base c)) o ≡ false → takes_features p ≡ false → phase_after_address o p ≡ base_phase_after_address o p
+address_same o Outside b f = last_same o b
+address_same o Inputs b f = refl
+address_same o FirstColumn b f = refl
+address_same o SecondColumn b f = refl
+address_same o FeatureInputs b f = cc
+
+input_same : (k : ℕ) (p : DataPhase) → takes_features p ≡ false → phase_after_input k p ≡ base_phase_after_input p
+input_same k Outside f = refl
+input_same k Inputs f = refl
+input_same k FirstColumn f = refl
+input_same k SecondColumn f = refl
+input_same k FeatureInputs f = cc
+
+plain_command : (c : Command) (p : DataPhase) → takes_features (phase_after_command c p) ≡ false
+plain_command ChangeWriteColumn Inputs = refl
+plain_command ChangeWriteColumn _ = refl
+plain_command c p = refl
+
+no_column : (c : Command) → wants_column (phase_after_command c Outside) ≡ false
+no_column ChangeWriteColumn = refl
+no_column c = refl
+
+plain_last : (b : Bool) → takes_features (cond b Inputs Outside) ≡ false
+plain_last true = refl
+plain_last false = refl
+
+plain_address : (o : Option Opening) (p : DataPhase) → takes_features (base_phase_after_address o p) ≡ false
+plain_address o Outside = plain_last (opened (λ c n. is_page_program c && n == 4) o)
+plain_address o Inputs = refl
+plain_address o FirstColumn = refl
+plain_address o SecondColumn = refl
+plain_address o FeatureInputs = refl
+
+plain_input : (p : DataPhase) → takes_features (base_phase_after_input p) ≡ false
+plain_input Inputs = refl
+plain_input Outside = refl
+plain_input FirstColumn = refl
+plain_input SecondColumn = refl
+plain_input FeatureInputs = refl
+
+-- behind the first byte of a column there is no opener
+one_more : (o : Option Opening) (p : DataPhase) → (wants_column p ≡ true → o ≡ None) → wants_column (base_phase_after_address o p) ≡ true → one_address_more o ≡ None
+one_more o FirstColumn h e = ap one_address_more (h refl)
+one_more o SecondColumn h e = ap one_address_more (h refl)
+one_more o Outside h e = at (opened (λ c n. is_page_program c && n == 4) o) e
+  where
+    at : (b : Bool) → wants_column (cond b Inputs Outside) ≡ true → one_address_more o ≡ None
+    at true e = cc
+    at false e = cc
+one_more o Inputs h e = cc
+one_more o FeatureInputs h e = cc
+
+still_base : (o : Option Opening) → opened (λ c n. not (is_of_base c)) (one_address_more o) ≡ opened (λ c n. not (is_of_base c)) o
+still_base None = refl
+still_base (Some o) = refl
+
+-- 4. one cycle more
+
+-- the facts are what they were, and can be those of the base profile
+record IsStep (now before : TailFacts) : Type 0 where
+  same : now ≡ before
+  base : AreOfBase before
+
+abbrev begun_by : Command → Bool → Option Opening
+begun_by c b = cond b (Some (record { opener = c; addresses = 0 })) None
+
+opened_by : (c : Command) → is_of_base c ≡ true → (b : Bool) → opened (λ d n. not (is_of_base d)) (begun_by c b) ≡ false
+opened_by c h true = ap not h
+opened_by c h false = refl
+
+alone_by : (c : Command) (p : DataPhase) (b : Bool) → (b ≡ true → p ≡ Outside) → wants_column (phase_after_command c p) ≡ true → begun_by c b ≡ None
+alone_by c p false h e = refl
+alone_by c p true h e =
+    let both : true ≡ false = sym e ∙ (ap (λ (q : DataPhase). wants_column (phase_after_command c q)) (h refl) ∙ no_column c) in
+    cc
+
+extended : (k : TargetCycle) (t : TailFacts) → AreOfBase t → is_base_cycle k ≡ true → IsStep (extended_facts k t) (base_extended_facts k t)
+extended (CommandCycle c) t a h =
+    record {
+      same = refl;
+      base = record { opener = opened_by c h t.is_empty; phase = plain_command c t.phase; alone = alone_by c t.phase t.is_empty a.nothing; nothing = λ e. cc };
+    }
+extended (AddressCycle byte) t a h =
+    record {
+      same =
+          ap (λ (p : DataPhase). record { opening = one_address_more t.opening; phase = p; row = row_after_address t.opening byte t.row; column = column_after_address (next_address_place t.opening t.phase) byte t.column; inputs = 0; is_empty = false })
+          (address_same t.opening t.phase a.opener a.phase);
+      base = record { opener = still_base t.opening ∙ a.opener; phase = plain_address t.opening t.phase; alone = one_more t.opening t.phase a.alone; nothing = λ e. cc };
+    }
+extended (InputCycle byte) t a h =
+    record {
+      same = ap (λ (p : DataPhase). record { opening = None; phase = p; row = t.row; column = t.column; inputs = t.inputs + 1; is_empty = false }) (input_same t.inputs t.phase a.phase);
+      base = record { opener = refl; phase = plain_input t.phase; alone = λ e. refl; nothing = λ e. cc };
+    }
+extended OutputCycle t a h = record { same = refl; base = record { opener = refl; phase = refl; alone = λ e. refl; nothing = λ e. cc } }
+
+step : (k : TargetCycle) (t : TailFacts) → AreOfBase t → is_base_cycle k ≡ true → IsStep (facts_after k t) (base_facts_after k t)
+step k t a h = by (begins_sequence k) t.is_empty
+  where
+    by : (b e : Bool) → IsStep (cond b (extended_facts k (facts_of [])) (cond e t (extended_facts k t))) (cond b (base_extended_facts k (facts_of [])) (cond e t (base_extended_facts k t)))
+    by true e = extended k (facts_of []) nothing_yet h
+    by false true = record { same = refl; base = a }
+    by false false = extended k t a h
+
+-- 5. a past
+
+tails : (g : Parts) (targets : ℕ) (past : List Item) (ce : ℕ) → is_legal (in_base g) targets past ≡ true → IsStep (facts_of (tail past ce)) (base_facts past ce)
+tails g targets [] ce h = record { same = refl; base = nothing_yet }
+tails g targets (Rdy c lun fail ∷ past) ce h = tails g targets past ce (and_parts (is_permitted (in_base g) targets past (Rdy c lun fail)) (is_legal (in_base g) targets past) h).1
+tails g targets (Ard c lun ∷ past) ce h = tails g targets past ce (and_parts (is_permitted (in_base g) targets past (Ard c lun)) (is_legal (in_base g) targets past) h).1
+tails g targets (Cyc c ∷ past) ce h = at (c.ce == ce) refl (tails g targets past ce both.1)
+  where
+    both : (is_permitted (in_base g) targets past (Cyc c) ≡ true) × (is_legal (in_base g) targets past ≡ true)
+    both = and_parts (is_permitted (in_base g) targets past (Cyc c)) (is_legal (in_base g) targets past) h
+
+    of_base : is_base_cycle (target_cycle c.kind c.byte) ≡ true
+    of_base = base_cycle g (target_cycle c.kind c.byte) (permitted_keeps (in_base g) targets past c (none_is (broken (in_base g) targets past (Cyc c)) both.0)).f2
+
+    at : (b : Bool) → (c.ce == ce) ≡ b → IsStep (facts_of (tail past ce)) (base_facts past ce) → IsStep (facts_of (tail (Cyc c ∷ past) ce)) (base_facts (Cyc c ∷ past) ce)
+    at true e before =
+        let next = step (target_cycle c.kind c.byte) (base_facts past ce) before.base of_base in
+        record {
+          same = facts_of_cycle c past ce (eqb-true c.ce ce e) ∙ (ap (facts_after (target_cycle c.kind c.byte)) before.same ∙ (next.same ∙ ap (λ (b : Bool). cond b (base_facts_after (target_cycle c.kind c.byte) (base_facts past ce)) (base_facts past ce)) (sym e)));
+          base = subst (λ (b : Bool). AreOfBase (cond b (base_facts_after (target_cycle c.kind c.byte) (base_facts past ce)) (base_facts past ce))) (sym e) next.base;
+        }
+    at false e before = rw e before
+
+pub facts_base : (g : Parts) (targets : ℕ) (past : List Item) (ce : ℕ) → is_legal (in_base g) targets past ≡ true → AreOfBase (base_facts past ce)
+facts_base g targets past ce h = (tails g targets past ce h).base
+
+pub tails_kept : TailsBase
+tails_kept g targets past ce h = (tails g targets past ce h).same

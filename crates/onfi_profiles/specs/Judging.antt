@@ -1,0 +1,100 @@
+-- How the base profile judged before there was a wider one. Rules whose definitions haven't changed since stand here by their names.
+use Rattle.std.specs.Prelude.{◌≡◌, ℕ, Bool, true, false, ◌&&◌, ◌||◌, not, nat_le, if◌then◌else◌, List, Option, Some, None}
+use Rattle.nand_geometry.specs.declared.parts.Parts.{Parts}
+use Rattle.nand_geometry.specs.Limits.{page_len}
+use Rattle.onfi_cycle.specs.declared.command.Command.{Command}
+use Rattle.onfi_cycle.specs.declared.command.Command.TheVariants.{BlockErasePlane, ReadStatusEnhanced, ProgramPlane, ReadCacheSequential, ReadCacheEnd}
+use Rattle.onfi_cycle.specs.declared.forbidden.Forbidden.{Forbidden}
+use Rattle.onfi_cycle.specs.declared.forbidden.Forbidden.TheVariants.{NotThere, CommandUnknown, SequenceOpen, SeveralLuns, NoColumnToChange, CommandMisplaced, AddressMisplaced, RowOutside, LunBusy, QueueClash, InputMisplaced, NoSoleDriver, DataNotReady, ColumnOutside, CacheReadMisplaced}
+use Rattle.onfi_cycle.specs.declared.item.Item.{Item}
+use Rattle.onfi_cycle.specs.declared.item.Item.TheVariants.{Cyc, Rdy, Ard}
+use Rattle.onfi_cycle.specs.declared.tail_facts.TailFacts.{TailFacts}
+use Rattle.onfi_cycle.specs.declared.target_cycle.TargetCycle.{TargetCycle}
+use Rattle.onfi_cycle.specs.declared.target_cycle.TargetCycle.TheVariants.{CommandCycle, AddressCycle, InputCycle, OutputCycle}
+use Rattle.onfi_cycle.specs.LunView.{LunView}
+use Rattle.onfi_cycle.specs.Base.{is_of_base}
+use Rattle.onfi_cycle.specs.Command.{is_opener, is_change_read_column}
+use Rattle.onfi_cycle.specs.Sequence.{target_of, target_cycle, column_with, input_column}
+use Rattle.onfi_cycle.specs.Lun.{luns_of}
+use Rattle.onfi_cycle.specs.Rules.{driver_is, is_past_register, register_len, second_of_page, second_column, breaks_not_there, breaks_several_luns, breaks_no_column_to_change, breaks_row_outside, breaks_lun_busy, breaks_queue_clash, breaks_data_not_ready, breaks_cache_read_misplaced}
+use Rattle.onfi_cycle.specs.Permitted.{is_legal, broken}
+use Rattle.onfi_profiles.specs.Tails.{base_takes_inputs, base_wants_address, base_wants_command, base_is_open, base_facts}
+use Rattle.onfi_profiles.specs.Widening.{in_base}
+
+abbrev pub base_undeclared : Parts → Command → Bool
+base_undeclared g ReadStatusEnhanced = not g.enhanced
+base_undeclared g BlockErasePlane = not g.multi_plane
+base_undeclared g ProgramPlane = not g.multi_plane
+base_undeclared g ReadCacheSequential = not g.cache
+base_undeclared g ReadCacheEnd = not g.cache
+base_undeclared g _ = false
+
+-- F2
+abbrev pub base_command_unknown : Parts → TargetCycle → Bool
+base_command_unknown g (CommandCycle c) = not (is_of_base c) || base_undeclared g c
+base_command_unknown g _ = false
+
+-- F3
+abbrev pub base_sequence_open : TailFacts → TargetCycle → Bool
+base_sequence_open t (CommandCycle c) = is_opener c && base_is_open t
+base_sequence_open t _ = false
+
+-- F6
+abbrev pub base_command_misplaced : TailFacts → TargetCycle → Bool
+base_command_misplaced t (CommandCycle c) = not (is_opener c) && not (base_wants_command t c)
+base_command_misplaced t _ = false
+
+-- F7
+abbrev pub base_address_misplaced : TailFacts → TargetCycle → Bool
+base_address_misplaced t (AddressCycle byte) = not (base_wants_address t byte)
+base_address_misplaced t _ = false
+
+-- F11
+abbrev pub base_input_misplaced : TailFacts → TargetCycle → Bool
+base_input_misplaced t (InputCycle byte) = not (base_takes_inputs t.phase)
+base_input_misplaced t _ = false
+
+-- F12
+abbrev pub base_no_sole_driver : TailFacts → List LunView → TargetCycle → Bool
+base_no_sole_driver t luns OutputCycle = base_is_open t || not (driver_is (λ v. true) luns)
+base_no_sole_driver t luns _ = false
+
+-- F14
+abbrev pub base_column_outside : Parts → TailFacts → List LunView → TargetCycle → Bool
+base_column_outside g t luns (AddressCycle byte) =
+    (second_of_page t && nat_le (page_len g) (column_with t byte)) || (second_column is_change_read_column t && driver_is (λ v. nat_le (register_len g v.register) (column_with t byte)) luns)
+base_column_outside g t luns (InputCycle byte) = nat_le (page_len g) (input_column t)
+base_column_outside g t luns OutputCycle = driver_is (is_past_register g) luns
+base_column_outside g t luns (CommandCycle c) = false
+
+abbrev pub base_judge_cycle : Parts → TailFacts → List LunView → TargetCycle → Option Forbidden
+base_judge_cycle g t luns cycle =
+    if base_command_unknown g cycle then Some CommandUnknown
+    else (if base_sequence_open t cycle then Some SequenceOpen
+    else (if breaks_several_luns g cycle then Some SeveralLuns
+    else (if breaks_no_column_to_change luns cycle then Some NoColumnToChange
+    else (if base_command_misplaced t cycle then Some CommandMisplaced
+    else (if base_address_misplaced t cycle then Some AddressMisplaced
+    else (if breaks_row_outside g t cycle then Some RowOutside
+    else (if breaks_lun_busy g t luns cycle then Some LunBusy
+    else (if breaks_queue_clash g t luns cycle then Some QueueClash
+    else (if base_input_misplaced t cycle then Some InputMisplaced
+    else (if base_no_sole_driver t luns cycle then Some NoSoleDriver
+    else (if breaks_data_not_ready luns cycle then Some DataNotReady
+    else (if base_column_outside g t luns cycle then Some ColumnOutside
+    else (if breaks_cache_read_misplaced g t luns cycle then Some CacheReadMisplaced
+    else None)))))))))))))
+
+abbrev pub base_judge_item : Parts → TailFacts → List LunView → Item → Option Forbidden
+base_judge_item g t luns (Cyc c) = base_judge_cycle g t luns (target_cycle c.kind c.byte)
+base_judge_item g t luns (Rdy _ _ _) = None
+base_judge_item g t luns (Ard _ _) = None
+
+abbrev pub base_judge : Parts → ℕ → TailFacts → List LunView → Item → Option Forbidden
+base_judge g targets t luns i = if breaks_not_there targets luns i then Some NotThere else base_judge_item g t luns i
+
+-- the law: after a past that is legal in the base profile an item is judged as it was, by what the rules see of the LUNs
+abbrev pub JudgesBase : Type 0
+JudgesBase =
+    (g : Parts) (targets : ℕ) (past : List Item) (i : Item) → is_legal (in_base g) targets past ≡ true
+    → broken (in_base g) targets past i ≡ base_judge (in_base g) targets (base_facts past (target_of i)) (luns_of (in_base g) past (target_of i)) i

@@ -1,0 +1,4 @@
+pub mod Decoding
+pub mod Judging
+pub mod Tails
+pub mod Widening
