@@ -6,3 +6,6 @@ pub mod Spans
 pub mod Walks
 pub mod Counted
 pub mod Wholes
+pub mod Contents
+pub mod Tails
+pub mod Pieces

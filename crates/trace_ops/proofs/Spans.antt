@@ -15,7 +15,7 @@ use Rattle.trace_ops.specs.Laws.{Spans, AllSpan}
 use Rattle.trace_ops.proofs.Quiet.{is_quiet}
 use Rattle.trace_ops.proofs.Changed.{put, quiet_first, quiet_last, loud_first, loud_last}
 
-same_some : {X : Type 0} {a b : X} → Some a ≡ Some b → a ≡ b
+pub same_some : {X : Type 0} {a b : X} → Some a ≡ Some b → a ≡ b
 same_some {a = a} h = ap (λ o. unwrap_or o a) h
 
 -- ---- one mark more

@@ -1,7 +1,6 @@
 -- What holds of all operations of a trace, item by item.
 use Rattle.std.proofs.Common.{◌≡◌, ℕ, zero, suc, ◌+◌, ◌^◌, ◌<◌, ◌≤◌, Bool, true, false, List, [], ◌∷◌, Option, Some, None, refl, sym, ap, ◌∙◌, subst, arith, length, append-nil, append_assoc, cond, ◌++◌}
 use Rattle.std.specs.Prelude.{slice_get}
-use Rattle.std.specs.Option.{unwrap_or}
 use Rattle.std.specs.List.{All}
 use Rattle.std.proofs.lemmas.List.{length-append}
 use Rattle.std.proofs.lemmas.List.Elements.{All-nil, All-cons, All-append, All-weaker, All-replicate}
@@ -21,12 +20,12 @@ use Rattle.trace_ops.specs.Listing.{Listing, nobody, found, op_of, new_one, numb
 use Rattle.trace_ops.specs.Laws.{total, one_if, count, IsTold, AllSpan}
 use Rattle.trace_ops.proofs.Quiet.{is_quiet, by_ends, by_unfold, by_rest}
 use Rattle.trace_ops.proofs.Changed.{length_changed, there, at_most, total_append, total_kept, total_more, told_changed, told_append, told_by}
-use Rattle.trace_ops.proofs.Spans.{Awaits, spans_quiet, awaits_quiet, spans_loud, awaits_old, awaits_new}
+use Rattle.trace_ops.proofs.Spans.{Awaits, same_some, spans_quiet, awaits_quiet, spans_loud, awaits_old, awaits_new}
 use Rattle.trace_ops.proofs.Within.{Within, AreWithin, within_more, owner_within, newest_within, begins_within, selects_within}
 
 -- ---- one item
 
-abbrev new_many : Option ℕ → ℕ
+abbrev pub new_many : Option ℕ → ℕ
 new_many None = 1
 new_many (Some k) = 0
 
@@ -34,14 +33,14 @@ length_new : (owner : Option ℕ) (j : Judged) (l : Listing) → length (with_ne
 length_new None j l = length-append l.ops (new_one j (op_of l.ops (found l.places.newest j.ce)) j.item ∷ [])
 length_new (Some k) j l = omega arith
 
-length_ends : (j : Judged) (l : Listing) → length (with_ends j l).ops ≡ length l.ops
+pub length_ends : (j : Judged) (l : Listing) → length (with_ends j l).ops ≡ length l.ops
 length_ends j l = by_ends (λ ops. length ops ≡ length l.ops) (λ k c ops quiet p. length_changed k c ops ∙ p) j l.places l.ops refl
 
 -- the operations with the item that comes to one of them, or to a new one
 abbrev came : Judged → Listing → Listing
 came j l = with_bytes (owner_in j (with_ends j l)) j (mark_in j (with_ends j l)) (with_new (owner_in j (with_ends j l)) j (with_ends j l))
 
-length_came : (j : Judged) (l : Listing) → length (came j l).ops ≡ length l.ops + new_many (owner_in j (with_ends j l))
+pub length_came : (j : Judged) (l : Listing) → length (came j l).ops ≡ length l.ops + new_many (owner_in j (with_ends j l))
 length_came j l =
     let e = with_ends j l in
     let owner = owner_in j e in
@@ -53,7 +52,7 @@ length_came j l =
     let before = length_ends j l in
     omega (arith, noted, alone, many, before)
 
-length_listed : (j : Judged) (l : Listing) → length (listed j l).ops ≡ length (came j l).ops
+pub length_listed : (j : Judged) (l : Listing) → length (listed j l).ops ≡ length (came j l).ops
 length_listed j l =
     by_rest (λ ops. length ops ≡ length (came j l).ops) (λ k c ops quiet p. length_changed k c ops ∙ p) j (mark_in j (with_ends j l)) (came j l) refl
 
@@ -91,7 +90,7 @@ new_within n None j l le w =
     }
 new_within n (Some k) j l le w = within_more (length l.ops) n l.places le w
 
-within_listed : (j : Judged) (l : Listing) → AreWithin (length l.ops) l.places → AreWithin (length (listed j l).ops) (listed j l).places
+pub within_listed : (j : Judged) (l : Listing) → AreWithin (length l.ops) l.places → AreWithin (length (listed j l).ops) (listed j l).places
 within_listed j l w =
     let e = with_ends j l in
     let owner = owner_in j e in
@@ -228,9 +227,6 @@ told_here j l w unclean =
     let long : length (unfolded j mark new) ≡ length new = by_unfold (λ ops. length ops ≡ length new) (λ m c ops quiet p. length_changed m c ops ∙ p) j mark new refl in
     let below = mark_new j l w in
     by_rest (λ ops. IsTold ops mark) (keeps_told mark) j mark (came j l) (told_by owner j j.item (unfolded j mark new) mark (omega (arith, below, long)) unclean)
-
-same_some : {X : Type 0} {a b : X} → Some a ≡ Some b → a ≡ b
-same_some {a = a} h = ap (λ o. unwrap_or o a) h
 
 pub told_all : (readies : Readies) (one_lun : Bool) (seen : Seen) (n : ℕ) (items : List Item) (l : Listing) (m : ℕ) (said : Verdict) (k : ℕ) → AreWithin (length l.ops) l.places →
     slice_get (verdicts_from readies seen items) m ≡ Some said → is_clean said ≡ false → slice_get (marks_from readies one_lun seen n items l) m ≡ Some k →

@@ -1,11 +1,16 @@
 -- What holds of the operations of every trace, with faults or without, whole or from the middle.
-use Rattle.std.specs.Prelude.{◌≡◌, ℕ, ◌+◌, ◌<◌, ◌≤◌, ◌^◌, Bool, true, false, List, [], ◌∷◌, length, Some, slice_get, if◌then◌else◌}
+use Rattle.std.specs.Prelude.{◌≡◌, ℕ, ◌+◌, ◌<◌, ◌≤◌, ◌^◌, ◌==◌, Bool, true, false, List, [], ◌∷◌, ◌++◌, length, reverse, Some, slice_get, if◌then◌else◌}
 use Rattle.std.specs.List.{All}
 use Rattle.nand_geometry.specs.declared.parts.Parts.{Parts}
+use Rattle.onfi_cycle.specs.declared.item.Cycle.{Cycle}
 use Rattle.onfi_cycle.specs.declared.item.Item.{Item}
 use Rattle.onfi_cycle.specs.declared.item.Item.TheVariants.{Cyc, Rdy, Ard}
 use Rattle.onfi_cycle.specs.declared.item.Kind.{Kind}
 use Rattle.onfi_cycle.specs.declared.item.Kind.TheVariants.{Cmd, Adr, Din, Dout}
+use Rattle.onfi_cycle.specs.declared.target_cycle.TargetCycle.{TargetCycle}
+use Rattle.onfi_cycle.specs.declared.target_cycle.TargetCycle.TheVariants.{CommandCycle, AddressCycle, InputCycle, OutputCycle}
+use Rattle.onfi_cycle.specs.Permitted.{is_legal}
+use Rattle.onfi_cycle.specs.Sequence.{target_cycle, tail}
 use Rattle.trace_faults.specs.declared.beginning.Beginning.{Beginning}
 use Rattle.trace_faults.specs.declared.readies.Readies.{Readies}
 use Rattle.trace_faults.specs.declared.verdict.Verdict.{Verdict}
@@ -106,3 +111,33 @@ NoFaultIsHidden =
     (readies : Readies) (beginning : Beginning) (g : Parts) (targets : ℕ) (items : List Item) (n : ℕ) (said : Verdict) (k : ℕ) →
     slice_get (verdicts_as readies beginning g targets items) n ≡ Some said → is_clean said ≡ false →
     slice_get (marks_of readies beginning g targets items) n ≡ Some k → IsTold (ops_of readies beginning g targets items) k
+
+-- ---- operations are sequences
+
+-- a command, an address or an input, in front of those before it
+abbrev pub with_part : Item → List TargetCycle → List TargetCycle
+with_part (Cyc c) t = if is_output c.kind then t else target_cycle c.kind c.byte ∷ t
+with_part (Rdy ce lun fail) t = t
+with_part (Ard ce lun) t = t
+
+-- the commands, addresses and inputs of the items with this mark, the newest first, in front of these
+abbrev pub piece_on : ℕ → List TargetCycle → List Item → List ℕ → List TargetCycle
+piece_on k t [] marks = t
+piece_on k t (i ∷ items) [] = t
+piece_on k t (i ∷ items) (m ∷ marks) = piece_on k (if m == k then with_part i t else t) items marks
+
+-- a tail without its outputs
+abbrev pub without_outputs : List TargetCycle → List TargetCycle
+without_outputs [] = []
+without_outputs (CommandCycle c ∷ t) = CommandCycle c ∷ without_outputs t
+without_outputs (AddressCycle byte ∷ t) = AddressCycle byte ∷ without_outputs t
+without_outputs (InputCycle byte ∷ t) = InputCycle byte ∷ without_outputs t
+without_outputs (OutputCycle ∷ t) = without_outputs t
+
+-- in a trace that is legal up to a command, an address or an input, its operation has so far exactly the sequence that the target is in
+abbrev pub PiecesAreTails : Type 0
+PiecesAreTails =
+    (readies : Readies) (beginning : Beginning) (g : Parts) (targets : ℕ) (before : List Item) (c : Cycle) (later : List Item) (k : ℕ) →
+    targets ≤ 4 → is_legal g targets (Cyc c ∷ reverse before) ≡ true → is_output c.kind ≡ false →
+    slice_get (marks_of readies beginning g targets (before ++ (Cyc c ∷ later))) (length before) ≡ Some k →
+    piece_on k [] (before ++ (Cyc c ∷ [])) (marks_of readies beginning g targets (before ++ (Cyc c ∷ later))) ≡ without_outputs (tail (Cyc c ∷ reverse before) c.ce)

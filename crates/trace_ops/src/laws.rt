@@ -1,6 +1,6 @@
 //! What holds of the operations of every trace: the contracts of functions that do nothing.
 
-ghost use Rattle.trace_ops.specs.Laws.{EachItemBelongs, NothingIsLost, FaultsAreTold, NoFaultIsHidden};
+ghost use Rattle.trace_ops.specs.Laws.{EachItemBelongs, NothingIsLost, FaultsAreTold, NoFaultIsHidden, PiecesAreTails};
 
 /// Each item of a trace belongs to one operation, which is in the list; the first and the last of them are those that the operation names.
 pub fn each_item_belongs()
@@ -20,4 +20,10 @@ pub fn faults_are_told()
 /// What is no clean item, a fault or taken for granted, stands in an operation that has a line of its own.
 pub fn no_fault_is_hidden()
     ensures { NoFaultIsHidden }
+{}
+
+/// In a trace that is legal up to a command, an address or an input, the operation of that has had exactly the sequence that its target is in: each operation
+/// is one sequence, and has all of it.
+pub fn pieces_are_tails()
+    ensures { PiecesAreTails }
 {}

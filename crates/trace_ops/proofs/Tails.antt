@@ -1,0 +1,122 @@
+-- How the newest operation of each target and the tail of that go together, item by item of a legal past.
+use Rattle.std.proofs.Common.{◌≡◌, ◌⊎◌, inl, inr, ℕ, ◌<◌, ◌==◌, Bool, true, false, ◌&&◌, ◌||◌, not, cond, List, [], ◌∷◌, None, refl, sym, ap, ◌∙◌, eqb-true, eq-eqb, ne_eqb, leb, leb-false}
+use Rattle.nand_geometry.specs.declared.parts.Parts.{Parts}
+use Rattle.onfi_cycle.specs.declared.command.Command.{Command}
+use Rattle.onfi_cycle.specs.declared.command.Command.TheVariants.{Read, ReadConfirm, ChangeReadColumn, ChangeReadColumnConfirm, BlockErase, BlockEraseConfirm, BlockErasePlane, ReadStatus, ReadStatusEnhanced, PageProgram, ChangeWriteColumn, ProgramConfirm, ProgramPlane, ReadId, ReadParameterPage, Reset, ReadCacheSequential, ReadCacheEnd, ReadUniqueId, GetFeatures, SetFeatures, ResetLun, SynchronousReset, Unknown}
+use Rattle.onfi_cycle.specs.declared.forbidden.Forbidden.TheVariants.{NotThere}
+use Rattle.onfi_cycle.specs.declared.item.Cycle.{Cycle}
+use Rattle.onfi_cycle.specs.declared.item.Item.{Item}
+use Rattle.onfi_cycle.specs.declared.item.Item.TheVariants.{Cyc}
+use Rattle.onfi_cycle.specs.declared.tail_facts.TailFacts.{TailFacts}
+use Rattle.onfi_cycle.specs.declared.target_cycle.TargetCycle.{TargetCycle}
+use Rattle.onfi_cycle.specs.declared.target_cycle.TargetCycle.TheVariants.{CommandCycle, AddressCycle, InputCycle, OutputCycle}
+use Rattle.onfi_cycle.specs.Command.{is_known, is_opener}
+use Rattle.onfi_cycle.specs.Lun.{luns_of}
+use Rattle.onfi_cycle.specs.Permitted.{broken, judge_item}
+use Rattle.onfi_cycle.specs.Rules.{is_undeclared, is_undeclared_address, breaks_not_there, breaks_command_unknown, breaks_command_misplaced, breaks_address_misplaced, breaks_input_misplaced}
+use Rattle.onfi_cycle.specs.Sequence.{target_cycle, begins_sequence, continued, with_cycle, tail, facts_of, wants_command, wants_address, takes_inputs}
+use Rattle.onfi_cycle.proofs.Others.{first_passed}
+use Rattle.trace_ops.specs.Laws.{without_outputs}
+
+-- ---- numbers
+
+pub split : (a b : ℕ) → (a ≡ b) ⊎ (a ≡ b → ⊥)
+split a b = at (a == b) refl
+  where
+    at : (x : Bool) → (a == b) ≡ x → (a ≡ b) ⊎ (a ≡ b → ⊥)
+    at true e = inl (eqb-true a b e)
+    at false e = inr (λ h. clash (sym (eq-eqb a b h) ∙ e))
+      where
+        clash : true ≡ false → ⊥
+        clash h = cc
+
+-- ---- the tail of a target
+
+pub tail_own : (c : Cycle) (past : List Item) → tail (Cyc c ∷ past) c.ce ≡ with_cycle (target_cycle c.kind c.byte) (tail past c.ce)
+tail_own c past = ap (λ x. cond x (with_cycle (target_cycle c.kind c.byte) (tail past c.ce)) (tail past c.ce)) (eq-eqb c.ce c.ce refl)
+
+pub tail_other : (c : Cycle) (past : List Item) (d : ℕ) → (c.ce ≡ d → ⊥) → tail (Cyc c ∷ past) d ≡ tail past d
+tail_other c past d apart = ap (λ x. cond x (with_cycle (target_cycle c.kind c.byte) (tail past d)) (tail past d)) (ne_eqb c.ce d apart)
+
+pub after_output : (t : List TargetCycle) → without_outputs (continued OutputCycle t) ≡ without_outputs t
+after_output [] = refl
+after_output (c ∷ t) = refl
+
+-- a cycle that is no opener goes on with what is there
+pub goes_on : (cycle x : TargetCycle) (rest t : List TargetCycle) → begins_sequence cycle ≡ false → t ≡ x ∷ rest → with_cycle cycle t ≡ cycle ∷ (x ∷ rest)
+goes_on cycle x rest t begins is = ap (λ b. cond b (cycle ∷ []) (continued cycle t)) begins ∙ ap (continued cycle) is
+
+-- ---- what a permitted cycle tells
+
+pub target_below : (g : Parts) (targets : ℕ) (past : List Item) (c : Cycle) → broken g targets past (Cyc c) ≡ None → c.ce < targets
+unfolding breaks_not_there
+target_below g targets past c h =
+    let passed : leb targets c.ce ≡ false = (first_passed (breaks_not_there targets (luns_of g past c.ce) (Cyc c)) NotThere (judge_item g (facts_of (tail past c.ce)) (luns_of g past c.ce) (Cyc c)) h).0 in
+    leb-false targets c.ce passed
+
+pub known_command : (g : Parts) (c : Command) → breaks_command_unknown g (CommandCycle c) ≡ false → is_known c ≡ true
+unfolding breaks_command_unknown
+known_command g c h = at (is_known c) (is_undeclared g c) h
+  where
+    at : (x y : Bool) → (not x || y) ≡ false → x ≡ true
+    at true y h = refl
+    at false y h = cc
+
+pub wanted_command : (t : TailFacts) (c : Command) → breaks_command_misplaced t (CommandCycle c) ≡ false → is_opener c ≡ false → wants_command t c ≡ true
+unfolding breaks_command_misplaced
+wanted_command t c h opens = at (is_opener c) (wants_command t c) h opens
+  where
+    at : (x y : Bool) → (not x && not y) ≡ false → x ≡ false → y ≡ true
+    at true y h opens = cc
+    at false true h opens = refl
+    at false false h opens = cc
+
+pub wanted_address : (g : Parts) (t : TailFacts) (byte : ℕ) → breaks_address_misplaced g t (AddressCycle byte) ≡ false → wants_address t byte ≡ true
+unfolding breaks_address_misplaced
+wanted_address g t byte h = at (wants_address t byte) (is_undeclared_address g t byte) h
+  where
+    at : (x y : Bool) → (not x || y) ≡ false → x ≡ true
+    at true y h = refl
+    at false y h = cc
+
+pub wanted_input : (t : TailFacts) (byte : ℕ) → breaks_input_misplaced t (InputCycle byte) ≡ false → takes_inputs t.phase ≡ true
+unfolding breaks_input_misplaced
+wanted_input t byte h = at (takes_inputs t.phase) h
+  where
+    at : (x : Bool) → not x ≡ false → x ≡ true
+    at true h = refl
+    at false h = cc
+
+-- ---- nothing is wanted where nothing was begun
+
+pub no_command : (c : Command) → wants_command (facts_of []) c ≡ true → ⊥
+no_command Read h = cc
+no_command ReadConfirm h = cc
+no_command ChangeReadColumn h = cc
+no_command ChangeReadColumnConfirm h = cc
+no_command BlockErase h = cc
+no_command BlockEraseConfirm h = cc
+no_command BlockErasePlane h = cc
+no_command ReadStatus h = cc
+no_command ReadStatusEnhanced h = cc
+no_command PageProgram h = cc
+no_command ChangeWriteColumn h = cc
+no_command ProgramConfirm h = cc
+no_command ProgramPlane h = cc
+no_command ReadId h = cc
+no_command ReadParameterPage h = cc
+no_command Reset h = cc
+no_command ReadCacheSequential h = cc
+no_command ReadCacheEnd h = cc
+no_command ReadUniqueId h = cc
+no_command GetFeatures h = cc
+no_command SetFeatures h = cc
+no_command ResetLun h = cc
+no_command SynchronousReset h = cc
+no_command Unknown h = cc
+
+pub no_address : (byte : ℕ) → wants_address (facts_of []) byte ≡ true → ⊥
+no_address byte h = cc
+
+pub no_input : takes_inputs (facts_of []).phase ≡ true → ⊥
+no_input h = cc
