@@ -84,7 +84,7 @@ total_more f k more c ops o h grown =
 
 -- ---- the inputs and the outputs of one
 
-by : {X : Type 0} (f : Operation → X) (b : Bool) (x y : Operation) (v : X) → f x ≡ v → f y ≡ v → f (cond b x y) ≡ v
+pub by : {X : Type 0} (f : Operation → X) (b : Bool) (x y : Operation) (v : X) → f x ≡ v → f y ≡ v → f (cond b x y) ≡ v
 by f true x y v p q = p
 by f false x y v p q = q
 

@@ -9,3 +9,4 @@ pub mod Wholes
 pub mod Contents
 pub mod Tails
 pub mod Pieces
+pub mod Chains

@@ -30,13 +30,13 @@ use Rattle.trace_ops.specs.declared.operation.Operation.{Operation}
 use Rattle.trace_ops.specs.declared.role.Role.{Role}
 use Rattle.trace_ops.specs.declared.role.Role.TheVariants as role
 use Rattle.trace_ops.specs.Operation.{begun, is_output, takes_address, with_byte, says_ready, changed, changed_by, changed_at}
-use Rattle.trace_ops.specs.Listing.{Listing, found, op_of, begins_one, either_of, cycle_owner, new_one, newest_with, number_of, with_new, is_new_opener, change_of, unfolded, starts_on, begun_on, all_begun, role_by, selected_by, selected_on, all_selected, with_ends, with_bytes, owner_in, mark_in, listed, judged_as, marks_from, nothing_listed}
+use Rattle.trace_ops.specs.Listing.{Listing, found, op_of, begins_one, either_of, cycle_owner, new_one, newest_with, number_of, with_new, is_new_opener, change_of, unfolded, starts_on, begun_on, all_begun, role_by, selected_by, selected_on, all_selected, with_ends, owner_in, mark_in, listed, judged_as, marks_from, nothing_listed}
 use Rattle.trace_ops.specs.Laws.{with_part, piece_on, without_outputs}
 use Rattle.trace_ops.proofs.Quiet.{is_quiet, by_ends, by_unfold, by_rest}
-use Rattle.trace_ops.proofs.Changed.{put, there}
+use Rattle.trace_ops.proofs.Changed.{by, put, there}
 use Rattle.trace_ops.proofs.Spans.{same_some, which}
 use Rattle.trace_ops.proofs.Within.{Within, AreWithin}
-use Rattle.trace_ops.proofs.Walks.{new_many, length_ends, length_came, length_listed, within_listed}
+use Rattle.trace_ops.proofs.Walks.{came, new_many, length_ends, length_came, length_listed, within_listed}
 use Rattle.trace_ops.proofs.Tails.{split, tail_own, tail_other, after_output, goes_on, target_below, known_command, wanted_command, wanted_address, wanted_input, no_command, no_address, no_input}
 use Rattle.trace_ops.proofs.Contents.{Content, closer_by, content_output, content_opener, content_command, content_address, content_input, opener_begins, wanted_begins_none}
 
@@ -100,22 +100,25 @@ listed_newest j l =
 
 -- ---- what an operation keeps of its sequence
 
-by : {X : Type 0} (f : Operation → X) (b : Bool) (x y : Operation) (v : X) → f x ≡ v → f y ≡ v → f (cond b x y) ≡ v
-by f true x y v p q = p
-by f false x y v p q = q
+byte_beginning : (kind : Kind) (byte : ℕ) (o : Operation) → (with_byte kind byte o).beginning ≡ o.beginning
+byte_beginning Cmd byte o = refl
+byte_beginning Adr byte o = by (λ (z : Operation). z.beginning) (takes_address o) _ o o.beginning refl refl
+byte_beginning Din byte o = refl
+byte_beginning Dout byte o = refl
 
-quiet_beginning : (c : Change) (o : Operation) → is_quiet c ≡ true → (changed c o).beginning ≡ o.beginning
-quiet_beginning (Opened n said) o quiet = cc
-quiet_beginning (CycleOf n kind byte said) o quiet = cc
-quiet_beginning (LoneReady n said) o quiet = cc
-quiet_beginning (End e) o quiet = by (λ (z : Operation). z.beginning) (is_some o.end) o _ o.beginning refl refl
-quiet_beginning (Begin n lun) o quiet = refl
-quiet_beginning (Poll n byte) o quiet = by (λ (z : Operation). z.beginning) (is_some o.status) o _ o.beginning refl (by (λ (z : Operation). z.beginning) (says_ready byte) _ _ o.beginning refl refl)
-quiet_beginning (Show byte) o quiet = refl
-quiet_beginning (Hold page) o quiet = refl
-quiet_beginning (SetLun lun) o quiet = refl
-quiet_beginning (Fold parent) o quiet = refl
-quiet_beginning Unfold o quiet = refl
+-- no change tells another beginning
+pub kept_beginning : (c : Change) (o : Operation) → (changed c o).beginning ≡ o.beginning
+kept_beginning (Opened n said) o = refl
+kept_beginning (CycleOf n kind byte said) o = byte_beginning kind byte o
+kept_beginning (LoneReady n said) o = refl
+kept_beginning (End e) o = by (λ (z : Operation). z.beginning) (is_some o.end) o _ o.beginning refl refl
+kept_beginning (Begin n lun) o = refl
+kept_beginning (Poll n byte) o = by (λ (z : Operation). z.beginning) (is_some o.status) o _ o.beginning refl (by (λ (z : Operation). z.beginning) (says_ready byte) _ _ o.beginning refl refl)
+kept_beginning (Show byte) o = refl
+kept_beginning (Hold page) o = refl
+kept_beginning (SetLun lun) o = refl
+kept_beginning (Fold parent) o = refl
+kept_beginning Unfold o = refl
 
 quiet_closer : (c : Change) (o : Operation) → is_quiet c ≡ true → (changed c o).closer ≡ o.closer
 quiet_closer (Opened n said) o quiet = cc
@@ -131,10 +134,10 @@ quiet_closer (Fold parent) o quiet = refl
 quiet_closer Unfold o quiet = refl
 
 -- what holds of the beginning and the closer of each operation
-abbrev Each : (ℕ → Beginning → Option ℕ → Type 0) → List Operation → Type 0
+abbrev pub Each : (ℕ → Beginning → Option ℕ → Type 0) → List Operation → Type 0
 Each P ops = (k : ℕ) (o : Operation) → slice_get ops k ≡ Some o → P k o.beginning o.closer
 
-each_quiet : (P : ℕ → Beginning → Option ℕ → Type 0) (m : ℕ) (c : Change) (ops : List Operation) → is_quiet c ≡ true → Each P ops → Each P (changed_at m c ops)
+pub each_quiet : (P : ℕ → Beginning → Option ℕ → Type 0) (m : ℕ) (c : Change) (ops : List Operation) → is_quiet c ≡ true → Each P ops → Each P (changed_at m c ops)
 each_quiet P m c ops quiet all = at (slice_get ops m) refl
   where
     at : (o : Option Operation) → slice_get ops m ≡ o → Each P (changed_by o c ops m)
@@ -144,43 +147,28 @@ each_quiet P m c ops quiet all = at (slice_get ops m) refl
         by_place : ((k ≡ m) × (w ≡ changed c o)) ⊎ ((k ≡ m → ⊥) × (slice_get ops k ≡ Some w)) → P k w.beginning w.closer
         by_place (inl both) =
             let mine = all k o (ap (slice_get ops) both.0 ∙ h) in
-            let b : w.beginning ≡ o.beginning = ap (λ (z : Operation). z.beginning) both.1 ∙ quiet_beginning c o quiet in
+            let b : w.beginning ≡ o.beginning = ap (λ (z : Operation). z.beginning) both.1 ∙ kept_beginning c o in
             let cl : w.closer ≡ o.closer = ap (λ (z : Operation). z.closer) both.1 ∙ quiet_closer c o quiet in
             subst (λ (x : Beginning). P k x w.closer) (sym b) (subst (λ (x : Option ℕ). P k o.beginning x) (sym cl) mine)
         by_place (inr old) = all k w old.1
 
 -- the closer once an item has come
-abbrev closer_of_kind : Kind → ℕ → Beginning → Option ℕ → Option ℕ
+abbrev pub closer_of_kind : Kind → ℕ → Beginning → Option ℕ → Option ℕ
 closer_of_kind Cmd byte b closer = closer_by b closer byte
 closer_of_kind Adr byte b closer = closer
 closer_of_kind Din byte b closer = closer
 closer_of_kind Dout byte b closer = closer
 
-abbrev closer_with : Option ℕ → Judged → Item → Beginning → Option ℕ → Option ℕ
+abbrev pub closer_with : Option ℕ → Judged → Item → Beginning → Option ℕ → Option ℕ
 closer_with owner j (Cyc c) b closer = if is_new_opener owner j c.kind then closer else closer_of_kind c.kind c.byte b closer
 closer_with owner j (Rdy ce lun fail) b closer = closer
 closer_with owner j (Ard ce lun) b closer = closer
-
-byte_beginning : (kind : Kind) (byte : ℕ) (o : Operation) → (with_byte kind byte o).beginning ≡ o.beginning
-byte_beginning Cmd byte o = refl
-byte_beginning Adr byte o = by (λ (z : Operation). z.beginning) (takes_address o) _ o o.beginning refl refl
-byte_beginning Din byte o = refl
-byte_beginning Dout byte o = refl
 
 byte_closer : (kind : Kind) (byte : ℕ) (o : Operation) → (with_byte kind byte o).closer ≡ closer_of_kind kind byte o.beginning o.closer
 byte_closer Cmd byte o = refl
 byte_closer Adr byte o = by (λ (z : Operation). z.closer) (takes_address o) _ o o.closer refl refl
 byte_closer Din byte o = refl
 byte_closer Dout byte o = refl
-
-loud_beginning : (owner : Option ℕ) (j : Judged) (i : Item) (o : Operation) → (changed (change_of owner j i) o).beginning ≡ o.beginning
-loud_beginning owner j (Cyc c) o = at (is_new_opener owner j c.kind)
-  where
-    at : (opens : Bool) → (changed (cond opens (Opened j.number j.said) (CycleOf j.number c.kind c.byte j.said)) o).beginning ≡ o.beginning
-    at true = refl
-    at false = byte_beginning c.kind c.byte o
-loud_beginning owner j (Rdy ce lun fail) o = refl
-loud_beginning owner j (Ard ce lun) o = refl
 
 loud_closer : (owner : Option ℕ) (j : Judged) (i : Item) (o : Operation) → (changed (change_of owner j i) o).closer ≡ closer_with owner j i o.beginning o.closer
 loud_closer owner j (Cyc c) o = at (is_new_opener owner j c.kind)
@@ -192,7 +180,7 @@ loud_closer owner j (Rdy ce lun fail) o = refl
 loud_closer owner j (Ard ce lun) o = refl
 
 -- what holds before the item of this mark comes, so that it holds afterwards
-abbrev Awaited : (ℕ → Beginning → Option ℕ → Type 0) → ℕ → Option ℕ → Judged → Item → ℕ → Beginning → Option ℕ → Type 0
+abbrev pub Awaited : (ℕ → Beginning → Option ℕ → Type 0) → ℕ → Option ℕ → Judged → Item → ℕ → Beginning → Option ℕ → Type 0
 Awaited P mark owner j i k b closer = ((k ≡ mark → ⊥) → P k b closer) × (k ≡ mark → P k b (closer_with owner j i b closer))
 
 each_loud : (P : ℕ → Beginning → Option ℕ → Type 0) (mark : ℕ) (owner : Option ℕ) (j : Judged) (i : Item) (ops : List Operation) → Each (Awaited P mark owner j i) ops →
@@ -209,7 +197,7 @@ each_loud P mark owner j i ops all = at (slice_get ops mark) refl
         by_place : ((k ≡ mark) × (w ≡ changed (change_of owner j i) o)) ⊎ ((k ≡ mark → ⊥) × (slice_get ops k ≡ Some w)) → P k w.beginning w.closer
         by_place (inl both) =
             let mine = (all k o (ap (slice_get ops) both.0 ∙ h)).1 both.0 in
-            let b : w.beginning ≡ o.beginning = ap (λ (z : Operation). z.beginning) both.1 ∙ loud_beginning owner j i o in
+            let b : w.beginning ≡ o.beginning = ap (λ (z : Operation). z.beginning) both.1 ∙ kept_beginning (change_of owner j i) o in
             let cl : w.closer ≡ closer_with owner j i o.beginning o.closer = ap (λ (z : Operation). z.closer) both.1 ∙ loud_closer owner j i o in
             subst (λ (x : Beginning). P k x w.closer) (sym b) (subst (λ (x : Option ℕ). P k o.beginning x) (sym cl) mine)
         by_place (inr old) = (all k w old.1).0 old.0
@@ -222,14 +210,14 @@ each_new P ops o all mine k w is = by_place (which ops o k w is)
     by_place (inl old) = all k w old
     by_place (inr new) = subst (λ (n : ℕ). P n w.beginning w.closer) (sym new.0) (subst (λ (z : Operation). P (length ops) z.beginning z.closer) (sym new.1) mine)
 
--- all operations once an item has come, by what holds before
-each_listed : (P Q : ℕ → Beginning → Option ℕ → Type 0) (j : Judged) (l : Listing) → Each P l.ops →
+-- all operations once an item has come to its own, by what holds before
+pub each_came : (P Q : ℕ → Beginning → Option ℕ → Type 0) (j : Judged) (l : Listing) → Each P l.ops →
     ((k : ℕ) (b : Beginning) (closer : Option ℕ) → k < length (with_ends j l).ops → P k b closer → Awaited Q (mark_in j (with_ends j l)) (owner_in j (with_ends j l)) j j.item k b closer) →
     (owner_in j (with_ends j l) ≡ None →
     Awaited Q (mark_in j (with_ends j l)) (owner_in j (with_ends j l)) j j.item (length (with_ends j l).ops)
     (new_one j (op_of (with_ends j l).ops (found l.places.newest j.ce)) j.item).beginning (new_one j (op_of (with_ends j l).ops (found l.places.newest j.ce)) j.item).closer) →
-    Each Q (listed j l).ops
-each_listed P Q j l all old new =
+    Each Q (came j l).ops
+each_came P Q j l all old new =
     let e = with_ends j l in
     let owner = owner_in j e in
     let mark = mark_in j e in
@@ -237,13 +225,21 @@ each_listed P Q j l all old new =
     let awaited : Each (Awaited Q mark owner j j.item) e.ops = λ k o is. old k o.beginning o.closer (slice_get_within e.ops k o is) (ended k o is) in
     let with' : Each (Awaited Q mark owner j j.item) (with_new owner j e).ops = at owner refl awaited in
     let alone = by_unfold (Each (Awaited Q mark owner j j.item)) (each_quiet (Awaited Q mark owner j j.item)) j mark (with_new owner j e).ops with' in
-    let came = each_loud Q mark owner j j.item (unfolded j mark (with_new owner j e).ops) alone in
-    by_rest (Each Q) (each_quiet Q) j mark (with_bytes owner j mark (with_new owner j e)) came
+    each_loud Q mark owner j j.item (unfolded j mark (with_new owner j e).ops) alone
   where
     at : (o : Option ℕ) → owner_in j (with_ends j l) ≡ o → Each (Awaited Q (mark_in j (with_ends j l)) (owner_in j (with_ends j l)) j j.item) (with_ends j l).ops →
         Each (Awaited Q (mark_in j (with_ends j l)) (owner_in j (with_ends j l)) j j.item) (with_new o j (with_ends j l)).ops
     at None h awaited = each_new (Awaited Q (mark_in j (with_ends j l)) (owner_in j (with_ends j l)) j j.item) (with_ends j l).ops _ awaited (new h)
     at (Some k) h awaited = awaited
+
+-- and after all that it does besides
+each_listed : (P Q : ℕ → Beginning → Option ℕ → Type 0) (j : Judged) (l : Listing) → Each P l.ops →
+    ((k : ℕ) (b : Beginning) (closer : Option ℕ) → k < length (with_ends j l).ops → P k b closer → Awaited Q (mark_in j (with_ends j l)) (owner_in j (with_ends j l)) j j.item k b closer) →
+    (owner_in j (with_ends j l) ≡ None →
+    Awaited Q (mark_in j (with_ends j l)) (owner_in j (with_ends j l)) j j.item (length (with_ends j l).ops)
+    (new_one j (op_of (with_ends j l).ops (found l.places.newest j.ce)) j.item).beginning (new_one j (op_of (with_ends j l).ops (found l.places.newest j.ce)) j.item).closer) →
+    Each Q (listed j l).ops
+each_listed P Q j l all old new = by_rest (Each Q) (each_quiet Q) j (mark_in j (with_ends j l)) (came j l) (each_came P Q j l all old new)
 
 -- ---- one item
 

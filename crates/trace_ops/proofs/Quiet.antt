@@ -31,16 +31,43 @@ is_quiet (SetLun lun) = true
 is_quiet (Fold parent) = true
 is_quiet Unfold = true
 
-module _ (P : List Operation → Type 0) (step : (k : ℕ) (c : Change) (ops : List Operation) → is_quiet c ≡ true → P ops → P (changed_at k c ops)) where
-  by_if : (b : Bool) (x y : List Operation) → P x → P y → P (cond b x y)
-  by_if true x y p q = p
-  by_if false x y p q = q
+-- the same, but for a fold
+abbrev pub is_plain : Change → Bool
+is_plain (Opened n said) = false
+is_plain (Cycle n kind byte said) = false
+is_plain (LoneReady n said) = false
+is_plain (End e) = true
+is_plain (Begin n lun) = true
+is_plain (Poll n byte) = true
+is_plain (Show byte) = true
+is_plain (Hold page) = true
+is_plain (SetLun lun) = true
+is_plain (Fold parent) = false
+is_plain Unfold = true
 
+pub plain_is_quiet : (c : Change) → is_plain c ≡ true → is_quiet c ≡ true
+plain_is_quiet (Opened n said) h = h
+plain_is_quiet (Cycle n kind byte said) h = h
+plain_is_quiet (LoneReady n said) h = h
+plain_is_quiet (End e) h = h
+plain_is_quiet (Begin n lun) h = h
+plain_is_quiet (Poll n byte) h = h
+plain_is_quiet (Show byte) h = h
+plain_is_quiet (Hold page) h = h
+plain_is_quiet (SetLun lun) h = h
+plain_is_quiet (Fold parent) h = cc
+plain_is_quiet Unfold h = h
+
+choose : (P : List Operation → Type 0) (b : Bool) (x y : List Operation) → P x → P y → P (cond b x y)
+choose P true x y p q = p
+choose P false x y p q = q
+
+module _ (P : List Operation → Type 0) (step : (k : ℕ) (c : Change) (ops : List Operation) → is_plain c ≡ true → P ops → P (changed_at k c ops)) where
   on_if : (b : Bool) (x y : Listing) → P x.ops → P y.ops → P (cond b x y).ops
   on_if true x y p q = p
   on_if false x y p q = q
 
-  at_if : (at : Option ℕ) (c : Change) (ops : List Operation) → is_quiet c ≡ true → P ops → P (changed_if at c ops)
+  at_if : (at : Option ℕ) (c : Change) (ops : List Operation) → is_plain c ≡ true → P ops → P (changed_if at c ops)
   at_if None c ops quiet p = p
   at_if (Some k) c ops quiet p = step k c ops quiet p
 
@@ -48,28 +75,71 @@ module _ (P : List Operation → Type 0) (step : (k : ℕ) (c : Change) (ops : L
   by_end None at ops p = p
   by_end (Some e) at ops p = at_if at (End e) ops refl p
 
-  pub by_ends : (j : Judged) (places : Places) (ops : List Operation) → P ops → P (all_ended j places ops)
-  by_ends j places ops p =
+  pub plain_ends : (j : Judged) (places : Places) (ops : List Operation) → P ops → P (all_ended j places ops)
+  plain_ends j places ops p =
       by_end (end_by j j.item 3) (worker places j.ce 3) _
       (by_end (end_by j j.item 2) (worker places j.ce 2) _ (by_end (end_by j j.item 1) (worker places j.ce 1) _ (by_end (end_by j j.item 0) (worker places j.ce 0) ops p)))
 
-  pub by_unfold : (j : Judged) (k : ℕ) (ops : List Operation) → P ops → P (unfolded j k ops)
-  by_unfold j k ops p = by_if (is_address j.item && is_alone_op (op_of ops (Some k))) _ ops (step k Unfold ops refl p) p
+  pub plain_unfold : (j : Judged) (k : ℕ) (ops : List Operation) → P ops → P (unfolded j k ops)
+  plain_unfold j k ops p = choose P (is_address j.item && is_alone_op (op_of ops (Some k))) _ ops (step k Unfold ops refl p) p
 
-  by_abandon : (j : Judged) (k : ℕ) (w : Option ℕ) (ops : List Operation) → P ops → P (abandoned_by j k w ops)
+  pub by_abandon : (j : Judged) (k : ℕ) (w : Option ℕ) (ops : List Operation) → P ops → P (abandoned_by j k w ops)
   by_abandon j k None ops p = p
-  by_abandon j k (Some old) ops p = by_if (old == k) ops _ p (step old (End (ends.Abandoned j.number)) ops refl p)
+  by_abandon j k (Some old) ops p = choose P (old == k) ops _ p (step old (End (ends.Abandoned j.number)) ops refl p)
 
-  by_begin : (j : Judged) (k lun : ℕ) (l : Listing) → P l.ops → P (begun_on j k lun l).ops
+  pub by_begin : (j : Judged) (k lun : ℕ) (l : Listing) → P l.ops → P (begun_on j k lun l).ops
   by_begin j k lun l p =
       on_if (starts_on j lun k l.ops) _ l (step k (Begin j.number lun) _ refl (by_abandon j k (worker l.places j.ce lun) l.ops p)) p
 
+  pub plain_begins : (j : Judged) (k : ℕ) (l : Listing) → P l.ops → P (all_begun j k l).ops
+  plain_begins j k l p = by_begin j k 3 _ (by_begin j k 2 _ (by_begin j k 1 _ (by_begin j k 0 l p)))
+
+  by_foreign : (j : Judged) (byte : ℕ) (at : Option ℕ) (ops : List Operation) → P ops → P (foreign_ended j byte at ops)
+  by_foreign j byte at ops p =
+      choose P (is_foreign_at ops at && says_ready byte) _ ops (at_if at (End (ends.Shown j.number (has_failed byte))) ops refl p) p
+
+  by_poll : (j : Judged) (k byte : ℕ) (w : Option ℕ) (ops : List Operation) → P ops → P (polled_on j k byte w ops)
+  by_poll j k byte w ops p = by_foreign j byte w _ (at_if w (Poll j.number byte) _ refl (step k (Show byte) ops refl p))
+
+  by_driver : (j : Judged) (k byte : ℕ) (driver : Option ℕ) (places : Places) (ops : List Operation) → P ops → P (polled_by j k byte driver places ops)
+  by_driver j k byte None places ops p = p
+  by_driver j k byte (Some lun) places ops p =
+      choose P (gives_status (look_at j.before lun)) _ ops (by_poll j k byte (worker places j.ce lun) ops p) p
+
+  by_item : (j : Judged) (k : ℕ) (i : Item) (places : Places) (ops : List Operation) → P ops → P (polled j k i places ops)
+  by_item j k (Cyc c) places ops p =
+      choose P (is_output c.kind && is_permitted j.said) _ ops (by_driver j k c.byte (driver_of j.before) places ops p) p
+  by_item j k (Rdy ce lun fail) places ops p = p
+  by_item j k (Ard ce lun) places ops p = p
+
+  pub plain_polls : (j : Judged) (k : ℕ) (l : Listing) → P l.ops → P (with_polls j k l).ops
+  plain_polls j k l p = by_item j k j.item l.places l.ops p
+
+  pub plain_ready : (j : Judged) (k : ℕ) (l : Listing) → P l.ops → P (with_ready j k l).ops
+  plain_ready j k l p = choose P (is_foreign_at l.ops (Some k)) _ l.ops (by_end (ready_end j.item j.number) (Some k) l.ops p) p
+
+module _ (P : List Operation → Type 0) (step : (k : ℕ) (c : Change) (ops : List Operation) → is_quiet c ≡ true → P ops → P (changed_at k c ops)) where
+  plainly : (k : ℕ) (c : Change) (ops : List Operation) → is_plain c ≡ true → P ops → P (changed_at k c ops)
+  plainly k c ops plain p = step k c ops (plain_is_quiet c plain) p
+
+  pub by_ends : (j : Judged) (places : Places) (ops : List Operation) → P ops → P (all_ended j places ops)
+  by_ends j places ops p = plain_ends P plainly j places ops p
+
+  pub by_unfold : (j : Judged) (k : ℕ) (ops : List Operation) → P ops → P (unfolded j k ops)
+  by_unfold j k ops p = plain_unfold P plainly j k ops p
+
   pub by_begins : (j : Judged) (k : ℕ) (l : Listing) → P l.ops → P (all_begun j k l).ops
-  by_begins j k l p = by_begin j k 3 _ (by_begin j k 2 _ (by_begin j k 1 _ (by_begin j k 0 l p)))
+  by_begins j k l p = plain_begins P plainly j k l p
+
+  pub by_polls : (j : Judged) (k : ℕ) (l : Listing) → P l.ops → P (with_polls j k l).ops
+  by_polls j k l p = plain_polls P plainly j k l p
+
+  pub by_ready : (j : Judged) (k : ℕ) (l : Listing) → P l.ops → P (with_ready j k l).ops
+  by_ready j k l p = plain_ready P plainly j k l p
 
   by_fold : (k : ℕ) (parent : Option ℕ) (ops : List Operation) → P ops → P (folded_into k parent ops)
   by_fold k None ops p = p
-  by_fold k (Some parent) ops p = by_if (parent == k) ops _ p (step k (Fold parent) ops refl p)
+  by_fold k (Some parent) ops p = choose P (parent == k) ops _ p (step k (Fold parent) ops refl p)
 
   by_register : (r : Register) (k : ℕ) (ops : List Operation) → P ops → P (held_in r k ops)
   by_register Empty k ops p = p
@@ -89,40 +159,16 @@ module _ (P : List Operation → Type 0) (step : (k : ℕ) (c : Change) (ops : L
   by_role role.Nothing j k lun l p = p
   by_role role.Asks j k lun l p =
       let set = step k (SetLun lun) l.ops refl p in
-      by_if (is_unshown (op_of l.ops (worker l.places j.ce lun))) _ _ (by_fold k (worker l.places j.ce lun) _ set) set
+      choose P (is_unshown (op_of l.ops (worker l.places j.ce lun))) _ _ (by_fold k (worker l.places j.ce lun) _ set) set
   by_role role.Gives j k lun l p = p
   by_role role.Holds j k lun l p = by_hold (look_at j.after lun) k _ (step k (SetLun lun) l.ops refl p)
   by_role role.Returns j k lun l p = by_fold k (either_of (worker l.places j.ce lun) (giver l.places j.ce lun)) _ (step k (SetLun lun) l.ops refl p)
 
-  by_select : (j : Judged) (k lun : ℕ) (l : Listing) → P l.ops → P (selected_on j k lun l).ops
+  pub by_select : (j : Judged) (k lun : ℕ) (l : Listing) → P l.ops → P (selected_on j k lun l).ops
   by_select j k lun l p = by_role (role_by j (op_of l.ops (Some k)) j.item lun) j k lun l p
 
   pub by_selects : (j : Judged) (k : ℕ) (l : Listing) → P l.ops → P (all_selected j k l).ops
   by_selects j k l p = by_select j k 3 _ (by_select j k 2 _ (by_select j k 1 _ (by_select j k 0 l p)))
-
-  by_foreign : (j : Judged) (byte : ℕ) (at : Option ℕ) (ops : List Operation) → P ops → P (foreign_ended j byte at ops)
-  by_foreign j byte at ops p =
-      by_if (is_foreign_at ops at && says_ready byte) _ ops (at_if at (End (ends.Shown j.number (has_failed byte))) ops refl p) p
-
-  by_poll : (j : Judged) (k byte : ℕ) (w : Option ℕ) (ops : List Operation) → P ops → P (polled_on j k byte w ops)
-  by_poll j k byte w ops p = by_foreign j byte w _ (at_if w (Poll j.number byte) _ refl (step k (Show byte) ops refl p))
-
-  by_driver : (j : Judged) (k byte : ℕ) (driver : Option ℕ) (places : Places) (ops : List Operation) → P ops → P (polled_by j k byte driver places ops)
-  by_driver j k byte None places ops p = p
-  by_driver j k byte (Some lun) places ops p =
-      by_if (gives_status (look_at j.before lun)) _ ops (by_poll j k byte (worker places j.ce lun) ops p) p
-
-  by_item : (j : Judged) (k : ℕ) (i : Item) (places : Places) (ops : List Operation) → P ops → P (polled j k i places ops)
-  by_item j k (Cyc c) places ops p =
-      by_if (is_output c.kind && is_permitted j.said) _ ops (by_driver j k c.byte (driver_of j.before) places ops p) p
-  by_item j k (Rdy ce lun fail) places ops p = p
-  by_item j k (Ard ce lun) places ops p = p
-
-  pub by_polls : (j : Judged) (k : ℕ) (l : Listing) → P l.ops → P (with_polls j k l).ops
-  by_polls j k l p = by_item j k j.item l.places l.ops p
-
-  pub by_ready : (j : Judged) (k : ℕ) (l : Listing) → P l.ops → P (with_ready j k l).ops
-  by_ready j k l p = by_if (is_foreign_at l.ops (Some k)) _ l.ops (by_end (ready_end j.item j.number) (Some k) l.ops p) p
 
   -- once an item has come to its operation
   pub by_rest : (j : Judged) (k : ℕ) (l : Listing) → P l.ops → P (with_ready j k (with_polls j k (all_selected j k (all_begun j k l)))).ops

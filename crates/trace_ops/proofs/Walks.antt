@@ -29,7 +29,7 @@ abbrev pub new_many : Option ℕ → ℕ
 new_many None = 1
 new_many (Some k) = 0
 
-length_new : (owner : Option ℕ) (j : Judged) (l : Listing) → length (with_new owner j l).ops ≡ length l.ops + new_many owner
+pub length_new : (owner : Option ℕ) (j : Judged) (l : Listing) → length (with_new owner j l).ops ≡ length l.ops + new_many owner
 length_new None j l = length-append l.ops (new_one j (op_of l.ops (found l.places.newest j.ce)) j.item ∷ [])
 length_new (Some k) j l = omega arith
 
@@ -37,7 +37,7 @@ pub length_ends : (j : Judged) (l : Listing) → length (with_ends j l).ops ≡ 
 length_ends j l = by_ends (λ ops. length ops ≡ length l.ops) (λ k c ops quiet p. length_changed k c ops ∙ p) j l.places l.ops refl
 
 -- the operations with the item that comes to one of them, or to a new one
-abbrev came : Judged → Listing → Listing
+abbrev pub came : Judged → Listing → Listing
 came j l = with_bytes (owner_in j (with_ends j l)) j (mark_in j (with_ends j l)) (with_new (owner_in j (with_ends j l)) j (with_ends j l))
 
 pub length_came : (j : Judged) (l : Listing) → length (came j l).ops ≡ length l.ops + new_many (owner_in j (with_ends j l))
@@ -66,10 +66,10 @@ number_below (Some k) j l w = w
 mark_within : (j : Judged) (l : Listing) → AreWithin (length l.ops) l.places → Within (length (with_ends j l).ops) (owner_in j (with_ends j l))
 mark_within j l w = owner_within (length (with_ends j l).ops) (with_ends j l).ops l.places j j.item (subst (λ n. AreWithin n l.places) (sym (length_ends j l)) w)
 
-mark_new : (j : Judged) (l : Listing) → AreWithin (length l.ops) l.places → mark_in j (with_ends j l) < length (with_new (owner_in j (with_ends j l)) j (with_ends j l)).ops
+pub mark_new : (j : Judged) (l : Listing) → AreWithin (length l.ops) l.places → mark_in j (with_ends j l) < length (with_new (owner_in j (with_ends j l)) j (with_ends j l)).ops
 mark_new j l w = number_below (owner_in j (with_ends j l)) j (with_ends j l) (mark_within j l w)
 
-mark_below : (j : Judged) (l : Listing) → AreWithin (length l.ops) l.places → mark_in j (with_ends j l) < length (listed j l).ops
+pub mark_below : (j : Judged) (l : Listing) → AreWithin (length l.ops) l.places → mark_in j (with_ends j l) < length (listed j l).ops
 mark_below j l w =
     let below = mark_new j l w in
     let many = length_new (owner_in j (with_ends j l)) j (with_ends j l) in

@@ -18,7 +18,7 @@ use Rattle.trace_faults.specs.declared.beginning.Beginning.TheVariants.{Start}
 use Rattle.trace_faults.specs.Faults.{faults_of}
 use Rattle.trace_faults.specs.Middle.{all_broken}
 use Rattle.trace_ops.specs.declared.operation.Operation.{Operation}
-use Rattle.trace_ops.specs.Operation.{is_clean, is_output}
+use Rattle.trace_ops.specs.Operation.{is_clean, is_output, is_folded}
 use Rattle.trace_ops.specs.Listing.{ops_of, marks_of, verdicts_as}
 
 -- ---- each item belongs to one operation
@@ -141,3 +141,17 @@ PiecesAreTails =
     targets ≤ 4 → is_legal g targets (Cyc c ∷ reverse before) ≡ true → is_output c.kind ≡ false →
     slice_get (marks_of readies beginning g targets (before ++ (Cyc c ∷ later))) (length before) ≡ Some k →
     piece_on k [] (before ++ (Cyc c ∷ [])) (marks_of readies beginning g targets (before ++ (Cyc c ∷ later))) ≡ without_outputs (tail (Cyc c ∷ reverse before) c.ce)
+
+-- ---- there are no chains
+
+-- the operation of this number is there, and has a line of its own
+pub record HasLine (ops : List Operation) (k : ℕ) : Type 0 where
+  pub operation : Operation
+  pub is_there : slice_get ops k ≡ Some operation
+  pub has_line : is_folded operation ≡ false
+
+-- that of which another is a part has a line of its own
+abbrev pub NoChains : Type 0
+NoChains =
+    (readies : Readies) (beginning : Beginning) (g : Parts) (targets : ℕ) (items : List Item) (k : ℕ) (o : Operation) (parent : ℕ) →
+    slice_get (ops_of readies beginning g targets items) k ≡ Some o → o.parent ≡ Some parent → HasLine (ops_of readies beginning g targets items) parent

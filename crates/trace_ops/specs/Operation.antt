@@ -180,3 +180,9 @@ changed_at k change ops = changed_by (slice_get ops k) change ops k
 abbrev pub changed_if : Option ℕ → Change → List Operation → List Operation
 changed_if None change ops = ops
 changed_if (Some k) change ops = changed_at k change ops
+
+-- ---- whether it has a line of its own
+
+-- it is a part of another operation, and nothing in it is a fault: a question for the status, or a return to the data, and no work and no other command
+abbrev pub is_folded : Operation → Bool
+is_folded o = is_some o.parent && (o.is_clean && not (is_some o.start || is_some o.closer))

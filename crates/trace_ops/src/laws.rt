@@ -1,6 +1,6 @@
 //! What holds of the operations of every trace: the contracts of functions that do nothing.
 
-ghost use Rattle.trace_ops.specs.Laws.{EachItemBelongs, NothingIsLost, FaultsAreTold, NoFaultIsHidden, PiecesAreTails};
+ghost use Rattle.trace_ops.specs.Laws.{EachItemBelongs, NothingIsLost, FaultsAreTold, NoFaultIsHidden, PiecesAreTails, NoChains};
 
 /// Each item of a trace belongs to one operation, which is in the list; the first and the last of them are those that the operation names.
 pub fn each_item_belongs()
@@ -26,4 +26,9 @@ pub fn no_fault_is_hidden()
 /// is one sequence, and has all of it.
 pub fn pieces_are_tails()
     ensures { PiecesAreTails }
+{}
+
+/// That of which an operation is a part has a line of its own, so nothing is folded away twice.
+pub fn no_chains()
+    ensures { NoChains }
 {}

@@ -86,8 +86,11 @@ impl Operation {
         }
     }
 
-    /// It is a part of another operation, and nothing in it is a fault: a poll, or a return to the data.
-    pub fn is_folded(self) -> bool {
-        self.parent.is_some() && self.is_clean
+    /// It is a part of another operation, and nothing in it is a fault: a poll, or a return to the data, which begins no work and has no other command.
+    pub fn is_folded(self) -> bool
+        ensures { result ≡ is_folded self }
+    {
+        let does_more = self.start.is_some() || self.closer.is_some();
+        self.parent.is_some() && self.is_clean && !does_more
     }
 }
