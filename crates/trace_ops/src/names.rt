@@ -1,4 +1,6 @@
 //! The names of operations.
+ghost use Rattle.std.specs.Prelude.{◌≡◌};
+ghost use Rattle.trace_ops.specs.Operation.{is_folded};
 
 use crate::operation::{Beginning, Operation};
 use std::fmt;
