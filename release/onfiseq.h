@@ -94,7 +94,9 @@ enum onfiseq_code {
 
 /**
  * A geometry: sizes in bytes, pages of a block, blocks and LUNs of a target. plane_bits is the
- * binary logarithm of the planes of a LUN. The last three are 0 for no, anything else for yes.
+ * binary logarithm of the planes of a LUN. enhanced, multi_plane and cache are 0 for no, anything
+ * else for yes. optional is 0 in the base profile, which is what onfiseq_read_page gives; else it
+ * has the bits of the optional commands of ONFI that the chip declares beside it.
  */
 struct onfiseq_geometry {
     uint32_t page_bytes, spare_bytes, pages, blocks;
@@ -102,6 +104,16 @@ struct onfiseq_geometry {
     uint8_t enhanced;    /**< Read Status Enhanced is declared */
     uint8_t multi_plane; /**< operations on several planes */
     uint8_t cache;       /**< cache reads */
+    uint16_t optional;   /**< bits of enum onfiseq_optional */
+};
+
+/** What a chip may have beside the base profile. */
+enum onfiseq_optional {
+    ONFISEQ_FEATURES = 0x0004,          /**< EEh and EFh */
+    ONFISEQ_UNIQUE_ID = 0x0020,         /**< EDh */
+    ONFISEQ_RESET_LUN = 0x0200,         /**< FAh */
+    ONFISEQ_SYNCHRONOUS_RESET = 0x0800, /**< FCh */
+    ONFISEQ_WIDE = 0x8000               /**< 90h at 00h and 40h, and FFh in an open sequence */
 };
 
 /** What a parameter page declares. fault is 0, or n of the code Pn; then the geometry is all 0. */
@@ -112,6 +124,9 @@ struct onfiseq_page {
 
 /** Reads the parameter page of a chip: 256 bytes, or several copies one after the other. */
 struct onfiseq_page onfiseq_read_page(const uint8_t *page, size_t length);
+
+/** Reads it in a profile: 0 for the base profile, 1 for the wider one of optional. */
+struct onfiseq_page onfiseq_read_page_as(const uint8_t *page, size_t length, uint8_t profile);
 
 /* ---- the channel */
 
