@@ -11,8 +11,8 @@ use crate::json_lines::lines_of_json;
 use crate::text_lines::lines_of_text;
 use seq_files::Files;
 use seq_inputs::{
-    Console, Exit, Stop, Style, end_without_memory, fail_as, finish, geometry_at, read_file,
-    read_program,
+    Console, Exit, PageFile, Stop, Style, end_without_memory, fail_as, finish, geometry_at,
+    read_file, read_program,
 };
 use std::alloc::Allocator;
 use std::io::Write;
@@ -21,12 +21,12 @@ use std::io::Write;
 fn explain_at<'p, A: Allocator + Clone, F: Files>(
     alloc: A,
     files: &mut F,
-    page: &'p str,
+    page: PageFile<'p>,
     input: &'p str,
     style: Style,
 ) -> Result<String<A>, Stop<'p, A>>
-    ensures ok { IfOk result (λ lines. IsExplained (F.store files.old) page.now input.now) }
-    ensures err { IfErr result (Says (ExplainRefuses (F.store files.old) page.now input.now)) }
+    ensures ok { IfOk result (λ lines. IsExplained (F.store files.old) page.entry input.now) }
+    ensures err { IfErr result (Says (ExplainRefuses (F.store files.old) page.entry input.now)) }
     ensures stays { F.store files.new ≡ F.store files.old }
 {
     let geometry = geometry_at(alloc.clone()?, files, page)?;
@@ -49,14 +49,14 @@ pub fn explain_file<'p, A: Allocator + Clone, F: Files, W: Write, E: Write, P>(
     alloc: A,
     files: &mut F,
     console: &mut Console<W, E, P>,
-    page: &'p str,
+    page: PageFile<'p>,
     input: &'p str,
     style: Style,
 ) -> Exit
-    ensures done { result ≡ Exit.Done → (printed : List ℕ) × IsExplained (F.store files.old) page.now input.now
+    ensures done { result ≡ Exit.Done → (printed : List ℕ) × IsExplained (F.store files.old) page.entry input.now
         × Appends (W.contents console.old.output) (W.contents console.new.output) printed }
     ensures refused { (refusal : Refusal) → result ≡ Exit.Refused refusal
-        → Tells (ExplainRefuses (F.store files.old) page.now input.now) refusal
+        → Tells (ExplainRefuses (F.store files.old) page.entry input.now) refusal
         × Appends (W.contents console.old.output) (W.contents console.new.output) (line_of refusal) }
     ensures stays { F.store files.new ≡ F.store files.old }
 {

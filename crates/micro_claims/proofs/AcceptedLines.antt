@@ -5,7 +5,7 @@ use Rattle.std.proofs.lemmas.Bool.{and_parts, or_parts}
 use Rattle.nand_geometry.specs.declared.parts.Parts.{Parts}
 use Rattle.nand_geometry.specs.Limits.{indices}
 use Rattle.onfi_cycle.specs.declared.command.Command.{Command}
-use Rattle.onfi_cycle.specs.declared.command.Command.TheVariants.{Read, ReadConfirm, ChangeReadColumn, ChangeReadColumnConfirm, BlockErase, BlockEraseConfirm, PageProgram, ChangeWriteColumn, ProgramConfirm, BlockErasePlane, ProgramPlane, Reset, ReadId, ReadParameterPage, ReadCacheSequential, ReadCacheEnd, ReadStatus as AskStatus, ReadStatusEnhanced}
+use Rattle.onfi_cycle.specs.declared.command.Command.TheVariants.{Read, ReadConfirm, ChangeReadColumn, ChangeReadColumnConfirm, BlockErase, BlockEraseConfirm, PageProgram, ChangeWriteColumn, ProgramConfirm, BlockErasePlane, ProgramPlane, Reset, ReadId, ReadParameterPage, ReadCacheSequential, ReadCacheEnd, ReadUniqueId, GetFeatures, SetFeatures, ResetLun, SynchronousReset, ReadStatus as AskStatus, ReadStatusEnhanced}
 use Rattle.onfi_cycle.specs.declared.item.Item.{Item}
 use Rattle.onfi_cycle.specs.Command.{command, wants_one_lun}
 use Rattle.onfi_cycle.specs.Sequence.{tail, facts_of, is_open}
@@ -32,8 +32,8 @@ use Rattle.micro_claims.proofs.Numbers.{in_exactly}
 use Rattle.micro_claims.proofs.Tails.{no_address}
 use Rattle.micro_claims.proofs.Sounding.{KnownJob, Claims, knows_tail, NoReasons, no_reasons, SoundWord}
 use Rattle.micro_claims.proofs.Commands.{sound_00, sound_30, sound_05, sound_e0, sound_60, sound_d0, sound_80, sound_85, sound_10}
-use Rattle.micro_claims.proofs.Identities.{sound_90, sound_ec, sound_any_address}
-use Rattle.micro_claims.proofs.MoreCommands.{sound_d1, sound_11, sound_ff, sound_31, sound_3f}
+use Rattle.micro_claims.proofs.Identities.{sound_90, sound_ec, sound_ed, sound_ee, sound_ef, sound_any_address}
+use Rattle.micro_claims.proofs.MoreCommands.{sound_d1, sound_11, sound_ff, sound_fa, sound_fc, sound_31, sound_3f}
 use Rattle.micro_claims.proofs.Words.{sound_get, sound_put}
 use Rattle.micro_claims.proofs.Controls.{sound_stat, sound_wait, sound_yield, sound_end, sound_jump, sound_branch}
 use Rattle.micro_claims.proofs.Settings.{sound_loop, sound_next, sound_seek, sound_column, sound_plane}
@@ -60,6 +60,11 @@ data Taken (d : Command) : Type 0 where
   IsEC : (e : d ≡ ReadParameterPage) → Taken d
   Is31 : (e : d ≡ ReadCacheSequential) → Taken d
   Is3F : (e : d ≡ ReadCacheEnd) → Taken d
+  IsED : (e : d ≡ ReadUniqueId) → Taken d
+  IsEE : (e : d ≡ GetFeatures) → Taken d
+  IsEF : (e : d ≡ SetFeatures) → Taken d
+  IsFA : (e : d ≡ ResetLun) → Taken d
+  IsFC : (e : d ≡ SynchronousReset) → Taken d
 
 asked : (a b : Bool) → (a || true || b) ≡ false → ⊥
 asked true b h = cc
@@ -82,6 +87,11 @@ which g ReadId h = Is90 refl
 which g ReadParameterPage h = IsEC refl
 which g ReadCacheSequential h = Is31 refl
 which g ReadCacheEnd h = Is3F refl
+which g ReadUniqueId h = IsED refl
+which g GetFeatures h = IsEE refl
+which g SetFeatures h = IsEF refl
+which g ResetLun h = IsFA refl
+which g SynchronousReset h = IsFC refl
 which g AskStatus h = absurd (asked (is_unfit g AskStatus) (wants_one_lun AskStatus && ltb 1 g.luns) h)
 which g ReadStatusEnhanced h = absurd (asked (is_unfit g ReadStatusEnhanced) (wants_one_lun ReadStatusEnhanced && ltb 1 g.luns) h)
 which g _ h = cc
@@ -110,6 +120,11 @@ command_sound s j k v past c done rest at byte scene f clear acc = by (taken_com
     by (IsEC e) = sound_ec s j k v past c done rest at byte e scene f clear acc
     by (Is31 e) = sound_31 s j k v past c done rest at byte e scene f clear acc
     by (Is3F e) = sound_3f s j k v past c done rest at byte e scene f clear acc
+    by (IsED e) = sound_ed s j k v past c done rest at byte e scene f clear acc
+    by (IsEE e) = sound_ee s j k v past c done rest at byte e scene f clear acc
+    by (IsEF e) = sound_ef s j k v past c done rest at byte e scene f clear acc
+    by (IsFA e) = sound_fa s j k v past c done rest at byte e scene f clear acc
+    by (IsFC e) = sound_fc s j k v past c done rest at byte e scene f clear acc
 
 branch_sound : (s : Channel) (j : Job) (k : KnownJob s j) (v : State) (past : List Item) (c : Scene) (done : List Done) (rest : List Line) (at mask target : ℕ) → IsScene s j.lun past c → Fits s.geometry j v done c true → NoReasons s.geometry j.text v (BranchOnStatus mask target) → goes_on (BranchOnStatus mask target) (λ t. accepts s.geometry (bounds_of j.text) t (state_after s.geometry v (BranchOnStatus mask target)) rest) ≡ true → SoundWord s j past done rest at (BranchOnStatus mask target)
 branch_sound s j k v past c done rest at mask target scene f clear acc =

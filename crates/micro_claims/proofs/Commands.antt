@@ -16,7 +16,7 @@ use Rattle.onfi_cycle.specs.declared.latch.Latch.TheVariants.{Off, Status, Data}
 use Rattle.onfi_cycle.specs.declared.effect.Effect.{Effect}
 use Rattle.onfi_cycle.specs.declared.effect.Effect.TheVariants.{Unaffected, ReadStarted, EraseStarted, ProgramStarted, ReadColumnChanged}
 use Rattle.onfi_cycle.specs.declared.register.Register.{Register}
-use Rattle.onfi_cycle.specs.declared.register.Register.TheVariants.{Empty, Page, ParameterPage, Identifier}
+use Rattle.onfi_cycle.specs.declared.register.Register.TheVariants.{Empty, Page, ParameterPage, Identifier, Identity, JedecIdentity, UniqueId, Features}
 use Rattle.onfi_cycle.specs.declared.tail_facts.TailFacts.{TailFacts}
 use Rattle.onfi_cycle.specs.declared.target_cycle.TargetCycle.TheVariants.{CommandCycle}
 use Rattle.onfi_cycle.specs.LunView.{LunView}
@@ -31,8 +31,8 @@ use Rattle.micro_word.specs.Text.{Microprogram}
 use Rattle.micro_program.specs.Lines.{Line}
 use Rattle.micro_program.specs.Program.{Job, Done, index_now}
 use Rattle.micro_claims.specs.Spans.{Span}
-use Rattle.micro_claims.specs.State.{NoRows, other_closer, State, Registers, KnownTarget, KnownLun, NamedRow, Place, Closed, After, InData, InColumn, Shown, Held, bounds_of, Unknown, shows_status, holds_identifier}
-use Rattle.micro_claims.specs.Against.{is_unfit, closer_refused, drives, may_be_open, command_out_of_place, opener_refused, place_wants, shows_only_data, has_page_or_parameters}
+use Rattle.micro_claims.specs.State.{NoRows, other_closer, State, Registers, KnownTarget, KnownLun, NamedRow, Place, Closed, After, InData, InColumn, InFeatures, Shown, Held, bounds_of, Unknown, shows_status, holds_identifier, holds_identity, holds_jedec, holds_feature}
+use Rattle.micro_claims.specs.Against.{holds_short, is_unfit, may_end_sequence, closer_refused, drives, may_be_open, command_out_of_place, opener_refused, place_wants, shows_only_data, has_page_or_parameters}
 use Rattle.micro_claims.specs.Reasons.{breaks_cycle_forbidden}
 use Rattle.micro_claims.specs.Leaves.{paid, with_registers, resumed_shows, data_shown, opened_by, work_started, given_at, cached_at, shows_after_read, read_started, command_leaves}
 use Rattle.micro_claims.specs.Accepts.{state_after, accepts}
@@ -141,12 +141,22 @@ changes (Some w) (Some r) c shows fits ready shown page = (shows.0, rw (is_shown
     is_shown Status h = let none = not-true (shows_status w) shown in cc
     is_shown Data h = refl
 
+    long : (holds_identifier r ≡ false) × (holds_identity r ≡ false) × (holds_jedec r ≡ false) × (holds_feature r ≡ false)
+    long =
+        let one = or_parts (holds_identifier r) (holds_identity r || (holds_jedec r || holds_feature r)) (not-true (holds_short r) page) in
+        let two = or_parts (holds_identity r) (holds_jedec r || holds_feature r) one.1 in
+        let three = or_parts (holds_jedec r) (holds_feature r) two.1 in
+        (one.0, two.0, three.0, three.1)
+
     is_held : (x : Register) → register_among r x ≡ true → is_page_or_parameters x ≡ true
     is_held Empty h = cc
     is_held (Page p) h = refl
     is_held ParameterPage h = refl
-    is_held Identifier h = let none = not-true (holds_identifier r) page in cc
-    is_held _ h = cc
+    is_held Identifier h = let none = long.0 in cc
+    is_held Identity h = let none = long.1 in cc
+    is_held JedecIdentity h = let none = long.2 in cc
+    is_held UniqueId h = refl
+    is_held (Features a) h = let none = long.3 in cc
 
 pub sound_05 : (s : Channel) (j : Job) (k : KnownJob s j) (v : State) (past : List Item) (c : Scene) (done : List Done) (rest : List Line) (at byte : ℕ) → command byte ≡ ChangeReadColumn → IsScene s j.lun past c → Fits s.geometry j v done c true → NoReasons s.geometry j.text v (CommandWord byte) → accepts s.geometry (bounds_of j.text) None (state_after s.geometry v (CommandWord byte)) rest ≡ true → SoundWord s j past done rest at (CommandWord byte)
 sound_05 s j k v past c done rest at byte is scene f clear acc =
@@ -169,9 +179,10 @@ pub record Wanted (v : State) (d : Command) : Type 0 where
 
 pub wanted : (g : Parts) (text : Microprogram) (v : State) (byte : ℕ) (d : Command) → command byte ≡ d → is_unfit g d ≡ false → is_opener d ≡ false → NoReasons g text v (CommandWord byte) → Wanted v d
 wanted g text v byte d is fit closer clear =
+    let free = (not (may_end_sequence g d) && may_be_open v) || opener_refused g v d in
     let all = not (place_wants d v.target.tail) || closer_refused v d in
-    let fitting = subst (λ (b : Bool). cond b false (cond (is_opener d) (may_be_open v || opener_refused g v d) all) ≡ false) fit (out_of_place g text v byte d is clear) in
-    let closing = subst (λ (b : Bool). cond b (may_be_open v || opener_refused g v d) all ≡ false) closer fitting in
+    let fitting = subst (λ (b : Bool). cond b false (cond (is_opener d) free all) ≡ false) fit (out_of_place g text v byte d is clear) in
+    let closing = subst (λ (b : Bool). cond b free all ≡ false) closer fitting in
     let both = or_parts (not (place_wants d v.target.tail)) (closer_refused v d) closing in
     record { places = not-false _ both.0; not_refused = both.1 }
 
@@ -198,6 +209,7 @@ confirms : (p : Place) → place_wants ProgramConfirm p ≡ true → p ≡ InDat
 confirms InData h = refl
 confirms Closed h = cc
 confirms (InColumn n) h = cc
+confirms (InFeatures n) h = cc
 confirms Unknown h = cc
 confirms (After o n) h = let both = and_parts (closes o ProgramConfirm) (n == address_cycles o) h in absurd (none o both.0)
   where
@@ -295,6 +307,7 @@ changes_column : (p : Place) → place_wants ChangeWriteColumn p ≡ true → p 
 changes_column InData h = refl
 changes_column Closed h = cc
 changes_column (InColumn n) h = cc
+changes_column (InFeatures n) h = cc
 changes_column Unknown h = cc
 changes_column (After o n) h = let both = and_parts (closes o ChangeWriteColumn) (n == address_cycles o) h in absurd (none o both.0)
   where

@@ -4,9 +4,9 @@ use Rattle.nand_geometry.specs.declared.parts.Parts.{Parts}
 use Rattle.nand_geometry.specs.Limits.{planes}
 use Rattle.nand_geometry.specs.Row.{row_of, parts_of, indexed, row_bytes_of, is_inside}
 use Rattle.onfi_cycle.specs.declared.command.Command.{Command}
-use Rattle.onfi_cycle.specs.declared.command.Command.TheVariants.{Read, ReadConfirm, ReadCacheSequential, ChangeReadColumn, BlockErase, PageProgram, ReadId, ReadParameterPage}
+use Rattle.onfi_cycle.specs.declared.command.Command.TheVariants.{Read, ReadConfirm, ReadCacheSequential, ChangeReadColumn, BlockErase, PageProgram, ReadId, ReadParameterPage, ReadUniqueId, GetFeatures, SetFeatures, ResetLun}
 use Rattle.onfi_cycle.specs.declared.data_phase.DataPhase.{DataPhase}
-use Rattle.onfi_cycle.specs.declared.data_phase.DataPhase.TheVariants.{Inputs, FirstColumn, SecondColumn}
+use Rattle.onfi_cycle.specs.declared.data_phase.DataPhase.TheVariants.{Inputs, FirstColumn, SecondColumn, FeatureInputs}
 use Rattle.onfi_cycle.specs.declared.latch.Latch.{Latch}
 use Rattle.onfi_cycle.specs.declared.latch.Latch.TheVariants.{Off, Status, Data}
 use Rattle.onfi_cycle.specs.declared.queued.Queued.{Queued}
@@ -14,7 +14,7 @@ use Rattle.onfi_cycle.specs.declared.queued.Queued.TheVariants.{Erase, Program}
 use Rattle.onfi_cycle.specs.declared.page_address.PageAddress.{PageAddress}
 use Rattle.onfi_cycle.specs.declared.read_column.ReadColumn.{ReadColumn}
 use Rattle.onfi_cycle.specs.declared.register.Register.{Register}
-use Rattle.onfi_cycle.specs.declared.register.Register.TheVariants.{Page, ParameterPage, Identifier}
+use Rattle.onfi_cycle.specs.declared.register.Register.TheVariants.{Empty, Page, ParameterPage, Identifier, Identity, JedecIdentity, UniqueId, Features}
 use Rattle.onfi_cycle.specs.declared.tail_facts.TailFacts.{TailFacts}
 use Rattle.onfi_cycle.specs.declared.target_cycle.TargetCycle.TheVariants.{CommandCycle, AddressCycle}
 use Rattle.onfi_cycle.specs.LunView.{LunView}
@@ -22,7 +22,7 @@ use Rattle.onfi_cycle.specs.Sequence.{facts_of, facts_after, is_open, input_colu
 use Rattle.onfi_cycle.specs.Lun.{output_column}
 use Rattle.micro_claims.specs.Spans.{Span}
 use Rattle.micro_claims.specs.Planes.{Planes, has_plane}
-use Rattle.micro_claims.specs.State.{State, Registers, KnownTarget, KnownLun, PageRange, Place, Closed, After, InData, InColumn, Unknown, Drift, NamedRow, Shown, Held, OutputColumn, QueuedRows, NoRows, SomeRows, AnyRows, LastCloser, shows_status, shows_register, holds_page, holds_parameters, holds_identifier, may_be_30, may_be_31, may_be_other}
+use Rattle.micro_claims.specs.State.{State, Registers, KnownTarget, KnownLun, PageRange, Place, Closed, After, InData, InColumn, InFeatures, Unknown, Drift, NamedRow, Shown, Held, OutputColumn, QueuedRows, NoRows, SomeRows, AnyRows, LastCloser, shows_status, shows_register, holds_page, holds_parameters, holds_identifier, holds_identity, holds_jedec, holds_unique_id, holds_feature, may_be_30, may_be_31, may_be_other}
 use Rattle.micro_claims.specs.Against.{is_inside_address, next_address, first_address}
 use Rattle.micro_program.specs.Program.{Job, Done, column_now, plane_now, index_now, place_now, cost_now}
 use Rattle.micro_program.proofs.Scenes.{Scene}
@@ -88,6 +88,10 @@ is_place BlockErase n = nat_le n 3
 is_place PageProgram n = nat_le n 4
 is_place ReadId n = n == 0
 is_place ReadParameterPage n = n == 0
+is_place ReadUniqueId n = n == 0
+is_place GetFeatures n = n == 0
+is_place SetFeatures n = n == 0
+is_place ResetLun n = nat_le n 2
 is_place _ n = false
 
 abbrev pub column_phase : ℕ → DataPhase
@@ -109,11 +113,19 @@ pub record ColumnBegun (n : ℕ) (a : Address) (t : TailFacts) : Type 0 where
   pub program : InProgram a (column_phase n) t
   pub column : n ≡ 1 → t.column ≡ a.column % 256
 
+-- in the four bytes of a Set Features, of which so many have come
+pub record FeaturesBegun (n : ℕ) (t : TailFacts) : Type 0 where
+  pub few : n ≤ 3
+  pub phase : t.phase ≡ FeatureInputs
+  pub inputs : t.inputs ≡ n
+  pub begun : t.is_empty ≡ false
+
 abbrev pub PlaceIs : Place → Address → TailFacts → Type 0
 PlaceIs Closed a t = is_open t ≡ false
 PlaceIs (After o n) a t = Opened o n a t
 PlaceIs InData a t = InProgram a Inputs t
 PlaceIs (InColumn n) a t = ColumnBegun n a t
+PlaceIs (InFeatures n) a t = FeaturesBegun n t
 PlaceIs Unknown a t = Unit {0}
 
 -- the tail has a whole column, a whole row
@@ -134,6 +146,7 @@ has_column Closed = false
 has_column (After o n) = takes_column o && nat_le 2 n
 has_column InData = true
 has_column (InColumn n) = false
+has_column (InFeatures n) = false
 has_column Unknown = false
 
 abbrev pub has_row : Place → Bool
@@ -141,6 +154,7 @@ has_row Closed = false
 has_row (After o n) = takes_row o && nat_le 5 (first_address o + n)
 has_row InData = true
 has_row (InColumn n) = true
+has_row (InFeatures n) = false
 has_row Unknown = false
 
 -- some of the addresses of a known place have come, but not all
@@ -209,14 +223,15 @@ abbrev pub ShowsFit : Option Shown → Scene → Type 0
 ShowsFit None c = Unit {0}
 ShowsFit (Some w) c = (c.sole ≡ true) × (latch_among w c.view.latch ≡ true)
 
-abbrev pub among_held : (page parameters identifier : Bool) → Register → Bool
-among_held p q i (Page a) = p
-among_held p q i ParameterPage = q
-among_held p q i Identifier = i
-among_held p q i _ = false
-
 abbrev pub register_among : Held → Register → Bool
-register_among r = among_held (holds_page r) (holds_parameters r) (holds_identifier r)
+register_among r Empty = false
+register_among r (Page a) = holds_page r
+register_among r ParameterPage = holds_parameters r
+register_among r Identifier = holds_identifier r
+register_among r Identity = holds_identity r
+register_among r JedecIdentity = holds_jedec r
+register_among r UniqueId = holds_unique_id r
+register_among r (Features a) = holds_feature r
 
 abbrev pub RegisterFits : Option Held → Register → Type 0
 RegisterFits None r = Unit {0}

@@ -7,6 +7,7 @@ pub mod Fits
 pub mod Identities
 pub mod Indices
 pub mod Keeping
+pub mod LunResets
 pub mod MoreCommands
 pub mod NamesNow
 pub mod Numbered

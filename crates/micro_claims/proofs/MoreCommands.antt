@@ -5,39 +5,41 @@ use Rattle.std.proofs.lemmas.Bool.{not-false, and_parts, or_parts}
 use Rattle.nand_geometry.specs.declared.parts.Parts.{Parts}
 use Rattle.nand_geometry.specs.declared.row_parts.RowParts.{RowParts}
 use Rattle.nand_geometry.specs.Limits.{planes}
+use Rattle.nand_geometry.specs.Optional.{is_wide, has_lun_reset, has_synchronous_reset}
 use Rattle.nand_geometry.specs.Row.{row_of, parts_of}
 use Rattle.onfi_cycle.specs.declared.command.Command.{Command}
-use Rattle.onfi_cycle.specs.declared.command.Command.TheVariants.{Read, ChangeReadColumn, BlockErase, ReadConfirm, BlockErasePlane, ProgramPlane, Reset, ReadCacheSequential, ReadCacheEnd}
+use Rattle.onfi_cycle.specs.declared.command.Command.TheVariants.{Read, ChangeReadColumn, BlockErase, ReadConfirm, BlockErasePlane, ProgramPlane, Reset, ReadCacheSequential, ReadCacheEnd, ResetLun, SynchronousReset}
 use Rattle.onfi_cycle.specs.declared.item.Item.{Item}
 use Rattle.onfi_cycle.specs.declared.effect.Effect.{Effect}
-use Rattle.onfi_cycle.specs.declared.effect.Effect.TheVariants.{EraseStarted, ProgramStarted, CacheReadContinued, CacheReadEnded}
+use Rattle.onfi_cycle.specs.declared.effect.Effect.TheVariants.{EraseStarted, ProgramStarted, CacheReadContinued, CacheReadEnded, ResetStarted}
 use Rattle.onfi_cycle.specs.declared.queued.Queued.{Queued}
 use Rattle.onfi_cycle.specs.declared.queued.Queued.TheVariants.{Erase, Program}
 use Rattle.onfi_cycle.specs.declared.tail_facts.TailFacts.{TailFacts}
 use Rattle.onfi_cycle.specs.declared.target_cycle.TargetCycle.TheVariants.{CommandCycle}
 use Rattle.onfi_cycle.specs.Command.{command, closes, address_cycles, is_opener, wants_one_lun}
 use Rattle.onfi_cycle.specs.Sequence.{facts_after, is_open, wants_command, row, takes_data}
-use Rattle.onfi_cycle.specs.Effect.{page_address, cycle_effect}
+use Rattle.onfi_cycle.specs.Effect.{page_address, names_lun, cycle_effect}
 use Rattle.onfi_cycle.specs.Lun.{is_page_read, is_cache_read, view_after}
+use Rattle.onfi_cycle.specs.LunView.{LunView}
 use Rattle.onfi_cycle.specs.Channel.{Channel}
 use Rattle.micro_word.specs.Text.{Microprogram}
 use Rattle.micro_word.specs.declared.word.Word.TheVariants.{Command as CommandWord}
 use Rattle.micro_program.specs.Lines.{Line}
 use Rattle.micro_claims.specs.Spans.{bound_plus, is_at_most}
 use Rattle.micro_claims.specs.Planes.{no_planes, either_plane}
-use Rattle.micro_claims.specs.State.{State, Place, Closed, After, InData, InColumn, NamedRow, Drift, QueuedRows, NoRows, SomeRows, AnyRows, LastCloser, bounds_of, Unknown, may_be_30, may_be_other}
-use Rattle.micro_claims.specs.Against.{opener_refused, closer_refused, is_unfit, asks_status, command_not_for_programs, drives, may_be_open, place_wants, same_test, continues_unseen}
+use Rattle.micro_claims.specs.State.{State, Place, Closed, After, InData, InColumn, InFeatures, NamedRow, Drift, QueuedRows, NoRows, SomeRows, AnyRows, LastCloser, bounds_of, Unknown, may_be_30, may_be_other}
+use Rattle.micro_claims.specs.Against.{may_end_sequence, opener_refused, closer_refused, is_unfit, asks_status, command_not_for_programs, drives, may_be_open, place_wants, same_test, continues_unseen}
 use Rattle.micro_claims.specs.Reasons.{breaks_command_not_allowed}
-use Rattle.micro_claims.specs.Leaves.{work_started, rows_at, goes_along, queued_planes, queued_more, data_shown, command_leaves}
+use Rattle.micro_claims.specs.Leaves.{work_started, rows_at, goes_along, queued_planes, queued_more, data_shown, reset_started, command_leaves}
 use Rattle.micro_claims.specs.Accepts.{state_after, accepts}
 use Rattle.micro_program.specs.Program.{Job, Done, index_now}
 use Rattle.micro_claims.proofs.PlaneSets.{among_first, among_second}
 use Rattle.micro_program.proofs.Scenes.{Scene, IsScene, shown_alone, scene_behind}
-use Rattle.micro_claims.proofs.Fits.{latch_among, DriftFits, Address, NameFits, RowIs, is_of_kind, page_of, RowFits, AllFit, RowsFit, closer_among, LunFits, Fits, now_of}
+use Rattle.micro_claims.proofs.Fits.{latch_among, DriftFits, Address, NameFits, RowIs, is_of_kind, page_of, RowFits, AllFit, RowsFit, closer_among, LunFits, TailFits, Fits, Now, now_of}
 use Rattle.micro_claims.proofs.Numbers.{below_plus, in_exactly, surely}
 use Rattle.micro_claims.proofs.Tails.{closed_tail, closed_fits, whole_erase_plane, programming}
 use Rattle.micro_claims.proofs.Sounding.{KnownJob, NoReasons, SoundWord}
-use Rattle.micro_claims.proofs.Commands.{command_sound, shows_kept, wanted, row_names, program_row, driven, out_of_place}
+use Rattle.micro_claims.proofs.Commands.{command_sound, plain_opener, same_either, shows_kept, wanted, row_names, program_row, driven, out_of_place}
 
 -- 1. what is declared
 
@@ -120,6 +122,7 @@ queues : (p : Place) → place_wants ProgramPlane p ≡ true → p ≡ InData
 queues InData h = refl
 queues Closed h = cc
 queues (InColumn n) h = cc
+queues (InFeatures n) h = cc
 queues Unknown h = cc
 queues (After o n) h = let both = and_parts (closes o ProgramPlane) (n == address_cycles o) h in absurd (none o both.0)
   where
@@ -148,24 +151,62 @@ sound_11 s j k v past c done rest at byte is scene f clear acc =
 
 -- 3. openers that are whole by themselves
 
-pub opener_free : (g : Parts) (text : Microprogram) (v : State) (byte : ℕ) (d : Command) → command byte ≡ d → is_unfit g d ≡ false → is_opener d ≡ true → NoReasons g text v (CommandWord byte) → (may_be_open v || opener_refused g v d) ≡ false
+pub opener_free : (g : Parts) (text : Microprogram) (v : State) (byte : ℕ) (d : Command) → command byte ≡ d → is_unfit g d ≡ false → is_opener d ≡ true → NoReasons g text v (CommandWord byte) → ((not (may_end_sequence g d) && may_be_open v) || opener_refused g v d) ≡ false
 opener_free g text v byte d is fit opener clear =
+    let free = (not (may_end_sequence g d) && may_be_open v) || opener_refused g v d in
     let all = not (place_wants d v.target.tail) || closer_refused v d in
-    let fitting = subst (λ (b : Bool). cond b false (cond (is_opener d) (may_be_open v || opener_refused g v d) all) ≡ false) fit (out_of_place g text v byte d is clear) in
-    subst (λ (b : Bool). cond b (may_be_open v || opener_refused g v d) all ≡ false) opener fitting
+    let fitting = subst (λ (b : Bool). cond b false (cond (is_opener d) free all) ≡ false) fit (out_of_place g text v byte d is clear) in
+    subst (λ (b : Bool). cond b free all ≡ false) opener fitting
+
+-- a reset comes where nothing is open, or anywhere in the wider profile
+reset_closed : (g : Parts) (j : Job) (v : State) (n : Now) (t : TailFacts) → TailFits g j v.target n t → (not (is_wide g.optional) && may_be_open v) ≡ false → (is_open t && not (is_wide g.optional)) ≡ false
+reset_closed g j v n t f h = at (is_wide g.optional) h
+  where
+    none : (b : Bool) → (b && false) ≡ false
+    none true = refl
+    none false = refl
+
+    at : (w : Bool) → (not w && may_be_open v) ≡ false → (is_open t && not w) ≡ false
+    at true h = none (is_open t)
+    at false h = ap (λ (b : Bool). b && true) (closed_tail g j v.target n t f h)
+
+pub reset_fits : (g : Parts) (j : Job) (v : State) (i : ℕ) (view : LunView) → LunFits g j (reset_started v).lun i (view_after ResetStarted view)
+reset_fits g j v i view = record { ready = λ e. cc; register = tt; column = tt; queue = refl; last = refl; cached = λ e x. cc }
 
 -- FFh
 pub sound_ff : (s : Channel) (j : Job) (k : KnownJob s j) (v : State) (past : List Item) (c : Scene) (done : List Done) (rest : List Line) (at byte : ℕ) → command byte ≡ Reset → IsScene s j.lun past c → Fits s.geometry j v done c true → NoReasons s.geometry j.text v (CommandWord byte) → accepts s.geometry (bounds_of j.text) None (state_after s.geometry v (CommandWord byte)) rest ≡ true → SoundWord s j past done rest at (CommandWord byte)
 sound_ff s j k v past c done rest at byte is scene f clear acc =
     let g = s.geometry in
     let dec = declared g j.text v byte Reset is clear in
-    let free = or_parts (may_be_open v) false (opener_free g j.text v byte Reset is refl refl clear) in
-    let shut = closed_tail g j v.target (now_of j done) c.facts (f.tail refl) free.0 in
-    command_sound s j k v past c done rest at byte Reset is scene f clear (shut, dec.one) refl
+    let free = or_parts (not (is_wide g.optional) && may_be_open v) false (opener_free g j.text v byte Reset is refl refl clear) in
+    command_sound s j k v past c done rest at byte Reset is scene f clear (record { closed = reset_closed g j v (now_of j done) c.facts (f.tail refl) free.0; one = dec.one }) refl
     (closed_fits g j None None None (now_of j done) _ refl)
     tt
-    (record { ready = λ e. cc; register = tt; column = tt; queue = refl; last = refl; cached = λ e x. cc })
+    (reset_fits g j v (index_now j.base done) c.view)
     acc
+
+-- FCh
+pub sound_fc : (s : Channel) (j : Job) (k : KnownJob s j) (v : State) (past : List Item) (c : Scene) (done : List Done) (rest : List Line) (at byte : ℕ) → command byte ≡ SynchronousReset → IsScene s j.lun past c → Fits s.geometry j v done c true → NoReasons s.geometry j.text v (CommandWord byte) → accepts s.geometry (bounds_of j.text) None (state_after s.geometry v (CommandWord byte)) rest ≡ true → SoundWord s j past done rest at (CommandWord byte)
+sound_fc s j k v past c done rest at byte is scene f clear acc =
+    let g = s.geometry in
+    let dec = declared g j.text v byte SynchronousReset is clear in
+    let free = or_parts (not (is_wide g.optional) && may_be_open v) false (opener_free g j.text v byte SynchronousReset is dec.fit refl clear) in
+    let fit = or_parts (not (is_wide g.optional)) (not (has_synchronous_reset g.optional)) dec.fit in
+    command_sound s j k v past c done rest at byte SynchronousReset is scene f clear (record { closed = reset_closed g j v (now_of j done) c.facts (f.tail refl) free.0; one = dec.one }, not-false (has_synchronous_reset g.optional) fit.1) refl
+    (closed_fits g j None None None (now_of j done) _ refl)
+    tt
+    (reset_fits g j v (index_now j.base done) c.view)
+    acc
+
+-- FAh
+pub sound_fa : (s : Channel) (j : Job) (k : KnownJob s j) (v : State) (past : List Item) (c : Scene) (done : List Done) (rest : List Line) (at byte : ℕ) → command byte ≡ ResetLun → IsScene s j.lun past c → Fits s.geometry j v done c true → NoReasons s.geometry j.text v (CommandWord byte) → accepts s.geometry (bounds_of j.text) None (state_after s.geometry v (CommandWord byte)) rest ≡ true → SoundWord s j past done rest at (CommandWord byte)
+sound_fa s j k v past c done rest at byte is scene f clear acc =
+    let g = s.geometry in
+    let dec = declared g j.text v byte ResetLun is clear in
+    let free = or_parts (may_be_open v) false (opener_free g j.text v byte ResetLun is dec.fit refl clear) in
+    let fit = or_parts (not (is_wide g.optional)) (not (has_lun_reset g.optional)) dec.fit in
+    plain_opener s j k v past c done rest at byte ResetLun is scene f clear (closed_tail g j v.target (now_of j done) c.facts (f.tail refl) free.0, not-false (has_lun_reset g.optional) fit.1) refl refl
+    (same_either (wants_command c.facts ResetLun && names_lun g (row c.facts) j.lun.lun)) refl acc
 
 -- 31h and 3Fh
 page_read : (w : LastCloser) (o : Option Command) → closer_among w o ≡ true → may_be_other w ≡ false → is_page_read o ≡ true

@@ -1,14 +1,14 @@
 -- Programs that are accepted, computed by the definitions; so they are safe. And some that aren't accepted.
 use Rattle.std.proofs.Common.{◌≡◌, true, false, refl, List, [], ◌∷◌, None, arith}
 use Rattle.micro_word.specs.declared.word.Word.{Word}
-use Rattle.micro_word.specs.declared.word.Word.TheVariants.{End, Command, Address, Get, Wait, Yield}
+use Rattle.micro_word.specs.declared.word.Word.TheVariants.{End, Command, Address, Get, Put, Wait, Yield}
 use Rattle.onfi_cycle.specs.Command.{command}
 use Rattle.micro_program.specs.Unsafe.{one_lun}
 use Rattle.micro_program.specs.Lines.{unrolled}
 use Rattle.micro_claims.specs.State.{first_state, bounds_of}
 use Rattle.micro_claims.specs.Reasons.{reason_against, breaks_cycle_forbidden, breaks_address_unaligned, breaks_handover_in_sequence, breaks_buffer_passed, breaks_row_or_plane_outside, breaks_column_too_large, breaks_no_status, breaks_ends_too_soon, breaks_over_budget, breaks_command_not_allowed}
 use Rattle.micro_claims.specs.Accepts.{accepts, state_after}
-use Rattle.micro_claims.specs.SafePrograms.{two_luns, some_text, read_words, handing_words, program_words, column_words, checked_words, parts_words, planes_words, blocks_words, cache_words, identity_words, one_lun_with_cache, with_rows, SomeAreSafe}
+use Rattle.micro_claims.specs.SafePrograms.{two_luns, some_text, read_words, handing_words, program_words, column_words, checked_words, parts_words, planes_words, blocks_words, cache_words, identity_words, identities_words, features_words, lun_reset_words, resets_words, one_wide_lun, two_wide_luns, one_lun_with_cache, with_rows, SomeAreSafe}
 use Rattle.micro_claims.proofs.AcceptedLines.{accepted_is_safe}
 
 read_is : accepts one_lun (bounds_of (some_text 528 536 read_words)) None first_state (unrolled read_words) ≡ true
@@ -67,6 +67,38 @@ identity_is : accepts one_lun (bounds_of (some_text 772 778 identity_words)) Non
 unfolding command unrolled state_after reason_against breaks_cycle_forbidden breaks_address_unaligned breaks_handover_in_sequence breaks_buffer_passed breaks_row_or_plane_outside breaks_column_too_large breaks_no_status breaks_ends_too_soon breaks_over_budget breaks_command_not_allowed
 identity_is = refl
 
+identities_is : accepts one_wide_lun (bounds_of (some_text 526 533 identities_words)) None first_state (unrolled identities_words) ≡ true
+unfolding command unrolled state_after reason_against breaks_cycle_forbidden breaks_address_unaligned breaks_handover_in_sequence breaks_buffer_passed breaks_row_or_plane_outside breaks_column_too_large breaks_no_status breaks_ends_too_soon breaks_over_budget breaks_command_not_allowed
+identities_is = refl
+
+features_is : accepts one_wide_lun (bounds_of (some_text 8 13 features_words)) None first_state (unrolled features_words) ≡ true
+unfolding command unrolled state_after reason_against breaks_cycle_forbidden breaks_address_unaligned breaks_handover_in_sequence breaks_buffer_passed breaks_row_or_plane_outside breaks_column_too_large breaks_no_status breaks_ends_too_soon breaks_over_budget breaks_command_not_allowed
+features_is = refl
+
+lun_reset_is : accepts one_wide_lun (bounds_of (some_text 0 9 lun_reset_words)) None first_state (unrolled lun_reset_words) ≡ true
+unfolding command unrolled state_after reason_against breaks_cycle_forbidden breaks_address_unaligned breaks_handover_in_sequence breaks_buffer_passed breaks_row_or_plane_outside breaks_column_too_large breaks_no_status breaks_ends_too_soon breaks_over_budget breaks_command_not_allowed
+lun_reset_is = refl
+
+lun_reset_among_others_is : accepts two_wide_luns (bounds_of (some_text 0 9 lun_reset_words)) None first_state (unrolled lun_reset_words) ≡ true
+unfolding command unrolled state_after reason_against breaks_cycle_forbidden breaks_address_unaligned breaks_handover_in_sequence breaks_buffer_passed breaks_row_or_plane_outside breaks_column_too_large breaks_no_status breaks_ends_too_soon breaks_over_budget breaks_command_not_allowed
+lun_reset_among_others_is = refl
+
+resets_is : accepts one_wide_lun (bounds_of (some_text 4 12 resets_words)) None first_state (unrolled resets_words) ≡ true
+unfolding command unrolled state_after reason_against breaks_cycle_forbidden breaks_address_unaligned breaks_handover_in_sequence breaks_buffer_passed breaks_row_or_plane_outside breaks_column_too_large breaks_no_status breaks_ends_too_soon breaks_over_budget breaks_command_not_allowed
+resets_is = refl
+
+-- the base profile has none of it, and a fifth byte of a feature is too many
+features_of_base : accepts one_lun (bounds_of (some_text 8 13 features_words)) None first_state (unrolled features_words) ≡ false
+unfolding command unrolled state_after reason_against breaks_cycle_forbidden breaks_address_unaligned breaks_handover_in_sequence breaks_buffer_passed breaks_row_or_plane_outside breaks_column_too_large breaks_no_status breaks_ends_too_soon breaks_over_budget breaks_command_not_allowed
+features_of_base = refl
+
+five : List Word
+five = Command 0xef ∷ (Address 0 1 ∷ (Put 5 ∷ (Wait ∷ (End 0 ∷ []))))
+
+fifth_byte : accepts one_wide_lun (bounds_of (some_text 5 7 five)) None first_state (unrolled five) ≡ false
+unfolding command unrolled state_after reason_against breaks_cycle_forbidden breaks_address_unaligned breaks_handover_in_sequence breaks_buffer_passed breaks_row_or_plane_outside breaks_column_too_large breaks_no_status breaks_ends_too_soon breaks_over_budget breaks_command_not_allowed five
+fifth_byte = refl
+
 -- one byte of buffer too few, one cycle of budget too few, data before the status was asked for again
 short_buffer : accepts one_lun (bounds_of (some_text 527 536 read_words)) None first_state (unrolled read_words) ≡ false
 unfolding command unrolled state_after reason_against breaks_cycle_forbidden breaks_address_unaligned breaks_handover_in_sequence breaks_buffer_passed breaks_row_or_plane_outside breaks_column_too_large breaks_no_status breaks_ends_too_soon breaks_over_budget breaks_command_not_allowed
@@ -104,4 +136,9 @@ some_are_safe =
       blocks = accepted_is_safe (with_rows 8 0 10 blocks_words) two_luns (omega arith) blocks_is;
       cached = accepted_is_safe (with_rows 2 1056 1067 cache_words) one_lun_with_cache (omega arith) cached_is;
       identity = accepted_is_safe (some_text 772 778 identity_words) one_lun (omega arith) identity_is;
+      identities = accepted_is_safe (some_text 526 533 identities_words) one_wide_lun (omega arith) identities_is;
+      features = accepted_is_safe (some_text 8 13 features_words) one_wide_lun (omega arith) features_is;
+      lun_reset = accepted_is_safe (some_text 0 9 lun_reset_words) one_wide_lun (omega arith) lun_reset_is;
+      lun_reset_among_others = accepted_is_safe (some_text 0 9 lun_reset_words) two_wide_luns (omega arith) lun_reset_among_others_is;
+      resets = accepted_is_safe (some_text 4 12 resets_words) one_wide_lun (omega arith) resets_is;
     }

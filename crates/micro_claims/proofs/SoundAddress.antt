@@ -3,13 +3,14 @@ use Rattle.std.proofs.Common.{◌≡◌, ℕ, zero, suc, ◌+◌, ◌-◌, ◌*�
 use Rattle.std.proofs.lemmas.Bool.Decides.{nat_tests}
 use Rattle.std.proofs.lemmas.Nat.{div-mul-add, mod-mul-add}
 use Rattle.std.proofs.lemmas.Bool.{not-false, or_from, and_from, or_parts}
+use Rattle.onfi_cycle.proofs.Booleans.{and_rest}
 use Rattle.nand_geometry.specs.declared.parts.Parts.{Parts}
 use Rattle.nand_geometry.specs.declared.row_parts.RowParts.{RowParts}
 use Rattle.nand_geometry.specs.Optional.{is_wide}
 use Rattle.nand_geometry.specs.Limits.{InLimits, planes, page_len}
 use Rattle.nand_geometry.specs.Row.{row_of, row_bytes_of}
 use Rattle.onfi_cycle.specs.declared.command.Command.{Command}
-use Rattle.onfi_cycle.specs.declared.command.Command.TheVariants.{Read, ReadCacheSequential, ChangeReadColumn, BlockErase, PageProgram, ReadId, ReadParameterPage}
+use Rattle.onfi_cycle.specs.declared.command.Command.TheVariants.{Read, ReadCacheSequential, ChangeReadColumn, BlockErase, PageProgram, ReadId, ReadParameterPage, ReadUniqueId, GetFeatures, SetFeatures, ResetLun}
 use Rattle.onfi_cycle.specs.declared.data_phase.DataPhase.TheVariants.{Inputs, FirstColumn}
 use Rattle.onfi_cycle.specs.declared.item.Item.{Item}
 use Rattle.onfi_cycle.specs.declared.queued.Queued.{Queued}
@@ -21,7 +22,7 @@ use Rattle.onfi_cycle.specs.declared.item.Kind.TheVariants.{Adr}
 use Rattle.onfi_cycle.specs.declared.tail_facts.TailFacts.{TailFacts}
 use Rattle.onfi_cycle.specs.declared.target_cycle.TargetCycle.TheVariants.{AddressCycle}
 use Rattle.onfi_cycle.specs.LunView.{LunView}
-use Rattle.onfi_cycle.specs.Command.{at_last_row, is_change_read_column}
+use Rattle.onfi_cycle.specs.Command.{at_last_row, addresses_the_array, is_change_read_column}
 use Rattle.onfi_cycle.specs.Sequence.{opened, facts_after, column_with, input_column}
 use Rattle.onfi_cycle.specs.Effect.{page_address}
 use Rattle.onfi_cycle.specs.Lun.{is_cache_read}
@@ -30,7 +31,7 @@ use Rattle.onfi_cycle.specs.Channel.{Channel}
 use Rattle.micro_claims.specs.Spans.{bound_plus, is_at_most, copied}
 use Rattle.micro_claims.specs.Planes.{Planes, has_plane, share_a_plane}
 use Rattle.micro_claims.proofs.PlaneSets.{none_common}
-use Rattle.micro_claims.specs.State.{Drift, NamedRow, Shown, Held, State, LastCloser, Place, Closed, After, InData, InColumn, QueuedRows, NoRows, SomeRows, AnyRows, bounds_of, Unknown, may_be_31}
+use Rattle.micro_claims.specs.State.{Drift, NamedRow, Shown, Held, State, LastCloser, Place, Closed, After, InData, InColumn, InFeatures, QueuedRows, NoRows, SomeRows, AnyRows, bounds_of, Unknown, may_be_31}
 use Rattle.micro_claims.specs.Against.{is_read, is_erase, same_test, drives, least_length, takes_identity_at, address_out_of_place, begins_elsewhere, column_past, queue_refuses, row_refused, has_second_column, column_limit, is_inside_address}
 use Rattle.micro_claims.specs.Reasons.{breaks_cycle_forbidden, breaks_address_unaligned, breaks_row_or_plane_outside, breaks_column_too_large}
 use Rattle.micro_claims.specs.Leaves.{paid, with_registers, with_target, address_leads_to, target_after_addresses, name_now, address_leaves_at, after_few, column_leads_to}
@@ -115,8 +116,9 @@ queue_goes g now (SomeRows erase queued d) queue regs o p plane f clear low amon
     by PageProgram false read kind clear = clear
     by _ e read kind clear = refl
 
-row_goes : (g : Parts) (j : Job) (v : State) (done : List Done) (view : LunView) (a : Address) (o : Command) (n : ℕ) → RegistersFit g j v.registers done → a.index ≡ index_now j.base done → a.plane ≡ plane_now done → LunFits g j v.lun (index_now j.base done) view → RowIs g j a → row_refused v (After o n) ≡ false → RowGoes g j.lun.lun a view o
-row_goes g j v done view a o n registers index plane f row clear =
+row_goes : (g : Parts) (j : Job) (v : State) (done : List Done) (view : LunView) (a : Address) (o : Command) (n : ℕ) → RegistersFit g j v.registers done → a.index ≡ index_now j.base done → a.plane ≡ plane_now done → LunFits g j v.lun (index_now j.base done) view → RowIs g j a → addresses_the_array o ≡ true → row_refused v (After o n) ≡ false → RowGoes g j.lun.lun a view o
+row_goes g j v done view a o n registers index plane f row array refused =
+    let clear = and_rest (addresses_the_array o) (v.lun.busy || may_be_31 v.lun.last || queue_refuses v.lun.queue v.registers.planes o) array refused in
     let two = or_parts (v.lun.busy || may_be_31 v.lun.last) (queue_refuses v.lun.queue v.registers.planes o) clear in
     let one = or_parts v.lun.busy (may_be_31 v.lun.last) two.0 in
     record {
@@ -222,7 +224,7 @@ goes_read s j v c done from count n old w clear here is now column =
           (many g j.lun.lun (scene_at Read a c.view c.sole) (all_bytes a) count n few
           (λ i low high. read_steps g j.lun.lun a c.view c.sole i (omega (arith, high, few))
           (λ e. (carried_now (column_now done) (page_len g) (page_small g w.limits) (column_small g j v done from count (After Read n) (page_len g) (page_small g w.limits) refl w.registers clear (second_of from count n begins (omega (arith, low, e)) (omega (arith, high, e))))).1)
-          (λ e. row_goes g j v done c.view a Read n w.registers refl refl w.lun (w.address.row (let x : ltb 2 (from + count) ≡ true = grind (arith, nat_tests, high, begins, e) in x)) (clear.row (let x : nat_le 5 (from + count) ≡ true = grind (arith, nat_tests, high, begins, e) in x))))));
+          (λ e. row_goes g j v done c.view a Read n w.registers refl refl w.lun (w.address.row (let x : ltb 2 (from + count) ≡ true = grind (arith, nat_tests, high, begins, e) in x)) refl (clear.row (let x : nat_le 5 (from + count) ≡ true = grind (arith, nat_tests, high, begins, e) in x))))));
       tail = record {
         place = After Read (n + count);
         here = ap (address_leads_to count) here ∙ few_is Read (n + count) (omega (arith, few));
@@ -277,7 +279,7 @@ goes_program s j v c done from count n old w clear here is now column =
           (many g j.lun.lun (scene_at PageProgram a c.view c.sole) (all_bytes a) count n few
           (λ i low high. program_steps g j.lun.lun a c.view c.sole i (omega (arith, high, few))
           (λ e. (carried_now (column_now done) (page_len g) (page_small g w.limits) (column_small g j v done from count (After PageProgram n) (page_len g) (page_small g w.limits) refl w.registers clear (second_of from count n begins (omega (arith, low, e)) (omega (arith, high, e))))).1)
-          (λ e. row_goes g j v done c.view a PageProgram n w.registers refl refl w.lun (w.address.row (let x : ltb 2 (from + count) ≡ true = grind (arith, nat_tests, high, begins, e) in x)) (clear.row (let x : nat_le 5 (from + count) ≡ true = grind (arith, nat_tests, high, begins, e) in x))))));
+          (λ e. row_goes g j v done c.view a PageProgram n w.registers refl refl w.lun (w.address.row (let x : ltb 2 (from + count) ≡ true = grind (arith, nat_tests, high, begins, e) in x)) refl (clear.row (let x : nat_le 5 (from + count) ≡ true = grind (arith, nat_tests, high, begins, e) in x))))));
       tail = at (n + count == 5) refl;
     }
   where
@@ -364,7 +366,7 @@ goes_erase s j v c done from count n old w clear here is now =
           (subst (λ (x : Scene). Steps g j.lun.lun (take count (drop n (bytes_of BlockErase a))) x (scene_at BlockErase a c.view c.sole (n + count))) (sym scene_is)
           (many g j.lun.lun (scene_at BlockErase a c.view c.sole) (bytes_of BlockErase a) count n few
           (λ i low high. erase_steps g j.lun.lun a c.view c.sole i (omega (arith, high, few))
-          (λ e. row_goes g j v done c.view a BlockErase n w.registers refl refl w.lun (w.address.row (let x : ltb 2 (from + count) ≡ true = grind (arith, nat_tests, high, begins, e) in x)) (clear.row (let x : nat_le 5 (from + count) ≡ true = grind (arith, nat_tests, high, begins, e) in x))))));
+          (λ e. row_goes g j v done c.view a BlockErase n w.registers refl refl w.lun (w.address.row (let x : ltb 2 (from + count) ≡ true = grind (arith, nat_tests, high, begins, e) in x)) refl (clear.row (let x : nat_le 5 (from + count) ≡ true = grind (arith, nat_tests, high, begins, e) in x))))));
       tail = record {
         place = After BlockErase (n + count);
         here = ap (address_leads_to count) here ∙ few_is BlockErase (n + count) (omega (arith, few));
@@ -425,7 +427,7 @@ reads s j v c done from count n w clear second = by v.target.shows w.shows v.lun
     g : Parts
     g = s.geometry
 
-    small : 4 ≤ page_len s.geometry
+    small : 512 ≤ page_len s.geometry
     small = let x = w.limits.page_bytes_least in omega (arith, x)
 
     most : (r : Register) → register_len s.geometry r ≤ 20480
@@ -664,22 +666,32 @@ goes_in_column s j v c done from count n old k b now rest =
 
 -- 3. the word
 
--- what is known behind an address that isn't the one of 90h or ECh
-pub leaves_target : (g : Parts) (v : State) (from count : ℕ) (p : Place) → takes_identity_at p ≡ false → address_leaves_at g v from count p ≡ with_target v (target_after_addresses g v from count)
-leaves_target g v from count Closed h = refl
-leaves_target g v from count InData h = refl
-leaves_target g v from count (InColumn n) h = refl
-leaves_target g v from count Unknown h = refl
-leaves_target g v from count (After o n) h = by o h
-  where
-    by : (o : Command) → takes_identity_at (After o n) ≡ false → address_leaves_at g v from count (After o n) ≡ with_target v (target_after_addresses g v from count)
-    by ReadId h = cc
-    by ReadParameterPage h = cc
-    by _ h = refl
+-- the place is in the address of FAh
+abbrev pub resets_lun : Place → Bool
+resets_lun (After ResetLun n) = true
+resets_lun _ = false
 
-goes : (s : Channel) (j : Job) (k : KnownJob s j) (v : State) (c : Scene) (done : List Done) (from count : ℕ) → Fits s.geometry j v done c true → NoReasons s.geometry j.text v (AddressWord from count) → takes_identity_at v.target.tail ≡ false → (w : AtWord s j v c done from count) → Goes s j v c done from count (take count (drop from (all_bytes (of_now s.geometry j done from count w.address))))
+-- what is known behind an address that isn't the one of an opener beside the array, or of FAh
+pub leaves_target : (g : Parts) (v : State) (from count : ℕ) (p : Place) → takes_identity_at p ≡ false → resets_lun p ≡ false → address_leaves_at g v from count p ≡ with_target v (target_after_addresses g v from count)
+leaves_target g v from count Closed h r = refl
+leaves_target g v from count InData h r = refl
+leaves_target g v from count (InColumn n) h r = refl
+leaves_target g v from count (InFeatures n) h r = refl
+leaves_target g v from count Unknown h r = refl
+leaves_target g v from count (After o n) h r = by o h r
+  where
+    by : (o : Command) → takes_identity_at (After o n) ≡ false → resets_lun (After o n) ≡ false → address_leaves_at g v from count (After o n) ≡ with_target v (target_after_addresses g v from count)
+    by ReadId h r = cc
+    by ReadParameterPage h r = cc
+    by ReadUniqueId h r = cc
+    by GetFeatures h r = cc
+    by SetFeatures h r = cc
+    by ResetLun h r = cc
+    by _ h r = refl
+
+goes : (s : Channel) (j : Job) (k : KnownJob s j) (v : State) (c : Scene) (done : List Done) (from count : ℕ) → Fits s.geometry j v done c true → NoReasons s.geometry j.text v (AddressWord from count) → takes_identity_at v.target.tail ≡ false → resets_lun v.target.tail ≡ false → (w : AtWord s j v c done from count) → Goes s j v c done from count (take count (drop from (all_bytes (of_now s.geometry j done from count w.address))))
 unfolding breaks_cycle_forbidden breaks_address_unaligned breaks_column_too_large
-goes s j k v c done from count f clear plainly w =
+goes s j k v c done from count f clear plainly apart w =
     let t = f.tail refl in
     at t.place t.here t.is t.now t.column t.row t.named
     (place_clear s.geometry j v done from count t.place f.registers (no_place takes_identity_at v.target.tail t.place plainly t.here)
@@ -687,32 +699,38 @@ goes s j k v c done from count f clear plainly w =
     (no_place (begins_elsewhere from) v.target.tail t.place clear.no_address_unaligned t.here)
     (no_place (column_past s.geometry v from count) v.target.tail t.place clear.no_column_too_large t.here))
     (no_place takes_identity_at v.target.tail t.place plainly t.here)
+    (no_place resets_lun v.target.tail t.place apart t.here)
   where
-    at : (p : Place) → v.target.tail ≡ p → PlaceIs p (f.tail refl).address c.facts → (holds_address p ≡ true → IsNow s.geometry j (f.tail refl).address (now_of j done) p) → (has_column p ≡ true → ColumnFits (input_column c.facts) v.target.column) → (has_row p ≡ true → RowIs s.geometry j (f.tail refl).address) → (has_row p ≡ true → NameFits s.geometry j (f.tail refl).address (index_now j.base done) v.target.named) → PlaceClear s.geometry v from count p → takes_identity_at p ≡ false → Goes s j v c done from count (take count (drop from (all_bytes (of_now s.geometry j done from count w.address))))
-    at Closed here is now column row named clear idn = let left = clear.left in cc
-    at InData here is now column row named clear idn = let left = clear.left in cc
-    at (InColumn n) here is now column row named clear idn = goes_in_column s j v c done from count n (f.tail refl).address (record { w = w; clear = clear; here = here; row = row refl; named = named refl }) is now (w.address.r1 ∷ (w.address.r2 ∷ (w.address.r3 ∷ [])))
-    at Unknown here is now column row named clear idn = let left = clear.left in cc
-    at (After o n) here is now column row named clear idn = by o here is now column clear idn
+    at : (p : Place) → v.target.tail ≡ p → PlaceIs p (f.tail refl).address c.facts → (holds_address p ≡ true → IsNow s.geometry j (f.tail refl).address (now_of j done) p) → (has_column p ≡ true → ColumnFits (input_column c.facts) v.target.column) → (has_row p ≡ true → RowIs s.geometry j (f.tail refl).address) → (has_row p ≡ true → NameFits s.geometry j (f.tail refl).address (index_now j.base done) v.target.named) → PlaceClear s.geometry v from count p → takes_identity_at p ≡ false → resets_lun p ≡ false → Goes s j v c done from count (take count (drop from (all_bytes (of_now s.geometry j done from count w.address))))
+    at Closed here is now column row named clear idn apart = let left = clear.left in cc
+    at InData here is now column row named clear idn apart = let left = clear.left in cc
+    at (InFeatures n) here is now column row named clear idn apart = let left = clear.left in cc
+    at (InColumn n) here is now column row named clear idn apart = goes_in_column s j v c done from count n (f.tail refl).address (record { w = w; clear = clear; here = here; row = row refl; named = named refl }) is now (w.address.r1 ∷ (w.address.r2 ∷ (w.address.r3 ∷ [])))
+    at Unknown here is now column row named clear idn apart = let left = clear.left in cc
+    at (After o n) here is now column row named clear idn apart = by o here is now column clear idn apart
       where
-        by : (o : Command) → v.target.tail ≡ After o n → Opened o n (f.tail refl).address c.facts → (is_inside_address (After o n) ≡ true → IsNow s.geometry j (f.tail refl).address (now_of j done) (After o n)) → (has_column (After o n) ≡ true → ColumnFits (input_column c.facts) v.target.column) → PlaceClear s.geometry v from count (After o n) → takes_identity_at (After o n) ≡ false → Goes s j v c done from count (take count (drop from (all_bytes (of_now s.geometry j done from count w.address))))
-        by Read here is now column clear idn = goes_read s j v c done from count n (f.tail refl).address w clear here is now column
-        by PageProgram here is now column clear idn = goes_program s j v c done from count n (f.tail refl).address w clear here is now column
-        by BlockErase here is now column clear idn = goes_erase s j v c done from count n (f.tail refl).address w clear here is now
-        by ChangeReadColumn here is now column clear idn = goes_column s j v c done from count n (f.tail refl).address w clear here is now
-        by ReadId here is now column clear idn = cc
-        by ReadParameterPage here is now column clear idn = cc
-        by _ here is now column clear idn = let none = is.place in cc
+        by : (o : Command) → v.target.tail ≡ After o n → Opened o n (f.tail refl).address c.facts → (is_inside_address (After o n) ≡ true → IsNow s.geometry j (f.tail refl).address (now_of j done) (After o n)) → (has_column (After o n) ≡ true → ColumnFits (input_column c.facts) v.target.column) → PlaceClear s.geometry v from count (After o n) → takes_identity_at (After o n) ≡ false → resets_lun (After o n) ≡ false → Goes s j v c done from count (take count (drop from (all_bytes (of_now s.geometry j done from count w.address))))
+        by Read here is now column clear idn apart = goes_read s j v c done from count n (f.tail refl).address w clear here is now column
+        by PageProgram here is now column clear idn apart = goes_program s j v c done from count n (f.tail refl).address w clear here is now column
+        by BlockErase here is now column clear idn apart = goes_erase s j v c done from count n (f.tail refl).address w clear here is now
+        by ChangeReadColumn here is now column clear idn apart = goes_column s j v c done from count n (f.tail refl).address w clear here is now
+        by ReadId here is now column clear idn apart = cc
+        by ReadParameterPage here is now column clear idn apart = cc
+        by ReadUniqueId here is now column clear idn apart = cc
+        by GetFeatures here is now column clear idn apart = cc
+        by SetFeatures here is now column clear idn apart = cc
+        by ResetLun here is now column clear idn apart = cc
+        by _ here is now column clear idn apart = let none = is.place in cc
 
-pub sound_address : (s : Channel) (j : Job) (k : KnownJob s j) (v : State) (past : List Item) (c : Scene) (done : List Done) (rest : List Line) (at from count : ℕ) → IsScene s j.lun past c → Fits s.geometry j v done c true → NoReasons s.geometry j.text v (AddressWord from count) → takes_identity_at v.target.tail ≡ false → accepts s.geometry (bounds_of j.text) None (state_after s.geometry v (AddressWord from count)) rest ≡ true → SoundWord s j past done rest at (AddressWord from count)
+pub sound_address : (s : Channel) (j : Job) (k : KnownJob s j) (v : State) (past : List Item) (c : Scene) (done : List Done) (rest : List Line) (at from count : ℕ) → IsScene s j.lun past c → Fits s.geometry j v done c true → NoReasons s.geometry j.text v (AddressWord from count) → takes_identity_at v.target.tail ≡ false → resets_lun v.target.tail ≡ false → accepts s.geometry (bounds_of j.text) None (state_after s.geometry v (AddressWord from count)) rest ≡ true → SoundWord s j past done rest at (AddressWord from count)
 unfolding state_after breaks_row_or_plane_outside
-sound_address s j k v past c done rest at from count scene f clear plainly acc =
+sound_address s j k v past c done rest at from count scene f clear plainly apart acc =
     let g = s.geometry in
     let a = address_now s j k v done from count f.registers clear.no_row_or_plane_outside in
     let w : AtWord s j v c done from count = record { limits = k.limits; registers = f.registers; lun = f.lun; shows = f.shows; address = a } in
-    let go = goes s j k v c done from count f clear plainly w in
+    let go = goes s j k v c done from count f clear plainly apart w in
     let bytes = take count (drop from (all_bytes (of_now g j done from count a))) in
-    let left = leaves_target g v from count v.target.tail plainly in
+    let left = leaves_target g v from count v.target.tail plainly apart in
     plain_sound s j k v past c done rest at (AddressWord from count) (gives Adr bytes) refl scene f.registers clear (ap (λ (o : Option (List ℕ)). and_then o (λ xs. Some (gives Adr xs))) (address_bytes g j done from count a)) go.steps.allowed refl
     (λ answer.
     subst (λ (x : Scene). Fits g j (state_after g v (AddressWord from count)) (record { word = AddressWord from count; answer = answer } ∷ done) x true) (sym go.steps.leads)

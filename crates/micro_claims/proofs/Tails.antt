@@ -4,7 +4,7 @@ use Rattle.std.proofs.lemmas.Bool.Decides.{nat_tests}
 use Rattle.std.proofs.lemmas.Bool.{and_parts}
 use Rattle.nand_geometry.specs.declared.parts.Parts.{Parts}
 use Rattle.onfi_cycle.specs.declared.command.Command.{Command}
-use Rattle.onfi_cycle.specs.declared.command.Command.TheVariants.{Read, ReadConfirm, ChangeReadColumn, ChangeReadColumnConfirm, BlockErase, BlockEraseConfirm, BlockErasePlane, PageProgram, ReadId, ReadParameterPage}
+use Rattle.onfi_cycle.specs.declared.command.Command.TheVariants.{Read, ReadConfirm, ChangeReadColumn, ChangeReadColumnConfirm, BlockErase, BlockEraseConfirm, BlockErasePlane, PageProgram, ReadId, ReadParameterPage, ReadUniqueId, GetFeatures, SetFeatures, ResetLun}
 use Rattle.onfi_cycle.specs.declared.data_phase.DataPhase.TheVariants.{Inputs}
 use Rattle.onfi_cycle.specs.declared.tail_facts.TailFacts.{TailFacts}
 use Rattle.onfi_cycle.specs.declared.target_cycle.TargetCycle.TheVariants.{CommandCycle}
@@ -12,7 +12,7 @@ use Rattle.onfi_cycle.specs.Command.{closes, address_cycles}
 use Rattle.onfi_cycle.specs.Sequence.{facts_after, is_open, is_proper_beginning, input_column}
 use Rattle.micro_program.specs.Program.{Job}
 use Rattle.micro_claims.specs.Spans.{Span}
-use Rattle.micro_claims.specs.State.{KnownTarget, Place, Closed, After, InData, InColumn, Unknown, Shown, NamedRow}
+use Rattle.micro_claims.specs.State.{KnownTarget, Place, Closed, After, InData, InColumn, InFeatures, Unknown, Shown, NamedRow}
 use Rattle.micro_claims.specs.Against.{is_open_place, place_wants, is_data_command, is_inside_address}
 use Rattle.micro_claims.proofs.Fits.{holds_address, Address, bytes_of, opener_facts, facts_behind, is_place, InProgram, Opened, PlaceIs, has_column, has_row, Now, ColumnFits, NameFits, RowIs, TailFits}
 
@@ -31,6 +31,7 @@ none_held Closed h e = cc
 none_held (After o n) h e = let clash : true ≡ false = sym e ∙ h in cc
 none_held InData h e = cc
 none_held (InColumn n) h e = let clash : true ≡ false = sym e ∙ h in cc
+none_held (InFeatures n) h e = cc
 
 -- 2. where nothing is open
 
@@ -72,6 +73,19 @@ open_behind ReadId zero a t h proper = cc
 open_behind ReadId (suc n) a t h proper = absurd (not_none n h.place)
 open_behind ReadParameterPage zero a t h proper = cc
 open_behind ReadParameterPage (suc n) a t h proper = absurd (not_none n h.place)
+open_behind ReadUniqueId zero a t h proper = cc
+open_behind ReadUniqueId (suc n) a t h proper = absurd (not_none n h.place)
+open_behind GetFeatures zero a t h proper = cc
+open_behind GetFeatures (suc n) a t h proper = absurd (not_none n h.place)
+open_behind SetFeatures zero a t h proper = cc
+open_behind SetFeatures (suc n) a t h proper = absurd (not_none n h.place)
+open_behind ResetLun zero a t h proper = cc
+open_behind ResetLun (suc zero) a t h proper = cc
+open_behind ResetLun (suc (suc zero)) a t h proper = cc
+open_behind ResetLun (suc (suc (suc n))) a t h proper = let most = h.place in absurd (too_many n most)
+  where
+    too_many : (n : ℕ) → nat_le (suc (suc (suc n))) 2 ≡ true → ⊥
+    too_many n h = grind (arith, nat_tests)
 open_behind _ n a t h proper = let most = h.place in cc
 
 pub closed_there : (p : Place) (a : Address) (t : TailFacts) → PlaceIs p a t → is_open_place p ≡ false → is_open t ≡ false
@@ -79,6 +93,7 @@ closed_there Closed a t is h = is
 closed_there (After o n) a t is h = open_behind o n a t is h
 closed_there InData a t is h = cc
 closed_there (InColumn n) a t is h = cc
+closed_there (InFeatures n) a t is h = cc
 closed_there Unknown a t is h = cc
 
 -- nothing is open where no place is
@@ -101,6 +116,10 @@ opener_fits g j shows n t BlockErase h = record { place = After BlockErase 0; he
 opener_fits g j shows n t PageProgram h = record { place = After PageProgram 0; here = refl; address = no_address; is = record { place = refl; facts = refl }; now = λ e. cc; column = λ e. cc; row = λ e. cc; named = λ e. cc }
 opener_fits g j shows n t ReadId h = record { place = After ReadId 0; here = refl; address = no_address; is = record { place = refl; facts = refl }; now = λ e. cc; column = λ e. cc; row = λ e. cc; named = λ e. cc }
 opener_fits g j shows n t ReadParameterPage h = record { place = After ReadParameterPage 0; here = refl; address = no_address; is = record { place = refl; facts = refl }; now = λ e. cc; column = λ e. cc; row = λ e. cc; named = λ e. cc }
+opener_fits g j shows n t ReadUniqueId h = record { place = After ReadUniqueId 0; here = refl; address = no_address; is = record { place = refl; facts = refl }; now = λ e. cc; column = λ e. cc; row = λ e. cc; named = λ e. cc }
+opener_fits g j shows n t GetFeatures h = record { place = After GetFeatures 0; here = refl; address = no_address; is = record { place = refl; facts = refl }; now = λ e. cc; column = λ e. cc; row = λ e. cc; named = λ e. cc }
+opener_fits g j shows n t SetFeatures h = record { place = After SetFeatures 0; here = refl; address = no_address; is = record { place = refl; facts = refl }; now = λ e. cc; column = λ e. cc; row = λ e. cc; named = λ e. cc }
+opener_fits g j shows n t ResetLun h = record { place = After ResetLun 0; here = refl; address = no_address; is = record { place = refl; facts = refl }; now = λ e. cc; column = λ e. cc; row = λ e. cc; named = λ e. cc }
 opener_fits g j shows n t _ h = cc
 
 -- 4. where a closer is wanted
@@ -158,6 +177,7 @@ whole g j v n t c o only plain f h = at f.place f.is f.column f.row f.named (eve
     at Closed is column row named w = cc
     at InData is column row named w = cc
     at (InColumn m) is column row named w = cc
+    at (InFeatures m) is column row named w = cc
     at Unknown is column row named w = cc
     at (After p m) is column row named w =
         let by = closed_by c o p m f.address only w in

@@ -1,23 +1,25 @@
 -- Outputs and inputs, one by one: what a scene must allow, and the scene behind so many of them.
-use Rattle.std.proofs.Common.{◌≡◌, ℕ, zero, suc, ◌+◌, ◌≤◌, Bool, true, false, cond, nat_le, List, [], ◌∷◌, Option, Some, None, refl, sym, ap, ◌∙◌, subst, arith, length, replicate}
+use Rattle.std.proofs.Common.{◌≡◌, ℕ, zero, suc, ◌+◌, ◌%◌, ◌≤◌, ◌==◌, Bool, true, false, ◌&&◌, cond, not, ltb, nat_le, List, [], ◌∷◌, Option, Some, None, refl, sym, ap, ◌∙◌, subst, arith, length, replicate}
 use Rattle.std.proofs.lemmas.Bool.Decides.{nat_tests}
 use Rattle.nand_geometry.specs.declared.parts.Parts.{Parts}
 use Rattle.nand_geometry.specs.Limits.{page_len}
-use Rattle.onfi_cycle.specs.declared.data_phase.DataPhase.TheVariants.{Inputs}
+use Rattle.onfi_cycle.specs.declared.data_phase.DataPhase.{DataPhase}
+use Rattle.onfi_cycle.specs.declared.data_phase.DataPhase.TheVariants.{Outside, Inputs, FeatureInputs}
+use Rattle.onfi_cycle.specs.declared.effect.Effect.TheVariants.{Unaffected, FeaturesSet}
 use Rattle.onfi_cycle.specs.declared.item.Kind.TheVariants.{Din}
 use Rattle.onfi_cycle.specs.declared.latch.Latch.TheVariants.{Status, Data}
 use Rattle.onfi_cycle.specs.declared.read_column.ReadColumn.{ReadColumn}
 use Rattle.onfi_cycle.specs.declared.tail_facts.TailFacts.{TailFacts}
 use Rattle.onfi_cycle.specs.declared.target_cycle.TargetCycle.TheVariants.{InputCycle, OutputCycle}
 use Rattle.onfi_cycle.specs.LunView.{LunView}
-use Rattle.onfi_cycle.specs.Sequence.{facts_after, extended_facts, is_open, input_column, takes_data}
+use Rattle.onfi_cycle.specs.Sequence.{facts_after, extended_facts, phase_after_input, is_open, input_column, takes_features, takes_inputs}
 use Rattle.onfi_cycle.specs.Effect.{input_effect}
 use Rattle.onfi_cycle.specs.Lun.{output_column, option_plus, view_after}
 use Rattle.onfi_cycle.specs.Rules.{register_len, is_empty}
 use Rattle.micro_program.specs.Moves.{Take, gives}
-use Rattle.micro_program.proofs.Scenes.{Scene, scene_behind}
+use Rattle.micro_program.proofs.Scenes.{Scene, InputAllowed, scene_behind}
 use Rattle.micro_program.proofs.SceneMoves.{MovesAllowed, scene_after}
-use Rattle.micro_claims.proofs.Fits.{Address, InProgram}
+use Rattle.micro_claims.proofs.Fits.{Address, InProgram, FeaturesBegun}
 
 -- 1. outputs of data
 
@@ -120,6 +122,9 @@ input_more t b e = rw e (omega arith)
 pub calm_view : (t : TailFacts) (v : LunView) → t.phase ≡ Inputs → view_after (input_effect t) v ≡ v
 calm_view t v phase = rw phase refl
 
+program_inside : (g : Parts) (t : TailFacts) → t.phase ≡ Inputs → nat_le (page_len g) (input_column t) ≡ false → (not (takes_features t.phase) && nat_le (page_len g) (input_column t)) ≡ false
+program_inside g t phase below = ap (λ (d : DataPhase). not (takes_features d) && nat_le (page_len g) (input_column t)) phase ∙ below
+
 pub inputs_go : (g : Parts) (lun : ℕ) (a : Address) (bytes : List ℕ) (c : Scene) → InProgram a Inputs c.facts → input_column c.facts + length bytes ≤ page_len g → InputsGo g lun bytes a c
 inputs_go g lun a [] c p inside = record { facts = c.facts; allowed = tt; leads = refl; put = record { program = p; column = omega arith } }
 inputs_go g lun a (b ∷ bytes) c p inside =
@@ -130,7 +135,117 @@ inputs_go g lun a (b ∷ bytes) c p inside =
     let column = rest.put.column in
     record {
       facts = rest.facts;
-      allowed = ((ap takes_data p.phase, below), rest.allowed);
+      allowed = (record { wanted = ap takes_inputs p.phase; inside = program_inside g c.facts p.phase below }, rest.allowed);
       leads = rest.leads ∙ ap (λ (v : LunView). record { facts = rest.facts; view = v; sole = c.sole }) (calm_view c.facts c.view p.phase);
       put = record { program = rest.put.program; column = omega (arith, column, more) };
+    }
+
+-- 3. the four bytes of a Set Features
+
+-- what so many of them in all lead to: some are still to come, or the work has begun
+pub data FeaturesLed (n : ℕ) (c d : Scene) : Type 0 where
+  Amid : FeaturesBegun n d.facts → d.view ≡ c.view → d.sole ≡ c.sole → FeaturesLed n c d
+  Whole : n ≡ 4 → is_open d.facts ≡ false → (address : ℕ) → d.view ≡ view_after (FeaturesSet address) c.view → d.sole ≡ c.sole → FeaturesLed n c d
+
+pub record FeaturesGo (g : Parts) (lun : ℕ) (bytes : List ℕ) (c : Scene) (n : ℕ) : Type 0 where
+  pub scene : Scene
+  pub allowed : MovesAllowed g lun (gives Din bytes) c
+  pub leads : scene_after g lun (gives Din bytes) c ≡ scene
+  pub led : FeaturesLed n c scene
+
+-- each of them is allowed
+feature_allowed : (g : Parts) (c : Scene) → c.facts.phase ≡ FeatureInputs → InputAllowed g c
+feature_allowed g c phase = record { wanted = ap takes_inputs phase; inside = ap (λ (d : DataPhase). not (takes_features d) && nat_le (page_len g) (input_column c.facts)) phase }
+
+-- the facts behind one
+feature_behind : (t : TailFacts) (b n : ℕ) → FeaturesBegun n t → facts_after (InputCycle b) t ≡ record { opening = None; phase = cond (ltb n 3) FeatureInputs Outside; row = t.row; column = t.column; inputs = n + 1; is_empty = false }
+feature_behind t b n f = rw f.begun (λ i. record { opening = None; phase = phase_after_input (f.inputs i) (f.phase i); row = t.row; column = t.column; inputs = f.inputs i + 1; is_empty = false })
+
+-- what one does to the LUN
+feature_effect : (t : TailFacts) (n : ℕ) → FeaturesBegun n t → input_effect t ≡ cond (n == 3) (FeaturesSet (t.column % 256)) Unaffected
+feature_effect t n f = λ i. cond (takes_features (f.phase i) && f.inputs i == 3) (FeaturesSet (t.column % 256)) Unaffected
+
+-- the scene behind one
+feature_scene : (g : Parts) (lun b n : ℕ) (c : Scene) → FeaturesBegun n c.facts → scene_behind g lun (InputCycle b) c ≡ record {
+  facts = record { opening = None; phase = cond (ltb n 3) FeatureInputs Outside; row = c.facts.row; column = c.facts.column; inputs = n + 1; is_empty = false };
+  view = view_after (cond (n == 3) (FeaturesSet (c.facts.column % 256)) Unaffected) c.view;
+  sole = c.sole;
+}
+feature_scene g lun b n c f = λ i. record { facts = feature_behind c.facts b n f i; view = view_after (feature_effect c.facts n f i) c.view; sole = c.sole }
+
+-- one that isn't the fourth
+amid_scene : (g : Parts) (lun b n : ℕ) (c : Scene) → FeaturesBegun n c.facts → ltb n 3 ≡ true → scene_behind g lun (InputCycle b) c ≡ record {
+  facts = record { opening = None; phase = FeatureInputs; row = c.facts.row; column = c.facts.column; inputs = n + 1; is_empty = false };
+  view = c.view;
+  sole = c.sole;
+}
+amid_scene g lun b n c f few =
+    let other : (n == 3) ≡ false = grind (arith, nat_tests, few) in
+    feature_scene g lun b n c f ∙ (λ i. record {
+      facts = record { opening = None; phase = cond (few i) FeatureInputs Outside; row = c.facts.row; column = c.facts.column; inputs = n + 1; is_empty = false };
+      view = view_after (cond (other i) (FeaturesSet (c.facts.column % 256)) Unaffected) c.view;
+      sole = c.sole;
+    })
+
+-- the fourth
+whole_scene : (g : Parts) (lun b n : ℕ) (c : Scene) → FeaturesBegun n c.facts → ltb n 3 ≡ false → scene_behind g lun (InputCycle b) c ≡ record {
+  facts = record { opening = None; phase = Outside; row = c.facts.row; column = c.facts.column; inputs = n + 1; is_empty = false };
+  view = view_after (FeaturesSet (c.facts.column % 256)) c.view;
+  sole = c.sole;
+}
+whole_scene g lun b n c f all =
+    let low = f.few in
+    let third : (n == 3) ≡ true = grind (arith, nat_tests, all, low) in
+    feature_scene g lun b n c f ∙ (λ i. record {
+      facts = record { opening = None; phase = cond (all i) FeatureInputs Outside; row = c.facts.row; column = c.facts.column; inputs = n + 1; is_empty = false };
+      view = view_after (cond (third i) (FeaturesSet (c.facts.column % 256)) Unaffected) c.view;
+      sole = c.sole;
+    })
+
+-- from another scene that differs in the tail alone
+led_from : (n : ℕ) (c d e : Scene) → d.view ≡ c.view → d.sole ≡ c.sole → FeaturesLed n d e → FeaturesLed n c e
+led_from n c d e view sole (Amid b v s) = Amid b (v ∙ view) (s ∙ sole)
+led_from n c d e view sole (Whole all shut address v s) = Whole all shut address (v ∙ ap (view_after (FeaturesSet address)) view) (s ∙ sole)
+
+pub features_go : (g : Parts) (lun : ℕ) (bytes : List ℕ) (n : ℕ) (c : Scene) → FeaturesBegun n c.facts → n + length bytes ≤ 4 → FeaturesGo g lun bytes c (n + length bytes)
+features_go g lun [] n c f few = record { scene = c; allowed = tt; leads = refl; led = Amid (subst (λ (m : ℕ). FeaturesBegun m c.facts) (let e : n ≡ n + 0 = omega arith in e) f) refl refl }
+features_go g lun (b ∷ []) n c f few = at (ltb n 3) refl
+  where
+    next : Scene
+    next = scene_behind g lun (InputCycle b) c
+
+    one : n + 1 ≡ n + length (b ∷ [])
+    one = refl
+
+    at : (x : Bool) → ltb n 3 ≡ x → FeaturesGo g lun (b ∷ []) c (n + length (b ∷ []))
+    at true e =
+        let is = amid_scene g lun b n c f e in
+        record {
+          scene = next;
+          allowed = (feature_allowed g c f.phase, tt);
+          leads = refl;
+          led = subst (λ (d : Scene). FeaturesLed (n + length (b ∷ [])) c d) (sym is) (Amid (record { few = grind (arith, nat_tests, e); phase = refl; inputs = refl; begun = refl }) refl refl);
+        }
+    at false e =
+        let is = whole_scene g lun b n c f e in
+        let low = f.few in
+        let last : n + length (b ∷ []) ≡ 4 = grind (arith, nat_tests, e, low) in
+        record {
+          scene = next;
+          allowed = (feature_allowed g c f.phase, tt);
+          leads = refl;
+          led = subst (λ (d : Scene). FeaturesLed (n + length (b ∷ [])) c d) (sym is) (Whole last refl (c.facts.column % 256) refl refl);
+        }
+features_go g lun (b ∷ (d ∷ bytes)) n c f few =
+    let early : ltb n 3 ≡ true = grind (arith, nat_tests, few) in
+    let is = amid_scene g lun b n c f early in
+    let next : Scene = record { facts = record { opening = None; phase = FeatureInputs; row = c.facts.row; column = c.facts.column; inputs = n + 1; is_empty = false }; view = c.view; sole = c.sole } in
+    let begun : FeaturesBegun (n + 1) next.facts = record { few = grind (arith, nat_tests, early); phase = refl; inputs = refl; begun = refl } in
+    let rest = features_go g lun (d ∷ bytes) (n + 1) next begun (omega (arith, few)) in
+    let number : n + 1 + length (d ∷ bytes) ≡ n + length (b ∷ (d ∷ bytes)) = omega arith in
+    record {
+      scene = rest.scene;
+      allowed = (feature_allowed g c f.phase, subst (λ (x : Scene). MovesAllowed g lun (gives Din (d ∷ bytes)) x) (sym is) rest.allowed);
+      leads = ap (scene_after g lun (gives Din (d ∷ bytes))) is ∙ rest.leads;
+      led = subst (λ (m : ℕ). FeaturesLed m c rest.scene) number (led_from (n + 1 + length (d ∷ bytes)) c next rest.scene refl refl rest.led);
     }

@@ -2,15 +2,16 @@
 use Rattle.std.specs.Prelude.{ℕ, ◌+◌, ◌-◌, ◌/◌, ◌%◌, ◌==◌, Bool, true, false, ◌&&◌, ◌||◌, not, nat_lt, nat_le, min, if◌then◌else◌, Option, Some, None}
 use Rattle.nand_geometry.specs.declared.parts.Parts.{Parts}
 use Rattle.nand_geometry.specs.Limits.{page_len, planes}
+use Rattle.nand_geometry.specs.Optional.{is_wide}
 use Rattle.onfi_cycle.specs.declared.command.Command.{Command}
-use Rattle.onfi_cycle.specs.declared.command.Command.TheVariants.{Read, ChangeReadColumn, ChangeReadColumnConfirm, BlockErase, ReadStatus, ReadStatusEnhanced, PageProgram, ChangeWriteColumn, ProgramConfirm, ProgramPlane, ReadId, ReadParameterPage, ReadCacheSequential, ReadCacheEnd}
+use Rattle.onfi_cycle.specs.declared.command.Command.TheVariants.{Read, ChangeReadColumn, ChangeReadColumnConfirm, BlockErase, ReadStatus, ReadStatusEnhanced, PageProgram, ChangeWriteColumn, ProgramConfirm, ProgramPlane, ReadId, ReadParameterPage, ReadCacheSequential, ReadCacheEnd, ReadUniqueId, GetFeatures, SetFeatures, ResetLun}
 use Rattle.onfi_cycle.specs.Base.{is_of_base}
-use Rattle.onfi_cycle.specs.Command.{is_opener, address_cycles, closes, reads_identity, wants_one_lun}
+use Rattle.onfi_cycle.specs.Command.{is_known, is_opener, is_reset, address_cycles, closes, addresses_the_array, reads_identity, wants_one_lun}
 use Rattle.onfi_cycle.specs.Sequence.{is_proper_beginning}
 use Rattle.onfi_cycle.specs.Rules.{is_undeclared}
 use Rattle.micro_claims.specs.Spans.{bound_plus, is_at_most, only}
 use Rattle.micro_claims.specs.Planes.{share_a_plane, are_below}
-use Rattle.micro_claims.specs.State.{State, Span, Planes, Place, Closed, After, InData, InColumn, Unknown, Shown, Held, OutputColumn, QueuedRows, NoRows, SomeRows, AnyRows, Bounds, shows_status, shows_register, holds_page, holds_parameters, holds_identifier, may_be_30, may_be_31, may_be_other}
+use Rattle.micro_claims.specs.State.{State, Span, Planes, Place, Closed, After, InData, InColumn, InFeatures, Unknown, Shown, Held, OutputColumn, QueuedRows, NoRows, SomeRows, AnyRows, Bounds, shows_status, shows_register, holds_page, holds_parameters, holds_identifier, holds_identity, holds_jedec, holds_unique_id, holds_feature, may_be_30, may_be_31, may_be_other}
 
 -- ---- places of the tail
 
@@ -19,6 +20,7 @@ is_open_place Closed = false
 is_open_place (After opener n) = is_proper_beginning opener n
 is_open_place InData = true
 is_open_place (InColumn n) = true
+is_open_place (InFeatures n) = true
 is_open_place Unknown = true
 
 abbrev pub may_be_open : State → Bool
@@ -27,6 +29,17 @@ may_be_open s = is_open_place s.target.tail
 abbrev pub is_in_data : Place → Bool
 is_in_data InData = true
 is_in_data _ = false
+
+-- in the four bytes of a Set Features
+abbrev pub is_in_features : Place → Bool
+is_in_features (InFeatures n) = true
+is_in_features _ = false
+
+-- so many inputs may come: any number in the data of a program, as far as the place goes, and up to four of a Set Features
+abbrev pub takes_inputs_at : ℕ → Place → Bool
+takes_inputs_at n InData = true
+takes_inputs_at n (InFeatures inputs) = nat_le (inputs + n) 4
+takes_inputs_at n _ = false
 
 abbrev pub is_data_command : Command → Bool
 is_data_command ChangeWriteColumn = true
@@ -40,6 +53,7 @@ place_wants c Closed = false
 place_wants c (After opener n) = closes opener c && n == address_cycles opener
 place_wants c InData = is_data_command c
 place_wants c (InColumn n) = false
+place_wants c (InFeatures n) = false
 place_wants c Unknown = false
 
 -- how many addresses are still to come, and which of C1 C2 R1 R2 R3 is the next
@@ -48,10 +62,12 @@ addresses_left Closed = 0
 addresses_left (After opener n) = address_cycles opener - n
 addresses_left InData = 0
 addresses_left (InColumn n) = 2 - n
+addresses_left (InFeatures n) = 0
 addresses_left Unknown = 0
 
 abbrev pub first_address : Command → ℕ
 first_address BlockErase = 2
+first_address ResetLun = 2
 first_address _ = 0
 
 abbrev pub next_address : Place → ℕ
@@ -59,6 +75,7 @@ next_address Closed = 0
 next_address (After opener n) = first_address opener + n
 next_address InData = 0
 next_address (InColumn n) = n
+next_address (InFeatures n) = 0
 next_address Unknown = 0
 
 abbrev pub takes_identity_at : Place → Bool
@@ -71,6 +88,7 @@ is_inside_address Closed = false
 is_inside_address (After opener n) = nat_lt 0 n && nat_lt n (address_cycles opener)
 is_inside_address InData = false
 is_inside_address (InColumn n) = nat_lt 0 n && nat_lt n 2
+is_inside_address (InFeatures n) = false
 is_inside_address Unknown = true
 
 -- ---- what the LUN may be
@@ -91,18 +109,29 @@ abbrev pub has_register : Option Held → Bool
 has_register None = false
 has_register (Some r) = true
 
+-- what may be held is too short for 05h: neither a page nor the parameter page nor the unique identifier
+abbrev pub holds_short : Held → Bool
+holds_short r = holds_identifier r || (holds_identity r || (holds_jedec r || holds_feature r))
+
 abbrev pub has_page_or_parameters : Option Held → Bool
 has_page_or_parameters None = false
-has_page_or_parameters (Some r) = not (holds_identifier r)
+has_page_or_parameters (Some r) = not (holds_short r)
 
 abbrev pub has_column : Option OutputColumn → Bool
 has_column None = false
 has_column (Some k) = true
 
--- the least length that the register may have
+-- the least length that the register may have; no page is shorter than the unique identifier
+abbrev pub long_length_of : Parts → Held → ℕ
+long_length_of g r = if holds_page r then (if holds_parameters r then min 768 (page_len g) else page_len g) else 768
+
 abbrev pub length_of : Parts → Held → ℕ
 length_of g r =
-    if holds_identifier r then 4 else (if holds_page r then (if holds_parameters r then min 768 (page_len g) else page_len g) else 768)
+    if holds_identifier r || holds_feature r then 4
+    else (if holds_jedec r then 6
+    else (if holds_identity r then 8
+    else (if holds_unique_id r then 512
+    else long_length_of g r)))
 
 abbrev pub least_length : Parts → Option Held → ℕ
 least_length g None = 0
@@ -133,11 +162,16 @@ queue_refuses (SomeRows erase queued drift) planes opener =
 
 -- ---- commands
 
--- not a command of the base profile, which programs use alone, or one that isn't declared
-abbrev pub is_unfit : Parts → Command → Bool
-is_unfit g c = not (is_of_base c) || is_undeclared g c
+-- the command is one of the profile of the geometry
+abbrev pub is_of_profile : Parts → Command → Bool
+is_of_profile g c = is_of_base c || (is_known c && is_wide g.optional)
 
--- 90h or ECh may not come, though nothing is open: only a target of one LUN is asked, as another refuses them by a rule that comes first
+-- not a command of the profile, or one that isn't declared
+abbrev pub is_unfit : Parts → Command → Bool
+is_unfit g c = not (is_of_profile g c) || is_undeclared g c
+
+-- 90h, ECh, EDh, EEh or EFh may not come, though nothing is open: only a target of one LUN is asked, as another refuses them by a rule that
+-- comes first
 abbrev pub identity_opener_refused : Parts → State → Bool
 identity_opener_refused g s = not (nat_lt 1 g.luns) && (s.lun.busy || may_be_queued s.lun.queue || may_be_31 s.lun.last)
 
@@ -149,6 +183,9 @@ opener_refused g s BlockErase = s.lun.busy
 opener_refused g s PageProgram = s.lun.busy
 opener_refused g s ReadId = identity_opener_refused g s
 opener_refused g s ReadParameterPage = identity_opener_refused g s
+opener_refused g s ReadUniqueId = identity_opener_refused g s
+opener_refused g s GetFeatures = identity_opener_refused g s
+opener_refused g s SetFeatures = identity_opener_refused g s
 opener_refused g s ReadCacheSequential =
     not (drives s.target.shows) || s.lun.busy || may_be_other s.lun.last || not (is_at_most (bound_plus s.lun.cached.page.hi 2) g.pages)
 opener_refused g s ReadCacheEnd = not (drives s.target.shows) || s.lun.busy || may_be_other s.lun.last || may_be_30 s.lun.last
@@ -159,10 +196,14 @@ abbrev pub closer_refused : State → Command → Bool
 closer_refused s ChangeReadColumnConfirm = not (drives s.target.shows)
 closer_refused s _ = false
 
+-- a reset ends an open sequence in the wider profile
+abbrev pub may_end_sequence : Parts → Command → Bool
+may_end_sequence g c = is_reset c && is_wide g.optional
+
 abbrev pub command_out_of_place : Parts → State → Command → Bool
 command_out_of_place g s c =
     if is_unfit g c then false
-    else (if is_opener c then may_be_open s || opener_refused g s c else not (place_wants c s.target.tail) || closer_refused s c)
+    else (if is_opener c then (not (may_end_sequence g c) && may_be_open s) || opener_refused g s c else not (place_wants c s.target.tail) || closer_refused s c)
 
 -- 31h may go past the rows of the text
 abbrev pub command_past_rows : Parts → ℕ → State → Command → Bool
@@ -197,25 +238,32 @@ column_limit g s _ = page_len g
 abbrev pub byte_of_column : ℕ → ℕ → ℕ
 byte_of_column from column = if from == 0 then column % 256 else column / 256 % 256
 
--- the address bytes of 90h and ECh that programs use, which are those of the base profile
-abbrev pub takes_identity : Command → ℕ → Bool
-takes_identity ReadId byte = byte == 0x20
-takes_identity ReadParameterPage byte = byte == 0x00
-takes_identity _ byte = false
+-- the address of a feature, of which the profile says nothing more
+abbrev pub takes_any_byte : Command → Bool
+takes_any_byte GetFeatures = true
+takes_any_byte SetFeatures = true
+takes_any_byte _ = false
 
--- the byte of the column register, where it is known
-abbrev pub is_identity_byte : Command → ℕ → Option ℕ → Bool
-is_identity_byte opener from None = false
-is_identity_byte opener from (Some column) = nat_le from 1 && takes_identity opener (byte_of_column from column)
+-- the address bytes of 90h, ECh and EDh, and any of EEh and EFh
+abbrev pub takes_identity : Parts → Command → ℕ → Bool
+takes_identity g ReadId byte = byte == 0x20 || (is_wide g.optional && (byte == 0x00 || byte == 0x40))
+takes_identity g ReadParameterPage byte = byte == 0x00
+takes_identity g ReadUniqueId byte = byte == 0x00
+takes_identity g c byte = takes_any_byte c
 
--- the one address of 90h or ECh
+-- the byte of the column register is one of them, whatever it may be
+abbrev pub is_identity_byte : Parts → Command → ℕ → Option ℕ → Bool
+is_identity_byte g opener from None = nat_le from 1 && takes_any_byte opener
+is_identity_byte g opener from (Some column) = nat_le from 1 && takes_identity g opener (byte_of_column from column)
+
+-- the one address of 90h, ECh, EDh, EEh or EFh
 abbrev pub identity_refused : Parts → State → (from count : ℕ) → Place → Bool
-identity_refused g s from count (After opener n) = nat_lt 1 g.luns || not (count == 1) || not (is_identity_byte opener from (only s.registers.column))
+identity_refused g s from count (After opener n) = nat_lt 1 g.luns || not (count == 1) || not (is_identity_byte g opener from (only s.registers.column))
 identity_refused g s from count _ = false
 
--- the last row cycle may be refused
+-- the last row cycle may be refused; that of FAh is fine whatever the LUN does
 abbrev pub row_refused : State → Place → Bool
-row_refused s (After opener n) = s.lun.busy || may_be_31 s.lun.last || queue_refuses s.lun.queue s.registers.planes opener
+row_refused s (After opener n) = addresses_the_array opener && (s.lun.busy || may_be_31 s.lun.last || queue_refuses s.lun.queue s.registers.planes opener)
 row_refused s _ = false
 
 -- the column is surely past its limit, so that nothing is asked of the cycles after it
@@ -262,7 +310,7 @@ span_bound None = None
 span_bound (Some k) = k.hi
 
 abbrev pub input_past : Parts → State → ℕ → Bool
-input_past g s n = not (is_at_most (bound_plus (span_bound s.target.column) n) (page_len g))
+input_past g s n = not (is_in_features s.target.tail) && not (is_at_most (bound_plus (span_bound s.target.column) n) (page_len g))
 
 abbrev pub may_be_unready : State → Bool
 may_be_unready s = s.lun.busy || may_be_open s || may_be_queued s.lun.queue || may_be_31 s.lun.last

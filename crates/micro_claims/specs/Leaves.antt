@@ -2,11 +2,11 @@
 use Rattle.std.specs.Prelude.{ℕ, ◌+◌, ◌-◌, ◌/◌, ◌%◌, ◌==◌, Bool, true, false, ◌&&◌, nat_lt, nat_le, min, if◌then◌else◌, Option, Some, None}
 use Rattle.nand_geometry.specs.declared.parts.Parts.{Parts}
 use Rattle.onfi_cycle.specs.declared.command.Command.{Command}
-use Rattle.onfi_cycle.specs.declared.command.Command.TheVariants.{Read, ReadConfirm, ChangeReadColumn, ChangeReadColumnConfirm, BlockErase, BlockEraseConfirm, BlockErasePlane, PageProgram, ChangeWriteColumn, ProgramConfirm, ProgramPlane, ReadId, ReadParameterPage, Reset, ReadCacheSequential, ReadCacheEnd}
+use Rattle.onfi_cycle.specs.declared.command.Command.TheVariants.{Read, ReadConfirm, ChangeReadColumn, ChangeReadColumnConfirm, BlockErase, BlockEraseConfirm, BlockErasePlane, PageProgram, ChangeWriteColumn, ProgramConfirm, ProgramPlane, ReadId, ReadParameterPage, Reset, ReadCacheSequential, ReadCacheEnd, ReadUniqueId, GetFeatures, SetFeatures, ResetLun, SynchronousReset}
 use Rattle.micro_claims.specs.Spans.{copied, plus, plus_between, greatest_bound}
 use Rattle.micro_claims.specs.Planes.{no_planes, either_plane}
-use Rattle.micro_claims.specs.State.{State, Registers, KnownTarget, KnownLun, Span, PageRange, Place, Closed, After, InData, InColumn, Unknown, Drift, IndexMove, On, To, NamedRow, Shown, Held, OutputColumn, QueuedRows, NoRows, SomeRows, AnyRows, LastCloser, CachedPage, Planes, exactly, not_cached, other_closer, closed, shows_status, shows_register}
-use Rattle.micro_claims.specs.Against.{same_test}
+use Rattle.micro_claims.specs.State.{State, Registers, KnownTarget, KnownLun, Span, PageRange, Place, Closed, After, InData, InColumn, InFeatures, Unknown, Drift, IndexMove, On, To, NamedRow, Shown, Held, OutputColumn, QueuedRows, NoRows, SomeRows, AnyRows, LastCloser, CachedPage, Planes, exactly, not_cached, other_closer, closed, shows_status, shows_register}
+use Rattle.micro_claims.specs.Against.{same_test, byte_of_column}
 
 -- ---- parts of a state
 
@@ -192,6 +192,11 @@ cache_read last cached s =
       lun = record { busy = true; register = page_register; column = Some (record { at = exactly 0; read = false }); queue = s.lun.queue; last = last; cached = cached };
     }
 
+-- a reset: whatever the LUN did ends, and nothing is held or queued
+abbrev pub reset_started : State → State
+reset_started s =
+    record { registers = s.registers; target = closed None; lun = record { busy = true; register = None; column = None; queue = NoRows; last = other_closer; cached = s.lun.cached } }
+
 abbrev pub command_leaves : Parts → State → Command → State
 command_leaves g s Read = with_target s (record { tail = After Read 0; column = None; named = None; shows = resumed_shows s.target.shows })
 command_leaves g s ChangeReadColumn = opened_by ChangeReadColumn s
@@ -199,6 +204,10 @@ command_leaves g s BlockErase = opened_by BlockErase s
 command_leaves g s PageProgram = opened_by PageProgram s
 command_leaves g s ReadId = opened_by ReadId s
 command_leaves g s ReadParameterPage = opened_by ReadParameterPage s
+command_leaves g s ReadUniqueId = opened_by ReadUniqueId s
+command_leaves g s GetFeatures = opened_by GetFeatures s
+command_leaves g s SetFeatures = opened_by SetFeatures s
+command_leaves g s ResetLun = opened_by ResetLun s
 command_leaves g s ChangeWriteColumn = with_target s (record s.target { tail = InColumn 0 })
 command_leaves g s ReadConfirm = read_started g s
 command_leaves g s ChangeReadColumnConfirm =
@@ -207,8 +216,8 @@ command_leaves g s BlockEraseConfirm = work_started NoRows s
 command_leaves g s ProgramConfirm = work_started NoRows s
 command_leaves g s BlockErasePlane = work_started (queued_more true s.lun.queue s.target.named) s
 command_leaves g s ProgramPlane = work_started (queued_more false s.lun.queue s.target.named) s
-command_leaves g s Reset =
-    record { registers = s.registers; target = closed None; lun = record { busy = true; register = None; column = None; queue = NoRows; last = other_closer; cached = s.lun.cached } }
+command_leaves g s Reset = reset_started s
+command_leaves g s SynchronousReset = reset_started s
 command_leaves g s ReadCacheSequential =
     cache_read (record { 0 = 2 }) (record { index = plus s.lun.cached.index 1; page = plus s.lun.cached.page 1 }) s
 command_leaves g s ReadCacheEnd = cache_read other_closer s.lun.cached s
@@ -220,11 +229,15 @@ command_leaves g s _ = s
 abbrev pub after_few : Command → ℕ → Place
 after_few opener n = if nat_le n 5 then After opener n else Unknown
 
--- where the tail is after so many addresses of an opener; those of 80h lead into data, the one of 90h or ECh closes
+-- where the tail is after so many addresses of an opener; those of 80h lead into data, the one of EFh leads to its four bytes, and that of
+-- 90h, ECh, EDh or EEh closes
 abbrev pub opener_leads_to : Command → ℕ → Place
 opener_leads_to PageProgram n = if n == 5 then InData else after_few PageProgram n
 opener_leads_to ReadId n = Closed
 opener_leads_to ReadParameterPage n = Closed
+opener_leads_to ReadUniqueId n = Closed
+opener_leads_to GetFeatures n = Closed
+opener_leads_to SetFeatures n = InFeatures 0
 opener_leads_to opener n = after_few opener n
 
 -- those of 85h lead back into data
@@ -237,6 +250,7 @@ address_leads_to count Closed = Closed
 address_leads_to count (After opener n) = opener_leads_to opener (n + count)
 address_leads_to count InData = InData
 address_leads_to count (InColumn n) = column_leads_to (n + count)
+address_leads_to count (InFeatures n) = InFeatures n
 address_leads_to count Unknown = Unknown
 
 -- the greatest page of the index register in its block
@@ -257,25 +271,43 @@ target_after_addresses g s from count =
       shows = s.target.shows;
     }
 
-abbrev pub identity_read : State → Command → State
-identity_read s ReadId =
-    record {
-      registers = s.registers;
-      target = closed data_shown;
-      lun = record s.lun { register = Some (record { 0 = 4 }); column = Some (record { at = exactly 0; read = false }); last = other_closer };
-    }
-identity_read s ReadParameterPage =
-    record {
-      registers = s.registers;
-      target = closed data_shown;
-      lun = record s.lun { busy = true; register = Some (record { 0 = 2 }); column = Some (record { at = exactly 0; read = false }); last = other_closer };
-    }
-identity_read s _ = s
+-- what 90h reads by its address byte
+abbrev pub id_held : ℕ → Held
+id_held byte = if byte == 0x20 then record { 0 = 4 } else (if byte == 0x40 then record { 0 = 16 } else record { 0 = 8 })
 
--- the one address of 90h or ECh shows what it reads; others are an address of the sequence
+-- what stands beside the array is in the register; all but 90h begin work for it
+abbrev pub beside_read : (busy : Bool) → Held → State → State
+beside_read busy held s =
+    record {
+      registers = s.registers;
+      target = closed data_shown;
+      lun = record s.lun { busy = busy; register = Some held; column = Some (record { at = exactly 0; read = false }); last = other_closer };
+    }
+
+-- behind the address of EFh its four bytes come
+abbrev pub features_opened : State → State
+features_opened s = with_target s (record { tail = InFeatures 0; column = None; named = None; shows = s.target.shows })
+
+abbrev pub identity_read : State → (from : ℕ) → Command → State
+identity_read s from ReadId = beside_read s.lun.busy (id_held (byte_of_column from s.registers.column.lo)) s
+identity_read s from ReadParameterPage = beside_read true (record { 0 = 2 }) s
+identity_read s from ReadUniqueId = beside_read true (record { 0 = 32 }) s
+identity_read s from GetFeatures = beside_read true (record { 0 = 64 }) s
+identity_read s from SetFeatures = features_opened s
+identity_read s from _ = s
+
+-- the last row cycle of FAh resets the LUN
+abbrev pub lun_reset : Parts → State → (from count n : ℕ) → State
+lun_reset g s from count n = if n + count == 3 then reset_started s else with_target s (target_after_addresses g s from count)
+
+-- the one address of 90h, ECh, EDh, EEh or EFh shows what it reads, or what comes; others are an address of the sequence
 abbrev pub address_leaves_at : Parts → State → (from count : ℕ) → Place → State
-address_leaves_at g s from count (After ReadId n) = identity_read s ReadId
-address_leaves_at g s from count (After ReadParameterPage n) = identity_read s ReadParameterPage
+address_leaves_at g s from count (After ReadId n) = identity_read s from ReadId
+address_leaves_at g s from count (After ReadParameterPage n) = identity_read s from ReadParameterPage
+address_leaves_at g s from count (After ReadUniqueId n) = identity_read s from ReadUniqueId
+address_leaves_at g s from count (After GetFeatures n) = identity_read s from GetFeatures
+address_leaves_at g s from count (After SetFeatures n) = identity_read s from SetFeatures
+address_leaves_at g s from count (After ResetLun n) = lun_reset g s from count n
 address_leaves_at g s from count _ = with_target s (target_after_addresses g s from count)
 
 abbrev pub address_leaves : Parts → State → (from count : ℕ) → State
@@ -300,10 +332,16 @@ abbrev pub span_more : ℕ → Option Span → Option Span
 span_more n None = None
 span_more n (Some k) = Some (plus k n)
 
+abbrev pub place_moved : ℕ → State → State
+place_moved n s = with_registers s (record s.registers { place = plus s.registers.place n })
+
+-- behind so many of the four bytes of EFh, the fourth of which begins its work
+abbrev pub features_put : State → ℕ → State
+features_put s inputs = if nat_lt inputs 4 then with_target s (record s.target { tail = InFeatures inputs }) else work_started s.lun.queue s
+
+abbrev pub put_leaves_at : State → ℕ → Place → State
+put_leaves_at s n (InFeatures inputs) = place_moved n (features_put s (inputs + n))
+put_leaves_at s n _ = place_moved n (with_target s (record s.target { column = span_more n s.target.column }))
+
 abbrev pub put_leaves : State → ℕ → State
-put_leaves s n =
-    record {
-      registers = record s.registers { place = plus s.registers.place n };
-      target = record s.target { column = span_more n s.target.column };
-      lun = s.lun;
-    }
+put_leaves s n = put_leaves_at s n s.target.tail

@@ -6,7 +6,7 @@ use Rattle.micro_word.specs.declared.word.Word.{Word}
 use Rattle.micro_claims.specs.Spans.{greatest_bound, kept, saturated, bound_plus}
 use Rattle.micro_claims.specs.Sets.{has}
 use Rattle.micro_claims.specs.Planes.{Planes, has_plane}
-use Rattle.micro_claims.specs.State.{State, Registers, KnownTarget, KnownLun, Span, Growth, Place, Closed, After, InData, InColumn, Unknown, Drift, NamedRow, Shown, Held, OutputColumn, QueuedRows, NoRows, SomeRows, AnyRows, LoopPlace, Head, Heads, AfterTurns, Bounds, any_number, first_state, shows_status, shows_register, holds_page, holds_parameters, holds_identifier, may_be_30, may_be_31, may_be_other}
+use Rattle.micro_claims.specs.State.{State, Registers, KnownTarget, KnownLun, Span, Growth, Place, Closed, After, InData, InColumn, InFeatures, Unknown, Drift, NamedRow, Shown, Held, OutputColumn, QueuedRows, NoRows, SomeRows, AnyRows, LoopPlace, Head, Heads, AfterTurns, Bounds, any_number, first_state, shows_status, shows_register, holds_page, holds_parameters, holds_identifier, holds_identity, holds_jedec, holds_unique_id, holds_feature, may_be_30, may_be_31, may_be_other}
 use Rattle.micro_claims.specs.Against.{same_test, is_open_place}
 use Rattle.micro_claims.specs.Reasons.{reason_against}
 use Rattle.micro_claims.specs.Accepts.{state_after}
@@ -127,6 +127,7 @@ same_place Closed Closed = true
 same_place (After c n) (After d m) = same_code (opcode c) (opcode d) && n == m
 same_place InData InData = true
 same_place (InColumn n) (InColumn m) = n == m
+same_place (InFeatures n) (InFeatures m) = n == m
 same_place _ _ = false
 
 -- the second claims no more: it is the same place, or nothing is claimed, or that nothing is open
@@ -215,7 +216,11 @@ pub record RegisterIs (r q : Held) : Type 0 where
   pub page : May (holds_page q) (holds_page r)
   pub parameters : May (holds_parameters q) (holds_parameters r)
   pub identifier : May (holds_identifier q) (holds_identifier r)
-  pub some : (holds_page q || (holds_parameters q || holds_identifier q)) ≡ true
+  pub identity : May (holds_identity q) (holds_identity r)
+  pub jedec : May (holds_jedec q) (holds_jedec r)
+  pub unique_id : May (holds_unique_id q) (holds_unique_id r)
+  pub feature : May (holds_feature q) (holds_feature r)
+  pub some : (holds_page q || (holds_parameters q || (holds_identifier q || (holds_identity q || (holds_jedec q || (holds_unique_id q || holds_feature q)))))) ≡ true
 
 abbrev pub RegisteredIs : Option Held → Option Held → Type 0
 RegisteredIs None a = Unit {0}

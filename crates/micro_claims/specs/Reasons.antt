@@ -9,14 +9,14 @@ use Rattle.micro_claims.specs.declared.refusal.Reason.TheVariants.{CycleForbidde
 use Rattle.micro_program.specs.Program.{cost}
 use Rattle.micro_claims.specs.Spans.{bound_plus, is_at_most}
 use Rattle.micro_claims.specs.State.{State, Bounds}
-use Rattle.micro_claims.specs.Against.{is_in_data, is_inside_address, may_be_open, command_out_of_place, command_past_rows, command_not_for_programs, continues_unseen, address_out_of_place, begins_elsewhere, column_past, row_outside, output_refused, output_past, input_past, may_be_unready}
+use Rattle.micro_claims.specs.Against.{takes_inputs_at, is_inside_address, may_be_open, command_out_of_place, command_past_rows, command_not_for_programs, continues_unseen, address_out_of_place, begins_elsewhere, column_past, row_outside, output_refused, output_past, input_past, may_be_unready}
 
 -- V7: a cycle may come where it isn't permitted
 unfoldable pub breaks_cycle_forbidden : Parts → State → Word → Bool
 breaks_cycle_forbidden g s (Command byte) = command_out_of_place g s (command byte)
 breaks_cycle_forbidden g s (Address from count) = address_out_of_place g s from count s.target.tail
 breaks_cycle_forbidden g s (Get len) = output_refused s
-breaks_cycle_forbidden g s (Put len) = not (is_in_data s.target.tail)
+breaks_cycle_forbidden g s (Put len) = not (takes_inputs_at len s.target.tail)
 breaks_cycle_forbidden g s ReadStatus = may_be_open s
 breaks_cycle_forbidden g s _ = false
 

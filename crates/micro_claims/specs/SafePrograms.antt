@@ -1,7 +1,7 @@
 -- What is accepted from the first state is safe; and some programs of which that is so.
 use Rattle.std.specs.Prelude.{◌≡◌, ℕ, ◌≤◌, true, false, List, [], ◌∷◌, None}
 use Rattle.nand_geometry.specs.declared.parts.Parts.{Parts}
-use Rattle.nand_geometry.specs.Optional.{no_optional}
+use Rattle.nand_geometry.specs.Optional.{no_optional, wide_with}
 use Rattle.micro_word.specs.declared.word.Word.{Word}
 use Rattle.micro_word.specs.declared.word.Word.TheVariants.{End, Command, Address, Get, Put, Seek, Column, RowAdd, Row, Plane, Wait, Yield, ReadStatus, BranchOnStatus, Loop, Next}
 use Rattle.micro_word.specs.Text.{Microprogram}
@@ -62,6 +62,29 @@ cache_words = Command 0x00 ∷ (Address 0 5 ∷ (Command 0x30 ∷ (Wait ∷ (Com
 abbrev pub identity_words : List Word
 identity_words = Column 32 ∷ (Command 0x90 ∷ (Address 0 1 ∷ (Get 4 ∷ (Column 0 ∷ (Command 0xec ∷ (Address 0 1 ∷ (Wait ∷ (Command 0x00 ∷ (Get 768 ∷ (Command 0xff ∷ (Wait ∷ (End 0 ∷ []))))))))))))
 
+-- the identity at 00h and that at 40h, and the unique identifier
+abbrev pub identities_words : List Word
+identities_words = Command 0x90 ∷ (Address 0 1 ∷ (Get 8 ∷ (Column 64 ∷ (Command 0x90 ∷ (Address 0 1 ∷ (Get 6 ∷ (Column 0 ∷ (Command 0xed ∷ (Address 0 1 ∷ (Wait ∷ (Command 0x00 ∷ (Get 512 ∷ (End 0 ∷ [])))))))))))))
+
+-- a feature is set, its four bytes in two parts, and read back
+abbrev pub features_words : List Word
+features_words = Column 1 ∷ (Command 0xef ∷ (Address 0 1 ∷ (Put 1 ∷ (Put 3 ∷ (Wait ∷ (Command 0xee ∷ (Address 0 1 ∷ (Wait ∷ (Command 0x00 ∷ (Get 4 ∷ (End 0 ∷ [])))))))))))
+
+-- an erase is cut off by a reset of its LUN
+abbrev pub lun_reset_words : List Word
+lun_reset_words = Command 0x60 ∷ (Address 2 3 ∷ (Command 0xd0 ∷ (Command 0xfa ∷ (Address 2 2 ∷ (Address 4 1 ∷ (Wait ∷ (End 0 ∷ [])))))))
+
+-- a program is left amid its data by a reset, and another reset follows
+abbrev pub resets_words : List Word
+resets_words = Command 0x80 ∷ (Address 0 5 ∷ (Put 4 ∷ (Command 0xff ∷ (Wait ∷ (Command 0xfc ∷ (Wait ∷ (End 0 ∷ [])))))))
+
+-- one LUN, or two, with all that the wider profile has
+abbrev pub one_wide_lun : Parts
+one_wide_lun = record { page_bytes = 512; spare_bytes = 16; pages = 4; blocks = 8; luns = 1; plane_bits = 0; enhanced = false; multi_plane = false; cache = false; optional = wide_with true true true true }
+
+abbrev pub two_wide_luns : Parts
+two_wide_luns = record { page_bytes = 512; spare_bytes = 16; pages = 4; blocks = 8; luns = 2; plane_bits = 0; enhanced = true; multi_plane = false; cache = false; optional = wide_with true true true true }
+
 abbrev pub one_lun_with_cache : Parts
 one_lun_with_cache = record { page_bytes = 512; spare_bytes = 16; pages = 4; blocks = 8; luns = 1; plane_bits = 0; enhanced = false; multi_plane = false; cache = true; optional = no_optional }
 
@@ -83,3 +106,8 @@ pub record SomeAreSafe : Type 0 where
   pub blocks : IsSafe (with_rows 8 0 10 blocks_words) two_luns
   pub cached : IsSafe (with_rows 2 1056 1067 cache_words) one_lun_with_cache
   pub identity : IsSafe (some_text 772 778 identity_words) one_lun
+  pub identities : IsSafe (some_text 526 533 identities_words) one_wide_lun
+  pub features : IsSafe (some_text 8 13 features_words) one_wide_lun
+  pub lun_reset : IsSafe (some_text 0 9 lun_reset_words) one_wide_lun
+  pub lun_reset_among_others : IsSafe (some_text 0 9 lun_reset_words) two_wide_luns
+  pub resets : IsSafe (some_text 4 12 resets_words) one_wide_lun

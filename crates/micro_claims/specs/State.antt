@@ -8,7 +8,7 @@ pub use Rattle.micro_claims.specs.Planes.{Planes, just_plane}
 pub use Rattle.micro_claims.specs.declared.page_range.PageRange.{PageRange}
 pub use Rattle.micro_claims.specs.declared.registers.Registers.{Registers}
 pub use Rattle.micro_claims.specs.declared.place.Place.{Place}
-pub use Rattle.micro_claims.specs.declared.place.Place.TheVariants.{Closed, After, InData, InColumn, Unknown}
+pub use Rattle.micro_claims.specs.declared.place.Place.TheVariants.{Closed, After, InData, InColumn, InFeatures, Unknown}
 pub use Rattle.micro_claims.specs.declared.drift.Drift.{Drift}
 pub use Rattle.micro_claims.specs.declared.drift.IndexMove.{IndexMove}
 pub use Rattle.micro_claims.specs.declared.drift.IndexMove.TheVariants.{On, To}
@@ -34,7 +34,8 @@ shows_status w = has 1 w.0
 abbrev pub shows_register : Shown → Bool
 shows_register w = has 2 w.0
 
--- what may be held: a page, the parameter page, the identifier
+-- what may be held: a page, the parameter page, the identifier; in the wider profile the identity at 00h and that at 40h, the unique
+-- identifier, and a feature
 abbrev pub holds_page : Held → Bool
 holds_page r = has 1 r.0
 
@@ -43,6 +44,18 @@ holds_parameters r = has 2 r.0
 
 abbrev pub holds_identifier : Held → Bool
 holds_identifier r = has 4 r.0
+
+abbrev pub holds_identity : Held → Bool
+holds_identity r = has 8 r.0
+
+abbrev pub holds_jedec : Held → Bool
+holds_jedec r = has 16 r.0
+
+abbrev pub holds_unique_id : Held → Bool
+holds_unique_id r = has 32 r.0
+
+abbrev pub holds_feature : Held → Bool
+holds_feature r = has 64 r.0
 
 -- what the last closer may be: 30h, 31h, another or none
 abbrev pub may_be_30 : LastCloser → Bool

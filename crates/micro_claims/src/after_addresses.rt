@@ -1,7 +1,8 @@
 //! What addresses leave of what is known before them.
 ghost use Rattle.std.specs.Prelude.{◌≡◌, if◌then◌else◌, Some};
-ghost use Rattle.onfi_cycle.specs.declared.command.Command.TheVariants.{ReadId, ReadParameterPage};
-ghost use Rattle.micro_claims.specs.Leaves.{target_after_addresses, identity_read, address_leaves};
+ghost use Rattle.onfi_cycle.specs.declared.command.Command.TheVariants.{ReadId};
+ghost use Rattle.micro_claims.specs.Against.{byte_of_column};
+ghost use Rattle.micro_claims.specs.Leaves.{target_after_addresses, id_held, beside_read, features_opened, with_target, identity_read, lun_reset, address_leaves};
 
 use crate::held::Held;
 use crate::known_target::KnownTarget;
@@ -29,6 +30,29 @@ fn either_name(is_whole: bool, named: NamedRow, before: Option<NamedRow>) -> Opt
     if is_whole { Some(named) } else { before }
 }
 
+// The address byte of the column register that a word begins with.
+fn byte_of_column(from: u8, column: u32) -> u8
+    ensures { result ≡ byte_of_column from column }
+{
+    let byte = if from == 0 {
+        column % 256
+    } else {
+        column / 256 % 256
+    };
+    byte as u8
+}
+
+// What Read ID reads by its address.
+fn id_held(byte: u8) -> Held
+    ensures { result ≡ id_held byte }
+{
+    match byte {
+        0x20 => Held::IDENTIFIER,
+        0x40 => Held::JEDEC,
+        _ => Held::IDENTITY,
+    }
+}
+
 impl State {
     // The target after so many addresses.
     fn target_after_addresses(&self, geometry: &Geometry, from: u8, count: u8) -> KnownTarget
@@ -47,25 +71,53 @@ impl State {
         }
     }
 
-    // After the address of Read ID.
-    fn read_identifier(&mut self)
-        ensures { self.new ≡ identity_read self.old ReadId }
+    // After the address of an opener that reads what stands beside the array.
+    fn read_beside(&mut self, busy: bool, held: Held)
+        ensures { self.new ≡ beside_read busy held self.old }
     {
         self.target = KnownTarget::closed(DATA_SHOWN);
-        self.lun.register = Some(Held::IDENTIFIER);
+        self.lun.busy = busy;
+        self.lun.register = Some(held);
         self.lun.column = Some(OutputColumn::first());
         self.lun.last = LastCloser::OTHER;
     }
 
-    // After the address of Read Parameter Page.
-    fn read_parameters(&mut self)
-        ensures { self.new ≡ identity_read self.old ReadParameterPage }
+    // After the address of Read ID, which is a byte of the column.
+    fn read_id(&mut self, from: u8)
+        ensures { self.new ≡ identity_read self.old from ReadId }
     {
-        self.target = KnownTarget::closed(DATA_SHOWN);
-        self.lun.busy = true;
-        self.lun.register = Some(Held::PARAMETERS);
-        self.lun.column = Some(OutputColumn::first());
-        self.lun.last = LastCloser::OTHER;
+        let held = id_held(byte_of_column(from, self.registers.column.lo()));
+        self.read_beside(self.lun.busy, held);
+    }
+
+    // After the address of Set Features.
+    fn open_features(&mut self)
+        ensures { self.new ≡ features_opened self.old }
+    {
+        self.target = KnownTarget {
+            tail: Place::InFeatures { inputs: 0 },
+            column: None,
+            named: None,
+            shows: self.target.shows,
+        };
+    }
+
+    // After so many addresses of the sequence.
+    fn go_on(&mut self, geometry: &Geometry, from: u8, count: u8)
+        ensures { self.new ≡ with_target self.old (target_after_addresses geometry.now self.old from count) }
+    {
+        self.target = self.target_after_addresses(geometry, from, count);
+    }
+
+    // After so many addresses of Reset LUN, behind so many others.
+    fn reset_lun(&mut self, geometry: &Geometry, from: u8, count: u8, before: u8)
+        ensures { self.new ≡ lun_reset geometry.now self.old from count before }
+    {
+        if usize::from(before) + usize::from(count) == Command::ResetLun.address_cycles() {
+            self.reset();
+        } else {
+            self.go_on(geometry, from, count);
+        }
     }
 
     // After so many addresses.
@@ -73,15 +125,16 @@ impl State {
         ensures { self.new ≡ address_leaves geometry.now self.old from count }
     {
         match self.target.tail {
-            Place::After {
-                opener: Command::ReadId,
-                ..
-            } => self.read_identifier(),
-            Place::After {
-                opener: Command::ReadParameterPage,
-                ..
-            } => self.read_parameters(),
-            _ => self.target = self.target_after_addresses(geometry, from, count),
+            Place::After { opener, addresses } => match opener {
+                Command::ReadId => self.read_id(from),
+                Command::ReadParameterPage => self.read_beside(true, Held::PARAMETERS),
+                Command::ReadUniqueId => self.read_beside(true, Held::UNIQUE_ID),
+                Command::GetFeatures => self.read_beside(true, Held::FEATURE),
+                Command::SetFeatures => self.open_features(),
+                Command::ResetLun => self.reset_lun(geometry, from, count, addresses),
+                _ => self.go_on(geometry, from, count),
+            },
+            _ => self.go_on(geometry, from, count),
         }
     }
 }

@@ -1,7 +1,7 @@
 //! What a command leaves of what is known before it.
-ghost use Rattle.std.specs.Prelude.{◌≡◌, true, None};
-ghost use Rattle.micro_claims.specs.Leaves.{given_at, opened_by, work_started, queued_more, read_started, cache_read, command_leaves, with_target};
-ghost use Rattle.micro_claims.specs.State.{InColumn, NoRows, closed, other_closer};
+ghost use Rattle.std.specs.Prelude.{◌≡◌};
+ghost use Rattle.micro_claims.specs.Leaves.{given_at, opened_by, work_started, queued_more, read_started, cache_read, reset_started, command_leaves, with_target};
+ghost use Rattle.micro_claims.specs.State.{InColumn, closed};
 
 use crate::cached_page::CachedPage;
 use crate::held::PAGE_HELD;
@@ -25,7 +25,7 @@ impl State {
     }
 
     // After the start of work that leaves the LUN without a register.
-    fn start_work(&mut self, queue: QueuedRows)
+    pub(crate) fn start_work(&mut self, queue: QueuedRows)
         ensures { self.new ≡ work_started queue self.old }
     {
         self.target = KnownTarget::closed(self.target.shows);
@@ -56,12 +56,8 @@ impl State {
     }
 
     // After a reset.
-    fn reset(&mut self)
-        ensures { self.new ≡ record {
-          registers = self.old.registers;
-          target = closed None;
-          lun = record { busy = true; register = None; column = None; queue = NoRows; last = other_closer; cached = self.old.lun.cached };
-        } }
+    pub(crate) fn reset(&mut self)
+        ensures { self.new ≡ reset_started self.old }
     {
         self.target = KnownTarget::closed(None);
         self.lun = self.lun.at_work(QueuedRows::NoRows);
@@ -103,7 +99,11 @@ impl State {
             | Command::BlockErase
             | Command::PageProgram
             | Command::ReadId
-            | Command::ReadParameterPage => self.open(command),
+            | Command::ReadParameterPage
+            | Command::ReadUniqueId
+            | Command::GetFeatures
+            | Command::SetFeatures
+            | Command::ResetLun => self.open(command),
             Command::ChangeWriteColumn => self.change_column(),
             Command::ReadConfirm => self.start_read(geometry),
             Command::ChangeReadColumnConfirm => self.give_column(),
@@ -112,19 +112,12 @@ impl State {
             }
             Command::BlockErasePlane => self.queue_row(true),
             Command::ProgramPlane => self.queue_row(false),
-            Command::Reset => self.reset(),
+            Command::Reset | Command::SynchronousReset => self.reset(),
             Command::ReadCacheSequential => {
                 self.read_cache(LastCloser::CACHE, self.lun.cached.next())
             },
             Command::ReadCacheEnd => self.read_cache(LastCloser::OTHER, self.lun.cached),
-            Command::ReadStatus
-            | Command::ReadStatusEnhanced
-            | Command::ReadUniqueId
-            | Command::GetFeatures
-            | Command::SetFeatures
-            | Command::ResetLun
-            | Command::SynchronousReset
-            | Command::Unknown => {}
+            Command::ReadStatus | Command::ReadStatusEnhanced | Command::Unknown => {}
         }
     }
 }

@@ -1,12 +1,13 @@
 //! What a word leaves of what is known before it.
 ghost use Rattle.std.specs.Prelude.{◌≡◌, ◌%◌};
 ghost use Rattle.micro_claims.specs.Accepts.{word_leaves, state_after};
-ghost use Rattle.micro_claims.specs.Leaves.{polled, found_ready, handed_over, drift_more, drift_set, moved_by, index_moved, page_plus, get_leaves, put_leaves};
+ghost use Rattle.micro_claims.specs.Leaves.{polled, found_ready, handed_over, drift_more, drift_set, moved_by, index_moved, page_plus, get_leaves, span_more, with_target, features_put, put_leaves};
 ghost use Rattle.micro_claims.specs.Spans.{exactly, plus, only};
 
 use crate::drift::IndexMove;
 use crate::known_target::KnownTarget;
 use crate::page_range::PageRange;
+use crate::place::Place;
 use crate::planes::Planes;
 use crate::reasons::cost;
 use crate::shown::{ANY_DRIVER, STATUS_SHOWN};
@@ -14,7 +15,7 @@ use crate::span::Span;
 use crate::state::State;
 use micro_word::Word;
 use nand_geometry::Geometry;
-use onfi_cycle::Command;
+use onfi_cycle::{Command, FEATURE_BYTES};
 
 impl State {
     // After so many outputs.
@@ -27,15 +28,38 @@ impl State {
         self.target = KnownTarget::closed(shows);
     }
 
-    // After so many inputs.
-    fn give_inputs(&mut self, len: u32)
-        ensures { self.new ≡ put_leaves self.old len }
+    // After so many of the four bytes of a Set Features.
+    fn give_features(&mut self, inputs: u64)
+        ensures { self.new ≡ features_put self.old inputs }
     {
-        self.registers = self.registers.moved(len);
+        if inputs < FEATURE_BYTES as u64 {
+            self.target.tail = Place::InFeatures {
+                inputs: inputs as u8,
+            };
+        } else {
+            self.start_work(self.lun.queue);
+        }
+    }
+
+    // After so many inputs of a program.
+    fn give_data(&mut self, len: u32)
+        ensures { self.new ≡ with_target self.old (record self.old.target { column = span_more len self.old.target.column }) }
+    {
         self.target.column = match self.target.column {
             None => None,
             Some(column) => Some(column.plus(u64::from(len))),
         };
+    }
+
+    // After so many inputs.
+    fn give_inputs(&mut self, len: u32)
+        ensures { self.new ≡ put_leaves self.old len }
+    {
+        match self.target.tail {
+            Place::InFeatures { inputs } => self.give_features(u64::from(inputs) + u64::from(len)),
+            _ => self.give_data(len),
+        }
+        self.registers = self.registers.moved(len);
     }
 
     // After a status poll.

@@ -115,7 +115,7 @@ impl KnownLun {
     {
         match self.register {
             None => false,
-            Some(held) => !held.contains(Held::IDENTIFIER),
+            Some(held) => !held.holds_short(),
         }
     }
 
@@ -128,7 +128,7 @@ impl KnownLun {
         }
     }
 
-    // An opener that reads an identifier or a parameter page may be refused.
+    // An opener that reads what stands beside the array, or sets it, may be refused.
     pub(crate) fn may_work(&self) -> bool
         ensures { result ≡ self.now.busy || may_be_queued self.now.queue || may_be_31 self.now.last }
     {

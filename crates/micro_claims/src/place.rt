@@ -1,11 +1,11 @@
 //! Where the tail of the target is, and what may come there.
 ghost use Rattle.std.specs.Prelude.{◌≡◌};
-ghost use Rattle.micro_claims.specs.Against.{is_open_place, is_in_data, is_data_command, place_wants, addresses_left, first_address, next_address, takes_identity_at, is_inside_address};
+ghost use Rattle.micro_claims.specs.Against.{is_open_place, is_in_data, is_in_features, takes_inputs_at, is_data_command, place_wants, addresses_left, first_address, next_address, takes_identity_at, is_inside_address};
 ghost use Rattle.micro_claims.specs.Joins.{joined_place};
 ghost use Rattle.micro_claims.specs.Leaves.{after_few, opener_leads_to, column_leads_to, address_leads_to};
 ghost use Rattle.micro_claims.specs.Order.{same_place, is_place_within};
 
-use onfi_cycle::Command;
+use onfi_cycle::{Command, FEATURE_BYTES};
 
 /// Where the tail of the program's target is.
 #[derive(Clone, Copy)]
@@ -18,6 +18,8 @@ pub enum Place {
     InData,
     /// After a change of the write column and so many of its addresses.
     InColumn { addresses: u8 },
+    /// After the address of a Set Features and so many of its four bytes.
+    InFeatures { inputs: u8 },
     /// Anywhere: ways have met that stand at different places.
     Unknown,
 }
@@ -37,7 +39,7 @@ pub fn first_address(opener: Command) -> usize
     ensures { result ≡ first_address opener }
 {
     match opener {
-        Command::BlockErase => 2,
+        Command::BlockErase | Command::ResetLun => 2,
         _ => 0,
     }
 }
@@ -62,7 +64,11 @@ fn opener_leads_to(opener: Command, addresses: usize) -> Place
 {
     match opener {
         Command::PageProgram if addresses == 5 => Place::InData,
-        Command::ReadId | Command::ReadParameterPage => Place::Closed,
+        Command::ReadId
+        | Command::ReadParameterPage
+        | Command::ReadUniqueId
+        | Command::GetFeatures => Place::Closed,
+        Command::SetFeatures => Place::InFeatures { inputs: 0 },
         _ => after_few(opener, addresses),
     }
 }
@@ -98,6 +104,26 @@ impl Place {
         ensures { result ≡ is_in_data self }
     {
         matches!(self, Place::InData)
+    }
+
+    /// Surely in the four bytes of a Set Features.
+    pub fn is_in_features(self) -> bool
+        ensures { result ≡ is_in_features self }
+    {
+        matches!(self, Place::InFeatures { .. })
+    }
+
+    /// So many inputs may surely come; how long a page is isn't asked.
+    pub fn takes_inputs(self, len: u32) -> bool
+        ensures { result ≡ takes_inputs_at len self }
+    {
+        match self {
+            Place::InData => true,
+            Place::InFeatures { inputs } => {
+                u64::from(inputs) + u64::from(len) <= FEATURE_BYTES as u64
+            }
+            _ => false,
+        }
     }
 
     /// A command that is no opener surely goes on with the sequence.
@@ -139,7 +165,7 @@ impl Place {
         }
     }
 
-    /// After Read ID or Read Parameter Page.
+    /// After an opener that reads what stands beside the array, or sets it: 90h, ECh, EDh, EEh or EFh.
     pub fn takes_identity(self) -> bool
         ensures { result ≡ takes_identity_at self }
     {
@@ -196,6 +222,7 @@ impl Place {
             (Place::InColumn { addresses }, Place::InColumn { addresses: count }) => {
                 addresses == count
             }
+            (Place::InFeatures { inputs }, Place::InFeatures { inputs: count }) => inputs == count,
             _ => false,
         }
     }

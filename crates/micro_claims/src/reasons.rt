@@ -1,6 +1,7 @@
 //! The reasons against a word, by what is known before it.
 ghost use Rattle.std.specs.Prelude.{◌≡◌, ◌^◌, ◌<◌, ◌==◌, ◌&&◌, not};
-ghost use Rattle.micro_claims.specs.Against.{next_address, is_unfit, opener_refused, closer_refused, command_out_of_place, command_past_rows, command_not_for_programs, has_second_column, column_limit, takes_identity, is_identity_byte, identity_refused, row_refused, surely_past, address_out_of_place, begins_elsewhere, column_past, row_outside, output_refused, output_past, input_past, may_be_unready};
+ghost use Rattle.micro_claims.specs.Against.{next_address, is_of_profile, is_unfit, opener_refused, closer_refused, may_end_sequence, command_out_of_place, command_past_rows, command_not_for_programs, has_second_column, column_limit, takes_any_byte, takes_identity, is_identity_byte, identity_refused, row_refused, surely_past, address_out_of_place, begins_elsewhere, column_past, row_outside, output_refused, output_past, input_past, may_be_unready};
+ghost use Rattle.nand_geometry.specs.Optional.{is_wide};
 ghost use Rattle.micro_claims.specs.Reasons.{breaks_cycle_forbidden, breaks_address_unaligned, breaks_handover_in_sequence, breaks_buffer_passed, breaks_row_or_plane_outside, breaks_column_too_large, breaks_no_status, breaks_ends_too_soon, breaks_over_budget, breaks_command_not_allowed, reason_against};
 ghost use Rattle.micro_claims.specs.Spans.{bound_plus, is_at_most};
 ghost use Rattle.micro_program.specs.Program.{cost};
@@ -30,11 +31,32 @@ pub fn cost(geometry: &Geometry, word: Word) -> u64
     }
 }
 
-// Not a command of the base profile, which programs use alone, or one that isn't declared.
+// The chip is read as one of the wider profile.
+fn is_wide(geometry: &Geometry) -> bool
+    ensures { result ≡ is_wide geometry.now.optional }
+{
+    geometry.parts().optional.is_wide()
+}
+
+// The command is one of the profile of the geometry.
+fn is_of_profile(geometry: &Geometry, command: Command) -> bool
+    ensures { result ≡ is_of_profile geometry.now command }
+{
+    command.is_of_base() || command.is_known() && is_wide(geometry)
+}
+
+// Not a command of the profile, or one that isn't declared.
 fn is_unfit(geometry: &Geometry, command: Command) -> bool
     ensures { result ≡ is_unfit geometry.now command }
 {
-    !command.is_of_base() || is_undeclared(geometry, command)
+    !is_of_profile(geometry, command) || is_undeclared(geometry, command)
+}
+
+// A reset ends an open sequence in the wider profile.
+fn may_end_sequence(geometry: &Geometry, command: Command) -> bool
+    ensures { result ≡ may_end_sequence geometry.now command }
+{
+    command.is_reset() && is_wide(geometry)
 }
 
 // Programs may not use the command.
@@ -53,30 +75,37 @@ fn has_second_column(from: u8, count: u8) -> bool
     from <= 1 && u32::from(from) + u32::from(count) >= 2
 }
 
-// The address bytes of Read ID and Read Parameter Page that programs use, which are those of the base profile.
-fn takes_identity(opener: Command, byte: u8) -> bool
-    ensures { result ≡ takes_identity opener byte }
+// The address of a feature, which may be any byte.
+fn takes_any_byte(opener: Command) -> bool
+    ensures { result ≡ takes_any_byte opener }
+{
+    matches!(opener, Command::GetFeatures | Command::SetFeatures)
+}
+
+// The address bytes of an opener that reads what stands beside the array, or sets it.
+fn takes_identity(geometry: &Geometry, opener: Command, byte: u8) -> bool
+    ensures { result ≡ takes_identity geometry.now opener byte }
 {
     match opener {
-        Command::ReadId => byte == 0x20,
-        Command::ReadParameterPage => byte == 0x00,
-        _ => false,
+        Command::ReadId => byte == 0x20 || is_wide(geometry) && (byte == 0x00 || byte == 0x40),
+        Command::ReadParameterPage | Command::ReadUniqueId => byte == 0x00,
+        _ => takes_any_byte(opener),
     }
 }
 
-// The byte of the column register, where it is known.
-fn is_identity_byte(opener: Command, from: u8, column: Option<u32>) -> bool
-    ensures { result ≡ is_identity_byte opener from column }
+// The byte of the column register is one of them, whatever it may be.
+fn is_identity_byte(geometry: &Geometry, opener: Command, from: u8, column: Option<u32>) -> bool
+    ensures { result ≡ is_identity_byte geometry.now opener from column }
 {
     match column {
-        None => false,
+        None => from <= 1 && takes_any_byte(opener),
         Some(column) => {
             let byte = if from == 0 {
                 column % 256
             } else {
                 column / 256 % 256
             };
-            from <= 1 && takes_identity(opener, byte as u8)
+            from <= 1 && takes_identity(geometry, opener, byte as u8)
         }
     }
 }
@@ -116,9 +145,11 @@ impl State {
                     || !self.lun.has_page_or_parameters()
             }
             Command::Read | Command::BlockErase | Command::PageProgram => self.lun.busy,
-            Command::ReadId | Command::ReadParameterPage => {
-                geometry.parts().luns <= 1 && self.lun.may_work()
-            }
+            Command::ReadId
+            | Command::ReadParameterPage
+            | Command::ReadUniqueId
+            | Command::GetFeatures
+            | Command::SetFeatures => geometry.parts().luns <= 1 && self.lun.may_work(),
             Command::ReadCacheSequential => {
                 !self.target.drives()
                     || self.lun.busy
@@ -148,7 +179,8 @@ impl State {
         if is_unfit(geometry, command) {
             false
         } else if command.is_opener() {
-            self.may_be_open() || self.refuses_opener(geometry, command)
+            !may_end_sequence(geometry, command) && self.may_be_open()
+                || self.refuses_opener(geometry, command)
         } else {
             !self.target.tail.wants(command) || self.refuses_closer(command)
         }
@@ -182,7 +214,7 @@ impl State {
         }
     }
 
-    // The one address of Read ID or Read Parameter Page may be refused.
+    // The one address of an opener that reads what stands beside the array, or sets it, may be refused.
     fn refuses_identity(&self, geometry: &Geometry, from: u8, count: u8) -> bool
         ensures { result ≡ identity_refused geometry.now self.now from count self.now.target.tail }
     {
@@ -190,21 +222,22 @@ impl State {
             Place::After { opener, .. } => {
                 geometry.parts().luns > 1
                     || count != 1
-                    || !is_identity_byte(opener, from, self.registers.column.only())
+                    || !is_identity_byte(geometry, opener, from, self.registers.column.only())
             }
             _ => false,
         }
     }
 
-    // The last row cycle may be refused.
+    // The last row cycle may be refused; that of Reset LUN is fine whatever the LUN does.
     fn refuses_row(&self) -> bool
         ensures { result ≡ row_refused self.now self.now.target.tail }
     {
         match self.target.tail {
             Place::After { opener, .. } => {
-                self.lun.busy
-                    || self.lun.last.contains(LastCloser::CACHE)
-                    || self.lun.queue.refuses(self.registers.planes, opener)
+                opener.addresses_the_array()
+                    && (self.lun.busy
+                        || self.lun.last.contains(LastCloser::CACHE)
+                        || self.lun.queue.refuses(self.registers.planes, opener))
             }
             _ => false,
         }
@@ -306,10 +339,11 @@ impl State {
             None => None,
             Some(column) => column.hi(),
         };
-        !is_at_most(
-            bound_plus(column, u64::from(len)),
-            u64::from(geometry.page_len()),
-        )
+        !self.target.tail.is_in_features()
+            && !is_at_most(
+                bound_plus(column, u64::from(len)),
+                u64::from(geometry.page_len()),
+            )
     }
 
     // The LUN may be busy, have rows queued or read a cache, or a sequence be open.
@@ -330,7 +364,7 @@ impl State {
             Word::Command { byte } => self.refuses_command(geometry, Command::of(byte)),
             Word::Address { from, count } => self.refuses_address(geometry, from, count),
             Word::Get { .. } => self.refuses_output(),
-            Word::Put { .. } => !self.target.tail.is_in_data(),
+            Word::Put { len } => !self.target.tail.takes_inputs(len),
             Word::ReadStatus => self.may_be_open(),
             _ => false,
         }

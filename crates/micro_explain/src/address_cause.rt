@@ -14,7 +14,7 @@ pub enum AddressCause {
     Unwanted(Open),
     /// More bytes come than are wanted.
     TooMany(Open),
-    /// Read ID or Read Parameter Page wants another byte.
+    /// An opener that reads what stands beside the array, or sets it, wants another byte.
     OtherByte(Open),
     /// The LUN may not take the row.
     Lun(LunCause),
@@ -41,7 +41,11 @@ impl AddressCause {
             Place::After { opener, .. } => {
                 Some(AddressCause::Lun(LunCause::of_row(refused, opener)?))
             }
-            Place::Closed | Place::InData | Place::InColumn { .. } | Place::Unknown => None,
+            Place::Closed
+            | Place::InData
+            | Place::InColumn { .. }
+            | Place::InFeatures { .. }
+            | Place::Unknown => None,
         }
     }
 

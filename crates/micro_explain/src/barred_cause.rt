@@ -2,7 +2,7 @@
 
 use crate::outside::name_outside;
 use crate::refused::Refused;
-use onfi_cycle::Command;
+use onfi_cycle::{Command, is_undeclared};
 use std::fmt;
 
 /// Why programs may not use a command.
@@ -16,6 +16,14 @@ pub enum BarredCause {
     SeveralPlanes,
     /// The parameter page declares no cache read.
     CacheRead,
+    /// The parameter page declares no unique identifier.
+    UniqueId,
+    /// The parameter page declares no features.
+    Features,
+    /// The parameter page declares no reset of a LUN.
+    LunReset,
+    /// The parameter page declares no synchronous reset.
+    SynchronousReset,
     /// The command wants the only LUN of a target, and this one has so many.
     SeveralLuns { luns: u8 },
 }
@@ -23,13 +31,21 @@ pub enum BarredCause {
 impl BarredCause {
     pub(crate) fn of(refused: &Refused<'_>, byte: u8) -> Option<BarredCause> {
         let parts = refused.geometry.parts();
-        match Command::of(byte) {
-            Command::ReadUniqueId
-            | Command::GetFeatures
-            | Command::SetFeatures
-            | Command::ResetLun
-            | Command::SynchronousReset
-            | Command::Unknown => Some(BarredCause::NoCommand { byte }),
+        let command = Command::of(byte);
+        match command {
+            Command::Unknown => Some(BarredCause::NoCommand { byte }),
+            Command::ReadUniqueId => {
+                BarredCause::of_optional(refused, command, byte, BarredCause::UniqueId)
+            }
+            Command::GetFeatures | Command::SetFeatures => {
+                BarredCause::of_optional(refused, command, byte, BarredCause::Features)
+            }
+            Command::ResetLun => {
+                BarredCause::of_optional(refused, command, byte, BarredCause::LunReset)
+            }
+            Command::SynchronousReset => {
+                BarredCause::of_optional(refused, command, byte, BarredCause::SynchronousReset)
+            }
             Command::ReadStatus | Command::ReadStatusEnhanced => Some(BarredCause::Poll),
             Command::BlockErasePlane | Command::ProgramPlane => {
                 told_if(!parts.multi_plane, BarredCause::SeveralPlanes)
@@ -37,10 +53,9 @@ impl BarredCause {
             Command::ReadCacheSequential | Command::ReadCacheEnd => {
                 told_if(!parts.cache, BarredCause::CacheRead)
             }
-            Command::ReadId | Command::ReadParameterPage | Command::Reset => told_if(
-                parts.luns > 1,
-                BarredCause::SeveralLuns { luns: parts.luns },
-            ),
+            Command::ReadId | Command::ReadParameterPage | Command::Reset => {
+                BarredCause::of_several_luns(refused)
+            }
             Command::Read
             | Command::ReadConfirm
             | Command::ChangeReadColumn
@@ -51,6 +66,28 @@ impl BarredCause {
             | Command::ChangeWriteColumn
             | Command::ProgramConfirm => None,
         }
+    }
+
+    // Of a command of the wider profile, which has this cause where it isn't declared.
+    fn of_optional(
+        refused: &Refused<'_>,
+        command: Command,
+        byte: u8,
+        undeclared: BarredCause,
+    ) -> Option<BarredCause> {
+        if !refused.geometry.parts().optional.is_wide() {
+            Some(BarredCause::NoCommand { byte })
+        } else if is_undeclared(refused.geometry, command) {
+            Some(undeclared)
+        } else {
+            BarredCause::of_several_luns(refused)
+        }
+    }
+
+    // Of a command that wants the only LUN of a target.
+    fn of_several_luns(refused: &Refused<'_>) -> Option<BarredCause> {
+        let luns = refused.geometry.parts().luns;
+        told_if(luns > 1, BarredCause::SeveralLuns { luns })
     }
 }
 
@@ -71,6 +108,14 @@ impl fmt::Display for BarredCause {
                 "the parameter page declares no program and erase of several planes",
             ),
             BarredCause::CacheRead => f.write_str("the parameter page declares no cache read"),
+            BarredCause::UniqueId => f.write_str(
+                "the parameter page declares no unique identifier",
+            ),
+            BarredCause::Features => f.write_str("the parameter page declares no features"),
+            BarredCause::LunReset => f.write_str("the parameter page declares no reset of a LUN"),
+            BarredCause::SynchronousReset => f.write_str(
+                "the parameter page declares no synchronous reset",
+            ),
             BarredCause::SeveralLuns { luns } => write!(
                 f,
                 "it works on a target with one LUN alone, and this one has {luns}"

@@ -25,7 +25,7 @@ pub enum Cause {
     Address(AddressCause),
     /// V7 of a `get`.
     Output(OutputCause),
-    /// V7 of a `put`: no program wants data.
+    /// V7 of a `put`: no program wants data, or a Set Features not so much.
     Input(Open),
     /// V7 of a `stat`: a sequence is open.
     Poll(Open),
@@ -79,6 +79,9 @@ impl fmt::Display for Cause {
             Cause::Command(cause) => write!(f, "{cause}"),
             Cause::Address(cause) => write!(f, "{cause}"),
             Cause::Output(cause) => write!(f, "{cause}"),
+            Cause::Input(open) if open.place.is_in_features() => {
+                write!(f, "so many bytes aren't wanted: {open}")
+            }
             Cause::Input(open) => write!(f, "no program wants data here: {open}"),
             Cause::Poll(open) | Cause::Handover(open) => write!(f, "{open}"),
             Cause::Alignment(cause) => write!(f, "{cause}"),

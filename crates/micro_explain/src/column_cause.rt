@@ -60,6 +60,7 @@ impl ColumnCause {
             | Place::Closed
             | Place::InData
             | Place::InColumn { .. }
+            | Place::InFeatures { .. }
             | Place::Unknown => ColumnCause::of_page(refused, column),
         }
     }

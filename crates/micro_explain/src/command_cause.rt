@@ -75,9 +75,11 @@ impl CommandCause {
             Command::Read | Command::BlockErase | Command::PageProgram => {
                 Some(CommandCause::Lun(LunCause::of_busy(refused)?))
             }
-            Command::ReadId | Command::ReadParameterPage => {
-                Some(CommandCause::Lun(LunCause::of_lone_work(refused)?))
-            }
+            Command::ReadId
+            | Command::ReadParameterPage
+            | Command::ReadUniqueId
+            | Command::GetFeatures
+            | Command::SetFeatures => Some(CommandCause::Lun(LunCause::of_lone_work(refused)?)),
             Command::ReadCacheSequential => {
                 Some(CommandCause::Cache(CacheCause::of_next(refused)?))
             }
@@ -92,9 +94,6 @@ impl CommandCause {
             | Command::ProgramConfirm
             | Command::ProgramPlane
             | Command::Reset
-            | Command::ReadUniqueId
-            | Command::GetFeatures
-            | Command::SetFeatures
             | Command::ResetLun
             | Command::SynchronousReset
             | Command::Unknown => None,

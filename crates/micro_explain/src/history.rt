@@ -55,6 +55,7 @@ fn leaves_no_register(command: Command) -> bool {
             | Command::ProgramConfirm
             | Command::ProgramPlane
             | Command::Reset
+            | Command::SynchronousReset
     )
 }
 
@@ -133,7 +134,8 @@ impl History {
     fn take(&mut self, place: usize, word: Word) {
         match word {
             Word::Command { .. } => self.take_command(place, word),
-            Word::Address { .. } => self.take_address(place),
+            Word::Address { from, count } => self.take_address(place, from, count),
+            Word::Put { .. } => self.take_inputs(place),
             Word::Get { .. } => self.read = self.read || self.status.is_none(),
             Word::Wait => {
                 self.work = None;
@@ -148,7 +150,6 @@ impl History {
             }),
             Word::Yield => self.hand_over(place),
             Word::End { .. }
-            | Word::Put { .. }
             | Word::Seek { .. }
             | Word::Column { .. }
             | Word::RowAdd { .. }
@@ -227,15 +228,34 @@ impl History {
         }
     }
 
-    // Addresses come: that of Read Parameter Page starts work.
-    fn take_address(&mut self, place: usize) {
+    // Work starts that leaves the register empty, by a command whose addresses or inputs come.
+    fn start_later(&mut self, command: Command, place: usize) {
+        self.start(place);
+        self.emptied = Some(CommandAt {
+            command,
+            word: None,
+        });
+    }
+
+    // Addresses come: that of an opener that reads what stands beside the array starts work, but for Read ID, and the last of Reset LUN.
+    fn take_address(&mut self, place: usize, from: u8, count: u8) {
         match self.command {
             Some(Command::ReadId) => self.fill(),
-            Some(Command::ReadParameterPage) => {
+            Some(Command::ReadParameterPage | Command::ReadUniqueId | Command::GetFeatures) => {
                 self.fill();
                 self.start(place);
             }
+            Some(Command::ResetLun) if u32::from(from) + u32::from(count) >= 5 => {
+                self.start_later(Command::ResetLun, place);
+            }
             _ => {}
+        }
+    }
+
+    // Inputs come: those of Set Features start work.
+    fn take_inputs(&mut self, place: usize) {
+        if self.command == Some(Command::SetFeatures) {
+            self.start_later(Command::SetFeatures, place);
         }
     }
 }

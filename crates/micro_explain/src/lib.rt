@@ -54,7 +54,7 @@ pub use lun_cause::LunCause;
 pub use need::Need;
 pub use no_driver::NoDriver;
 pub use open::Open;
-pub use output_cause::OutputCause;
+pub use output_cause::{Anew, OutputCause};
 pub use poll_at::PollAt;
 pub use poll_word::PollWord;
 pub use queue_cause::QueueCause;

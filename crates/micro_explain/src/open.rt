@@ -26,10 +26,13 @@ impl fmt::Display for Open {
             (Place::Unknown, _) | (_, None) => {
                 f.write_str("ways meet here, and on some of them a sequence is open")
             }
-            (Place::After { .. } | Place::InData | Place::InColumn { .. }, Some(command)) => write!(
-                f,
-                "{command} is open and wants {wanted} next"
-            ),
+            (
+                Place::After { .. }
+                | Place::InData
+                | Place::InColumn { .. }
+                | Place::InFeatures { .. },
+                Some(command),
+            ) => write!(f, "{command} is open and wants {wanted} next"),
         }
     }
 }

@@ -20,11 +20,8 @@ pub enum OutputCause {
     Busy(Busy),
     /// The LUN may show data and have none.
     Empty(Emptied),
-    /// The column may be lost, by this word; `identifier` where the register may hold the identifier.
-    ColumnLost {
-        poll: Option<PollAt>,
-        identifier: bool,
-    },
+    /// The column may be lost, by this word.
+    ColumnLost { poll: Option<PollAt>, anew: Anew },
 }
 
 // The word that lost the column.
@@ -60,7 +57,7 @@ impl OutputCause {
     fn of_column(refused: &Refused<'_>, held: Held) -> OutputCause {
         OutputCause::ColumnLost {
             poll: lost_by(refused),
-            identifier: held.holds_identifier(),
+            anew: Anew::of(held),
         }
     }
 
@@ -75,12 +72,34 @@ impl OutputCause {
     }
 }
 
-// What gives the column anew.
-fn giving_anew(identifier: bool) -> &'static str {
-    if identifier {
-        "`cmd 90` and its address give it anew"
-    } else {
-        "`cmd 05`, `addr 0 2`, `cmd e0` give it anew"
+/// What gives the column anew, by what the register may hold.
+#[derive(Clone, Copy, Debug, PartialEq, Eq)]
+pub enum Anew {
+    /// A change of the read column.
+    ReadColumn,
+    /// Read ID.
+    ReadId,
+    /// Get Features.
+    GetFeatures,
+}
+
+impl Anew {
+    fn of(held: Held) -> Anew {
+        if held.holds_identifier() || held.holds_identity() || held.holds_jedec() {
+            Anew::ReadId
+        } else if held.holds_feature() {
+            Anew::GetFeatures
+        } else {
+            Anew::ReadColumn
+        }
+    }
+
+    fn words(self) -> &'static str {
+        match self {
+            Anew::ReadColumn => "`cmd 05`, `addr 0 2`, `cmd e0` give it anew",
+            Anew::ReadId => "`cmd 90` and its address give it anew",
+            Anew::GetFeatures => "`cmd ee`, its address and a `wait` give it anew",
+        }
     }
 }
 
@@ -91,12 +110,12 @@ impl fmt::Display for OutputCause {
             OutputCause::NoDriver(no_driver) => write!(f, "{no_driver}"),
             OutputCause::Busy(busy) => write!(f, "{busy}"),
             OutputCause::Empty(emptied) => write!(f, "{emptied}"),
-            OutputCause::ColumnLost { poll, identifier } => {
+            OutputCause::ColumnLost { poll, anew } => {
                 match poll {
                     Some(poll) => write!(f, "the column is lost, {poll} came after a `get`: ")?,
                     None => f.write_str("the column may be lost: ")?,
                 }
-                f.write_str(giving_anew(*identifier))
+                f.write_str(anew.words())
             }
         }
     }

@@ -17,6 +17,8 @@ pub enum ReadColumnCause {
     Empty(Emptied),
     /// The register may hold the identifier, which has no columns to choose from.
     Identifier,
+    /// The register may hold another identity or a feature, which have none either.
+    Short,
 }
 
 impl ReadColumnCause {
@@ -40,6 +42,7 @@ impl ReadColumnCause {
         match refused.state.lun.register {
             None => Some(ReadColumnCause::Empty(Emptied::of(refused))),
             Some(held) if held.holds_identifier() => Some(ReadColumnCause::Identifier),
+            Some(held) if held.holds_short() => Some(ReadColumnCause::Short),
             Some(_) => None,
         }
     }
@@ -62,6 +65,9 @@ impl fmt::Display for ReadColumnCause {
             ReadColumnCause::Empty(emptied) => write!(f, "{emptied}"),
             ReadColumnCause::Identifier => f.write_str(
                 "the register may hold the identifier of `cmd 90`, whose column can't be changed",
+            ),
+            ReadColumnCause::Short => f.write_str(
+                "the register may hold what `cmd 90` or `cmd ee` reads, whose column can't be changed",
             ),
         }
     }

@@ -31,6 +31,7 @@ fn command_of_place(place: Place) -> Option<Command> {
         Place::After { opener, .. } => Some(opener),
         Place::InData => Some(Command::PageProgram),
         Place::InColumn { .. } => Some(Command::ChangeWriteColumn),
+        Place::InFeatures { .. } => Some(Command::SetFeatures),
     }
 }
 

@@ -1,7 +1,7 @@
 //! What a sequence wants next.
 
 use micro_claims::Place;
-use onfi_cycle::Command;
+use onfi_cycle::{Command, FEATURE_BYTES};
 use std::fmt;
 
 /// What the sequence of a place wants next.
@@ -58,6 +58,7 @@ impl Wanted {
         match self.place {
             Place::After { opener, .. } => self.closer(opener),
             Place::InData | Place::InColumn { .. } => self.in_data(),
+            Place::InFeatures { .. } => "`put`",
             Place::Closed | Place::Unknown => "nothing",
         }
     }
@@ -72,9 +73,16 @@ impl fmt::Display for Wanted {
                 ..
             } => f.write_str("`addr 0 1` with `col 32`"),
             Place::After {
-                opener: Command::ReadParameterPage,
+                opener: Command::ReadParameterPage | Command::ReadUniqueId,
                 ..
             } => { f.write_str("`addr 0 1` with `col 0`") }
+            Place::InFeatures { inputs } => {
+                write!(
+                    f,
+                    "`put {}`",
+                    FEATURE_BYTES.saturating_sub(usize::from(inputs))
+                )
+            }
             _ if left > 0 => write!(f, "`addr {next} {left}`"),
             _ => f.write_str(self.command()),
         }

@@ -22,18 +22,24 @@ pub(crate) fn write_shown<W: fmt::Write>(
 
 // What a register holds that surely holds something.
 fn held_words(held: Held) -> &'static str {
-    match (
-        held.holds_page(),
-        held.holds_parameters(),
-        held.holds_identifier(),
-    ) {
-        (true, false, false) => "the register holds a page",
-        (false, true, false) => "the register holds the parameter page",
-        (false, false, true) => "the register holds the identifier",
-        (false, false, false) => "no run comes here",
-        (true, true, _) | (true, false, true) | (false, true, true) => {
-            "what the register holds depends on the way"
-        }
+    if held.0 == 0 {
+        "no run comes here"
+    } else if held.0 == Held::PAGE.0 {
+        "the register holds a page"
+    } else if held.0 == Held::PARAMETERS.0 {
+        "the register holds the parameter page"
+    } else if held.0 == Held::IDENTIFIER.0 {
+        "the register holds the identifier"
+    } else if held.0 == Held::IDENTITY.0 {
+        "the register holds the identity at 00h"
+    } else if held.0 == Held::JEDEC.0 {
+        "the register holds the identity at 40h"
+    } else if held.0 == Held::UNIQUE_ID.0 {
+        "the register holds the unique identifier"
+    } else if held.0 == Held::FEATURE.0 {
+        "the register holds a feature"
+    } else {
+        "what the register holds depends on the way"
     }
 }
 

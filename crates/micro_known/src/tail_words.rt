@@ -64,6 +64,9 @@ pub(crate) fn write_tail<W: fmt::Write>(
                 addresses.saturating_add(1)
             )
         }
+        Place::InFeatures { inputs } => {
+            write!(f, "`ef` wants byte {} of 4", inputs.saturating_add(1))
+        }
         Place::Unknown => f.write_str("what is open depends on the way"),
     }
 }

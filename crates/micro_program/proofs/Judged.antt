@@ -5,6 +5,7 @@ use Rattle.std.proofs.lemmas.Bool.{and_right, or_from}
 use Rattle.nand_geometry.specs.declared.parts.Parts.{Parts}
 use Rattle.nand_geometry.specs.Limits.{page_len}
 use Rattle.nand_geometry.specs.Row.{parts_of}
+use Rattle.nand_geometry.specs.Optional.{is_wide, has_features, has_unique_id, has_lun_reset, has_synchronous_reset}
 use Rattle.onfi_cycle.specs.declared.command.Command.{Command}
 use Rattle.onfi_cycle.specs.declared.command.Command.TheVariants.{Read, ReadConfirm, ChangeReadColumn, ChangeReadColumnConfirm, BlockErase, BlockEraseConfirm, BlockErasePlane, ReadStatus, ReadStatusEnhanced, PageProgram, ChangeWriteColumn, ProgramConfirm, ProgramPlane, ReadId, ReadParameterPage, Reset, ReadCacheSequential, ReadCacheEnd, ReadUniqueId, GetFeatures, SetFeatures, ResetLun, SynchronousReset, Unknown}
 use Rattle.onfi_cycle.specs.declared.lun.Lun.{Lun}
@@ -16,7 +17,7 @@ use Rattle.onfi_cycle.specs.declared.tail_facts.TailFacts.{TailFacts}
 use Rattle.onfi_cycle.specs.declared.target_cycle.TargetCycle.TheVariants.{CommandCycle, AddressCycle, InputCycle, OutputCycle}
 use Rattle.onfi_cycle.specs.LunView.{LunView}
 use Rattle.onfi_cycle.specs.Command.{at_last_row, addresses_the_array, is_change_read_column}
-use Rattle.onfi_cycle.specs.Sequence.{opened, is_open, takes_data, takes_features, wants_command, wants_address, row_with, column_with, input_column}
+use Rattle.onfi_cycle.specs.Sequence.{opened, is_open, takes_inputs, takes_features, wants_command, wants_address, row_with, column_with, input_column}
 use Rattle.onfi_cycle.specs.Effect.{page_address}
 use Rattle.onfi_cycle.specs.Lun.{lun_view, luns_of, views_from}
 use Rattle.onfi_cycle.specs.Rules.{ends_row, named_lun_is, is_some_and, driver, second_of_page, second_column, caching, continues_cache, ends_cache, may_change_column, has_some, is_refused_by, register_len, has_no_byte, is_past_register, breaks_command_unknown, breaks_sequence_open, breaks_several_luns, breaks_no_column_to_change, breaks_command_misplaced, breaks_address_misplaced, breaks_row_outside, breaks_lun_busy, breaks_queue_clash, breaks_input_misplaced, breaks_no_sole_driver, breaks_data_not_ready, breaks_column_outside, breaks_cache_read_misplaced}
@@ -53,9 +54,17 @@ judge_enhanced : (g : Parts) (t : TailFacts) (luns : List LunView) → is_open t
 unfolding breaks_command_unknown breaks_sequence_open breaks_several_luns breaks_no_column_to_change breaks_command_misplaced breaks_address_misplaced breaks_row_outside breaks_lun_busy breaks_queue_clash breaks_input_misplaced breaks_no_sole_driver breaks_data_not_ready breaks_column_outside breaks_cache_read_misplaced
 judge_enhanced g t luns closed enhanced = rw (closed, enhanced) refl
 
-judge_reset : (g : Parts) (t : TailFacts) (luns : List LunView) → is_open t ≡ false → ltb 1 g.luns ≡ false → judge_cycle g t luns (CommandCycle Reset) ≡ None
+judge_reset : (g : Parts) (t : TailFacts) (luns : List LunView) → (is_open t && not (is_wide g.optional)) ≡ false → ltb 1 g.luns ≡ false → judge_cycle g t luns (CommandCycle Reset) ≡ None
 unfolding breaks_command_unknown breaks_sequence_open breaks_several_luns breaks_no_column_to_change breaks_command_misplaced breaks_address_misplaced breaks_row_outside breaks_lun_busy breaks_queue_clash breaks_input_misplaced breaks_no_sole_driver breaks_data_not_ready breaks_column_outside breaks_cache_read_misplaced
 judge_reset g t luns closed one = rw (closed, one) refl
+
+judge_synchronous : (g : Parts) (t : TailFacts) (luns : List LunView) → (is_open t && not (is_wide g.optional)) ≡ false → ltb 1 g.luns ≡ false → has_synchronous_reset g.optional ≡ true → judge_cycle g t luns (CommandCycle SynchronousReset) ≡ None
+unfolding breaks_command_unknown breaks_sequence_open breaks_several_luns breaks_no_column_to_change breaks_command_misplaced breaks_address_misplaced breaks_row_outside breaks_lun_busy breaks_queue_clash breaks_input_misplaced breaks_no_sole_driver breaks_data_not_ready breaks_column_outside breaks_cache_read_misplaced
+judge_synchronous g t luns closed one declared = rw (closed, one, declared) refl
+
+judge_lun_reset : (g : Parts) (t : TailFacts) (luns : List LunView) → is_open t ≡ false → has_lun_reset g.optional ≡ true → judge_cycle g t luns (CommandCycle ResetLun) ≡ None
+unfolding breaks_command_unknown breaks_sequence_open breaks_several_luns breaks_no_column_to_change breaks_command_misplaced breaks_address_misplaced breaks_row_outside breaks_lun_busy breaks_queue_clash breaks_input_misplaced breaks_no_sole_driver breaks_data_not_ready breaks_column_outside breaks_cache_read_misplaced
+judge_lun_reset g t luns closed declared = rw (closed, declared) refl
 
 judge_id : (g : Parts) (t : TailFacts) (luns : List LunView) → is_open t ≡ false → ltb 1 g.luns ≡ false → list_any (λ v. not v.busy) luns ≡ true → list_any (λ v. has_some v.queue) luns ≡ false → list_any caching luns ≡ false → judge_cycle g t luns (CommandCycle ReadId) ≡ None
 unfolding breaks_command_unknown breaks_sequence_open breaks_several_luns breaks_no_column_to_change breaks_command_misplaced breaks_address_misplaced breaks_row_outside breaks_lun_busy breaks_queue_clash breaks_input_misplaced breaks_no_sole_driver breaks_data_not_ready breaks_column_outside breaks_cache_read_misplaced
@@ -64,6 +73,18 @@ judge_id g t luns closed one ready queue cache = rw (closed, one, ready, queue, 
 judge_parameters : (g : Parts) (t : TailFacts) (luns : List LunView) → is_open t ≡ false → ltb 1 g.luns ≡ false → list_any (λ v. not v.busy) luns ≡ true → list_any (λ v. has_some v.queue) luns ≡ false → list_any caching luns ≡ false → judge_cycle g t luns (CommandCycle ReadParameterPage) ≡ None
 unfolding breaks_command_unknown breaks_sequence_open breaks_several_luns breaks_no_column_to_change breaks_command_misplaced breaks_address_misplaced breaks_row_outside breaks_lun_busy breaks_queue_clash breaks_input_misplaced breaks_no_sole_driver breaks_data_not_ready breaks_column_outside breaks_cache_read_misplaced
 judge_parameters g t luns closed one ready queue cache = rw (closed, one, ready, queue, cache) refl
+
+judge_unique_id : (g : Parts) (t : TailFacts) (luns : List LunView) → is_open t ≡ false → ltb 1 g.luns ≡ false → list_any (λ v. not v.busy) luns ≡ true → list_any (λ v. has_some v.queue) luns ≡ false → list_any caching luns ≡ false → has_unique_id g.optional ≡ true → judge_cycle g t luns (CommandCycle ReadUniqueId) ≡ None
+unfolding breaks_command_unknown breaks_sequence_open breaks_several_luns breaks_no_column_to_change breaks_command_misplaced breaks_address_misplaced breaks_row_outside breaks_lun_busy breaks_queue_clash breaks_input_misplaced breaks_no_sole_driver breaks_data_not_ready breaks_column_outside breaks_cache_read_misplaced
+judge_unique_id g t luns closed one ready queue cache declared = rw (closed, one, ready, queue, cache, declared) refl
+
+judge_features : (g : Parts) (t : TailFacts) (luns : List LunView) → is_open t ≡ false → ltb 1 g.luns ≡ false → list_any (λ v. not v.busy) luns ≡ true → list_any (λ v. has_some v.queue) luns ≡ false → list_any caching luns ≡ false → has_features g.optional ≡ true → judge_cycle g t luns (CommandCycle GetFeatures) ≡ None
+unfolding breaks_command_unknown breaks_sequence_open breaks_several_luns breaks_no_column_to_change breaks_command_misplaced breaks_address_misplaced breaks_row_outside breaks_lun_busy breaks_queue_clash breaks_input_misplaced breaks_no_sole_driver breaks_data_not_ready breaks_column_outside breaks_cache_read_misplaced
+judge_features g t luns closed one ready queue cache declared = rw (closed, one, ready, queue, cache, declared) refl
+
+judge_set_features : (g : Parts) (t : TailFacts) (luns : List LunView) → is_open t ≡ false → ltb 1 g.luns ≡ false → list_any (λ v. not v.busy) luns ≡ true → list_any (λ v. has_some v.queue) luns ≡ false → list_any caching luns ≡ false → has_features g.optional ≡ true → judge_cycle g t luns (CommandCycle SetFeatures) ≡ None
+unfolding breaks_command_unknown breaks_sequence_open breaks_several_luns breaks_no_column_to_change breaks_command_misplaced breaks_address_misplaced breaks_row_outside breaks_lun_busy breaks_queue_clash breaks_input_misplaced breaks_no_sole_driver breaks_data_not_ready breaks_column_outside breaks_cache_read_misplaced
+judge_set_features g t luns closed one ready queue cache declared = rw (closed, one, ready, queue, cache, declared) refl
 
 judge_cache : (g : Parts) (t : TailFacts) (luns : List LunView) (v : LunView) → is_open t ≡ false → g.cache ≡ true → driver luns ≡ Some v → continues_cache g v ≡ true → judge_cycle g t luns (CommandCycle ReadCacheSequential) ≡ None
 unfolding breaks_command_unknown breaks_sequence_open breaks_several_luns breaks_no_column_to_change breaks_command_misplaced breaks_address_misplaced breaks_row_outside breaks_lun_busy breaks_queue_clash breaks_input_misplaced breaks_no_sole_driver breaks_data_not_ready breaks_column_outside breaks_cache_read_misplaced
@@ -137,7 +158,7 @@ command_judged s l past c there k d a = by d a
     by ReadStatusEnhanced a = judge_enhanced s.geometry c.facts _ a.0 a.1
     by ReadId a = judge_id s.geometry c.facts _ a.closed a.one (some_ready a.ready) (none_of (λ v. has_some v.queue) a.one a.no_queue) (none_of caching a.one a.no_cache)
     by ReadParameterPage a = judge_parameters s.geometry c.facts _ a.closed a.one (some_ready a.ready) (none_of (λ v. has_some v.queue) a.one a.no_queue) (none_of caching a.one a.no_cache)
-    by Reset a = judge_reset s.geometry c.facts _ a.0 a.1
+    by Reset a = judge_reset s.geometry c.facts _ a.closed a.one
     by ReadCacheSequential a = judge_cache s.geometry c.facts _ c.view a.closed a.declared (the_driver a.sole) a.passes
     by ReadCacheEnd a = judge_cache_end s.geometry c.facts _ c.view a.closed a.declared (the_driver a.sole) a.passes
     by ReadConfirm a = judge_30 s.geometry c.facts _ a.0
@@ -147,11 +168,11 @@ command_judged s l past c there k d a = by d a
     by ProgramPlane a = judge_11 s.geometry c.facts _ a.0.0 a.1
     by ChangeReadColumnConfirm a = judge_e0 s.geometry c.facts _ a.0
     by ChangeWriteColumn a = judge_85 s.geometry c.facts _ a
-    by ReadUniqueId a = absurd a
-    by GetFeatures a = absurd a
-    by SetFeatures a = absurd a
-    by ResetLun a = absurd a
-    by SynchronousReset a = absurd a
+    by ReadUniqueId a = judge_unique_id s.geometry c.facts _ a.0.closed a.0.one (some_ready a.0.ready) (none_of (λ v. has_some v.queue) a.0.one a.0.no_queue) (none_of caching a.0.one a.0.no_cache) a.1
+    by GetFeatures a = judge_features s.geometry c.facts _ a.0.closed a.0.one (some_ready a.0.ready) (none_of (λ v. has_some v.queue) a.0.one a.0.no_queue) (none_of caching a.0.one a.0.no_cache) a.1
+    by SetFeatures a = judge_set_features s.geometry c.facts _ a.0.closed a.0.one (some_ready a.0.ready) (none_of (λ v. has_some v.queue) a.0.one a.0.no_queue) (none_of caching a.0.one a.0.no_cache) a.1
+    by ResetLun a = judge_lun_reset s.geometry c.facts _ a.0 a.1
+    by SynchronousReset a = judge_synchronous s.geometry c.facts _ a.0.closed a.0.one a.1
     by Unknown a = absurd a
 
 from_command : (g : Parts) (t u : TailFacts) (luns : List LunView) (c d : Command) → t ≡ u → c ≡ d → judge_cycle g u luns (CommandCycle d) ≡ None → judge_cycle g t luns (CommandCycle c) ≡ None
@@ -235,13 +256,9 @@ address_judged s l past c byte there k a = at (ends_row (λ d. true) c.facts) re
 
 -- 3. inputs and outputs
 
-never : (b : Bool) → (b && false) ≡ false
-never true = refl
-never false = refl
-
-pub input_judged : (g : Parts) (t : TailFacts) (luns : List LunView) (b : ℕ) → takes_data t.phase ≡ true → nat_le (page_len g) (input_column t) ≡ false → judge_cycle g t luns (InputCycle b) ≡ None
+pub input_judged : (g : Parts) (t : TailFacts) (luns : List LunView) (b : ℕ) → takes_inputs t.phase ≡ true → (not (takes_features t.phase) && nat_le (page_len g) (input_column t)) ≡ false → judge_cycle g t luns (InputCycle b) ≡ None
 unfolding breaks_command_unknown breaks_sequence_open breaks_several_luns breaks_no_column_to_change breaks_command_misplaced breaks_address_misplaced breaks_row_outside breaks_lun_busy breaks_queue_clash breaks_input_misplaced breaks_no_sole_driver breaks_data_not_ready breaks_column_outside breaks_cache_read_misplaced
-input_judged g t luns b takes inside = rw (takes, inside, never (not (takes_features t.phase))) refl
+input_judged g t luns b takes inside = rw (takes, inside) refl
 
 pub output_judged : (g : Parts) (t : TailFacts) (luns : List LunView) (v : LunView) → is_open t ≡ false → driver luns ≡ Some v → has_no_byte v ≡ false → is_past_register g v ≡ false → judge_cycle g t luns OutputCycle ≡ None
 unfolding breaks_command_unknown breaks_sequence_open breaks_several_luns breaks_no_column_to_change breaks_command_misplaced breaks_address_misplaced breaks_row_outside breaks_lun_busy breaks_queue_clash breaks_input_misplaced breaks_no_sole_driver breaks_data_not_ready breaks_column_outside breaks_cache_read_misplaced

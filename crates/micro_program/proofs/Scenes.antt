@@ -1,9 +1,10 @@
 -- What one LUN sees of its target: the facts of the tail, what the rules see of the LUN, and whether it is known to drive alone.
 -- Which cycle of its own is permitted, and what it leaves, is told by that alone.
-use Rattle.std.proofs.Common.{◌≡◌, ℕ, Bool, true, false, ◌||◌, cond, not, ltb, nat_le, Option, Some, None, List}
+use Rattle.std.proofs.Common.{◌≡◌, ℕ, ◌==◌, Bool, true, false, ◌&&◌, ◌||◌, cond, not, ltb, nat_le, Option, Some, None, List}
 use Rattle.nand_geometry.specs.declared.parts.Parts.{Parts}
 use Rattle.nand_geometry.specs.Limits.{page_len}
 use Rattle.nand_geometry.specs.Row.{parts_of, is_inside}
+use Rattle.nand_geometry.specs.Optional.{is_wide, has_features, has_unique_id, has_lun_reset, has_synchronous_reset}
 use Rattle.onfi_cycle.specs.declared.command.Command.{Command}
 use Rattle.onfi_cycle.specs.declared.command.Command.TheVariants.{Read, ReadConfirm, ChangeReadColumn, ChangeReadColumnConfirm, BlockErase, BlockEraseConfirm, BlockErasePlane, ReadStatus, ReadStatusEnhanced, PageProgram, ChangeWriteColumn, ProgramConfirm, ProgramPlane, ReadId, ReadParameterPage, Reset, ReadCacheSequential, ReadCacheEnd, ReadUniqueId, GetFeatures, SetFeatures, ResetLun, SynchronousReset, Unknown}
 use Rattle.onfi_cycle.specs.declared.lun.Lun.{Lun}
@@ -15,7 +16,7 @@ use Rattle.onfi_cycle.specs.declared.tail_facts.TailFacts.{TailFacts}
 use Rattle.onfi_cycle.specs.declared.target_cycle.TargetCycle.{TargetCycle}
 use Rattle.onfi_cycle.specs.declared.target_cycle.TargetCycle.TheVariants.{CommandCycle, AddressCycle, InputCycle, OutputCycle}
 use Rattle.onfi_cycle.specs.LunView.{LunView}
-use Rattle.onfi_cycle.specs.Sequence.{tail, facts_of, facts_after, is_open, takes_data, wants_command, wants_address, row, row_with, column_with, input_column}
+use Rattle.onfi_cycle.specs.Sequence.{tail, facts_of, facts_after, is_open, takes_features, takes_inputs, wants_command, wants_address, row, row_with, column_with, input_column}
 use Rattle.onfi_cycle.specs.Effect.{page_address, names_lun, cycle_effect}
 use Rattle.onfi_cycle.specs.Lun.{drivers, is_only, lun_view, view_after}
 use Rattle.onfi_cycle.specs.Rules.{ends_row, second_of_page, second_column, caching, continues_cache, ends_cache, may_change_column, has_some, is_refused_by, register_len, has_no_byte, is_past_register, is_undeclared_address}
@@ -48,6 +49,11 @@ pub record IdentityAllowed (g : Parts) (c : Scene) : Type 0 where
   pub no_queue : has_some c.view.queue ≡ false
   pub no_cache : caching c.view ≡ false
 
+-- a reset of the whole target; in the wider profile it may come in an open sequence
+pub record ResetAllowed (g : Parts) (c : Scene) : Type 0 where
+  pub closed : (is_open c.facts && not (is_wide g.optional)) ≡ false
+  pub one : ltb 1 g.luns ≡ false
+
 pub record CacheAllowed (g : Parts) (c : Scene) (test : LunView → Bool) : Type 0 where
   pub closed : is_open c.facts ≡ false
   pub declared : g.cache ≡ true
@@ -63,7 +69,7 @@ CommandAllowed g lun c ReadStatus = (is_open c.facts ≡ false) × (ltb 1 g.luns
 CommandAllowed g lun c ReadStatusEnhanced = (is_open c.facts ≡ false) × (g.enhanced ≡ true)
 CommandAllowed g lun c ReadId = IdentityAllowed g c
 CommandAllowed g lun c ReadParameterPage = IdentityAllowed g c
-CommandAllowed g lun c Reset = (is_open c.facts ≡ false) × (ltb 1 g.luns ≡ false)
+CommandAllowed g lun c Reset = ResetAllowed g c
 CommandAllowed g lun c ReadCacheSequential = CacheAllowed g c (continues_cache g)
 CommandAllowed g lun c ReadCacheEnd = CacheAllowed g c ends_cache
 CommandAllowed g lun c ReadConfirm = CloserAllowed g lun c ReadConfirm
@@ -73,11 +79,11 @@ CommandAllowed g lun c ProgramConfirm = CloserAllowed g lun c ProgramConfirm
 CommandAllowed g lun c ProgramPlane = CloserAllowed g lun c ProgramPlane × (g.multi_plane ≡ true)
 CommandAllowed g lun c ChangeReadColumnConfirm = (wants_command c.facts ChangeReadColumnConfirm ≡ true) × (c.sole ≡ true)
 CommandAllowed g lun c ChangeWriteColumn = wants_command c.facts ChangeWriteColumn ≡ true
-CommandAllowed g lun c ReadUniqueId = ⊥
-CommandAllowed g lun c GetFeatures = ⊥
-CommandAllowed g lun c SetFeatures = ⊥
-CommandAllowed g lun c ResetLun = ⊥
-CommandAllowed g lun c SynchronousReset = ⊥
+CommandAllowed g lun c ReadUniqueId = IdentityAllowed g c × (has_unique_id g.optional ≡ true)
+CommandAllowed g lun c GetFeatures = IdentityAllowed g c × (has_features g.optional ≡ true)
+CommandAllowed g lun c SetFeatures = IdentityAllowed g c × (has_features g.optional ≡ true)
+CommandAllowed g lun c ResetLun = (is_open c.facts ≡ false) × (has_lun_reset g.optional ≡ true)
+CommandAllowed g lun c SynchronousReset = ResetAllowed g c × (has_synchronous_reset g.optional ≡ true)
 CommandAllowed g lun c Unknown = ⊥
 
 -- the last row cycle
@@ -95,6 +101,11 @@ pub record AddressAllowed (g : Parts) (lun : ℕ) (c : Scene) (byte : ℕ) : Typ
   pub column : second_of_page c.facts ≡ true → nat_le (page_len g) (column_with c.facts byte) ≡ false
   pub read_column : second_column is_change_read_column c.facts ≡ true → (c.sole ≡ true) × (nat_le (register_len g c.view.register) (column_with c.facts byte) ≡ false)
 
+-- an input of a program, inside the page, or one of the four of a Set Features
+pub record InputAllowed (g : Parts) (c : Scene) : Type 0 where
+  pub wanted : takes_inputs c.facts.phase ≡ true
+  pub inside : (not (takes_features c.facts.phase) && nat_le (page_len g) (input_column c.facts)) ≡ false
+
 pub record OutputAllowed (g : Parts) (c : Scene) : Type 0 where
   pub closed : is_open c.facts ≡ false
   pub sole : c.sole ≡ true
@@ -104,7 +115,7 @@ pub record OutputAllowed (g : Parts) (c : Scene) : Type 0 where
 abbrev pub Allowed : Parts → ℕ → Scene → TargetCycle → Type 0
 Allowed g lun c (CommandCycle d) = CommandAllowed g lun c d
 Allowed g lun c (AddressCycle byte) = AddressAllowed g lun c byte
-Allowed g lun c (InputCycle byte) = (takes_data c.facts.phase ≡ true) × (nat_le (page_len g) (input_column c.facts) ≡ false)
+Allowed g lun c (InputCycle byte) = InputAllowed g c
 Allowed g lun c OutputCycle = OutputAllowed g c
 
 -- ---- what is left
@@ -115,22 +126,24 @@ shown_alone c = cond c.sole c.view.latch Off
 
 abbrev pub command_sole : Parts → Bool → Command → Bool
 command_sole g sole Reset = false
+command_sole g sole SynchronousReset = false
 command_sole g sole ReadStatus = false
 command_sole g sole ReadConfirm = sole || not (ltb 1 g.luns)
 command_sole g sole _ = sole
 
-abbrev pub opener_sole : Parts → Bool → Command → Bool
-opener_sole g sole ReadStatusEnhanced = false
-opener_sole g sole ReadId = not (ltb 1 g.luns)
-opener_sole g sole ReadParameterPage = not (ltb 1 g.luns)
-opener_sole g sole ReadUniqueId = false
-opener_sole g sole GetFeatures = false
-opener_sole g sole ResetLun = false
-opener_sole g sole _ = sole
+-- behind an address that comes after so many others
+abbrev pub opener_sole : Parts → Bool → Command → ℕ → Bool
+opener_sole g sole ReadStatusEnhanced n = false
+opener_sole g sole ReadId n = not (ltb 1 g.luns)
+opener_sole g sole ReadParameterPage n = not (ltb 1 g.luns)
+opener_sole g sole ReadUniqueId n = not (ltb 1 g.luns)
+opener_sole g sole GetFeatures n = not (ltb 1 g.luns)
+opener_sole g sole ResetLun n = not (n == 2) && sole
+opener_sole g sole _ n = sole
 
 abbrev pub address_sole : Parts → Bool → Option Opening → Bool
 address_sole g sole None = sole
-address_sole g sole (Some o) = opener_sole g sole o.opener
+address_sole g sole (Some o) = opener_sole g sole o.opener o.addresses
 
 abbrev pub sole_behind : Parts → Scene → TargetCycle → Bool
 sole_behind g c (CommandCycle d) = command_sole g c.sole d

@@ -12,7 +12,7 @@ use Rattle.onfi_cycle.specs.declared.latch.Latch.{Latch}
 use Rattle.onfi_cycle.specs.declared.latch.Latch.TheVariants.{Off, Status, Data}
 use Rattle.onfi_cycle.specs.declared.opening.Opening.{Opening}
 use Rattle.onfi_cycle.specs.declared.effect.Effect.{Effect}
-use Rattle.onfi_cycle.specs.declared.effect.Effect.TheVariants.{Unaffected, DataOutput, CacheReadContinued, CacheReadEnded, IdRead, IdentityRead, FeaturesSet}
+use Rattle.onfi_cycle.specs.declared.effect.Effect.TheVariants.{Unaffected, DataOutput, CacheReadContinued, CacheReadEnded, IdRead, IdentityRead, FeaturesSet, ResetStarted}
 use Rattle.onfi_cycle.specs.declared.tail_facts.TailFacts.{TailFacts}
 use Rattle.onfi_cycle.specs.declared.target_cycle.TargetCycle.{TargetCycle}
 use Rattle.onfi_cycle.specs.declared.target_cycle.TargetCycle.TheVariants.{CommandCycle, AddressCycle, InputCycle, OutputCycle}
@@ -59,7 +59,7 @@ cycle_keeps_to s l past c k OutputCycle a = k.sole a.sole
 cycle_judged : (s : Channel) (l : Lun) (past : List Item) (c : Scene) → is_there s l ≡ true → IsScene s l past c → (d : TargetCycle) → Allowed s.geometry l.lun c d → judge_cycle s.geometry c.facts (luns_of s.geometry past l.ce) d ≡ None
 cycle_judged s l past c there k (CommandCycle d) a = command_judged s l past c there k d a
 cycle_judged s l past c there k (AddressCycle byte) a = address_judged s l past c byte there k a
-cycle_judged s l past c there k (InputCycle byte) a = input_judged s.geometry c.facts _ byte a.0 a.1
+cycle_judged s l past c there k (InputCycle byte) a = input_judged s.geometry c.facts _ byte a.wanted a.inside
 cycle_judged s l past c there k OutputCycle a = output_judged s.geometry c.facts _ c.view a.closed (facts.sole_driver s.geometry past l (k.sole a.sole) ∙ ap Some k.view) a.has_byte a.inside
 
 pub own_cycle : (s : Channel) (l : Lun) (past : List Item) (c : Scene) → is_there s l ≡ true → IsScene s l past c → (kind : Kind) (byte : ℕ) → Allowed s.geometry l.lun c (target_cycle kind byte) → IsOwn s l past (cycle l.ce kind byte)
@@ -179,13 +179,22 @@ address_leaves_off g t byte lun o e q m x on = ap (λ (p : Option Opening). is_o
     by ResetLun q = cc
     by _ q = refl
 
+-- an address of FAh that isn't its last
+reset_leaves_off : (g : Parts) (t : TailFacts) (byte : ℕ) (lun : ℕ) (o : Opening) → t.opening ≡ Some o → o.opener ≡ ResetLun → (o.addresses == 2) ≡ false → LeavesOff g lun t (AddressCycle byte)
+reset_leaves_off g t byte lun o e is early m x on =
+    ap (λ (p : Option Opening). is_off (latch_after (opening_address_effect g t byte p m) x)) e
+    ∙ (ap (λ (d : Command). is_off (latch_after (address_effect g t byte d o.addresses m) x)) is
+    ∙ ap (λ (b : Bool). is_off (latch_after (cond (b && names_lun g (row_with t byte) m) ResetStarted Unaffected) x)) early)
+
 read_lights : (g : Parts) (t : TailFacts) (x y : Latch) (lun : ℕ) → wants_command t ReadConfirm ≡ true → names_lun g (row t) lun ≡ true → latch_after (command_effect g t x ReadConfirm lun) y ≡ Data
 read_lights g t x y lun wants names = rw (wants, names) refl
 
--- the two openers of a program whose address makes its LUN show data
+-- the openers whose address makes the LUN show data
 abbrev lights_up : Command → Bool
 lights_up ReadId = true
 lights_up ReadParameterPage = true
+lights_up ReadUniqueId = true
+lights_up GetFeatures = true
 lights_up _ = false
 
 id_lights : (byte : ℕ) (y : Latch) → latch_after (id_effect byte) y ≡ Data
@@ -198,6 +207,8 @@ id_lights byte y = at (byte == 0x20)
 identity_lights : (g : Parts) (t : TailFacts) (byte n : ℕ) (d : Command) (y : Latch) (lun : ℕ) → wants_address t byte ≡ true → lights_up d ≡ true → latch_after (address_effect g t byte d n lun) y ≡ Data
 identity_lights g t byte n ReadId y lun wants h = rw wants (id_lights byte y)
 identity_lights g t byte n ReadParameterPage y lun wants h = rw wants refl
+identity_lights g t byte n ReadUniqueId y lun wants h = rw wants refl
+identity_lights g t byte n GetFeatures y lun wants h = rw wants refl
 identity_lights g t byte n _ y lun wants h = cc
 
 off_by : (x y : Latch) → x ≡ y → is_off y ≡ false → is_off x ≡ false
@@ -218,7 +229,7 @@ sole_next s l past c there k kind byte d is a view h = by d is a view h
     by_command : (d : Command) → target_cycle kind byte ≡ CommandCycle d → CommandAllowed g l.lun c d → lun_view g (cycle l.ce kind byte ∷ past) l ≡ view_after (cycle_effect g c.facts (shown_alone c) (CommandCycle d) l.lun) c.view → command_sole g c.sole d ≡ true → is_only (drivers g (cycle l.ce kind byte ∷ past) l.ce) l.lun ≡ true
     by_command Reset is a view h = cc
     by_command ReadStatus is a view h = cc
-    by_command SynchronousReset is a view h = absurd a
+    by_command SynchronousReset is a view h = cc
     by_command ReadConfirm is a view h = elim (or_cases c.sole (not (ltb 1 g.luns)) h) [
       | inl e ↦ still (CommandCycle ReadConfirm) is (command_leaves_off g l.lun c ReadConfirm refl a) e
       | inr e ↦ sole_of_one s l (cycle l.ce kind byte ∷ past) there (not-true (ltb 1 g.luns) e) (off_by _ Data (latch_is (CommandCycle ReadConfirm) view ∙ read_lights g c.facts (shown_alone c) c.view.latch l.lun a.0 a.1) refl)
@@ -235,13 +246,15 @@ sole_next s l past c there k kind byte d is a view h = by d is a view h
             sole_of_one s l (cycle l.ce kind byte ∷ past) there (not-true (ltb 1 g.luns) one)
             (off_by _ Data (latch_is (AddressCycle b) view ∙ (ap (λ (x : Effect). latch_after x c.view.latch) effect ∙ identity_lights g c.facts b o.addresses o.opener c.view.latch l.lun a.wanted (ap lights_up f ∙ q))) refl)
 
-        by_opener : (d : Command) → o.opener ≡ d → opener_sole g c.sole d ≡ true → is_only (drivers g (cycle l.ce kind byte ∷ past) l.ce) l.lun ≡ true
+        by_opener : (d : Command) → o.opener ≡ d → opener_sole g c.sole d o.addresses ≡ true → is_only (drivers g (cycle l.ce kind byte ∷ past) l.ce) l.lun ≡ true
         by_opener ReadStatusEnhanced f h = cc
-        by_opener ReadUniqueId f h = cc
-        by_opener GetFeatures f h = cc
-        by_opener ResetLun f h = cc
+        by_opener ResetLun f h =
+            let both = and_parts (not (o.addresses == 2)) c.sole h in
+            still (AddressCycle b) is (reset_leaves_off g c.facts b l.lun o e f (not-true (o.addresses == 2) both.0)) both.1
         by_opener ReadId f h = lights ReadId f refl h
         by_opener ReadParameterPage f h = lights ReadParameterPage f refl h
+        by_opener ReadUniqueId f h = lights ReadUniqueId f refl h
+        by_opener GetFeatures f h = lights GetFeatures f refl h
         by_opener d f h = still (AddressCycle b) is (address_leaves_off g c.facts b l.lun o e (ap quiet f)) h
 
     by : (d : TargetCycle) → target_cycle kind byte ≡ d → Allowed g l.lun c d → lun_view g (cycle l.ce kind byte ∷ past) l ≡ view_after (cycle_effect g c.facts (shown_alone c) d l.lun) c.view → sole_behind g c d ≡ true → is_only (drivers g (cycle l.ce kind byte ∷ past) l.ce) l.lun ≡ true

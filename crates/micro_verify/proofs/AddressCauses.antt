@@ -9,7 +9,7 @@ use Rattle.onfi_cycle.specs.Command.{address_cycles, reads_identity, is_opener, 
 use Rattle.onfi_cycle.specs.Sequence.{opened, wants_address, wants_column}
 use Rattle.micro_claims.specs.declared.state.State.{State}
 use Rattle.micro_claims.specs.declared.place.Place.{Place}
-use Rattle.micro_claims.specs.declared.place.Place.TheVariants.{Closed, After, InData, InColumn, Unknown}
+use Rattle.micro_claims.specs.declared.place.Place.TheVariants.{Closed, After, InData, InColumn, InFeatures, Unknown}
 use Rattle.micro_claims.specs.declared.planes.Planes.{Planes}
 use Rattle.micro_claims.specs.Planes.{just_plane, are_below}
 use Rattle.std.specs.Prelude.{nat_lt}
@@ -55,6 +55,7 @@ pub elsewhere_there : (p : Place) (a : Address) (t : TailFacts) (from count : �
 elsewhere_there Closed a t from count is h = cc
 elsewhere_there InData a t from count is h = cc
 elsewhere_there Unknown a t from count is h = absurd is
+elsewhere_there (InFeatures n) a t from count is h = absurd is
 elsewhere_there (InColumn n) a t from count is h =
     let parts = and_three (2 - n == 0) false (from == n) h in
     (λ i. is_other (place_wanted (is.alone i) (is.program.phase i)) from && not (opened (λ c n. reads_identity c && n == 0) (is.alone i))) ∙ at n is.few parts.1.1
@@ -91,6 +92,7 @@ pub unwanted_there : (p : Place) (a : Address) (t : TailFacts) (byte : ℕ) → 
 unwanted_there Closed a t byte is h = is.address byte
 unwanted_there InData a t byte is h = is.address byte
 unwanted_there Unknown a t byte is h = absurd is
+unwanted_there (InFeatures n) a t byte is h = absurd is
 unwanted_there (InColumn n) a t byte is h = let few = is.few in absurd (let x : ⊥ = grind (arith, nat_tests, h, few) in x)
 unwanted_there (After o n) a t byte is h =
     let b = begun o n a t is in

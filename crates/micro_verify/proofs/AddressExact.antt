@@ -4,6 +4,7 @@ use Rattle.std.proofs.Common.{◌≡◌, ℕ, ◌+◌, ◌-◌, ◌≤◌, ◌==
 use Rattle.std.proofs.lemmas.Bool.{not-false, and_parts, or_parts}
 use Rattle.onfi_cycle.proofs.Booleans.{and_rest}
 use Rattle.nand_geometry.specs.declared.parts.Parts.{Parts}
+use Rattle.nand_geometry.specs.Optional.{is_wide}
 use Rattle.nand_geometry.specs.Limits.{page_len, indices, planes}
 use Rattle.onfi_cycle.specs.declared.command.Command.{Command}
 use Rattle.onfi_cycle.specs.declared.command.Command.TheVariants.{ReadId, ReadParameterPage}
@@ -15,7 +16,7 @@ use Rattle.micro_word.specs.declared.word.Word.TheVariants.{Address as AddressWo
 use Rattle.micro_word.specs.Text.{Microprogram}
 use Rattle.micro_claims.specs.declared.state.State.{State}
 use Rattle.micro_claims.specs.declared.place.Place.{Place}
-use Rattle.micro_claims.specs.declared.place.Place.TheVariants.{Closed, After, InData, InColumn, Unknown}
+use Rattle.micro_claims.specs.declared.place.Place.TheVariants.{Closed, After, InData, InColumn, InFeatures, Unknown}
 use Rattle.micro_claims.specs.Spans.{only}
 use Rattle.micro_claims.specs.Against.{first_address, is_inside_address, byte_of_column, is_identity_byte, takes_identity, surely_past, identity_refused, row_refused, begins_elsewhere, address_out_of_place, column_past, row_outside}
 use Rattle.micro_claims.specs.Reasons.{breaks_cycle_forbidden, breaks_address_unaligned, breaks_row_or_plane_outside, breaks_column_too_large, reason_against, breaks_handover_in_sequence, breaks_buffer_passed, breaks_no_status, breaks_ends_too_soon, breaks_command_not_allowed}
@@ -26,12 +27,12 @@ use Rattle.micro_claims.proofs.Sounding.{no_reasons}
 use Rattle.micro_verify.proofs.AddressTests.{carries_is, more_left, taken}
 use Rattle.micro_verify.specs.Lazy.{lone_job, Run}
 use Rattle.micro_verify.proofs.Lone.{Lone, IsLone}
-use Rattle.micro_verify.proofs.Mirrors.{Mirrors, TailMirror, PlaceMirror, NameIs, BoundIs, is_read_column}
+use Rattle.micro_verify.proofs.Mirrors.{Mirrors, TailMirror, PlaceMirror, is_base_place, NameIs, BoundIs, is_read_column}
 use Rattle.micro_verify.proofs.Causes.{Goes, ExactWord, IsFit, reason_holds, reason_is, cost_cause, lowest_column_too_large}
 use Rattle.micro_verify.proofs.IndexExact.{only_is}
 use Rattle.micro_verify.proofs.AddressCauses.{outside_is, elsewhere_there}
 use Rattle.micro_verify.proofs.AddressStops.{limit_of}
-use Rattle.micro_verify.proofs.AddressIdentity.{asked, asks, asks_there, asked_is}
+use Rattle.micro_verify.proofs.AddressIdentity.{asked, asks, asks_there, asked_is, base_identity, base_takes}
 use Rattle.micro_verify.proofs.AddressIdentityGoes.{goes_id, goes_parameters}
 use Rattle.micro_verify.proofs.OpenerStops.{AddressAt, Behind, opener_at, limit_is, limit_small, page_small}
 use Rattle.micro_verify.proofs.AddressRefused.{past_stops, refused_stops}
@@ -90,15 +91,15 @@ address_cause s text v r c from count some few k is m reason e = by reason (reas
 record OneByte (r : Run) (from count : ℕ) (o : Command) : Type 0 where
   one : count ≡ 1
   low : from ≤ 1
-  takes : takes_identity o (byte_of_column from (column_now r.done)) ≡ true
+  takes : base_identity o (byte_of_column from (column_now r.done)) ≡ true
 
-one_byte : (s : Channel) (text : Microprogram) (v : State) (r : Run) (c : Lone) (from count : ℕ) (o : Command) (n : ℕ) → Mirrors s.geometry (lone_job s.geometry text) v r.done c → identity_refused s.geometry v from count (After o n) ≡ false → OneByte r from count o
-one_byte s text v r c from count o n m clear =
+one_byte : (s : Channel) (text : Microprogram) (v : State) (r : Run) (c : Lone) (from count : ℕ) (o : Command) (n : ℕ) → Mirrors s.geometry (lone_job s.geometry text) v r.done c → is_wide s.geometry.optional ≡ false → asks o ≡ true → identity_refused s.geometry v from count (After o n) ≡ false → OneByte r from count o
+one_byte s text v r c from count o n m base asks_o clear =
     let known : only v.registers.column ≡ Some (column_now r.done) = only_is (column_now r.done) v.registers.column (let x = m.registers.column_low in omega (arith, x)) m.registers.column in
-    let two = or_parts (ltb 1 s.geometry.luns || not (count == 1)) (not (is_identity_byte o from (only v.registers.column))) clear in
+    let two = or_parts (ltb 1 s.geometry.luns || not (count == 1)) (not (is_identity_byte s.geometry o from (only v.registers.column))) clear in
     let alone = or_parts (ltb 1 s.geometry.luns) (not (count == 1)) two.0 in
-    let byte = and_parts (nat_le from 1) (takes_identity o (byte_of_column from (column_now r.done))) (sym (ap (is_identity_byte o from) known) ∙ not-false _ two.1) in
-    record { one = eqb-true count 1 (not-false _ alone.1); low = let x = byte.0 in grind (arith, nat_tests, x); takes = byte.1 }
+    let byte = and_parts (nat_le from 1) (takes_identity s.geometry o (byte_of_column from (column_now r.done))) (sym (ap (is_identity_byte s.geometry o from) known) ∙ not-false _ two.1) in
+    record { one = eqb-true count 1 (not-false _ alone.1); low = let x = byte.0 in grind (arith, nat_tests, x); takes = sym (base_takes s.geometry o (byte_of_column from (column_now r.done)) base asks_o) ∙ byte.1 }
 
 -- 90h or ECh
 identity_goes : (s : Channel) (text : Microprogram) (v : State) (r : Run) (c : Lone) (from count : ℕ) (o : Command) (n : ℕ) → IsFit s text → IsLone s r.past c → Mirrors s.geometry (lone_job s.geometry text) v r.done c → asks o ≡ true → c ≡ asked o c.view → v.target.tail ≡ After o n → OneByte r from count o → Goes s text (state_after s.geometry v (AddressWord from count)) r (AddressWord from count)
@@ -115,7 +116,7 @@ address_exact s text v r c from count some few many k is m =
       cause = address_cause s text v r c from count some few k is m;
       goes = λ e f.
           let clear = no_reasons s.geometry text v (AddressWord from count) e in
-          at t.place t.single t.is t.now t.column t.row t.named t.changes (word clear.no_row_or_plane_outside)
+          at t.place t.single t.is t.now t.column t.row t.named t.changes t.base (word clear.no_row_or_plane_outside)
           (sym (ap (address_out_of_place g v from count) t.single) ∙ clear.no_cycle_forbidden) (sym (ap (begins_elsewhere from) t.single) ∙ clear.no_address_unaligned) (sym (ap (column_past g v from count) t.single) ∙ clear.no_column_too_large);
     }
   where
@@ -131,23 +132,24 @@ address_exact s text v r c from count some few many k is m =
     word : breaks_row_or_plane_outside g text.rows v (AddressWord from count) ≡ false → AddressAt s text v r c from count
     word inside = record { fit = k; lone = is; mirrors = m; some = some; few = few; row = row_inside s text r from count k (sym (outside_is g text.rows v r from count k.rows m.registers) ∙ inside) }
 
-    at : (p : Place) → v.target.tail ≡ p → PlaceMirror p m.tail.address c.facts → (is_inside_address p ≡ true → IsNow g j m.tail.address (now_of j r.done) p) → (has_column p ≡ true → BoundIs (input_column c.facts) v.target.column) → (has_row p ≡ true → RowIs g j m.tail.address) → (has_row p ≡ true → NameIs g m.tail.address (index_now 0 r.done) v.target.named) → (is_read_column p ≡ true → may_change_column c.view ≡ true) → AddressAt s text v r c from count → address_out_of_place g v from count p ≡ false → begins_elsewhere from p ≡ false → column_past g v from count p ≡ false → Goes s text (state_after g v (AddressWord from count)) r (AddressWord from count)
-    at Closed single is_place now column row named changes w out elsewhere past = cc
-    at InData single is_place now column row named changes w out elsewhere past = cc
-    at Unknown single is_place now column row named changes w out elsewhere past = absurd is_place
-    at (InColumn n) single is_place now column row named changes w out elsewhere past =
+    at : (p : Place) → v.target.tail ≡ p → PlaceMirror p m.tail.address c.facts → (is_inside_address p ≡ true → IsNow g j m.tail.address (now_of j r.done) p) → (has_column p ≡ true → BoundIs (input_column c.facts) v.target.column) → (has_row p ≡ true → RowIs g j m.tail.address) → (has_row p ≡ true → NameIs g m.tail.address (index_now 0 r.done) v.target.named) → (is_read_column p ≡ true → may_change_column c.view ≡ true) → is_base_place p ≡ true → AddressAt s text v r c from count → address_out_of_place g v from count p ≡ false → begins_elsewhere from p ≡ false → column_past g v from count p ≡ false → Goes s text (state_after g v (AddressWord from count)) r (AddressWord from count)
+    at Closed single is_place now column row named changes base w out elsewhere past = cc
+    at InData single is_place now column row named changes base w out elsewhere past = cc
+    at Unknown single is_place now column row named changes base w out elsewhere past = absurd is_place
+    at (InFeatures n) single is_place now column row named changes base w out elsewhere past = absurd is_place
+    at (InColumn n) single is_place now column row named changes base w out elsewhere past =
         column_goes s text v r c from count n w (place_is_clear s text v r c from count (page_len g) (InColumn n) m (page_small g k.alone.is_channel.limits) refl refl out elsewhere past) single
         (record { old = m.tail.address; begun = is_place; now = now; row = row refl; named = named refl })
-    at (After o n) single is_place now column row named changes w out elsewhere past = on (reads_identity o) refl
+    at (After o n) single is_place now column row named changes base w out elsewhere past = on (reads_identity o) refl
       where
         on : (b : Bool) → reads_identity o ≡ b → Goes s text (state_after g v (AddressWord from count)) r (AddressWord from count)
         on true reads =
-            let asks_o = asks_there o n is_place.place reads in
+            let asks_o = asks_there o base reads in
             let rest = cond (surely_past g v from count (After o n)) false (ltb (address_cycles o - n) count || (from == first_address o + n && nat_le 5 (from + count) && row_refused v (After o n))) in
             let clear = taken (address_cycles o - n == 0) (reads_identity o) (identity_refused g v from count (After o n)) rest reads out in
-            identity_goes s text v r c from count o n k is m asks_o (asked_is o n m.tail.address c asks_o is_place) single (one_byte s text v r c from count o n m clear)
+            identity_goes s text v r c from count o n k is m asks_o (asked_is o n m.tail.address c asks_o is_place) single (one_byte s text v r c from count o n m k.base asks_o clear)
         on false other =
-            let carries = carries_is o n is_place.place other in
+            let carries = carries_is o n is_place.place base other in
             let behind : Behind s text r c o n = record { old = m.tail.address; opened = is_place; now = now; changes = changes } in
             let clear = place_is_clear s text v r c from count (limit_of g o c.view) (After o n) m (limit_small s k.alone o c.view) (limit_is s text v r c o n m carries changes) other out elsewhere past in
             opener_goes s text v r c from count o n w (opener_at s text v r c from count o n w behind carries (more_left (address_cycles o) n clear.left) clear.begins) many clear single behind column

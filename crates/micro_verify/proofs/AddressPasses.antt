@@ -4,6 +4,7 @@ use Rattle.std.proofs.Common.{◌≡◌, ℕ, ◌+◌, ◌≤◌, ◌<◌, ◌==
 use Rattle.std.proofs.lemmas.Bool.{or_parts}
 use Rattle.nand_geometry.specs.declared.parts.Parts.{Parts}
 use Rattle.onfi_cycle.specs.declared.command.Command.{Command}
+use Rattle.onfi_cycle.specs.declared.command.Command.TheVariants.{ResetLun}
 use Rattle.onfi_cycle.specs.declared.item.Kind.TheVariants.{Adr}
 use Rattle.onfi_cycle.specs.LunView.{LunView}
 use Rattle.onfi_cycle.specs.Channel.{Channel}
@@ -11,7 +12,7 @@ use Rattle.micro_word.specs.declared.word.Word.TheVariants.{Address as AddressWo
 use Rattle.micro_word.specs.Text.{Microprogram}
 use Rattle.micro_claims.specs.declared.state.State.{State}
 use Rattle.micro_claims.specs.declared.place.Place.{Place}
-use Rattle.micro_claims.specs.declared.place.Place.TheVariants.{After}
+use Rattle.micro_claims.specs.declared.place.Place.TheVariants.{Closed, After, InData, InColumn, InFeatures, Unknown}
 use Rattle.micro_claims.specs.Spans.{greatest_bound, bound_plus, is_at_most}
 use Rattle.micro_claims.specs.Against.{addresses_left, next_address, takes_identity_at, column_limit, has_second_column, identity_refused, row_refused, begins_elsewhere, address_out_of_place, column_past}
 use Rattle.micro_claims.specs.Leaves.{with_target, with_registers, paid, target_after_addresses, address_leaves}
@@ -20,11 +21,11 @@ use Rattle.micro_program.specs.Program.{Job, column_now, index_now}
 use Rattle.micro_program.specs.Moves.{address, gives, and_then}
 use Rattle.micro_claims.proofs.Fits.{Address, bytes_of, takes_column, now_of}
 use Rattle.micro_claims.proofs.Addressing.{of_now, carried_is}
-use Rattle.micro_claims.proofs.SoundAddress.{leaves_target}
+use Rattle.micro_claims.proofs.SoundAddress.{resets_lun, leaves_target}
 use Rattle.micro_verify.proofs.AddressTests.{takes_first, last_of_array, few_of, second_holds, and_third, clears}
 use Rattle.micro_verify.specs.Lazy.{lone_job, Run}
 use Rattle.micro_verify.proofs.Lone.{Lone}
-use Rattle.micro_verify.proofs.Mirrors.{Mirrors, TailMirror, LunMirror, place_queues, place_erases, row_goes_along, shows_of}
+use Rattle.micro_verify.proofs.Mirrors.{Mirrors, TailMirror, is_base_place, LunMirror, place_queues, place_erases, row_goes_along, shows_of}
 use Rattle.micro_verify.proofs.Causes.{Goes}
 use Rattle.micro_verify.proofs.WordsExact.{goes_by, registers_exact}
 use Rattle.micro_verify.proofs.AddressesJudged.{cursor, Passed}
@@ -100,6 +101,16 @@ opener_passes s text v r c from count o n w x clear =
 
 -- 3. where they lead
 
+-- FAh is none of the base profile
+not_reset : (p : Place) → is_base_place p ≡ true → resets_lun p ≡ false
+not_reset (After ResetLun n) h = cc
+not_reset (After _ n) h = refl
+not_reset Closed h = refl
+not_reset InData h = refl
+not_reset (InColumn n) h = refl
+not_reset (InFeatures n) h = refl
+not_reset Unknown h = refl
+
 -- what an address leaves, beside what it makes of the tail
 pub address_left : (s : Channel) (text : Microprogram) (v : State) (r : Run) (c after : Lone) (from count : ℕ) (bytes : List ℕ) → AddressAt s text v r c from count → address s.geometry (lone_job s.geometry text) r.done from count ≡ Some bytes → Passed s.geometry bytes c after → takes_identity_at v.target.tail ≡ false → after.view ≡ c.view → TailMirror s.geometry (lone_job s.geometry text) (target_after_addresses s.geometry v from count) (now_of (lone_job s.geometry text) r.done) after → (place_queues (target_after_addresses s.geometry v from count).tail ≡ true → row_goes_along (place_erases (target_after_addresses s.geometry v from count).tail) (target_after_addresses s.geometry v from count).named v.lun.queue ≡ true) → Goes s text (state_after s.geometry v (AddressWord from count)) r (AddressWord from count)
 unfolding state_after
@@ -122,4 +133,4 @@ address_left s text v r c after from count bytes w is_bytes q plain same tail al
     j = lone_job g text
 
     left : address_leaves g v from count ≡ with_target v (target_after_addresses g v from count)
-    left = leaves_target g v from count v.target.tail plain
+    left = leaves_target g v from count v.target.tail plain (ap resets_lun w.mirrors.tail.single ∙ not_reset w.mirrors.tail.place w.mirrors.tail.base)

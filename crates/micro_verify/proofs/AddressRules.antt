@@ -39,7 +39,7 @@ row_refused_is g j v done view o n a array m lun row index plane =
     let low : plane_now done < planes g = subst (λ (p : ℕ). p < planes g) plane row.low in
     let queue : queue_refuses v.lun.queue v.registers.planes o ≡ refused_by g o (page_address g (row_of a.r1 a.r2 a.r3)) view.queue =
     ap (λ (p : Planes). queue_refuses v.lun.queue p o) m.planes ∙ refuses_is g (index_now 0 done) v.lun.queue view.queue o (page_address g (row_of a.r1 a.r2 a.r3)) (plane_now done) array lun.queue low m.plane_low page block in
-    λ i. lun.busy i || lun.caching i || queue i
+    λ i. array i && (lun.busy i || lun.caching i || queue i)
 
 -- a row that is refused breaks a rule of V7, another none
 pub refused_breaks : (g : Parts) (o : Command) (a : Address) (view : LunView) → is_refused g o a view ≡ true → (rule : Forbidden) × ((row_rule g o a view ≡ Some rule) × (is_of_cycle_forbidden rule ≡ true))

@@ -4,8 +4,9 @@ use Rattle.std.proofs.Common.{◌≡◌, ℕ, ◌+◌, ◌-◌, ◌/◌, ◌%◌
 use Rattle.std.proofs.lemmas.Bool.{not-false, and_parts, and_from, or_parts}
 use Rattle.nand_geometry.specs.declared.parts.Parts.{Parts}
 use Rattle.onfi_cycle.specs.declared.command.Command.{Command}
-use Rattle.onfi_cycle.specs.declared.command.Command.TheVariants.{Read, ChangeReadColumn, PageProgram}
+use Rattle.onfi_cycle.specs.declared.command.Command.TheVariants.{Read, ChangeReadColumn, BlockErase, PageProgram}
 use Rattle.onfi_cycle.specs.declared.queued.Queued.{Queued}
+use Rattle.onfi_cycle.specs.Base.{is_of_base}
 use Rattle.onfi_cycle.specs.Command.{address_cycles}
 use Rattle.onfi_cycle.specs.Sequence.{input_column}
 use Rattle.onfi_cycle.specs.Channel.{Channel}
@@ -128,6 +129,14 @@ same_read ChangeReadColumn n m = refl
 same_read Read n m = refl
 same_read _ n m = refl
 
+-- they are of the base profile
+carries_base : (o : Command) → carries_registers o ≡ true → is_of_base o ≡ true
+carries_base Read h = refl
+carries_base ChangeReadColumn h = refl
+carries_base BlockErase h = refl
+carries_base PageProgram h = refl
+carries_base _ h = cc
+
 -- what is named, where the last row cycle has come
 pub named_led : (s : Channel) (text : Microprogram) (v : State) (r : Run) (c : Lone) (from count : ℕ) (o : Command) (n : ℕ) → AddressAt s text v r c from count → (x : AtOpener s text r c from count o n) → length r.done ≤ 32768 → 5 ≤ from + count → NameIs s.geometry (of_now s.geometry (lone_job s.geometry text) r.done from count x.now) (index_now 0 r.done) (target_after_addresses s.geometry v from count).named
 named_led s text v r c from count o n w x many five =
@@ -148,6 +157,7 @@ tail_after s text v r c from count o n w x many here leads place most b old =
           column_led s text v r c from count o n w x both.0 (let two = both.1 in grind (arith, nat_tests, two)) most old;
       row = λ e. let five = reaches e in x.now.row (let z : ltb 2 (from + count) ≡ true = grind (arith, nat_tests, five) in z);
       named = λ e. named_led s text v r c from count o n w x many (reaches e);
+      base = carries_base o x.carries;
       changes = λ e. b.changes (same_read o n (n + count) ∙ e);
     }
   where
@@ -178,6 +188,7 @@ tail_in_data s text v r c from count n w x many here five old =
       column = λ e. column_led s text v r c from count PageProgram n w x refl (omega (arith, five)) (omega (arith, five)) old;
       row = λ e. x.now.row (let z : ltb 2 (from + count) ≡ true = grind (arith, nat_tests, begins, five) in z);
       named = λ e. named_led s text v r c from count PageProgram n w x many (omega (arith, begins, five));
+      base = refl;
       changes = λ e. cc;
     }
   where

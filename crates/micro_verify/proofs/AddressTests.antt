@@ -2,7 +2,8 @@
 use Rattle.std.proofs.lemmas.Bool.Decides.{nat_tests}
 use Rattle.std.proofs.Common.{◌≡◌, ℕ, ◌+◌, ◌-◌, ◌≤◌, ◌<◌, ◌==◌, Bool, true, false, ◌&&◌, ◌||◌, cond, not, ltb, nat_le, refl, arith}
 use Rattle.onfi_cycle.specs.declared.command.Command.{Command}
-use Rattle.onfi_cycle.specs.declared.command.Command.TheVariants.{Read, ChangeReadColumn, BlockErase, PageProgram, ReadId, ReadParameterPage}
+use Rattle.onfi_cycle.specs.declared.command.Command.TheVariants.{Read, ChangeReadColumn, BlockErase, PageProgram, ReadId, ReadParameterPage, ResetLun}
+use Rattle.onfi_cycle.specs.Base.{is_of_base}
 use Rattle.onfi_cycle.specs.Command.{at_last_row, address_cycles, addresses_the_array, reads_identity}
 use Rattle.micro_claims.specs.Against.{first_address, has_second_column}
 use Rattle.micro_claims.proofs.Fits.{is_place, takes_column}
@@ -11,14 +12,15 @@ use Rattle.micro_verify.proofs.AddressesNow.{carries_registers}
 -- 1. openers
 
 -- which openers carry the registers
-pub carries_is : (o : Command) (n : ℕ) → is_place o n ≡ true → reads_identity o ≡ false → carries_registers o ≡ true
-carries_is Read n place other = refl
-carries_is ChangeReadColumn n place other = refl
-carries_is BlockErase n place other = refl
-carries_is PageProgram n place other = refl
-carries_is ReadId n place other = cc
-carries_is ReadParameterPage n place other = cc
-carries_is _ n place other = cc
+pub carries_is : (o : Command) (n : ℕ) → is_place o n ≡ true → is_of_base o ≡ true → reads_identity o ≡ false → carries_registers o ≡ true
+carries_is Read n place base other = refl
+carries_is ChangeReadColumn n place base other = refl
+carries_is BlockErase n place base other = refl
+carries_is PageProgram n place base other = refl
+carries_is ReadId n place base other = cc
+carries_is ReadParameterPage n place base other = cc
+carries_is ResetLun n place base other = cc
+carries_is _ n place base other = cc
 
 pub takes_is : (o : Command) (n : ℕ) → carries_registers o ≡ true → first_address o + n ≤ 1 → takes_column o ≡ true
 takes_is Read n carries low = refl

@@ -150,6 +150,7 @@ column_tail s text v r c from count n t b few here leads begun =
       column = λ e. cc;
       row = λ e. row_with_column s.geometry (lone_job s.geometry text) b.old (column_now r.done) b.row;
       named = λ e. subst (λ (o : Option NamedRow). NameIs s.geometry (with_column b.old (column_now r.done)) (index_now 0 r.done) o) (sym (named_still s text v r c from count n b few)) (name_with_column s.geometry b.old (column_now r.done) (index_now 0 r.done) v.target.named b.named);
+      base = refl;
       changes = λ e. cc;
     }
 
@@ -171,6 +172,7 @@ data_tail s text v r c from count n t w b both low here leads begun =
           (w.mirrors.registers.column.hi ∙ ap kept (sym ((second_led a t (column / 256 % 256) begun).1 ∙ whole)));
       row = λ e. row_with_column s.geometry (lone_job s.geometry text) b.old column b.row;
       named = λ e. subst (λ (o : Option NamedRow). NameIs s.geometry a (index_now 0 r.done) o) (sym (named_still s text v r c from count n b few)) (name_with_column s.geometry b.old column (index_now 0 r.done) v.target.named b.named);
+      base = refl;
       changes = λ e. cc;
     }
 

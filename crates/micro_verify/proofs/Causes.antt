@@ -147,7 +147,7 @@ pub first_mirrors : (g : Parts) (text : Microprogram) → 1 ≤ g.pages → Mirr
 first_mirrors g text pages =
     record {
       registers = record { column = record { lo = refl; hi = refl }; column_low = omega arith; planes = refl; plane_low = omega arith; index = record { lo = refl; hi = refl }; index_low = omega arith; page = zero_page; place = refl; cost = refl };
-      tail = record { place = _; single = refl; address = no_address; is = empty_shut; now = λ e. cc; column = λ e. cc; row = λ e. cc; named = λ e. cc; changes = λ e. cc };
+      tail = record { place = _; single = refl; address = no_address; is = empty_shut; now = λ e. cc; column = λ e. cc; row = λ e. cc; named = λ e. cc; base = refl; changes = λ e. cc };
       shows = refl;
       along = λ e. cc;
       lun = record { busy = refl; register = refl; known = refl; column = λ e. cc; no_column = λ e. refl; last = refl; queue = refl; caching = refl; other = refl; read = λ e. cc; cached_page = λ e. cc; cached_index = λ e. cc };

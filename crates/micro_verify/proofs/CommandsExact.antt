@@ -5,6 +5,7 @@ use Rattle.std.proofs.Math.Nat.{div-add-mod, mul-add-div_right}
 use Rattle.std.proofs.Common.{◌≡◌, ℕ, zero, suc, ◌+◌, ◌-◌, ◌*◌, ◌/◌, ◌%◌, ◌≤◌, ◌<◌, ◌==◌, Bool, true, false, ◌&&◌, ◌||◌, cond, not, ltb, nat_le, List, [], ◌∷◌, Option, Some, None, refl, sym, ap, ◌∙◌, subst, arith, eqb-true, take}
 use Rattle.std.proofs.lemmas.Bool.{not-true, and_parts, or_parts}
 use Rattle.nand_geometry.specs.declared.parts.Parts.{Parts}
+use Rattle.nand_geometry.specs.Optional.{is_wide, has_features, has_unique_id, has_lun_reset, has_synchronous_reset}
 use Rattle.nand_geometry.specs.declared.row_parts.RowParts.{RowParts}
 use Rattle.nand_geometry.specs.Limits.{planes}
 use Rattle.nand_geometry.specs.Row.{parts_of, row_of}
@@ -44,10 +45,10 @@ use Rattle.micro_claims.specs.declared.named_row.NamedRow.{NamedRow}
 use Rattle.micro_claims.specs.declared.shown.Shown.{Shown}
 use Rattle.micro_claims.specs.Spans.{Span}
 use Rattle.micro_claims.specs.declared.place.Place.{Place}
-use Rattle.micro_claims.specs.declared.place.Place.TheVariants.{Closed, After, InData, InColumn, Unknown}
+use Rattle.micro_claims.specs.declared.place.Place.TheVariants.{Closed, After, InData, InColumn, InFeatures, Unknown}
 use Rattle.micro_claims.specs.State.{bounds_of, may_be_other}
 use Rattle.micro_claims.specs.Spans.{greatest_bound, kept, bound_plus, is_at_most}
-use Rattle.micro_claims.specs.Against.{place_wants, same_test, is_unfit, is_data_command, may_be_open, opener_refused, shows_only_data, has_page_or_parameters, has_register, drives, asks_status, command_out_of_place, command_past_rows, command_not_for_programs, continues_unseen}
+use Rattle.micro_claims.specs.Against.{place_wants, same_test, is_of_profile, is_unfit, is_data_command, may_be_open, opener_refused, shows_only_data, has_page_or_parameters, has_register, drives, asks_status, command_out_of_place, command_past_rows, command_not_for_programs, continues_unseen}
 use Rattle.micro_claims.specs.Leaves.{paid, with_registers, resumed_shows, shows_after_read, data_shown, given_at, cached_at, command_leaves, queued_more, queued_planes, goes_along, same_drift, rows_at}
 use Rattle.micro_claims.specs.Planes.{no_planes, either_plane}
 use Rattle.micro_claims.specs.declared.planes.Planes.{Planes}
@@ -67,7 +68,7 @@ use Rattle.micro_claims.proofs.Commands.{same_either, out_of_place, wanted, row_
 use Rattle.micro_claims.proofs.MoreCommands.{declared, opener_free}
 use Rattle.micro_verify.proofs.Lone.{Lone, IsAlone, IsLone, lone_behind, judged, stops_there}
 use Rattle.micro_verify.proofs.Mirrors.{Mirrors, RegistersMirror, TailMirror, LunMirror, PlaceMirror, Shut, shows_of, held_of, is_modelled, place_queues, place_erases, row_goes_along, BoundIs, NameIs, ColumnMirror, exact_test, is_read_column, kept_plus, drift_from, RowsMirror, QueueMirror, RowMirror, AllMirror}
-use Rattle.micro_verify.proofs.Told.{told_command, wants_by, closes_none}
+use Rattle.micro_verify.proofs.Told.{told_command, barred, wants_by, closes_none}
 use Rattle.micro_verify.proofs.Causes.{Goes, ExactWord, IsFit, reason_holds, reason_is, cost_cause, lowest_row_or_plane_outside}
 use Rattle.micro_verify.proofs.WordsExact.{goes_by, registers_exact, shut_tail, told_breaks, told_none}
 
@@ -109,6 +110,15 @@ past_rows s text v r c low is m ReadCacheSequential h out =
     ap (λ (w : LunView). nat_le text.rows (index_of g w.array_page + 1)) is.view ∙ next_outside text.rows (index_of g c.view.array_page) (sym exact ∙ both.1)
 past_rows s text v r c low is m _ h out = cc
 
+-- the commands of the base profile
+profile_is : (g : Parts) (d : Command) → is_wide g.optional ≡ false → is_of_profile g d ≡ is_of_base d
+profile_is g d base = ap (λ (w : Bool). is_of_base d || (is_known d && w)) base ∙ none (is_of_base d) (is_known d)
+  where
+    none : (a b : Bool) → (a || (b && false)) ≡ a
+    none true b = refl
+    none false true = refl
+    none false false = refl
+
 pub command_cause : (s : Channel) (text : Microprogram) (v : State) (r : Run) (c : Lone) (byte : ℕ) → IsFit s text → IsLone s r.past c → Mirrors s.geometry (lone_job s.geometry text) v r.done c → continues_unseen (bounds_of text) (command byte) ≡ false → (reason : Reason) → reason_against s.geometry (bounds_of text) v (CommandWord byte) ≡ Some reason → Cause s (lone_job s.geometry text) r (CommandWord byte) reason
 unfolding breaks_cycle_forbidden breaks_address_unaligned breaks_handover_in_sequence breaks_buffer_passed breaks_row_or_plane_outside breaks_column_too_large breaks_no_status breaks_ends_too_soon breaks_command_not_allowed breaks_command_unknown breaks_several_luns
 command_cause s text v r c byte k is m seen reason e = by reason (reason_is s.geometry text v (CommandWord byte) reason e) e
@@ -120,7 +130,9 @@ command_cause s text v r c byte k is m seen reason e = by reason (reason_is s.ge
     by CycleForbidden h e = λ bytes. command_stops s text r c byte k.alone is (told_breaks _ _ (told_command g (lone_job g text) v r.done c (command byte) k.one k.base k.pages m (fit_or_none (is_unfit g (command byte)) _ h)) h)
     by RowOrPlaneOutside h e = past_rows s text v r c k.rows is m.lun (command byte) h (lowest_row_or_plane_outside g text v (CommandWord byte) e)
     by OverBudget h e = cost_cause g v r (CommandWord byte) text.budget k.budget m.registers h
-    by CommandNotAllowed h e = for_programs (not (is_of_base (command byte))) (is_undeclared g (command byte)) (not (is_known (command byte))) (asks_status (command byte)) (wants_one_lun (command byte) && ltb 1 g.luns) (continues_unseen (bounds_of text) (command byte)) h seen
+    by CommandNotAllowed h e =
+        for_programs (not (is_of_base (command byte))) (is_undeclared g (command byte)) (not (is_known (command byte))) (asks_status (command byte)) (wants_one_lun (command byte) && ltb 1 g.luns) (continues_unseen (bounds_of text) (command byte))
+        (sym (λ i. (not (profile_is g (command byte) k.base i) || is_undeclared g (command byte) || asks_status (command byte) || (wants_one_lun (command byte) && ltb 1 g.luns)) || continues_unseen (bounds_of text) (command byte)) ∙ h) seen
     by _ h e = cc
 
 -- 2. what serves all that go
@@ -153,7 +165,7 @@ goes_60 s text v r c byte k is_d is m clear =
     let g = s.geometry in
     let effect : cycle_effect g c.facts c.view.latch (CommandCycle BlockErase) 0 ≡ Unaffected = same_either (wants_command c.facts BlockErase && names_lun g (row c.facts) 0) in
     command_goes s text v r c byte BlockErase k is_d refl is m clear refl
-    (record { place = After BlockErase 0; single = refl; address = no_address; is = record { place = refl; facts = refl }; now = λ e. cc; column = λ e. cc; row = λ e. cc; named = λ e. cc; changes = λ e. cc })
+    (record { place = After BlockErase 0; single = refl; address = no_address; is = record { place = refl; facts = refl }; now = λ e. cc; column = λ e. cc; row = λ e. cc; named = λ e. cc; base = refl; changes = λ e. cc })
     (m.shows ∙ ap (λ (e : Effect). shows_of (view_after e c.view).latch) (sym effect))
     (subst (λ (e : Effect). LunMirror g v.lun (index_now 0 r.done) (view_after e c.view)) (sym effect) m.lun)
     (λ e. cc)
@@ -163,7 +175,7 @@ goes_80 s text v r c byte k is_d is m clear =
     let g = s.geometry in
     let effect : cycle_effect g c.facts c.view.latch (CommandCycle PageProgram) 0 ≡ Unaffected = same_either (wants_command c.facts PageProgram && names_lun g (row c.facts) 0) in
     command_goes s text v r c byte PageProgram k is_d refl is m clear refl
-    (record { place = After PageProgram 0; single = refl; address = no_address; is = record { place = refl; facts = refl }; now = λ e. cc; column = λ e. cc; row = λ e. cc; named = λ e. cc; changes = λ e. cc })
+    (record { place = After PageProgram 0; single = refl; address = no_address; is = record { place = refl; facts = refl }; now = λ e. cc; column = λ e. cc; row = λ e. cc; named = λ e. cc; base = refl; changes = λ e. cc })
     (m.shows ∙ ap (λ (e : Effect). shows_of (view_after e c.view).latch) (sym effect))
     (subst (λ (e : Effect). LunMirror g v.lun (index_now 0 r.done) (view_after e c.view)) (sym effect) m.lun)
     (λ e. cc)
@@ -173,7 +185,7 @@ goes_90 s text v r c byte k is_d is m clear =
     let g = s.geometry in
     let effect : cycle_effect g c.facts c.view.latch (CommandCycle ReadId) 0 ≡ Unaffected = same_either (wants_command c.facts ReadId && names_lun g (row c.facts) 0) in
     command_goes s text v r c byte ReadId k is_d refl is m clear refl
-    (record { place = After ReadId 0; single = refl; address = no_address; is = record { place = refl; facts = refl }; now = λ e. cc; column = λ e. cc; row = λ e. cc; named = λ e. cc; changes = λ e. cc })
+    (record { place = After ReadId 0; single = refl; address = no_address; is = record { place = refl; facts = refl }; now = λ e. cc; column = λ e. cc; row = λ e. cc; named = λ e. cc; base = refl; changes = λ e. cc })
     (m.shows ∙ ap (λ (e : Effect). shows_of (view_after e c.view).latch) (sym effect))
     (subst (λ (e : Effect). LunMirror g v.lun (index_now 0 r.done) (view_after e c.view)) (sym effect) m.lun)
     (λ e. cc)
@@ -183,7 +195,7 @@ goes_ec s text v r c byte k is_d is m clear =
     let g = s.geometry in
     let effect : cycle_effect g c.facts c.view.latch (CommandCycle ReadParameterPage) 0 ≡ Unaffected = same_either (wants_command c.facts ReadParameterPage && names_lun g (row c.facts) 0) in
     command_goes s text v r c byte ReadParameterPage k is_d refl is m clear refl
-    (record { place = After ReadParameterPage 0; single = refl; address = no_address; is = record { place = refl; facts = refl }; now = λ e. cc; column = λ e. cc; row = λ e. cc; named = λ e. cc; changes = λ e. cc })
+    (record { place = After ReadParameterPage 0; single = refl; address = no_address; is = record { place = refl; facts = refl }; now = λ e. cc; column = λ e. cc; row = λ e. cc; named = λ e. cc; base = refl; changes = λ e. cc })
     (m.shows ∙ ap (λ (e : Effect). shows_of (view_after e c.view).latch) (sym effect))
     (subst (λ (e : Effect). LunMirror g v.lun (index_now 0 r.done) (view_after e c.view)) (sym effect) m.lun)
     (λ e. cc)
@@ -211,7 +223,7 @@ goes_05 s text v r c byte k is_d is m clear =
     let g = s.geometry in
     let effect : cycle_effect g c.facts c.view.latch (CommandCycle ChangeReadColumn) 0 ≡ Unaffected = same_either (wants_command c.facts ChangeReadColumn && names_lun g (row c.facts) 0) in
     command_goes s text v r c byte ChangeReadColumn k is_d refl is m clear refl
-    (record { place = After ChangeReadColumn 0; single = refl; address = no_address; is = record { place = refl; facts = refl }; now = λ e. cc; column = λ e. cc; row = λ e. cc; named = λ e. cc; changes = λ x. ap (λ (e : Effect). may_change_column (view_after e c.view)) effect ∙ changes_now s text v r c byte is_d m clear })
+    (record { place = After ChangeReadColumn 0; single = refl; address = no_address; is = record { place = refl; facts = refl }; now = λ e. cc; column = λ e. cc; row = λ e. cc; named = λ e. cc; base = refl; changes = λ x. ap (λ (e : Effect). may_change_column (view_after e c.view)) effect ∙ changes_now s text v r c byte is_d m clear })
     (m.shows ∙ ap (λ (e : Effect). shows_of (view_after e c.view).latch) (sym effect))
     (subst (λ (e : Effect). LunMirror g v.lun (index_now 0 r.done) (view_after e c.view)) (sym effect) m.lun)
     (λ e. cc)
@@ -224,7 +236,7 @@ resumed_exact Data = refl
 pub goes_00 : (s : Channel) (text : Microprogram) (v : State) (r : Run) (c : Lone) (byte : ℕ) → IsFit s text → command byte ≡ Read → IsLone s r.past c → Mirrors s.geometry (lone_job s.geometry text) v r.done c → NoReasons s.geometry text v (CommandWord byte) → Goes s text (state_after s.geometry v (CommandWord byte)) r (CommandWord byte)
 goes_00 s text v r c byte k is_d is m clear =
     command_goes s text v r c byte Read k is_d refl is m clear refl
-    (record { place = After Read 0; single = refl; address = no_address; is = record { place = refl; facts = refl }; now = λ e. cc; column = λ e. cc; row = λ e. cc; named = λ e. cc; changes = λ e. cc })
+    (record { place = After Read 0; single = refl; address = no_address; is = record { place = refl; facts = refl }; now = λ e. cc; column = λ e. cc; row = λ e. cc; named = λ e. cc; base = refl; changes = λ e. cc })
     (ap resumed_shows m.shows ∙ resumed_exact c.view.latch)
     (record { busy = m.lun.busy; register = m.lun.register; known = m.lun.known; column = m.lun.column; no_column = m.lun.no_column; last = m.lun.last; queue = m.lun.queue; caching = m.lun.caching; other = m.lun.other; read = m.lun.read; cached_page = m.lun.cached_page; cached_index = m.lun.cached_index })
     (λ e. cc)
@@ -260,6 +272,7 @@ whole g j v n c d o only plain f h = at f.place f.is f.column f.row f.named f.ch
     at Closed is column row named changes single w = cc
     at InData is column row named changes single w = let both : true ≡ false = sym w ∙ plain in cc
     at (InColumn m) is column row named changes single w = cc
+    at (InFeatures m) is column row named changes single w = cc
     at Unknown is column row named changes single w = cc
     at (After p m) is column row named changes single w =
         let by = closed_by d o p m f.address only w in
@@ -285,6 +298,7 @@ only_data : (p : Place) (d : Command) → is_data_command d ≡ true → place_w
 only_data InData d kind h = refl
 only_data Closed d kind h = cc
 only_data (InColumn n) d kind h = cc
+only_data (InFeatures n) d kind h = cc
 only_data Unknown d kind h = cc
 only_data (After o n) d kind h = let both = and_parts (closes o d) (n == address_cycles o) h in let none : closes o d ≡ false = closes_none o d kind in let clash : true ≡ false = sym both.0 ∙ none in cc
 
@@ -295,6 +309,7 @@ programming g j v n c d kind f h = at f.place f.is f.row f.named f.single (only_
     at InData is row named single e = record { address = f.address; program = is.program; row = row refl; named = named refl; tail = single }
     at Closed is row named single e = cc
     at (InColumn m) is row named single e = cc
+    at (InFeatures m) is row named single e = cc
     at Unknown is row named single e = cc
     at (After o m) is row named single e = cc
 
@@ -341,7 +356,7 @@ goes_ff s text v r c byte k is_d is m clear =
     let g = s.geometry in
     let j = lone_job s.geometry text in
     command_goes s text v r c byte Reset k is_d refl is m clear refl
-    (record { place = Closed; single = refl; address = no_address; is = reset_shut; now = λ e. cc; column = λ e. cc; row = λ e. cc; named = λ e. cc; changes = λ e. cc })
+    (record { place = Closed; single = refl; address = no_address; is = reset_shut; now = λ e. cc; column = λ e. cc; row = λ e. cc; named = λ e. cc; base = refl; changes = λ e. cc })
     refl
     (record { busy = refl; register = refl; known = refl; column = λ e. cc; no_column = λ e. refl; last = refl; queue = refl; caching = refl; other = refl; read = λ e. cc; cached_page = λ e. cc; cached_index = λ e. cc })
     (λ e. cc)
@@ -367,7 +382,7 @@ goes_85 s text v r c byte k is_d is m clear =
     let p = programming g j v.target (now_of j r.done) c ChangeWriteColumn refl m.tail (wanted g text v byte ChangeWriteColumn is_d refl refl clear).places in
     let effect : cycle_effect g c.facts c.view.latch (CommandCycle ChangeWriteColumn) 0 ≡ Unaffected = same_either (wants_command c.facts ChangeWriteColumn && names_lun g (row c.facts) 0) in
     command_goes s text v r c byte ChangeWriteColumn k is_d refl is m clear refl
-    (record { place = InColumn 0; single = refl; address = p.address; is = begins_85 c.facts p.address p.program; now = λ e. cc; column = λ e. cc; row = λ e. p.row; named = λ e. p.named; changes = λ e. cc })
+    (record { place = InColumn 0; single = refl; address = p.address; is = begins_85 c.facts p.address p.program; now = λ e. cc; column = λ e. cc; row = λ e. p.row; named = λ e. p.named; base = refl; changes = λ e. cc })
     (m.shows ∙ ap (λ (e : Effect). shows_of (view_after e c.view).latch) (sym effect))
     (subst (λ (e : Effect). LunMirror g v.lun (index_now 0 r.done) (view_after e c.view)) (sym effect) m.lun)
     (λ e. sym (ap (λ (q : Place). row_goes_along (place_erases q) v.target.named v.lun.queue) p.tail) ∙ m.along (ap place_queues p.tail))
@@ -730,9 +745,9 @@ command_exact s text v r c byte k seen is m =
     by Reset is_d clear = goes_ff s text v r c byte k is_d is m clear
     by ReadCacheSequential is_d clear = goes_31 s text v r c byte k is_d is m clear
     by ReadCacheEnd is_d clear = goes_3f s text v r c byte k is_d is m clear
-    by ReadUniqueId is_d clear = let none = (declared s.geometry text v byte ReadUniqueId is_d clear).fit in cc
-    by GetFeatures is_d clear = let none = (declared s.geometry text v byte GetFeatures is_d clear).fit in cc
-    by SetFeatures is_d clear = let none = (declared s.geometry text v byte SetFeatures is_d clear).fit in cc
-    by ResetLun is_d clear = let none = (declared s.geometry text v byte ResetLun is_d clear).fit in cc
-    by SynchronousReset is_d clear = let none = (declared s.geometry text v byte SynchronousReset is_d clear).fit in cc
+    by ReadUniqueId is_d clear = absurd (barred (is_wide s.geometry.optional) (not (has_unique_id s.geometry.optional)) k.base (declared s.geometry text v byte ReadUniqueId is_d clear).fit)
+    by GetFeatures is_d clear = absurd (barred (is_wide s.geometry.optional) (not (has_features s.geometry.optional)) k.base (declared s.geometry text v byte GetFeatures is_d clear).fit)
+    by SetFeatures is_d clear = absurd (barred (is_wide s.geometry.optional) (not (has_features s.geometry.optional)) k.base (declared s.geometry text v byte SetFeatures is_d clear).fit)
+    by ResetLun is_d clear = absurd (barred (is_wide s.geometry.optional) (not (has_lun_reset s.geometry.optional)) k.base (declared s.geometry text v byte ResetLun is_d clear).fit)
+    by SynchronousReset is_d clear = absurd (barred (is_wide s.geometry.optional) (not (has_synchronous_reset s.geometry.optional)) k.base (declared s.geometry text v byte SynchronousReset is_d clear).fit)
     by UnknownCommand is_d clear = let none = (declared s.geometry text v byte UnknownCommand is_d clear).fit in cc

@@ -117,6 +117,7 @@ tail_moved g j v n m move c apart moves t =
       column = t.column;
       row = t.row;
       named = λ e. name_moved g t.address n.index m.index move v.named moves (t.named e);
+      base = t.base;
       changes = t.changes;
     }
 

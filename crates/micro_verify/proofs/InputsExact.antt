@@ -23,12 +23,12 @@ use Rattle.micro_program.specs.Program.{Job, place_now, index_now, buffer_now, f
 use Rattle.micro_program.specs.Moves.{Move, Give, gives, part, moves}
 use Rattle.micro_claims.specs.declared.state.State.{State}
 use Rattle.micro_claims.specs.declared.place.Place.{Place}
-use Rattle.micro_claims.specs.declared.place.Place.TheVariants.{Closed, After, InData, InColumn, Unknown}
+use Rattle.micro_claims.specs.declared.place.Place.TheVariants.{Closed, After, InData, InColumn, InFeatures, Unknown}
 use Rattle.micro_claims.specs.Spans.{Span}
 use Rattle.micro_claims.specs.State.{bounds_of}
 use Rattle.micro_claims.specs.Spans.{greatest_bound, bound_plus, is_at_most, plus}
-use Rattle.micro_claims.specs.Against.{is_in_data, span_bound, input_past}
-use Rattle.micro_claims.specs.Leaves.{span_more}
+use Rattle.micro_claims.specs.Against.{is_in_features, takes_inputs_at, span_bound, input_past}
+use Rattle.micro_claims.specs.Leaves.{paid, with_registers, with_target, span_more, place_moved, put_leaves_at, put_leaves}
 use Rattle.micro_claims.specs.Reasons.{reason_against, breaks_cycle_forbidden, breaks_address_unaligned, breaks_handover_in_sequence, breaks_buffer_passed, breaks_row_or_plane_outside, breaks_column_too_large, breaks_no_status, breaks_ends_too_soon, breaks_command_not_allowed}
 use Rattle.micro_claims.specs.Accepts.{state_after}
 use Rattle.micro_program.proofs.Costs.{buffer_len}
@@ -62,12 +62,13 @@ no_inputs : (b : Bool) → takes_inputs (cond b FirstColumn SecondColumn) ≡ fa
 no_inputs true = refl
 no_inputs false = refl
 
-inputs_there : (p : Place) (a : Address) (t : TailFacts) → PlaceMirror p a t → is_in_data p ≡ takes_inputs t.phase
-inputs_there Closed a t is = sym (or_middle (opened is_proper_beginning t.opening) (takes_inputs t.phase) (wants_column t.phase) is.closed)
-inputs_there (After o n) a t is = sym (ap takes_inputs (begun o n a t is).phase)
-inputs_there InData a t is = sym (ap takes_inputs is.program.phase)
-inputs_there (InColumn n) a t is = sym (ap takes_inputs is.program.phase ∙ no_inputs (n == 0))
-inputs_there Unknown a t is = absurd is
+inputs_there : (n : ℕ) (p : Place) (a : Address) (t : TailFacts) → PlaceMirror p a t → takes_inputs_at n p ≡ takes_inputs t.phase
+inputs_there k Closed a t is = sym (or_middle (opened is_proper_beginning t.opening) (takes_inputs t.phase) (wants_column t.phase) is.closed)
+inputs_there k (After o n) a t is = sym (ap takes_inputs (begun o n a t is).phase)
+inputs_there k InData a t is = sym (ap takes_inputs is.program.phase)
+inputs_there k (InColumn n) a t is = sym (ap takes_inputs is.program.phase ∙ no_inputs (n == 0))
+inputs_there k (InFeatures n) a t is = absurd is
+inputs_there k Unknown a t is = absurd is
 
 -- 2. so many inputs
 
@@ -168,14 +169,15 @@ record InPut (g : Parts) (j : Job) (v : State) (r : Run) (c : Lone) : Type 0 whe
   column : BoundIs (input_column c.facts) v.target.column
   tail : v.target.tail ≡ InData
 
-in_put : (g : Parts) (text : Microprogram) (v : State) (r : Run) (c : Lone) → Mirrors g (lone_job g text) v r.done c → is_in_data v.target.tail ≡ true → InPut g (lone_job g text) v r c
-in_put g text v r c m h = at m.tail.place m.tail.single m.tail.is m.tail.column m.tail.row m.tail.named (sym (ap is_in_data m.tail.single) ∙ h)
+in_put : (g : Parts) (text : Microprogram) (v : State) (r : Run) (c : Lone) → Mirrors g (lone_job g text) v r.done c → (n : ℕ) → takes_inputs_at n v.target.tail ≡ true → InPut g (lone_job g text) v r c
+in_put g text v r c m n h = at m.tail.place m.tail.single m.tail.is m.tail.column m.tail.row m.tail.named (sym (ap (takes_inputs_at n) m.tail.single) ∙ h)
   where
-    at : (p : Place) → v.target.tail ≡ p → PlaceMirror p m.tail.address c.facts → (has_column p ≡ true → BoundIs (input_column c.facts) v.target.column) → (has_row p ≡ true → RowIs g (lone_job g text) m.tail.address) → (has_row p ≡ true → NameIs g m.tail.address (index_now 0 r.done) v.target.named) → is_in_data p ≡ true → InPut g (lone_job g text) v r c
+    at : (p : Place) → v.target.tail ≡ p → PlaceMirror p m.tail.address c.facts → (has_column p ≡ true → BoundIs (input_column c.facts) v.target.column) → (has_row p ≡ true → RowIs g (lone_job g text) m.tail.address) → (has_row p ≡ true → NameIs g m.tail.address (index_now 0 r.done) v.target.named) → takes_inputs_at n p ≡ true → InPut g (lone_job g text) v r c
     at InData single is column row named h = record { address = m.tail.address; inputs = is; row = row refl; named = named refl; column = column refl; tail = single }
     at Closed single is column row named h = cc
     at (After o n) single is column row named h = cc
     at (InColumn n) single is column row named h = cc
+    at (InFeatures n) single is column row named h = absurd is
     at Unknown single is column row named h = cc
 
 column_test : (o : Option Span) (column n limit : ℕ) → limit ≤ greatest_bound → BoundIs column o → is_at_most (bound_plus (span_bound o) n) limit ≡ nat_le (column + n) limit
@@ -191,7 +193,7 @@ unfolding state_after breaks_cycle_forbidden breaks_address_unaligned breaks_han
 put_exact s text v r c n some k is m =
     record {
       cause = λ reason e. by reason (reason_is s.geometry text v (Put n) reason e) e;
-      goes = λ e f. let clear = no_reasons s.geometry text v (Put n) e in goes (in_put g text v r c m (not-false _ clear.no_cycle_forbidden)) (bytes_there g text r n (sym place_test ∙ not-false _ clear.no_buffer_passed)) clear.no_column_too_large;
+      goes = λ e f. let clear = no_reasons s.geometry text v (Put n) e in goes (in_put g text v r c m n (not-false _ clear.no_cycle_forbidden)) (bytes_there g text r n (sym place_test ∙ not-false _ clear.no_buffer_passed)) clear.no_column_too_large;
     }
   where
     g : Parts
@@ -209,11 +211,15 @@ put_exact s text v r c n some k is m =
     page_test : InPut g j v r c → is_at_most (bound_plus (span_bound v.target.column) n) (page_len g) ≡ nat_le (input_column c.facts + n) (page_len g)
     page_test p = column_test v.target.column (input_column c.facts) n (page_len g) page_small p.column
 
-    stops_astray : is_in_data v.target.tail ≡ false → Bytes text g r n → WordStops s j r (Put n) is_of_cycle_forbidden
+    stops_astray : takes_inputs_at n v.target.tail ≡ false → Bytes text g r n → WordStops s j r (Put n) is_of_cycle_forbidden
     stops_astray h b =
         let count = b.count in
         let x = cut 0 b.bytes (omega (arith, count, some)) in
-        put_stops s text r c n 0 is_of_cycle_forbidden b x k.alone is tt InputMisplaced (astray g c x.byte (sym (ap is_in_data m.tail.single ∙ inputs_there m.tail.place m.tail.address c.facts m.tail.is) ∙ h)) refl
+        put_stops s text r c n 0 is_of_cycle_forbidden b x k.alone is tt InputMisplaced (astray g c x.byte (sym (ap (takes_inputs_at n) m.tail.single ∙ inputs_there n m.tail.place m.tail.address c.facts m.tail.is) ∙ h)) refl
+
+    -- in the data of a program the page is asked
+    past_is : InPut g j v r c → input_past g v n ≡ not (is_at_most (bound_plus (span_bound v.target.column) n) (page_len g))
+    past_is p = ap (λ (q : Place). not (is_in_features q) && not (is_at_most (bound_plus (span_bound v.target.column) n) (page_len g))) p.tail
 
     stops_past : InPut g j v r c → Bytes text g r n → input_past g v n ≡ true → WordStops s j r (Put n) is_of_column_too_large
     stops_past p b h = begins (nat_le (page_len g) (input_column c.facts)) refl
@@ -222,7 +228,7 @@ put_exact s text v r c n some k is m =
         count = b.count
 
         over : nat_le (input_column c.facts + n) (page_len g) ≡ false
-        over = sym (page_test p) ∙ not-true _ h
+        over = sym (page_test p) ∙ not-true _ (sym (past_is p) ∙ h)
 
         begins : (x : Bool) → nat_le (page_len g) (input_column c.facts) ≡ x → WordStops s j r (Put n) is_of_column_too_large
         begins true e =
@@ -241,18 +247,21 @@ put_exact s text v r c n some k is m =
     by : (reason : Reason) → reason_holds g text v (Put n) reason ≡ true → reason_against g (bounds_of text) v (Put n) ≡ Some reason → Cause s j r (Put n) reason
     by CycleForbidden h e = λ lacks. stops_astray (not-true _ h) (bytes_there g text r n (not-false _ lacks))
     by BufferPassed h e = sym place_test ∙ not-true _ h
-    by ColumnTooLarge h e = let low = lowest_column_too_large g text v (Put n) e in stops_past (in_put g text v r c m (not-false _ low.no_cycle_forbidden)) (bytes_there g text r n (sym place_test ∙ not-false _ low.no_buffer_passed)) h
+    by ColumnTooLarge h e = let low = lowest_column_too_large g text v (Put n) e in stops_past (in_put g text v r c m n (not-false _ low.no_cycle_forbidden)) (bytes_there g text r n (sym place_test ∙ not-false _ low.no_buffer_passed)) h
     by OverBudget h e = cost_cause g v r (Put n) text.budget k.budget m.registers h
     by _ h e = cc
+
+    left : InPut g j v r c → put_leaves v n ≡ place_moved n (with_target v (record v.target { column = span_more n v.target.column }))
+    left p = ap (put_leaves_at v n) p.tail
 
     goes : InPut g j v r c → Bytes text g r n → input_past g v n ≡ false → Goes s text (state_after g v (Put n)) r (Put n)
     goes p b past =
         let count = b.count in
-        let inside : nat_le (input_column c.facts + n) (page_len g) ≡ true = sym (page_test p) ∙ not-false _ past in
+        let inside : nat_le (input_column c.facts + n) (page_len g) ≡ true = sym (page_test p) ∙ not-false _ (sym (past_is p) ∙ past) in
         let most : input_column c.facts + length b.bytes ≤ page_len g = grind (arith, nat_tests, inside, count) in
         let pass = inputs_pass g p.address b.bytes c p.inputs most in
         goes_by s text (state_after g v (Put n)) r (Put n) (gives Din b.bytes) r.past c k.alone b.is_moved refl is pass.pass
-        (λ answer. record {
+        (λ answer. subst (λ (x : State). Mirrors g j (with_registers x (paid n x.registers)) (record { word = Put n; answer = answer } ∷ r.done) (lone_after g (gives Din b.bytes) c)) (sym (left p)) (record {
           registers = registers_moved g v.registers (plus v.registers.place n) v.registers.polled r.done (Put n) answer (record { column = λ n. refl; plane = λ n. refl; index = λ b n. refl }) (ap (λ (o : Option ℕ). bound_plus o n) m.registers.place ∙ kept_plus (place_now r.done) n) m.registers;
           tail = record {
             place = InData;
@@ -263,9 +272,10 @@ put_exact s text v r c n some k is m =
             column = λ e. subst (λ (q : ℕ). BoundIs q (span_more n v.target.column)) (sym (pass.column ∙ ap (λ (q : ℕ). input_column c.facts + q) count)) (column_on v.target.column (input_column c.facts) n p.column);
             row = λ e. p.row;
             named = λ e. p.named;
+            base = refl;
             changes = λ e. cc;
           };
           shows = m.shows ∙ ap (λ (w : LunView). shows_of w.latch) (sym pass.view_is);
           lun = subst (λ (w : LunView). LunMirror g v.lun (index_now 0 r.done) w) (sym pass.view_is) m.lun;
           along = m.along;
-        })
+        }))

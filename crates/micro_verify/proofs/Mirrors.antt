@@ -5,7 +5,7 @@ use Rattle.nand_geometry.specs.declared.parts.Parts.{Parts}
 use Rattle.nand_geometry.specs.Limits.{planes}
 use Rattle.nand_geometry.specs.Row.{indexed}
 use Rattle.onfi_cycle.specs.declared.command.Command.{Command}
-use Rattle.onfi_cycle.specs.declared.command.Command.TheVariants.{Read, ChangeReadColumn, BlockErase, PageProgram, ReadId, ReadParameterPage}
+use Rattle.onfi_cycle.specs.declared.command.Command.TheVariants.{Read, ChangeReadColumn, BlockErase, PageProgram, ReadId, ReadParameterPage, ReadUniqueId, GetFeatures, SetFeatures, ResetLun}
 use Rattle.onfi_cycle.specs.declared.data_phase.DataPhase.{DataPhase}
 use Rattle.onfi_cycle.specs.declared.data_phase.DataPhase.TheVariants.{Outside, Inputs, FirstColumn, SecondColumn}
 use Rattle.onfi_cycle.specs.declared.latch.Latch.{Latch}
@@ -17,6 +17,7 @@ use Rattle.onfi_cycle.specs.declared.register.Register.{Register}
 use Rattle.onfi_cycle.specs.declared.register.Register.TheVariants.{Empty, Page, ParameterPage, Identifier}
 use Rattle.onfi_cycle.specs.declared.tail_facts.TailFacts.{TailFacts}
 use Rattle.onfi_cycle.specs.LunView.{LunView}
+use Rattle.onfi_cycle.specs.Base.{is_of_base}
 use Rattle.onfi_cycle.specs.Sequence.{is_open, is_proper_beginning, wants_address, wants_command, takes_inputs, opened, wants_column, input_column}
 use Rattle.onfi_cycle.specs.Lun.{output_column, is_cache_read, is_page_read}
 use Rattle.onfi_cycle.specs.Rules.{has_some, may_change_column}
@@ -30,7 +31,7 @@ use Rattle.micro_claims.specs.declared.registers.Registers.{Registers}
 use Rattle.micro_claims.specs.declared.known_target.KnownTarget.{KnownTarget}
 use Rattle.micro_claims.specs.declared.known_lun.KnownLun.{KnownLun}
 use Rattle.micro_claims.specs.declared.place.Place.{Place}
-use Rattle.micro_claims.specs.declared.place.Place.TheVariants.{Closed, After, InData, InColumn, Unknown}
+use Rattle.micro_claims.specs.declared.place.Place.TheVariants.{Closed, After, InData, InColumn, InFeatures, Unknown}
 use Rattle.micro_claims.specs.declared.drift.Drift.{Drift}
 use Rattle.micro_claims.specs.declared.named_row.NamedRow.{NamedRow}
 use Rattle.micro_claims.specs.declared.shown.Shown.{Shown}
@@ -97,7 +98,14 @@ PlaceMirror Closed a t = Shut t
 PlaceMirror (After o n) a t = Opened o n a t
 PlaceMirror InData a t = InInputs a t
 PlaceMirror (InColumn n) a t = ColumnBegun n a t
+PlaceMirror (InFeatures n) a t = ⊥
 PlaceMirror Unknown a t = ⊥
+
+-- a place of the base profile
+abbrev pub is_base_place : Place → Bool
+is_base_place (After o n) = is_of_base o
+is_base_place (InFeatures n) = false
+is_base_place _ = true
 
 abbrev pub BoundIs : ℕ → Option Span → Type 0
 BoundIs n None = ⊥
@@ -132,6 +140,7 @@ pub record TailMirror (g : Parts) (j : Job) (v : KnownTarget) (n : Now) (c : Lon
   pub single : v.tail ≡ place
   pub address : Address
   pub is : PlaceMirror place address c.facts
+  pub base : is_base_place place ≡ true
   pub now : is_inside_address place ≡ true → IsNow g j address n place
   pub column : has_column place ≡ true → BoundIs (input_column c.facts) v.column
   pub row : has_row place ≡ true → RowIs g j address
@@ -280,6 +289,16 @@ begun ReadId zero a t h = record { opening = ap (λ (t : TailFacts). t.opening) 
 begun ReadId (suc n) a t h = absurd (no_more n h.place)
 begun ReadParameterPage zero a t h = record { opening = ap (λ (t : TailFacts). t.opening) h.facts; phase = ap (λ (t : TailFacts). t.phase) h.facts }
 begun ReadParameterPage (suc n) a t h = absurd (no_more n h.place)
+begun ReadUniqueId zero a t h = record { opening = ap (λ (t : TailFacts). t.opening) h.facts; phase = ap (λ (t : TailFacts). t.phase) h.facts }
+begun ReadUniqueId (suc n) a t h = absurd (no_more n h.place)
+begun GetFeatures zero a t h = record { opening = ap (λ (t : TailFacts). t.opening) h.facts; phase = ap (λ (t : TailFacts). t.phase) h.facts }
+begun GetFeatures (suc n) a t h = absurd (no_more n h.place)
+begun SetFeatures zero a t h = record { opening = ap (λ (t : TailFacts). t.opening) h.facts; phase = ap (λ (t : TailFacts). t.phase) h.facts }
+begun SetFeatures (suc n) a t h = absurd (no_more n h.place)
+begun ResetLun zero a t h = record { opening = ap (λ (t : TailFacts). t.opening) h.facts; phase = ap (λ (t : TailFacts). t.phase) h.facts }
+begun ResetLun (suc zero) a t h = record { opening = ap (λ (t : TailFacts). t.opening) h.facts; phase = ap (λ (t : TailFacts). t.phase) h.facts }
+begun ResetLun (suc (suc zero)) a t h = record { opening = ap (λ (t : TailFacts). t.opening) h.facts; phase = ap (λ (t : TailFacts). t.phase) h.facts }
+begun ResetLun (suc (suc (suc n))) a t h = absurd (let e = h.place in let x : ⊥ = grind (arith, nat_tests) in x)
 begun _ n a t h = let most = h.place in cc
 
 or_true : (a b c : Bool) → b ≡ true → (a || b || c) ≡ true
@@ -307,6 +326,7 @@ open_there (InColumn n) a t is = sym (or_last (opened is_proper_beginning t.open
     column_wanted : (b : Bool) → wants_column (cond b FirstColumn SecondColumn) ≡ true
     column_wanted true = refl
     column_wanted false = refl
+open_there (InFeatures n) a t is = absurd is
 open_there Unknown a t is = absurd is
 
 pub open_same : (g : Parts) (j : Job) (v : State) (done : List Done) (c : Lone) → Mirrors g j v done c → may_be_open v ≡ is_open c.facts

@@ -25,7 +25,7 @@ use Rattle.micro_program.specs.Program.{Job, Answer, place_now, index_now}
 use Rattle.micro_program.specs.Moves.{Move, Take}
 use Rattle.micro_claims.specs.declared.state.State.{State}
 use Rattle.micro_claims.specs.declared.place.Place.{Place}
-use Rattle.micro_claims.specs.declared.place.Place.TheVariants.{Closed, After, InData, InColumn, Unknown}
+use Rattle.micro_claims.specs.declared.place.Place.TheVariants.{Closed, After, InData, InColumn, InFeatures, Unknown}
 use Rattle.micro_claims.specs.declared.output_column.OutputColumn.{OutputColumn}
 use Rattle.micro_claims.specs.declared.shown.Shown.{Shown}
 use Rattle.micro_claims.specs.State.{bounds_of}
@@ -167,6 +167,7 @@ shut_where Closed a t is e = is
 shut_where (After o n) a t is e = let some : t.is_empty ≡ false = ap (λ (x : TailFacts). x.is_empty) is.facts ∙ begun_behind (take n (bytes_of o a)) (opener_facts o) refl in let both : true ≡ false = sym e ∙ some in cc
 shut_where InData a t is e = let both : true ≡ false = sym e ∙ is.program.begun in cc
 shut_where (InColumn n) a t is e = let both : true ≡ false = sym e ∙ is.program.begun in cc
+shut_where (InFeatures n) a t is e = absurd is
 shut_where Unknown a t is e = absurd is
 
 -- the claim has a column exactly where the next output has one, if there is a register

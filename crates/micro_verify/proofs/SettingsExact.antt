@@ -19,7 +19,7 @@ use Rattle.micro_claims.specs.Planes.{just_plane}
 use Rattle.micro_claims.specs.declared.state.State.{State}
 use Rattle.micro_claims.specs.declared.known_target.KnownTarget.{KnownTarget}
 use Rattle.micro_claims.specs.declared.place.Place.{Place}
-use Rattle.micro_claims.specs.declared.place.Place.TheVariants.{Closed, After, InData, InColumn, Unknown}
+use Rattle.micro_claims.specs.declared.place.Place.TheVariants.{Closed, After, InData, InColumn, InFeatures, Unknown}
 use Rattle.micro_claims.specs.Against.{is_inside_address}
 use Rattle.micro_claims.specs.Reasons.{breaks_cycle_forbidden, breaks_address_unaligned, breaks_handover_in_sequence, breaks_buffer_passed, breaks_row_or_plane_outside, breaks_column_too_large, breaks_no_status, breaks_ends_too_soon, breaks_over_budget, breaks_command_not_allowed}
 use Rattle.micro_claims.specs.Leaves.{handed_over, with_registers, paid}
@@ -38,6 +38,7 @@ use Rattle.micro_verify.proofs.WordsExact.{goes_by, registers_exact, registers_m
 pub amid_there : (p : Place) (a : Address) (t : TailFacts) → PlaceMirror p a t → is_inside_address p ≡ true → is_amid t ≡ true
 amid_there Closed a t is h = cc
 amid_there InData a t is h = cc
+amid_there (InFeatures n) a t is h = absurd is
 amid_there Unknown a t is h = absurd is
 amid_there (After o n) a t is h =
     let b = begun o n a t is in
@@ -64,6 +65,7 @@ tail_apart g j v n m c same apart t =
       column = t.column;
       row = t.row;
       named = λ e. subst (λ (i : ℕ). NameIs g t.address i v.named) same (t.named e);
+      base = t.base;
       changes = t.changes;
     }
 

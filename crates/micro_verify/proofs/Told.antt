@@ -4,7 +4,7 @@ use Rattle.std.proofs.Common.{◌≡◌, ℕ, ◌+◌, ◌≤◌, ◌==◌, Bool
 use Rattle.std.proofs.Math.Bool.{or-false}
 use Rattle.std.proofs.lemmas.Bool.{not-false}
 use Rattle.nand_geometry.specs.declared.parts.Parts.{Parts}
-use Rattle.nand_geometry.specs.Optional.{is_wide}
+use Rattle.nand_geometry.specs.Optional.{is_wide, has_features, has_unique_id, has_lun_reset, has_synchronous_reset}
 use Rattle.onfi_cycle.specs.declared.command.Command.{Command}
 use Rattle.onfi_cycle.specs.declared.command.Command.TheVariants.{Read, ReadConfirm, ChangeReadColumn, ChangeReadColumnConfirm, BlockErase, BlockEraseConfirm, BlockErasePlane, ReadStatus, ReadStatusEnhanced, PageProgram, ChangeWriteColumn, ProgramConfirm, ProgramPlane, ReadId, ReadParameterPage, Reset, ReadCacheSequential, ReadCacheEnd, ReadUniqueId, GetFeatures, SetFeatures, ResetLun, SynchronousReset, Unknown}
 use Rattle.onfi_cycle.specs.declared.data_phase.DataPhase.TheVariants.{FirstColumn, SecondColumn}
@@ -26,8 +26,8 @@ use Rattle.onfi_cycle.specs.Rules.{has_some, may_change_column, is_page_or_param
 use Rattle.micro_program.specs.Program.{Job, Done}
 use Rattle.micro_claims.specs.declared.state.State.{State}
 use Rattle.micro_claims.specs.declared.place.Place.{Place}
-use Rattle.micro_claims.specs.declared.place.Place.TheVariants.{Closed, After, InData, InColumn, Unknown as UnknownPlace}
-use Rattle.micro_claims.specs.Against.{place_wants, is_data_command, may_be_open, shows_only_data, has_page_or_parameters, drives, is_unfit, opener_refused, closer_refused, command_out_of_place}
+use Rattle.micro_claims.specs.declared.place.Place.TheVariants.{Closed, After, InData, InColumn, InFeatures, Unknown as UnknownPlace}
+use Rattle.micro_claims.specs.Against.{place_wants, is_data_command, may_be_open, shows_only_data, has_page_or_parameters, drives, is_unfit, may_end_sequence, opener_refused, closer_refused, command_out_of_place}
 use Rattle.micro_verify.specs.Cause.{is_of_cycle_forbidden}
 use Rattle.micro_claims.proofs.Fits.{Address}
 use Rattle.micro_verify.proofs.Lone.{Lone, judged}
@@ -183,6 +183,7 @@ wants_same (InColumn n) a t d is = at (is_data_command d) refl
     at : (b : Bool) → is_data_command d ≡ b → false ≡ wants_command t d
     at true e = sym ((wants_by t d).0 e ∙ (ap takes_data is.program.phase ∙ no_inputs (n == 0)))
     at false e = sym ((wants_by t d).1 e ∙ ap (opened (λ c n. closes c d && n == address_cycles c)) is.alone)
+wants_same (InFeatures n) a t d is = absurd is
 wants_same UnknownPlace a t d is = absurd is
 
 told_30 : (g : Parts) (c : Lone) → Told (not (wants_command c.facts ReadConfirm)) (judged g c (CommandCycle ReadConfirm))
@@ -313,11 +314,17 @@ wants_change : (p : Place) → place_wants ChangeReadColumnConfirm p ≡ true �
 wants_change Closed h = cc
 wants_change InData h = cc
 wants_change (InColumn n) h = cc
+wants_change (InFeatures n) h = cc
 wants_change UnknownPlace h = cc
 wants_change (After ChangeReadColumn n) h = refl
 wants_change (After Read n) h = cc
 wants_change (After BlockErase n) h = cc
 wants_change (After _ n) h = cc
+
+-- the base profile has no command of the wider one
+pub barred : (w b : Bool) → w ≡ false → (not w || b) ≡ false → ⊥
+barred true b e h = cc
+barred false b e h = cc
 
 pub told_command : (g : Parts) (j : Job) (v : State) (done : List Done) (c : Lone) (d : Command) → ltb 1 g.luns ≡ false → is_wide g.optional ≡ false → g.pages ≤ greatest_bound → Mirrors g j v done c → is_unfit g d ≡ false → Told (command_out_of_place g v d) (judged g c (CommandCycle d))
 told_command g j v done c d one base low m h = by d h
@@ -328,8 +335,8 @@ told_command g j v done c d one base low m h = by d h
     wanted : (d : Command) → not (place_wants d v.target.tail) ≡ not (wants_command c.facts d)
     wanted d = ap not (ap (place_wants d) m.tail.single ∙ wants_same m.tail.place m.tail.address c.facts d m.tail.is)
 
-    fitting : (d : Command) → is_unfit g d ≡ false → command_out_of_place g v d ≡ cond (is_opener d) (may_be_open v || opener_refused g v d) (not (place_wants d v.target.tail) || closer_refused v d)
-    fitting d fit = ap (λ (b : Bool). cond b false (cond (is_opener d) (may_be_open v || opener_refused g v d) (not (place_wants d v.target.tail) || closer_refused v d))) fit
+    fitting : (d : Command) → is_unfit g d ≡ false → command_out_of_place g v d ≡ cond (is_opener d) ((not (may_end_sequence g d) && may_be_open v) || opener_refused g v d) (not (place_wants d v.target.tail) || closer_refused v d)
+    fitting d fit = ap (λ (b : Bool). cond b false (cond (is_opener d) ((not (may_end_sequence g d) && may_be_open v) || opener_refused g v d) (not (place_wants d v.target.tail) || closer_refused v d))) fit
 
     drive : place_wants ChangeReadColumnConfirm v.target.tail ≡ true → drives v.target.shows ≡ true
     drive h = ap drives m.shows ∙ shows_may_change c.view (m.tail.changes (wants_change m.tail.place (sym (ap (place_wants ChangeReadColumnConfirm) m.tail.single) ∙ h)))
@@ -342,7 +349,7 @@ told_command g j v done c d one base low m h = by d h
     by BlockErase h = told_by _ _ _ (λ i. shut i || m.lun.busy i) (told_erase g c)
     by PageProgram h = told_by _ _ _ (λ i. shut i || m.lun.busy i) (told_program g c)
     by ReadStatus h = told_by _ _ _ (λ i. shut i || false) (told_status g c one)
-    by Reset h = told_by _ _ _ (λ i. shut i || false) (told_reset g c one base)
+    by Reset h = told_by _ _ _ (λ i. (not (base i) && shut i) || false) (told_reset g c one base)
     by ChangeReadColumn h = told_by _ _ _ (λ i. shut i || (not (shows_only_data (m.shows i)) || m.lun.busy i || not (has_page_or_parameters (m.lun.register i)))) (told_change g c m.lun.known)
     by ReadId h = told_by _ _ _ (λ i. shut i || (not (one i) && (m.lun.busy i || queue_same g _ v.lun.queue c.view.queue m.lun.queue i || m.lun.caching i))) (told_identity g c one)
     by ReadParameterPage h = told_by _ _ _ (λ i. shut i || (not (one i) && (m.lun.busy i || queue_same g _ v.lun.queue c.view.queue m.lun.queue i || m.lun.caching i))) (told_parameters g c one)
@@ -364,9 +371,9 @@ told_command g j v done c d one base low m h = by d h
         (fitting ReadCacheEnd h ∙ (ap (λ (b : Bool). may_be_open v || b) (or_where (not (drives v.target.shows) || v.lun.busy || may_be_other v.lun.last) _ _ (λ e. m.lun.read (or_second _ _ e)))
         ∙ (λ i. shut i || (not (drives (m.shows i)) || m.lun.busy i || m.lun.other i || not (is_cache_read c.view.closer)))))
         (told_3f g c h)
-    by ReadUniqueId h = cc
-    by GetFeatures h = cc
-    by SetFeatures h = cc
-    by ResetLun h = cc
-    by SynchronousReset h = cc
+    by ReadUniqueId h = absurd (barred (is_wide g.optional) (not (has_unique_id g.optional)) base h)
+    by GetFeatures h = absurd (barred (is_wide g.optional) (not (has_features g.optional)) base h)
+    by SetFeatures h = absurd (barred (is_wide g.optional) (not (has_features g.optional)) base h)
+    by ResetLun h = absurd (barred (is_wide g.optional) (not (has_lun_reset g.optional)) base h)
+    by SynchronousReset h = absurd (barred (is_wide g.optional) (not (has_synchronous_reset g.optional)) base h)
     by Unknown h = cc

@@ -121,7 +121,7 @@ lun_is_ready : (g : Parts) (l : KnownLun) (now : ℕ) (view : LunView) → view.
 lun_is_ready g l now view e m = record { busy = sym e; register = m.register; known = m.known; column = m.column; no_column = m.no_column; last = m.last; queue = m.queue; caching = m.caching; other = m.other; read = m.read; cached_page = m.cached_page; cached_index = m.cached_index }
 
 pub shut_tail : (g : Parts) (j : Job) (v : State) (done : List Done) (c : Lone) → v.target.tail ≡ Closed → Shut c.facts → TailMirror g j v.target (now_of j done) c
-shut_tail g j v done c single shut = record { place = Closed; single = single; address = no_address; is = shut; now = λ e. cc; column = λ e. cc; row = λ e. cc; named = λ e. cc; changes = λ e. cc }
+shut_tail g j v done c single shut = record { place = Closed; single = single; address = no_address; is = shut; now = λ e. cc; column = λ e. cc; row = λ e. cc; named = λ e. cc; base = refl; changes = λ e. cc }
 
 pub wait_exact : (s : Channel) (text : Microprogram) (v : State) (r : Run) (c : Lone) → IsAlone s → ltb 1 s.geometry.luns ≡ false → IsLone s r.past c → Mirrors s.geometry (lone_job s.geometry text) v r.done c → ExactWord s text v r Wait
 unfolding state_after breaks_cycle_forbidden breaks_address_unaligned breaks_handover_in_sequence breaks_buffer_passed breaks_row_or_plane_outside breaks_column_too_large breaks_no_status breaks_ends_too_soon breaks_over_budget breaks_command_not_allowed

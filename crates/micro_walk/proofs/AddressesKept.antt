@@ -7,21 +7,24 @@ use Rattle.std.proofs.lemmas.Bool.{and_parts, and_from}
 use Rattle.nand_geometry.specs.declared.parts.Parts.{Parts}
 use Rattle.nand_geometry.specs.Limits.{InLimits}
 use Rattle.onfi_cycle.specs.declared.command.Command.{Command}
-use Rattle.onfi_cycle.specs.declared.command.Command.TheVariants.{ReadId, ReadParameterPage}
+use Rattle.onfi_cycle.specs.declared.command.Command.TheVariants.{ReadId, ReadParameterPage, ReadUniqueId, GetFeatures, SetFeatures, ResetLun}
 use Rattle.micro_claims.specs.Spans.{Span}
 use Rattle.micro_claims.specs.Spans.{greatest_bound, copied}
 use Rattle.micro_claims.specs.declared.state.State.{State}
 use Rattle.micro_claims.specs.declared.registers.Registers.{Registers}
 use Rattle.micro_claims.specs.declared.page_range.PageRange.{PageRange}
 use Rattle.micro_claims.specs.declared.place.Place.{Place}
-use Rattle.micro_claims.specs.declared.place.Place.TheVariants.{Closed, After, InData, InColumn, Unknown}
-use Rattle.micro_claims.specs.Leaves.{with_target, data_shown, page_plus, address_leads_to, greatest_page_of, name_now, target_after_addresses, identity_read, address_leaves_at, address_leaves}
-use Rattle.micro_claims.specs.Order.{top, SpanAt, SpanIs, RegistersAt, HasColumn, NameIs, NamedIs, IsFineName, IsFineNamed, TargetAt, At, column_number, PlaceIs, Exactly}
+use Rattle.micro_claims.specs.declared.place.Place.TheVariants.{Closed, After, InData, InColumn, InFeatures, Unknown}
+use Rattle.micro_claims.specs.declared.held.Held.{Held}
+use Rattle.micro_claims.specs.Against.{byte_of_column}
+use Rattle.micro_claims.specs.Leaves.{with_target, data_shown, id_held, beside_read, features_opened, reset_started, lun_reset, page_plus, address_leads_to, greatest_page_of, name_now, target_after_addresses, identity_read, address_leaves_at, address_leaves}
+use Rattle.micro_claims.specs.Order.{top, May, SpanAt, SpanIs, RegisterIs, RegistersAt, HasColumn, NameIs, NamedIs, IsFineName, IsFineNamed, TargetAt, At, column_number, PlaceIs, Exactly}
 use Rattle.micro_walk.proofs.SpanLaws as numbers
 use Rattle.micro_walk.proofs.SpanLaws.{le_of}
 use Rattle.micro_claims.proofs.NamesNow.{same_block, page_in_block}
 use Rattle.micro_claims.proofs.Indices.{mod_both, mod_small}
-use Rattle.micro_walk.proofs.LeavesKept.{RangeIs, one_place, data_is, first_output}
+use Rattle.micro_walk.proofs.LeavesKept.{RangeIs, one_place, data_is, first_output, held_is}
+use Rattle.micro_walk.proofs.CommandsKept.{reset_at}
 
 -- 1. pages
 
@@ -198,76 +201,60 @@ addressed g l v s a from count d same = record {
     fine true = name_fine g v.registers s.registers a.registers d.registers
     fine false = d.target.fine
 
--- 90h and ECh show what they read behind their one address
-abbrev pub is_asked : Place → Bool
-is_asked (After ReadId n) = true
-is_asked (After ReadParameterPage n) = true
-is_asked _ = false
+gone_on : (g : Parts) → InLimits g → (v s a : State) (from count : ℕ) → At g v s a → s.target.tail ≡ a.target.tail → At g v (with_target s (target_after_addresses g s from count)) (with_target a (target_after_addresses g a from count))
+gone_on g l v s a from count d same = record { registers = d.registers; target = addressed g l v s a from count d same; lun = d.lun }
 
-left_plain : (g : Parts) (v : State) (from count : ℕ) (p : Place) → is_asked p ≡ false → address_leaves_at g v from count p ≡ with_target v (target_after_addresses g v from count)
-left_plain g v from count Closed h = refl
-left_plain g v from count InData h = refl
-left_plain g v from count (InColumn n) h = refl
-left_plain g v from count Unknown h = refl
-left_plain g v from count (After o n) h = by o h
-  where
-    by : (o : Command) → is_asked (After o n) ≡ false → address_leaves_at g v from count (After o n) ≡ with_target v (target_after_addresses g v from count)
-    by ReadId h = cc
-    by ReadParameterPage h = cc
-    by _ h = refl
-
-plain : (g : Parts) → InLimits g → (v s a : State) (from count : ℕ) → At g v s a → s.target.tail ≡ a.target.tail → is_asked s.target.tail ≡ false → is_asked a.target.tail ≡ false → At g v (address_leaves g s from count) (address_leaves g a from count)
-plain g l v s a from count d same h k =
-    subst (λ (x : State). At g v x (address_leaves g a from count)) (sym (left_plain g s from count s.target.tail h))
-    (subst (λ (x : State). At g v (with_target s (target_after_addresses g s from count)) x) (sym (left_plain g a from count a.target.tail k))
-    (record { registers = d.registers; target = addressed g l v s a from count d same; lun = d.lun }))
-
-identifier_at : (g : Parts) (v s a : State) → At g v s a → At g v (identity_read s ReadId) (identity_read a ReadId)
-identifier_at g v s a d =
+beside_at : (g : Parts) (v s a : State) (b c : Bool) (held : Held) → May c b → RegisterIs held held → At g v s a → At g v (beside_read b held s) (beside_read c held a)
+beside_at g v s a b c held busy is d =
     let f = d.lun in
     let k = first_output v.lun.column in
     record {
       registers = d.registers;
       target = one_place g v.target Closed data_shown data_shown data_is;
-      lun = record { busy = f.busy; register = record { page = λ h. h; parameters = λ h. h; identifier = λ h. h; some = refl }; has_column = k.has; column = k.at; queue = f.queue; last_read = λ h. h; last_cache = λ h. h; last_other = λ h. h; cached_index = f.cached_index; cached_page = f.cached_page };
+      lun = record { busy = busy; register = is; has_column = k.has; column = k.at; queue = f.queue; last_read = λ h. h; last_cache = λ h. h; last_other = λ h. h; cached_index = f.cached_index; cached_page = f.cached_page };
     }
 
-parameters_at : (g : Parts) (v s a : State) → At g v s a → At g v (identity_read s ReadParameterPage) (identity_read a ReadParameterPage)
-parameters_at g v s a d =
-    let f = d.lun in
-    let k = first_output v.lun.column in
-    record {
-      registers = d.registers;
-      target = one_place g v.target Closed data_shown data_shown data_is;
-      lun = record { busy = λ h. h; register = record { page = λ h. h; parameters = λ h. h; identifier = λ h. h; some = refl }; has_column = k.has; column = k.at; queue = f.queue; last_read = λ h. h; last_cache = λ h. h; last_other = λ h. h; cached_index = f.cached_index; cached_page = f.cached_page };
-    }
-
--- what may take an identity takes it at its one place
-pub data Takes : Place → Type 0 where
-  no_identity : {p : Place} → is_asked p ≡ false → Takes p
-  identifier : (n : ℕ) → Takes (After ReadId n)
-  parameters : (n : ℕ) → Takes (After ReadParameterPage n)
-
-takes : (p : Place) → Takes p
-takes Closed = no_identity refl
-takes InData = no_identity refl
-takes (InColumn n) = no_identity refl
-takes Unknown = no_identity refl
-takes (After opener n) = at opener
+-- what 90h reads is one of three
+id_is : (byte : ℕ) → RegisterIs (id_held byte) (id_held byte)
+id_is byte = at (byte == 0x20) (byte == 0x40)
   where
-    at : (o : Command) → Takes (After o n)
-    at ReadId = identifier n
-    at ReadParameterPage = parameters n
-    at _ = no_identity refl
+    at : (a b : Bool) → RegisterIs (cond a (record { 0 = 4 }) (cond b (record { 0 = 16 }) (record { 0 = 8 }))) (cond a (record { 0 = 4 }) (cond b (record { 0 = 16 }) (record { 0 = 8 })))
+    at true b = held_is (record { 0 = 4 }) refl
+    at false true = held_is (record { 0 = 16 }) refl
+    at false false = held_is (record { 0 = 8 }) refl
 
-alone : (g : Parts) → InLimits g → (v s a : State) (from count : ℕ) (p : Place) → At g v s a → s.target.tail ≡ p → a.target.tail ≡ p → Takes p → At g v (address_leaves g s from count) (address_leaves g a from count)
-alone g l v s a from count p d e f (no_identity h) = plain g l v s a from count d (e ∙ sym f) (ap is_asked e ∙ h) (ap is_asked f ∙ h)
-alone g l v s a from count _ d e f (identifier n) =
-    subst (λ (x : State). At g v x (address_leaves g a from count)) (sym (ap (address_leaves_at g s from count) e))
-    (subst (λ (x : State). At g v (identity_read s ReadId) x) (sym (ap (address_leaves_at g a from count) f)) (identifier_at g v s a d))
-alone g l v s a from count _ d e f (parameters n) =
-    subst (λ (x : State). At g v x (address_leaves g a from count)) (sym (ap (address_leaves_at g s from count) e))
-    (subst (λ (x : State). At g v (identity_read s ReadParameterPage) x) (sym (ap (address_leaves_at g a from count) f)) (parameters_at g v s a d))
+id_at : (g : Parts) (v s a : State) (from : ℕ) → s.registers.column.lo ≡ a.registers.column.lo → At g v s a → At g v (identity_read s from ReadId) (identity_read a from ReadId)
+id_at g v s a from known d =
+    subst (λ (n : ℕ). At g v (identity_read s from ReadId) (beside_read a.lun.busy (id_held (byte_of_column from n)) a)) known
+    (beside_at g v s a s.lun.busy a.lun.busy (id_held (byte_of_column from s.registers.column.lo)) d.lun.busy (id_is (byte_of_column from s.registers.column.lo)) d)
 
-pub address_at : (g : Parts) → InLimits g → (v s a : State) (from count : ℕ) → At g v s a → s.target.tail ≡ a.target.tail → At g v (address_leaves g s from count) (address_leaves g a from count)
-address_at g l v s a from count d same = alone g l v s a from count s.target.tail d refl (sym same) (takes s.target.tail)
+features_at : (g : Parts) (v s a : State) → At g v s a → At g v (features_opened s) (features_opened a)
+features_at g v s a d = record { registers = d.registers; target = one_place g v.target (InFeatures 0) s.target.shows a.target.shows d.target.shows; lun = d.lun }
+
+lun_reset_at : (g : Parts) → InLimits g → (v s a : State) (from count n : ℕ) → At g v s a → s.target.tail ≡ a.target.tail → At g v (lun_reset g s from count n) (lun_reset g a from count n)
+lun_reset_at g l v s a from count n d same = at (n + count == 3)
+  where
+    at : (b : Bool) → At g v (cond b (reset_started s) (with_target s (target_after_addresses g s from count))) (cond b (reset_started a) (with_target a (target_after_addresses g a from count)))
+    at true = reset_at g v s a d
+    at false = gone_on g l v s a from count d same
+
+-- at one place both leave what is claimed
+opener_at : (g : Parts) → InLimits g → (v s a : State) (from count n : ℕ) (o : Command) → ((m : ℕ) → After o n ≡ After ReadId m → s.registers.column.lo ≡ a.registers.column.lo) → At g v s a → s.target.tail ≡ a.target.tail → At g v (address_leaves_at g s from count (After o n)) (address_leaves_at g a from count (After o n))
+opener_at g l v s a from count n ReadId known d same = id_at g v s a from (known n refl) d
+opener_at g l v s a from count n ReadParameterPage known d same = beside_at g v s a true true (record { 0 = 2 }) (λ h. h) (held_is (record { 0 = 2 }) refl) d
+opener_at g l v s a from count n ReadUniqueId known d same = beside_at g v s a true true (record { 0 = 32 }) (λ h. h) (held_is (record { 0 = 32 }) refl) d
+opener_at g l v s a from count n GetFeatures known d same = beside_at g v s a true true (record { 0 = 64 }) (λ h. h) (held_is (record { 0 = 64 }) refl) d
+opener_at g l v s a from count n SetFeatures known d same = features_at g v s a d
+opener_at g l v s a from count n ResetLun known d same = lun_reset_at g l v s a from count n d same
+opener_at g l v s a from count n o known d same = gone_on g l v s a from count d same
+
+place_at : (g : Parts) → InLimits g → (v s a : State) (from count : ℕ) (p : Place) → ((m : ℕ) → p ≡ After ReadId m → s.registers.column.lo ≡ a.registers.column.lo) → At g v s a → s.target.tail ≡ a.target.tail → At g v (address_leaves_at g s from count p) (address_leaves_at g a from count p)
+place_at g l v s a from count (After o n) known d same = opener_at g l v s a from count n o known d same
+place_at g l v s a from count Closed known d same = gone_on g l v s a from count d same
+place_at g l v s a from count InData known d same = gone_on g l v s a from count d same
+place_at g l v s a from count (InColumn n) known d same = gone_on g l v s a from count d same
+place_at g l v s a from count (InFeatures n) known d same = gone_on g l v s a from count d same
+place_at g l v s a from count Unknown known d same = gone_on g l v s a from count d same
+
+pub address_at : (g : Parts) → InLimits g → (v s a : State) (from count : ℕ) → At g v s a → s.target.tail ≡ a.target.tail → ((m : ℕ) → s.target.tail ≡ After ReadId m → s.registers.column.lo ≡ a.registers.column.lo) → At g v (address_leaves g s from count) (address_leaves g a from count)
+address_at g l v s a from count d same known = subst (λ (p : Place). At g v (address_leaves g s from count) (address_leaves_at g a from count p)) same (place_at g l v s a from count s.target.tail known d same)

@@ -1,16 +1,17 @@
 -- Inputs, outputs, commands and pages: what they leave of a claim is claimed of what they leave of an actual claim.
-use Rattle.std.proofs.Common.{◌≡◌, ℕ, ◌≤◌, Bool, true, false, ◌&&◌, ◌||◌, cond, Option, Some, None, refl, sym, ◌∙◌, subst, arith, zero, suc}
+use Rattle.std.proofs.Common.{◌≡◌, ℕ, ◌+◌, ◌≤◌, Bool, true, false, ◌&&◌, ◌||◌, cond, Option, Some, None, refl, sym, ◌∙◌, subst, arith, zero, suc}
+use Rattle.std.specs.Prelude.{nat_lt}
 use Rattle.std.proofs.lemmas.Bool.{and_parts, and_from}
 use Rattle.nand_geometry.specs.declared.parts.Parts.{Parts}
 use Rattle.nand_geometry.specs.Limits.{InLimits}
 use Rattle.onfi_cycle.specs.declared.command.Command.{Command}
-use Rattle.onfi_cycle.specs.declared.command.Command.TheVariants.{Read, ReadConfirm, ChangeReadColumn, ChangeReadColumnConfirm, BlockErase, BlockEraseConfirm, BlockErasePlane, PageProgram, ChangeWriteColumn, ProgramConfirm, ProgramPlane, ReadId, ReadParameterPage, Reset, ReadCacheSequential, ReadCacheEnd}
+use Rattle.onfi_cycle.specs.declared.command.Command.TheVariants.{Read, ReadConfirm, ChangeReadColumn, ChangeReadColumnConfirm, BlockErase, BlockEraseConfirm, BlockErasePlane, PageProgram, ChangeWriteColumn, ProgramConfirm, ProgramPlane, ReadId, ReadParameterPage, Reset, ReadCacheSequential, ReadCacheEnd, ReadUniqueId, GetFeatures, SetFeatures, ResetLun, SynchronousReset}
 use Rattle.micro_claims.specs.Spans.{Span}
 use Rattle.micro_claims.specs.Spans.{plus, plus_between}
 use Rattle.micro_claims.specs.Planes.{has_plane, no_planes, either_plane}
 use Rattle.micro_claims.specs.declared.state.State.{State}
 use Rattle.micro_claims.specs.declared.place.Place.{Place}
-use Rattle.micro_claims.specs.declared.place.Place.TheVariants.{Closed, After, InColumn}
+use Rattle.micro_claims.specs.declared.place.Place.TheVariants.{Closed, After, InData, InColumn, InFeatures, Unknown}
 use Rattle.micro_claims.specs.declared.drift.Drift.{Drift}
 use Rattle.micro_claims.specs.declared.named_row.NamedRow.{NamedRow}
 use Rattle.micro_claims.specs.declared.shown.Shown.{Shown}
@@ -21,12 +22,12 @@ use Rattle.micro_claims.specs.declared.last_closer.LastCloser.{LastCloser}
 use Rattle.micro_claims.specs.declared.cached_page.CachedPage.{CachedPage}
 use Rattle.micro_claims.specs.State.{other_closer, any_number, shows_status, shows_register}
 use Rattle.micro_claims.specs.Against.{same_test}
-use Rattle.micro_claims.specs.Leaves.{with_target, data_shown, rows_at, work_started, same_drift, queued_more, cache_read, command_leaves, column_read, get_leaves, span_more, put_leaves, page_register}
+use Rattle.micro_claims.specs.Leaves.{with_target, data_shown, rows_at, work_started, same_drift, queued_more, cache_read, command_leaves, column_read, get_leaves, span_more, place_moved, features_put, put_leaves_at, put_leaves, reset_started, page_register}
 use Rattle.micro_claims.specs.Order.{SpanAt, May, DriftIs, HasColumn, NamedIs, ShowsIs, RegisteredIs, RowsAre, At, column_number, output_number, Exactly}
 use Rattle.micro_claims.proofs.PlaneSets.{none_has}
 use Rattle.micro_walk.proofs.SpanLaws as numbers
 use Rattle.micro_walk.proofs.Shapes.{both_among}
-use Rattle.micro_walk.proofs.LeavesKept.{with_place, any_free, fine_of, one_place, data_is, resumed_is, read_is, OutputAt, first_output, given_is, rows_placed, cached_index_is, cached_page_is, lun_with_output, output_of}
+use Rattle.micro_walk.proofs.LeavesKept.{with_place, any_free, fine_of, one_place, data_is, resumed_is, read_is, OutputAt, first_output, given_is, held_is, registers_at, rows_placed, cached_index_is, cached_page_is, lun_with_output, output_of}
 
 -- 1. inputs and outputs
 
@@ -41,12 +42,17 @@ more_at v n None (Some m) h f = fine_of v v (plus any_number n) (plus m n) (numb
 more_at v n (Some k) None h f = absurd h
 more_at v n (Some k) (Some m) h f = numbers.grown v k m n f
 
-pub put_at : (g : Parts) (v s a : State) (n : ℕ) → At g v s a → At g v (put_leaves s n) (put_leaves a n)
-put_at g v s a n d = record {
-  registers = with_place g v.registers s.registers a.registers _ _ (numbers.grown v.registers.place s.registers.place a.registers.place n d.registers.place) d.registers;
-  target = (let t = d.target in record { tail = t.tail; has_column = more_has n s.target.column a.target.column t.has_column; column = more_at (column_number v.target.column) n s.target.column a.target.column t.has_column t.column; named = t.named; fine = t.fine; shows = t.shows });
-  lun = d.lun;
-}
+place_on : (g : Parts) (v s a : State) (n : ℕ) → At g v s a → At g v (place_moved n s) (place_moved n a)
+place_on g v s a n d = registers_at g v s a _ _ d (with_place g v.registers s.registers a.registers _ _ (numbers.grown v.registers.place s.registers.place a.registers.place n d.registers.place) d.registers)
+
+data_put : (g : Parts) (v s a : State) (n : ℕ) → At g v s a → At g v (place_moved n (with_target s (record s.target { column = span_more n s.target.column }))) (place_moved n (with_target a (record a.target { column = span_more n a.target.column })))
+data_put g v s a n d =
+    place_on g v _ _ n
+    (record {
+      registers = d.registers;
+      target = (let t = d.target in record { tail = t.tail; has_column = more_has n s.target.column a.target.column t.has_column; column = more_at (column_number v.target.column) n s.target.column a.target.column t.has_column t.column; named = t.named; fine = t.fine; shows = t.shows });
+      lun = d.lun;
+    })
 
 at_most_all : (b : Bool) (n : ℕ) → cond b 0 n ≤ n
 at_most_all true n = omega arith
@@ -125,7 +131,7 @@ queued_is g erase (SomeRows k ps d) (SomeRows j ms c) (Some n) (Some m) e f = at
     at false h = tt
 
 page_is : RegisteredIs page_register page_register
-page_is = record { page = λ h. h; parameters = λ h. h; identifier = λ h. h; some = refl }
+page_is = held_is (record { 0 = 1 }) refl
 
 opened_at : (g : Parts) (v s a : State) (p : Place) (w x : Option Shown) → ShowsIs w x → At g v s a → At g v (with_target s (record { tail = p; column = None; named = None; shows = w })) (with_target a (record { tail = p; column = None; named = None; shows = x }))
 opened_at g v s a p w x h d = record { registers = d.registers; target = one_place g v.target p w x h; lun = d.lun }
@@ -137,11 +143,40 @@ started_at g v s a q r h d = record {
   lun = record { busy = λ e. e; register = tt; has_column = tt; column = any_free _; queue = h; last_read = λ e. e; last_cache = λ e. e; last_other = λ e. e; cached_index = d.lun.cached_index; cached_page = d.lun.cached_page };
 }
 
+features_on : (g : Parts) (v s a : State) (inputs : ℕ) → At g v s a → At g v (features_put s inputs) (features_put a inputs)
+features_on g v s a inputs d = at (nat_lt inputs 4)
+  where
+    at : (b : Bool) → At g v (cond b (with_target s (record s.target { tail = InFeatures inputs })) (work_started s.lun.queue s)) (cond b (with_target a (record a.target { tail = InFeatures inputs })) (work_started a.lun.queue a))
+    at true = record {
+      registers = d.registers;
+      target = (let t = d.target in record { tail = Exactly (InFeatures inputs); has_column = t.has_column; column = t.column; named = t.named; fine = t.fine; shows = t.shows });
+      lun = d.lun;
+    }
+    at false = started_at g v s a s.lun.queue a.lun.queue d.lun.queue d
+
+put_at_place : (g : Parts) (v s a : State) (n : ℕ) → At g v s a → (p : Place) → At g v (put_leaves_at s n p) (put_leaves_at a n p)
+put_at_place g v s a n d (InFeatures inputs) = place_on g v _ _ n (features_on g v s a (inputs + n) d)
+put_at_place g v s a n d Closed = data_put g v s a n d
+put_at_place g v s a n d (After o m) = data_put g v s a n d
+put_at_place g v s a n d InData = data_put g v s a n d
+put_at_place g v s a n d (InColumn m) = data_put g v s a n d
+put_at_place g v s a n d Unknown = data_put g v s a n d
+
+pub put_at : (g : Parts) (v s a : State) (n : ℕ) → At g v s a → s.target.tail ≡ a.target.tail → At g v (put_leaves s n) (put_leaves a n)
+put_at g v s a n d same = subst (λ (p : Place). At g v (put_leaves s n) (put_leaves_at a n p)) same (put_at_place g v s a n d s.target.tail)
+
 cache_at : (g : Parts) (v s a : State) (last : LastCloser) (x y : CachedPage) → SpanAt v.lun.cached.index x.index y.index → SpanAt v.lun.cached.page x.page y.page → At g v s a → At g v (cache_read last x s) (cache_read last y a)
 cache_at g v s a last x y h k d = record {
   registers = d.registers;
   target = one_place g v.target Closed data_shown data_shown data_is;
   lun = record { busy = λ e. e; register = page_is; has_column = (first_output v.lun.column).has; column = (first_output v.lun.column).at; queue = d.lun.queue; last_read = λ e. e; last_cache = λ e. e; last_other = λ e. e; cached_index = h; cached_page = k };
+}
+
+pub reset_at : (g : Parts) (v s a : State) → At g v s a → At g v (reset_started s) (reset_started a)
+reset_at g v s a d = record {
+  registers = d.registers;
+  target = one_place g v.target Closed None None tt;
+  lun = record { busy = λ e. e; register = tt; has_column = tt; column = any_free _; queue = refl; last_read = λ e. e; last_cache = λ e. e; last_other = λ e. e; cached_index = d.lun.cached_index; cached_page = d.lun.cached_page };
 }
 
 pub command_at : (g : Parts) → InLimits g → (v s a : State) → At g v s a → (c : Command) → At g v (command_leaves g s c) (command_leaves g a c)
@@ -151,6 +186,10 @@ command_at g l v s a d BlockErase = opened_at g v s a (After BlockErase 0) _ _ d
 command_at g l v s a d PageProgram = opened_at g v s a (After PageProgram 0) _ _ d.target.shows d
 command_at g l v s a d ReadId = opened_at g v s a (After ReadId 0) _ _ d.target.shows d
 command_at g l v s a d ReadParameterPage = opened_at g v s a (After ReadParameterPage 0) _ _ d.target.shows d
+command_at g l v s a d ReadUniqueId = opened_at g v s a (After ReadUniqueId 0) _ _ d.target.shows d
+command_at g l v s a d GetFeatures = opened_at g v s a (After GetFeatures 0) _ _ d.target.shows d
+command_at g l v s a d SetFeatures = opened_at g v s a (After SetFeatures 0) _ _ d.target.shows d
+command_at g l v s a d ResetLun = opened_at g v s a (After ResetLun 0) _ _ d.target.shows d
 command_at g l v s a d ChangeWriteColumn = record {
   registers = d.registers;
   target = (let t = d.target in record { tail = Exactly (InColumn 0); has_column = t.has_column; column = t.column; named = t.named; fine = t.fine; shows = t.shows });
@@ -183,11 +222,8 @@ command_at g l v s a d BlockEraseConfirm = started_at g v s a NoRows NoRows refl
 command_at g l v s a d ProgramConfirm = started_at g v s a NoRows NoRows refl d
 command_at g l v s a d BlockErasePlane = started_at g v s a _ _ (queued_is g true s.lun.queue a.lun.queue s.target.named a.target.named d.lun.queue d.target.named) d
 command_at g l v s a d ProgramPlane = started_at g v s a _ _ (queued_is g false s.lun.queue a.lun.queue s.target.named a.target.named d.lun.queue d.target.named) d
-command_at g l v s a d Reset = record {
-  registers = d.registers;
-  target = one_place g v.target Closed None None tt;
-  lun = record { busy = λ e. e; register = tt; has_column = tt; column = any_free _; queue = refl; last_read = λ e. e; last_cache = λ e. e; last_other = λ e. e; cached_index = d.lun.cached_index; cached_page = d.lun.cached_page };
-}
+command_at g l v s a d Reset = reset_at g v s a d
+command_at g l v s a d SynchronousReset = reset_at g v s a d
 command_at g l v s a d ReadCacheSequential =
     cache_at g v s a _ _ _ (numbers.grown v.lun.cached.index s.lun.cached.index a.lun.cached.index 1 d.lun.cached_index) (numbers.grown v.lun.cached.page s.lun.cached.page a.lun.cached.page 1 d.lun.cached_page) d
 command_at g l v s a d ReadCacheEnd = cache_at g v s a other_closer s.lun.cached a.lun.cached d.lun.cached_index d.lun.cached_page d

@@ -13,7 +13,7 @@ use Rattle.micro_claims.specs.declared.registers.Registers.{Registers}
 use Rattle.micro_claims.specs.declared.known_target.KnownTarget.{KnownTarget}
 use Rattle.micro_claims.specs.declared.known_lun.KnownLun.{KnownLun}
 use Rattle.micro_claims.specs.declared.place.Place.{Place}
-use Rattle.micro_claims.specs.declared.place.Place.TheVariants.{Closed, After, InData, InColumn, Unknown}
+use Rattle.micro_claims.specs.declared.place.Place.TheVariants.{Closed, After, InData, InColumn, InFeatures, Unknown}
 use Rattle.micro_claims.specs.declared.drift.Drift.{Drift}
 use Rattle.micro_claims.specs.declared.named_row.NamedRow.{NamedRow}
 use Rattle.micro_claims.specs.declared.shown.Shown.{Shown}
@@ -96,6 +96,7 @@ place_itself Closed h = refl
 place_itself (After c n) h = h
 place_itself InData h = refl
 place_itself (InColumn n) h = h
+place_itself (InFeatures n) h = h
 
 places_join : (p q : Place) → Both (is_place_within p (joined_place p q)) (is_place_within q (joined_place p q))
 places_join p q = at (same_place p q) refl (is_open_place p) refl (is_open_place q) refl

@@ -1,5 +1,5 @@
 -- What a word leaves of a claim is claimed of what it leaves of an actual claim.
-use Rattle.std.proofs.Common.{◌≡◌, ℕ, ◌<◌, ◌≤◌, ◌==◌, Bool, true, false, cond, Option, Some, None, refl, sym, ap, subst, arith}
+use Rattle.std.proofs.Common.{◌≡◌, ℕ, ◌<◌, ◌≤◌, ◌==◌, Bool, true, false, ◌||◌, cond, Option, Some, None, refl, sym, ap, subst, arith}
 use Rattle.std.specs.Prelude.{nat_lt}
 use Rattle.nand_geometry.specs.declared.parts.Parts.{Parts}
 use Rattle.nand_geometry.specs.Limits.{InLimits}
@@ -20,9 +20,10 @@ use Rattle.micro_claims.specs.declared.shown.Shown.{Shown}
 use Rattle.micro_claims.specs.declared.output_column.OutputColumn.{OutputColumn}
 use Rattle.micro_claims.specs.declared.queued_rows.QueuedRows.{QueuedRows}
 use Rattle.micro_claims.specs.declared.queued_rows.QueuedRows.TheVariants.{NoRows, SomeRows, AnyRows}
-use Rattle.micro_claims.specs.State.{closed, any_number}
+use Rattle.micro_claims.specs.declared.held.Held.{Held}
+use Rattle.micro_claims.specs.State.{closed, any_number, holds_page, holds_parameters, holds_identifier, holds_identity, holds_jedec, holds_unique_id, holds_feature}
 use Rattle.micro_claims.specs.Leaves.{with_registers, status_shown, data_shown, resumed_shows, unread, given_at, cost_plus, paid, polled, found_ready, handed_over, drift_moved, and_drift, rows_at, named_moved, rows_moved, index_moved, drift_set, cached_at, shows_after_read}
-use Rattle.micro_claims.specs.Order.{SpanAt, SpanIs, AllAmong, May, DriftIs, RegistersAt, HasColumn, NamedIs, IsFineNamed, ShowsIs, TargetAt, HasOutput, RowsAre, LunAt, At, column_number, output_number, Exactly}
+use Rattle.micro_claims.specs.Order.{SpanAt, SpanIs, AllAmong, May, DriftIs, RegistersAt, HasColumn, NamedIs, IsFineNamed, ShowsIs, TargetAt, RegisterIs, HasOutput, RowsAre, LunAt, At, column_number, output_number, Exactly}
 use Rattle.micro_walk.proofs.SpanLaws as numbers
 use Rattle.micro_walk.proofs.SpanLaws.{only_too}
 use Rattle.micro_walk.proofs.Shapes.{among_self}
@@ -108,6 +109,10 @@ read_is g (Some w) (Some x) h = data_is
 pub record OutputAt (v s a : Option OutputColumn) : Type 0 where
   pub has : HasOutput s a
   pub at : SpanAt (output_number v) (output_number s) (output_number a)
+
+-- what may be held is held where it is so
+pub held_is : (r : Held) → (holds_page r || (holds_parameters r || (holds_identifier r || (holds_identity r || (holds_jedec r || (holds_unique_id r || holds_feature r)))))) ≡ true → RegisterIs r r
+held_is r h = record { page = λ e. e; parameters = λ e. e; identifier = λ e. e; identity = λ e. e; jedec = λ e. e; unique_id = λ e. e; feature = λ e. e; some = h }
 
 pub no_output : (v : Option OutputColumn) → OutputAt v None None
 no_output v = record { has = tt; at = any_free _ }

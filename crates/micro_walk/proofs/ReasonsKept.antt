@@ -5,8 +5,8 @@ use Rattle.std.proofs.lemmas.Bool.Decides.{nat_tests}
 use Rattle.nand_geometry.specs.declared.parts.Parts.{Parts}
 use Rattle.nand_geometry.specs.Limits.{InLimits, planes}
 use Rattle.onfi_cycle.specs.declared.command.Command.{Command}
-use Rattle.onfi_cycle.specs.declared.command.Command.TheVariants.{Read, ChangeReadColumn, ChangeReadColumnConfirm, BlockErase, PageProgram, ReadId, ReadParameterPage, ReadCacheSequential, ReadCacheEnd}
-use Rattle.onfi_cycle.specs.Command.{command, is_opener}
+use Rattle.onfi_cycle.specs.declared.command.Command.TheVariants.{Read, ChangeReadColumn, ChangeReadColumnConfirm, BlockErase, PageProgram, ReadId, ReadParameterPage, ReadUniqueId, GetFeatures, SetFeatures, ReadCacheSequential, ReadCacheEnd}
+use Rattle.onfi_cycle.specs.Command.{command, is_opener, addresses_the_array}
 use Rattle.micro_word.specs.declared.word.Word.{Word}
 use Rattle.micro_word.specs.declared.word.Word.TheVariants.{End, Address, Get, Put, Column, RowAdd, Row, Plane, Wait, Yield, ReadStatus, BranchOnStatus}
 use Rattle.micro_word.specs.declared.word.Word.TheVariants.{Command as CommandWord}
@@ -15,14 +15,14 @@ use Rattle.micro_claims.specs.Spans.{Span}
 use Rattle.micro_claims.specs.Spans.{bound_plus, is_at_most, greatest_bound}
 use Rattle.micro_claims.specs.declared.state.State.{State}
 use Rattle.micro_claims.specs.declared.place.Place.{Place}
-use Rattle.micro_claims.specs.declared.place.Place.TheVariants.{Closed, After, InData, InColumn, Unknown}
+use Rattle.micro_claims.specs.declared.place.Place.TheVariants.{Closed, After, InData, InColumn, InFeatures, Unknown}
 use Rattle.micro_claims.specs.declared.output_column.OutputColumn.{OutputColumn}
 use Rattle.micro_claims.specs.declared.bounds.Bounds.{Bounds}
-use Rattle.micro_claims.specs.Against.{may_be_open, addresses_left, next_address, takes_identity_at, is_inside_address, drives, least_length, is_unfit, opener_refused, closer_refused, command_out_of_place, command_past_rows, has_second_column, column_limit, identity_refused, row_refused, surely_past, address_out_of_place, begins_elsewhere, column_past, row_outside, output_refused, column_bound, output_past, span_bound, input_past}
+use Rattle.micro_claims.specs.Against.{may_end_sequence, may_be_open, is_in_features, addresses_left, next_address, takes_identity_at, is_inside_address, drives, least_length, is_unfit, identity_opener_refused, opener_refused, closer_refused, command_out_of_place, command_past_rows, has_second_column, column_limit, identity_refused, row_refused, surely_past, address_out_of_place, begins_elsewhere, column_past, row_outside, output_refused, column_bound, output_past, span_bound, input_past}
 use Rattle.micro_claims.specs.Reasons.{breaks_cycle_forbidden, breaks_address_unaligned, breaks_handover_in_sequence, breaks_buffer_passed, breaks_row_or_plane_outside, breaks_column_too_large, breaks_no_status, breaks_ends_too_soon, breaks_over_budget, breaks_command_not_allowed}
 use Rattle.micro_claims.specs.Order.{top, May, column_number, output_number, At}
 use Rattle.micro_walk.proofs.Shapes.{and_on, or_on, not_on, same_on, no_too}
-use Rattle.micro_walk.proofs.TestsKept.{Clear, cond_on, most_on, only_data_on, drives_on, show_on, has_register_on, has_page_on, has_column_on, queued_on, length_on, queue_on, identity_byte_on, span_is, open_too, wants_too, data_too, inside_too, known_place, planes_on}
+use Rattle.micro_walk.proofs.TestsKept.{Clear, cond_on, most_on, only_data_on, drives_on, show_on, has_register_on, has_page_on, has_column_on, queued_on, length_on, queue_on, identity_byte_on, span_is, open_too, wants_too, inputs_too, features_too, inside_too, known_place, planes_on}
 
 -- 1. parts of reasons, each by the combinators
 
@@ -32,14 +32,20 @@ open_on g v s a d = open_too s.target.tail a.target.tail d.target.tail
 not_drives_on : (g : Parts) (v s a : State) → At g v s a → May (not (drives a.target.shows)) (not (drives s.target.shows))
 not_drives_on g v s a d = not_on _ _ (drives_on s.target.shows a.target.shows d.target.shows)
 
+identity_opener_on : (g : Parts) (v s a : State) → At g v s a → May (identity_opener_refused g a) (identity_opener_refused g s)
+identity_opener_on g v s a d = and_on _ _ _ _ (same_on _) (or_on _ _ _ _ (or_on _ _ _ _ d.lun.busy (queued_on s.lun.queue a.lun.queue d.lun.queue)) d.lun.last_cache)
+
 opener_on : (g : Parts) (v s a : State) → At g v s a → (c : Command) → May (opener_refused g a c) (opener_refused g s c)
 opener_on g v s a d ChangeReadColumn =
     or_on _ _ _ _ (or_on _ _ _ _ (not_on _ _ (only_data_on s.target.shows a.target.shows d.target.shows)) d.lun.busy) (not_on _ _ (has_page_on s.lun.register a.lun.register d.lun.register))
 opener_on g v s a d Read = d.lun.busy
 opener_on g v s a d BlockErase = d.lun.busy
 opener_on g v s a d PageProgram = d.lun.busy
-opener_on g v s a d ReadId = and_on _ _ _ _ (same_on _) (or_on _ _ _ _ (or_on _ _ _ _ d.lun.busy (queued_on s.lun.queue a.lun.queue d.lun.queue)) d.lun.last_cache)
-opener_on g v s a d ReadParameterPage = and_on _ _ _ _ (same_on _) (or_on _ _ _ _ (or_on _ _ _ _ d.lun.busy (queued_on s.lun.queue a.lun.queue d.lun.queue)) d.lun.last_cache)
+opener_on g v s a d ReadId = identity_opener_on g v s a d
+opener_on g v s a d ReadParameterPage = identity_opener_on g v s a d
+opener_on g v s a d ReadUniqueId = identity_opener_on g v s a d
+opener_on g v s a d GetFeatures = identity_opener_on g v s a d
+opener_on g v s a d SetFeatures = identity_opener_on g v s a d
 opener_on g v s a d ReadCacheSequential =
     or_on _ _ _ _ (or_on _ _ _ _ (or_on _ _ _ _ (not_drives_on g v s a d) d.lun.busy) d.lun.last_other)
     (not_on _ _ (most_on s.lun.cached.page.hi a.lun.cached.page.hi 2 g.pages g.pages d.lun.cached_page.high (omega arith)))
@@ -53,7 +59,7 @@ closer_on g v s a d _ = same_on _
 command_on : (g : Parts) (v s a : State) → At g v s a → (c : Command) → May (command_out_of_place g a c) (command_out_of_place g s c)
 command_on g v s a d c =
     cond_on (is_unfit g c) _ _ _ _ (same_on false)
-    (cond_on (is_opener c) _ _ _ _ (or_on _ _ _ _ (open_on g v s a d) (opener_on g v s a d c))
+    (cond_on (is_opener c) _ _ _ _ (or_on _ _ _ _ (and_on _ _ _ _ (same_on (not (may_end_sequence g c))) (open_on g v s a d)) (opener_on g v s a d c))
     (or_on _ _ _ _ (not_on _ _ (wants_too c s.target.tail a.target.tail d.target.tail)) (closer_on g v s a d c)))
 
 rows_on : (g : Parts) (rows : ℕ) (v s a : State) → At g v s a → (c : Command) → May (command_past_rows g rows a c) (command_past_rows g rows s c)
@@ -95,7 +101,7 @@ input_on g v s a n d =
     let x = span_top s.target.column in
     let y = span_top a.target.column in
     let z = d.target.column.high in
-    not_on _ _ (most_on (span_bound s.target.column) (span_bound a.target.column) n _ _ (omega (arith, x, y, z)) (omega arith))
+    and_on _ _ _ _ (not_on _ _ (features_too s.target.tail a.target.tail d.target.tail)) (not_on _ _ (most_on (span_bound s.target.column) (span_bound a.target.column) n _ _ (omega (arith, x, y, z)) (omega arith)))
 
 -- 2. addresses
 
@@ -103,6 +109,7 @@ limit_on : (g : Parts) → InLimits g → (v s a : State) → At g v s a → (p 
 limit_on g l v s a d Closed = omega arith
 limit_on g l v s a d InData = omega arith
 limit_on g l v s a d (InColumn n) = omega arith
+limit_on g l v s a d (InFeatures n) = omega arith
 limit_on g l v s a d Unknown = omega arith
 limit_on g l v s a d (After opener n) = at opener
   where
@@ -130,16 +137,19 @@ row_on : (g : Parts) (v s a : State) → At g v s a → (p : Place) → May (row
 row_on g v s a d Closed = same_on _
 row_on g v s a d InData = same_on _
 row_on g v s a d (InColumn n) = same_on _
+row_on g v s a d (InFeatures n) = same_on _
 row_on g v s a d Unknown = same_on _
-row_on g v s a d (After opener n) = or_on _ _ _ _ (or_on _ _ _ _ d.lun.busy d.lun.last_cache) (queue_on s.lun.queue a.lun.queue s.registers.planes a.registers.planes opener d.lun.queue d.registers.planes)
+row_on g v s a d (After opener n) =
+    and_on _ _ _ _ (same_on (addresses_the_array opener)) (or_on _ _ _ _ (or_on _ _ _ _ d.lun.busy d.lun.last_cache) (queue_on s.lun.queue a.lun.queue s.registers.planes a.registers.planes opener d.lun.queue d.registers.planes))
 
 identity_on : (g : Parts) (v s a : State) (from count : ℕ) → At g v s a → (p : Place) → May (identity_refused g a from count p) (identity_refused g s from count p)
 identity_on g v s a from count d Closed = same_on _
 identity_on g v s a from count d InData = same_on _
 identity_on g v s a from count d (InColumn n) = same_on _
+identity_on g v s a from count d (InFeatures n) = same_on _
 identity_on g v s a from count d Unknown = same_on _
 identity_on g v s a from count d (After opener n) =
-    or_on _ _ _ _ (same_on _) (not_on _ _ (identity_byte_on s.registers.column a.registers.column opener from (span_is v.registers.column s.registers.column a.registers.column d.registers.column)))
+    or_on _ _ _ _ (same_on _) (not_on _ _ (identity_byte_on g s.registers.column a.registers.column opener from (span_is v.registers.column s.registers.column a.registers.column d.registers.column)))
 
 -- a column that isn't past its limit isn't surely past it
 not_surely : (lo limit : ℕ) (hi : Option ℕ) → lo ≤ top hi → is_at_most (bound_plus hi 1) limit ≡ true → nat_le limit lo ≡ false
@@ -187,7 +197,7 @@ no_cycle_forbidden g l text v s a d (Address from count) c =
     let same = known_place g s from count s.target.tail a.target.tail d.target.tail c.no_cycle_forbidden in
     subst (λ (p : Place). address_out_of_place g a from count p ≡ false) same (address_on g v s a from count d s.target.tail c.no_column_too_large c.no_cycle_forbidden)
 no_cycle_forbidden g l text v s a d (Get len) c = output_on g v s a d c.no_cycle_forbidden
-no_cycle_forbidden g l text v s a d (Put len) c = no_too _ _ (not_on _ _ (data_too s.target.tail a.target.tail d.target.tail)) c.no_cycle_forbidden
+no_cycle_forbidden g l text v s a d (Put len) c = no_too _ _ (not_on _ _ (inputs_too len s.target.tail a.target.tail d.target.tail)) c.no_cycle_forbidden
 no_cycle_forbidden g l text v s a d ReadStatus c = no_too _ _ (open_on g v s a d) c.no_cycle_forbidden
 no_cycle_forbidden g l text v s a d word c = refl
 

@@ -5,7 +5,7 @@ use Rattle.onfi_cycle.specs.declared.command.Command.{Command}
 use Rattle.onfi_cycle.specs.Command.{command, opcode}
 use Rattle.onfi_cycle.proofs.CommandBytes.{commands_have_bytes}
 use Rattle.micro_claims.specs.declared.place.Place.{Place}
-use Rattle.micro_claims.specs.declared.place.Place.TheVariants.{Closed, After, InData, InColumn, Unknown}
+use Rattle.micro_claims.specs.declared.place.Place.TheVariants.{Closed, After, InData, InColumn, InFeatures, Unknown}
 use Rattle.micro_claims.specs.declared.drift.Drift.{Drift}
 use Rattle.micro_claims.specs.declared.planes.Planes.{Planes}
 use Rattle.micro_claims.specs.Planes.{has_plane, either_plane}
@@ -42,18 +42,27 @@ same_is (After c n) (After d m) h =
     ap (λ (k : Command). After k n) x ∙ ap (λ (k : ℕ). After d k) y
 same_is InData InData h = refl
 same_is (InColumn n) (InColumn m) h = ap (λ (k : ℕ). InColumn k) (eqb-true n m h)
+same_is (InFeatures n) (InFeatures m) h = ap (λ (k : ℕ). InFeatures k) (eqb-true n m h)
 same_is Closed (After d m) h = absurd cc
 same_is Closed InData h = absurd cc
 same_is Closed (InColumn m) h = absurd cc
+same_is Closed (InFeatures m) h = absurd cc
 same_is (After c n) Closed h = absurd cc
 same_is (After c n) InData h = absurd cc
 same_is (After c n) (InColumn m) h = absurd cc
+same_is (After c n) (InFeatures m) h = absurd cc
 same_is InData Closed h = absurd cc
 same_is InData (After d m) h = absurd cc
 same_is InData (InColumn m) h = absurd cc
+same_is InData (InFeatures m) h = absurd cc
 same_is (InColumn n) Closed h = absurd cc
 same_is (InColumn n) (After d m) h = absurd cc
 same_is (InColumn n) InData h = absurd cc
+same_is (InColumn n) (InFeatures m) h = absurd cc
+same_is (InFeatures n) Closed h = absurd cc
+same_is (InFeatures n) (After d m) h = absurd cc
+same_is (InFeatures n) InData h = absurd cc
+same_is (InFeatures n) (InColumn m) h = absurd cc
 same_is Unknown q h = absurd cc
 same_is p Unknown h = absurd (never p h)
   where
@@ -62,6 +71,7 @@ same_is p Unknown h = absurd (never p h)
     never (After c n) h = cc
     never InData h = cc
     never (InColumn n) h = cc
+    never (InFeatures n) h = cc
     never Unknown h = cc
 
 -- 3. flags: what may be in the actual claim may be in the other

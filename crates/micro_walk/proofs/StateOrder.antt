@@ -9,7 +9,7 @@ use Rattle.micro_claims.specs.declared.state.State.{State}
 use Rattle.micro_claims.specs.declared.registers.Registers.{Registers}
 use Rattle.micro_claims.specs.declared.known_target.KnownTarget.{KnownTarget}
 use Rattle.micro_claims.specs.declared.known_lun.KnownLun.{KnownLun}
-use Rattle.micro_claims.specs.declared.place.Place.TheVariants.{Closed, After, InData, InColumn, Unknown}
+use Rattle.micro_claims.specs.declared.place.Place.TheVariants.{Closed, After, InData, InColumn, InFeatures, Unknown}
 use Rattle.micro_claims.specs.declared.named_row.NamedRow.{NamedRow}
 use Rattle.micro_claims.specs.declared.shown.Shown.{Shown}
 use Rattle.micro_claims.specs.declared.held.Held.{Held}
@@ -104,6 +104,7 @@ place_eased s Closed a h f = NothingOpen a (still_closed s a f (not-true (is_ope
 place_eased s (After c n) a h f = subst (λ (p : Place). PlaceIs p a) (same_is s (After c n) h) f
 place_eased s InData a h f = subst (λ (p : Place). PlaceIs p a) (same_is s InData h) f
 place_eased s (InColumn n) a h f = subst (λ (p : Place). PlaceIs p a) (same_is s (InColumn n) h) f
+place_eased s (InFeatures n) a h f = subst (λ (p : Place). PlaceIs p a) (same_is s (InFeatures n) h) f
 
 has_column_eased : (s t a : Option Span) → is_column_within s t ≡ true → HasColumn s a → HasColumn t a
 has_column_eased s None a h f = tt
@@ -166,6 +167,10 @@ register_eased (Some w) (Some x) (Some y) h f =
       page = λ e. has_more 1 w.0 x.0 h (f.page e);
       parameters = λ e. has_more 2 w.0 x.0 h (f.parameters e);
       identifier = λ e. has_more 4 w.0 x.0 h (f.identifier e);
+      identity = λ e. has_more 8 w.0 x.0 h (f.identity e);
+      jedec = λ e. has_more 16 w.0 x.0 h (f.jedec e);
+      unique_id = λ e. has_more 32 w.0 x.0 h (f.unique_id e);
+      feature = λ e. has_more 64 w.0 x.0 h (f.feature e);
       some = f.some;
     }
 

@@ -1,12 +1,15 @@
 -- What isn't against a word in a claim isn't against it in an actual claim of which it is claimed.
-use Rattle.std.proofs.Common.{◌≡◌, ℕ, ◌≤◌, ◌==◌, Bool, true, false, ◌&&◌, ◌||◌, cond, not, Option, Some, None, refl, sym, ap, ◌∙◌, subst, arith}
+use Rattle.std.proofs.Common.{◌≡◌, ℕ, ◌-◌, ◌≤◌, ◌==◌, Bool, true, false, ◌&&◌, ◌||◌, cond, not, Option, Some, None, refl, sym, ap, ◌∙◌, subst, arith}
 use Rattle.std.specs.Prelude.{nat_le, nat_lt, min}
 use Rattle.std.proofs.lemmas.Bool.Decides.{nat_tests}
-use Rattle.std.proofs.lemmas.Bool.{or_left, and_parts, and_from}
+use Rattle.std.proofs.lemmas.Bool.{not-false, or_left, or_parts, and_parts, and_from}
 use Rattle.nand_geometry.specs.declared.parts.Parts.{Parts}
 use Rattle.nand_geometry.specs.Limits.{InLimits, page_len}
 use Rattle.onfi_cycle.specs.declared.command.Command.{Command}
-use Rattle.onfi_cycle.specs.declared.command.Command.TheVariants.{Read}
+use Rattle.onfi_cycle.specs.declared.command.Command.TheVariants.{Read, ReadId}
+use Rattle.onfi_cycle.specs.declared.register.Register.{Register}
+use Rattle.onfi_cycle.specs.declared.register.Register.TheVariants.{Empty, Page, ParameterPage, Identifier, Identity, JedecIdentity, UniqueId, Features}
+use Rattle.onfi_cycle.specs.Rules.{register_len}
 use Rattle.micro_word.specs.declared.word.Word.{Word}
 use Rattle.micro_claims.specs.declared.refusal.Reason.{Reason}
 use Rattle.micro_claims.specs.declared.refusal.Reason.TheVariants.{CycleForbidden, AddressUnaligned, HandoverInSequence, BufferPassed, RowOrPlaneOutside, ColumnTooLarge, NoStatus, EndsTooSoon, OverBudget, CommandNotAllowed}
@@ -21,15 +24,18 @@ use Rattle.micro_claims.specs.declared.queued_rows.QueuedRows.{QueuedRows}
 use Rattle.micro_claims.specs.declared.queued_rows.QueuedRows.TheVariants.{NoRows, SomeRows, AnyRows}
 use Rattle.micro_claims.specs.declared.drift.Drift.{Drift}
 use Rattle.micro_claims.specs.declared.bounds.Bounds.{Bounds}
-use Rattle.micro_claims.specs.declared.place.Place.TheVariants.{Unknown, Closed, After, InData, InColumn}
+use Rattle.micro_claims.specs.declared.place.Place.TheVariants.{Unknown, Closed, After, InData, InColumn, InFeatures}
 use Rattle.micro_claims.specs.declared.planes.Planes.{Planes}
-use Rattle.micro_claims.specs.Against.{shows_only_data, drives, may_show_data, has_register, has_page_or_parameters, has_column, least_length, may_be_queued, is_read, is_erase, same_test, queue_refuses, is_identity_byte, is_open_place, place_wants, is_in_data, is_inside_address, address_out_of_place}
+use Rattle.micro_claims.specs.Against.{shows_only_data, drives, may_show_data, has_register, holds_short, has_page_or_parameters, has_column, length_of, least_length, may_be_queued, is_read, is_erase, same_test, queue_refuses, byte_of_column, takes_any_byte, takes_identity, is_identity_byte, is_open_place, place_wants, is_in_features, takes_inputs_at, is_inside_address, address_out_of_place}
 use Rattle.micro_claims.specs.Reasons.{breaks_cycle_forbidden, breaks_address_unaligned, breaks_handover_in_sequence, breaks_buffer_passed, breaks_row_or_plane_outside, breaks_column_too_large, breaks_no_status, breaks_ends_too_soon, breaks_over_budget, breaks_command_not_allowed, reason_against}
 use Rattle.micro_claims.specs.declared.planes.Planes.{Planes}
 use Rattle.micro_claims.specs.Planes.{has_plane, share_a_plane, are_below}
-use Rattle.micro_claims.specs.Order.{top, SpanAt, SpanIs, AllAmong, May, PlaceIs, Anywhere, NothingOpen, Exactly, ShowsIs, RegisteredIs, HasOutput, RowsAre}
-use Rattle.micro_claims.specs.State.{shows_status, holds_page, holds_parameters, holds_identifier}
+use Rattle.micro_claims.specs.Order.{top, SpanAt, SpanIs, AllAmong, May, PlaceIs, Anywhere, NothingOpen, Exactly, ShowsIs, RegisterIs, RegisteredIs, HasOutput, RowsAre}
+use Rattle.micro_claims.specs.State.{shows_status, holds_page, holds_parameters, holds_identifier, holds_identity, holds_jedec, holds_unique_id, holds_feature}
 use Rattle.micro_claims.proofs.PlaneSets.{below_count, below_all, shared, sharing}
+use Rattle.micro_claims.proofs.Fits.{register_among}
+use Rattle.micro_claims.proofs.Words.{held_length}
+use Rattle.micro_claims.proofs.Identities.{any_byte, least_is}
 use Rattle.micro_walk.proofs.SpanLaws.{at_most_too, only_too}
 use Rattle.micro_walk.proofs.Shapes.{or_on, not_on, same_on}
 
@@ -94,16 +100,28 @@ wants_too c _ _ (Anywhere p) h = absurd cc
 wants_too c _ _ (NothingOpen p e) h = absurd cc
 wants_too c _ _ (Exactly p) h = h
 
-pub data_too : (s a : Place) → PlaceIs s a → May (is_in_data s) (is_in_data a)
-data_too _ _ (Anywhere p) h = absurd cc
-data_too _ _ (NothingOpen p e) h = absurd cc
-data_too _ _ (Exactly p) h = h
+pub inputs_too : (n : ℕ) (s a : Place) → PlaceIs s a → May (takes_inputs_at n s) (takes_inputs_at n a)
+inputs_too n _ _ (Anywhere p) h = absurd cc
+inputs_too n _ _ (NothingOpen p e) h = absurd cc
+inputs_too n _ _ (Exactly p) h = h
+
+pub features_too : (s a : Place) → PlaceIs s a → May (is_in_features s) (is_in_features a)
+features_too _ _ (Anywhere p) h = absurd cc
+features_too _ _ (NothingOpen p e) h = absurd cc
+features_too _ _ (Exactly p) h = h
+
+-- where inputs may come the place is known
+pub known_inputs : (n : ℕ) (s a : Place) → PlaceIs s a → takes_inputs_at n s ≡ true → s ≡ a
+known_inputs n _ _ (Anywhere p) h = absurd cc
+known_inputs n _ _ (NothingOpen p e) h = absurd cc
+known_inputs n _ _ (Exactly p) h = refl
 
 -- inside an address something is open
 inside_open : (p : Place) → is_inside_address p ≡ true → is_open_place p ≡ true
 inside_open Closed h = absurd cc
 inside_open InData h = refl
 inside_open (InColumn n) h = refl
+inside_open (InFeatures n) h = refl
 inside_open Unknown h = refl
 inside_open (After o n) h = by o h
   where
@@ -168,7 +186,7 @@ has_register_on (Some w) (Some x) f h = refl
 pub has_page_on : (s a : Option Held) → RegisteredIs s a → May (has_page_or_parameters s) (has_page_or_parameters a)
 has_page_on None a f h = absurd cc
 has_page_on (Some w) None f h = absurd f
-has_page_on (Some w) (Some x) f h = not_on (holds_identifier w) (holds_identifier x) f.identifier h
+has_page_on (Some w) (Some x) f h = not_on (holds_short w) (holds_short x) (or_on _ _ _ _ f.identifier (or_on _ _ _ _ f.identity (or_on _ _ _ _ f.jedec f.feature))) h
 
 pub has_column_on : (s a : Option OutputColumn) → HasOutput s a → May (has_column s) (has_column a)
 has_column_on None a f h = absurd cc
@@ -180,33 +198,54 @@ queued_on NoRows a f h = sym (ap may_be_queued f) ∙ h
 queued_on AnyRows a f h = refl
 queued_on (SomeRows erase ps d) a f h = refl
 
+-- what is held is held where it is claimed
+among_too : (r q : Held) → RegisterIs r q → (x : Register) → register_among q x ≡ true → register_among r x ≡ true
+among_too r q f Empty h = h
+among_too r q f (Page p) h = f.page h
+among_too r q f ParameterPage h = f.parameters h
+among_too r q f Identifier h = f.identifier h
+among_too r q f Identity h = f.identity h
+among_too r q f JedecIdentity h = f.jedec h
+among_too r q f UniqueId h = f.unique_id h
+among_too r q f (Features a) h = f.feature h
+
+-- a register that may be held is as short as the least length
+record Shortest (g : Parts) (q : Held) (length : ℕ) : Type 0 where
+  register : Register
+  held : register_among q register ≡ true
+  least : register_len g register ≤ length
+
+shorter_page : (g : Parts) (q : Held) → holds_page q ≡ true → holds_parameters q ≡ true → Shortest g q (min 768 (page_len g))
+shorter_page g q p m = at (nat_le 768 (page_len g)) refl
+  where
+    at : (b : Bool) → nat_le 768 (page_len g) ≡ b → Shortest g q (min 768 (page_len g))
+    at true e = record { register = ParameterPage; held = m; least = grind (arith, nat_tests, e) }
+    at false e = record { register = Page (record { block = 0; page = 0 }); held = p; least = grind (arith, nat_tests, e) }
+
+shortest : (g : Parts) (q : Held) → (holds_page q || (holds_parameters q || (holds_identifier q || (holds_identity q || (holds_jedec q || (holds_unique_id q || holds_feature q)))))) ≡ true → Shortest g q (length_of g q)
+shortest g q some = by (holds_identifier q) (holds_feature q) (holds_jedec q) (holds_identity q) (holds_unique_id q) (holds_page q) (holds_parameters q) refl refl refl refl refl refl refl some
+  where
+    by : (i f j d u p m : Bool) → holds_identifier q ≡ i → holds_feature q ≡ f → holds_jedec q ≡ j → holds_identity q ≡ d → holds_unique_id q ≡ u → holds_page q ≡ p → holds_parameters q ≡ m → (p || (m || (i || (d || (j || (u || f)))))) ≡ true → Shortest g q (cond (i || f) 4 (cond j 6 (cond d 8 (cond u 512 (cond p (cond m (min 768 (page_len g)) (page_len g)) 768)))))
+    by true f j d u p m ei ef ej ed eu ep em s = record { register = Identifier; held = ei; least = omega arith }
+    by false true j d u p m ei ef ej ed eu ep em s = record { register = Features 0; held = ef; least = omega arith }
+    by false false true d u p m ei ef ej ed eu ep em s = record { register = JedecIdentity; held = ej; least = omega arith }
+    by false false false true u p m ei ef ej ed eu ep em s = record { register = Identity; held = ed; least = omega arith }
+    by false false false false true p m ei ef ej ed eu ep em s = record { register = UniqueId; held = eu; least = omega arith }
+    by false false false false false true true ei ef ej ed eu ep em s = shorter_page g q ep em
+    by false false false false false true false ei ef ej ed eu ep em s = record { register = Page (record { block = 0; page = 0 }); held = ep; least = omega arith }
+    by false false false false false false true ei ef ej ed eu ep em s = record { register = ParameterPage; held = em; least = omega arith }
+    by false false false false false false false ei ef ej ed eu ep em s = absurd cc
+
 -- the least length of the register
 pub length_on : (g : Parts) → InLimits g → (s a : Option Held) → RegisteredIs s a → least_length g s ≤ least_length g a
 length_on g l None a f = omega arith
 length_on g l (Some r) None f = absurd f
-length_on g l (Some r) (Some q) f = at (holds_page r) (holds_parameters r) (holds_identifier r) (holds_page q) (holds_parameters q) (holds_identifier q) f.page f.parameters f.identifier f.some
-  where
-    len : 512 ≤ page_len g
-    len = let x = l.page_bytes_least in omega (arith, x)
-
-    by : Bool → Bool → Bool → ℕ
-    by page parameters identifier = cond identifier 4 (cond page (cond parameters (min 768 (page_len g)) (page_len g)) 768)
-
-    at : (p m i p2 m2 i2 : Bool) → May p2 p → May m2 m → May i2 i → (p2 || (m2 || i2)) ≡ true → by p m i ≤ by p2 m2 i2
-    at p m true p2 m2 true x y z e = omega arith
-    at p m true true true false x y z e = omega (arith, len)
-    at p m true true false false x y z e = omega (arith, len)
-    at p m true false m2 false x y z e = omega arith
-    at p m false p2 m2 true x y z e = absurd (let h = z refl in cc)
-    at true true false true true false x y z e = omega arith
-    at true true false true false false x y z e = omega arith
-    at true true false false m2 false x y z e = omega arith
-    at true false false true true false x y z e = absurd (let h = y refl in cc)
-    at true false false true false false x y z e = omega arith
-    at true false false false true false x y z e = absurd (let h = y refl in cc)
-    at true false false false false false x y z e = absurd cc
-    at false m false true m2 false x y z e = absurd (let h = x refl in cc)
-    at false m false false m2 false x y z e = omega arith
+length_on g l (Some r) (Some q) f =
+    let most = l.page_bytes_least in
+    let least = shortest g q f.some in
+    let held = held_length g r least.register (among_too r q f least.register least.held) (omega (arith, most)) in
+    let short = least.least in
+    omega (arith, held, short)
 
 pub common_on : (ps ns qs ms : Planes) → AllAmong ns ps → AllAmong ms qs → May (share_a_plane ns ms) (share_a_plane ps qs)
 common_on ps ns qs ms f h e = at (shared ns ms e)
@@ -223,12 +262,28 @@ queue_on (SomeRows erase qs d) (SomeRows kind ms c) ps ns opener f h e =
     subst (λ (k : Bool). (is_read opener || not (same_test k (is_erase opener)) || not (d.ahead == d.behind) || share_a_plane ps qs) ≡ true) f.0
     (or_on _ _ _ _ (subst (λ (x : Drift). May (is_read opener || not (same_test kind (is_erase opener)) || not (c.ahead == c.behind)) (is_read opener || not (same_test kind (is_erase opener)) || not (x.ahead == x.behind))) f.1.1 (same_on _)) (common_on ps ns qs ms h f.1.0) e)
 
-pub identity_byte_on : (s a : Span) (opener : Command) (from : ℕ) → SpanIs s a → May (is_identity_byte opener from (only s)) (is_identity_byte opener from (only a))
-identity_byte_on s a opener from f h = at (only s) refl h
+pub identity_byte_on : (g : Parts) (s a : Span) (opener : Command) (from : ℕ) → SpanIs s a → May (is_identity_byte g opener from (only s)) (is_identity_byte g opener from (only a))
+identity_byte_on g s a opener from f h = at (only s) refl h
   where
-    at : (o : Option ℕ) → only s ≡ o → is_identity_byte opener from o ≡ true → is_identity_byte opener from (only a) ≡ true
-    at None e h = absurd cc
-    at (Some n) e h = ap (is_identity_byte opener from) (only_too s a n f e) ∙ h
+    any : (o : Option ℕ) → (nat_le from 1 && takes_any_byte opener) ≡ true → is_identity_byte g opener from o ≡ true
+    any None h = h
+    any (Some n) h = let both = and_parts (nat_le from 1) (takes_any_byte opener) h in and_from (nat_le from 1) (takes_identity g opener (byte_of_column from n)) both.0 (any_byte g opener (byte_of_column from n) both.1)
+
+    at : (o : Option ℕ) → only s ≡ o → is_identity_byte g opener from o ≡ true → is_identity_byte g opener from (only a) ≡ true
+    at None e h = any (only a) h
+    at (Some n) e h = ap (is_identity_byte g opener from) (only_too s a n f e) ∙ h
+
+-- where 90h takes its byte the column is known
+pub known_column : (g : Parts) (s a : State) (from count n : ℕ) → SpanIs s.registers.column a.registers.column → address_out_of_place g s from count (After ReadId n) ≡ false → s.registers.column.lo ≡ a.registers.column.lo
+known_column g s a from count n f h = at (1 - n == 0) h
+  where
+    by : (o : Option ℕ) → only s.registers.column ≡ o → is_identity_byte g ReadId from o ≡ true → s.registers.column.lo ≡ a.registers.column.lo
+    by None e h = absurd (let x = (and_parts (nat_le from 1) false h).1 in cc)
+    by (Some x) e h = least_is s.registers.column.lo s.registers.column.hi x e ∙ sym (least_is a.registers.column.lo a.registers.column.hi x (only_too s.registers.column a.registers.column x f e))
+
+    at : (b : Bool) → cond b true (nat_lt 1 g.luns || not (count == 1) || not (is_identity_byte g ReadId from (only s.registers.column))) ≡ false → s.registers.column.lo ≡ a.registers.column.lo
+    at true h = absurd cc
+    at false h = by (only s.registers.column) refl (not-false _ (or_parts (nat_lt 1 g.luns || not (count == 1)) (not (is_identity_byte g ReadId from (only s.registers.column))) h).1)
 
 pub span_is : (v s a : Span) → SpanAt v s a → SpanIs s a
 span_is v s a f = record { low = f.low; high = f.high; order = f.order; low_small = f.low_small; small = f.small }

@@ -3,7 +3,7 @@ ghost use Rattle.std.specs.Prelude.{◌≡◌, ℕ, List, OnOk, IfErr};
 ghost use Rattle.nand_geometry.specs.declared.parts.Parts.{Parts};
 ghost use Rattle.std.specs.Io.KnownBytes.{Appends};
 ghost use Rattle.seq_inputs.specs.declared.refusal.Refusal.{Refusal};
-ghost use Rattle.seq_inputs.specs.Inputs.{HasPage, PageIsRefused};
+ghost use Rattle.seq_inputs.specs.Inputs.{HasPageAs, PageIsRefused};
 ghost use Rattle.seq_inputs.specs.Stops.{Says, Tells};
 ghost use Rattle.seq_inputs.specs.Refusals.{line_of};
 
@@ -40,7 +40,7 @@ fn show_at<'p, A: Allocator + Clone, F: Files, E: Write>(
     errors: &mut E,
     path: &'p str,
 ) -> Result<String<A>, Stop<'p, A>>
-    ensures ok { OnOk result ((g : Parts) × HasPage (F.store files.old) path.now g) }
+    ensures ok { OnOk result ((g : Parts) × HasPageAs (F.store files.old) Profile.Base path.now g) }
     ensures err { IfErr result (Says (PageIsRefused (F.store files.old) path.now)) }
     ensures stays { F.store files.new ≡ F.store files.old }
 {
@@ -65,7 +65,7 @@ pub fn show_page<A: Allocator + Clone, F: Files, W: Write, E: Write, P>(
     console: &mut Console<W, E, P>,
     path: &str,
 ) -> Exit
-    ensures done { result ≡ Exit.Done → ((g : Parts) × HasPage (F.store files.old) path.now g)
+    ensures done { result ≡ Exit.Done → ((g : Parts) × HasPageAs (F.store files.old) Profile.Base path.now g)
         × (printed : List ℕ) × Appends (W.contents console.old.output) (W.contents console.new.output) printed }
     ensures refused { (refusal : Refusal) → result ≡ Exit.Refused refusal → Tells (PageIsRefused (F.store files.old) path.now) refusal
         × Appends (W.contents console.old.output) (W.contents console.new.output) (line_of refusal) }

@@ -14,7 +14,8 @@ use Rattle.seq_inputs.specs.declared.stop.Stop.TheVariants.{Refused, FileFault, 
 use Rattle.seq_inputs.specs.Stops.{Says, SaysAt, stop_at}
 use Rattle.run_plan.specs.Planned.{image_in, images_in}
 use Rattle.run_plan.specs.Judged.{Numbered, Passes, IsRefused, IsRefusedAt, RestIsRefused, RestPasses, page_of, targets_of, AfterPageIsRefused, PageStatementIsRefused, PlanPasses, PlanIsRefused}
-use Rattle.seq_inputs.specs.Inputs.{HasPage, PageIsRefused}
+use Rattle.nand_geometry.specs.declared.optional.Profile.{Profile}
+use Rattle.seq_inputs.specs.Inputs.{HasPageAs, PageIsRefused}
 use Rattle.run_plan.proofs.Lists.{front_more}
 use Rattle.run_file.specs.Told.{Told}
 
@@ -70,11 +71,11 @@ refused_there files g targets s e r at says =
     subst (λ t. SaysAt (IsRefusedAt files g targets s) t) (sym at) (said_at (IsRefused files g targets s.1) (IsRefusedAt files g targets s) e s.0 (λ fault is. (is, refl)) says)
 
 -- the page is refused with its line
-pub page_there : {A : Type 0} (files : Option Store) (told : Told) (page : ℕ × List ℕ) (e r : Stop A) → page_of told.statements ≡ Some page → r ≡ stop_at e page.0 → Says (PageIsRefused files page.1) e → SaysAt (PlanIsRefused files told) r
-page_there files told page e r first at says =
-    subst (λ t. SaysAt (PlanIsRefused files told) t) (sym at)
-    (said_at (PageIsRefused files page.1) (PlanIsRefused files told) e page.0
-    (λ fault is. subst (λ (o : Option (ℕ × List ℕ)). PageStatementIsRefused files o told fault page.0) (sym first) (inl (is, refl))) says)
+pub page_there : {A : Type 0} (files : Option Store) (profile : Profile) (told : Told) (page : ℕ × List ℕ) (e r : Stop A) → page_of told.statements ≡ Some page → r ≡ stop_at e page.0 → Says (PageIsRefused files page.1) e → SaysAt (PlanIsRefused files profile told) r
+page_there files profile told page e r first at says =
+    subst (λ t. SaysAt (PlanIsRefused files profile told) t) (sym at)
+    (said_at (PageIsRefused files page.1) (PlanIsRefused files profile told) e page.0
+    (λ fault is. subst (λ (o : Option (ℕ × List ℕ)). PageStatementIsRefused files profile o told fault page.0) (sym first) (inl (is, refl))) says)
 
 -- ---- a statement by its place
 
@@ -135,8 +136,8 @@ all_planned pick xs k new whole over before = sym (append-nil new) ∙ ap (λ l.
 pub rest_shown : (xs rest : List Written) → rest ≡ drop 2 xs → shown_all rest ≡ drop 2 (shown_all xs)
 rest_shown xs rest is = ap shown_all is ∙ sym (drop-map shown_numbered 2 xs)
 
-plan_passes : (files : Option Store) (told : Told) (page : ℕ × List ℕ) (g : Parts) (targets : ℕ) (rest : List Numbered) → page_of told.statements ≡ Some page → HasPage files page.1 g → targets_of told.statements ≡ Some targets → rest ≡ drop 2 told.statements → RestPasses files g targets rest told.fault → PlanPasses files told g targets
-plan_passes files told page g targets rest first has_page second is passes = record {
+plan_passes : (files : Option Store) (profile : Profile) (told : Told) (page : ℕ × List ℕ) (g : Parts) (targets : ℕ) (rest : List Numbered) → page_of told.statements ≡ Some page → HasPageAs files profile page.1 g → targets_of told.statements ≡ Some targets → rest ≡ drop 2 told.statements → RestPasses files g targets rest told.fault → PlanPasses files profile told g targets
+plan_passes files profile told page g targets rest first has_page second is passes = record {
   page = page;
   has_first = first;
   has_page = has_page;
@@ -145,15 +146,15 @@ plan_passes files told page g targets rest first has_page second is passes = rec
 }
 
 -- the same of the geometry and the targets that the plan has
-pub plan_passes_at : (files : Option Store) (told : Told) (page : ℕ × List ℕ) (g h : Parts) (targets n : ℕ) (rest : List Numbered) → h ≡ g → n ≡ targets → page_of told.statements ≡ Some page → HasPage files page.1 g → targets_of told.statements ≡ Some targets → rest ≡ drop 2 told.statements → RestPasses files g targets rest told.fault → PlanPasses files told h n
-plan_passes_at files told page g h targets n rest same_geometry same_targets first has_page second is passes =
-    subst (λ (p : Parts). PlanPasses files told p n) (sym same_geometry)
-    (subst (λ (m : ℕ). PlanPasses files told g m) (sym same_targets) (plan_passes files told page g targets rest first has_page second is passes))
+pub plan_passes_at : (files : Option Store) (profile : Profile) (told : Told) (page : ℕ × List ℕ) (g h : Parts) (targets n : ℕ) (rest : List Numbered) → h ≡ g → n ≡ targets → page_of told.statements ≡ Some page → HasPageAs files profile page.1 g → targets_of told.statements ≡ Some targets → rest ≡ drop 2 told.statements → RestPasses files g targets rest told.fault → PlanPasses files profile told h n
+plan_passes_at files profile told page g h targets n rest same_geometry same_targets first has_page second is passes =
+    subst (λ (p : Parts). PlanPasses files profile told p n) (sym same_geometry)
+    (subst (λ (m : ℕ). PlanPasses files profile told g m) (sym same_targets) (plan_passes files profile told page g targets rest first has_page second is passes))
 
-pub plan_refused : {A : Type 0} (files : Option Store) (told : Told) (page : ℕ × List ℕ) (g : Parts) (targets : ℕ) (rest : List Numbered) (r : Stop A) → page_of told.statements ≡ Some page → HasPage files page.1 g → targets_of told.statements ≡ Some targets → rest ≡ drop 2 told.statements → SaysAt (RestIsRefused files g targets rest told.fault) r → SaysAt (PlanIsRefused files told) r
-plan_refused files told page g targets rest r first has_page second is refused =
-    refused_more (RestIsRefused files g targets rest told.fault) (PlanIsRefused files told) r
+pub plan_refused : {A : Type 0} (files : Option Store) (profile : Profile) (told : Told) (page : ℕ × List ℕ) (g : Parts) (targets : ℕ) (rest : List Numbered) (r : Stop A) → page_of told.statements ≡ Some page → HasPageAs files profile page.1 g → targets_of told.statements ≡ Some targets → rest ≡ drop 2 told.statements → SaysAt (RestIsRefused files g targets rest told.fault) r → SaysAt (PlanIsRefused files profile told) r
+plan_refused files profile told page g targets rest r first has_page second is refused =
+    refused_more (RestIsRefused files g targets rest told.fault) (PlanIsRefused files profile told) r
     (λ fault line h.
-    subst (λ (o : Option (ℕ × List ℕ)). PageStatementIsRefused files o told fault line) (sym first)
+    subst (λ (o : Option (ℕ × List ℕ)). PageStatementIsRefused files profile o told fault line) (sym first)
     (inr (g, has_page, subst (λ (o : Option ℕ). AfterPageIsRefused files g o told fault line) (sym second) (subst (λ (l : List Numbered). RestIsRefused files g targets l told.fault fault line) is h))))
     refused

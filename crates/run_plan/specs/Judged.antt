@@ -1,13 +1,14 @@
 -- What a run file and the files that it names are refused for: the first statement that doesn't pass, by its line.
 use Rattle.std.specs.Prelude.{◌≡◌, ℕ, ◌≤◌, ◌<◌, ◌&&◌, Bool, true, false, nat_lt, nat_le, if◌then◌else◌, drop, ⊤, ◌⊎◌, List, [], ◌∷◌, ◌++◌, length, Option, Some, None, replicate, ◌-◌}
 use Rattle.seq_files.specs.Store.{Store, Holds}
+use Rattle.nand_geometry.specs.declared.optional.Profile.{Profile}
 use Rattle.nand_geometry.specs.declared.parts.Parts.{Parts}
 use Rattle.onfi_cycle.specs.declared.lun.Lun.{Lun}
 use Rattle.die_model.specs.Loading.{image_fault}
 use Rattle.micro_word.specs.Text.{Microprogram}
 use Rattle.seq_core.specs.Job.{job_fault}
 use Rattle.seq_core.specs.declared.job_fault.JobFault.{JobFault}
-use Rattle.seq_inputs.specs.Inputs.{HasPage, PageIsRefused, HasText, FileOrTextIsRefused}
+use Rattle.seq_inputs.specs.Inputs.{HasPageAs, PageIsRefused, HasText, FileOrTextIsRefused}
 use Rattle.run_file.specs.declared.refusal.RunFault.TheVariants.{OutOfOrder, NoSuchLun, InputTooLong}
 use Rattle.run_file.specs.declared.refusal.RunRefusal.{RunRefusal}
 use Rattle.run_file.specs.Line.{Statement}
@@ -139,20 +140,20 @@ abbrev pub AfterPageIsRefused : Option Store → Parts → Option ℕ → Told �
 AfterPageIsRefused files g None told fault line = EndIsRefused told.fault fault line
 AfterPageIsRefused files g (Some targets) told fault line = RestIsRefused files g targets (drop 2 told.statements) told.fault fault line
 
-abbrev pub PageStatementIsRefused : Option Store → Option (ℕ × List ℕ) → Told → Fault → ℕ → Type 0
-PageStatementIsRefused files None told fault line = EndIsRefused told.fault fault line
-PageStatementIsRefused files (Some page) told fault line =
+abbrev pub PageStatementIsRefused : Option Store → Profile → Option (ℕ × List ℕ) → Told → Fault → ℕ → Type 0
+PageStatementIsRefused files profile None told fault line = EndIsRefused told.fault fault line
+PageStatementIsRefused files profile (Some page) told fault line =
     (PageIsRefused files page.1 fault × (line ≡ page.0))
-    ⊎ ((g : Parts) × HasPage files page.1 g × AfterPageIsRefused files g (targets_of told.statements) told fault line)
+    ⊎ ((g : Parts) × HasPageAs files profile page.1 g × AfterPageIsRefused files g (targets_of told.statements) told fault line)
 
--- a run file that tells this is refused with this fault at this line: the first, in the order of the lines
-abbrev pub PlanIsRefused : Option Store → Told → Fault → ℕ → Type 0
-PlanIsRefused files told fault line = PageStatementIsRefused files (page_of told.statements) told fault line
+-- a run file that tells this, whose page is read for this profile, is refused with this fault at this line: the first, in the order of the lines
+abbrev pub PlanIsRefused : Option Store → Profile → Told → Fault → ℕ → Type 0
+PlanIsRefused files profile told fault line = PageStatementIsRefused files profile (page_of told.statements) told fault line
 
--- all that a run file tells passes, on a channel of so many targets of this geometry
-pub record PlanPasses (files : Option Store) (told : Told) (g : Parts) (targets : ℕ) : Type 0 where
+-- all that a run file tells passes, its page read for this profile, on a channel of so many targets of this geometry
+pub record PlanPasses (files : Option Store) (profile : Profile) (told : Told) (g : Parts) (targets : ℕ) : Type 0 where
   pub page : ℕ × List ℕ
   pub has_first : page_of told.statements ≡ Some page
-  pub has_page : HasPage files page.1 g
+  pub has_page : HasPageAs files profile page.1 g
   pub has_targets : targets_of told.statements ≡ Some targets
   pub rest : RestPasses files g targets (drop 2 told.statements) told.fault

@@ -15,13 +15,13 @@ ghost use Rattle.run_plan.specs.Judged.{has_lun, lun_at, LunIsRefused, JobPasses
 use crate::failing::Failing;
 use crate::plan::{PlannedImage, RunPlan};
 use crate::reading::{read_buffer, read_die};
-use nand_geometry::Geometry;
+use nand_geometry::{Geometry, Profile};
 use onfi_cycle::Lun;
 use run_file::{Numbered, RunFault, RunRefusal, RunText, Statement};
 use seq_core::Job;
 use seq_files::Files;
 use seq_inputs::{
-    CountedHeader, Fault, MOST_BUFFER_BYTES, Refusal, Stop, VerifiedProgram, Words, geometry_at,
+    CountedHeader, Fault, MOST_BUFFER_BYTES, Refusal, Stop, VerifiedProgram, Words, geometry_as,
     verified_at, words_of_job,
 };
 use std::alloc::Global;
@@ -385,27 +385,28 @@ fn plan_rest<'a, F: Files>(
 }
 
 /// Judges the statements of a run file in the order of their lines, each with the files that it names before the next, and then the fault of
-/// its text.
+/// its text. Its page is read for this profile.
 #[tactic(auto, using(crate::proofs::Resting::plan_passes_at, crate::proofs::Resting::plan_refused, crate::proofs::Resting::rest_shown))]
 pub fn plan_run<'a, F: Files>(
     alloc: Global,
     files: &mut F,
+    profile: Profile,
     text: &RunText<'a, Global>,
 ) -> Result<RunPlan<'a>, Stop<'a>>
-    ensures ok { IfOk result (λ plan. PlanPasses (F.store files.old) (shown_text text.now) plan.dies.geometry plan.dies.targets) }
+    ensures ok { IfOk result (λ plan. PlanPasses (F.store files.old) profile (shown_text text.now) plan.dies.geometry plan.dies.targets) }
     ensures jobs { IfOk result (λ plan. planned_outputs plan.jobs.all.items ≡ outputs_of (drop 2 (shown_text text.now).statements)) }
     ensures images { IfOk result (λ plan. planned_images plan.images.items
         ≡ images_in plan.dies.geometry (drop 2 (shown_text text.now).statements)) }
     ensures setup { IfOk result (λ plan. IsSetUpFrom (F.store files.old) plan.dies.geometry plan.dies.targets
         (drop 2 (shown_text text.now).statements) plan) }
-    ensures err { IfErr result (SaysAt (PlanIsRefused (F.store files.old) (shown_text text.now))) }
+    ensures err { IfErr result (SaysAt (PlanIsRefused (F.store files.old) profile (shown_text text.now))) }
     ensures stays { F.store files.new ≡ F.store files.old }
 {
     let statements = text.statements.as_slice();
     let Some((line, path)) = find_page(statements) else {
         return Err(refuse_end(text.fault));
     };
-    let geometry = match geometry_at(alloc, files, path) {
+    let geometry = match geometry_as(alloc, files, profile, path) {
         Ok(geometry) => geometry,
         Err(stop) => return Err(stop.at(line)),
     };

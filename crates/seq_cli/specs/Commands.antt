@@ -3,7 +3,8 @@ use Rattle.std.specs.Prelude.{◌≡◌, ◌⊎◌, ℕ, true, false, List, Opti
 use Rattle.seq_files.specs.Store.{Store}
 use Rattle.trace_files.specs.Files.{no_outputs}
 use Rattle.seq_inputs.specs.declared.refusal.Refusal.{Refusal}
-use Rattle.seq_inputs.specs.Inputs.{HasPage, PageIsRefused, FileIsRefused}
+use Rattle.nand_geometry.specs.declared.optional.Profile.TheVariants.{Base}
+use Rattle.seq_inputs.specs.Inputs.{HasPageAs, PageIsRefused, FileIsRefused}
 use Rattle.seq_inputs.specs.Stops.{Tells}
 use Rattle.seq_inputs.specs.Refusals.{line_of}
 use Rattle.seq_commands.specs.Commands.{IsAssembled, SourceIsRefused, IsAssembledFor, AssembleForRefuses, IsDisassembled, IsUpgraded, IsAccepted, VerifyRefuses, VerifyLeaves}
@@ -43,10 +44,10 @@ ending_of lint.Denied = ending.Flagged
 -- the command is done: this was its input, where that is known, this is left and this was printed
 abbrev pub IsDone : Command → (input : Option (List ℕ)) → (files later : Option Store) → (printed : List ℕ) → Type 0
 IsDone (Assemble text target) input files later printed = IsAssembled files later text.now target.now × (printed ≡ codes "ok\n")
-IsDone (AssembleFor page text target) input files later printed = IsAssembledFor files later page.now text.now target.now × (printed ≡ codes "ok\n")
-IsDone (Verify page text counter search quiet style) input files later printed = IsAccepted files page.now text.now × (later ≡ files) × (printed ≡ codes "accepted\n")
-IsDone (Lint request) input files later printed = IsAccepted files request.page.now request.input.now × (later ≡ files)
-IsDone (Explain page text style) input files later printed = IsExplained files page.now text.now × (later ≡ files)
+IsDone (AssembleFor page text target) input files later printed = IsAssembledFor files later page text.now target.now × (printed ≡ codes "ok\n")
+IsDone (Verify page text counter search quiet style) input files later printed = IsAccepted files page text.now × (later ≡ files) × (printed ≡ codes "accepted\n")
+IsDone (Lint request) input files later printed = IsAccepted files request.page request.input.now × (later ≡ files)
+IsDone (Explain page text style) input files later printed = IsExplained files page text.now × (later ≡ files)
 IsDone (Once base) input files later printed = IfSome input (λ bytes. IsProgramRun base bytes printed) × (later ≡ files)
 IsDone (Run request) input files later printed = IsRunDone files later request printed
 IsDone (Capture request) input files later printed = IsCaptured files later request × (printed ≡ codes "ok\n")
@@ -65,12 +66,12 @@ IsDone (DrawVendor request) input files later printed = IsVendorDrawn files late
 IsDone (Disassemble file) input files later printed = IsDisassembled files file.now printed × (later ≡ files)
 IsDone (MakePage parts target) input files later printed = IsPageMade files later parts target.now × (printed ≡ codes "ok\n")
 IsDone (TakePage request) input files later printed = IsPageTaken files later request.target.now × (printed ≡ codes "ok\n")
-IsDone (ShowPage page) input files later printed = ((g : Parts) × HasPage files page.now g) × (later ≡ files)
+IsDone (ShowPage page) input files later printed = ((g : Parts) × HasPageAs files Base page.now g) × (later ≡ files)
 IsDone (Upgrade file target) input files later printed = IsUpgraded files later file.now target.now × (printed ≡ codes "ok\n")
 
 -- a command is done, with what isn't to pass: a trace is legal with readies that are taken for granted, or a program is accepted with a note that is denied
 abbrev pub MayFlag : Command → (files later : Option Store) → (printed : List ℕ) → Type 0
-MayFlag (Lint request) files later printed = IsAccepted files request.page.now request.input.now × (later ≡ files)
+MayFlag (Lint request) files later printed = IsAccepted files request.page request.input.now × (later ≡ files)
 MayFlag (Check request) files later printed = IsPassed files later request false printed
 MayFlag (CheckVendor request) files later printed = IsVendorPassed files later request false printed
 MayFlag (CheckTimes request) files later printed = IsKept files request false printed × (later ≡ files)
@@ -81,13 +82,13 @@ MayFlag _ files later printed = ⊥
 abbrev pub MayRefuse : Command → (input : Option (List ℕ)) → (files later : Option Store) → Refusal → (printed : List ℕ) → Type 0
 MayRefuse (Assemble text target) input files later refusal printed = Tells (SourceIsRefused files text.now) refusal × (later ≡ files) × (printed ≡ line_of refusal)
 MayRefuse (AssembleFor page text target) input files later refusal printed =
-    Tells (AssembleForRefuses files page.now text.now) refusal × (later ≡ files) × (printed ≡ line_of refusal)
+    Tells (AssembleForRefuses files page text.now) refusal × (later ≡ files) × (printed ≡ line_of refusal)
 MayRefuse (Verify page text counter search quiet style) input files later refusal printed =
-    Tells (VerifyRefuses files later page.now text.now counter) refusal × (printed ≡ line_of refusal)
+    Tells (VerifyRefuses files later page text.now counter) refusal × (printed ≡ line_of refusal)
 MayRefuse (Lint request) input files later refusal printed =
-    Tells (VerifyRefuses files files request.page.now request.input.now no_outputs) refusal × (later ≡ files) × (printed ≡ line_of refusal)
+    Tells (VerifyRefuses files files request.page request.input.now no_outputs) refusal × (later ≡ files) × (printed ≡ line_of refusal)
 MayRefuse (Explain page text style) input files later refusal printed =
-    Tells (ExplainRefuses files page.now text.now) refusal × (later ≡ files) × (printed ≡ line_of refusal)
+    Tells (ExplainRefuses files page text.now) refusal × (later ≡ files) × (printed ≡ line_of refusal)
 MayRefuse (Once base) input files later refusal printed = IfSome input (λ bytes. Tells (ProgramMayBeRefused base bytes) refusal) × (later ≡ files) × (printed ≡ line_of refusal)
 MayRefuse (Run request) input files later refusal printed = RunIsRefused files request refusal × (later ≡ files) × (printed ≡ line_of refusal)
 MayRefuse (Capture request) input files later refusal printed = Tells (PageIsRefused files request.page.now) refusal × (later ≡ files) × (printed ≡ line_of refusal)
@@ -142,8 +143,8 @@ MayDiffer _ files later fault item printed = ⊥
 -- what a command may leave, however it ends: the files as they were, or what it writes when it is done
 abbrev pub MayLeave : Command → (files later : Option Store) → Type 0
 MayLeave (Assemble text target) files later = (later ≡ files) ⊎ IsAssembled files later text.now target.now
-MayLeave (AssembleFor page text target) files later = (later ≡ files) ⊎ IsAssembledFor files later page.now text.now target.now
-MayLeave (Verify page text counter search quiet style) files later = VerifyLeaves files later page.now text.now counter
+MayLeave (AssembleFor page text target) files later = (later ≡ files) ⊎ IsAssembledFor files later page text.now target.now
+MayLeave (Verify page text counter search quiet style) files later = VerifyLeaves files later page text.now counter
 MayLeave (Lint request) files later = later ≡ files
 MayLeave (Explain page text style) files later = later ≡ files
 MayLeave (Once base) files later = later ≡ files

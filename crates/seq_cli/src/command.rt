@@ -18,7 +18,7 @@ use seq_commands::{
     upgrade_file, verify_file,
 };
 use seq_files::Files;
-use seq_inputs::{Console, Exit, Style};
+use seq_inputs::{Console, Exit, PageFile, Style};
 use seq_run::{RunProgress, RunRequest, run_watched};
 use std::alloc::Global;
 use std::io::{Read, Write};
@@ -45,14 +45,14 @@ pub enum Command<'a> {
     },
     /// To assemble a text, with a header or without, into a word file with the least header that is enough for the geometry of a parameter page.
     AssembleFor {
-        page: &'a str,
+        page: PageFile<'a>,
         input: &'a str,
         target: &'a str,
     },
     /// To verify a microprogram, as a word file or an assembly text, for the geometry of a parameter page. Where a refusal has its run, the files
     /// that are asked for of it are written. The notes to one that is accepted are said on standard error, unless it is to be quiet. What is said there is in a style.
     Verify {
-        page: &'a str,
+        page: PageFile<'a>,
         input: &'a str,
         counter: TraceOutputs<'a>,
         search: u64,
@@ -63,7 +63,7 @@ pub enum Command<'a> {
     Lint(LintRequest<'a>),
     /// To tell what is known before each word of a microprogram.
     Explain {
-        page: &'a str,
+        page: PageFile<'a>,
         input: &'a str,
         style: Style,
     },
@@ -180,7 +180,7 @@ impl<'a> Command<'a> {
                 page,
                 input,
                 target,
-            } => (both(page, input), one(Some(target))),
+            } => (both(page.path, input), one(Some(target))),
             Command::Verify {
                 page,
                 input,
@@ -188,13 +188,13 @@ impl<'a> Command<'a> {
                 search: _,
                 is_quiet: _,
                 style: _,
-            } => (both(page, input), paths_of(counter)),
-            Command::Lint(request) => (both(request.page, request.input), one(None)),
+            } => (both(page.path, input), paths_of(counter)),
+            Command::Lint(request) => (both(request.page.path, request.input), one(None)),
             Command::Explain {
                 page,
                 input,
                 style: _,
-            } => (both(page, input), one(None)),
+            } => (both(page.path, input), one(None)),
             Command::Once { .. } => ([None, None, None], one(None)),
             Command::Run(request) => ([Some(request.path), None, None], paths_of(request.trace)),
             Command::Capture(request) => {

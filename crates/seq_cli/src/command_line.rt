@@ -16,7 +16,7 @@ use edge_commands::EdgeRequest;
 use nand_geometry::{Optional, Parts, Profile};
 use onfi_cycle::Lun;
 use seq_commands::{LintOutput, LintRequest, NoteRules};
-use seq_inputs::Style;
+use seq_inputs::{PageFile, Style};
 use seq_run::{MOST_STEPS, RunRequest};
 use std::alloc::Global;
 use trace_commands::{
@@ -148,7 +148,7 @@ impl Verb {
         Ok(match self {
             Verb::Assemble => read_assemble(matches),
             Verb::Verify => Command::Verify {
-                page,
+                page: read_page_file(matches, page),
                 input,
                 counter: read_outputs(matches, "counter"),
                 search: read_steps("--search", matches.get_str("search"), MOST_SEARCHED)?,
@@ -156,13 +156,13 @@ impl Verb {
                 style: read_style(matches),
             },
             Verb::Lint => Command::Lint(LintRequest {
-                page,
+                page: read_page_file(matches, page),
                 input,
                 output: read_lint_output(matches),
                 rules: read_note_rules(matches)?,
             }),
             Verb::Explain => Command::Explain {
-                page,
+                page: read_page_file(matches, page),
                 input,
                 style: read_style(matches),
             },
@@ -295,6 +295,14 @@ fn read_profile(matches: &ArgMatches<'_>) -> Profile {
     match matches.get_str("profile") {
         Some("onfi") => Profile::Onfi,
         _ => Profile::Base,
+    }
+}
+
+// A page at this path with its profile.
+fn read_page_file<'a>(matches: &ArgMatches<'_>, path: &'a str) -> PageFile<'a> {
+    PageFile {
+        path,
+        profile: read_profile(matches),
     }
 }
 
@@ -528,7 +536,7 @@ fn read_assemble<'a>(matches: &ArgMatches<'a>) -> Command<'a> {
     match matches.get_str("auto") {
         None => Command::Assemble { input, target },
         Some(page) => Command::AssembleFor {
-            page,
+            page: read_page_file(matches, page),
             input,
             target,
         },
@@ -654,6 +662,7 @@ fn read_steps<'a>(
 fn read_run<'a>(matches: &ArgMatches<'a>) -> Result<RunRequest<'a>, Mistake<'a>> {
     Ok(RunRequest {
         path: find_word(matches, "FILE"),
+        profile: read_profile(matches),
         max_steps: read_steps("--max-steps", matches.get_str("max-steps"), MOST_STEPS)?,
         workers: count_workers(find_word(matches, "workers")),
         is_quiet: matches.get_flag("quiet"),

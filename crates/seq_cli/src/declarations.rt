@@ -121,6 +121,10 @@ pub(crate) const ASSEMBLE: Declaration = Declaration {
             help: "Counts the header for the die of this parameter page, whatever the text has or without one, and verifies: an unsafe text isn't written",
             ..REQUIRED
         },
+        Declared {
+            help: "With `--auto`: `onfi` takes besides the commands of the base profile the optional ones that the page declares; `base` if nothing is said",
+            ..PROFILE
+        },
     ],
 };
 
@@ -130,6 +134,7 @@ pub(crate) const VERIFY: Declaration = Declaration {
     arguments: &[
         PAGE,
         PROGRAM,
+        PROFILE,
         Declared {
             name: "counter",
             form: Form::Value("OUT"),
@@ -168,6 +173,7 @@ pub(crate) const LINT: Declaration = Declaration {
             form: Form::Words,
             ..PROGRAM
         },
+        PROFILE,
         Declared {
             name: "fix",
             help: "Prints the header lines with the least numbers that are enough, and nothing else",
@@ -199,6 +205,7 @@ pub(crate) const EXPLAIN: Declaration = Declaration {
     arguments: &[
         PAGE,
         PROGRAM,
+        PROFILE,
         Declared {
             help: "Prints a JSON object for each word, and what is wrong as one",
             ..JSON
@@ -227,6 +234,7 @@ pub(crate) const RUN: Declaration = Declaration {
             help: "The run file, as docs/use/RUNFILES.md has it",
             ..REQUIRED
         },
+        PROFILE,
         Declared {
             name: "workers",
             form: Form::Value("n"),

@@ -9,6 +9,7 @@ use Rattle.micro_walk.specs.Faults.{fault_of}
 use Rattle.seq_inputs.specs.declared.stop.Stop.{Stop}
 use Rattle.seq_inputs.specs.Stops.{Says}
 use Rattle.seq_inputs.proofs.Verifieds.{said_more}
+use Rattle.seq_inputs.specs.declared.page_file.PageFile.{PageFile}
 use Rattle.seq_inputs.specs.Inputs.{HasPage, RefusesReason}
 use Rattle.seq_inputs.specs.Headed.{with_header, RefusesHeaded}
 use Rattle.seq_commands.specs.Commands.{HasSafeWordsOf, IsAssembledFor, RefusesFor}
@@ -30,7 +31,7 @@ safe_words g text x y v spelled same is safe faultless =
     })
 
 -- what was read, verified and written
-pub assembled : (files f1 f2 later : Option Store) (page input target text bytes file written : List ℕ) (g : Parts) (y z : Microprogram) →
+pub assembled : (files f1 f2 later : Option Store) (page : PageFile) (input target text bytes file written : List ℕ) (g : Parts) (y z : Microprogram) →
     HasPage files page g → f1 ≡ files → Holds f1 input text → f2 ≡ f1 → bytes ≡ text → HasSafeWordsOf g bytes y → z ≡ y → file ≡ file2 z → written ≡ file → later ≡ with_file f2 target written →
     IsAssembledFor files later page input target
 assembled files f1 f2 later page input target text bytes file written g y z has_page read there more same is_safe shown is_file is_written is_later =

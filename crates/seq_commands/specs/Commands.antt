@@ -19,6 +19,7 @@ use Rattle.micro_verify.specs.Calm.{counter_of}
 use Rattle.trace_text.specs.Line.{IsPrintable}
 use Rattle.trace_files.specs.declared.outputs.TraceOutputs.{TraceOutputs}
 use Rattle.trace_files.specs.Files.{files_of}
+use Rattle.seq_inputs.specs.declared.page_file.PageFile.{PageFile}
 use Rattle.seq_inputs.specs.Inputs.{HasPage, PageIsRefused, HasFile, HasProgram, ProgramIsRefused, RefusesSource, RefusesReason}
 use Rattle.seq_inputs.specs.Headed.{HasWordsOf, RefusesHeaded}
 use Rattle.seq_inputs.specs.declared.fault.Fault.{Fault}
@@ -52,7 +53,7 @@ pub record HasSafeWordsOf (g : Parts) (text : List ℕ) (y : Microprogram) : Typ
   pub faultless : fault_of g y ≡ None
 
 -- the file at the other path is the word file of a microprogram with the words of the text, which is safe for the geometry of the page; no other file changes
-pub record IsAssembledFor (files later : Option Store) (page input target : List ℕ) : Type 0 where
+pub record IsAssembledFor (files later : Option Store) (page : PageFile) (input target : List ℕ) : Type 0 where
   pub g : Parts
   pub has_page : HasPage files page g
   pub text : List ℕ
@@ -71,7 +72,7 @@ pub record WordsAreRefused (g : Parts) (text : List ℕ) (fault : Fault) : Type 
 abbrev pub RefusesFor : Parts → List ℕ → Fault → Type 0
 RefusesFor g text fault = RefusesHeaded text fault ⊎ WordsAreRefused g text fault
 
-pub record TextIsRefusedFor (files : Option Store) (page input : List ℕ) (fault : Fault) : Type 0 where
+pub record TextIsRefusedFor (files : Option Store) (page : PageFile) (input : List ℕ) (fault : Fault) : Type 0 where
   pub g : Parts
   pub has_page : HasPage files page g
   pub text : List ℕ
@@ -79,8 +80,8 @@ pub record TextIsRefusedFor (files : Option Store) (page input : List ℕ) (faul
   pub refuses : RefusesFor g text fault
 
 -- the page is refused, or the text
-abbrev pub AssembleForRefuses : Option Store → (page input : List ℕ) → Fault → Type 0
-AssembleForRefuses files page input fault = PageIsRefused files page fault ⊎ TextIsRefusedFor files page input fault
+abbrev pub AssembleForRefuses : Option Store → (page : PageFile) → (input : List ℕ) → Fault → Type 0
+AssembleForRefuses files page input fault = PageIsRefused files page.path.now fault ⊎ TextIsRefusedFor files page input fault
 
 -- ---- dis
 
@@ -102,7 +103,7 @@ pub record IsUpgraded (files later : Option Store) (input target : List ℕ) : T
 -- ---- verify
 
 -- the file, an assembly text or a word file, is that of a microprogram which is safe for the geometry of the page, and against which there is nothing
-pub record IsAccepted (files : Option Store) (page input : List ℕ) : Type 0 where
+pub record IsAccepted (files : Option Store) (page : PageFile) (input : List ℕ) : Type 0 where
   pub g : Parts
   pub has_page : HasPage files page g
   pub x : Microprogram
@@ -152,7 +153,7 @@ RefusesText g x counter files later (Text reason word) =
     MayBe g x (record { word = word; reason = reason }) × LeavesShown counter g x (counter_of g x (record { word = word; reason = reason })) files later
 RefusesText g x counter files later _ = ⊥
 
-pub record TextIsRefused (files later : Option Store) (page input : List ℕ) (counter : TraceOutputs) (fault : Fault) : Type 0 where
+pub record TextIsRefused (files later : Option Store) (page : PageFile) (input : List ℕ) (counter : TraceOutputs) (fault : Fault) : Type 0 where
   pub g : Parts
   pub has_page : HasPage files page g
   pub x : Microprogram
@@ -160,17 +161,17 @@ pub record TextIsRefused (files later : Option Store) (page input : List ℕ) (c
   pub refuses : RefusesText g x counter files later fault
 
 -- the file is refused, and the page before it isn't
-pub record FileIsRefusedNext (files : Option Store) (page input : List ℕ) (fault : Fault) : Type 0 where
+pub record FileIsRefusedNext (files : Option Store) (page : PageFile) (input : List ℕ) (fault : Fault) : Type 0 where
   pub g : Parts
   pub has_page : HasPage files page g
   pub file_refused : ProgramIsRefused files input fault
 
 -- the page is refused, or the word file, or its text; the run of a text alone is left
-abbrev pub VerifyRefuses : (files later : Option Store) → (page input : List ℕ) → (counter : TraceOutputs) → Fault → Type 0
+abbrev pub VerifyRefuses : (files later : Option Store) → (page : PageFile) → (input : List ℕ) → (counter : TraceOutputs) → Fault → Type 0
 VerifyRefuses files later page input counter fault =
-    (PageIsRefused files page fault × (later ≡ files))
+    (PageIsRefused files page.path.now fault × (later ≡ files))
     ⊎ ((FileIsRefusedNext files page input fault × (later ≡ files)) ⊎ TextIsRefused files later page input counter fault)
 
 -- files are as they were, or those of the run of a refusal are left
-pub record VerifyLeaves (files later : Option Store) (page input : List ℕ) (counter : TraceOutputs) : Type 0 where
+pub record VerifyLeaves (files later : Option Store) (page : PageFile) (input : List ℕ) (counter : TraceOutputs) : Type 0 where
   pub left : (later ≡ files) ⊎ ((fault : Fault) × TextIsRefused files later page input counter fault)

@@ -16,8 +16,8 @@ use micro_word::{Text, write};
 use nand_geometry::Geometry;
 use seq_files::Files;
 use seq_inputs::{
-    Console, Exit, Fault, Headed, Stop, Words, end_without_memory, fail, finish, geometry_at,
-    read_file, read_headed, with_least_header, words_of_reason, write_file,
+    Console, Exit, Fault, Headed, PageFile, Stop, Words, end_without_memory, fail, finish,
+    geometry_at, read_file, read_headed, with_least_header, words_of_reason, write_file,
 };
 use std::alloc::Allocator;
 use std::io::Write;
@@ -96,12 +96,12 @@ fn assemble_for<'p, A: Allocator + Clone>(
 fn assemble_at<'p, A: Allocator + Clone, F: Files>(
     alloc: A,
     files: &mut F,
-    page: &'p str,
+    page: PageFile<'p>,
     input: &'p str,
     target: &'p str,
 ) -> Result<Header, Stop<'p, A>>
-    ensures ok { OnOk result (IsAssembledFor (F.store files.old) (F.store files.new) page.now input.now target.now) }
-    ensures err { IfErr result (Says (AssembleForRefuses (F.store files.old) page.now input.now)) }
+    ensures ok { OnOk result (IsAssembledFor (F.store files.old) (F.store files.new) page.entry input.now target.now) }
+    ensures err { IfErr result (Says (AssembleForRefuses (F.store files.old) page.entry input.now)) }
     ensures stays { OnErr result (F.store files.new ≡ F.store files.old) }
 {
     let geometry = geometry_at(alloc.clone()?, files, page)?;
@@ -134,15 +134,15 @@ pub fn assemble_file_for<A: Allocator + Clone, F: Files, W: Write, E: Write, P>(
     alloc: A,
     files: &mut F,
     console: &mut Console<W, E, P>,
-    page: &str,
+    page: PageFile<'_>,
     input: &str,
     target: &str,
 ) -> Exit
-    ensures done { result ≡ Exit.Done → IsAssembledFor (F.store files.old) (F.store files.new) page.now input.now target.now
+    ensures done { result ≡ Exit.Done → IsAssembledFor (F.store files.old) (F.store files.new) page.entry input.now target.now
         × Appends (W.contents console.old.output) (W.contents console.new.output) (codes "ok\n") }
-    ensures refused { (refusal : Refusal) → result ≡ Exit.Refused refusal → Tells (AssembleForRefuses (F.store files.old) page.now input.now) refusal
+    ensures refused { (refusal : Refusal) → result ≡ Exit.Refused refusal → Tells (AssembleForRefuses (F.store files.old) page.entry input.now) refusal
         × (F.store files.new ≡ F.store files.old) × Appends (W.contents console.old.output) (W.contents console.new.output) (line_of refusal) }
-    ensures files { (F.store files.new ≡ F.store files.old) ⊎ IsAssembledFor (F.store files.old) (F.store files.new) page.now input.now target.now }
+    ensures files { (F.store files.new ≡ F.store files.old) ⊎ IsAssembledFor (F.store files.old) (F.store files.new) page.entry input.now target.now }
 {
     let copy = match alloc.clone() {
         Ok(copy) => copy,

@@ -87,12 +87,12 @@ pub fn lint_file<A: Allocator + Clone, F: Files, W: Write, E: Write, P>(
     console: &mut Console<W, E, P>,
     request: LintRequest<'_>,
 ) -> LintEnding
-    ensures done { result ≡ LintEnding.Exit Exit.Done → (printed : List ℕ) × IsAccepted (F.store files.old) request.entry.page.now request.entry.input.now
+    ensures done { result ≡ LintEnding.Exit Exit.Done → (printed : List ℕ) × IsAccepted (F.store files.old) request.entry.page request.entry.input.now
         × Appends (W.contents console.old.output) (W.contents console.new.output) printed }
-    ensures denied { result ≡ LintEnding.Denied → (printed : List ℕ) × IsAccepted (F.store files.old) request.entry.page.now request.entry.input.now
+    ensures denied { result ≡ LintEnding.Denied → (printed : List ℕ) × IsAccepted (F.store files.old) request.entry.page request.entry.input.now
         × Appends (W.contents console.old.output) (W.contents console.new.output) printed }
     ensures refused { (refusal : Refusal) → result ≡ LintEnding.Exit (Exit.Refused refusal)
-        → Tells (VerifyRefuses (F.store files.old) (F.store files.old) request.entry.page.now request.entry.input.now no_outputs) refusal
+        → Tells (VerifyRefuses (F.store files.old) (F.store files.old) request.entry.page request.entry.input.now no_outputs) refusal
         × Appends (W.contents console.old.output) (W.contents console.new.output) (line_of refusal) }
     ensures stays { F.store files.new ≡ F.store files.old }
 {

@@ -27,8 +27,8 @@ use onfi_cycle::Item;
 use refused_run::{Found, Run, find_run};
 use seq_files::{Files, MadeFile, list_made};
 use seq_inputs::{
-    Console, Exit, Fault, Stop, Style, Words, end_without_memory, fail_as, finish, geometry_at,
-    read_file, read_program, say_counted, words_of_reason, write_files,
+    Console, Exit, Fault, PageFile, Stop, Style, Words, end_without_memory, fail_as, finish,
+    geometry_at, read_file, read_program, say_counted, words_of_reason, write_files,
 };
 use std::alloc::{AllocError, Allocator};
 use std::io::Write;
@@ -238,14 +238,14 @@ fn accept<'p, A: Allocator + Clone, F: Files>(
 pub(crate) fn verify_at<'p, A: Allocator + Clone, F: Files>(
     alloc: A,
     files: &mut F,
-    page: &'p str,
+    page: PageFile<'p>,
     input: &'p str,
     counter: TraceOutputs<'p>,
     most: u64,
 ) -> Result<(Vec<u8, A>, Verified<A>), Stop<'p, A>>
-    ensures ok { IfOk result (λ found. IsAccepted (F.store files.old) page.now input.now) }
+    ensures ok { IfOk result (λ found. IsAccepted (F.store files.old) page.entry input.now) }
     ensures stays { IfOk result (λ found. F.store files.new ≡ F.store files.old) }
-    ensures err { IfErr result (SaysElse (VerifyRefuses (F.store files.old) (F.store files.new) page.now input.now counter.entry)
+    ensures err { IfErr result (SaysElse (VerifyRefuses (F.store files.old) (F.store files.new) page.entry input.now counter.entry)
         (F.store files.new ≡ F.store files.old)) }
 {
     let geometry = geometry_at(alloc.clone()?, files, page)?;
@@ -278,19 +278,19 @@ pub fn verify_file<A: Allocator + Clone, F: Files, W: Write, E: Write, P>(
     alloc: A,
     files: &mut F,
     console: &mut Console<W, E, P>,
-    page: &str,
+    page: PageFile<'_>,
     input: &str,
     counter: TraceOutputs<'_>,
     most: u64,
     is_quiet: bool,
     style: Style,
 ) -> Exit
-    ensures done { result ≡ Exit.Done → IsAccepted (F.store files.old) page.now input.now × (F.store files.new ≡ F.store files.old)
+    ensures done { result ≡ Exit.Done → IsAccepted (F.store files.old) page.entry input.now × (F.store files.new ≡ F.store files.old)
         × Appends (W.contents console.old.output) (W.contents console.new.output) (codes "accepted\n") }
     ensures refused { (refusal : Refusal) → result ≡ Exit.Refused refusal
-        → Tells (VerifyRefuses (F.store files.old) (F.store files.new) page.now input.now counter.entry) refusal
+        → Tells (VerifyRefuses (F.store files.old) (F.store files.new) page.entry input.now counter.entry) refusal
         × Appends (W.contents console.old.output) (W.contents console.new.output) (line_of refusal) }
-    ensures files { VerifyLeaves (F.store files.old) (F.store files.new) page.now input.now counter.entry }
+    ensures files { VerifyLeaves (F.store files.old) (F.store files.new) page.entry input.now counter.entry }
 {
     let copy = match alloc.clone() {
         Ok(copy) => copy,

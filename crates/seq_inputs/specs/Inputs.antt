@@ -4,7 +4,6 @@ use Rattle.std.specs.List.{starts_with}
 use Rattle.seq_files.specs.Store.{Store, Holds}
 use Rattle.nand_geometry.specs.declared.parts.Parts.{Parts}
 use Rattle.nand_geometry.specs.declared.optional.Profile.{Profile}
-use Rattle.nand_geometry.specs.declared.optional.Profile.TheVariants.{Base}
 use Rattle.nand_geometry.specs.Reading.{read_as, read_of}
 use Rattle.micro_word.specs.declared.refusal.WordRefusal.TheVariants.{Fault as WordFaultAt}
 use Rattle.micro_asm.specs.declared.refusal.AsmRefusal.TheVariants.{Fault as AsmFaultAt}
@@ -16,6 +15,7 @@ use Rattle.micro_walk.specs.Faults.{fault_of}
 use Rattle.micro_walk.specs.Verdicts.{MayBe}
 use Rattle.seq_inputs.specs.Headed.{is_headless, HasWordsOf, RefusesHeaded}
 use Rattle.seq_inputs.specs.declared.fault.Fault.{Fault}
+use Rattle.seq_inputs.specs.declared.page_file.PageFile.{PageFile}
 use Rattle.seq_inputs.specs.declared.fault.Fault.TheVariants.{Page, Source, File, Text}
 
 -- ---- parameter pages
@@ -26,9 +26,9 @@ pub record HasPageAs (files : Option Store) (profile : Profile) (path : List ℕ
   pub is_page : Holds files path page
   pub declares : read_as profile page ≡ Ok g
 
--- in the base profile
-abbrev pub HasPage : Option Store → List ℕ → Parts → Type 0
-HasPage files path g = HasPageAs files Base path g
+-- a page that is named with its profile
+abbrev pub HasPage : Option Store → PageFile → Parts → Type 0
+HasPage files page g = HasPageAs files page.profile page.path.now g
 
 -- the first fault of a parameter page, which is the same in each profile
 abbrev pub RefusesPage : List ℕ → Fault → Type 0

@@ -13,6 +13,7 @@ mod explaining;
 mod fault;
 mod headed;
 mod lines;
+mod page_file;
 mod reading;
 mod refusal;
 mod stop;
@@ -28,6 +29,7 @@ pub use explaining::{words_of, words_of_job, words_of_note, words_of_reason};
 pub use fault::Fault;
 pub use headed::{Headed, is_headless, read_headed, with_least_header};
 pub use lines::{push_end_line, push_refusal_line};
+pub use page_file::PageFile;
 pub use reading::{
     VerifiedProgram, geometry_as, geometry_at, geometry_in, is_source, read_file, read_program,
     read_source, read_words, text_of, try_file, verified_at, verify_program, words_at, write_file,

@@ -13,6 +13,7 @@ use crate::counted::CountedHeader;
 use crate::explaining::{words_of, words_of_file, words_of_reason, words_of_source};
 use crate::fault::Fault;
 use crate::headed::{is_headless, read_headless};
+use crate::page_file::PageFile;
 use crate::stop::Stop;
 use micro_asm::{AsmRefusal, assemble};
 use micro_claims::Fault as TextFault;
@@ -159,17 +160,17 @@ pub fn geometry_as<'p, A: Allocator + Clone, F: Files>(
     geometry_in(alloc, profile, path, bytes.as_slice())
 }
 
-/// The geometry of the page at a path, in the base profile.
+/// The geometry of a page, read for its profile.
 pub fn geometry_at<'p, A: Allocator + Clone, F: Files>(
     alloc: A,
     files: &mut F,
-    path: &'p str,
+    page: PageFile<'p>,
 ) -> Result<Geometry, Stop<'p, A>>
-    ensures ok { IfOk result (λ g. HasPage (F.store files.old) path.now g) }
-    ensures err { IfErr result (Says (PageIsRefused (F.store files.old) path.now)) }
+    ensures ok { IfOk result (λ g. HasPage (F.store files.old) page.entry g) }
+    ensures err { IfErr result (Says (PageIsRefused (F.store files.old) page.entry.path.now)) }
     ensures stays { F.store files.new ≡ F.store files.old }
 {
-    geometry_as(alloc, files, Profile::Base, path)
+    geometry_as(alloc, files, page.profile, page.path)
 }
 
 /// The microprogram of a word file, of either format, that has this path.

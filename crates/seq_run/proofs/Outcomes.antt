@@ -8,6 +8,7 @@ use Rattle.run_file.specs.Told.{told}
 use Rattle.seq_run.specs.declared.request.RunRequest.{RunRequest}
 use Rattle.run_plan.specs.declared.plan.PlannedImage.{PlannedImage}
 use Rattle.run_plan.specs.declared.plan.RunPlan.{RunPlan}
+use Rattle.nand_geometry.specs.declared.optional.Profile.{Profile}
 use Rattle.run_plan.specs.Judged.{PlanPasses}
 use Rattle.run_plan.specs.Planned.{outputs_of, images_in, planned_outputs, planned_images}
 use Rattle.seq_run.specs.Written.{ended_outputs}
@@ -27,11 +28,11 @@ use Rattle.seq_inputs.specs.declared.stop.Stop.{Stop}
 use Rattle.seq_inputs.specs.declared.stop.Stop.TheVariants.{Refused, FileFault, ReaderGone, BuffersTooLarge, OutOfMemory}
 use Rattle.seq_inputs.specs.Stops.{refusal_in, SaysAt, TellsAt, RefusesNothing}
 
-pub is_planned : (files : Option Store) (request : RunRequest) (text : List ℕ) (plan : RunPlan) (o : Outcome) → Holds files request.path.now text → PlanPasses files (told text) plan.dies.geometry plan.dies.targets → planned_outputs plan.jobs.all.items ≡ outputs_of (drop 2 (told text).statements) → planned_images plan.images.items ≡ images_in plan.dies.geometry (drop 2 (told text).statements) → IsSetUpFrom files plan.dies.geometry plan.dies.targets (drop 2 (told text).statements) plan → plan.jobs.steps ≤ request.max_steps → IsOutcomeOf plan o → IsPlanned files request o
+pub is_planned : (files : Option Store) (request : RunRequest) (text : List ℕ) (plan : RunPlan) (o : Outcome) → Holds files request.path.now text → PlanPasses files request.profile (told text) plan.dies.geometry plan.dies.targets → planned_outputs plan.jobs.all.items ≡ outputs_of (drop 2 (told text).statements) → planned_images plan.images.items ≡ images_in plan.dies.geometry (drop 2 (told text).statements) → IsSetUpFrom files plan.dies.geometry plan.dies.targets (drop 2 (told text).statements) plan → plan.jobs.steps ≤ request.max_steps → IsOutcomeOf plan o → IsPlanned files request o
 is_planned files request text plan o is_there passes outputs images setup few is = record {
   text = text;
   is_there = is_there;
-  passes = subst (λ (g : Parts). PlanPasses files (told text) g o.bus.targets) (sym is.geometry) (subst (λ (n : ℕ). PlanPasses files (told text) plan.dies.geometry n) (sym is.targets) passes);
+  passes = subst (λ (g : Parts). PlanPasses files request.profile (told text) g o.bus.targets) (sym is.geometry) (subst (λ (n : ℕ). PlanPasses files request.profile (told text) plan.dies.geometry n) (sym is.targets) passes);
   outputs = is.outputs ∙ outputs;
   images = ap planned_images is.images ∙ images ∙ ap (λ (g : Parts). images_in g (drop 2 (told text).statements)) (sym is.geometry);
   setup = setup.setup;
@@ -125,16 +126,16 @@ written_of_plan request plan ran files later channel outputs images happened (in
 
 -- ---- of the text of a run file
 
--- what is planned of the text
-pub record IsPlanOf (files : Option Store) (text : List ℕ) (plan : RunPlan) : Type 0 where
-  pub passes : PlanPasses files (told text) plan.dies.geometry plan.dies.targets
+-- what is planned of the text, its page read for this profile
+pub record IsPlanOf (files : Option Store) (profile : Profile) (text : List ℕ) (plan : RunPlan) : Type 0 where
+  pub passes : PlanPasses files profile (told text) plan.dies.geometry plan.dies.targets
   pub outputs : planned_outputs plan.jobs.all.items ≡ outputs_of (drop 2 (told text).statements)
   pub images : planned_images plan.images.items ≡ images_in plan.dies.geometry (drop 2 (told text).statements)
   pub setup : IsSetUpFrom files plan.dies.geometry plan.dies.targets (drop 2 (told text).statements) plan
 
 -- the same, and the jobs step no more words than the request allows
 pub record MayRun (files : Option Store) (request : RunRequest) (text : List ℕ) (plan : RunPlan) : Type 0 where
-  pub plan_of : IsPlanOf files text plan
+  pub plan_of : IsPlanOf files request.profile text plan
   pub few : plan.jobs.steps ≤ request.max_steps
 
 planned_of : (files : Option Store) (request : RunRequest) (text : List ℕ) (plan : RunPlan) (o : Outcome) → Holds files request.path.now text → MayRun files request text plan → IsOutcomeOf plan o → IsPlanned files request o

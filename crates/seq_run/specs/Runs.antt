@@ -74,7 +74,7 @@ pub record IsOutcomeOf (plan : RunPlan) (o : Outcome) : Type 0 where
 pub record IsPlanned (files : Option Store) (request : RunRequest) (o : Outcome) : Type 0 where
   pub text : List ℕ
   pub is_there : Holds files request.path.now text
-  pub passes : PlanPasses files (told text) o.bus.geometry o.bus.targets
+  pub passes : PlanPasses files request.profile (told text) o.bus.geometry o.bus.targets
   pub outputs : ended_outputs o.jobs ≡ outputs_of (drop 2 (told text).statements)
   pub images : planned_images o.images ≡ images_in o.bus.geometry (drop 2 (told text).statements)
   pub setup : Setup
@@ -93,7 +93,7 @@ pub record IsRunDone (files later : Option Store) (request : RunRequest) (printe
 pub record RunIsRefused (files : Option Store) (request : RunRequest) (refusal : Refusal) : Type 0 where
   pub text : List ℕ
   pub is_there : Holds files request.path.now text
-  pub refused : TellsAt (PlanIsRefused files (told text)) refusal
+  pub refused : TellsAt (PlanIsRefused files request.profile (told text)) refusal
 
 -- all files of the run are written, though it isn't done: what is to be printed couldn't be
 pub record IsRunWritten (files later : Option Store) (request : RunRequest) : Type 0 where

@@ -1,5 +1,6 @@
 //! What a run is asked for.
 
+use nand_geometry::Profile;
 use trace_files::TraceOutputs;
 
 /// How many words the programs of a run may step at most, all together, where the command line doesn't say: they take about a quarter of an hour.
@@ -10,6 +11,8 @@ pub const MOST_STEPS: u64 = 10_000_000_000;
 pub struct RunRequest<'a> {
     /// The run file.
     pub path: &'a str,
+    /// The profile for which its parameter page is read.
+    pub profile: Profile,
     /// How many words the programs of its jobs may step at most, all together; the greatest number of 64 bits is no limit.
     pub max_steps: u64,
     /// How many workers run the channel, 1 to 8.

@@ -19,6 +19,7 @@ use crate::summary::{Stats, Summary};
 use crate::unmet_fails::say_unmet_fails;
 use crate::used_files::admit_files;
 use crate::writing::write_run;
+use nand_geometry::Profile;
 use run_file::{RunMessage, RunRefusal, parse_run};
 use run_plan::{PlannedJob, PlannedJobs, RunPlan, plan_run};
 use seq_files::Files;
@@ -34,19 +35,20 @@ use std::time::Clock;
 fn plan_text<'a, F: Files>(
     alloc: Global,
     files: &mut F,
+    profile: Profile,
     text: &'a str,
 ) -> Result<RunPlan<'a>, Stop<'a>>
-    ensures ok { IfOk result (λ plan. PlanPasses (F.store files.old) (told text.entry.now) plan.dies.geometry plan.dies.targets) }
+    ensures ok { IfOk result (λ plan. PlanPasses (F.store files.old) profile (told text.entry.now) plan.dies.geometry plan.dies.targets) }
     ensures jobs { IfOk result (λ plan. planned_outputs plan.jobs.all.items ≡ outputs_of (drop 2 (told text.entry.now).statements)) }
     ensures images { IfOk result (λ plan. planned_images plan.images.items
         ≡ images_in plan.dies.geometry (drop 2 (told text.entry.now).statements)) }
     ensures setup { IfOk result (λ plan. IsSetUpFrom (F.store files.old) plan.dies.geometry plan.dies.targets
         (drop 2 (told text.entry.now).statements) plan) }
-    ensures err { IfErr result (SaysAt (PlanIsRefused (F.store files.old) (told text.entry.now))) }
+    ensures err { IfErr result (SaysAt (PlanIsRefused (F.store files.old) profile (told text.entry.now))) }
     ensures stays { F.store files.new ≡ F.store files.old }
 {
     let text = parse_run(text, alloc)?;
-    plan_run(alloc, files, &text)
+    plan_run(alloc, files, profile, &text)
 }
 
 // Runs what was planned, and writes what came of it.
@@ -186,7 +188,7 @@ fn run_text<R: Threads + Wait + Sync, C: Clock, F: Files, W: Write, E: Write, P:
     ensures leaves { RunMayLeave (F.store files.old) (F.store files.new) request.entry }
 {
     let run = Some(request.path);
-    let plan = match plan_text(alloc, files, text) {
+    let plan = match plan_text(alloc, files, request.profile, text) {
         Ok(plan) => plan,
         Err(stop) => {
             let stop = explain_line(alloc, text, stop);

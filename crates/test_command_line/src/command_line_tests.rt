@@ -29,6 +29,7 @@ fn words_of(alloc: Global, line: &str) -> Result<Vec<String>, AllocError> {
 
 const RUN: RunRequest<'static> = RunRequest {
     path: "f",
+    profile: Profile::Base,
     max_steps: MOST_STEPS,
     workers: 1,
     is_quiet: false,

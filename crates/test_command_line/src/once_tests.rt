@@ -5,7 +5,7 @@ use nand_geometry::Profile;
 use run_once::once_on;
 use seq_cli::{Command, Mistake, parse};
 use seq_files::{SlowReader, SlowWriter};
-use seq_inputs::{Console, Exit, Fault, Refusal, Style};
+use seq_inputs::{Console, Exit, Fault, PageFile, Refusal, Style};
 use std::alloc::{AllocError, Global};
 use std::io::{self, sink};
 use std::process::Abort;
@@ -353,6 +353,12 @@ fn command_lines(rt: HostRuntime) -> Result<(), Fail> {
     none_is_wrong(first_other(rt.alloc(), LINES)?)
 }
 
+// The page `a`, read for the base profile.
+const BASE_A: PageFile<'static> = PageFile {
+    path: "a",
+    profile: Profile::Base,
+};
+
 // A check of a trace, strict and until its first fault.
 const CHECK: CheckRequest<'static> = CheckRequest {
     page: "a",
@@ -388,7 +394,7 @@ const FILE_LINES: &[Asked] = &[
     Asked {
         words: &["onfiseq", "verify", "a", "b"],
         asked: Ok(Command::Verify {
-            page: "a",
+            page: BASE_A,
             input: "b",
             counter: TraceOutputs::NONE,
             search: 100_000,
@@ -399,7 +405,7 @@ const FILE_LINES: &[Asked] = &[
     Asked {
         words: &["onfiseq", "verify", "a", "b", "--counter", "c"],
         asked: Ok(Command::Verify {
-            page: "a",
+            page: BASE_A,
             input: "b",
             counter: TraceOutputs {
                 text: Some("c"),
@@ -415,7 +421,7 @@ const FILE_LINES: &[Asked] = &[
             "onfiseq", "verify", "a", "b", "--draw", "d.html", "--wave", "w",
         ],
         asked: Ok(Command::Verify {
-            page: "a",
+            page: BASE_A,
             input: "b",
             counter: TraceOutputs {
                 text: None,

@@ -2,7 +2,7 @@
 
 use seq_commands::{assemble_file, disassemble_file, upgrade_file, verify_file};
 use seq_files::MapFiles;
-use seq_inputs::{Console, Style};
+use seq_inputs::{Console, PageFile, Style};
 use std::alloc::Allocator;
 use std::io::Write;
 use trace_commands::{CheckRequest, Ending, check_trace};
@@ -20,7 +20,7 @@ pub(crate) enum Command<'a> {
         target: &'a str,
     },
     Verify {
-        page: &'a str,
+        page: PageFile<'a>,
         input: &'a str,
         counter: TraceOutputs<'a>,
         is_quiet: bool,

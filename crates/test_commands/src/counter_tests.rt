@@ -1,6 +1,6 @@
 // The runs that `verify` leaves of its refusals, where a file of them can't be written.
 use crate::command::Command;
-use crate::tests::{ASSEMBLE, ONE_LUN, do_command, files_of, is_right};
+use crate::tests::{ASSEMBLE, DIE, ONE_LUN, do_command, files_of, is_right};
 use seq_files::{FileError, FileFault, MapFiles};
 use seq_inputs::{Exit, Style};
 use std::alloc::Global;
@@ -10,7 +10,7 @@ use trace_files::{DrawForm, Drawing, TraceOutputs};
 
 // To verify, and to leave the text of the run.
 const VERIFY: Command<'static> = Command::Verify {
-    page: "die.page",
+    page: DIE,
     input: "out",
     counter: TraceOutputs {
         text: Some("run"),
@@ -23,7 +23,7 @@ const VERIFY: Command<'static> = Command::Verify {
 
 // To verify, and to leave the text of the run, its waveform and its picture.
 const VERIFY_ALL: Command<'static> = Command::Verify {
-    page: "die.page",
+    page: DIE,
     input: "out",
     counter: TraceOutputs {
         text: Some("run"),

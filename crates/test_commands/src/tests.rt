@@ -1,7 +1,7 @@
 use crate::command::Command;
 use nand_geometry::{Geometry, Parts, Profile, SMALL_CHIP};
 use seq_files::MapFiles;
-use seq_inputs::{Console, Exit, Fault, Refusal, Style};
+use seq_inputs::{Console, Exit, Fault, PageFile, Refusal, Style};
 use std::alloc::Global;
 use std::test::Fail;
 use trace_commands::{CheckRequest, Ending, Targets};
@@ -26,8 +26,13 @@ pub(crate) const ERASE_FILE: [u8; 36] = [
 pub(crate) const TRACE: &str =
     "0 C 60\n0 A 04\n0 A 00\n0 A 00\n0 C d0\n0 C 70\n0 O 80\n0 R 0 0\n0 C 70\n0 O e0\n";
 
+pub(crate) const DIE: PageFile<'static> = PageFile {
+    path: "die.page",
+    profile: Profile::Base,
+};
+
 pub(crate) const VERIFY: Command<'static> = Command::Verify {
-    page: "die.page",
+    page: DIE,
     input: "in",
     counter: TraceOutputs::NONE,
     is_quiet: true,

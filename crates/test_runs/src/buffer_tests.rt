@@ -1,5 +1,6 @@
 // How many bytes the buffers of a run have.
 use crate::tests::{is_right, make_files};
+use nand_geometry::Profile;
 use run_file::parse_run;
 use run_plan::plan_run;
 use std::alloc::Global;
@@ -12,7 +13,7 @@ const THREE_JOBS: &str =
 fn count_bytes(alloc: Global) -> Result<Option<u64>, Fail> {
     let mut files = make_files(alloc)?;
     let text = parse_run(THREE_JOBS, alloc)?;
-    Ok(match plan_run(alloc, &mut files, &text) {
+    Ok(match plan_run(alloc, &mut files, Profile::Base, &text) {
         Ok(plan) => Some(plan.jobs.buffer_bytes),
         Err(_) => None,
     })

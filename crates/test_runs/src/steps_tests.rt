@@ -1,5 +1,6 @@
 // How many words the programs of a run step at most.
 use crate::tests::{make_files, none_is_wrong};
+use nand_geometry::Profile;
 use run_file::parse_run;
 use run_plan::plan_run;
 use std::alloc::Global;
@@ -30,7 +31,7 @@ fn count(alloc: Global, run: &str) -> Result<Option<u64>, Fail> {
     files.put("deep", DEEP.as_bytes())?;
     files.put("telling", TELLING.as_bytes())?;
     let text = parse_run(run, alloc)?;
-    Ok(match plan_run(alloc, &mut files, &text) {
+    Ok(match plan_run(alloc, &mut files, Profile::Base, &text) {
         Ok(plan) => Some(plan.jobs.steps),
         Err(_) => None,
     })

@@ -1,4 +1,4 @@
-use nand_geometry::{Geometry, Parts, SMALL_CHIP};
+use nand_geometry::{Geometry, Parts, Profile, SMALL_CHIP};
 use seq_files::MapFiles;
 use seq_inputs::{Console, Exit};
 use seq_run::{MOST_STEPS, RunRequest, run_on};
@@ -100,6 +100,7 @@ pub(crate) fn make_files(alloc: Global) -> Result<MapFiles, Fail> {
 pub(crate) fn ask(workers: u8) -> RunRequest<'static> {
     RunRequest {
         path: "run",
+        profile: Profile::Base,
         max_steps: MOST_STEPS,
         workers,
         is_quiet: false,

@@ -11,7 +11,7 @@ pub returns-in-Ok-plan_rest-clause-ok : goal.returns-in-Ok-plan_rest-clause-ok
 returns-in-Ok-plan_rest-clause-ok g c =
     let items = c.as_slice-statements.ensures.value in
     let rest = c.split_at.result.1.now in
-    plan_passes_at (g.F.Files.store c.args.files.now) (shown_text c.args.text.now) (c.in-Some.line, c.in-Some.path.now) c.in-Ok.geometry c.in-Ok-plan_rest.plan.dies.geometry
+    plan_passes_at (g.F.Files.store c.args.files.now) c.args.profile (shown_text c.args.text.now) (c.in-Some.line, c.in-Some.path.now) c.in-Ok.geometry c.in-Ok-plan_rest.plan.dies.geometry
     c.in-Some-find_targets.targets c.in-Ok-plan_rest.plan.dies.targets (shown_all rest) c.in-Ok-plan_rest.ensures.channel.0 c.in-Ok-plan_rest.ensures.channel.1
     (ap (λ (l : List Written). page_of (shown_all l)) (sym items) ∙ c.in-Some.ensures)
     c.in-Ok.ensures.ok

@@ -11,7 +11,7 @@ returns-in-Err-clause-refused g c refusal is =
       record {
         text = c.args.text.now;
         is_there = c.requires;
-        refused = told_refused (PlanIsRefused (g.F.Files.store c.args.files.now) (told c.args.text.now)) refusal c.in-Err.stop c.explain_line-stop.result c.explain_line-stop.ensures tells.0 c.in-Err.ensures.err;
+        refused = told_refused (PlanIsRefused (g.F.Files.store c.args.files.now) c.args.request.profile (told c.args.text.now)) refusal c.in-Err.stop c.explain_line-stop.result c.explain_line-stop.ensures tells.0 c.in-Err.ensures.err;
       },
       c.in-Err.ensures.stays,
       tells.1,
