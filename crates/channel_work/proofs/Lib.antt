@@ -17,3 +17,4 @@ pub mod Bounds
 pub mod Readying
 pub mod Recounting
 pub mod Staying
+pub mod Merging

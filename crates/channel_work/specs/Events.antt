@@ -1,5 +1,5 @@
 -- The events of a channel as they are kept: steps that stand in a row are kept once, with how many they are.
-use Rattle.std.specs.Prelude.{ℕ, ◌+◌, ◌==◌, ◌&&◌, List, [], ◌∷◌, Option, Some, None, replicate, nat_lt, if◌then◌else◌}
+use Rattle.std.specs.Prelude.{◌≡◌, ⊤, ℕ, ◌+◌, ◌==◌, ◌&&◌, List, [], ◌∷◌, Option, Some, None, replicate, nat_lt, if◌then◌else◌}
 use Rattle.onfi_cycle.specs.Channel.{same_lun}
 use Rattle.channel_work.specs.declared.stored.Stored.{Stored}
 use Rattle.channel_work.specs.declared.stored.Stored.TheVariants.{Load as Loaded, Step as WasStepped, Ready as BecameReady, ArrayReady as ArrayBecameReady, Unload as WasUnloaded}
@@ -23,3 +23,21 @@ kept_as (Unload l) = WasUnloaded l ∷ []
 abbrev pub one_more : Kept → Stored → Option Kept
 one_more (Steps l times turn) (WasStepped m number) = if same_lun l m && (turn == number && nat_lt times 4294967295) then Some (Steps l (times + 1) turn) else None
 one_more _ _ = None
+
+-- the first of the events that are kept so
+abbrev pub first_kept : Kept → Stored
+first_kept (Load l host number) = Loaded l (record { host = host; number = number })
+first_kept (Steps l times turn) = WasStepped l turn
+first_kept (Ready l fail) = BecameReady l fail
+first_kept (ArrayReady l) = ArrayBecameReady l
+first_kept (Unload l) = WasUnloaded l
+
+-- what follows couldn't be kept with it
+abbrev pub IsApart : Kept → List Kept → Type 0
+IsApart k [] = ⊤
+IsApart k (next ∷ ks) = one_more k (first_kept next) ≡ None
+
+-- no two neighbours could be kept as one
+abbrev pub AreMerged : List Kept → Type 0
+AreMerged [] = ⊤
+AreMerged (k ∷ ks) = IsApart k ks × AreMerged ks

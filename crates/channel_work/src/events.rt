@@ -3,7 +3,7 @@ ghost use Rattle.std.specs.Prelude.{◌≡◌, ◌<◌, ◌++◌, ◌∷◌, [],
 ghost use Rattle.std.specs.List.{flat_map};
 ghost use Rattle.std.specs.Vec.{vec_len, vec_capacity};
 ghost use Rattle.channel_work.specs.Stored.{last_started};
-ghost use Rattle.channel_work.specs.Events.{kept_as, one_more};
+ghost use Rattle.channel_work.specs.Events.{kept_as, one_more, first_kept, AreMerged};
 
 use crate::stored::{Name, Stored};
 use onfi_cycle::Lun;
@@ -37,13 +37,13 @@ impl Model for EventLog {
     ghost use Rattle.std.specs.Prelude.{◌≡◌, ◌-◌, ◌^◌, min, length};
     ghost use Rattle.std.specs.List.{flat_map};
     ghost use Rattle.std.specs.Vec.{vec_len, vec_capacity};
-    ghost use Rattle.channel_work.specs.Events.{EventsView, kept_as};
+    ghost use Rattle.channel_work.specs.Events.{EventsView, kept_as, AreMerged};
 
     ghost Value = { EventsView };
 
     ghost view = { λ e. record { items = flat_map kept_as e.kept.items; room = min (vec_capacity e.kept - vec_len e.kept) (2 ^ 64 - 1 - e.count) } };
 
-    ghost invariant = { λ e. e.count ≡ length (flat_map kept_as e.kept.items) };
+    ghost invariant = { λ e. (e.count ≡ length (flat_map kept_as e.kept.items)) × AreMerged e.kept.items };
 }
 
 impl EventLog {
@@ -94,7 +94,8 @@ impl EventLog {
 
 // One event as it is kept.
 fn keep(event: Stored) -> Kept
-    ensures { kept_as result ≡ event ∷ [] }
+    ensures one { kept_as result ≡ event ∷ [] }
+    ensures first { first_kept result ≡ event }
 {
     match event {
         Stored::Load(lun, Name { host, number }) => Kept::Load { lun, host, number },
@@ -131,9 +132,11 @@ fn add_one(kept: Kept, event: Stored) -> Option<Kept>
 }
 
 // Keeps an event after the others, where there is room for it.
+#[tactic(auto, using(crate::proofs::Merging::merged_more, crate::proofs::Merging::merged_next))]
 fn push_kept(kept: &mut Vec<Kept>, event: Stored)
     requires { vec_len kept.old < vec_capacity kept.old }
-    ensures { flat_map kept_as kept.new.items ≡ flat_map kept_as kept.old.items ++ event ∷ [] }
+    ensures items { flat_map kept_as kept.new.items ≡ flat_map kept_as kept.old.items ++ event ∷ [] }
+    ensures merged { AreMerged kept.old.items → AreMerged kept.new.items }
 {
     match kept.pop() {
         None => kept.push_reserved(keep(event)),

@@ -1,5 +1,6 @@
 //! The rows of a CSV.
-ghost use Rattle.std.specs.Prelude.{◌≡◌, ℕ, ◌+◌, ◌<◌, ◌≤◌, ◌^◌, List, [], ◌++◌, length, take, drop, IfSome, IfNone};
+ghost use Rattle.std.specs.Prelude.{◌≡◌, ◌==◌, ℕ, ◌+◌, ◌<◌, ◌≤◌, ◌^◌, false, List, [], ◌++◌, length, take, drop, IfSome, IfNone};
+ghost use Rattle.std.specs.List.{All};
 ghost use Rattle.std.specs.Str.Lines.{strip_carriage_return};
 ghost use Rattle.csv_text.specs.Fields.{is_blank, trim_front};
 ghost use Rattle.csv_text.specs.Rows.{is_row, begins_meta, is_note, ended, rows_from, rows, values, AreLines, MayFollow};
@@ -80,6 +81,7 @@ fn line_len(text: &[u8]) -> usize
 pub fn whole_lines_len(piece: &[u8]) -> usize
     ensures within { result ≤ length piece.now }
     ensures lines { AreLines (take result piece.now) }
+    ensures rest { All (λ b. (b == 10) ≡ false) (drop result piece.now) }
 {
     let mut count = piece.len();
     'bytes: while count > 0 && piece[count - 1] != b'\n' {

@@ -1,5 +1,6 @@
 //! The words of a dump.
-ghost use Rattle.std.specs.Prelude.{◌≡◌, ℕ, ◌+◌, ◌<◌, ◌≤◌, ◌^◌, [], ◌∷◌, length, take, drop, IfSome, IfNone};
+ghost use Rattle.std.specs.Prelude.{◌≡◌, ℕ, ◌+◌, ◌<◌, ◌≤◌, ◌^◌, false, [], ◌∷◌, length, take, drop, IfSome, IfNone};
+ghost use Rattle.std.specs.List.{All};
 ghost use Rattle.vcd_text.specs.Words.{is_blank, ended, words, words_from, words_left, with_word, lines_from, IsCut, GoesOn, StartsWord};
 
 /// What stands between white space, and the number of its line, from 1.
@@ -46,6 +47,7 @@ fn word_len(text: &[u8]) -> usize
 pub fn whole_len(piece: &[u8]) -> usize
     ensures within { result ≤ length piece.now }
     ensures cut { IsCut (take result piece.now) }
+    ensures rest { All (λ b. is_blank b ≡ false) (drop result piece.now) }
 {
     let mut count = piece.len();
     'bytes: while count > 0 && !is_blank(piece[count - 1]) {
