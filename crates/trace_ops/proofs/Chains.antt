@@ -2,6 +2,7 @@
 use Rattle.std.proofs.Common.{◌≡◌, ◌⊎◌, inl, inr, ℕ, zero, suc, ◌+◌, ◌<◌, ◌==◌, Bool, true, false, ◌&&◌, ◌||◌, not, cond, List, [], ◌∷◌, ◌++◌, Option, Some, None, is_some, refl, sym, ap, ◌∙◌, subst, arith, length, slice_set, eqb-true}
 use Rattle.std.specs.Prelude.{slice_get}
 use Rattle.std.specs.List.{All}
+use Rattle.std.proofs.lemmas.Bool.{or_left, or_right}
 use Rattle.std.proofs.lemmas.List.{length-append}
 use Rattle.std.proofs.lemmas.List.Elements.{All-head, All-tail, All-set, All-weaker, All-replicate}
 use Rattle.onfi_cycle.specs.declared.command.Command.TheVariants.{Read, ReadStatus}
@@ -86,10 +87,6 @@ stays_main o y start closer same h =
 more_closer : (b : Bool) (x y : Option ℕ) → (is_some x ≡ true → b ≡ true) → is_some x ≡ true → is_some (cond b x y) ≡ true
 more_closer true x y f h = h
 more_closer false x y f h = (let e = f h in cc)
-
-or_left : (a b : Bool) → a ≡ true → (a || b) ≡ true
-or_left true b h = refl
-or_left false b h = cc
 
 byte_start : (kind : Kind) (byte : ℕ) (o : Operation) → (with_byte kind byte o).start ≡ o.start
 byte_start Cmd byte o = refl
@@ -557,10 +554,6 @@ module _ (j : Judged) (k : ℕ) (ops : List Operation) (o : Operation) (is : sli
       at true e h = ap (λ n. asks_by (Some n)) (eqb-true x 0x90 e)
       at false e h = ap (λ n. asks_by (Some n)) (eqb-true x 0xec h)
 
-  or_right : (a b : Bool) → b ≡ true → (a || b) ≡ true
-  or_right true b h = refl
-  or_right false b h = h
-
   main_so : (is_some o.closer || not (asks o.beginning)) ≡ true → Main ops k
   main_so h = (small, (λ w there'. ap is_main (same_one w there') ∙ or_right (is_some o.start) _ h))
 
@@ -807,12 +800,8 @@ context_came j l w =
       small = omega (arith, small, same);
       began = all_began j k (came j l) small;
       opener = λ byte cmd open' o is. opens k o is refl byte cmd open';
-      closer = λ cmd. (omega (arith, small, same), (λ o is. or_true (is_some o.start) _ (closed k o is refl cmd)));
+      closer = λ cmd. (omega (arith, small, same), (λ o is. or_right (is_some o.start) _ (closed k o is refl cmd)));
     }
-  where
-    or_true : (a b : Bool) → b ≡ true → (a || b) ≡ true
-    or_true true b h = refl
-    or_true false b h = h
 
 sound_listed : (j : Judged) (l : Listing) → AreWithin (length l.ops) l.places → Sound l.places l.ops → Sound (listed j l).places (listed j l).ops
 sound_listed j l w sound =
