@@ -1,5 +1,5 @@
 -- The two addresses of 85h: how they are judged, what they leave, and where they stop.
-use Rattle.std.proofs.Common.{◌≡◌, ℕ, zero, suc, ◌+◌, ◌*◌, ◌/◌, ◌%◌, ◌≤◌, ◌<◌, ◌==◌, Bool, true, false, ◌&&◌, ◌||◌, cond, not, nat_le, List, ◌∷◌, Option, Some, None, refl, ap, ◌∙◌, arith, length, take, drop}
+use Rattle.std.proofs.Common.{◌≡◌, ℕ, zero, suc, ◌+◌, ◌*◌, ◌/◌, ◌%◌, ◌≤◌, ◌<◌, ◌==◌, Bool, true, false, ◌&&◌, cond, not, nat_le, List, ◌∷◌, Option, Some, None, refl, ap, ◌∙◌, arith, length, take, drop}
 use Rattle.std.proofs.Math.Bool.{or-false}
 use Rattle.nand_geometry.specs.declared.parts.Parts.{Parts}
 use Rattle.nand_geometry.specs.Limits.{page_len}

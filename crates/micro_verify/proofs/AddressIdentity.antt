@@ -1,6 +1,5 @@
 -- The one address of 90h and ECh: how it is judged, and where it stops.
-use Rattle.std.proofs.lemmas.Bool.Decides.{nat_tests}
-use Rattle.std.proofs.Common.{◌≡◌, ℕ, zero, suc, ◌+◌, ◌/◌, ◌%◌, ◌≤◌, ◌==◌, Bool, true, false, ◌&&◌, ◌||◌, cond, not, nat_le, List, [], ◌∷◌, Some, None, refl, ap, ◌∙◌, arith, length, take, drop, eqb-true}
+use Rattle.std.proofs.Common.{◌≡◌, ℕ, zero, suc, ◌+◌, ◌/◌, ◌%◌, ◌≤◌, ◌==◌, Bool, true, false, ◌&&◌, ◌||◌, not, nat_le, List, [], ◌∷◌, Some, None, refl, ap, ◌∙◌, arith, length, take, drop, eqb-true}
 use Rattle.std.proofs.lemmas.Bool.{not-true}
 use Rattle.nand_geometry.specs.declared.parts.Parts.{Parts}
 use Rattle.nand_geometry.specs.Optional.{is_wide}
@@ -17,9 +16,9 @@ use Rattle.micro_word.specs.declared.word.Word.TheVariants.{Address as AddressWo
 use Rattle.micro_word.specs.Text.{Microprogram}
 use Rattle.onfi_cycle.specs.Base.{is_of_base}
 use Rattle.micro_claims.specs.Against.{byte_of_column, takes_identity}
-use Rattle.micro_program.specs.Moves.{address, column_bytes}
+use Rattle.micro_program.specs.Moves.{address}
 use Rattle.micro_program.specs.Program.{column_now}
-use Rattle.micro_claims.proofs.Fits.{Address, Opened, is_place, bytes_of, opener_facts, facts_behind}
+use Rattle.micro_claims.proofs.Fits.{Address, Opened, bytes_of, opener_facts, facts_behind}
 use Rattle.micro_verify.specs.Lazy.{lone_job, Run}
 use Rattle.micro_verify.specs.Cause.{WordStops, is_of_cycle_forbidden}
 use Rattle.micro_verify.proofs.Lone.{Lone, IsAlone, IsLone, lone_behind, judged}

@@ -27,6 +27,7 @@ use Rattle.micro_claims.proofs.Fits.{Address, bytes_of, opener_facts, facts_behi
 use Rattle.micro_claims.proofs.Addressing.{AddressNow, of_now, carried_is}
 use Rattle.micro_claims.proofs.AddressSteps.{carried}
 use Rattle.micro_claims.proofs.SoundAddress.{read_column, program_column, column_column}
+use Rattle.micro_verify.proofs.AddressesNow.{carries_registers}
 use Rattle.micro_verify.proofs.AddressTests.{takes_first}
 use Rattle.micro_verify.specs.Lazy.{lone_job, Run}
 use Rattle.micro_verify.proofs.Lone.{Lone}

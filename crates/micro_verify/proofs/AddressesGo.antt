@@ -1,6 +1,6 @@
 -- Addresses that nothing is against go, and what they leave is mirrored: those of an opener, those of 85h, the one of 90h or ECh.
 use Rattle.std.proofs.lemmas.Bool.Decides.{nat_tests}
-use Rattle.std.proofs.Common.{◌≡◌, ℕ, zero, suc, ◌+◌, ◌*◌, ◌/◌, ◌%◌, ◌≤◌, ◌==◌, Bool, true, false, ◌||◌, cond, nat_le, List, [], ◌∷◌, Option, Some, None, refl, sym, ap, ◌∙◌, subst, arith, take, drop, length, eqb-true}
+use Rattle.std.proofs.Common.{◌≡◌, ℕ, zero, suc, ◌+◌, ◌*◌, ◌/◌, ◌%◌, ◌≤◌, ◌==◌, Bool, true, false, ◌||◌, cond, nat_le, List, [], ◌∷◌, Option, Some, None, refl, sym, ap, ◌∙◌, subst, arith, take, drop, length, eqb-true, ◌&&◌}
 use Rattle.std.proofs.lemmas.Bool.{and_parts, or_parts}
 use Rattle.nand_geometry.specs.declared.parts.Parts.{Parts}
 use Rattle.nand_geometry.specs.Limits.{page_len}
@@ -9,7 +9,7 @@ use Rattle.onfi_cycle.specs.declared.command.Command.TheVariants.{Read, ChangeRe
 use Rattle.onfi_cycle.specs.declared.forbidden.Forbidden.TheVariants.{ColumnOutside}
 use Rattle.onfi_cycle.specs.declared.tail_facts.TailFacts.{TailFacts}
 use Rattle.onfi_cycle.specs.declared.target_cycle.TargetCycle.TheVariants.{AddressCycle}
-use Rattle.onfi_cycle.specs.Command.{reads_identity}
+use Rattle.onfi_cycle.specs.Command.{addresses_the_array, reads_identity}
 use Rattle.onfi_cycle.specs.Sequence.{facts_after, input_column}
 use Rattle.onfi_cycle.specs.Channel.{Channel}
 use Rattle.micro_word.specs.declared.word.Word.TheVariants.{Address as AddressWord}
@@ -42,11 +42,18 @@ use Rattle.micro_verify.proofs.AddressTails.{along_now, tail_after, tail_in_data
 
 -- 1. of an opener
 
+-- who takes a row addresses the array
+row_is_of_array : (o : Command) → takes_row o ≡ true → addresses_the_array o ≡ true
+row_is_of_array Read h = refl
+row_is_of_array BlockErase h = refl
+row_is_of_array PageProgram h = refl
+row_is_of_array _ h = cc
+
 -- the row that was named goes along with the queue, which didn't refuse it
-along_led : (g : Parts) (v : State) (r : Run) (c : Lone) (j : Job) (from count : ℕ) (o : Command) (n : ℕ) → Mirrors g j v r.done c → 5 ≤ from + count → (nat_le 5 (from + count) ≡ true → row_refused v (After o n) ≡ false) → row_goes_along (is_erase o) (target_after_addresses g v from count).named v.lun.queue ≡ true
-along_led g v r c j from count o n m five clear =
+along_led : (g : Parts) (v : State) (r : Run) (c : Lone) (j : Job) (from count : ℕ) (o : Command) (n : ℕ) → Mirrors g j v r.done c → addresses_the_array o ≡ true → 5 ≤ from + count → (nat_le 5 (from + count) ≡ true → row_refused v (After o n) ≡ false) → row_goes_along (is_erase o) (target_after_addresses g v from count).named v.lun.queue ≡ true
+along_led g v r c j from count o n m array five clear =
     let last : nat_le 5 (from + count) ≡ true = grind (arith, nat_tests, five) in
-    let queue = (or_parts (v.lun.busy || may_be_31 v.lun.last) (queue_refuses v.lun.queue v.registers.planes o) (clear last)).1 in
+    let queue = (or_parts (v.lun.busy || may_be_31 v.lun.last) (queue_refuses v.lun.queue v.registers.planes o) (ap (λ (b : Bool). b && (v.lun.busy || may_be_31 v.lun.last || queue_refuses v.lun.queue v.registers.planes o)) (sym array) ∙ clear last)).1 in
     subst (λ (b : Bool). row_goes_along (is_erase o) (cond b (Some (name_now g v.registers)) v.target.named) v.lun.queue ≡ true) (sym last) (along_now g (index_now 0 r.done) v.lun.queue c.view.queue v.registers.planes o m.lun.queue queue)
 
 -- the word leads to these facts, and the tail is mirrored there
@@ -75,9 +82,10 @@ stays s text v r c from count o n w x many clear here other b old leads place qu
     along e =
         let q = queues e in
         let begins = x.begins in
-        let five = (and_parts (takes_row o) (nat_le 5 (first_address o + (n + count))) q.0).1 in
+        let both = and_parts (takes_row o) (nat_le 5 (first_address o + (n + count))) q.0 in
+        let five = both.1 in
         let reaches : 5 ≤ from + count = grind (arith, nat_tests, five, begins) in
-        ap (λ (y : Bool). row_goes_along y (target_after_addresses g v from count).named v.lun.queue) q.1 ∙ along_led g v r c (lone_job g text) from count o n w.mirrors reaches clear.row
+        ap (λ (y : Bool). row_goes_along y (target_after_addresses g v from count).named v.lun.queue) q.1 ∙ along_led g v r c (lone_job g text) from count o n w.mirrors (row_is_of_array o both.0) reaches clear.row
 
 pub opener_goes : (s : Channel) (text : Microprogram) (v : State) (r : Run) (c : Lone) (from count : ℕ) (o : Command) (n : ℕ) → AddressAt s text v r c from count → AtOpener s text r c from count o n → length r.done ≤ 32768 → PlaceIsClear s v from count (limit_of s.geometry o c.view) (column_now r.done) (After o n) → v.target.tail ≡ After o n → Behind s text r c o n → (has_column (After o n) ≡ true → BoundIs (input_column c.facts) v.target.column) → Goes s text (state_after s.geometry v (AddressWord from count)) r (AddressWord from count)
 opener_goes s text v r c from count Read n w x many clear here b old =
@@ -101,7 +109,7 @@ opener_goes s text v r c from count PageProgram n w x many clear here b old = at
         let single : (target_after_addresses s.geometry v from count).tail ≡ InData = ap (address_leads_to count) here ∙ ap (opener_leads_to PageProgram) five in
         opener_left s text v r c from count PageProgram n w x clear here refl (tail_in_data s text v r c from count n w x many here five old)
         (subst (λ (p : Place). place_queues p ≡ true → row_goes_along (place_erases p) (target_after_addresses s.geometry v from count).named v.lun.queue ≡ true) (sym single)
-        (λ e. along_led s.geometry v r c (lone_job s.geometry text) from count PageProgram n w.mirrors (omega (arith, begins, five)) clear.row))
+        (λ e. along_led s.geometry v r c (lone_job s.geometry text) from count PageProgram n w.mirrors refl (omega (arith, begins, five)) clear.row))
     at false e =
         let four : n + count ≤ 4 = let f = few in grind (arith, nat_tests, e, f) in
         stays s text v r c from count PageProgram n w x many clear here refl b old (ap (λ (y : Bool). cond y InData (after_few PageProgram (n + count))) e ∙ few_is PageProgram (n + count) few) (grind (arith, nat_tests, four)) (λ e. (e, refl))

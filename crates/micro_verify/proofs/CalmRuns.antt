@@ -1,8 +1,6 @@
 -- A lazy run that is legal goes on word by word, each cycle being permitted: so the counter of a text is that of its refused word.
-use Rattle.std.proofs.Common.{◌≡◌, ℕ, Bool, true, false, cond, ◌==◌, ◌&&◌, List, [], ◌∷◌, ◌++◌, Option, Some, None, is_none, refl, ap, ◌∙◌}
+use Rattle.std.proofs.Common.{◌≡◌, ℕ, Bool, true, false, cond, ◌&&◌, List, [], ◌∷◌, Option, Some, None, is_none, refl, ap, ◌∙◌}
 use Rattle.std.proofs.lemmas.Bool.{and_parts}
-use Rattle.nand_geometry.specs.declared.parts.Parts.{Parts}
-use Rattle.onfi_cycle.specs.declared.forbidden.Forbidden.{Forbidden}
 use Rattle.onfi_cycle.specs.declared.item.Item.{Item}
 use Rattle.onfi_cycle.specs.declared.item.Item.TheVariants.{Rdy}
 use Rattle.onfi_cycle.specs.declared.item.Kind.TheVariants.{Dout}
@@ -10,11 +8,10 @@ use Rattle.onfi_cycle.specs.Lun.{is_busy}
 use Rattle.onfi_cycle.specs.Permitted.{broken, is_legal, is_permitted}
 use Rattle.onfi_cycle.specs.Channel.{Channel, cycle, bus_byte}
 use Rattle.micro_word.specs.declared.word.Word.{Word}
-use Rattle.micro_word.specs.Text.{Microprogram}
-use Rattle.micro_program.specs.Program.{Job, Done}
+use Rattle.micro_program.specs.Program.{Job}
 use Rattle.micro_program.specs.Moves.{Move, Give, Take, moves, and_then, is_wait}
 use Rattle.micro_program.specs.Played.{Played, played, with_byte}
-use Rattle.micro_verify.specs.Lazy.{the_lun, Run, run_with, run_word, run_words, awaited, Counter, counter_in, counter_at}
+use Rattle.micro_verify.specs.Lazy.{the_lun, Run, run_with, run_word, run_words, awaited, counter_in, counter_at}
 use Rattle.micro_verify.specs.Calm.{calm_word, calm_words}
 use Rattle.micro_verify.proofs.CountersThere.{legal_before, permitted_before, any_byte, same_played}
 

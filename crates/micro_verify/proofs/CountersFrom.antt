@@ -10,7 +10,7 @@ use Rattle.micro_program.specs.Program.{Job}
 use Rattle.micro_program.specs.Moves.{and_then}
 use Rattle.micro_verify.specs.declared.registers.Registers.{Registers}
 use Rattle.micro_verify.specs.declared.showing.Counter.{Counter as Counted}
-use Rattle.micro_verify.specs.Lazy.{lone_job, Run, new_run, Counter}
+use Rattle.micro_verify.specs.Lazy.{lone_job, Run, new_run}
 use Rattle.micro_verify.specs.Calm.{calm_words, counter_after, counter_before}
 use Rattle.micro_verify.specs.Playing.{fresh_registers, IsAt, IsLoneJob, HasRunFrom, Shown, ShownAfter}
 

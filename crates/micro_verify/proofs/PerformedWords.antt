@@ -1,5 +1,5 @@
 -- What performing a word makes of the run of its text.
-use Rattle.std.proofs.Common.{◌≡◌, ℕ, zero, suc, ◌+◌, ◌*◌, ◌<◌, ◌≤◌, Bool, true, false, cond, leb, List, [], ◌∷◌, ◌++◌, Option, Some, None, is_none, refl, sym, ap, ◌∙◌, subst, arith, length, map, replicate, reverse, drop, get_or}
+use Rattle.std.proofs.Common.{◌≡◌, ℕ, zero, suc, ◌+◌, ◌<◌, ◌≤◌, Bool, true, false, cond, leb, List, [], ◌∷◌, ◌++◌, Option, Some, None, is_none, refl, sym, ap, ◌∙◌, subst, arith, length, map, replicate, reverse, drop, get_or}
 use Rattle.std.proofs.Math.Seq.{drop-cons}
 use Rattle.std.proofs.lemmas.Bool.Decides.{nat_tests}
 use Rattle.nand_geometry.specs.declared.parts.Parts.{Parts}
@@ -24,9 +24,9 @@ use Rattle.micro_verify.specs.declared.moves.Move.TheVariants.{Address as Addres
 use Rattle.micro_verify.specs.declared.registers.Registers.{Registers}
 use Rattle.micro_verify.specs.declared.playing.Outcome.{Outcome}
 use Rattle.micro_verify.specs.declared.playing.Outcome.TheVariants.{Done, Stopped, Missing}
-use Rattle.micro_verify.specs.Lazy.{the_lun, Run, new_run, run_with, run_word, awaited, Counter, counter_in, counter_at}
+use Rattle.micro_verify.specs.Lazy.{the_lun, Run, new_run, run_with, run_word, awaited, counter_in, counter_at}
 use Rattle.micro_verify.specs.Calm.{calm_word, calm_words}
-use Rattle.micro_verify.specs.Playing.{meant, fresh_registers, registers_after, IsSet, IsSmall, five_told, moves_told, Comes, HasPerformed, stored, IsAt, IsLoneJob, HasRunFrom}
+use Rattle.micro_verify.specs.Playing.{meant, fresh_registers, registers_after, IsSet, IsSmall, five_told, moves_told, HasPerformed, stored, IsAt, IsLoneJob, HasRunFrom}
 
 -- 1. the moves that are told are those of the word
 

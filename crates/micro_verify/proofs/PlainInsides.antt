@@ -1,5 +1,5 @@
 -- Operations inside a geometry: what their numbers are, and the header of their text.
-use Rattle.std.proofs.Common.{◌≡◌, ℕ, ◌+◌, ◌*◌, ◌^◌, ◌≤◌, ◌<◌, ◌==◌, Bool, true, false, ◌||◌, ◌&&◌, nat_le, nat_lt, cond, max, List, [], ◌∷◌, Option, Some, None, refl, ap, ◌∙◌, arith, length}
+use Rattle.std.proofs.Common.{◌≡◌, ℕ, ◌+◌, ◌*◌, ◌^◌, ◌≤◌, ◌<◌, ◌==◌, Bool, true, false, ◌||◌, nat_le, nat_lt, cond, max, List, [], ◌∷◌, Option, Some, None, refl, ap, ◌∙◌, arith, length}
 use Rattle.std.proofs.Math.Nat.{le-max_left, le-max_right, max-le}
 use Rattle.std.proofs.lemmas.Bool.Decides.{nat_tests}
 use Rattle.std.proofs.Math.Pow.{pow_mono}

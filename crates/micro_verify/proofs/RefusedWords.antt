@@ -1,10 +1,10 @@
 -- Each word of a straight text is exact, so that a refused one has its cause.
-use Rattle.std.proofs.Common.{◌≡◌, ℕ, zero, suc, ◌*◌, ◌/◌, ◌≤◌, ◌==◌, Bool, true, false, ◌||◌, not, cond, ltb, List, [], ◌∷◌, length, replicate, Option, Some, None, refl, sym, ap, ◌∙◌, subst, arith, take}
+use Rattle.std.proofs.Common.{◌≡◌, ℕ, zero, suc, ◌*◌, ◌/◌, ◌≤◌, ◌==◌, Bool, true, false, not, cond, ltb, List, [], ◌∷◌, length, replicate, Option, Some, None, refl, sym, ap, ◌∙◌, subst, arith, take}
 use Rattle.std.proofs.Math.Nat.{div-le_self, mul-le-mul_left, mul-le-mul_right}
 use Rattle.nand_geometry.specs.declared.parts.Parts.{Parts}
 use Rattle.nand_geometry.specs.Limits.{InLimits, indices, planes}
 use Rattle.onfi_cycle.specs.declared.command.Command.{Command}
-use Rattle.onfi_cycle.specs.declared.command.Command.TheVariants.{ReadCacheSequential, Unknown as UnknownCommand}
+use Rattle.onfi_cycle.specs.declared.command.Command.TheVariants.{ReadCacheSequential}
 use Rattle.onfi_cycle.specs.Command.{command}
 use Rattle.micro_program.proofs.CacheReads.{its_byte}
 use Rattle.micro_program.specs.Lines.{is_command_31, continues_cache_read, leads_on, all_lead_on}

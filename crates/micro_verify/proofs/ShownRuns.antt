@@ -1,5 +1,5 @@
 -- A straight text for one LUN that is refused by V7 shows its run.
-use Rattle.std.proofs.Common.{◌≡◌, ℕ, suc, ◌+◌, Bool, true, false, cond, leb, ◌==◌, ◌&&◌, List, [], ◌∷◌, Option, Some, None, refl, sym, ap, ◌∙◌, subst, arith, take}
+use Rattle.std.proofs.Common.{◌≡◌, ℕ, suc, ◌+◌, Bool, true, false, cond, leb, List, [], ◌∷◌, Option, Some, None, refl, sym, ap, ◌∙◌, subst, arith, take}
 use Rattle.std.proofs.lemmas.Bool.Decides.{nat_tests}
 use Rattle.std.specs.Prelude.{slice_get}
 use Rattle.nand_geometry.specs.declared.parts.Parts.{Parts}
@@ -17,17 +17,16 @@ use Rattle.micro_claims.specs.declared.refusal.Reason.TheVariants.{CycleForbidde
 use Rattle.micro_claims.specs.declared.state.State.{State}
 use Rattle.micro_claims.specs.State.{bounds_of, first_state}
 use Rattle.micro_claims.specs.Reasons.{breaks_cycle_forbidden, reason_against}
-use Rattle.micro_program.specs.Program.{Job}
 use Rattle.micro_program.specs.Moves.{and_then, is_wait}
 use Rattle.micro_program.specs.Lines.{all_lead_on}
 use Rattle.micro_walk.specs.Faults.{fault_of, fault_or, onward, walked}
 use Rattle.micro_walk.specs.Shape.{shape_fault}
 use Rattle.micro_walk.specs.Verdicts.{is_of_shape}
 use Rattle.micro_walk.proofs.Walking.{straight_fault}
-use Rattle.micro_verify.specs.Lazy.{lone_channel, lone_job, Run, new_run, Counter}
-use Rattle.micro_verify.specs.Cause.{is_of_cycle_forbidden, Cause, WordStops, IsStraight, HasCause}
+use Rattle.micro_verify.specs.Lazy.{lone_channel, lone_job, Run, new_run}
+use Rattle.micro_verify.specs.Cause.{is_of_cycle_forbidden, Cause, WordStops, IsStraight}
 use Rattle.micro_verify.specs.Calm.{may_show, calm_words, counter_after, counter_before, counter_of}
-use Rattle.micro_verify.specs.Counters.{CounterIsThere, IsBrokenLast, ShowsRun, RefusalsShowRuns}
+use Rattle.micro_verify.specs.Counters.{RefusalsShowRuns}
 use Rattle.micro_verify.proofs.Causes.{reason_is}
 use Rattle.micro_verify.proofs.CountersThere.{counters_are_there}
 use Rattle.micro_verify.proofs.CalmRuns.{calm_run}

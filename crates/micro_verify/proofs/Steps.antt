@@ -1,11 +1,9 @@
 -- Moves that are played one after another, up to one that isn't permitted.
-use Rattle.std.proofs.Common.{◌≡◌, ℕ, zero, suc, ◌+◌, ◌<◌, Bool, true, false, List, [], ◌∷◌, ◌++◌, Option, Some, None, refl, sym, ap, ◌∙◌, subst, arith, length, reverse, map, drop, get_or, is_none}
+use Rattle.std.proofs.Common.{◌≡◌, ℕ, zero, suc, ◌+◌, ◌<◌, true, false, List, [], ◌∷◌, ◌++◌, Option, Some, None, refl, sym, ap, ◌∙◌, subst, arith, length, reverse, map, drop, get_or, is_none}
 use Rattle.std.proofs.Math.Seq.{drop-cons}
 use Rattle.onfi_cycle.specs.declared.item.Cycle.{Cycle}
-use Rattle.onfi_cycle.specs.declared.forbidden.Forbidden.{Forbidden}
 use Rattle.onfi_cycle.specs.declared.item.Item.{Item}
 use Rattle.onfi_cycle.specs.declared.item.Item.TheVariants.{Cyc}
-use Rattle.onfi_cycle.specs.declared.item.Kind.{Kind}
 use Rattle.onfi_cycle.specs.declared.item.Kind.TheVariants.{Dout}
 use Rattle.onfi_cycle.specs.Permitted.{broken}
 use Rattle.onfi_cycle.specs.Rules.{breaks_not_there}
@@ -17,7 +15,7 @@ use Rattle.onfi_cycle.specs.Content.{written}
 use Rattle.std.specs.Prelude.{slice_set}
 use Rattle.micro_verify.specs.declared.moves.Move.{Move as Told}
 use Rattle.micro_verify.specs.Lazy.{item_of, Counter, counter_in}
-use Rattle.micro_verify.specs.Playing.{meant, with_bytes, HasGone, HasCome, HasPlayed}
+use Rattle.micro_verify.specs.Playing.{meant, with_bytes, HasGone, HasPlayed}
 
 -- 1. one move
 

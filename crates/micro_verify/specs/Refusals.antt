@@ -1,10 +1,9 @@
 -- What a refusal of a text may tell.
-use Rattle.std.specs.Prelude.{◌≡◌, ℕ, true, false, ◌++◌, ◌∷◌, [], List, Option, Some, None, length}
+use Rattle.std.specs.Prelude.{◌≡◌, ℕ, true, false, List, length}
 use Rattle.nand_geometry.specs.declared.parts.Parts.{Parts}
 use Rattle.micro_word.specs.declared.format.Format.{Format}
 use Rattle.micro_word.specs.Text.{Microprogram}
 use Rattle.micro_claims.specs.declared.refusal.Fault.{Fault}
-use Rattle.micro_claims.specs.declared.refusal.Reason.{Reason}
 use Rattle.micro_walk.specs.Verdicts.{is_of_shape, MayBe}
 use Rattle.micro_verify.specs.declared.refusal.VerifyRefusal.{VerifyRefusal}
 use Rattle.micro_verify.specs.declared.refusal.VerifyRefusal.TheVariants.{Refusal, OutOfMemory}

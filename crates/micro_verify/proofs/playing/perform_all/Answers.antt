@@ -1,4 +1,4 @@
-use Rattle.std.proofs.Common.{◌≡◌, ◌+◌, ◌∙◌, sym, subst, arith, get_or}
+use Rattle.std.proofs.Common.{◌+◌, ◌∙◌, sym, subst, arith, get_or}
 use Rattle.micro_word.specs.declared.word.Word.TheVariants.{End}
 use Rattle.micro_verify.specs.declared.playing.Outcome.{Outcome}
 use Rattle.micro_verify.specs.declared.registers.Registers.{Registers}

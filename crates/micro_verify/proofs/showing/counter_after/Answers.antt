@@ -1,6 +1,5 @@
-use Rattle.std.proofs.Common.{◌≡◌, refl, subst, ◌∙◌}
+use Rattle.std.proofs.Common.{refl, subst, ◌∙◌}
 use Rattle.micro_verify.specs.declared.playing.Outcome.{Outcome}
-use Rattle.micro_verify.specs.declared.playing.Outcome.TheVariants.{Stopped}
 use Rattle.micro_verify.specs.Playing.{HasPerformed}
 use Rattle.micro_verify.proofs.ShownWords.{lacks_there, lacking_none, stopped_some, unstopped_none}
 use Rattle.micro_verify.proofs.showing.counter_after.Goals as goal
