@@ -13,5 +13,5 @@ returns-clause-ok g c =
     let dies = c.args.trace.now.judged.dies.items in
     let is_place : c.place.result ≡ number_of geometry lun = c.place.ensures ∙ ap (λ (h : Parts). number_of h lun) c.parts.ensures.value in
     let inside : c.place.result < length dies = subst (λ k. k < length dies) (sym is_place) (place_inside (count_of c.args.request.targets) geometry.luns lun.ce lun.lun (length dies) c.requires (sym c.has_lun.ensures ∙ c.if-not-has_lun.false)) in
-    die_written c.write_file.result dies (number_of geometry lun) c.place.result c.index-die.result.now _ c.in_ok-image.image.items c.as_slice.result.now (g.F.Files.store c.args.files.now) (g.F.Files.store c.write_file.new.files) c.args.request.output.now
+    die_written c.write_file.result dies (number_of geometry lun) c.place.result c.index-die.result.now _ c.in_ok-reads.reads.items c.in_ok-image.image.items c.as_slice.result.now (g.F.Files.store c.args.files.now) (g.F.Files.store c.write_file.new.files) c.args.request.output.now
     is_place inside c.index-die.ensures c.in_ok-image.ensures.value c.as_slice.ensures.value c.write_file.ensures.written

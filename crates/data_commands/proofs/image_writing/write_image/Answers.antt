@@ -21,7 +21,7 @@ returns-in-Ok-clause-faulty g c = λ fault is.
     let k = c.tell_fault.ensures.faulty fault is in
     let t = c.in-Ok.trace in (
       fault_lines t.checked.told.items,
-      inr (has_fault (g.F.Files.store c.args.files.now) (g.F.Files.store c.write_on.new.files) c.args.request t.geometry c.as_slice.result.now t.checked.told.items t.checked.assumed.items t.judged.differences.items t.judged.dies.items _ fault c.as_slice.ensures.value c.in-len1-up.len_at_least k.0 c.in-Ok.ensures.ok),
-      left_alone (g.F.Files.store c.args.files.now) (g.F.Files.store c.write_on.new.files) c.args.request t.geometry c.as_slice.result.now t.checked.told.items t.checked.assumed.items t.judged.differences.items t.judged.dies.items c.as_slice.ensures.value c.in-len1-up.len_at_least c.in-Ok.ensures.ok,
+      inr (has_fault (g.F.Files.store c.args.files.now) (g.F.Files.store c.write_on.new.files) c.args.request t.geometry c.as_slice.result.now t.checked.told.items t.checked.assumed.items t.judged.differences.items t.judged.dies.items t.whole.items _ fault c.as_slice.ensures.value c.in-len1-up.len_at_least k.0 c.in-Ok.ensures.ok),
+      left_alone (g.F.Files.store c.args.files.now) (g.F.Files.store c.write_on.new.files) c.args.request t.geometry c.as_slice.result.now t.checked.told.items t.checked.assumed.items t.judged.differences.items t.judged.dies.items t.whole.items c.as_slice.ensures.value c.in-len1-up.len_at_least c.in-Ok.ensures.ok,
       k.1,
     )
