@@ -4,3 +4,4 @@ mod Refusing
 mod Verdicts
 mod Endings
 mod Written
+mod Filled

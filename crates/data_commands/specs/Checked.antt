@@ -56,8 +56,8 @@ pub record IsReplayed (readies : Readies) (s : Channel) (known : List Bool) (ite
   pub judged : IsJudgedOn s known whole told stopped dies
   pub found_is : found ≡ numbered_as readies items whole told
 
--- the trace at the path, where these images are given: these faults are told of it, its outputs differ so from its dies, and it leaves these
-pub record AreFound (files : Option Store) (check : CheckRequest) (images : List GivenImage) (are_erased : Bool) (g : Parts) (told : List BrokenRule) (assumed : List NotShown) (found : List Difference) (dies : List Die) : Type 0 where
+-- the trace at the path, where these images are given: these faults are told of it, its outputs differ so from its dies, and it leaves these; with its readies these are its items
+pub record AreFound (files : Option Store) (check : CheckRequest) (images : List GivenImage) (are_erased : Bool) (g : Parts) (told : List BrokenRule) (assumed : List NotShown) (found : List Difference) (dies : List Die) (whole : List Item) : Type 0 where
   pub has_page : HasPageAs files check.profile check.page.now g
   pub opened : List Die
   pub known : List Bool
@@ -66,7 +66,6 @@ pub record AreFound (files : Option Store) (check : CheckRequest) (images : List
   pub judged : IsJudgedFile files files (uncopied check) g text told assumed
   pub items : List Item
   pub is_text : IsTraceText check.form text items
-  pub whole : List Item
   pub stopped : Option BrokenRule
   pub replayed : IsReplayed check.readies (channel_on g (count_of check.targets) (map pages_in opened)) known items whole found stopped dies
 
@@ -97,7 +96,8 @@ faulty_text told found assumed = fault_lines told ++ (run_lines (runs_of found) 
 pub record AreJudged (files : Option Store) (request : DataRequest) (told : List BrokenRule) (assumed : List NotShown) (found : List Difference) : Type 0 where
   pub g : Parts
   pub dies : List Die
-  pub are_found : AreFound files request.check request.images.now request.are_erased g told assumed found dies
+  pub whole : List Item
+  pub are_found : AreFound files request.check request.images.now request.are_erased g told assumed found dies whole
 
 -- the trace is legal and its outputs give what its dies hold, with readies that are taken for granted and may be, or may not
 pub record AllAgrees (files : Option Store) (request : DataRequest) (passes : Bool) (printed : List ℕ) : Type 0 where

@@ -1,12 +1,13 @@
 -- What writing the image of a die comes to.
-use Rattle.std.specs.Prelude.{◌≡◌, ◌⊎◌, ◌++◌, ℕ, true, false, List, [], ◌∷◌, Option, Some, None, codes, slice_get}
+use Rattle.std.specs.Prelude.{◌≡◌, ◌⊎◌, ◌++◌, ℕ, true, false, List, [], ◌∷◌, if◌then◌else◌, Option, Some, None, codes, slice_get}
 use Rattle.std.specs.Borrow.{Bor}
 use Rattle.seq_files.specs.Store.{Store, with_file}
 use Rattle.nand_geometry.specs.declared.parts.Parts.{Parts}
 use Rattle.onfi_cycle.specs.declared.lun.Lun.{Lun}
+use Rattle.onfi_cycle.specs.declared.item.Item.{Item}
 use Rattle.die_model.specs.Die.{Die}
 use Rattle.die_model.specs.Image.{image_of}
-use Rattle.target_bus.specs.Bus.{number_of}
+use Rattle.target_bus.specs.Bus.{Entries, number_of}
 use Rattle.seq_core.specs.declared.job_fault.JobFault.TheVariants.{NoSuchLun}
 use Rattle.seq_inputs.specs.declared.fault.Fault.{Fault}
 use Rattle.seq_inputs.specs.declared.fault.Fault.TheVariants.{Job}
@@ -15,6 +16,7 @@ use Rattle.seq_inputs.specs.Inputs.{HasPageAs}
 use Rattle.trace_faults.specs.declared.beginning.Beginning.TheVariants.{Start}
 use Rattle.trace_faults.specs.declared.broken_rule.BrokenRule.{BrokenRule}
 use Rattle.trace_faults.specs.declared.unshown.NotShown.{NotShown}
+use Rattle.trace_data.specs.Reads.{PageBytes, page_reads, AreFilled}
 use Rattle.trace_data.specs.declared.difference.Difference.{Difference}
 use Rattle.trace_commands.specs.declared.check_request.CheckRequest.{CheckRequest}
 use Rattle.trace_commands.specs.declared.recording_fault.RecordingFault.{RecordingFault}
@@ -52,23 +54,34 @@ image_on l (Some path) = record { lun = l; path = path } ∷ []
 abbrev pub images_of : ImageRequest → List GivenImage
 images_of request = image_on request.lun request.on
 
--- the trace at the path has these faults, and leaves these dies; where it has none, the channel has the LUN and the image of its die is written, and no other file
-abbrev pub IsLeft : (files later : Option Store) → ImageRequest → Parts → (told : List BrokenRule) → List Die → Type 0
-IsLeft files later request g (fault ∷ told) dies = later ≡ files
-IsLeft files later request g [] dies =
-    (has_lun g (count_of request.targets) request.lun ≡ true) × (die : Die) × (slice_get dies (number_of g request.lun) ≡ Some die)
-    × (later ≡ with_file files request.output.now (image_of die))
+-- the pages that a request fills: those that the outputs of the LUN gave whole, or none
+abbrev pub reads_for : ImageRequest → Parts → (whole : List Item) → List PageBytes
+reads_for request g whole = if request.fills_reads then page_reads g (count_of request.targets) request.lun whole else []
 
-pub record IsWrittenAt (files later : Option Store) (request : ImageRequest) (images : List GivenImage) (g : Parts) (told : List BrokenRule) (assumed : List NotShown) (found : List Difference) (dies : List Die) : Type 0 where
-  pub are_found : AreFound files (check_of request) images true g told assumed found dies
-  pub left : IsLeft files later request g told dies
+-- the image of a die, with the pages that were read and that it doesn't keep
+pub record IsImage (die : Die) (reads : List PageBytes) (image : List ℕ) : Type 0 where
+  pub pages : Entries
+  pub filled : AreFilled reads die.pages pages
+  pub image_is : image ≡ image_of (record die { pages = pages })
+
+-- the trace at the path has these faults, and leaves these dies; where it has none, the channel has the LUN and the image of its die is written, and no other file
+abbrev pub IsLeft : (files later : Option Store) → ImageRequest → Parts → (told : List BrokenRule) → List Die → (whole : List Item) → Type 0
+IsLeft files later request g (fault ∷ told) dies whole = later ≡ files
+IsLeft files later request g [] dies whole =
+    (has_lun g (count_of request.targets) request.lun ≡ true) × (die : Die) × (slice_get dies (number_of g request.lun) ≡ Some die)
+    × (image : List ℕ) × IsImage die (reads_for request g whole) image × (later ≡ with_file files request.output.now image)
+
+pub record IsWrittenAt (files later : Option Store) (request : ImageRequest) (images : List GivenImage) (g : Parts) (told : List BrokenRule) (assumed : List NotShown) (found : List Difference) (dies : List Die) (whole : List Item) : Type 0 where
+  pub are_found : AreFound files (check_of request) images true g told assumed found dies whole
+  pub left : IsLeft files later request g told dies whole
 
 -- a trace without faults leaves dies on a channel whose other dies were erased, and the image of the LUN's is written, and no other file
 pub record IsDieWritten (files later : Option Store) (request : ImageRequest) (assumed : List NotShown) : Type 0 where
   pub g : Parts
   pub found : List Difference
   pub dies : List Die
-  pub is_written : IsWrittenAt files later request (images_of request) g [] assumed found dies
+  pub whole : List Item
+  pub is_written : IsWrittenAt files later request (images_of request) g [] assumed found dies whole
 
 -- what is printed then
 abbrev pub done_text : List NotShown → List ℕ
@@ -98,7 +111,8 @@ pub record TraceHasFault (files : Option Store) (request : ImageRequest) (fault 
   pub assumed : List NotShown
   pub found : List Difference
   pub dies : List Die
-  pub are_found : AreFound files (check_of request) (images_of request) true g told assumed found dies
+  pub whole : List Item
+  pub are_found : AreFound files (check_of request) (images_of request) true g told assumed found dies whole
   pub first : ArePrinted told fault
   pub lines : printed ≡ fault_lines told
 

@@ -25,4 +25,6 @@ pub struct ImageRequest<'a> {
     pub output: &'a str,
     /// The image of what the die held at the beginning; without one it was erased.
     pub on: Option<&'a str>,
+    /// Whether a page of which the trace has no program and no erase, and the image that is given nothing, is filled with its first whole read.
+    pub fills_reads: bool,
 }

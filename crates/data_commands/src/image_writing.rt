@@ -3,7 +3,6 @@ ghost use Rattle.std.specs.Prelude.{◌≡◌, ◌⊎◌, ◌++◌, ◌*◌, ℕ
 ghost use Rattle.std.specs.String.{string_bytes};
 ghost use Rattle.std.specs.Io.KnownBytes.{Appends};
 ghost use Rattle.die_model.specs.Die.{Die};
-ghost use Rattle.die_model.specs.Image.{image_of};
 ghost use Rattle.target_bus.specs.Bus.{number_of};
 ghost use Rattle.seq_files.specs.Store.{with_file};
 ghost use Rattle.seq_inputs.specs.declared.refusal.Refusal.{Refusal};
@@ -16,11 +15,13 @@ ghost use Rattle.trace_commands.specs.Checks.{FileIsRefused, fault_lines};
 ghost use Rattle.trace_commands.specs.Endings.{SaysOf};
 ghost use Rattle.trace_commands.specs.Targets.{count_of};
 ghost use Rattle.data_commands.specs.Opened.{has_lun};
-ghost use Rattle.data_commands.specs.Images.{check_of, images_of, IsLeft, LacksLun, IsDieWritten, done_text, IsWrittenAt, RefusesAt, ImageRefuses, ImageTells};
+ghost use Rattle.data_commands.specs.Images.{check_of, images_of, reads_for, IsImage, IsLeft, LacksLun, IsDieWritten, done_text, IsWrittenAt, RefusesAt, ImageRefuses, ImageTells};
 
 use crate::data_request::{DataRequest, GivenImage};
 use crate::image_request::ImageRequest;
 use crate::replaying::{ReplayedTrace, replay_trace};
+use die_model::LunDie;
+use nand_geometry::Geometry;
 use seq_core::JobFault;
 use seq_files::Files;
 use seq_inputs::{
@@ -32,6 +33,7 @@ use trace_commands::{
     CheckRequest, Ending, RecordingFault, RecordingStop, end_stopped, lines_of, push_assumed,
     say_told,
 };
+use trace_data::{PageRead, fill_pages, find_page_reads};
 use trace_faults::{Beginning, BrokenRule, NotShown};
 use trace_text::CheckProgress;
 
@@ -73,6 +75,34 @@ fn has_lun(request: ImageRequest<'_>, trace: &ReplayedTrace) -> bool
     request.lun.ce < request.targets.count() && request.lun.lun < trace.geometry.parts().luns
 }
 
+// The pages that a request fills.
+fn reads_for(
+    alloc: Global,
+    request: ImageRequest<'_>,
+    trace: &ReplayedTrace,
+) -> Result<Vec<PageRead>, AllocError>
+    requires { has_lun trace.now.geometry (count_of request.targets) request.lun ≡ true }
+    ensures { IfOk result (λ reads. reads.items ≡ reads_for request.entry trace.now.geometry trace.now.whole.items) }
+{
+    if request.fills_reads {
+        let whole = trace.whole.as_slice();
+        let targets = request.targets.count();
+        find_page_reads(alloc, &trace.geometry, targets, request.lun, whole)
+    } else {
+        Ok(Vec::new(alloc))
+    }
+}
+
+// The image of a die with pages that were read.
+fn image_with(geometry: &Geometry, die: &LunDie, reads: &[PageRead]) -> Result<Vec<u8>, AllocError>
+    requires { die.now.geometry ≡ geometry.now }
+    ensures { IfOk result (λ image. IsImage die.now reads.now image.items) }
+{
+    let mut pages = die.pages()?;
+    fill_pages(&mut pages, reads)?;
+    pages.image(geometry)
+}
+
 // Writes the image of a die after a trace that has no fault.
 #[tactic(auto, using(crate::proofs::Places::place_inside))]
 fn write_die<'p, F: Files>(
@@ -84,7 +114,8 @@ fn write_die<'p, F: Files>(
     requires { length trace.now.judged.dies.items ≡ count_of request.targets * trace.now.geometry.luns }
     ensures has { OnOk result (has_lun trace.now.geometry (count_of request.entry.targets) request.entry.lun ≡ true) }
     ensures ok { OnOk result ((die : Die) × (slice_get trace.now.judged.dies.items (number_of trace.now.geometry request.entry.lun) ≡ Some die)
-        × (F.store files.new ≡ with_file (F.store files.old) request.entry.output.now (image_of die))) }
+        × (image : List ℕ) × IsImage die (reads_for request.entry trace.now.geometry trace.now.whole.items) image
+        × (F.store files.new ≡ with_file (F.store files.old) request.entry.output.now image)) }
     ensures err { IfErr result (Says (LacksLun request.entry trace.now.geometry)) }
     ensures stays { OnErr result (F.store files.new ≡ F.store files.old) }
 {
@@ -92,7 +123,8 @@ fn write_die<'p, F: Files>(
         return Err(refuse_lun(alloc, request.page));
     }
     let die = &trace.judged.dies[request.lun.place(trace.geometry.parts().luns)];
-    let image = die.image()?;
+    let reads = reads_for(alloc, request, trace)?;
+    let image = image_with(&die.geometry(), die, reads.as_slice())?;
     write_file(files, request.output, image.as_slice())
 }
 
@@ -104,7 +136,7 @@ fn write_left<'p, F: Files>(
     trace: &ReplayedTrace,
 ) -> Result<(), Stop<'p>>
     requires { length trace.now.judged.dies.items ≡ count_of request.targets * trace.now.geometry.luns }
-    ensures ok { OnOk result (IsLeft (F.store files.old) (F.store files.new) request.entry trace.now.geometry trace.now.checked.told.items trace.now.judged.dies.items) }
+    ensures ok { OnOk result (IsLeft (F.store files.old) (F.store files.new) request.entry trace.now.geometry trace.now.checked.told.items trace.now.judged.dies.items trace.now.whole.items) }
     ensures err { IfErr result (Says (LacksLun request.entry trace.now.geometry)) }
     ensures stays { OnErr result (F.store files.new ≡ F.store files.old) }
 {
@@ -124,7 +156,7 @@ fn write_at<'p, F: Files, P: CheckProgress>(
     images: &[GivenImage<'p>],
 ) -> Result<ReplayedTrace, RecordingStop<'p, Global>>
     ensures ok { IfOk result (λ t. IsWrittenAt (F.store files.old) (F.store files.new) request.entry images.now t.geometry
-        t.checked.told.items t.checked.assumed.items t.judged.differences.items t.judged.dies.items) }
+        t.checked.told.items t.checked.assumed.items t.judged.differences.items t.judged.dies.items t.whole.items) }
     ensures err { IfErr result (SaysOf (RefusesAt (F.store files.old) request.entry images.now)
         (FileIsRefused (F.store files.old) request.entry.form request.entry.input.now)) }
     ensures stays { OnErr result (F.store files.new ≡ F.store files.old) }
@@ -148,7 +180,7 @@ fn write_on<'p, F: Files, P: CheckProgress>(
     request: ImageRequest<'p>,
 ) -> Result<ReplayedTrace, RecordingStop<'p, Global>>
     ensures ok { IfOk result (λ t. IsWrittenAt (F.store files.old) (F.store files.new) request.entry (images_of request.entry) t.geometry
-        t.checked.told.items t.checked.assumed.items t.judged.differences.items t.judged.dies.items) }
+        t.checked.told.items t.checked.assumed.items t.judged.differences.items t.judged.dies.items t.whole.items) }
     ensures err { IfErr result (SaysOf (ImageRefuses (F.store files.old) request.entry)
         (FileIsRefused (F.store files.old) request.entry.form request.entry.input.now)) }
     ensures stays { OnErr result (F.store files.new ≡ F.store files.old) }
@@ -226,7 +258,8 @@ fn tell_fault<W: Write, E: Write, P>(
 }
 
 /// Writes the image of what the die of a LUN holds after a trace, on a channel of so many targets of the geometry of a parameter page: what it held at the
-/// beginning, with each program and each erase that ended without failure. The other dies were erased.
+/// beginning, with each program and each erase that ended without failure. The other dies were erased. Where it is asked for, a page that it doesn't keep and that
+/// no work of the trace has left otherwise is filled with its first whole read.
 ///
 /// `Done`: it is written, and `ok` is printed, and a line `assumed ready at N` for each item before which a LUN is taken for ready that nothing showed. `Refused`: the line
 /// `refused NAME at N` is printed, a P fault of the page, an I fault of the image that is given, or S2 where the channel has no such LUN. `Faulty`: so is it, an X

@@ -29,6 +29,8 @@ pub(crate) struct ReplayedTrace {
     pub(crate) geometry: Geometry,
     pub(crate) checked: CheckedTrace<Global>,
     pub(crate) judged: DataJudged,
+    /// The items with their readies.
+    pub(crate) whole: Vec<Item>,
 }
 
 // The same check, which writes no trace.
@@ -74,11 +76,16 @@ fn renumber(
 }
 
 // What comes of a trace on modelled dies that has its readies.
-fn judge_written(alloc: Global, dies: OpenedDies, items: &[Item]) -> Result<DataJudged, AllocError>
-    ensures { IfOk result (λ judged. IsReplayed Written (channel_on dies.geometry dies.targets (map pages_in dies.dies.items)) dies.known.items items.now items.now
-        judged.differences.items judged.stopped judged.dies.items) }
+fn judge_written(
+    alloc: Global,
+    dies: OpenedDies,
+    items: Vec<Item>,
+) -> Result<(DataJudged, Vec<Item>), AllocError>
+    ensures { IfOk result (λ r. (r.1.items ≡ items.items) × IsReplayed Written (channel_on dies.geometry dies.targets (map pages_in dies.dies.items)) dies.known.items items.items
+        r.1.items r.0.differences.items r.0.stopped r.0.dies.items) }
 {
-    dies.judge(alloc, items)
+    let judged = dies.judge(alloc, items.as_slice())?;
+    Ok((judged, items))
 }
 
 // What comes of a trace on modelled dies, with the readies that its status outputs show and those that are taken for granted.
@@ -88,12 +95,13 @@ fn judge_completed(
     targets: u8,
     dies: OpenedDies,
     items: &[Item],
-) -> Result<DataJudged, AllocError>
+) -> Result<(DataJudged, Vec<Item>), AllocError>
     requires few { targets ≤ 4 }
     requires geometry { dies.geometry ≡ geometry.now }
     requires targets { dies.targets ≡ targets }
-    ensures { IfOk result (λ judged. IsReplayed Shown (channel_on dies.geometry dies.targets (map pages_in dies.dies.items)) dies.known.items items.now
-        (completed geometry.now targets items.now) judged.differences.items judged.stopped judged.dies.items) }
+    ensures { IfOk result (λ r. (r.1.items ≡ completed geometry.now targets items.now)
+        × IsReplayed Shown (channel_on dies.geometry dies.targets (map pages_in dies.dies.items)) dies.known.items items.now
+        r.1.items r.0.differences.items r.0.stopped r.0.dies.items) }
 {
     let whole = complete(alloc, geometry, targets, items)?;
     let DataJudged {
@@ -102,29 +110,38 @@ fn judge_completed(
         dies,
     } = dies.judge(alloc, whole.as_slice())?;
     let numbers = number_items(alloc, items, whole.as_slice())?;
-    Ok(DataJudged {
+    let judged = DataJudged {
         differences: renumber(alloc, differences.as_slice(), numbers.as_slice())?,
         stopped,
         dies,
-    })
+    };
+    Ok((judged, whole))
 }
 
-// What comes of a trace on modelled dies.
+// What comes of a trace on modelled dies, and its items with their readies.
 fn judge_items(
     alloc: Global,
     check: CheckRequest<'_>,
     geometry: &Geometry,
     dies: OpenedDies,
-    items: &[Item],
-) -> Result<DataJudged, AllocError>
+    items: Vec<Item>,
+) -> Result<(DataJudged, Vec<Item>), AllocError>
     requires geometry { dies.geometry ≡ geometry.now }
     requires targets { dies.targets ≡ count_of check.targets }
-    ensures { IfOk result (λ judged. IsReplayed check.entry.readies (channel_on dies.geometry dies.targets (map pages_in dies.dies.items)) dies.known.items items.now
-        (judged_trace check.entry.readies geometry.now (count_of check.entry.targets) items.now) judged.differences.items judged.stopped judged.dies.items) }
+    ensures { IfOk result (λ r. IsReplayed check.entry.readies (channel_on dies.geometry dies.targets (map pages_in dies.dies.items)) dies.known.items items.items
+        r.1.items r.0.differences.items r.0.stopped r.0.dies.items) }
 {
     match check.readies {
         Readies::Written => judge_written(alloc, dies, items),
-        Readies::Shown => judge_completed(alloc, geometry, check.targets.count(), dies, items),
+        Readies::Shown => {
+            judge_completed(
+                alloc,
+                geometry,
+                check.targets.count(),
+                dies,
+                items.as_slice(),
+            )
+        }
     }
 }
 
@@ -136,7 +153,7 @@ pub(crate) fn replay_trace<'p, F: Files, P: CheckProgress>(
     request: DataRequest<'p, '_>,
 ) -> Result<ReplayedTrace, RecordingStop<'p, Global>>
     ensures ok { IfOk result (λ t. AreFound (F.store files.old) request.entry.check request.entry.images.now request.entry.are_erased t.geometry
-        t.checked.told.items t.checked.assumed.items t.judged.differences.items t.judged.dies.items) }
+        t.checked.told.items t.checked.assumed.items t.judged.differences.items t.judged.dies.items t.whole.items) }
     ensures err { IfErr result (SaysOf (InputIsRefused (F.store files.old) request.entry.check request.entry.images.now)
         (FileIsRefused (F.store files.old) request.entry.check.form request.entry.check.input.now)) }
     ensures stays { F.store files.new ≡ F.store files.old }
@@ -146,10 +163,11 @@ pub(crate) fn replay_trace<'p, F: Files, P: CheckProgress>(
     let checked = judge_file(alloc, files, progress, check, &geometry)?;
     let text = text_of(check.input, checked.text.as_slice())?;
     let items = read_items(alloc, text, check.form)?;
-    let judged = judge_items(alloc, check, &geometry, dies, items.as_slice())?;
+    let (judged, whole) = judge_items(alloc, check, &geometry, dies, items)?;
     Ok(ReplayedTrace {
         geometry,
         checked,
         judged,
+        whole,
     })
 }

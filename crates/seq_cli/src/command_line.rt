@@ -586,6 +586,7 @@ fn read_image_request<'a>(matches: &ArgMatches<'a>) -> ImageRequest<'a> {
         },
         output: find_word(matches, "OUT"),
         on: matches.get_str("on"),
+        fills_reads: matches.get_flag("reads"),
     }
 }
 

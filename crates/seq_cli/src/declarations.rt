@@ -469,6 +469,11 @@ pub(crate) const WRITE_IMAGE: Declaration = Declaration {
             help: "The image of what the die held at the beginning; without one it was erased",
             ..REQUIRED
         },
+        Declared {
+            name: "reads",
+            help: "Fills each page that the trace only reads with the first read that gave all its bytes",
+            ..FLAG
+        },
         RECORDED,
         READIES_FROM_STATUS,
     ],

@@ -1,3 +1,4 @@
 pub mod Data
 pub mod Runs
 pub mod Numbers
+pub mod Reads

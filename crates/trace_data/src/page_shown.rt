@@ -13,8 +13,8 @@ pub struct PageShown {
     pub column: u32,
 }
 
-// The page and the column that the next output of a LUN gives, if it gives one.
-fn shown_of(lun: Lun, look: Option<LunState>) -> Option<PageShown>
+/// The page and the column that the next output of a LUN gives, if it gives one.
+pub(crate) fn shown_of(lun: Lun, look: Option<LunState>) -> Option<PageShown>
     ensures { result ≡ shown_of lun look }
 {
     match look {

@@ -13,25 +13,25 @@ pub returns-in-Ok-clause-done : goal.returns-in-Ok-clause-done
 returns-in-Ok-clause-done g c = λ is.
     let k = c.tell_found.ensures.done is in
     let t = c.in-Ok.trace in
-    (legal_text t.checked.assumed.items, all_agrees (g.F.Files.store c.args.files.now) c.args.request true t.geometry t.checked.told.items t.checked.assumed.items t.judged.differences.items t.judged.dies.items k.0 k.1 k.2 c.in-Ok.ensures.ok, k.3)
+    (legal_text t.checked.assumed.items, all_agrees (g.F.Files.store c.args.files.now) c.args.request true t.geometry t.checked.told.items t.checked.assumed.items t.judged.differences.items t.judged.dies.items t.whole.items k.0 k.1 k.2 c.in-Ok.ensures.ok, k.3)
 
 pub returns-in-Ok-clause-assumed : goal.returns-in-Ok-clause-assumed
 returns-in-Ok-clause-assumed g c = λ is.
     let k = c.tell_found.ensures.assumed is in
     let t = c.in-Ok.trace in
-    (legal_text t.checked.assumed.items, all_agrees (g.F.Files.store c.args.files.now) c.args.request false t.geometry t.checked.told.items t.checked.assumed.items t.judged.differences.items t.judged.dies.items k.0 k.1 k.2 c.in-Ok.ensures.ok, k.3)
+    (legal_text t.checked.assumed.items, all_agrees (g.F.Files.store c.args.files.now) c.args.request false t.geometry t.checked.told.items t.checked.assumed.items t.judged.differences.items t.judged.dies.items t.whole.items k.0 k.1 k.2 c.in-Ok.ensures.ok, k.3)
 
 pub returns-in-Ok-clause-faulty : goal.returns-in-Ok-clause-faulty
 returns-in-Ok-clause-faulty g c = λ fault is.
     let k = c.tell_found.ensures.faulty fault is in
     let t = c.in-Ok.trace in
-    (faulty_text t.checked.told.items t.judged.differences.items t.checked.assumed.items, inr (is_faulty (g.F.Files.store c.args.files.now) c.args.request fault t.geometry t.checked.told.items t.checked.assumed.items t.judged.differences.items t.judged.dies.items k.0 c.in-Ok.ensures.ok), k.1)
+    (faulty_text t.checked.told.items t.judged.differences.items t.checked.assumed.items, inr (is_faulty (g.F.Files.store c.args.files.now) c.args.request fault t.geometry t.checked.told.items t.checked.assumed.items t.judged.differences.items t.judged.dies.items t.whole.items k.0 c.in-Ok.ensures.ok), k.1)
 
 pub returns-in-Ok-clause-differs : goal.returns-in-Ok-clause-differs
 returns-in-Ok-clause-differs g c = λ fault item is.
     let k = c.tell_found.ensures.differs fault item is in
     let t = c.in-Ok.trace in
-    (faulty_text t.checked.told.items t.judged.differences.items t.checked.assumed.items, data_differ (g.F.Files.store c.args.files.now) c.args.request fault item t.geometry t.checked.told.items t.checked.assumed.items t.judged.differences.items t.judged.dies.items k.0 k.1 k.2 c.in-Ok.ensures.ok, k.3)
+    (faulty_text t.checked.told.items t.judged.differences.items t.checked.assumed.items, data_differ (g.F.Files.store c.args.files.now) c.args.request fault item t.geometry t.checked.told.items t.checked.assumed.items t.judged.differences.items t.judged.dies.items t.whole.items k.0 k.1 k.2 c.in-Ok.ensures.ok, k.3)
 
 pub returns-in-Err-clause-refused : goal.returns-in-Err-clause-refused
 returns-in-Err-clause-refused g c = λ refusal is.

@@ -2,6 +2,7 @@ use Rattle.std.proofs.Common.{◌≡◌, ◌<◌, length, ap, subst, sym, ◌∙
 use Rattle.nand_geometry.specs.declared.parts.Parts.{Parts}
 use Rattle.target_bus.specs.Bus.{number_of}
 use Rattle.trace_commands.specs.Targets.{count_of}
+use Rattle.data_commands.specs.Images.{reads_for}
 use Rattle.data_commands.proofs.Places.{place_inside}
 use Rattle.data_commands.proofs.Written.{die_written}
 use Rattle.data_commands.proofs.image_writing.write_die.Goals as goal
@@ -13,5 +14,5 @@ returns-clause-ok g c =
     let dies = c.args.trace.now.judged.dies.items in
     let is_place : c.place.result ≡ number_of geometry lun = c.place.ensures ∙ ap (λ (h : Parts). number_of h lun) c.parts.ensures.value in
     let inside : c.place.result < length dies = subst (λ k. k < length dies) (sym is_place) (place_inside (count_of c.args.request.targets) geometry.luns lun.ce lun.lun (length dies) c.requires (sym c.has_lun.ensures ∙ c.if-not-has_lun.false)) in
-    die_written c.write_file.result dies (number_of geometry lun) c.place.result c.index-die.result.now _ c.in_ok-image.image.items c.as_slice.result.now (g.F.Files.store c.args.files.now) (g.F.Files.store c.write_file.new.files) c.args.request.output.now
-    is_place inside c.index-die.ensures c.in_ok-image.ensures.value c.as_slice.ensures.value c.write_file.ensures.written
+    die_written c.write_file.result dies (number_of geometry lun) c.place.result c.index-die.result.now _ (reads_for c.args.request geometry c.args.trace.now.whole.items) c.as_slice.result.now c.in_ok-image.image.items c.as_slice-2.result.now (g.F.Files.store c.args.files.now) (g.F.Files.store c.write_file.new.files) c.args.request.output.now
+    is_place inside c.index-die.ensures c.in_ok-image.ensures (c.as_slice.ensures.value ∙ c.in_ok-reads.ensures) c.as_slice-2.ensures.value c.write_file.ensures.written

@@ -3,7 +3,7 @@ use Rattle.trace_commands.specs.Checks.{FileIsRefused, fault_lines}
 use Rattle.trace_commands.specs.Recordings.{fault_line}
 use Rattle.trace_commands.proofs.Stopped.{refused, wrong}
 use Rattle.data_commands.specs.Images.{ImageRefuses}
-use Rattle.data_commands.proofs.Written.{has_fault, left_alone}
+use Rattle.data_commands.proofs.Written.{has_fault, left_alone, is_die}
 use Rattle.data_commands.proofs.image_writing.write_image.Goals as goal
 
 pub returns-clause-refused : goal.returns-clause-refused
@@ -21,7 +21,17 @@ returns-in-Ok-clause-faulty g c = λ fault is.
     let k = c.tell_fault.ensures.faulty fault is in
     let t = c.in-Ok.trace in (
       fault_lines t.checked.told.items,
-      inr (has_fault (g.F.Files.store c.args.files.now) (g.F.Files.store c.write_on.new.files) c.args.request t.geometry c.as_slice.result.now t.checked.told.items t.checked.assumed.items t.judged.differences.items t.judged.dies.items _ fault c.as_slice.ensures.value c.in-len1-up.len_at_least k.0 c.in-Ok.ensures.ok),
-      left_alone (g.F.Files.store c.args.files.now) (g.F.Files.store c.write_on.new.files) c.args.request t.geometry c.as_slice.result.now t.checked.told.items t.checked.assumed.items t.judged.differences.items t.judged.dies.items c.as_slice.ensures.value c.in-len1-up.len_at_least c.in-Ok.ensures.ok,
+      inr (has_fault (g.F.Files.store c.args.files.now) (g.F.Files.store c.write_on.new.files) c.args.request t.geometry c.as_slice.result.now t.checked.told.items t.checked.assumed.items t.judged.differences.items t.judged.dies.items t.whole.items _ fault c.as_slice.ensures.value c.in-len1-up.len_at_least k.0 c.in-Ok.ensures.ok),
+      left_alone (g.F.Files.store c.args.files.now) (g.F.Files.store c.write_on.new.files) c.args.request t.geometry c.as_slice.result.now t.checked.told.items t.checked.assumed.items t.judged.differences.items t.judged.dies.items t.whole.items c.as_slice.ensures.value c.in-len1-up.len_at_least c.in-Ok.ensures.ok,
       k.1,
     )
+
+pub returns-in-empty-clause-files : goal.returns-in-empty-clause-files
+returns-in-empty-clause-files g c =
+    let t = c.in-Ok.trace in
+    inr (t.checked.assumed.items, is_die (g.F.Files.store c.args.files.now) (g.F.Files.store c.write_on.new.files) c.args.request t.geometry c.as_slice.result.now t.checked.told.items t.checked.assumed.items t.judged.differences.items t.judged.dies.items t.whole.items c.as_slice.ensures.value c.in-empty.len_below c.in-Ok.ensures.ok)
+
+pub returns-in-Ok-clause-files : goal.returns-in-Ok-clause-files
+returns-in-Ok-clause-files g c =
+    let t = c.in-Ok.trace in
+    inl (left_alone (g.F.Files.store c.args.files.now) (g.F.Files.store c.write_on.new.files) c.args.request t.geometry c.as_slice.result.now t.checked.told.items t.checked.assumed.items t.judged.differences.items t.judged.dies.items t.whole.items c.as_slice.ensures.value c.in-len1-up.len_at_least c.in-Ok.ensures.ok)
