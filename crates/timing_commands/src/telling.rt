@@ -30,7 +30,7 @@ pub(crate) fn fault_of(violation: Violation) -> RecordingFault
     }
 }
 
-// Adds the lines of what comes too soon.
+// Adds the lines of what comes too soon or takes too long.
 fn push_late<A: Allocator>(lines: &mut String<A>, late: &[Violation]) -> Result<(), AllocError>
     ensures { OnOk result (string_bytes lines.new ≡ string_bytes lines.old ++ late_lines late.now) }
 {
@@ -40,7 +40,7 @@ fn push_late<A: Allocator>(lines: &mut String<A>, late: &[Violation]) -> Result<
     Ok(())
 }
 
-/// What is printed of a trace with faults, or that comes too soon.
+/// What is printed of a trace with faults, or whose times have some.
 pub(crate) fn faulty_text<A: Allocator>(
     alloc: A,
     told: &[BrokenRule],
@@ -55,7 +55,7 @@ pub(crate) fn faulty_text<A: Allocator>(
     Ok(text)
 }
 
-// The words of what comes too soon, in the line where it stands; what is said of the whole trace stands in none.
+// The words of what comes too soon or takes too long, in the line where it stands; what is said of the whole trace stands in none.
 fn words_of_late<'p, A: Allocator>(
     alloc: A,
     path: &'p str,
@@ -144,7 +144,7 @@ fn push_more<A: Allocator>(
     count: usize,
 ) -> Result<(), AllocError> {
     if MOST_SAID < count {
-        let words = format!(in alloc; "and {} more that come too soon", count - MOST_SAID)?;
+        let words = format!(in alloc; "and {} more that come too soon or take too long", count - MOST_SAID)?;
         push_message(lines, request.check.style, words.as_str())?;
     }
     Ok(())
@@ -182,7 +182,7 @@ fn words_of<A: Allocator + Clone>(
     Ok(lines)
 }
 
-/// Says what comes too soon in a trace, and how near it comes to each time, unless there is no memory for that.
+/// Says what comes too soon or takes too long in a trace, and how near it comes to each time, unless there is no memory for that.
 pub(crate) fn say_times<A: Allocator + Clone, E: Write>(
     alloc: A,
     errors: &mut E,

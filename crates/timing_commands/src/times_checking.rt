@@ -44,7 +44,7 @@ pub(crate) struct TimedTrace<A: Allocator> {
     pub(crate) checked: CheckedTrace<A>,
     pub(crate) items: Vec<TimedItem, A>,
     pub(crate) ruler: Ruler,
-    /// What comes too soon and is told.
+    /// What comes too soon or takes too long, and is told.
     pub(crate) late: Vec<Violation, A>,
     /// The timing modes that the page declares.
     pub(crate) modes: u16,
@@ -246,7 +246,7 @@ fn judge_times<'p, A: Allocator + Clone, F: Files, P: CheckProgress>(
     })
 }
 
-// Ends a check of a trace with faults, or that comes too soon.
+// Ends a check of a trace with faults, or whose times have some.
 fn tell_faults<A: Allocator + Clone, W: Write, E: Write, P>(
     alloc: A,
     console: &mut Console<W, E, P>,
@@ -277,7 +277,7 @@ fn tell_faults<A: Allocator + Clone, W: Write, E: Write, P>(
     }
 }
 
-// Says what is wrong with a trace, and what comes too soon in it, unless there is no memory for that.
+// Says what is wrong with a trace and with its times, unless there is no memory for that.
 fn say_all<A: Allocator + Clone, E: Write>(
     alloc: A,
     errors: &mut E,
@@ -373,10 +373,11 @@ fn tell_found<A: Allocator + Clone, W: Write, E: Write, P>(
 /// Checks whether the trace of a text is legal on a channel, as [`check_trace`](trace_commands::check_trace) does, and whether its times keep those of a timing
 /// mode or of a timing file. No file changes: a path for the trace that is judged is passed by.
 ///
-/// `Done` and `Flagged`: as of `check_trace`, and nothing comes too soon. `Faulty`: the lines of its faults are printed, and then a line `refused NAME at N` for
-/// each item that comes too soon, NAME being the code of its [`TimingFault`](trace_timing::TimingFault); where only the first fault is asked for, the first of both.
-/// Or a fault of the timing file, with its line. The page is read first, then the timing file, then the trace. On the console's errors stands each in words, and
-/// where all faults are asked for how near the trace comes to each time.
+/// `Done` and `Flagged`: as of `check_trace`, and nothing comes too soon or takes too long. `Faulty`: the lines of its faults are printed, and then a line
+/// `refused NAME at N` for each item that comes too soon or shows that work takes too long, NAME being the code of its
+/// [`TimingFault`](trace_timing::TimingFault); where only the first fault is asked for, the first of both. Or a fault of the timing file, with its line. The page is
+/// read first, then the timing file, then the trace. On the console's errors stands each in words, and where all faults are asked for how near the trace comes to
+/// each time.
 pub fn check_times<A: Allocator + Clone, F: Files, W: Write, E: Write, P: CheckProgress>(
     alloc: A,
     files: &mut F,

@@ -6,7 +6,7 @@ use crate::busy_time::BusyTime;
 use thiserror::Error;
 
 /// What is wrong with the times of a trace. Each distance is from the rise of one strobe to the rise of the next; where a datasheet counts up to the fall of
-/// the second, the least pulse is added, so that what is told is too soon whatever the falls were.
+/// the second, the least pulse is added, so that what is told is too soon whatever the falls were. The time of work is from the rise of the strobe that begins it.
 #[derive(Clone, Copy, Debug, PartialEq, Eq, Error)]
 pub enum TimingFault {
     #[error("no two times of the trace can be compared")]
