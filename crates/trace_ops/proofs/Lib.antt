@@ -10,3 +10,9 @@ pub mod Contents
 pub mod Tails
 pub mod Pieces
 pub mod Chains
+pub mod Starts
+pub mod AtWork
+pub mod Turns
+pub mod Domestic
+pub mod Legal
+pub mod Quietly

@@ -42,12 +42,12 @@ use Rattle.trace_ops.proofs.Contents.{Content, closer_by, content_output, conten
 
 -- ---- the newest of each target
 
-found_same : (places : List (Option ℕ)) (a k : ℕ) → a < length places → found (slice_set places a (Some k)) a ≡ Some k
+pub found_same : (places : List (Option ℕ)) (a k : ℕ) → a < length places → found (slice_set places a (Some k)) a ≡ Some k
 found_same [] a k lt = absurd (omega (arith, lt))
 found_same (x ∷ places) zero k lt = refl
 found_same (x ∷ places) (suc a) k lt = found_same places a k (omega (arith, lt))
 
-found_other : (places : List (Option ℕ)) (a b : ℕ) (x : Option ℕ) → (a ≡ b → ⊥) → found (slice_set places a x) b ≡ found places b
+pub found_other : (places : List (Option ℕ)) (a b : ℕ) (x : Option ℕ) → (a ≡ b → ⊥) → found (slice_set places a x) b ≡ found places b
 found_other [] a b x apart = refl
 found_other (y ∷ places) zero zero x apart = absurd (apart refl)
 found_other (y ∷ places) zero (suc b) x apart = refl
