@@ -89,7 +89,7 @@ like o w b c a n d = record {
   long = ap length a ∙ d.long;
 }
 
-keep : (b : Bool) (x y : Operation) → Domestic x → Domestic y → Domestic (cond b x y)
+pub keep : (b : Bool) (x y : Operation) → Domestic x → Domestic y → Domestic (cond b x y)
 keep true x y p q = p
 keep false x y p q = q
 
@@ -119,7 +119,7 @@ and_second : (a b : Bool) → b ≡ false → (a && b) ≡ false
 and_second true b h = h
 and_second false b h = refl
 
-or_both : (a b : Bool) → a ≡ false → b ≡ false → (a || b) ≡ false
+pub or_both : (a b : Bool) → a ≡ false → b ≡ false → (a || b) ≡ false
 or_both true b p q = cc
 or_both false b p q = q
 

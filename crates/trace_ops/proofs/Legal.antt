@@ -15,6 +15,7 @@ use Rattle.onfi_cycle.specs.declared.target_cycle.TargetCycle.TheVariants.{Comma
 use Rattle.onfi_cycle.specs.Command.{command}
 use Rattle.onfi_cycle.specs.Look.{look_at as look_of, look_after, looked}
 use Rattle.onfi_cycle.specs.Lun.{lun_view, is_busy as works}
+use Rattle.onfi_cycle.specs.OtherLun.{keeps_to}
 use Rattle.onfi_cycle.specs.Permitted.{broken, is_legal}
 use Rattle.onfi_cycle.specs.Rules.{breaks_several_luns}
 use Rattle.onfi_cycle.specs.Sequence.{target_of, target_cycle}
@@ -86,10 +87,10 @@ pub record WorksThere (g : Parts) (targets : ℕ) (past : List Item) (ce lun : �
   pub few : lun < g.luns
   pub works : works g past (record { ce = ce; lun = lun }) ≡ true
 
-below : (a b : ℕ) → ltb a b ≡ true → a < b
+pub below : (a b : ℕ) → ltb a b ≡ true → a < b
 below a b h = grind (arith, nat_tests)
 
-is_below : (a b : ℕ) → a < b → ltb a b ≡ true
+pub is_below : (a b : ℕ) → a < b → ltb a b ≡ true
 is_below a b h = grind (arith, nat_tests)
 
 pub works_there : (g : Parts) (targets : ℕ) (past : List Item) (ce lun : ℕ) → busy_of g targets past ce lun ≡ true → WorksThere g targets past ce lun
@@ -228,6 +229,27 @@ module _ (g : Parts) (targets : ℕ) (past : List Item) (c : Cycle) (before afte
       at false true r f e = cc
       at false false r f e = refl
 
+  -- no cycle ends work
+  pub never_ends : (lun : ℕ) → lun < 4 → (is_busy (look_at before lun) && not (is_busy (look_at after lun))) ≡ false
+  never_ends lun lt = at (begins_between c before after lun) refl
+    where
+      ended : (b a : Bool) → a ≡ true → (b && not a) ≡ false
+      ended b true h = off b
+        where
+          off : (x : Bool) → (x && false) ≡ false
+          off true = refl
+          off false = refl
+      ended b false h = cc
+
+      same : (b a : Bool) → a ≡ b → (b && not a) ≡ false
+      same true true h = refl
+      same true false h = cc
+      same false a h = refl
+
+      at : (x : Bool) → begins_between c before after lun ≡ x → (is_busy (look_at before lun) && not (is_busy (look_at after lun))) ≡ false
+      at true h = ended (is_busy (look_at before lun)) (is_busy (look_at after lun)) (saw.busy lun lt ∙ begins_busy lun lt h)
+      at false h = same (is_busy (look_at before lun)) (is_busy (look_at after lun)) (saw.busy lun lt ∙ rests_busy lun lt h ∙ sym (sees.busy lun lt))
+
   -- of another target nothing changes
   pub busy_elsewhere : (a b : ℕ) → (c.ce ≡ a → ⊥) → busy_of g targets (Cyc c ∷ past) a b ≡ busy_of g targets past a b
   busy_elsewhere a b apart =
@@ -258,7 +280,7 @@ module _ (g : Parts) (targets : ℕ) (past : List Item) (c : Cycle) (before afte
             keeps : works g (Cyc c ∷ past) (at_lun c.ce a) ≡ works g past (at_lun c.ce a)
             keeps =
                 (others_keep g targets past (Cyc c) (at_lun c.ce a) (at_lun c.ce b) legal h
-                (ap (λ z. z && _) (eq-eqb c.ce c.ce refl) ∙ starts_keeps g past (at_lun c.ce b) (target_cycle c.kind c.byte) (begins_starts b less q)) refl apart x.few y.few).busy
+                (ap (λ z. z && keeps_to g past (at_lun c.ce b) (target_cycle c.kind c.byte)) (eq-eqb c.ce c.ce refl) ∙ starts_keeps g past (at_lun c.ce b) (target_cycle c.kind c.byte) (begins_starts b less q)) refl apart x.few y.few).busy
 
             was : is_busy (look_at before a) ≡ true
             was = sees.busy a low ∙ busy_there g targets past c.ce a x.target x.few ∙ sym keeps ∙ x.works

@@ -16,3 +16,7 @@ pub mod Turns
 pub mod Domestic
 pub mod Legal
 pub mod Quietly
+pub mod Addressed
+pub mod Cycles
+pub mod Readies
+pub mod Works

@@ -162,7 +162,7 @@ selects_workers j k l =
 abbrev pub BeginsWith : Beginning → List Operation → ℕ → Type 0
 BeginsWith b ops k = (o : Operation) → slice_get ops k ≡ Some o → o.beginning ≡ b
 
-abbrev BeginsAt : Beginning → ℕ → ℕ → Operation → Type 0
+abbrev pub BeginsAt : Beginning → ℕ → ℕ → Operation → Type 0
 BeginsAt b m k o = k ≡ m → o.beginning ≡ b
 
 begins_select : (b : Beginning) (j : Judged) (k lun : ℕ) (l : Listing) → BeginsWith b l.ops k → BeginsWith b (selected_on j k lun l).ops k

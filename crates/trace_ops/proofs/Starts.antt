@@ -282,7 +282,7 @@ after_last : (o : Option Opening) (y : Opening) → o ≡ Some y → is_page_pro
 after_last o y is program features = ap phase_after_last_address is ∙ rw (program, features) refl
 
 -- a sequence that is no program, and sets no features, has no data while it has its opener and addresses alone
-outside_opening : (t : List TargetCycle) (o : Opening) → opening t ≡ Some o → is_page_program o.opener ≡ false → is_set_features o.opener ≡ false → data_phase t ≡ Outside
+pub outside_opening : (t : List TargetCycle) (o : Opening) → opening t ≡ Some o → is_page_program o.opener ≡ false → is_set_features o.opener ≡ false → data_phase t ≡ Outside
 outside_opening [] o h program features = refl
 outside_opening (CommandCycle c ∷ []) o h program features = after_none c
 outside_opening (CommandCycle c ∷ (d ∷ t)) o h program features = cc

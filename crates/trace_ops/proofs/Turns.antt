@@ -65,7 +65,7 @@ changed_to m k c ops o is =
 
 -- ---- the end
 
-ended_ce : (e : Ending) (o : Operation) → (changed (End e) o).ce ≡ o.ce
+pub ended_ce : (e : Ending) (o : Operation) → (changed (End e) o).ce ≡ o.ce
 ended_ce e o = by (λ (z : Operation). z.ce) (is_some o.end) o _ o.ce refl refl
 
 ended_lun : (e : Ending) (o : Operation) → (changed (End e) o).lun ≡ o.lun

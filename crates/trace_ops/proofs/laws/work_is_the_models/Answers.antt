@@ -1,10 +1,22 @@
-use Rattle.trace_ops.proofs.Starts.{cycle_busy, ready_busy, array_ready_busy, starts_keeps, ended_wants, output_ended, starts_ended, output_starts, enhanced_starts, unopened_starts, column_starts}
-use Rattle.trace_ops.proofs.AtWork.{tells_new, tells_same, tells_alike, changed_alike, alike_on, alike_self}
-use Rattle.trace_ops.proofs.Turns.{tells_end, tells_begin, tells_begun}
-use Rattle.trace_ops.proofs.Domestic.{domestic_came, domestic_listed, works_at_home, none_foreign, base_closer}
-use Rattle.trace_ops.proofs.Legal.{one_begins, output_begins, rests_busy, busy_ready, busy_array_ready, sees_of, on_past_on, is_said}
-use Rattle.trace_ops.proofs.Quietly.{came_alike, selects_alike, rest_alike, selects_workers}
+use Rattle.std.proofs.Common.{◌≡◌, ◌∙◌, ◌++◌, List, ap, sym, subst, reverse, []}
+use Rattle.std.proofs.lemmas.List.{append-nil}
+use Rattle.onfi_cycle.specs.declared.item.Item.{Item}
+use Rattle.onfi_cycle.specs.Permitted.{is_legal}
+use Rattle.trace_faults.specs.declared.beginning.Beginning.TheVariants.{Start}
+use Rattle.trace_faults.specs.declared.readies.Readies.TheVariants.{Written}
+use Rattle.trace_faults.specs.Middle.{first_seen_as}
+use Rattle.trace_faults.proofs.Judged.{fresh_is_on}
+use Rattle.trace_ops.specs.AtWork.{AreAtWork}
+use Rattle.trace_ops.specs.Listing.{has_one_lun, nothing_listed, ops_of}
+use Rattle.trace_ops.proofs.Pieces.{nothing_stands}
+use Rattle.trace_ops.proofs.Walks.{nobody_within}
+use Rattle.trace_ops.proofs.Wholes.{start_knows_all}
+use Rattle.trace_ops.proofs.Works.{works_from, nothing_worked}
 use Rattle.trace_ops.proofs.laws.work_is_the_models.Goals as goal
 
 pub returns : goal.returns
-returns c = ?
+returns c g targets items few luns base legal =
+    let past = append-nil (reverse items) in
+    subst (λ (p : List Item). AreAtWork g targets p (ops_of Written Start g targets items)) past
+    (works_from g targets few luns base (has_one_lun g) items (first_seen_as Start g targets items) 0 [] nothing_listed (λ k. []) (record { on = fresh_is_on g targets items; knows = start_knows_all })
+    nobody_within nothing_stands (nothing_worked g targets) (ap (is_legal g targets) past ∙ legal))
