@@ -7,25 +7,24 @@ use Rattle.nand_geometry.specs.Optional.{no_optional, is_wide, has_features, has
 use Rattle.onfi_cycle.specs.declared.command.Command.{Command}
 use Rattle.onfi_cycle.specs.declared.command.Command.TheVariants.{Read, ChangeReadColumnConfirm, ReadStatus, ReadStatusEnhanced, ReadId, ReadParameterPage, ReadUniqueId, GetFeatures, SetFeatures, ResetLun, SynchronousReset, Unknown}
 use Rattle.onfi_cycle.specs.declared.data_phase.DataPhase.{DataPhase}
-use Rattle.onfi_cycle.specs.declared.data_phase.DataPhase.TheVariants.{Outside, Inputs, FirstColumn, SecondColumn, FeatureInputs}
+use Rattle.onfi_cycle.specs.declared.data_phase.DataPhase.TheVariants.{Outside, FirstColumn, SecondColumn}
 use Rattle.onfi_cycle.specs.declared.item.Item.{Item}
 use Rattle.onfi_cycle.specs.declared.lun_state.LunState.{LunState}
 use Rattle.onfi_cycle.specs.declared.opening.Opening.{Opening}
 use Rattle.onfi_cycle.specs.declared.target_cycle.TargetCycle.{TargetCycle}
 use Rattle.onfi_cycle.specs.declared.target_cycle.TargetCycle.TheVariants.{CommandCycle, AddressCycle}
 use Rattle.onfi_cycle.specs.Base.{is_of_base}
-use Rattle.onfi_cycle.specs.Command.{command, is_known, is_opener, address_cycles, takes_address, is_read_id, is_page_program, is_set_features}
-use Rattle.onfi_cycle.specs.Rules.{is_undeclared, is_undeclared_address, breaks_command_unknown, breaks_address_misplaced}
+use Rattle.onfi_cycle.specs.Command.{command, is_opener, address_cycles, takes_address, is_read_id, is_page_program, is_set_features}
+use Rattle.onfi_cycle.specs.Rules.{is_undeclared_address, breaks_command_unknown, breaks_address_misplaced}
 use Rattle.onfi_cycle.specs.Sequence.{opened, opening, data_phase, tail, facts_of, wants_address, wants_column}
 use Rattle.onfi_cycle.proofs.CommandBytes.{commands_have_bytes}
 use Rattle.trace_ops.specs.declared.operation.Beginning.{Beginning}
-use Rattle.trace_ops.specs.declared.operation.Beginning.TheVariants as begins
 use Rattle.trace_ops.specs.declared.operation.Operation.{Operation}
 use Rattle.trace_ops.specs.declared.role.Role.{Role}
 use Rattle.trace_ops.specs.declared.role.Role.TheVariants as role
 use Rattle.trace_ops.specs.Operation.{opener_of, is_byte}
 use Rattle.trace_ops.specs.Listing.{gives_data, gives_status, role_of_command, role_of_address}
-use Rattle.trace_ops.proofs.Contents.{Opens, Content, in_program, is_program_open}
+use Rattle.trace_ops.proofs.Contents.{Opens, Content, in_program}
 use Rattle.trace_ops.proofs.Domestic.{Fits}
 use Rattle.trace_ops.proofs.Legal.{at_lun}
 use Rattle.trace_ops.proofs.Quietly.{sets}

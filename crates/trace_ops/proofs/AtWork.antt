@@ -1,19 +1,14 @@
 -- Which operation is at work on which LUN, whatever tells which LUNs work: what changes of an operation keep of that, and what the end and the beginning of work do.
-use Rattle.std.proofs.Common.{◌≡◌, ◌⊎◌, inl, inr, ℕ, zero, suc, ◌+◌, ◌*◌, ◌<◌, ◌==◌, Bool, true, false, ◌&&◌, cond, List, [], ◌∷◌, ◌++◌, Option, Some, None, is_some, refl, sym, ap, ◌∙◌, subst, arith, length, slice_set, eq-eqb, ne_eqb, eqb-true}
+use Rattle.std.proofs.Common.{◌≡◌, ◌⊎◌, inl, inr, ℕ, zero, suc, ◌<◌, Bool, true, false, List, [], ◌∷◌, ◌++◌, Option, Some, None, is_some, refl, sym, ap, ◌∙◌, subst, arith, length}
 use Rattle.std.specs.Prelude.{slice_get}
 use Rattle.std.proofs.lemmas.Option.{slice_get_within}
-use Rattle.std.proofs.lemmas.List.{length-set}
-use Rattle.std.proofs.lemmas.Bool.{and_parts}
 use Rattle.trace_ops.specs.declared.change.Change.{Change}
-use Rattle.trace_ops.specs.declared.change.Change.TheVariants.{Opened, Cycle, LoneReady, End, Begin, Poll, Show, Hold, SetLun, Fold, Unfold}
 use Rattle.trace_ops.specs.declared.operation.Ending.{Ending}
 use Rattle.trace_ops.specs.declared.operation.Operation.{Operation}
 use Rattle.trace_ops.specs.Operation.{changed, changed_by, changed_at}
 use Rattle.trace_ops.specs.Listing.{found, lun_place}
 use Rattle.trace_ops.proofs.Changed.{put, there, length_changed}
-use Rattle.trace_ops.proofs.Pieces.{found_same, found_other}
 use Rattle.trace_ops.proofs.Spans.{same_some, which}
-use Rattle.trace_ops.proofs.Tails.{split}
 
 -- ---- the work of an operation, before and after
 
@@ -205,7 +200,7 @@ tells_same busy other workers ops same tells = record {
 
 -- ---- an operation more
 
-append_there : (ops : List Operation) (x : Operation) (k : ℕ) (o : Operation) → slice_get ops k ≡ Some o → slice_get (ops ++ (x ∷ [])) k ≡ Some o
+pub append_there : (ops : List Operation) (x : Operation) (k : ℕ) (o : Operation) → slice_get ops k ≡ Some o → slice_get (ops ++ (x ∷ [])) k ≡ Some o
 append_there [] x k o h = cc
 append_there (y ∷ ops) x zero o h = h
 append_there (y ∷ ops) x (suc k) o h = append_there ops x k o h

@@ -1,5 +1,5 @@
 -- What a cycle of a legal trace of the base profile does to who is at work where.
-use Rattle.std.proofs.Common.{◌≡◌, ◌⊎◌, inl, inr, ℕ, zero, suc, ◌+◌, ◌<◌, ◌≤◌, ◌==◌, Bool, true, false, ◌&&◌, ◌||◌, not, cond, List, [], ◌∷◌, ◌++◌, Option, Some, None, is_some, refl, sym, ap, ◌∙◌, subst, arith, length, slice_set, eqb-true, ltb}
+use Rattle.std.proofs.Common.{◌≡◌, ◌⊎◌, inl, inr, ℕ, zero, suc, ◌<◌, ◌≤◌, ◌==◌, Bool, true, false, ◌&&◌, ◌||◌, not, cond, List, ◌∷◌, Option, Some, None, is_some, refl, sym, ap, ◌∙◌, subst, arith, length, slice_set, eqb-true, ltb}
 use Rattle.std.specs.Prelude.{slice_get}
 use Rattle.std.proofs.lemmas.Option.{slice_get_within}
 use Rattle.nand_geometry.specs.declared.parts.Parts.{Parts}
@@ -29,7 +29,7 @@ use Rattle.trace_ops.specs.declared.operation.Beginning.TheVariants as begins
 use Rattle.trace_ops.specs.declared.operation.Ending.{Ending}
 use Rattle.trace_ops.specs.declared.operation.Ending.TheVariants as ends
 use Rattle.trace_ops.specs.declared.operation.Operation.{Operation}
-use Rattle.trace_ops.specs.Operation.{begun, opener_of, is_byte, is_unknown, is_output, changed, changed_at}
+use Rattle.trace_ops.specs.Operation.{opener_of, is_byte, is_unknown, is_output, changed, changed_at}
 use Rattle.trace_ops.specs.Listing.{Listing, found, worker, op_of, look_at, is_busy, has_failed, end_by, ended_if, ended_on, begins_one, cycle_owner, new_by_command, new_one, number_of, with_new, is_address_kind, change_of, unfolded, begins_by, starts_on, abandoned_by, begun_on, all_begun, role_of_kind, role_by, all_selected, with_ends, owner_in, mark_in, listed}
 use Rattle.trace_ops.proofs.Quiet.{is_plain, plain_is_quiet, by_ends, by_unfold, by_begin, by_begins, by_selects}
 use Rattle.trace_ops.proofs.Changed.{by, there}

@@ -1,5 +1,5 @@
 -- In a legal trace of the base profile no operation is one that the model doesn't know.
-use Rattle.std.proofs.Common.{◌≡◌, ◌⊎◌, inl, inr, ℕ, zero, suc, ◌+◌, ◌<◌, ◌==◌, Bool, true, false, ◌&&◌, ◌||◌, not, cond, List, [], ◌∷◌, ◌++◌, Option, Some, None, is_some, refl, sym, ap, ◌∙◌, subst, arith, length, slice_set, slice_index, eqb-true, eq-eqb, lt-ltb, ltb}
+use Rattle.std.proofs.Common.{◌≡◌, ◌⊎◌, inl, inr, ℕ, zero, suc, ◌+◌, ◌==◌, Bool, true, false, ◌&&◌, ◌||◌, not, cond, List, [], ◌∷◌, ◌++◌, Option, Some, None, is_some, refl, sym, ap, ◌∙◌, subst, arith, length, slice_set, slice_index, eqb-true, eq-eqb, lt-ltb, ltb}
 use Rattle.std.specs.Prelude.{slice_get}
 use Rattle.std.proofs.lemmas.List.{length-set}
 use Rattle.onfi_cycle.specs.declared.item.Item.{Item}
@@ -7,15 +7,14 @@ use Rattle.onfi_cycle.specs.declared.item.Item.TheVariants.{Cyc, Rdy, Ard}
 use Rattle.onfi_cycle.specs.declared.item.Kind.{Kind}
 use Rattle.onfi_cycle.specs.declared.item.Kind.TheVariants.{Cmd, Adr, Din, Dout}
 use Rattle.onfi_cycle.specs.Command.{command}
-use Rattle.trace_faults.specs.declared.verdict.Verdict.{Verdict}
 use Rattle.trace_ops.specs.declared.change.Change.{Change}
 use Rattle.trace_ops.specs.declared.change.Change.TheVariants.{Opened, Cycle, LoneReady, End, Begin, Poll, Show, Hold, SetLun, Fold, Unfold}
 use Rattle.trace_ops.specs.declared.judged.Judged.{Judged}
 use Rattle.trace_ops.specs.declared.operation.Beginning.{Beginning}
 use Rattle.trace_ops.specs.declared.operation.Beginning.TheVariants as begins
 use Rattle.trace_ops.specs.declared.operation.Operation.{Operation}
-use Rattle.trace_ops.specs.Operation.{begun, opener_of, is_byte, is_unknown, closes_as_known, is_foreign_opener, is_foreign_closer, has_other_address, is_foreign, takes_address, with_byte, noted, says_ready, is_output, closer_after, changed, changed_by, changed_at}
-use Rattle.trace_ops.specs.Listing.{Listing, found, op_of, is_foreign_op, is_foreign_at, begins_one, new_one, is_new_opener, change_of, unfolded, works_unknown, is_working_opener, is_working_closer, works_as_foreign, with_new, with_ends, owner_in, mark_in, listed}
+use Rattle.trace_ops.specs.Operation.{begun, opener_of, is_byte, is_unknown, closes_as_known, is_foreign_opener, is_foreign_closer, has_other_address, is_foreign, takes_address, with_byte, says_ready, changed, changed_at}
+use Rattle.trace_ops.specs.Listing.{Listing, found, op_of, is_foreign_op, is_foreign_at, new_one, is_new_opener, change_of, works_unknown, is_working_opener, is_working_closer, works_as_foreign, with_new, with_ends, owner_in, mark_in, listed}
 use Rattle.trace_ops.proofs.Quiet.{is_quiet, by_ends, by_unfold, by_rest}
 use Rattle.trace_ops.proofs.Pieces.{kept_beginning}
 use Rattle.trace_ops.proofs.Spans.{which}

@@ -1,18 +1,16 @@
 -- How an item of a legal trace is judged, whose readies are written: it is permitted, and what is looked at tells which LUNs are busy.
-use Rattle.std.proofs.Common.{◌≡◌, ◌⊎◌, inl, inr, ℕ, zero, suc, ◌+◌, ◌<◌, ◌≤◌, ◌==◌, Bool, true, false, ◌&&◌, ◌||◌, not, cond, List, [], ◌∷◌, Option, Some, None, refl, sym, ap, ◌∙◌, subst, arith, ltb, eqb-true, eq-eqb, ne_eqb}
+use Rattle.std.proofs.Common.{◌≡◌, ◌⊎◌, inl, inr, ℕ, zero, suc, ◌<◌, ◌≤◌, ◌==◌, Bool, true, false, ◌&&◌, ◌||◌, not, cond, List, ◌∷◌, Some, None, refl, sym, ap, ◌∙◌, subst, arith, ltb, eqb-true, eq-eqb, ne_eqb}
 use Rattle.std.proofs.lemmas.Bool.{and_parts}
 use Rattle.std.proofs.lemmas.Bool.Decides.{nat_tests}
 use Rattle.nand_geometry.specs.declared.parts.Parts.{Parts}
 use Rattle.onfi_cycle.specs.declared.command.Command.TheVariants.{Reset}
-use Rattle.onfi_cycle.specs.declared.forbidden.Forbidden.{Forbidden}
 use Rattle.onfi_cycle.specs.declared.item.Cycle.{Cycle}
 use Rattle.onfi_cycle.specs.declared.item.Item.{Item}
 use Rattle.onfi_cycle.specs.declared.item.Item.TheVariants.{Cyc, Rdy, Ard}
 use Rattle.onfi_cycle.specs.declared.item.Kind.{Kind}
 use Rattle.onfi_cycle.specs.declared.item.Kind.TheVariants.{Cmd, Adr, Din, Dout}
 use Rattle.onfi_cycle.specs.declared.lun.Lun.{Lun}
-use Rattle.onfi_cycle.specs.declared.target_cycle.TargetCycle.TheVariants.{CommandCycle, OutputCycle}
-use Rattle.onfi_cycle.specs.Command.{command}
+use Rattle.onfi_cycle.specs.declared.target_cycle.TargetCycle.TheVariants.{CommandCycle}
 use Rattle.onfi_cycle.specs.Look.{look_at as look_of, look_after, looked}
 use Rattle.onfi_cycle.specs.Lun.{lun_view, is_busy as works}
 use Rattle.onfi_cycle.specs.OtherLun.{keeps_to}
@@ -24,15 +22,13 @@ use Rattle.onfi_cycle.proofs.CommandBytes.{commands_have_bytes}
 use Rattle.onfi_cycle.proofs.Following.{looked_is_look}
 use Rattle.onfi_cycle.proofs.Others.{others_keep, keeps_several_luns}
 use Rattle.trace_faults.specs.declared.readies.Readies.TheVariants.{Written}
-use Rattle.trace_faults.specs.declared.trace_state.TraceState.{TraceState}
-use Rattle.trace_faults.specs.declared.verdict.Verdict.{Verdict}
 use Rattle.trace_faults.specs.declared.verdict.Verdict.TheVariants.{Permitted}
 use Rattle.trace_faults.specs.Middle.{Seen, verdict, seen_after}
-use Rattle.trace_faults.specs.Recovery.{judged_here, gone_on}
+use Rattle.trace_faults.specs.Recovery.{judged_here}
 use Rattle.trace_faults.proofs.Judged.{IsOn, goes_on, judged_after}
 use Rattle.trace_ops.specs.declared.judged.Judged.{Judged}
 use Rattle.trace_ops.specs.declared.looks.Looks.{Looks}
-use Rattle.trace_ops.specs.Listing.{looks_of, look_at, is_busy, is_command, is_reset, judged_as}
+use Rattle.trace_ops.specs.Listing.{looks_of, look_at, is_busy, is_command, is_reset}
 use Rattle.trace_ops.proofs.Starts.{starts_by, cycle_busy, ready_busy, array_ready_busy, starts_keeps, output_starts}
 use Rattle.trace_ops.proofs.Tails.{split}
 use Rattle.trace_ops.proofs.Turns.{put_at, put_own, put_other, same_lun, clash}

@@ -20,3 +20,4 @@ pub mod Addressed
 pub mod Cycles
 pub mod Readies
 pub mod Works
+pub mod Dated

@@ -1,5 +1,5 @@
 -- What an item does to its operation and others, but for the end and the beginning of work, leaves who is at work where.
-use Rattle.std.proofs.Common.{◌≡◌, ℕ, ◌+◌, ◌<◌, ◌==◌, Bool, true, false, ◌&&◌, cond, List, Option, Some, None, is_some, refl, sym, ap, ◌∙◌, subst, arith, length}
+use Rattle.std.proofs.Common.{◌≡◌, ℕ, ◌<◌, ◌==◌, Bool, true, false, ◌&&◌, cond, List, Option, Some, None, is_some, refl, sym, ap, ◌∙◌, subst, arith}
 use Rattle.std.specs.Prelude.{slice_get}
 use Rattle.onfi_cycle.specs.declared.item.Item.{Item}
 use Rattle.onfi_cycle.specs.declared.item.Item.TheVariants.{Cyc, Rdy, Ard}
@@ -9,22 +9,21 @@ use Rattle.onfi_cycle.specs.declared.lun_state.LunState.{LunState}
 use Rattle.onfi_cycle.specs.declared.register.Register.{Register}
 use Rattle.onfi_cycle.specs.declared.register.Register.TheVariants.{Empty, Page, ParameterPage, Identifier, Identity, JedecIdentity, UniqueId, Features}
 use Rattle.trace_ops.specs.declared.change.Change.{Change}
-use Rattle.trace_ops.specs.declared.change.Change.TheVariants.{Opened, Cycle, LoneReady, End, Begin, Poll, Show, Hold, SetLun, Fold, Unfold}
+use Rattle.trace_ops.specs.declared.change.Change.TheVariants.{Opened, Cycle, End, Poll, Show, Hold, SetLun, Fold, Unfold}
 use Rattle.trace_ops.specs.declared.judged.Judged.{Judged}
 use Rattle.trace_ops.specs.declared.operation.Beginning.{Beginning}
-use Rattle.trace_ops.specs.declared.operation.Ending.{Ending}
 use Rattle.trace_ops.specs.declared.operation.Ending.TheVariants as ends
 use Rattle.trace_ops.specs.declared.operation.Operation.{Operation}
 use Rattle.trace_ops.specs.declared.places.Places.{Places}
 use Rattle.trace_ops.specs.declared.role.Role.{Role}
 use Rattle.trace_ops.specs.declared.role.Role.TheVariants as role
 use Rattle.trace_ops.specs.Operation.{is_permitted, is_output, says_ready, takes_address, with_byte, changed, changed_at, changed_if}
-use Rattle.trace_ops.specs.Listing.{Listing, worker, giver, op_of, either_of, has_failed, ended_if, is_foreign_at, is_address, is_alone_op, is_new_opener, change_of, unfolded, with_new, with_ends, owner_in, mark_in, look_at, gives_status, driver_of, role_by, is_unshown, folded_into, folded_if, held_in, held_by, selected_by, selected_on, all_selected, foreign_ended, polled_on, polled_by, polled, with_polls, ready_end, with_ready}
+use Rattle.trace_ops.specs.Listing.{Listing, worker, giver, op_of, either_of, has_failed, ended_if, is_address, is_alone_op, is_new_opener, change_of, unfolded, with_new, with_ends, owner_in, mark_in, look_at, gives_status, driver_of, role_by, is_unshown, folded_into, held_in, held_by, selected_by, selected_on, all_selected, foreign_ended, polled_on, polled_by, polled, with_polls, ready_end, with_ready}
 use Rattle.trace_ops.proofs.Quiet.{is_quiet, by_select, by_polls}
 use Rattle.trace_ops.proofs.Changed.{by}
 use Rattle.trace_ops.proofs.Pieces.{kept_beginning}
 use Rattle.trace_ops.proofs.Walks.{came}
-use Rattle.trace_ops.proofs.AtWork.{Core, same_core, Back, Alike, alike_self, alike_on, changed_alike}
+use Rattle.trace_ops.proofs.AtWork.{Core, same_core, Alike, alike_self, alike_on, changed_alike}
 use Rattle.trace_ops.proofs.Domestic.{Every, Domestic, every_quiet, quiet_domestic, none_foreign}
 
 -- ---- changes

@@ -1,11 +1,9 @@
 -- What a ready of a legal trace of the base profile does to who is at work where.
-use Rattle.std.proofs.Common.{◌≡◌, ◌⊎◌, inl, inr, ℕ, zero, suc, ◌+◌, ◌<◌, ◌≤◌, ◌==◌, Bool, true, false, ◌&&◌, ◌||◌, not, cond, List, [], ◌∷◌, ◌++◌, Option, Some, None, is_some, refl, sym, ap, ◌∙◌, subst, arith, length, ne_eqb}
+use Rattle.std.proofs.Common.{◌≡◌, ◌⊎◌, inl, inr, ℕ, zero, suc, ◌<◌, ◌==◌, Bool, true, false, ◌&&◌, ◌||◌, cond, List, ◌∷◌, Option, Some, None, is_some, refl, sym, ap, ◌∙◌, subst, arith, length, ne_eqb}
 use Rattle.std.specs.Prelude.{slice_get}
-use Rattle.std.proofs.lemmas.Option.{slice_get_within}
 use Rattle.nand_geometry.specs.declared.parts.Parts.{Parts}
 use Rattle.onfi_cycle.specs.declared.item.Item.{Item}
-use Rattle.onfi_cycle.specs.declared.item.Item.TheVariants.{Cyc, Rdy, Ard}
-use Rattle.trace_ops.specs.declared.change.Change.{Change}
+use Rattle.onfi_cycle.specs.declared.item.Item.TheVariants.{Rdy, Ard}
 use Rattle.trace_ops.specs.declared.change.Change.TheVariants.{End}
 use Rattle.trace_ops.specs.declared.judged.Judged.{Judged}
 use Rattle.trace_ops.specs.declared.looks.Looks.{Looks}
@@ -16,18 +14,17 @@ use Rattle.trace_ops.specs.declared.operation.Operation.{Operation}
 use Rattle.trace_ops.specs.declared.places.Places.{Places}
 use Rattle.trace_ops.specs.declared.role.Role.{Role}
 use Rattle.trace_ops.specs.declared.role.Role.TheVariants as role
-use Rattle.trace_ops.specs.Operation.{changed, changed_at, changed_if}
-use Rattle.trace_ops.specs.Listing.{Listing, found, worker, op_of, new_one, with_new, is_address, end_by, ended_if, ended_on, all_ended, begins_by, is_input_to_chip, works_as_foreign, starts_on, begun_on, all_begun, role_by, selected_by, selected_on, all_selected, with_ends, owner_in, mark_in, listed}
+use Rattle.trace_ops.specs.Operation.{changed_if}
+use Rattle.trace_ops.specs.Listing.{Listing, found, worker, op_of, new_one, with_new, is_address, ended_if, ended_on, all_ended, begins_by, is_input_to_chip, works_as_foreign, begun_on, all_begun, role_by, selected_by, selected_on, all_selected, with_ends, owner_in, mark_in, listed}
 use Rattle.trace_ops.proofs.Pieces.{newest_by, listed_newest, found_below}
-use Rattle.trace_ops.proofs.Spans.{same_some}
 use Rattle.trace_ops.proofs.Walks.{came, length_ends}
 use Rattle.trace_ops.proofs.Within.{AreWithin}
-use Rattle.trace_ops.proofs.AtWork.{Alike, alike_on, From, changed_from, Tells, tells_alike, tells_same, tells_new}
+use Rattle.trace_ops.proofs.AtWork.{Alike, alike_on, Tells, tells_alike, tells_same, tells_new}
 use Rattle.trace_ops.proofs.Cycles.{Resting, resting_alike}
 use Rattle.trace_ops.proofs.Domestic.{Every, every_at, every_new, Domestic, FitsItem, ready_domestic, domestic_came, domestic_listed}
-use Rattle.trace_ops.proofs.Legal.{permitted_as, busy_of, busy_ready, busy_array_ready}
+use Rattle.trace_ops.proofs.Legal.{permitted_as, busy_of, busy_ready}
 use Rattle.trace_ops.proofs.Quietly.{came_alike, rest_alike}
-use Rattle.trace_ops.proofs.Turns.{put_at, put_own, put_other, same_lun, clash, ended_ce, ended_start, workers_with, ops_with, tells_end}
+use Rattle.trace_ops.proofs.Turns.{put_at, put_own, put_other, same_lun, ended_ce, ended_start, workers_with, ops_with, tells_end}
 
 -- an item that is no cycle: it begins no work, selects nothing, and brings no byte
 pub record IsReady (j : Judged) : Type 0 where

@@ -1,5 +1,5 @@
 -- The end and the beginning of work: who is at work where afterwards.
-use Rattle.std.proofs.Common.{◌≡◌, ◌⊎◌, inl, inr, ℕ, ◌+◌, ◌*◌, ◌<◌, ◌==◌, Bool, true, false, ◌&&◌, cond, List, Option, Some, None, is_some, refl, sym, ap, ◌∙◌, subst, arith, length, slice_set, eq-eqb, ne_eqb, eqb-true}
+use Rattle.std.proofs.Common.{◌≡◌, ◌⊎◌, inl, inr, ℕ, ◌<◌, ◌==◌, Bool, true, false, ◌&&◌, cond, List, Option, Some, None, is_some, refl, sym, ap, ◌∙◌, subst, arith, slice_set, eq-eqb, ne_eqb, eqb-true}
 use Rattle.std.specs.Prelude.{slice_get}
 use Rattle.std.proofs.lemmas.Option.{slice_get_within}
 use Rattle.std.proofs.lemmas.List.{length-set}
@@ -11,7 +11,7 @@ use Rattle.trace_ops.specs.declared.operation.Ending.TheVariants as ends
 use Rattle.trace_ops.specs.declared.operation.Operation.{Operation}
 use Rattle.trace_ops.specs.declared.places.Places.{Places}
 use Rattle.trace_ops.specs.Operation.{changed, changed_at}
-use Rattle.trace_ops.specs.Listing.{found, lun_place, worker, abandoned_by}
+use Rattle.trace_ops.specs.Listing.{lun_place, worker, abandoned_by}
 use Rattle.trace_ops.proofs.Changed.{by, there, length_changed}
 use Rattle.trace_ops.proofs.Pieces.{found_same, found_other}
 use Rattle.trace_ops.proofs.Spans.{same_some}
@@ -68,7 +68,7 @@ changed_to m k c ops o is =
 pub ended_ce : (e : Ending) (o : Operation) → (changed (End e) o).ce ≡ o.ce
 ended_ce e o = by (λ (z : Operation). z.ce) (is_some o.end) o _ o.ce refl refl
 
-ended_lun : (e : Ending) (o : Operation) → (changed (End e) o).lun ≡ o.lun
+pub ended_lun : (e : Ending) (o : Operation) → (changed (End e) o).lun ≡ o.lun
 ended_lun e o = by (λ (z : Operation). z.lun) (is_some o.end) o _ o.lun refl refl
 
 pub ended_start : (e : Ending) (o : Operation) → (changed (End e) o).start ≡ o.start

@@ -1,4 +1,4 @@
-use Rattle.std.proofs.Common.{◌≡◌, ◌∙◌, ◌++◌, List, ap, sym, subst, reverse, []}
+use Rattle.std.proofs.Common.{◌∙◌, List, ap, subst, reverse, []}
 use Rattle.std.proofs.lemmas.List.{append-nil}
 use Rattle.onfi_cycle.specs.declared.item.Item.{Item}
 use Rattle.onfi_cycle.specs.Permitted.{is_legal}
