@@ -1,5 +1,5 @@
 -- What a cycle of a legal trace of the base profile does to who is at work where.
-use Rattle.std.proofs.Common.{◌≡◌, ◌⊎◌, inl, inr, ℕ, zero, suc, ◌<◌, ◌≤◌, ◌==◌, Bool, true, false, ◌&&◌, ◌||◌, not, cond, List, ◌∷◌, Option, Some, None, is_some, refl, sym, ap, ◌∙◌, subst, arith, length, slice_set, eqb-true, ltb}
+use Rattle.std.proofs.Common.{◌≡◌, ◌⊎◌, inl, inr, ℕ, zero, suc, ◌<◌, ◌≤◌, ◌==◌, Bool, true, false, ◌&&◌, ◌||◌, not, cond, List, ◌∷◌, Option, Some, None, is_some, refl, sym, ap, ◌∙◌, subst, arith, length, slice_set, eqb-true, ltb, ◌+◌, ◌++◌, []}
 use Rattle.std.specs.Prelude.{slice_get}
 use Rattle.std.proofs.lemmas.Option.{slice_get_within}
 use Rattle.nand_geometry.specs.declared.parts.Parts.{Parts}
@@ -10,6 +10,7 @@ use Rattle.onfi_cycle.specs.declared.item.Item.{Item}
 use Rattle.onfi_cycle.specs.declared.item.Item.TheVariants.{Cyc}
 use Rattle.onfi_cycle.specs.declared.item.Kind.{Kind}
 use Rattle.onfi_cycle.specs.declared.item.Kind.TheVariants.{Cmd, Adr, Din, Dout}
+use Rattle.onfi_cycle.specs.declared.lun.Lun.{Lun}
 use Rattle.onfi_cycle.specs.declared.tail_facts.TailFacts.{TailFacts}
 use Rattle.onfi_cycle.specs.declared.target_cycle.TargetCycle.{TargetCycle}
 use Rattle.onfi_cycle.specs.declared.target_cycle.TargetCycle.TheVariants.{CommandCycle}
@@ -18,6 +19,7 @@ use Rattle.onfi_cycle.specs.Command.{command, is_known, is_opener}
 use Rattle.onfi_cycle.specs.Lun.{luns_of}
 use Rattle.onfi_cycle.specs.Permitted.{broken, is_legal}
 use Rattle.onfi_cycle.specs.Sequence.{target_cycle, begins_sequence, with_cycle, tail, facts_of, wants, wants_command}
+use Rattle.onfi_cycle.specs.Working.{IsLun}
 use Rattle.onfi_cycle.proofs.CommandBytes.{commands_have_bytes}
 use Rattle.onfi_cycle.proofs.Passed.{KeepsRules, permitted_keeps}
 use Rattle.trace_ops.specs.declared.change.Change.{Change}
@@ -30,6 +32,7 @@ use Rattle.trace_ops.specs.declared.operation.Ending.{Ending}
 use Rattle.trace_ops.specs.declared.operation.Ending.TheVariants as ends
 use Rattle.trace_ops.specs.declared.operation.Operation.{Operation}
 use Rattle.trace_ops.specs.Operation.{opener_of, is_byte, is_unknown, is_output, changed, changed_at}
+use Rattle.trace_ops.specs.AtWork.{begins_work}
 use Rattle.trace_ops.specs.Listing.{Listing, found, worker, op_of, look_at, is_busy, has_failed, end_by, ended_if, ended_on, begins_one, cycle_owner, new_by_command, new_one, number_of, with_new, is_address_kind, change_of, unfolded, begins_by, starts_on, abandoned_by, begun_on, all_begun, role_of_kind, role_by, all_selected, with_ends, owner_in, mark_in, listed}
 use Rattle.trace_ops.proofs.Quiet.{is_plain, plain_is_quiet, by_ends, by_unfold, by_begin, by_begins, by_selects}
 use Rattle.trace_ops.proofs.Changed.{by, there}
@@ -41,11 +44,12 @@ use Rattle.trace_ops.proofs.Walks.{came, length_ends, mark_new}
 use Rattle.trace_ops.proofs.Within.{AreWithin}
 use Rattle.trace_ops.proofs.Addressed.{base_command, fits_of, command_sets, address_sets, status_address}
 use Rattle.trace_ops.proofs.AtWork.{Alike, alike_self, alike_on, From, changed_from, Tells, tells_alike, tells_same, tells_new}
+use Rattle.trace_ops.proofs.Dated.{Dated, dated_alike, dated_later, dated_new, dated_end, dated_turn, dated_begin}
 use Rattle.trace_ops.proofs.Domestic.{Every, every_at, every_quiet, every_new, Domestic, quiet_domestic, works_at_home, keep, or_both, FitsKind, FitsItem, begun_domestic, domestic_came, domestic_listed, base_closer}
-use Rattle.trace_ops.proofs.Legal.{permitted_as, busy_of, Sees, works_there, at_lun, begins_between, begins_starts, begins_busy, rests_busy, never_ends, busy_elsewhere, one_begins, output_begins, below, is_below}
+use Rattle.trace_ops.proofs.Legal.{permitted_as, busy_of, Sees, works_there, at_lun, begins_between, begins_starts, begins_there, begins_busy, work_between, work_elsewhere, rests_busy, never_ends, busy_elsewhere, one_begins, output_begins, below, is_below}
 use Rattle.trace_ops.proofs.Quietly.{came_alike, sets, Settles, BeginsAt, selects_alike, selects_workers, rest_alike}
 use Rattle.trace_ops.proofs.Starts.{starts_by, IsEnded, ended_wants, output_ended, starts_ended}
-use Rattle.trace_ops.proofs.Turns.{put_at, put_own, put_other, same_lun, clash, ended_ce, ended_start, workers_with, ops_with, tells_begun}
+use Rattle.trace_ops.proofs.Turns.{put_at, put_own, put_other, same_lun, clash, ended_ce, ended_start, workers_with, ops_with, Freed, freed, tells_begun}
 
 -- the newest operation of a target is one of it, and where that has begun work its sequence has ended
 abbrev pub Resting : List (Option ℕ) → List Item → ℕ → Operation → Type 0
@@ -72,7 +76,7 @@ output_tail Din byte t h = cc
 output_tail Dout byte t h = output_ended t
 
 -- a cycle of a trace that is legal so far, and all that is known before it
-pub record CycleAt (g : Parts) (targets : ℕ) (past : List Item) (c : BusCycle) (before after : Looks) (l : Listing) (pieces : ℕ → List TargetCycle) : Type 0 where
+pub record CycleAt (g : Parts) (targets n : ℕ) (past : List Item) (marks : List ℕ) (c : BusCycle) (before after : Looks) (l : Listing) (pieces : ℕ → List TargetCycle) : Type 0 where
   pub few : targets ≤ 4
   pub luns : g.luns ≤ 4
   pub base : g.optional ≡ no_optional
@@ -85,6 +89,12 @@ pub record CycleAt (g : Parts) (targets : ℕ) (past : List Item) (c : BusCycle)
   pub domestic : Every (λ k. Domestic) l.ops
   pub resting : Every (Resting l.places.newest past) l.ops
   pub tells : Tells (busy_of g targets past) l.places.workers l.ops
+  pub number : n ≡ length past
+  pub many : length marks ≡ length past
+  pub dated : Dated g targets past marks n l.ops
+
+lun_is : (x : Lun) (ce lun : ℕ) → x.ce ≡ ce → x.lun ≡ lun → x ≡ at_lun ce lun
+lun_is x ce lun p q = ap (λ a. at_lun a x.lun) p ∙ ap (at_lun ce) q
 
 -- an operation whose LUN is the one that begins work
 pub record Settled (c : BusCycle) (before after : Looks) (o : Operation) : Type 0 where
@@ -94,10 +104,11 @@ pub record Settled (c : BusCycle) (before after : Looks) (o : Operation) : Type 
   pub is : o.lun ≡ Some lun
 
 -- who is at work once work has begun
-pub record Turned (g : Parts) (targets : ℕ) (past : List Item) (c : BusCycle) (before after : Looks) (newest : List (Option ℕ)) (mark : ℕ) (l : Listing) : Type 0 where
+pub record Turned (g : Parts) (targets n : ℕ) (past : List Item) (marks : List ℕ) (c : BusCycle) (before after : Looks) (newest : List (Option ℕ)) (mark : ℕ) (l : Listing) : Type 0 where
   pub tells : Tells (busy_of g targets (Cyc c ∷ past)) l.places.workers l.ops
   pub resting : Every (Resting newest (Cyc c ∷ past)) l.ops
   pub domestic : Every (λ k. Domestic) l.ops
+  pub dated : Dated g targets (Cyc c ∷ past) (marks ++ (mark ∷ [])) (n + 1) l.ops
   pub settled : is_output c.kind ≡ false → (o : Operation) → slice_get l.ops mark ≡ Some o → is_some o.start ≡ true → Settled c before after o
 
 nothing_more : (x a b d : Bool) → (x || (a && (b && (d && false)))) ≡ x
@@ -123,8 +134,8 @@ few_or b = at (ltb b 4) refl
     at true e = inl (below b 4 e)
     at false e = inr (λ h. clash (ltb b 4) (is_below b 4 h) e)
 
-module _ (g : Parts) (targets n : ℕ) (one_lun : Bool) (past : List Item) (c : BusCycle) (before after : Looks) (l : Listing) (pieces : ℕ → List TargetCycle)
-    (here : CycleAt g targets past c before after l pieces) where
+module _ (g : Parts) (targets n : ℕ) (one_lun : Bool) (past : List Item) (marks : List ℕ) (c : BusCycle) (before after : Looks) (l : Listing) (pieces : ℕ → List TargetCycle)
+    (here : CycleAt g targets n past marks c before after l pieces) where
   abbrev pub j : Judged
   j = permitted_as one_lun n (Cyc c) before after
 
@@ -402,6 +413,19 @@ module _ (g : Parts) (targets n : ℕ) (one_lun : Bool) (past : List Item) (c : 
       subst (λ (w : List (Option ℕ)). Tells (busy_of g targets past) w (came j l).ops) (sym (new_workers owner))
       (tells_alike (busy_of g targets past) l.places.workers more (came j l).ops came_like (tells_by owner))
 
+  dated_ends : Dated g targets past marks (n + 1) (with_ends j l).ops
+  dated_ends =
+      dated_later g targets past marks n (n + 1) (with_ends j l).ops (omega arith) (subst (λ (ops : List Operation). Dated g targets past marks n ops) (sym same_ops) here.dated)
+
+  dated_by : (x : Option ℕ) → Dated g targets past marks (n + 1) (with_new x j (with_ends j l)).ops
+  dated_by (Some m) = dated_ends
+  dated_by None =
+      dated_new g targets past marks (n + 1) (with_ends j l).ops (new_one j (op_of (with_ends j l).ops (found l.places.newest c.ce)) (Cyc c))
+      (new_start c.kind (op_of (with_ends j l).ops (found l.places.newest c.ce))) (new_end c.kind (op_of (with_ends j l).ops (found l.places.newest c.ce))) dated_ends
+
+  dated_here : Dated g targets past marks (n + 1) (came j l).ops
+  dated_here = dated_alike g targets past marks (n + 1) more (came j l).ops came_like (dated_by owner)
+
   -- ---- a question for the status starts no work
 
   asks_by : (x : Option ℕ) → owner ≡ x → c.kind ≡ Adr → (o : Operation) → slice_get (with_new x j (with_ends j l)).ops (number_of x (with_ends j l).ops) ≡ Some o →
@@ -498,8 +522,32 @@ module _ (g : Parts) (targets n : ℕ) (one_lun : Bool) (past : List Item) (c : 
       let was = mine input back.old back.is_there in
       (back.core.ce ∙ was.0, ap (λ (x : Option ℕ). is_some x) back.core.start ∙ was.1)
 
-  turned_none : ((lun : ℕ) → lun < 4 → begins_between c before after lun ≡ false) → Turned g targets past c before after newest_after mark (came j l)
+  -- a LUN of the channel begins work where the looks say so
+  work_is : (x : Lun) → IsLun g targets x → c.ce ≡ x.ce → begins_work g past (Cyc c) x ≡ begins_between c before after x.lun
+  work_is x is same =
+      ap (begins_work g past (Cyc c)) (lun_is x c.ce x.lun (sym same) refl)
+      ∙ work_between g targets past c before after here.sees here.saw x.lun (let few = is.lun in let all = here.luns in omega (arith, few, all)) (subst (λ y. y < targets) (sym same) is.target) is.lun
+
+  works_none : ((lun : ℕ) → lun < 4 → begins_between c before after lun ≡ false) → (x : Lun) → IsLun g targets x → begins_work g past (Cyc c) x ≡ false
+  works_none none x is = at (split c.ce x.ce)
+    where
+      at : (c.ce ≡ x.ce) ⊎ (c.ce ≡ x.ce → ⊥) → begins_work g past (Cyc c) x ≡ false
+      at (inl same) = work_is x is same ∙ none x.lun (let few = is.lun in let all = here.luns in omega (arith, few, all))
+      at (inr away) = work_elsewhere g targets past c before after here.sees here.saw x away
+
+  works_one : (lun : ℕ) → lun < 4 → begins_between c before after lun ≡ true → (x : Lun) → IsLun g targets x → begins_work g past (Cyc c) x ≡ true → x ≡ at_lun c.ce lun
+  works_one lun low h x is begins = at (split c.ce x.ce)
+    where
+      at : (c.ce ≡ x.ce) ⊎ (c.ce ≡ x.ce → ⊥) → x ≡ at_lun c.ce lun
+      at (inl same) =
+          lun_is x c.ce lun (sym same)
+          (one_begins g targets past c before after here.sees here.saw here.legal here.permitted x.lun lun (let few = is.lun in let all = here.luns in omega (arith, few, all)) low
+          (sym (work_is x is same) ∙ begins) h)
+      at (inr away) = absurd (clash (begins_work g past (Cyc c) x) begins (work_elsewhere g targets past c before after here.sees here.saw x away))
+
+  turned_none : ((lun : ℕ) → lun < 4 → begins_between c before after lun ≡ false) → Turned g targets n past marks c before after newest_after mark (came j l)
   turned_none none = record {
+    dated = dated_turn g targets past (Cyc c) marks mark (n + 1) (came j l).ops (works_none none) dated_here;
     tells = tells_same (busy_of g targets past) (busy_of g targets (Cyc c ∷ past)) (came j l).places.workers (came j l).ops (rests_all none) tells_here;
     resting = resting_here;
     domestic = domestic_here;
@@ -532,12 +580,24 @@ module _ (g : Parts) (targets n : ℕ) (one_lun : Bool) (past : List Item) (c : 
       at true = all
       at false = turning_end old (ends.Abandoned n) ops all
 
-  turned_one : (lun : ℕ) → lun < 4 → begins_between c before after lun ≡ true → Turned g targets past c before after newest_after mark (begun_as lun (came j l))
+  dated_abandon : (w : Option ℕ) → Dated g targets past marks (n + 1) (abandoned_by j mark w (came j l).ops)
+  dated_abandon None = dated_here
+  dated_abandon (Some old) = at (old == mark)
+    where
+      at : (b : Bool) → Dated g targets past marks (n + 1) (cond b (came j l).ops (changed_at old (End (ends.Abandoned n)) (came j l).ops))
+      at true = dated_here
+      at false = dated_end g targets past marks (n + 1) (came j l).ops old (ends.Abandoned n) (omega arith) dated_here
+
+  turned_one : (lun : ℕ) → lun < 4 → begins_between c before after lun ≡ true → Turned g targets n past marks c before after newest_after mark (begun_as lun (came j l))
   turned_one lun low h = record {
     tells =
         tells_same (put_at (busy_of g targets past) c.ce lun true) (busy_of g targets (Cyc c ∷ past)) (workers_with j mark lun (came j l).places) (ops_with j mark lun (came j l).places (came j l).ops)
         (puts_all lun low h)
-        (tells_begun (busy_of g targets past) j mark lun (came j l).places (came j l).ops q.0 target_few low q.1 (mine_came input q.0 q.1).0 (mine_came input q.0 q.1).1 tells_here);
+        (tells_begun (busy_of g targets past) j mark lun (came j l).places (came j l).ops q.0 target_few low (mine_came input q.0 q.1).0 (mine_came input q.0 q.1).1 free);
+    dated =
+        dated_begin g targets past (Cyc c) marks mark n (put_at (busy_of g targets past) c.ce lun false) (came j l).places.workers
+        (abandoned_by j mark (worker (came j l).places c.ce lun) (came j l).ops) (at_lun c.ce lun) q.0 here.many here.number is_lun (work_is (at_lun c.ce lun) is_lun refl ∙ h) (works_one lun low h) free.is
+        (mine_came input q.0 q.1).0 (mine_came input q.0 q.1).1 (put_own (busy_of g targets past) c.ce lun false) free.tells (dated_abandon (worker (came j l).places c.ce lun));
     resting =
         every_at Turning (Resting newest_after (Cyc c ∷ past)) mark (Begin n lun) _ (λ k o away d. d.0)
         (λ o is d. λ t found'. ((d.0 t found').0, (λ s. subst (λ (x : ℕ). IsEnded (facts_of (tail (Cyc c ∷ past) x))) (sym (d.1 refl) ∙ (d.0 t found').0) ended)))
@@ -552,6 +612,12 @@ module _ (g : Parts) (targets n : ℕ) (one_lun : Bool) (past : List Item) (c : 
 
       q : (o : Operation) × (slice_get (came j l).ops mark ≡ Some o)
       q = there (came j l).ops mark small_mark
+
+      free : Freed (busy_of g targets past) j mark lun (came j l).places (came j l).ops q.0
+      free = freed (busy_of g targets past) j mark lun (came j l).places (came j l).ops q.0 low q.1 (mine_came input q.0 q.1).1 tells_here
+
+      is_lun : IsLun g targets (at_lun c.ce lun)
+      is_lun = (let there' = begins_there g targets past c before after here.sees here.saw lun low h in record { target = there'.target; lun = there'.few })
 
       ended : IsEnded (facts_of (tail (Cyc c ∷ past) c.ce))
       ended =
@@ -584,9 +650,9 @@ module _ (g : Parts) (targets n : ℕ) (one_lun : Bool) (past : List Item) (c : 
   domestic_three = domestic_on 2 two domestic_two
 
   abbrev Result : Listing → Type 0
-  Result x = Turned g targets past c before after newest_after mark x
+  Result x = Turned g targets n past marks c before after newest_after mark x
 
-  pub turned : Turned g targets past c before after newest_after mark (all_begun j mark (came j l))
+  pub turned : Turned g targets n past marks c before after newest_after mark (all_begun j mark (came j l))
   turned = at (begins_between c before after 0) refl (begins_between c before after 1) refl (begins_between c before after 2) refl (begins_between c before after 3) refl
     where
       none_of : begins_between c before after 0 ≡ false → begins_between c before after 1 ≡ false → begins_between c before after 2 ≡ false → begins_between c before after 3 ≡ false →
@@ -687,6 +753,9 @@ module _ (g : Parts) (targets n : ℕ) (one_lun : Bool) (past : List Item) (c : 
   after_resting =
       subst (λ (newest : List (Option ℕ)). Every (Resting newest (Cyc c ∷ past)) (listed j l).ops) (sym (listed_newest j l))
       (resting_alike newest_after (Cyc c ∷ past) began.ops (listed j l).ops all_like turned.resting)
+
+  pub after_dated : Dated g targets (Cyc c ∷ past) (marks ++ (mark ∷ [])) (n + 1) (listed j l).ops
+  after_dated = dated_alike g targets (Cyc c ∷ past) (marks ++ (mark ∷ [])) (n + 1) began.ops (listed j l).ops all_like turned.dated
 
   pub after_domestic : Every (λ k. Domestic) (listed j l).ops
   after_domestic = domestic_listed j l domestic_here

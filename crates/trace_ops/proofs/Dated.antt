@@ -32,12 +32,12 @@ new_mark (x ∷ marks) k = new_mark marks k
 -- an item that begins work is one of the past
 begun_early : (g : Parts) (past : List Item) (n : ℕ) (l : Lun) → begun_at g past n l ≡ true → n < length past
 begun_early g [] n l h = cc
-begun_early g (i ∷ past) n l h = at (split (length past) n)
+begun_early g (i ∷ past) n l h = at (split (length past) n) (begun_early g past n l)
   where
-    at : (length past ≡ n) ⊎ (length past ≡ n → ⊥) → n < length (i ∷ past)
-    at (inl same) = omega (arith, same)
-    at (inr apart) =
-        let earlier = begun_early g past n l (sym (ap (λ b. cond b (begins_work g past i l) (begun_at g past n l)) (ne_eqb (length past) n apart)) ∙ h) in
+    at : (length past ≡ n) ⊎ (length past ≡ n → ⊥) → (begun_at g past n l ≡ true → n < length past) → n < length (i ∷ past)
+    at (inl same) early = omega (arith, same)
+    at (inr apart) early =
+        let earlier = early (sym (ap (λ b. cond b (begins_work g past i l) (begun_at g past n l)) (ne_eqb (length past) n apart)) ∙ h) in
         omega (arith, earlier)
 
 begun_more : (g : Parts) (past : List Item) (i : Item) (n : ℕ) (l : Lun) → (length past ≡ n → ⊥) → begun_at g (i ∷ past) n l ≡ begun_at g past n l

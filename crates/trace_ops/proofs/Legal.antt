@@ -28,6 +28,7 @@ use Rattle.trace_faults.specs.Recovery.{judged_here}
 use Rattle.trace_faults.proofs.Judged.{IsOn, goes_on, judged_after}
 use Rattle.trace_ops.specs.declared.judged.Judged.{Judged}
 use Rattle.trace_ops.specs.declared.looks.Looks.{Looks}
+use Rattle.trace_ops.specs.AtWork.{begins_work}
 use Rattle.trace_ops.specs.Listing.{looks_of, look_at, is_busy, is_command, is_reset}
 use Rattle.trace_ops.proofs.Starts.{starts_by, cycle_busy, ready_busy, array_ready_busy, starts_keeps, output_starts}
 use Rattle.trace_ops.proofs.Tails.{split}
@@ -153,6 +154,21 @@ busy_ready g targets past ce lun fail a b = at (same_lun a ce b lun)
 -- an array ready leaves the work of all
 pub busy_array_ready : (g : Parts) (targets : ℕ) (past : List Item) (ce lun a b : ℕ) → busy_of g targets (Ard ce lun ∷ past) a b ≡ busy_of g targets past a b
 busy_array_ready g targets past ce lun a b = same_busy g targets past (Ard ce lun ∷ past) a b (array_ready_busy g past ce lun (record { ce = a; lun = b }))
+
+-- no ready begins work
+never : (b : Bool) → (b && (not b || false)) ≡ false
+never true = refl
+never false = refl
+
+pub ready_works : (g : Parts) (past : List Item) (ce lun : ℕ) (fail : Bool) (x : Lun) → begins_work g past (Rdy ce lun fail) x ≡ false
+ready_works g past ce lun fail x = ap (λ b. b && (not (works g past x) || false)) (ready_busy g past ce lun fail x) ∙ at (ce == x.ce && lun == x.lun)
+  where
+    at : (b : Bool) → (cond b false (works g past x) && (not (works g past x) || false)) ≡ false
+    at true = refl
+    at false = never (works g past x)
+
+pub array_ready_works : (g : Parts) (past : List Item) (ce lun : ℕ) (x : Lun) → begins_work g past (Ard ce lun) x ≡ false
+array_ready_works g past ce lun x = ap (λ b. b && (not (works g past x) || false)) (array_ready_busy g past ce lun x) ∙ never (works g past x)
 
 -- ---- cycles
 
@@ -286,6 +302,21 @@ module _ (g : Parts) (targets : ℕ) (past : List Item) (c : Cycle) (before afte
             by_reset false e =
                 clash (not (is_busy (look_at before a)) || is_reset c) (and_parts (is_busy (look_at after a)) (not (is_busy (look_at before a)) || is_reset c) p).1
                 (ap (λ r. not (is_busy (look_at before a)) || r) e ∙ ap (λ z. not z || false) was)
+
+  -- a LUN begins work by the looks where it does in the model
+  pub work_between : (lun : ℕ) → lun < 4 → c.ce < targets → lun < g.luns → begins_work g past (Cyc c) (at_lun c.ce lun) ≡ begins_between c before after lun
+  work_between lun lt p q =
+      ap (λ b. works g (Cyc c ∷ past) (at_lun c.ce lun) && (not (works g past (at_lun c.ce lun)) || (b && is_reset c))) (eq-eqb c.ce c.ce refl)
+      ∙ ap (λ b. b && (not (works g past (at_lun c.ce lun)) || is_reset c)) (sym (busy_there g targets (Cyc c ∷ past) c.ce lun p q) ∙ sym (saw.busy lun lt))
+      ∙ ap (λ b. is_busy (look_at after lun) && (not b || is_reset c)) (sym (busy_there g targets past c.ce lun p q) ∙ sym (sees.busy lun lt))
+
+  -- and of another target none does
+  pub work_elsewhere : (x : Lun) → (c.ce ≡ x.ce → ⊥) → begins_work g past (Cyc c) x ≡ false
+  work_elsewhere x away =
+      ap (λ b. works g (Cyc c ∷ past) x && (not (works g past x) || (b && is_reset c))) (ne_eqb c.ce x.ce away)
+      ∙ ap (λ b. b && (not (works g past x) || false))
+      (cycle_busy g past c x ∙ ap (λ b. works g past x || (b && starts_by g past x (target_cycle c.kind c.byte))) (ne_eqb c.ce x.ce away) ∙ or_nothing (works g past x))
+      ∙ never (works g past x)
 
   -- an output begins none
   pub output_begins : (lun : ℕ) → lun < 4 → c.kind ≡ Dout → begins_between c before after lun ≡ false

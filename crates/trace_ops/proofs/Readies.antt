@@ -1,9 +1,11 @@
 -- What a ready of a legal trace of the base profile does to who is at work where.
-use Rattle.std.proofs.Common.{◌≡◌, ◌⊎◌, inl, inr, ℕ, zero, suc, ◌<◌, ◌==◌, Bool, true, false, ◌&&◌, ◌||◌, cond, List, ◌∷◌, Option, Some, None, is_some, refl, sym, ap, ◌∙◌, subst, arith, length, ne_eqb}
+use Rattle.std.proofs.Common.{◌≡◌, ◌⊎◌, inl, inr, ℕ, zero, suc, ◌<◌, ◌==◌, Bool, true, false, ◌&&◌, ◌||◌, cond, List, ◌∷◌, Option, Some, None, is_some, refl, sym, ap, ◌∙◌, subst, arith, length, ne_eqb, ◌+◌, ◌++◌, [], ◌≤◌}
 use Rattle.std.specs.Prelude.{slice_get}
 use Rattle.nand_geometry.specs.declared.parts.Parts.{Parts}
 use Rattle.onfi_cycle.specs.declared.item.Item.{Item}
 use Rattle.onfi_cycle.specs.declared.item.Item.TheVariants.{Rdy, Ard}
+use Rattle.onfi_cycle.specs.declared.lun.Lun.{Lun}
+use Rattle.onfi_cycle.specs.Working.{IsLun}
 use Rattle.trace_ops.specs.declared.change.Change.TheVariants.{End}
 use Rattle.trace_ops.specs.declared.judged.Judged.{Judged}
 use Rattle.trace_ops.specs.declared.looks.Looks.{Looks}
@@ -15,16 +17,18 @@ use Rattle.trace_ops.specs.declared.places.Places.{Places}
 use Rattle.trace_ops.specs.declared.role.Role.{Role}
 use Rattle.trace_ops.specs.declared.role.Role.TheVariants as role
 use Rattle.trace_ops.specs.Operation.{changed_if}
+use Rattle.trace_ops.specs.AtWork.{begins_work, ended_at}
 use Rattle.trace_ops.specs.Listing.{Listing, found, worker, op_of, new_one, with_new, is_address, ended_if, ended_on, all_ended, begins_by, is_input_to_chip, works_as_foreign, begun_on, all_begun, role_by, selected_by, selected_on, all_selected, with_ends, owner_in, mark_in, listed}
 use Rattle.trace_ops.proofs.Pieces.{newest_by, listed_newest, found_below}
 use Rattle.trace_ops.proofs.Walks.{came, length_ends}
 use Rattle.trace_ops.proofs.Within.{AreWithin}
 use Rattle.trace_ops.proofs.AtWork.{Alike, alike_on, Tells, tells_alike, tells_same, tells_new}
 use Rattle.trace_ops.proofs.Cycles.{Resting, resting_alike}
+use Rattle.trace_ops.proofs.Dated.{Dated, dated_alike, dated_later, dated_new, dated_end, dated_turn}
 use Rattle.trace_ops.proofs.Domestic.{Every, every_at, every_new, Domestic, FitsItem, ready_domestic, domestic_came, domestic_listed}
 use Rattle.trace_ops.proofs.Legal.{permitted_as, busy_of, busy_ready}
 use Rattle.trace_ops.proofs.Quietly.{came_alike, rest_alike}
-use Rattle.trace_ops.proofs.Turns.{put_at, put_own, put_other, same_lun, ended_ce, ended_start, workers_with, ops_with, tells_end}
+use Rattle.trace_ops.proofs.Turns.{put_at, put_own, put_other, same_lun, ended_ce, ended_start, workers_with, ops_with, tells_end, tells_off, not_busy, unworked}
 
 -- an item that is no cycle: it begins no work, selects nothing, and brings no byte
 pub record IsReady (j : Judged) : Type 0 where
@@ -147,6 +151,20 @@ module _ (j : Judged) (l : Listing) (ready : IsReady j) where
       subst (λ (w : List (Option ℕ)). Tells busy w (listed j l).ops) (sym workers_after)
       (tells_alike busy l.places.workers (with_new owner j (with_ends j l)).ops (listed j l).ops (more_alike all) (tells_by busy owner tells))
 
+  dated_by : (g : Parts) (targets : ℕ) (past : List Item) (marks : List ℕ) (bound : ℕ) (x : Option ℕ) → Dated g targets past marks bound (with_ends j l).ops →
+      Dated g targets past marks bound (with_new x j (with_ends j l)).ops
+  dated_by g targets past marks bound None dated =
+      dated_new g targets past marks bound (with_ends j l).ops newcomer (ready.start (op_of (with_ends j l).ops (found l.places.newest j.ce)))
+      (ready.end (op_of (with_ends j l).ops (found l.places.newest j.ce))) dated
+  dated_by g targets past marks bound (Some m) dated = dated
+
+  pub ready_dated_after : (g : Parts) (targets : ℕ) (past : List Item) (i : Item) (marks : List ℕ) (bound : ℕ) → Every (λ k. Domestic) l.ops →
+      ((x : Lun) → IsLun g targets x → begins_work g past i x ≡ false) → Dated g targets past marks bound (with_ends j l).ops →
+      Dated g targets (i ∷ past) (marks ++ (mark_in j (with_ends j l) ∷ [])) bound (listed j l).ops
+  ready_dated_after g targets past i marks bound known none dated =
+      dated_turn g targets past i marks mark bound (listed j l).ops none
+      (dated_alike g targets past marks bound (with_new owner j (with_ends j l)).ops (listed j l).ops (more_alike known) (dated_by g targets past marks bound owner dated))
+
   newest_after : (listed j l).places.newest ≡ l.places.newest
   newest_after = listed_newest j l ∙ ready.newest owner j.ce (length (with_ends j l).ops) l.places.newest
 
@@ -188,34 +206,13 @@ ends_near one_lun n ce (suc (suc zero)) fail before after lt p ops = refl
 ends_near one_lun n ce (suc (suc (suc zero))) fail before after lt p ops = refl
 ends_near one_lun n ce (suc (suc (suc (suc lun)))) fail before after lt p ops = absurd (omega (arith, lt))
 
-off_same : (busy : ℕ → ℕ → Bool) (ce lun : ℕ) → busy ce lun ≡ false → (a b : ℕ) → put_at busy ce lun false a b ≡ busy a b
-off_same busy ce lun off a b = at (same_lun a ce b lun)
-  where
-    at : ((a ≡ ce) × (b ≡ lun)) ⊎ ((a ≡ ce) → (b ≡ lun) → ⊥) → put_at busy ce lun false a b ≡ busy a b
-    at (inl both) =
-        ap (λ x. put_at busy ce lun false x b) both.0 ∙ ap (put_at busy ce lun false ce) both.1 ∙ put_own busy ce lun false
-        ∙ sym (ap (λ x. busy x b) both.0 ∙ ap (busy ce) both.1 ∙ off)
-    at (inr apart) = put_other busy ce lun false a b apart
-
-not_busy : (busy : ℕ → ℕ → Bool) (ce lun : ℕ) → (busy ce lun ≡ true → ⊥) → busy ce lun ≡ false
-not_busy busy ce lun never = at (busy ce lun) refl
-  where
-    at : (b : Bool) → busy ce lun ≡ b → busy ce lun ≡ false
-    at true e = absurd (never e)
-    at false e = e
-
 -- the worker of a LUN, if it has one, ends, and the LUN is busy no more
 ended_worker : (busy : ℕ → ℕ → Bool) (ce lun : ℕ) (e : Ending) (p : Places) (ops : List Operation) → lun < 4 → Tells busy p.workers ops →
     Tells (put_at busy ce lun false) p.workers (changed_if (worker p ce lun) (End e) ops)
 ended_worker busy ce lun e p ops low tells = at (worker p ce lun) refl
   where
-    none : {m : ℕ} → None ≡ Some m → ⊥
-    none h = cc
-
     at : (w : Option ℕ) → worker p ce lun ≡ w → Tells (put_at busy ce lun false) p.workers (changed_if w (End e) ops)
-    at None h =
-        tells_same busy (put_at busy ce lun false) p.workers ops
-        (off_same busy ce lun (not_busy busy ce lun (λ b. none (sym h ∙ (tells.working ce lun b).is)))) tells
+    at None h = tells_off busy p.workers ops ce lun (unworked busy p.workers ops ce lun h tells) tells
     at (Some m) h = tells_end busy p.workers ops ce lun m e low h tells
 
 pub ready_ends : (g : Parts) (targets : ℕ) (past : List Item) (one_lun : Bool) (n ce lun : ℕ) (fail : Bool) (before after : Looks) (l : Listing) → (lun < 4) ⊎ (lun < 4 → ⊥) →
@@ -227,9 +224,8 @@ ready_ends g targets past one_lun n ce lun fail before after l (inl low) tells =
     (busy_ready g targets past ce lun fail) (ended_worker (busy_of g targets past) ce lun (ends.Ready n fail) l.places l.ops low tells))
 ready_ends g targets past one_lun n ce lun fail before after l (inr high) tells =
     subst (λ (ops : List Operation). Tells (busy_of g targets (Rdy ce lun fail ∷ past)) l.places.workers ops) (sym (ends_far one_lun n ce lun fail before after high l.places l.ops))
-    (tells_same (busy_of g targets past) (busy_of g targets (Rdy ce lun fail ∷ past)) l.places.workers l.ops
-    (λ a b. busy_ready g targets past ce lun fail a b
-    ∙ off_same (busy_of g targets past) ce lun (not_busy (busy_of g targets past) ce lun (λ h. high (tells.small ce lun h).1)) a b) tells)
+    (tells_same (put_at (busy_of g targets past) ce lun false) (busy_of g targets (Rdy ce lun fail ∷ past)) l.places.workers l.ops (busy_ready g targets past ce lun fail)
+    (tells_off (busy_of g targets past) l.places.workers l.ops ce lun (not_busy (busy_of g targets past) ce lun (λ h. high (tells.small ce lun h).1)) tells))
 
 -- an end leaves what rests
 pub resting_ends : (newest : List (Option ℕ)) (past : List Item) (w : Option ℕ) (e : Ending) (ops : List Operation) → Every (Resting newest past) ops → Every (Resting newest past) (changed_if w (End e) ops)
@@ -245,3 +241,17 @@ ready_resting newest past one_lun n ce lun fail before after l (inl low) all =
     (resting_ends newest past (worker l.places ce lun) (ends.Ready n fail) l.ops all)
 ready_resting newest past one_lun n ce lun fail before after l (inr high) all =
     subst (λ (ops : List Operation). Every (Resting newest past) ops) (sym (ends_far one_lun n ce lun fail before after high l.places l.ops)) all
+
+dated_if : (g : Parts) (targets : ℕ) (past : List Item) (marks : List ℕ) (bound : ℕ) (w : Option ℕ) (e : Ending) (ops : List Operation) → ended_at e < bound → Dated g targets past marks bound ops →
+    Dated g targets past marks bound (changed_if w (End e) ops)
+dated_if g targets past marks bound None e ops low dated = dated
+dated_if g targets past marks bound (Some m) e ops low dated = dated_end g targets past marks bound ops m e low dated
+
+pub ready_dated : (g : Parts) (targets : ℕ) (past : List Item) (marks : List ℕ) (one_lun : Bool) (n ce lun : ℕ) (fail : Bool) (before after : Looks) (l : Listing) → (lun < 4) ⊎ (lun < 4 → ⊥) →
+    Dated g targets past marks n l.ops → Dated g targets past marks (n + 1) (with_ends (permitted_as one_lun n (Rdy ce lun fail) before after) l).ops
+ready_dated g targets past marks one_lun n ce lun fail before after l (inl low) dated =
+    subst (λ (ops : List Operation). Dated g targets past marks (n + 1) ops) (sym (ends_near one_lun n ce lun fail before after low l.places l.ops))
+    (dated_if g targets past marks (n + 1) (worker l.places ce lun) (ends.Ready n fail) l.ops (omega arith) (dated_later g targets past marks n (n + 1) l.ops (omega arith) dated))
+ready_dated g targets past marks one_lun n ce lun fail before after l (inr high) dated =
+    subst (λ (ops : List Operation). Dated g targets past marks (n + 1) ops) (sym (ends_far one_lun n ce lun fail before after high l.places l.ops))
+    (dated_later g targets past marks n (n + 1) l.ops (omega arith) dated)

@@ -334,23 +334,51 @@ workers_with j k lun p = slice_set p.workers (lun_place j.ce lun) (Some k)
 abbrev pub ops_with : Judged → (k lun : ℕ) → Places → List Operation → List Operation
 ops_with j k lun p ops = changed_at k (Begin j.number lun) (abandoned_by j k (worker p j.ce lun) ops)
 
-pub tells_begun : (busy : ℕ → ℕ → Bool) (j : Judged) (k lun : ℕ) (p : Places) (ops : List Operation) (o : Operation) → j.ce < 4 → lun < 4 → slice_get ops k ≡ Some o → o.ce ≡ j.ce →
-    is_some o.start ≡ false → Tells busy p.workers ops → Tells (put_at busy j.ce lun true) (workers_with j k lun p) (ops_with j k lun p ops)
-tells_begun busy j k lun p ops o target few is on new tells = at (worker p j.ce lun) refl
+-- the LUN is free for work, and the operation that is to begin it is as it was
+pub record Freed (busy : ℕ → ℕ → Bool) (j : Judged) (k lun : ℕ) (p : Places) (ops : List Operation) (o : Operation) : Type 0 where
+  pub tells : Tells (put_at busy j.ce lun false) p.workers (abandoned_by j k (worker p j.ce lun) ops)
+  pub is : slice_get (abandoned_by j k (worker p j.ce lun) ops) k ≡ Some o
+
+-- a LUN without work is as it is told to be
+off_same : (busy : ℕ → ℕ → Bool) (ce lun : ℕ) → busy ce lun ≡ false → (a b : ℕ) → put_at busy ce lun false a b ≡ busy a b
+off_same busy ce lun off a b = at (same_lun a ce b lun)
+  where
+    at : ((a ≡ ce) × (b ≡ lun)) ⊎ ((a ≡ ce) → (b ≡ lun) → ⊥) → put_at busy ce lun false a b ≡ busy a b
+    at (inl both) =
+        ap (λ x. put_at busy ce lun false x b) both.0 ∙ ap (put_at busy ce lun false ce) both.1 ∙ put_own busy ce lun false
+        ∙ sym (ap (λ x. busy x b) both.0 ∙ ap (busy ce) both.1 ∙ off)
+    at (inr apart) = put_other busy ce lun false a b apart
+
+pub not_busy : (busy : ℕ → ℕ → Bool) (ce lun : ℕ) → (busy ce lun ≡ true → ⊥) → busy ce lun ≡ false
+not_busy busy ce lun never = at (busy ce lun) refl
+  where
+    at : (b : Bool) → busy ce lun ≡ b → busy ce lun ≡ false
+    at true e = absurd (never e)
+    at false e = e
+
+pub tells_off : (busy : ℕ → ℕ → Bool) (workers : List (Option ℕ)) (ops : List Operation) (ce lun : ℕ) → busy ce lun ≡ false → Tells busy workers ops → Tells (put_at busy ce lun false) workers ops
+tells_off busy workers ops ce lun off tells = tells_same busy (put_at busy ce lun false) workers ops (off_same busy ce lun off) tells
+
+-- a LUN that has no worker isn't busy
+pub unworked : (busy : ℕ → ℕ → Bool) (workers : List (Option ℕ)) (ops : List Operation) (ce lun : ℕ) → worker_in workers ce lun ≡ None → Tells busy workers ops → busy ce lun ≡ false
+unworked busy workers ops ce lun h tells = not_busy busy ce lun (λ b. none (sym h ∙ (tells.working ce lun b).is))
   where
     none : {m : ℕ} → None ≡ Some m → ⊥
     none e = cc
 
-    at : (w : Option ℕ) → worker p j.ce lun ≡ w → Tells (put_at busy j.ce lun true) (workers_with j k lun p) (changed_at k (Begin j.number lun) (abandoned_by j k w ops))
-    at None e = tells_begin busy p.workers ops j.ce lun k j.number o target few (rests (busy j.ce lun) refl) is on new tells
-      where
-        rests : (b : Bool) → busy j.ce lun ≡ b → busy j.ce lun ≡ false
-        rests true h = absurd (none (sym e ∙ (tells.working j.ce lun h).is))
-        rests false h = h
-    at (Some old) e =
-        subst (λ (ops' : List Operation). Tells (put_at busy j.ce lun true) (workers_with j k lun p) (changed_at k (Begin j.number lun) ops')) (sym chosen)
-        (tells_same (put_at (put_at busy j.ce lun false) j.ce lun true) (put_at busy j.ce lun true) (workers_with j k lun p) _ (abandoned_busy busy j.ce lun true)
-        (tells_begin (put_at busy j.ce lun false) p.workers (changed_at old (End (ends.Abandoned j.number)) ops) j.ce lun k j.number o target few (put_own busy j.ce lun false) still_there on new ended))
+pub freed : (busy : ℕ → ℕ → Bool) (j : Judged) (k lun : ℕ) (p : Places) (ops : List Operation) (o : Operation) → lun < 4 → slice_get ops k ≡ Some o → is_some o.start ≡ false →
+    Tells busy p.workers ops → Freed busy j k lun p ops o
+freed busy j k lun p ops o few is new tells = at (worker p j.ce lun) refl
+  where
+    of : (more : List Operation) → abandoned_by j k (worker p j.ce lun) ops ≡ more → Tells (put_at busy j.ce lun false) p.workers more → slice_get more k ≡ Some o → Freed busy j k lun p ops o
+    of more e t h = record {
+      tells = subst (λ (x : List Operation). Tells (put_at busy j.ce lun false) p.workers x) (sym e) t;
+      is = ap (λ (x : List Operation). slice_get x k) e ∙ h;
+    }
+
+    at : (w : Option ℕ) → worker p j.ce lun ≡ w → Freed busy j k lun p ops o
+    at None e = of ops (ap (λ w. abandoned_by j k w ops) e) (tells_off busy p.workers ops j.ce lun (unworked busy p.workers ops j.ce lun e tells) tells) is
+    at (Some old) e = of (changed_at old (End (ends.Abandoned j.number)) ops) (ap (λ w. abandoned_by j k w ops) e ∙ chosen) (tells_end busy p.workers ops j.ce lun old (ends.Abandoned j.number) few e tells) still_there
       where
         began : Began ops old j.ce lun
         began = tells.began j.ce lun old few e
@@ -361,9 +389,6 @@ tells_begun busy j k lun p ops o target few is on new tells = at (worker p j.ce 
         chosen : abandoned_by j k (Some old) ops ≡ changed_at old (End (ends.Abandoned j.number)) ops
         chosen = ap (λ b. cond b ops (changed_at old (End (ends.Abandoned j.number)) ops)) (ne_eqb old k apart)
 
-        ended : Tells (put_at busy j.ce lun false) p.workers (changed_at old (End (ends.Abandoned j.number)) ops)
-        ended = tells_end busy p.workers ops j.ce lun old (ends.Abandoned j.number) few e tells
-
         to : To old k (End (ends.Abandoned j.number)) ops o
         to = changed_to old k (End (ends.Abandoned j.number)) ops o is
 
@@ -373,3 +398,9 @@ tells_begun busy j k lun p ops o target few is on new tells = at (worker p j.ce 
             by_place : ((k ≡ old) × (to.new ≡ changed (End (ends.Abandoned j.number)) o)) ⊎ ((k ≡ old → ⊥) × (to.new ≡ o)) → slice_get (changed_at old (End (ends.Abandoned j.number)) ops) k ≡ Some o
             by_place (inl both) = absurd (apart (sym both.0))
             by_place (inr away) = to.is_there ∙ ap Some away.1
+
+pub tells_begun : (busy : ℕ → ℕ → Bool) (j : Judged) (k lun : ℕ) (p : Places) (ops : List Operation) (o : Operation) → j.ce < 4 → lun < 4 → o.ce ≡ j.ce → is_some o.start ≡ false →
+    Freed busy j k lun p ops o → Tells (put_at busy j.ce lun true) (workers_with j k lun p) (ops_with j k lun p ops)
+tells_begun busy j k lun p ops o target few on new free =
+    tells_same (put_at (put_at busy j.ce lun false) j.ce lun true) (put_at busy j.ce lun true) (workers_with j k lun p) (ops_with j k lun p ops) (abandoned_busy busy j.ce lun true)
+    (tells_begin (put_at busy j.ce lun false) p.workers (abandoned_by j k (worker p j.ce lun) ops) j.ce lun k j.number o target few (put_own busy j.ce lun false) free.is on new free.tells)

@@ -1,8 +1,8 @@
 -- In a legal trace of the base profile, with its readies written, the work of operations is the model's.
-use Rattle.std.proofs.Common.{◌≡◌, ℕ, zero, suc, ◌+◌, ◌≤◌, Bool, true, false, ◌&&◌, not, List, [], ◌∷◌, ◌++◌, Some, None, is_some, refl, sym, ap, ◌∙◌, subst, length, reverse, replicate}
+use Rattle.std.proofs.Common.{◌≡◌, ℕ, zero, suc, ◌+◌, ◌≤◌, Bool, true, false, ◌&&◌, not, List, [], ◌∷◌, ◌++◌, Some, None, is_some, refl, sym, ap, ◌∙◌, subst, length, reverse, replicate, arith, ◌<◌, cond, Option}
 use Rattle.std.specs.Prelude.{slice_get}
 use Rattle.std.proofs.lemmas.Bool.{and_parts, and_from}
-use Rattle.std.proofs.lemmas.List.{reverse-append, append_assoc}
+use Rattle.std.proofs.lemmas.List.{reverse-append, append_assoc, append-nil, length-append}
 use Rattle.nand_geometry.specs.declared.parts.Parts.{Parts}
 use Rattle.nand_geometry.specs.Optional.{no_optional}
 use Rattle.onfi_cycle.specs.declared.item.Item.{Item}
@@ -14,37 +14,67 @@ use Rattle.onfi_cycle.specs.Permitted.{broken, is_permitted, is_legal}
 use Rattle.onfi_cycle.specs.Sequence.{target_of}
 use Rattle.onfi_cycle.specs.Working.{IsLun}
 use Rattle.onfi_cycle.proofs.Others.{permitted_none}
+use Rattle.trace_faults.specs.declared.beginning.Beginning.TheVariants.{Start}
 use Rattle.trace_faults.specs.declared.readies.Readies.TheVariants.{Written}
 use Rattle.trace_faults.specs.declared.verdict.Verdict.{Verdict}
-use Rattle.trace_faults.specs.Middle.{Seen, seen_after}
+use Rattle.trace_faults.specs.Middle.{Seen, seen_after, first_seen_as}
+use Rattle.trace_faults.proofs.Judged.{fresh_is_on}
+use Rattle.trace_ops.specs.declared.judged.Judged.{Judged}
 use Rattle.trace_ops.specs.declared.looks.Looks.{Looks}
 use Rattle.trace_ops.specs.declared.operation.Operation.{Operation}
-use Rattle.trace_ops.specs.AtWork.{is_at_work, IsAtWork, WorksOn, AreAtWork}
-use Rattle.trace_ops.specs.Listing.{Listing, found, lun_place, looks_of, nothing_listed, listed, judged_as, ops_from, with_ends, mark_in}
-use Rattle.trace_ops.proofs.Pieces.{Stands, came_to, stands_on}
+use Rattle.trace_ops.specs.AtWork.{is_at_work, IsAtWork, WorksOn, AreAtWork, BeginAsLuns, AreApart}
+use Rattle.trace_ops.specs.Listing.{Listing, found, lun_place, looks_of, nothing_listed, has_one_lun, listed, judged_as, ops_from, marks_from, ops_of, marks_of, with_ends, mark_in}
+use Rattle.trace_ops.proofs.Pieces.{Stands, came_to, stands_on, nothing_stands}
 use Rattle.trace_ops.proofs.Spans.{same_some}
-use Rattle.trace_ops.proofs.Walks.{within_listed}
+use Rattle.trace_ops.proofs.Walks.{within_listed, nobody_within}
 use Rattle.trace_ops.proofs.Within.{AreWithin}
 use Rattle.trace_ops.proofs.AtWork.{worker_in, Tells, tells_same}
-use Rattle.trace_ops.proofs.Cycles.{Resting, CycleAt, few_or, after_tells, after_resting, after_domestic}
+use Rattle.trace_ops.proofs.Cycles.{Resting, CycleAt, few_or, after_tells, after_resting, after_dated, after_domestic}
+use Rattle.trace_ops.proofs.Dated.{Dated, dated_later}
 use Rattle.trace_ops.proofs.Domestic.{Every, Domestic}
-use Rattle.trace_ops.proofs.Legal.{OnPast, is_said, on_past_on, permitted_as, busy_of, sees_of, works_there, busy_there, busy_array_ready}
-use Rattle.trace_ops.proofs.Readies.{ready_is, array_ready_is, ready_domestic_after, ready_tells_after, ready_resting_after, ready_ends, ready_resting}
+use Rattle.trace_ops.proofs.Legal.{OnPast, is_said, on_past_on, permitted_as, busy_of, sees_of, works_there, busy_there, busy_array_ready, ready_works, array_ready_works}
+use Rattle.trace_ops.proofs.Readies.{ready_is, array_ready_is, ready_domestic_after, ready_tells_after, ready_resting_after, ready_dated_after, ready_ends, ready_resting, ready_dated}
+use Rattle.trace_ops.proofs.Wholes.{start_knows_all}
 
 -- all that is known of a listing after a legal past
-pub record Worked (g : Parts) (targets : ℕ) (past : List Item) (l : Listing) : Type 0 where
+pub record Worked (g : Parts) (targets n : ℕ) (past : List Item) (marks : List ℕ) (l : Listing) : Type 0 where
   pub domestic : Every (λ k. Domestic) l.ops
   pub resting : Every (Resting l.places.newest past) l.ops
   pub tells : Tells (busy_of g targets past) l.places.workers l.ops
+  pub number : n ≡ length past
+  pub many : length marks ≡ length past
+  pub dated : Dated g targets past marks n l.ops
+
+-- what is told of the operations of a legal trace
+pub record Told (g : Parts) (targets : ℕ) (past : List Item) (marks : List ℕ) (ops : List Operation) : Type 0 where
+  pub at_work : AreAtWork g targets past ops
+  pub begin : BeginAsLuns g targets past marks ops
+  pub apart : AreApart ops
 
 -- ---- one item
 
 module _ (g : Parts) (targets : ℕ) (few : targets ≤ 4) (luns : g.luns ≤ 4) (base : g.optional ≡ no_optional) where
-  module _ (one_lun : Bool) (n : ℕ) (past : List Item) (l : Listing) (pieces : ℕ → List TargetCycle) (within : AreWithin (length l.ops) l.places) (stands : Stands past l pieces)
-      (worked : Worked g targets past l) (legal : is_legal g targets past ≡ true) where
+  module _ (one_lun : Bool) (n : ℕ) (past : List Item) (marks : List ℕ) (l : Listing) (pieces : ℕ → List TargetCycle) (within : AreWithin (length l.ops) l.places) (stands : Stands past l pieces)
+      (worked : Worked g targets n past marks l) (legal : is_legal g targets past ≡ true) where
+    abbrev WorkedAs : Item → Judged → Type 0
+    WorkedAs i j = Worked g targets (n + 1) (i ∷ past) (marks ++ (mark_in j (with_ends j l) ∷ [])) (listed j l)
+
+    one_more : (i : Item) → n + 1 ≡ length (i ∷ past)
+    one_more i = (let same = worked.number in omega (arith, same))
+
+    marked : (i : Item) (k : ℕ) → length (marks ++ (k ∷ [])) ≡ length (i ∷ past)
+    marked i k = (let long = length-append marks (k ∷ []) in let same = worked.many in omega (arith, long, same))
+
     worked_by : (seen : Seen) (later : List Item) → OnPast g targets seen past → (i : Item) → broken g targets past i ≡ None →
-        Worked g targets (i ∷ past) (listed (permitted_as one_lun n i (looks_of seen.state.bus (target_of i)) (looks_of (seen_after Written seen i later).state.bus (target_of i))) l)
-    worked_by seen later on (Cyc c) h = record { domestic = after_domestic g targets n one_lun past c before after l pieces at; resting = after_resting g targets n one_lun past c before after l pieces at; tells = after_tells g targets n one_lun past c before after l pieces at }
+        WorkedAs i (permitted_as one_lun n i (looks_of seen.state.bus (target_of i)) (looks_of (seen_after Written seen i later).state.bus (target_of i)))
+    worked_by seen later on (Cyc c) h = record {
+      domestic = after_domestic g targets n one_lun past marks c before after l pieces at;
+      resting = after_resting g targets n one_lun past marks c before after l pieces at;
+      tells = after_tells g targets n one_lun past marks c before after l pieces at;
+      number = one_more (Cyc c);
+      many = marked (Cyc c) _;
+      dated = after_dated g targets n one_lun past marks c before after l pieces at;
+    }
       where
         before : Looks
         before = looks_of seen.state.bus c.ce
@@ -52,7 +82,7 @@ module _ (g : Parts) (targets : ℕ) (few : targets ≤ 4) (luns : g.luns ≤ 4)
         after : Looks
         after = looks_of (seen_after Written seen (Cyc c) later).state.bus c.ce
 
-        at : CycleAt g targets past c (looks_of seen.state.bus c.ce) (looks_of (seen_after Written seen (Cyc c) later).state.bus c.ce) l pieces
+        at : CycleAt g targets n past marks c (looks_of seen.state.bus c.ce) (looks_of (seen_after Written seen (Cyc c) later).state.bus c.ce) l pieces
         at = record {
           few = few;
           luns = luns;
@@ -66,6 +96,9 @@ module _ (g : Parts) (targets : ℕ) (few : targets ≤ 4) (luns : g.luns ≤ 4)
           domestic = worked.domestic;
           resting = worked.resting;
           tells = worked.tells;
+          number = worked.number;
+          many = worked.many;
+          dated = worked.dated;
         }
     worked_by seen later on (Rdy ce lun fail) h =
         let before = looks_of seen.state.bus ce in
@@ -76,6 +109,11 @@ module _ (g : Parts) (targets : ℕ) (few : targets ≤ 4) (luns : g.luns ≤ 4)
           domestic = ready_domestic_after j l is worked.domestic;
           resting = ready_resting_after j l is (Rdy ce lun fail ∷ past) within worked.domestic (ready_resting l.places.newest (Rdy ce lun fail ∷ past) one_lun n ce lun fail before after l (few_or lun) worked.resting);
           tells = ready_tells_after j l is (busy_of g targets (Rdy ce lun fail ∷ past)) worked.domestic (ready_ends g targets past one_lun n ce lun fail before after l (few_or lun) worked.tells);
+          number = one_more (Rdy ce lun fail);
+          many = marked (Rdy ce lun fail) (mark_in j (with_ends j l));
+          dated =
+              ready_dated_after j l is g targets past (Rdy ce lun fail) marks (n + 1) worked.domestic (λ x there'. ready_works g past ce lun fail x)
+              (ready_dated g targets past marks one_lun n ce lun fail before after l (few_or lun) worked.dated);
         }
     worked_by seen later on (Ard ce lun) h =
         let before = looks_of seen.state.bus ce in
@@ -88,12 +126,17 @@ module _ (g : Parts) (targets : ℕ) (few : targets ≤ 4) (luns : g.luns ≤ 4)
           tells =
               ready_tells_after j l is (busy_of g targets (Ard ce lun ∷ past)) worked.domestic
               (tells_same (busy_of g targets past) (busy_of g targets (Ard ce lun ∷ past)) l.places.workers l.ops (busy_array_ready g targets past ce lun) worked.tells);
+          number = one_more (Ard ce lun);
+          many = marked (Ard ce lun) (mark_in j (with_ends j l));
+          dated =
+              ready_dated_after j l is g targets past (Ard ce lun) marks (n + 1) worked.domestic (λ x there'. array_ready_works g past ce lun x)
+              (dated_later g targets past marks n (n + 1) l.ops (omega arith) worked.dated);
         }
 
     pub worked_on : (seen : Seen) (later : List Item) → OnPast g targets seen past → (i : Item) → broken g targets past i ≡ None →
-        Worked g targets (i ∷ past) (listed (judged_as Written one_lun seen n (target_of i) i later) l)
+        WorkedAs i (judged_as Written one_lun seen n (target_of i) i later)
     worked_on seen later on i h =
-        subst (λ (v : Verdict). Worked g targets (i ∷ past) (listed (record {
+        subst (λ (v : Verdict). WorkedAs i (record {
           number = n;
           item = i;
           ce = target_of i;
@@ -101,7 +144,7 @@ module _ (g : Parts) (targets : ℕ) (few : targets ≤ 4) (luns : g.luns ≤ 4)
           said = v;
           before = looks_of seen.state.bus (target_of i);
           after = looks_of (seen_after Written seen i later).state.bus (target_of i);
-        }) l)) (sym (is_said g targets seen past i later on h)) (worked_by seen later on i h)
+        })) (sym (is_said g targets seen past i later on h)) (worked_by seen later on i h)
 
   -- ---- a trace
 
@@ -117,8 +160,8 @@ module _ (g : Parts) (targets : ℕ) (few : targets ≤ 4) (luns : g.luns ≤ 4)
   split_work true false h = (refl, refl)
   split_work false b h = cc
 
-  at_work : (past : List Item) (l : Listing) → Worked g targets past l → AreAtWork g targets past l.ops
-  at_work past l worked = record { busy = on_busy; one = on_one; works = on_works }
+  at_work : (n : ℕ) (past : List Item) (marks : List ℕ) (l : Listing) → Worked g targets n past marks l → AreAtWork g targets past l.ops
+  at_work n past marks l worked = record { busy = on_busy; one = on_one; works = on_works }
     where
       tells : Tells (busy_of g targets past) l.places.workers l.ops
       tells = worked.tells
@@ -158,21 +201,33 @@ module _ (g : Parts) (targets : ℕ) (few : targets ≤ 4) (luns : g.luns ≤ 4)
             at_work = record { operation = o; is_there = is; target = refl; lun = place.is; at_work = at };
           }
 
-  pub works_from : (one_lun : Bool) (items : List Item) (seen : Seen) (n : ℕ) (past : List Item) (l : Listing) (pieces : ℕ → List TargetCycle) → OnPast g targets seen past →
-      AreWithin (length l.ops) l.places → Stands past l pieces → Worked g targets past l → is_legal g targets (reverse items ++ past) ≡ true →
-      AreAtWork g targets (reverse items ++ past) (ops_from Written one_lun seen n items l)
-  works_from one_lun [] seen n past l pieces on within stands worked legal = at_work past l worked
-  works_from one_lun (i ∷ items) seen n past l pieces on within stands worked legal =
+  told : (n : ℕ) (past : List Item) (marks : List ℕ) (l : Listing) → Worked g targets n past marks l → Told g targets past marks l.ops
+  told n past marks l worked = record {
+    at_work = at_work n past marks l worked;
+    begin = record { begins = worked.dated.begins; only = worked.dated.only };
+    apart = worked.dated.apart;
+  }
+
+  pub told_from : (one_lun : Bool) (items : List Item) (seen : Seen) (n : ℕ) (past : List Item) (marks : List ℕ) (l : Listing) (pieces : ℕ → List TargetCycle) → OnPast g targets seen past →
+      AreWithin (length l.ops) l.places → Stands past l pieces → Worked g targets n past marks l → is_legal g targets (reverse items ++ past) ≡ true →
+      Told g targets (reverse items ++ past) (marks ++ marks_from Written one_lun seen n items l) (ops_from Written one_lun seen n items l)
+  told_from one_lun [] seen n past marks l pieces on within stands worked legal =
+      subst (λ (ms : List ℕ). Told g targets past ms l.ops) (sym (append-nil marks)) (told n past marks l worked)
+  told_from one_lun (i ∷ items) seen n past marks l pieces on within stands worked legal =
       let j = judged_as Written one_lun seen n (target_of i) i items in
+      let k = mark_in j (with_ends j l) in
+      let after = seen_after Written seen i items in
       let turned = onto i items past in
       let legal' : is_legal g targets (reverse items ++ (i ∷ past)) ≡ true = ap (is_legal g targets) (sym turned) ∙ legal in
       let here = and_parts (is_permitted g targets past i) (is_legal g targets past) (legal_before (reverse items) (i ∷ past) legal') in
       let h = permitted_none g targets past i here.0 in
       let rest =
-      works_from one_lun items (seen_after Written seen i items) (n + 1) (i ∷ past) (listed j l) (came_to (mark_in j (with_ends j l)) i pieces) (on_past_on g targets seen past i items on h)
+      told_from one_lun items after (n + 1) (i ∷ past) (marks ++ (k ∷ [])) (listed j l) (came_to k i pieces) (on_past_on g targets seen past i items on h)
       (within_listed j l within) (stands_on Written one_lun g targets few seen n items past l pieces stands within i h)
-      (worked_on one_lun n past l pieces within stands worked here.1 seen items on i h) legal' in
-      subst (λ (p : List Item). AreAtWork g targets p (ops_from Written one_lun (seen_after Written seen i items) (n + 1) items (listed j l))) (sym turned) rest
+      (worked_on one_lun n past marks l pieces within stands worked here.1 seen items on i h) legal' in
+      subst (λ (p : List Item). Told g targets p (marks ++ (k ∷ marks_from Written one_lun after (n + 1) items (listed j l))) (ops_from Written one_lun after (n + 1) items (listed j l))) (sym turned)
+      (subst (λ (ms : List ℕ). Told g targets (reverse items ++ (i ∷ past)) ms (ops_from Written one_lun after (n + 1) items (listed j l)))
+      (append_assoc marks (k ∷ []) (marks_from Written one_lun after (n + 1) items (listed j l))) rest)
 
 -- ---- the beginning
 
@@ -184,7 +239,7 @@ nobody_works ce lun = none_found 16 (lun_place ce lun)
     none_found (suc count) zero = refl
     none_found (suc count) (suc k) = none_found count k
 
-pub nothing_worked : (g : Parts) (targets : ℕ) → Worked g targets [] nothing_listed
+pub nothing_worked : (g : Parts) (targets : ℕ) → Worked g targets 0 [] [] nothing_listed
 nothing_worked g targets = record {
   domestic = λ k o is. absurd (none is);
   resting = λ k o is. absurd (none is);
@@ -196,6 +251,14 @@ nothing_worked g targets = record {
     place = λ k o is started unended. absurd (none is);
     unended = λ k o is h. absurd (none is);
   };
+  number = refl;
+  many = refl;
+  dated = record {
+    begins = λ l n is h. absurd (off h);
+    only = λ k o n is h. absurd (none is);
+    ended = λ k o e is h. absurd (none is);
+    apart = λ k m o p s t is there' ce lun a b lt. absurd (none is);
+  };
 }
   where
     none : {o : Operation} → None ≡ Some o → ⊥
@@ -204,8 +267,17 @@ nothing_worked g targets = record {
     nobody : {k : ℕ} → None ≡ Some k → ⊥
     nobody h = cc
 
+    off : false ≡ true → ⊥
+    off e = cc
+
     idle : (ce lun : ℕ) → busy_of g targets [] ce lun ≡ true → ⊥
     idle ce lun h = off (works_there g targets [] ce lun h).works
-      where
-        off : false ≡ true → ⊥
-        off e = cc
+
+-- of a whole trace
+pub told_all : (g : Parts) (targets : ℕ) (items : List Item) → targets ≤ 4 → g.luns ≤ 4 → g.optional ≡ no_optional → is_legal g targets (reverse items) ≡ true →
+    Told g targets (reverse items) (marks_of Written Start g targets items) (ops_of Written Start g targets items)
+told_all g targets items few luns base legal =
+    let past = append-nil (reverse items) in
+    subst (λ (p : List Item). Told g targets p (marks_of Written Start g targets items) (ops_of Written Start g targets items)) past
+    (told_from g targets few luns base (has_one_lun g) items (first_seen_as Start g targets items) 0 [] [] nothing_listed (λ k. []) (record { on = fresh_is_on g targets items; knows = start_knows_all })
+    nobody_within nothing_stands (nothing_worked g targets) (ap (is_legal g targets) past ∙ legal))
