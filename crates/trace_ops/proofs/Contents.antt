@@ -152,7 +152,7 @@ content_command b closer byte d t was = record {
     none : (o : Opening) → None ≡ Some o → Opens b (closer_by b closer byte) o
     none o h = cc
 
-one_less : (x : Option Opening) (o : Opening) → one_address_more x ≡ Some o → (y : Opening) × (x ≡ Some y) × (y.opener ≡ o.opener)
+pub one_less : (x : Option Opening) (o : Opening) → one_address_more x ≡ Some o → (y : Opening) × (x ≡ Some y) × (y.opener ≡ o.opener)
 one_less None o h = cc
 one_less (Some y) o h = (y, refl, ap (λ (z : Opening). z.opener) (same_some h))
 

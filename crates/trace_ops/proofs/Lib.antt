@@ -10,3 +10,14 @@ pub mod Contents
 pub mod Tails
 pub mod Pieces
 pub mod Chains
+pub mod Starts
+pub mod AtWork
+pub mod Turns
+pub mod Domestic
+pub mod Legal
+pub mod Quietly
+pub mod Addressed
+pub mod Cycles
+pub mod Readies
+pub mod Works
+pub mod Dated

@@ -42,19 +42,19 @@ use Rattle.trace_ops.proofs.Contents.{Content, closer_by, content_output, conten
 
 -- ---- the newest of each target
 
-found_same : (places : List (Option ℕ)) (a k : ℕ) → a < length places → found (slice_set places a (Some k)) a ≡ Some k
+pub found_same : (places : List (Option ℕ)) (a k : ℕ) → a < length places → found (slice_set places a (Some k)) a ≡ Some k
 found_same [] a k lt = absurd (omega (arith, lt))
 found_same (x ∷ places) zero k lt = refl
 found_same (x ∷ places) (suc a) k lt = found_same places a k (omega (arith, lt))
 
-found_other : (places : List (Option ℕ)) (a b : ℕ) (x : Option ℕ) → (a ≡ b → ⊥) → found (slice_set places a x) b ≡ found places b
+pub found_other : (places : List (Option ℕ)) (a b : ℕ) (x : Option ℕ) → (a ≡ b → ⊥) → found (slice_set places a x) b ≡ found places b
 found_other [] a b x apart = refl
 found_other (y ∷ places) zero zero x apart = absurd (apart refl)
 found_other (y ∷ places) zero (suc b) x apart = refl
 found_other (y ∷ places) (suc a) zero x apart = refl
 found_other (y ∷ places) (suc a) (suc b) x apart = found_other places a b x (λ e. apart (ap suc e))
 
-found_below : (n : ℕ) (places : List (Option ℕ)) (a k : ℕ) → All (Within n) places → found places a ≡ Some k → k < n
+pub found_below : (n : ℕ) (places : List (Option ℕ)) (a k : ℕ) → All (Within n) places → found places a ≡ Some k → k < n
 found_below n [] a k w h = cc
 found_below n (x ∷ places) zero k w h = subst (Within n) h (All-head (Within n) x places w)
 found_below n (x ∷ places) (suc a) k w h = found_below n places a k (All-tail (Within n) x places w) h
@@ -83,7 +83,7 @@ selected_newest j k lun l = role_newest (role_by j (op_of l.ops (Some k)) j.item
 selects_newest : (j : Judged) (k : ℕ) (l : Listing) → (all_selected j k l).places.newest ≡ l.places.newest
 selects_newest j k l = selected_newest j k 3 _ ∙ selected_newest j k 2 _ ∙ selected_newest j k 1 _ ∙ selected_newest j k 0 l
 
-abbrev newest_by : Option ℕ → Item → (ce n : ℕ) → List (Option ℕ) → List (Option ℕ)
+abbrev pub newest_by : Option ℕ → Item → (ce n : ℕ) → List (Option ℕ) → List (Option ℕ)
 newest_by None i ce n newest = newest_with i ce n newest
 newest_by (Some k) i ce n newest = newest
 
@@ -91,7 +91,7 @@ new_newest : (owner : Option ℕ) (j : Judged) (l : Listing) → (with_new owner
 new_newest None j l = refl
 new_newest (Some k) j l = refl
 
-listed_newest : (j : Judged) (l : Listing) →
+pub listed_newest : (j : Judged) (l : Listing) →
     (listed j l).places.newest ≡ newest_by (owner_in j (with_ends j l)) j.item j.ce (length (with_ends j l).ops) l.places.newest
 listed_newest j l =
     let e = with_ends j l in
@@ -244,7 +244,7 @@ each_listed P Q j l all old new = by_rest (Each Q) (each_quiet Q) j (mark_in j (
 -- ---- one item
 
 -- the newest operation of a target has its tail, as far as the past goes
-abbrev Holds : List (Option ℕ) → List Item → ℕ → Beginning → Option ℕ → Type 0
+abbrev pub Holds : List (Option ℕ) → List Item → ℕ → Beginning → Option ℕ → Type 0
 Holds newest past k b closer = (ce : ℕ) → found newest ce ≡ Some k → Content b closer (tail past ce)
 
 -- the pieces so far, by number, after this past
@@ -669,7 +669,7 @@ module _ (readies : Readies) (one_lun : Bool) (g : Parts) (targets : ℕ) (few :
         let all = few in
         stands_output readies one_lun seen n later past l pieces stands w ce byte (omega (arith, small, all))
 
-    stands_on : (i : Item) → broken g targets past i ≡ None → StandsAfter readies one_lun seen n later past l pieces i
+    pub stands_on : (i : Item) → broken g targets past i ≡ None → StandsAfter readies one_lun seen n later past l pieces i
     stands_on (Cyc c) h = stands_cycle c.ce c.byte c.kind h
     stands_on (Rdy ce lun fail) h = stands_ready readies one_lun seen n later past l pieces stands w ce lun fail
     stands_on (Ard ce lun) h = stands_array_ready readies one_lun seen n later past l pieces stands w ce lun

@@ -20,7 +20,7 @@ use Rattle.trace_faults.specs.Faults.{fault_at, before_taken, before_item, taken
 use Rattle.trace_faults.specs.Middle.{Seen, all_known, known_of, knows, has_begun, is_doubtful, doubts, doubts_ready, of_cycle, of_ready, verdict_on, verdict_here, is_passed_over, is_granted, here, with_ready_taken, said_of, verdict, learned, looks_of, judged_on, seen_by, seen_after, verdicts_from, broken_in, all_broken}
 
 -- what is said where nothing is in doubt
-abbrev plain : Option Forbidden → Verdict
+abbrev pub plain : Option Forbidden → Verdict
 plain None = Permitted
 plain (Some rule) = Broken rule
 
@@ -92,7 +92,7 @@ seen_plain (Some ready) None i on = refl
 seen_plain (Some ready) (Some rule) i on = refl
 
 -- all is known of each target
-abbrev KnowsAll : List Known → Type 0
+abbrev pub KnowsAll : List Known → Type 0
 KnowsAll known = (ce : ℕ) → get_or known ce all_known ≡ all_known
 
 known_put : (known : List Known) (at m : ℕ) (k : Known) → k ≡ all_known → KnowsAll known → get_or (slice_set known at k) m all_known ≡ all_known
@@ -112,13 +112,13 @@ judged_where readies seen i later all = ap on_by (ap is_granted (said_plain (bef
     on_by : Bool → Seen
     on_by b = record { state = cond b (before_taken readies seen.state i) (before_item readies seen.state i later); known = seen.known }
 
-abbrev at_item : Readies → Seen → Item → List Item → Seen
+abbrev pub at_item : Readies → Seen → Item → List Item → Seen
 at_item readies seen i later = record { state = before_item readies seen.state i later; known = seen.known }
 
-abbrev taken_there : Readies → Seen → Item → List Item → Option UnshownReady
+abbrev pub taken_there : Readies → Seen → Item → List Item → Option UnshownReady
 taken_there readies seen i later = taken_on readies (before_taken readies seen.state i) i later
 
-abbrev rule_there : Readies → Seen → Item → List Item → Option Forbidden
+abbrev pub rule_there : Readies → Seen → Item → List Item → Option Forbidden
 rule_there readies seen i later = judged_here (before_item readies seen.state i later) i
 
 said_so : (readies : Readies) (seen : Seen) (i : Item) (later : List Item) → KnowsAll seen.known →
@@ -127,12 +127,12 @@ said_so readies seen i later all =
     ap (λ (on : Seen). with_ready_taken (taken_there readies seen i later) (verdict_here on i)) (judged_where readies seen i later all)
     ∙ ap (with_ready_taken (taken_there readies seen i later)) (said_plain (before_item readies seen.state i later) (known_of seen.known (target_of i)) i (all (target_of i)))
 
-verdict_so : (readies : Readies) (seen : Seen) (i : Item) (later : List Item) → KnowsAll seen.known →
+pub verdict_so : (readies : Readies) (seen : Seen) (i : Item) (later : List Item) → KnowsAll seen.known →
     verdict readies seen i later ≡ with_ready_taken (taken_there readies seen i later) (plain (rule_there readies seen i later))
 verdict_so readies seen i later all =
     ap (λ (b : Bool). cond b PassedOver (said_of readies seen i later)) (never_passed (known_of seen.known (target_of i)) i (all (target_of i))) ∙ said_so readies seen i later all
 
-after_so : (readies : Readies) (seen : Seen) (i : Item) (later : List Item) → KnowsAll seen.known → seen_after readies seen i later ≡ judged_on i (at_item readies seen i later)
+pub after_so : (readies : Readies) (seen : Seen) (i : Item) (later : List Item) → KnowsAll seen.known → seen_after readies seen i later ≡ judged_on i (at_item readies seen i later)
 after_so readies seen i later all =
     ap (λ (b : Bool). cond b seen (seen_by (said_of readies seen i later) i (here readies seen i later))) (never_passed (known_of seen.known (target_of i)) i (all (target_of i)))
     ∙ ap (λ (v : Verdict). seen_by v i (here readies seen i later)) (said_so readies seen i later all)
@@ -145,7 +145,7 @@ known_on readies seen i later all ce =
     let k = learned i (looks_of on.state.bus (target_of i)) (looks_of (gone_on i on.state).bus (target_of i)) (known_of seen.known (target_of i)) in
     known_put seen.known (target_of i) ce k (learned_all i on.state.bus (gone_on i on.state).bus (target_of i) (known_of seen.known (target_of i)) (all (target_of i))) all
 
-known_after : (readies : Readies) (seen : Seen) (i : Item) (later : List Item) → KnowsAll seen.known → KnowsAll (seen_after readies seen i later).known
+pub known_after : (readies : Readies) (seen : Seen) (i : Item) (later : List Item) → KnowsAll seen.known → KnowsAll (seen_after readies seen i later).known
 known_after readies seen i later all ce =
     ap (λ (s : Seen). get_or s.known ce all_known) (after_so readies seen i later all) ∙ known_on readies seen i later all ce
 

@@ -1,3 +1,4 @@
 pub mod Operation
 pub mod Listing
 pub mod Laws
+pub mod AtWork

@@ -1,6 +1,7 @@
 //! What holds of the operations of every trace: the contracts of functions that do nothing.
 
 ghost use Rattle.trace_ops.specs.Laws.{EachItemBelongs, NothingIsLost, FaultsAreTold, NoFaultIsHidden, PiecesAreTails, NoChains};
+ghost use Rattle.trace_ops.specs.AtWork.{WorkIsTheModels, WorkBeginsAsTheModels, WorksDontOverlap};
 
 /// Each item of a trace belongs to one operation, which is in the list; the first and the last of them are those that the operation names.
 pub fn each_item_belongs()
@@ -31,4 +32,20 @@ pub fn pieces_are_tails()
 /// That of which an operation is a part has a line of its own, so nothing is folded away twice.
 pub fn no_chains()
     ensures { NoChains }
+{}
+
+/// Of a trace of the base profile that is legal so far, with its readies written: on each LUN that works one operation is at work, and no operation is at work
+/// elsewhere.
+pub fn work_is_the_models()
+    ensures { WorkIsTheModels }
+{}
+
+/// In such a trace operations begin work at the items at which LUNs do, and at no others: it is the operation of the item that begins it, on that LUN.
+pub fn work_begins_as_the_models()
+    ensures { WorkBeginsAsTheModels }
+{}
+
+/// In such a trace works of one LUN don't overlap: the earlier operation has ended where the later one begins.
+pub fn works_dont_overlap()
+    ensures { WorksDontOverlap }
 {}
