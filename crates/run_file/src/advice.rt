@@ -41,7 +41,9 @@ impl<'a> Advice<'a> {
             Advice::Trouble(_)
             | Advice::Unknown(_)
             | Advice::Field(_)
-            | Advice::Order(BadOrder::Wanted(_) | BadOrder::Again { .. })
+            | Advice::Order(
+                BadOrder::Wanted(_) | BadOrder::Again { .. } | BadOrder::PolledAgain { .. },
+            )
             | Advice::Fault(_) => true,
         }
     }

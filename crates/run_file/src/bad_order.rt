@@ -1,7 +1,7 @@
 //! Statements that may not stand where they do.
 
 use crate::name::{Name, name_of};
-use crate::takes::layout;
+use crate::takes::{layout, layout_of_polls};
 use micro_asm::number_of;
 use shown_text::{Fields, line_at, lines_before};
 use std::fmt;
@@ -15,6 +15,8 @@ pub(crate) enum BadOrder {
     Ends(Name),
     // This line says it already.
     Again { name: Name, line: usize },
+    // This line tells the polls of the same work.
+    PolledAgain { layout: &'static str, line: usize },
 }
 
 impl BadOrder {
@@ -24,6 +26,10 @@ impl BadOrder {
         match (wanted_at(text, line), name_in(fields)) {
             (Some(wanted), Some(_)) => BadOrder::Wanted(wanted),
             (Some(wanted), None) => BadOrder::Ends(wanted),
+            (None, Some(Name::Polls)) => BadOrder::PolledAgain {
+                layout: layout_of_polls(fields),
+                line: find_line(text, fields),
+            },
             (None, name) => BadOrder::Again {
                 name: name.unwrap_or(Name::Page),
                 line: find_line(text, fields),
@@ -58,13 +64,32 @@ fn find_line(text: &str, wanted: Fields<'_>) -> usize {
     number
 }
 
-// Whether two lines have one name, and are of one die where that is `image`.
+// Whether two lines have one name, and are of one die or of the same work where that is `image` or `polls`.
 fn says_the_same(line: Fields<'_>, other: Fields<'_>) -> bool {
     if line.get(0) != other.get(0) {
         return false;
     }
-    line.get(0) != Some("image")
-        || (number_at(line, 1) == number_at(other, 1) && number_at(line, 2) == number_at(other, 2))
+    match line.get(0) {
+        Some("image") => is_of_one_lun(line, other),
+        Some("polls") => is_of_same_work(line, other),
+        _ => true,
+    }
+}
+
+// Whether the numbers of a target and a LUN stand first in both lines, and are the same.
+fn is_of_one_lun(line: Fields<'_>, other: Fields<'_>) -> bool {
+    number_at(line, 1) == number_at(other, 1) && number_at(line, 2) == number_at(other, 2)
+}
+
+// Whether two lines `polls` are of the same work.
+fn is_of_same_work(line: Fields<'_>, other: Fields<'_>) -> bool {
+    let count = line.count();
+    match (count == other.count(), count) {
+        (false, _) => false,
+        (true, 3) => line.get(1) == other.get(1),
+        (true, 4) => is_of_one_lun(line, other),
+        (true, _) => true,
+    }
 }
 
 // The number in this field of a line.
@@ -93,6 +118,9 @@ impl fmt::Display for BadOrder {
                 name: Name::Image,
                 line,
             } => { write!(f, "a die has one image, and line {line} gives it") }
+            BadOrder::PolledAgain { layout, line } => {
+                write!(f, "`{layout}` stands once, and line {line} has it")
+            }
             BadOrder::Again { name, line } => {
                 write!(f, "`{}` stands once, and line {line} has it", layout(*name))
             }

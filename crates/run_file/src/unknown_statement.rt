@@ -26,6 +26,10 @@ pub(crate) enum UnknownStatement<'a> {
     Missing {
         name: Name,
     },
+    // A line `polls` with two fields names no work.
+    NoWork {
+        word: &'a str,
+    },
     // This field is one too many.
     Extra {
         name: Name,
@@ -61,7 +65,15 @@ fn of_fields(fields: Fields<'_>, name: Name) -> UnknownStatement<'_> {
     match fields.get(count_fields(name).saturating_add(1)) {
         Some(field) if is_foreign_comment(field) => UnknownStatement::ForeignComment,
         Some(field) => UnknownStatement::Extra { name, field },
-        None => UnknownStatement::Missing { name },
+        None => of_few_fields(fields, name),
+    }
+}
+
+// Why these fields, which aren't too many, are none of the statement with this name.
+fn of_few_fields(fields: Fields<'_>, name: Name) -> UnknownStatement<'_> {
+    match (name, fields.get(1), fields.get(2)) {
+        (Name::Polls, Some(word), Some(_)) => UnknownStatement::NoWork { word },
+        _ => UnknownStatement::Missing { name },
     }
 }
 
@@ -81,6 +93,13 @@ impl fmt::Display for UnknownStatement<'_> {
             }
             UnknownStatement::Missing { name } => {
                 write!(f, "a field is missing: the line is `{}`", layout(*name))
+            }
+            UnknownStatement::NoWork { word } => {
+                write!(
+                    f,
+                    "`{}` is no work: the line is `polls N`, `polls read N`, `polls program N`, `polls erase N` or `polls CE LUN N`",
+                    Shown::line(word)
+                )
             }
             UnknownStatement::Extra { name, field } => {
                 write!(
