@@ -59,20 +59,21 @@ fn carry_out<'a, R: Threads + Wait + Sync, C: Clock, F: Files, W: Write, E: Writ
     request: RunRequest<'a>,
     plan: RunPlan<'a>,
 ) -> Result<Summary, Stop<'a>>
-    ensures ok { OnOk result ((o : Outcome) × IsOutcomeOf plan.entry o
+    ensures ok { OnOk result ((o : Outcome) × IsOutcomeOf request.entry plan.entry o
         × (F.store files.new ≡ with_all (writes_of request.entry o) (F.store files.old))
         × Appends (W.contents console.old.output) (W.contents console.new.output) (lines_of request.entry o)) }
-    ensures err { OnErr result ((F.store files.new ≡ F.store files.old) ⊎ ((o : Outcome) × IsOutcomeOf plan.entry o
+    ensures err { OnErr result ((F.store files.new ≡ F.store files.old) ⊎ ((o : Outcome) × IsOutcomeOf request.entry plan.entry o
         × (F.store files.new ≡ with_all (writes_of request.entry o) (F.store files.old)))) }
     ensures nothing { IfErr result RefusesNothing }
 {
     let jobs = plan.jobs.all.len();
+    let page = plan.times;
     console.progress.begin(Phase::Running { jobs });
     times.begin();
     let ran = run_as_planned(rt, alloc, plan, request.workers)?;
     times.end();
     console.progress.begin(Phase::Writing);
-    write_run(alloc, files, &mut console.output, request, ran)
+    write_run(alloc, files, &mut console.output, request, page, ran)
 }
 
 // Tells what there was in a run that is done.
