@@ -1,5 +1,5 @@
 -- The statements of a text are in order, in their ranges and not too many.
-use Rattle.std.proofs.Common.{◌≡◌, ℕ, ◌+◌, ◌≤◌, Bool, true, false, not, ◌&&◌, leb, ltb, if◌then◌else◌, List, [], ◌∷◌, ◌++◌, length, Option, Some, None, Result, Ok, Err, refl, arith}
+use Rattle.std.proofs.Common.{◌≡◌, ℕ, ◌+◌, ◌≤◌, Bool, true, false, not, ◌&&◌, leb, ltb, if◌then◌else◌, List, [], ◌∷◌, ◌++◌, length, codes, Option, Some, None, Result, Ok, Err, refl, arith}
 use Rattle.std.specs.Prelude.{IfOk, IfSome, ok_or}
 use Rattle.std.specs.List.{AllByRecursion}
 use Rattle.std.proofs.lemmas.Bool.{leb-true, leb-false, ltb-false}
@@ -11,7 +11,7 @@ use Rattle.run_file.specs.declared.polled.Polled.{Polled}
 use Rattle.run_file.specs.declared.polled.Polled.TheVariants as polled
 use Rattle.run_file.specs.declared.refusal.RunFault.{RunFault}
 use Rattle.run_file.specs.declared.refusal.RunFault.TheVariants.{UnknownLine, BadNumber, OutOfOrder}
-use Rattle.run_file.specs.Line.{Statement, Page, Targets, Image, Job, Polls, Fail, name_of, path_of, number_in, page_line, targets_line, image_line, job_files, job_line, polled_of, each_polls, work_polls, lun_polls, polls_line, fail_line, named_line, fields_line, spelled}
+use Rattle.run_file.specs.Line.{Statement, Page, Targets, Image, Job, Polls, Fail, is_named, name_of, path_of, number_in, page_line, targets_line, image_line, job_files, job_line, polled_of, each_polls, work_polls, lun_polls, polls_line, fail_line, named_line, fields_line, spelled}
 use Rattle.run_file.specs.Told.{Numbered, Told, is_page, is_targets, is_job, stands_once, repeats, stands_before, is_in_order, jobs_in, placed, judged, stopped, ended, after_line, told_from, told}
 use Rattle.run_file.specs.Run.{IsInRange, HasNumbersInRange, HasHead, HasNoneTwice, IsOrderly, IsRun}
 use Rattle.run_file.proofs.Steps.{one_job_more, no_job_more}
@@ -91,9 +91,14 @@ unfolding polls_line each_polls work_polls lun_polls
 polls_fits [] = tt
 polls_fits (count ∷ []) = count_fits polled.Each count
 polls_fits (work ∷ count ∷ []) = then_all IsInRange (ok_or (polled_of work) UnknownLine) _ (λ work. count_fits work count)
-polls_fits (target ∷ lun ∷ count ∷ []) =
-    then_number IsInRange target _ (λ t. then_number IsInRange lun _ (λ l. count_fits (polled.Lun t l) count))
-polls_fits (a ∷ b ∷ c ∷ d ∷ rest) = tt
+polls_fits (a ∷ b ∷ c ∷ []) = tt
+polls_fits (word ∷ target ∷ lun ∷ count ∷ []) = at (is_named word (codes "lun"))
+  where
+    at : (t : Bool) → IfOk (if t then (number_in 0 4294967295 target >>= λ t. number_in 0 4294967295 lun >>= λ l.
+        number_in 1 1000 count >>= λ n. Ok (Polls (polled.Lun t l) n)) else Err UnknownLine) IsInRange
+    at true = then_number IsInRange target _ (λ t. then_number IsInRange lun _ (λ l. count_fits (polled.Lun t l) count))
+    at false = tt
+polls_fits (a ∷ b ∷ c ∷ d ∷ e ∷ rest) = tt
 
 fail_fits : (fs : List (List ℕ)) → IfOk (fail_line fs) IsInRange
 unfolding fail_line

@@ -117,18 +117,19 @@ work_polls work count = do
   count ← number_in 1 1000 count
   Ok (Polls work count)
 
--- `polls CE LUN N`
-unfoldable pub lun_polls : List ℕ → List ℕ → List ℕ → Result Statement RunFault
-lun_polls target lun count = do
-  target ← number_in 0 4294967295 target
-  lun ← number_in 0 4294967295 lun
-  count ← number_in 1 1000 count
-  Ok (Polls (polled.Lun target lun) count)
+-- `polls lun CE LUN N`
+unfoldable pub lun_polls : List ℕ → List ℕ → List ℕ → List ℕ → Result Statement RunFault
+lun_polls word target lun count =
+    if is_named word (codes "lun") then (do
+      target ← number_in 0 4294967295 target
+      lun ← number_in 0 4294967295 lun
+      count ← number_in 1 1000 count
+      Ok (Polls (polled.Lun target lun) count)) else Err UnknownLine
 
 unfoldable pub polls_line : List (List ℕ) → Result Statement RunFault
 polls_line (count ∷ []) = each_polls count
 polls_line (work ∷ count ∷ []) = work_polls work count
-polls_line (target ∷ lun ∷ count ∷ []) = lun_polls target lun count
+polls_line (word ∷ target ∷ lun ∷ count ∷ []) = lun_polls word target lun count
 polls_line _ = Err UnknownLine
 
 unfoldable pub fail_line : List (List ℕ) → Result Statement RunFault

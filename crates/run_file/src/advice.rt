@@ -41,9 +41,7 @@ impl<'a> Advice<'a> {
             Advice::Trouble(_)
             | Advice::Unknown(_)
             | Advice::Field(_)
-            | Advice::Order(
-                BadOrder::Wanted(_) | BadOrder::Again { .. } | BadOrder::PolledAgain { .. },
-            )
+            | Advice::Order(BadOrder::Wanted(_) | BadOrder::Again { .. })
             | Advice::Fault(_) => true,
         }
     }

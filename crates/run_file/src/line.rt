@@ -6,7 +6,7 @@ ghost use Rattle.run_file.specs.Line.{page_line, targets_line, image_line, job_f
 ghost use Rattle.run_file.specs.Shown.{shown_statement, shown_files, IsLine, IsSpelled};
 
 use crate::fields::{field, last_field};
-use crate::name::{Name, name_of};
+use crate::name::{Name, is_named, name_of};
 use crate::operands::{any_number, number_in, optional_path, path_of, polled_of};
 use crate::polled::Polled;
 use crate::refusal::RunFault;
@@ -109,11 +109,19 @@ fn work_polls<'a>(work: &[u8], count: &[u8]) -> Result<Statement<'a>, RunFault>
     Ok(Statement::Polls { of, count })
 }
 
-// The polls of a LUN.
+// The polls of a LUN, behind the word for that.
 #[tactic(auto, unfolding(crate::specs::Line::lun_polls))]
-fn lun_polls<'a>(target: &[u8], lun: &[u8], count: &[u8]) -> Result<Statement<'a>, RunFault>
-    ensures { IsLine result (lun_polls target.now lun.now count.now) }
+fn lun_polls<'a>(
+    word: &[u8],
+    target: &[u8],
+    lun: &[u8],
+    count: &[u8],
+) -> Result<Statement<'a>, RunFault>
+    ensures { IsLine result (lun_polls word.now target.now lun.now count.now) }
 {
+    if !is_named(word, "lun") {
+        return Err(RunFault::UnknownLine);
+    }
     let target = any_number(target)?;
     let lun = any_number(lun)?;
     let count = number_in(1, 1000, count)?;
@@ -131,10 +139,10 @@ fn polls_line<'a>(rest: &[u8]) -> Result<Statement<'a>, RunFault>
     let Some((second, after)) = next_field(rest) else {
         return each_polls(first);
     };
-    let Some(_) = next_field(after) else {
+    let Some((third, after)) = next_field(after) else {
         return work_polls(first, second);
     };
-    lun_polls(first, second, last_field(after)?)
+    lun_polls(first, second, third, last_field(after)?)
 }
 
 #[tactic(auto, unfolding(crate::specs::Line::fail_line))]

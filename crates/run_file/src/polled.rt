@@ -13,7 +13,7 @@ pub enum Polled {
     Programs,
     /// The erases of every LUN: `polls erase N`.
     Erases,
-    /// All work of one LUN: `polls CE LUN N`.
+    /// All work of one LUN: `polls lun CE LUN N`.
     Lun { target: u32, lun: u32 },
 }
 

@@ -16,14 +16,14 @@ pub(crate) fn layout(name: Name) -> &'static str {
     }
 }
 
-// The fields of a line `polls`, by those that it has.
-pub(crate) fn layout_of_polls(fields: Fields<'_>) -> &'static str {
-    match (fields.count(), fields.get(1)) {
-        (3, Some("read")) => "polls read N",
-        (3, Some("program")) => "polls program N",
-        (3, Some("erase")) => "polls erase N",
-        (4, Some(_)) => "polls CE LUN N",
-        _ => layout(Name::Polls),
+// The fields of a line with this name, by those that it has: a word says of which work a line `polls` speaks.
+pub(crate) fn layout_of(name: Name, fields: Fields<'_>) -> &'static str {
+    match (name, fields.get(1)) {
+        (Name::Polls, Some("read")) => "polls read N",
+        (Name::Polls, Some("program")) => "polls program N",
+        (Name::Polls, Some("erase")) => "polls erase N",
+        (Name::Polls, Some("lun")) => "polls lun CE LUN N",
+        _ => layout(name),
     }
 }
 
@@ -39,11 +39,20 @@ pub(crate) fn numbers(name: Name) -> &'static [Number] {
     }
 }
 
-// How many fields stand after a name at most.
-pub(crate) fn count_fields(name: Name) -> usize {
+// How many fields stand after the name of a line that has these.
+pub(crate) fn count_fields(name: Name, fields: Fields<'_>) -> usize {
+    match (name, fields.get(1)) {
+        (Name::Polls, Some("read" | "program" | "erase")) => 2,
+        (Name::Polls, Some("lun")) => 4,
+        _ => count_plain(name),
+    }
+}
+
+// How many fields stand after a name; after `polls` where no word says of which work it speaks.
+fn count_plain(name: Name) -> usize {
     match name {
-        Name::Page | Name::Targets => 1,
-        Name::Image | Name::Fail | Name::Polls => 3,
+        Name::Page | Name::Targets | Name::Polls => 1,
+        Name::Image | Name::Fail => 3,
         Name::Job => 6,
     }
 }
