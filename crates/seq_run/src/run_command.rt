@@ -29,6 +29,7 @@ use std::io::{self, Write};
 use std::sync::Wait;
 use std::thread::Threads;
 use std::time::Clock;
+use trace_timing::PageTimes;
 
 // Reads the text of a run file, and judges it with the files that it names.
 fn plan_text<'a, F: Files>(
@@ -169,6 +170,28 @@ fn say_no_job<E: Write>(errors: &mut E, request: RunRequest<'_>, jobs: &PlannedJ
     }
 }
 
+// Says which times of work the parameter page of a run doesn't say, where its trace is to have times.
+fn say_undeclared_times<E: Write>(errors: &mut E, request: RunRequest<'_>, page: PageTimes) {
+    if request.times.is_none() {
+        return;
+    }
+    let path = Shown::path(request.path);
+    let times = [
+        (page.read_us, "tR"),
+        (page.program_us, "tPROG"),
+        (page.erase_us, "tBERS"),
+    ];
+    for (time, name) in times {
+        if time == 0 {
+            let _ = writeln!(
+                errors,
+                "{path}: the parameter page says no {name}: such work takes tWB alone"
+            );
+        }
+    }
+    let _ = errors.flush();
+}
+
 // Runs the text of the run file.
 fn run_text<R: Threads + Wait + Sync, C: Clock, F: Files, W: Write, E: Write, P: RunProgress>(
     rt: &R,
@@ -199,6 +222,7 @@ fn run_text<R: Threads + Wait + Sync, C: Clock, F: Files, W: Write, E: Write, P:
     }
     say_no_job(&mut console.errors, request, &plan.jobs);
     say_counted_headers(alloc, &mut console.errors, &plan.jobs);
+    say_undeclared_times(&mut console.errors, request, plan.times);
     match admit_files(alloc, files, &mut console.errors, request, text) {
         Ok(true) => {}
         Ok(false) => return Exit::Usage,

@@ -299,8 +299,9 @@ pub(crate) fn write_run<'a, F: Files, W: Write>(
 {
     let Ran { bus, images, jobs } = ran;
     let timed = time_trace(alloc, request.times, page, &bus)?;
-    let lines = make_lines(alloc, request, &bus, timed.as_slice(), jobs.as_slice())?;
-    let trace = make_trace(alloc, request.times, request.trace, &bus, timed.as_slice())?;
+    let times = timed.as_slice();
+    let lines = make_lines(alloc, request, &bus, times, jobs.as_slice())?;
+    let trace = make_trace(alloc, request.times, request.trace, &bus, times)?;
     let summary = Summary::of(jobs.len(), bus.trace());
     let dies = bus.into_dies();
     let images = make_images(alloc, dies.as_slice(), images.as_slice())?;
