@@ -34,9 +34,11 @@ impl<'a> BadField<'a> {
 
 // The first of the numbers of a line `polls` that is wrong: they stand behind the word that says of which work it speaks.
 fn find_bad_polls(fields: Fields<'_>) -> Option<BadField<'_>> {
-    match fields.get(1) {
-        Some("lun") => { find_bad(fields, 2, &[Number::ChipEnable, Number::Lun, Number::Polls]) }
-        Some("read" | "program" | "erase") => find_bad(fields, 2, numbers(Name::Polls)),
+    match (fields.count(), fields.get(1)) {
+        (5, Some("lun")) => {
+            find_bad(fields, 2, &[Number::ChipEnable, Number::Lun, Number::Polls])
+        }
+        (3, Some("read" | "program" | "erase")) => find_bad(fields, 2, numbers(Name::Polls)),
         _ => find_bad(fields, 1, numbers(Name::Polls)),
     }
 }
