@@ -24,7 +24,7 @@ use crate::worker_pass::{MAX_PASSES, Turns, WorkerPass};
 use job_queue::Taker;
 use lun_lease::{Lease, LeaseSeat, Loaded, SEATS};
 use nand_geometry::Geometry;
-use onfi_cycle::{Item, Lun};
+use onfi_cycle::{Command, Item, Lun, MAX_CHANNEL_LUNS, starts_work};
 use seq_core::{Core, Job};
 use std::alloc::Global;
 use std::marker::Model;
@@ -38,7 +38,23 @@ pub struct ChannelState<L: Turns> {
     seats: Seats,
     parked: Park,
     passes: u32,
+    // The command with which each LUN began work last, by its number.
+    begun: [Option<Command>; MAX_CHANNEL_LUNS],
     own: Share<L>,
+}
+
+// The last command with which work begins among the items of a LUN's turn, and the one before them where none of them does.
+fn find_begun(items: &[Item], before: Option<Command>) -> Option<Command> {
+    let mut rest = items;
+    'items: while let Some((last, front)) = rest.split_last() {
+        if let Item::Cyc(cycle) = last {
+            if starts_work(*last) {
+                return Some(Command::of(cycle.byte));
+            }
+        }
+        rest = front;
+    }
+    before
 }
 
 impl<L: Turns> Model for ChannelState<L> {
@@ -76,6 +92,7 @@ impl<L: Turns> ChannelState<L> {
             seats,
             parked: Park::new(),
             passes: 0,
+            begun: [None; MAX_CHANNEL_LUNS],
             own,
         }
     }
@@ -143,6 +160,25 @@ impl<L: Turns> ChannelState<L> {
         self.history.count(number)
     }
 
+    /// The command with which the LUN of a number began work last; None where it never did. An opener stands for the address behind it.
+    pub fn begun(&self, number: u32) -> Option<Command>
+        requires { number < 16 }
+    {
+        self.begun[number as usize]
+    }
+
+    // Notes with which command the LUN of a number has begun work, in a turn of it that began at this place of the trace.
+    fn note_begun(&mut self, number: u32, from: usize)
+        requires { number < 16 }
+        ensures { self.new ≡ self.old }
+    {
+        let place = number as usize;
+        let trace = self.history.trace();
+        let (_, turn) = trace.split_at(from.min(trace.len()));
+        let begun = find_begun(turn, self.begun[place]);
+        self.begun[place] = begun;
+    }
+
     /// Steps of the lease's LUN until the first answer other than `Went`.
     pub fn turn(&mut self, pass: &mut WorkerPass<L>, lease: &mut Lease<Loaded>) -> Turn
         ensures turn { TookTurn self.old pass.old lease.old.lun result self.new pass.new }
@@ -151,9 +187,11 @@ impl<L: Turns> ChannelState<L> {
         let number = lease.lun();
         let lun = self.history.lun(number);
         let before = self.history.turns();
+        let from = self.history.trace().len();
         let answer = self.history.turn(&mut pass.share, lun);
         self.history.audit(&mut pass.share);
         pass.turns += self.history.turns() - before;
+        self.note_begun(number, from);
         Turn::of(answer, self.history.count(number))
     }
 
@@ -245,6 +283,7 @@ impl<L: Turns> ChannelState<L> {
             seats,
             parked,
             passes: _,
+            begun: _,
             mut own,
         } = self;
         let turns = merge_passes(&mut history, &mut own, passes);

@@ -12,7 +12,7 @@ use crate::turn::Turn;
 use crate::worker_pass::{Turns, WorkerPass};
 use lun_lease::{Lease, Loaded};
 use nand_geometry::Geometry;
-use onfi_cycle::Lun;
+use onfi_cycle::{Command, Lun};
 use std::sync::{Mutex, Wait};
 use std::thread;
 
@@ -46,6 +46,17 @@ pub trait Gate {
 
     /// Whether the LUN became ready after so many busy polls since its last ready, and so many readies; if so, whether with failure.
     fn ready(&self, lun: Lun, busy_polls: u64, works: u64) -> Option<bool>;
+
+    /// The same, where it is known with which command the LUN began its work. A gate to which that doesn't matter leaves this as it is.
+    fn ready_after(
+        &self,
+        _begun: Option<Command>,
+        lun: Lun,
+        busy_polls: u64,
+        works: u64,
+    ) -> Option<bool> {
+        self.ready(lun, busy_polls, works)
+    }
 
     /// Whether the array of the LUN became ready after so many readies.
     fn array_ready(&self, lun: Lun, works: u64) -> bool;
@@ -143,11 +154,15 @@ fn ask_ready<L: Turns, G: Gate, R: Wait>(
     rt: &R,
     channel: &Channel<L>,
     gate: &G,
-    lun: Lun,
+    number: u32,
     polls: u64,
     works: u64,
-) -> bool {
-    match gate.ready(lun, polls, works) {
+) -> bool
+    requires { number < 16 }
+{
+    let lun = find_lun(&channel.geometry, number);
+    let begun = channel.state.lock(rt).begun(number);
+    match gate.ready_after(begun, lun, polls, works) {
         None => true,
         Some(fail) => channel.state.lock(rt).ready(lun, fail) != Readied::OutOfMemory,
     }
@@ -192,8 +207,7 @@ fn go_on<L: Turns, G: Gate, R: Wait>(
         Turn::OutOfMemory => false,
         Turn::HandedOver => ask_array_ready(rt, channel, gate, number),
         Turn::NotReady { polls, works } => {
-            let lun = find_lun(&channel.geometry, number);
-            ask_ready(rt, channel, gate, lun, polls, works)
+            ask_ready(rt, channel, gate, number, polls, works)
                 && ask_array_ready(rt, channel, gate, number)
         }
         Turn::Held | Turn::Empty => true,

@@ -1,5 +1,5 @@
 -- The statements of a text are in order, in their ranges and not too many.
-use Rattle.std.proofs.Common.{◌≡◌, ℕ, ◌+◌, ◌≤◌, Bool, true, false, not, ◌&&◌, leb, ltb, if◌then◌else◌, List, [], ◌∷◌, ◌++◌, length, Option, Some, None, Result, Ok, Err, refl, arith}
+use Rattle.std.proofs.Common.{◌≡◌, ℕ, ◌+◌, ◌≤◌, Bool, true, false, not, ◌&&◌, leb, ltb, if◌then◌else◌, List, [], ◌∷◌, ◌++◌, length, codes, Option, Some, None, Result, Ok, Err, refl, arith}
 use Rattle.std.specs.Prelude.{IfOk, IfSome, ok_or}
 use Rattle.std.specs.List.{AllByRecursion}
 use Rattle.std.proofs.lemmas.Bool.{leb-true, leb-false, ltb-false}
@@ -7,9 +7,11 @@ use Rattle.micro_asm.specs.Line.{◌>>=◌, fields, before_comment, number_of}
 use Rattle.micro_asm.specs.Reading.{lines}
 use Rattle.run_file.specs.declared.name.Name.{Name}
 use Rattle.run_file.specs.declared.name.Name.TheVariants as name
+use Rattle.run_file.specs.declared.polled.Polled.{Polled}
+use Rattle.run_file.specs.declared.polled.Polled.TheVariants as polled
 use Rattle.run_file.specs.declared.refusal.RunFault.{RunFault}
 use Rattle.run_file.specs.declared.refusal.RunFault.TheVariants.{UnknownLine, BadNumber, OutOfOrder}
-use Rattle.run_file.specs.Line.{Statement, Page, Targets, Image, Job, Polls, Fail, name_of, path_of, number_in, page_line, targets_line, image_line, job_files, job_line, polls_line, fail_line, named_line, fields_line, spelled}
+use Rattle.run_file.specs.Line.{Statement, Page, Targets, Image, Job, Polls, Fail, is_named, name_of, path_of, number_in, page_line, targets_line, image_line, job_files, job_line, polled_of, each_polls, work_polls, lun_polls, polls_line, fail_line, named_line, fields_line, spelled}
 use Rattle.run_file.specs.Told.{Numbered, Told, is_page, is_targets, is_job, stands_once, repeats, stands_before, is_in_order, jobs_in, placed, judged, stopped, ended, after_line, told_from, told}
 use Rattle.run_file.specs.Run.{IsInRange, HasNumbersInRange, HasHead, HasNoneTwice, IsOrderly, IsRun}
 use Rattle.run_file.proofs.Steps.{one_job_more, no_job_more}
@@ -80,11 +82,23 @@ job_fits (target ∷ lun ∷ base ∷ rest) =
     then_all IsInRange (job_files rest) _ (λ files.
     then_number IsInRange target _ (λ t. then_number IsInRange lun _ (λ l. then_number IsInRange base _ (λ b. tt))))
 
+-- whatever work it is
+count_fits : (work : Polled) (count : List ℕ) → IfOk (number_in 1 1000 count >>= λ n. Ok (Polls work n)) IsInRange
+count_fits work count = then_given (IsBetween 1 1000) IsInRange (number_in 1 1000 count) _ (number_fits 1 1000 count) (λ n h. h)
+
 polls_fits : (fs : List (List ℕ)) → IfOk (polls_line fs) IsInRange
-unfolding polls_line
+unfolding polls_line each_polls work_polls lun_polls
 polls_fits [] = tt
-polls_fits (count ∷ []) = then_given (IsBetween 1 1000) IsInRange (number_in 1 1000 count) _ (number_fits 1 1000 count) (λ n h. h)
-polls_fits (a ∷ b ∷ rest) = tt
+polls_fits (count ∷ []) = count_fits polled.Each count
+polls_fits (work ∷ count ∷ []) = then_all IsInRange (ok_or (polled_of work) UnknownLine) _ (λ work. count_fits work count)
+polls_fits (a ∷ b ∷ c ∷ []) = tt
+polls_fits (word ∷ target ∷ lun ∷ count ∷ []) = at (is_named word (codes "lun"))
+  where
+    at : (t : Bool) → IfOk (if t then (number_in 0 4294967295 target >>= λ t. number_in 0 4294967295 lun >>= λ l.
+        number_in 1 1000 count >>= λ n. Ok (Polls (polled.Lun t l) n)) else Err UnknownLine) IsInRange
+    at true = then_number IsInRange target _ (λ t. then_number IsInRange lun _ (λ l. count_fits (polled.Lun t l) count))
+    at false = tt
+polls_fits (a ∷ b ∷ c ∷ d ∷ e ∷ rest) = tt
 
 fail_fits : (fs : List (List ℕ)) → IfOk (fail_line fs) IsInRange
 unfolding fail_line
@@ -156,7 +170,7 @@ free_again : (s : Statement) → stands_once s ≡ false → (b : Statement) →
 free_again (Page path) free b = absurd cc
 free_again (Targets count) free b = absurd cc
 free_again (Image target lun path) free b = absurd cc
-free_again (Polls count) free b = absurd cc
+free_again (Polls work count) free b = absurd cc
 free_again (Job target lun base text input output) free b = at b
   where
     at : (b : Statement) → repeats b (Job target lun base text input output) ≡ false
@@ -164,7 +178,7 @@ free_again (Job target lun base text input output) free b = at b
     at (Targets count) = refl
     at (Image t l path) = refl
     at (Job t l r x i o) = refl
-    at (Polls count) = refl
+    at (Polls work count) = refl
     at (Fail t l ready) = refl
 free_again (Fail target lun ready) free b = at b
   where
@@ -173,7 +187,7 @@ free_again (Fail target lun ready) free b = at b
     at (Targets count) = refl
     at (Image t l path) = refl
     at (Job t l r x i o) = refl
-    at (Polls count) = refl
+    at (Polls work count) = refl
     at (Fail t l k) = refl
 
 none_of_free : (s : Statement) (before : List Numbered) → stands_once s ≡ false → stands_before s before ≡ false
@@ -192,12 +206,12 @@ targets_after_page (Page path) (Targets count) first second = refl
 targets_after_page (Page path) (Page other) first second = absurd cc
 targets_after_page (Page path) (Image t l other) first second = absurd cc
 targets_after_page (Page path) (Job t l r x i o) first second = absurd cc
-targets_after_page (Page path) (Polls count) first second = absurd cc
+targets_after_page (Page path) (Polls work count) first second = absurd cc
 targets_after_page (Page path) (Fail t l k) first second = absurd cc
 targets_after_page (Targets n) s first second = absurd cc
 targets_after_page (Image t l path) s first second = absurd cc
 targets_after_page (Job t l r x i o) s first second = absurd cc
-targets_after_page (Polls n) s first second = absurd cc
+targets_after_page (Polls work n) s first second = absurd cc
 targets_after_page (Fail t l k) s first second = absurd cc
 
 none_before : (before : List Numbered) (s : Statement) → HasHead before → is_in_order before s ≡ true → stands_before s before ≡ false

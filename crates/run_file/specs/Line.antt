@@ -6,6 +6,8 @@ use Rattle.std.specs.Str.{bytes_eq}
 use Rattle.micro_asm.specs.Line.{◌>>=◌, fields, before_comment, number_of}
 use Rattle.run_file.specs.declared.name.Name.{Name}
 use Rattle.run_file.specs.declared.name.Name.TheVariants as name
+use Rattle.run_file.specs.declared.polled.Polled.{Polled}
+use Rattle.run_file.specs.declared.polled.Polled.TheVariants as polled
 use Rattle.run_file.specs.declared.refusal.RunFault.{RunFault}
 use Rattle.run_file.specs.declared.refusal.RunFault.TheVariants.{UnknownLine, BadNumber, OutOfOrder, NoSuchLun, InputTooLong}
 
@@ -23,7 +25,7 @@ pub data Statement : Type 0 where
   Targets : (count : ℕ) → Statement
   Image : (target : ℕ) (lun : ℕ) (path : List ℕ) → Statement
   Job : (target : ℕ) (lun : ℕ) (base : ℕ) (text : List ℕ) (input : Option (List ℕ)) (output : Option (List ℕ)) → Statement
-  Polls : (count : ℕ) → Statement
+  Polls : (work : Polled) (count : ℕ) → Statement
   Fail : (target : ℕ) (lun : ℕ) (ready : ℕ) → Statement
 
 -- ---- fields
@@ -54,6 +56,13 @@ unfoldable pub number_in : ℕ → ℕ → List ℕ → Result ℕ RunFault
 number_in least greatest field = do
   n ← ok_or (number_of field) BadNumber
   if nat_le least n && nat_le n greatest then Ok n else Err BadNumber
+
+-- the work that a word names
+unfoldable pub polled_of : List ℕ → Option Polled
+polled_of field =
+    if is_named field (codes "read") then Some polled.Reads else (
+    if is_named field (codes "program") then Some polled.Programs else (
+    if is_named field (codes "erase") then Some polled.Erases else None))
 
 -- ---- lines: first the number of fields and the paths, then the numbers
 
@@ -95,10 +104,32 @@ job_line (target ∷ lun ∷ base ∷ rest) = do
   Ok (Job target lun base files.0 files.1 files.2)
 job_line _ = Err UnknownLine
 
-unfoldable pub polls_line : List (List ℕ) → Result Statement RunFault
-polls_line (count ∷ []) = do
+-- `polls N`
+unfoldable pub each_polls : List ℕ → Result Statement RunFault
+each_polls count = do
   count ← number_in 1 1000 count
-  Ok (Polls count)
+  Ok (Polls polled.Each count)
+
+-- `polls read N`, `polls program N` or `polls erase N`
+unfoldable pub work_polls : List ℕ → List ℕ → Result Statement RunFault
+work_polls work count = do
+  work ← ok_or (polled_of work) UnknownLine
+  count ← number_in 1 1000 count
+  Ok (Polls work count)
+
+-- `polls lun CE LUN N`
+unfoldable pub lun_polls : List ℕ → List ℕ → List ℕ → List ℕ → Result Statement RunFault
+lun_polls word target lun count =
+    if is_named word (codes "lun") then (do
+      target ← number_in 0 4294967295 target
+      lun ← number_in 0 4294967295 lun
+      count ← number_in 1 1000 count
+      Ok (Polls (polled.Lun target lun) count)) else Err UnknownLine
+
+unfoldable pub polls_line : List (List ℕ) → Result Statement RunFault
+polls_line (count ∷ []) = each_polls count
+polls_line (work ∷ count ∷ []) = work_polls work count
+polls_line (word ∷ target ∷ lun ∷ count ∷ []) = lun_polls word target lun count
 polls_line _ = Err UnknownLine
 
 unfoldable pub fail_line : List (List ℕ) → Result Statement RunFault

@@ -10,7 +10,7 @@ IsInRange (Page path) = Unit {0}
 IsInRange (Targets count) = (1 ≤ count) × (count ≤ 4)
 IsInRange (Image target lun path) = Unit {0}
 IsInRange (Job target lun base text input output) = Unit {0}
-IsInRange (Polls count) = (1 ≤ count) × (count ≤ 1000)
+IsInRange (Polls work count) = (1 ≤ count) × (count ≤ 1000)
 IsInRange (Fail target lun ready) = 1 ≤ ready
 
 abbrev pub HasNumbersInRange : Numbered → Type 0
@@ -22,7 +22,7 @@ HasHead [] = Unit {0}
 HasHead (p ∷ []) = is_page p.1 ≡ true
 HasHead (p ∷ t ∷ others) = (is_page p.1 ≡ true) × (is_targets t.1 ≡ true)
 
--- no later statement repeats an earlier one: page, targets, polls and the image of a die stand once
+-- no later statement repeats an earlier one: page, targets, the polls of some work and the image of a die stand once
 abbrev pub HasNoneTwice : List Numbered → Type 0
 HasNoneTwice [] = Unit {0}
 HasNoneTwice (s ∷ later) = AllByRecursion (λ (l : Numbered). repeats s.1 l.1 ≡ false) later × HasNoneTwice later

@@ -17,7 +17,7 @@ shown_statement (statement.Targets count) = line.Targets count
 shown_statement (statement.Image target lun path) = line.Image target lun path.now
 shown_statement (statement.Job target lun base text input output) =
     line.Job target lun base text.now (option_copied input) (option_copied output)
-shown_statement (statement.Polls count) = line.Polls count
+shown_statement (statement.Polls work count) = line.Polls work count
 shown_statement (statement.Fail target lun ready) = line.Fail target lun ready
 
 abbrev pub shown_files : Files → List ℕ × Option (List ℕ) × Option (List ℕ)

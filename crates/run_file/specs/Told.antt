@@ -2,6 +2,8 @@
 use Rattle.std.specs.Prelude.{ℕ, ◌+◌, Bool, true, false, not, ◌&&◌, ◌==◌, nat_lt, nat_le, if◌then◌else◌, List, [], ◌∷◌, ◌++◌, length, Option, Some, None, Result, Ok, Err}
 use Rattle.micro_asm.specs.Line.{◌>>=◌}
 use Rattle.micro_asm.specs.Reading.{lines}
+use Rattle.run_file.specs.declared.polled.Polled.{Polled}
+use Rattle.run_file.specs.declared.polled.Polled.TheVariants as polled
 use Rattle.run_file.specs.declared.refusal.RunFault.{RunFault}
 use Rattle.run_file.specs.declared.refusal.RunFault.TheVariants.{BadNumber, OutOfOrder}
 use Rattle.run_file.specs.declared.refusal.RunRefusal.{RunRefusal}
@@ -21,9 +23,19 @@ abbrev pub is_targets : Statement → Bool
 is_targets (Targets count) = true
 is_targets _ = false
 
-abbrev pub is_polls : Statement → Bool
-is_polls (Polls count) = true
-is_polls _ = false
+-- both are the same work
+abbrev pub is_same_work : Polled → Polled → Bool
+is_same_work polled.Each polled.Each = true
+is_same_work polled.Reads polled.Reads = true
+is_same_work polled.Programs polled.Programs = true
+is_same_work polled.Erases polled.Erases = true
+is_same_work (polled.Lun target lun) (polled.Lun other_target other_lun) = (target == other_target) && (lun == other_lun)
+is_same_work _ _ = false
+
+-- the polls of this work
+abbrev pub is_polls_of : Polled → Statement → Bool
+is_polls_of work (Polls other count) = is_same_work work other
+is_polls_of work _ = false
 
 -- the image of this die
 abbrev pub is_image_of : ℕ → ℕ → Statement → Bool
@@ -34,7 +46,7 @@ abbrev pub is_job : Statement → Bool
 is_job (Job target lun base text input output) = true
 is_job _ = false
 
--- page, targets, polls and the image of a die stand once
+-- page, targets, the polls of some work and the image of a die stand once
 abbrev pub stands_once : Statement → Bool
 stands_once (Job target lun base text input output) = false
 stands_once (Fail target lun ready) = false
@@ -44,7 +56,7 @@ stands_once _ = true
 abbrev pub repeats : Statement → Statement → Bool
 repeats (Page path) s = is_page s
 repeats (Targets count) s = is_targets s
-repeats (Polls count) s = is_polls s
+repeats (Polls work count) s = is_polls_of work s
 repeats (Image target lun path) s = is_image_of target lun s
 repeats (Job target lun base text input output) s = false
 repeats (Fail target lun ready) s = false

@@ -1,6 +1,6 @@
 //! A number that a statement doesn't take.
 
-use crate::name::name_of;
+use crate::name::{Name, name_of};
 use crate::number::Number;
 use crate::takes::numbers;
 use micro_asm::number_of;
@@ -23,17 +23,30 @@ impl<'a> BadField<'a> {
     pub(crate) fn of(line: &'a str) -> BadField<'a> {
         let fields = Fields::of(line);
         let word = fields.get(0).unwrap_or("");
-        match name_of(word.as_bytes()) {
-            Some(name) => find_bad(fields, numbers(name)).unwrap_or(BadField::TooManyJobs),
-            None => BadField::TooManyJobs,
-        }
+        let bad = match name_of(word.as_bytes()) {
+            Some(Name::Polls) => find_bad_polls(fields),
+            Some(name) => find_bad(fields, 1, numbers(name)),
+            None => None,
+        };
+        bad.unwrap_or(BadField::TooManyJobs)
     }
 }
 
-// The first of the numbers after a name that is wrong.
-fn find_bad<'a>(fields: Fields<'a>, numbers: &[Number]) -> Option<BadField<'a>> {
+// The first of the numbers of a line `polls` that is wrong: they stand behind the word that says of which work it speaks.
+fn find_bad_polls(fields: Fields<'_>) -> Option<BadField<'_>> {
+    match (fields.count(), fields.get(1)) {
+        (5, Some("lun")) => {
+            find_bad(fields, 2, &[Number::ChipEnable, Number::Lun, Number::Polls])
+        }
+        (3, Some("read" | "program" | "erase")) => find_bad(fields, 2, numbers(Name::Polls)),
+        _ => find_bad(fields, 1, numbers(Name::Polls)),
+    }
+}
+
+// The first of the numbers from a field on that is wrong.
+fn find_bad<'a>(fields: Fields<'a>, first: usize, numbers: &[Number]) -> Option<BadField<'a>> {
     for (place, number) in numbers.iter().enumerate() {
-        let field = fields.get(place.saturating_add(1)).unwrap_or("");
+        let field = fields.get(place.saturating_add(first)).unwrap_or("");
         let bad = judge(field, *number);
         if bad.is_some() {
             return bad;

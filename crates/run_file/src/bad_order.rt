@@ -1,7 +1,7 @@
 //! Statements that may not stand where they do.
 
 use crate::name::{Name, name_of};
-use crate::takes::layout;
+use crate::takes::{layout, layout_of};
 use micro_asm::number_of;
 use shown_text::{Fields, line_at, lines_before};
 use std::fmt;
@@ -14,7 +14,11 @@ pub(crate) enum BadOrder {
     // The file ends before the first or second statement.
     Ends(Name),
     // This line says it already.
-    Again { name: Name, line: usize },
+    Again {
+        name: Name,
+        layout: &'static str,
+        line: usize,
+    },
 }
 
 impl BadOrder {
@@ -24,10 +28,14 @@ impl BadOrder {
         match (wanted_at(text, line), name_in(fields)) {
             (Some(wanted), Some(_)) => BadOrder::Wanted(wanted),
             (Some(wanted), None) => BadOrder::Ends(wanted),
-            (None, name) => BadOrder::Again {
-                name: name.unwrap_or(Name::Page),
-                line: find_line(text, fields),
-            },
+            (None, name) => {
+                let name = name.unwrap_or(Name::Page);
+                BadOrder::Again {
+                    name,
+                    layout: layout_of(name, fields),
+                    line: find_line(text, fields),
+                }
+            }
         }
     }
 }
@@ -58,13 +66,30 @@ fn find_line(text: &str, wanted: Fields<'_>) -> usize {
     number
 }
 
-// Whether two lines have one name, and are of one die where that is `image`.
+// Whether two lines have one name, and are of one die or of the same work where that is `image` or `polls`.
 fn says_the_same(line: Fields<'_>, other: Fields<'_>) -> bool {
     if line.get(0) != other.get(0) {
         return false;
     }
-    line.get(0) != Some("image")
-        || (number_at(line, 1) == number_at(other, 1) && number_at(line, 2) == number_at(other, 2))
+    match line.get(0) {
+        Some("image") => is_of_one_lun(line, other, 1),
+        Some("polls") => is_of_same_work(line, other),
+        _ => true,
+    }
+}
+
+// Whether the numbers of a target and a LUN, which stand from this field on, are the same in both lines.
+fn is_of_one_lun(line: Fields<'_>, other: Fields<'_>, first: usize) -> bool {
+    let second = first.saturating_add(1);
+    number_at(line, first) == number_at(other, first)
+        && number_at(line, second) == number_at(other, second)
+}
+
+// Whether two lines `polls` are of the same work.
+fn is_of_same_work(line: Fields<'_>, other: Fields<'_>) -> bool {
+    let is_of_lun = line.get(1) == Some("lun");
+    layout_of(Name::Polls, line) == layout_of(Name::Polls, other)
+        && (!is_of_lun || is_of_one_lun(line, other, 2))
 }
 
 // The number in this field of a line.
@@ -92,9 +117,10 @@ impl fmt::Display for BadOrder {
             BadOrder::Again {
                 name: Name::Image,
                 line,
+                ..
             } => { write!(f, "a die has one image, and line {line} gives it") }
-            BadOrder::Again { name, line } => {
-                write!(f, "`{}` stands once, and line {line} has it", layout(*name))
+            BadOrder::Again { layout, line, .. } => {
+                write!(f, "`{layout}` stands once, and line {line} has it")
             }
         }
     }

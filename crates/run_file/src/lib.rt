@@ -12,6 +12,7 @@ mod number;
 mod operands;
 mod order;
 mod parsing;
+mod polled;
 mod refusal;
 mod statement;
 mod takes;
@@ -19,5 +20,6 @@ mod unknown_statement;
 
 pub use message::RunMessage;
 pub use parsing::{RunText, parse_run};
+pub use polled::Polled;
 pub use refusal::{RunFault, RunRefusal};
 pub use statement::{Numbered, Statement};

@@ -2,12 +2,13 @@
 
 ghost use Rattle.std.specs.Prelude.{◌≡◌, IfOk, IfErr, Ok, Err};
 ghost use Rattle.micro_asm.specs.Line.{fields, before_comment};
-ghost use Rattle.run_file.specs.Line.{page_line, targets_line, image_line, job_files, job_line, polls_line, fail_line, named_line, spelled};
+ghost use Rattle.run_file.specs.Line.{page_line, targets_line, image_line, job_files, job_line, each_polls, work_polls, lun_polls, polls_line, fail_line, named_line, spelled};
 ghost use Rattle.run_file.specs.Shown.{shown_statement, shown_files, IsLine, IsSpelled};
 
 use crate::fields::{field, last_field};
-use crate::name::{Name, name_of};
-use crate::operands::{any_number, number_in, optional_path, path_of};
+use crate::name::{Name, is_named, name_of};
+use crate::operands::{any_number, number_in, optional_path, path_of, polled_of};
+use crate::polled::Polled;
 use crate::refusal::RunFault;
 use crate::statement::Statement;
 use micro_asm::{before_comment, next_field};
@@ -86,12 +87,62 @@ fn job_line(rest: &[u8]) -> Result<Statement<'_>, RunFault>
     })
 }
 
+// The polls of work of which no other line speaks.
+#[tactic(auto, unfolding(crate::specs::Line::each_polls))]
+fn each_polls<'a>(count: &[u8]) -> Result<Statement<'a>, RunFault>
+    ensures { IsLine result (each_polls count.now) }
+{
+    let count = number_in(1, 1000, count)?;
+    Ok(Statement::Polls {
+        of: Polled::Each,
+        count,
+    })
+}
+
+// The polls of the work that a word names.
+#[tactic(auto, unfolding(crate::specs::Line::work_polls))]
+fn work_polls<'a>(work: &[u8], count: &[u8]) -> Result<Statement<'a>, RunFault>
+    ensures { IsLine result (work_polls work.now count.now) }
+{
+    let of = polled_of(work).ok_or(RunFault::UnknownLine)?;
+    let count = number_in(1, 1000, count)?;
+    Ok(Statement::Polls { of, count })
+}
+
+// The polls of a LUN, behind the word for that.
+#[tactic(auto, unfolding(crate::specs::Line::lun_polls))]
+fn lun_polls<'a>(
+    word: &[u8],
+    target: &[u8],
+    lun: &[u8],
+    count: &[u8],
+) -> Result<Statement<'a>, RunFault>
+    ensures { IsLine result (lun_polls word.now target.now lun.now count.now) }
+{
+    if !is_named(word, "lun") {
+        return Err(RunFault::UnknownLine);
+    }
+    let target = any_number(target)?;
+    let lun = any_number(lun)?;
+    let count = number_in(1, 1000, count)?;
+    Ok(Statement::Polls {
+        of: Polled::Lun { target, lun },
+        count,
+    })
+}
+
 #[tactic(auto, unfolding(crate::specs::Line::polls_line))]
 fn polls_line<'a>(rest: &[u8]) -> Result<Statement<'a>, RunFault>
     ensures { IsLine result (polls_line (fields rest.now)) }
 {
-    let count = number_in(1, 1000, last_field(rest)?)?;
-    Ok(Statement::Polls { count })
+    let (first, rest) = field(rest)?;
+    let Some((second, after)) = next_field(rest) else {
+        return each_polls(first);
+    };
+    let Some((third, after)) = next_field(after) else {
+        return work_polls(first, second);
+    };
+    lun_polls(first, second, third, last_field(after)?)
 }
 
 #[tactic(auto, unfolding(crate::specs::Line::fail_line))]

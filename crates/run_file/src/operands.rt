@@ -4,9 +4,10 @@ ghost use Rattle.std.specs.Prelude.{◌≡◌, ◌≤◌, true, IfOk, IfErr, Ok,
 ghost use Rattle.std.specs.Char.{is_ascii};
 ghost use Rattle.std.specs.List.{list_all};
 ghost use Rattle.std.specs.Option.{option_copied};
-ghost use Rattle.run_file.specs.Line.{path_of, optional_path, number_in};
+ghost use Rattle.run_file.specs.Line.{path_of, optional_path, number_in, polled_of};
 
 use crate::name::is_named;
+use crate::polled::Polled;
 use crate::refusal::RunFault;
 use micro_asm::number_of;
 use std::str::from_utf8;
@@ -67,6 +68,23 @@ pub(crate) fn number_in(least: u32, greatest: u32, field: &[u8]) -> Result<u32, 
     } else {
         Err(RunFault::BadNumber)
     }
+}
+
+// The work that a word names.
+#[tactic(auto, unfolding(crate::specs::Line::polled_of))]
+pub(crate) fn polled_of(field: &[u8]) -> Option<Polled>
+    ensures { result ≡ polled_of field.now }
+{
+    if is_named(field, "read") {
+        return Some(Polled::Reads);
+    }
+    if is_named(field, "program") {
+        return Some(Polled::Programs);
+    }
+    if is_named(field, "erase") {
+        return Some(Polled::Erases);
+    }
+    None
 }
 
 // Any number of 32 bits.

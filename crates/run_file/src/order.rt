@@ -1,9 +1,10 @@
 //! The place of a statement after those before it.
 
 ghost use Rattle.std.specs.Prelude.{◌≡◌, IfErr, IfOk, Ok, Err, Some};
-ghost use Rattle.run_file.specs.Told.{is_page, is_targets, is_polls, is_image_of, is_job, stands_once, repeats, stands_before, is_in_order, jobs_in, placed};
+ghost use Rattle.run_file.specs.Told.{is_page, is_targets, is_polls_of, is_image_of, is_job, stands_once, repeats, stands_before, is_in_order, jobs_in, placed};
 ghost use Rattle.run_file.specs.Shown.{shown_statement, shown_all};
 
+use crate::polled::Polled;
 use crate::refusal::RunFault;
 use crate::statement::{Numbered, Statement};
 
@@ -23,10 +24,14 @@ impl<'a> Statement<'a> {
         matches!(self, Statement::Targets { .. })
     }
 
-    fn is_polls(self) -> bool
-        ensures { result ≡ is_polls (shown_statement self.entry) }
+    // Whether it tells the polls of this work.
+    fn is_polls_of(self, work: Polled) -> bool
+        ensures { result ≡ is_polls_of work (shown_statement self.entry) }
     {
-        matches!(self, Statement::Polls { .. })
+        match self {
+            Statement::Polls { of, .. } => work.is_same(of),
+            _ => false,
+        }
     }
 
     pub(crate) fn is_job(self) -> bool
@@ -35,7 +40,7 @@ impl<'a> Statement<'a> {
         matches!(self, Statement::Job { .. })
     }
 
-    // Page, targets, polls and the image of a die stand once.
+    // Page, targets, the polls of some work and the image of a die stand once.
     fn stands_once(self) -> bool
         ensures { result ≡ stands_once (shown_statement self.entry) }
     {
@@ -49,7 +54,7 @@ impl<'a> Statement<'a> {
         match self {
             Statement::Page { .. } => other.is_page(),
             Statement::Targets { .. } => other.is_targets(),
-            Statement::Polls { .. } => other.is_polls(),
+            Statement::Polls { of, .. } => other.is_polls_of(of),
             Statement::Image { target, lun, .. } => other.is_image_of(target, lun),
             Statement::Job { .. } | Statement::Fail { .. } => false,
         }

@@ -1,5 +1,7 @@
 //! What a line of a run file says.
 
+use crate::polled::Polled;
+
 /// One line of a run file.
 #[derive(Clone, Copy, Debug, PartialEq, Eq)]
 pub enum Statement<'a> {
@@ -26,8 +28,9 @@ pub enum Statement<'a> {
         input: Option<&'a str>,
         output: Option<&'a str>,
     },
-    /// A LUN becomes ready when so many polls since its last ready have shown busy, 1 to 1,000.
+    /// A LUN that does this work becomes ready when so many polls since its last ready have shown busy, 1 to 1,000.
     Polls {
+        of: Polled,
         count: u32,
     },
     /// The ready of this number of the LUN, from 1, is with failure.

@@ -1,7 +1,8 @@
 //! A line that is no statement.
 
 use crate::name::{Name, name_of};
-use crate::takes::{count_fields, layout};
+use crate::takes::{count_fields, layout_of};
+use micro_asm::number_of;
 use shown_text::{Fields, Meant, Shown, is_foreign_comment};
 use std::fmt;
 
@@ -24,11 +25,15 @@ pub(crate) enum UnknownStatement<'a> {
     },
     // A field is missing.
     Missing {
-        name: Name,
+        layout: &'static str,
+    },
+    // A line `polls` speaks of no work that there is.
+    NoWork {
+        word: &'a str,
     },
     // This field is one too many.
     Extra {
-        name: Name,
+        layout: &'static str,
         field: &'a str,
     },
 }
@@ -58,11 +63,30 @@ fn of_word(word: &str) -> UnknownStatement<'_> {
 
 // Why these fields are none of the statement with this name.
 fn of_fields(fields: Fields<'_>, name: Name) -> UnknownStatement<'_> {
-    match fields.get(count_fields(name).saturating_add(1)) {
+    match fields.get(count_fields(name, fields).saturating_add(1)) {
         Some(field) if is_foreign_comment(field) => UnknownStatement::ForeignComment,
-        Some(field) => UnknownStatement::Extra { name, field },
-        None => UnknownStatement::Missing { name },
+        Some(field) => of_many_fields(fields, name, field),
+        None => UnknownStatement::Missing {
+            layout: layout_of(name, fields),
+        },
     }
+}
+
+// Why these fields, of which this one is too many, are none of the statement with this name.
+fn of_many_fields<'a>(fields: Fields<'a>, name: Name, field: &'a str) -> UnknownStatement<'a> {
+    let layout = layout_of(name, fields);
+    match (name, fields.get(1)) {
+        (Name::Polls, Some("read" | "program" | "erase" | "lun")) => {
+            UnknownStatement::Extra { layout, field }
+        }
+        (Name::Polls, Some(word)) if is_word(word) => UnknownStatement::NoWork { word },
+        _ => UnknownStatement::Extra { layout, field },
+    }
+}
+
+// A field is no number.
+fn is_word(field: &str) -> bool {
+    number_of(field.as_bytes()).is_none()
 }
 
 impl fmt::Display for UnknownStatement<'_> {
@@ -79,15 +103,21 @@ impl fmt::Display for UnknownStatement<'_> {
                     Shown::line(word)
                 )
             }
-            UnknownStatement::Missing { name } => {
-                write!(f, "a field is missing: the line is `{}`", layout(*name))
+            UnknownStatement::Missing { layout } => {
+                write!(f, "a field is missing: the line is `{layout}`")
             }
-            UnknownStatement::Extra { name, field } => {
+            UnknownStatement::NoWork { word } => {
                 write!(
                     f,
-                    "`{}` is one field too many: the line is `{}`",
-                    Shown::line(field),
-                    layout(*name)
+                    "`{}` is none of read, program, erase and lun, of which a line `polls` speaks",
+                    Shown::line(word)
+                )
+            }
+            UnknownStatement::Extra { layout, field } => {
+                write!(
+                    f,
+                    "`{}` is one field too many: the line is `{layout}`",
+                    Shown::line(field)
                 )
             }
         }

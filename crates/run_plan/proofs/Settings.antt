@@ -6,6 +6,7 @@ use Rattle.onfi_cycle.specs.declared.lun.Lun.{Lun}
 use Rattle.die_model.specs.Die.{Die}
 use Rattle.micro_program.specs.Program.{Job}
 use Rattle.channel_work.specs.declared.stored.Name.{Name}
+use Rattle.run_file.specs.declared.polled.Polled.{Polled}
 use Rattle.run_file.specs.declared.statement.Numbered.{Numbered as Written}
 use Rattle.run_file.specs.Line.{Image as ImageLine, Job as JobLine, Polls as PollsLine, Fail as FailLine}
 use Rattle.run_file.specs.Shown.{shown_statement, shown_numbered, shown_all}
@@ -60,8 +61,8 @@ stays old new setup dies jobs was = record {
   steps = ap (λ (p : PlannedJobs). p.steps) jobs ∙ was.steps;
 }
 
-pub polls_set : (files : Option Store) (g : Parts) (count : ℕ) (old new : RunPlan) → new.dies ≡ old.dies → new.jobs ≡ old.jobs → PlansOne files g (PollsLine count) old new
-polls_set files g count old new dies jobs setup was = (setup, refl, stays old new setup dies jobs was)
+pub polls_set : (files : Option Store) (g : Parts) (work : Polled) (count : ℕ) (old new : RunPlan) → new.dies ≡ old.dies → new.jobs ≡ old.jobs → PlansOne files g (PollsLine work count) old new
+polls_set files g work count old new dies jobs setup was = (setup, refl, stays old new setup dies jobs was)
 
 pub fail_set : (files : Option Store) (g : Parts) (target lun ready : ℕ) (old new : RunPlan) → new.dies ≡ old.dies → new.jobs ≡ old.jobs → PlansOne files g (FailLine target lun ready) old new
 fail_set files g target lun ready old new dies jobs setup was = (setup, refl, stays old new setup dies jobs was)

@@ -9,6 +9,8 @@ use Rattle.micro_word.specs.Text.{Microprogram}
 use Rattle.seq_core.specs.Job.{job_fault}
 use Rattle.seq_core.specs.declared.job_fault.JobFault.{JobFault}
 use Rattle.seq_inputs.specs.Inputs.{HasPageAs, PageIsRefused, HasText, FileOrTextIsRefused}
+use Rattle.run_file.specs.declared.polled.Polled.{Polled}
+use Rattle.run_file.specs.declared.polled.Polled.TheVariants as polled
 use Rattle.run_file.specs.declared.refusal.RunFault.TheVariants.{OutOfOrder, NoSuchLun, InputTooLong}
 use Rattle.run_file.specs.declared.refusal.RunRefusal.{RunRefusal}
 use Rattle.run_file.specs.Line.{Statement}
@@ -52,6 +54,16 @@ abbrev pub LunIsRefused : Parts → ℕ → ℕ → ℕ → Fault → Type 0
 LunIsRefused g targets target lun (Line NoSuchLun) = has_lun g targets target lun ≡ false
 LunIsRefused g targets target lun _ = ⊥
 
+-- the channel has the LUN of which a line `polls` speaks, if it speaks of one
+abbrev pub PollsPass : Parts → ℕ → Polled → Type 0
+PollsPass g targets (polled.Lun target lun) = has_lun g targets target lun ≡ true
+PollsPass g targets _ = ⊤
+
+-- it hasn't
+abbrev pub PollsAreRefused : Parts → ℕ → Polled → Fault → Type 0
+PollsAreRefused g targets (polled.Lun target lun) fault = LunIsRefused g targets target lun fault
+PollsAreRefused g targets _ fault = ⊥
+
 -- the first fault of a job
 abbrev pub fault_of_job : Parts → ℕ → Lun → ℕ → Microprogram → ℕ → Option JobFault
 fault_of_job g targets l base x n = job_fault g targets l base (record { text = x; geometry = g }) n
@@ -85,7 +97,7 @@ JobLineIsRefused files g targets l base text input fault =
 abbrev pub Passes : Option Store → Parts → ℕ → Statement → Type 0
 Passes files g targets (ImageLine target lun path) = (has_lun g targets target lun ≡ true) × HasImage files g path
 Passes files g targets (JobLine target lun base text input output) = (has_lun g targets target lun ≡ true) × JobPasses files g targets (lun_at target lun) base text input
-Passes files g targets (PollsLine count) = ⊤
+Passes files g targets (PollsLine work count) = PollsPass g targets work
 Passes files g targets (FailLine target lun ready) = has_lun g targets target lun ≡ true
 Passes files g targets _ = ⊥
 
@@ -95,7 +107,7 @@ IsRefused files g targets (ImageLine target lun path) fault =
     LunIsRefused g targets target lun fault ⊎ ((has_lun g targets target lun ≡ true) × ImageIsRefused files g path fault)
 IsRefused files g targets (JobLine target lun base text input output) fault =
     LunIsRefused g targets target lun fault ⊎ ((has_lun g targets target lun ≡ true) × JobLineIsRefused files g targets (lun_at target lun) base text input fault)
-IsRefused files g targets (PollsLine count) fault = ⊥
+IsRefused files g targets (PollsLine work count) fault = PollsAreRefused g targets work fault
 IsRefused files g targets (FailLine target lun ready) fault = LunIsRefused g targets target lun fault
 IsRefused files g targets _ fault = fault ≡ Line OutOfOrder
 

@@ -1,3 +1,4 @@
+pub mod Polls
 pub mod Judged
 pub mod Setup
 pub mod Steps

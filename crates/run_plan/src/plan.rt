@@ -9,12 +9,14 @@ ghost use Rattle.run_plan.specs.Steps.{capped, steps_of};
 
 use crate::dies::ChannelDies;
 use crate::failing::Failing;
+use crate::polls::Polls;
 use crate::steps::count_steps;
 use channel_work::Name;
 use nand_geometry::Geometry;
 use seq_core::Job;
 use seq_inputs::CountedHeader;
 use std::alloc::{AllocError, Global};
+use trace_timing::PageTimes;
 
 /// The image of a die, which is written after the run.
 #[derive(Clone, Copy, Debug)]
@@ -64,7 +66,9 @@ pub struct RunPlan<'a> {
     pub dies: ChannelDies,
     pub images: Vec<PlannedImage<'a>>,
     pub jobs: PlannedJobs<'a>,
-    pub polls: u64,
+    pub polls: Polls,
+    /// The times that the parameter page declares.
+    pub times: PageTimes,
     pub fails: Vec<Failing>,
 }
 
@@ -181,6 +185,7 @@ impl<'a> RunPlan<'a> {
         alloc: Global,
         geometry: Geometry,
         targets: u8,
+        times: PageTimes,
     ) -> Result<RunPlan<'a>, AllocError>
         requires { (1 ≤ targets) × (targets ≤ 4) }
         ensures channel { IfOk result (λ plan. (plan.dies.geometry ≡ geometry) × (plan.dies.targets ≡ targets)) }
@@ -191,7 +196,8 @@ impl<'a> RunPlan<'a> {
             dies: ChannelDies::new(alloc, geometry, targets)?,
             images: Vec::new(alloc),
             jobs: PlannedJobs::new(alloc, targets)?,
-            polls: 1,
+            polls: Polls::ONE,
+            times,
             fails: Vec::new(alloc),
         })
     }

@@ -10,21 +10,22 @@ ghost use Rattle.seq_inputs.specs.Stops.{IsRefusal, Says, SaysAt};
 ghost use Rattle.seq_inputs.specs.declared.fault.Fault.TheVariants.{Statement as StatementFault};
 ghost use Rattle.run_file.specs.declared.refusal.RunFault.TheVariants.{NoSuchLun};
 ghost use Rattle.run_plan.specs.Plans.{line_refused};
-ghost use Rattle.run_plan.specs.Judged.{has_lun, lun_at, LunIsRefused, JobPasses, JobLineIsRefused, Passes, IsRefused, IsRefusedAt, RestPasses, RestIsRefused, EndIsRefused, page_of, targets_of, PlanPasses, PlanIsRefused};
+ghost use Rattle.run_plan.specs.Judged.{has_lun, lun_at, LunIsRefused, PollsPass, PollsAreRefused, JobPasses, JobLineIsRefused, Passes, IsRefused, IsRefusedAt, RestPasses, RestIsRefused, EndIsRefused, page_of, targets_of, PlanPasses, PlanIsRefused};
 
 use crate::failing::Failing;
 use crate::plan::{PlannedImage, RunPlan};
-use crate::reading::{read_buffer, read_die};
+use crate::reading::{ReadPage, read_buffer, read_die, read_page};
 use nand_geometry::{Geometry, Profile};
 use onfi_cycle::Lun;
-use run_file::{Numbered, RunFault, RunRefusal, RunText, Statement};
+use run_file::{Numbered, Polled, RunFault, RunRefusal, RunText, Statement};
 use seq_core::Job;
 use seq_files::Files;
 use seq_inputs::{
-    CountedHeader, Fault, MOST_BUFFER_BYTES, Refusal, Stop, VerifiedProgram, Words, geometry_as,
-    verified_at, words_of_job,
+    CountedHeader, Fault, MOST_BUFFER_BYTES, Refusal, Stop, VerifiedProgram, Words, verified_at,
+    words_of_job,
 };
 use std::alloc::Global;
+use trace_timing::PageTimes;
 
 // A line doesn't stand where it is.
 fn refuse_statement<'a>(fault: RunFault) -> Stop<'a>
@@ -153,10 +154,7 @@ impl<'a> RunPlan<'a> {
                 let lun = find_lun(alloc, &self.dies.geometry, self.dies.targets, target, lun)?;
                 self.add_job(alloc, files, line, lun, base, text, input, output)
             }
-            Statement::Polls { count } => {
-                self.polls = u64::from(count);
-                Ok(())
-            }
+            Statement::Polls { of, count } => self.set_polls(alloc, of, count),
             Statement::Fail { target, lun, ready } => self.add_failing(alloc, target, lun, ready),
         }
     }
@@ -222,6 +220,29 @@ impl<'a> RunPlan<'a> {
             return Err(Stop::BuffersTooLarge { bytes, line: None });
         }
         self.jobs.push(alloc, line, job, output, counted)?;
+        Ok(())
+    }
+
+    // Tells after how many polls this work is over.
+    fn set_polls(&mut self, alloc: Global, of: Polled, count: u32) -> Result<(), Stop<'a>>
+        ensures ok { OnOk result (PollsPass self.old.dies.geometry self.old.dies.targets of) }
+        ensures err { IfErr result (Says (PollsAreRefused self.old.dies.geometry self.old.dies.targets of)) }
+        ensures channel { (self.new.dies.geometry ≡ self.old.dies.geometry) × (self.new.dies.targets ≡ self.old.dies.targets) }
+        ensures dies { self.new.dies ≡ self.old.dies }
+        ensures jobs { self.new.jobs ≡ self.old.jobs }
+        ensures images { self.new.images ≡ self.old.images }
+    {
+        let count = u64::from(count);
+        match of {
+            Polled::Each => self.polls.each = count,
+            Polled::Reads => self.polls.read = Some(count),
+            Polled::Programs => self.polls.program = Some(count),
+            Polled::Erases => self.polls.erase = Some(count),
+            Polled::Lun { target, lun } => {
+                let lun = find_lun(alloc, &self.dies.geometry, self.dies.targets, target, lun)?;
+                self.polls.set_lun(lun, count);
+            }
+        }
         Ok(())
     }
 
@@ -365,6 +386,7 @@ fn plan_rest<'a, F: Files>(
     files: &mut F,
     geometry: Geometry,
     targets: u8,
+    times: PageTimes,
     rest: &[Numbered<'a>],
     last: Option<RunRefusal>,
 ) -> Result<RunPlan<'a>, Stop<'a>>
@@ -377,7 +399,7 @@ fn plan_rest<'a, F: Files>(
     ensures err { IfErr result (SaysAt (RestIsRefused (F.store files.old) geometry targets (shown_all rest.now) last)) }
     ensures stays { F.store files.new ≡ F.store files.old }
 {
-    let mut plan = RunPlan::new(alloc, geometry, targets)?;
+    let mut plan = RunPlan::new(alloc, geometry, targets, times)?;
     match plan.add_all(alloc, files, rest, last) {
         Ok(()) => Ok(plan),
         Err(stop) => Err(stop),
@@ -406,15 +428,16 @@ pub fn plan_run<'a, F: Files>(
     let Some((line, path)) = find_page(statements) else {
         return Err(refuse_end(text.fault));
     };
-    let geometry = match geometry_as(alloc, files, profile, path) {
-        Ok(geometry) => geometry,
+    let page = match read_page(alloc, files, profile, path) {
+        Ok(page) => page,
         Err(stop) => return Err(stop.at(line)),
     };
     let Some(targets) = find_targets(statements) else {
         return Err(refuse_end(text.fault));
     };
     let rest = statements.split_at(2).1;
-    match plan_rest(alloc, files, geometry, targets, rest, text.fault) {
+    let ReadPage { geometry, times } = page;
+    match plan_rest(alloc, files, geometry, targets, times, rest, text.fault) {
         Ok(plan) => Ok(plan),
         Err(stop) => Err(stop),
     }

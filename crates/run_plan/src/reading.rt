@@ -1,20 +1,46 @@
-//! The files that a run file names beside pages and programs: images of dies, and inputs of jobs.
+//! The files that a run file names beside programs: its page, images of dies, and inputs of jobs.
 ghost use Rattle.std.specs.Prelude.{◌≡◌, true, IfOk, IfErr, OnOk, vec_len};
 ghost use Rattle.std.specs.Option.{option_copied};
 ghost use Rattle.target_bus.specs.Bus.{is_new_of};
 ghost use Rattle.run_file.specs.declared.refusal.RunFault.TheVariants.{InputTooLong};
 ghost use Rattle.seq_inputs.specs.declared.fault.Fault.TheVariants.{Statement};
+ghost use Rattle.seq_inputs.specs.Inputs.{HasPageAs, PageIsRefused};
 ghost use Rattle.seq_inputs.specs.Stops.{Says, IsRefusal};
 ghost use Rattle.run_plan.specs.Setup.{HasImageOf};
 ghost use Rattle.run_plan.specs.Judged.{ImageIsRefused, HasImage, HasInput, InputIsRefused};
 
 use die_model::{ImageRefusal, LunDie};
-use nand_geometry::Geometry;
+use nand_geometry::{Geometry, Profile};
 use run_file::RunFault;
 use seq_files::Files;
-use seq_inputs::{Fault, Stop, Words, read_file, words_of};
+use seq_inputs::{Fault, Stop, Words, geometry_in, read_file, words_of};
 use shown_text::Shown;
 use std::alloc::Global;
+use trace_timing::PageTimes;
+
+/// What a parameter page declares.
+#[derive(Clone, Copy)]
+pub(crate) struct ReadPage {
+    pub(crate) geometry: Geometry,
+    pub(crate) times: PageTimes,
+}
+
+/// What the page at a path declares, read for this profile.
+pub(crate) fn read_page<'a, F: Files>(
+    alloc: Global,
+    files: &mut F,
+    profile: Profile,
+    path: &'a str,
+) -> Result<ReadPage, Stop<'a>>
+    ensures ok { IfOk result (λ page. HasPageAs (F.store files.old) profile path.now page.geometry) }
+    ensures err { IfErr result (Says (PageIsRefused (F.store files.old) path.now)) }
+    ensures stays { F.store files.new ≡ F.store files.old }
+{
+    let bytes = read_file(alloc, files, path)?;
+    let geometry = geometry_in(alloc, profile, path, bytes.as_slice())?;
+    let times = PageTimes::read(bytes.as_slice());
+    Ok(ReadPage { geometry, times })
+}
 
 /// A new die whose content is the image at a path.
 #[tactic(auto, using(crate::proofs::DiesFit::loaded_is_new))]

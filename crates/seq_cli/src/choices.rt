@@ -7,6 +7,7 @@ use clap::Arg;
 pub(crate) enum Choices {
     Any,
     ZeroToThree,
+    ZeroToFive,
     OneToFour,
     OneToEight,
     OneTwoFour,
@@ -19,6 +20,7 @@ impl Choices {
         match self {
             Choices::Any => arg,
             Choices::ZeroToThree => arg.value_parser(["0", "1", "2", "3"].as_slice()),
+            Choices::ZeroToFive => { arg.value_parser(["0", "1", "2", "3", "4", "5"].as_slice()) }
             Choices::OneToFour => arg.value_parser(["1", "2", "3", "4"].as_slice()),
             Choices::OneToEight => {
                 arg.value_parser(["1", "2", "3", "4", "5", "6", "7", "8"].as_slice())

@@ -26,6 +26,7 @@ use trace_commands::{
 use trace_faults::{Beginning, Readies};
 use trace_files::{DrawForm, Drawing, TraceOutputs};
 use trace_text::TraceForm;
+use trace_timing::TimingMode;
 
 /// The commands by their words, in the order in which an author uses them. One that is declared here is declared to the parser, and read, or
 /// nothing of it compiles.
@@ -659,6 +660,14 @@ fn read_steps<'a>(
     }
 }
 
+// The timing mode that is given, if one is.
+fn mode_of(digit: Option<&str>) -> Option<TimingMode> {
+    match digit {
+        Some(digit) => TimingMode::of(digit),
+        None => None,
+    }
+}
+
 // What a run is asked for.
 fn read_run<'a>(matches: &ArgMatches<'a>) -> Result<RunRequest<'a>, Mistake<'a>> {
     Ok(RunRequest {
@@ -667,6 +676,7 @@ fn read_run<'a>(matches: &ArgMatches<'a>) -> Result<RunRequest<'a>, Mistake<'a>>
         max_steps: read_steps("--max-steps", matches.get_str("max-steps"), MOST_STEPS)?,
         workers: count_workers(find_word(matches, "workers")),
         is_quiet: matches.get_flag("quiet"),
+        times: mode_of(matches.get_str("times")),
         trace: read_outputs(matches, "trace"),
         has_stats: matches.get_flag("stats"),
     })

@@ -255,6 +255,13 @@ pub(crate) const RUN: Declaration = Declaration {
             ..FLAG
         },
         Declared {
+            name: "times",
+            form: Form::Value("MODE"),
+            help: "Gives each item of the trace a time in ns, as check --recorded reads it, by this timing mode and by tR, tPROG and tBERS of the parameter page",
+            choices: Choices::ZeroToFive,
+            ..REQUIRED
+        },
+        Declared {
             name: "trace",
             form: Form::Value("OUT"),
             help: "Writes the trace to this file too",

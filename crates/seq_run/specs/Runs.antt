@@ -7,7 +7,7 @@ use Rattle.micro_program.specs.Program.{Job}
 use Rattle.die_model.specs.Die.{Die}
 use Rattle.target_bus.specs.Bus.{Traced, channel_of, StandFor}
 use Rattle.nand_geometry.specs.declared.parts.Parts.{Parts}
-use Rattle.trace_files.specs.Files.{files_of}
+use Rattle.trace_text.specs.declared.recorded_item.TimedItem.{TimedItem}
 use Rattle.run_file.specs.Line.{Statement}
 use Rattle.run_file.specs.Told.{told}
 use Rattle.seq_run.specs.declared.request.RunRequest.{RunRequest}
@@ -25,10 +25,11 @@ use Rattle.run_plan.specs.Plans.{HasSetUp}
 use Rattle.seq_run.specs.Lines.{job_lines}
 use Rattle.run_plan.specs.Steps.{steps_of_all}
 use Rattle.seq_run.specs.Happened.{HasHappened}
+use Rattle.seq_run.specs.Timed.{HasTimes, text_of, files_with}
 use Rattle.seq_run.specs.Written.{buffers_of, images_of, printed_trace, codes_of}
 
 -- what has come of a channel: what happened on its bus, which is legal, a die for each LUN as that left it, the jobs after their end, the images to be
--- written, and the bytes of a picture of its trace
+-- written, the times of its trace if it has any, and the bytes of a picture of it
 pub record Outcome : Type 0 where
   pub bus : Traced
   pub legal : is_legal bus.geometry bus.targets bus.past ≡ true
@@ -37,11 +38,12 @@ pub record Outcome : Type 0 where
   pub stand : StandFor (channel_of bus) bus.past dies
   pub jobs : List EndedJob
   pub images : List PlannedImage
+  pub timed : List TimedItem
   pub drawn : List ℕ
 
 -- the files that are written of the trace, those that are asked for
 abbrev pub files_of_trace : RunRequest → Outcome → List Written
-files_of_trace request o = files_of request.trace o.bus.geometry o.bus.targets (reverse o.bus.past) o.drawn
+files_of_trace request o = files_with request.times request.trace o.bus.geometry o.bus.targets (reverse o.bus.past) o.timed o.drawn
 
 -- the files that are written: the buffers, the images, and those of the trace
 abbrev pub writes_of : RunRequest → Outcome → List Written
@@ -49,10 +51,11 @@ writes_of request o = buffers_of o.jobs ++ (images_of o.dies o.images ++ files_o
 
 -- what is printed: the trace, unless it is kept quiet, and a line for each job
 abbrev pub lines_of : RunRequest → Outcome → List ℕ
-lines_of request o = printed_trace request.is_quiet (reverse o.bus.past) ++ job_lines 1 (codes_of o.jobs)
+lines_of request o = printed_trace request.is_quiet (text_of request.times (reverse o.bus.past) o.timed) ++ job_lines 1 (codes_of o.jobs)
 
--- this has come of what was run
-pub record ShowsAll (ran : Ran) (o : Outcome) : Type 0 where
+-- this has come of what was run, and its trace has times if the request asks for them
+pub record ShowsAll (request : RunRequest) (ran : Ran) (o : Outcome) : Type 0 where
+  pub times : HasTimes request.times (reverse o.bus.past) o.timed
   pub bus : o.bus ≡ ran.bus
   pub jobs : o.jobs ≡ ran.jobs.items
   pub images : o.images ≡ ran.images.items
@@ -61,8 +64,9 @@ pub record ShowsAll (ran : Ran) (o : Outcome) : Type 0 where
 abbrev pub HappenedAsPlanned : RunPlan → Traced → List EndedJob → Type 0
 HappenedAsPlanned plan bus jobs = (setup : Setup) → HasSetUp plan setup → HasHappened setup bus jobs
 
--- this has come of what was planned: each job has ended, and stands in its place
-pub record IsOutcomeOf (plan : RunPlan) (o : Outcome) : Type 0 where
+-- this has come of what was planned: each job has ended, and stands in its place; and its trace has times if the request asks for them
+pub record IsOutcomeOf (request : RunRequest) (plan : RunPlan) (o : Outcome) : Type 0 where
+  pub times : HasTimes request.times (reverse o.bus.past) o.timed
   pub geometry : o.bus.geometry ≡ plan.dies.geometry
   pub targets : o.bus.targets ≡ plan.dies.targets
   pub outputs : ended_outputs o.jobs ≡ planned_outputs plan.jobs.all.items
@@ -70,7 +74,8 @@ pub record IsOutcomeOf (plan : RunPlan) (o : Outcome) : Type 0 where
   pub happened : HappenedAsPlanned plan o.bus o.jobs
 
 -- the run file is there, and all that it says passes on the channel of this outcome; there are its jobs, with the outputs that it gives them, and its
--- images; the jobs step no more words than the request allows; and what happened is of the dies and the jobs that it sets up
+-- images; the jobs step no more words than the request allows; what happened is of the dies and the jobs that it sets up; and its trace has times if the
+-- request asks for them: of each item one, and they never fall
 pub record IsPlanned (files : Option Store) (request : RunRequest) (o : Outcome) : Type 0 where
   pub text : List ℕ
   pub is_there : Holds files request.path.now text
@@ -81,6 +86,7 @@ pub record IsPlanned (files : Option Store) (request : RunRequest) (o : Outcome)
   pub sets_up : SetsUp files o.bus.geometry (drop 2 (told text).statements) (erased o.bus.geometry o.bus.targets) setup
   pub few : steps_of_all setup.jobs ≤ request.max_steps
   pub happened : HasHappened setup o.bus o.jobs
+  pub times : HasTimes request.times (reverse o.bus.past) o.timed
 
 -- the run is done: everything is written and printed
 pub record IsRunDone (files later : Option Store) (request : RunRequest) (printed : List ℕ) : Type 0 where

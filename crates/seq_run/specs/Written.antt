@@ -3,10 +3,8 @@ use Rattle.std.specs.Prelude.{ℕ, Bool, if◌then◌else◌, List, [], map, Opt
 use Rattle.std.specs.List.{filter_map}
 use Rattle.std.specs.Option.{option_map, option_copied}
 use Rattle.seq_files.specs.Store.{Written}
-use Rattle.onfi_cycle.specs.declared.item.Item.{Item}
 use Rattle.die_model.specs.Die.{Die}
 use Rattle.die_model.specs.Image.{image_of}
-use Rattle.trace_text.specs.Line.{text}
 use Rattle.run_plan.specs.declared.plan.PlannedImage.{PlannedImage}
 use Rattle.seq_run.specs.declared.job_ends.EndedJob.{EndedJob}
 
@@ -27,8 +25,8 @@ abbrev pub images_of : List Die → List PlannedImage → List Written
 images_of dies images = filter_map (image_at dies) images
 
 -- the text of a trace, unless it is kept quiet
-abbrev pub printed_trace : Bool → List Item → List ℕ
-printed_trace is_quiet items = if is_quiet then [] else text items
+abbrev pub printed_trace : Bool → List ℕ → List ℕ
+printed_trace is_quiet lines = if is_quiet then [] else lines
 
 -- the codes with which jobs have ended
 abbrev pub codes_of : List EndedJob → List ℕ

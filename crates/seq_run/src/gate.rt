@@ -1,14 +1,15 @@
 //! What the workers of a run ask: whether a LUN became ready, and whether all jobs are stored.
 
 use channel_work::Gate;
-use onfi_cycle::Lun;
-use run_plan::Failing;
+use onfi_cycle::{Command, Lun};
+use run_plan::{Failing, Polls};
 use std::sync::atomic::{AtomicU64, Ordering};
+use trace_timing::BusyTime;
 
-/// The gate of a run: it gives every turn, and lets a LUN become ready after so many polls that say busy.
+/// The gate of a run: it gives every turn, and lets a LUN become ready after so many polls that say busy as its run file tells of its work.
 #[derive(Drop)]
 pub struct RunGate {
-    polls: u64,
+    polls: Polls,
     // In rising order.
     fails: Vec<Failing>,
     closed: AtomicU64,
@@ -17,7 +18,7 @@ pub struct RunGate {
 
 impl RunGate {
     /// A gate that isn't closed.
-    pub fn new(polls: u64, fails: Vec<Failing>) -> RunGate {
+    pub fn new(polls: Polls, fails: Vec<Failing>) -> RunGate {
         let mut fails = fails;
         fails.as_mut_slice().sort_unstable();
         RunGate {
@@ -42,6 +43,16 @@ impl RunGate {
     pub fn is_stopped(&self) -> bool {
         self.stopped.load(Ordering::SeqCst) == 1
     }
+
+    // Whether the next ready of a LUN is with failure.
+    fn fails_next(&self, lun: Lun, works: u64) -> bool {
+        let failing = Failing {
+            target: lun.ce,
+            lun: lun.lun,
+            ready: works.saturating_add(1),
+        };
+        self.fails.as_slice().binary_search(&failing).is_ok()
+    }
 }
 
 impl Gate for RunGate {
@@ -50,15 +61,25 @@ impl Gate for RunGate {
     }
 
     fn ready(&self, lun: Lun, busy_polls: u64, works: u64) -> Option<bool> {
-        if busy_polls < self.polls {
-            return None;
-        }
-        let failing = Failing {
-            target: lun.ce,
-            lun: lun.lun,
-            ready: works.saturating_add(1),
+        self.ready_after(None, lun, busy_polls, works)
+    }
+
+    fn ready_after(
+        &self,
+        begun: Option<Command>,
+        lun: Lun,
+        busy_polls: u64,
+        works: u64,
+    ) -> Option<bool> {
+        let work = match begun {
+            Some(command) => BusyTime::of(command),
+            None => None,
         };
-        Some(self.fails.as_slice().binary_search(&failing).is_ok())
+        if busy_polls < self.polls.count(lun, work) {
+            None
+        } else {
+            Some(self.fails_next(lun, works))
+        }
     }
 
     fn array_ready(&self, _lun: Lun, _works: u64) -> bool {

@@ -14,6 +14,7 @@ mod run_command;
 mod run_name;
 mod running;
 mod summary;
+mod timed_trace;
 mod unmet_fails;
 mod used_files;
 mod workers;

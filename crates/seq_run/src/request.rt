@@ -2,6 +2,7 @@
 
 use nand_geometry::Profile;
 use trace_files::TraceOutputs;
+use trace_timing::TimingMode;
 
 /// How many words the programs of a run may step at most, all together, where the command line doesn't say: they take about a quarter of an hour.
 pub const MOST_STEPS: u64 = 10_000_000_000;
@@ -19,6 +20,8 @@ pub struct RunRequest<'a> {
     pub workers: u8,
     /// Whether the trace isn't printed.
     pub is_quiet: bool,
+    /// The timing mode by which the items of the trace have times, if they have.
+    pub times: Option<TimingMode>,
     /// The files of the trace.
     pub trace: TraceOutputs<'a>,
     /// Whether standard error tells what there was.

@@ -30,6 +30,7 @@ use std::io::{self, Write};
 use std::sync::Wait;
 use std::thread::Threads;
 use std::time::Clock;
+use trace_timing::PageTimes;
 
 // Reads the text of a run file, and judges it with the files that it names.
 fn plan_text<'a, F: Files>(
@@ -61,20 +62,21 @@ fn carry_out<'a, R: Threads + Wait + Sync, C: Clock, F: Files, W: Write, E: Writ
     request: RunRequest<'a>,
     plan: RunPlan<'a>,
 ) -> Result<Summary, Stop<'a>>
-    ensures ok { OnOk result ((o : Outcome) × IsOutcomeOf plan.entry o
+    ensures ok { OnOk result ((o : Outcome) × IsOutcomeOf request.entry plan.entry o
         × (F.store files.new ≡ with_all (writes_of request.entry o) (F.store files.old))
         × Appends (W.contents console.old.output) (W.contents console.new.output) (lines_of request.entry o)) }
-    ensures err { OnErr result ((F.store files.new ≡ F.store files.old) ⊎ ((o : Outcome) × IsOutcomeOf plan.entry o
+    ensures err { OnErr result ((F.store files.new ≡ F.store files.old) ⊎ ((o : Outcome) × IsOutcomeOf request.entry plan.entry o
         × (F.store files.new ≡ with_all (writes_of request.entry o) (F.store files.old)))) }
     ensures nothing { IfErr result RefusesNothing }
 {
     let jobs = plan.jobs.all.len();
+    let page = plan.times;
     console.progress.begin(Phase::Running { jobs });
     times.begin();
     let ran = run_as_planned(rt, alloc, plan, request.workers)?;
     times.end();
     console.progress.begin(Phase::Writing);
-    write_run(alloc, files, &mut console.output, request, ran)
+    write_run(alloc, files, &mut console.output, request, page, ran)
 }
 
 // Tells what there was in a run that is done.
@@ -170,6 +172,28 @@ fn say_no_job<E: Write>(errors: &mut E, request: RunRequest<'_>, jobs: &PlannedJ
     }
 }
 
+// Says which times of work the parameter page of a run doesn't say, where its trace is to have times.
+fn say_undeclared_times<E: Write>(errors: &mut E, request: RunRequest<'_>, page: PageTimes) {
+    if request.times.is_none() {
+        return;
+    }
+    let path = Shown::path(request.path);
+    let times = [
+        (page.read_us, "tR"),
+        (page.program_us, "tPROG"),
+        (page.erase_us, "tBERS"),
+    ];
+    for (time, name) in times {
+        if time == 0 {
+            let _ = writeln!(
+                errors,
+                "{path}: the parameter page says no {name}: such work takes tWB alone"
+            );
+        }
+    }
+    let _ = errors.flush();
+}
+
 // Runs the text of the run file.
 fn run_text<R: Threads + Wait + Sync, C: Clock, F: Files, W: Write, E: Write, P: RunProgress>(
     rt: &R,
@@ -200,6 +224,7 @@ fn run_text<R: Threads + Wait + Sync, C: Clock, F: Files, W: Write, E: Write, P:
     }
     say_no_job(&mut console.errors, request, &plan.jobs);
     say_counted_headers(alloc, &mut console.errors, &plan.jobs);
+    say_undeclared_times(&mut console.errors, request, plan.times);
     match admit_files(alloc, files, &mut console.errors, request, text) {
         Ok(true) => {}
         Ok(false) => return Exit::Usage,

@@ -333,6 +333,7 @@ pub(crate) fn run_as_planned<'a, R: Threads + Wait + Sync>(
         images,
         jobs,
         polls,
+        times: _,
         fails,
     } = plan;
     let PlannedJobs {

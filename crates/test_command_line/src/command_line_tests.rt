@@ -33,6 +33,7 @@ const RUN: RunRequest<'static> = RunRequest {
     max_steps: MOST_STEPS,
     workers: 1,
     is_quiet: false,
+    times: None,
     trace: TraceOutputs::NONE,
     has_stats: false,
 };
@@ -116,6 +117,7 @@ const REQUESTS: &[(&str, RunRequest<'static>)] = &[
             max_steps: 7,
             workers: 6,
             is_quiet: true,
+            times: None,
             trace: TraceOutputs {
                 text: Some("out"),
                 ..TraceOutputs::NONE

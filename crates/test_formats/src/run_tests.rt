@@ -1,5 +1,5 @@
 use linked_list_allocator::LocalHeap;
-use run_file::{Numbered, RunFault, RunRefusal, Statement, parse_run};
+use run_file::{Numbered, Polled, RunFault, RunRefusal, Statement, parse_run};
 use std::alloc::{AllocError, Global};
 use std::test::Fail;
 
@@ -67,7 +67,10 @@ const FILES: &[Read] = &[
             },
             Numbered {
                 line: 3,
-                statement: Statement::Polls { count: 1 },
+                statement: Statement::Polls {
+                    of: Polled::Each,
+                    count: 1,
+                },
             },
             ERASE_ON_ZERO,
             ERASE_ON_ONE,
@@ -124,7 +127,10 @@ const FILES: &[Read] = &[
             },
             Numbered {
                 line: 10,
-                statement: Statement::Polls { count: 1000 },
+                statement: Statement::Polls {
+                    of: Polled::Each,
+                    count: 1000,
+                },
             },
             Numbered {
                 line: 11,

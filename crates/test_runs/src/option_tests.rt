@@ -26,6 +26,7 @@ const END: &str = "job 1 end 0\n";
 fn ask_stats() -> RunRequest<'static> {
     RunRequest {
         is_quiet: true,
+        times: None,
         has_stats: true,
         ..ask(1)
     }

@@ -104,6 +104,7 @@ pub(crate) fn ask(workers: u8) -> RunRequest<'static> {
         max_steps: MOST_STEPS,
         workers,
         is_quiet: false,
+        times: None,
         trace: TraceOutputs::NONE,
         has_stats: false,
     }

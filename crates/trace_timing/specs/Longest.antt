@@ -1,7 +1,10 @@
 -- How long work takes at the most.
-use Rattle.std.specs.Prelude.{ℕ, ◌*◌, ◌<◌, ◌^◌}
+use Rattle.std.specs.Prelude.{ℕ, ◌*◌, ◌<◌, ◌^◌, Option, Some, None}
+use Rattle.onfi_cycle.specs.declared.command.Command.{Command}
+use Rattle.onfi_cycle.specs.declared.command.Command.TheVariants.{ReadConfirm, ReadCacheSequential, ReadCacheEnd, ReadParameterPage, ProgramConfirm, BlockEraseConfirm, Reset, GetFeatures, SetFeatures}
 use Rattle.trace_timing.specs.declared.busy_time.BusyTime.{BusyTime}
-use Rattle.trace_timing.specs.declared.busy_time.BusyTime.TheVariants.{Read, Program, Erase, Reset, Features}
+use Rattle.trace_timing.specs.declared.busy_time.BusyTime.TheVariants.{Read, Program, Erase, Features}
+use Rattle.trace_timing.specs.declared.busy_time.BusyTime.TheVariants as busy
 use Rattle.trace_timing.specs.declared.busy_time.LongestTimes.{LongestTimes}
 use Rattle.trace_timing.specs.declared.modes.TimingMode.{TimingMode}
 use Rattle.trace_timing.specs.declared.modes.TimingMode.TheVariants.{Zero, One, Two, Three, Four, Five}
@@ -16,11 +19,24 @@ pub record AreFinite (t : LongestTimes) : Type 0 where
   pub reset : t.reset < 2 ^ 62
   pub features : t.features < 2 ^ 62
 
+-- the time that bounds the work which a command, or an address or an input behind it, begins
+abbrev pub bound_of : Command → Option BusyTime
+bound_of ReadConfirm = Some Read
+bound_of ReadCacheSequential = Some Read
+bound_of ReadCacheEnd = Some Read
+bound_of ReadParameterPage = Some Read
+bound_of ProgramConfirm = Some Program
+bound_of BlockEraseConfirm = Some Erase
+bound_of Reset = Some busy.Reset
+bound_of GetFeatures = Some Features
+bound_of SetFeatures = Some Features
+bound_of _ = None
+
 abbrev pub time_of : LongestTimes → BusyTime → ℕ
 time_of t Read = t.read
 time_of t Program = t.program
 time_of t Erase = t.erase
-time_of t Reset = t.reset
+time_of t busy.Reset = t.reset
 time_of t Features = t.features
 
 -- a number of microseconds in femtoseconds

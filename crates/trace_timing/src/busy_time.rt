@@ -1,9 +1,10 @@
 //! The most times of a chip.
 ghost use Rattle.std.specs.Prelude.{◌≡◌, ◌<◌, ◌^◌};
-ghost use Rattle.trace_timing.specs.Longest.{AreFinite, microseconds, reset_time, longest_of, time_of};
+ghost use Rattle.trace_timing.specs.Longest.{AreFinite, microseconds, reset_time, longest_of, time_of, bound_of};
 
 use crate::modes::{TimingMode, femtoseconds};
 use crate::page_times::PageTimes;
+use onfi_cycle::Command;
 
 /// Which time bounds work: a read, a program, an erase, a reset, or a command of features.
 #[derive(Clone, Copy, Debug, PartialEq, Eq)]
@@ -16,6 +17,23 @@ pub enum BusyTime {
 }
 
 impl BusyTime {
+    /// The time that bounds the work which this command, or an address or an input behind it, begins; None where nothing is said of it.
+    pub fn of(command: Command) -> Option<BusyTime>
+        ensures { result ≡ bound_of command }
+    {
+        match command {
+            Command::ReadConfirm
+            | Command::ReadCacheSequential
+            | Command::ReadCacheEnd
+            | Command::ReadParameterPage => Some(BusyTime::Read),
+            Command::ProgramConfirm => Some(BusyTime::Program),
+            Command::BlockEraseConfirm => Some(BusyTime::Erase),
+            Command::Reset => Some(BusyTime::Reset),
+            Command::GetFeatures | Command::SetFeatures => Some(BusyTime::Features),
+            _ => None,
+        }
+    }
+
     /// Its name in a datasheet.
     pub fn timing(self) -> &'static str {
         match self {

@@ -7,7 +7,7 @@ use crate::page_times::PageTimes;
 use crate::timings::Timings;
 
 // Femtoseconds in a nanosecond.
-const NANOSECOND: u64 = 1_000_000;
+pub(crate) const NANOSECOND: u64 = 1_000_000;
 
 /// What differs between the modes, in nanoseconds.
 #[derive(Clone, Copy, Debug, PartialEq, Eq)]

@@ -12,7 +12,7 @@ use onfi_cycle::{Cycle, Item};
 use std::alloc::{AllocError, Allocator};
 
 /// How many targets a channel has at most.
-const TARGETS: usize = 4;
+pub(crate) const TARGETS: usize = 4;
 
 /// By what times are judged.
 #[derive(Clone, Copy, Debug, PartialEq, Eq)]
