@@ -1,5 +1,5 @@
 -- In a legal trace of the base profile, with its readies written, the work of operations is the model's.
-use Rattle.std.proofs.Common.{◌≡◌, ℕ, zero, suc, ◌+◌, ◌≤◌, Bool, true, false, ◌&&◌, not, List, [], ◌∷◌, ◌++◌, Some, None, is_some, refl, sym, ap, ◌∙◌, subst, length, reverse, replicate, arith, ◌<◌, cond, Option}
+use Rattle.std.proofs.Common.{◌≡◌, ℕ, zero, suc, ◌+◌, ◌≤◌, Bool, true, false, ◌&&◌, not, List, [], ◌∷◌, ◌++◌, Some, None, is_some, refl, sym, ap, ◌∙◌, subst, length, reverse, replicate, arith}
 use Rattle.std.specs.Prelude.{slice_get}
 use Rattle.std.proofs.lemmas.Bool.{and_parts, and_from}
 use Rattle.std.proofs.lemmas.List.{reverse-append, append_assoc, append-nil, length-append}
@@ -170,14 +170,16 @@ module _ (g : Parts) (targets : ℕ) (few : targets ≤ 4) (luns : g.luns ≤ 4)
       on_busy lun is h =
           let busy : busy_of g targets past lun.ce lun.lun ≡ true = busy_there g targets past lun.ce lun.lun is.target is.lun ∙ h in
           let working = tells.working lun.ce lun.lun busy in
-          let began = tells.began lun.ce lun.lun working.number (tells.small lun.ce lun.lun busy).1 working.is in
-          (working.number, record {
-            operation = began.operation;
-            is_there = began.is_there;
-            target = began.target;
-            lun = began.on;
-            at_work = and_from (is_some began.operation.start) (not (is_some began.operation.end)) began.started (ap not (working.unended began.operation began.is_there));
-          })
+          let began = tells.began lun.ce lun.lun working.number (tells.small lun.ce lun.lun busy).1 working.is in (
+            working.number,
+            record {
+              operation = began.operation;
+              is_there = began.is_there;
+              target = began.target;
+              lun = began.on;
+              at_work = and_from (is_some began.operation.start) (not (is_some began.operation.end)) began.started (ap not (working.unended began.operation began.is_there));
+            },
+          )
 
       place_of : (k : ℕ) (lun : Lun) → IsAtWork l.ops k lun → worker_in l.places.workers lun.ce lun.lun ≡ Some k
       place_of k lun at =
