@@ -309,7 +309,7 @@ module _ (g : Parts) (targets n : ℕ) (one_lun : Bool) (past : List Item) (mark
       Domestic (new_by_command j newest c kind) × FitsKind kind c.byte (new_by_command j newest c kind).beginning
   new_domestic Cmd kept apart newest = (
     keep (begins_one newest c.byte) _ _
-    (begun_domestic c.ce n (begins.Opener c.byte) (or_both (is_unknown c.byte) (c.byte == 0x85) (base_known Cmd kept refl) (apart refl))) (begun_domestic c.ce n begins.Cut refl),
+        (begun_domestic c.ce n (begins.Opener c.byte) (or_both (is_unknown c.byte) (c.byte == 0x85) (base_known Cmd kept refl) (apart refl))) (begun_domestic c.ce n begins.Cut refl),
     base_closer c.byte (base_known Cmd kept refl),
   )
   new_domestic Adr kept apart newest = (begun_domestic c.ce n begins.Cut refl, record { identifier = λ h. cc; parameters = λ h. cc })
@@ -360,10 +360,10 @@ module _ (g : Parts) (targets n : ℕ) (one_lun : Bool) (past : List Item) (mark
         where
           at : (c.ce ≡ d) ⊎ (c.ce ≡ d → ⊥) → (o.ce ≡ d) × (is_some o.start ≡ true → IsEnded (facts_of (tail (Cyc c ∷ past) d)))
           at (inl same) = absurd (
-            let number : many ≡ k = same_some (sym own ∙ ap (found (slice_set l.places.newest c.ce (Some many))) same ∙ newest) in
-            let small = slice_get_within (with_ends j l).ops k o is in
-            omega (arith, number, small)
-            )
+              let number : many ≡ k = same_some (sym own ∙ ap (found (slice_set l.places.newest c.ce (Some many))) same ∙ newest) in
+              let small = slice_get_within (with_ends j l).ops k o is in
+              omega (arith, number, small)
+              )
           at (inr away) = elsewhere d k o away (sym (found_other l.places.newest c.ce d (Some many) away) ∙ newest) is
 
       new : Resting (slice_set l.places.newest c.ce (Some many)) (Cyc c ∷ past) many (new_one j (op_of (with_ends j l).ops (found l.places.newest c.ce)) (Cyc c))
@@ -376,10 +376,10 @@ module _ (g : Parts) (targets n : ℕ) (one_lun : Bool) (past : List Item) (mark
             (λ s. absurd (clash _ s (ap (λ (x : Option ℕ). is_some x) (new_start c.kind (op_of (with_ends j l).ops (found l.places.newest c.ce)))))),
           )
           at (inr away) = absurd (
-            let small = found_below (length l.ops) l.places.newest d many here.within.newest (sym (found_other l.places.newest c.ce d (Some many) away) ∙ newest) in
-            let same = length_ends j l in
-            omega (arith, small, same)
-            )
+              let small = found_below (length l.ops) l.places.newest d many here.within.newest (sym (found_other l.places.newest c.ce d (Some many) away) ∙ newest) in
+              let same = length_ends j l in
+              omega (arith, small, same)
+              )
 
   -- ---- once the cycle has come
 

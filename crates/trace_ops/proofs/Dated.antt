@@ -1,21 +1,18 @@
 -- When operations begin work and when they end: by which items, as the model has it, and that works of one LUN are apart.
-use Rattle.std.proofs.Common.{◌≡◌, ◌⊎◌, inl, inr, ℕ, zero, suc, ◌+◌, ◌<◌, ◌≤◌, ◌==◌, Bool, true, false, cond, List, [], ◌∷◌, ◌++◌, Option, Some, None, is_some, refl, sym, ap, ◌∙◌, subst, arith, length, eq-eqb, ne_eqb}
+use Rattle.std.proofs.Common.{◌≡◌, ◌⊎◌, inl, inr, ℕ, zero, suc, ◌+◌, ◌<◌, ◌≤◌, Bool, true, false, cond, List, [], ◌∷◌, ◌++◌, Option, Some, None, is_some, refl, sym, ap, ◌∙◌, subst, arith, length, eq-eqb, ne_eqb}
 use Rattle.std.specs.Prelude.{slice_get}
-use Rattle.std.proofs.lemmas.Option.{slice_get_within}
 use Rattle.nand_geometry.specs.declared.parts.Parts.{Parts}
 use Rattle.onfi_cycle.specs.declared.item.Item.{Item}
 use Rattle.onfi_cycle.specs.declared.lun.Lun.{Lun}
 use Rattle.onfi_cycle.specs.Working.{IsLun}
-use Rattle.trace_ops.specs.declared.change.Change.{Change}
 use Rattle.trace_ops.specs.declared.change.Change.TheVariants.{End, Begin}
 use Rattle.trace_ops.specs.declared.operation.Ending.{Ending}
 use Rattle.trace_ops.specs.declared.operation.Operation.{Operation}
 use Rattle.trace_ops.specs.Operation.{changed, changed_at}
 use Rattle.trace_ops.specs.AtWork.{begins_work, begun_at, BeganAt, BeginsOn, ended_at, EndedBy, AreApart}
-use Rattle.trace_ops.proofs.Changed.{by}
 use Rattle.trace_ops.proofs.Spans.{same_some, which}
 use Rattle.trace_ops.proofs.Tails.{split}
-use Rattle.trace_ops.proofs.AtWork.{Core, same_core, Alike, forth, From, changed_from, append_there, Tells}
+use Rattle.trace_ops.proofs.AtWork.{Core, Alike, forth, From, changed_from, append_there, Tells}
 use Rattle.trace_ops.proofs.Turns.{clash, To, changed_to, ended_ce, ended_lun, ended_start}
 
 -- ---- items by their number
@@ -294,9 +291,11 @@ module _ (g : Parts) (targets : ℕ) (past : List Item) (i : Item) (marks : List
     where
       at : (length past ≡ t) ⊎ (length past ≡ t → ⊥) → (k : ℕ) × BeganAt (marks ++ (m ∷ [])) (changed_at m (Begin n l.lun) ops) k t x
       at (inl same) =
-          let here : x ≡ l = one x is_x (sym (begun_now g past i t x same) ∙ h) in
-          (m, subst (λ (y : ℕ). BeganAt (marks ++ (m ∷ [])) (changed_at m (Begin n l.lun) ops) m y x) (number ∙ same)
-          (subst (λ (y : Lun). BeganAt (marks ++ (m ∷ [])) (changed_at m (Begin n l.lun) ops) m n y) (sym here) mine))
+          let here : x ≡ l = one x is_x (sym (begun_now g past i t x same) ∙ h) in (
+            m,
+            subst (λ (y : ℕ). BeganAt (marks ++ (m ∷ [])) (changed_at m (Begin n l.lun) ops) m y x) (number ∙ same)
+                (subst (λ (y : Lun). BeganAt (marks ++ (m ∷ [])) (changed_at m (Begin n l.lun) ops) m n y) (sym here) mine),
+          )
       at (inr apart) = (let was = dated.begins x t is_x (sym (begun_more g past i t x apart) ∙ h) in (was.0, theirs was.0 t x was.1))
 
   only_all : (k : ℕ) (w : Operation) (t : ℕ) → w.start ≡ Some t → From m k (Begin n l.lun) ops w → BeginsOn g targets (i ∷ past) (marks ++ (m ∷ [])) (changed_at m (Begin n l.lun) ops) k t

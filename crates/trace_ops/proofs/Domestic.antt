@@ -200,8 +200,17 @@ not_byte v byte p q = at (byte == v) refl
 works_known : (byte : ℕ) → is_unknown byte ≡ false → works_unknown byte ≡ false
 unfolding command
 works_known byte h =
-    rw (not_byte 0xef byte refl h, not_byte 0xee byte refl h, not_byte 0xed byte refl h, not_byte 0xfa byte refl h, not_byte 0xfc byte refl h, not_byte 0xd4 byte refl h,
-    not_byte 0xd5 byte refl h, not_byte 0xd9 byte refl h, not_byte 0xf9 byte refl h) refl
+    rw (
+      not_byte 0xef byte refl h,
+      not_byte 0xee byte refl h,
+      not_byte 0xed byte refl h,
+      not_byte 0xfa byte refl h,
+      not_byte 0xfc byte refl h,
+      not_byte 0xd4 byte refl h,
+      not_byte 0xd5 byte refl h,
+      not_byte 0xd9 byte refl h,
+      not_byte 0xf9 byte refl h,
+    ) refl
 
 -- a command of the base profile is no closer of another
 pub base_closer : (byte : ℕ) → is_unknown byte ≡ false → closes_as_known byte ≡ false
@@ -244,8 +253,10 @@ domestic_came j l all fits new =
     (λ k c o quiet d. (quiet_domestic c o quiet d.0, (λ e. subst (FitsItem j.item) (sym (kept_beginning c o)) (d.1 e))))
     (λ k o away d. d.0)
     (λ o d. loud_domestic (owner_in j (with_ends j l)) j j.item o (d.1 refl) d.0)
-    (λ k o is. ((by_ends (Every (λ k. Domestic)) (every_quiet (λ k. Domestic) (λ k c o quiet d. quiet_domestic c o quiet d)) j l.places l.ops all) k o is,
-    (λ e. fits o (ap (slice_get (with_ends j l).ops) (sym e) ∙ is))))
+    (λ k o is. (
+      (by_ends (Every (λ k. Domestic)) (every_quiet (λ k. Domestic) (λ k c o quiet d. quiet_domestic c o quiet d)) j l.places l.ops all) k o is,
+      (λ e. fits o (ap (slice_get (with_ends j l).ops) (sym e) ∙ is)),
+    ))
     (λ h. ((new h).0, (λ e. (new h).1)))
 
 -- and all that it does besides

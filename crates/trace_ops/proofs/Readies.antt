@@ -1,5 +1,5 @@
 -- What a ready of a legal trace of the base profile does to who is at work where.
-use Rattle.std.proofs.Common.{◌≡◌, ◌⊎◌, inl, inr, ℕ, zero, suc, ◌<◌, ◌==◌, Bool, true, false, ◌&&◌, ◌||◌, cond, List, ◌∷◌, Option, Some, None, is_some, refl, sym, ap, ◌∙◌, subst, arith, length, ne_eqb, ◌+◌, ◌++◌, [], ◌≤◌}
+use Rattle.std.proofs.Common.{◌≡◌, ◌⊎◌, inl, inr, ℕ, zero, suc, ◌<◌, ◌==◌, Bool, true, false, ◌&&◌, ◌||◌, cond, List, ◌∷◌, Option, Some, None, is_some, refl, sym, ap, ◌∙◌, subst, arith, length, ne_eqb, ◌+◌, ◌++◌, []}
 use Rattle.std.specs.Prelude.{slice_get}
 use Rattle.nand_geometry.specs.declared.parts.Parts.{Parts}
 use Rattle.onfi_cycle.specs.declared.item.Item.{Item}
@@ -28,7 +28,7 @@ use Rattle.trace_ops.proofs.Dated.{Dated, dated_alike, dated_later, dated_new, d
 use Rattle.trace_ops.proofs.Domestic.{Every, every_at, every_new, Domestic, FitsItem, ready_domestic, domestic_came, domestic_listed}
 use Rattle.trace_ops.proofs.Legal.{permitted_as, busy_of, busy_ready}
 use Rattle.trace_ops.proofs.Quietly.{came_alike, rest_alike}
-use Rattle.trace_ops.proofs.Turns.{put_at, put_own, put_other, same_lun, ended_ce, ended_start, workers_with, ops_with, tells_end, tells_off, not_busy, unworked}
+use Rattle.trace_ops.proofs.Turns.{put_at, ended_ce, ended_start, workers_with, ops_with, tells_end, tells_off, not_busy, unworked}
 
 -- an item that is no cycle: it begins no work, selects nothing, and brings no byte
 pub record IsReady (j : Judged) : Type 0 where
@@ -172,10 +172,10 @@ module _ (j : Judged) (l : Listing) (ready : IsReady j) where
       Every (Resting l.places.newest past) (with_new x j (with_ends j l)).ops
   resting_by past within None all =
       every_new (Resting l.places.newest past) (with_ends j l).ops newcomer all (λ d h. absurd (
-        let small = found_below (length l.ops) l.places.newest d (length (with_ends j l).ops) within.newest h in
-        let same = length_ends j l in
-        omega (arith, small, same)
-        ))
+      let small = found_below (length l.ops) l.places.newest d (length (with_ends j l).ops) within.newest h in
+      let same = length_ends j l in
+      omega (arith, small, same)
+      ))
   resting_by past within (Some m) all = all
 
   pub ready_resting_after : (past : List Item) → AreWithin (length l.ops) l.places → Every (λ k. Domestic) l.ops → Every (Resting l.places.newest past) (with_ends j l).ops →

@@ -1,5 +1,5 @@
 -- In a legal trace of the base profile, with its readies written, the work of operations is the model's.
-use Rattle.std.proofs.Common.{◌≡◌, ℕ, zero, suc, ◌+◌, ◌≤◌, Bool, true, false, ◌&&◌, not, List, [], ◌∷◌, ◌++◌, Some, None, is_some, refl, sym, ap, ◌∙◌, subst, length, reverse, replicate, arith, ◌<◌, cond, Option}
+use Rattle.std.proofs.Common.{◌≡◌, ℕ, zero, suc, ◌+◌, ◌≤◌, Bool, true, false, ◌&&◌, not, List, [], ◌∷◌, ◌++◌, Some, None, is_some, refl, sym, ap, ◌∙◌, subst, length, reverse, replicate, arith}
 use Rattle.std.specs.Prelude.{slice_get}
 use Rattle.std.proofs.lemmas.Bool.{and_parts, and_from}
 use Rattle.std.proofs.lemmas.List.{reverse-append, append_assoc, append-nil, length-append}
@@ -22,7 +22,7 @@ use Rattle.trace_faults.proofs.Judged.{fresh_is_on}
 use Rattle.trace_ops.specs.declared.judged.Judged.{Judged}
 use Rattle.trace_ops.specs.declared.looks.Looks.{Looks}
 use Rattle.trace_ops.specs.declared.operation.Operation.{Operation}
-use Rattle.trace_ops.specs.AtWork.{is_at_work, IsAtWork, WorksOn, AreAtWork, BeginAsLuns, AreApart}
+use Rattle.trace_ops.specs.AtWork.{IsLegalBase, is_at_work, IsAtWork, WorksOn, AreAtWork, BeginAsLuns, AreApart}
 use Rattle.trace_ops.specs.Listing.{Listing, found, lun_place, looks_of, nothing_listed, has_one_lun, listed, judged_as, ops_from, marks_from, ops_of, marks_of, with_ends, mark_in}
 use Rattle.trace_ops.proofs.Pieces.{Stands, came_to, stands_on, nothing_stands}
 use Rattle.trace_ops.proofs.Spans.{same_some}
@@ -170,14 +170,16 @@ module _ (g : Parts) (targets : ℕ) (few : targets ≤ 4) (luns : g.luns ≤ 4)
       on_busy lun is h =
           let busy : busy_of g targets past lun.ce lun.lun ≡ true = busy_there g targets past lun.ce lun.lun is.target is.lun ∙ h in
           let working = tells.working lun.ce lun.lun busy in
-          let began = tells.began lun.ce lun.lun working.number (tells.small lun.ce lun.lun busy).1 working.is in
-          (working.number, record {
-            operation = began.operation;
-            is_there = began.is_there;
-            target = began.target;
-            lun = began.on;
-            at_work = and_from (is_some began.operation.start) (not (is_some began.operation.end)) began.started (ap not (working.unended began.operation began.is_there));
-          })
+          let began = tells.began lun.ce lun.lun working.number (tells.small lun.ce lun.lun busy).1 working.is in (
+            working.number,
+            record {
+              operation = began.operation;
+              is_there = began.is_there;
+              target = began.target;
+              lun = began.on;
+              at_work = and_from (is_some began.operation.start) (not (is_some began.operation.end)) began.started (ap not (working.unended began.operation began.is_there));
+            },
+          )
 
       place_of : (k : ℕ) (lun : Lun) → IsAtWork l.ops k lun → worker_in l.places.workers lun.ce lun.lun ≡ Some k
       place_of k lun at =
@@ -274,10 +276,11 @@ nothing_worked g targets = record {
     idle ce lun h = off (works_there g targets [] ce lun h).works
 
 -- of a whole trace
-pub told_all : (g : Parts) (targets : ℕ) (items : List Item) → targets ≤ 4 → g.luns ≤ 4 → g.optional ≡ no_optional → is_legal g targets (reverse items) ≡ true →
+pub told_all : (g : Parts) (targets : ℕ) (items : List Item) → IsLegalBase g targets items →
     Told g targets (reverse items) (marks_of Written Start g targets items) (ops_of Written Start g targets items)
-told_all g targets items few luns base legal =
+told_all g targets items is =
     let past = append-nil (reverse items) in
+    let on : OnPast g targets (first_seen_as Start g targets items) [] = record { on = fresh_is_on g targets items; knows = start_knows_all } in
     subst (λ (p : List Item). Told g targets p (marks_of Written Start g targets items) (ops_of Written Start g targets items)) past
-    (told_from g targets few luns base (has_one_lun g) items (first_seen_as Start g targets items) 0 [] [] nothing_listed (λ k. []) (record { on = fresh_is_on g targets items; knows = start_knows_all })
-    nobody_within nothing_stands (nothing_worked g targets) (ap (is_legal g targets) past ∙ legal))
+    (told_from g targets is.few_targets is.few_luns is.base (has_one_lun g) items (first_seen_as Start g targets items) 0 [] [] nothing_listed (λ k. []) on
+    nobody_within nothing_stands (nothing_worked g targets) (ap (is_legal g targets) past ∙ is.legal))

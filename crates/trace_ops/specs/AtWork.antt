@@ -15,6 +15,15 @@ use Rattle.trace_ops.specs.declared.operation.Ending.TheVariants.{Ready, Shown, 
 use Rattle.trace_ops.specs.declared.operation.Operation.{Operation}
 use Rattle.trace_ops.specs.Listing.{is_reset, ops_of, marks_of}
 
+-- a trace of the base profile that is legal, of at most four targets with at most four LUNs each
+pub record IsLegalBase (g : Parts) (targets : ℕ) (items : List Item) : Type 0 where
+  pub few_targets : targets ≤ 4
+  pub few_luns : g.luns ≤ 4
+  pub base : g.optional ≡ no_optional
+  pub legal : is_legal g targets (reverse items) ≡ true
+
+-- ---- who is at work
+
 -- the operation has begun work, and that hasn't ended
 abbrev pub is_at_work : Operation → Bool
 is_at_work o = is_some o.start && not (is_some o.end)
@@ -40,10 +49,10 @@ pub record AreAtWork (g : Parts) (targets : ℕ) (past : List Item) (ops : List 
   pub one : (l : Lun) (k m : ℕ) → IsAtWork ops k l → IsAtWork ops m l → k ≡ m
   pub works : (k : ℕ) (o : Operation) → slice_get ops k ≡ Some o → is_at_work o ≡ true → WorksOn g targets past ops k
 
--- of a trace of the base profile that is legal so far, with its readies written
+-- of a trace with its readies written, and so up to each of its items
 abbrev pub WorkIsTheModels : Type 0
 WorkIsTheModels =
-    (g : Parts) (targets : ℕ) (items : List Item) → targets ≤ 4 → g.luns ≤ 4 → g.optional ≡ no_optional → is_legal g targets (reverse items) ≡ true →
+    (g : Parts) (targets : ℕ) (items : List Item) → IsLegalBase g targets items →
     AreAtWork g targets (reverse items) (ops_of Written Start g targets items)
 
 -- ---- when work begins
@@ -85,7 +94,7 @@ pub record BeginAsLuns (g : Parts) (targets : ℕ) (past : List Item) (marks : L
 
 abbrev pub WorkBeginsAsTheModels : Type 0
 WorkBeginsAsTheModels =
-    (g : Parts) (targets : ℕ) (items : List Item) → targets ≤ 4 → g.luns ≤ 4 → g.optional ≡ no_optional → is_legal g targets (reverse items) ≡ true →
+    (g : Parts) (targets : ℕ) (items : List Item) → IsLegalBase g targets items →
     BeginAsLuns g targets (reverse items) (marks_of Written Start g targets items) (ops_of Written Start g targets items)
 
 -- ---- works of one LUN
@@ -111,5 +120,5 @@ AreApart ops =
 
 abbrev pub WorksDontOverlap : Type 0
 WorksDontOverlap =
-    (g : Parts) (targets : ℕ) (items : List Item) → targets ≤ 4 → g.luns ≤ 4 → g.optional ≡ no_optional → is_legal g targets (reverse items) ≡ true →
+    (g : Parts) (targets : ℕ) (items : List Item) → IsLegalBase g targets items →
     AreApart (ops_of Written Start g targets items)
