@@ -30,9 +30,9 @@ last_of : (timed : List TimedItem) (t d : TimedItem) → get_or (timed ++ t ∷ 
 last_of timed t d =
     ap (λ (n : ℕ). get_or (timed ++ t ∷ []) n d) (omega (arith, length-append timed (t ∷ []))) ∙ get_or-append_seam timed t [] d
 
-pub one_timed : (items : List Item) (k : ℕ) (d : Item) (timed new : List TimedItem) (t : TimedItem) (latest later : ℕ) → k < length items → t.item ≡ get_or items k d → latest ≤ t.time → later ≡ t.time → new ≡ timed ++ t ∷ []
+pub one_timed : (items : List Item) (k : ℕ) (d : Item) (timed new : List TimedItem) (t : TimedItem) (latest later : ℕ) → new ≡ timed ++ t ∷ [] → k < length items → t.item ≡ get_or items k d → latest ≤ t.time → later ≡ t.time
     → AreTimed items k timed latest → AreTimed items (k + 1) new later
-one_timed items k d timed new t latest later inside is after now pushed before =
+one_timed items k d timed new t latest later pushed inside is after now before =
     subst (λ (l : List TimedItem). AreTimed items (k + 1) l later) (sym pushed) (record {
       same =
           ap (λ (l : List Item). l ++ drop (k + 1) items) (map-append item_of timed (t ∷ []))
@@ -46,7 +46,7 @@ one_timed items k d timed new t latest later inside is after now pushed before =
 
 pub all_timed : (items : List Item) (k : ℕ) (timed : List TimedItem) (latest : ℕ) → length items ≤ k → AreTimed items k timed latest → IsTimed items timed
 all_timed items k timed latest over all = record {
-  same = sym (append-nil (map item_of timed)) ∙ ap (λ (l : List Item). map item_of timed ++ l) (sym (drop_all items k over)) ∙ all.same;
+  same = sym (append-nil (map item_of timed)) ∙ ap (λ (l : List Item). map item_of timed ++ l) (sym (drop_all k items over)) ∙ all.same;
   rise = all.rise;
 }
 

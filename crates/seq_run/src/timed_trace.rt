@@ -9,7 +9,7 @@ use trace_text::TimedItem;
 use trace_timing::{ModelClock, PageTimes, TimingMode, longest_of, timings_of};
 
 // The items with the times of a clock.
-#[tactic(auto, using(crate::proofs::Timing::none_timed, crate::proofs::Timing::one_timed, crate::proofs::Timing::all_timed))]
+#[tactic(auto, using(crate::proofs::Timing::none_timed, crate::proofs::Timing::all_timed))]
 fn time_items(
     alloc: Global,
     clock: ModelClock,

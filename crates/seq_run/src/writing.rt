@@ -8,6 +8,7 @@ ghost use Rattle.seq_files.specs.Store.{with_all, written_of, made_of};
 ghost use Rattle.die_model.specs.Image.{image_of};
 ghost use Rattle.trace_files.specs.Files.{files_of};
 ghost use Rattle.trace_text.specs.Line.{IsPrintable};
+ghost use Rattle.trace_text.specs.Recorded.{timed_text};
 ghost use Rattle.seq_run.specs.Timed.{IsTimed, HasTimes, text_of, timed_text_at, untold, files_with};
 ghost use Rattle.seq_run.specs.Lines.{job_lines};
 ghost use Rattle.seq_inputs.specs.Stops.{RefusesNothing};
@@ -75,8 +76,20 @@ fn make_images<'a>(
     Ok(made)
 }
 
-// The text of the trace of a bus, which has these times if a timing mode is asked for.
+// The text of the trace of a bus with these times.
 #[tactic(auto, using(crate::proofs::Printing::legal_is_printable, crate::proofs::Timing::timed_is_printable))]
+fn print_timed(alloc: Global, bus: &Bus, timed: &[TimedItem]) -> Result<String, AllocError>
+    requires { IsTimed (reverse bus.now.past) timed.now }
+    ensures { IfOk result (λ lines. string_bytes lines ≡ timed_text timed.now) }
+{
+    // Their contracts say that the trace is legal and that they are few, so that it can be printed.
+    let _legal = bus.trace();
+    let _few = bus.targets();
+    print_recorded(alloc, timed)
+}
+
+// The text of the trace of a bus, which has these times if a timing mode is asked for.
+#[tactic(auto, using(crate::proofs::Printing::legal_is_printable))]
 fn print_trace(
     alloc: Global,
     mode: Option<TimingMode>,
@@ -89,7 +102,7 @@ fn print_trace(
     // Its contract says that they are few, so that the trace can be printed.
     let _few = bus.targets();
     match mode {
-        Some(_) => print_recorded(alloc, timed),
+        Some(_) => print_timed(alloc, bus, timed),
         None => print(alloc, bus.trace()),
     }
 }
