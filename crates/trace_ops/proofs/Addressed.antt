@@ -1,6 +1,6 @@
 -- What a cycle of a legal trace of the base profile tells of the operation that it comes to: the addresses fit its opener, and it takes no role on another LUN than that whose work it starts.
 use Rattle.std.proofs.Common.{◌≡◌, ◌⊎◌, inl, inr, ℕ, ◌==◌, Bool, true, false, ◌&&◌, ◌||◌, not, cond, List, Option, Some, None, is_some, refl, sym, ap, ◌∙◌, eqb-true, ltb}
-use Rattle.std.proofs.lemmas.Bool.{and_parts}
+use Rattle.std.proofs.lemmas.Bool.{and_parts, or_parts}
 use Rattle.nand_geometry.specs.declared.parts.Parts.{Parts}
 use Rattle.nand_geometry.specs.declared.optional.Optional.{Optional}
 use Rattle.nand_geometry.specs.Optional.{no_optional, is_wide, has_features, has_unique_id, has_lun_reset, has_synchronous_reset}
@@ -17,6 +17,7 @@ use Rattle.onfi_cycle.specs.Base.{is_of_base}
 use Rattle.onfi_cycle.specs.Command.{command, is_opener, address_cycles, takes_address, is_read_id, is_page_program, is_set_features}
 use Rattle.onfi_cycle.specs.Rules.{is_undeclared_address, breaks_command_unknown, breaks_address_misplaced}
 use Rattle.onfi_cycle.specs.Sequence.{opened, opening, data_phase, tail, facts_of, wants_address, wants_column}
+use Rattle.onfi_cycle.proofs.Booleans.{clash}
 use Rattle.onfi_cycle.proofs.CommandBytes.{commands_have_bytes}
 use Rattle.trace_ops.specs.declared.operation.Beginning.{Beginning}
 use Rattle.trace_ops.specs.declared.operation.Operation.{Operation}
@@ -26,10 +27,9 @@ use Rattle.trace_ops.specs.Operation.{opener_of, is_byte}
 use Rattle.trace_ops.specs.Listing.{gives_data, gives_status, role_of_command, role_of_address}
 use Rattle.trace_ops.proofs.Contents.{Opens, Content, in_program}
 use Rattle.trace_ops.proofs.Domestic.{Fits}
-use Rattle.trace_ops.proofs.Legal.{at_lun}
+use Rattle.trace_ops.proofs.Legal.{at_lun, or_other}
 use Rattle.trace_ops.proofs.Quietly.{sets}
 use Rattle.trace_ops.proofs.Starts.{starts_by, outside_opening, status_starts, read_starts, column_starts, enhanced_starts, unopened_starts}
-use Rattle.trace_ops.proofs.Turns.{clash}
 
 -- ---- the base profile
 
@@ -48,10 +48,6 @@ has_none o h = record {
   synchronous_reset = ap has_synchronous_reset h;
   wide = ap is_wide h;
 }
-
-second_or : (a b : Bool) → (a || b) ≡ false → b ≡ false
-second_or true b h = cc
-second_or false b h = h
 
 denied : (b : Bool) → b ≡ false → not b ≡ false → ⊥
 denied true h e = cc
@@ -83,18 +79,10 @@ or_right_of : (a b : Bool) → (a || b) ≡ true → b ≡ false → a ≡ true
 or_right_of true b h e = refl
 or_right_of false b h e = (let z = sym h ∙ e in cc)
 
-or_left_of : (a b : Bool) → (a || b) ≡ true → a ≡ false → b ≡ true
-or_left_of true b h e = cc
-or_left_of false b h e = h
-
 last_of_three : (a b c : Bool) → (a && b && c) ≡ true → c ≡ true
 last_of_three true true c h = h
 last_of_three true false c h = cc
 last_of_three false b c h = cc
-
-not_not : (b : Bool) → not b ≡ false → b ≡ true
-not_not true h = refl
-not_not false h = cc
 
 undeclared_byte : (w r e : Bool) → w ≡ false → r ≡ true → (not w && (r && not e)) ≡ false → e ≡ true
 undeclared_byte true r e p q h = cc
@@ -109,15 +97,15 @@ unfolding breaks_address_misplaced
 fits_of g b closer t byte base content kept wanted = at (opening t) refl
   where
     undeclared : is_undeclared_address g (facts_of t) byte ≡ false
-    undeclared = second_or (not (wants_address (facts_of t) byte)) (is_undeclared_address g (facts_of t) byte) kept
+    undeclared = (or_parts (not (wants_address (facts_of t) byte)) (is_undeclared_address g (facts_of t) byte) kept).1
 
     at : (o : Option Opening) → opening t ≡ o → Fits byte b
     at None e = record { identifier = λ h. absurd (two_bytes (opener_of b) 0x80 0x90 refl program h); parameters = λ h. absurd (two_bytes (opener_of b) 0x80 0xec refl program h) }
       where
         column : wants_column (data_phase t) ≡ true
         column =
-            or_left_of (opened (λ c n. is_opener c && ltb n (address_cycles c) && takes_address c byte) (opening t)) (wants_column (data_phase t)) wanted
-            (ap (opened (λ c n. is_opener c && ltb n (address_cycles c) && takes_address c byte)) e)
+            or_other (opened (λ c n. is_opener c && ltb n (address_cycles c) && takes_address c byte) (opening t)) (wants_column (data_phase t))
+            (ap (opened (λ c n. is_opener c && ltb n (address_cycles c) && takes_address c byte)) e) wanted
 
         program : is_byte (opener_of b) 0x80 ≡ true
         program = (and_parts (is_byte (opener_of b) 0x80) (not (is_some closer)) (content.program (in_column (data_phase t) column))).0

@@ -2,6 +2,7 @@
 use Rattle.std.proofs.Common.{◌≡◌, ◌⊎◌, inl, inr, ℕ, zero, suc, ◌<◌, Bool, true, false, List, [], ◌∷◌, ◌++◌, Option, Some, None, is_some, refl, sym, ap, ◌∙◌, subst, arith, length}
 use Rattle.std.specs.Prelude.{slice_get}
 use Rattle.std.proofs.lemmas.Option.{slice_get_within}
+use Rattle.onfi_cycle.proofs.Booleans.{clash}
 use Rattle.trace_ops.specs.declared.change.Change.{Change}
 use Rattle.trace_ops.specs.declared.operation.Ending.{Ending}
 use Rattle.trace_ops.specs.declared.operation.Operation.{Operation}
@@ -227,10 +228,6 @@ tells_new busy workers ops x start end tells = record {
     unended : (k : ℕ) (o : Operation) → Unended ops k → (slice_get ops k ≡ Some o) ⊎ ((k ≡ length ops) × (o ≡ x)) → is_some o.end ≡ false
     unended k o was (inl old) = was o old
     unended k o was (inr new) = no_end o new.1
-
-    clash : (b : Bool) → b ≡ true → b ≡ false → ⊥
-    clash true h e = cc
-    clash false h e = cc
 
     placed : (k : ℕ) (o : Operation) → is_some o.start ≡ true → is_some o.end ≡ false → (slice_get ops k ≡ Some o) ⊎ ((k ≡ length ops) × (o ≡ x)) → Place busy workers k o
     placed k o started open' (inl old) = tells.place k o old started open'

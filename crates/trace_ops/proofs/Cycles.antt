@@ -1,6 +1,7 @@
 -- What a cycle of a legal trace of the base profile does to who is at work where.
-use Rattle.std.proofs.Common.{◌≡◌, ◌⊎◌, inl, inr, ℕ, zero, suc, ◌<◌, ◌≤◌, ◌==◌, Bool, true, false, ◌&&◌, ◌||◌, not, cond, List, ◌∷◌, Option, Some, None, is_some, refl, sym, ap, ◌∙◌, subst, arith, length, slice_set, eqb-true, ltb, ◌+◌, ◌++◌, []}
+use Rattle.std.proofs.Common.{◌≡◌, ◌⊎◌, inl, inr, ℕ, zero, suc, ◌<◌, ◌≤◌, ◌==◌, Bool, true, false, ◌&&◌, ◌||◌, not, cond, List, ◌∷◌, Option, Some, None, is_some, refl, sym, ap, ◌∙◌, subst, arith, length, slice_set, eqb-true, ltb, ◌+◌, ◌++◌, [], ltb-true, lt-ltb}
 use Rattle.std.specs.Prelude.{slice_get}
+use Rattle.std.proofs.lemmas.Bool.{or_from, false_from_ne_true}
 use Rattle.std.proofs.lemmas.Option.{slice_get_within}
 use Rattle.nand_geometry.specs.declared.parts.Parts.{Parts}
 use Rattle.nand_geometry.specs.Optional.{no_optional}
@@ -20,6 +21,7 @@ use Rattle.onfi_cycle.specs.Lun.{luns_of}
 use Rattle.onfi_cycle.specs.Permitted.{broken, is_legal}
 use Rattle.onfi_cycle.specs.Sequence.{target_cycle, begins_sequence, with_cycle, tail, facts_of, wants, wants_command}
 use Rattle.onfi_cycle.specs.Working.{IsLun}
+use Rattle.onfi_cycle.proofs.Booleans.{clash}
 use Rattle.onfi_cycle.proofs.CommandBytes.{commands_have_bytes}
 use Rattle.onfi_cycle.proofs.Passed.{KeepsRules, permitted_keeps}
 use Rattle.trace_ops.specs.declared.change.Change.{Change}
@@ -45,11 +47,11 @@ use Rattle.trace_ops.proofs.Within.{AreWithin}
 use Rattle.trace_ops.proofs.Addressed.{base_command, fits_of, command_sets, address_sets, status_address}
 use Rattle.trace_ops.proofs.AtWork.{Alike, alike_self, alike_on, From, changed_from, Tells, tells_alike, tells_same, tells_new}
 use Rattle.trace_ops.proofs.Dated.{Dated, dated_alike, dated_later, dated_new, dated_end, dated_turn, dated_begin}
-use Rattle.trace_ops.proofs.Domestic.{Every, every_at, every_quiet, every_new, Domestic, quiet_domestic, works_at_home, keep, or_both, FitsKind, FitsItem, begun_domestic, domestic_came, domestic_listed, base_closer}
-use Rattle.trace_ops.proofs.Legal.{permitted_as, busy_of, Sees, works_there, at_lun, begins_between, begins_starts, begins_there, begins_busy, work_between, work_elsewhere, rests_busy, never_ends, busy_elsewhere, one_begins, output_begins, below, is_below}
+use Rattle.trace_ops.proofs.Domestic.{Every, every_at, every_quiet, every_new, Domestic, quiet_domestic, works_at_home, keep, FitsKind, FitsItem, begun_domestic, domestic_came, domestic_listed, base_closer}
+use Rattle.trace_ops.proofs.Legal.{permitted_as, busy_of, Sees, works_there, at_lun, begins_between, begins_starts, begins_there, begins_busy, work_between, work_elsewhere, rests_busy, never_ends, busy_elsewhere, one_begins, output_begins}
 use Rattle.trace_ops.proofs.Quietly.{came_alike, sets, Settles, BeginsAt, selects_alike, selects_workers, rest_alike}
 use Rattle.trace_ops.proofs.Starts.{starts_by, IsEnded, ended_wants, output_ended, starts_ended}
-use Rattle.trace_ops.proofs.Turns.{put_at, put_own, put_other, same_lun, clash, ended_ce, ended_start, workers_with, ops_with, Freed, freed, tells_begun}
+use Rattle.trace_ops.proofs.Turns.{put_at, put_own, put_other, same_lun, ended_ce, ended_start, workers_with, ops_with, Freed, freed, tells_begun}
 
 -- the newest operation of a target is one of it, and where that has begun work its sequence has ended
 abbrev pub Resting : List (Option ℕ) → List Item → ℕ → Operation → Type 0
@@ -131,8 +133,8 @@ pub few_or : (b : ℕ) → (b < 4) ⊎ (b < 4 → ⊥)
 few_or b = at (ltb b 4) refl
   where
     at : (x : Bool) → ltb b 4 ≡ x → (b < 4) ⊎ (b < 4 → ⊥)
-    at true e = inl (below b 4 e)
-    at false e = inr (λ h. clash (ltb b 4) (is_below b 4 h) e)
+    at true e = inl (ltb-true b 4 e)
+    at false e = inr (λ h. clash (ltb b 4) (lt-ltb b 4 h) e)
 
 module _ (g : Parts) (targets n : ℕ) (one_lun : Bool) (past : List Item) (marks : List ℕ) (c : BusCycle) (before after : Looks) (l : Listing) (pieces : ℕ → List TargetCycle)
     (here : CycleAt g targets n past marks c before after l pieces) where
@@ -309,7 +311,7 @@ module _ (g : Parts) (targets n : ℕ) (one_lun : Bool) (past : List Item) (mark
       Domestic (new_by_command j newest c kind) × FitsKind kind c.byte (new_by_command j newest c kind).beginning
   new_domestic Cmd kept apart newest = (
     keep (begins_one newest c.byte) _ _
-        (begun_domestic c.ce n (begins.Opener c.byte) (or_both (is_unknown c.byte) (c.byte == 0x85) (base_known Cmd kept refl) (apart refl))) (begun_domestic c.ce n begins.Cut refl),
+        (begun_domestic c.ce n (begins.Opener c.byte) (or_from (is_unknown c.byte) (c.byte == 0x85) (base_known Cmd kept refl) (apart refl))) (begun_domestic c.ce n begins.Cut refl),
     base_closer c.byte (base_known Cmd kept refl),
   )
   new_domestic Adr kept apart newest = (begun_domestic c.ce n begins.Cut refl, record { identifier = λ h. cc; parameters = λ h. cc })
@@ -452,18 +454,12 @@ module _ (g : Parts) (targets n : ℕ) (one_lun : Bool) (past : List Item) (mark
   -- ---- which LUN begins work
 
   begin_once : (a b : ℕ) → a < 4 → b < 4 → begins_between c before after a ≡ true → (a ≡ b → ⊥) → begins_between c before after b ≡ false
-  begin_once a b low less h apart = at (begins_between c before after b) refl
-    where
-      at : (x : Bool) → begins_between c before after b ≡ x → begins_between c before after b ≡ false
-      at true e = absurd (apart (one_begins g targets past c before after here.sees here.saw here.legal here.permitted a b low less h e))
-      at false e = e
+  begin_once a b low less h apart =
+      false_from_ne_true (begins_between c before after b)
+      (λ e. apart (one_begins g targets past c before after here.sees here.saw here.legal here.permitted a b low less h e))
 
   far : (items : List Item) (a b : ℕ) → (b < 4 → ⊥) → busy_of g targets items a b ≡ false
-  far items a b high = at (busy_of g targets items a b) refl
-    where
-      at : (x : Bool) → busy_of g targets items a b ≡ x → busy_of g targets items a b ≡ false
-      at true e = absurd (high (let few = (works_there g targets items a b e).few in let all = here.luns in omega (arith, few, all)))
-      at false e = e
+  far items a b high = false_from_ne_true (busy_of g targets items a b) (λ e. high (let few = (works_there g targets items a b e).few in let all = here.luns in omega (arith, few, all)))
 
   -- a LUN of the target that begins none does what it did
   rests_own : (a b : ℕ) → c.ce ≡ a → (b < 4 → begins_between c before after b ≡ false) → busy_of g targets (Cyc c ∷ past) a b ≡ busy_of g targets past a b

@@ -5,6 +5,7 @@ use Rattle.nand_geometry.specs.declared.parts.Parts.{Parts}
 use Rattle.onfi_cycle.specs.declared.item.Item.{Item}
 use Rattle.onfi_cycle.specs.declared.lun.Lun.{Lun}
 use Rattle.onfi_cycle.specs.Working.{IsLun}
+use Rattle.onfi_cycle.proofs.Booleans.{clash}
 use Rattle.trace_ops.specs.declared.change.Change.TheVariants.{End, Begin}
 use Rattle.trace_ops.specs.declared.operation.Ending.{Ending}
 use Rattle.trace_ops.specs.declared.operation.Operation.{Operation}
@@ -13,7 +14,7 @@ use Rattle.trace_ops.specs.AtWork.{begins_work, begun_at, BeganAt, BeginsOn, end
 use Rattle.trace_ops.proofs.Spans.{same_some, which}
 use Rattle.trace_ops.proofs.Tails.{split}
 use Rattle.trace_ops.proofs.AtWork.{Core, Alike, forth, From, changed_from, append_there, Tells}
-use Rattle.trace_ops.proofs.Turns.{clash, To, changed_to, ended_ce, ended_lun, ended_start}
+use Rattle.trace_ops.proofs.Turns.{To, changed_to, ended_ce, ended_lun, ended_start}
 
 -- ---- items by their number
 

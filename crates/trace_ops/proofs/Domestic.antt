@@ -1,12 +1,14 @@
 -- In a legal trace of the base profile no operation is one that the model doesn't know.
 use Rattle.std.proofs.Common.{◌≡◌, ◌⊎◌, inl, inr, ℕ, zero, suc, ◌+◌, ◌==◌, Bool, true, false, ◌&&◌, ◌||◌, not, cond, List, [], ◌∷◌, ◌++◌, Option, Some, None, is_some, refl, sym, ap, ◌∙◌, subst, arith, length, slice_set, slice_index, eqb-true, eq-eqb, lt-ltb, ltb}
 use Rattle.std.specs.Prelude.{slice_get}
+use Rattle.std.proofs.lemmas.Bool.{and_right, or_from, or_parts, false_from_ne_true}
 use Rattle.std.proofs.lemmas.List.{length-set}
 use Rattle.onfi_cycle.specs.declared.item.Item.{Item}
 use Rattle.onfi_cycle.specs.declared.item.Item.TheVariants.{Cyc, Rdy, Ard}
 use Rattle.onfi_cycle.specs.declared.item.Kind.{Kind}
 use Rattle.onfi_cycle.specs.declared.item.Kind.TheVariants.{Cmd, Adr, Din, Dout}
 use Rattle.onfi_cycle.specs.Command.{command}
+use Rattle.onfi_cycle.proofs.Booleans.{clash}
 use Rattle.trace_ops.specs.declared.change.Change.{Change}
 use Rattle.trace_ops.specs.declared.change.Change.TheVariants.{Opened, Cycle, LoneReady, End, Begin, Poll, Show, Hold, SetLun, Fold, Unfold}
 use Rattle.trace_ops.specs.declared.judged.Judged.{Judged}
@@ -114,14 +116,6 @@ fits_byte : (p : Bool) (byte v : ℕ) → (p ≡ true → byte ≡ v) → (p && 
 fits_byte true byte v h = ap not (eq-eqb byte v (h refl))
 fits_byte false byte v h = refl
 
-and_second : (a b : Bool) → b ≡ false → (a && b) ≡ false
-and_second true b h = h
-and_second false b h = refl
-
-pub or_both : (a b : Bool) → a ≡ false → b ≡ false → (a || b) ≡ false
-or_both true b p q = cc
-or_both false b p q = q
-
 second_false : (a b : Bool) → a ≡ true → (a && b) ≡ false → b ≡ false
 second_false true b h e = e
 second_false false b h e = cc
@@ -129,10 +123,10 @@ second_false false b h e = cc
 other_set : (b : Beginning) (addresses : List ℕ) (n byte : ℕ) → length addresses ≡ 5 → Fits byte b → other_by b addresses n ≡ false → other_by b (slice_set addresses n byte) (n + 1) ≡ false
 other_set b [] n byte long fits h = absurd (omega (arith, long))
 other_set b (x ∷ addresses) zero byte long fits h =
-    and_second (ltb 0 (0 + 1)) _
-    (or_both (is_byte (opener_of b) 0x90 && not (byte == 0x20)) (is_byte (opener_of b) 0xec && not (byte == 0))
+    and_right (ltb 0 (0 + 1)) _
+    (or_from (is_byte (opener_of b) 0x90 && not (byte == 0x20)) (is_byte (opener_of b) 0xec && not (byte == 0))
     (fits_byte (is_byte (opener_of b) 0x90) byte 0x20 fits.identifier) (fits_byte (is_byte (opener_of b) 0xec) byte 0 fits.parameters))
-other_set b (x ∷ addresses) (suc n) byte long fits h = and_second (ltb 0 (suc n + 1)) _ (second_false (ltb 0 (suc n)) _ (lt-ltb 0 (suc n) (omega arith)) h)
+other_set b (x ∷ addresses) (suc n) byte long fits h = and_right (ltb 0 (suc n + 1)) _ (second_false (ltb 0 (suc n)) _ (lt-ltb 0 (suc n) (omega arith)) h)
 
 closed_by : (b : Bool) (closer : Option ℕ) (byte : ℕ) → is_foreign_closer closer ≡ false → closes_as_known byte ≡ false → is_foreign_closer (cond b closer (Some byte)) ≡ false
 closed_by true closer byte p q = p
@@ -177,7 +171,7 @@ ready_domestic ce n lun = like (begun ce n begins.Ready) _ refl refl refl refl (
 -- ---- none is foreign
 
 pub not_foreign : (o : Operation) → Domestic o → is_foreign o ≡ false
-not_foreign o d = or_both (is_foreign_opener (opener_of o.beginning)) _ d.opener (or_both (is_foreign_closer o.closer) (has_other_address o) d.closer d.addresses)
+not_foreign o d = or_from (is_foreign_opener (opener_of o.beginning)) _ d.opener (or_from (is_foreign_closer o.closer) (has_other_address o) d.closer d.addresses)
 
 pub none_foreign : (ops : List Operation) (at : Option ℕ) → Every (λ k. Domestic) ops → is_foreign_at ops at ≡ false
 none_foreign ops None all = refl
@@ -188,14 +182,7 @@ none_foreign ops (Some k) all = at (slice_get ops k) refl
     at (Some o) e = not_foreign o (all k o e)
 
 pub not_byte : (v byte : ℕ) → is_unknown v ≡ true → is_unknown byte ≡ false → (byte == v) ≡ false
-not_byte v byte p q = at (byte == v) refl
-  where
-    no : true ≡ false → ⊥
-    no e = cc
-
-    at : (b : Bool) → (byte == v) ≡ b → b ≡ false
-    at true e = absurd (no (sym p ∙ ap is_unknown (sym (eqb-true byte v e)) ∙ q))
-    at false e = refl
+not_byte v byte p q = false_from_ne_true (byte == v) (λ e. clash (is_unknown byte) (ap is_unknown (eqb-true byte v e) ∙ p) q)
 
 works_known : (byte : ℕ) → is_unknown byte ≡ false → works_unknown byte ≡ false
 unfolding command
@@ -217,13 +204,9 @@ pub base_closer : (byte : ℕ) → is_unknown byte ≡ false → closes_as_known
 unfolding command
 base_closer byte h = rw (not_byte 0x15 byte refl h, not_byte 0x32 byte refl h, not_byte 0x35 byte refl h) refl
 
-left_false : (a b : Bool) → (a || b) ≡ false → a ≡ false
-left_false true b h = cc
-left_false false b h = refl
-
 working_opener : (x : Option ℕ) → is_foreign_opener x ≡ false → is_working_opener x ≡ false
 working_opener None h = refl
-working_opener (Some byte) h = works_known byte (left_false (is_unknown byte) (byte == 0x85) h)
+working_opener (Some byte) h = works_known byte ((or_parts (is_unknown byte) (byte == 0x85) h).0)
 
 working_closer : (x : Option ℕ) → is_foreign_closer x ≡ false → is_working_closer x ≡ false
 working_closer None h = refl
@@ -236,7 +219,7 @@ works_at_home ops k all = at (slice_get ops k) refl
     at None e = refl
     at (Some o) e =
         let d = all k o e in
-        or_both (is_working_opener (opener_of o.beginning)) (is_working_closer o.closer) (working_opener (opener_of o.beginning) d.opener) (working_closer o.closer d.closer)
+        or_from (is_working_opener (opener_of o.beginning)) (is_working_closer o.closer) (working_opener (opener_of o.beginning) d.opener) (working_closer o.closer d.closer)
 
 -- ---- one item
 

@@ -1,6 +1,6 @@
 -- How an item of a legal trace is judged, whose readies are written: it is permitted, and what is looked at tells which LUNs are busy.
-use Rattle.std.proofs.Common.{◌≡◌, ◌⊎◌, inl, inr, ℕ, zero, suc, ◌<◌, ◌≤◌, ◌==◌, Bool, true, false, ◌&&◌, ◌||◌, not, cond, List, ◌∷◌, Some, None, refl, sym, ap, ◌∙◌, subst, arith, ltb, eqb-true, eq-eqb, ne_eqb}
-use Rattle.std.proofs.lemmas.Bool.{and_parts}
+use Rattle.std.proofs.Common.{◌≡◌, ◌⊎◌, inl, inr, ℕ, zero, suc, ◌<◌, ◌≤◌, ◌==◌, Bool, true, false, ◌&&◌, ◌||◌, not, cond, List, ◌∷◌, Some, None, refl, sym, ap, ◌∙◌, subst, arith, ltb, eqb-true, eq-eqb, ne_eqb, ltb-true, lt-ltb}
+use Rattle.std.proofs.lemmas.Bool.{and_parts, false_from_ne_true}
 use Rattle.std.proofs.lemmas.Bool.Decides.{nat_tests}
 use Rattle.nand_geometry.specs.declared.parts.Parts.{Parts}
 use Rattle.onfi_cycle.specs.declared.command.Command.TheVariants.{Reset}
@@ -18,6 +18,7 @@ use Rattle.onfi_cycle.specs.Permitted.{broken, is_legal}
 use Rattle.onfi_cycle.specs.Rules.{breaks_several_luns}
 use Rattle.onfi_cycle.specs.Sequence.{target_of, target_cycle}
 use Rattle.onfi_cycle.specs.State.{BusView, Follows}
+use Rattle.onfi_cycle.proofs.Booleans.{clash}
 use Rattle.onfi_cycle.proofs.CommandBytes.{commands_have_bytes}
 use Rattle.onfi_cycle.proofs.Following.{looked_is_look}
 use Rattle.onfi_cycle.proofs.Others.{others_keep, keeps_several_luns}
@@ -32,7 +33,7 @@ use Rattle.trace_ops.specs.AtWork.{begins_work}
 use Rattle.trace_ops.specs.Listing.{looks_of, look_at, is_busy, is_command, is_reset}
 use Rattle.trace_ops.proofs.Starts.{starts_by, cycle_busy, ready_busy, array_ready_busy, starts_keeps, output_starts}
 use Rattle.trace_ops.proofs.Tails.{split}
-use Rattle.trace_ops.proofs.Turns.{put_at, put_own, put_other, same_lun, clash}
+use Rattle.trace_ops.proofs.Turns.{put_at, put_own, put_other, same_lun}
 use Rattle.trace_ops.proofs.Wholes.{KnowsAll, plain, verdict_so, after_so, known_after}
 
 -- ---- what is seen of a legal past
@@ -84,25 +85,19 @@ pub record WorksThere (g : Parts) (targets : ℕ) (past : List Item) (ce lun : �
   pub few : lun < g.luns
   pub works : works g past (record { ce = ce; lun = lun }) ≡ true
 
-pub below : (a b : ℕ) → ltb a b ≡ true → a < b
-below a b h = grind (arith, nat_tests)
-
-pub is_below : (a b : ℕ) → a < b → ltb a b ≡ true
-is_below a b h = grind (arith, nat_tests)
-
 pub works_there : (g : Parts) (targets : ℕ) (past : List Item) (ce lun : ℕ) → busy_of g targets past ce lun ≡ true → WorksThere g targets past ce lun
 works_there g targets past ce lun h = at (ltb ce targets) refl (ltb lun g.luns) refl h
   where
     at : (a : Bool) → ltb ce targets ≡ a → (b : Bool) → ltb lun g.luns ≡ b → is_busy (cond (a && b) (Some (look_of (lun_view g past (record { ce = ce; lun = lun })))) None) ≡ true →
         WorksThere g targets past ce lun
-    at true e true f h = record { target = below ce targets e; few = below lun g.luns f; works = h }
+    at true e true f h = record { target = ltb-true ce targets e; few = ltb-true lun g.luns f; works = h }
     at true e false f h = cc
     at false e b f h = cc
 
 pub busy_there : (g : Parts) (targets : ℕ) (past : List Item) (ce lun : ℕ) → ce < targets → lun < g.luns → busy_of g targets past ce lun ≡ works g past (record { ce = ce; lun = lun })
 busy_there g targets past ce lun p q =
-    ap (λ b. is_busy (cond (b && ltb lun g.luns) (Some (look_of (lun_view g past (record { ce = ce; lun = lun })))) None)) (is_below ce targets p)
-    ∙ ap (λ b. is_busy (cond b (Some (look_of (lun_view g past (record { ce = ce; lun = lun })))) None)) (is_below lun g.luns q)
+    ap (λ b. is_busy (cond (b && ltb lun g.luns) (Some (look_of (lun_view g past (record { ce = ce; lun = lun })))) None)) (lt-ltb ce targets p)
+    ∙ ap (λ b. is_busy (cond b (Some (look_of (lun_view g past (record { ce = ce; lun = lun })))) None)) (lt-ltb lun g.luns q)
 
 -- the same of two pasts, where the LUN does the same
 same_busy : (g : Parts) (targets : ℕ) (past other : List Item) (ce lun : ℕ) → works g other (record { ce = ce; lun = lun }) ≡ works g past (record { ce = ce; lun = lun }) →
@@ -192,7 +187,7 @@ reset_few : (g : Parts) → breaks_several_luns g (CommandCycle Reset) ≡ false
 unfolding breaks_several_luns
 reset_few g h = h
 
-or_other : (a b : Bool) → a ≡ false → (a || b) ≡ true → b ≡ true
+pub or_other : (a b : Bool) → a ≡ false → (a || b) ≡ true → b ≡ true
 or_other true b h e = cc
 or_other false b h e = e
 
@@ -320,10 +315,7 @@ module _ (g : Parts) (targets : ℕ) (past : List Item) (c : Cycle) (before afte
 
   -- an output begins none
   pub output_begins : (lun : ℕ) → lun < 4 → c.kind ≡ Dout → begins_between c before after lun ≡ false
-  output_begins lun lt is = at (begins_between c before after lun) refl
-    where
-      at : (b : Bool) → begins_between c before after lun ≡ b → b ≡ false
-      at true e =
-          let none = ap (λ k. starts_by g past (at_lun c.ce lun) (target_cycle k c.byte)) is ∙ output_starts g past (at_lun c.ce lun) in
-          absurd (clash (starts_by g past (at_lun c.ce lun) (target_cycle c.kind c.byte)) (begins_starts lun lt e) none)
-      at false e = refl
+  output_begins lun lt is =
+      let none = ap (λ k. starts_by g past (at_lun c.ce lun) (target_cycle k c.byte)) is ∙ output_starts g past (at_lun c.ce lun) in
+      false_from_ne_true (begins_between c before after lun)
+      (λ e. clash (starts_by g past (at_lun c.ce lun) (target_cycle c.kind c.byte)) (begins_starts lun lt e) none)

@@ -1,6 +1,7 @@
 -- What an item does to its operation and others, but for the end and the beginning of work, leaves who is at work where.
 use Rattle.std.proofs.Common.{◌≡◌, ℕ, ◌<◌, ◌==◌, Bool, true, false, ◌&&◌, cond, List, Option, Some, None, is_some, refl, sym, ap, ◌∙◌, subst, arith}
 use Rattle.std.specs.Prelude.{slice_get}
+use Rattle.std.proofs.lemmas.Bool.{and_parts}
 use Rattle.onfi_cycle.specs.declared.item.Item.{Item}
 use Rattle.onfi_cycle.specs.declared.item.Item.TheVariants.{Cyc, Rdy, Ard}
 use Rattle.onfi_cycle.specs.declared.item.Kind.{Kind}
@@ -101,12 +102,8 @@ pub came_alike : (j : Judged) (l : Listing) →
 came_alike j l new =
     let ops = (with_new (owner_in j (with_ends j l)) j (with_ends j l)).ops in
     let k = mark_in j (with_ends j l) in
-    let open' = unfold_alike (is_address j.item && is_alone_op (slice_get ops k)) k ops (λ o is e. new o is (first_of (is_address j.item) (is_alone_op (slice_get ops k)) e)) in
+    let open' = unfold_alike (is_address j.item && is_alone_op (slice_get ops k)) k ops (λ o is e. new o is (and_parts (is_address j.item) (is_alone_op (slice_get ops k)) e).0) in
     alike_on ops (unfolded j k ops) (came j l).ops open' (changed_alike k (change_of (owner_in j (with_ends j l)) j j.item) (unfolded j k ops) (λ o is. loud_core (owner_in j (with_ends j l)) j j.item o))
-  where
-    first_of : (a b : Bool) → (a && b) ≡ true → a ≡ true
-    first_of true b h = refl
-    first_of false b h = cc
 
 -- ---- what it selects
 

@@ -1,6 +1,7 @@
 -- What a ready of a legal trace of the base profile does to who is at work where.
 use Rattle.std.proofs.Common.{◌≡◌, ◌⊎◌, inl, inr, ℕ, zero, suc, ◌<◌, ◌==◌, Bool, true, false, ◌&&◌, ◌||◌, cond, List, ◌∷◌, Option, Some, None, is_some, refl, sym, ap, ◌∙◌, subst, arith, length, ne_eqb, ◌+◌, ◌++◌, []}
 use Rattle.std.specs.Prelude.{slice_get}
+use Rattle.std.proofs.lemmas.Bool.{false_from_ne_true}
 use Rattle.nand_geometry.specs.declared.parts.Parts.{Parts}
 use Rattle.onfi_cycle.specs.declared.item.Item.{Item}
 use Rattle.onfi_cycle.specs.declared.item.Item.TheVariants.{Rdy, Ard}
@@ -28,7 +29,7 @@ use Rattle.trace_ops.proofs.Dated.{Dated, dated_alike, dated_later, dated_new, d
 use Rattle.trace_ops.proofs.Domestic.{Every, every_at, every_new, Domestic, FitsItem, ready_domestic, domestic_came, domestic_listed}
 use Rattle.trace_ops.proofs.Legal.{permitted_as, busy_of, busy_ready}
 use Rattle.trace_ops.proofs.Quietly.{came_alike, rest_alike}
-use Rattle.trace_ops.proofs.Turns.{put_at, ended_ce, ended_start, workers_with, ops_with, tells_end, tells_off, not_busy, unworked}
+use Rattle.trace_ops.proofs.Turns.{put_at, ended_ce, ended_start, workers_with, ops_with, tells_end, tells_off, unworked}
 
 -- an item that is no cycle: it begins no work, selects nothing, and brings no byte
 pub record IsReady (j : Judged) : Type 0 where
@@ -225,7 +226,7 @@ ready_ends g targets past one_lun n ce lun fail before after l (inl low) tells =
 ready_ends g targets past one_lun n ce lun fail before after l (inr high) tells =
     subst (λ (ops : List Operation). Tells (busy_of g targets (Rdy ce lun fail ∷ past)) l.places.workers ops) (sym (ends_far one_lun n ce lun fail before after high l.places l.ops))
     (tells_same (put_at (busy_of g targets past) ce lun false) (busy_of g targets (Rdy ce lun fail ∷ past)) l.places.workers l.ops (busy_ready g targets past ce lun fail)
-    (tells_off (busy_of g targets past) l.places.workers l.ops ce lun (not_busy (busy_of g targets past) ce lun (λ h. high (tells.small ce lun h).1)) tells))
+    (tells_off (busy_of g targets past) l.places.workers l.ops ce lun (false_from_ne_true (busy_of g targets past ce lun) (λ h. high (tells.small ce lun h).1)) tells))
 
 -- an end leaves what rests
 pub resting_ends : (newest : List (Option ℕ)) (past : List Item) (w : Option ℕ) (e : Ending) (ops : List Operation) → Every (Resting newest past) ops → Every (Resting newest past) (changed_if w (End e) ops)

@@ -1,6 +1,6 @@
 -- Which items start work of a LUN in the model, and what they leave of the tail.
 use Rattle.std.proofs.Common.{◌≡◌, ℕ, ◌+◌, ◌==◌, Bool, true, false, ◌&&◌, ◌||◌, not, cond, List, [], ◌∷◌, Option, Some, None, refl, sym, ap, ◌∙◌, arith, ltb, eqb-true}
-use Rattle.std.proofs.lemmas.Bool.{and_parts}
+use Rattle.std.proofs.lemmas.Bool.{and_parts, and_left, or_parts}
 use Rattle.std.proofs.lemmas.Bool.Decides.{nat_tests}
 use Rattle.nand_geometry.specs.declared.parts.Parts.{Parts}
 use Rattle.onfi_cycle.specs.declared.command.Command.{Command}
@@ -126,10 +126,6 @@ named_true true true x h = refl
 named_true true false x h = cc
 named_true false n x h = cc
 
-chosen_true : (b : Bool) (x y : Bool) → b ≡ true → x ≡ true → cond b x y ≡ true
-chosen_true true x y h e = e
-chosen_true false x y h e = cc
-
 alone_only : (g : Parts) (past : List Item) (l : Lun) (x : Effect) → starts (cond (is_off (latch_alone g past l)) Unaffected x) ≡ true → is_only (drivers g past l.ce) l.lun ≡ true
 alone_only g past l x h = at (is_only (drivers g past l.ce) l.lun) h
   where
@@ -222,23 +218,16 @@ no_closer BlockErase d h = cc
 no_closer PageProgram d h = cc
 no_closer c d h = refl
 
-split_or : (a b : Bool) → (a || b) ≡ false → (a ≡ false) × (b ≡ false)
-split_or false b h = (refl, h)
-split_or true b h = cc
-
 first_false : (a b c : Bool) → b ≡ false → (a && b && c) ≡ false
 first_false true true c h = cc
 first_false true false c h = refl
 first_false false b c h = refl
 
-and_first : (a b : Bool) → a ≡ false → (a && b) ≡ false
-and_first a b h = ap (λ x. x && b) h
-
 closed_none : (d : Command) (o : Option Opening) → opened goes_on_by o ≡ false → opened (λ c n. closes c d && n == address_cycles c) o ≡ false
 closed_none d None h = refl
 closed_none d (Some o) h =
-    and_first (closes o.opener d) (o.addresses == address_cycles o.opener)
-    (no_closer o.opener d (split_or (ltb o.addresses (address_cycles o.opener)) (wants_closer o.opener) h).1)
+    and_left (closes o.opener d) (o.addresses == address_cycles o.opener)
+    (no_closer o.opener d (or_parts (ltb o.addresses (address_cycles o.opener)) (wants_closer o.opener) h).1)
 
 wants_opened : (t : TailFacts) (d : Command) → IsEnded t → opened (λ c n. closes c d && n == address_cycles c) t.opening ≡ false
 wants_opened t d e = closed_none d t.opening e.opening
@@ -253,7 +242,7 @@ addressed_none : (byte : ℕ) (o : Option Opening) → opened goes_on_by o ≡ f
 addressed_none byte None h = refl
 addressed_none byte (Some o) h =
     first_false (is_opener o.opener) (ltb o.addresses (address_cycles o.opener)) (takes_address o.opener byte)
-    (split_or (ltb o.addresses (address_cycles o.opener)) (wants_closer o.opener) h).0
+    (or_parts (ltb o.addresses (address_cycles o.opener)) (wants_closer o.opener) h).0
 
 ended_address : (t : TailFacts) (byte : ℕ) → IsEnded t → wants_address t byte ≡ false
 ended_address t byte e = ap (λ b. b || wants_column t.phase) (addressed_none byte t.opening e.opening) ∙ ap wants_column e.phase

@@ -2,7 +2,9 @@
 use Rattle.std.proofs.Common.{◌≡◌, ◌⊎◌, inl, inr, ℕ, ◌<◌, ◌==◌, Bool, true, false, ◌&&◌, cond, List, Option, Some, None, is_some, refl, sym, ap, ◌∙◌, subst, arith, slice_set, eq-eqb, ne_eqb, eqb-true}
 use Rattle.std.specs.Prelude.{slice_get}
 use Rattle.std.proofs.lemmas.Option.{slice_get_within}
+use Rattle.std.proofs.lemmas.Bool.{false_from_ne_true}
 use Rattle.std.proofs.lemmas.List.{length-set}
+use Rattle.onfi_cycle.proofs.Booleans.{clash}
 use Rattle.trace_ops.specs.declared.change.Change.{Change}
 use Rattle.trace_ops.specs.declared.change.Change.TheVariants.{End, Begin}
 use Rattle.trace_ops.specs.declared.judged.Judged.{Judged}
@@ -42,10 +44,6 @@ same_lun a ce b lun = at (split a ce) (split b lun)
     at (inl p) (inl q) = inl (p, q)
     at (inl p) (inr q) = inr (λ x y. q y)
     at (inr p) q = inr (λ x y. p x)
-
-pub clash : (b : Bool) → b ≡ true → b ≡ false → ⊥
-clash true h e = cc
-clash false h e = cc
 
 -- ---- where an operation goes, once one was changed
 
@@ -349,19 +347,12 @@ off_same busy ce lun off a b = at (same_lun a ce b lun)
         ∙ sym (ap (λ x. busy x b) both.0 ∙ ap (busy ce) both.1 ∙ off)
     at (inr apart) = put_other busy ce lun false a b apart
 
-pub not_busy : (busy : ℕ → ℕ → Bool) (ce lun : ℕ) → (busy ce lun ≡ true → ⊥) → busy ce lun ≡ false
-not_busy busy ce lun never = at (busy ce lun) refl
-  where
-    at : (b : Bool) → busy ce lun ≡ b → busy ce lun ≡ false
-    at true e = absurd (never e)
-    at false e = e
-
 pub tells_off : (busy : ℕ → ℕ → Bool) (workers : List (Option ℕ)) (ops : List Operation) (ce lun : ℕ) → busy ce lun ≡ false → Tells busy workers ops → Tells (put_at busy ce lun false) workers ops
 tells_off busy workers ops ce lun off tells = tells_same busy (put_at busy ce lun false) workers ops (off_same busy ce lun off) tells
 
 -- a LUN that has no worker isn't busy
 pub unworked : (busy : ℕ → ℕ → Bool) (workers : List (Option ℕ)) (ops : List Operation) (ce lun : ℕ) → worker_in workers ce lun ≡ None → Tells busy workers ops → busy ce lun ≡ false
-unworked busy workers ops ce lun h tells = not_busy busy ce lun (λ b. none (sym h ∙ (tells.working ce lun b).is))
+unworked busy workers ops ce lun h tells = false_from_ne_true (busy ce lun) (λ b. none (sym h ∙ (tells.working ce lun b).is))
   where
     none : {m : ℕ} → None ≡ Some m → ⊥
     none e = cc
