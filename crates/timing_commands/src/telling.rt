@@ -144,7 +144,10 @@ fn push_more<A: Allocator>(
     count: usize,
 ) -> Result<(), AllocError> {
     if MOST_SAID < count {
-        let words = format!(in alloc; "and {} more that come too soon or take too long", count - MOST_SAID)?;
+        let words = format!(in alloc;
+            "and {} more that come too soon or take too long",
+            count - MOST_SAID
+        )?;
         push_message(lines, request.check.style, words.as_str())?;
     }
     Ok(())
