@@ -21,3 +21,4 @@ pub mod Cycles
 pub mod Readies
 pub mod Works
 pub mod Dated
+mod Selecting

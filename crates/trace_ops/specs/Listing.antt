@@ -373,6 +373,18 @@ role_by j (Some o) (Cyc c) lun = if is_permitted j.said then role_of_kind o c (b
 role_by j (Some o) (Rdy ce l fail) lun = role.Nothing
 role_by j (Some o) (Ard ce l) lun = role.Nothing
 
+-- commands and addresses alone select something
+abbrev pub may_select_kind : Kind → Bool
+may_select_kind Cmd = true
+may_select_kind Adr = true
+may_select_kind Din = false
+may_select_kind Dout = false
+
+abbrev pub may_select : Item → Bool
+may_select (Cyc c) = may_select_kind c.kind
+may_select (Rdy ce lun fail) = false
+may_select (Ard ce lun) = false
+
 -- the work of the LUN hasn't been shown to be over by a status byte
 abbrev pub is_unshown : Option Operation → Bool
 is_unshown None = false

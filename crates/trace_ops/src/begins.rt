@@ -96,18 +96,21 @@ fn is_input_to_chip(item: Item) -> bool
     }
 }
 
-// Work of which the model knows nothing begins, on a target of one LUN.
-fn begins_foreign(judged: &Judged, lun: u8, operation: Option<Operation>) -> bool
-    ensures { result ≡ begins_foreign judged.now lun operation }
+// Work of which the model knows nothing begins, on a target of one LUN. The operation is looked at last, since that copies it.
+fn begins_foreign(ops: &[Operation], judged: &Judged, lun: u8, number: usize) -> bool
+    ensures { result ≡ begins_foreign judged.now lun (slice_get ops.now number) }
 {
-    judged.one_lun && lun == 0 && is_input_to_chip(judged.item) && works_as_foreign(operation)
+    judged.one_lun
+        && lun == 0
+        && is_input_to_chip(judged.item)
+        && works_as_foreign(op_of(ops, Some(number)))
 }
 
 // A LUN begins work by this item of the operation.
 fn starts_on(ops: &[Operation], judged: &Judged, lun: u8, number: usize) -> bool
     ensures { result ≡ starts_on judged.now lun number ops.now }
 {
-    begins_by(judged, judged.item, lun) || begins_foreign(judged, lun, op_of(ops, Some(number)))
+    begins_by(judged, judged.item, lun) || begins_foreign(ops, judged, lun, number)
 }
 
 // The work before it is abandoned.

@@ -1,7 +1,7 @@
 //! What an operation selects: a status, a column, data.
 ghost use Rattle.std.specs.Prelude.{◌≡◌, slice_get, if◌then◌else◌};
 ghost use Rattle.trace_ops.specs.declared.role.Role.TheVariants.{Nothing as NoRole};
-ghost use Rattle.trace_ops.specs.Listing.{Listing, role_of_command, role_of_address, role_of_kind, role_by, is_unshown, folded_into, folded_if, held_in, held_by, selected_by, selected_on, all_selected};
+ghost use Rattle.trace_ops.specs.Listing.{Listing, may_select, role_of_command, role_of_address, role_of_kind, role_by, is_unshown, folded_into, folded_if, held_in, held_by, selected_by, selected_on, all_selected};
 
 use crate::begins::begins_by;
 use crate::change::{Change, change_at};
@@ -175,6 +175,7 @@ fn select_by<A: Allocator>(
 }
 
 // What the item of an operation makes of a LUN.
+#[tactic(auto, using(crate::proofs::Selecting::absent_selects_nothing))]
 fn select_on<A: Allocator>(
     ops: &mut Vec<Operation, A>,
     places: &mut Places,
@@ -185,13 +186,16 @@ fn select_on<A: Allocator>(
     ensures ops { ops.new.items ≡ (selected_on judged.now number lun (record { places = places.old; ops = ops.old.items })).ops }
     ensures places { places.new ≡ (selected_on judged.now number lun (record { places = places.old; ops = ops.old.items })).places }
 {
+    if judged.after.at(lun).is_none() {
+        return;
+    }
     let operation = op_of(ops.as_slice(), Some(number));
     let role = role_by(judged, operation, judged.item, lun);
     select_by(ops, places, judged, role, number, lun);
 }
 
-/// What the item of an operation makes of each LUN.
-pub(crate) fn select_all<A: Allocator>(
+// What the item of an operation makes of each LUN.
+fn select_each<A: Allocator>(
     ops: &mut Vec<Operation, A>,
     places: &mut Places,
     judged: &Judged,
@@ -204,4 +208,33 @@ pub(crate) fn select_all<A: Allocator>(
     select_on(ops, places, judged, number, 1);
     select_on(ops, places, judged, number, 2);
     select_on(ops, places, judged, number, 3);
+}
+
+// Commands and addresses alone select something.
+fn may_select(item: Item) -> bool
+    ensures { result ≡ may_select item }
+{
+    match item {
+        Item::Cyc(cycle) => match cycle.kind {
+            Kind::Cmd | Kind::Adr => true,
+            Kind::Din | Kind::Dout => false,
+        },
+        Item::Rdy { .. } | Item::Ard { .. } => false,
+    }
+}
+
+/// What the item of an operation makes of each LUN.
+#[tactic(auto, using(crate::proofs::Selecting::selects_nothing))]
+pub(crate) fn select_all<A: Allocator>(
+    ops: &mut Vec<Operation, A>,
+    places: &mut Places,
+    judged: &Judged,
+    number: usize,
+)
+    ensures ops { ops.new.items ≡ (all_selected judged.now number (record { places = places.old; ops = ops.old.items })).ops }
+    ensures places { places.new ≡ (all_selected judged.now number (record { places = places.old; ops = ops.old.items })).places }
+{
+    if may_select(judged.item) {
+        select_each(ops, places, judged, number);
+    }
 }

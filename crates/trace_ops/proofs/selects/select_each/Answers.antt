@@ -1,7 +1,7 @@
 use Rattle.std.proofs.Common.{ap}
 use Rattle.trace_ops.specs.Listing.{Listing, selected_on}
 use Rattle.trace_ops.proofs.Listed.{four}
-use Rattle.trace_ops.proofs.selects.select_all.Goals as goal
+use Rattle.trace_ops.proofs.selects.select_each.Goals as goal
 
 pub returns-clause-ops : goal.returns-clause-ops
 returns-clause-ops g c =
