@@ -14,6 +14,7 @@ use std::process::Abort;
 use std::test::Fail;
 use trace_commands::{CaptureRequest, DrawRequest, Targets};
 use trace_files::{DrawForm, Drawing, TraceOutputs};
+use trace_timing::TimingMode;
 
 // The words of a command line, behind the name of the program.
 fn words_of(alloc: Global, line: &str) -> Result<Vec<String>, AllocError> {
@@ -45,6 +46,13 @@ const REQUESTS: &[(&str, RunRequest<'static>)] = &[
         "run f --quiet",
         RunRequest {
             is_quiet: true,
+            ..RUN
+        },
+    ),
+    (
+        "run f --times 3",
+        RunRequest {
+            times: Some(TimingMode::Three),
             ..RUN
         },
     ),

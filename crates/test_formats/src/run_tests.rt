@@ -154,6 +154,67 @@ const FILES: &[Read] = &[
         ],
         None,
     ),
+    // The polls of a work stand once.
+    (
+        "page g2\ntargets 2\npolls read 2\npolls 3\npolls lun 1 0 4\npolls erase 5\npolls program 6\n\
+            polls lun 0 0 7\npolls lun 01 0 1\n",
+        &[
+            Numbered {
+                line: 1,
+                statement: Statement::Page { path: "g2" },
+            },
+            Numbered {
+                line: 2,
+                statement: Statement::Targets { count: 2 },
+            },
+            Numbered {
+                line: 3,
+                statement: Statement::Polls {
+                    of: Polled::Reads,
+                    count: 2,
+                },
+            },
+            Numbered {
+                line: 4,
+                statement: Statement::Polls {
+                    of: Polled::Each,
+                    count: 3,
+                },
+            },
+            Numbered {
+                line: 5,
+                statement: Statement::Polls {
+                    of: Polled::Lun { target: 1, lun: 0 },
+                    count: 4,
+                },
+            },
+            Numbered {
+                line: 6,
+                statement: Statement::Polls {
+                    of: Polled::Erases,
+                    count: 5,
+                },
+            },
+            Numbered {
+                line: 7,
+                statement: Statement::Polls {
+                    of: Polled::Programs,
+                    count: 6,
+                },
+            },
+            Numbered {
+                line: 8,
+                statement: Statement::Polls {
+                    of: Polled::Lun { target: 0, lun: 0 },
+                    count: 7,
+                },
+            },
+        ],
+        Some(RunRefusal {
+            fault: RunFault::OutOfOrder,
+            line: 9,
+        }),
+    ),
     // What stands before the first fault is given.
     (
         "page g2\ntargets 1\n\njob 0 0 0 erase - -\njob 0 1\njob 0 1 0 erase - -\n",
