@@ -122,6 +122,7 @@ const REQUESTS: &[(&str, RunRequest<'static>)] = &[
         "run --stats --trace out f --max-steps 7 --workers 6 --quiet",
         RunRequest {
             path: "f",
+            profile: Profile::Base,
             max_steps: 7,
             workers: 6,
             is_quiet: true,
