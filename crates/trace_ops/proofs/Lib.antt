@@ -22,3 +22,17 @@ pub mod Readies
 pub mod Works
 pub mod Dated
 mod Selecting
+pub mod Openers
+pub mod Driven
+pub mod Owned
+pub mod Walked
+pub mod Opening
+pub mod Asking
+pub mod Parted
+pub mod Unstarted
+pub mod Folded
+pub mod FoldedReadies
+pub mod Folds
+pub mod Latest
+pub mod LatestWork
+pub mod Questions
