@@ -645,6 +645,14 @@ module _ (g : Parts) (targets n : ℕ) (one_lun : Bool) (past : List Item) (mark
   domestic_three : Every (λ k. Domestic) three.ops
   domestic_three = domestic_on 2 two domestic_two
 
+  -- where the first LUN begins work it is the operation's
+  pub begins_first : begins_between c before after 0 ≡ true → (all_begun j mark (came j l)).places.workers ≡ workers_with j mark 0 (came j l).places
+  begins_first h =
+      ap (λ (x : Listing). x.places.workers)
+      (skips 3 three (begin_once 0 3 (omega arith) (omega arith) h (λ e. omega (arith, e))) domestic_three
+      ∙ skips 2 two (begin_once 0 2 (omega arith) (omega arith) h (λ e. omega (arith, e))) domestic_two
+      ∙ skips 1 one (begin_once 0 1 (omega arith) (omega arith) h (λ e. omega (arith, e))) domestic_one ∙ takes 0 (came j l) h domestic_here)
+
   -- where no LUN begins work nothing is changed
   pub begins_nothing : ((lun : ℕ) → lun < 4 → begins_between c before after lun ≡ false) → all_begun j mark (came j l) ≡ came j l
   begins_nothing none =

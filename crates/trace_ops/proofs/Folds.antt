@@ -33,10 +33,10 @@ use Rattle.trace_ops.proofs.Works.{onto, legal_before}
 abbrev pub AllParted : List Item → Listing → Type 0
 AllParted past l = Every (Parted l.places.newest past (Unstarted l.ops)) l.ops
 
-ready_lone : (one_lun : Bool) (n ce lun : ℕ) (fail : Bool) (before after : Looks) → IsLone (permitted_as one_lun n (Rdy ce lun fail) before after)
+pub ready_lone : (one_lun : Bool) (n ce lun : ℕ) (fail : Bool) (before after : Looks) → IsLone (permitted_as one_lun n (Rdy ce lun fail) before after)
 ready_lone one_lun n ce lun fail before after = record { ready = ready_is one_lun n ce lun fail before after; said = refl; change = λ owner. refl; new = λ newest. refl }
 
-array_ready_lone : (one_lun : Bool) (n ce lun : ℕ) (before after : Looks) → IsLone (permitted_as one_lun n (Ard ce lun) before after)
+pub array_ready_lone : (one_lun : Bool) (n ce lun : ℕ) (before after : Looks) → IsLone (permitted_as one_lun n (Ard ce lun) before after)
 array_ready_lone one_lun n ce lun before after = record { ready = array_ready_is one_lun n ce lun before after; said = refl; change = λ owner. refl; new = λ newest. refl }
 
 abbrev PartedBy : List Item → Listing → Item → Judged → Type 0

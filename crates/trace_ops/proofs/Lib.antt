@@ -36,3 +36,12 @@ pub mod Folds
 pub mod Latest
 pub mod LatestWork
 pub mod Questions
+pub mod Closing
+pub mod Gently
+pub mod Polled
+pub mod PolledItems
+pub mod PolledOwn
+pub mod PolledParts
+pub mod PolledReadies
+pub mod Polling
+pub mod PolledLines

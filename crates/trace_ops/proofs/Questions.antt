@@ -68,7 +68,7 @@ unfolding breaks_several_luns
 one_lun_alone g h = h
 
 -- behind it its LUN shows the status
-shows_status : (g : Parts) (past : List Item) (ce : ℕ) → latch g (question ce ∷ past) (at_lun ce 0) ≡ Status
+pub shows_status : (g : Parts) (past : List Item) (ce : ℕ) → latch g (question ce ∷ past) (at_lun ce 0) ≡ Status
 shows_status g past ce = at (ce == ce) refl
   where
     effect : (t : List TargetCycle) (s : Latch) → latch_after (cycle_effect g (facts_of t) s (CommandCycle (command 0x70)) 0) s ≡ Status
@@ -82,7 +82,7 @@ shows_status g past ce = at (ce == ce) refl
         no h = cc
 
 module _ (g : Parts) (targets n : ℕ) (seen : Seen) (past : List Item) (marks : List ℕ) (l : Listing) (pieces : ℕ → List TargetCycle) (walked : Walked g targets n seen past marks l pieces)
-    (one_lun : Bool) (ce : ℕ) (h : broken g targets past (question ce) ≡ None) where
+    (one_lun : Bool) (ce : ℕ) (later : List Item) (h : broken g targets past (question ce) ≡ None) where
   abbrev c : BusCycle
   c = record { ce = ce; kind = Cmd; byte = 0x70 }
 
@@ -90,7 +90,7 @@ module _ (g : Parts) (targets n : ℕ) (seen : Seen) (past : List Item) (marks :
   before = looks_of seen.state.bus ce
 
   abbrev after : Looks
-  after = looks_of (seen_after Written seen (Cyc c) []).state.bus ce
+  after = looks_of (seen_after Written seen (Cyc c) later).state.bus ce
 
   abbrev j : Judged
   j = permitted_as one_lun n (Cyc c) before after
@@ -102,7 +102,7 @@ module _ (g : Parts) (targets n : ℕ) (seen : Seen) (past : List Item) (marks :
   many = length (with_ends j l).ops
 
   here : CycleAt g targets n past marks c before after l pieces
-  here = cycle_at g targets n seen past marks l pieces walked c [] h
+  here = cycle_at g targets n seen past marks l pieces walked c later h
 
   -- ---- which LUN shows its status
 
@@ -113,7 +113,7 @@ module _ (g : Parts) (targets n : ℕ) (seen : Seen) (past : List Item) (marks :
   one_at_most = (let low : ltb 1 g.luns ≡ false = few in grind (arith, nat_tests))
 
   look_is : (lun : ℕ) → lun < 4 → look_at after lun ≡ look_after g targets (Cyc c ∷ past) (at_lun ce lun)
-  look_is lun low = look_there (seen_after Written seen (Cyc c) []).state.bus ce lun low ∙ looked_is_look g targets (seen_after Written seen (Cyc c) []).state.bus (Cyc c ∷ past) (at_lun ce lun) (on_past_on g targets seen past (Cyc c) [] walked.on h).on.follows
+  look_is lun low = look_there (seen_after Written seen (Cyc c) later).state.bus ce lun low ∙ looked_is_look g targets (seen_after Written seen (Cyc c) later).state.bus (Cyc c ∷ past) (at_lun ce lun) (on_past_on g targets seen past (Cyc c) later walked.on h).on.follows
 
   shows_none : (lun : ℕ) → lun < 4 → 0 < lun → gives_status (look_at after lun) ≡ false
   shows_none lun low more = ap gives_status (look_is lun low) ∙ at (ltb ce targets && ltb lun g.luns) (and_right (ltb ce targets) (ltb lun g.luns) outside)
@@ -137,22 +137,22 @@ module _ (g : Parts) (targets n : ℕ) (seen : Seen) (past : List Item) (marks :
   opens' : opens (Cyc c) ≡ true
   opens' = ap is_opener status_command
 
-  is_new : owner_in j (with_ends j l) ≡ None
+  pub is_new : owner_in j (with_ends j l) ≡ None
   is_new = (new g targets n one_lun past marks c before after l pieces here opens').0
 
-  mark_is : mark ≡ many
+  pub mark_is : mark ≡ many
   mark_is = ap (λ (x : Option ℕ). number_of x (with_ends j l).ops) is_new
 
-  none_begins : (lun : ℕ) → lun < 4 → begins_between c before after lun ≡ false
+  pub none_begins : (lun : ℕ) → lun < 4 → begins_between c before after lun ≡ false
   none_begins lun low =
       false_from_ne_true (begins_between c before after lun)
       (λ e. clash (starts_by g past (at_lun ce lun) (CommandCycle (command 0x70))) (begins_starts g targets past c before after here.sees here.saw lun low e)
       (ap (λ x. starts_by g past (at_lun ce lun) (CommandCycle x)) status_command ∙ status_starts g past (at_lun ce lun)))
 
-  abbrev X : Listing
+  abbrev pub X : Listing
   X = came j l
 
-  workers_same : X.places.workers ≡ l.places.workers
+  pub workers_same : X.places.workers ≡ l.places.workers
   workers_same = ap (λ (x : Option ℕ). (with_new x j (with_ends j l)).places.workers) is_new
 
   -- it has no parent yet
@@ -191,15 +191,15 @@ module _ (g : Parts) (targets n : ℕ) (seen : Seen) (past : List Item) (marks :
   same_ready true ops = refl
   same_ready false ops = refl
 
-  selected_all : ce < targets → 0 < g.luns → (o : Operation) → slice_get X.ops mark ≡ Some o → all_selected j mark (all_begun j mark X) ≡ selected_by role.Asks j mark 0 X
+  pub selected_all : ce < targets → 0 < g.luns → (o : Operation) → slice_get X.ops mark ≡ Some o → all_selected j mark (all_begun j mark X) ≡ selected_by role.Asks j mark 0 X
   selected_all target some o is =
       ap (all_selected j mark) (begins_nothing g targets n one_lun past marks c before after l pieces here none_begins)
       ∙ none_select 3 (omega arith) (omega arith) _ ∙ none_select 2 (omega arith) (omega arith) _ ∙ none_select 1 (omega arith) (omega arith) _ ∙ zero_selects target some o is
 
-  abbrev asked : Option ℕ → List Operation
+  abbrev pub asked : Option ℕ → List Operation
   asked w = folded_if (is_unshown (op_of X.ops w)) mark w (changed_at mark (SetLun 0) X.ops)
 
-  final : ce < targets → 0 < g.luns → (o : Operation) → slice_get X.ops mark ≡ Some o → (listed j l).ops ≡ asked (worker X.places ce 0)
+  pub final : ce < targets → 0 < g.luns → (o : Operation) → slice_get X.ops mark ≡ Some o → (listed j l).ops ≡ asked (worker X.places ce 0)
   final target some o is =
       same_ready (is_foreign_at (all_selected j mark (all_begun j mark X)).ops (Some mark)) (all_selected j mark (all_begun j mark X)).ops
       ∙ ap (λ (x : Listing). x.ops) (selected_all target some o is)
@@ -334,8 +334,8 @@ asks_as : (g : Parts) (targets n : ℕ) (seen : Seen) (past : List Item) (marks 
 asks_as g targets n seen past marks l pieces walked one_lun ce h =
     as_permitted g targets n seen past marks l pieces walked (AsksBy g targets n past marks l ce) one_lun (question ce) [] h
     (λ k q is same latest worked. record {
-      part = λ m work e. is_part g targets n seen past marks l pieces walked one_lun ce h k q (sym same) is latest worked m work e;
-      shown = λ m work e. is_shown g targets n seen past marks l pieces walked one_lun ce h k q (sym same) is latest worked m work e;
+      part = λ m work e. is_part g targets n seen past marks l pieces walked one_lun ce [] h k q (sym same) is latest worked m work e;
+      shown = λ m work e. is_shown g targets n seen past marks l pieces walked one_lun ce [] h k q (sym same) is latest worked m work e;
     })
 
 asks_all : (g : Parts) (targets : ℕ) (one_lun : Bool) (items : List Item) (ce n : ℕ) (seen : Seen) (past : List Item) (marks : List ℕ) (l : Listing) (pieces : ℕ → List TargetCycle) →
@@ -352,7 +352,7 @@ asks_all g targets one_lun [] ce n seen past marks l pieces walked latest legal 
     let long : q.first ≡ length marks = omega (arith, first', number, many) in
     let j = ItemAs one_lun seen n i [] in
     let same = same_some (sym (new_mark marks (mark_in j (with_ends j l))) ∙ ap (slice_get (marks ++ (mark_in j (with_ends j l) ∷ []))) (sym long) ∙ mark) in
-    asks_as g targets n seen past marks l pieces walked one_lun ce h k q is same (latest_item g targets n seen past marks l pieces walked latest one_lun i [] h)
+    asks_as g targets n seen past marks l pieces walked one_lun ce [] h k q is same (latest_item g targets n seen past marks l pieces walked latest one_lun i [] h)
     (walked_on g targets n seen past marks l pieces walked one_lun i [] h).worked
 asks_all g targets one_lun (i ∷ items) ce n seen past marks l pieces walked latest legal k q is first' mark =
     let rest' = items ++ (question ce ∷ []) in

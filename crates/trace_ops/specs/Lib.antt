@@ -5,3 +5,4 @@ pub mod AtWork
 pub mod Openings
 pub mod Folding
 pub mod LastWork
+pub mod Polling

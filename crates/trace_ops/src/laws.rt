@@ -5,6 +5,7 @@ ghost use Rattle.trace_ops.specs.AtWork.{WorkIsTheModels, WorkBeginsAsTheModels,
 ghost use Rattle.trace_ops.specs.Openings.{OperationsAreOpeners};
 ghost use Rattle.trace_ops.specs.Folding.{PartsAreFolded};
 ghost use Rattle.trace_ops.specs.LastWork.{QuestionsAreForWork};
+ghost use Rattle.trace_ops.specs.Polling.{PollingHosts};
 
 /// Each item of a trace belongs to one operation, which is in the list; the first and the last of them are those that the operation names.
 pub fn each_item_belongs()
@@ -68,4 +69,10 @@ pub fn parts_are_folded()
 /// has, it is a part of none.
 pub fn questions_are_for_work()
     ensures { QuestionsAreForWork }
+{}
+
+/// In such a trace of a target with one LUN, whose host reads, programs and erases, and polls after each of these: each of them has one line, in order, and what
+/// is folded is the questions and the 00h that go back to data.
+pub fn polling_hosts()
+    ensures { PollingHosts }
 {}

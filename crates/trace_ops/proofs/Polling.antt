@@ -1,0 +1,360 @@
+-- Of a host that polls: what is told of its operations, item by item, and at the end.
+use Rattle.std.proofs.Common.{◌≡◌, ◌⊎◌, inl, inr, ℕ, ◌+◌, ◌<◌, ◌==◌, Bool, true, false, ◌&&◌, ◌||◌, not, cond, List, [], ◌∷◌, ◌++◌, Option, Some, None, is_some, refl, sym, ap, ◌∙◌, subst, arith, length, reverse, map, ne_eqb, eq-eqb, eqb-true}
+use Rattle.std.specs.Prelude.{slice_get}
+use Rattle.std.proofs.lemmas.Bool.{and_parts}
+use Rattle.std.proofs.lemmas.List.{append-nil, append_assoc}
+use Rattle.nand_geometry.specs.declared.parts.Parts.{Parts}
+use Rattle.onfi_cycle.specs.declared.item.Cycle.{Cycle as BusCycle}
+use Rattle.onfi_cycle.specs.declared.item.Item.{Item}
+use Rattle.onfi_cycle.specs.declared.item.Item.TheVariants.{Cyc, Rdy, Ard}
+use Rattle.onfi_cycle.specs.declared.item.Kind.{Kind}
+use Rattle.onfi_cycle.specs.declared.item.Kind.TheVariants.{Cmd, Adr, Din, Dout}
+use Rattle.onfi_cycle.specs.declared.target_cycle.TargetCycle.{TargetCycle}
+use Rattle.onfi_cycle.specs.Command.{command, is_opener}
+use Rattle.onfi_cycle.specs.Permitted.{broken, is_permitted, is_legal}
+use Rattle.onfi_cycle.proofs.Others.{permitted_none}
+use Rattle.trace_faults.specs.declared.beginning.Beginning.TheVariants.{Start}
+use Rattle.trace_faults.specs.declared.readies.Readies.TheVariants.{Written}
+use Rattle.trace_faults.specs.Middle.{Seen, seen_after, first_seen_as}
+use Rattle.trace_ops.specs.declared.judged.Judged.{Judged}
+use Rattle.trace_ops.specs.declared.operation.Operation.{Operation}
+use Rattle.trace_ops.specs.AtWork.{IsLegalBase}
+use Rattle.trace_ops.specs.Openings.{opens}
+use Rattle.trace_ops.specs.Operation.{is_output, says_ready}
+use Rattle.trace_ops.specs.Listing.{Listing, is_command, worker, with_ends, mark_in, listed, nothing_listed, has_one_lun, ops_from, ops_of}
+use Rattle.trace_ops.specs.Polling.{Work, Reads, Programs, Erases, Doing, Rests, Sends, Waits, Asks, Sees, opener_for, closer_for, work_by, sends_by, is_over, by_command, by_input, by_output, by_cycle, doing_after, goes_on, doing_at_end, work_in, work_at, in_front, works_on, works_from, is_sending}
+use Rattle.trace_ops.proofs.Domestic.{Every}
+use Rattle.trace_ops.proofs.Driven.{ready_of, array_ready_of}
+use Rattle.trace_ops.proofs.Folds.{ready_lone, array_ready_lone}
+use Rattle.trace_ops.proofs.Legal.{permitted_as}
+use Rattle.trace_ops.proofs.Pieces.{came_to}
+use Rattle.trace_ops.proofs.Polled.{Fits, is_unseen, fits_seen}
+use Rattle.trace_ops.proofs.PolledItems.{told_after, has_worked, has_asked, Polls, far_polls}
+use Rattle.trace_ops.proofs.PolledOwn.{own_output, own_input, own_closer, own_opener, opens_work, closes_opens}
+use Rattle.trace_ops.proofs.PolledParts.{own_question, own_return}
+use Rattle.trace_ops.proofs.PolledReadies.{ready_shows, array_ready_shows, ready_polls}
+use Rattle.trace_ops.proofs.Spans.{same_some}
+use Rattle.trace_ops.proofs.Walked.{Walked, ItemAs, ItemIs, as_permitted, cycle_at, busy_worker, walked_on, nothing_walked}
+use Rattle.trace_ops.proofs.Works.{onto, legal_before}
+
+no : true ≡ false → ⊥
+no e = cc
+
+none : {X : Type 0} {x : X} → None ≡ Some x → ⊥
+none h = cc
+
+-- the operations once an item has come
+pub record Goes (g : Parts) (ce : ℕ) (past : List Item) (l : Listing) (i : Item) (j : Judged) (told : List (Option Work)) (next : Doing) : Type 0 where
+  pub at : ℕ
+  pub polls : Polls g ce (i ∷ past) (listed j l) told next at
+
+-- ---- the bytes of commands
+
+pub record Begun (byte : ℕ) (next : Doing) : Type 0 where
+  pub work : Work
+  pub told : work_by byte ≡ Some work
+  pub next_is : next ≡ Sends work
+  pub byte_is : byte ≡ opener_for work
+
+begun_so : (byte : ℕ) (next : Doing) → sends_by (work_by byte) ≡ Some next → Begun byte next
+begun_so byte next h = at (byte == 0x00) refl (byte == 0x80) refl (byte == 0x60) refl
+  where
+    at : (a : Bool) → (byte == 0x00) ≡ a → (b : Bool) → (byte == 0x80) ≡ b → (c : Bool) → (byte == 0x60) ≡ c → Begun byte next
+    at true p b q c r = record {
+      work = Reads;
+      told = ap (λ x. cond x (Some Reads) (cond (byte == 0x80) (Some Programs) (cond (byte == 0x60) (Some Erases) None))) p;
+      next_is = same_some (sym h ∙ ap (λ x. sends_by (cond x (Some Reads) (cond (byte == 0x80) (Some Programs) (cond (byte == 0x60) (Some Erases) None)))) p);
+      byte_is = eqb-true byte 0x00 p;
+    }
+    at false p true q c r = record {
+      work = Programs;
+      told = rw (p, q) refl;
+      next_is = same_some (sym h ∙ rw (p, q) refl);
+      byte_is = eqb-true byte 0x80 q;
+    }
+    at false p false q true r = record {
+      work = Erases;
+      told = rw (p, q, r) refl;
+      next_is = same_some (sym h ∙ rw (p, q, r) refl);
+      byte_is = eqb-true byte 0x60 r;
+    }
+    at false p false q false r = absurd (none (sym (rw (p, q, r) refl) ∙ h))
+
+chosen_by : {X : Type 0} (b : Bool) (x y : X) → cond b (Some x) None ≡ Some y → (b ≡ true) × (x ≡ y)
+chosen_by true x y h = (refl, same_some h)
+chosen_by false x y h = cc
+
+cycle_of : (c : BusCycle) (ce : ℕ) (kind : Kind) (byte : ℕ) → c.ce ≡ ce → c.kind ≡ kind → c.byte ≡ byte → c ≡ record { ce = ce; kind = kind; byte = byte }
+cycle_of c ce kind byte p q r =
+    ap (λ a. record { ce = a; kind = c.kind; byte = c.byte }) p ∙ ap (λ k. record { ce = ce; kind = k; byte = c.byte }) q ∙ ap (λ b. record { ce = ce; kind = kind; byte = b }) r
+
+module _ (g : Parts) (targets n : ℕ) (seen : Seen) (past : List Item) (marks : List ℕ) (l : Listing) (pieces : ℕ → List TargetCycle) (walked : Walked g targets n seen past marks l pieces)
+    (one : g.luns ≡ 1) (one_lun : Bool) (later : List Item) (told : List (Option Work)) where
+  -- the item as it is permitted
+  abbrev To : ℕ → Item → (Option Work) → Doing → Type 0
+  To ce i x next = Goes g ce past l i (ItemIs one_lun seen n i later) (told_after (opens i) x told) next
+
+  some_luns : 0 < g.luns
+  some_luns = omega (arith, one)
+
+  module _ (c : BusCycle) (h : broken g targets past (Cyc c) ≡ None) where
+    abbrev Own : Option Work → Doing → Type 0
+    Own x next = To c.ce (Cyc c) x next
+
+    -- ---- a command
+
+    question_by : (d : Doing) (w : Work) (at : ℕ) → Polls g c.ce past l told d at → is_sending d ≡ false → is_unseen d ≡ true → has_worked d ≡ true → c.kind ≡ Cmd → c.byte ≡ 0x70 → Own None (Asks w)
+    question_by d w at was rests unseen worked kind byte =
+        let same = cycle_of c c.ce Cmd 0x70 refl kind byte in
+        subst (λ (x : BusCycle). broken g targets past (Cyc x) ≡ None → Polls g x.ce past l told d at → To x.ce (Cyc x) None (Asks w)) (sym same)
+        (λ h' was'. record { at = at; polls = own_question g targets n seen past marks l pieces walked one_lun c.ce later h' some_luns told d w at was' rests unseen worked None refl }) h was
+
+    return_by : (at : ℕ) → Polls g c.ce past l told Sees at → c.kind ≡ Cmd → c.byte ≡ 0x00 → Own None Rests
+    return_by at was kind byte =
+        let same = cycle_of c c.ce Cmd 0x00 refl kind byte in
+        subst (λ (x : BusCycle). broken g targets past (Cyc x) ≡ None → Polls g x.ce past l told Sees at → To x.ce (Cyc x) None Rests) (sym same)
+        (λ h' was'. record { at = at; polls = own_return g targets n seen past marks l pieces walked one_lun c.ce later h' one told at was' None refl }) h was
+
+    command_by : (d next : Doing) (at : ℕ) → Polls g c.ce past l told d at → c.kind ≡ Cmd → by_command d c.byte ≡ Some next → Own (work_in d Cmd c.byte) next
+    command_by Rests next at was kind e =
+        let b = begun_so c.byte next e in
+        subst (λ (x : Option Work). Own x next) (sym b.told)
+        (subst (λ (s : Doing). Own (Some b.work) s) (sym b.next_is)
+        (record {
+          at = _;
+          polls =
+              own_opener g targets n one_lun past marks c _ _ l pieces (cycle_at g targets n seen past marks l pieces walked c later h) told at was b.work kind b.byte_is;
+        }))
+    command_by (Sends w) next at was kind e =
+        let both = chosen_by (c.byte == closer_for w) (Waits w) next e in
+        let byte = eqb-true c.byte (closer_for w) both.0 in
+        subst (λ (s : Doing). Own None s) both.1
+        (record {
+          at = at;
+          polls =
+              own_closer g targets n one_lun past marks c _ _ l pieces (cycle_at g targets n seen past marks l pieces walked c later h) told w at was (ap is_output kind)
+              (ap (λ (k : Kind). is_command k && is_opener (command c.byte)) kind ∙ closes_opens w c.byte byte) one kind byte None;
+        })
+    command_by (Waits w) next at was kind e =
+        let both = chosen_by (c.byte == 0x70) (Asks w) next e in
+        subst (λ (s : Doing). Own None s) both.1 (question_by (Waits w) w at was refl refl refl kind (eqb-true c.byte 0x70 both.0))
+    command_by (Asks w) next at was kind e =
+        let both = chosen_by (c.byte == 0x70) (Asks w) next e in
+        subst (λ (s : Doing). Own None s) both.1 (question_by (Asks w) w at was refl refl refl kind (eqb-true c.byte 0x70 both.0))
+    command_by Sees next at was kind e =
+        let both = chosen_by (c.byte == 0x00) Rests next e in
+        subst (λ (s : Doing). Own None s) both.1 (return_by at was kind (eqb-true c.byte 0x00 both.0))
+
+    -- ---- an address or an input
+
+    input_by : (kind : Kind) (d next : Doing) (at : ℕ) → Polls g c.ce past l told d at → c.kind ≡ kind → is_output kind ≡ false → is_command kind ≡ false → by_input d ≡ Some next → Own None next
+    input_by kind Rests next at was e out inert step = absurd (none step)
+    input_by kind (Sends w) next at was e out inert step =
+        subst (λ (s : Doing). Own None s) (same_some step)
+        (record {
+          at = at;
+          polls =
+              own_input g targets n one_lun past marks c _ _ l pieces (cycle_at g targets n seen past marks l pieces walked c later h) told w at was (ap is_output e ∙ out)
+              (ap (λ b. b && is_opener (command c.byte)) (ap is_command e ∙ inert)) (ap is_command e ∙ inert) None;
+        })
+    input_by kind (Waits w) next at was e out inert step = absurd (none step)
+    input_by kind (Asks w) next at was e out inert step = absurd (none step)
+    input_by kind Sees next at was e out inert step = absurd (none step)
+
+    -- ---- an output
+
+    over_unseen : (w : Work) → is_unseen (is_over w) ≡ false
+    over_unseen Reads = refl
+    over_unseen Programs = refl
+    over_unseen Erases = refl
+
+    over_sends : (w : Work) → is_sending (is_over w) ≡ false
+    over_sends Reads = refl
+    over_sends Programs = refl
+    over_sends Erases = refl
+
+    output_to : (d next : Doing) (at : ℕ) (was : Polls g c.ce past l told d at) → c.kind ≡ Dout → Every (Fits next c.ce at told) l.ops → (is_unseen next ≡ false) ⊎ (says_ready c.byte ≡ false) →
+        is_sending next ≡ false → (has_worked next ≡ true → has_worked d ≡ true) → (has_asked next ≡ true → has_asked d ≡ true) → Own None next
+    output_to d next at was kind fits ok rests worked asked = record {
+      at = at;
+      polls =
+          own_output g targets n one_lun past marks c _ _ l pieces (cycle_at g targets n seen past marks l pieces walked c later h) told d next at was kind fits ok rests worked asked None;
+    }
+
+    output_by : (d next : Doing) (at : ℕ) → Polls g c.ce past l told d at → c.kind ≡ Dout → by_output d c.byte ≡ Some next → Own None next
+    output_by Rests next at was kind step = subst (λ (s : Doing). Own None s) (same_some step) (output_to Rests Rests at was kind was.fits (inl refl) refl (λ h. h) (λ h. h))
+    output_by (Sends w) next at was kind step = absurd (none step)
+    output_by (Waits w) next at was kind step = absurd (none step)
+    output_by (Asks w) next at was kind step = by (says_ready c.byte) refl step
+      where
+        by : (b : Bool) → says_ready c.byte ≡ b → cond b (Some (is_over w)) (Some (Asks w)) ≡ Some next → Own None next
+        by true ready step =
+            subst (λ (s : Doing). Own None s) (same_some step)
+            (output_to (Asks w) (is_over w) at was kind (λ k o is. fits_seen (Asks w) (is_over w) c.ce at at told refl (over_unseen w) (over_sends w) k o (was.fits k o is)) (inl (over_unseen w))
+            (over_sends w) (λ h. refl) (λ h. refl))
+        by false busy step = subst (λ (s : Doing). Own None s) (same_some step) (output_to (Asks w) (Asks w) at was kind was.fits (inr busy) refl (λ h. refl) (λ h. refl))
+    output_by Sees next at was kind step = absurd (none step)
+
+    -- ---- any cycle of the target
+
+    no_work : (d : Doing) (kind : Kind) → is_command kind ≡ false → work_in d kind c.byte ≡ None
+    no_work Rests Cmd e = cc
+    no_work Rests Adr e = refl
+    no_work Rests Din e = refl
+    no_work Rests Dout e = refl
+    no_work (Sends w) kind e = refl
+    no_work (Waits w) kind e = refl
+    no_work (Asks w) kind e = refl
+    no_work Sees kind e = refl
+
+    cycle_by : (kind : Kind) (d next : Doing) (at : ℕ) → Polls g c.ce past l told d at → c.kind ≡ kind → by_cycle d kind c.byte ≡ Some next → Own (work_in d kind c.byte) next
+    cycle_by Cmd d next at was e step = command_by d next at was e step
+    cycle_by Adr d next at was e step = subst (λ (x : Option Work). Own x next) (sym (no_work d Adr refl)) (input_by Adr d next at was e refl refl step)
+    cycle_by Din d next at was e step = subst (λ (x : Option Work). Own x next) (sym (no_work d Din refl)) (input_by Din d next at was e refl refl step)
+    cycle_by Dout d next at was e step = subst (λ (x : Option Work). Own x next) (sym (no_work d Dout refl)) (output_by d next at was e step)
+
+    cycle_goes : (ce : ℕ) (d next : Doing) (at : ℕ) → Polls g ce past l told d at → doing_after ce (Cyc c) d ≡ Some next → To ce (Cyc c) (work_at ce (Cyc c) d) next
+    cycle_goes ce d next at was step = by (c.ce == ce) refl step
+      where
+        by : (b : Bool) → (c.ce == ce) ≡ b → cond b (by_cycle d c.kind c.byte) (Some d) ≡ Some next → To ce (Cyc c) (cond b (work_in d c.kind c.byte) None) next
+        by true e step =
+            subst (λ (x : ℕ). Polls g x past l told d at → To x (Cyc c) (work_in d c.kind c.byte) next) (eqb-true c.ce ce e) (λ own. cycle_by c.kind d next at own refl step) was
+        by false e step =
+            subst (λ (s : Doing). To ce (Cyc c) None s) (same_some step)
+            (record {
+              at = at;
+              polls =
+                  far_polls g targets n one_lun past marks c _ _ l pieces (cycle_at g targets n seen past marks l pieces walked c later h) ce
+                  (λ same. no (sym (eq-eqb c.ce ce same) ∙ e)) d at told was;
+            })
+
+  -- ---- any item
+
+  some_there : (x : Option ℕ) → is_some x ≡ true → (k : ℕ) × (x ≡ Some k)
+  some_there None h = cc
+  some_there (Some k) h = (k, refl)
+
+  pub goes : (i : Item) → broken g targets past i ≡ None → (ce : ℕ) (d next : Doing) (at : ℕ) → Polls g ce past l told d at → doing_after ce i d ≡ Some next → To ce i (work_at ce i d) next
+  goes (Cyc c) h ce d next at was step = cycle_goes c h ce d next at was step
+  goes (Rdy x lun fail) h ce d next at was step =
+      let is = ready_of g targets past x lun fail h in
+      let m = some_there (worker l.places x lun) (busy_worker g targets n seen past marks l pieces walked (record { ce = x; lun = lun }) is.is_lun is.works) in
+      subst (λ (s : Doing). To ce (Rdy x lun fail) None s) (same_some step)
+      (record {
+        at = at;
+        polls =
+            ready_polls (ItemIs one_lun seen n (Rdy x lun fail) later) l (ready_lone one_lun n x lun fail _ _) (λ k p ops. refl) m.0 m.1 g ce past (Rdy x lun fail) told d at
+            (ready_shows g past x lun fail ce) was;
+      })
+  goes (Ard x lun) h ce d next at was step =
+      let is = array_ready_of g targets past x lun h in
+      let m = some_there (worker l.places x lun) (walked.workers (record { ce = x; lun = lun }) is.is_lun is.works) in
+      subst (λ (s : Doing). To ce (Ard x lun) None s) (same_some step)
+      (record {
+        at = at;
+        polls =
+            ready_polls (ItemIs one_lun seen n (Ard x lun) later) l (array_ready_lone one_lun n x lun _ _) (λ k p ops. refl) m.0 m.1 g ce past (Ard x lun) told d at
+            (array_ready_shows g past x lun ce) was;
+      })
+
+-- ---- a trace
+
+pub somes : List (Option Work) → List Work
+somes [] = []
+somes (None ∷ told) = somes told
+somes (Some w ∷ told) = w ∷ somes told
+
+somes_more : (told : List (Option Work)) (x : Option Work) → somes (told ++ (x ∷ [])) ≡ somes told ++ in_front x []
+somes_more [] None = refl
+somes_more [] (Some w) = refl
+somes_more (None ∷ told) x = somes_more told x
+somes_more (Some w ∷ told) x = ap (λ (ws : List Work). w ∷ ws) (somes_more told x)
+
+front_is : (x : Option Work) (works : List Work) → in_front x [] ++ works ≡ in_front x works
+front_is None works = refl
+front_is (Some w) works = refl
+
+-- what begins a work begins a sequence
+begun_opens : (byte : ℕ) (w : Work) → work_by byte ≡ Some w → is_opener (command byte) ≡ true
+begun_opens byte w h = (let b = begun_so byte (Sends w) (ap sends_by h) in opens_work b.work byte b.byte_is)
+
+work_opens : (ce : ℕ) (i : Item) (d : Doing) (w : Work) → work_at ce i d ≡ Some w → opens i ≡ true
+work_opens ce (Rdy x lun fail) d w h = cc
+work_opens ce (Ard x lun) d w h = cc
+work_opens ce (Cyc c) d w h = at (c.ce == ce) h
+  where
+    by_kind : (s : Doing) (kind : Kind) → work_in s kind c.byte ≡ Some w → (is_command kind && is_opener (command c.byte)) ≡ true
+    by_kind Rests Cmd h = begun_opens c.byte w h
+    by_kind Rests Adr h = absurd (none h)
+    by_kind Rests Din h = absurd (none h)
+    by_kind Rests Dout h = absurd (none h)
+    by_kind (Sends v) kind h = absurd (none h)
+    by_kind (Waits v) kind h = absurd (none h)
+    by_kind (Asks v) kind h = absurd (none h)
+    by_kind Sees kind h = absurd (none h)
+
+    at : (b : Bool) → cond b (work_in d c.kind c.byte) None ≡ Some w → (is_command c.kind && is_opener (command c.byte)) ≡ true
+    at true h = by_kind d c.kind h
+    at false h = absurd (none h)
+
+somes_after : (ce : ℕ) (i : Item) (d : Doing) (told : List (Option Work)) → somes (told_after (opens i) (work_at ce i d) told) ≡ somes told ++ in_front (work_at ce i d) []
+somes_after ce i d told = at (opens i) refl (work_at ce i d) refl
+  where
+    at : (b : Bool) → opens i ≡ b → (x : Option Work) → work_at ce i d ≡ x → somes (told_after b x told) ≡ somes told ++ in_front x []
+    at true e x f = somes_more told x
+    at false e None f = sym (append-nil (somes told))
+    at false e (Some w) f = absurd (no (sym (work_opens ce i d w f) ∙ e))
+
+-- what is known at the end
+pub record Ended (ce : ℕ) (ops : List Operation) (works : List Work) (next : Doing) : Type 0 where
+  pub told : List (Option Work)
+  pub at : ℕ
+  pub fits : Every (Fits next ce at told) ops
+  pub long : length told ≡ length ops
+  pub works_are : somes told ≡ works
+
+polls_all : (g : Parts) (targets : ℕ) (one : g.luns ≡ 1) (one_lun : Bool) (ce : ℕ) (items : List Item) (n : ℕ) (seen : Seen) (past : List Item) (marks : List ℕ) (l : Listing) (pieces : ℕ → List TargetCycle)
+    (told : List (Option Work)) (d next : Doing) (at : ℕ) → Walked g targets n seen past marks l pieces → Polls g ce past l told d at → is_legal g targets (reverse items ++ past) ≡ true →
+    doing_at_end ce items d ≡ Some next → Ended ce (ops_from Written one_lun seen n items l) (somes told ++ works_from ce items d) next
+polls_all g targets one one_lun ce [] n seen past marks l pieces told d next at walked was legal step =
+    subst (λ (s : Doing). Ended ce l.ops (somes told ++ []) s) (same_some step) (record { told = told; at = at; fits = was.fits; long = was.long; works_are = sym (append-nil (somes told)) })
+polls_all g targets one one_lun ce (i ∷ items) n seen past marks l pieces told d next at walked was legal step = by (doing_after ce i d) refl step
+  where
+    j : Judged
+    j = ItemAs one_lun seen n i items
+
+    mark : ℕ
+    mark = mark_in j (with_ends j l)
+
+    legal' : is_legal g targets (reverse items ++ (i ∷ past)) ≡ true
+    legal' = ap (is_legal g targets) (sym (onto g targets walked.few walked.luns walked.base i items past)) ∙ legal
+
+    h : broken g targets past i ≡ None
+    h = permitted_none g targets past i (and_parts (is_permitted g targets past i) (is_legal g targets past) (legal_before g targets walked.few walked.luns walked.base (reverse items) (i ∷ past) legal')).0
+
+    x : Option Work
+    x = work_at ce i d
+
+    works_so : (s : Doing) → somes (told_after (opens i) x told) ++ works_from ce items s ≡ somes told ++ in_front x (works_from ce items s)
+    works_so s =
+        ap (λ (ws : List Work). ws ++ works_from ce items s) (somes_after ce i d told) ∙ append_assoc (somes told) (in_front x []) (works_from ce items s)
+        ∙ ap (λ (ws : List Work). somes told ++ ws) (front_is x (works_from ce items s))
+
+    by : (s : Option Doing) → doing_after ce i d ≡ s → goes_on s (doing_at_end ce items) ≡ Some next → Ended ce (ops_from Written one_lun seen n (i ∷ items) l) (somes told ++ in_front x (works_on s (works_from ce items))) next
+    by None e step = absurd (none step)
+    by (Some s) e step =
+        let went = as_permitted g targets n seen past marks l pieces walked (λ (y : Judged). Goes g ce past l i y (told_after (opens i) x told) s) one_lun i items h
+        (goes g targets n seen past marks l pieces walked one one_lun items told i h ce d s at was e) in
+        subst (λ (ws : List Work). Ended ce (ops_from Written one_lun seen n (i ∷ items) l) ws next) (works_so s)
+        (polls_all g targets one one_lun ce items (n + 1) (seen_after Written seen i items) (i ∷ past) (marks ++ (mark ∷ [])) (listed j l) (came_to mark i pieces) (told_after (opens i) x told) s next went.at
+        (walked_on g targets n seen past marks l pieces walked one_lun i items h) went.polls legal' step)
+
+nothing_polls : (g : Parts) (ce : ℕ) → Polls g ce [] nothing_listed [] Rests 0
+nothing_polls g ce = record { fits = λ k o is. absurd (none is); long = refl; newest = λ h. cc; worker = λ h. cc; shows = λ h. cc }
+
+-- of a whole trace
+pub polls_end : (g : Parts) (targets : ℕ) (items : List Item) (ce : ℕ) (d : Doing) → IsLegalBase g targets items → g.luns ≡ 1 → doing_at_end ce items Rests ≡ Some d →
+    Ended ce (ops_of Written Start g targets items) (works_from ce items Rests) d
+polls_end g targets items ce d is one step =
+    polls_all g targets one (has_one_lun g) ce items 0 (first_seen_as Start g targets items) [] [] nothing_listed (λ m. []) [] Rests d 0 (nothing_walked g targets items is) (nothing_polls g ce)
+    (ap (is_legal g targets) (append-nil (reverse items)) ∙ is.legal) step
