@@ -159,8 +159,7 @@ module _ (g : Parts) (t : List TargetCycle) (luns : List LunView) (v : LunView) 
     unfolding breaks_lun_busy
     lun_ready h =
         judged_row g (row_with (facts_of t) byte) (λ v. v.busy) luns 0 v
-        (or_parts (named_lun_is g (row_with (facts_of t) byte) (λ v. v.busy) luns) _
-        (and_rest (ends_row addresses_the_array (facts_of t)) _ (ap (opened (λ c n. addresses_the_array c && at_last_row c n)) is ∙ h) keeps.f9)).0
+        (and_rest (ends_row addresses_the_array (facts_of t)) _ (ap (opened (λ c n. addresses_the_array c && at_last_row c n)) is ∙ h) keeps.f9)
         (row_inside h) found
 
     first : RowReady g (next byte (Some o)) (v.busy || starts (opening_address_effect g (facts_of t) byte (Some o) 0))
@@ -237,19 +236,10 @@ any_ready g t luns v found one was la cycle keeps = at (begins_sequence cycle) r
 same_ready : (g : Parts) (t : TailFacts) (busy more : Bool) → (busy ≡ false → more ≡ false) → RowReady g t busy → RowReady g t more
 same_ready g t busy more keeps was = record { named = was.named; ready = λ h. keeps (was.ready h) }
 
-pub rows_ready : (g : Parts) (targets : ℕ) (past : List Item) (ce : ℕ) → g.luns ≡ 1 → is_legal g targets past ≡ true → RowReady g (facts_of (tail past ce)) (is_busy g past (at_lun ce 0))
-rows_ready g targets [] ce one legal = unnamed g (facts_of []) _ refl
-rows_ready g targets (Cyc c ∷ past) ce one legal = at (c.ce == ce) refl
+cycle_rows : (g : Parts) (targets : ℕ) (past : List Item) (ce : ℕ) (c : Cycle) → g.luns ≡ 1 → broken g targets past (Cyc c) ≡ None → RowReady g (facts_of (tail past ce)) (is_busy g past (at_lun ce 0)) →
+    RowReady g (facts_of (tail (Cyc c ∷ past) ce)) (is_busy g (Cyc c ∷ past) (at_lun ce 0))
+cycle_rows g targets past ce c one h was = at (c.ce == ce) refl
   where
-    here : (is_permitted g targets past (Cyc c) ≡ true) × (is_legal g targets past ≡ true)
-    here = and_parts (is_permitted g targets past (Cyc c)) (is_legal g targets past) legal
-
-    was : RowReady g (facts_of (tail past ce)) (is_busy g past (at_lun ce 0))
-    was = rows_ready g targets past ce one here.1
-
-    h : broken g targets past (Cyc c) ≡ None
-    h = permitted_none g targets past (Cyc c) here.0
-
     own : c.ce ≡ ce → RowReady g (facts_of (with_cycle (target_cycle c.kind c.byte) (tail past ce))) (is_busy g past (at_lun ce 0) || starts_by g past (at_lun ce 0) (target_cycle c.kind c.byte))
     own e =
         any_ready g (tail past ce) (luns_of g past ce) (lun_view g past (at_lun ce 0)) (view_at g past (at_lun ce 0) (omega (arith, one))) one was (latch_alone g past (at_lun ce 0)) (target_cycle c.kind c.byte)
@@ -265,6 +255,12 @@ rows_ready g targets (Cyc c ∷ past) ce one legal = at (c.ce == ce) refl
         subst (λ (b : Bool). RowReady g (facts_of (cond b (with_cycle (target_cycle c.kind c.byte) (tail past ce)) (tail past ce))) (is_busy g (Cyc c ∷ past) (at_lun ce 0))) (sym e)
         (same_ready g (facts_of (tail past ce)) (is_busy g past (at_lun ce 0)) (is_busy g (Cyc c ∷ past) (at_lun ce 0))
         (λ rests. cycle_busy g past c (at_lun ce 0) ∙ ap (λ b. is_busy g past (at_lun ce 0) || (b && starts_by g past (at_lun ce 0) (target_cycle c.kind c.byte))) e ∙ ap (λ b. b || false) rests) was)
+
+pub rows_ready : (g : Parts) (targets : ℕ) (past : List Item) (ce : ℕ) → g.luns ≡ 1 → is_legal g targets past ≡ true → RowReady g (facts_of (tail past ce)) (is_busy g past (at_lun ce 0))
+rows_ready g targets [] ce one legal = unnamed g (facts_of []) _ refl
+rows_ready g targets (Cyc c ∷ past) ce one legal =
+    let here = and_parts (is_permitted g targets past (Cyc c)) (is_legal g targets past) legal in
+    cycle_rows g targets past ce c one (permitted_none g targets past (Cyc c) here.0) (rows_ready g targets past ce one here.1)
 rows_ready g targets (Rdy x lun fail ∷ past) ce one legal =
     same_ready g (facts_of (tail past ce)) (is_busy g past (at_lun ce 0)) _
     (λ rests. ready_busy g past x lun fail (at_lun ce 0) ∙ ap (cond (x == ce && lun == 0) false) rests ∙ either (x == ce && lun == 0))

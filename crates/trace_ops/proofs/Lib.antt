@@ -42,6 +42,8 @@ pub mod Polled
 pub mod PolledItems
 pub mod PolledOwn
 pub mod PolledParts
+pub mod PolledQuestions
+pub mod PolledReturns
 pub mod PolledReadies
 pub mod Polling
 pub mod PolledLines

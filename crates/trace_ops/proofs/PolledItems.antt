@@ -268,12 +268,15 @@ module _ (g : Parts) (targets n : ℕ) (one_lun : Bool) (past : List Item) (mark
     holding_ends : Every Holding (with_ends j l).ops
     holding_ends = by (opens (Cyc c))
       where
-        by : (b : Bool) → Every (Fits d ce at (told_after b None told)) (with_ends j l).ops
-        by true k o is =
+        more' : Every (Fits d ce at (told ++ (None ∷ []))) (with_ends j l).ops
+        more' k o is =
             let small = slice_get_within (with_ends j l).ops k o is in
             let same = length_ends j l in
             let long = was.long in
             fits_more d ce at told None k o (omega (arith, small, same, long)) (held_ends k o is)
+
+        by : (b : Bool) → Every (Fits d ce at (told_after b None told)) (with_ends j l).ops
+        by true = more'
         by false = held_ends
 
     abbrev newcomer : Operation

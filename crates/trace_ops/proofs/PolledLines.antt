@@ -39,7 +39,7 @@ closed_line o x some e =
 work_line : (ce : ℕ) (t : Option (Option Work)) (o : Operation) (w : Work) → t ≡ Some (Some w) → Line ce t o → is_folded o ≡ false
 work_line ce t o w e line = closed_line o (Some (closer_for w)) refl (ap (λ (x : Ends). x.ends) (line.work w e).1)
 
-somes_front : Option Work → List Work → List Work
+abbrev somes_front : Option Work → List Work → List Work
 somes_front None works = works
 somes_front (Some w) works = w ∷ works
 

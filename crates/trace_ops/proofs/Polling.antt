@@ -31,7 +31,8 @@ use Rattle.trace_ops.proofs.Pieces.{came_to}
 use Rattle.trace_ops.proofs.Polled.{Fits, is_unseen, fits_seen}
 use Rattle.trace_ops.proofs.PolledItems.{told_after, has_worked, has_asked, Polls, far_polls}
 use Rattle.trace_ops.proofs.PolledOwn.{own_output, own_input, own_closer, own_opener, opens_work, closes_opens}
-use Rattle.trace_ops.proofs.PolledParts.{own_question, own_return}
+use Rattle.trace_ops.proofs.PolledQuestions.{own_question}
+use Rattle.trace_ops.proofs.PolledReturns.{own_return}
 use Rattle.trace_ops.proofs.PolledReadies.{ready_shows, array_ready_shows, ready_polls}
 use Rattle.trace_ops.proofs.Spans.{same_some}
 use Rattle.trace_ops.proofs.Walked.{Walked, ItemAs, ItemIs, as_permitted, cycle_at, busy_worker, walked_on, nothing_walked}
@@ -259,7 +260,7 @@ module _ (g : Parts) (targets n : ℕ) (seen : Seen) (past : List Item) (marks :
 
 -- ---- a trace
 
-pub somes : List (Option Work) → List Work
+abbrev pub somes : List (Option Work) → List Work
 somes [] = []
 somes (None ∷ told) = somes told
 somes (Some w ∷ told) = w ∷ somes told
@@ -313,41 +314,56 @@ pub record Ended (ce : ℕ) (ops : List Operation) (works : List Work) (next : D
   pub long : length told ≡ length ops
   pub works_are : somes told ≡ works
 
+module _ (g : Parts) (targets : ℕ) (one : g.luns ≡ 1) (one_lun : Bool) (ce : ℕ) (i : Item) (items : List Item) (n : ℕ) (seen : Seen) (past : List Item) (marks : List ℕ) (l : Listing)
+    (pieces : ℕ → List TargetCycle) (told : List (Option Work)) (d next : Doing) (at : ℕ) (walked : Walked g targets n seen past marks l pieces) (was : Polls g ce past l told d at)
+    (legal : is_legal g targets (reverse (i ∷ items) ++ past) ≡ true) where
+  abbrev j : Judged
+  j = ItemAs one_lun seen n i items
+
+  abbrev mark : ℕ
+  mark = mark_in j (with_ends j l)
+
+  abbrev x : Option Work
+  x = work_at ce i d
+
+  legal' : is_legal g targets (reverse items ++ (i ∷ past)) ≡ true
+  legal' = ap (is_legal g targets) (sym (onto g targets walked.few walked.luns walked.base i items past)) ∙ legal
+
+  h : broken g targets past i ≡ None
+  h = permitted_none g targets past i (and_parts (is_permitted g targets past i) (is_legal g targets past) (legal_before g targets walked.few walked.luns walked.base (reverse items) (i ∷ past) legal')).0
+
+  works_so : (s : Doing) → somes (told_after (opens i) x told) ++ works_from ce items s ≡ somes told ++ in_front x (works_from ce items s)
+  works_so s =
+      ap (λ (ws : List Work). ws ++ works_from ce items s) (somes_after ce i d told) ∙ append_assoc (somes told) (in_front x []) (works_from ce items s)
+      ∙ ap (λ (ws : List Work). somes told ++ ws) (front_is x (works_from ce items s))
+
+  abbrev Rest : Type 0
+  Rest =
+      (s : Doing) (at' : ℕ) → Walked g targets (n + 1) (seen_after Written seen i items) (i ∷ past) (marks ++ (mark ∷ [])) (listed j l) (came_to mark i pieces) →
+      Polls g ce (i ∷ past) (listed j l) (told_after (opens i) x told) s at' → doing_at_end ce items s ≡ Some next →
+      Ended ce (ops_from Written one_lun seen n (i ∷ items) l) (somes (told_after (opens i) x told) ++ works_from ce items s) next
+
+  polls_more : Rest → (s : Option Doing) → doing_after ce i d ≡ s → goes_on s (doing_at_end ce items) ≡ Some next →
+      Ended ce (ops_from Written one_lun seen n (i ∷ items) l) (somes told ++ in_front x (works_on s (works_from ce items))) next
+  polls_more rest None e step = absurd (none step)
+  polls_more rest (Some s) e step =
+      let went = as_permitted g targets n seen past marks l pieces walked (λ (y : Judged). Goes g ce past l i y (told_after (opens i) x told) s) one_lun i items h
+      (goes g targets n seen past marks l pieces walked one one_lun items told i h ce d s at was e) in
+      subst (λ (ws : List Work). Ended ce (ops_from Written one_lun seen n (i ∷ items) l) ws next) (works_so s)
+      (rest s went.at (walked_on g targets n seen past marks l pieces walked one_lun i items h) went.polls step)
+
 polls_all : (g : Parts) (targets : ℕ) (one : g.luns ≡ 1) (one_lun : Bool) (ce : ℕ) (items : List Item) (n : ℕ) (seen : Seen) (past : List Item) (marks : List ℕ) (l : Listing) (pieces : ℕ → List TargetCycle)
     (told : List (Option Work)) (d next : Doing) (at : ℕ) → Walked g targets n seen past marks l pieces → Polls g ce past l told d at → is_legal g targets (reverse items ++ past) ≡ true →
     doing_at_end ce items d ≡ Some next → Ended ce (ops_from Written one_lun seen n items l) (somes told ++ works_from ce items d) next
 polls_all g targets one one_lun ce [] n seen past marks l pieces told d next at walked was legal step =
     subst (λ (s : Doing). Ended ce l.ops (somes told ++ []) s) (same_some step) (record { told = told; at = at; fits = was.fits; long = was.long; works_are = sym (append-nil (somes told)) })
-polls_all g targets one one_lun ce (i ∷ items) n seen past marks l pieces told d next at walked was legal step = by (doing_after ce i d) refl step
-  where
-    j : Judged
-    j = ItemAs one_lun seen n i items
-
-    mark : ℕ
-    mark = mark_in j (with_ends j l)
-
-    legal' : is_legal g targets (reverse items ++ (i ∷ past)) ≡ true
-    legal' = ap (is_legal g targets) (sym (onto g targets walked.few walked.luns walked.base i items past)) ∙ legal
-
-    h : broken g targets past i ≡ None
-    h = permitted_none g targets past i (and_parts (is_permitted g targets past i) (is_legal g targets past) (legal_before g targets walked.few walked.luns walked.base (reverse items) (i ∷ past) legal')).0
-
-    x : Option Work
-    x = work_at ce i d
-
-    works_so : (s : Doing) → somes (told_after (opens i) x told) ++ works_from ce items s ≡ somes told ++ in_front x (works_from ce items s)
-    works_so s =
-        ap (λ (ws : List Work). ws ++ works_from ce items s) (somes_after ce i d told) ∙ append_assoc (somes told) (in_front x []) (works_from ce items s)
-        ∙ ap (λ (ws : List Work). somes told ++ ws) (front_is x (works_from ce items s))
-
-    by : (s : Option Doing) → doing_after ce i d ≡ s → goes_on s (doing_at_end ce items) ≡ Some next → Ended ce (ops_from Written one_lun seen n (i ∷ items) l) (somes told ++ in_front x (works_on s (works_from ce items))) next
-    by None e step = absurd (none step)
-    by (Some s) e step =
-        let went = as_permitted g targets n seen past marks l pieces walked (λ (y : Judged). Goes g ce past l i y (told_after (opens i) x told) s) one_lun i items h
-        (goes g targets n seen past marks l pieces walked one one_lun items told i h ce d s at was e) in
-        subst (λ (ws : List Work). Ended ce (ops_from Written one_lun seen n (i ∷ items) l) ws next) (works_so s)
-        (polls_all g targets one one_lun ce items (n + 1) (seen_after Written seen i items) (i ∷ past) (marks ++ (mark ∷ [])) (listed j l) (came_to mark i pieces) (told_after (opens i) x told) s next went.at
-        (walked_on g targets n seen past marks l pieces walked one_lun i items h) went.polls legal' step)
+polls_all g targets one one_lun ce (i ∷ items) n seen past marks l pieces told d next at walked was legal step =
+    let j = ItemAs one_lun seen n i items in
+    let mark = mark_in j (with_ends j l) in
+    polls_more g targets one one_lun ce i items n seen past marks l pieces told d next at walked was legal
+    (λ s at' walked' was' step'. polls_all g targets one one_lun ce items (n + 1) (seen_after Written seen i items) (i ∷ past) (marks ++ (mark ∷ [])) (listed j l) (came_to mark i pieces)
+    (told_after (opens i) (work_at ce i d) told) s next at' walked' was' (legal' g targets one one_lun ce i items n seen past marks l pieces told d next at walked was legal) step')
+    (doing_after ce i d) refl step
 
 nothing_polls : (g : Parts) (ce : ℕ) → Polls g ce [] nothing_listed [] Rests 0
 nothing_polls g ce = record { fits = λ k o is. absurd (none is); long = refl; newest = λ h. cc; worker = λ h. cc; shows = λ h. cc }

@@ -352,7 +352,7 @@ asks_all g targets one_lun [] ce n seen past marks l pieces walked latest legal 
     let long : q.first ≡ length marks = omega (arith, first', number, many) in
     let j = ItemAs one_lun seen n i [] in
     let same = same_some (sym (new_mark marks (mark_in j (with_ends j l))) ∙ ap (slice_get (marks ++ (mark_in j (with_ends j l) ∷ []))) (sym long) ∙ mark) in
-    asks_as g targets n seen past marks l pieces walked one_lun ce [] h k q is same (latest_item g targets n seen past marks l pieces walked latest one_lun i [] h)
+    asks_as g targets n seen past marks l pieces walked one_lun ce h k q is same (latest_item g targets n seen past marks l pieces walked latest one_lun i [] h)
     (walked_on g targets n seen past marks l pieces walked one_lun i [] h).worked
 asks_all g targets one_lun (i ∷ items) ce n seen past marks l pieces walked latest legal k q is first' mark =
     let rest' = items ++ (question ce ∷ []) in
