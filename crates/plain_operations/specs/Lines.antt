@@ -1,0 +1,67 @@
+-- The operations of a trace that a program of plain operations leaves.
+use Rattle.std.specs.Prelude.{◌≡◌, ℕ, ◌<◌, ◌≤◌, true, List, [], ◌∷◌, ◌++◌, Some, map, length, take, reverse}
+use Rattle.nand_geometry.specs.Optional.{no_optional}
+use Rattle.onfi_cycle.specs.declared.item.Item.{Item}
+use Rattle.onfi_cycle.specs.declared.item.Item.TheVariants.{Cyc, Rdy, Ard}
+use Rattle.onfi_cycle.specs.Channel.{Channel, is_there}
+use Rattle.onfi_cycle.specs.Permitted.{is_legal}
+use Rattle.trace_faults.specs.declared.beginning.Beginning.TheVariants.{Start}
+use Rattle.trace_faults.specs.declared.readies.Readies.TheVariants.{Written}
+use Rattle.trace_ops.specs.declared.operation.Operation.{Operation}
+use Rattle.trace_ops.specs.Listing.{ops_of}
+use Rattle.trace_ops.specs.Polling.{Work, Reads, Programs, Erases, Rests, doing_at_end, lines_of, ends_of, ends_as}
+use Rattle.micro_program.specs.Program.{Job}
+use Rattle.micro_program.specs.Safe.{Seat, Reaches, starts, steps, readies, others}
+use Rattle.micro_program.specs.Step.{Stride, answered_step}
+use Rattle.micro_verify.specs.declared.plain_op.PlainOp.{PlainOp}
+use Rattle.micro_verify.specs.declared.plain_op.PlainOp.TheVariants.{Read, Program, Erase}
+use Rattle.micro_verify.specs.Plain.{plain_text}
+
+-- the kind of an operation, and so the commands that begin it and end it
+abbrev pub work_of : PlainOp → Work
+work_of (Read row plane column place len) = Reads
+work_of (Program row plane column place len) = Programs
+work_of (Erase row plane) = Erases
+
+-- the past at which a program was loaded
+abbrev pub began : (s : Channel) (j : Job) (seat : Seat) → Reaches s j seat → List Item
+began s j _ (starts past legal idle) = past
+began s j _ (steps seat bytes r run may is truthful goes_on) = began s j seat run
+began s j _ (readies seat i run is_ready permitted) = began s j seat run
+began s j _ (others seat c m run free own there apart) = began s j seat run
+
+-- what the cycles of a past carry are bytes
+abbrev pub AreBytes : List Item → Type 0
+AreBytes [] = Unit {0}
+AreBytes (Cyc c ∷ past) = (c.byte < 256) × AreBytes past
+AreBytes (Rdy ce lun fail ∷ past) = AreBytes past
+AreBytes (Ard ce lun ∷ past) = AreBytes past
+
+-- a program of these operations, on a channel of the base profile whose targets have one LUN each; before it came, the host of its target polled,
+-- or it has had none
+pub record RunsPlainly (s : Channel) (j : Job) (ops : List PlainOp) (before : List Item) : Type 0 where
+  pub few_targets : s.targets ≤ 4
+  pub one_lun : s.geometry.luns ≡ 1
+  pub base : s.geometry.optional ≡ no_optional
+  pub lun_there : is_there s j.lun ≡ true
+  pub text : j.text ≡ plain_text ops
+  pub rested : doing_at_end j.lun.ce (reverse before) Rests ≡ Some Rests
+
+-- the operations with a line of its target, after a past
+abbrev pub lines_after : Channel → Job → List Item → List Operation
+lines_after s j past = lines_of j.lun.ce (ops_of Written Start s.geometry s.targets (reverse past))
+
+-- behind the lines of its target before it there is one for each of the first operations, and after code 0 for each of them
+pub record LinesAre (s : Channel) (j : Job) (ops : List PlainOp) (before past : List Item) (code : ℕ) : Type 0 where
+  pub count : ℕ
+  pub few : count ≤ length ops
+  pub lines : map ends_of (lines_after s j past) ≡ map ends_of (lines_after s j before) ++ map ends_as (map work_of (take count ops))
+  pub all : code ≡ 0 → count ≡ length ops
+  pub rested : doing_at_end j.lun.ce (reverse past) Rests ≡ Some Rests
+
+-- so it is where a program comes to its end with this code, in a legal trace
+abbrev pub LinesAreOperations : Type 0
+LinesAreOperations =
+    (s : Channel) (j : Job) (ops : List PlainOp) (seat : Seat) (run : Reaches s j seat) (bytes : List ℕ) (r : Stride) (code : ℕ) → RunsPlainly s j ops (began s j seat run) →
+    answered_step s.geometry j bytes seat.past seat.ahead seat.done ≡ Some r → r.code ≡ Some code → is_legal s.geometry s.targets r.past ≡ true → AreBytes r.past →
+    LinesAre s j ops (began s j seat run) r.past code
