@@ -23,7 +23,7 @@ use Rattle.trace_ops.specs.declared.operation.Operation.{Operation}
 use Rattle.trace_ops.specs.Operation.{is_output, changed, changed_at, changed_if, says_ready}
 use Rattle.trace_ops.specs.Openings.{opens, opened_at, Opened as OpenedAt}
 use Rattle.trace_ops.specs.Listing.{Listing, found, lun_place, worker, op_of, new_one, number_of, with_new, change_of, is_new_opener, is_address_kind, is_alone_op, unfolded, is_command, is_off_look, driver_of, look_at, gives_status, starts_on, begun_on, all_begun, all_selected, polled_by, with_ends, with_polls, owner_in, mark_in, listed}
-use Rattle.trace_ops.specs.Polling.{Work, Doing, Rests, Sends, Waits, Asks, Sees, is_sending}
+use Rattle.trace_ops.specs.Polling.{Sequence, Doing, Rests, Sends, Waits, Asks, Sees, by_cycle, is_sending}
 use Rattle.trace_ops.proofs.AtWork.{worker_in}
 use Rattle.trace_ops.proofs.Cycles.{CycleAt, mine, begins_nothing, target_few}
 use Rattle.trace_ops.proofs.Domestic.{Every, every_at, every_new}
@@ -31,7 +31,7 @@ use Rattle.trace_ops.proofs.Gently.{is_gentle, kept_ce, Lasts, gently, gentle_en
 use Rattle.trace_ops.proofs.Legal.{permitted_as, at_lun, output_begins}
 use Rattle.trace_ops.proofs.Owned.{old, new}
 use Rattle.trace_ops.proofs.Pieces.{newest_by, listed_newest, found_other, found_below}
-use Rattle.trace_ops.proofs.Polled.{Fits, is_unseen, fits_last, fits_far, fits_more, told_last}
+use Rattle.trace_ops.proofs.Polled.{Fits, is_unseen, fits_last, fits_far, fits_more, fits_skip, told_last}
 use Rattle.trace_ops.proofs.Quiet.{choose}
 use Rattle.trace_ops.proofs.Quietly.{selects_workers}
 use Rattle.trace_ops.proofs.Spans.{same_some}
@@ -39,13 +39,13 @@ use Rattle.trace_ops.proofs.Walked.{new_workers}
 use Rattle.trace_ops.proofs.Walks.{came, length_ends, length_came, length_listed, new_many}
 
 -- what is told of the operations, with one more where the item opens one
-abbrev pub told_after : Bool → Option Work → List (Option Work) → List (Option Work)
+abbrev pub told_after : Bool → Option Sequence → List (Option Sequence) → List (Option Sequence)
 told_after opens x told = cond opens (told ++ (x ∷ [])) told
 
 -- the work has begun
 abbrev pub has_worked : Doing → Bool
 has_worked Rests = false
-has_worked (Sends work) = false
+has_worked (Sends sent) = false
 has_worked (Waits work) = true
 has_worked (Asks work) = true
 has_worked Sees = true
@@ -53,14 +53,14 @@ has_worked Sees = true
 -- its LUN shows the status
 abbrev pub has_asked : Doing → Bool
 has_asked Rests = false
-has_asked (Sends work) = false
+has_asked (Sends sent) = false
 has_asked (Waits work) = false
 has_asked (Asks work) = true
 has_asked Sees = true
 
 -- all that is known of a target whose host polls
-pub record Polls (g : Parts) (ce : ℕ) (past : List Item) (l : Listing) (told : List (Option Work)) (d : Doing) (at : ℕ) : Type 0 where
-  pub fits : Every (Fits d ce at told) l.ops
+pub record Polls (g : Parts) (ce : ℕ) (past items : List Item) (l : Listing) (told : List (Option Sequence)) (d : Doing) (at : ℕ) : Type 0 where
+  pub fits : Every (Fits d ce at items told) l.ops
   pub long : length told ≡ length l.ops
   pub newest : is_sending d ≡ true → found l.places.newest ce ≡ Some at
   pub worker : has_worked d ≡ true → worker_in l.places.workers ce 0 ≡ Some at
@@ -123,7 +123,7 @@ module _ (g : Parts) (targets n : ℕ) (one_lun : Bool) (past : List Item) (mark
   length_by : (x : Option ℕ) → owner ≡ x → length (listed j l).ops ≡ length l.ops + new_many x
   length_by x e = length_listed j l ∙ length_came j l ∙ ap (λ y. length l.ops + new_many y) e
 
-  pub long_after : (told : List (Option Work)) (x : Option Work) → length told ≡ length l.ops → length (told_after (opens (Cyc c)) x told) ≡ length (listed j l).ops
+  pub long_after : (told : List (Option Sequence)) (x : Option Sequence) → length told ≡ length l.ops → length (told_after (opens (Cyc c)) x told) ≡ length (listed j l).ops
   long_after told x long = at (opens (Cyc c)) refl
     where
       at : (b : Bool) → opens (Cyc c) ≡ b → length (told_after b x told) ≡ length (listed j l).ops
@@ -211,15 +211,18 @@ module _ (g : Parts) (targets n : ℕ) (one_lun : Bool) (past : List Item) (mark
 
   -- ---- a cycle of another target
 
-  module _ (ce : ℕ) (apart : c.ce ≡ ce → ⊥) (d : Doing) (at : ℕ) (told : List (Option Work)) (was : Polls g ce past l told d at) where
+  module _ (ce : ℕ) (apart : c.ce ≡ ce → ⊥) (d : Doing) (at : ℕ) (items : List Item) (told : List (Option Sequence)) (was : Polls g ce past (Cyc c ∷ items) l told d at) where
     abbrev Held : ℕ → Operation → Type 0
-    Held = Fits d ce at told
+    Held = Fits d ce at items told
 
-    abbrev later : List (Option Work)
+    abbrev later : List (Option Sequence)
     later = told_after (opens (Cyc c)) None told
 
+    held_l : Every Held l.ops
+    held_l k o is = fits_skip d ce at (Cyc c) items told (ap (λ b. cond b (by_cycle d c.kind c.byte) (Some d)) (ne_eqb c.ce ce apart)) k o (was.fits k o is)
+
     abbrev Holding : ℕ → Operation → Type 0
-    Holding = Fits d ce at later
+    Holding = Fits d ce at items later
 
     at_small : is_unseen d ≡ true → at < many
     at_small u = (let same = length_ends j l in let small = by_state d refl u in omega (arith, same, small))
@@ -242,11 +245,11 @@ module _ (g : Parts) (targets n : ℕ) (one_lun : Bool) (past : List Item) (mark
     Tagged k o = Held k o × ((lun : ℕ) → lun < 4 → worker_in l.places.workers c.ce lun ≡ Some k → o.ce ≡ c.ce)
 
     tagged_last : Lasts Tagged
-    tagged_last = record { on = λ k old new kept f. ((fits_last d ce at told).on k old new kept f.0, (λ lun few w. kept.ce ∙ f.1 lun few w)) }
+    tagged_last = record { on = λ k old new kept f. ((fits_last d ce at items told).on k old new kept f.0, (λ lun few w. kept.ce ∙ f.1 lun few w)) }
 
     tagged : Every Tagged l.ops
     tagged k o is = (
-      was.fits k o is,
+      held_l k o is,
       (λ lun few w. (
           let began = here.tells.began c.ce lun k few w in
           ap (λ (z : Operation). z.ce) (same_some (sym is ∙ began.is_there)) ∙ began.target
@@ -257,25 +260,25 @@ module _ (g : Parts) (targets n : ℕ) (one_lun : Bool) (past : List Item) (mark
     far_output e k o is =
         (output_settled Tagged tagged_last e
         (λ lun w few worker' o' t. (
-          fits_far d ce at told w o' (changed (Poll n c.byte) o') (λ same. apart (sym (t.1 lun few worker') ∙ same)) (kept_ce (Poll n c.byte) o') t.0,
+          fits_far d ce at items told w o' (changed (Poll n c.byte) o') (λ same. apart (sym (t.1 lun few worker') ∙ same)) (kept_ce (Poll n c.byte) o') t.0,
           (λ lun' few' w'. kept_ce (Poll n c.byte) o' ∙ t.1 lun' few' w'),
         )) tagged k o is).0
 
     -- an input
     held_ends : Every Held (with_ends j l).ops
-    held_ends = ends_settled Held (fits_last d ce at told) was.fits
+    held_ends = ends_settled Held (fits_last d ce at items told) held_l
 
     holding_ends : Every Holding (with_ends j l).ops
     holding_ends = by (opens (Cyc c))
       where
-        more' : Every (Fits d ce at (told ++ (None ∷ []))) (with_ends j l).ops
+        more' : Every (Fits d ce at items (told ++ (None ∷ []))) (with_ends j l).ops
         more' k o is =
             let small = slice_get_within (with_ends j l).ops k o is in
             let same = length_ends j l in
             let long = was.long in
-            fits_more d ce at told None k o (omega (arith, small, same, long)) (held_ends k o is)
+            fits_more d ce at items told None k o (omega (arith, small, same, long)) (held_ends k o is)
 
-        by : (b : Bool) → Every (Fits d ce at (told_after b None told)) (with_ends j l).ops
+        by : (b : Bool) → Every (Fits d ce at items (told_after b None told)) (with_ends j l).ops
         by true = more'
         by false = held_ends
 
@@ -304,13 +307,13 @@ module _ (g : Parts) (targets n : ℕ) (one_lun : Bool) (past : List Item) (mark
         is_there : newcomer.ce ≡ c.ce
         is_there = ap (λ (x : OpenedAt). x.ce) (new g targets n one_lun past marks c before after l pieces here (new_opens e)).1
 
-        untold : (w : Work) → slice_get later many ≡ Some (Some w) → ⊥
+        untold : (w : Sequence) → slice_get later many ≡ Some (Some w) → ⊥
         untold w t =
             let same = length_ends j l in
             let long = was.long in
             none (told_last told None (Some w) many (omega (arith, same, long)) (ap (λ b. slice_get (told_after b None told) many) (sym (new_opens e)) ∙ t))
           where
-            none : {v : Work} → Some v ≡ None → ⊥
+            none : {v : Sequence} → Some v ≡ None → ⊥
             none h = cc
 
     holding_more : Every Holding more
@@ -326,11 +329,11 @@ module _ (g : Parts) (targets n : ℕ) (one_lun : Bool) (past : List Item) (mark
     marked_changed : (x : Change) (ops : List Operation) → Every Marked ops → Every Marked (changed_at mark x ops)
     marked_changed x ops all =
         every_at Marked Marked mark x ops (λ k o away f. f)
-        (λ o is f. (fits_far d ce at later mark o (changed x o) (λ same. apart (sym (f.1 refl) ∙ same)) (kept_ce x o) f.0, (λ same. kept_ce x o ∙ f.1 same))) all
+        (λ o is f. (fits_far d ce at items later mark o (changed x o) (λ same. apart (sym (f.1 refl) ∙ same)) (kept_ce x o) f.0, (λ same. kept_ce x o ∙ f.1 same))) all
 
     far_input : is_output c.kind ≡ false → Every Holding (listed j l).ops
     far_input input =
-        settled Holding (fits_last d ce at later) input
+        settled Holding (fits_last d ce at items later) input
         (λ k o is. (marked_changed (change_of owner j (Cyc c)) (unfolded j mark more)
         (choose (Every Marked) (is_address_kind c.kind && is_alone_op (slice_get more mark)) _ more (marked_changed Unfold more marked_more) marked_more) k o is).0)
       where
@@ -350,7 +353,7 @@ module _ (g : Parts) (targets n : ℕ) (one_lun : Bool) (past : List Item) (mark
         by : (b : Bool) → is_output c.kind ≡ b → Every Holding (listed j l).ops
         by true e =
             let kind = output_kind c.kind e in
-            subst (λ b. Every (Fits d ce at (told_after b None told)) (listed j l).ops) (sym (ap (λ (k : Kind). is_command k && is_opener (command c.byte)) kind)) (far_output kind)
+            subst (λ b. Every (Fits d ce at items (told_after b None told)) (listed j l).ops) (sym (ap (λ (k : Kind). is_command k && is_opener (command c.byte)) kind)) (far_output kind)
         by false e = far_input e
 
     newest_far : found (listed j l).places.newest ce ≡ found l.places.newest ce
@@ -365,7 +368,7 @@ module _ (g : Parts) (targets n : ℕ) (one_lun : Bool) (past : List Item) (mark
         ap (λ (ws : List (Option ℕ)). worker_in ws ce 0) (selects_workers j mark began) ∙ begins_far j mark ce (came j l) apart
         ∙ ap (λ (ws : List (Option ℕ)). worker_in ws ce 0) (new_workers owner j (with_ends j l))
 
-    pub far_polls : Polls g ce (Cyc c ∷ past) (listed j l) later d at
+    pub far_polls : Polls g ce (Cyc c ∷ past) items (listed j l) later d at
     far_polls = record {
       fits = far_fits;
       long = long_after told None was.long;

@@ -31,17 +31,17 @@ use Rattle.trace_ops.specs.AtWork.{begins_work, resets}
 use Rattle.trace_ops.specs.Operation.{begun, opener_of, is_byte, is_output, takes_address, with_byte, changed, changed_at, says_ready}
 use Rattle.trace_ops.specs.Openings.{opens, opened_at, Opened as OpenedAt}
 use Rattle.trace_ops.specs.Listing.{Listing, found, lun_place, worker, op_of, begins_one, new_by_command, new_one, number_of, with_new, change_of, is_new_opener, is_address_kind, is_alone_op, unfolded, is_command, cycle_owner, all_begun, with_ends, owner_in, mark_in, listed}
-use Rattle.trace_ops.specs.Polling.{Work, Reads, Programs, Erases, Doing, Rests, Sends, Waits, Asks, Sees, opener_for, closer_for, is_sending, work_by}
+use Rattle.trace_ops.specs.Polling.{Work, Reads, Programs, Erases, Sequence, begun_with, Doing, Rests, Sends, Waits, Asks, Sees, opener_for, closer_for, doing_after, is_sending}
 use Rattle.trace_ops.proofs.AtWork.{worker_in}
 use Rattle.trace_ops.proofs.Changed.{by}
 use Rattle.trace_ops.proofs.Closing.{closes_work, closer_begins, Started}
 use Rattle.trace_ops.proofs.Cycles.{CycleAt, begins_nothing, begins_first, owned_by, target_few, keeps}
 use Rattle.trace_ops.proofs.Domestic.{Every, every_at, every_new}
-use Rattle.trace_ops.proofs.Gently.{is_gentle, IsKept, Lasts, gently}
+use Rattle.trace_ops.proofs.Gently.{is_gentle, kept_ce, gently}
 use Rattle.trace_ops.proofs.Legal.{permitted_as, at_lun, output_begins, begins_between, work_between}
 use Rattle.trace_ops.proofs.Owned.{old, new}
 use Rattle.trace_ops.proofs.Pieces.{kept_beginning, newest_by, listed_newest, found_same}
-use Rattle.trace_ops.proofs.Polled.{Fits, is_unseen, fits_last, fits_poll, fits_seen, fits_asks, fits_more, poll_kept, told_last, at_end}
+use Rattle.trace_ops.proofs.Polled.{sends_same, whole, whole_sends, whole_ends, whole_work, IsOpen, IsWhole, open_same, Fits, is_unseen, fits_last, fits_poll, fits_seen, fits_more, poll_kept, at_end}
 use Rattle.trace_ops.proofs.PolledItems.{told_after, has_worked, has_asked, Polls, long_after, ends_settled, old_settled, unaddressed, settled, output_settled}
 use Rattle.trace_ops.proofs.Quiet.{choose}
 use Rattle.trace_ops.proofs.Quietly.{selects_workers}
@@ -94,7 +94,7 @@ output_shows g past c e =
     at false x = refl
 
 module _ (g : Parts) (targets n : ℕ) (one_lun : Bool) (past : List Item) (marks : List ℕ) (c : BusCycle) (before after : Looks) (l : Listing) (pieces : ℕ → List TargetCycle)
-    (here : CycleAt g targets n past marks c before after l pieces) (told : List (Option Work)) where
+    (here : CycleAt g targets n past marks c before after l pieces) (items : List Item) (told : List (Option Sequence)) where
   abbrev j : Judged
   j = permitted_as one_lun n (Cyc c) before after
 
@@ -110,8 +110,8 @@ module _ (g : Parts) (targets n : ℕ) (one_lun : Bool) (past : List Item) (mark
   abbrev more : List Operation
   more = (with_new owner j (with_ends j l)).ops
 
-  abbrev After : Bool → Option Work → Doing → ℕ → Type 0
-  After opened x next at = Polls g c.ce (Cyc c ∷ past) (listed j l) (told_after opened x told) next at
+  abbrev After : Bool → Option Sequence → Doing → ℕ → Type 0
+  After opened x next at = Polls g c.ce (Cyc c ∷ past) items (listed j l) (told_after opened x told) next at
 
   mark_some : (m : ℕ) → owner ≡ Some m → mark ≡ m
   mark_some m h = ap (λ (x : Option ℕ). number_of x (with_ends j l).ops) h
@@ -127,16 +127,16 @@ module _ (g : Parts) (targets n : ℕ) (one_lun : Bool) (past : List Item) (mark
 
   -- ---- an output
 
-  module _ (d next : Doing) (at : ℕ) (was : Polls g c.ce past l told d at) (e : c.kind ≡ Dout) where
-    poll_by : (is_unseen next ≡ false) ⊎ (says_ready c.byte ≡ false) → (w : ℕ) (o : Operation) → Fits next c.ce at told w o → Fits next c.ce at told w (changed (Poll n c.byte) o)
-    poll_by (inl seen) w o f = fits_poll next c.ce at told w n c.byte o seen f
-    poll_by (inr busy) w o f = (fits_last next c.ce at told).on w o (changed (Poll n c.byte) o) (poll_kept n c.byte o busy) f
+  module _ (d next : Doing) (at : ℕ) (was : Polls g c.ce past (Cyc c ∷ items) l told d at) (e : c.kind ≡ Dout) where
+    poll_by : (is_unseen next ≡ false) ⊎ (says_ready c.byte ≡ false) → (w : ℕ) (o : Operation) → Fits next c.ce at items told w o → Fits next c.ce at items told w (changed (Poll n c.byte) o)
+    poll_by (inl seen) w o f = fits_poll next c.ce at items told w n c.byte o seen f
+    poll_by (inr busy) w o f = (fits_last next c.ce at items told).on w o (changed (Poll n c.byte) o) (poll_kept n c.byte o busy) f
 
-    pub own_output : Every (Fits next c.ce at told) l.ops → (is_unseen next ≡ false) ⊎ (says_ready c.byte ≡ false) → is_sending next ≡ false → (has_worked next ≡ true → has_worked d ≡ true) →
-        (has_asked next ≡ true → has_asked d ≡ true) → (x : Option Work) → After (opens (Cyc c)) x next at
+    pub own_output : Every (Fits next c.ce at items told) l.ops → (is_unseen next ≡ false) ⊎ (says_ready c.byte ≡ false) → is_sending next ≡ false → (has_worked next ≡ true → has_worked d ≡ true) →
+        (has_asked next ≡ true → has_asked d ≡ true) → (x : Option Sequence) → After (opens (Cyc c)) x next at
     own_output fits ok rests worked asked x = subst (λ b. After b x next at) (sym opens_none) (record {
       fits =
-          output_settled g targets n one_lun past marks c before after l pieces here (Fits next c.ce at told) (fits_last next c.ce at told) e (λ lun w few is o f. poll_by ok w o f) fits;
+          output_settled g targets n one_lun past marks c before after l pieces here (Fits next c.ce at items told) (fits_last next c.ce at items told) e (λ lun w few is o f. poll_by ok w o f) fits;
       long = ap (λ b. length (told_after b x told)) (sym opens_none) ∙ long_after g targets n one_lun past marks c before after l pieces here told x was.long;
       newest = λ h. absurd (no (sym h ∙ rests));
       worker = λ h. ap (λ (ws : List (Option ℕ)). worker_in ws c.ce 0) (same_workers (λ lun low. output_begins g targets past c before after here.sees here.saw lun low e)) ∙ was.worker (worked h);
@@ -148,9 +148,9 @@ module _ (g : Parts) (targets n : ℕ) (one_lun : Bool) (past : List Item) (mark
 
   -- ---- in the middle of a sequence
 
-  module _ (w : Work) (at : ℕ) (was : Polls g c.ce past l told (Sends w) at) (input : is_output c.kind ≡ false) (goes_on : opens (Cyc c) ≡ false) where
+  module _ (s : Sequence) (at : ℕ) (was : Polls g c.ce past (Cyc c ∷ items) l told (Sends s) at) (input : is_output c.kind ≡ false) (goes_on : opens (Cyc c) ≡ false) where
     abbrev Held : ℕ → Operation → Type 0
-    Held = Fits (Sends w) c.ce at told
+    Held = Fits (Sends s) c.ce at (Cyc c ∷ items) told
 
     mine' : (m : ℕ) × (owner ≡ Some m)
     mine' = old g targets n one_lun past marks c before after l pieces here goes_on
@@ -162,61 +162,84 @@ module _ (g : Parts) (targets n : ℕ) (one_lun : Bool) (past : List Item) (mark
 
     held_more : Every Held more
     held_more =
-        old_settled g targets n one_lun past marks c before after l pieces here Held (fits_last (Sends w) c.ce at told) mine'.0 mine'.1
-        (ends_settled g targets n one_lun past marks c before after l pieces here Held (fits_last (Sends w) c.ce at told) was.fits)
+        old_settled g targets n one_lun past marks c before after l pieces here Held (fits_last (Sends s) c.ce at (Cyc c ∷ items) told) mine'.0 mine'.1
+        (ends_settled g targets n one_lun past marks c before after l pieces here Held (fits_last (Sends s) c.ce at (Cyc c ∷ items) told) was.fits)
 
-    -- the operation that is sent, with the same closer
-    held_same : (k : ℕ) (o p : Operation) → k ≡ at → p.ce ≡ o.ce → p.beginning ≡ o.beginning → p.closer ≡ o.closer → p.status ≡ o.status → Held k o → Held k p
-    held_same k o p same ce beginning closer status f = record {
-      work = λ v t. (ce ∙ (f.work v t).0, beginning ∙ (f.work v t).1);
-      closed = λ v t open'. absurd (open' refl same);
-      part = λ own t. absurd (two (sym t ∙ (f.current w refl same).0));
-      current = λ v e p. ((f.current v e p).0, closer ∙ (f.current v e p).1);
-      unseen = λ u p. (ce ∙ (f.unseen u p).0, ap (λ (x : Option ℕ). is_some x) status ∙ (f.unseen u p).1);
-    }
+    two : {v : Sequence} → Some None ≡ Some (Some v) → ⊥
+    two h = none (same_some h)
       where
-        two : {v : Work} → Some None ≡ Some (Some v) → ⊥
-        two h = none (same_some h)
-          where
-            none : {v : Work} → None ≡ Some v → ⊥
-            none h = cc
+        none : {v : Sequence} → None ≡ Some v → ⊥
+        none h = cc
+
+    -- the operation that is sent, taken from that of which it was a part
+    held_unfolded : (k : ℕ) (o : Operation) → k ≡ at → Held k o → Held k (changed Unfold o)
+    held_unfolded k o same f = record {
+      work = f.work;
+      closed = λ v t open'. absurd (open' refl same);
+      part = λ own t. absurd (two (sym t ∙ (f.current s refl same).0));
+      current = λ v e p. (
+        (f.current v e p).0,
+        open_same v o (changed Unfold o) (record { closer = refl; addresses = refl; count = refl; addressed = refl; inputs = refl }) (f.current v e p).1,
+      );
+      unseen = f.unseen;
+    }
 
     held_open : Every Held (unfolded j mark more)
     held_open =
         choose (Every Held) (is_address_kind c.kind && is_alone_op (slice_get more mark)) _ more
-        (every_at Held Held mark Unfold more (λ k o away f. f) (λ o is f. held_same mark o (changed Unfold o) mark_is refl refl refl refl f) held_more) held_more
+        (every_at Held Held mark Unfold more (λ k o away f. f) (λ o is f. held_unfolded mark o mark_is f) held_more) held_more
 
     change_is : change_of owner j (Cyc c) ≡ Cycle n c.kind c.byte j.said
     change_is = ap (λ (x : Option ℕ). cond (is_new_opener x j c.kind) (Opened n j.said) (Cycle n c.kind c.byte j.said)) mine'.1
 
     -- an address or an input
-    held_byte : (kind : Kind) → is_output kind ≡ false → is_command kind ≡ false → (k : ℕ) (o : Operation) → k ≡ at → Held k o → Held k (changed (Cycle n kind c.byte j.said) o)
-    held_byte Cmd out bare k o same f = cc
-    held_byte Adr out bare k o same f =
-        held_same k o _ same (by (λ (z : Operation). z.ce) (takes_address o) _ o o.ce refl refl) (by (λ (z : Operation). z.beginning) (takes_address o) _ o o.beginning refl refl)
-        (by (λ (z : Operation). z.closer) (takes_address o) _ o o.closer refl refl) (by (λ (z : Operation). z.status) (takes_address o) _ o o.status refl refl) f
-    held_byte Din out bare k o same f = held_same k o _ same refl refl refl refl f
-    held_byte Dout out bare k o same f = cc
+    module _ (t : Sequence) (step : doing_after c.ce (Cyc c) (Sends s) ≡ Some (Sends t)) (opens' : (o : Operation) → IsOpen s o → IsOpen t (changed (Cycle n c.kind c.byte j.said) o))
+        (same_status : (o : Operation) → (changed (Cycle n c.kind c.byte j.said) o).status ≡ o.status) where
+      abbrev Next : ℕ → Operation → Type 0
+      Next = Fits (Sends t) c.ce at items told
 
-    newest_same : found (listed j l).places.newest c.ce ≡ found l.places.newest c.ce
-    newest_same = ap (λ (ns : List (Option ℕ)). found ns c.ce) (listed_newest j l) ∙ ap (λ (x : Option ℕ). found (newest_by x (Cyc c) c.ce many l.places.newest) c.ce) mine'.1
+      next_other : (k : ℕ) (o : Operation) → (k ≡ at → ⊥) → Held k o → Next k o
+      next_other k o away f = record {
+        work = f.work;
+        closed = λ v t open'. f.closed v t (λ e p. away p);
+        part = f.part;
+        current = λ v e p. absurd (away p);
+        unseen = λ u p. absurd (away p);
+      }
 
-    pub own_input : is_command c.kind ≡ false → (x : Option Work) → After (opens (Cyc c)) x (Sends w) at
-    own_input inert x = subst (λ b. After b x (Sends w) at) (sym goes_on) (record {
-      fits =
-          settled g targets n one_lun past marks c before after l pieces here Held (fits_last (Sends w) c.ce at told) input
-          (subst (λ (d : Change). Every Held (changed_at mark d (unfolded j mark more))) (sym change_is)
-          (every_at Held Held mark (Cycle n c.kind c.byte j.said) (unfolded j mark more) (λ k o away f. f) (λ o is f. held_byte c.kind input inert mark o mark_is f) held_open));
-      long = ap (λ b. length (told_after b x told)) (sym goes_on) ∙ long_after g targets n one_lun past marks c before after l pieces here told x was.long;
-      newest = λ h. newest_same ∙ was.newest refl;
-      worker = λ h. cc;
-      shows = λ h. cc;
-    })
+      next_own : (k : ℕ) (o : Operation) → k ≡ at → Held k o → Next k (changed (Cycle n c.kind c.byte j.said) o)
+      next_own k o same f = record {
+        work = λ v told'. (kept_ce (Cycle n c.kind c.byte j.said) o ∙ (f.work v told').0, kept_beginning (Cycle n c.kind c.byte j.said) o ∙ (f.work v told').1);
+        closed = λ v told' open'. absurd (open' refl same);
+        part = λ own told'. absurd (two (sym told' ∙ (f.current s refl same).0));
+        current = λ v e p. (
+            let it : t ≡ v = sends_same e in (
+              (f.current s refl same).0 ∙ ap (λ (x : Sequence). Some (Some x)) (whole_sends c.ce (Cyc c) items s t step) ∙ ap (λ (x : Sequence). Some (Some (whole c.ce items x))) it,
+              subst (λ (x : Sequence). IsOpen x (changed (Cycle n c.kind c.byte j.said) o)) it (opens' o (f.current s refl same).1),
+            )
+            );
+        unseen = λ u p. (kept_ce (Cycle n c.kind c.byte j.said) o ∙ (f.unseen u p).0, ap (λ (x : Option ℕ). is_some x) (same_status o) ∙ (f.unseen u p).1);
+      }
+
+      newest_same : found (listed j l).places.newest c.ce ≡ found l.places.newest c.ce
+      newest_same = ap (λ (ns : List (Option ℕ)). found ns c.ce) (listed_newest j l) ∙ ap (λ (x : Option ℕ). found (newest_by x (Cyc c) c.ce many l.places.newest) c.ce) mine'.1
+
+      pub own_input : (x : Option Sequence) → After (opens (Cyc c)) x (Sends t) at
+      own_input x = subst (λ b. After b x (Sends t) at) (sym goes_on) (record {
+        fits =
+            settled g targets n one_lun past marks c before after l pieces here Next (fits_last (Sends t) c.ce at items told) input
+            (subst (λ (d : Change). Every Next (changed_at mark d (unfolded j mark more))) (sym change_is)
+            (every_at Held Next mark (Cycle n c.kind c.byte j.said) (unfolded j mark more) (λ k o away f. next_other k o (λ p. away (p ∙ sym mark_is)) f) (λ o is f. next_own mark o mark_is f) held_open));
+        long = ap (λ b. length (told_after b x told)) (sym goes_on) ∙ long_after g targets n one_lun past marks c before after l pieces here told x was.long;
+        newest = λ h. newest_same ∙ was.newest refl;
+        worker = λ h. cc;
+        shows = λ h. cc;
+      })
 
     -- the closer
-    module _ (one : g.luns ≡ 1) (e : c.kind ≡ Cmd) (byte : c.byte ≡ closer_for w) where
+    module _ (one : g.luns ≡ 1) (e : c.kind ≡ Cmd) (byte : c.byte ≡ closer_for s.work) (step : doing_after c.ce (Cyc c) (Sends s) ≡ Some (Waits s.work)) where
       abbrev Waiting : ℕ → Operation → Type 0
-      Waiting = Fits (Waits w) c.ce at told
+      Waiting = Fits (Waits s.work) c.ce at items told
 
       waiting_other : (k : ℕ) (o : Operation) → (k ≡ at → ⊥) → Held k o → Waiting k o
       waiting_other k o away f = record {
@@ -227,33 +250,34 @@ module _ (g : Parts) (targets n : ℕ) (one_lun : Bool) (past : List Item) (mark
         unseen = λ u p. absurd (away p);
       }
 
-      same_work : {v u : Work} → Some (Some v) ≡ Some (Some u) → v ≡ u
-      same_work h = same_some (same_some h)
-
       waiting_own : (k : ℕ) (o : Operation) → k ≡ at → Held k o → Waiting k (changed (Cycle n Cmd c.byte j.said) o)
       waiting_own k o same f = record {
         work = f.work;
-        closed = λ v t open'. (
-            let mine = f.current w refl same in
-            closed_so w o.beginning o.closer c.byte (f.work w mine.0).1 mine.1 byte ∙ ap (λ (u : Work). Some (closer_for u)) (sym (same_work (sym t ∙ mine.0)))
-            );
-        part = λ own t. absurd (two (sym t ∙ (f.current w refl same).0));
+        closed = λ v t open'. subst (λ (x : Sequence). IsWhole x (changed (Cycle n Cmd c.byte j.said) o)) (same_some (same_some (sym told_is ∙ t))) whole';
+        part = λ own t. absurd (two (sym t ∙ told_is));
         current = λ v s p. absurd (waits s);
         unseen = λ u p. f.unseen refl p;
       }
         where
-          two : {v : Work} → Some None ≡ Some (Some v) → ⊥
-          two h = none (same_some h)
-            where
-              none : {v : Work} → None ≡ Some v → ⊥
-              none h = cc
-
-          waits : {v : Work} → Waits w ≡ Sends v → ⊥
+          waits : {v : Sequence} → Waits s.work ≡ Sends v → ⊥
           waits h = cc
+
+          told_is : slice_get told k ≡ Some (Some s)
+          told_is = (f.current s refl same).0 ∙ ap (λ (x : Sequence). Some (Some x)) (whole_ends c.ce (Cyc c) items s s.work step)
+
+          open'' : IsOpen s o
+          open'' = (f.current s refl same).1
+
+          whole' : IsWhole s (changed (Cycle n Cmd c.byte j.said) o)
+          whole' = record {
+            closer = closed_so s.work o.beginning o.closer c.byte (f.work s told_is).1 open''.closer byte;
+            addresses = open''.addresses;
+            inputs = open''.inputs;
+          }
 
       started : Started g past c.ce (command c.byte)
       started =
-          closer_begins g targets past c.ce (command c.byte) one here.legal (command_is w c.byte byte)
+          closer_begins g targets past c.ce (command c.byte) one here.legal (command_is s.work c.byte byte)
           (subst (λ (k : Kind). KeepsRules g (facts_of (tail past c.ce)) (luns_of g past c.ce) (target_cycle k c.byte)) e
           (keeps g targets n one_lun past marks c before after l pieces here))
 
@@ -278,10 +302,10 @@ module _ (g : Parts) (targets n : ℕ) (one_lun : Bool) (past : List Item) (mark
           ∙ ap (λ (ws : List (Option ℕ)). slice_set ws (lun_place c.ce 0) (Some mark)) (new_workers owner j (with_ends j l)))
           ∙ found_same l.places.workers (lun_place c.ce 0) mark (let long = here.tells.long in let few = target_few g targets n one_lun past marks c before after l pieces here in omega (arith, long, few))
 
-      pub own_closer : (x : Option Work) → After (opens (Cyc c)) x (Waits w) at
-      own_closer x = subst (λ b. After b x (Waits w) at) (sym goes_on) (record {
+      pub own_closer : (x : Option Sequence) → After (opens (Cyc c)) x (Waits s.work) at
+      own_closer x = subst (λ b. After b x (Waits s.work) at) (sym goes_on) (record {
         fits =
-            settled g targets n one_lun past marks c before after l pieces here Waiting (fits_last (Waits w) c.ce at told) input
+            settled g targets n one_lun past marks c before after l pieces here Waiting (fits_last (Waits s.work) c.ce at items told) input
             (subst (λ (d : Change). Every Waiting (changed_at mark d (unfolded j mark more))) (sym (change_is ∙ ap (λ (k : Kind). Cycle n k c.byte j.said) e))
             (every_at Held Waiting mark (Cycle n Cmd c.byte j.said) (unfolded j mark more) (λ k o away f. waiting_other k o (λ p. away (p ∙ sym mark_is)) f) (λ o is f. waiting_own mark o mark_is f) held_open));
         long = ap (λ b. length (told_after b x told)) (sym goes_on) ∙ long_after g targets n one_lun past marks c before after l pieces here told x was.long;
@@ -292,12 +316,19 @@ module _ (g : Parts) (targets n : ℕ) (one_lun : Bool) (past : List Item) (mark
 
   -- ---- a new sequence
 
-  module _ (at : ℕ) (was : Polls g c.ce past l told Rests at) (w : Work) (e : c.kind ≡ Cmd) (byte : c.byte ≡ opener_for w) where
-    abbrev later : List (Option Work)
-    later = told ++ (Some w ∷ [])
+  module _ (at : ℕ) (was : Polls g c.ce past (Cyc c ∷ items) l told Rests at) (w : Work) (e : c.kind ≡ Cmd) (byte : c.byte ≡ opener_for w) where
+    abbrev start : Sequence
+    start = begun_with w
+
+    -- all that is sent of it
+    abbrev all : Sequence
+    all = whole c.ce items start
+
+    abbrev later : List (Option Sequence)
+    later = told ++ (Some all ∷ [])
 
     abbrev Sending : ℕ → Operation → Type 0
-    Sending = Fits (Sends w) c.ce many later
+    Sending = Fits (Sends start) c.ce many items later
 
     abbrev newest : Option Operation
     newest = op_of (with_ends j l).ops (found l.places.newest c.ce)
@@ -314,13 +345,6 @@ module _ (g : Parts) (targets n : ℕ) (one_lun : Bool) (past : List Item) (mark
     many_is : length told ≡ many
     many_is = (let same = length_ends j l in let long = was.long in omega (arith, same, long))
 
-    none_there : {v : Work} → Sends w ≡ Sends v → w ≡ v
-    none_there {v = v} h = ap sent h
-      where
-        sent : Doing → Work
-        sent (Sends u) = u
-        sent d = v
-
     sending_old : Every Sending (with_ends j l).ops
     sending_old k o is = record {
       work = held.work;
@@ -333,16 +357,11 @@ module _ (g : Parts) (targets n : ℕ) (one_lun : Bool) (past : List Item) (mark
         small : k < many
         small = slice_get_within (with_ends j l).ops k o is
 
-        held : Fits Rests c.ce at later k o
+        held : Fits Rests c.ce at items later k o
         held =
-            fits_more Rests c.ce at told (Some w) k o (let same = many_is in omega (arith, small, same))
-            (ends_settled g targets n one_lun past marks c before after l pieces here (Fits Rests c.ce at told) (fits_last Rests c.ce at told) was.fits k o is)
-
-    no_closer : (kind : Kind) (x : Option Operation) → (new_by_command j x c kind).closer ≡ None
-    no_closer Cmd x = by (λ (z : Operation). z.closer) (begins_one x c.byte) _ _ None refl refl
-    no_closer Adr x = refl
-    no_closer Din x = refl
-    no_closer Dout x = refl
+            fits_more Rests c.ce at items told (Some all) k o (let same = many_is in omega (arith, small, same))
+            (fits_seen Rests Rests c.ce at at (Cyc c ∷ items) items told refl refl refl k o
+            (ends_settled g targets n one_lun past marks c before after l pieces here (Fits Rests c.ce at (Cyc c ∷ items) told) (fits_last Rests c.ce at (Cyc c ∷ items) told) was.fits k o is))
 
     no_status : (kind : Kind) (x : Option Operation) → (new_by_command j x c kind).status ≡ None
     no_status Cmd x = by (λ (z : Operation). z.status) (begins_one x c.byte) _ _ None refl refl
@@ -350,25 +369,42 @@ module _ (g : Parts) (targets n : ℕ) (one_lun : Bool) (past : List Item) (mark
     no_status Din x = refl
     no_status Dout x = refl
 
-    told_of : slice_get later many ≡ Some (Some w)
-    told_of = ap (slice_get later) (sym many_is) ∙ at_end told (Some w)
+    fresh : (kind : Kind) (x : Option Operation) → IsOpen start (new_by_command j x c kind)
+    fresh Cmd x = either (begins_one x c.byte) _ _ (begun_open (begins.Opener c.byte)) (begun_open begins.Cut)
+      where
+        begun_open : (b : Beginning) → IsOpen start (begun c.ce n b)
+        begun_open b = record { closer = refl; addresses = refl; count = refl; long = refl; inputs = refl; addressed = refl }
+
+        either : (b : Bool) (x y : Operation) → IsOpen start x → IsOpen start y → IsOpen start (cond b x y)
+        either true x y p q = p
+        either false x y p q = q
+    fresh Adr x = record { closer = refl; addresses = refl; count = refl; long = refl; inputs = refl; addressed = refl }
+    fresh Din x = record { closer = refl; addresses = refl; count = refl; long = refl; inputs = refl; addressed = refl }
+    fresh Dout x = record { closer = refl; addresses = refl; count = refl; long = refl; inputs = refl; addressed = refl }
+
+    told_of : slice_get later many ≡ Some (Some all)
+    told_of = ap (slice_get later) (sym many_is) ∙ at_end told (Some all)
 
     sending_new : Sending many newcomer
     sending_new = record {
       work = λ v t. (
         ap (λ (x : OpenedAt). x.ce) is_new.1,
-        ap (λ (x : OpenedAt). x.beginning) is_new.1 ∙ ap begins.Opener (byte ∙ ap opener_for (same_some (same_some (sym told_of ∙ t)))),
+        ap (λ (x : OpenedAt). x.beginning) is_new.1
+            ∙ ap begins.Opener (byte ∙ ap opener_for (sym (whole_work c.ce items start)) ∙ ap (λ (x : Sequence). opener_for x.work) (same_some (same_some (sym told_of ∙ t)))),
       );
       closed = λ v t open'. absurd (open' refl refl);
-      part = λ own t. absurd (two (sym t ∙ told_of));
-      current = λ v s p. (told_of ∙ ap (λ (u : Work). Some (Some u)) (none_there s), no_closer c.kind newest);
+      part = λ own t. absurd (two' (sym t ∙ told_of));
+      current = λ v e p. (
+          let it : start ≡ v = sends_same e in
+          (told_of ∙ ap (λ (x : Sequence). Some (Some (whole c.ce items x))) it, subst (λ (x : Sequence). IsOpen x newcomer) it (fresh c.kind newest))
+          );
       unseen = λ u p. (ap (λ (x : OpenedAt). x.ce) is_new.1, ap (λ (x : Option ℕ). is_some x) (no_status c.kind newest));
     }
       where
-        two : {v : Work} → Some None ≡ Some (Some v) → ⊥
-        two h = none (same_some h)
+        two' : {v : Sequence} → Some None ≡ Some (Some v) → ⊥
+        two' h = none (same_some h)
           where
-            none : {v : Work} → None ≡ Some v → ⊥
+            none : {v : Sequence} → None ≡ Some v → ⊥
             none h = cc
 
     sending_more : Every Sending more
@@ -383,13 +419,13 @@ module _ (g : Parts) (targets n : ℕ) (one_lun : Bool) (past : List Item) (mark
         ap (λ (x : Option ℕ). is_gentle (cond (is_new_opener x j c.kind) (Opened n j.said) (Cycle n c.kind c.byte j.said))) is_new.0
         ∙ ap (λ (k : Kind). is_gentle (cond (is_new_opener None j k) (Opened n j.said) (Cycle n k c.byte j.said))) e
 
-    pub own_opener : After (opens (Cyc c)) (Some w) (Sends w) many
-    own_opener = subst (λ b. After b (Some w) (Sends w) many) (sym opens_one) (record {
+    pub own_opener : After (opens (Cyc c)) (Some all) (Sends start) many
+    own_opener = subst (λ b. After b (Some all) (Sends start) many) (sym opens_one) (record {
       fits =
-          settled g targets n one_lun past marks c before after l pieces here Sending (fits_last (Sends w) c.ce many later) (ap is_output e)
-          (gently Sending (fits_last (Sends w) c.ce many later) mark (change_of owner j (Cyc c)) (unfolded j mark more) gentle
-          (unaddressed g targets n one_lun past marks c before after l pieces here Sending (fits_last (Sends w) c.ce many later) (ap is_address_kind e) sending_more));
-      long = ap (λ b. length (told_after b (Some w) told)) (sym opens_one) ∙ long_after g targets n one_lun past marks c before after l pieces here told (Some w) was.long;
+          settled g targets n one_lun past marks c before after l pieces here Sending (fits_last (Sends start) c.ce many items later) (ap is_output e)
+          (gently Sending (fits_last (Sends start) c.ce many items later) mark (change_of owner j (Cyc c)) (unfolded j mark more) gentle
+          (unaddressed g targets n one_lun past marks c before after l pieces here Sending (fits_last (Sends start) c.ce many items later) (ap is_address_kind e) sending_more));
+      long = ap (λ b. length (told_after b (Some all) told)) (sym opens_one) ∙ long_after g targets n one_lun past marks c before after l pieces here told (Some all) was.long;
       newest = λ h. (
           ap (λ (ns : List (Option ℕ)). found ns c.ce) (listed_newest j l) ∙ ap (λ (x : Option ℕ). found (newest_by x (Cyc c) c.ce many l.places.newest) c.ce) is_new.0
           ∙ found_same l.places.newest c.ce many (let f = here.stands.four in let t = target_few g targets n one_lun past marks c before after l pieces here in omega (arith, f, t))

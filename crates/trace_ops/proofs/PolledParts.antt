@@ -34,7 +34,7 @@ use Rattle.trace_ops.specs.Operation.{changed, changed_at}
 use Rattle.trace_ops.specs.LastWork.{question}
 use Rattle.trace_ops.specs.Listing.{Listing, found, worker, giver, op_of, new_one, number_of, with_new, change_of, all_begun, all_selected, looks_of, look_at, has_data, gives_data, is_unshown, either_of, folded_into, folded_if, role_by, selected_by, selected_on, is_foreign_at, with_ends, owner_in, mark_in, listed}
 use Rattle.trace_ops.specs.Openings.{opens}
-use Rattle.trace_ops.specs.Polling.{Work, Doing, Rests, Sends, Waits, Asks, Sees, is_sending}
+use Rattle.trace_ops.specs.Polling.{Sequence, Doing, Rests, Sends, Waits, Asks, Sees, is_sending}
 use Rattle.trace_ops.proofs.AtWork.{worker_in}
 use Rattle.trace_ops.proofs.Changed.{there}
 use Rattle.trace_ops.proofs.Cycles.{CycleAt, begins_nothing}
@@ -60,8 +60,8 @@ no e = cc
 
 module _ (g : Parts) (targets n : ℕ) (one_lun : Bool) (past : List Item) (marks : List ℕ) (ce byte : ℕ) (before after : Looks) (l : Listing) (pieces : ℕ → List TargetCycle)
     (here : CycleAt g targets n past marks (record { ce = ce; kind = Cmd; byte = byte }) before after l pieces) (opens' : is_opener (command byte) ≡ true)
-    (told : List (Option Work)) (d next : Doing) (at : ℕ) (was : Polls g ce past l told d at)
-    (weaker : (k : ℕ) (o : Operation) → Fits d ce at told k o → Fits next ce at told k o) (rests : is_sending next ≡ false) (worked : has_worked d ≡ true) where
+    (items : List Item) (told : List (Option Sequence)) (d next : Doing) (at : ℕ) (was : Polls g ce past (Cyc (record { ce = ce; kind = Cmd; byte = byte }) ∷ items) l told d at)
+    (weaker : (k : ℕ) (o : Operation) → Fits d ce at (Cyc (record { ce = ce; kind = Cmd; byte = byte }) ∷ items) told k o → Fits next ce at items told k o) (rests : is_sending next ≡ false) (worked : has_worked d ≡ true) where
   abbrev c : BusCycle
   c = record { ce = ce; kind = Cmd; byte = byte }
 
@@ -80,11 +80,11 @@ module _ (g : Parts) (targets n : ℕ) (one_lun : Bool) (past : List Item) (mark
   abbrev more : List Operation
   more = (with_new owner j (with_ends j l)).ops
 
-  abbrev later : List (Option Work)
+  abbrev later : List (Option Sequence)
   later = told ++ (None ∷ [])
 
   abbrev pub Asked : ℕ → Operation → Type 0
-  Asked = Fits next ce at later
+  Asked = Fits next ce at items later
 
   -- all but the new one
   abbrev pub Others : ℕ → Operation → Type 0
@@ -106,15 +106,15 @@ module _ (g : Parts) (targets n : ℕ) (one_lun : Bool) (past : List Item) (mark
   at_away e = (let small = at_small in let same = length_ends j l in let m = mark_many in omega (arith, small, same, m, e))
 
   others_last : Lasts Others
-  others_last = record { on = λ k old new kept f away. (fits_last next ce at later).on k old new kept (f away) }
+  others_last = record { on = λ k old new kept f away. (fits_last next ce at items later).on k old new kept (f away) }
 
   asked_ends : Every Asked (with_ends j l).ops
   asked_ends k o is =
       let small = slice_get_within (with_ends j l).ops k o is in
       let same = length_ends j l in
       let long = was.long in
-      fits_more next ce at told None k o (omega (arith, small, same, long))
-      (ends_settled g targets n one_lun past marks c before after l pieces here (Fits next ce at told) (fits_last next ce at told) (λ k o is. weaker k o (was.fits k o is)) k o is)
+      fits_more next ce at items told None k o (omega (arith, small, same, long))
+      (ends_settled g targets n one_lun past marks c before after l pieces here (Fits next ce at items told) (fits_last next ce at items told) (λ k o is. weaker k o (was.fits k o is)) k o is)
 
   others_more : Every Others more
   others_more = by_owner owner owner_none
@@ -138,10 +138,10 @@ module _ (g : Parts) (targets n : ℕ) (one_lun : Bool) (past : List Item) (mark
     unseen = λ u p. absurd (at_away (sym p));
   }
     where
-      untold : (w : Work) → slice_get later mark ≡ Some (Some w) → ⊥
+      untold : (w : Sequence) → slice_get later mark ≡ Some (Some w) → ⊥
       untold w t = none (told_last told None (Some w) mark many_is t)
         where
-          none : {v : Work} → Some v ≡ None → ⊥
+          none : {v : Sequence} → Some v ≡ None → ⊥
           none h = cc
 
   pub asked_folded : (ops : List Operation) → Every Others ops → Every Asked (changed_at mark (Fold at) (changed_at mark (SetLun 0) ops))

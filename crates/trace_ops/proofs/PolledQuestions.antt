@@ -34,7 +34,7 @@ use Rattle.trace_ops.specs.Operation.{changed, changed_at}
 use Rattle.trace_ops.specs.LastWork.{question}
 use Rattle.trace_ops.specs.Listing.{Listing, found, worker, giver, op_of, new_one, number_of, with_new, change_of, all_begun, all_selected, looks_of, look_at, has_data, gives_data, is_unshown, either_of, folded_into, folded_if, role_by, selected_by, selected_on, is_foreign_at, with_ends, owner_in, mark_in, listed}
 use Rattle.trace_ops.specs.Openings.{opens}
-use Rattle.trace_ops.specs.Polling.{Work, Doing, Rests, Sends, Waits, Asks, Sees, is_sending}
+use Rattle.trace_ops.specs.Polling.{Work, Sequence, Doing, Rests, Sends, Waits, Asks, Sees, is_sending}
 use Rattle.trace_ops.proofs.AtWork.{worker_in}
 use Rattle.trace_ops.proofs.Chains.{small_came}
 use Rattle.trace_ops.proofs.Changed.{there}
@@ -57,7 +57,7 @@ use Rattle.trace_ops.proofs.Walks.{came, length_ends, mark_new, length_came}
 
 module _ (g : Parts) (targets n : ℕ) (seen : Seen) (past : List Item) (marks : List ℕ) (l : Listing) (pieces : ℕ → List TargetCycle) (walked : Walked g targets n seen past marks l pieces)
     (one_lun : Bool) (ce : ℕ) (later : List Item) (h : broken g targets past (question ce) ≡ None) (some : 0 < g.luns)
-    (told : List (Option Work)) (d : Doing) (w : Work) (at : ℕ) (was : Polls g ce past l told d at) (rests : is_sending d ≡ false) (unseen' : is_unseen d ≡ true) (worked : has_worked d ≡ true) where
+    (told : List (Option Sequence)) (d : Doing) (w : Work) (at : ℕ) (was : Polls g ce past (question ce ∷ later) l told d at) (rests : is_sending d ≡ false) (unseen' : is_unseen d ≡ true) (worked : has_worked d ≡ true) where
   abbrev c : BusCycle
   c = record { ce = ce; kind = Cmd; byte = 0x70 }
 
@@ -79,8 +79,8 @@ module _ (g : Parts) (targets n : ℕ) (seen : Seen) (past : List Item) (marks :
   opens' : is_opener (command 0x70) ≡ true
   opens' = ap is_opener (commands_have_bytes.command_of_byte ReadStatus 0x70 refl)
 
-  weaker : (k : ℕ) (o : Operation) → Fits d ce at told k o → Fits (Asks w) ce at told k o
-  weaker = fits_asks d (Asks w) ce at told rests unseen' refl
+  weaker : (k : ℕ) (o : Operation) → Fits d ce at (Cyc c ∷ later) told k o → Fits (Asks w) ce at later told k o
+  weaker = fits_asks d (Asks w) ce at (Cyc c ∷ later) later told rests unseen' refl
 
   there_is : (o : Operation) × (slice_get (came j l).ops mark ≡ Some o)
   there_is = there (came j l).ops mark (small_came j l walked.within)
@@ -98,16 +98,16 @@ module _ (g : Parts) (targets n : ℕ) (seen : Seen) (past : List Item) (marks :
   ops_are =
       final g targets n seen past marks l pieces walked one_lun ce later h (target_below g targets past c h) some there_is.0 there_is.1 ∙ ap asked worker_is
       ∙ ap (λ b. cond b (folded_into mark (Some at) (changed_at mark (SetLun 0) (came j l).ops)) (changed_at mark (SetLun 0) (came j l).ops))
-      (unshown g targets n one_lun past marks ce 0x70 before after l pieces here opens' told d (Asks w) at was weaker refl worked refl)
-      ∙ folds g targets n one_lun past marks ce 0x70 before after l pieces here opens' told d (Asks w) at was weaker refl worked _
+      (unshown g targets n one_lun past marks ce 0x70 before after l pieces here opens' later told d (Asks w) at was weaker refl worked refl)
+      ∙ folds g targets n one_lun past marks ce 0x70 before after l pieces here opens' later told d (Asks w) at was weaker refl worked _
 
-  pub own_question : (x : Option Work) → x ≡ None → Polls g ce (Cyc c ∷ past) (listed j l) (told_after (opens (Cyc c)) x told) (Asks w) at
-  own_question x none = subst (λ (y : Option Work). Polls g ce (Cyc c ∷ past) (listed j l) (told_after (opens (Cyc c)) y told) (Asks w) at) (sym none)
-      (subst (λ b. Polls g ce (Cyc c ∷ past) (listed j l) (told_after b None told) (Asks w) at) (sym opens') (record {
+  pub own_question : (x : Option Sequence) → x ≡ None → Polls g ce (Cyc c ∷ past) later (listed j l) (told_after (opens (Cyc c)) x told) (Asks w) at
+  own_question x none = subst (λ (y : Option Sequence). Polls g ce (Cyc c ∷ past) later (listed j l) (told_after (opens (Cyc c)) y told) (Asks w) at) (sym none)
+      (subst (λ b. Polls g ce (Cyc c ∷ past) later (listed j l) (told_after b None told) (Asks w) at) (sym opens') (record {
         fits =
-            subst (λ (ops : List Operation). Every (Fits (Asks w) ce at (told ++ (None ∷ []))) ops) (sym ops_are)
-            (asked_folded g targets n one_lun past marks ce 0x70 before after l pieces here opens' told d (Asks w) at was weaker refl worked (came j l).ops
-            (others_came g targets n one_lun past marks ce 0x70 before after l pieces here opens' told d (Asks w) at was weaker refl worked));
+            subst (λ (ops : List Operation). Every (Fits (Asks w) ce at later (told ++ (None ∷ []))) ops) (sym ops_are)
+            (asked_folded g targets n one_lun past marks ce 0x70 before after l pieces here opens' later told d (Asks w) at was weaker refl worked (came j l).ops
+            (others_came g targets n one_lun past marks ce 0x70 before after l pieces here opens' later told d (Asks w) at was weaker refl worked));
         long = ap (λ b. length (told_after b None told)) (sym opens') ∙ long_after g targets n one_lun past marks c before after l pieces here told None was.long;
         newest = λ e. cc;
         worker = λ e. (

@@ -14,14 +14,14 @@ use Rattle.trace_ops.specs.declared.operation.Operation.{Operation}
 use Rattle.trace_ops.specs.declared.places.Places.{Places}
 use Rattle.trace_ops.specs.Operation.{changed_at}
 use Rattle.trace_ops.specs.Listing.{Listing, found, with_new, change_of, is_address, is_alone_op, unfolded, all_begun, all_selected, polled, with_ends, with_polls, owner_in, mark_in, listed}
-use Rattle.trace_ops.specs.Polling.{Work, Doing}
+use Rattle.trace_ops.specs.Polling.{Sequence, Doing, doing_after}
 use Rattle.trace_ops.proofs.AtWork.{worker_in}
 use Rattle.trace_ops.proofs.Domestic.{Every}
 use Rattle.trace_ops.proofs.FoldedReadies.{IsLone}
 use Rattle.trace_ops.proofs.Gently.{Lasts, gently, gentle_ends, gentle_ready}
 use Rattle.trace_ops.proofs.Legal.{at_lun}
 use Rattle.trace_ops.proofs.Pieces.{listed_newest}
-use Rattle.trace_ops.proofs.Polled.{Fits, fits_last}
+use Rattle.trace_ops.proofs.Polled.{Fits, fits_last, fits_skip}
 use Rattle.trace_ops.proofs.PolledItems.{Polls}
 use Rattle.trace_ops.proofs.Readies.{all_same, workers_after}
 use Rattle.trace_ops.proofs.Walks.{came, length_came, length_listed, new_many}
@@ -70,10 +70,10 @@ module _ (j : Judged) (l : Listing) (lone : IsLone j) (quiet : (k : ℕ) (p : Pl
       came_all : Every D (came j l).ops
       came_all = subst (λ (c : Change). Every D (changed_at mark c (unfolded j mark more))) (sym (lone.change owner)) (gently D lasts mark (LoneReady j.number j.said) (unfolded j mark more) refl open')
 
-  pub ready_polls : (g : Parts) (ce : ℕ) (past : List Item) (i : Item) (told : List (Option Work)) (d : Doing) (at : ℕ) → latch g (i ∷ past) (at_lun ce 0) ≡ latch g past (at_lun ce 0) →
-      Polls g ce past l told d at → Polls g ce (i ∷ past) (listed j l) told d at
-  ready_polls g ce past i told d at shows was = record {
-    fits = settled (Fits d ce at told) (fits_last d ce at told) was.fits;
+  pub ready_polls : (g : Parts) (ce : ℕ) (past : List Item) (i : Item) (items : List Item) (told : List (Option Sequence)) (d : Doing) (at : ℕ) → doing_after ce i d ≡ Some d → latch g (i ∷ past) (at_lun ce 0) ≡ latch g past (at_lun ce 0) →
+      Polls g ce past (i ∷ items) l told d at → Polls g ce (i ∷ past) items (listed j l) told d at
+  ready_polls g ce past i items told d at still shows was = record {
+    fits = settled (Fits d ce at items told) (fits_last d ce at items told) (λ k o is. fits_skip d ce at i items told still k o (was.fits k o is));
     long = (let one = length_listed j l in let two = length_came j l in let three = ap (λ x. length l.ops + new_many x) owned in let long = was.long in omega (arith, one, two, three, long));
     newest = λ h. ap (λ (ns : List (Option ℕ)). found ns ce) (listed_newest j l ∙ lone.ready.newest owner j.ce (length (with_ends j l).ops) l.places.newest) ∙ was.newest h;
     worker = λ h. ap (λ (ws : List (Option ℕ)). worker_in ws ce 0) (workers_after j l lone.ready) ∙ was.worker h;

@@ -34,7 +34,7 @@ use Rattle.trace_ops.specs.Operation.{changed, changed_at}
 use Rattle.trace_ops.specs.LastWork.{question}
 use Rattle.trace_ops.specs.Listing.{Listing, found, worker, giver, op_of, new_one, number_of, with_new, change_of, all_begun, all_selected, looks_of, look_at, has_data, gives_data, is_unshown, either_of, folded_into, folded_if, role_by, selected_by, selected_on, is_foreign_at, with_ends, owner_in, mark_in, listed}
 use Rattle.trace_ops.specs.Openings.{opens}
-use Rattle.trace_ops.specs.Polling.{Work, Doing, Rests, Sends, Waits, Asks, Sees, is_sending}
+use Rattle.trace_ops.specs.Polling.{Sequence, Doing, Rests, Sends, Waits, Asks, Sees, is_sending}
 use Rattle.trace_ops.proofs.AtWork.{worker_in}
 use Rattle.trace_ops.proofs.Chains.{small_came}
 use Rattle.trace_ops.proofs.Changed.{there}
@@ -73,7 +73,7 @@ shows_data g past ce shows = at (ce == ce) refl
 
 module _ (g : Parts) (targets n : ℕ) (seen : Seen) (past : List Item) (marks : List ℕ) (l : Listing) (pieces : ℕ → List TargetCycle) (walked : Walked g targets n seen past marks l pieces)
     (one_lun : Bool) (ce : ℕ) (later : List Item) (h : broken g targets past (Cyc (record { ce = ce; kind = Cmd; byte = 0x00 })) ≡ None) (one : g.luns ≡ 1)
-    (told : List (Option Work)) (at : ℕ) (was : Polls g ce past l told Sees at) where
+    (told : List (Option Sequence)) (at : ℕ) (was : Polls g ce past (Cyc (record { ce = ce; kind = Cmd; byte = 0x00 }) ∷ later) l told Sees at) where
   abbrev c : BusCycle
   c = record { ce = ce; kind = Cmd; byte = 0x00 }
 
@@ -95,8 +95,8 @@ module _ (g : Parts) (targets n : ℕ) (seen : Seen) (past : List Item) (marks :
   opens' : is_opener (command 0x00) ≡ true
   opens' = ap is_opener (commands_have_bytes.command_of_byte Read 0x00 refl)
 
-  weaker : (k : ℕ) (o : Operation) → Fits Sees ce at told k o → Fits Rests ce at told k o
-  weaker = fits_seen Sees Rests ce at at told refl refl refl
+  weaker : (k : ℕ) (o : Operation) → Fits Sees ce at (Cyc c ∷ later) told k o → Fits Rests ce at later told k o
+  weaker = fits_seen Sees Rests ce at at (Cyc c ∷ later) later told refl refl refl
 
   look_is : (lun : ℕ) → lun < 4 → look_at after lun ≡ look_after g targets (Cyc c ∷ past) (at_lun ce lun)
   look_is lun low =
@@ -163,15 +163,15 @@ module _ (g : Parts) (targets n : ℕ) (seen : Seen) (past : List Item) (marks :
       same_ready (is_foreign_at (all_selected j mark (all_begun j mark X)).ops (Some mark)) (all_selected j mark (all_begun j mark X)).ops
       ∙ ap (λ (x : Listing). x.ops) selected
       ∙ ap (λ (x : Option ℕ). folded_into mark (either_of x (giver X.places ce 0)) (changed_at mark (SetLun 0) X.ops)) worker_is
-      ∙ folds g targets n one_lun past marks ce 0x00 before after l pieces here opens' told Sees Rests at was weaker refl refl _
+      ∙ folds g targets n one_lun past marks ce 0x00 before after l pieces here opens' later told Sees Rests at was weaker refl refl _
 
-  pub own_return : (x : Option Work) → x ≡ None → Polls g ce (Cyc c ∷ past) (listed j l) (told_after (opens (Cyc c)) x told) Rests at
-  own_return x none = subst (λ (y : Option Work). Polls g ce (Cyc c ∷ past) (listed j l) (told_after (opens (Cyc c)) y told) Rests at) (sym none)
-      (subst (λ b. Polls g ce (Cyc c ∷ past) (listed j l) (told_after b None told) Rests at) (sym opens') (record {
+  pub own_return : (x : Option Sequence) → x ≡ None → Polls g ce (Cyc c ∷ past) later (listed j l) (told_after (opens (Cyc c)) x told) Rests at
+  own_return x none = subst (λ (y : Option Sequence). Polls g ce (Cyc c ∷ past) later (listed j l) (told_after (opens (Cyc c)) y told) Rests at) (sym none)
+      (subst (λ b. Polls g ce (Cyc c ∷ past) later (listed j l) (told_after b None told) Rests at) (sym opens') (record {
         fits =
-            subst (λ (ops : List Operation). Every (Fits Rests ce at (told ++ (None ∷ []))) ops) (sym ops_are)
-            (asked_folded g targets n one_lun past marks ce 0x00 before after l pieces here opens' told Sees Rests at was weaker refl refl X.ops
-            (others_came g targets n one_lun past marks ce 0x00 before after l pieces here opens' told Sees Rests at was weaker refl refl));
+            subst (λ (ops : List Operation). Every (Fits Rests ce at later (told ++ (None ∷ []))) ops) (sym ops_are)
+            (asked_folded g targets n one_lun past marks ce 0x00 before after l pieces here opens' later told Sees Rests at was weaker refl refl X.ops
+            (others_came g targets n one_lun past marks ce 0x00 before after l pieces here opens' later told Sees Rests at was weaker refl refl));
         long = ap (λ b. length (told_after b None told)) (sym opens') ∙ long_after g targets n one_lun past marks c before after l pieces here told None was.long;
         newest = λ e. cc;
         worker = λ e. cc;
