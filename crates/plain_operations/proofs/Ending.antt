@@ -19,15 +19,15 @@ use Rattle.micro_program.specs.Played.{Played, answered}
 use Rattle.micro_program.specs.Safe.{Seat, loaded, after_step, after_item, Reaches, starts, steps, readies, others}
 use Rattle.micro_program.specs.Step.{Stride, Went, NotReady, first_byte, did, stride, answered_step}
 use Rattle.trace_ops.specs.AtWork.{IsLegalBase}
-use Rattle.trace_ops.specs.Polling.{Work, Doing, Rests, Sends, Waits, Asks, Sees, by_cycle, doing_at_end, work_in, works_from, Ends, ends_of, ends_as, lines_of}
+use Rattle.trace_ops.specs.Polling.{Sequence, Doing, Rests, Sends, Waits, Asks, Sees, by_cycle, doing_at_end, sent_in, sequences_from, Sent, sent_of, sent_as}
 use Rattle.trace_ops.proofs.PolledLines.{polled}
 use Rattle.trace_ops.proofs.Spans.{same_some}
 use Rattle.micro_verify.specs.declared.plain_op.PlainOp.{PlainOp}
 use Rattle.micro_verify.specs.Plain.{operations_len, plain_words, plain_text}
-use Rattle.plain_operations.specs.Lines.{work_of, began, AreBytes, RunsPlainly, lines_after, LinesAre}
+use Rattle.plain_operations.specs.Lines.{sequence_of, began, AreBytes, RunsPlainly, lines_after, LinesAre}
 use Rattle.plain_operations.proofs.Hosts.{Has, has_other, bytes_before}
 use Rattle.plain_operations.proofs.Steps.{Taken, taken, nothing_played, Goes, Fails, Ahead, After, word_steps}
-use Rattle.plain_operations.proofs.Texts.{is_end, is_at_rest, leads, works_with, leads_to, all_lead_to, body, body_long, body_leads, body_works, body_fails, plain_lines}
+use Rattle.plain_operations.proofs.Texts.{place_of, is_end, is_at_rest, leads, sends_with, leads_to, all_lead_to, body, body_long, body_leads, body_sends, body_fails, plain_lines}
 
 none : {X : Type 0} {x : X} → None ≡ Some x → ⊥
 none h = cc
@@ -65,16 +65,16 @@ end_coded word h e = off h
 -- ---- a step
 
 -- where a program is
-pub record Stands (ce : ℕ) (first : List Work) (failure : ℕ) (all : List Work) (past : List Item) (ahead : List Line) : Type 0 where
+pub record Stands (g : Parts) (j : Job) (first : List Sequence) (failure : ℕ) (all : List Sequence) (past : List Item) (ahead : List Line) (done : List Done) : Type 0 where
   pub doing : Doing
-  pub works : List Work
-  pub has : Has ce first past doing works
-  pub ahead_is : Ahead failure doing works all ahead
+  pub works : List Sequence
+  pub has : Has j.lun.ce first past doing works
+  pub ahead_is : Ahead g j failure (place_of j done) doing works all ahead
 
 -- at its end
-pub record Over (ce : ℕ) (first : List Work) (all : List Work) (past : List Item) (code : ℕ) : Type 0 where
-  pub works : List Work
-  pub left : List Work
+pub record Over (ce : ℕ) (first : List Sequence) (all : List Sequence) (past : List Item) (code : ℕ) : Type 0 where
+  pub works : List Sequence
+  pub left : List Sequence
   pub has : Has ce first past Rests works
   pub begins : works ++ left ≡ all
   pub over : code ≡ 0 → left ≡ []
@@ -93,7 +93,7 @@ rest_is (Waits w) h = cc
 rest_is (Asks w) h = cc
 rest_is Sees h = cc
 
-module _ (g : Parts) (j : Job) (first : List Work) (failure : ℕ) (all : List Work) (one : g.luns ≡ 1) (bytes : List ℕ) (past : List Item) (ahead : List Line) (done : List Done) (r : Stride)
+module _ (g : Parts) (j : Job) (first : List Sequence) (failure : ℕ) (all : List Sequence) (one : g.luns ≡ 1) (bytes : List ℕ) (past : List Item) (ahead : List Line) (done : List Done) (r : Stride)
     (step : answered_step g j bytes past ahead done ≡ Some r) (small : AreBytes r.past) where
   abbrev ce : ℕ
   ce = j.lun.ce
@@ -126,39 +126,39 @@ module _ (g : Parts) (j : Job) (first : List Work) (failure : ℕ) (all : List W
       past_so (line_of at (End code)) rest t
       ∙ nothing_played ce bytes past t.played (ap (λ (m : List Move). answered ce m bytes past) (sym (same_some (sym t.is_moved))) ∙ t.is_played)
 
-  module _ (d : Doing) (works : List Work) (has : Has ce first past d works) where
+  module _ (d : Doing) (works : List Sequence) (has : Has ce first past d works) where
     -- a word of the body, with those behind it
     module _ (at : ℕ) (word : Word) (words : List Word) (are : ahead ≡ lines_from ((word ∷ words) ++ (End 1 ∷ [])) at) (ends : failure ≡ at + suc (length words))
-        (fails : all_lead_to failure (word ∷ words) ≡ true) (lead : leads d (word ∷ words) ≡ true) (begins : works ++ works_with d (word ∷ words) ≡ all) where
+        (fails : all_lead_to failure (word ∷ words) ≡ true) (lead : leads g j (place_of j done) d (word ∷ words) ≡ true) (begins : works ++ sends_with g j (place_of j done) d (word ∷ words) ≡ all) where
       abbrev rest : List Line
       rest = lines_from (words ++ (End 1 ∷ [])) (at + 1)
 
       t : Taken g j bytes past (line_of at word) rest done r
       t = taken_at (line_of at word) rest are
 
-      word_on : r.code ≡ None → After ce first failure all r
+      word_on : r.code ≡ None → After g j first failure all r
       word_on still = by (is_end word) refl
         where
-          by : (b : Bool) → is_end word ≡ b → After ce first failure all r
+          by : (b : Bool) → is_end word ≡ b → After g j first failure all r
           by true e = absurd (end_coded word e (sym (code_is at word rest t) ∙ still))
           by false e =
               let parts = and_true (leads_to failure word) (all_lead_to failure words) fails in
               word_steps g j first failure all one past done d works has words at ends parts.1 r word bytes e lead begins parts.0 t (small_there (line_of at word) rest t)
 
-    goes_on : r.code ≡ None → (words : List Word) (at : ℕ) → ahead ≡ lines_from (words ++ (End 1 ∷ [])) at → failure ≡ at + length words → all_lead_to failure words ≡ true → leads d words ≡ true →
-        works ++ works_with d words ≡ all → After ce first failure all r
+    goes_on : r.code ≡ None → (words : List Word) (at : ℕ) → ahead ≡ lines_from (words ++ (End 1 ∷ [])) at → failure ≡ at + length words → all_lead_to failure words ≡ true → leads g j (place_of j done) d words ≡ true →
+        works ++ sends_with g j (place_of j done) d words ≡ all → After g j first failure all r
     goes_on still [] at are ends fails lead begins = absurd (off lead)
     goes_on still (word ∷ words) at are ends fails lead begins = word_on at word words are ends fails lead begins still
 
-    ahead_on : r.code ≡ None → Ahead failure d works all ahead → After ce first failure all r
+    ahead_on : r.code ≡ None → Ahead g j failure (place_of j done) d works all ahead → After g j first failure all r
     ahead_on still (inl goes) = goes_on still goes.words goes.at goes.are goes.ends goes.fails goes.leads_on goes.begins
     ahead_on still (inr fails) = absurd (none (sym still ∙ code_is failure (End 1) [] (taken_at (line_of failure (End 1)) [] fails.are)))
 
     over_at : (p : List Item) → r.past ≡ p → Has ce first p Rests works → Has ce first r.past Rests works
     over_at p e has' = subst (λ (x : List Item). Has ce first x Rests works) (sym e) has'
 
-    word_over : (code : ℕ) → r.code ≡ Some code → (at : ℕ) (word : Word) (words : List Word) → ahead ≡ lines_from ((word ∷ words) ++ (End 1 ∷ [])) at → leads d (word ∷ words) ≡ true →
-        works ++ works_with d (word ∷ words) ≡ all → Over ce first all r.past code
+    word_over : (code : ℕ) → r.code ≡ Some code → (at : ℕ) (word : Word) (words : List Word) → ahead ≡ lines_from ((word ∷ words) ++ (End 1 ∷ [])) at → leads g j (place_of j done) d (word ∷ words) ≡ true →
+        works ++ sends_with g j (place_of j done) d (word ∷ words) ≡ all → Over ce first all r.past code
     word_over code is at (End n) words are lead begins =
         let t = taken_at (line_of at (End n)) (lines_from (words ++ (End 1 ∷ [])) (at + 1)) are in
         record {
@@ -171,11 +171,11 @@ module _ (g : Parts) (j : Job) (first : List Work) (failure : ℕ) (all : List W
     word_over code is at word words are lead begins =
         absurd (none (sym (code_is at word (lines_from (words ++ (End 1 ∷ [])) (at + 1)) (taken_at (line_of at word) (lines_from (words ++ (End 1 ∷ [])) (at + 1)) are)) ∙ is))
 
-    goes_over : (code : ℕ) → r.code ≡ Some code → (words : List Word) (at : ℕ) → ahead ≡ lines_from (words ++ (End 1 ∷ [])) at → leads d words ≡ true → works ++ works_with d words ≡ all → Over ce first all r.past code
+    goes_over : (code : ℕ) → r.code ≡ Some code → (words : List Word) (at : ℕ) → ahead ≡ lines_from (words ++ (End 1 ∷ [])) at → leads g j (place_of j done) d words ≡ true → works ++ sends_with g j (place_of j done) d words ≡ all → Over ce first all r.past code
     goes_over code is [] at are lead begins = absurd (off lead)
     goes_over code is (word ∷ words) at are lead begins = word_over code is at word words are lead begins
 
-    ahead_over : (code : ℕ) → r.code ≡ Some code → Ahead failure d works all ahead → Over ce first all r.past code
+    ahead_over : (code : ℕ) → r.code ≡ Some code → Ahead g j failure (place_of j done) d works all ahead → Over ce first all r.past code
     ahead_over code is (inl goes) = goes_over code is goes.words goes.at goes.are goes.leads_on goes.begins
     ahead_over code is (inr fails) =
         let t = taken_at (line_of failure (End 1)) [] fails.are in
@@ -198,13 +198,13 @@ legal_began s j _ (others seat c m run free own there apart) = legal_began s j s
 abbrev failure_of : List PlainOp → ℕ
 failure_of ops = operations_len ops + 1
 
-abbrev first_of : Job → List Item → List Work
-first_of j before = works_from j.lun.ce (reverse before) Rests
+abbrev first_of : Job → List Item → List Sequence
+first_of j before = sequences_from j.lun.ce (reverse before) Rests
 
-abbrev IsAt : Job → List PlainOp → List Item → Seat → Type 0
-IsAt j ops before seat = Stands j.lun.ce (first_of j before) (failure_of ops) (map work_of ops) seat.past seat.ahead
+abbrev IsAt : Channel → Job → List PlainOp → List Item → Seat → Type 0
+IsAt s j ops before seat = Stands s.geometry j (first_of j before) (failure_of ops) (map (sequence_of s.geometry j) ops) seat.past seat.ahead seat.done
 
-loaded_stands : (s : Channel) (j : Job) (ops : List PlainOp) (past : List Item) → RunsPlainly s j ops past → IsAt j ops past (loaded j past)
+loaded_stands : (s : Channel) (j : Job) (ops : List PlainOp) (past : List Item) → RunsPlainly s j ops past → IsAt s j ops past (loaded j past)
 loaded_stands s j ops past plain = record {
   doing = Rests;
   works = [];
@@ -215,8 +215,8 @@ loaded_stands s j ops past plain = record {
     are = ap (λ (x : Microprogram). unrolled x.words) plain.text ∙ plain_lines ops;
     ends = (let long = body_long (failure_of ops) ops in omega (arith, long));
     fails = body_fails (failure_of ops) ops;
-    leads_on = body_leads (failure_of ops) ops;
-    begins = body_works (failure_of ops) ops;
+    leads_on = body_leads s.geometry j (place_of j []) (failure_of ops) ops;
+    begins = body_sends s.geometry j (place_of j []) (failure_of ops) ops;
   });
 }
 
@@ -231,14 +231,14 @@ other_target a b c d luns one low low' apart e = by (ltb-true b luns low) (ltb-t
     by p q = no (sym (ap (λ x. x && b == d) (eq-eqb a c e) ∙ eq-eqb b d (omega (arith, p, q, one))) ∙ apart)
 
 module _ (s : Channel) (j : Job) (ops : List PlainOp) (before : List Item) (plain : RunsPlainly s j ops before) where
-  step_stands : (seat : Seat) (bytes : List ℕ) (r : Stride) → answered_step s.geometry j bytes seat.past seat.ahead seat.done ≡ Some r → r.code ≡ None → AreBytes r.past → IsAt j ops before seat →
-      IsAt j ops before (after_step r)
+  step_stands : (seat : Seat) (bytes : List ℕ) (r : Stride) → answered_step s.geometry j bytes seat.past seat.ahead seat.done ≡ Some r → r.code ≡ None → AreBytes r.past → IsAt s j ops before seat →
+      IsAt s j ops before (after_step r)
   step_stands seat bytes r step still small was =
       let after =
-      ahead_on s.geometry j (first_of j before) (failure_of ops) (map work_of ops) plain.one_lun bytes seat.past seat.ahead seat.done r step small was.doing was.works was.has still was.ahead_is in
+      ahead_on s.geometry j (first_of j before) (failure_of ops) (map (sequence_of s.geometry j) ops) plain.one_lun bytes seat.past seat.ahead seat.done r step small was.doing was.works was.has still was.ahead_is in
       record { doing = after.doing; works = after.works; has = after.has; ahead_is = after.ahead }
 
-  ready_stands : (seat : Seat) (i : Item) → is_cycle i ≡ false → IsAt j ops before seat → IsAt j ops before (after_item i seat)
+  ready_stands : (seat : Seat) (i : Item) → is_cycle i ≡ false → IsAt s j ops before seat → IsAt s j ops before (after_item i seat)
   ready_stands seat (Cyc c) h was = cc
   ready_stands seat (Rdy x lun fail) h was = record {
     doing = was.doing;
@@ -253,7 +253,7 @@ module _ (s : Channel) (j : Job) (ops : List PlainOp) (before : List Item) (plai
     ahead_is = was.ahead_is;
   }
 
-  other_stands : (seat : Seat) (c : Cycle) (m : Lun) → IsOwn s m seat.past (Cyc c) → is_there s m ≡ true → same_lun m j.lun ≡ false → IsAt j ops before seat → IsAt j ops before (after_item (Cyc c) seat)
+  other_stands : (seat : Seat) (c : Cycle) (m : Lun) → IsOwn s m seat.past (Cyc c) → is_there s m ≡ true → same_lun m j.lun ≡ false → IsAt s j ops before seat → IsAt s j ops before (after_item (Cyc c) seat)
   other_stands seat c m own there apart was =
       let lun = (and_true (ltb m.ce s.targets) (ltb m.lun s.geometry.luns) there).1 in
       let mine = (and_true (ltb j.lun.ce s.targets) (ltb j.lun.lun s.geometry.luns) plain.lun_there).1 in
@@ -264,16 +264,16 @@ module _ (s : Channel) (j : Job) (ops : List PlainOp) (before : List Item) (plai
         works = was.works;
         has =
             has_other j.lun.ce (first_of j before) seat.past was.doing was.works (Cyc c) was.has
-            (ap (λ (b : Bool). cond b (by_cycle was.doing c.kind c.byte) (Some was.doing)) away) (ap (λ (b : Bool). cond b (work_in was.doing c.kind c.byte) None) away);
+            (ap (λ (b : Bool). cond b (by_cycle was.doing c.kind c.byte) (Some was.doing)) away) (ap (λ (b : Bool). cond b (sent_in was.doing c.kind c.byte) None) away);
         ahead_is = was.ahead_is;
       }
 
-stands : (s : Channel) (j : Job) (ops : List PlainOp) (seat : Seat) (run : Reaches s j seat) → RunsPlainly s j ops (began s j seat run) → AreBytes seat.past → IsAt j ops (began s j seat run) seat
+stands : (s : Channel) (j : Job) (ops : List PlainOp) (seat : Seat) (run : Reaches s j seat) → RunsPlainly s j ops (began s j seat run) → AreBytes seat.past → IsAt s j ops (began s j seat run) seat
 stands s j ops _ (starts past legal idle) plain small = loaded_stands s j ops past plain
 stands s j ops _ (steps seat bytes r run may is truthful still) plain small =
     step_stands s j ops (began s j seat run) plain seat bytes r is still small
     (stands s j ops seat run plain
-    (small_before s.geometry j (first_of j (began s j seat run)) (failure_of ops) (map work_of ops) plain.one_lun bytes seat.past seat.ahead seat.done r is small))
+    (small_before s.geometry j (first_of j (began s j seat run)) (failure_of ops) (map (sequence_of s.geometry j) ops) plain.one_lun bytes seat.past seat.ahead seat.done r is small))
 stands s j ops _ (readies seat (Cyc c) run ready permitted) plain small = cc
 stands s j ops _ (readies seat (Rdy x lun fail) run ready permitted) plain small = ready_stands s j ops (began s j seat run) plain seat (Rdy x lun fail) ready (stands s j ops seat run plain small)
 stands s j ops _ (readies seat (Ard x lun) run ready permitted) plain small = ready_stands s j ops (began s j seat run) plain seat (Ard x lun) ready (stands s j ops seat run plain small)
@@ -281,37 +281,29 @@ stands s j ops _ (others seat c m run free own there apart) plain small = other_
 
 -- ---- and the operations of its trace
 
-few_first : (works left : List Work) (ops : List PlainOp) → works ++ left ≡ map work_of ops → length works ≤ length ops
-few_first [] left ops h = omega arith
-few_first (w ∷ works) left [] h = cc
-few_first (w ∷ works) left (op ∷ ops) h = (let more = few_first works left ops (ap tail_of h) in omega (arith, more))
-  where
-    tail_of : List Work → List Work
-    tail_of [] = []
-    tail_of (x ∷ xs) = xs
+abbrev tail_of : List Sequence → List Sequence
+tail_of [] = []
+tail_of (x ∷ xs) = xs
 
-first_are : (works left : List Work) (ops : List PlainOp) → works ++ left ≡ map work_of ops → works ≡ map work_of (take (length works) ops)
-first_are [] left ops h = refl
-first_are (w ∷ works) left [] h = cc
-first_are (w ∷ works) left (op ∷ ops) h = ap (λ (x : Work). x ∷ works) (ap (head_of w) h) ∙ ap (λ (xs : List Work). work_of op ∷ xs) (first_are works left ops (ap tail_of h))
-  where
-    tail_of : List Work → List Work
-    tail_of [] = []
-    tail_of (x ∷ xs) = xs
+abbrev head_of : Sequence → List Sequence → Sequence
+head_of d [] = d
+head_of d (x ∷ xs) = x
 
-    head_of : Work → List Work → Work
-    head_of d [] = d
-    head_of d (x ∷ xs) = x
+few_first : (f : PlainOp → Sequence) (works left : List Sequence) (ops : List PlainOp) → works ++ left ≡ map f ops → length works ≤ length ops
+few_first f [] left ops h = omega arith
+few_first f (w ∷ works) left [] h = cc
+few_first f (w ∷ works) left (op ∷ ops) h = (let more = few_first f works left ops (ap tail_of h) in omega (arith, more))
 
-all_are : (works : List Work) (ops : List PlainOp) → works ++ [] ≡ map work_of ops → length works ≡ length ops
-all_are [] [] h = refl
-all_are [] (op ∷ ops) h = cc
-all_are (w ∷ works) [] h = cc
-all_are (w ∷ works) (op ∷ ops) h = ap suc (all_are works ops (ap tail_of h))
-  where
-    tail_of : List Work → List Work
-    tail_of [] = []
-    tail_of (x ∷ xs) = xs
+first_are : (f : PlainOp → Sequence) (works left : List Sequence) (ops : List PlainOp) → works ++ left ≡ map f ops → works ≡ map f (take (length works) ops)
+first_are f [] left ops h = refl
+first_are f (w ∷ works) left [] h = cc
+first_are f (w ∷ works) left (op ∷ ops) h = ap (λ (x : Sequence). x ∷ works) (ap (head_of w) h) ∙ ap (λ (xs : List Sequence). f op ∷ xs) (first_are f works left ops (ap tail_of h))
+
+all_are : (f : PlainOp → Sequence) (works : List Sequence) (ops : List PlainOp) → works ++ [] ≡ map f ops → length works ≡ length ops
+all_are f [] [] h = refl
+all_are f [] (op ∷ ops) h = cc
+all_are f (w ∷ works) [] h = cc
+all_are f (w ∷ works) (op ∷ ops) h = ap suc (all_are f works ops (ap tail_of h))
 
 legal_base : (s : Channel) (j : Job) (ops : List PlainOp) (before past : List Item) → RunsPlainly s j ops before → is_legal s.geometry s.targets past ≡ true → IsLegalBase s.geometry s.targets (reverse past)
 legal_base s j ops before past plain legal = record {
@@ -322,7 +314,7 @@ legal_base s j ops before past plain legal = record {
 }
 
 lines_so : (s : Channel) (j : Job) (ops : List PlainOp) (before past : List Item) → RunsPlainly s j ops before → is_legal s.geometry s.targets past ≡ true → doing_at_end j.lun.ce (reverse past) Rests ≡ Some Rests →
-    map ends_of (lines_after s j past) ≡ map ends_as (works_from j.lun.ce (reverse past) Rests)
+    map sent_of (lines_after s j past) ≡ map sent_as (sequences_from j.lun.ce (reverse past) Rests)
 lines_so s j ops before past plain legal rests = (polled s.geometry s.targets (reverse past) j.lun.ce Rests (legal_base s j ops before past plain legal) plain.one_lun rests refl).lines
 
 pub lines_are : (s : Channel) (j : Job) (ops : List PlainOp) (seat : Seat) (run : Reaches s j seat) (bytes : List ℕ) (r : Stride) (code : ℕ) → RunsPlainly s j ops (began s j seat run) →
@@ -330,18 +322,18 @@ pub lines_are : (s : Channel) (j : Job) (ops : List PlainOp) (seat : Seat) (run 
     LinesAre s j ops (began s j seat run) r.past code
 lines_are s j ops seat run bytes r code plain step is legal small =
     let before = began s j seat run in
-    let there = stands s j ops seat run plain (small_before s.geometry j (first_of j before) (failure_of ops) (map work_of ops) plain.one_lun bytes seat.past seat.ahead seat.done r step small) in
+    let there = stands s j ops seat run plain (small_before s.geometry j (first_of j before) (failure_of ops) (map (sequence_of s.geometry j) ops) plain.one_lun bytes seat.past seat.ahead seat.done r step small) in
     let over =
-    ahead_over s.geometry j (first_of j before) (failure_of ops) (map work_of ops) plain.one_lun bytes seat.past seat.ahead seat.done r step small there.doing there.works there.has code is there.ahead_is in
+    ahead_over s.geometry j (first_of j before) (failure_of ops) (map (sequence_of s.geometry j) ops) plain.one_lun bytes seat.past seat.ahead seat.done r step small there.doing there.works there.has code is there.ahead_is in
     record {
       count = length over.works;
-      few = few_first over.works over.left ops over.begins;
+      few = few_first (sequence_of s.geometry j) over.works over.left ops over.begins;
       lines =
           lines_so s j ops before r.past plain legal over.has.doing
-          ∙ ap (map ends_as) over.has.begun
-          ∙ map-append ends_as (first_of j before) over.works
-          ∙ ap (λ (xs : List Ends). xs ++ map ends_as over.works) (sym (lines_so s j ops before before plain (legal_began s j seat run) plain.rested))
-          ∙ ap (λ (xs : List Work). map ends_of (lines_after s j before) ++ map ends_as xs) (first_are over.works over.left ops over.begins);
-      all = λ e. all_are over.works ops (ap (λ (xs : List Work). over.works ++ xs) (sym (over.over e)) ∙ over.begins);
+          ∙ ap (map sent_as) over.has.begun
+          ∙ map-append sent_as (first_of j before) over.works
+          ∙ ap (λ (xs : List Sent). xs ++ map sent_as over.works) (sym (lines_so s j ops before before plain (legal_began s j seat run) plain.rested))
+          ∙ ap (λ (xs : List Sequence). map sent_of (lines_after s j before) ++ map sent_as xs) (first_are (sequence_of s.geometry j) over.works over.left ops over.begins);
+      all = λ e. all_are (sequence_of s.geometry j) over.works ops (ap (λ (xs : List Sequence). over.works ++ xs) (sym (over.over e)) ∙ over.begins);
       rested = over.has.doing;
     }

@@ -1,8 +1,10 @@
 -- A step of a program of plain operations, and what it makes of the host of its target.
-use Rattle.std.proofs.Common.{◌≡◌, ◌⊎◌, inl, inr, ℕ, suc, ◌+◌, ◌<◌, ◌==◌, Bool, true, false, ◌&&◌, ◌||◌, not, cond, List, [], ◌∷◌, ◌++◌, Option, Some, None, refl, sym, ap, ◌∙◌, subst, arith, length, append_assoc, ltb, eqb-true}
+use Rattle.std.proofs.Common.{◌≡◌, ◌⊎◌, inl, inr, ℕ, suc, ◌+◌, ◌<◌, ◌==◌, Bool, true, false, ◌&&◌, ◌||◌, not, cond, List, [], ◌∷◌, ◌++◌, Option, Some, None, refl, sym, ap, ◌∙◌, subst, arith, length, append_assoc, drop, leb, leb-true, ltb, eqb-true}
 use Rattle.std.proofs.lemmas.Bool.{agree_below_at}
+use Rattle.std.proofs.lemmas.List.{length-drop, length-take-le}
 use Rattle.nand_geometry.specs.declared.parts.Parts.{Parts}
-use Rattle.nand_geometry.specs.Row.{row_bytes_of}
+use Rattle.nand_geometry.specs.Limits.{indices, planes}
+use Rattle.nand_geometry.specs.Row.{row_bytes_of, row_number, indexed, row_cycles}
 use Rattle.onfi_cycle.specs.declared.item.Item.{Item}
 use Rattle.onfi_cycle.specs.declared.item.Kind.{Kind}
 use Rattle.onfi_cycle.specs.declared.item.Kind.TheVariants.{Cmd, Adr, Din, Dout}
@@ -10,16 +12,16 @@ use Rattle.onfi_cycle.specs.Channel.{cycle}
 use Rattle.micro_word.specs.declared.word.Word.{Word}
 use Rattle.micro_word.specs.declared.word.Word.TheVariants.{End, Command, Address, Get, Put, Seek, Column, RowAdd, Row, Plane, Wait, Yield, ReadStatus, BranchOnStatus, Loop, Next, Jump}
 use Rattle.micro_program.specs.Lines.{Line, from_place, lines_from}
-use Rattle.micro_program.specs.Program.{Job, Done, Nothing, Polled, status_now, is_ready_status, meets}
-use Rattle.micro_program.specs.Moves.{Move, Give, Take, and_then, address, gives, poll, put_bytes, moves}
+use Rattle.micro_program.specs.Program.{Job, Done, Nothing, Polled, column_now, plane_now, index_now, place_now, status_now, buffer_now, is_ready_status, meets}
+use Rattle.micro_program.specs.Moves.{Move, Give, Take, and_then, part, column_bytes, address, gives, poll, moves}
 use Rattle.micro_program.specs.Played.{Played, answered}
 use Rattle.micro_program.specs.Step.{Stride, Went, NotReady, first_byte, did, ended, waited, stride, answered_step}
 use Rattle.trace_ops.specs.Operation.{says_ready}
-use Rattle.trace_ops.specs.Polling.{Work, Reads, Programs, Erases, Doing, Rests, Sends, Waits, Asks, Sees, is_over, by_command, by_input, work_in, in_front}
+use Rattle.trace_ops.specs.Polling.{Work, Sequence, Doing, Rests, Sends, Waits, Asks, Sees, is_over, by_command, by_input, sent_in, in_front}
 use Rattle.trace_ops.proofs.Spans.{same_some}
 use Rattle.plain_operations.specs.Lines.{AreBytes}
-use Rattle.plain_operations.proofs.Hosts.{Has, has_cycle, has_byte, is_data, has_gives, has_takes, TookByte, took}
-use Rattle.plain_operations.proofs.Texts.{by_word, work_with, is_end, is_at_rest, leads_if, leads, works_if, works_with, leads_to, all_lead_to, from_last}
+use Rattle.plain_operations.proofs.Hosts.{Has, has_cycle, has_byte, has_addresses, has_inputs, has_takes, TookByte, took}
+use Rattle.plain_operations.proofs.Texts.{Place, place_of, place_with, five_at, by_addresses, counted, by_inputs, by_word, is_end, leads_if, leads, sends_if, sends_with, leads_to, all_lead_to, from_last}
 
 none : {X : Type 0} {x : X} → None ≡ Some x → ⊥
 none h = cc
@@ -51,7 +53,7 @@ pub nothing_played : (ce : ℕ) (bytes : List ℕ) (past : List Item) (p : Playe
 nothing_played ce [] past p h = ap (λ (x : Played). x.past) (sym (same_some h))
 nothing_played ce (b ∷ bytes) past p h = absurd (none h)
 
-front_is : (x : Option Work) (works : List Work) → in_front x [] ++ works ≡ in_front x works
+front_is : (x : Option Sequence) (works : List Sequence) → in_front x [] ++ works ≡ in_front x works
 front_is None works = refl
 front_is (Some w) works = refl
 
@@ -69,39 +71,39 @@ led (Some d) more h = record { next = d; is = refl; leads = h }
 
 -- ---- where a program is
 
--- the words behind a place of the text, but the last: they lead to an end at rest, with these works in all
-pub record Goes (failure : ℕ) (d : Doing) (works all : List Work) (ahead : List Line) : Type 0 where
+-- the words behind a place of the text, but the last: they lead to an end at rest, with these sequences in all
+pub record Goes (g : Parts) (j : Job) (failure : ℕ) (place : Place) (d : Doing) (works all : List Sequence) (ahead : List Line) : Type 0 where
   pub words : List Word
   pub at : ℕ
   pub are : ahead ≡ lines_from (words ++ (End 1 ∷ [])) at
   pub ends : failure ≡ at + length words
   pub fails : all_lead_to failure words ≡ true
-  pub leads_on : leads d words ≡ true
-  pub begins : works ++ works_with d words ≡ all
+  pub leads_on : leads g j place d words ≡ true
+  pub begins : works ++ sends_with g j place d words ≡ all
 
 -- it has failed, and its last word is ahead
-pub record Fails (failure : ℕ) (d : Doing) (works all : List Work) (ahead : List Line) : Type 0 where
+pub record Fails (failure : ℕ) (d : Doing) (works all : List Sequence) (ahead : List Line) : Type 0 where
   pub are : ahead ≡ record { at = failure; word = End 1 } ∷ []
   pub rests : d ≡ Rests
-  pub left : List Work
+  pub left : List Sequence
   pub begins : works ++ left ≡ all
 
-abbrev pub Ahead : ℕ → Doing → List Work → List Work → List Line → Type 0
-Ahead failure d works all ahead = Goes failure d works all ahead ⊎ Fails failure d works all ahead
+abbrev pub Ahead : Parts → Job → ℕ → Place → Doing → List Sequence → List Sequence → List Line → Type 0
+Ahead g j failure place d works all ahead = Goes g j failure place d works all ahead ⊎ Fails failure d works all ahead
 
 -- ---- a word that isn't the end
 
 -- the host after it, and the lines ahead
-pub record After (ce : ℕ) (first : List Work) (failure : ℕ) (all : List Work) (r : Stride) : Type 0 where
+pub record After (g : Parts) (j : Job) (first : List Sequence) (failure : ℕ) (all : List Sequence) (r : Stride) : Type 0 where
   pub doing : Doing
-  pub works : List Work
-  pub has : Has ce first r.past doing works
-  pub ahead : Ahead failure doing works all r.ahead
+  pub works : List Sequence
+  pub has : Has j.lun.ce first r.past doing works
+  pub ahead : Ahead g j failure (place_of j r.done) doing works all r.ahead
 
 same_length : (n : ℕ) (at failure : ℕ) → failure ≡ at + suc n → failure ≡ at + 1 + n
 same_length n at failure h = omega (arith, h)
 
-module _ (g : Parts) (j : Job) (first : List Work) (failure : ℕ) (all : List Work) (one : g.luns ≡ 1) (past : List Item) (done : List Done) (d : Doing) (works : List Work) (has : Has j.lun.ce first past d works)
+module _ (g : Parts) (j : Job) (first : List Sequence) (failure : ℕ) (all : List Sequence) (one : g.luns ≡ 1) (past : List Item) (done : List Done) (d : Doing) (works : List Sequence) (has : Has j.lun.ce first past d works)
     (words : List Word) (at : ℕ) (ends : failure ≡ at + suc (length words)) (fails : all_lead_to failure words ≡ true) (r : Stride) where
   abbrev ce : ℕ
   ce = j.lun.ce
@@ -110,15 +112,26 @@ module _ (g : Parts) (j : Job) (first : List Work) (failure : ℕ) (all : List W
   rest = lines_from (words ++ (End 1 ∷ [])) (at + 1)
 
   abbrev To : Type 0
-  To = After ce first failure all r
+  To = After g j first failure all r
+
+  abbrev place : Place
+  place = place_of j done
 
   -- the word is done, and the program goes on with the next
-  on : (next : Doing) (more : List Work) → Has ce first r.past next more → leads next words ≡ true → more ++ works_with next words ≡ all → r.ahead ≡ rest → To
-  on next more has' lead begins ahead = record {
+  on : (next : Doing) (more : List Sequence) (p : Place) → place_of j r.done ≡ p → Has ce first r.past next more → leads g j p next words ≡ true → more ++ sends_with g j p next words ≡ all → r.ahead ≡ rest → To
+  on next more p same has' lead begins ahead = record {
     doing = next;
     works = more;
     has = has';
-    ahead = inl (record { words = words; at = at + 1; are = ahead; ends = same_length (length words) at failure ends; fails = fails; leads_on = lead; begins = begins });
+    ahead = inl (record {
+      words = words;
+      at = at + 1;
+      are = ahead;
+      ends = same_length (length words) at failure ends;
+      fails = fails;
+      leads_on = subst (λ (q : Place). leads g j q next words ≡ true) (sym same) lead;
+      begins = subst (λ (q : Place). more ++ sends_with g j q next words ≡ all) (sym same) begins;
+    });
   }
 
   abbrev line : Word → Line
@@ -133,59 +146,114 @@ module _ (g : Parts) (j : Job) (first : List Work) (failure : ℕ) (all : List W
   ahead_is : (word : Word) (bytes : List ℕ) (t : Took word bytes) (a : List Line) → (stride (line word) rest done t.played word).ahead ≡ a → r.ahead ≡ a
   ahead_is word bytes t a e = ap (λ (x : Stride). x.ahead) (sym t.is_stride) ∙ e
 
-  has_at : (p : List Item) (next : Doing) (more : List Work) → r.past ≡ p → Has ce first p next more → Has ce first r.past next more
+  place_is : (word : Word) (bytes : List ℕ) (t : Took word bytes) (p : Place) → place_of j (stride (line word) rest done t.played word).done ≡ p → place_of j r.done ≡ p
+  place_is word bytes t p e = ap (λ (x : Stride). place_of j x.done) (sym t.is_stride) ∙ e
+
+  has_at : (p : List Item) (next : Doing) (more : List Sequence) → r.past ≡ p → Has ce first p next more → Has ce first r.past next more
   has_at p next more e has' = subst (λ (x : List Item). Has ce first x next more) (sym e) has'
 
   -- a word without a cycle
   silent : (word : Word) (bytes : List ℕ) (t : Took word bytes) → moves g j done word ≡ Some [] → (stride (line word) rest done t.played word).past ≡ t.played.past →
-      (stride (line word) rest done t.played word).ahead ≡ rest → leads d words ≡ true → works ++ works_with d words ≡ all → To
-  silent word bytes t none' same ahead lead begins =
-      on d works (has_at past d works (past_is word bytes t past (same ∙ rests)) has) lead begins (ahead_is word bytes t rest ahead)
+      (stride (line word) rest done t.played word).ahead ≡ rest → place_of j (stride (line word) rest done t.played word).done ≡ place_with j word place →
+      leads g j (place_with j word place) d words ≡ true → works ++ sends_with g j (place_with j word place) d words ≡ all → To
+  silent word bytes t none' same ahead placed lead begins =
+      on d works (place_with j word place) (place_is word bytes t (place_with j word place) placed) (has_at past d works (past_is word bytes t past (same ∙ rests)) has) lead begins (ahead_is word bytes t rest ahead)
     where
       rests : t.played.past ≡ past
       rests = nothing_played ce bytes past t.played (ap (λ (m : List Move). answered ce m bytes past) (sym (same_some (sym t.is_moved ∙ none'))) ∙ t.is_played)
 
-  command_steps : (byte : ℕ) (bytes : List ℕ) → Took (Command byte) bytes → leads_if (by_command d byte) (λ e. leads e words) ≡ true →
-      works ++ in_front (work_in d Cmd byte) (works_if (by_command d byte) (λ e. works_with e words)) ≡ all → To
+  command_steps : (byte : ℕ) (bytes : List ℕ) → Took (Command byte) bytes → leads_if (by_command d byte) (λ e. leads g j place e words) ≡ true →
+      works ++ in_front (sent_in d Cmd byte) (sends_if (by_command d byte) (λ e. sends_with g j place e words)) ≡ all → To
   command_steps byte bytes t lead begins =
-      on l.next (works ++ in_front (work_in d Cmd byte) [])
-      (has_at (cycle ce Cmd byte ∷ past) l.next (works ++ in_front (work_in d Cmd byte) [])
+      on l.next (works ++ in_front (sent_in d Cmd byte) []) place (place_is (Command byte) bytes t place refl)
+      (has_at (cycle ce Cmd byte ∷ past) l.next (works ++ in_front (sent_in d Cmd byte) [])
       (past_is (Command byte) bytes t (cycle ce Cmd byte ∷ past)
       (nothing_played ce bytes (cycle ce Cmd byte ∷ past) t.played (ap (λ (m : List Move). answered ce m bytes past) (sym (same_some (sym t.is_moved))) ∙ t.is_played)))
       (has_cycle ce first past d l.next works Cmd byte has l.is))
       l.leads
-      (append_assoc works (in_front (work_in d Cmd byte) []) (works_with l.next words)
-      ∙ ap (λ (ws : List Work). works ++ ws) (front_is (work_in d Cmd byte) (works_with l.next words))
-      ∙ ap (λ (x : Option Doing). works ++ in_front (work_in d Cmd byte) (works_if x (λ e. works_with e words))) (sym l.is) ∙ begins)
+      (append_assoc works (in_front (sent_in d Cmd byte) []) (sends_with g j place l.next words)
+      ∙ ap (λ (ws : List Sequence). works ++ ws) (front_is (sent_in d Cmd byte) (sends_with g j place l.next words))
+      ∙ ap (λ (x : Option Doing). works ++ in_front (sent_in d Cmd byte) (sends_if x (λ e. sends_with g j place e words))) (sym l.is) ∙ begins)
       (ahead_is (Command byte) bytes t rest refl)
     where
-      l : Led (by_command d byte) (λ e. leads e words)
-      l = led (by_command d byte) (λ e. leads e words) lead
+      l : Led (by_command d byte) (λ e. leads g j place e words)
+      l = led (by_command d byte) (λ e. leads g j place e words) lead
 
-  -- addresses or inputs
-  gives_steps : (word : Word) (kind : Kind) (is : is_data kind ≡ true) (bytes : List ℕ) (t : Took word bytes) (given : Option (List ℕ)) → moves g j done word ≡ and_then given (λ bs. Some (gives kind bs)) →
-      (stride (line word) rest done t.played word).past ≡ t.played.past → (stride (line word) rest done t.played word).ahead ≡ rest →
-      leads_if (by_input d) (λ e. leads e words) ≡ true → works ++ works_if (by_input d) (λ e. works_with e words) ≡ all → To
-  gives_steps word kind is bytes t None moved same ahead lead begins = absurd (none (sym moved ∙ t.is_moved))
-  gives_steps word kind is bytes t (Some given) moved same ahead lead begins = by d has lead begins
+  -- addresses
+  address_is : (from count : ℕ) → leb (from + count) 2 ≡ false → (given : List ℕ) → address g j done from count ≡ Some given → given ≡ part from count (five_at g j place)
+  address_is from count long given h = by (leb (from + count) 2) long h
     where
-      by : (e : Doing) → Has ce first past e works → leads_if (by_input e) (λ e. leads e words) ≡ true → works ++ works_if (by_input e) (λ e. works_with e words) ≡ all → To
+      by_row : (b : Bool) → and_then (cond b (Some (row_cycles (row_number g (indexed g j.lun.lun (index_now j.base done) (plane_now done))))) None) (λ row. Some (part from count (column_bytes (column_now done) ++ row))) ≡ Some given →
+          given ≡ part from count (five_at g j place)
+      by_row true h = sym (same_some h)
+      by_row false h = absurd (none h)
+
+      by : (b : Bool) → b ≡ false →
+          cond b (Some (part from count (column_bytes (column_now done)))) (and_then (row_bytes_of g j.lun.lun (index_now j.base done) (plane_now done)) (λ row. Some (part from count (column_bytes (column_now done) ++ row)))) ≡ Some given →
+          given ≡ part from count (five_at g j place)
+      by true e h = cc
+      by false e h = by_row (ltb j.lun.lun g.luns && ltb (index_now j.base done) (indices g) && ltb (plane_now done) (planes g)) h
+
+  address_steps : (from count : ℕ) (bytes : List ℕ) (t : Took (Address from count) bytes) →
+      leads_if (cond (leb (from + count) 2) None (by_addresses d (part from count (five_at g j place)))) (λ e. leads g j place e words) ≡ true →
+      works ++ sends_if (cond (leb (from + count) 2) None (by_addresses d (part from count (five_at g j place)))) (λ e. sends_with g j place e words) ≡ all → To
+  address_steps from count bytes t lead begins = by (leb (from + count) 2) refl lead begins
+    where
+      given_is : leb (from + count) 2 ≡ false → (x : Option (List ℕ)) → address g j done from count ≡ x → and_then x (λ bs. Some (gives Adr bs)) ≡ Some t.moved → t.moved ≡ gives Adr (part from count (five_at g j place))
+      given_is long None e h = absurd (none h)
+      given_is long (Some given) e h = sym (same_some h) ∙ ap (gives Adr) (address_is from count long given e)
+
+      by : (b : Bool) → leb (from + count) 2 ≡ b → leads_if (cond b None (by_addresses d (part from count (five_at g j place)))) (λ e. leads g j place e words) ≡ true →
+          works ++ sends_if (cond b None (by_addresses d (part from count (five_at g j place)))) (λ e. sends_with g j place e words) ≡ all → To
+      by true e lead begins = cc
+      by false e lead begins =
+          let l = led (by_addresses d (part from count (five_at g j place))) (λ e. leads g j place e words) lead in
+          on l.next works place (place_is (Address from count) bytes t place refl)
+          (has_at t.played.past l.next works (past_is (Address from count) bytes t t.played.past refl)
+          (has_addresses ce first works (part from count (five_at g j place)) bytes past t.played d l.next has l.is
+          (ap (λ (m : List Move). answered ce m bytes past) (sym (given_is e (address g j done from count) refl t.is_moved)) ∙ t.is_played)))
+          l.leads (ap (λ (x : Option Doing). works ++ sends_if x (λ e. sends_with g j place e words)) (sym l.is) ∙ begins) (ahead_is (Address from count) bytes t rest refl)
+
+  -- inputs
+  put_steps : (len : ℕ) (bytes : List ℕ) (t : Took (Put len) bytes) → leads_if (by_inputs d len) (λ e. leads g j place e words) ≡ true →
+      works ++ sends_if (by_inputs d len) (λ e. sends_with g j place e words) ≡ all → To
+  put_steps len bytes t lead begins = by d has lead begins
+    where
+      buffer : List ℕ
+      buffer = buffer_now j.buffer done
+
+      given_is : (b : Bool) → leb (place_now done + len) (length buffer) ≡ b → and_then (cond b (Some (part (place_now done) len buffer)) None) (λ bs. Some (gives Din bs)) ≡ Some t.moved →
+          (given : List ℕ) × (t.moved ≡ gives Din given) × (length given ≡ len)
+      given_is true e h = (
+        part (place_now done) len buffer,
+        sym (same_some h),
+        (
+            let fits = leb-true (place_now done + len) (length buffer) e in
+            let dropped = length-drop (place_now done) buffer in
+            length-take-le len (drop (place_now done) buffer) (omega (arith, fits, dropped))
+            ),
+      )
+      given_is false e h = absurd (none h)
+
+      by : (e : Doing) → Has ce first past e works → leads_if (by_inputs e len) (λ e. leads g j place e words) ≡ true → works ++ sends_if (by_inputs e len) (λ e. sends_with g j place e words) ≡ all → To
       by Rests has' lead begins = cc
-      by (Sends w) has' lead begins =
-          on (Sends w) works
-          (has_at t.played.past (Sends w) works (past_is word bytes t t.played.past same)
-          (has_gives ce first w works kind is given bytes past t.played has' (ap (λ (m : List Move). answered ce m bytes past) (same_some (sym moved ∙ t.is_moved)) ∙ t.is_played)))
-          lead begins (ahead_is word bytes t rest ahead)
+      by (Sends s) has' lead begins =
+          let it = given_is (leb (place_now done + len) (length buffer)) refl t.is_moved in
+          on (Sends (record s { inputs = counted len s.inputs })) works place (place_is (Put len) bytes t place refl)
+          (has_at t.played.past (Sends (record s { inputs = counted len s.inputs })) works (past_is (Put len) bytes t t.played.past refl)
+          (subst (λ (n : ℕ). Has ce first t.played.past (Sends (record s { inputs = counted n s.inputs })) works) it.2
+          (has_inputs ce first works it.0 bytes past t.played s has' (ap (λ (m : List Move). answered ce m bytes past) (sym it.1) ∙ t.is_played))))
+          lead begins (ahead_is (Put len) bytes t rest refl)
       by (Waits w) has' lead begins = cc
       by (Asks w) has' lead begins = cc
       by Sees has' lead begins = cc
 
-  get_steps : (len : ℕ) (bytes : List ℕ) → Took (Get len) bytes → leads_if (by_word d (Get len)) (λ e. leads e words) ≡ true → works ++ works_if (by_word d (Get len)) (λ e. works_with e words) ≡ all → To
+  get_steps : (len : ℕ) (bytes : List ℕ) → Took (Get len) bytes → leads_if (by_word g j place d (Get len)) (λ e. leads g j place e words) ≡ true → works ++ sends_if (by_word g j place d (Get len)) (λ e. sends_with g j place e words) ≡ all → To
   get_steps len bytes t lead begins = by d has lead begins
     where
-      by : (e : Doing) → Has ce first past e works → leads_if (by_word e (Get len)) (λ e. leads e words) ≡ true → works ++ works_if (by_word e (Get len)) (λ e. works_with e words) ≡ all → To
+      by : (e : Doing) → Has ce first past e works → leads_if (by_word g j place e (Get len)) (λ e. leads g j place e words) ≡ true → works ++ sends_if (by_word g j place e (Get len)) (λ e. sends_with g j place e words) ≡ all → To
       by Rests has' lead begins =
-          on Rests works
+          on Rests works place (place_is (Get len) bytes t place refl)
           (has_at t.played.past Rests works (past_is (Get len) bytes t t.played.past refl)
           (has_takes ce first works len bytes past t.played has' (ap (λ (m : List Move). answered ce m bytes past) (sym (same_some (sym t.is_moved))) ∙ t.is_played)))
           lead begins (ahead_is (Get len) bytes t rest refl)
@@ -194,8 +262,8 @@ module _ (g : Parts) (j : Job) (first : List Work) (failure : ℕ) (all : List W
       by (Asks w) has' lead begins = cc
       by Sees has' lead begins = cc
 
-  branch_steps : (mask target : ℕ) (bytes : List ℕ) → Took (BranchOnStatus mask target) bytes → (target == failure) ≡ true → leads_if (by_word d (BranchOnStatus mask target)) (λ e. leads e words) ≡ true →
-      works ++ works_if (by_word d (BranchOnStatus mask target)) (λ e. works_with e words) ≡ all → To
+  branch_steps : (mask target : ℕ) (bytes : List ℕ) → Took (BranchOnStatus mask target) bytes → (target == failure) ≡ true → leads_if (by_word g j place d (BranchOnStatus mask target)) (λ e. leads g j place e words) ≡ true →
+      works ++ sends_if (by_word g j place d (BranchOnStatus mask target)) (λ e. sends_with g j place e words) ≡ all → To
   branch_steps mask target bytes t to lead begins = by d has lead begins
     where
       rests : t.played.past ≡ past
@@ -204,8 +272,8 @@ module _ (g : Parts) (j : Job) (first : List Work) (failure : ℕ) (all : List W
       past_so : r.past ≡ past
       past_so = past_is (BranchOnStatus mask target) bytes t past rests
 
-      by : (e : Doing) → Has ce first past e works → leads_if (by_word e (BranchOnStatus mask target)) (λ e. leads e words) ≡ true →
-          works ++ works_if (by_word e (BranchOnStatus mask target)) (λ e. works_with e words) ≡ all → To
+      by : (e : Doing) → Has ce first past e works → leads_if (by_word g j place e (BranchOnStatus mask target)) (λ e. leads g j place e words) ≡ true →
+          works ++ sends_if (by_word g j place e (BranchOnStatus mask target)) (λ e. sends_with g j place e words) ≡ all → To
       by Rests has' lead begins = which (meets mask (status_now done)) refl
         where
           which : (b : Bool) → meets mask (status_now done) ≡ b → To
@@ -219,12 +287,12 @@ module _ (g : Parts) (j : Job) (first : List Work) (failure : ℕ) (all : List W
                   ∙ ap (λ (n : ℕ). from_place n rest) (eqb-true target failure to)
                   ∙ from_last words (at + 1) (End 1) failure (same_length (length words) at failure ends);
               rests = refl;
-              left = works_with Rests words;
+              left = sends_with g j place Rests words;
               begins = begins;
             });
           }
           which false e =
-              on Rests works (has_at past Rests works past_so has') lead begins (ahead_is (BranchOnStatus mask target) bytes t rest (ap (λ (b : Bool). cond b (from_place target rest) rest) e))
+              on Rests works place (place_is (BranchOnStatus mask target) bytes t place refl) (has_at past Rests works past_so has') lead begins (ahead_is (BranchOnStatus mask target) bytes t rest (ap (λ (b : Bool). cond b (from_place target rest) rest) e))
       by (Sends w) has' lead begins = cc
       by (Waits w) has' lead begins = cc
       by (Asks w) has' lead begins = cc
@@ -239,7 +307,7 @@ module _ (g : Parts) (j : Job) (first : List Work) (failure : ℕ) (all : List W
       by true e = cc
       by false e = refl
 
-  module _ (w : Work) (over : leads (is_over w) words ≡ true) (begins : works ++ works_with (is_over w) words ≡ all) (asks : by_command d 0x70 ≡ Some (Asks w)) (nothing : work_in d Cmd 0x70 ≡ None)
+  module _ (w : Work) (over : leads g j place (is_over w) words ≡ true) (begins : works ++ sends_with g j place (is_over w) words ≡ all) (asks : by_command d 0x70 ≡ Some (Asks w)) (nothing : sent_in d Cmd 0x70 ≡ None)
       (bytes : List ℕ) (t : Took Wait bytes) (small : AreBytes t.played.past) where
     taken_byte : TookByte ce [] bytes (cycle ce Cmd 0x70 ∷ past) t.played
     taken_byte = took ce [] bytes (cycle ce Cmd 0x70 ∷ past) t.played (ap (λ (m : List Move). answered ce m bytes past) (sym (same_some (sym t.is_moved ∙ poll_is))) ∙ t.is_played)
@@ -279,7 +347,7 @@ module _ (g : Parts) (j : Job) (first : List Work) (failure : ℕ) (all : List W
       where
         by : (b : Bool) → says_ready byte ≡ b → To
         by true e =
-            on (is_over w) works (has_at t.played.past (is_over w) works (ap (λ (x : Stride). x.past) (sym (stride_is true e))) (answered_by true (is_over w) e refl)) over begins
+            on (is_over w) works place (ap (λ (x : Stride). place_of j x.done) (sym (stride_is true e))) (has_at t.played.past (is_over w) works (ap (λ (x : Stride). x.past) (sym (stride_is true e))) (answered_by true (is_over w) e refl)) over begins
             (ap (λ (x : Stride). x.ahead) (sym (stride_is true e)))
         by false e = record {
           doing = Asks w;
@@ -291,30 +359,30 @@ module _ (g : Parts) (j : Job) (first : List Work) (failure : ℕ) (all : List W
             are = ap (λ (x : Stride). x.ahead) (sym (stride_is false e));
             ends = ends;
             fails = fails;
-            leads_on = over;
-            begins = begins;
+            leads_on = subst (λ (q : Place). leads g j q (is_over w) words ≡ true) (sym (ap (λ (x : Stride). place_of j x.done) (sym (stride_is false e)))) over;
+            begins = subst (λ (q : Place). works ++ sends_with g j q (is_over w) words ≡ all) (sym (ap (λ (x : Stride). place_of j x.done) (sym (stride_is false e)))) begins;
           });
         }
 
-  pub word_steps : (word : Word) (bytes : List ℕ) → is_end word ≡ false → leads d (word ∷ words) ≡ true → works ++ works_with d (word ∷ words) ≡ all → leads_to failure word ≡ true → (t : Took word bytes) →
+  pub word_steps : (word : Word) (bytes : List ℕ) → is_end word ≡ false → leads g j place d (word ∷ words) ≡ true → works ++ sends_with g j place d (word ∷ words) ≡ all → leads_to failure word ≡ true → (t : Took word bytes) →
       AreBytes t.played.past → To
   word_steps (End code) bytes e lead begins to t small = cc
   word_steps (Command byte) bytes e lead begins to t small = command_steps byte bytes t lead begins
-  word_steps (Address from count) bytes e lead begins to t small = gives_steps (Address from count) Adr refl bytes t (address g j done from count) refl refl refl lead begins
-  word_steps (Put len) bytes e lead begins to t small = gives_steps (Put len) Din refl bytes t (put_bytes j done len) refl refl refl lead begins
+  word_steps (Address from count) bytes e lead begins to t small = address_steps from count bytes t lead begins
+  word_steps (Put len) bytes e lead begins to t small = put_steps len bytes t lead begins
   word_steps (Get len) bytes e lead begins to t small = get_steps len bytes t lead begins
-  word_steps (Seek place) bytes e lead begins to t small = silent (Seek place) bytes t refl refl refl lead begins
-  word_steps (Column column) bytes e lead begins to t small = silent (Column column) bytes t refl refl refl lead begins
-  word_steps (Row row) bytes e lead begins to t small = silent (Row row) bytes t refl refl refl lead begins
-  word_steps (Plane plane) bytes e lead begins to t small = silent (Plane plane) bytes t refl refl refl lead begins
+  word_steps (Seek at') bytes e lead begins to t small = silent (Seek at') bytes t refl refl refl refl lead begins
+  word_steps (Column column) bytes e lead begins to t small = silent (Column column) bytes t refl refl refl refl lead begins
+  word_steps (Row row) bytes e lead begins to t small = silent (Row row) bytes t refl refl refl refl lead begins
+  word_steps (Plane plane) bytes e lead begins to t small = silent (Plane plane) bytes t refl refl refl refl lead begins
   word_steps (BranchOnStatus mask target) bytes e lead begins to t small = branch_steps mask target bytes t to lead begins
   word_steps Wait bytes e lead begins to t small = by d refl lead begins
     where
-      by : (s : Doing) → d ≡ s → leads_if (by_word s Wait) (λ e. leads e words) ≡ true → works ++ works_if (by_word s Wait) (λ e. works_with e words) ≡ all → To
+      by : (s : Doing) → d ≡ s → leads_if (by_word g j place s Wait) (λ e. leads g j place e words) ≡ true → works ++ sends_if (by_word g j place s Wait) (λ e. sends_with g j place e words) ≡ all → To
       by Rests same lead begins = cc
       by (Sends w) same lead begins = cc
-      by (Waits w) same lead begins = wait_steps w lead begins (ap (λ (s : Doing). by_command s 0x70) same) (ap (λ (s : Doing). work_in s Cmd 0x70) same) bytes t small
-      by (Asks w) same lead begins = wait_steps w lead begins (ap (λ (s : Doing). by_command s 0x70) same) (ap (λ (s : Doing). work_in s Cmd 0x70) same) bytes t small
+      by (Waits w) same lead begins = wait_steps w lead begins (ap (λ (s : Doing). by_command s 0x70) same) (ap (λ (s : Doing). sent_in s Cmd 0x70) same) bytes t small
+      by (Asks w) same lead begins = wait_steps w lead begins (ap (λ (s : Doing). by_command s 0x70) same) (ap (λ (s : Doing). sent_in s Cmd 0x70) same) bytes t small
       by Sees same lead begins = cc
   word_steps (RowAdd rows) bytes e lead begins to t small = cc
   word_steps Yield bytes e lead begins to t small = cc

@@ -1,6 +1,8 @@
 -- The operations of a trace that a program of plain operations leaves.
-use Rattle.std.specs.Prelude.{◌≡◌, ℕ, ◌<◌, ◌≤◌, true, List, [], ◌∷◌, ◌++◌, Some, map, length, take, reverse}
+use Rattle.std.specs.Prelude.{◌≡◌, ℕ, ◌+◌, ◌<◌, ◌≤◌, true, nat_lt, if◌then◌else◌, List, [], ◌∷◌, ◌++◌, Some, map, length, take, reverse}
+use Rattle.nand_geometry.specs.declared.parts.Parts.{Parts}
 use Rattle.nand_geometry.specs.Optional.{no_optional}
+use Rattle.nand_geometry.specs.Row.{row_number, indexed, row_cycles}
 use Rattle.onfi_cycle.specs.declared.item.Item.{Item}
 use Rattle.onfi_cycle.specs.declared.item.Item.TheVariants.{Cyc, Rdy, Ard}
 use Rattle.onfi_cycle.specs.Channel.{Channel, is_there}
@@ -9,19 +11,28 @@ use Rattle.trace_faults.specs.declared.beginning.Beginning.TheVariants.{Start}
 use Rattle.trace_faults.specs.declared.readies.Readies.TheVariants.{Written}
 use Rattle.trace_ops.specs.declared.operation.Operation.{Operation}
 use Rattle.trace_ops.specs.Listing.{ops_of}
-use Rattle.trace_ops.specs.Polling.{Work, Reads, Programs, Erases, Rests, doing_at_end, lines_of, ends_of, ends_as}
+use Rattle.trace_ops.specs.Polling.{Reads, Programs, Erases, Sequence, Rests, doing_at_end, lines_of, sent_of, sent_as}
 use Rattle.micro_program.specs.Program.{Job}
+use Rattle.micro_program.specs.Moves.{column_bytes}
 use Rattle.micro_program.specs.Safe.{Seat, Reaches, starts, steps, readies, others}
 use Rattle.micro_program.specs.Step.{Stride, answered_step}
 use Rattle.micro_verify.specs.declared.plain_op.PlainOp.{PlainOp}
 use Rattle.micro_verify.specs.declared.plain_op.PlainOp.TheVariants.{Read, Program, Erase}
 use Rattle.micro_verify.specs.Plain.{plain_text}
 
--- the kind of an operation, and so the commands that begin it and end it
-abbrev pub work_of : PlainOp → Work
-work_of (Read row plane column place len) = Reads
-work_of (Program row plane column place len) = Programs
-work_of (Erase row plane) = Erases
+-- the bytes of a row: that of the page in this plane, so many rows behind the base of the job
+abbrev pub row_at : Parts → Job → (row plane : ℕ) → List ℕ
+row_at g j row plane = row_cycles (row_number g (indexed g j.lun.lun (j.base + row) plane))
+
+-- so many inputs, as an operation counts them: up to 2 ^ 64 - 1
+abbrev pub capped : ℕ → ℕ
+capped n = if nat_lt n 18446744073709551615 then n else 18446744073709551615
+
+-- what is to be sent of an operation: its kind, and so the commands that begin it and end it; its column and its row; and how many bytes are programmed
+abbrev pub sequence_of : Parts → Job → PlainOp → Sequence
+sequence_of g j (Read row plane column place len) = record { work = Reads; addresses = column_bytes column ++ row_at g j row plane; inputs = 0 }
+sequence_of g j (Program row plane column place len) = record { work = Programs; addresses = column_bytes column ++ row_at g j row plane; inputs = capped len }
+sequence_of g j (Erase row plane) = record { work = Erases; addresses = row_at g j row plane; inputs = 0 }
 
 -- the past at which a program was loaded
 abbrev pub began : (s : Channel) (j : Job) (seat : Seat) → Reaches s j seat → List Item
@@ -55,7 +66,7 @@ lines_after s j past = lines_of j.lun.ce (ops_of Written Start s.geometry s.targ
 pub record LinesAre (s : Channel) (j : Job) (ops : List PlainOp) (before past : List Item) (code : ℕ) : Type 0 where
   pub count : ℕ
   pub few : count ≤ length ops
-  pub lines : map ends_of (lines_after s j past) ≡ map ends_of (lines_after s j before) ++ map ends_as (map work_of (take count ops))
+  pub lines : map sent_of (lines_after s j past) ≡ map sent_of (lines_after s j before) ++ map sent_as (map (sequence_of s.geometry j) (take count ops))
   pub all : code ≡ 0 → count ≡ length ops
   pub rested : doing_at_end j.lun.ce (reverse past) Rests ≡ Some Rests
 
