@@ -1,16 +1,14 @@
 -- Behind the last address of a read, a program or an erase its row names the one LUN of its target, and that is ready; so the closer begins work.
-use Rattle.std.proofs.Common.{◌≡◌, ℕ, suc, ◌+◌, ◌<◌, ◌≤◌, ◌==◌, Bool, true, false, ◌&&◌, ◌||◌, not, cond, List, [], ◌∷◌, Option, Some, None, refl, sym, ap, ◌∙◌, subst, arith, ltb, eqb-true, eq-eqb, ne_eqb, ltb-true}
+use Rattle.std.proofs.Common.{◌≡◌, ℕ, ◌+◌, ◌==◌, Bool, true, false, ◌&&◌, ◌||◌, cond, List, [], ◌∷◌, Option, Some, None, refl, sym, ap, ◌∙◌, subst, arith, ltb, eqb-true, eq-eqb, ltb-true}
 use Rattle.std.specs.Prelude.{slice_get}
-use Rattle.std.proofs.lemmas.Bool.{and_parts, or_parts, not-false, or_left, or_right}
-use Rattle.std.proofs.lemmas.Bool.Decides.{nat_tests}
+use Rattle.std.proofs.lemmas.Bool.{and_parts, not-false, or_left, or_right}
 use Rattle.std.proofs.Math.Bool.{and-false}
 use Rattle.nand_geometry.specs.declared.parts.Parts.{Parts}
-use Rattle.nand_geometry.specs.Row.{parts_of, is_inside}
+use Rattle.nand_geometry.specs.Row.{parts_of}
 use Rattle.onfi_cycle.specs.declared.command.Command.{Command}
 use Rattle.onfi_cycle.specs.declared.command.Command.TheVariants.{Read, ReadConfirm, BlockErase, BlockEraseConfirm, PageProgram, ChangeWriteColumn, ProgramConfirm}
 use Rattle.onfi_cycle.specs.declared.data_phase.DataPhase.{DataPhase}
 use Rattle.onfi_cycle.specs.declared.data_phase.DataPhase.TheVariants.{Outside, Inputs, FirstColumn, SecondColumn, FeatureInputs}
-use Rattle.onfi_cycle.specs.declared.effect.Effect.{Effect}
 use Rattle.onfi_cycle.specs.declared.effect.Effect.TheVariants.{Unaffected}
 use Rattle.onfi_cycle.specs.declared.item.Cycle.{Cycle}
 use Rattle.onfi_cycle.specs.declared.item.Item.{Item}
@@ -26,7 +24,7 @@ use Rattle.onfi_cycle.specs.Effect.{names_lun, cycle_effect, address_effect, ope
 use Rattle.onfi_cycle.specs.Lun.{is_busy, latch_alone, luns_of, lun_view}
 use Rattle.onfi_cycle.specs.LunView.{LunView}
 use Rattle.onfi_cycle.specs.Permitted.{broken, is_permitted, is_legal}
-use Rattle.onfi_cycle.specs.Rules.{ends_row, named_lun_is, breaks_row_outside, breaks_lun_busy}
+use Rattle.onfi_cycle.specs.Rules.{ends_row, breaks_row_outside, breaks_lun_busy}
 use Rattle.onfi_cycle.specs.Sequence.{target_cycle, begins_sequence, continued, with_cycle, tail, opening, opened, one_address_more, data_phase, phase_after_address, phase_after_last_address, row_bytes, row_after_address, column, facts_of, row, row_with, wants_command, wants_column, takes_data}
 use Rattle.onfi_cycle.proofs.Booleans.{and_rest, clash}
 use Rattle.onfi_cycle.proofs.Keeping.{view_at}

@@ -1,5 +1,5 @@
 -- What is known of each operation of a target whose host polls: which are works, which are parts, and what has been said of the newest work.
-use Rattle.std.proofs.Common.{◌≡◌, ◌⊎◌, inl, inr, ℕ, zero, suc, ◌+◌, ◌<◌, ◌==◌, Bool, true, false, ◌&&◌, cond, List, [], ◌∷◌, ◌++◌, Option, Some, None, is_some, refl, sym, ap, ◌∙◌, subst, arith, length, slice_set, take, ltb, ltb-true, ne_eqb}
+use Rattle.std.proofs.Common.{◌≡◌, ◌⊎◌, inl, inr, ℕ, zero, suc, ◌+◌, ◌<◌, ◌==◌, Bool, true, false, ◌&&◌, cond, List, [], ◌∷◌, ◌++◌, Option, Some, None, is_some, refl, sym, ap, ◌∙◌, arith, length, slice_set, take, ltb, ltb-true, ne_eqb}
 use Rattle.std.specs.Prelude.{slice_get}
 use Rattle.std.proofs.lemmas.Bool.{and_parts}
 use Rattle.std.proofs.lemmas.List.{length-append, length-set}
@@ -15,7 +15,6 @@ use Rattle.trace_ops.specs.declared.operation.Operation.{Operation}
 use Rattle.trace_ops.specs.Operation.{one_more, takes_address, says_ready, changed}
 use Rattle.trace_ops.specs.Polling.{Work, Sequence, Doing, Rests, Sends, Waits, Asks, Sees, opener_for, closer_for, by_cycle, doing_after, is_sending}
 use Rattle.trace_ops.proofs.Changed.{by}
-use Rattle.trace_ops.proofs.Domestic.{Every, every_at}
 use Rattle.trace_ops.proofs.Gently.{IsKept, Lasts}
 use Rattle.trace_ops.proofs.Spans.{same_some, which}
 

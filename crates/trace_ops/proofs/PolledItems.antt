@@ -1,5 +1,5 @@
 -- What a cycle does to the operations of a target whose host polls.
-use Rattle.std.proofs.Common.{◌≡◌, ◌⊎◌, inl, inr, ℕ, ◌+◌, ◌*◌, ◌<◌, ◌==◌, Bool, true, false, ◌&&◌, ◌||◌, not, cond, List, [], ◌∷◌, ◌++◌, Option, Some, None, is_some, refl, sym, ap, ◌∙◌, subst, arith, length, slice_set, ne_eqb, eq-eqb}
+use Rattle.std.proofs.Common.{◌≡◌, ℕ, ◌+◌, ◌<◌, Bool, true, false, ◌&&◌, not, cond, List, [], ◌∷◌, ◌++◌, Option, Some, None, refl, sym, ap, ◌∙◌, subst, arith, length, ne_eqb}
 use Rattle.std.specs.Prelude.{slice_get}
 use Rattle.std.proofs.lemmas.List.{length-append}
 use Rattle.std.proofs.lemmas.Option.{slice_get_within}
@@ -13,19 +13,18 @@ use Rattle.onfi_cycle.specs.declared.latch.Latch.TheVariants.{Status}
 use Rattle.onfi_cycle.specs.declared.target_cycle.TargetCycle.{TargetCycle}
 use Rattle.onfi_cycle.specs.Command.{command, is_opener}
 use Rattle.onfi_cycle.specs.Lun.{latch}
-use Rattle.onfi_cycle.proofs.Booleans.{clash}
 use Rattle.onfi_cycle.proofs.Others.{targets_keep}
 use Rattle.trace_ops.specs.declared.change.Change.{Change}
 use Rattle.trace_ops.specs.declared.change.Change.TheVariants.{Opened, Cycle, Show, Poll, Unfold}
 use Rattle.trace_ops.specs.declared.judged.Judged.{Judged}
 use Rattle.trace_ops.specs.declared.looks.Looks.{Looks}
 use Rattle.trace_ops.specs.declared.operation.Operation.{Operation}
-use Rattle.trace_ops.specs.Operation.{is_output, changed, changed_at, changed_if, says_ready}
-use Rattle.trace_ops.specs.Openings.{opens, opened_at, Opened as OpenedAt}
-use Rattle.trace_ops.specs.Listing.{Listing, found, lun_place, worker, op_of, new_one, number_of, with_new, change_of, is_new_opener, is_address_kind, is_alone_op, unfolded, is_command, is_off_look, driver_of, look_at, gives_status, starts_on, begun_on, all_begun, all_selected, polled_by, with_ends, with_polls, owner_in, mark_in, listed}
+use Rattle.trace_ops.specs.Operation.{is_output, changed, changed_at, changed_if}
+use Rattle.trace_ops.specs.Openings.{opens, Opened as OpenedAt}
+use Rattle.trace_ops.specs.Listing.{Listing, found, lun_place, worker, op_of, new_one, with_new, change_of, is_new_opener, is_address_kind, is_alone_op, unfolded, is_command, is_off_look, driver_of, look_at, gives_status, starts_on, begun_on, all_begun, all_selected, polled_by, with_ends, with_polls, owner_in, mark_in, listed}
 use Rattle.trace_ops.specs.Polling.{Sequence, Doing, Rests, Sends, Waits, Asks, Sees, by_cycle, is_sending}
 use Rattle.trace_ops.proofs.AtWork.{worker_in}
-use Rattle.trace_ops.proofs.Cycles.{CycleAt, mine, begins_nothing, target_few}
+use Rattle.trace_ops.proofs.Cycles.{CycleAt, mine, begins_nothing}
 use Rattle.trace_ops.proofs.Domestic.{Every, every_at, every_new}
 use Rattle.trace_ops.proofs.Gently.{is_gentle, kept_ce, Lasts, gently, gentle_ends, gentle_begins, gentle_selects, gentle_foreign, gentle_ready}
 use Rattle.trace_ops.proofs.Legal.{permitted_as, at_lun, output_begins}

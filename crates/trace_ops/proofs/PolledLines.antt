@@ -13,7 +13,7 @@ use Rattle.trace_ops.specs.AtWork.{IsLegalBase}
 use Rattle.trace_ops.specs.Folding.{asks_status, IsFoldedAsPart}
 use Rattle.trace_ops.specs.Listing.{ops_of}
 use Rattle.trace_ops.specs.Operation.{opener_of, is_byte, is_alone, is_folded}
-use Rattle.trace_ops.specs.Polling.{Work, Reads, Programs, Erases, Sequence, Doing, Rests, opener_for, closer_for, doing_at_end, sequences_from, is_sending, lines_of, Sent, sent_of, sent_as, ArePolled}
+use Rattle.trace_ops.specs.Polling.{Work, Reads, Programs, Erases, Sequence, Doing, Rests, opener_for, closer_for, doing_at_end, is_sending, lines_of, Sent, sent_of, sent_as, ArePolled}
 use Rattle.trace_ops.proofs.Folds.{parts_are_folded}
 use Rattle.trace_ops.proofs.Polled.{IsWhole}
 use Rattle.trace_ops.proofs.Polling.{somes, opened_from, Ended, polls_end, told_are_sent}

@@ -1,5 +1,5 @@
 -- What a cycle of a target whose host polls does to its operations.
-use Rattle.std.proofs.Common.{◌≡◌, ◌⊎◌, inl, inr, ℕ, ◌+◌, ◌*◌, ◌<◌, ◌==◌, Bool, true, false, ◌&&◌, ◌||◌, not, cond, List, [], ◌∷◌, ◌++◌, Option, Some, None, is_some, refl, sym, ap, ◌∙◌, subst, arith, length, slice_set, ne_eqb, eq-eqb, eqb-true}
+use Rattle.std.proofs.Common.{◌≡◌, ◌⊎◌, inl, inr, ℕ, ◌<◌, ◌==◌, Bool, true, false, ◌&&◌, ◌||◌, not, cond, List, [], ◌∷◌, ◌++◌, Option, Some, None, is_some, refl, sym, ap, ◌∙◌, subst, arith, length, slice_set, eq-eqb}
 use Rattle.std.specs.Prelude.{slice_get}
 use Rattle.std.proofs.lemmas.Option.{slice_get_within}
 use Rattle.nand_geometry.specs.declared.parts.Parts.{Parts}
@@ -12,12 +12,10 @@ use Rattle.onfi_cycle.specs.declared.item.Kind.{Kind}
 use Rattle.onfi_cycle.specs.declared.item.Kind.TheVariants.{Cmd, Adr, Din, Dout}
 use Rattle.onfi_cycle.specs.declared.latch.Latch.{Latch}
 use Rattle.onfi_cycle.specs.declared.target_cycle.TargetCycle.{TargetCycle}
-use Rattle.onfi_cycle.specs.declared.target_cycle.TargetCycle.TheVariants.{CommandCycle}
 use Rattle.onfi_cycle.specs.Command.{command, is_opener}
 use Rattle.onfi_cycle.specs.Effect.{is_data, cycle_effect}
 use Rattle.onfi_cycle.specs.Lun.{latch, latch_after, luns_of, is_busy}
 use Rattle.onfi_cycle.specs.Sequence.{target_cycle, tail, facts_of}
-use Rattle.onfi_cycle.proofs.Booleans.{clash}
 use Rattle.onfi_cycle.proofs.CommandBytes.{commands_have_bytes}
 use Rattle.onfi_cycle.proofs.Passed.{KeepsRules}
 use Rattle.trace_ops.specs.declared.change.Change.{Change}
@@ -27,11 +25,11 @@ use Rattle.trace_ops.specs.declared.looks.Looks.{Looks}
 use Rattle.trace_ops.specs.declared.operation.Beginning.{Beginning}
 use Rattle.trace_ops.specs.declared.operation.Beginning.TheVariants as begins
 use Rattle.trace_ops.specs.declared.operation.Operation.{Operation}
-use Rattle.trace_ops.specs.AtWork.{begins_work, resets}
-use Rattle.trace_ops.specs.Operation.{begun, opener_of, is_byte, is_output, takes_address, with_byte, changed, changed_at, says_ready}
+use Rattle.trace_ops.specs.AtWork.{resets}
+use Rattle.trace_ops.specs.Operation.{begun, opener_of, is_byte, is_output, changed, changed_at, says_ready}
 use Rattle.trace_ops.specs.Openings.{opens, opened_at, Opened as OpenedAt}
-use Rattle.trace_ops.specs.Listing.{Listing, found, lun_place, worker, op_of, begins_one, new_by_command, new_one, number_of, with_new, change_of, is_new_opener, is_address_kind, is_alone_op, unfolded, is_command, cycle_owner, all_begun, with_ends, owner_in, mark_in, listed}
-use Rattle.trace_ops.specs.Polling.{Work, Reads, Programs, Erases, Sequence, begun_with, Doing, Rests, Sends, Waits, Asks, Sees, opener_for, closer_for, doing_after, is_sending}
+use Rattle.trace_ops.specs.Listing.{Listing, found, lun_place, op_of, begins_one, new_by_command, new_one, number_of, with_new, change_of, is_new_opener, is_address_kind, is_alone_op, unfolded, is_command, all_begun, with_ends, owner_in, mark_in, listed}
+use Rattle.trace_ops.specs.Polling.{Work, Reads, Programs, Erases, Sequence, begun_with, Doing, Rests, Sends, Waits, opener_for, closer_for, doing_after, is_sending}
 use Rattle.trace_ops.proofs.AtWork.{worker_in}
 use Rattle.trace_ops.proofs.Changed.{by}
 use Rattle.trace_ops.proofs.Closing.{closes_work, closer_begins, Started}
@@ -48,7 +46,6 @@ use Rattle.trace_ops.proofs.Quietly.{selects_workers}
 use Rattle.trace_ops.proofs.Spans.{same_some}
 use Rattle.trace_ops.proofs.Starts.{starts_by, cycle_busy}
 use Rattle.trace_ops.proofs.Tails.{target_below}
-use Rattle.trace_ops.proofs.Turns.{workers_with}
 use Rattle.trace_ops.proofs.Walked.{new_workers}
 use Rattle.trace_ops.proofs.Walks.{came, length_ends}
 

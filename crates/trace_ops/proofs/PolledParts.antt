@@ -1,57 +1,31 @@
 -- A question of a host that polls, or a 00h by which it goes back to data: an operation more, which becomes a part of the last work.
-use Rattle.std.proofs.Common.{◌≡◌, ◌⊎◌, inl, inr, ℕ, ◌+◌, ◌<◌, ◌≤◌, ◌==◌, Bool, true, false, ◌&&◌, ◌||◌, not, cond, List, [], ◌∷◌, ◌++◌, Option, Some, None, is_some, refl, sym, ap, ◌∙◌, subst, arith, length, ltb, lt-ltb, ltb-true, ne_eqb, eq-eqb}
+use Rattle.std.proofs.Common.{◌≡◌, ℕ, ◌<◌, Bool, true, false, not, cond, List, [], ◌∷◌, ◌++◌, Option, Some, None, is_some, refl, sym, ap, ◌∙◌, subst, arith, length, ne_eqb}
 use Rattle.std.specs.Prelude.{slice_get}
-use Rattle.std.proofs.lemmas.Bool.{and_right, false_from_ne_true}
 use Rattle.std.proofs.lemmas.Option.{slice_get_within}
 use Rattle.nand_geometry.specs.declared.parts.Parts.{Parts}
-use Rattle.onfi_cycle.specs.declared.command.Command.TheVariants.{Read, ReadStatus}
 use Rattle.onfi_cycle.specs.declared.item.Cycle.{Cycle as BusCycle}
 use Rattle.onfi_cycle.specs.declared.item.Item.{Item}
 use Rattle.onfi_cycle.specs.declared.item.Item.TheVariants.{Cyc}
 use Rattle.onfi_cycle.specs.declared.item.Kind.TheVariants.{Cmd}
-use Rattle.onfi_cycle.specs.declared.latch.Latch.{Latch}
-use Rattle.onfi_cycle.specs.declared.latch.Latch.TheVariants.{Status, Data}
 use Rattle.onfi_cycle.specs.declared.target_cycle.TargetCycle.{TargetCycle}
-use Rattle.onfi_cycle.specs.declared.target_cycle.TargetCycle.TheVariants.{CommandCycle}
 use Rattle.onfi_cycle.specs.Command.{command, is_opener}
-use Rattle.onfi_cycle.specs.Effect.{cycle_effect}
-use Rattle.onfi_cycle.specs.Look.{look_at as look_of, look_after}
-use Rattle.onfi_cycle.specs.Lun.{latch, latch_after, lun_view}
-use Rattle.onfi_cycle.specs.Permitted.{broken}
-use Rattle.onfi_cycle.specs.Sequence.{tail, facts_of}
-use Rattle.onfi_cycle.proofs.Booleans.{clash}
-use Rattle.onfi_cycle.proofs.CommandBytes.{commands_have_bytes}
-use Rattle.onfi_cycle.proofs.Following.{looked_is_look}
-use Rattle.trace_faults.specs.declared.readies.Readies.TheVariants.{Written}
-use Rattle.trace_faults.specs.Middle.{Seen, seen_after}
-use Rattle.trace_ops.specs.declared.change.Change.{Change}
 use Rattle.trace_ops.specs.declared.change.Change.TheVariants.{Opened, SetLun, Fold}
 use Rattle.trace_ops.specs.declared.judged.Judged.{Judged}
 use Rattle.trace_ops.specs.declared.looks.Looks.{Looks}
 use Rattle.trace_ops.specs.declared.operation.Operation.{Operation}
-use Rattle.trace_ops.specs.declared.role.Role.TheVariants as role
 use Rattle.trace_ops.specs.Operation.{changed, changed_at}
-use Rattle.trace_ops.specs.LastWork.{question}
-use Rattle.trace_ops.specs.Listing.{Listing, found, worker, giver, op_of, new_one, number_of, with_new, change_of, all_begun, all_selected, looks_of, look_at, has_data, gives_data, is_unshown, either_of, folded_into, folded_if, role_by, selected_by, selected_on, is_foreign_at, with_ends, owner_in, mark_in, listed}
-use Rattle.trace_ops.specs.Openings.{opens}
-use Rattle.trace_ops.specs.Polling.{Sequence, Doing, Rests, Sends, Waits, Asks, Sees, is_sending}
-use Rattle.trace_ops.proofs.AtWork.{worker_in}
+use Rattle.trace_ops.specs.Listing.{Listing, op_of, number_of, with_new, change_of, is_unshown, folded_into, with_ends, owner_in, mark_in}
+use Rattle.trace_ops.specs.Polling.{Sequence, Doing, is_sending}
 use Rattle.trace_ops.proofs.Changed.{there}
-use Rattle.trace_ops.proofs.Cycles.{CycleAt, begins_nothing}
+use Rattle.trace_ops.proofs.Cycles.{CycleAt}
 use Rattle.trace_ops.proofs.Domestic.{Every, every_at, every_new}
-use Rattle.trace_ops.proofs.Gently.{IsKept, Lasts, gently}
-use Rattle.trace_ops.proofs.Legal.{permitted_as, look_there, on_past_on, at_lun, begins_between, begins_starts}
+use Rattle.trace_ops.proofs.Gently.{Lasts, gently}
+use Rattle.trace_ops.proofs.Legal.{permitted_as}
 use Rattle.trace_ops.proofs.Owned.{new}
 use Rattle.trace_ops.proofs.Pieces.{found_below}
-use Rattle.trace_ops.proofs.Polled.{Fits, is_unseen, fits_last, fits_seen, fits_asks, fits_more, told_last}
-use Rattle.trace_ops.proofs.PolledItems.{told_after, has_worked, has_asked, Polls, long_after, ends_settled, unaddressed}
-use Rattle.trace_ops.proofs.Questions.{selected_all, final, is_new, mark_is, none_begins, workers_same, shows_status}
-use Rattle.trace_ops.proofs.Quietly.{selects_workers}
-use Rattle.trace_ops.proofs.Spans.{same_some}
-use Rattle.trace_ops.proofs.Starts.{starts_by, read_starts}
-use Rattle.trace_ops.proofs.Tails.{target_below}
-use Rattle.trace_ops.proofs.Walked.{Walked, new_workers, cycle_at}
-use Rattle.trace_ops.proofs.Walks.{came, length_ends, mark_new, length_came}
+use Rattle.trace_ops.proofs.Polled.{Fits, is_unseen, fits_last, fits_more, told_last}
+use Rattle.trace_ops.proofs.PolledItems.{has_worked, Polls, ends_settled}
+use Rattle.trace_ops.proofs.Walks.{came, length_ends, length_came}
 
 no : true ≡ false → ⊥
 no e = cc

@@ -1,11 +1,10 @@
 -- What a ready does to the operations of a target whose host polls: nothing.
-use Rattle.std.proofs.Common.{◌≡◌, ℕ, ◌+◌, ◌==◌, Bool, true, false, ◌&&◌, cond, List, [], ◌∷◌, Option, Some, None, refl, sym, ap, ◌∙◌, subst, arith, length}
+use Rattle.std.proofs.Common.{◌≡◌, ℕ, ◌+◌, ◌==◌, Bool, true, false, ◌&&◌, cond, List, ◌∷◌, Option, Some, None, refl, sym, ap, ◌∙◌, subst, arith, length}
 use Rattle.std.specs.Prelude.{slice_get}
 use Rattle.nand_geometry.specs.declared.parts.Parts.{Parts}
 use Rattle.onfi_cycle.specs.declared.effect.Effect.TheVariants.{Unaffected, BecameReady, ArrayBecameReady}
 use Rattle.onfi_cycle.specs.declared.item.Item.{Item}
 use Rattle.onfi_cycle.specs.declared.item.Item.TheVariants.{Rdy, Ard}
-use Rattle.onfi_cycle.specs.declared.latch.Latch.{Latch}
 use Rattle.onfi_cycle.specs.Lun.{latch, latch_after}
 use Rattle.trace_ops.specs.declared.change.Change.{Change}
 use Rattle.trace_ops.specs.declared.change.Change.TheVariants.{LoneReady, Unfold}
@@ -13,7 +12,7 @@ use Rattle.trace_ops.specs.declared.judged.Judged.{Judged}
 use Rattle.trace_ops.specs.declared.operation.Operation.{Operation}
 use Rattle.trace_ops.specs.declared.places.Places.{Places}
 use Rattle.trace_ops.specs.Operation.{changed_at}
-use Rattle.trace_ops.specs.Listing.{Listing, found, with_new, change_of, is_address, is_alone_op, unfolded, all_begun, all_selected, polled, with_ends, with_polls, owner_in, mark_in, listed}
+use Rattle.trace_ops.specs.Listing.{Listing, found, with_new, is_alone_op, unfolded, all_begun, all_selected, polled, with_ends, with_polls, owner_in, mark_in, listed}
 use Rattle.trace_ops.specs.Polling.{Sequence, Doing, doing_after}
 use Rattle.trace_ops.proofs.AtWork.{worker_in}
 use Rattle.trace_ops.proofs.Domestic.{Every}

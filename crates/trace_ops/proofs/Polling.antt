@@ -1,6 +1,5 @@
 -- Of a host that polls: what is told of its operations, item by item, and at the end.
-use Rattle.std.proofs.Common.{◌≡◌, ◌⊎◌, inl, inr, ℕ, ◌+◌, ◌<◌, ◌==◌, Bool, true, false, ◌&&◌, ◌||◌, not, cond, List, [], ◌∷◌, ◌++◌, Option, Some, None, is_some, refl, sym, ap, ◌∙◌, subst, arith, length, reverse, ltb, eq-eqb, eqb-true}
-use Rattle.std.specs.Prelude.{slice_get}
+use Rattle.std.proofs.Common.{◌≡◌, ◌⊎◌, inl, inr, ℕ, ◌+◌, ◌<◌, ◌==◌, Bool, true, false, ◌&&◌, cond, List, [], ◌∷◌, ◌++◌, Option, Some, None, is_some, refl, sym, ap, ◌∙◌, subst, arith, length, reverse, ltb, eq-eqb, eqb-true}
 use Rattle.std.proofs.lemmas.Bool.{and_parts}
 use Rattle.std.proofs.lemmas.List.{append-nil, append_assoc}
 use Rattle.nand_geometry.specs.declared.parts.Parts.{Parts}
@@ -29,7 +28,6 @@ use Rattle.trace_ops.specs.Polling.{Work, Reads, Programs, Erases, Sequence, beg
 use Rattle.trace_ops.proofs.Domestic.{Every}
 use Rattle.trace_ops.proofs.Driven.{ready_of, array_ready_of}
 use Rattle.trace_ops.proofs.Folds.{ready_lone, array_ready_lone}
-use Rattle.trace_ops.proofs.Legal.{permitted_as}
 use Rattle.trace_ops.proofs.Pieces.{came_to}
 use Rattle.trace_ops.proofs.Polled.{addressed_more, input_more, open_address, open_input, whole, whole_sends, whole_ends, IsOpen, Fits, is_unseen, fits_seen, fits_asks}
 use Rattle.trace_ops.proofs.PolledItems.{told_after, has_worked, has_asked, Polls, far_polls}
