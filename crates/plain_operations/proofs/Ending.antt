@@ -16,8 +16,10 @@ use Rattle.micro_program.specs.Lines.{Line, unrolled, lines_from}
 use Rattle.micro_program.specs.Program.{Job, Done, Polled, is_ready_status}
 use Rattle.micro_program.specs.Moves.{Move}
 use Rattle.micro_program.specs.Played.{Played, answered}
-use Rattle.micro_program.specs.Safe.{Seat, loaded, after_step, after_item, Reaches, starts, steps, readies, others}
+use Rattle.micro_program.specs.Safe.{Seat, loaded, after_step, after_item, Reaches, starts, steps, readies, others, may_step, StaysFine, IsJobOf, IsSafe}
 use Rattle.micro_program.specs.Step.{Stride, Went, NotReady, first_byte, did, stride, answered_step}
+use Rattle.micro_program.proofs.Claiming.{legal_step}
+use Rattle.onfi_cycle.proofs.Keeping.{legal_more}
 use Rattle.trace_ops.specs.AtWork.{IsLegalBase}
 use Rattle.trace_ops.specs.Polling.{Sequence, Doing, Rests, Sends, Waits, Asks, Sees, by_cycle, doing_at_end, sent_in, sequences_from, Sent, sent_of, sent_as}
 use Rattle.trace_ops.proofs.PolledLines.{polled}
@@ -337,3 +339,20 @@ lines_are s j ops seat run bytes r code plain step is legal small =
       all = λ e. all_are (sequence_of s.geometry j) over.works ops (ap (λ (xs : List Sequence). over.works ++ xs) (sym (over.over e)) ∙ over.begins);
       rested = over.has.doing;
     }
+
+-- ---- a verified program
+
+legal_at : (s : Channel) (j : Job) (seat : Seat) → Reaches s j seat → StaysFine s j → is_legal s.geometry s.targets seat.past ≡ true
+legal_at s j _ (starts past legal idle) fine = legal
+legal_at s j _ (steps seat bytes r run may is truthful still) fine =
+    legal_step s j bytes seat.past seat.ahead seat.done r (legal_at s j seat run fine) (fine seat run may) is
+legal_at s j _ (readies seat i run ready permitted) fine = legal_more s.geometry s.targets seat.past i (legal_at s j seat run fine) permitted
+legal_at s j _ (others seat c m run free own there apart) fine = legal_more s.geometry s.targets seat.past (Cyc c) (legal_at s j seat run fine) own.permitted
+
+pub verified_lines : (s : Channel) (j : Job) (ops : List PlainOp) (seat : Seat) (run : Reaches s j seat) (bytes : List ℕ) (r : Stride) (code : ℕ) → RunsPlainly s j ops (began s j seat run) →
+    IsSafe (plain_text ops) s.geometry → IsJobOf (plain_text ops) s.geometry s j → may_step j seat ≡ true →
+    answered_step s.geometry j bytes seat.past seat.ahead seat.done ≡ Some r → r.code ≡ Some code → AreBytes r.past → LinesAre s j ops (began s j seat run) r.past code
+verified_lines s j ops seat run bytes r code plain safe job may step is small =
+    let fine : StaysFine s j = safe s j job in
+    lines_are s j ops seat run bytes r code plain step is
+    (legal_step s j bytes seat.past seat.ahead seat.done r (legal_at s j seat run fine) (fine seat run may) step) small

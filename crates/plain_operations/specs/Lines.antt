@@ -14,7 +14,7 @@ use Rattle.trace_ops.specs.Listing.{ops_of}
 use Rattle.trace_ops.specs.Polling.{Reads, Programs, Erases, Sequence, Rests, doing_at_end, lines_of, sent_of, sent_as}
 use Rattle.micro_program.specs.Program.{Job}
 use Rattle.micro_program.specs.Moves.{column_bytes}
-use Rattle.micro_program.specs.Safe.{Seat, Reaches, starts, steps, readies, others}
+use Rattle.micro_program.specs.Safe.{Seat, Reaches, starts, steps, readies, others, may_step, IsJobOf, IsSafe}
 use Rattle.micro_program.specs.Step.{Stride, answered_step}
 use Rattle.micro_verify.specs.declared.plain_op.PlainOp.{PlainOp}
 use Rattle.micro_verify.specs.declared.plain_op.PlainOp.TheVariants.{Read, Program, Erase}
@@ -76,3 +76,10 @@ LinesAreOperations =
     (s : Channel) (j : Job) (ops : List PlainOp) (seat : Seat) (run : Reaches s j seat) (bytes : List ℕ) (r : Stride) (code : ℕ) → RunsPlainly s j ops (began s j seat run) →
     answered_step s.geometry j bytes seat.past seat.ahead seat.done ≡ Some r → r.code ≡ Some code → is_legal s.geometry s.targets r.past ≡ true → AreBytes r.past →
     LinesAre s j ops (began s j seat run) r.past code
+
+-- and so it is of a verified program, whose trace is legal by that
+abbrev pub VerifiedLinesAreOperations : Type 0
+VerifiedLinesAreOperations =
+    (s : Channel) (j : Job) (ops : List PlainOp) (seat : Seat) (run : Reaches s j seat) (bytes : List ℕ) (r : Stride) (code : ℕ) → RunsPlainly s j ops (began s j seat run) →
+    IsSafe (plain_text ops) s.geometry → IsJobOf (plain_text ops) s.geometry s j → may_step j seat ≡ true →
+    answered_step s.geometry j bytes seat.past seat.ahead seat.done ≡ Some r → r.code ≡ Some code → AreBytes r.past → LinesAre s j ops (began s j seat run) r.past code
