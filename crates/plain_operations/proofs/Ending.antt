@@ -1,6 +1,5 @@
 -- A program of plain operations, from where it was loaded to its end.
-use Rattle.std.proofs.Common.{◌≡◌, ◌⊎◌, inl, inr, ℕ, zero, suc, ◌+◌, ◌<◌, ◌≤◌, ◌==◌, Bool, true, false, ◌&&◌, cond, List, [], ◌∷◌, ◌++◌, Option, Some, None, refl, sym, ap, ◌∙◌, subst, arith, length, reverse, take, map, ltb, ltb-true, eqb-true, eq-eqb, ne_eqb}
-use Rattle.std.proofs.lemmas.Bool.{and_parts}
+use Rattle.std.proofs.Common.{◌≡◌, inl, inr, ℕ, suc, ◌+◌, ◌<◌, ◌≤◌, ◌==◌, Bool, true, false, ◌&&◌, cond, List, [], ◌∷◌, ◌++◌, Option, Some, None, refl, sym, ap, ◌∙◌, subst, arith, length, reverse, take, map, ltb, ltb-true, eqb-true, eq-eqb, ne_eqb}
 use Rattle.std.proofs.lemmas.List.{append-nil, map-append, reverse-reverse}
 use Rattle.nand_geometry.specs.declared.parts.Parts.{Parts}
 use Rattle.onfi_cycle.specs.declared.item.Cycle.{Cycle}
@@ -13,11 +12,11 @@ use Rattle.micro_word.specs.declared.word.Word.{Word}
 use Rattle.micro_word.specs.declared.word.Word.TheVariants.{End, Wait}
 use Rattle.micro_word.specs.Text.{Microprogram}
 use Rattle.micro_program.specs.Lines.{Line, unrolled, lines_from}
-use Rattle.micro_program.specs.Program.{Job, Done, Polled, is_ready_status}
+use Rattle.micro_program.specs.Program.{Job, Done, is_ready_status}
 use Rattle.micro_program.specs.Moves.{Move}
 use Rattle.micro_program.specs.Played.{Played, answered}
 use Rattle.micro_program.specs.Safe.{Seat, loaded, after_step, after_item, Reaches, starts, steps, readies, others, may_step, StaysFine, IsJobOf, IsSafe}
-use Rattle.micro_program.specs.Step.{Stride, Went, NotReady, first_byte, did, stride, answered_step}
+use Rattle.micro_program.specs.Step.{Stride, first_byte, stride, answered_step}
 use Rattle.micro_program.proofs.Claiming.{legal_step}
 use Rattle.onfi_cycle.proofs.Keeping.{legal_more}
 use Rattle.trace_ops.specs.AtWork.{IsLegalBase}
@@ -25,10 +24,10 @@ use Rattle.trace_ops.specs.Polling.{Sequence, Doing, Rests, Sends, Waits, Asks, 
 use Rattle.trace_ops.proofs.PolledLines.{polled}
 use Rattle.trace_ops.proofs.Spans.{same_some}
 use Rattle.micro_verify.specs.declared.plain_op.PlainOp.{PlainOp}
-use Rattle.micro_verify.specs.Plain.{operations_len, plain_words, plain_text}
+use Rattle.micro_verify.specs.Plain.{operations_len, plain_text}
 use Rattle.plain_operations.specs.Lines.{sequence_of, began, AreBytes, RunsPlainly, lines_after, LinesAre}
 use Rattle.plain_operations.proofs.Hosts.{Has, has_other, bytes_before}
-use Rattle.plain_operations.proofs.Steps.{Taken, taken, nothing_played, Goes, Fails, Ahead, After, word_steps}
+use Rattle.plain_operations.proofs.Steps.{Taken, taken, nothing_played, Ahead, After, word_steps}
 use Rattle.plain_operations.proofs.Texts.{place_of, is_end, is_at_rest, leads, sends_with, leads_to, all_lead_to, body, body_long, body_leads, body_sends, body_fails, plain_lines}
 
 none : {X : Type 0} {x : X} → None ≡ Some x → ⊥

@@ -1,17 +1,15 @@
 -- The trace of a host, cycle by cycle: how it goes on, and the sequences that it has sent.
-use Rattle.std.proofs.Common.{◌≡◌, ℕ, zero, suc, ◌+◌, ◌<◌, ◌==◌, Bool, true, false, ◌&&◌, cond, List, [], ◌∷◌, ◌++◌, Option, Some, None, refl, sym, ap, ◌∙◌, subst, arith, reverse, append_assoc, length, eq-eqb}
-use Rattle.std.specs.Prelude.{replicate, map, bit_and, not}
+use Rattle.std.proofs.Common.{◌≡◌, ℕ, zero, suc, Bool, true, false, cond, List, [], ◌∷◌, ◌++◌, Option, Some, None, refl, sym, ap, ◌∙◌, subst, reverse, append_assoc, length, eq-eqb}
+use Rattle.std.specs.Prelude.{replicate}
 use Rattle.std.proofs.lemmas.List.{reverse-append}
-use Rattle.onfi_cycle.specs.declared.item.Cycle.{Cycle}
 use Rattle.onfi_cycle.specs.declared.item.Item.{Item}
-use Rattle.onfi_cycle.specs.declared.item.Item.TheVariants.{Cyc, Rdy, Ard}
 use Rattle.onfi_cycle.specs.declared.item.Kind.{Kind}
 use Rattle.onfi_cycle.specs.declared.item.Kind.TheVariants.{Cmd, Adr, Din, Dout}
 use Rattle.onfi_cycle.specs.Channel.{cycle}
 use Rattle.micro_program.specs.Moves.{Move, Give, Take, and_then, gives}
 use Rattle.micro_program.specs.Played.{Played, with_byte, answered}
 use Rattle.trace_ops.specs.Operation.{one_more}
-use Rattle.trace_ops.specs.Polling.{Work, Sequence, Doing, Rests, Sends, Waits, Asks, Sees, by_address, by_cycle, doing_after, goes_on, doing_at_end, sent_in, sent_at, in_front, sequences_on, sequences_from}
+use Rattle.trace_ops.specs.Polling.{Sequence, Doing, Rests, Sends, Waits, Asks, Sees, by_address, by_cycle, doing_after, goes_on, doing_at_end, sent_in, sent_at, in_front, sequences_on, sequences_from}
 use Rattle.trace_ops.proofs.Spans.{same_some}
 use Rattle.plain_operations.specs.Lines.{AreBytes}
 use Rattle.plain_operations.proofs.Texts.{by_addresses, counted}

@@ -1,23 +1,22 @@
 -- A step of a program of plain operations, and what it makes of the host of its target.
-use Rattle.std.proofs.Common.{◌≡◌, ◌⊎◌, inl, inr, ℕ, suc, ◌+◌, ◌<◌, ◌==◌, Bool, true, false, ◌&&◌, ◌||◌, not, cond, List, [], ◌∷◌, ◌++◌, Option, Some, None, refl, sym, ap, ◌∙◌, subst, arith, length, append_assoc, drop, leb, leb-true, ltb, eqb-true}
+use Rattle.std.proofs.Common.{◌≡◌, ◌⊎◌, inl, inr, ℕ, suc, ◌+◌, ◌<◌, ◌==◌, Bool, true, false, ◌&&◌, cond, List, [], ◌∷◌, ◌++◌, Option, Some, None, refl, sym, ap, ◌∙◌, subst, arith, length, append_assoc, drop, leb, leb-true, ltb, eqb-true}
 use Rattle.std.proofs.lemmas.Bool.{agree_below_at}
 use Rattle.std.proofs.lemmas.List.{length-drop, length-take-le}
 use Rattle.nand_geometry.specs.declared.parts.Parts.{Parts}
 use Rattle.nand_geometry.specs.Limits.{indices, planes}
 use Rattle.nand_geometry.specs.Row.{row_bytes_of, row_number, indexed, row_cycles}
 use Rattle.onfi_cycle.specs.declared.item.Item.{Item}
-use Rattle.onfi_cycle.specs.declared.item.Kind.{Kind}
 use Rattle.onfi_cycle.specs.declared.item.Kind.TheVariants.{Cmd, Adr, Din, Dout}
 use Rattle.onfi_cycle.specs.Channel.{cycle}
 use Rattle.micro_word.specs.declared.word.Word.{Word}
 use Rattle.micro_word.specs.declared.word.Word.TheVariants.{End, Command, Address, Get, Put, Seek, Column, RowAdd, Row, Plane, Wait, Yield, ReadStatus, BranchOnStatus, Loop, Next, Jump}
 use Rattle.micro_program.specs.Lines.{Line, from_place, lines_from}
-use Rattle.micro_program.specs.Program.{Job, Done, Nothing, Polled, column_now, plane_now, index_now, place_now, status_now, buffer_now, is_ready_status, meets}
+use Rattle.micro_program.specs.Program.{Job, Done, Polled, column_now, plane_now, index_now, place_now, status_now, buffer_now, is_ready_status, meets}
 use Rattle.micro_program.specs.Moves.{Move, Give, Take, and_then, part, column_bytes, address, gives, poll, moves}
 use Rattle.micro_program.specs.Played.{Played, answered}
-use Rattle.micro_program.specs.Step.{Stride, Went, NotReady, first_byte, did, ended, waited, stride, answered_step}
+use Rattle.micro_program.specs.Step.{Stride, Went, NotReady, first_byte, did, stride, answered_step}
 use Rattle.trace_ops.specs.Operation.{says_ready}
-use Rattle.trace_ops.specs.Polling.{Work, Sequence, Doing, Rests, Sends, Waits, Asks, Sees, is_over, by_command, by_input, sent_in, in_front}
+use Rattle.trace_ops.specs.Polling.{Work, Sequence, Doing, Rests, Sends, Waits, Asks, Sees, is_over, by_command, sent_in, in_front}
 use Rattle.trace_ops.proofs.Spans.{same_some}
 use Rattle.plain_operations.specs.Lines.{AreBytes}
 use Rattle.plain_operations.proofs.Hosts.{Has, has_cycle, has_byte, has_addresses, has_inputs, has_takes, TookByte, took}

@@ -12,7 +12,7 @@ use Rattle.micro_program.specs.Moves.{part, column_bytes}
 use Rattle.micro_program.specs.Lines.{Line, Unrolling, word_before, unrolling, unrolled, from_place, lines_from}
 use Rattle.micro_verify.specs.declared.plain_op.PlainOp.{PlainOp}
 use Rattle.micro_verify.specs.declared.plain_op.PlainOp.TheVariants.{Read, Program, Erase}
-use Rattle.micro_verify.specs.Plain.{operation_words, operation_len, operations_len, words_from, plain_words}
+use Rattle.micro_verify.specs.Plain.{operation_words, operations_len, words_from, plain_words}
 use Rattle.trace_ops.specs.Operation.{one_more}
 use Rattle.trace_ops.specs.Polling.{Programs, Sequence, Doing, Rests, Sends, Waits, Asks, Sees, is_over, by_command, by_address, goes_on, sent_in, in_front}
 use Rattle.plain_operations.specs.Lines.{row_at, capped, sequence_of}
