@@ -66,11 +66,11 @@ base_command g c base h = refl
 
 -- ---- addresses
 
-two_bytes : (x : Option ℕ) (a b : ℕ) → (a == b) ≡ false → is_byte x a ≡ true → is_byte x b ≡ true → ⊥
+pub two_bytes : (x : Option ℕ) (a b : ℕ) → (a == b) ≡ false → is_byte x a ≡ true → is_byte x b ≡ true → ⊥
 two_bytes None a b apart p q = cc
 two_bytes (Some byte) a b apart p q = clash (a == b) (ap (λ n. n == b) (sym (eqb-true byte a p)) ∙ q) apart
 
-in_column : (d : DataPhase) → wants_column d ≡ true → in_program d ≡ true
+pub in_column : (d : DataPhase) → wants_column d ≡ true → in_program d ≡ true
 in_column FirstColumn h = refl
 in_column SecondColumn h = refl
 in_column d h = cc

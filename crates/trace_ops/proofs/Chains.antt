@@ -250,7 +250,7 @@ on_append : (ops : List Operation) (x : Operation) (m : Option ℕ) → OnMain o
 on_append ops x None h = tt
 on_append ops x (Some k) h = main_append ops x k h
 
-new_parent : (j : Judged) (newest : Option Operation) (i : Item) → (new_one j newest i).parent ≡ None
+pub new_parent : (j : Judged) (newest : Option Operation) (i : Item) → (new_one j newest i).parent ≡ None
 new_parent j newest (Cyc c) = at c.kind
   where
     at : (kind : Kind) → (new_by_command j newest c kind).parent ≡ None
@@ -781,7 +781,7 @@ closed_came j l = each_came Anything (ClosedBy j (mark_in j (with_ends j l))) j 
         (new_one j (op_of (with_ends j l).ops (found l.places.newest j.ce)) j.item).beginning (new_one j (op_of (with_ends j l).ops (found l.places.newest j.ce)) j.item).closer
     new h = ((λ apart. absurd (apart (sym (mark_is_new j l h)))), (λ same again cmd. new_closed j (op_of (with_ends j l).ops (found l.places.newest j.ce)) j.item _ cmd))
 
-small_came : (j : Judged) (l : Listing) → AreWithin (length l.ops) l.places → mark_in j (with_ends j l) < length (came j l).ops
+pub small_came : (j : Judged) (l : Listing) → AreWithin (length l.ops) l.places → mark_in j (with_ends j l) < length (came j l).ops
 small_came j l w =
     let a = mark_new j l w in
     let b = length_new (owner_in j (with_ends j l)) j (with_ends j l) in

@@ -120,7 +120,7 @@ nothing_more false true false d = refl
 nothing_more false true true true = refl
 nothing_more false true true false = refl
 
-output_is : (kind : Kind) → is_output kind ≡ true → kind ≡ Dout
+pub output_is : (kind : Kind) → is_output kind ≡ true → kind ≡ Dout
 output_is Cmd h = cc
 output_is Adr h = cc
 output_is Din h = cc
@@ -157,7 +157,7 @@ module _ (g : Parts) (targets n : ℕ) (one_lun : Bool) (past : List Item) (mark
   pub target_few : c.ce < 4
   target_few = (let small = target_below g targets past c here.permitted in let all = here.few in omega (arith, small, all))
 
-  keeps : KeepsRules g (facts_of (tail past c.ce)) (luns_of g past c.ce) (target_cycle c.kind c.byte)
+  pub keeps : KeepsRules g (facts_of (tail past c.ce)) (luns_of g past c.ce) (target_cycle c.kind c.byte)
   keeps = permitted_keeps g targets past c here.permitted
 
   -- ---- no cycle ends work
@@ -172,15 +172,15 @@ module _ (g : Parts) (targets n : ℕ) (one_lun : Bool) (past : List Item) (mark
   rest_on : (lun : ℕ) → lun < 4 → (ops : List Operation) → ended_on j lun l.places ops ≡ ops
   rest_on lun lt ops = ap (λ (x : Option Ending). ended_if x (worker l.places c.ce lun) ops) (no_end lun lt)
 
-  same_ops : (with_ends j l).ops ≡ l.ops
+  pub same_ops : (with_ends j l).ops ≡ l.ops
   same_ops = rest_on 3 (omega arith) _ ∙ rest_on 2 (omega arith) _ ∙ rest_on 1 (omega arith) _ ∙ rest_on 0 (omega arith) l.ops
 
-  on_ends : (D : ℕ → Operation → Type 0) → Every D l.ops → Every D (with_ends j l).ops
+  pub on_ends : (D : ℕ → Operation → Type 0) → Every D l.ops → Every D (with_ends j l).ops
   on_ends D all = subst (λ (ops : List Operation). Every D ops) (sym same_ops) all
 
   -- ---- the operation that the cycle comes to
 
-  owned_by : (kind : Kind) → is_output kind ≡ false → (m : ℕ) → cycle_owner (with_ends j l).ops l.places j c kind ≡ Some m →
+  pub owned_by : (kind : Kind) → is_output kind ≡ false → (m : ℕ) → cycle_owner (with_ends j l).ops l.places j c kind ≡ Some m →
       (found l.places.newest c.ce ≡ Some m) × (begins_sequence (target_cycle kind c.byte) ≡ false)
   owned_by Cmd input m h = at (begins_one (op_of (with_ends j l).ops (found l.places.newest c.ce)) c.byte) refl h
     where
@@ -202,7 +202,7 @@ module _ (g : Parts) (targets n : ℕ) (one_lun : Bool) (past : List Item) (mark
   new_ce Din newest = refl
   new_ce Dout newest = refl
 
-  new_start : (kind : Kind) (newest : Option Operation) → (new_by_command j newest c kind).start ≡ None
+  pub new_start : (kind : Kind) (newest : Option Operation) → (new_by_command j newest c kind).start ≡ None
   new_start Cmd newest = by (λ (z : Operation). z.start) (begins_one newest c.byte) _ _ None refl refl
   new_start Adr newest = refl
   new_start Din newest = refl
@@ -274,7 +274,7 @@ module _ (g : Parts) (targets n : ℕ) (one_lun : Bool) (past : List Item) (mark
   fits_by (Some m) h o is = fits_kind c.kind keeps o (λ e. content_at m o (owned_by c.kind (ap is_output e) m h).0 is)
 
   -- a command that goes on with a sequence comes to the newest operation
-  goes_to : (k : ℕ) → found l.places.newest c.ce ≡ Some k → is_known (command c.byte) ≡ true → is_opener (command c.byte) ≡ false →
+  pub goes_to : (k : ℕ) → found l.places.newest c.ce ≡ Some k → is_known (command c.byte) ≡ true → is_opener (command c.byte) ≡ false →
       wants_command (facts_of (tail past c.ce)) (command c.byte) ≡ true → cycle_owner (with_ends j l).ops l.places j c Cmd ≡ Some k
   goes_to k h known opens wanted =
       let small = found_below (length l.ops) l.places.newest c.ce k here.within.newest h in
@@ -425,7 +425,7 @@ module _ (g : Parts) (targets n : ℕ) (one_lun : Bool) (past : List Item) (mark
       dated_new g targets past marks (n + 1) (with_ends j l).ops (new_one j (op_of (with_ends j l).ops (found l.places.newest c.ce)) (Cyc c))
       (new_start c.kind (op_of (with_ends j l).ops (found l.places.newest c.ce))) (new_end c.kind (op_of (with_ends j l).ops (found l.places.newest c.ce))) dated_ends
 
-  dated_here : Dated g targets past marks (n + 1) (came j l).ops
+  pub dated_here : Dated g targets past marks (n + 1) (came j l).ops
   dated_here = dated_alike g targets past marks (n + 1) more (came j l).ops came_like (dated_by owner)
 
   -- ---- a question for the status starts no work
@@ -500,7 +500,7 @@ module _ (g : Parts) (targets n : ℕ) (one_lun : Bool) (past : List Item) (mark
       ap (λ w. begins_between c before after lun || (one_lun && (lun == 0 && (not (is_output c.kind) && w)))) (works_at_home x.ops mark all)
       ∙ nothing_more (begins_between c before after lun) one_lun (lun == 0) (not (is_output c.kind))
 
-  skips : (lun : ℕ) (x : Listing) → begins_between c before after lun ≡ false → Every (λ k. Domestic) x.ops → begun_on j mark lun x ≡ x
+  pub skips : (lun : ℕ) (x : Listing) → begins_between c before after lun ≡ false → Every (λ k. Domestic) x.ops → begun_on j mark lun x ≡ x
   skips lun x h all = ap (λ b. cond b (begun_as lun x) x) (starts_so lun x all ∙ h)
 
   takes : (lun : ℕ) (x : Listing) → begins_between c before after lun ≡ true → Every (λ k. Domestic) x.ops → begun_on j mark lun x ≡ begun_as lun x
@@ -512,7 +512,7 @@ module _ (g : Parts) (targets n : ℕ) (one_lun : Bool) (past : List Item) (mark
   small_mark : mark < length (came j l).ops
   small_mark = (let small = mark_new j l here.within in let long = came_like.long in omega (arith, small, long))
 
-  mine_came : is_output c.kind ≡ false → (o : Operation) → slice_get (came j l).ops mark ≡ Some o → New o
+  pub mine_came : is_output c.kind ≡ false → (o : Operation) → slice_get (came j l).ops mark ≡ Some o → New o
   mine_came input o is =
       let back = came_like.back mark o is in
       let was = mine input back.old back.is_there in
@@ -645,6 +645,20 @@ module _ (g : Parts) (targets n : ℕ) (one_lun : Bool) (past : List Item) (mark
   domestic_three : Every (λ k. Domestic) three.ops
   domestic_three = domestic_on 2 two domestic_two
 
+  -- where the first LUN begins work it is the operation's
+  pub begins_first : begins_between c before after 0 ≡ true → (all_begun j mark (came j l)).places.workers ≡ workers_with j mark 0 (came j l).places
+  begins_first h =
+      ap (λ (x : Listing). x.places.workers)
+      (skips 3 three (begin_once 0 3 (omega arith) (omega arith) h (λ e. omega (arith, e))) domestic_three
+      ∙ skips 2 two (begin_once 0 2 (omega arith) (omega arith) h (λ e. omega (arith, e))) domestic_two
+      ∙ skips 1 one (begin_once 0 1 (omega arith) (omega arith) h (λ e. omega (arith, e))) domestic_one ∙ takes 0 (came j l) h domestic_here)
+
+  -- where no LUN begins work nothing is changed
+  pub begins_nothing : ((lun : ℕ) → lun < 4 → begins_between c before after lun ≡ false) → all_begun j mark (came j l) ≡ came j l
+  begins_nothing none =
+      skips 3 three (none 3 (omega arith)) domestic_three ∙ skips 2 two (none 2 (omega arith)) domestic_two ∙ skips 1 one (none 1 (omega arith)) domestic_one
+      ∙ skips 0 (came j l) (none 0 (omega arith)) domestic_here
+
   abbrev Result : Listing → Type 0
   Result x = Turned g targets n past marks c before after newest_after mark x
 
@@ -691,7 +705,7 @@ module _ (g : Parts) (targets n : ℕ) (one_lun : Bool) (past : List Item) (mark
 
   -- ---- what it selects, and the rest
 
-  first : (o : Operation) × (slice_get more mark ≡ Some o)
+  pub first : (o : Operation) × (slice_get more mark ≡ Some o)
   first = there more mark (mark_new j l here.within)
 
   abbrev began : Listing
@@ -700,7 +714,7 @@ module _ (g : Parts) (targets n : ℕ) (one_lun : Bool) (past : List Item) (mark
   begins_kept : (k : ℕ) (d : Change) (o : Operation) → BeginsAt first.0.beginning mark k o → BeginsAt first.0.beginning mark k (changed d o)
   begins_kept k d o h e = kept_beginning d o ∙ h e
 
-  begins_turned : Every (BeginsAt first.0.beginning mark) (all_begun j mark (came j l)).ops
+  pub begins_turned : Every (BeginsAt first.0.beginning mark) (all_begun j mark (came j l)).ops
   begins_turned =
       by_begins (Every (BeginsAt first.0.beginning mark)) (every_quiet (BeginsAt first.0.beginning mark) (λ k d o quiet h. begins_kept k d o h)) j mark (came j l)
       (every_at (BeginsAt first.0.beginning mark) (BeginsAt first.0.beginning mark) mark (change_of owner j (Cyc c)) (unfolded j mark more) (λ k o away h. h)

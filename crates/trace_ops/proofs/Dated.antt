@@ -23,12 +23,12 @@ kept_mark [] k n m h = cc
 kept_mark (x ∷ marks) k zero m h = h
 kept_mark (x ∷ marks) k (suc n) m h = kept_mark marks k n m h
 
-new_mark : (marks : List ℕ) (k : ℕ) → slice_get (marks ++ (k ∷ [])) (length marks) ≡ Some k
+pub new_mark : (marks : List ℕ) (k : ℕ) → slice_get (marks ++ (k ∷ [])) (length marks) ≡ Some k
 new_mark [] k = refl
 new_mark (x ∷ marks) k = new_mark marks k
 
 -- an item that begins work is one of the past
-begun_early : (g : Parts) (past : List Item) (n : ℕ) (l : Lun) → begun_at g past n l ≡ true → n < length past
+pub begun_early : (g : Parts) (past : List Item) (n : ℕ) (l : Lun) → begun_at g past n l ≡ true → n < length past
 begun_early g [] n l h = cc
 begun_early g (i ∷ past) n l h = at (split (length past) n) (begun_early g past n l)
   where

@@ -68,7 +68,7 @@ busy_of g targets past ce lun = is_busy (look_after g targets past (record { ce 
 pub record Sees (g : Parts) (targets : ℕ) (past : List Item) (ce : ℕ) (looks : Looks) : Type 0 where
   pub busy : (lun : ℕ) → lun < 4 → is_busy (look_at looks lun) ≡ busy_of g targets past ce lun
 
-look_there : (bus : BusView) (ce lun : ℕ) → lun < 4 → look_at (looks_of bus ce) lun ≡ looked bus (record { ce = ce; lun = lun })
+pub look_there : (bus : BusView) (ce lun : ℕ) → lun < 4 → look_at (looks_of bus ce) lun ≡ looked bus (record { ce = ce; lun = lun })
 look_there bus ce zero lt = refl
 look_there bus ce (suc zero) lt = refl
 look_there bus ce (suc (suc zero)) lt = refl

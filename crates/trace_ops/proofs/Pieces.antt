@@ -120,7 +120,7 @@ kept_beginning (SetLun lun) o = refl
 kept_beginning (Fold parent) o = refl
 kept_beginning Unfold o = refl
 
-quiet_closer : (c : Change) (o : Operation) → is_quiet c ≡ true → (changed c o).closer ≡ o.closer
+pub quiet_closer : (c : Change) (o : Operation) → is_quiet c ≡ true → (changed c o).closer ≡ o.closer
 quiet_closer (Opened n said) o quiet = cc
 quiet_closer (CycleOf n kind byte said) o quiet = cc
 quiet_closer (LoneReady n said) o quiet = cc
@@ -478,7 +478,7 @@ newest_kept : (owner : Option ℕ) (i : Item) (ce n : ℕ) (newest : List (Optio
 newest_kept None i ce n newest h = h
 newest_kept (Some k) i ce n newest h = refl
 
-none_newest : (b : Bool) (x y : Option ℕ) → cond b y (either_of x y) ≡ None → y ≡ None
+pub none_newest : (b : Bool) (x y : Option ℕ) → cond b y (either_of x y) ≡ None → y ≡ None
 none_newest true x y h = h
 none_newest false None y h = h
 none_newest false (Some k) y h = cc

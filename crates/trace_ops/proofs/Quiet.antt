@@ -58,7 +58,7 @@ plain_is_quiet (SetLun lun) h = h
 plain_is_quiet (Fold parent) h = cc
 plain_is_quiet Unfold h = h
 
-choose : (P : List Operation → Type 0) (b : Bool) (x y : List Operation) → P x → P y → P (cond b x y)
+pub choose : (P : List Operation → Type 0) (b : Bool) (x y : List Operation) → P x → P y → P (cond b x y)
 choose P true x y p q = p
 choose P false x y p q = q
 

@@ -116,7 +116,7 @@ module _ (j : Judged) (l : Listing) (ready : IsReady j) where
   selects_none : (x : Listing) → all_selected j mark x ≡ x
   selects_none x = selects 3 _ ∙ selects 2 _ ∙ selects 1 _ ∙ selects 0 x
 
-  all_same : all_selected j mark (all_begun j mark (came j l)) ≡ came j l
+  pub all_same : all_selected j mark (all_begun j mark (came j l)) ≡ came j l
   all_same = selects_none (all_begun j mark (came j l)) ∙ rests_all (came j l)
 
   domestic_here : Every (λ k. Domestic) l.ops → Every (λ k. Domestic) (came j l).ops
@@ -128,7 +128,7 @@ module _ (j : Judged) (l : Listing) (ready : IsReady j) where
   no : true ≡ false → ⊥
   no e = cc
 
-  more_alike : Every (λ k. Domestic) l.ops → Alike (with_new owner j (with_ends j l)).ops (listed j l).ops
+  pub more_alike : Every (λ k. Domestic) l.ops → Alike (with_new owner j (with_ends j l)).ops (listed j l).ops
   more_alike all =
       let chosen = all_selected j mark (all_begun j mark (came j l)) in
       let known : Every (λ k. Domestic) chosen.ops = subst (λ (x : Listing). Every (λ k. Domestic) x.ops) (sym all_same) (domestic_here all) in
@@ -144,7 +144,7 @@ module _ (j : Judged) (l : Listing) (ready : IsReady j) where
   new_workers None = refl
   new_workers (Some m) = refl
 
-  workers_after : (listed j l).places.workers ≡ l.places.workers
+  pub workers_after : (listed j l).places.workers ≡ l.places.workers
   workers_after = ap (λ (x : Listing). x.places.workers) all_same ∙ new_workers owner
 
   pub ready_tells_after : (busy : ℕ → ℕ → Bool) → Every (λ k. Domestic) l.ops → Tells busy l.places.workers (with_ends j l).ops → Tells busy (listed j l).places.workers (listed j l).ops

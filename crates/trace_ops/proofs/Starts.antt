@@ -42,7 +42,7 @@ busy_by (BecameReady fail) true h = cc
 busy_by e true h = refl
 
 -- of two effects, whichever it is
-either_false : (p : Effect → Bool) (b : Bool) (x y : Effect) → p x ≡ false → p y ≡ false → p (cond b x y) ≡ false
+pub either_false : (p : Effect → Bool) (b : Bool) (x y : Effect) → p x ≡ false → p y ≡ false → p (cond b x y) ≡ false
 either_false p true x y h k = h
 either_false p false x y h k = k
 
@@ -266,7 +266,7 @@ after_none : (c : Command) → phase_after_command c Outside ≡ Outside
 after_none ChangeWriteColumn = refl
 after_none c = refl
 
-after_last : (o : Option Opening) (y : Opening) → o ≡ Some y → is_page_program y.opener ≡ false → is_set_features y.opener ≡ false → phase_after_last_address o ≡ Outside
+pub after_last : (o : Option Opening) (y : Opening) → o ≡ Some y → is_page_program y.opener ≡ false → is_set_features y.opener ≡ false → phase_after_last_address o ≡ Outside
 after_last o y is program features = ap phase_after_last_address is ∙ rw (program, features) refl
 
 -- a sequence that is no program, and sets no features, has no data while it has its opener and addresses alone

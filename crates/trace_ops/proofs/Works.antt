@@ -148,10 +148,10 @@ module _ (g : Parts) (targets : ℕ) (few : targets ≤ 4) (luns : g.luns ≤ 4)
 
   -- ---- a trace
 
-  onto : (i : Item) (items past : List Item) → reverse (i ∷ items) ++ past ≡ reverse items ++ (i ∷ past)
+  pub onto : (i : Item) (items past : List Item) → reverse (i ∷ items) ++ past ≡ reverse items ++ (i ∷ past)
   onto i items past = ap (λ (xs : List Item). xs ++ past) (reverse-append (i ∷ []) items) ∙ append_assoc (reverse items) (i ∷ []) past
 
-  legal_before : (xs ys : List Item) → is_legal g targets (xs ++ ys) ≡ true → is_legal g targets ys ≡ true
+  pub legal_before : (xs ys : List Item) → is_legal g targets (xs ++ ys) ≡ true → is_legal g targets ys ≡ true
   legal_before [] ys h = h
   legal_before (x ∷ xs) ys h = legal_before xs ys (and_parts (is_permitted g targets (xs ++ ys) x) (is_legal g targets (xs ++ ys)) h).1
 

@@ -2,6 +2,10 @@
 
 ghost use Rattle.trace_ops.specs.Laws.{EachItemBelongs, NothingIsLost, FaultsAreTold, NoFaultIsHidden, PiecesAreTails, NoChains};
 ghost use Rattle.trace_ops.specs.AtWork.{WorkIsTheModels, WorkBeginsAsTheModels, WorksDontOverlap};
+ghost use Rattle.trace_ops.specs.Openings.{OperationsAreOpeners};
+ghost use Rattle.trace_ops.specs.Folding.{PartsAreFolded};
+ghost use Rattle.trace_ops.specs.LastWork.{QuestionsAreForWork};
+ghost use Rattle.trace_ops.specs.Polling.{PollingHosts};
 
 /// Each item of a trace belongs to one operation, which is in the list; the first and the last of them are those that the operation names.
 pub fn each_item_belongs()
@@ -48,4 +52,27 @@ pub fn work_begins_as_the_models()
 /// In such a trace works of one LUN don't overlap: the earlier operation has ended where the later one begins.
 pub fn works_dont_overlap()
     ensures { WorksDontOverlap }
+{}
+
+/// In such a trace each command that begins a sequence begins an operation, and nothing else does: there is no `cut`, and no ready of its own.
+pub fn operations_are_openers()
+    ensures { OperationsAreOpeners }
+{}
+
+/// In such a trace an operation has no line of its own exactly where it is a part of another, and that is a question for the status or a 00h alone: what begins
+/// a read, a program, an erase, a reset or anything else has one line.
+pub fn parts_are_folded()
+    ensures { PartsAreFolded }
+{}
+
+/// In such a trace the operation of a 70h is a part of the one that began the last work of its LUN, where no status byte has said that this is over; where one
+/// has, it is a part of none.
+pub fn questions_are_for_work()
+    ensures { QuestionsAreForWork }
+{}
+
+/// In such a trace of a target with one LUN, whose host reads, programs and erases, and polls after each of these: each of them has one line, in order, and what
+/// is folded is the questions and the 00h that go back to data.
+pub fn polling_hosts()
+    ensures { PollingHosts }
 {}

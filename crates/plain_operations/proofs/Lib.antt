@@ -1,0 +1,4 @@
+pub mod Texts
+pub mod Hosts
+pub mod Steps
+pub mod Ending

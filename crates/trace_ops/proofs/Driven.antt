@@ -1,0 +1,201 @@
+-- What a permitted output or ready tells of the past: the target has a tail, the LUN or its array works.
+use Rattle.std.proofs.Common.{◌≡◌, ℕ, zero, suc, ◌+◌, ◌<◌, ◌==◌, Bool, true, false, ◌&&◌, ◌||◌, not, cond, List, [], ◌∷◌, Option, Some, None, refl, sym, ap, ◌∙◌, arith, leb, leb-false}
+use Rattle.std.specs.Prelude.{slice_get}
+use Rattle.std.proofs.lemmas.Bool.{or_parts, not-false}
+use Rattle.std.proofs.lemmas.Option.{slice_get_within}
+use Rattle.nand_geometry.specs.declared.parts.Parts.{Parts}
+use Rattle.onfi_cycle.specs.declared.command.Command.{Command}
+use Rattle.onfi_cycle.specs.declared.command.Command.TheVariants.{Read, ReadConfirm, ChangeReadColumn, ChangeReadColumnConfirm, BlockErase, BlockEraseConfirm, BlockErasePlane, ReadStatus, ReadStatusEnhanced, PageProgram, ChangeWriteColumn, ProgramConfirm, ProgramPlane, ReadId, ReadParameterPage, Reset, ReadCacheSequential, ReadCacheEnd, ReadUniqueId, GetFeatures, SetFeatures, ResetLun, SynchronousReset, Unknown}
+use Rattle.onfi_cycle.specs.declared.effect.Effect.{Effect}
+use Rattle.onfi_cycle.specs.declared.effect.Effect.TheVariants.{BecameReady, ArrayBecameReady, ReadStarted, EraseStarted, ProgramStarted, IdRead, IdentityRead, UniqueIdReadStarted, FeaturesReadStarted, FeaturesSet, ParameterPageReadStarted, CacheReadContinued, CacheReadEnded, ResetStarted}
+use Rattle.onfi_cycle.specs.declared.forbidden.Forbidden.TheVariants.{NotThere}
+use Rattle.onfi_cycle.specs.declared.item.Cycle.{Cycle}
+use Rattle.onfi_cycle.specs.declared.item.Item.{Item}
+use Rattle.onfi_cycle.specs.declared.item.Item.TheVariants.{Cyc, Rdy, Ard}
+use Rattle.onfi_cycle.specs.declared.item.Kind.TheVariants.{Dout}
+use Rattle.onfi_cycle.specs.declared.latch.Latch.{Latch}
+use Rattle.onfi_cycle.specs.declared.latch.Latch.TheVariants.{Off}
+use Rattle.onfi_cycle.specs.declared.lun.Lun.{Lun}
+use Rattle.onfi_cycle.specs.declared.tail_facts.TailFacts.{TailFacts}
+use Rattle.onfi_cycle.specs.declared.target_cycle.TargetCycle.{TargetCycle}
+use Rattle.onfi_cycle.specs.declared.target_cycle.TargetCycle.TheVariants.{CommandCycle, AddressCycle, InputCycle, OutputCycle}
+use Rattle.onfi_cycle.specs.LunView.{LunView}
+use Rattle.onfi_cycle.specs.Effect.{is_off, cycle_effect}
+use Rattle.onfi_cycle.specs.Lun.{latch, latch_after, array_busy_after, effect_on, is_busy, is_caching, is_array_busy, lun_view, luns_of, views_from}
+use Rattle.onfi_cycle.specs.Permitted.{broken}
+use Rattle.onfi_cycle.specs.Rules.{driving, driver_is, is_some_and, lun_is, breaks_not_there, breaks_no_sole_driver}
+use Rattle.onfi_cycle.specs.Sequence.{begins_sequence, continued, with_cycle, tail, facts_of, is_open, target_cycle}
+use Rattle.onfi_cycle.specs.Working.{IsLun}
+use Rattle.onfi_cycle.proofs.Keeping.{views_length, view_at}
+use Rattle.onfi_cycle.proofs.Others.{first_passed}
+use Rattle.onfi_cycle.proofs.Passed.{permitted_keeps}
+
+-- ---- who shows something has had a command
+
+-- without a tail no cycle but an opener turns a latch on
+off_command : (g : Parts) (c : Command) (lun : ℕ) → begins_sequence (CommandCycle c) ≡ false → latch_after (cycle_effect g (facts_of []) Off (CommandCycle c) lun) Off ≡ Off
+off_command g ReadConfirm lun h = refl
+off_command g ChangeReadColumnConfirm lun h = refl
+off_command g BlockEraseConfirm lun h = refl
+off_command g BlockErasePlane lun h = refl
+off_command g ChangeWriteColumn lun h = refl
+off_command g ProgramConfirm lun h = refl
+off_command g ProgramPlane lun h = refl
+off_command g Unknown lun h = refl
+off_command g Read lun h = cc
+off_command g ChangeReadColumn lun h = cc
+off_command g BlockErase lun h = cc
+off_command g ReadStatus lun h = cc
+off_command g ReadStatusEnhanced lun h = cc
+off_command g PageProgram lun h = cc
+off_command g ReadId lun h = cc
+off_command g ReadParameterPage lun h = cc
+off_command g Reset lun h = cc
+off_command g ReadCacheSequential lun h = cc
+off_command g ReadCacheEnd lun h = cc
+off_command g ReadUniqueId lun h = cc
+off_command g GetFeatures lun h = cc
+off_command g SetFeatures lun h = cc
+off_command g ResetLun lun h = cc
+off_command g SynchronousReset lun h = cc
+
+off_cycle : (g : Parts) (c : TargetCycle) (lun : ℕ) → begins_sequence c ≡ false → latch_after (cycle_effect g (facts_of []) Off c lun) Off ≡ Off
+off_cycle g (CommandCycle c) lun h = off_command g c lun h
+off_cycle g (AddressCycle byte) lun h = refl
+off_cycle g (InputCycle byte) lun h = refl
+off_cycle g OutputCycle lun h = refl
+
+-- a tail that is empty after a cycle was so before it
+empty_before : (c : TargetCycle) (t : List TargetCycle) → with_cycle c t ≡ [] → (begins_sequence c ≡ false) × (t ≡ [])
+empty_before c t h = at (begins_sequence c) refl t h
+  where
+    at : (b : Bool) → begins_sequence c ≡ b → (t : List TargetCycle) → cond b (c ∷ []) (continued c t) ≡ [] → (begins_sequence c ≡ false) × (t ≡ [])
+    at true e t h = cc
+    at false e [] h = (e, refl)
+    at false e (d ∷ t) h = cc
+
+off_by : (g : Parts) (past : List Item) (c : TargetCycle) (l : Lun) → tail past l.ce ≡ [] → latch g past l ≡ Off → begins_sequence c ≡ false →
+    latch_after (cycle_effect g (facts_of (tail past l.ce)) (latch g past l) c l.lun) (latch g past l) ≡ Off
+off_by g past c l empty off h =
+    ap (λ (t : List TargetCycle). latch_after (cycle_effect g (facts_of t) (latch g past l) c l.lun) (latch g past l)) empty
+    ∙ ap (λ (x : Latch). latch_after (cycle_effect g (facts_of []) x c l.lun) x) off ∙ off_cycle g c l.lun h
+
+-- an item more, where the LUN showed nothing before it
+off_after : (g : Parts) (past : List Item) (i : Item) (l : Lun) → (tail past l.ce ≡ [] → latch g past l ≡ Off) → tail (i ∷ past) l.ce ≡ [] → latch g (i ∷ past) l ≡ Off
+off_after g past (Cyc c) l off h = at (c.ce == l.ce) refl h
+  where
+    at : (b : Bool) → (c.ce == l.ce) ≡ b → cond b (with_cycle (target_cycle c.kind c.byte) (tail past l.ce)) (tail past l.ce) ≡ [] → latch g (Cyc c ∷ past) l ≡ Off
+    at true e h =
+        let before = empty_before (target_cycle c.kind c.byte) (tail past l.ce) h in
+        rw (e) (off_by g past (target_cycle c.kind c.byte) l before.1 (off before.1) before.0)
+    at false e h = rw (e) (off h)
+off_after g past (Rdy ce lun fail) l off h = at (ce == l.ce && lun == l.lun) refl
+  where
+    at : (b : Bool) → (ce == l.ce && lun == l.lun) ≡ b → latch g (Rdy ce lun fail ∷ past) l ≡ Off
+    at true e = rw (e) (off h)
+    at false e = rw (e) (off h)
+off_after g past (Ard ce lun) l off h = at (ce == l.ce && lun == l.lun) refl
+  where
+    at : (b : Bool) → (ce == l.ce && lun == l.lun) ≡ b → latch g (Ard ce lun ∷ past) l ≡ Off
+    at true e = rw (e) (off h)
+    at false e = rw (e) (off h)
+
+-- a LUN of a target without a tail shows nothing
+pub off_without : (g : Parts) (past : List Item) (l : Lun) → tail past l.ce ≡ [] → latch g past l ≡ Off
+off_without g [] l h = refl
+off_without g (i ∷ past) l h = off_after g past i l (off_without g past l) h
+
+none_drives : (g : Parts) (past : List Item) (ce count n : ℕ) → ((lun : ℕ) → latch g past (record { ce = ce; lun = lun }) ≡ Off) → driving (views_from g past ce count n) ≡ []
+none_drives g past ce zero n off = refl
+none_drives g past ce (suc count) n off =
+    ap (λ (x : Latch). cond (is_off x) (driving (views_from g past ce count (n + 1))) (lun_view g past (record { ce = ce; lun = n }) ∷ driving (views_from g past ce count (n + 1)))) (off n)
+    ∙ none_drives g past ce count (n + 1) off
+
+driven : (t : TailFacts) (luns : List LunView) → breaks_no_sole_driver t luns OutputCycle ≡ false → driver_is (λ v. true) luns ≡ true
+unfolding breaks_no_sole_driver
+driven t luns h = not-false (driver_is (λ v. true) luns) ((or_parts (is_open t) (not (driver_is (λ v. true) luns)) h).1)
+
+-- before a permitted output its target has had a command
+pub output_tailed : (g : Parts) (targets : ℕ) (past : List Item) (c : Cycle) → c.kind ≡ Dout → broken g targets past (Cyc c) ≡ None → tail past c.ce ≡ [] → ⊥
+output_tailed g targets past c is h empty = no (sym none ∙ driven (facts_of (tail past c.ce)) (luns_of g past c.ce) sole)
+  where
+    no : false ≡ true → ⊥
+    no e = cc
+
+    sole : breaks_no_sole_driver (facts_of (tail past c.ce)) (luns_of g past c.ce) OutputCycle ≡ false
+    sole = ap (λ k. breaks_no_sole_driver (facts_of (tail past c.ce)) (luns_of g past c.ce) (target_cycle k c.byte)) (sym is) ∙ (permitted_keeps g targets past c h).f12
+
+    none : driver_is (λ v. true) (luns_of g past c.ce) ≡ false
+    none = rw (none_drives g past c.ce g.luns 0 (λ lun. off_without g past (record { ce = c.ce; lun = lun }) empty)) refl
+
+-- ---- a ready is of a LUN that works
+
+there_is : (test : LunView → Bool) (g : Parts) (past : List Item) (ce lun : ℕ) → lun_is test (luns_of g past ce) lun ≡ true → (lun < g.luns) × (test (lun_view g past (record { ce = ce; lun = lun })) ≡ true)
+there_is test g past ce lun h = at (slice_get (luns_of g past ce) lun) refl h
+  where
+    at : (x : Option LunView) → slice_get (luns_of g past ce) lun ≡ x → is_some_and test x ≡ true → (lun < g.luns) × (test (lun_view g past (record { ce = ce; lun = lun })) ≡ true)
+    at None e h = cc
+    at (Some v) e h =
+        let small = slice_get_within (luns_of g past ce) lun v e in
+        let long = views_length g past ce g.luns 0 in
+        let low : lun < g.luns = omega (arith, small, long) in
+        (low, ap (is_some_and test) (sym (view_at g past (record { ce = ce; lun = lun }) low) ∙ e) ∙ h)
+
+two_false : (a b : Bool) → (a || not b) ≡ false → (a ≡ false) × (b ≡ true)
+two_false true b h = cc
+two_false false true h = (refl, refl)
+two_false false false h = cc
+
+-- a LUN of the channel of which this is so
+pub record IsOf (g : Parts) (targets : ℕ) (l : Lun) (so : Bool) : Type 0 where
+  pub is_lun : IsLun g targets l
+  pub works : so ≡ true
+
+pub ready_of : (g : Parts) (targets : ℕ) (past : List Item) (ce lun : ℕ) (fail : Bool) → broken g targets past (Rdy ce lun fail) ≡ None →
+    IsOf g targets (record { ce = ce; lun = lun }) (is_busy g past (record { ce = ce; lun = lun }))
+unfolding breaks_not_there
+ready_of g targets past ce lun fail h =
+    let passed = (first_passed (leb targets ce || not (lun_is (λ v. v.busy) (luns_of g past ce) lun)) NotThere None h).0 in
+    let both = two_false (leb targets ce) (lun_is (λ v. v.busy) (luns_of g past ce) lun) passed in
+    let there' = there_is (λ v. v.busy) g past ce lun both.1 in
+    record { is_lun = record { target = leb-false targets ce both.0; lun = there'.0 }; works = there'.1 }
+
+pub array_ready_of : (g : Parts) (targets : ℕ) (past : List Item) (ce lun : ℕ) → broken g targets past (Ard ce lun) ≡ None →
+    IsOf g targets (record { ce = ce; lun = lun }) (is_array_busy g past (record { ce = ce; lun = lun }))
+unfolding breaks_not_there
+array_ready_of g targets past ce lun h =
+    let passed = (first_passed (leb targets ce || not (lun_is (λ v. v.array_busy) (luns_of g past ce) lun)) NotThere None h).0 in
+    let both = two_false (leb targets ce) (lun_is (λ v. v.array_busy) (luns_of g past ce) lun) passed in
+    let there' = there_is (λ v. v.array_busy) g past ce lun both.1 in
+    record { is_lun = record { target = leb-false targets ce both.0; lun = there'.0 }; works = there'.1 }
+
+-- ---- an array works once its LUN has
+
+two_true : (a b c : Bool) → (a || (b && c)) ≡ true → (a || b) ≡ true
+two_true true b c h = refl
+two_true false true c h = refl
+two_true false false c h = cc
+
+first_of : (a b : Bool) → a ≡ true → (a || b) ≡ true
+first_of true b h = refl
+first_of false b h = cc
+
+array_after : (e : Effect) (busy caching array : Bool) → array_busy_after e busy caching array ≡ true → (array || busy) ≡ true
+array_after (BecameReady fail) busy caching array h = two_true array busy caching h
+array_after ArrayBecameReady busy caching array h = cc
+array_after (ReadStarted at from) busy caching array h = cc
+array_after (EraseStarted queued at) busy caching array h = cc
+array_after (ProgramStarted queued at) busy caching array h = cc
+array_after IdRead busy caching array h = cc
+array_after (IdentityRead jedec) busy caching array h = cc
+array_after ParameterPageReadStarted busy caching array h = cc
+array_after UniqueIdReadStarted busy caching array h = cc
+array_after (FeaturesReadStarted address) busy caching array h = cc
+array_after (FeaturesSet address) busy caching array h = cc
+array_after CacheReadContinued busy caching array h = cc
+array_after CacheReadEnded busy caching array h = cc
+array_after ResetStarted busy caching array h = cc
+array_after e busy caching array h = first_of array busy h
+
+pub array_before : (g : Parts) (past : List Item) (i : Item) (l : Lun) → is_array_busy g (i ∷ past) l ≡ true → (is_array_busy g past l || is_busy g past l) ≡ true
+array_before g past i l h = array_after (effect_on g past i l) (is_busy g past l) (is_caching g past l) (is_array_busy g past l) h
