@@ -1,5 +1,5 @@
 -- The LUNs of a target after an item, as they are and as they are seen.
-use Rattle.std.proofs.Common.{◌≡◌, ℕ, zero, suc, ◌+◌, ◌≤◌, ◌<◌, Bool, true, false, cond, List, [], ◌∷◌, length, Option, Some, None, refl, sym, ap, ◌∙◌, arith, slice_get, subst, map}
+use Rattle.std.proofs.Common.{◌≡◌, ℕ, zero, suc, ◌+◌, ◌≤◌, ◌<◌, Bool, true, List, [], ◌∷◌, length, Option, Some, refl, sym, ap, ◌∙◌, arith, slice_get, subst}
 use Rattle.std.proofs.lemmas.Option.{slice_get_within}
 use Rattle.nand_geometry.specs.declared.parts.Parts.{Parts}
 use Rattle.onfi_cycle.specs.declared.effect.Effect.{Effect}
@@ -123,10 +123,10 @@ pub learns_each : (i : Item) (k later : Known) (es : ℕ → LunView → Effect)
 learns_each i k later es ss few l =
     at_each (Learns i k later es) ss
     (λ m s h.
-      let within = slice_get_within ss m s h in
-      l m (omega (arith, few, within))
-      ∙ ap (λ (o : Option LunView). learned_lun i (look_at_some o) (look_at_some (slice_get (changed es 0 ss) m)) (knows k m)) h
-      ∙ ap (λ (o : Option LunView). learned_lun i (Some (look_at s)) (look_at_some o) (knows k m)) (changed_found es ss m s h))
+    let within = slice_get_within ss m s h in
+    l m (omega (arith, few, within))
+    ∙ ap (λ (o : Option LunView). learned_lun i (look_at_some o) (look_at_some (slice_get (changed es 0 ss) m)) (knows k m)) h
+    ∙ ap (λ (o : Option LunView). learned_lun i (Some (look_at s)) (look_at_some o) (knows k m)) (changed_found es ss m s h))
 
 -- ---- 5. an item that isn't
 

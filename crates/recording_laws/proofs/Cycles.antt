@@ -1,11 +1,11 @@
 -- A permitted cycle that is seen, on each LUN of its target.
-use Rattle.std.proofs.Common.{◌≡◌, ℕ, zero, suc, ◌+◌, ◌==◌, Bool, true, false, cond, not, ◌&&◌, ◌||◌, List, [], ◌∷◌, Option, Some, None, refl, sym, ap, ◌∙◌, subst, slice_get}
-use Rattle.std.proofs.lemmas.Bool.{and_parts, or_parts, not-true, not-false}
+use Rattle.std.proofs.Common.{◌≡◌, ℕ, ◌+◌, ◌==◌, Bool, true, false, cond, not, ◌&&◌, List, [], ◌∷◌, Option, Some, None, refl, sym, ap, ◌∙◌, subst}
+use Rattle.std.proofs.lemmas.Bool.{and_parts, or_parts, not-false}
 use Rattle.nand_geometry.specs.declared.parts.Parts.{Parts}
 use Rattle.onfi_cycle.specs.declared.command.Command.{Command}
-use Rattle.onfi_cycle.specs.declared.command.Command.TheVariants.{Read, ReadConfirm, ChangeReadColumn, ChangeReadColumnConfirm, BlockErase, BlockEraseConfirm, BlockErasePlane, ReadStatus, ReadStatusEnhanced, PageProgram, ChangeWriteColumn, ProgramConfirm, ProgramPlane, ReadId, ReadParameterPage, Reset, ReadCacheSequential, ReadCacheEnd, ReadUniqueId, GetFeatures, SetFeatures, ResetLun, SynchronousReset, Unknown}
+use Rattle.onfi_cycle.specs.declared.command.Command.TheVariants.{Read, ReadConfirm, ChangeReadColumn, ChangeReadColumnConfirm, BlockErase, BlockEraseConfirm, BlockErasePlane, ReadStatus, ReadStatusEnhanced, PageProgram, ProgramConfirm, ProgramPlane, ReadId, ReadParameterPage, Reset, ReadCacheSequential, ReadCacheEnd, ReadUniqueId, GetFeatures, SetFeatures, ResetLun, SynchronousReset}
 use Rattle.onfi_cycle.specs.declared.effect.Effect.{Effect}
-use Rattle.onfi_cycle.specs.declared.effect.Effect.TheVariants.{Unaffected, SelectedForStatus, Deselected, ReadStarted, IdRead, IdentityRead, UniqueIdReadStarted, FeaturesReadStarted, FeaturesSet, ParameterPageReadStarted, CacheReadContinued, CacheReadEnded, ReadColumnChanged, DataOutput, ResetStarted}
+use Rattle.onfi_cycle.specs.declared.effect.Effect.TheVariants.{Unaffected, SelectedForStatus, Deselected, IdRead, IdentityRead, UniqueIdReadStarted, FeaturesReadStarted, FeaturesSet, ParameterPageReadStarted, CacheReadContinued, CacheReadEnded, ReadColumnChanged, DataOutput, ResetStarted}
 use Rattle.onfi_cycle.specs.declared.item.Cycle.{Cycle}
 use Rattle.onfi_cycle.specs.declared.item.Item.{Item}
 use Rattle.onfi_cycle.specs.declared.item.Item.TheVariants.{Cyc}
@@ -30,10 +30,9 @@ use Rattle.onfi_cycle.proofs.Passed.{KeepsRules}
 use Rattle.trace_faults.specs.declared.known.Known.{Known}
 use Rattle.trace_faults.specs.declared.lun_known.LunKnown.{LunKnown}
 use Rattle.trace_faults.specs.Middle.{knows, is_all, has_begun, is_reset_cycle, is_reset, learned_lun}
-use Rattle.recording_laws.proofs.Luns.{Shows, IsBelow, IsBegun, IsSame, Fits, Asks, fits_after}
-use Rattle.recording_laws.proofs.Lists.{Each, each_more, SameOff, same_driver, AllOn, driver_on}
-use Rattle.recording_laws.proofs.Changed.{changed, luns_are_changed, same_changed, AtEach, at_each, Goes, GoEach, go_each}
-use Rattle.recording_laws.proofs.Unseen.{NoneQueued}
+use Rattle.recording_laws.proofs.Luns.{Shows, IsBelow, Fits, Asks, fits_after}
+use Rattle.recording_laws.proofs.Lists.{Each, SameOff, same_driver, AllOn, driver_on}
+use Rattle.recording_laws.proofs.Changed.{changed, luns_are_changed, same_changed, AtEach, Goes, GoEach, go_each}
 
 -- ---- 1. the effects of a cycle
 
@@ -189,8 +188,8 @@ output_unseen k t s status gives f =
     record {
       below = record { busy = f.below.busy; queue = f.below.queue; latch = f.below.latch; calm = f.below.calm };
       begun = λ h.
-        let b = f.begun h in
-        record { busy = b.busy; closer = b.closer; array_busy = b.array_busy; page = b.page; register = b.register; column = λ e. absurd (clash (is_all k) refl h e) };
+          let b = f.begun h in
+          record { busy = b.busy; closer = b.closer; array_busy = b.array_busy; page = b.page; register = b.register; column = λ e. absurd (clash (is_all k) refl h e) };
       same = λ h. let m = f.same h in record { off = m.off; latch = m.latch };
       off = f.off;
     }
@@ -273,8 +272,8 @@ module _ (g : Parts) (i : Item) (k : Known) (ts ss : List LunView) (each : Each 
       of false h =
           go_each i k (by_cycle g u (has_driver ts) (CommandCycle ChangeReadColumnConfirm)) (by_cycle g u (has_driver ss) (CommandCycle ChangeReadColumnConfirm)) IsBelow Any Any
           (λ n t s b a c. go_same i (knows k n) (by_cycle g u (has_driver ts) (CommandCycle ChangeReadColumnConfirm) n t) (by_cycle g u (has_driver ss) (CommandCycle ChangeReadColumnConfirm) n s) t s
-            (none (cond (has_driver ts) t.latch Off) h n ∙ sym (none (cond (has_driver ss) s.latch Off) h n))
-            (asks_if (wants_command u ChangeReadColumnConfirm && not (is_off (cond (has_driver ss) s.latch Off))) x t s (λ r. tt)) (λ r. absurd (resets r)))
+          (none (cond (has_driver ts) t.latch Off) h n ∙ sym (none (cond (has_driver ss) s.latch Off) h n))
+          (asks_if (wants_command u ChangeReadColumnConfirm && not (is_off (cond (has_driver ss) s.latch Off))) x t s (λ r. tt)) (λ r. absurd (resets r)))
           0 ts ss each (any_at 0 ts) (any_at 0 ss)
 
   -- effects that are the same on both, and ask nothing
@@ -303,7 +302,6 @@ module _ (g : Parts) (i : Item) (k : Known) (ts ss : List LunView) (each : Each 
       go_cache u u ends_cache ReadCacheEnd CacheReadEnded (λ la n t. refl) (λ t s h. tt) (λ h. let yes = r h in cc) (not-false (driver_is ends_cache ts) a.f15) (not-false (driver_is ends_cache ss) b.f15)
   go_command u ChangeReadColumnConfirm r a b d z = go_column u d (λ h. let yes = r h in cc)
   go_command u c r a b d z = go_other u c refl r z
-
 
   -- an opener behind a sequence that wasn't seen
   pub go_opener : (u : TailFacts) (c : Command) → is_opener c ≡ true → (is_reset i ≡ true → is_reset_cycle (CommandCycle c) ≡ true) → KeepsRules g u ts (CommandCycle c) → KeepsRules g (facts_of []) ss (CommandCycle c) →

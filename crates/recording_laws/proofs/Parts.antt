@@ -1,5 +1,5 @@
 -- No rule is seen to be broken by a part of a legal trace.
-use Rattle.std.proofs.Common.{◌≡◌, ◌⊎◌, inl, inr, ℕ, zero, suc, ◌+◌, ◌<◌, ◌≤◌, ◌==◌, Bool, true, false, cond, not, ◌&&◌, ◌||◌, leb, ltb, List, [], ◌∷◌, ◌++◌, length, reverse, Option, Some, None, refl, sym, ap, ◌∙◌, subst, slice_get, arith, lt-ltb}
+use Rattle.std.proofs.Common.{◌≡◌, ℕ, zero, suc, ◌+◌, ◌<◌, ◌≤◌, Bool, true, false, not, ◌||◌, leb, List, [], ◌∷◌, ◌++◌, length, reverse, Some, None, refl, sym, ap, ◌∙◌, subst, slice_get, arith, lt-ltb}
 use Rattle.std.proofs.lemmas.Bool.{and_parts}
 use Rattle.std.proofs.lemmas.List.{reverse-append}
 use Rattle.std.proofs.lemmas.Option.{slice_get_within}
@@ -12,20 +12,19 @@ use Rattle.onfi_cycle.specs.Lun.{lun_view, views_from, luns_of}
 use Rattle.onfi_cycle.specs.LunView.{LunView}
 use Rattle.onfi_cycle.specs.Permitted.{broken, is_permitted, is_legal}
 use Rattle.onfi_cycle.specs.Rules.{lun_is, breaks_not_there}
-use Rattle.onfi_cycle.specs.Sequence.{facts_of, tail}
 use Rattle.onfi_cycle.specs.State.{TargetView, BusView, Follows, judged, target_view, targets_from, bus, bus_after}
-use Rattle.onfi_cycle.proofs.Following.{found_target, count_of, targets_length, judged_is_broken, bus_goes_on}
+use Rattle.onfi_cycle.proofs.Following.{found_target, targets_length, judged_is_broken, bus_goes_on}
 use Rattle.onfi_cycle.proofs.Keeping.{views_length}
 use Rattle.trace_faults.specs.declared.broken_rule.BrokenRule.{BrokenRule}
 use Rattle.trace_faults.specs.declared.known.Known.{Known}
 use Rattle.trace_faults.specs.declared.readies.Readies.TheVariants.{Written}
-use Rattle.trace_faults.specs.Middle.{Seen, nothing_known, first_known, all_first_known, known_of, first_seen, verdict, seen_after, verdicts_from, broken_in, all_broken}
+use Rattle.trace_faults.specs.Middle.{Seen, nothing_known, first_known, all_first_known, known_of, first_seen, seen_after, verdicts_from, all_broken}
 use Rattle.trace_faults.proofs.Judged.{onto, before, nothing}
 use Rattle.recording_laws.specs.FromMiddle.{PartsHaveNoFaults}
 use Rattle.recording_laws.proofs.Luns.{IsBelow, IsBlank}
 use Rattle.recording_laws.proofs.Lists.{Each}
 use Rattle.recording_laws.proofs.Changed.{all_nothing}
-use Rattle.recording_laws.proofs.Unseen.{AreBlank, blank}
+use Rattle.recording_laws.proofs.Unseen.{blank}
 use Rattle.recording_laws.proofs.Targets.{FitsTarget}
 use Rattle.recording_laws.proofs.Readies.{ready_is, array_ready_is}
 use Rattle.recording_laws.proofs.Walk.{FitsBus}
@@ -95,15 +94,15 @@ begins_fitting g targets past items few luns legal =
       few = let len = targets_length g past targets 0 in omega (arith, len, few);
       known = refl;
       each = λ ce t s ft fs.
-        let within = slice_get_within (targets_from g past targets 0) ce t ft in
-        let len = targets_length g past targets 0 in
-        let there : ce < targets = omega (arith, within, len) in
-        let is = found_target g targets (bus g (targets_from g past targets 0)) past ce follows there in
-        let shown = found_target g targets (bus g (targets_from g [] targets 0)) [] ce (record { legal = refl; geometry = refl; facts = refl }) there in
-        let same_t : target_view g past ce ≡ t = cc in
-        let same_s : target_view g [] ce ≡ s = cc in
-        subst (λ (k : Known). FitsTarget g k t s) (sym (first_is_known targets ce there few))
-        (subst (λ (u : TargetView). FitsTarget g nothing_known u s) same_t (subst (λ (u : TargetView). FitsTarget g nothing_known (target_view g past ce) u) same_s (first_target g past ce luns)));
+          let within = slice_get_within (targets_from g past targets 0) ce t ft in
+          let len = targets_length g past targets 0 in
+          let there : ce < targets = omega (arith, within, len) in
+          let is = found_target g targets (bus g (targets_from g past targets 0)) past ce follows there in
+          let shown = found_target g targets (bus g (targets_from g [] targets 0)) [] ce (record { legal = refl; geometry = refl; facts = refl }) there in
+          let same_t : target_view g past ce ≡ t = cc in
+          let same_s : target_view g [] ce ≡ s = cc in
+          subst (λ (k : Known). FitsTarget g k t s) (sym (first_is_known targets ce there few))
+          (subst (λ (u : TargetView). FitsTarget g nothing_known u s) same_t (subst (λ (u : TargetView). FitsTarget g nothing_known (target_view g past ce) u) same_s (first_target g past ce luns)));
     }
   where
     follows : Follows g targets (bus g (targets_from g past targets 0)) past

@@ -1,33 +1,33 @@
 -- A target as it is, and as it is seen: what a permitted ready of it leaves of both.
-use Rattle.std.proofs.Common.{◌≡◌, ◌⊎◌, inl, inr, ℕ, zero, suc, ◌+◌, ◌<◌, ◌≤◌, ◌==◌, Bool, true, false, cond, not, ◌&&◌, ◌||◌, List, [], ◌∷◌, length, Option, Some, None, refl, sym, ap, ◌∙◌, subst, slice_get, eqb-true, eq-eqb, arith}
-use Rattle.std.proofs.lemmas.Bool.{and_parts, or_parts, not-true, not-false, false_from_ne_true}
+use Rattle.std.proofs.Common.{◌≡◌, ◌⊎◌, inl, inr, ℕ, zero, suc, ◌+◌, ◌<◌, ◌≤◌, ◌==◌, Bool, true, false, cond, not, ◌&&◌, ◌||◌, List, [], ◌∷◌, length, Option, Some, None, refl, sym, ap, ◌∙◌, subst, slice_get, eqb-true, arith}
+use Rattle.std.proofs.lemmas.Bool.{and_parts, not-true, false_from_ne_true}
 use Rattle.nand_geometry.specs.declared.parts.Parts.{Parts}
 use Rattle.onfi_cycle.specs.declared.effect.Effect.{Effect}
-use Rattle.onfi_cycle.specs.declared.effect.Effect.TheVariants.{Unaffected, BecameReady, ArrayBecameReady, ResetStarted}
+use Rattle.onfi_cycle.specs.declared.effect.Effect.TheVariants.{Unaffected, BecameReady, ArrayBecameReady}
 use Rattle.onfi_cycle.specs.declared.item.Item.{Item}
-use Rattle.onfi_cycle.specs.declared.item.Item.TheVariants.{Cyc, Rdy, Ard}
+use Rattle.onfi_cycle.specs.declared.item.Item.TheVariants.{Rdy, Ard}
 use Rattle.onfi_cycle.specs.declared.tail_facts.TailFacts.{TailFacts}
 use Rattle.onfi_cycle.specs.Bounds.{is_read}
 use Rattle.onfi_cycle.specs.Command.{is_change_read_column}
-use Rattle.onfi_cycle.specs.Effect.{is_off, names_lun}
+use Rattle.onfi_cycle.specs.Effect.{is_off}
 use Rattle.onfi_cycle.specs.Look.{look_at, look_at_some}
 use Rattle.onfi_cycle.specs.Lun.{is_cache_read, view_after}
 use Rattle.onfi_cycle.specs.LunView.{LunView}
 use Rattle.onfi_cycle.specs.Rules.{is_some_and, lun_is}
 use Rattle.onfi_cycle.specs.Sequence.{opened, row}
-use Rattle.onfi_cycle.specs.State.{TargetView, effect_alone, luns_after, has_driver, target_after, target}
+use Rattle.onfi_cycle.specs.State.{TargetView, effect_alone, luns_after, has_driver, target_after}
 use Rattle.onfi_cycle.proofs.Booleans.{eqb_self}
 use Rattle.trace_faults.specs.declared.known.Known.{Known}
 use Rattle.trace_faults.specs.declared.lun_known.LunKnown.{LunKnown}
 use Rattle.trace_faults.specs.declared.lun_known.LunKnown.TheVariants.{Nothing, Work, All}
-use Rattle.trace_faults.specs.Middle.{knows, nothing_known, is_reset, is_all, has_begun, begins_anew, is_driving, learned_by, learned_lun}
-use Rattle.recording_laws.proofs.Luns.{IsBelow, IsBegun, Fits, Asks, IsHarmless, IsBlank, fits_after, unseen_after}
+use Rattle.trace_faults.specs.Middle.{knows, nothing_known, is_reset, has_begun, learned_by, learned_lun}
+use Rattle.recording_laws.proofs.Luns.{IsBegun, Fits, Asks, IsHarmless, IsBlank, unseen_after}
 use Rattle.recording_laws.proofs.Lists.{Each, SameOff, driver_up}
-use Rattle.recording_laws.proofs.Changed.{changed, changed_found, changed_length, luns_are_changed, same_changed, AtEach, at_each, AllFit, GoEach, Goes, all_fit_on, IsLearned, learns_each}
+use Rattle.recording_laws.proofs.Changed.{changed, changed_found, changed_length, luns_are_changed, same_changed, AtEach, at_each, AllFit, GoEach, all_fit_on, IsLearned, learns_each}
 use Rattle.recording_laws.proofs.Cycles.{go_same}
 use Rattle.recording_laws.proofs.Unseen.{is_quiet, is_named, NoneQueued, AreBlank, MayCome, blank, quiet, named}
 use Rattle.recording_laws.proofs.Granted.{is_sound}
-use Rattle.recording_laws.proofs.Targets.{IsOpened, IsClosed, FitsTarget}
+use Rattle.recording_laws.proofs.Targets.{IsOpened, FitsTarget}
 
 -- ---- 1. the two readies
 
@@ -170,12 +170,12 @@ module _ (i : Item) (lun : ℕ) (x : Effect) (works : LunView → Bool) (is : Is
           some = ap (λ (w : TailFacts). w.is_empty) (is.tail g t) ∙ o.some;
           sound = ap is_sound (is.tail g t) ∙ o.sound;
           column = λ h.
-            let both = o.column (sym (ap (λ (w : TailFacts). opened (λ c n. is_change_read_column c) w.opening) (is.tail g t)) ∙ h) in
-            (ap has_driver (luns_ready g t.tail (has_driver t.luns) t.luns) ∙ still_drives t.luns both.0, drives luns both.1);
+              let both = o.column (sym (ap (λ (w : TailFacts). opened (λ c n. is_change_read_column c) w.opening) (is.tail g t)) ∙ h) in
+              (ap has_driver (luns_ready g t.tail (has_driver t.luns) t.luns) ∙ still_drives t.luns both.0, drives luns both.1);
           read = λ h.
-            subst (λ (vs : List LunView). NoneQueued g (row (target_after g i t).tail) vs) (sym (luns_ready g t.tail (has_driver t.luns) t.luns))
-            (subst (λ (w : TailFacts). NoneQueued g (row w) (changed by_ready 0 t.luns)) (sym (is.tail g t))
-            (still_none g (row t.tail) t.luns (o.read (sym (ap (λ (w : TailFacts). opened (λ c n. is_read c && n == 5) w.opening) (is.tail g t)) ∙ h))));
+              subst (λ (vs : List LunView). NoneQueued g (row (target_after g i t).tail) vs) (sym (luns_ready g t.tail (has_driver t.luns) t.luns))
+              (subst (λ (w : TailFacts). NoneQueued g (row w) (changed by_ready 0 t.luns)) (sym (is.tail g t))
+              (still_none g (row t.tail) t.luns (o.read (sym (ap (λ (w : TailFacts). opened (λ c n. is_read c && n == 5) w.opening) (is.tail g t)) ∙ h))));
         }
       where
         drives : u.luns ≡ s.luns ⊎ u.luns ≡ changed by_ready 0 s.luns → has_driver s.luns ≡ true → has_driver u.luns ≡ true
@@ -209,8 +209,8 @@ module _ (i : Item) (lun : ℕ) (x : Effect) (works : LunView → Bool) (is : Is
               (all_fit_on i k later by_ready by_ready 0 t.luns s.luns f.luns (go_ready k 0 t.luns s.luns) (learns_each i k later by_ready s.luns f.few l));
           opened = λ y. opened_after (target_after g i s) (inr (luns_ready g s.tail (has_driver s.luns) s.luns)) (is.tail g s) (f.opened (sym kept ∙ y));
           closed = λ y.
-            let q = f.closed (sym kept ∙ y) in
-            record { tail = is.tail g s ∙ q.tail; nothing = still_nothing k later s.luns q.nothing y l; comes = comes_after h q.comes };
+              let q = f.closed (sym kept ∙ y) in
+              record { tail = is.tail g s ∙ q.tail; nothing = still_nothing k later s.luns q.nothing y l; comes = comes_after h q.comes };
         }
 
     -- ---- 4. a ready that is taken for granted
@@ -240,8 +240,8 @@ module _ (i : Item) (lun : ℕ) (x : Effect) (works : LunView → Bool) (is : Is
           luns = subst (λ (vs : List LunView). AllFit k 0 vs s.luns) (sym (luns_ready g t.tail (has_driver t.luns) t.luns)) (fit_unseen 0 t.luns s.luns f.luns (at_each Rests s.luns rests));
           opened = λ y. opened_after s (inl refl) refl (f.opened y);
           closed = λ y.
-            let q = f.closed y in
-            record { tail = q.tail; nothing = q.nothing; comes = subst (λ (w : TailFacts). MayCome g w s.luns) (sym (is.tail g t)) q.comes };
+              let q = f.closed y in
+              record { tail = q.tail; nothing = q.nothing; comes = subst (λ (w : TailFacts). MayCome g w s.luns) (sym (is.tail g t)) q.comes };
         }
       where
         rests : (m : ℕ) (v : LunView) → slice_get s.luns m ≡ Some v → Rests m v

@@ -1,10 +1,10 @@
 -- Which rules a permitted cycle may seem to break, by what is seen: those that hang on what was before, and none where all is known.
-use Rattle.std.proofs.Common.{◌≡◌, ℕ, ◌+◌, Bool, true, false, cond, not, ◌&&◌, ◌||◌, ltb, leb, List, [], ◌∷◌, Option, Some, None, refl, sym, ap, ◌∙◌, slice_get}
+use Rattle.std.proofs.Common.{◌≡◌, ◌+◌, Bool, true, false, cond, not, ◌&&◌, ◌||◌, ltb, leb, List, [], ◌∷◌, Option, Some, None, refl, sym, ap, ◌∙◌}
 use Rattle.std.specs.List.{list_any}
-use Rattle.std.proofs.lemmas.Bool.{and_parts, and_from, and_right, or_left, or_right, or_from, or_parts, not-true, not-false, not_from_true, not_from_false, false_from_ne_true}
+use Rattle.std.proofs.lemmas.Bool.{and_parts, and_from, and_right, or_left, or_right, or_from, or_parts, not-false, not_from_true}
 use Rattle.nand_geometry.specs.declared.parts.Parts.{Parts}
 use Rattle.onfi_cycle.specs.declared.command.Command.{Command}
-use Rattle.onfi_cycle.specs.declared.command.Command.TheVariants.{Read, ReadConfirm, ChangeReadColumn, ChangeReadColumnConfirm, BlockErase, BlockEraseConfirm, BlockErasePlane, ReadStatus, ReadStatusEnhanced, PageProgram, ChangeWriteColumn, ProgramConfirm, ProgramPlane, ReadId, ReadParameterPage, Reset, ReadCacheSequential, ReadCacheEnd, ReadUniqueId, GetFeatures, SetFeatures, ResetLun, SynchronousReset, Unknown}
+use Rattle.onfi_cycle.specs.declared.command.Command.TheVariants.{Read, ChangeReadColumn, BlockErase, PageProgram, ReadCacheSequential, ReadCacheEnd}
 use Rattle.onfi_cycle.specs.declared.forbidden.Forbidden.{Forbidden}
 use Rattle.onfi_cycle.specs.declared.forbidden.Forbidden.TheVariants.{NoColumnToChange, NoSoleDriver, DataNotReady, ColumnOutside, CacheReadMisplaced}
 use Rattle.onfi_cycle.specs.declared.latch.Latch.{Latch}
@@ -22,13 +22,12 @@ use Rattle.onfi_cycle.specs.Effect.{is_off, is_data, page_address}
 use Rattle.onfi_cycle.specs.Lun.{is_cache_read, is_page_read, output_column}
 use Rattle.onfi_cycle.specs.LunView.{LunView}
 use Rattle.onfi_cycle.specs.Permitted.{judge_cycle}
-use Rattle.onfi_cycle.specs.Rules.{is_some_and, driver_is, named_lun_is, ends_row, register_len, is_page_or_parameters, is_empty, lacks, is_past, queued_clashes, some_queued_clashes, has_some, may_change_column, refused_by, is_refused_by, has_no_byte, is_past_register, second_column, second_of_page, caching, continues_cache, ends_cache, breaks_sequence_open, breaks_no_column_to_change, breaks_command_misplaced, breaks_address_misplaced, breaks_row_outside, breaks_lun_busy, breaks_queue_clash, breaks_input_misplaced, breaks_no_sole_driver, breaks_data_not_ready, breaks_column_outside, breaks_cache_read_misplaced}
-use Rattle.onfi_cycle.specs.Sequence.{facts_of, opened, row_with, column_with, input_column, is_open, takes_features}
-use Rattle.onfi_cycle.specs.State.{has_driver}
+use Rattle.onfi_cycle.specs.Rules.{is_some_and, driver_is, named_lun_is, ends_row, register_len, is_page_or_parameters, is_empty, lacks, is_past, queued_clashes, has_some, may_change_column, refused_by, is_refused_by, has_no_byte, is_past_register, second_column, second_of_page, caching, continues_cache, ends_cache, breaks_sequence_open, breaks_no_column_to_change, breaks_command_misplaced, breaks_address_misplaced, breaks_row_outside, breaks_lun_busy, breaks_queue_clash, breaks_input_misplaced, breaks_no_sole_driver, breaks_data_not_ready, breaks_column_outside, breaks_cache_read_misplaced}
+use Rattle.onfi_cycle.specs.Sequence.{facts_of, row_with, column_with, is_open}
 use Rattle.onfi_cycle.proofs.Passed.{KeepsRules}
 use Rattle.trace_faults.specs.Middle.{hangs_on_before}
 use Rattle.recording_laws.proofs.Luns.{Within, Shows, kind_of, IsBelow, IsBegun, IsSame}
-use Rattle.recording_laws.proofs.Lists.{Each, each_more, either_of, any_up, any_down, lun_down, driver_up, driver_down}
+use Rattle.recording_laws.proofs.Lists.{Each, each_more, any_up, any_down, lun_down, driver_up, driver_down}
 
 -- ---- 1. Booleans
 

@@ -1,6 +1,6 @@
 -- A permitted item breaks no rule by what is seen, and what is known afterwards fits what is.
-use Rattle.std.proofs.Common.{◌≡◌, ◌⊎◌, inl, inr, ℕ, zero, suc, ◌+◌, ◌<◌, ◌≤◌, ◌==◌, Bool, true, false, cond, not, ◌&&◌, ◌||◌, leb, List, [], ◌∷◌, ◌++◌, length, reverse, Option, Some, None, refl, sym, ap, ◌∙◌, subst, slice_get, slice_set, get_or, arith, append_assoc}
-use Rattle.std.proofs.lemmas.Bool.{and_parts, and_from, or_parts, not-true, not-false, not_from_true, not_from_false}
+use Rattle.std.proofs.Common.{◌≡◌, ◌⊎◌, inl, inr, ℕ, ◌<◌, Bool, true, false, cond, not, ◌||◌, leb, List, [], length, Option, Some, None, refl, sym, ap, ◌∙◌, subst, slice_get, slice_set, get_or, arith}
+use Rattle.std.proofs.lemmas.Bool.{or_parts, not-false, not_from_true, not_from_false}
 use Rattle.std.proofs.lemmas.List.{set-get_or}
 use Rattle.std.proofs.lemmas.Option.{slice_get-get_or}
 use Rattle.nand_geometry.specs.declared.parts.Parts.{Parts}
@@ -8,7 +8,7 @@ use Rattle.onfi_cycle.specs.declared.forbidden.Forbidden.{Forbidden}
 use Rattle.onfi_cycle.specs.declared.forbidden.Forbidden.TheVariants.{NotThere}
 use Rattle.onfi_cycle.specs.declared.item.Cycle.{Cycle}
 use Rattle.onfi_cycle.specs.declared.item.Item.{Item}
-use Rattle.onfi_cycle.specs.declared.item.Item.TheVariants.{Cyc, Rdy, Ard}
+use Rattle.onfi_cycle.specs.declared.item.Item.TheVariants.{Cyc}
 use Rattle.onfi_cycle.specs.LunView.{LunView}
 use Rattle.onfi_cycle.specs.Permitted.{judge_cycle, judge_item, judge}
 use Rattle.onfi_cycle.specs.Rules.{lun_is, breaks_not_there}
@@ -32,7 +32,7 @@ use Rattle.recording_laws.proofs.Changed.{below_each, known_each}
 use Rattle.recording_laws.proofs.Rules.{IsKnown, OnlyHangs, only_hangs, only_hangs_fresh, none_broken, none_broken_fresh}
 use Rattle.recording_laws.proofs.Lists.{Each}
 use Rattle.recording_laws.proofs.Targets.{FitsTarget, seen_opened, seen_fresh, granted_opened, granted_fresh, passed_over}
-use Rattle.recording_laws.proofs.Readies.{IsReady, ready_is, array_ready_is, ready_seen, ready_granted, doubted}
+use Rattle.recording_laws.proofs.Readies.{IsReady, ready_seen, ready_granted, doubted}
 use Rattle.recording_laws.proofs.Walk.{verdict_is, after_is, put_here, put_length, put_nothing, known_length, FitsBus, puts, learned_there, undoubted, doubt_at}
 
 -- no rule is broken, and what is known fits
@@ -114,7 +114,7 @@ module _ (g : Parts) (bus : BusView) (seen : Seen) (i : Item) (later : List Item
         few = let same = put_length (target_after bus.geometry i) (target_of i) bus.targets in let few = f.few in omega (arith, same, few);
         known = known_length seen.known (target_of i) y ∙ f.known;
         each = λ m t s ft fs.
-          puts g bus.targets seen.state.bus.targets seen.known (target_of i) y (target_after bus.geometry i) h low f.each (λ a b fa fb. mine a b fa fb) m t s ft (ap (λ (us : List TargetView). slice_get us m) (sym targets) ∙ fs);
+            puts g bus.targets seen.state.bus.targets seen.known (target_of i) y (target_after bus.geometry i) h low f.each (λ a b fa fb. mine a b fa fb) m t s ft (ap (λ (us : List TargetView). slice_get us m) (sym targets) ∙ fs);
       }
     where
       mine : (a b : TargetView) → slice_get bus.targets (target_of i) ≡ Some a → slice_get seen.state.bus.targets (target_of i) ≡ Some b → FitsTarget g y (target_after bus.geometry i a) (h b)

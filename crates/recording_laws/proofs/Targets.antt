@@ -1,16 +1,15 @@
 -- A target as it is, and as it is seen: what a permitted cycle of it leaves of both.
-use Rattle.std.proofs.Common.{◌≡◌, ◌⊎◌, inl, inr, ℕ, zero, suc, ◌+◌, ◌<◌, ◌≤◌, ◌==◌, Bool, true, false, cond, not, ◌&&◌, ◌||◌, List, [], ◌∷◌, length, Option, Some, None, refl, sym, ap, ◌∙◌, subst, slice_get, eqb-true, eq-eqb, arith}
-use Rattle.std.proofs.lemmas.Bool.{and_parts, or_parts, or_left, or_right, not-true, not-false}
+use Rattle.std.proofs.Common.{◌≡◌, ℕ, ◌+◌, ◌≤◌, ◌==◌, Bool, true, false, cond, ◌&&◌, ◌||◌, List, [], ◌∷◌, length, Option, Some, None, refl, sym, ap, ◌∙◌, subst, slice_get, eqb-true, eq-eqb, arith}
+use Rattle.std.proofs.lemmas.Bool.{and_parts, or_left, or_right, not-false}
 use Rattle.nand_geometry.specs.declared.parts.Parts.{Parts}
 use Rattle.nand_geometry.specs.Row.{parts_of}
 use Rattle.onfi_cycle.specs.declared.command.Command.{Command}
-use Rattle.onfi_cycle.specs.declared.command.Command.TheVariants.{Read, ReadConfirm, ChangeReadColumn, ChangeReadColumnConfirm, BlockErase, BlockEraseConfirm, BlockErasePlane, ReadStatus, ReadStatusEnhanced, PageProgram, ChangeWriteColumn, ProgramConfirm, ProgramPlane, ReadId, ReadParameterPage, Reset, ReadCacheSequential, ReadCacheEnd, ReadUniqueId, GetFeatures, SetFeatures, ResetLun, SynchronousReset, Unknown}
+use Rattle.onfi_cycle.specs.declared.command.Command.TheVariants.{Read, ChangeReadColumn}
 use Rattle.onfi_cycle.specs.declared.data_phase.DataPhase.TheVariants.{Outside}
 use Rattle.onfi_cycle.specs.declared.effect.Effect.{Effect}
 use Rattle.onfi_cycle.specs.declared.effect.Effect.TheVariants.{Unaffected}
 use Rattle.onfi_cycle.specs.declared.forbidden.Forbidden.{Forbidden}
 use Rattle.onfi_cycle.specs.declared.item.Cycle.{Cycle}
-use Rattle.onfi_cycle.specs.declared.item.Item.{Item}
 use Rattle.onfi_cycle.specs.declared.item.Item.TheVariants.{Cyc}
 use Rattle.onfi_cycle.specs.declared.latch.Latch.{Latch}
 use Rattle.onfi_cycle.specs.declared.latch.Latch.TheVariants.{Off}
@@ -22,23 +21,23 @@ use Rattle.onfi_cycle.specs.declared.target_cycle.TargetCycle.{TargetCycle}
 use Rattle.onfi_cycle.specs.declared.target_cycle.TargetCycle.TheVariants.{CommandCycle, AddressCycle, InputCycle, OutputCycle}
 use Rattle.onfi_cycle.specs.Bounds.{is_read}
 use Rattle.onfi_cycle.specs.Command.{is_opener, at_last_row, is_change_read_column}
-use Rattle.onfi_cycle.specs.Effect.{is_off, names_lun, page_address, command_effect, address_effect, opening_address_effect, cycle_effect}
+use Rattle.onfi_cycle.specs.Effect.{names_lun, page_address, address_effect, opening_address_effect, cycle_effect}
 use Rattle.onfi_cycle.specs.Lun.{view_after}
 use Rattle.onfi_cycle.specs.LunView.{LunView}
 use Rattle.onfi_cycle.specs.Permitted.{judge_cycle}
-use Rattle.onfi_cycle.specs.Rules.{is_some_and, driver, driver_is, lun_is, named_lun_is, has_some, may_change_column, refused_by, is_refused_by, breaks_no_column_to_change, breaks_queue_clash}
+use Rattle.onfi_cycle.specs.Rules.{is_some_and, driver, driver_is, has_some, may_change_column, refused_by, is_refused_by, breaks_no_column_to_change, breaks_queue_clash}
 use Rattle.onfi_cycle.specs.Sequence.{target_cycle, facts_of, opened, one_address_more, row, row_with, wants_command, extended_facts, facts_after, begins_sequence}
-use Rattle.onfi_cycle.specs.State.{TargetView, effect_alone, luns_after, has_driver, target_after, target, without_sequence}
+use Rattle.onfi_cycle.specs.State.{TargetView, luns_after, has_driver, target_after, without_sequence}
 use Rattle.onfi_cycle.proofs.Passed.{KeepsRules, keeps_rules}
 use Rattle.trace_faults.specs.declared.known.Known.{Known}
-use Rattle.trace_faults.specs.Middle.{nothing_known, is_reset_cycle, is_reset}
+use Rattle.trace_faults.specs.Middle.{nothing_known, is_reset_cycle}
 use Rattle.recording_laws.proofs.Luns.{IsBelow, IsHarmless}
 use Rattle.recording_laws.proofs.Lists.{Each}
 use Rattle.recording_laws.proofs.Rules.{five_of, judged_five, judged_five_fresh}
 use Rattle.recording_laws.proofs.Changed.{changed, changed_length, AtEach, at_each, AllFit, below_each, GoEach, all_fit_on, IsLearned, learns_each, below_unseen, all_nothing}
 use Rattle.recording_laws.proofs.Cycles.{by_cycle, luns_by_cycle, ReadsClear, go_command, go_opener, go_address, go_input, go_output}
 use Rattle.recording_laws.proofs.Unseen.{NoneQueued, MayCome, may_come_on, unseen_harmless, quiet_command}
-use Rattle.recording_laws.proofs.Granted.{is_sound, is_sound_by, sound_after, grants, is_granted, granted_opens, command_granted, command_comes, Comes, address_granted, input_granted, output_granted}
+use Rattle.recording_laws.proofs.Granted.{is_sound, is_sound_by, sound_after, is_granted, command_granted, command_comes, Comes, address_granted, input_granted, output_granted}
 
 -- ---- 1. a target
 
@@ -231,8 +230,8 @@ module _ (g : Parts) (k later : Known) (t s : TargetView) (c : Cycle) (f : FitsT
           column = λ x. (
             ap has_driver (luns_by_cycle g t.tail (has_driver t.luns) c t.luns) ∙ driver_after g t.tail t.luns cycle o.some (λ y. (o.column y).0) a.f5 x,
             ap has_driver (luns_by_cycle g s.tail (has_driver s.luns) c s.luns)
-            ∙ ap (λ (w : TailFacts). has_driver (changed (by_cycle g w (has_driver s.luns) cycle) 0 s.luns)) (sym o.tail)
-            ∙ driver_after g t.tail s.luns cycle o.some (λ y. (o.column y).1) b.f5 x,
+                ∙ ap (λ (w : TailFacts). has_driver (changed (by_cycle g w (has_driver s.luns) cycle) 0 s.luns)) (sym o.tail)
+                ∙ driver_after g t.tail s.luns cycle o.some (λ y. (o.column y).1) b.f5 x,
           );
           read = λ x. subst (NoneQueued g (row (facts_after cycle t.tail))) (sym (luns_by_cycle g t.tail (has_driver t.luns) c t.luns)) (read_after g t.tail t.luns cycle o.some a.f10 x);
         };

@@ -1,35 +1,29 @@
 -- What may still come of a sequence that isn't seen, and what is seen meanwhile.
-use Rattle.std.proofs.Common.{◌≡◌, ◌⊎◌, inl, inr, ℕ, zero, suc, ◌+◌, ◌≤◌, ◌<◌, ◌==◌, Bool, true, false, cond, not, ◌&&◌, ◌||◌, ltb, List, [], ◌∷◌, length, Option, Some, None, refl, sym, ap, ◌∙◌, arith, slice_get, eqb-true, eq-eqb, true≢false}
-use Rattle.std.proofs.lemmas.Bool.{and_parts, or_parts, not-true, not-false, cases_Bool}
+use Rattle.std.proofs.Common.{◌≡◌, ◌⊎◌, inl, inr, ℕ, ◌+◌, ◌==◌, Bool, true, false, cond, not, ◌&&◌, ◌||◌, ltb, List, [], Option, Some, None, refl, sym, ap, slice_get, eqb-true, true≢false}
+use Rattle.std.proofs.lemmas.Bool.{and_parts, or_parts, not-true, not-false}
 use Rattle.nand_geometry.specs.declared.parts.Parts.{Parts}
 use Rattle.nand_geometry.specs.Row.{row_of}
 use Rattle.onfi_cycle.specs.declared.command.Command.{Command}
-use Rattle.onfi_cycle.specs.declared.command.Command.TheVariants.{Read, ReadConfirm, ChangeReadColumn, ChangeReadColumnConfirm, BlockErase, BlockEraseConfirm, BlockErasePlane, ReadStatus, ReadStatusEnhanced, PageProgram, ChangeWriteColumn, ProgramConfirm, ProgramPlane, ReadId, ReadParameterPage, Reset, ReadCacheSequential, ReadCacheEnd, ReadUniqueId, GetFeatures, SetFeatures, ResetLun, SynchronousReset, Unknown}
+use Rattle.onfi_cycle.specs.declared.command.Command.TheVariants.{ReadConfirm, ChangeReadColumnConfirm, BlockErase, BlockEraseConfirm, BlockErasePlane, ReadStatusEnhanced, PageProgram, ChangeWriteColumn, ProgramConfirm, ProgramPlane, ReadId, ReadParameterPage, ReadUniqueId, GetFeatures, SetFeatures, ResetLun, Unknown}
 use Rattle.onfi_cycle.specs.declared.data_phase.DataPhase.{DataPhase}
 use Rattle.onfi_cycle.specs.declared.data_phase.DataPhase.TheVariants.{Outside, Inputs, FirstColumn, SecondColumn, FeatureInputs}
 use Rattle.onfi_cycle.specs.declared.effect.Effect.{Effect}
-use Rattle.onfi_cycle.specs.declared.effect.Effect.TheVariants.{Unaffected, SelectedForStatus, Deselected, ReadStarted, EraseStarted, ProgramStarted, IdRead, IdentityRead, UniqueIdReadStarted, FeaturesReadStarted, FeaturesSet, ParameterPageReadStarted, CacheReadContinued, CacheReadEnded, ReadColumnChanged, DataOutput, ResetStarted}
+use Rattle.onfi_cycle.specs.declared.effect.Effect.TheVariants.{Unaffected, IdRead, IdentityRead, UniqueIdReadStarted, FeaturesReadStarted, FeaturesSet, ParameterPageReadStarted, ReadColumnChanged, DataOutput}
 use Rattle.onfi_cycle.specs.declared.latch.Latch.{Latch}
-use Rattle.onfi_cycle.specs.declared.latch.Latch.TheVariants.{Off}
 use Rattle.onfi_cycle.specs.declared.opening.Opening.{Opening}
 use Rattle.onfi_cycle.specs.declared.tail_facts.TailFacts.{TailFacts}
 use Rattle.onfi_cycle.specs.declared.target_cycle.TargetCycle.{TargetCycle}
 use Rattle.onfi_cycle.specs.declared.target_cycle.TargetCycle.TheVariants.{CommandCycle, AddressCycle, InputCycle, OutputCycle}
-use Rattle.onfi_cycle.specs.Applied.{luns_after_cycle}
 use Rattle.onfi_cycle.specs.Bounds.{is_block_erase}
 use Rattle.onfi_cycle.specs.declared.row_bytes.RowBytes.{RowBytes}
-use Rattle.onfi_cycle.specs.Command.{is_opener, closes, address_cycles, takes_address, is_page_program, is_set_features}
-use Rattle.onfi_cycle.specs.Effect.{is_off, is_data, page_address, confirm_effect, names_lun, command_effect, id_effect, address_effect, opening_address_effect, cycle_effect, ends_features}
-use Rattle.onfi_cycle.specs.Lun.{view_after}
+use Rattle.onfi_cycle.specs.Command.{is_opener, closes, address_cycles, takes_address, is_page_program}
+use Rattle.onfi_cycle.specs.Effect.{is_off, is_data, confirm_effect, names_lun, command_effect, id_effect, address_effect, opening_address_effect, cycle_effect, ends_features}
 use Rattle.onfi_cycle.specs.LunView.{LunView}
 use Rattle.onfi_cycle.specs.Rules.{breaks_command_misplaced, breaks_address_misplaced, is_undeclared_address}
-use Rattle.onfi_cycle.specs.Sequence.{begins_sequence, facts_of, one_address_more, row_after_address, wants_column, opened, takes_data, takes_features, phase_after_command, phase_after_address, phase_after_last_address, phase_after_input, wants_address, wants_command, row, row_with, extended_facts, facts_after}
+use Rattle.onfi_cycle.specs.Sequence.{begins_sequence, one_address_more, row_after_address, wants_column, opened, takes_data, phase_after_command, phase_after_address, phase_after_last_address, phase_after_input, wants_address, wants_command, row, extended_facts, facts_after}
 use Rattle.onfi_cycle.proofs.Passed.{KeepsRules}
-use Rattle.trace_faults.specs.declared.known.Known.{Known}
 use Rattle.trace_faults.specs.declared.lun_known.LunKnown.TheVariants.{Nothing}
-use Rattle.trace_faults.specs.Middle.{knows, nothing_known}
-use Rattle.recording_laws.proofs.Luns.{IsBelow, Fits, IsHarmless, IsBlank, unseen_after, blank_harmless}
-use Rattle.recording_laws.proofs.Lists.{Each}
+use Rattle.recording_laws.proofs.Luns.{IsBelow, Fits, IsHarmless, IsBlank, blank_harmless}
 
 -- ---- 1. tails of which nothing comes that is to be seen
 
@@ -136,7 +130,6 @@ module _ (g : Parts) (ss : List LunView) where
   after_input k (Some o) Inputs r (inl q) = cc
   after_input k None Inputs r (inr n) = inr (refl, n.1)
   after_input k (Some o) Inputs r (inr n) = inr (refl, n.1)
-
 
 -- the row of an erase is whole, and that of a program
 erase_full : (c : Command) (n byte : ℕ) → (is_block_erase c && n == 3) ≡ true → ((is_opener c && ltb n (address_cycles c) && takes_address c byte) || false) ≡ true → ⊥

@@ -1,35 +1,22 @@
 -- A channel as it is, and as it is seen by a check that began in the middle, item by item.
-use Rattle.std.proofs.Common.{◌≡◌, ◌⊎◌, inl, inr, ◌≢◌, ℕ, zero, suc, ◌+◌, ◌<◌, ◌≤◌, ◌==◌, Bool, true, false, cond, not, ◌&&◌, ◌||◌, leb, List, [], ◌∷◌, ◌++◌, length, reverse, Option, Some, None, refl, sym, ap, ◌∙◌, subst, slice_get, slice_set, get_or, eqb-true, eq-eqb, arith}
-use Rattle.std.proofs.lemmas.Bool.{and_parts, and_from, or_parts, not-true, not-false, not_from_true, false_from_ne_true}
-use Rattle.std.proofs.lemmas.List.{set-get_or}
-use Rattle.std.proofs.lemmas.Option.{slice_get_within, slice_get-get_or}
+use Rattle.std.proofs.Common.{◌≡◌, ℕ, zero, suc, ◌<◌, ◌≤◌, ◌==◌, Bool, true, false, cond, not, List, [], ◌∷◌, length, Option, Some, refl, sym, ap, ◌∙◌, slice_get, slice_set, eqb-true, eq-eqb, arith}
+use Rattle.std.proofs.lemmas.Bool.{or_parts, not-false}
+use Rattle.std.proofs.lemmas.Option.{slice_get_within}
 use Rattle.nand_geometry.specs.declared.parts.Parts.{Parts}
-use Rattle.onfi_cycle.specs.declared.forbidden.Forbidden.{Forbidden}
-use Rattle.onfi_cycle.specs.declared.item.Cycle.{Cycle}
 use Rattle.onfi_cycle.specs.declared.item.Item.{Item}
-use Rattle.onfi_cycle.specs.declared.item.Item.TheVariants.{Cyc, Rdy, Ard}
 use Rattle.onfi_cycle.specs.declared.lun_state.LunState.{LunState}
-use Rattle.onfi_cycle.specs.Look.{look_at, look_at_some, look_on, looked}
+use Rattle.onfi_cycle.specs.Look.{look_at_some, look_on, looked}
 use Rattle.onfi_cycle.specs.LunView.{LunView}
-use Rattle.onfi_cycle.specs.Permitted.{judge_cycle, judge_item, judge}
-use Rattle.onfi_cycle.specs.Rules.{lun_is, breaks_not_there}
-use Rattle.onfi_cycle.specs.Sequence.{target_of, target_cycle, begins_sequence}
-use Rattle.onfi_cycle.specs.State.{TargetView, BusView, judged, judged_on as judged_at, target_after, changed_at, bus_after, bus_without, without_sequence}
-use Rattle.onfi_cycle.proofs.Following.{permitted_there}
+use Rattle.onfi_cycle.specs.Sequence.{target_of}
+use Rattle.onfi_cycle.specs.State.{TargetView, BusView, changed_at}
 use Rattle.trace_faults.specs.declared.known.Known.{Known}
 use Rattle.trace_faults.specs.declared.lun_known.LunKnown.{LunKnown}
 use Rattle.trace_faults.specs.declared.readies.Readies.TheVariants.{Written}
-use Rattle.trace_faults.specs.declared.standing.Standing.{Standing}
-use Rattle.trace_faults.specs.declared.standing.Standing.TheVariants.{Inside}
 use Rattle.trace_faults.specs.declared.trace_state.TraceState.{TraceState}
-use Rattle.trace_faults.specs.declared.verdict.Verdict.{Verdict}
-use Rattle.trace_faults.specs.declared.verdict.Verdict.TheVariants.{Permitted, PassedOver, Granted, Broken, NotShown}
-use Rattle.trace_faults.specs.Recovery.{all_inside, judged_here, gone_on}
-use Rattle.trace_faults.specs.Middle.{Seen, nothing_known, all_known, known_of, knows, has_begun, is_all, is_doubtful, doubts_ready, doubts_lun, doubts, hangs_on_before, of_cycle, of_ready, learned_lun, looks_of, learned, verdict_on, is_passed_over, granted_to, judged_on, seen_by, verdict_here, is_granted_here, here, said_of, verdict, seen_after}
-use Rattle.recording_laws.proofs.Changed.{AtEach, at_each, IsLearned, known_each, below_each}
-use Rattle.recording_laws.proofs.Lists.{Each}
-use Rattle.recording_laws.proofs.Luns.{IsBelow}
-use Rattle.recording_laws.proofs.Rules.{IsKnown, OnlyHangs, only_hangs, only_hangs_fresh, none_broken, none_broken_fresh}
+use Rattle.trace_faults.specs.declared.verdict.Verdict.TheVariants.{PassedOver}
+use Rattle.trace_faults.specs.Recovery.{all_inside}
+use Rattle.trace_faults.specs.Middle.{Seen, known_of, knows, is_all, is_doubtful, doubts_lun, doubts, learned_lun, looks_of, learned, is_passed_over, seen_by, verdict_here, is_granted_here, here, verdict, seen_after}
+use Rattle.recording_laws.proofs.Changed.{AtEach, at_each, IsLearned}
 use Rattle.recording_laws.proofs.Targets.{FitsTarget}
 
 -- ---- 1. where readies are written, an item is judged as it stands

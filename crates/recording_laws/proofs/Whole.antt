@@ -1,5 +1,5 @@
 -- Once all is known of a channel, nothing of it is in doubt any more.
-use Rattle.std.proofs.Common.{◌≡◌, ℕ, zero, suc, ◌+◌, ◌==◌, arith, Bool, true, false, cond, ◌&&◌, ◌||◌, not, List, [], ◌∷◌, ◌++◌, Option, Some, None, refl, sym, ap, ◌∙◌, slice_set, get_or, subst}
+use Rattle.std.proofs.Common.{◌≡◌, ℕ, zero, suc, ◌+◌, ◌==◌, arith, Bool, true, false, cond, List, [], ◌∷◌, ◌++◌, Option, Some, None, refl, ap, ◌∙◌, slice_set, get_or}
 use Rattle.std.proofs.lemmas.Bool.{and_parts}
 use Rattle.onfi_cycle.specs.declared.forbidden.Forbidden.{Forbidden}
 use Rattle.onfi_cycle.specs.declared.item.Item.{Item}
@@ -18,10 +18,10 @@ use Rattle.trace_faults.specs.declared.verdict.Verdict.{Verdict}
 use Rattle.trace_faults.specs.declared.verdict.Verdict.TheVariants.{Permitted, PassedOver, Granted, Broken, NotShown}
 use Rattle.trace_faults.specs.Recovery.{judged_here, gone_on}
 use Rattle.trace_faults.specs.Faults.{before_taken, taken_on}
-use Rattle.trace_faults.specs.Middle.{Seen, all_known, known_of, knows, has_begun, is_all, is_whole, is_doubtful, doubts_ready, doubts, of_cycle, of_ready, looks_of, learned, verdict_on, is_passed_over, judged_on, granted_to, seen_by, verdict_here, here, with_ready_taken, said_of, verdict, seen_after, verdicts_from, granted_in, one_passed_over, all_granted, count_passed_over}
+use Rattle.trace_faults.specs.Middle.{Seen, all_known, known_of, knows, has_begun, is_all, is_whole, is_doubtful, doubts_ready, doubts, of_cycle, of_ready, looks_of, learned, verdict_on, is_passed_over, judged_on, seen_by, verdict_here, here, with_ready_taken, said_of, verdict, seen_after, verdicts_from, granted_in, one_passed_over, all_granted, count_passed_over}
 use Rattle.trace_faults.proofs.Knowing.{no_doubts, learned_whole}
 use Rattle.trace_faults.proofs.Wholes.{judges}
-use Rattle.recording_laws.specs.Whole.{IsWhole, AreFaults, WholeChecksArentVoid}
+use Rattle.recording_laws.specs.Whole.{IsWhole, WholeChecksArentVoid}
 
 -- ---- 1. what is said
 

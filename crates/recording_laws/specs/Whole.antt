@@ -1,5 +1,5 @@
 -- What a check says of a recording once all is known of the channel.
-use Rattle.std.specs.Prelude.{◌≡◌, ℕ, ◌<◌, true, List, [], length}
+use Rattle.std.specs.Prelude.{◌≡◌, ℕ, true, List, []}
 use Rattle.onfi_cycle.specs.declared.item.Item.{Item}
 use Rattle.trace_faults.specs.declared.readies.Readies.{Readies}
 use Rattle.trace_faults.specs.Faults.{faults_from}
