@@ -75,7 +75,7 @@ cycle_inside (AddressCycle byte) = refl
 cycle_inside (InputCycle byte) = refl
 cycle_inside OutputCycle = refl
 
-standings_inside : (s : BusView) (i : Item) → standings_after None s i all_inside ≡ all_inside
+pub standings_inside : (s : BusView) (i : Item) → standings_after None s i all_inside ≡ all_inside
 standings_inside s (Cyc c) =
     ap (λ (x : Standing). slice_set all_inside c.ce (after_cycle (target_cycle c.kind c.byte) x)) (inside_at c.ce)
     ∙ ap (λ (x : Standing). slice_set all_inside c.ce x) (cycle_inside (target_cycle c.kind c.byte))
@@ -118,7 +118,7 @@ fresh_is_on g n items = record { follows = record { legal = refl; geometry = ref
 
 -- ---- 1. no fault, and a legal trace
 
-onto : (i : Item) (items past : List Item) → reverse (i ∷ items) ++ past ≡ reverse items ++ (i ∷ past)
+pub onto : (i : Item) (items past : List Item) → reverse (i ∷ items) ++ past ≡ reverse items ++ (i ∷ past)
 onto i items past = ap (λ (xs : List Item). xs ++ past) (reverse-append (i ∷ []) items) ∙ append_assoc (reverse items) (i ∷ []) past
 
 pub legal_from : (g : Parts) (n : ℕ) (items : List Item) (s : TraceState) (past : List Item) (k : ℕ) → IsOn g n s past → faults_from Written s k items ≡ [] → is_legal g n (reverse items ++ past) ≡ true
@@ -136,11 +136,11 @@ legal_from g n (i ∷ items) s past k f none =
     at (Some rule) is h more = cc
 
 -- what stands before part of a legal past is legal
-before : (g : Parts) (n : ℕ) (later past : List Item) → is_legal g n (later ++ past) ≡ true → is_legal g n past ≡ true
+pub before : (g : Parts) (n : ℕ) (later past : List Item) → is_legal g n (later ++ past) ≡ true → is_legal g n past ≡ true
 before g n [] past h = h
 before g n (i ∷ later) past h = before g n later past (and_parts (is_permitted g n (later ++ past) i) (is_legal g n (later ++ past)) h).1
 
-nothing : (o : Option Forbidden) → is_none o ≡ true → o ≡ None
+pub nothing : (o : Option Forbidden) → is_none o ≡ true → o ≡ None
 nothing None h = refl
 nothing (Some rule) h = cc
 

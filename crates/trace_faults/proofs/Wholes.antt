@@ -58,7 +58,7 @@ not_nothing n (Granted rule) more is h = cc
 not_nothing n (Broken rule) more is h = cc
 not_nothing n (NotShown ready) more is h = cc
 
-abbrev Judges : Readies → ℕ → List Item → Type 0
+abbrev pub Judges : Readies → ℕ → List Item → Type 0
 Judges readies n items = (seen : Seen) →
     count_passed_over (verdicts_from readies seen items) ≡ 0 → all_granted n (verdicts_from readies seen items) ≡ [] →
     all_broken n (verdicts_from readies seen items) ≡ faults_from readies seen.state n items
@@ -109,7 +109,7 @@ by_place : (readies : Readies) (n : ℕ) (i : Item) (items : List Item) (seen : 
 by_place readies n i items seen true later none nothing = absurd (omega (arith, none))
 by_place readies n i items seen false later none nothing = by_granted readies n i items seen (is_granted_here readies seen i) refl later none nothing
 
-judges : (readies : Readies) (n : ℕ) (items : List Item) → Judges readies n items
+pub judges : (readies : Readies) (n : ℕ) (items : List Item) → Judges readies n items
 judges readies n [] seen none nothing = refl
 judges readies n (i ∷ items) seen none nothing =
     by_place readies n i items seen (is_passed_over (known_of seen.known (target_of i)) i) (judges readies (n + 1) items) none nothing

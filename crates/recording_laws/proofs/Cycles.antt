@@ -1,0 +1,360 @@
+-- A permitted cycle that is seen, on each LUN of its target.
+use Rattle.std.proofs.Common.{◌≡◌, ℕ, ◌+◌, ◌==◌, Bool, true, false, cond, not, ◌&&◌, List, [], ◌∷◌, Option, Some, None, refl, sym, ap, ◌∙◌, subst}
+use Rattle.std.proofs.lemmas.Bool.{and_parts, or_parts, not-false}
+use Rattle.nand_geometry.specs.declared.parts.Parts.{Parts}
+use Rattle.onfi_cycle.specs.declared.command.Command.{Command}
+use Rattle.onfi_cycle.specs.declared.command.Command.TheVariants.{Read, ReadConfirm, ChangeReadColumn, ChangeReadColumnConfirm, BlockErase, BlockEraseConfirm, BlockErasePlane, ReadStatus, ReadStatusEnhanced, PageProgram, ProgramConfirm, ProgramPlane, ReadId, ReadParameterPage, Reset, ReadCacheSequential, ReadCacheEnd, ReadUniqueId, GetFeatures, SetFeatures, ResetLun, SynchronousReset}
+use Rattle.onfi_cycle.specs.declared.effect.Effect.{Effect}
+use Rattle.onfi_cycle.specs.declared.effect.Effect.TheVariants.{Unaffected, SelectedForStatus, Deselected, IdRead, IdentityRead, UniqueIdReadStarted, FeaturesReadStarted, FeaturesSet, ParameterPageReadStarted, CacheReadContinued, CacheReadEnded, ReadColumnChanged, DataOutput, ResetStarted}
+use Rattle.onfi_cycle.specs.declared.item.Cycle.{Cycle}
+use Rattle.onfi_cycle.specs.declared.item.Item.{Item}
+use Rattle.onfi_cycle.specs.declared.item.Item.TheVariants.{Cyc}
+use Rattle.onfi_cycle.specs.declared.latch.Latch.{Latch}
+use Rattle.onfi_cycle.specs.declared.latch.Latch.TheVariants.{Off, Status, Data}
+use Rattle.onfi_cycle.specs.declared.opening.Opening.{Opening}
+use Rattle.onfi_cycle.specs.declared.tail_facts.TailFacts.{TailFacts}
+use Rattle.onfi_cycle.specs.declared.target_cycle.TargetCycle.{TargetCycle}
+use Rattle.onfi_cycle.specs.declared.target_cycle.TargetCycle.TheVariants.{CommandCycle, AddressCycle, InputCycle, OutputCycle}
+use Rattle.onfi_cycle.specs.Applied.{asks_driver}
+use Rattle.onfi_cycle.specs.Bounds.{is_read}
+use Rattle.onfi_cycle.specs.Command.{is_opener, closes, address_cycles, is_change_read_column}
+use Rattle.onfi_cycle.specs.Effect.{is_off, is_data, confirm_effect, names_lun, command_effect, id_effect, address_effect, opening_address_effect, cycle_effect, ends_features}
+use Rattle.onfi_cycle.specs.Look.{look_at}
+use Rattle.onfi_cycle.specs.Lun.{is_page_read, view_after}
+use Rattle.onfi_cycle.specs.LunView.{LunView}
+use Rattle.onfi_cycle.specs.Rules.{is_some_and, driver, driver_is, is_empty, continues_cache, ends_cache, breaks_no_sole_driver, breaks_cache_read_misplaced}
+use Rattle.onfi_cycle.specs.Sequence.{target_cycle, facts_of, opened, wants_address, wants_command, row, row_with, is_open}
+use Rattle.onfi_cycle.specs.State.{effect_alone, luns_after, has_driver}
+use Rattle.onfi_cycle.proofs.Booleans.{eqb_self}
+use Rattle.onfi_cycle.proofs.Passed.{KeepsRules}
+use Rattle.trace_faults.specs.declared.known.Known.{Known}
+use Rattle.trace_faults.specs.declared.lun_known.LunKnown.{LunKnown}
+use Rattle.trace_faults.specs.Middle.{knows, is_all, has_begun, is_reset_cycle, is_reset, learned_lun}
+use Rattle.recording_laws.proofs.Luns.{Shows, IsBelow, Fits, Asks, fits_after}
+use Rattle.recording_laws.proofs.Lists.{Each, SameOff, same_driver, AllOn, driver_on}
+use Rattle.recording_laws.proofs.Changed.{changed, luns_are_changed, same_changed, AtEach, Goes, GoEach, go_each}
+
+-- ---- 1. the effects of a cycle
+
+abbrev pub by_cycle : Parts → TailFacts → (sole : Bool) → TargetCycle → ℕ → LunView → Effect
+by_cycle g t sole cycle n v = cycle_effect g t (cond sole v.latch Off) cycle n
+
+cycle_alone : (g : Parts) (t : TailFacts) (sole : Bool) (c : Cycle) (n : ℕ) (v : LunView) → effect_alone g t sole (Cyc c) n v ≡ by_cycle g t sole (target_cycle c.kind c.byte) n v
+cycle_alone g t sole c n v = rw (eqb_self c.ce) refl
+
+pub luns_by_cycle : (g : Parts) (t : TailFacts) (sole : Bool) (c : Cycle) (vs : List LunView) → luns_after g t sole (Cyc c) 0 vs ≡ changed (by_cycle g t sole (target_cycle c.kind c.byte)) 0 vs
+luns_by_cycle g t sole c vs = luns_are_changed g t sole (Cyc c) 0 vs ∙ same_changed (effect_alone g t sole (Cyc c)) (by_cycle g t sole (target_cycle c.kind c.byte)) (cycle_alone g t sole c) 0 vs
+
+-- ---- 2. what an effect asks
+
+asks_if : (b : Bool) (x : Effect) (t s : LunView) → (b ≡ true → Asks x t s) → Asks (cond b x Unaffected) t s
+asks_if true x t s h = h refl
+asks_if false x t s h = tt
+
+asks_unless : (b : Bool) (x : Effect) (t s : LunView) → (b ≡ false → Asks x t s) → Asks (cond b Unaffected x) t s
+asks_unless true x t s h = tt
+asks_unless false x t s h = h refl
+
+asks_id : (byte : ℕ) (t s : LunView) → Asks (id_effect byte) t s
+asks_id byte t s = of (byte == 0x20)
+  where
+    of : (b : Bool) → Asks (cond b IdRead (IdentityRead (byte == 0x40))) t s
+    of true = tt
+    of false = tt
+
+asks_selected : (b d : Bool) (t s : LunView) → Asks (cond b (cond d SelectedForStatus Deselected) Unaffected) t s
+asks_selected true true t s = tt
+asks_selected true false t s = tt
+asks_selected false d t s = tt
+
+-- the effect that goes on on both
+pub go_same : (i : Item) (k : LunKnown) (et es : Effect) (t s : LunView) → et ≡ es → Asks es t s → (is_reset i ≡ true → es ≡ ResetStarted) → Goes i k et es t s
+go_same i k et es t s e asks resets f =
+    subst (λ (x : Effect). Fits (learned_lun i (Some (look_at s)) (Some (look_at (view_after es s))) k) (view_after x t) (view_after es s)) (sym e) (fits_after k i es t s f asks resets)
+
+-- ---- 3. commands
+
+same_command : (g : Parts) (t : TailFacts) (la lb : Latch) (c : Command) (n : ℕ) → asks_driver (CommandCycle c) ≡ false → command_effect g t la c n ≡ command_effect g t lb c n
+same_command g t la lb ReadCacheSequential n h = cc
+same_command g t la lb ReadCacheEnd n h = cc
+same_command g t la lb ChangeReadColumnConfirm n h = cc
+same_command g t la lb c n h = refl
+
+read_wanted : (c : Command) (n : ℕ) → (closes c ReadConfirm && n == address_cycles c) ≡ true → (is_read c && n == 5) ≡ true
+read_wanted Read n h = h
+read_wanted c n h = cc
+
+read_opened : (o : Option Opening) → opened (λ c n. closes c ReadConfirm && n == address_cycles c) o ≡ true → opened (λ c n. is_read c && n == 5) o ≡ true
+read_opened None h = h
+read_opened (Some o) h = read_wanted o.opener o.addresses h
+
+column_wanted : (c : Command) (n : ℕ) → (closes c ChangeReadColumnConfirm && n == address_cycles c) ≡ true → is_change_read_column c ≡ true
+column_wanted ChangeReadColumn n h = refl
+column_wanted c n h = cc
+
+column_opened : (o : Option Opening) → opened (λ c n. closes c ChangeReadColumnConfirm && n == address_cycles c) o ≡ true → opened (λ c n. is_change_read_column c) o ≡ true
+column_opened None h = h
+column_opened (Some o) h = column_wanted o.opener o.addresses h
+
+-- a read of a page has no queue
+abbrev pub ReadsClear : Parts → TailFacts → ℕ → LunView → Type 0
+ReadsClear g u n t = opened (λ c n. is_read c && n == 5) u.opening ≡ true → names_lun g (row u) n ≡ true → t.queue ≡ []
+
+asks_command : (g : Parts) (u : TailFacts) (la : Latch) (c : Command) (n : ℕ) (t s : LunView) → asks_driver (CommandCycle c) ≡ false → ReadsClear g u n t → Asks (command_effect g u la c n) t s
+asks_command g u la Read n t s h z = tt
+asks_command g u la ReadStatus n t s h z = tt
+asks_command g u la ReadStatusEnhanced n t s h z = tt
+asks_command g u la Reset n t s h z = tt
+asks_command g u la SynchronousReset n t s h z = tt
+asks_command g u la ReadCacheSequential n t s h z = cc
+asks_command g u la ReadCacheEnd n t s h z = cc
+asks_command g u la ChangeReadColumnConfirm n t s h z = cc
+asks_command g u la ReadConfirm n t s h z =
+    asks_if (wants_command u ReadConfirm && names_lun g (row u) n) (confirm_effect g u ReadConfirm) t s
+    (λ b. let a = and_parts (wants_command u ReadConfirm) (names_lun g (row u) n) b in z (read_opened u.opening a.0) a.1)
+asks_command g u la c n t s h z = asks_if (wants_command u c && names_lun g (row u) n) (confirm_effect g u c) t s (λ b. tt)
+
+resets_command : (g : Parts) (u : TailFacts) (la : Latch) (c : Command) (n : ℕ) → is_reset_cycle (CommandCycle c) ≡ true → command_effect g u la c n ≡ ResetStarted
+resets_command g u la Reset n h = refl
+resets_command g u la c n h = cc
+
+some_any : (p : LunView → Bool) (o : Option LunView) → is_some_and p o ≡ true → is_some_and (λ v. true) o ≡ true
+some_any p None h = h
+some_any p (Some v) h = refl
+
+all_on_at : (test : LunView → Bool) (n : ℕ) (vs : List LunView) → AllOn test vs → AtEach (λ m v. is_off v.latch ≡ false → test v ≡ true) n vs
+all_on_at test n [] a = tt
+all_on_at test n (v ∷ vs) a = (a.0, all_on_at test (n + 1) vs a.1)
+
+abbrev Any : ℕ → LunView → Type 0
+Any n v = Unit {0}
+
+any_at : (n : ℕ) (vs : List LunView) → AtEach Any n vs
+any_at n [] = tt
+any_at n (v ∷ vs) = (tt, any_at (n + 1) vs)
+
+neither : (b : Bool) → cond b Unaffected Unaffected ≡ Unaffected
+neither true = refl
+neither false = refl
+
+opener_effect : (g : Parts) (u : TailFacts) (la lb : Latch) (c : Command) (n : ℕ) → is_opener c ≡ true → asks_driver (CommandCycle c) ≡ false → command_effect g u la c n ≡ command_effect g (facts_of []) lb c n
+opener_effect g u la lb Read n o h = refl
+opener_effect g u la lb ReadStatus n o h = refl
+opener_effect g u la lb ReadStatusEnhanced n o h = refl
+opener_effect g u la lb Reset n o h = refl
+opener_effect g u la lb SynchronousReset n o h = refl
+opener_effect g u la lb ReadCacheSequential n o h = cc
+opener_effect g u la lb ReadCacheEnd n o h = cc
+opener_effect g u la lb ChangeReadColumn n o h = neither (wants_command u ChangeReadColumn && names_lun g (row u) n)
+opener_effect g u la lb BlockErase n o h = neither (wants_command u BlockErase && names_lun g (row u) n)
+opener_effect g u la lb PageProgram n o h = neither (wants_command u PageProgram && names_lun g (row u) n)
+opener_effect g u la lb ReadId n o h = neither (wants_command u ReadId && names_lun g (row u) n)
+opener_effect g u la lb ReadParameterPage n o h = neither (wants_command u ReadParameterPage && names_lun g (row u) n)
+opener_effect g u la lb ReadUniqueId n o h = neither (wants_command u ReadUniqueId && names_lun g (row u) n)
+opener_effect g u la lb GetFeatures n o h = neither (wants_command u GetFeatures && names_lun g (row u) n)
+opener_effect g u la lb SetFeatures n o h = neither (wants_command u SetFeatures && names_lun g (row u) n)
+opener_effect g u la lb ResetLun n o h = neither (wants_command u ResetLun && names_lun g (row u) n)
+opener_effect g u la lb c n o h = cc
+
+asks_opener : (g : Parts) (lb : Latch) (c : Command) (n : ℕ) (t s : LunView) → is_opener c ≡ true → asks_driver (CommandCycle c) ≡ false → Asks (command_effect g (facts_of []) lb c n) t s
+asks_opener g lb ReadCacheSequential n t s o h = cc
+asks_opener g lb ReadCacheEnd n t s o h = cc
+asks_opener g lb ReadConfirm n t s o h = cc
+asks_opener g lb ChangeReadColumnConfirm n t s o h = cc
+asks_opener g lb BlockEraseConfirm n t s o h = cc
+asks_opener g lb BlockErasePlane n t s o h = cc
+asks_opener g lb ProgramConfirm n t s o h = cc
+asks_opener g lb ProgramPlane n t s o h = cc
+asks_opener g lb c n t s o h = tt
+
+-- ---- 4. addresses and outputs
+
+asks_address_of : (g : Parts) (u : TailFacts) (byte : ℕ) (c : Command) (m n : ℕ) (t s : LunView) → Asks (address_effect g u byte c m n) t s
+asks_address_of g u byte ReadStatusEnhanced m n t s = asks_selected (m == 2) (names_lun g (row_with u byte) n) t s
+asks_address_of g u byte ReadId m n t s = asks_if (wants_address u byte) (id_effect byte) t s (λ w. asks_id byte t s)
+asks_address_of g u byte ReadParameterPage m n t s = asks_if (wants_address u byte) ParameterPageReadStarted t s (λ w. tt)
+asks_address_of g u byte ReadUniqueId m n t s = asks_if (wants_address u byte) UniqueIdReadStarted t s (λ w. tt)
+asks_address_of g u byte GetFeatures m n t s = asks_if (wants_address u byte) (FeaturesReadStarted byte) t s (λ w. tt)
+asks_address_of g u byte ResetLun m n t s = asks_if (m == 2 && names_lun g (row_with u byte) n) ResetStarted t s (λ w. tt)
+asks_address_of g u byte c m n t s = tt
+
+asks_address : (g : Parts) (u : TailFacts) (byte : ℕ) (o : Option Opening) (n : ℕ) (t s : LunView) → Asks (opening_address_effect g u byte o n) t s
+asks_address g u byte None n t s = tt
+asks_address g u byte (Some o) n t s = asks_address_of g u byte o.opener o.addresses n t s
+
+-- a LUN that is seen to show its status, and shows data: no byte of it comes, so what is known of it stands
+output_unseen : (k : LunKnown) (t s : LunView) → s.latch ≡ Status → t.latch ≡ Data → Fits k t s → Fits k (view_after DataOutput t) s
+output_unseen k t s status gives f =
+    record {
+      below = record { busy = f.below.busy; queue = f.below.queue; latch = f.below.latch; calm = f.below.calm };
+      begun = λ h.
+          let b = f.begun h in
+          record { busy = b.busy; closer = b.closer; array_busy = b.array_busy; page = b.page; register = b.register; column = λ e. absurd (clash (is_all k) refl h e) };
+      same = λ h. let m = f.same h in record { off = m.off; latch = m.latch };
+      off = f.off;
+    }
+  where
+    clash : (b : Bool) → is_all k ≡ b → has_begun k ≡ true → is_empty s.register ≡ false → ⊥
+    clash true all h e = let latch = (f.same all).latch e in cc
+    clash false some h e = let off = f.off h some in cc
+
+output_goes : (i : Item) (k : LunKnown) (t s : LunView) → IsBelow t s → SameOff t s → (is_reset i ≡ true → ⊥) → Goes i k (cond (is_data t.latch) DataOutput Unaffected) (cond (is_data s.latch) DataOutput Unaffected) t s
+output_goes i k t s below off resets = at s.latch refl t.latch refl below.latch off
+  where
+    at : (ls : Latch) → s.latch ≡ ls → (lt : Latch) → t.latch ≡ lt → Shows ls lt → is_off lt ≡ is_off ls → Goes i k (cond (is_data lt) DataOutput Unaffected) (cond (is_data ls) DataOutput Unaffected) t s
+    at Off a Off b h o = go_same i k Unaffected Unaffected t s refl tt (λ x. absurd (resets x))
+    at Off a Status b h o = cc
+    at Off a Data b h o = cc
+    at Status a Off b h o = cc
+    at Status a Status b h o = go_same i k Unaffected Unaffected t s refl tt (λ x. absurd (resets x))
+    at Status a Data b h o = λ f. output_unseen (learned_lun i (Some (look_at s)) (Some (look_at s)) k) t s a b (fits_after k i Unaffected t s f tt (λ x. absurd (resets x)))
+    at Data a Off b h o = cc
+    at Data a Status b h o = cc
+    at Data a Data b h o = go_same i k DataOutput DataOutput t s refl tt (λ x. absurd (resets x))
+
+module _ (g : Parts) (i : Item) (k : Known) (ts ss : List LunView) (each : Each IsBelow ts ss) where
+  -- 31h and 3Fh, whatever the tails
+  go_cache : (u w : TailFacts) (test : LunView → Bool) (c : Command) (x : Effect) → ((la : Latch) (n : ℕ) (t : TailFacts) → command_effect g t la c n ≡ cond (is_off la) Unaffected x) →
+      ((t s : LunView) → test s ≡ true → Asks x t s) → (is_reset i ≡ true → ⊥) → driver_is test ts ≡ true → driver_is test ss ≡ true →
+      GoEach i k (by_cycle g u (has_driver ts) (CommandCycle c)) (by_cycle g w (has_driver ss) (CommandCycle c)) 0 ts ss
+  go_cache u w test c x is asks resets dt ds =
+      go_each i k (by_cycle g u (has_driver ts) (CommandCycle c)) (by_cycle g w (has_driver ss) (CommandCycle c)) SameOff Any (λ m v. is_off v.latch ≡ false → test v ≡ true) one 0 ts ss
+      (same_driver ts ss each ht hs) (any_at 0 ts) (all_on_at test 0 ss (driver_on test ss ds))
+    where
+      ht : has_driver ts ≡ true
+      ht = some_any test (driver ts) dt
+
+      hs : has_driver ss ≡ true
+      hs = some_any test (driver ss) ds
+
+      plain_t : (n : ℕ) (t : LunView) → by_cycle g u (has_driver ts) (CommandCycle c) n t ≡ cond (is_off t.latch) Unaffected x
+      plain_t n t = is (cond (has_driver ts) t.latch Off) n u ∙ ap (λ b. cond (is_off (cond b t.latch Off)) Unaffected x) ht
+
+      plain_s : (n : ℕ) (s : LunView) → by_cycle g w (has_driver ss) (CommandCycle c) n s ≡ cond (is_off s.latch) Unaffected x
+      plain_s n s = is (cond (has_driver ss) s.latch Off) n w ∙ ap (λ b. cond (is_off (cond b s.latch Off)) Unaffected x) hs
+
+      one : (n : ℕ) (t s : LunView) → SameOff t s → Any n t → (is_off s.latch ≡ false → test s ≡ true) → Goes i (knows k n) (by_cycle g u (has_driver ts) (CommandCycle c) n t) (by_cycle g w (has_driver ss) (CommandCycle c) n s) t s
+      one n t s off a on =
+          rw (plain_t n t, plain_s n s)
+          (at (is_off s.latch) refl)
+        where
+          at : (b : Bool) → is_off s.latch ≡ b → Goes i (knows k n) (cond (is_off t.latch) Unaffected x) (cond b Unaffected x) t s
+          at true e = rw (off ∙ e) (go_same i (knows k n) Unaffected Unaffected t s refl tt (λ h. absurd (resets h)))
+          at false e = rw (off ∙ e) (go_same i (knows k n) x x t s refl (asks t s (on e)) (λ h. absurd (resets h)))
+
+  -- E0h, where its tail has one driver
+  go_column : (u : TailFacts) → (opened (λ c n. is_change_read_column c) u.opening ≡ true → (has_driver ts ≡ true) × (has_driver ss ≡ true)) → (is_reset i ≡ true → ⊥) →
+      GoEach i k (by_cycle g u (has_driver ts) (CommandCycle ChangeReadColumnConfirm)) (by_cycle g u (has_driver ss) (CommandCycle ChangeReadColumnConfirm)) 0 ts ss
+  go_column u d resets = of (wants_command u ChangeReadColumnConfirm) refl
+    where
+      x : Effect
+      x = ReadColumnChanged u.column
+
+      none : (la : Latch) → wants_command u ChangeReadColumnConfirm ≡ false → (n : ℕ) → command_effect g u la ChangeReadColumnConfirm n ≡ Unaffected
+      none la h n = rw h refl
+
+      one : wants_command u ChangeReadColumnConfirm ≡ true → (n : ℕ) (t s : LunView) → SameOff t s → Any n t → Any n s →
+          Goes i (knows k n) (by_cycle g u (has_driver ts) (CommandCycle ChangeReadColumnConfirm) n t) (by_cycle g u (has_driver ss) (CommandCycle ChangeReadColumnConfirm) n s) t s
+      one h n t s off a b =
+          let both = d (column_opened u.opening h) in
+          go_same i (knows k n) (by_cycle g u (has_driver ts) (CommandCycle ChangeReadColumnConfirm) n t) (by_cycle g u (has_driver ss) (CommandCycle ChangeReadColumnConfirm) n s) t s
+          (ap (λ q. cond (wants_command u ChangeReadColumnConfirm && not (is_off (cond q t.latch Off))) x Unaffected) both.0
+          ∙ ap (λ q. cond (wants_command u ChangeReadColumnConfirm && not q) x Unaffected) off
+          ∙ ap (λ q. cond (wants_command u ChangeReadColumnConfirm && not (is_off (cond q s.latch Off))) x Unaffected) (sym both.1))
+          (asks_if (wants_command u ChangeReadColumnConfirm && not (is_off (cond (has_driver ss) s.latch Off))) x t s (λ r. tt)) (λ r. absurd (resets r))
+
+      same_off : wants_command u ChangeReadColumnConfirm ≡ true → Each SameOff ts ss
+      same_off h = let both = d (column_opened u.opening h) in same_driver ts ss each both.0 both.1
+
+      of : (b : Bool) → wants_command u ChangeReadColumnConfirm ≡ b → GoEach i k (by_cycle g u (has_driver ts) (CommandCycle ChangeReadColumnConfirm)) (by_cycle g u (has_driver ss) (CommandCycle ChangeReadColumnConfirm)) 0 ts ss
+      of true h =
+          go_each i k (by_cycle g u (has_driver ts) (CommandCycle ChangeReadColumnConfirm)) (by_cycle g u (has_driver ss) (CommandCycle ChangeReadColumnConfirm)) SameOff Any Any (one h) 0 ts ss (same_off h) (any_at 0 ts) (any_at 0 ss)
+      of false h =
+          go_each i k (by_cycle g u (has_driver ts) (CommandCycle ChangeReadColumnConfirm)) (by_cycle g u (has_driver ss) (CommandCycle ChangeReadColumnConfirm)) IsBelow Any Any
+          (λ n t s b a c. go_same i (knows k n) (by_cycle g u (has_driver ts) (CommandCycle ChangeReadColumnConfirm) n t) (by_cycle g u (has_driver ss) (CommandCycle ChangeReadColumnConfirm) n s) t s
+          (none (cond (has_driver ts) t.latch Off) h n ∙ sym (none (cond (has_driver ss) s.latch Off) h n))
+          (asks_if (wants_command u ChangeReadColumnConfirm && not (is_off (cond (has_driver ss) s.latch Off))) x t s (λ r. tt)) (λ r. absurd (resets r)))
+          0 ts ss each (any_at 0 ts) (any_at 0 ss)
+
+  -- effects that are the same on both, and ask nothing
+  go_alike : (et es : ℕ → LunView → Effect) (C : ℕ → LunView → Type 0) → ((n : ℕ) (t s : LunView) → et n t ≡ es n s) → ((n : ℕ) (t s : LunView) → C n t → Asks (es n s) t s) → ((n : ℕ) (s : LunView) → is_reset i ≡ true → es n s ≡ ResetStarted) →
+      AtEach C 0 ts → GoEach i k et es 0 ts ss
+  go_alike et es C same asks resets c =
+      go_each i k et es IsBelow C Any (λ n t s b x y. go_same i (knows k n) (et n t) (es n s) t s (same n t s) (asks n t s x) (resets n s)) 0 ts ss each c (any_at 0 ss)
+
+  go_other : (u : TailFacts) (c : Command) → asks_driver (CommandCycle c) ≡ false → (is_reset i ≡ true → is_reset_cycle (CommandCycle c) ≡ true) → AtEach (ReadsClear g u) 0 ts →
+      GoEach i k (by_cycle g u (has_driver ts) (CommandCycle c)) (by_cycle g u (has_driver ss) (CommandCycle c)) 0 ts ss
+  go_other u c h r z =
+      go_alike (by_cycle g u (has_driver ts) (CommandCycle c)) (by_cycle g u (has_driver ss) (CommandCycle c)) (ReadsClear g u)
+      (λ n t s. same_command g u (cond (has_driver ts) t.latch Off) (cond (has_driver ss) s.latch Off) c n h)
+      (λ n t s x. asks_command g u (cond (has_driver ss) s.latch Off) c n t s h x)
+      (λ n s y. resets_command g u (cond (has_driver ss) s.latch Off) c n (r y)) z
+
+  -- a command by which the tail goes on, or that begins a sequence behind one that was seen
+  pub go_command : (u : TailFacts) (c : Command) → (is_reset i ≡ true → is_reset_cycle (CommandCycle c) ≡ true) → KeepsRules g u ts (CommandCycle c) → KeepsRules g u ss (CommandCycle c) →
+      (opened (λ c n. is_change_read_column c) u.opening ≡ true → (has_driver ts ≡ true) × (has_driver ss ≡ true)) → AtEach (ReadsClear g u) 0 ts →
+      GoEach i k (by_cycle g u (has_driver ts) (CommandCycle c)) (by_cycle g u (has_driver ss) (CommandCycle c)) 0 ts ss
+  unfolding breaks_cache_read_misplaced
+  go_command u ReadCacheSequential r a b d z =
+      go_cache u u (continues_cache g) ReadCacheSequential CacheReadContinued (λ la n t. refl) (λ t s h. (and_parts (is_page_read s.closer) _ (and_parts (not s.busy) _ h).1).0) (λ h. let yes = r h in cc)
+      (not-false (driver_is (continues_cache g) ts) a.f15) (not-false (driver_is (continues_cache g) ss) b.f15)
+  go_command u ReadCacheEnd r a b d z =
+      go_cache u u ends_cache ReadCacheEnd CacheReadEnded (λ la n t. refl) (λ t s h. tt) (λ h. let yes = r h in cc) (not-false (driver_is ends_cache ts) a.f15) (not-false (driver_is ends_cache ss) b.f15)
+  go_command u ChangeReadColumnConfirm r a b d z = go_column u d (λ h. let yes = r h in cc)
+  go_command u c r a b d z = go_other u c refl r z
+
+  -- an opener behind a sequence that wasn't seen
+  pub go_opener : (u : TailFacts) (c : Command) → is_opener c ≡ true → (is_reset i ≡ true → is_reset_cycle (CommandCycle c) ≡ true) → KeepsRules g u ts (CommandCycle c) → KeepsRules g (facts_of []) ss (CommandCycle c) →
+      GoEach i k (by_cycle g u (has_driver ts) (CommandCycle c)) (by_cycle g (facts_of []) (has_driver ss) (CommandCycle c)) 0 ts ss
+  unfolding breaks_cache_read_misplaced
+  go_opener u ReadCacheSequential o r a b =
+      go_cache u (facts_of []) (continues_cache g) ReadCacheSequential CacheReadContinued (λ la n t. refl) (λ t s h. (and_parts (is_page_read s.closer) _ (and_parts (not s.busy) _ h).1).0) (λ h. let yes = r h in cc)
+      (not-false (driver_is (continues_cache g) ts) a.f15) (not-false (driver_is (continues_cache g) ss) b.f15)
+  go_opener u ReadCacheEnd o r a b =
+      go_cache u (facts_of []) ends_cache ReadCacheEnd CacheReadEnded (λ la n t. refl) (λ t s h. tt) (λ h. let yes = r h in cc) (not-false (driver_is ends_cache ts) a.f15) (not-false (driver_is ends_cache ss) b.f15)
+  go_opener u ChangeReadColumnConfirm o r a b = cc
+  go_opener u c o r a b =
+      go_alike (by_cycle g u (has_driver ts) (CommandCycle c)) (by_cycle g (facts_of []) (has_driver ss) (CommandCycle c)) Any
+      (λ n t s. opener_effect g u (cond (has_driver ts) t.latch Off) (cond (has_driver ss) s.latch Off) c n o refl)
+      (λ n t s x. asks_opener g (cond (has_driver ss) s.latch Off) c n t s o refl)
+      (λ n s y. resets_command g (facts_of []) (cond (has_driver ss) s.latch Off) c n (r y)) (any_at 0 ts)
+
+  -- an address
+  pub go_address : (u : TailFacts) (byte : ℕ) → (is_reset i ≡ true → is_reset_cycle (AddressCycle byte) ≡ true) →
+      GoEach i k (by_cycle g u (has_driver ts) (AddressCycle byte)) (by_cycle g u (has_driver ss) (AddressCycle byte)) 0 ts ss
+  go_address u byte r =
+      go_alike (by_cycle g u (has_driver ts) (AddressCycle byte)) (by_cycle g u (has_driver ss) (AddressCycle byte)) Any
+      (λ n t s. refl) (λ n t s x. asks_address g u byte u.opening n t s) (λ n s y. let yes = r y in cc) (any_at 0 ts)
+
+  -- an input
+  pub go_input : (u : TailFacts) (byte : ℕ) → (is_reset i ≡ true → is_reset_cycle (InputCycle byte) ≡ true) →
+      GoEach i k (by_cycle g u (has_driver ts) (InputCycle byte)) (by_cycle g u (has_driver ss) (InputCycle byte)) 0 ts ss
+  go_input u byte r =
+      go_alike (by_cycle g u (has_driver ts) (InputCycle byte)) (by_cycle g u (has_driver ss) (InputCycle byte)) Any
+      (λ n t s. refl) (λ n t s x. asks_if (ends_features u) (FeaturesSet _) t s (λ b. tt)) (λ n s y. let yes = r y in cc) (any_at 0 ts)
+
+  -- an output
+  pub go_output : (u : TailFacts) → (is_reset i ≡ true → is_reset_cycle OutputCycle ≡ true) → KeepsRules g u ts OutputCycle → KeepsRules g u ss OutputCycle →
+      GoEach i k (by_cycle g u (has_driver ts) OutputCycle) (by_cycle g u (has_driver ss) OutputCycle) 0 ts ss
+  unfolding breaks_no_sole_driver
+  go_output u r a b =
+      go_each i k (by_cycle g u (has_driver ts) OutputCycle) (by_cycle g u (has_driver ss) OutputCycle) Pair Any Any one 0 ts ss
+      (pairs ts ss each (same_driver ts ss each ht hs)) (any_at 0 ts) (any_at 0 ss)
+    where
+      ht : has_driver ts ≡ true
+      ht = not-false (has_driver ts) (or_parts (is_open u) (not (has_driver ts)) a.f12).1
+
+      hs : has_driver ss ≡ true
+      hs = not-false (has_driver ss) (or_parts (is_open u) (not (has_driver ss)) b.f12).1
+
+      Pair : LunView → LunView → Type 0
+      Pair t s = IsBelow t s × SameOff t s
+
+      pairs : (ts ss : List LunView) → Each IsBelow ts ss → Each SameOff ts ss → Each Pair ts ss
+      pairs [] [] e f = tt
+      pairs (t ∷ ts) (s ∷ ss) e f = ((e.0, f.0), pairs ts ss e.1 f.1)
+      pairs [] (s ∷ ss) e f = e
+      pairs (t ∷ ts) [] e f = e
+
+      one : (n : ℕ) (t s : LunView) → Pair t s → Any n t → Any n s → Goes i (knows k n) (by_cycle g u (has_driver ts) OutputCycle n t) (by_cycle g u (has_driver ss) OutputCycle n s) t s
+      one n t s p x y = rw (ht, hs) (output_goes i (knows k n) t s p.0 p.1 (λ h. let yes = r h in cc))

@@ -1,0 +1,434 @@
+-- A LUN as it is, and as it is seen by a check that began in the middle: what an effect leaves of both.
+use Rattle.std.proofs.Common.{◌≡◌, Bool, true, false, cond, not, ◌&&◌, ◌||◌, List, [], ◌∷◌, Some, refl, sym, ap, ◌∙◌, subst}
+use Rattle.std.specs.List.{list_any}
+use Rattle.std.proofs.lemmas.Bool.{and_parts, or_parts, not-true, not-false}
+use Rattle.onfi_cycle.specs.declared.command.Command.TheVariants.{BlockEraseConfirm, BlockErasePlane, ProgramConfirm, ProgramPlane}
+use Rattle.onfi_cycle.specs.declared.effect.Effect.{Effect}
+use Rattle.onfi_cycle.specs.declared.effect.Effect.TheVariants.{Unaffected, DataOutputEnabled, StatusSelected, StatusRowAwaited, SelectedForStatus, Deselected, ReadStarted, EraseStarted, ProgramStarted, IdRead, IdentityRead, UniqueIdReadStarted, FeaturesReadStarted, FeaturesSet, ParameterPageReadStarted, CacheReadContinued, CacheReadEnded, ReadColumnChanged, DataOutput, ResetStarted, BecameReady, ArrayBecameReady}
+use Rattle.onfi_cycle.specs.declared.latch.Latch.{Latch}
+use Rattle.onfi_cycle.specs.declared.latch.Latch.TheVariants.{Off, Status, Data}
+use Rattle.onfi_cycle.specs.declared.queued.Queued.{Queued}
+use Rattle.onfi_cycle.specs.declared.queued.Queued.TheVariants.{Erase, Program}
+use Rattle.onfi_cycle.specs.declared.read_column.ReadColumn.{ReadColumn}
+use Rattle.onfi_cycle.specs.declared.register.Register.{Register}
+use Rattle.onfi_cycle.specs.declared.register.Register.TheVariants.{Empty, Page, ParameterPage, Identifier, Identity, JedecIdentity, UniqueId, Features}
+use Rattle.onfi_cycle.specs.declared.item.Item.{Item}
+use Rattle.onfi_cycle.specs.Effect.{is_off}
+use Rattle.onfi_cycle.specs.Look.{look_at}
+use Rattle.onfi_cycle.specs.Lun.{resumed, is_cache_read, is_page_read, next_page, read_column_after, view_after}
+use Rattle.onfi_cycle.specs.LunView.{LunView}
+use Rattle.onfi_cycle.specs.Rules.{is_empty}
+use Rattle.trace_faults.specs.declared.lun_known.LunKnown.{LunKnown}
+use Rattle.trace_faults.specs.declared.lun_known.LunKnown.TheVariants.{Nothing, Work, All}
+use Rattle.trace_faults.specs.Middle.{has_begun, is_all, is_reset, once_begun, learned_by, learned_lun}
+
+-- ---- 1. what is seen of a LUN, and what it is
+
+-- what is queued is queued there too
+abbrev pub Within : (seen is : List Queued) → Type 0
+Within seen is = (test : Queued → Bool) → list_any test seen ≡ true → list_any test is ≡ true
+
+-- what is seen to be shown
+abbrev pub Shows : (seen is : Latch) → Type 0
+Shows Off is = Unit {0}
+Shows Status is = is_off is ≡ false
+Shows Data is = is ≡ Data
+
+-- what a register has for the rules: how many bytes, and whether these are a page
+abbrev pub kind_of : Register → Register
+kind_of Empty = Empty
+kind_of (Page p) = Page (record { block = 0; page = 0 })
+kind_of ParameterPage = ParameterPage
+kind_of Identifier = Identifier
+kind_of Identity = Identity
+kind_of JedecIdentity = JedecIdentity
+kind_of UniqueId = UniqueId
+kind_of (Features address) = Features 0
+
+-- whatever is known: no more is seen than is
+pub record IsBelow (t s : LunView) : Type 0 where
+  pub busy : s.busy ≡ true → t.busy ≡ true
+  pub queue : Within s.queue t.queue
+  pub latch : Shows s.latch t.latch
+  pub calm : is_page_read s.closer ≡ true → s.queue ≡ []
+
+-- once work of it has begun: what the rules see but the queue and what it shows
+pub record IsBegun (t s : LunView) : Type 0 where
+  pub busy : t.busy ≡ s.busy
+  pub closer : t.closer ≡ s.closer
+  pub array_busy : t.array_busy ≡ s.array_busy
+  pub page : is_page_read s.closer ≡ true → t.array_page ≡ s.array_page
+  pub register : kind_of t.register ≡ kind_of s.register
+  pub column : is_empty s.register ≡ false → t.column ≡ s.column
+
+-- once it is seen to drive the bus, or was reset: what it shows
+pub record IsSame (t s : LunView) : Type 0 where
+  pub off : is_off t.latch ≡ is_off s.latch
+  pub latch : is_empty s.register ≡ false → t.latch ≡ s.latch
+
+pub record Fits (k : LunKnown) (t s : LunView) : Type 0 where
+  pub below : IsBelow t s
+  pub begun : has_begun k ≡ true → IsBegun t s
+  pub same : is_all k ≡ true → IsSame t s
+  pub off : has_begun k ≡ true → is_all k ≡ false → is_off s.latch ≡ true
+
+-- ---- 2. queues and latches
+
+either_way : (a b c : Bool) → (b ≡ true → c ≡ true) → (a || b) ≡ true → (a || c) ≡ true
+either_way true b c f h = refl
+either_way false b c f h = f h
+
+within_more : (x : Queued) (s t : List Queued) → Within s t → Within (x ∷ s) (x ∷ t)
+within_more x s t w test = either_way (test x) (list_any test s) (list_any test t) (w test)
+
+queue_within : (b : Bool) (x : Queued) (s t : List Queued) → Within s t → Within (cond b (x ∷ s) []) (cond b (x ∷ t) [])
+queue_within true x s t w = within_more x s t w
+queue_within false x s t w = λ test h. h
+
+none_within : (q : List Queued) → Within q [] → q ≡ []
+none_within [] w = refl
+none_within (x ∷ q) w = let no = w (λ y. true) refl in cc
+
+shows_resumed : (s t : Latch) → Shows s t → Shows (resumed s) (resumed t)
+shows_resumed Off t h = tt
+shows_resumed Status Off h = cc
+shows_resumed Status Status h = refl
+shows_resumed Status Data h = refl
+shows_resumed Data t h = ap resumed h
+
+resumed_off : (l : Latch) → is_off (resumed l) ≡ is_off l
+resumed_off Off = refl
+resumed_off Status = refl
+resumed_off Data = refl
+
+pub shows_on : (s t : Latch) → Shows s t → is_off s ≡ false → is_off t ≡ false
+shows_on Off t h on = cc
+shows_on Status t h on = h
+shows_on Data t h on = ap is_off h
+
+-- an erase or a program is no read of a page
+no_page_erased : (b : Bool) → is_page_read (Some (cond b BlockErasePlane BlockEraseConfirm)) ≡ true → ⊥
+no_page_erased true h = cc
+no_page_erased false h = cc
+
+no_page_programmed : (b : Bool) → is_page_read (Some (cond b ProgramPlane ProgramConfirm)) ≡ true → ⊥
+no_page_programmed true h = cc
+no_page_programmed false h = cc
+
+-- ---- 3. an effect on both
+
+-- what an effect asks of the LUN: a read of a page has no queue, and a cache read goes on from one
+abbrev pub Asks : Effect → LunView → LunView → Type 0
+Asks (ReadStarted at from) t s = t.queue ≡ []
+Asks CacheReadContinued t s = is_page_read s.closer ≡ true
+Asks _ t s = Unit {0}
+
+pub below_after : (e : Effect) (t s : LunView) → IsBelow t s → Asks e t s → IsBelow (view_after e t) (view_after e s)
+below_after Unaffected t s b asks = record { busy = b.busy; queue = b.queue; latch = b.latch; calm = b.calm }
+below_after DataOutputEnabled t s b asks = record { busy = b.busy; queue = b.queue; latch = shows_resumed s.latch t.latch b.latch; calm = b.calm }
+below_after StatusSelected t s b asks = record { busy = b.busy; queue = b.queue; latch = refl; calm = b.calm }
+below_after StatusRowAwaited t s b asks = record { busy = b.busy; queue = b.queue; latch = b.latch; calm = b.calm }
+below_after SelectedForStatus t s b asks = record { busy = b.busy; queue = b.queue; latch = refl; calm = b.calm }
+below_after Deselected t s b asks = record { busy = b.busy; queue = b.queue; latch = tt; calm = b.calm }
+below_after (ReadStarted at from) t s b asks = record { busy = λ h. refl; queue = b.queue; latch = refl; calm = λ h. none_within s.queue (subst (Within s.queue) asks b.queue) }
+below_after (EraseStarted queued at) t s b asks = record { busy = λ h. refl; queue = queue_within queued (Erase at) s.queue t.queue b.queue; latch = b.latch; calm = λ h. absurd (no_page_erased queued h) }
+below_after (ProgramStarted queued at) t s b asks = record { busy = λ h. refl; queue = queue_within queued (Program at) s.queue t.queue b.queue; latch = b.latch; calm = λ h. absurd (no_page_programmed queued h) }
+below_after IdRead t s b asks = record { busy = b.busy; queue = b.queue; latch = refl; calm = λ h. cc }
+below_after (IdentityRead jedec) t s b asks = record { busy = b.busy; queue = b.queue; latch = refl; calm = λ h. cc }
+below_after UniqueIdReadStarted t s b asks = record { busy = λ h. refl; queue = b.queue; latch = refl; calm = λ h. cc }
+below_after (FeaturesReadStarted address) t s b asks = record { busy = λ h. refl; queue = b.queue; latch = refl; calm = λ h. cc }
+below_after (FeaturesSet address) t s b asks = record { busy = λ h. refl; queue = b.queue; latch = b.latch; calm = λ h. cc }
+below_after ParameterPageReadStarted t s b asks = record { busy = λ h. refl; queue = b.queue; latch = refl; calm = λ h. cc }
+below_after CacheReadContinued t s b asks = record { busy = λ h. refl; queue = b.queue; latch = refl; calm = λ h. b.calm asks }
+below_after CacheReadEnded t s b asks = record { busy = λ h. refl; queue = b.queue; latch = refl; calm = λ h. cc }
+below_after (ReadColumnChanged from) t s b asks = record { busy = b.busy; queue = b.queue; latch = b.latch; calm = b.calm }
+below_after DataOutput t s b asks = record { busy = b.busy; queue = b.queue; latch = b.latch; calm = b.calm }
+below_after ResetStarted t s b asks = record { busy = λ h. refl; queue = λ test h. h; latch = tt; calm = λ h. refl }
+below_after (BecameReady failed) t s b asks = record { busy = λ h. h; queue = b.queue; latch = b.latch; calm = b.calm }
+below_after ArrayBecameReady t s b asks = record { busy = b.busy; queue = b.queue; latch = b.latch; calm = b.calm }
+
+more_out : (k m : ReadColumn) → k ≡ m → read_column_after DataOutput k ≡ read_column_after DataOutput m
+more_out k m h = ap (read_column_after DataOutput) h
+
+pub begun_after : (e : Effect) (t s : LunView) → IsBegun t s → Asks e t s → IsBegun (view_after e t) (view_after e s)
+begun_after Unaffected t s g asks = record { busy = g.busy; closer = g.closer; array_busy = g.array_busy; page = g.page; register = g.register; column = g.column }
+begun_after DataOutputEnabled t s g asks = record { busy = g.busy; closer = g.closer; array_busy = g.array_busy; page = g.page; register = g.register; column = g.column }
+begun_after StatusSelected t s g asks = record { busy = g.busy; closer = g.closer; array_busy = g.array_busy; page = g.page; register = g.register; column = λ h. ap (read_column_after StatusSelected) (g.column h) }
+begun_after StatusRowAwaited t s g asks = record { busy = g.busy; closer = g.closer; array_busy = g.array_busy; page = g.page; register = g.register; column = λ h. ap (read_column_after StatusRowAwaited) (g.column h) }
+begun_after SelectedForStatus t s g asks = record { busy = g.busy; closer = g.closer; array_busy = g.array_busy; page = g.page; register = g.register; column = g.column }
+begun_after Deselected t s g asks = record { busy = g.busy; closer = g.closer; array_busy = g.array_busy; page = g.page; register = g.register; column = g.column }
+begun_after (ReadStarted at from) t s g asks = record { busy = refl; closer = refl; array_busy = refl; page = λ h. refl; register = refl; column = λ h. refl }
+begun_after (EraseStarted queued at) t s g asks = record { busy = refl; closer = refl; array_busy = refl; page = λ h. absurd (no_page_erased queued h); register = refl; column = λ h. cc }
+begun_after (ProgramStarted queued at) t s g asks = record { busy = refl; closer = refl; array_busy = refl; page = λ h. absurd (no_page_programmed queued h); register = refl; column = λ h. cc }
+begun_after IdRead t s g asks = record { busy = g.busy; closer = refl; array_busy = refl; page = λ h. cc; register = refl; column = λ h. refl }
+begun_after (IdentityRead jedec) t s g asks = record { busy = g.busy; closer = refl; array_busy = refl; page = λ h. cc; register = refl; column = λ h. refl }
+begun_after UniqueIdReadStarted t s g asks = record { busy = refl; closer = refl; array_busy = refl; page = λ h. cc; register = refl; column = λ h. refl }
+begun_after (FeaturesReadStarted address) t s g asks = record { busy = refl; closer = refl; array_busy = refl; page = λ h. cc; register = refl; column = λ h. refl }
+begun_after (FeaturesSet address) t s g asks = record { busy = refl; closer = refl; array_busy = refl; page = λ h. cc; register = refl; column = λ h. cc }
+begun_after ParameterPageReadStarted t s g asks = record { busy = refl; closer = refl; array_busy = refl; page = λ h. cc; register = refl; column = λ h. refl }
+begun_after CacheReadContinued t s g asks = record { busy = refl; closer = refl; array_busy = refl; page = λ h. ap next_page (g.page asks); register = refl; column = λ h. refl }
+begun_after CacheReadEnded t s g asks = record { busy = refl; closer = refl; array_busy = refl; page = λ h. cc; register = refl; column = λ h. refl }
+begun_after (ReadColumnChanged from) t s g asks = record { busy = g.busy; closer = g.closer; array_busy = g.array_busy; page = g.page; register = g.register; column = λ h. refl }
+begun_after DataOutput t s g asks = record { busy = g.busy; closer = g.closer; array_busy = g.array_busy; page = g.page; register = g.register; column = λ h. more_out t.column s.column (g.column h) }
+begun_after ResetStarted t s g asks = record { busy = refl; closer = refl; array_busy = refl; page = λ h. cc; register = refl; column = λ h. cc }
+begun_after (BecameReady failed) t s g asks =
+    record {
+      busy = refl;
+      closer = g.closer;
+      array_busy = ap (λ b. b || (t.busy && is_cache_read t.closer)) g.array_busy ∙ ap (λ b. s.array_busy || (b && is_cache_read t.closer)) g.busy ∙ ap (λ c. s.array_busy || (s.busy && is_cache_read c)) g.closer;
+      page = g.page;
+      register = g.register;
+      column = g.column;
+    }
+begun_after ArrayBecameReady t s g asks = record { busy = g.busy; closer = g.closer; array_busy = refl; page = g.page; register = g.register; column = g.column }
+
+-- an effect by which the LUN begins work anew, and not by a cache read that goes on
+pub begun_by : (e : Effect) (t s : LunView) → s.busy ≡ false → (view_after e s).busy ≡ true → is_cache_read (view_after e s).closer ≡ false → IsBegun (view_after e t) (view_after e s)
+begun_by Unaffected t s idle busy new = cc
+begun_by DataOutputEnabled t s idle busy new = cc
+begun_by StatusSelected t s idle busy new = cc
+begun_by StatusRowAwaited t s idle busy new = cc
+begun_by SelectedForStatus t s idle busy new = cc
+begun_by Deselected t s idle busy new = cc
+begun_by (ReadStarted at from) t s idle busy new = record { busy = refl; closer = refl; array_busy = refl; page = λ h. refl; register = refl; column = λ h. refl }
+begun_by (EraseStarted queued at) t s idle busy new = record { busy = refl; closer = refl; array_busy = refl; page = λ h. absurd (no_page_erased queued h); register = refl; column = λ h. cc }
+begun_by (ProgramStarted queued at) t s idle busy new = record { busy = refl; closer = refl; array_busy = refl; page = λ h. absurd (no_page_programmed queued h); register = refl; column = λ h. cc }
+begun_by IdRead t s idle busy new = cc
+begun_by (IdentityRead jedec) t s idle busy new = cc
+begun_by UniqueIdReadStarted t s idle busy new = record { busy = refl; closer = refl; array_busy = refl; page = λ h. cc; register = refl; column = λ h. refl }
+begun_by (FeaturesReadStarted address) t s idle busy new = record { busy = refl; closer = refl; array_busy = refl; page = λ h. cc; register = refl; column = λ h. refl }
+begun_by (FeaturesSet address) t s idle busy new = record { busy = refl; closer = refl; array_busy = refl; page = λ h. cc; register = refl; column = λ h. cc }
+begun_by ParameterPageReadStarted t s idle busy new = record { busy = refl; closer = refl; array_busy = refl; page = λ h. cc; register = refl; column = λ h. refl }
+begun_by CacheReadContinued t s idle busy new = cc
+begun_by CacheReadEnded t s idle busy new = record { busy = refl; closer = refl; array_busy = refl; page = λ h. cc; register = refl; column = λ h. refl }
+begun_by (ReadColumnChanged from) t s idle busy new = cc
+begun_by DataOutput t s idle busy new = cc
+begun_by ResetStarted t s idle busy new = record { busy = refl; closer = refl; array_busy = refl; page = λ h. cc; register = refl; column = λ h. cc }
+begun_by (BecameReady failed) t s idle busy new = cc
+begun_by ArrayBecameReady t s idle busy new = cc
+
+pub same_after : (e : Effect) (t s : LunView) → IsSame t s → IsSame (view_after e t) (view_after e s)
+same_after Unaffected t s m = record { off = m.off; latch = m.latch }
+same_after DataOutputEnabled t s m = record { off = resumed_off t.latch ∙ m.off ∙ sym (resumed_off s.latch); latch = λ h. ap resumed (m.latch h) }
+same_after StatusSelected t s m = record { off = refl; latch = λ h. refl }
+same_after StatusRowAwaited t s m = record { off = m.off; latch = m.latch }
+same_after SelectedForStatus t s m = record { off = refl; latch = λ h. refl }
+same_after Deselected t s m = record { off = refl; latch = λ h. refl }
+same_after (ReadStarted at from) t s m = record { off = refl; latch = λ h. refl }
+same_after (EraseStarted queued at) t s m = record { off = m.off; latch = λ h. cc }
+same_after (ProgramStarted queued at) t s m = record { off = m.off; latch = λ h. cc }
+same_after IdRead t s m = record { off = refl; latch = λ h. refl }
+same_after (IdentityRead jedec) t s m = record { off = refl; latch = λ h. refl }
+same_after UniqueIdReadStarted t s m = record { off = refl; latch = λ h. refl }
+same_after (FeaturesReadStarted address) t s m = record { off = refl; latch = λ h. refl }
+same_after (FeaturesSet address) t s m = record { off = m.off; latch = λ h. cc }
+same_after ParameterPageReadStarted t s m = record { off = refl; latch = λ h. refl }
+same_after CacheReadContinued t s m = record { off = refl; latch = λ h. refl }
+same_after CacheReadEnded t s m = record { off = refl; latch = λ h. refl }
+same_after (ReadColumnChanged from) t s m = record { off = m.off; latch = m.latch }
+same_after DataOutput t s m = record { off = m.off; latch = m.latch }
+same_after ResetStarted t s m = record { off = refl; latch = λ h. refl }
+same_after (BecameReady failed) t s m = record { off = m.off; latch = m.latch }
+same_after ArrayBecameReady t s m = record { off = m.off; latch = m.latch }
+
+-- an effect by which the LUN is seen to drive the bus, and wasn't
+pub driven_by : (e : Effect) (t s : LunView) → is_off s.latch ≡ true → is_off (view_after e s).latch ≡ false → IsSame (view_after e t) (view_after e s)
+driven_by Unaffected t s off on = cc
+driven_by DataOutputEnabled t s off on = let kept = resumed_off s.latch in cc
+driven_by StatusSelected t s off on = record { off = refl; latch = λ h. refl }
+driven_by StatusRowAwaited t s off on = cc
+driven_by SelectedForStatus t s off on = record { off = refl; latch = λ h. refl }
+driven_by Deselected t s off on = cc
+driven_by (ReadStarted at from) t s off on = record { off = refl; latch = λ h. refl }
+driven_by (EraseStarted queued at) t s off on = cc
+driven_by (ProgramStarted queued at) t s off on = cc
+driven_by IdRead t s off on = record { off = refl; latch = λ h. refl }
+driven_by (IdentityRead jedec) t s off on = record { off = refl; latch = λ h. refl }
+driven_by UniqueIdReadStarted t s off on = record { off = refl; latch = λ h. refl }
+driven_by (FeaturesReadStarted address) t s off on = record { off = refl; latch = λ h. refl }
+driven_by (FeaturesSet address) t s off on = cc
+driven_by ParameterPageReadStarted t s off on = record { off = refl; latch = λ h. refl }
+driven_by CacheReadContinued t s off on = record { off = refl; latch = λ h. refl }
+driven_by CacheReadEnded t s off on = record { off = refl; latch = λ h. refl }
+driven_by (ReadColumnChanged from) t s off on = cc
+driven_by DataOutput t s off on = cc
+driven_by ResetStarted t s off on = cc
+driven_by (BecameReady failed) t s off on = cc
+driven_by ArrayBecameReady t s off on = cc
+
+-- an effect by which it begins work, where it is seen to drive the bus
+pub same_begun : (e : Effect) (t s : LunView) → s.busy ≡ false → (view_after e s).busy ≡ true → is_off (view_after e t).latch ≡ is_off (view_after e s).latch → IsSame (view_after e t) (view_after e s)
+same_begun Unaffected t s idle busy off = cc
+same_begun DataOutputEnabled t s idle busy off = cc
+same_begun StatusSelected t s idle busy off = cc
+same_begun StatusRowAwaited t s idle busy off = cc
+same_begun SelectedForStatus t s idle busy off = cc
+same_begun Deselected t s idle busy off = cc
+same_begun (ReadStarted at from) t s idle busy off = record { off = off; latch = λ h. refl }
+same_begun (EraseStarted queued at) t s idle busy off = record { off = off; latch = λ h. cc }
+same_begun (ProgramStarted queued at) t s idle busy off = record { off = off; latch = λ h. cc }
+same_begun IdRead t s idle busy off = cc
+same_begun (IdentityRead jedec) t s idle busy off = cc
+same_begun UniqueIdReadStarted t s idle busy off = record { off = off; latch = λ h. refl }
+same_begun (FeaturesReadStarted address) t s idle busy off = record { off = off; latch = λ h. refl }
+same_begun (FeaturesSet address) t s idle busy off = record { off = off; latch = λ h. cc }
+same_begun ParameterPageReadStarted t s idle busy off = record { off = off; latch = λ h. refl }
+same_begun CacheReadContinued t s idle busy off = record { off = off; latch = λ h. refl }
+same_begun CacheReadEnded t s idle busy off = record { off = off; latch = λ h. refl }
+same_begun (ReadColumnChanged from) t s idle busy off = cc
+same_begun DataOutput t s idle busy off = cc
+same_begun ResetStarted t s idle busy off = record { off = off; latch = λ h. cc }
+same_begun (BecameReady failed) t s idle busy off = cc
+same_begun ArrayBecameReady t s idle busy off = cc
+
+-- ---- 4. what is learned
+
+abbrev begins_by : Effect → LunView → Bool
+begins_by e s = not s.busy && ((view_after e s).busy && not (is_cache_read (view_after e s).closer))
+
+abbrev drives_by : Item → Effect → LunView → Bool
+drives_by i e s = not (is_off (view_after e s).latch) || (begins_by e s && is_reset i)
+
+record Begins (e : Effect) (s : LunView) : Type 0 where
+  idle : s.busy ≡ false
+  busy : (view_after e s).busy ≡ true
+  new : is_cache_read (view_after e s).closer ≡ false
+
+begins_of : (e : Effect) (s : LunView) → begins_by e s ≡ true → Begins e s
+begins_of e s h =
+    let a = and_parts (not s.busy) ((view_after e s).busy && not (is_cache_read (view_after e s).closer)) h in
+    let b = and_parts (view_after e s).busy (not (is_cache_read (view_after e s).closer)) a.1 in
+    record { idle = not-true s.busy a.0; busy = b.0; new = not-true (is_cache_read (view_after e s).closer) b.1 }
+
+module _ (i : Item) (e : Effect) (t s : LunView) (below : IsBelow (view_after e t) (view_after e s)) (resets : is_reset i ≡ true → e ≡ ResetStarted) where
+  -- it begins work, and drives the bus or is reset
+  same_anew : begins_by e s ≡ true → drives_by i e s ≡ true → IsSame (view_after e t) (view_after e s)
+  same_anew begins drives = at (is_off (view_after e s).latch) refl
+    where
+      b : Begins e s
+      b = begins_of e s begins
+
+      reset : is_off (view_after e s).latch ≡ true → is_reset i ≡ true
+      reset off = (and_parts (begins_by e s) (is_reset i) (rw off at drives)).1
+
+      of_reset : e ≡ ResetStarted → is_off (view_after e t).latch ≡ is_off (view_after e s).latch
+      of_reset h = rw h refl
+
+      at : (o : Bool) → is_off (view_after e s).latch ≡ o → IsSame (view_after e t) (view_after e s)
+      at true off = same_begun e t s b.idle b.busy (of_reset (resets (reset off)))
+      at false on = same_begun e t s b.idle b.busy (shows_on (view_after e s).latch (view_after e t).latch below.latch on ∙ sym on)
+
+  first_fits : (b d : Bool) → begins_by e s ≡ b → drives_by i e s ≡ d → Fits (learned_by b d Nothing) (view_after e t) (view_after e s)
+  first_fits false d begins drives = record { below = below; begun = λ h. cc; same = λ h. cc; off = λ h g. cc }
+  first_fits true true begins drives =
+      let b = begins_of e s begins in
+      record { below = below; begun = λ h. begun_by e t s b.idle b.busy b.new; same = λ h. same_anew begins drives; off = λ h g. cc }
+  first_fits true false begins drives =
+      let b = begins_of e s begins in
+      let o = or_parts (not (is_off (view_after e s).latch)) (begins_by e s && is_reset i) drives in
+      record { below = below; begun = λ h. begun_by e t s b.idle b.busy b.new; same = λ h. cc; off = λ h g. not-false (is_off (view_after e s).latch) o.0 }
+
+  work_fits : (d : Bool) → drives_by i e s ≡ d → is_off s.latch ≡ true → IsBegun (view_after e t) (view_after e s) → Fits (once_begun d) (view_after e t) (view_after e s)
+  work_fits false drives was begun =
+      let o = or_parts (not (is_off (view_after e s).latch)) (begins_by e s && is_reset i) drives in
+      record { below = below; begun = λ h. begun; same = λ h. cc; off = λ h g. not-false (is_off (view_after e s).latch) o.0 }
+  work_fits true drives was begun = record { below = below; begun = λ h. begun; same = λ h. at (is_off (view_after e s).latch) refl; off = λ h g. cc }
+    where
+      at : (o : Bool) → is_off (view_after e s).latch ≡ o → IsSame (view_after e t) (view_after e s)
+      at true off = same_anew ((and_parts (begins_by e s) (is_reset i) (rw off at drives)).0) drives
+      at false on = driven_by e t s was on
+
+-- an effect on a LUN as it is and as it is seen, with what is learned of it
+pub fits_after : (k : LunKnown) (i : Item) (e : Effect) (t s : LunView) → Fits k t s → Asks e t s → (is_reset i ≡ true → e ≡ ResetStarted) →
+    Fits (learned_lun i (Some (look_at s)) (Some (look_at (view_after e s))) k) (view_after e t) (view_after e s)
+fits_after Nothing i e t s f asks resets = first_fits i e t s (below_after e t s f.below asks) resets (begins_by e s) (drives_by i e s) refl refl
+fits_after Work i e t s f asks resets = work_fits i e t s (below_after e t s f.below asks) resets (drives_by i e s) refl (f.off refl refl) (begun_after e t s (f.begun refl) asks)
+fits_after All i e t s f asks resets =
+    record { below = below_after e t s f.below asks; begun = λ h. begun_after e t s (f.begun refl) asks; same = λ h. same_after e t s (f.same refl); off = λ h g. cc }
+
+-- ---- 5. an effect that isn't seen
+
+-- what an effect that isn't seen leaves as it is seen
+abbrev pub IsHarmless : Effect → LunView → Type 0
+IsHarmless (EraseStarted queued at) s = s.queue ≡ []
+IsHarmless (ProgramStarted queued at) s = s.queue ≡ []
+IsHarmless ResetStarted s = (s.queue ≡ []) × (s.latch ≡ Off)
+IsHarmless Deselected s = s.latch ≡ Off
+IsHarmless StatusSelected s = s.latch ≡ Off
+IsHarmless SelectedForStatus s = s.latch ≡ Off
+IsHarmless (BecameReady failed) s = s.busy ≡ false
+IsHarmless _ s = Unit {0}
+
+-- nothing was seen of it
+pub record IsBlank (s : LunView) : Type 0 where
+  pub busy : s.busy ≡ false
+  pub array_busy : s.array_busy ≡ false
+  pub queue : s.queue ≡ []
+  pub latch : s.latch ≡ Off
+
+off_shows : (s t : Latch) → s ≡ Off → Shows s t
+off_shows Off t h = tt
+off_shows Status t h = cc
+off_shows Data t h = cc
+
+data_shows : (s : Latch) → Shows s Data
+data_shows Off = tt
+data_shows Status = refl
+data_shows Data = refl
+
+shows_again : (s t : Latch) → Shows s t → Shows s (resumed t)
+shows_again Off t h = tt
+shows_again Status t h = resumed_off t ∙ h
+shows_again Data t h = ap resumed h
+
+none_more : (s t : List Queued) → s ≡ [] → Within s t
+none_more [] t h test some = cc
+none_more (x ∷ s) t h test some = cc
+
+pub unseen_after : (e : Effect) (t s : LunView) → IsBelow t s → IsHarmless e s → IsBelow (view_after e t) s
+unseen_after Unaffected t s b h = b
+unseen_after DataOutputEnabled t s b h = record { busy = b.busy; queue = b.queue; latch = shows_again s.latch t.latch b.latch; calm = b.calm }
+unseen_after StatusSelected t s b h = record { busy = b.busy; queue = b.queue; latch = off_shows s.latch Status h; calm = b.calm }
+unseen_after StatusRowAwaited t s b h = record { busy = b.busy; queue = b.queue; latch = b.latch; calm = b.calm }
+unseen_after SelectedForStatus t s b h = record { busy = b.busy; queue = b.queue; latch = off_shows s.latch Status h; calm = b.calm }
+unseen_after Deselected t s b h = record { busy = b.busy; queue = b.queue; latch = off_shows s.latch Off h; calm = b.calm }
+unseen_after (ReadStarted at from) t s b h = record { busy = λ x. refl; queue = b.queue; latch = data_shows s.latch; calm = b.calm }
+unseen_after (EraseStarted queued at) t s b h = record { busy = λ x. refl; queue = none_more s.queue (view_after (EraseStarted queued at) t).queue h; latch = b.latch; calm = b.calm }
+unseen_after (ProgramStarted queued at) t s b h = record { busy = λ x. refl; queue = none_more s.queue (view_after (ProgramStarted queued at) t).queue h; latch = b.latch; calm = b.calm }
+unseen_after IdRead t s b h = record { busy = b.busy; queue = b.queue; latch = data_shows s.latch; calm = b.calm }
+unseen_after (IdentityRead jedec) t s b h = record { busy = b.busy; queue = b.queue; latch = data_shows s.latch; calm = b.calm }
+unseen_after UniqueIdReadStarted t s b h = record { busy = λ x. refl; queue = b.queue; latch = data_shows s.latch; calm = b.calm }
+unseen_after (FeaturesReadStarted address) t s b h = record { busy = λ x. refl; queue = b.queue; latch = data_shows s.latch; calm = b.calm }
+unseen_after (FeaturesSet address) t s b h = record { busy = λ x. refl; queue = b.queue; latch = b.latch; calm = b.calm }
+unseen_after ParameterPageReadStarted t s b h = record { busy = λ x. refl; queue = b.queue; latch = data_shows s.latch; calm = b.calm }
+unseen_after CacheReadContinued t s b h = record { busy = λ x. refl; queue = b.queue; latch = data_shows s.latch; calm = b.calm }
+unseen_after CacheReadEnded t s b h = record { busy = λ x. refl; queue = b.queue; latch = data_shows s.latch; calm = b.calm }
+unseen_after (ReadColumnChanged from) t s b h = record { busy = b.busy; queue = b.queue; latch = b.latch; calm = b.calm }
+unseen_after DataOutput t s b h = record { busy = b.busy; queue = b.queue; latch = b.latch; calm = b.calm }
+unseen_after ResetStarted t s b h = record { busy = λ x. refl; queue = none_more s.queue [] h.0; latch = off_shows s.latch Off h.1; calm = b.calm }
+unseen_after (BecameReady failed) t s b h = record { busy = λ x. cc; queue = b.queue; latch = b.latch; calm = b.calm }
+unseen_after ArrayBecameReady t s b h = record { busy = b.busy; queue = b.queue; latch = b.latch; calm = b.calm }
+
+pub blank_harmless : (e : Effect) (s : LunView) → IsBlank s → IsHarmless e s
+blank_harmless Unaffected s b = tt
+blank_harmless DataOutputEnabled s b = tt
+blank_harmless StatusSelected s b = b.latch
+blank_harmless StatusRowAwaited s b = tt
+blank_harmless SelectedForStatus s b = b.latch
+blank_harmless Deselected s b = b.latch
+blank_harmless (ReadStarted at from) s b = tt
+blank_harmless (EraseStarted queued at) s b = b.queue
+blank_harmless (ProgramStarted queued at) s b = b.queue
+blank_harmless IdRead s b = tt
+blank_harmless (IdentityRead jedec) s b = tt
+blank_harmless UniqueIdReadStarted s b = tt
+blank_harmless (FeaturesReadStarted address) s b = tt
+blank_harmless (FeaturesSet address) s b = tt
+blank_harmless ParameterPageReadStarted s b = tt
+blank_harmless CacheReadContinued s b = tt
+blank_harmless CacheReadEnded s b = tt
+blank_harmless (ReadColumnChanged from) s b = tt
+blank_harmless DataOutput s b = tt
+blank_harmless ResetStarted s b = (b.queue, b.latch)
+blank_harmless (BecameReady failed) s b = b.busy
+blank_harmless ArrayBecameReady s b = tt

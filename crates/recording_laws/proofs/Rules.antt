@@ -1,0 +1,352 @@
+-- Which rules a permitted cycle may seem to break, by what is seen: those that hang on what was before, and none where all is known.
+use Rattle.std.proofs.Common.{◌≡◌, ◌+◌, Bool, true, false, cond, not, ◌&&◌, ◌||◌, ltb, leb, List, [], ◌∷◌, Option, Some, None, refl, sym, ap, ◌∙◌}
+use Rattle.std.specs.List.{list_any}
+use Rattle.std.proofs.lemmas.Bool.{and_parts, and_from, and_right, or_left, or_right, or_from, or_parts, not-false, not_from_true}
+use Rattle.nand_geometry.specs.declared.parts.Parts.{Parts}
+use Rattle.onfi_cycle.specs.declared.command.Command.{Command}
+use Rattle.onfi_cycle.specs.declared.command.Command.TheVariants.{Read, ChangeReadColumn, BlockErase, PageProgram, ReadCacheSequential, ReadCacheEnd}
+use Rattle.onfi_cycle.specs.declared.forbidden.Forbidden.{Forbidden}
+use Rattle.onfi_cycle.specs.declared.forbidden.Forbidden.TheVariants.{NoColumnToChange, NoSoleDriver, DataNotReady, ColumnOutside, CacheReadMisplaced}
+use Rattle.onfi_cycle.specs.declared.latch.Latch.{Latch}
+use Rattle.onfi_cycle.specs.declared.latch.Latch.TheVariants.{Off, Status, Data}
+use Rattle.onfi_cycle.specs.declared.opening.Opening.{Opening}
+use Rattle.onfi_cycle.specs.declared.page_address.PageAddress.{PageAddress}
+use Rattle.onfi_cycle.specs.declared.queued.Queued.{Queued}
+use Rattle.onfi_cycle.specs.declared.register.Register.{Register}
+use Rattle.onfi_cycle.specs.declared.register.Register.TheVariants.{Empty, Page, ParameterPage, Identifier, Identity, JedecIdentity, UniqueId, Features}
+use Rattle.onfi_cycle.specs.declared.tail_facts.TailFacts.{TailFacts}
+use Rattle.onfi_cycle.specs.declared.target_cycle.TargetCycle.{TargetCycle}
+use Rattle.onfi_cycle.specs.declared.target_cycle.TargetCycle.TheVariants.{CommandCycle, AddressCycle, InputCycle, OutputCycle}
+use Rattle.onfi_cycle.specs.Command.{is_opener, wants_ready, reads_identity, at_last_row, addresses_the_array, is_change_read_column}
+use Rattle.onfi_cycle.specs.Effect.{is_off, is_data, page_address}
+use Rattle.onfi_cycle.specs.Lun.{is_cache_read, is_page_read, output_column}
+use Rattle.onfi_cycle.specs.LunView.{LunView}
+use Rattle.onfi_cycle.specs.Permitted.{judge_cycle}
+use Rattle.onfi_cycle.specs.Rules.{is_some_and, driver_is, named_lun_is, ends_row, register_len, is_page_or_parameters, is_empty, lacks, is_past, queued_clashes, has_some, may_change_column, refused_by, is_refused_by, has_no_byte, is_past_register, second_column, second_of_page, caching, continues_cache, ends_cache, breaks_sequence_open, breaks_no_column_to_change, breaks_command_misplaced, breaks_address_misplaced, breaks_row_outside, breaks_lun_busy, breaks_queue_clash, breaks_input_misplaced, breaks_no_sole_driver, breaks_data_not_ready, breaks_column_outside, breaks_cache_read_misplaced}
+use Rattle.onfi_cycle.specs.Sequence.{facts_of, row_with, column_with, is_open}
+use Rattle.onfi_cycle.proofs.Passed.{KeepsRules}
+use Rattle.trace_faults.specs.Middle.{hangs_on_before}
+use Rattle.recording_laws.proofs.Luns.{Within, Shows, kind_of, IsBelow, IsBegun, IsSame}
+use Rattle.recording_laws.proofs.Lists.{Each, each_more, any_up, any_down, lun_down, driver_up, driver_down}
+
+-- ---- 1. Booleans
+
+and_less : (a b c : Bool) → (c ≡ true → b ≡ true) → (a && b) ≡ false → (a && c) ≡ false
+and_less false b c f h = refl
+and_less true b true f h = let yes = f refl in cc
+and_less true b false f h = refl
+
+not_less : (b c : Bool) → (b ≡ true → c ≡ true) → not c ≡ true → not b ≡ true
+not_less true true f h = h
+not_less true false f h = let yes = f refl in cc
+not_less false c f h = refl
+
+less : (b c : Bool) → (c ≡ true → b ≡ true) → b ≡ false → c ≡ false
+less b true f h = let yes = f refl in cc
+less b false f h = refl
+
+-- ---- 2. rules that hang on nothing that was before: no more is seen than is
+
+has_some_any : (q : List Queued) → has_some q ≡ list_any (λ c. true) q
+has_some_any [] = refl
+has_some_any (c ∷ cs) = refl
+
+refused_less : (g : Parts) (c : Command) (p : PageAddress) (seen is : List Queued) → Within seen is → refused_by g c p seen ≡ true → refused_by g c p is ≡ true
+refused_less g Read p seen is w h = has_some_any is ∙ w (λ c. true) (sym (has_some_any seen) ∙ h)
+refused_less g BlockErase p seen is w h = w (queued_clashes g true p) h
+refused_less g PageProgram p seen is w h = w (queued_clashes g false p) h
+refused_less g c p seen is w h = cc
+
+opening_refused : (g : Parts) (o : Option Opening) (p : PageAddress) (seen is : List Queued) → Within seen is → is_refused_by g o p seen ≡ true → is_refused_by g o p is ≡ true
+opening_refused g None p seen is w h = h
+opening_refused g (Some o) p seen is w h =
+    let a = and_parts (at_last_row o.opener o.addresses) (refused_by g o.opener p seen) h in
+    and_from (at_last_row o.opener o.addresses) (refused_by g o.opener p is) a.0 (refused_less g o.opener p seen is w a.1)
+
+idle_up : (t s : LunView) → IsBelow t s → not t.busy ≡ true → not s.busy ≡ true
+idle_up t s b h = not_less s.busy t.busy b.busy h
+
+queue_down : (t s : LunView) → IsBelow t s → has_some s.queue ≡ true → has_some t.queue ≡ true
+queue_down t s b h = has_some_any t.queue ∙ b.queue (λ c. true) (sym (has_some_any s.queue) ∙ h)
+
+module _ (g : Parts) (ts ss : List LunView) (each : Each IsBelow ts ss) where
+  pub busy_command : (u t : TailFacts) (c : Command) → breaks_lun_busy g u ts (CommandCycle c) ≡ false → breaks_lun_busy g t ss (CommandCycle c) ≡ false
+  unfolding breaks_lun_busy
+  busy_command u t c h =
+      and_less (wants_ready c) (not (list_any (λ v. not v.busy) ts)) (not (list_any (λ v. not v.busy) ss))
+      (not_less (list_any (λ v. not v.busy) ts) (list_any (λ v. not v.busy) ss) (any_up IsBelow (λ v. not v.busy) (λ v. not v.busy) idle_up ts ss each)) h
+
+  pub queue_command : (u t : TailFacts) (c : Command) → breaks_queue_clash g u ts (CommandCycle c) ≡ false → breaks_queue_clash g t ss (CommandCycle c) ≡ false
+  unfolding breaks_queue_clash
+  queue_command u t c h =
+      and_less (reads_identity c) (list_any (λ v. has_some v.queue) ts) (list_any (λ v. has_some v.queue) ss)
+      (any_down IsBelow (λ v. has_some v.queue) (λ v. has_some v.queue) queue_down ts ss each) h
+
+  pub busy_kept : (t : TailFacts) (cycle : TargetCycle) → breaks_lun_busy g t ts cycle ≡ false → breaks_lun_busy g t ss cycle ≡ false
+  unfolding breaks_lun_busy
+  busy_kept t (CommandCycle c) h = busy_command t t c h
+  busy_kept t (AddressCycle byte) h =
+      and_less (ends_row addresses_the_array t) (named_lun_is g (row_with t byte) (λ v. v.busy) ts) (named_lun_is g (row_with t byte) (λ v. v.busy) ss)
+      (lun_down IsBelow (λ v. v.busy) (λ v. v.busy) (λ x y b. b.busy) ts ss _ each) h
+  busy_kept t (InputCycle byte) h = refl
+  busy_kept t OutputCycle h = refl
+
+  pub queue_kept : (t : TailFacts) (cycle : TargetCycle) → breaks_queue_clash g t ts cycle ≡ false → breaks_queue_clash g t ss cycle ≡ false
+  unfolding breaks_queue_clash
+  queue_kept t (CommandCycle c) h = queue_command t t c h
+  queue_kept t (AddressCycle byte) h =
+      less (named_lun_is g (row_with t byte) (λ v. is_refused_by g t.opening (page_address g (row_with t byte)) v.queue) ts)
+      (named_lun_is g (row_with t byte) (λ v. is_refused_by g t.opening (page_address g (row_with t byte)) v.queue) ss)
+      (lun_down IsBelow (λ v. is_refused_by g t.opening (page_address g (row_with t byte)) v.queue) (λ v. is_refused_by g t.opening (page_address g (row_with t byte)) v.queue)
+      (λ x y b. opening_refused g t.opening (page_address g (row_with t byte)) y.queue x.queue b.queue) ts ss _ each) h
+  queue_kept t (InputCycle byte) h = refl
+  queue_kept t OutputCycle h = refl
+
+-- ---- 3. what hangs on what was before
+
+-- no rule is seen to be broken, or one that hangs on what was before
+abbrev pub OnlyHangs : Option Forbidden → Type 0
+OnlyHangs None = Unit {0}
+OnlyHangs (Some rule) = hangs_on_before rule ≡ true
+
+only_five : (a b c d e : Bool) →
+    OnlyHangs (cond a (Some NoColumnToChange) (cond b (Some NoSoleDriver) (cond c (Some DataNotReady) (cond d (Some ColumnOutside) (cond e (Some CacheReadMisplaced) None)))))
+only_five true b c d e = refl
+only_five false true c d e = refl
+only_five false false true d e = refl
+only_five false false false true e = refl
+only_five false false false false true = refl
+only_five false false false false false = tt
+
+-- the first of the rules that hang on what was before
+abbrev pub five : (a b c d e : Bool) → Option Forbidden
+five a b c d e = cond a (Some NoColumnToChange) (cond b (Some NoSoleDriver) (cond c (Some DataNotReady) (cond d (Some ColumnOutside) (cond e (Some CacheReadMisplaced) None))))
+
+abbrev pub five_of : Parts → TailFacts → List LunView → TargetCycle → Option Forbidden
+five_of g t ss cycle = five (breaks_no_column_to_change ss cycle) (breaks_no_sole_driver t ss cycle) (breaks_data_not_ready ss cycle) (breaks_column_outside g t ss cycle) (breaks_cache_read_misplaced g t ss cycle)
+
+pub judged_five : (g : Parts) (t : TailFacts) (ts ss : List LunView) (cycle : TargetCycle) → Each IsBelow ts ss → KeepsRules g t ts cycle → judge_cycle g t ss cycle ≡ five_of g t ss cycle
+judged_five g t ts ss cycle each k = rw (k.f2, k.f3, k.f4, k.f6, k.f7, k.f8, busy_kept g ts ss each t cycle k.f9, queue_kept g ts ss each t cycle k.f10, k.f11) refl
+
+-- the tail is the same, or an opener comes and no tail was seen
+pub only_hangs : (g : Parts) (t : TailFacts) (ts ss : List LunView) (cycle : TargetCycle) → Each IsBelow ts ss → KeepsRules g t ts cycle → OnlyHangs (judge_cycle g t ss cycle)
+only_hangs g t ts ss cycle each k =
+    rw (k.f2, k.f3, k.f4, k.f6, k.f7, k.f8, busy_kept g ts ss each t cycle k.f9, queue_kept g ts ss each t cycle k.f10, k.f11)
+    (only_five (breaks_no_column_to_change ss cycle) (breaks_no_sole_driver t ss cycle) (breaks_data_not_ready ss cycle) (breaks_column_outside g t ss cycle) (breaks_cache_read_misplaced g t ss cycle))
+
+fresh_open : (g : Parts) (c : Command) → breaks_sequence_open g (facts_of []) (CommandCycle c) ≡ false
+unfolding breaks_sequence_open
+fresh_open g c = and_right (is_opener c) _ refl
+
+fresh_placed : (c : Command) → is_opener c ≡ true → breaks_command_misplaced (facts_of []) (CommandCycle c) ≡ false
+unfolding breaks_command_misplaced
+fresh_placed c h = rw h refl
+
+fresh_address : (g : Parts) (c : Command) → breaks_address_misplaced g (facts_of []) (CommandCycle c) ≡ false
+unfolding breaks_address_misplaced
+fresh_address g c = refl
+
+fresh_row : (g : Parts) (c : Command) → breaks_row_outside g (facts_of []) (CommandCycle c) ≡ false
+unfolding breaks_row_outside
+fresh_row g c = refl
+
+fresh_input : (c : Command) → breaks_input_misplaced (facts_of []) (CommandCycle c) ≡ false
+unfolding breaks_input_misplaced
+fresh_input c = refl
+
+pub only_hangs_fresh : (g : Parts) (t : TailFacts) (ts ss : List LunView) (c : Command) → is_opener c ≡ true → Each IsBelow ts ss → KeepsRules g t ts (CommandCycle c) → OnlyHangs (judge_cycle g (facts_of []) ss (CommandCycle c))
+only_hangs_fresh g t ts ss c opener each k =
+    rw (k.f2, fresh_open g c, k.f4, fresh_placed c opener, fresh_address g c, fresh_row g c, busy_command g ts ss each t (facts_of []) c k.f9, queue_command g ts ss each t (facts_of []) c k.f10, fresh_input c)
+    (only_five (breaks_no_column_to_change ss (CommandCycle c)) (breaks_no_sole_driver (facts_of []) ss (CommandCycle c)) (breaks_data_not_ready ss (CommandCycle c)) (breaks_column_outside g (facts_of []) ss (CommandCycle c)) (breaks_cache_read_misplaced g (facts_of []) ss (CommandCycle c)))
+
+pub judged_five_fresh : (g : Parts) (t : TailFacts) (ts ss : List LunView) (c : Command) → is_opener c ≡ true → Each IsBelow ts ss → KeepsRules g t ts (CommandCycle c) → judge_cycle g (facts_of []) ss (CommandCycle c) ≡ five_of g (facts_of []) ss (CommandCycle c)
+judged_five_fresh g t ts ss c opener each k =
+    rw (k.f2, fresh_open g c, k.f4, fresh_placed c opener, fresh_address g c, fresh_row g c, busy_command g ts ss each t (facts_of []) c k.f9, queue_command g ts ss each t (facts_of []) c k.f10, fresh_input c) refl
+
+-- ---- 4. where all is known of each LUN
+
+pub record IsKnown (t s : LunView) : Type 0 where
+  pub below : IsBelow t s
+  pub begun : IsBegun t s
+  pub same : IsSame t s
+
+known_off : (t s : LunView) → IsKnown t s → is_off t.latch ≡ is_off s.latch
+known_off t s k = k.same.off
+
+page_kind : (r : Register) → is_page_or_parameters r ≡ is_page_or_parameters (kind_of r)
+page_kind Empty = refl
+page_kind (Page p) = refl
+page_kind ParameterPage = refl
+page_kind Identifier = refl
+page_kind Identity = refl
+page_kind JedecIdentity = refl
+page_kind UniqueId = refl
+page_kind (Features address) = refl
+
+empty_kind : (r : Register) → is_empty r ≡ is_empty (kind_of r)
+empty_kind Empty = refl
+empty_kind (Page p) = refl
+empty_kind ParameterPage = refl
+empty_kind Identifier = refl
+empty_kind Identity = refl
+empty_kind JedecIdentity = refl
+empty_kind UniqueId = refl
+empty_kind (Features address) = refl
+
+len_kind : (g : Parts) (r : Register) → register_len g r ≡ register_len g (kind_of r)
+len_kind g Empty = refl
+len_kind g (Page p) = refl
+len_kind g ParameterPage = refl
+len_kind g Identifier = refl
+len_kind g Identity = refl
+len_kind g JedecIdentity = refl
+len_kind g UniqueId = refl
+len_kind g (Features address) = refl
+
+page_not_empty : (r : Register) → is_page_or_parameters r ≡ true → is_empty r ≡ false
+page_not_empty Empty h = cc
+page_not_empty (Page p) h = refl
+page_not_empty ParameterPage h = refl
+page_not_empty Identifier h = refl
+page_not_empty Identity h = refl
+page_not_empty JedecIdentity h = refl
+page_not_empty UniqueId h = refl
+page_not_empty (Features address) h = refl
+
+same_page : (t s : LunView) → IsBegun t s → is_page_or_parameters t.register ≡ is_page_or_parameters s.register
+same_page t s b = page_kind t.register ∙ ap is_page_or_parameters b.register ∙ sym (page_kind s.register)
+
+same_empty : (t s : LunView) → IsBegun t s → is_empty t.register ≡ is_empty s.register
+same_empty t s b = empty_kind t.register ∙ ap is_empty b.register ∙ sym (empty_kind s.register)
+
+same_len : (g : Parts) (t s : LunView) → IsBegun t s → register_len g t.register ≡ register_len g s.register
+same_len g t s b = len_kind g t.register ∙ ap (register_len g) b.register ∙ sym (len_kind g s.register)
+
+data_is : (l : Latch) → is_data l ≡ true → l ≡ Data
+data_is Off h = cc
+data_is Status h = cc
+data_is Data h = refl
+
+data_down : (t s : LunView) → IsBelow t s → is_data s.latch ≡ true → is_data t.latch ≡ true
+data_down t s b h = of s.latch (data_is s.latch h) b.latch
+  where
+    of : (l : Latch) → l ≡ Data → Shows l t.latch → is_data t.latch ≡ true
+    of Off h x = cc
+    of Status h x = cc
+    of Data h x = ap is_data x
+
+column_up : (t s : LunView) → IsKnown t s → may_change_column t ≡ true → may_change_column s ≡ true
+column_up t s k h =
+    let a = and_parts (is_data t.latch) (not t.busy && is_page_or_parameters t.register) h in
+    let b = and_parts (not t.busy) (is_page_or_parameters t.register) a.1 in
+    let page : is_page_or_parameters s.register ≡ true = sym (same_page t s k.begun) ∙ b.1 in
+    let latch : is_data s.latch ≡ true = ap is_data (sym (k.same.latch (page_not_empty s.register page))) ∙ a.0 in
+    and_from (is_data s.latch) (not s.busy && is_page_or_parameters s.register) latch
+    (and_from (not s.busy) (is_page_or_parameters s.register) (ap not (sym k.begun.busy) ∙ b.0) page)
+
+no_byte_down : (t s : LunView) → IsKnown t s → has_no_byte s ≡ true → has_no_byte t ≡ true
+no_byte_down t s k h =
+    let a = and_parts (is_data s.latch) _ h in
+    let b = k.begun in
+    and_from (is_data t.latch) (t.busy || is_empty t.register || lacks (output_column t.column)) (data_down t s k.below a.0) (at (is_empty s.register) refl a.1)
+  where
+    at : (b : Bool) → is_empty s.register ≡ b → (s.busy || is_empty s.register || lacks (output_column s.column)) ≡ true → (t.busy || is_empty t.register || lacks (output_column t.column)) ≡ true
+    at true e x = or_left (t.busy || is_empty t.register) (lacks (output_column t.column)) (or_right t.busy (is_empty t.register) (same_empty t s k.begun ∙ e))
+    at false e x = rw (k.begun.busy, same_empty t s k.begun, k.begun.column e) x
+
+past_down : (g : Parts) (t s : LunView) → IsKnown t s → is_past_register g s ≡ true → (is_past_register g t || has_no_byte t) ≡ true
+past_down g t s k h =
+    let a = and_parts (is_data s.latch) (is_past (output_column s.column) (register_len g s.register)) h in
+    at (is_empty s.register) refl (data_down t s k.below a.0) a.1
+  where
+    at : (e : Bool) → is_empty s.register ≡ e → is_data t.latch ≡ true → is_past (output_column s.column) (register_len g s.register) ≡ true → (is_past_register g t || has_no_byte t) ≡ true
+    at true e d x = or_right (is_past_register g t) (has_no_byte t) (and_from (is_data t.latch) (t.busy || is_empty t.register || lacks (output_column t.column)) d (or_left (t.busy || is_empty t.register) (lacks (output_column t.column)) (or_right t.busy (is_empty t.register) (same_empty t s k.begun ∙ e))))
+    at false e d x = or_left (is_past_register g t) (has_no_byte t) (and_from (is_data t.latch) _ d (rw (k.begun.column e, same_len g t s k.begun) x))
+
+continues_up : (g : Parts) (t s : LunView) → IsKnown t s → continues_cache g t ≡ true → continues_cache g s ≡ true
+continues_up g t s k h =
+    let a = and_parts (not t.busy) (is_page_read t.closer && ltb (t.array_page.page + 1) g.pages) h in
+    let b = and_parts (is_page_read t.closer) (ltb (t.array_page.page + 1) g.pages) a.1 in
+    let reads : is_page_read s.closer ≡ true = ap is_page_read (sym k.begun.closer) ∙ b.0 in
+    and_from (not s.busy) _ (ap not (sym k.begun.busy) ∙ a.0)
+    (and_from (is_page_read s.closer) _ reads (ap (λ p. ltb (p.page + 1) g.pages) (sym (k.begun.page reads)) ∙ b.1))
+
+ends_up : (t s : LunView) → IsKnown t s → ends_cache t ≡ true → ends_cache s ≡ true
+ends_up t s k h =
+    let a = and_parts (not t.busy) (is_cache_read t.closer) h in
+    and_from (not s.busy) (is_cache_read s.closer) (ap not (sym k.begun.busy) ∙ a.0) (ap is_cache_read (sym k.begun.closer) ∙ a.1)
+
+caching_down : (t s : LunView) → IsKnown t s → caching s ≡ true → caching t ≡ true
+caching_down t s k h = ap is_cache_read k.begun.closer ∙ h
+
+either_driver : (p q : LunView → Bool) (o : Option LunView) → is_some_and p o ≡ false → is_some_and q o ≡ false → is_some_and (λ v. p v || q v) o ≡ false
+either_driver p q None a b = refl
+either_driver p q (Some v) a b = or_from (p v) (q v) a b
+
+module _ (g : Parts) (ts ss : List LunView) (each : Each IsKnown ts ss) where
+  pub column_kept : (c : TargetCycle) → breaks_no_column_to_change ts c ≡ false → breaks_no_column_to_change ss c ≡ false
+  unfolding breaks_no_column_to_change
+  column_kept (CommandCycle ChangeReadColumn) h = not_from_true (driver_is may_change_column ss) (driver_up IsKnown may_change_column may_change_column known_off column_up ts ss each (not-false (driver_is may_change_column ts) h))
+  column_kept (CommandCycle c) h = refl
+  column_kept (AddressCycle byte) h = refl
+  column_kept (InputCycle byte) h = refl
+  column_kept OutputCycle h = refl
+
+  pub driver_kept : (t : TailFacts) (c : TargetCycle) → breaks_no_sole_driver t ts c ≡ false → breaks_no_sole_driver t ss c ≡ false
+  unfolding breaks_no_sole_driver
+  driver_kept t (CommandCycle c) h = refl
+  driver_kept t (AddressCycle byte) h = refl
+  driver_kept t (InputCycle byte) h = refl
+  driver_kept t OutputCycle h =
+      let o = or_parts (is_open t) (not (driver_is (λ v. true) ts)) h in
+      or_from (is_open t) _ o.0 (not_from_true (driver_is (λ v. true) ss) (driver_up IsKnown (λ v. true) (λ v. true) known_off (λ x y k r. refl) ts ss each (not-false (driver_is (λ v. true) ts) o.1)))
+
+  pub data_kept : (c : TargetCycle) → breaks_data_not_ready ts c ≡ false → breaks_data_not_ready ss c ≡ false
+  unfolding breaks_data_not_ready
+  data_kept (CommandCycle c) h = refl
+  data_kept (AddressCycle byte) h = refl
+  data_kept (InputCycle byte) h = refl
+  data_kept OutputCycle h = less (driver_is has_no_byte ts) (driver_is has_no_byte ss) (driver_down IsKnown has_no_byte has_no_byte known_off no_byte_down ts ss each) h
+
+  pub outside_kept : (t : TailFacts) (c : TargetCycle) → breaks_data_not_ready ts c ≡ false → breaks_column_outside g t ts c ≡ false → breaks_column_outside g t ss c ≡ false
+  unfolding breaks_data_not_ready breaks_column_outside
+  outside_kept t (CommandCycle c) d h = refl
+  outside_kept t (AddressCycle byte) d h =
+      let o = or_parts (second_of_page t && leb _ (column_with t byte)) _ h in
+      or_from (second_of_page t && leb _ (column_with t byte)) _ o.0
+      (and_less (second_column is_change_read_column t) (driver_is (λ v. leb (register_len g v.register) (column_with t byte)) ts) (driver_is (λ v. leb (register_len g v.register) (column_with t byte)) ss)
+      (driver_down IsKnown (λ v. leb (register_len g v.register) (column_with t byte)) (λ v. leb (register_len g v.register) (column_with t byte)) known_off
+      (λ x y k r. ap (λ n. leb n (column_with t byte)) (same_len g x y k.begun) ∙ r) ts ss each) o.1)
+  outside_kept t (InputCycle byte) d h = h
+  outside_kept t OutputCycle d h =
+      less (driver_is (λ v. is_past_register g v || has_no_byte v) ts) (driver_is (is_past_register g) ss)
+      (driver_down IsKnown (λ v. is_past_register g v || has_no_byte v) (is_past_register g) known_off (past_down g) ts ss each)
+      (either_driver (is_past_register g) has_no_byte _ h d)
+
+  pub cache_command : (u t : TailFacts) (c : Command) → breaks_cache_read_misplaced g u ts (CommandCycle c) ≡ false → breaks_cache_read_misplaced g t ss (CommandCycle c) ≡ false
+  unfolding breaks_cache_read_misplaced
+  cache_command u t ReadCacheSequential h = not_from_true (driver_is (continues_cache g) ss) (driver_up IsKnown (continues_cache g) (continues_cache g) known_off (continues_up g) ts ss each (not-false (driver_is (continues_cache g) ts) h))
+  cache_command u t ReadCacheEnd h = not_from_true (driver_is ends_cache ss) (driver_up IsKnown ends_cache ends_cache known_off ends_up ts ss each (not-false (driver_is ends_cache ts) h))
+  cache_command u t c h = and_less (reads_identity c) (list_any caching ts) (list_any caching ss) (any_down IsKnown caching caching caching_down ts ss each) h
+
+  pub cache_kept : (t : TailFacts) (c : TargetCycle) → breaks_cache_read_misplaced g t ts c ≡ false → breaks_cache_read_misplaced g t ss c ≡ false
+  unfolding breaks_cache_read_misplaced
+  cache_kept t (CommandCycle c) h = cache_command t t c h
+  cache_kept t (AddressCycle byte) h =
+      and_less (ends_row addresses_the_array t) (named_lun_is g (row_with t byte) caching ts) (named_lun_is g (row_with t byte) caching ss)
+      (lun_down IsKnown caching caching caching_down ts ss _ each) h
+  cache_kept t (InputCycle byte) h = refl
+  cache_kept t OutputCycle h = refl
+
+  below_each : Each IsBelow ts ss
+  below_each = each_more IsKnown IsBelow (λ t s k. k.below) ts ss each
+
+  pub none_broken : (t : TailFacts) (cycle : TargetCycle) → KeepsRules g t ts cycle → judge_cycle g t ss cycle ≡ None
+  none_broken t cycle k =
+      rw (k.f2, k.f3, k.f4, column_kept cycle k.f5, k.f6, k.f7, k.f8, busy_kept g ts ss below_each t cycle k.f9, queue_kept g ts ss below_each t cycle k.f10, k.f11, driver_kept t cycle k.f12, data_kept cycle k.f13, outside_kept t cycle k.f13 k.f14, cache_kept t cycle k.f15) refl
+
+  pub none_broken_fresh : (u : TailFacts) (c : Command) → is_opener c ≡ true → KeepsRules g u ts (CommandCycle c) → judge_cycle g (facts_of []) ss (CommandCycle c) ≡ None
+  unfolding breaks_no_sole_driver breaks_data_not_ready breaks_column_outside
+  none_broken_fresh u c opener k =
+      judged_five_fresh g u ts ss c opener below_each k
+      ∙ (rw (column_kept (CommandCycle c) k.f5, cache_command u (facts_of []) c k.f15) refl)

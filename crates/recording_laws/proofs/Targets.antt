@@ -1,0 +1,373 @@
+-- A target as it is, and as it is seen: what a permitted cycle of it leaves of both.
+use Rattle.std.proofs.Common.{◌≡◌, ℕ, ◌+◌, ◌≤◌, ◌==◌, Bool, true, false, cond, ◌&&◌, ◌||◌, List, [], ◌∷◌, length, Option, Some, None, refl, sym, ap, ◌∙◌, subst, slice_get, eqb-true, eq-eqb, arith}
+use Rattle.std.proofs.lemmas.Bool.{and_parts, or_left, or_right, not-false}
+use Rattle.nand_geometry.specs.declared.parts.Parts.{Parts}
+use Rattle.nand_geometry.specs.Row.{parts_of}
+use Rattle.onfi_cycle.specs.declared.command.Command.{Command}
+use Rattle.onfi_cycle.specs.declared.command.Command.TheVariants.{Read, ChangeReadColumn}
+use Rattle.onfi_cycle.specs.declared.data_phase.DataPhase.TheVariants.{Outside}
+use Rattle.onfi_cycle.specs.declared.effect.Effect.{Effect}
+use Rattle.onfi_cycle.specs.declared.effect.Effect.TheVariants.{Unaffected}
+use Rattle.onfi_cycle.specs.declared.forbidden.Forbidden.{Forbidden}
+use Rattle.onfi_cycle.specs.declared.item.Cycle.{Cycle}
+use Rattle.onfi_cycle.specs.declared.item.Item.TheVariants.{Cyc}
+use Rattle.onfi_cycle.specs.declared.latch.Latch.{Latch}
+use Rattle.onfi_cycle.specs.declared.latch.Latch.TheVariants.{Off}
+use Rattle.onfi_cycle.specs.declared.opening.Opening.{Opening}
+use Rattle.onfi_cycle.specs.declared.page_address.PageAddress.{PageAddress}
+use Rattle.onfi_cycle.specs.declared.queued.Queued.{Queued}
+use Rattle.onfi_cycle.specs.declared.tail_facts.TailFacts.{TailFacts}
+use Rattle.onfi_cycle.specs.declared.target_cycle.TargetCycle.{TargetCycle}
+use Rattle.onfi_cycle.specs.declared.target_cycle.TargetCycle.TheVariants.{CommandCycle, AddressCycle, InputCycle, OutputCycle}
+use Rattle.onfi_cycle.specs.Bounds.{is_read}
+use Rattle.onfi_cycle.specs.Command.{is_opener, at_last_row, is_change_read_column}
+use Rattle.onfi_cycle.specs.Effect.{names_lun, page_address, address_effect, opening_address_effect, cycle_effect}
+use Rattle.onfi_cycle.specs.Lun.{view_after}
+use Rattle.onfi_cycle.specs.LunView.{LunView}
+use Rattle.onfi_cycle.specs.Permitted.{judge_cycle}
+use Rattle.onfi_cycle.specs.Rules.{is_some_and, driver, driver_is, has_some, may_change_column, refused_by, is_refused_by, breaks_no_column_to_change, breaks_queue_clash}
+use Rattle.onfi_cycle.specs.Sequence.{target_cycle, facts_of, opened, one_address_more, row, row_with, wants_command, extended_facts, facts_after, begins_sequence}
+use Rattle.onfi_cycle.specs.State.{TargetView, luns_after, has_driver, target_after, without_sequence}
+use Rattle.onfi_cycle.proofs.Passed.{KeepsRules, keeps_rules}
+use Rattle.trace_faults.specs.declared.known.Known.{Known}
+use Rattle.trace_faults.specs.Middle.{nothing_known, is_reset_cycle}
+use Rattle.recording_laws.proofs.Luns.{IsBelow, IsHarmless}
+use Rattle.recording_laws.proofs.Lists.{Each}
+use Rattle.recording_laws.proofs.Rules.{five_of, judged_five, judged_five_fresh}
+use Rattle.recording_laws.proofs.Changed.{changed, changed_length, AtEach, at_each, AllFit, below_each, GoEach, all_fit_on, IsLearned, learns_each, below_unseen, all_nothing}
+use Rattle.recording_laws.proofs.Cycles.{by_cycle, luns_by_cycle, ReadsClear, go_command, go_opener, go_address, go_input, go_output}
+use Rattle.recording_laws.proofs.Unseen.{NoneQueued, MayCome, may_come_on, unseen_harmless, quiet_command}
+use Rattle.recording_laws.proofs.Granted.{is_sound, is_sound_by, sound_after, is_granted, command_granted, command_comes, Comes, address_granted, input_granted, output_granted}
+
+-- ---- 1. a target
+
+-- a target of which an opener was seen
+pub record IsOpened (g : Parts) (t s : TargetView) : Type 0 where
+  pub tail : t.tail ≡ s.tail
+  pub some : t.tail.is_empty ≡ false
+  pub sound : is_sound t.tail ≡ true
+  pub column : opened (λ c n. is_change_read_column c) t.tail.opening ≡ true → (has_driver t.luns ≡ true) × (has_driver s.luns ≡ true)
+  pub read : opened (λ c n. is_read c && n == 5) t.tail.opening ≡ true → NoneQueued g (row t.tail) t.luns
+
+-- one of which none was
+pub record IsClosed (g : Parts) (k : Known) (t s : TargetView) : Type 0 where
+  pub tail : s.tail ≡ facts_of []
+  pub nothing : k ≡ nothing_known
+  pub comes : MayCome g t.tail s.luns
+
+pub record FitsTarget (g : Parts) (k : Known) (t s : TargetView) : Type 0 where
+  pub few : length s.luns ≤ 4
+  pub luns : AllFit k 0 t.luns s.luns
+  pub opened : k.opened ≡ true → IsOpened g t s
+  pub closed : k.opened ≡ false → IsClosed g k t s
+
+-- ---- 2. tails of permitted cycles
+
+-- effects that are none
+unaffected_from : (f : ℕ → LunView → Effect) → ((n : ℕ) (v : LunView) → f n v ≡ Unaffected) → (n : ℕ) (vs : List LunView) → changed f n vs ≡ vs
+unaffected_from f h n [] = refl
+unaffected_from f h n (v ∷ vs) = ap (λ (e : Effect). view_after e v ∷ changed f (n + 1) vs) (h n v) ∙ ap (λ (ws : List LunView). v ∷ ws) (unaffected_from f h (n + 1) vs)
+
+some_after : (cycle : TargetCycle) (t : TailFacts) → t.is_empty ≡ false → (facts_after cycle t).is_empty ≡ false
+some_after (CommandCycle c) t some = at (is_opener c) t.is_empty some
+  where
+    at : (b e : Bool) → e ≡ false → (cond b (extended_facts (CommandCycle c) (facts_of [])) (cond e t (extended_facts (CommandCycle c) t))).is_empty ≡ false
+    at true e f = refl
+    at false true f = cc
+    at false false f = refl
+some_after (AddressCycle byte) t some = rw some refl
+some_after (InputCycle byte) t some = rw some refl
+some_after OutputCycle t some = rw some refl
+
+neither : (b : Bool) → cond b Unaffected Unaffected ≡ Unaffected
+neither true = refl
+neither false = refl
+
+-- the tail of 05h and its addresses, where nothing happens to a LUN
+module _ (g : Parts) (u : TailFacts) where
+  column_command : (sole : Bool) (n : ℕ) (v : LunView) → by_cycle g u sole (CommandCycle ChangeReadColumn) n v ≡ Unaffected
+  column_command sole n v = neither (wants_command u ChangeReadColumn && names_lun g (row u) n)
+
+  quiet_address : (c : Command) (byte m n : ℕ) → (is_change_read_column c || is_read c) ≡ true → address_effect g u byte c m n ≡ Unaffected
+  quiet_address ChangeReadColumn byte m n h = refl
+  quiet_address Read byte m n h = refl
+  quiet_address c byte m n h = cc
+
+  quiet_opening : (o : Option Opening) (byte n : ℕ) → opened (λ c m. is_change_read_column c || is_read c) o ≡ true → opening_address_effect g u byte o n ≡ Unaffected
+  quiet_opening None byte n h = cc
+  quiet_opening (Some o) byte n h = quiet_address o.opener byte o.addresses n h
+
+  address_rests : (byte : ℕ) (vs : List LunView) (sole : Bool) → opened (λ c m. is_change_read_column c || is_read c) u.opening ≡ true → changed (by_cycle g u sole (AddressCycle byte)) 0 vs ≡ vs
+  address_rests byte vs sole h = unaffected_from (by_cycle g u sole (AddressCycle byte)) (λ n v. quiet_opening u.opening byte n h) 0 vs
+
+some_driver : (p : LunView → Bool) (o : Option LunView) → is_some_and p o ≡ true → is_some_and (λ v. true) o ≡ true
+some_driver p None h = h
+some_driver p (Some v) h = refl
+
+column_driver : (luns : List LunView) → breaks_no_column_to_change luns (CommandCycle ChangeReadColumn) ≡ false → has_driver luns ≡ true
+unfolding breaks_no_column_to_change
+column_driver luns h = some_driver may_change_column (driver luns) (not-false (driver_is may_change_column luns) h)
+
+is_column : (c : Command) → is_change_read_column c ≡ true → c ≡ ChangeReadColumn
+is_column ChangeReadColumn h = refl
+is_column c h = cc
+
+one_more_column : (o : Option Opening) → opened (λ c n. is_change_read_column c) (one_address_more o) ≡ true → opened (λ c n. is_change_read_column c) o ≡ true
+one_more_column None h = h
+one_more_column (Some o) h = h
+
+column_or_read : (o : Option Opening) → opened (λ c n. is_change_read_column c) o ≡ true → opened (λ c n. is_change_read_column c || is_read c) o ≡ true
+column_or_read None h = h
+column_or_read (Some o) h = or_left (is_change_read_column o.opener) (is_read o.opener) h
+
+-- 05h has one driver, and its addresses keep it
+opened_driver : (g : Parts) (w : TailFacts) (vs : List LunView) (c : Command) → breaks_no_column_to_change vs (CommandCycle c) ≡ false → is_change_read_column c ≡ true → has_driver (changed (by_cycle g w (has_driver vs) (CommandCycle c)) 0 vs) ≡ true
+opened_driver g w vs c f5 h = at c (is_column c h) f5
+  where
+    at : (c : Command) → c ≡ ChangeReadColumn → breaks_no_column_to_change vs (CommandCycle c) ≡ false → has_driver (changed (by_cycle g w (has_driver vs) (CommandCycle c)) 0 vs) ≡ true
+    at ChangeReadColumn e f = ap has_driver (unaffected_from (by_cycle g w (has_driver vs) (CommandCycle ChangeReadColumn)) (column_command g w (has_driver vs)) 0 vs) ∙ column_driver vs f
+    at c e f = cc
+
+driver_after : (g : Parts) (u : TailFacts) (vs : List LunView) (cycle : TargetCycle) → u.is_empty ≡ false → (opened (λ c n. is_change_read_column c) u.opening ≡ true → has_driver vs ≡ true) → breaks_no_column_to_change vs cycle ≡ false →
+    opened (λ c n. is_change_read_column c) (facts_after cycle u).opening ≡ true → has_driver (changed (by_cycle g u (has_driver vs) cycle) 0 vs) ≡ true
+driver_after g u vs (CommandCycle c) some before f5 h = at (is_opener c) u.is_empty some h
+  where
+    at : (b e : Bool) → e ≡ false → opened (λ c n. is_change_read_column c) (cond b (extended_facts (CommandCycle c) (facts_of [])) (cond e u (extended_facts (CommandCycle c) (record u { is_empty = e })))).opening ≡ true →
+        has_driver (changed (by_cycle g u (has_driver vs) (CommandCycle c)) 0 vs) ≡ true
+    at true e f x = opened_driver g u vs c f5 x
+    at false true f x = cc
+    at false false f x = cc
+driver_after g u vs (AddressCycle byte) some before f5 h =
+    let more = one_more_column u.opening (rw some at h) in
+    ap has_driver (address_rests g u byte vs (has_driver vs) (column_or_read u.opening more)) ∙ before more
+driver_after g u vs (InputCycle byte) some before f5 h = let none = rw some at h in cc
+driver_after g u vs OutputCycle some before f5 h = let none = rw some at h in cc
+
+-- a read has no queue behind its last address
+read_queue : (g : Parts) (c : Command) (n : ℕ) (p : PageAddress) (q : List Queued) → (is_read c && n + 1 == 5) ≡ true → (at_last_row c n && refused_by g c p q) ≡ false → q ≡ []
+read_queue g Read n p q h f =
+    let five : n + 1 ≡ 5 = eqb-true (n + 1) 5 h in
+    let four : n ≡ 4 = omega (arith, five) in
+    nothing q (rw (eq-eqb n 4 four) at f)
+  where
+    nothing : (q : List Queued) → has_some q ≡ false → q ≡ []
+    nothing [] e = refl
+    nothing (x ∷ q) e = cc
+read_queue g c n p q h f = cc
+
+read_address : (g : Parts) (u : TailFacts) (ts : List LunView) (byte : ℕ) (o : Option Opening) → u.opening ≡ o → breaks_queue_clash g u ts (AddressCycle byte) ≡ false → opened (λ c n. is_read c && n == 5) (one_address_more o) ≡ true →
+    NoneQueued g (row (extended_facts (AddressCycle byte) u)) ts
+unfolding breaks_queue_clash
+read_address g u ts byte None e f h m t found names = cc
+read_address g u ts byte (Some o) e f h m t found names =
+    let named : names_lun g (row_with u byte) m ≡ true = rw e at names in
+    let here : (parts_of g (row_with u byte)).lun ≡ m = eqb-true (parts_of g (row_with u byte)).lun m named in
+    let at : slice_get ts (parts_of g (row_with u byte)).lun ≡ Some t = ap (slice_get ts) here ∙ found in
+    let page = page_address g (row_with u byte) in
+    let free : is_refused_by g u.opening page t.queue ≡ false = sym (ap (is_some_and (λ v. is_refused_by g u.opening page v.queue)) at) ∙ f in
+    read_queue g o.opener o.addresses page t.queue h (sym (ap (λ (x : Option Opening). is_refused_by g x page t.queue) e) ∙ free)
+
+one_more_read : (o : Option Opening) → opened (λ c n. is_read c && n == 5) (one_address_more o) ≡ true → opened (λ c n. is_change_read_column c || is_read c) o ≡ true
+one_more_read None h = h
+one_more_read (Some o) h = or_right (is_change_read_column o.opener) (is_read o.opener) (and_parts (is_read o.opener) _ h).0
+
+read_after : (g : Parts) (u : TailFacts) (ts : List LunView) (cycle : TargetCycle) → u.is_empty ≡ false → breaks_queue_clash g u ts cycle ≡ false → opened (λ c n. is_read c && n == 5) (facts_after cycle u).opening ≡ true →
+    NoneQueued g (row (facts_after cycle u)) (changed (by_cycle g u (has_driver ts) cycle) 0 ts)
+read_after g u ts (CommandCycle c) some f h = absurd (at (is_opener c) u.is_empty some h)
+  where
+    at : (b e : Bool) → e ≡ false → opened (λ c n. is_read c && n == 5) (cond b (extended_facts (CommandCycle c) (facts_of [])) (cond e u (extended_facts (CommandCycle c) (record u { is_empty = e })))).opening ≡ true → ⊥
+    at true e f x = let five = (and_parts (is_read c) (0 == 5) x).1 in cc
+    at false true f x = cc
+    at false false f x = cc
+read_after g u ts (AddressCycle byte) some f h =
+    let more : opened (λ c n. is_read c && n == 5) (one_address_more u.opening) ≡ true = rw some at h in
+    let none : NoneQueued g (row (extended_facts (AddressCycle byte) u)) ts = read_address g u ts byte u.opening refl f more in
+    subst (λ (vs : List LunView). NoneQueued g (row (facts_after (AddressCycle byte) u)) vs) (sym (address_rests g u byte ts (has_driver ts) (one_more_read u.opening more)))
+    (rw some none)
+read_after g u ts (InputCycle byte) some f h = let none = rw some at h in cc
+read_after g u ts OutputCycle some f h = let none = rw some at h in cc
+
+reads_clear : (g : Parts) (u : TailFacts) (ts : List LunView) → (opened (λ c n. is_read c && n == 5) u.opening ≡ true → NoneQueued g (row u) ts) → AtEach (ReadsClear g u) 0 ts
+reads_clear g u ts h = at_each (ReadsClear g u) ts (λ m t found r names. h r m t found names)
+
+-- ---- 3. a cycle that is seen
+
+module _ (g : Parts) (k later : Known) (t s : TargetView) (c : Cycle) (f : FitsTarget g k t s) where
+  abbrev cycle : TargetCycle
+  cycle = target_cycle c.kind c.byte
+
+  each : Each IsBelow t.luns s.luns
+  each = below_each k 0 t.luns s.luns f.luns
+
+  few_after : (w : TailFacts) → length (luns_after g w (has_driver s.luns) (Cyc c) 0 s.luns) ≤ 4
+  few_after w = subst (λ n. n ≤ 4) (sym (ap length (luns_by_cycle g w (has_driver s.luns) c s.luns) ∙ changed_length (by_cycle g w (has_driver s.luns) cycle) 0 s.luns)) f.few
+
+  fit_after : (u w : TailFacts) → GoEach (Cyc c) k (by_cycle g u (has_driver t.luns) cycle) (by_cycle g w (has_driver s.luns) cycle) 0 t.luns s.luns → IsLearned (Cyc c) k later s.luns (luns_after g w (has_driver s.luns) (Cyc c) 0 s.luns) →
+      AllFit later 0 (luns_after g u (has_driver t.luns) (Cyc c) 0 t.luns) (luns_after g w (has_driver s.luns) (Cyc c) 0 s.luns)
+  fit_after u w go learned =
+      rw (luns_by_cycle g u (has_driver t.luns) c t.luns, luns_by_cycle g w (has_driver s.luns) c s.luns)
+      (all_fit_on (Cyc c) k later (by_cycle g u (has_driver t.luns) cycle) (by_cycle g w (has_driver s.luns) cycle) 0 t.luns s.luns f.luns go
+      (learns_each (Cyc c) k later (by_cycle g w (has_driver s.luns) cycle) s.luns f.few (subst (IsLearned (Cyc c) k later s.luns) (luns_by_cycle g w (has_driver s.luns) c s.luns) learned)))
+
+  go_cycle : (u : TailFacts) (d : TargetCycle) → d ≡ cycle → KeepsRules g u t.luns d → KeepsRules g u s.luns d → (opened (λ c n. is_change_read_column c) u.opening ≡ true → (has_driver t.luns ≡ true) × (has_driver s.luns ≡ true)) →
+      (opened (λ c n. is_read c && n == 5) u.opening ≡ true → NoneQueued g (row u) t.luns) → GoEach (Cyc c) k (by_cycle g u (has_driver t.luns) d) (by_cycle g u (has_driver s.luns) d) 0 t.luns s.luns
+  go_cycle u (CommandCycle x) e a b column read = go_command g (Cyc c) k t.luns s.luns each u x (λ h. ap is_reset_cycle e ∙ h) a b column (reads_clear g u t.luns read)
+  go_cycle u (AddressCycle byte) e a b column read = go_address g (Cyc c) k t.luns s.luns each u byte (λ h. ap is_reset_cycle e ∙ h)
+  go_cycle u (InputCycle byte) e a b column read = go_input g (Cyc c) k t.luns s.luns each u byte (λ h. ap is_reset_cycle e ∙ h)
+  go_cycle u OutputCycle e a b column read = go_output g (Cyc c) k t.luns s.luns each u (λ h. ap is_reset_cycle e ∙ h) a b
+
+  -- a cycle of a target of which an opener was seen
+  pub seen_opened : k.opened ≡ true → later.opened ≡ true → judge_cycle g t.tail t.luns cycle ≡ None → judge_cycle g s.tail s.luns cycle ≡ None → IsLearned (Cyc c) k later s.luns (target_after g (Cyc c) s).luns →
+      FitsTarget g later (target_after g (Cyc c) t) (target_after g (Cyc c) s)
+  seen_opened was later_open permitted seen learned =
+      record {
+        few = few_after s.tail;
+        luns = fit_after t.tail s.tail (subst (λ (w : TailFacts). GoEach (Cyc c) k (by_cycle g t.tail (has_driver t.luns) cycle) (by_cycle g w (has_driver s.luns) cycle) 0 t.luns s.luns) o.tail (go_cycle t.tail cycle refl a b o.column o.read)) learned;
+        opened = λ h. record {
+          tail = ap (facts_after cycle) o.tail;
+          some = some_after cycle t.tail o.some;
+          sound = sound_after cycle t.tail o.some o.sound;
+          column = λ x. (
+            ap has_driver (luns_by_cycle g t.tail (has_driver t.luns) c t.luns) ∙ driver_after g t.tail t.luns cycle o.some (λ y. (o.column y).0) a.f5 x,
+            ap has_driver (luns_by_cycle g s.tail (has_driver s.luns) c s.luns)
+                ∙ ap (λ (w : TailFacts). has_driver (changed (by_cycle g w (has_driver s.luns) cycle) 0 s.luns)) (sym o.tail)
+                ∙ driver_after g t.tail s.luns cycle o.some (λ y. (o.column y).1) b.f5 x,
+          );
+          read = λ x. subst (NoneQueued g (row (facts_after cycle t.tail))) (sym (luns_by_cycle g t.tail (has_driver t.luns) c t.luns)) (read_after g t.tail t.luns cycle o.some a.f10 x);
+        };
+        closed = λ h. cc;
+      }
+    where
+      o : IsOpened g t s
+      o = f.opened was
+
+      a : KeepsRules g t.tail t.luns cycle
+      a = keeps_rules g t.tail t.luns cycle permitted
+
+      b : KeepsRules g t.tail s.luns cycle
+      b = keeps_rules g t.tail s.luns cycle (ap (λ (w : TailFacts). judge_cycle g w s.luns cycle) o.tail ∙ seen)
+
+-- ---- 4. an opener behind what wasn't seen
+
+record Fresh (g : Parts) (d : TargetCycle) (u : TailFacts) : Type 0 where
+  same : (w : TailFacts) → facts_after d u ≡ facts_after d w
+  some : (facts_after d u).is_empty ≡ false
+  sound : is_sound (facts_after d u) ≡ true
+  column : opened (λ c n. is_change_read_column c) (facts_after d u).opening ≡ true → (w : TailFacts) (vs : List LunView) → breaks_no_column_to_change vs d ≡ false → has_driver (changed (by_cycle g w (has_driver vs) d) 0 vs) ≡ true
+  read : opened (λ c n. is_read c && n == 5) (facts_after d u).opening ≡ true → ⊥
+
+fresh_of : (g : Parts) (d : TargetCycle) (u : TailFacts) → begins_sequence d ≡ true → Fresh g d u
+fresh_of g (CommandCycle c) u h =
+    record {
+      same = λ w. rw h refl;
+      some = rw h refl;
+      sound = rw h (ap (is_sound_by (Some (record { opener = c; addresses = 0 }))) (quiet_command c Outside refl));
+      column = λ x w vs f5. opened_driver g w vs c f5 (rw h at x);
+      read = λ x. let five = (and_parts (is_read c) (0 == 5) (rw h at x)).1 in cc;
+    }
+fresh_of g (AddressCycle byte) u h = cc
+fresh_of g (InputCycle byte) u h = cc
+fresh_of g OutputCycle u h = cc
+
+module _ (g : Parts) (k later : Known) (t s : TargetView) (c : Cycle) (f : FitsTarget g k t s) where
+  go_fresh : (u : TailFacts) (d : TargetCycle) → d ≡ target_cycle c.kind c.byte → begins_sequence d ≡ true → KeepsRules g u t.luns d → KeepsRules g (facts_of []) s.luns d →
+      GoEach (Cyc c) k (by_cycle g u (has_driver t.luns) d) (by_cycle g (facts_of []) (has_driver s.luns) d) 0 t.luns s.luns
+  go_fresh u (CommandCycle x) e h a b = go_opener g (Cyc c) k t.luns s.luns (each g k later t s c f) u x h (λ y. ap is_reset_cycle e ∙ y) a b
+  go_fresh u (AddressCycle byte) e h a b = cc
+  go_fresh u (InputCycle byte) e h a b = cc
+  go_fresh u OutputCycle e h a b = cc
+
+  pub seen_fresh : k.opened ≡ false → later.opened ≡ true → begins_sequence (target_cycle c.kind c.byte) ≡ true → judge_cycle g t.tail t.luns (target_cycle c.kind c.byte) ≡ None → judge_cycle g s.tail s.luns (target_cycle c.kind c.byte) ≡ None →
+      IsLearned (Cyc c) k later s.luns (target_after g (Cyc c) s).luns → FitsTarget g later (target_after g (Cyc c) t) (target_after g (Cyc c) s)
+  seen_fresh was later_open begins permitted seen learned =
+      record {
+        few = few_after g k later t s c f s.tail;
+        luns = fit_after g k later t s c f t.tail s.tail (subst (λ (w : TailFacts). GoEach (Cyc c) k (by_cycle g t.tail (has_driver t.luns) d) (by_cycle g w (has_driver s.luns) d) 0 t.luns s.luns) (sym q.tail) (go_fresh t.tail d refl begins a b)) learned;
+        opened = λ h. record {
+          tail = fresh.same s.tail;
+          some = fresh.some;
+          sound = fresh.sound;
+          column = λ x. (
+            ap has_driver (luns_by_cycle g t.tail (has_driver t.luns) c t.luns) ∙ fresh.column x t.tail t.luns a.f5,
+            ap has_driver (luns_by_cycle g s.tail (has_driver s.luns) c s.luns) ∙ fresh.column x s.tail s.luns b.f5,
+          );
+          read = λ x. absurd (fresh.read x);
+        };
+        closed = λ h. cc;
+      }
+    where
+      d : TargetCycle
+      d = target_cycle c.kind c.byte
+
+      q : IsClosed g k t s
+      q = f.closed was
+
+      fresh : Fresh g d t.tail
+      fresh = fresh_of g d t.tail begins
+
+      a : KeepsRules g t.tail t.luns d
+      a = keeps_rules g t.tail t.luns d permitted
+
+      b : KeepsRules g (facts_of []) s.luns d
+      b = keeps_rules g (facts_of []) s.luns d (ap (λ (w : TailFacts). judge_cycle g w s.luns d) (sym q.tail) ∙ seen)
+
+-- ---- 5. a cycle that is taken for granted, or passed over
+
+module _ (g : Parts) (k : Known) (t s : TargetView) (c : Cycle) (f : FitsTarget g k t s) where
+  below : Each IsBelow t.luns s.luns
+  below = below_each k 0 t.luns s.luns f.luns
+
+  left_below : ((la : Latch) (n : ℕ) (v : LunView) → slice_get s.luns n ≡ Some v → IsHarmless (cycle_effect g t.tail la (target_cycle c.kind c.byte) n) v) → AllFit nothing_known 0 (target_after g (Cyc c) t).luns s.luns
+  left_below h =
+      all_nothing (target_after g (Cyc c) t).luns s.luns f.few
+      (subst (λ (vs : List LunView). Each IsBelow vs s.luns) (sym (luns_by_cycle g t.tail (has_driver t.luns) c t.luns))
+      (below_unseen (by_cycle g t.tail (has_driver t.luns) (target_cycle c.kind c.byte)) t.luns s.luns below (λ m v found x. h (cond (has_driver t.luns) x.latch Off) m v found)))
+
+  by_comes : Comes g t.tail s.luns (target_cycle c.kind c.byte) → FitsTarget g nothing_known (target_after g (Cyc c) t) (without_sequence s)
+  by_comes x =
+      record {
+        few = f.few;
+        luns = left_below (λ la n v found. x.harmless la n v);
+        opened = λ h. cc;
+        closed = λ h. record { tail = refl; nothing = refl; comes = x.comes };
+      }
+
+  by_command : (u : TailFacts) (x : Command) (rule : Forbidden) → five_of g u s.luns (CommandCycle x) ≡ Some rule → Comes g t.tail s.luns (CommandCycle x)
+  by_command u x rule h =
+      let grant = is_granted g u s.luns x rule h in
+      record { comes = command_comes g t.tail s.luns x grant; harmless = λ la n v. command_granted g t.tail la x n v grant }
+
+  open_comes : (d : TargetCycle) (rule : Forbidden) → KeepsRules g t.tail t.luns d → IsOpened g t s → judge_cycle g t.tail s.luns d ≡ Some rule → Comes g t.tail s.luns d
+  open_comes (CommandCycle x) rule a o h = by_command t.tail x rule (sym (judged_five g t.tail t.luns s.luns (CommandCycle x) below a) ∙ h)
+  open_comes (AddressCycle byte) rule a o h = address_granted g t.tail t.luns s.luns byte rule below a o.some o.sound (sym (judged_five g t.tail t.luns s.luns (AddressCycle byte) below a) ∙ h)
+  open_comes (InputCycle byte) rule a o h = absurd (input_granted g t.tail t.luns s.luns byte rule a (sym (judged_five g t.tail t.luns s.luns (InputCycle byte) below a) ∙ h))
+  open_comes OutputCycle rule a o h = output_granted g t.tail s.luns o.some
+
+  pub granted_opened : (rule : Forbidden) → k.opened ≡ true → judge_cycle g t.tail t.luns (target_cycle c.kind c.byte) ≡ None → judge_cycle g s.tail s.luns (target_cycle c.kind c.byte) ≡ Some rule →
+      FitsTarget g nothing_known (target_after g (Cyc c) t) (without_sequence s)
+  granted_opened rule was permitted h =
+      let o = f.opened was in
+      by_comes (open_comes (target_cycle c.kind c.byte) rule (keeps_rules g t.tail t.luns (target_cycle c.kind c.byte) permitted) o (ap (λ (w : TailFacts). judge_cycle g w s.luns (target_cycle c.kind c.byte)) o.tail ∙ h))
+
+  fresh_comes : (d : TargetCycle) (rule : Forbidden) → begins_sequence d ≡ true → KeepsRules g t.tail t.luns d → judge_cycle g (facts_of []) s.luns d ≡ Some rule → Comes g t.tail s.luns d
+  fresh_comes (CommandCycle x) rule begins a h = by_command (facts_of []) x rule (sym (judged_five_fresh g t.tail t.luns s.luns x begins below a) ∙ h)
+  fresh_comes (AddressCycle byte) rule begins a h = cc
+  fresh_comes (InputCycle byte) rule begins a h = cc
+  fresh_comes OutputCycle rule begins a h = cc
+
+  pub granted_fresh : (rule : Forbidden) → k.opened ≡ false → begins_sequence (target_cycle c.kind c.byte) ≡ true → judge_cycle g t.tail t.luns (target_cycle c.kind c.byte) ≡ None → judge_cycle g s.tail s.luns (target_cycle c.kind c.byte) ≡ Some rule →
+      FitsTarget g nothing_known (target_after g (Cyc c) t) (without_sequence s)
+  granted_fresh rule was begins permitted h =
+      let q = f.closed was in
+      by_comes (fresh_comes (target_cycle c.kind c.byte) rule begins (keeps_rules g t.tail t.luns (target_cycle c.kind c.byte) permitted) (ap (λ (w : TailFacts). judge_cycle g w s.luns (target_cycle c.kind c.byte)) (sym q.tail) ∙ h))
+
+  pub passed_over : k.opened ≡ false → begins_sequence (target_cycle c.kind c.byte) ≡ false → judge_cycle g t.tail t.luns (target_cycle c.kind c.byte) ≡ None → FitsTarget g k (target_after g (Cyc c) t) s
+  passed_over was begins permitted =
+      let q = f.closed was in
+      let a = keeps_rules g t.tail t.luns (target_cycle c.kind c.byte) permitted in
+      record {
+        few = f.few;
+        luns = subst (λ (x : Known). AllFit x 0 (target_after g (Cyc c) t).luns s.luns) (sym q.nothing) (left_below (λ la n v found. unseen_harmless g t.tail t.luns s.luns (target_cycle c.kind c.byte) begins a q.comes n v found la));
+        opened = λ h. cc;
+        closed = λ h. record { tail = q.tail; nothing = q.nothing; comes = may_come_on g t.tail t.luns s.luns (target_cycle c.kind c.byte) begins a q.comes };
+      }

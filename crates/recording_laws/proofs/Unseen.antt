@@ -1,0 +1,312 @@
+-- What may still come of a sequence that isn't seen, and what is seen meanwhile.
+use Rattle.std.proofs.Common.{◌≡◌, ◌⊎◌, inl, inr, ℕ, ◌+◌, ◌==◌, Bool, true, false, cond, not, ◌&&◌, ◌||◌, ltb, List, [], Option, Some, None, refl, sym, ap, slice_get, eqb-true, true≢false}
+use Rattle.std.proofs.lemmas.Bool.{and_parts, or_parts, not-true, not-false}
+use Rattle.nand_geometry.specs.declared.parts.Parts.{Parts}
+use Rattle.nand_geometry.specs.Row.{row_of}
+use Rattle.onfi_cycle.specs.declared.command.Command.{Command}
+use Rattle.onfi_cycle.specs.declared.command.Command.TheVariants.{ReadConfirm, ChangeReadColumnConfirm, BlockErase, BlockEraseConfirm, BlockErasePlane, ReadStatusEnhanced, PageProgram, ChangeWriteColumn, ProgramConfirm, ProgramPlane, ReadId, ReadParameterPage, ReadUniqueId, GetFeatures, SetFeatures, ResetLun, Unknown}
+use Rattle.onfi_cycle.specs.declared.data_phase.DataPhase.{DataPhase}
+use Rattle.onfi_cycle.specs.declared.data_phase.DataPhase.TheVariants.{Outside, Inputs, FirstColumn, SecondColumn, FeatureInputs}
+use Rattle.onfi_cycle.specs.declared.effect.Effect.{Effect}
+use Rattle.onfi_cycle.specs.declared.effect.Effect.TheVariants.{Unaffected, IdRead, IdentityRead, UniqueIdReadStarted, FeaturesReadStarted, FeaturesSet, ParameterPageReadStarted, ReadColumnChanged, DataOutput}
+use Rattle.onfi_cycle.specs.declared.latch.Latch.{Latch}
+use Rattle.onfi_cycle.specs.declared.opening.Opening.{Opening}
+use Rattle.onfi_cycle.specs.declared.tail_facts.TailFacts.{TailFacts}
+use Rattle.onfi_cycle.specs.declared.target_cycle.TargetCycle.{TargetCycle}
+use Rattle.onfi_cycle.specs.declared.target_cycle.TargetCycle.TheVariants.{CommandCycle, AddressCycle, InputCycle, OutputCycle}
+use Rattle.onfi_cycle.specs.Bounds.{is_block_erase}
+use Rattle.onfi_cycle.specs.declared.row_bytes.RowBytes.{RowBytes}
+use Rattle.onfi_cycle.specs.Command.{is_opener, closes, address_cycles, takes_address, is_page_program}
+use Rattle.onfi_cycle.specs.Effect.{is_off, is_data, confirm_effect, names_lun, command_effect, id_effect, address_effect, opening_address_effect, cycle_effect, ends_features}
+use Rattle.onfi_cycle.specs.LunView.{LunView}
+use Rattle.onfi_cycle.specs.Rules.{breaks_command_misplaced, breaks_address_misplaced, is_undeclared_address}
+use Rattle.onfi_cycle.specs.Sequence.{begins_sequence, one_address_more, row_after_address, wants_column, opened, takes_data, phase_after_command, phase_after_address, phase_after_last_address, phase_after_input, wants_address, wants_command, row, extended_facts, facts_after}
+use Rattle.onfi_cycle.proofs.Passed.{KeepsRules}
+use Rattle.trace_faults.specs.declared.lun_known.LunKnown.TheVariants.{Nothing}
+use Rattle.recording_laws.proofs.Luns.{IsBelow, Fits, IsHarmless, IsBlank, blank_harmless}
+
+-- ---- 1. tails of which nothing comes that is to be seen
+
+-- after these openers an address or a closer takes something from what was seen
+abbrev pub is_led : Command → Bool
+is_led ReadStatusEnhanced = true
+is_led ResetLun = true
+is_led BlockErase = true
+is_led PageProgram = true
+is_led _ = false
+
+-- the sequence of the tail takes nothing from what was seen
+abbrev pub is_quiet_by : Option Opening → DataPhase → Bool
+is_quiet_by None Outside = true
+is_quiet_by None FeatureInputs = true
+is_quiet_by (Some o) Outside = not (is_led o.opener)
+is_quiet_by (Some o) FeatureInputs = not (is_led o.opener)
+is_quiet_by _ _ = false
+
+abbrev pub is_quiet : TailFacts → Bool
+is_quiet t = is_quiet_by t.opening t.phase
+
+-- the tail names the row of an erase or of a program, and it is whole
+abbrev pub is_named_by : Option Opening → DataPhase → Bool
+is_named_by None Inputs = true
+is_named_by None FirstColumn = true
+is_named_by None SecondColumn = true
+is_named_by (Some o) Inputs = is_page_program o.opener && o.addresses == 5
+is_named_by (Some o) Outside = is_block_erase o.opener && o.addresses == 3
+is_named_by _ _ = false
+
+abbrev pub is_named : TailFacts → Bool
+is_named t = is_named_by t.opening t.phase
+
+-- of the LUN that a row names nothing is seen to be queued
+abbrev pub NoneQueued : Parts → ℕ → List LunView → Type 0
+NoneQueued g r ss = (m : ℕ) (s : LunView) → slice_get ss m ≡ Some s → names_lun g r m ≡ true → s.queue ≡ []
+
+abbrev pub AreBlank : List LunView → Type 0
+AreBlank ss = (m : ℕ) (s : LunView) → slice_get ss m ≡ Some s → IsBlank s
+
+-- what is seen while the sequence of a tail isn't
+pub data MayCome (g : Parts) (t : TailFacts) (ss : List LunView) : Type 0 where
+  blank : AreBlank ss → MayCome g t ss
+  quiet : is_quiet t ≡ true → MayCome g t ss
+  named : is_named t ≡ true → NoneQueued g (row t) ss → MayCome g t ss
+
+-- ---- 2. what may come goes on
+
+pub quiet_command : (c : Command) (p : DataPhase) → takes_data p ≡ false → phase_after_command c p ≡ Outside
+quiet_command ChangeWriteColumn Outside h = refl
+quiet_command ChangeWriteColumn Inputs h = cc
+quiet_command ChangeWriteColumn FirstColumn h = refl
+quiet_command ChangeWriteColumn SecondColumn h = refl
+quiet_command ChangeWriteColumn FeatureInputs h = refl
+quiet_command c p h = refl
+
+-- a command leads back to the data of a program or ends it
+write_command : (c : Command) → (is_quiet_by None (phase_after_command c Inputs) ≡ true) ⊎ (is_named_by None (phase_after_command c Inputs) ≡ true)
+write_command ChangeWriteColumn = inr refl
+write_command c = inl refl
+
+quiet_last : (c : Command) (n : ℕ) → is_led c ≡ false → is_quiet_by (Some (record { opener = c; addresses = n + 1 })) (phase_after_last_address (Some (record { opener = c; addresses = n }))) ≡ true
+quiet_last ReadStatusEnhanced n h = cc
+quiet_last ResetLun n h = cc
+quiet_last BlockErase n h = cc
+quiet_last PageProgram n h = cc
+quiet_last SetFeatures n h = of (n == 0)
+  where
+    of : (b : Bool) → is_quiet_by (Some (record { opener = SetFeatures; addresses = n + 1 })) (cond b FeatureInputs Outside) ≡ true
+    of true = refl
+    of false = refl
+quiet_last c n h = refl
+
+feature_input : (b : Bool) → is_quiet_by None (cond b FeatureInputs Outside) ≡ true
+feature_input true = refl
+feature_input false = refl
+
+module _ (g : Parts) (ss : List LunView) where
+  -- by the parts of a tail
+  abbrev Comes : Option Opening → DataPhase → ℕ → Type 0
+  Comes o p r = (is_quiet_by o p ≡ true) ⊎ ((is_named_by o p ≡ true) × NoneQueued g r ss)
+
+  after_command : (c : Command) (o : Option Opening) (p : DataPhase) (r : ℕ) → Comes o p r → Comes None (phase_after_command c p) r
+  after_command c None Outside r h = inl (ap (is_quiet_by None) (quiet_command c Outside refl))
+  after_command c (Some o) Outside r h = inl (ap (is_quiet_by None) (quiet_command c Outside refl))
+  after_command c None FeatureInputs r h = inl (ap (is_quiet_by None) (quiet_command c FeatureInputs refl))
+  after_command c (Some o) FeatureInputs r h = inl (ap (is_quiet_by None) (quiet_command c FeatureInputs refl))
+  after_command c None FirstColumn r h = inl (ap (is_quiet_by None) (quiet_command c FirstColumn refl))
+  after_command c (Some o) FirstColumn r h = inl (ap (is_quiet_by None) (quiet_command c FirstColumn refl))
+  after_command c None SecondColumn r h = inl (ap (is_quiet_by None) (quiet_command c SecondColumn refl))
+  after_command c (Some o) SecondColumn r h = inl (ap (is_quiet_by None) (quiet_command c SecondColumn refl))
+  after_command c None Inputs r (inl q) = cc
+  after_command c (Some o) Inputs r (inl q) = cc
+  after_command c None Inputs r (inr n) = elim (write_command c) [ inl q ↦ inl q | inr w ↦ inr (w, n.1) ]
+  after_command c (Some o) Inputs r (inr n) = elim (write_command c) [ inl q ↦ inl q | inr w ↦ inr (w, n.1) ]
+
+  after_input : (k : ℕ) (o : Option Opening) (p : DataPhase) (r : ℕ) → Comes o p r → Comes None (phase_after_input k p) r
+  after_input k o Outside r h = inl refl
+  after_input k o FeatureInputs r h = inl (feature_input (ltb k 3))
+  after_input k o FirstColumn r h = inl refl
+  after_input k o SecondColumn r h = inl refl
+  after_input k None Inputs r (inl q) = cc
+  after_input k (Some o) Inputs r (inl q) = cc
+  after_input k None Inputs r (inr n) = inr (refl, n.1)
+  after_input k (Some o) Inputs r (inr n) = inr (refl, n.1)
+
+-- the row of an erase is whole, and that of a program
+erase_full : (c : Command) (n byte : ℕ) → (is_block_erase c && n == 3) ≡ true → ((is_opener c && ltb n (address_cycles c) && takes_address c byte) || false) ≡ true → ⊥
+erase_full BlockErase n byte e h = let three : n ≡ 3 = eqb-true n 3 e in let full = rw three at h in cc
+erase_full c n byte e h = cc
+
+program_full : (c : Command) (n byte : ℕ) → (is_page_program c && n == 5) ≡ true → ((is_opener c && ltb n (address_cycles c) && takes_address c byte) || false) ≡ true → ⊥
+program_full PageProgram n byte e h = let five : n ≡ 5 = eqb-true n 5 e in let full = rw five at h in cc
+program_full c n byte e h = cc
+
+abbrev number : RowBytes → ℕ
+number r = row_of r.r1 r.r2 r.r3
+
+module _ (g : Parts) (ss : List LunView) where
+  after_address : (byte : ℕ) (o : Option Opening) (p : DataPhase) (r : RowBytes) →
+      (opened (λ c n. is_opener c && ltb n (address_cycles c) && takes_address c byte) o || wants_column p) ≡ true →
+      Comes g ss o p (number r) → Comes g ss (one_address_more o) (phase_after_address o p) (number (row_after_address o byte r))
+  after_address byte None Outside r w h = inl refl
+  after_address byte None FeatureInputs r w h = inl refl
+  after_address byte None Inputs r w h = cc
+  after_address byte None FirstColumn r w (inl q) = cc
+  after_address byte None FirstColumn r w (inr n) = inr (refl, n.1)
+  after_address byte None SecondColumn r w (inl q) = cc
+  after_address byte None SecondColumn r w (inr n) = inr (refl, n.1)
+  after_address byte (Some o) Outside r w (inl q) = inl (quiet_last o.opener o.addresses (not-true (is_led o.opener) q))
+  after_address byte (Some o) Outside r w (inr n) = absurd (erase_full o.opener o.addresses byte n.0 w)
+  after_address byte (Some o) Inputs r w (inl q) = cc
+  after_address byte (Some o) Inputs r w (inr n) = absurd (program_full o.opener o.addresses byte n.0 w)
+  after_address byte (Some o) FirstColumn r w (inl q) = cc
+  after_address byte (Some o) FirstColumn r w (inr n) = absurd (true≢false (sym n.0))
+  after_address byte (Some o) SecondColumn r w (inl q) = cc
+  after_address byte (Some o) SecondColumn r w (inr n) = absurd (true≢false (sym n.0))
+  after_address byte (Some o) FeatureInputs r w (inl q) = inl q
+  after_address byte (Some o) FeatureInputs r w (inr n) = absurd (true≢false (sym n.0))
+
+address_wanted : (g : Parts) (t : TailFacts) (byte : ℕ) → breaks_address_misplaced g t (AddressCycle byte) ≡ false → wants_address t byte ≡ true
+unfolding breaks_address_misplaced
+address_wanted g t byte h = not-false (wants_address t byte) (or_parts (not (wants_address t byte)) (is_undeclared_address g t byte) h).0
+
+command_wanted : (t : TailFacts) (c : Command) → is_opener c ≡ false → breaks_command_misplaced t (CommandCycle c) ≡ false → wants_command t c ≡ true
+unfolding breaks_command_misplaced
+command_wanted t c o h = not-false (wants_command t c) (rw o at h)
+
+comes_of : (g : Parts) (t : TailFacts) (ss : List LunView) → MayCome g t ss → (AreBlank ss) ⊎ (Comes g ss t.opening t.phase (row t))
+comes_of g t ss (blank b) = inl b
+comes_of g t ss (quiet q) = inr (inl q)
+comes_of g t ss (named n e) = inr (inr (n, e))
+
+of_comes : (g : Parts) (t : TailFacts) (ss : List LunView) → Comes g ss t.opening t.phase (row t) → MayCome g t ss
+of_comes g t ss (inl q) = quiet q
+of_comes g t ss (inr n) = named n.0 n.1
+
+-- a permitted cycle that isn't seen
+pub may_come_on : (g : Parts) (t : TailFacts) (ts ss : List LunView) (cycle : TargetCycle) → begins_sequence cycle ≡ false → KeepsRules g t ts cycle → MayCome g t ss → MayCome g (facts_after cycle t) ss
+may_come_on g t ts ss cycle begins k m = elim (comes_of g t ss m) [ inl b ↦ blank b | inr c ↦ rw begins (at t.is_empty refl c) ]
+  where
+    first : (c : Command) (e : Bool) → e ≡ false → Comes g ss None (phase_after_command c t.phase) (row t) → Comes g ss (cond e (Some (record { opener = c; addresses = 0 })) None) (phase_after_command c t.phase) (row t)
+    first c false f x = x
+    first c true f x = cc
+
+    goes : (cycle : TargetCycle) → KeepsRules g t ts cycle → t.is_empty ≡ false → Comes g ss t.opening t.phase (row t) → MayCome g (extended_facts cycle t) ss
+    goes (CommandCycle c) k f h = of_comes g (extended_facts (CommandCycle c) t) ss (first c t.is_empty f (after_command g ss c t.opening t.phase (row t) h))
+    goes (AddressCycle byte) k f h = of_comes g (extended_facts (AddressCycle byte) t) ss (after_address g ss byte t.opening t.phase t.row (address_wanted g t byte k.f7) h)
+    goes (InputCycle byte) k f h = of_comes g (extended_facts (InputCycle byte) t) ss (after_input g ss t.inputs t.opening t.phase (row t) h)
+    goes OutputCycle k f h = quiet refl
+
+    at : (e : Bool) → t.is_empty ≡ e → Comes g ss t.opening t.phase (row t) → MayCome g (cond e t (extended_facts cycle t)) ss
+    at true f c = m
+    at false f c = goes cycle k f c
+
+-- ---- 3. what is done meanwhile is harmless
+
+pub harmless_if : (b : Bool) (x : Effect) (s : LunView) → (b ≡ true → IsHarmless x s) → IsHarmless (cond b x Unaffected) s
+harmless_if true x s h = h refl
+harmless_if false x s h = tt
+
+pub harmless_unless : (b : Bool) (x : Effect) (s : LunView) → IsHarmless x s → IsHarmless (cond b Unaffected x) s
+harmless_unless true x s h = tt
+harmless_unless false x s h = h
+
+id_harmless : (byte : ℕ) (s : LunView) → IsHarmless (id_effect byte) s
+id_harmless byte s = of (byte == 0x20)
+  where
+    of : (b : Bool) → IsHarmless (cond b IdRead (IdentityRead (byte == 0x40))) s
+    of true = tt
+    of false = tt
+
+erase_led : (c : Command) (n : ℕ) → (closes c BlockEraseConfirm && n == address_cycles c) ≡ true → is_led c ≡ true
+erase_led BlockErase n h = refl
+erase_led c n h = cc
+
+plane_led : (c : Command) (n : ℕ) → (closes c BlockErasePlane && n == address_cycles c) ≡ true → is_led c ≡ true
+plane_led BlockErase n h = refl
+plane_led c n h = cc
+
+not_led : (o : Opening) (p : DataPhase) → is_quiet_by (Some o) p ≡ true → is_led o.opener ≡ false
+not_led o Outside q = not-true (is_led o.opener) q
+not_led o FeatureInputs q = not-true (is_led o.opener) q
+not_led o Inputs q = cc
+not_led o FirstColumn q = cc
+not_led o SecondColumn q = cc
+
+erase_loud : (o : Option Opening) (p : DataPhase) → is_quiet_by o p ≡ true → opened (λ c n. closes c BlockEraseConfirm && n == address_cycles c) o ≡ true → ⊥
+erase_loud None p q h = cc
+erase_loud (Some o) p q h = let led = erase_led o.opener o.addresses h in let quiet = not_led o p q in cc
+
+plane_loud : (o : Option Opening) (p : DataPhase) → is_quiet_by o p ≡ true → opened (λ c n. closes c BlockErasePlane && n == address_cycles c) o ≡ true → ⊥
+plane_loud None p q h = cc
+plane_loud (Some o) p q h = let led = plane_led o.opener o.addresses h in let quiet = not_led o p q in cc
+
+program_loud : (o : Option Opening) (p : DataPhase) → is_quiet_by o p ≡ true → takes_data p ≡ true → ⊥
+program_loud None Inputs q h = cc
+program_loud (Some o) Inputs q h = cc
+program_loud o Outside q h = cc
+program_loud o FeatureInputs q h = cc
+program_loud o FirstColumn q h = cc
+program_loud o SecondColumn q h = cc
+
+-- an address after such an opener
+module _ (g : Parts) (t : TailFacts) (byte m : ℕ) (s : LunView) where
+  quiet_address : (c : Command) (n : ℕ) → is_led c ≡ false → IsHarmless (address_effect g t byte c n m) s
+  quiet_address ReadStatusEnhanced n h = cc
+  quiet_address ResetLun n h = cc
+  quiet_address ReadId n h = harmless_if (wants_address t byte) (id_effect byte) s (λ w. id_harmless byte s)
+  quiet_address ReadParameterPage n h = harmless_if (wants_address t byte) ParameterPageReadStarted s (λ w. tt)
+  quiet_address ReadUniqueId n h = harmless_if (wants_address t byte) UniqueIdReadStarted s (λ w. tt)
+  quiet_address GetFeatures n h = harmless_if (wants_address t byte) (FeaturesReadStarted byte) s (λ w. tt)
+  quiet_address c n h = tt
+
+  erase_address : (c : Command) (n : ℕ) → is_block_erase c ≡ true → IsHarmless (address_effect g t byte c n m) s
+  erase_address BlockErase n h = tt
+  erase_address c n h = cc
+
+  program_address : (c : Command) (n : ℕ) → is_page_program c ≡ true → IsHarmless (address_effect g t byte c n m) s
+  program_address PageProgram n h = tt
+  program_address c n h = cc
+
+  address_harmless : (ss : List LunView) (o : Option Opening) (p : DataPhase) (r : ℕ) → Comes g ss o p r → IsHarmless (opening_address_effect g t byte o m) s
+  address_harmless ss None p r h = tt
+  address_harmless ss (Some o) p r (inl q) = quiet_address o.opener o.addresses (not_led o p q)
+  address_harmless ss (Some o) Inputs r (inr n) = program_address o.opener o.addresses (and_parts (is_page_program o.opener) (o.addresses == 5) n.0).0
+  address_harmless ss (Some o) Outside r (inr n) = erase_address o.opener o.addresses (and_parts (is_block_erase o.opener) (o.addresses == 3) n.0).0
+  address_harmless ss (Some o) FirstColumn r (inr n) = absurd (true≢false (sym n.0))
+  address_harmless ss (Some o) SecondColumn r (inr n) = absurd (true≢false (sym n.0))
+  address_harmless ss (Some o) FeatureInputs r (inr n) = absurd (true≢false (sym n.0))
+
+module _ (g : Parts) (t : TailFacts) (la : Latch) (ss : List LunView) (m : ℕ) (s : LunView) (found : slice_get ss m ≡ Some s) (h : Comes g ss t.opening t.phase (row t)) where
+  -- a closer of an erase or a program, by the row of the tail
+  closes_nothing : (w : Bool) (x : Effect) → (IsHarmless x s ≡ (s.queue ≡ [])) → (is_quiet_by t.opening t.phase ≡ true → w ≡ true → ⊥) → IsHarmless (cond (w && names_lun g (row t) m) x Unaffected) s
+  closes_nothing w x is loud = harmless_if (w && names_lun g (row t) m) x s (λ b. at (and_parts w (names_lun g (row t) m) b).0 (and_parts w (names_lun g (row t) m) b).1 h)
+    where
+      at : w ≡ true → names_lun g (row t) m ≡ true → Comes g ss t.opening t.phase (row t) → IsHarmless x s
+      at a b (inl q) = absurd (loud q a)
+      at a b (inr n) = rw is (n.1 m s found b)
+
+  command_harmless : (c : Command) → is_opener c ≡ false → wants_command t c ≡ true → IsHarmless (command_effect g t la c m) s
+  command_harmless ReadConfirm o w = harmless_if (wants_command t ReadConfirm && names_lun g (row t) m) (confirm_effect g t ReadConfirm) s (λ b. tt)
+  command_harmless ChangeReadColumnConfirm o w = harmless_if (wants_command t ChangeReadColumnConfirm && not (is_off la)) (ReadColumnChanged t.column) s (λ b. tt)
+  command_harmless BlockEraseConfirm o w = closes_nothing (wants_command t BlockEraseConfirm) (confirm_effect g t BlockEraseConfirm) refl (erase_loud t.opening t.phase)
+  command_harmless BlockErasePlane o w = closes_nothing (wants_command t BlockErasePlane) (confirm_effect g t BlockErasePlane) refl (plane_loud t.opening t.phase)
+  command_harmless ChangeWriteColumn o w = harmless_if (wants_command t ChangeWriteColumn && names_lun g (row t) m) Unaffected s (λ b. tt)
+  command_harmless ProgramConfirm o w = closes_nothing (wants_command t ProgramConfirm) (confirm_effect g t ProgramConfirm) refl (program_loud t.opening t.phase)
+  command_harmless ProgramPlane o w = closes_nothing (wants_command t ProgramPlane) (confirm_effect g t ProgramPlane) refl (program_loud t.opening t.phase)
+  command_harmless Unknown o w = harmless_if (wants_command t Unknown && names_lun g (row t) m) Unaffected s (λ b. tt)
+  command_harmless c o w = cc
+
+pub unseen_harmless : (g : Parts) (t : TailFacts) (ts ss : List LunView) (cycle : TargetCycle) → begins_sequence cycle ≡ false → KeepsRules g t ts cycle → MayCome g t ss →
+    (m : ℕ) (s : LunView) → slice_get ss m ≡ Some s → (la : Latch) → IsHarmless (cycle_effect g t la cycle m) s
+unseen_harmless g t ts ss cycle begins k m n s found la = elim (comes_of g t ss m) [ inl b ↦ blank_harmless (cycle_effect g t la cycle n) s (b n s found) | inr c ↦ at cycle begins k c ]
+  where
+    at : (cycle : TargetCycle) → begins_sequence cycle ≡ false → KeepsRules g t ts cycle → Comes g ss t.opening t.phase (row t) → IsHarmless (cycle_effect g t la cycle n) s
+    at (CommandCycle c) b k h = command_harmless g t la ss n s found h c b (command_wanted t c b k.f6)
+    at (AddressCycle byte) b k h = address_harmless g t byte n s ss t.opening t.phase (row t) h
+    at (InputCycle byte) b k h = harmless_if (ends_features t) (FeaturesSet _) s (λ b. tt)
+    at OutputCycle b k h = harmless_if (is_data la) DataOutput s (λ b. tt)
+
+-- ---- 4. what is seen stays as it is
+
+pub nothing_fits : (t s : LunView) → IsBelow t s → Fits Nothing t s
+nothing_fits t s b = record { below = b; begun = λ h. cc; same = λ h. cc; off = λ h g. cc }
