@@ -25,7 +25,7 @@ use Rattle.trace_ops.proofs.PolledLines.{polled}
 use Rattle.trace_ops.proofs.Spans.{same_some}
 use Rattle.micro_verify.specs.declared.plain_op.PlainOp.{PlainOp}
 use Rattle.micro_verify.specs.Plain.{operations_len, plain_text}
-use Rattle.plain_operations.specs.Lines.{sequence_of, began, AreBytes, RunsPlainly, lines_after, LinesAre}
+use Rattle.plain_operations.specs.Lines.{sequence_of, closers, began, AreBytes, RunsPlainly, lines_after, LinesAre}
 use Rattle.plain_operations.proofs.Hosts.{Has, has_other, bytes_before}
 use Rattle.plain_operations.proofs.Steps.{Taken, taken, nothing_played, Ahead, After, word_steps}
 use Rattle.plain_operations.proofs.Texts.{place_of, is_end, is_at_rest, leads, sends_with, leads_to, all_lead_to, body, body_long, body_leads, body_sends, body_fails, plain_lines}
@@ -70,13 +70,15 @@ pub record Stands (g : Parts) (j : Job) (first : List Sequence) (failure : ℕ) 
   pub doing : Doing
   pub works : List Sequence
   pub has : Has j.lun.ce first past doing works
+  pub counts : length works ≡ closers done
   pub ahead_is : Ahead g j failure (place_of j done) doing works all ahead
 
 -- at its end
-pub record Over (ce : ℕ) (first : List Sequence) (all : List Sequence) (past : List Item) (code : ℕ) : Type 0 where
+pub record Over (ce : ℕ) (first : List Sequence) (all : List Sequence) (past : List Item) (done : List Done) (code : ℕ) : Type 0 where
   pub works : List Sequence
   pub left : List Sequence
   pub has : Has ce first past Rests works
+  pub counts : length works ≡ closers done
   pub begins : works ++ left ≡ all
   pub over : code ≡ 0 → left ≡ []
 
@@ -127,7 +129,7 @@ module _ (g : Parts) (j : Job) (first : List Sequence) (failure : ℕ) (all : Li
       past_so (line_of at (End code)) rest t
       ∙ nothing_played ce bytes past t.played (ap (λ (m : List Move). answered ce m bytes past) (sym (same_some (sym t.is_moved))) ∙ t.is_played)
 
-  module _ (d : Doing) (works : List Sequence) (has : Has ce first past d works) where
+  module _ (d : Doing) (works : List Sequence) (has : Has ce first past d works) (counts : length works ≡ closers done) where
     -- a word of the body, with those behind it
     module _ (at : ℕ) (word : Word) (words : List Word) (are : ahead ≡ lines_from ((word ∷ words) ++ (End 1 ∷ [])) at) (ends : failure ≡ at + suc (length words))
         (fails : all_lead_to failure (word ∷ words) ≡ true) (lead : leads g j (place_of j done) d (word ∷ words) ≡ true) (begins : works ++ sends_with g j (place_of j done) d (word ∷ words) ≡ all) where
@@ -144,7 +146,7 @@ module _ (g : Parts) (j : Job) (first : List Sequence) (failure : ℕ) (all : Li
           by true e = absurd (end_coded word e (sym (code_is at word rest t) ∙ still))
           by false e =
               let parts = and_true (leads_to failure word) (all_lead_to failure words) fails in
-              word_steps g j first failure all one past done d works has words at ends parts.1 r word bytes e lead begins parts.0 t (small_there (line_of at word) rest t)
+              word_steps g j first failure all one past done d works has counts words at ends parts.1 r word bytes e lead begins parts.0 t (small_there (line_of at word) rest t)
 
     goes_on : r.code ≡ None → (words : List Word) (at : ℕ) → ahead ≡ lines_from (words ++ (End 1 ∷ [])) at → failure ≡ at + length words → all_lead_to failure words ≡ true → leads g j (place_of j done) d words ≡ true →
         works ++ sends_with g j (place_of j done) d words ≡ all → After g j first failure all r
@@ -155,28 +157,32 @@ module _ (g : Parts) (j : Job) (first : List Sequence) (failure : ℕ) (all : Li
     ahead_on still (inl goes) = goes_on still goes.words goes.at goes.are goes.ends goes.fails goes.leads_on goes.begins
     ahead_on still (inr fails) = absurd (none (sym still ∙ code_is failure (End 1) [] (taken_at (line_of failure (End 1)) [] fails.are)))
 
+    end_counts : (at code : ℕ) (rest : List Line) → Taken g j bytes past (line_of at (End code)) rest done r → length works ≡ closers r.done
+    end_counts at code rest t = (let now' : closers r.done ≡ closers done + 0 = ap (λ (x : Stride). closers x.done) (sym t.is_stride) in let before = counts in omega (arith, now', before))
+
     over_at : (p : List Item) → r.past ≡ p → Has ce first p Rests works → Has ce first r.past Rests works
     over_at p e has' = subst (λ (x : List Item). Has ce first x Rests works) (sym e) has'
 
     word_over : (code : ℕ) → r.code ≡ Some code → (at : ℕ) (word : Word) (words : List Word) → ahead ≡ lines_from ((word ∷ words) ++ (End 1 ∷ [])) at → leads g j (place_of j done) d (word ∷ words) ≡ true →
-        works ++ sends_with g j (place_of j done) d (word ∷ words) ≡ all → Over ce first all r.past code
+        works ++ sends_with g j (place_of j done) d (word ∷ words) ≡ all → Over ce first all r.past r.done code
     word_over code is at (End n) words are lead begins =
         let t = taken_at (line_of at (End n)) (lines_from (words ++ (End 1 ∷ [])) (at + 1)) are in
         record {
           works = works;
           left = [];
           has = over_at past (end_past at n (lines_from (words ++ (End 1 ∷ [])) (at + 1)) t) (subst (λ (s : Doing). Has ce first past s works) (rest_is d lead) has);
+          counts = end_counts at n (lines_from (words ++ (End 1 ∷ [])) (at + 1)) t;
           begins = begins;
           over = λ e. refl;
         }
     word_over code is at word words are lead begins =
         absurd (none (sym (code_is at word (lines_from (words ++ (End 1 ∷ [])) (at + 1)) (taken_at (line_of at word) (lines_from (words ++ (End 1 ∷ [])) (at + 1)) are)) ∙ is))
 
-    goes_over : (code : ℕ) → r.code ≡ Some code → (words : List Word) (at : ℕ) → ahead ≡ lines_from (words ++ (End 1 ∷ [])) at → leads g j (place_of j done) d words ≡ true → works ++ sends_with g j (place_of j done) d words ≡ all → Over ce first all r.past code
+    goes_over : (code : ℕ) → r.code ≡ Some code → (words : List Word) (at : ℕ) → ahead ≡ lines_from (words ++ (End 1 ∷ [])) at → leads g j (place_of j done) d words ≡ true → works ++ sends_with g j (place_of j done) d words ≡ all → Over ce first all r.past r.done code
     goes_over code is [] at are lead begins = absurd (off lead)
     goes_over code is (word ∷ words) at are lead begins = word_over code is at word words are lead begins
 
-    ahead_over : (code : ℕ) → r.code ≡ Some code → Ahead g j failure (place_of j done) d works all ahead → Over ce first all r.past code
+    ahead_over : (code : ℕ) → r.code ≡ Some code → Ahead g j failure (place_of j done) d works all ahead → Over ce first all r.past r.done code
     ahead_over code is (inl goes) = goes_over code is goes.words goes.at goes.are goes.leads_on goes.begins
     ahead_over code is (inr fails) =
         let t = taken_at (line_of failure (End 1)) [] fails.are in
@@ -184,6 +190,7 @@ module _ (g : Parts) (j : Job) (first : List Sequence) (failure : ℕ) (all : Li
           works = works;
           left = fails.left;
           has = over_at past (end_past failure 1 [] t) (subst (λ (s : Doing). Has ce first past s works) fails.rests has);
+          counts = end_counts failure 1 [] t;
           begins = fails.begins;
           over = λ e. absurd (let one = same_some (sym (code_is failure (End 1) [] t) ∙ is) in omega (arith, one, e));
         }
@@ -210,6 +217,7 @@ loaded_stands s j ops past plain = record {
   doing = Rests;
   works = [];
   has = record { doing = plain.rested; begun = sym (append-nil (first_of j past)) };
+  counts = refl;
   ahead_is = inl (record {
     words = body (failure_of ops) ops;
     at = 0;
@@ -236,8 +244,8 @@ module _ (s : Channel) (j : Job) (ops : List PlainOp) (before : List Item) (plai
       IsAt s j ops before (after_step r)
   step_stands seat bytes r step still small was =
       let after =
-      ahead_on s.geometry j (first_of j before) (failure_of ops) (map (sequence_of s.geometry j) ops) plain.one_lun bytes seat.past seat.ahead seat.done r step small was.doing was.works was.has still was.ahead_is in
-      record { doing = after.doing; works = after.works; has = after.has; ahead_is = after.ahead }
+      ahead_on s.geometry j (first_of j before) (failure_of ops) (map (sequence_of s.geometry j) ops) plain.one_lun bytes seat.past seat.ahead seat.done r step small was.doing was.works was.has was.counts still was.ahead_is in
+      record { doing = after.doing; works = after.works; has = after.has; counts = after.counts; ahead_is = after.ahead }
 
   ready_stands : (seat : Seat) (i : Item) → is_cycle i ≡ false → IsAt s j ops before seat → IsAt s j ops before (after_item i seat)
   ready_stands seat (Cyc c) h was = cc
@@ -245,12 +253,14 @@ module _ (s : Channel) (j : Job) (ops : List PlainOp) (before : List Item) (plai
     doing = was.doing;
     works = was.works;
     has = has_other j.lun.ce (first_of j before) seat.past was.doing was.works (Rdy x lun fail) was.has refl refl;
+    counts = was.counts;
     ahead_is = was.ahead_is;
   }
   ready_stands seat (Ard x lun) h was = record {
     doing = was.doing;
     works = was.works;
     has = has_other j.lun.ce (first_of j before) seat.past was.doing was.works (Ard x lun) was.has refl refl;
+    counts = was.counts;
     ahead_is = was.ahead_is;
   }
 
@@ -266,6 +276,7 @@ module _ (s : Channel) (j : Job) (ops : List PlainOp) (before : List Item) (plai
         has =
             has_other j.lun.ce (first_of j before) seat.past was.doing was.works (Cyc c) was.has
             (ap (λ (b : Bool). cond b (by_cycle was.doing c.kind c.byte) (Some was.doing)) away) (ap (λ (b : Bool). cond b (sent_in was.doing c.kind c.byte) None) away);
+        counts = was.counts;
         ahead_is = was.ahead_is;
       }
 
@@ -320,14 +331,15 @@ lines_so s j ops before past plain legal rests = (polled s.geometry s.targets (r
 
 pub lines_are : (s : Channel) (j : Job) (ops : List PlainOp) (seat : Seat) (run : Reaches s j seat) (bytes : List ℕ) (r : Stride) (code : ℕ) → RunsPlainly s j ops (began s j seat run) →
     answered_step s.geometry j bytes seat.past seat.ahead seat.done ≡ Some r → r.code ≡ Some code → is_legal s.geometry s.targets r.past ≡ true → AreBytes r.past →
-    LinesAre s j ops (began s j seat run) r.past code
+    LinesAre s j ops (began s j seat run) r.past r.done code
 lines_are s j ops seat run bytes r code plain step is legal small =
     let before = began s j seat run in
     let there = stands s j ops seat run plain (small_before s.geometry j (first_of j before) (failure_of ops) (map (sequence_of s.geometry j) ops) plain.one_lun bytes seat.past seat.ahead seat.done r step small) in
     let over =
-    ahead_over s.geometry j (first_of j before) (failure_of ops) (map (sequence_of s.geometry j) ops) plain.one_lun bytes seat.past seat.ahead seat.done r step small there.doing there.works there.has code is there.ahead_is in
+    ahead_over s.geometry j (first_of j before) (failure_of ops) (map (sequence_of s.geometry j) ops) plain.one_lun bytes seat.past seat.ahead seat.done r step small there.doing there.works there.has there.counts code is there.ahead_is in
     record {
       count = length over.works;
+      sent = over.counts;
       few = few_first (sequence_of s.geometry j) over.works over.left ops over.begins;
       lines =
           lines_so s j ops before r.past plain legal over.has.doing
@@ -350,7 +362,7 @@ legal_at s j _ (others seat c m run free own there apart) fine = legal_more s.ge
 
 pub verified_lines : (s : Channel) (j : Job) (ops : List PlainOp) (seat : Seat) (run : Reaches s j seat) (bytes : List ℕ) (r : Stride) (code : ℕ) → RunsPlainly s j ops (began s j seat run) →
     IsSafe (plain_text ops) s.geometry → IsJobOf (plain_text ops) s.geometry s j → may_step j seat ≡ true →
-    answered_step s.geometry j bytes seat.past seat.ahead seat.done ≡ Some r → r.code ≡ Some code → AreBytes r.past → LinesAre s j ops (began s j seat run) r.past code
+    answered_step s.geometry j bytes seat.past seat.ahead seat.done ≡ Some r → r.code ≡ Some code → AreBytes r.past → LinesAre s j ops (began s j seat run) r.past r.done code
 verified_lines s j ops seat run bytes r code plain safe job may step is small =
     let fine : StaysFine s j = safe s j job in
     lines_are s j ops seat run bytes r code plain step is

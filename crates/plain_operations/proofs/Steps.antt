@@ -1,7 +1,7 @@
 -- A step of a program of plain operations, and what it makes of the host of its target.
 use Rattle.std.proofs.Common.{◌≡◌, ◌⊎◌, inl, inr, ℕ, suc, ◌+◌, ◌<◌, ◌==◌, Bool, true, false, ◌&&◌, cond, List, [], ◌∷◌, ◌++◌, Option, Some, None, refl, sym, ap, ◌∙◌, subst, arith, length, append_assoc, drop, leb, leb-true, ltb, eqb-true}
 use Rattle.std.proofs.lemmas.Bool.{agree_below_at}
-use Rattle.std.proofs.lemmas.List.{length-drop, length-take-le}
+use Rattle.std.proofs.lemmas.List.{length-append, length-drop, length-take-le}
 use Rattle.nand_geometry.specs.declared.parts.Parts.{Parts}
 use Rattle.nand_geometry.specs.Limits.{indices, planes}
 use Rattle.nand_geometry.specs.Row.{row_bytes_of, row_number, indexed, row_cycles}
@@ -16,9 +16,9 @@ use Rattle.micro_program.specs.Moves.{Move, Give, Take, and_then, part, column_b
 use Rattle.micro_program.specs.Played.{Played, answered}
 use Rattle.micro_program.specs.Step.{Stride, Went, NotReady, first_byte, did, stride, answered_step}
 use Rattle.trace_ops.specs.Operation.{says_ready}
-use Rattle.trace_ops.specs.Polling.{Work, Sequence, Doing, Rests, Sends, Waits, Asks, Sees, is_over, by_command, sent_in, in_front}
+use Rattle.trace_ops.specs.Polling.{Work, Reads, Programs, Erases, Sequence, Doing, Rests, Sends, Waits, Asks, Sees, closer_for, is_over, by_command, sent_in, in_front}
 use Rattle.trace_ops.proofs.Spans.{same_some}
-use Rattle.plain_operations.specs.Lines.{AreBytes}
+use Rattle.plain_operations.specs.Lines.{AreBytes, is_closer, closes, closers}
 use Rattle.plain_operations.proofs.Hosts.{Has, has_cycle, has_byte, has_addresses, has_inputs, has_takes, TookByte, took}
 use Rattle.plain_operations.proofs.Texts.{Place, place_of, place_with, five_at, by_addresses, counted, by_inputs, by_word, is_end, leads_if, leads, sends_if, sends_with, leads_to, all_lead_to, from_last}
 
@@ -59,6 +59,44 @@ front_is (Some w) works = refl
 not_many : (luns : ℕ) → luns ≡ 1 → ltb 1 luns ≡ false
 not_many luns h = ap (ltb 1) h
 
+-- a closer ends a sequence, and no other command does
+closer_by : (w : Work) (byte : ℕ) → byte ≡ closer_for w → is_closer byte ≡ true
+closer_by Reads byte e = ap is_closer e
+closer_by Programs byte e = ap is_closer e
+closer_by Erases byte e = ap is_closer e
+
+not_closer : (byte value : ℕ) → is_closer value ≡ false → (byte == value) ≡ true → is_closer byte ≡ false
+not_closer byte value h e = ap is_closer (eqb-true byte value e) ∙ h
+
+closer_counts : (d : Doing) (byte : ℕ) (e : Doing) → by_command d byte ≡ Some e → length (in_front (sent_in d Cmd byte) []) ≡ closes (Command byte)
+closer_counts Rests byte e h = sym (ap (λ b. cond b 1 0) (opener (byte == 0x00) refl (byte == 0x80) refl (byte == 0x60) refl))
+  where
+    opener : (a : Bool) → (byte == 0x00) ≡ a → (b : Bool) → (byte == 0x80) ≡ b → (c : Bool) → (byte == 0x60) ≡ c → is_closer byte ≡ false
+    opener true p b q c r = not_closer byte 0x00 refl p
+    opener false p true q c r = not_closer byte 0x80 refl q
+    opener false p false q true r = not_closer byte 0x60 refl r
+    opener false p false q false r = absurd (none (sym (rw (p, q, r) refl) ∙ h))
+closer_counts (Sends s) byte e h = by (byte == closer_for s.work) refl h
+  where
+    by : (b : Bool) → (byte == closer_for s.work) ≡ b → cond b (Some (Waits s.work)) None ≡ Some e → length (in_front (cond b (Some s) None) []) ≡ cond (is_closer byte) 1 0
+    by true f h = sym (ap (λ b. cond b 1 0) (closer_by s.work byte (eqb-true byte (closer_for s.work) f)))
+    by false f h = absurd (none h)
+closer_counts (Waits w) byte e h = sym (by (byte == 0x70) refl h)
+  where
+    by : (b : Bool) → (byte == 0x70) ≡ b → cond b (Some (Asks w)) None ≡ Some e → closes (Command byte) ≡ 0
+    by true f h = ap (λ b. cond b 1 0) (not_closer byte 0x70 refl f)
+    by false f h = absurd (none h)
+closer_counts (Asks w) byte e h = sym (by (byte == 0x70) refl h)
+  where
+    by : (b : Bool) → (byte == 0x70) ≡ b → cond b (Some (Asks w)) None ≡ Some e → closes (Command byte) ≡ 0
+    by true f h = ap (λ b. cond b 1 0) (not_closer byte 0x70 refl f)
+    by false f h = absurd (none h)
+closer_counts Sees byte e h = sym (by (byte == 0x00) refl h)
+  where
+    by : (b : Bool) → (byte == 0x00) ≡ b → cond b (Some Rests) None ≡ Some e → closes (Command byte) ≡ 0
+    by true f h = ap (λ b. cond b 1 0) (not_closer byte 0x00 refl f)
+    by false f h = absurd (none h)
+
 record Led (x : Option Doing) (more : Doing → Bool) : Type 0 where
   next : Doing
   is : x ≡ Some next
@@ -97,12 +135,13 @@ pub record After (g : Parts) (j : Job) (first : List Sequence) (failure : ℕ) (
   pub doing : Doing
   pub works : List Sequence
   pub has : Has j.lun.ce first r.past doing works
+  pub counts : length works ≡ closers r.done
   pub ahead : Ahead g j failure (place_of j r.done) doing works all r.ahead
 
 same_length : (n : ℕ) (at failure : ℕ) → failure ≡ at + suc n → failure ≡ at + 1 + n
 same_length n at failure h = omega (arith, h)
 
-module _ (g : Parts) (j : Job) (first : List Sequence) (failure : ℕ) (all : List Sequence) (one : g.luns ≡ 1) (past : List Item) (done : List Done) (d : Doing) (works : List Sequence) (has : Has j.lun.ce first past d works)
+module _ (g : Parts) (j : Job) (first : List Sequence) (failure : ℕ) (all : List Sequence) (one : g.luns ≡ 1) (past : List Item) (done : List Done) (d : Doing) (works : List Sequence) (has : Has j.lun.ce first past d works) (counts : length works ≡ closers done)
     (words : List Word) (at : ℕ) (ends : failure ≡ at + suc (length words)) (fails : all_lead_to failure words ≡ true) (r : Stride) where
   abbrev ce : ℕ
   ce = j.lun.ce
@@ -117,11 +156,12 @@ module _ (g : Parts) (j : Job) (first : List Sequence) (failure : ℕ) (all : Li
   place = place_of j done
 
   -- the word is done, and the program goes on with the next
-  on : (next : Doing) (more : List Sequence) (p : Place) → place_of j r.done ≡ p → Has ce first r.past next more → leads g j p next words ≡ true → more ++ sends_with g j p next words ≡ all → r.ahead ≡ rest → To
-  on next more p same has' lead begins ahead = record {
+  on : (next : Doing) (more : List Sequence) (p : Place) → place_of j r.done ≡ p → length more ≡ closers r.done → Has ce first r.past next more → leads g j p next words ≡ true → more ++ sends_with g j p next words ≡ all → r.ahead ≡ rest → To
+  on next more p same counts' has' lead begins ahead = record {
     doing = next;
     works = more;
     has = has';
+    counts = counts';
     ahead = inl (record {
       words = words;
       at = at + 1;
@@ -148,15 +188,23 @@ module _ (g : Parts) (j : Job) (first : List Sequence) (failure : ℕ) (all : Li
   place_is : (word : Word) (bytes : List ℕ) (t : Took word bytes) (p : Place) → place_of j (stride (line word) rest done t.played word).done ≡ p → place_of j r.done ≡ p
   place_is word bytes t p e = ap (λ (x : Stride). place_of j x.done) (sym t.is_stride) ∙ e
 
+  closers_is : (word : Word) (bytes : List ℕ) (t : Took word bytes) (n : ℕ) → closers (stride (line word) rest done t.played word).done ≡ closers done + n → closers r.done ≡ closers done + n
+  closers_is word bytes t n e = ap (λ (x : Stride). closers x.done) (sym t.is_stride) ∙ e
+
+  -- a word that is no closer
+  counts_on : (word : Word) (bytes : List ℕ) (t : Took word bytes) → closers (stride (line word) rest done t.played word).done ≡ closers done + 0 → length works ≡ closers r.done
+  counts_on word bytes t e = (let now' = closers_is word bytes t 0 e in let before = counts in omega (arith, now', before))
+
   has_at : (p : List Item) (next : Doing) (more : List Sequence) → r.past ≡ p → Has ce first p next more → Has ce first r.past next more
   has_at p next more e has' = subst (λ (x : List Item). Has ce first x next more) (sym e) has'
 
   -- a word without a cycle
   silent : (word : Word) (bytes : List ℕ) (t : Took word bytes) → moves g j done word ≡ Some [] → (stride (line word) rest done t.played word).past ≡ t.played.past →
       (stride (line word) rest done t.played word).ahead ≡ rest → place_of j (stride (line word) rest done t.played word).done ≡ place_with j word place →
+      closers (stride (line word) rest done t.played word).done ≡ closers done + 0 →
       leads g j (place_with j word place) d words ≡ true → works ++ sends_with g j (place_with j word place) d words ≡ all → To
-  silent word bytes t none' same ahead placed lead begins =
-      on d works (place_with j word place) (place_is word bytes t (place_with j word place) placed) (has_at past d works (past_is word bytes t past (same ∙ rests)) has) lead begins (ahead_is word bytes t rest ahead)
+  silent word bytes t none' same ahead placed counted' lead begins =
+      on d works (place_with j word place) (place_is word bytes t (place_with j word place) placed) (counts_on word bytes t counted') (has_at past d works (past_is word bytes t past (same ∙ rests)) has) lead begins (ahead_is word bytes t rest ahead)
     where
       rests : t.played.past ≡ past
       rests = nothing_played ce bytes past t.played (ap (λ (m : List Move). answered ce m bytes past) (sym (same_some (sym t.is_moved ∙ none'))) ∙ t.is_played)
@@ -164,7 +212,7 @@ module _ (g : Parts) (j : Job) (first : List Sequence) (failure : ℕ) (all : Li
   command_steps : (byte : ℕ) (bytes : List ℕ) → Took (Command byte) bytes → leads_if (by_command d byte) (λ e. leads g j place e words) ≡ true →
       works ++ in_front (sent_in d Cmd byte) (sends_if (by_command d byte) (λ e. sends_with g j place e words)) ≡ all → To
   command_steps byte bytes t lead begins =
-      on l.next (works ++ in_front (sent_in d Cmd byte) []) place (place_is (Command byte) bytes t place refl)
+      on l.next (works ++ in_front (sent_in d Cmd byte) []) place (place_is (Command byte) bytes t place refl) command_counts
       (has_at (cycle ce Cmd byte ∷ past) l.next (works ++ in_front (sent_in d Cmd byte) [])
       (past_is (Command byte) bytes t (cycle ce Cmd byte ∷ past)
       (nothing_played ce bytes (cycle ce Cmd byte ∷ past) t.played (ap (λ (m : List Move). answered ce m bytes past) (sym (same_some (sym t.is_moved))) ∙ t.is_played)))
@@ -177,6 +225,14 @@ module _ (g : Parts) (j : Job) (first : List Sequence) (failure : ℕ) (all : Li
     where
       l : Led (by_command d byte) (λ e. leads g j place e words)
       l = led (by_command d byte) (λ e. leads g j place e words) lead
+
+      command_counts : length (works ++ in_front (sent_in d Cmd byte) []) ≡ closers r.done
+      command_counts =
+          let more = length-append works (in_front (sent_in d Cmd byte) []) in
+          let one = closer_counts d byte l.next l.is in
+          let now' = closers_is (Command byte) bytes t (closes (Command byte)) refl in
+          let before = counts in
+          omega (arith, more, one, now', before)
 
   -- addresses
   address_is : (from count : ℕ) → leb (from + count) 2 ≡ false → (given : List ℕ) → address g j done from count ≡ Some given → given ≡ part from count (five_at g j place)
@@ -207,7 +263,7 @@ module _ (g : Parts) (j : Job) (first : List Sequence) (failure : ℕ) (all : Li
       by true e lead begins = cc
       by false e lead begins =
           let l = led (by_addresses d (part from count (five_at g j place))) (λ e. leads g j place e words) lead in
-          on l.next works place (place_is (Address from count) bytes t place refl)
+          on l.next works place (place_is (Address from count) bytes t place refl) (counts_on (Address from count) bytes t refl)
           (has_at t.played.past l.next works (past_is (Address from count) bytes t t.played.past refl)
           (has_addresses ce first works (part from count (five_at g j place)) bytes past t.played d l.next has l.is
           (ap (λ (m : List Move). answered ce m bytes past) (sym (given_is e (address g j done from count) refl t.is_moved)) ∙ t.is_played)))
@@ -238,7 +294,7 @@ module _ (g : Parts) (j : Job) (first : List Sequence) (failure : ℕ) (all : Li
       by Rests has' lead begins = cc
       by (Sends s) has' lead begins =
           let it = given_is (leb (place_now done + len) (length buffer)) refl t.is_moved in
-          on (Sends (record s { inputs = counted len s.inputs })) works place (place_is (Put len) bytes t place refl)
+          on (Sends (record s { inputs = counted len s.inputs })) works place (place_is (Put len) bytes t place refl) (counts_on (Put len) bytes t refl)
           (has_at t.played.past (Sends (record s { inputs = counted len s.inputs })) works (past_is (Put len) bytes t t.played.past refl)
           (subst (λ (n : ℕ). Has ce first t.played.past (Sends (record s { inputs = counted n s.inputs })) works) it.2
           (has_inputs ce first works it.0 bytes past t.played s has' (ap (λ (m : List Move). answered ce m bytes past) (sym it.1) ∙ t.is_played))))
@@ -252,7 +308,7 @@ module _ (g : Parts) (j : Job) (first : List Sequence) (failure : ℕ) (all : Li
     where
       by : (e : Doing) → Has ce first past e works → leads_if (by_word g j place e (Get len)) (λ e. leads g j place e words) ≡ true → works ++ sends_if (by_word g j place e (Get len)) (λ e. sends_with g j place e words) ≡ all → To
       by Rests has' lead begins =
-          on Rests works place (place_is (Get len) bytes t place refl)
+          on Rests works place (place_is (Get len) bytes t place refl) (counts_on (Get len) bytes t refl)
           (has_at t.played.past Rests works (past_is (Get len) bytes t t.played.past refl)
           (has_takes ce first works len bytes past t.played has' (ap (λ (m : List Move). answered ce m bytes past) (sym (same_some (sym t.is_moved))) ∙ t.is_played)))
           lead begins (ahead_is (Get len) bytes t rest refl)
@@ -280,6 +336,7 @@ module _ (g : Parts) (j : Job) (first : List Sequence) (failure : ℕ) (all : Li
             doing = Rests;
             works = works;
             has = has_at past Rests works past_so has';
+            counts = counts_on (BranchOnStatus mask target) bytes t refl;
             ahead = inr (record {
               are =
                   ahead_is (BranchOnStatus mask target) bytes t _ (ap (λ (b : Bool). cond b (from_place target rest) rest) e)
@@ -291,7 +348,7 @@ module _ (g : Parts) (j : Job) (first : List Sequence) (failure : ℕ) (all : Li
             });
           }
           which false e =
-              on Rests works place (place_is (BranchOnStatus mask target) bytes t place refl) (has_at past Rests works past_so has') lead begins (ahead_is (BranchOnStatus mask target) bytes t rest (ap (λ (b : Bool). cond b (from_place target rest) rest) e))
+              on Rests works place (place_is (BranchOnStatus mask target) bytes t place refl) (counts_on (BranchOnStatus mask target) bytes t refl) (has_at past Rests works past_so has') lead begins (ahead_is (BranchOnStatus mask target) bytes t rest (ap (λ (b : Bool). cond b (from_place target rest) rest) e))
       by (Sends w) has' lead begins = cc
       by (Waits w) has' lead begins = cc
       by (Asks w) has' lead begins = cc
@@ -341,17 +398,35 @@ module _ (g : Parts) (j : Job) (first : List Sequence) (failure : ℕ) (all : Li
         (sym (ap is_ready_status status_is ∙ same_ready ∙ e))
         ∙ t.is_stride
 
+    abbrev closers_by : Bool → ℕ
+    closers_by true = closers done + 0
+    closers_by false = closers done
+
+    polled_counts : (b : Bool) (e : says_ready byte ≡ b) →
+        closers (cond b (did t.played Wait (Polled (first_byte t.played.bytes)) rest done Went) (record { past = t.played.past; ahead = line Wait ∷ rest; done = done; code = None; outcome = NotReady })).done ≡ closers_by b →
+        length works ≡ closers r.done
+    polled_counts b e same =
+        (let now' : closers r.done ≡ closers_by b = ap (λ (x : Stride). closers x.done) (sym (stride_is b e)) ∙ same in
+        let all' = closers_by_is b in
+        let before = counts in
+        omega (arith, now', all', before))
+      where
+        closers_by_is : (b : Bool) → closers_by b ≡ closers done
+        closers_by_is true = omega arith
+        closers_by_is false = refl
+
     wait_steps : To
     wait_steps = by (says_ready byte) refl
       where
         by : (b : Bool) → says_ready byte ≡ b → To
         by true e =
-            on (is_over w) works place (ap (λ (x : Stride). place_of j x.done) (sym (stride_is true e))) (has_at t.played.past (is_over w) works (ap (λ (x : Stride). x.past) (sym (stride_is true e))) (answered_by true (is_over w) e refl)) over begins
+            on (is_over w) works place (ap (λ (x : Stride). place_of j x.done) (sym (stride_is true e))) (polled_counts true e refl) (has_at t.played.past (is_over w) works (ap (λ (x : Stride). x.past) (sym (stride_is true e))) (answered_by true (is_over w) e refl)) over begins
             (ap (λ (x : Stride). x.ahead) (sym (stride_is true e)))
         by false e = record {
           doing = Asks w;
           works = works;
           has = has_at t.played.past (Asks w) works (ap (λ (x : Stride). x.past) (sym (stride_is false e))) (answered_by false (Asks w) e refl);
+          counts = polled_counts false e refl;
           ahead = inl (record {
             words = Wait ∷ words;
             at = at;
@@ -370,10 +445,10 @@ module _ (g : Parts) (j : Job) (first : List Sequence) (failure : ℕ) (all : Li
   word_steps (Address from count) bytes e lead begins to t small = address_steps from count bytes t lead begins
   word_steps (Put len) bytes e lead begins to t small = put_steps len bytes t lead begins
   word_steps (Get len) bytes e lead begins to t small = get_steps len bytes t lead begins
-  word_steps (Seek at') bytes e lead begins to t small = silent (Seek at') bytes t refl refl refl refl lead begins
-  word_steps (Column column) bytes e lead begins to t small = silent (Column column) bytes t refl refl refl refl lead begins
-  word_steps (Row row) bytes e lead begins to t small = silent (Row row) bytes t refl refl refl refl lead begins
-  word_steps (Plane plane) bytes e lead begins to t small = silent (Plane plane) bytes t refl refl refl refl lead begins
+  word_steps (Seek at') bytes e lead begins to t small = silent (Seek at') bytes t refl refl refl refl refl lead begins
+  word_steps (Column column) bytes e lead begins to t small = silent (Column column) bytes t refl refl refl refl refl lead begins
+  word_steps (Row row) bytes e lead begins to t small = silent (Row row) bytes t refl refl refl refl refl lead begins
+  word_steps (Plane plane) bytes e lead begins to t small = silent (Plane plane) bytes t refl refl refl refl refl lead begins
   word_steps (BranchOnStatus mask target) bytes e lead begins to t small = branch_steps mask target bytes t to lead begins
   word_steps Wait bytes e lead begins to t small = by d refl lead begins
     where

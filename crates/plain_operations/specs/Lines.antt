@@ -1,5 +1,5 @@
 -- The operations of a trace that a program of plain operations leaves.
-use Rattle.std.specs.Prelude.{◌≡◌, ℕ, ◌+◌, ◌<◌, ◌≤◌, true, nat_lt, if◌then◌else◌, List, [], ◌∷◌, ◌++◌, Some, map, length, take, reverse}
+use Rattle.std.specs.Prelude.{◌≡◌, ℕ, ◌+◌, ◌<◌, ◌≤◌, ◌==◌, ◌||◌, Bool, true, nat_lt, if◌then◌else◌, List, [], ◌∷◌, ◌++◌, Some, map, length, take, reverse}
 use Rattle.nand_geometry.specs.declared.parts.Parts.{Parts}
 use Rattle.nand_geometry.specs.Optional.{no_optional}
 use Rattle.nand_geometry.specs.Row.{row_number, indexed, row_cycles}
@@ -12,7 +12,9 @@ use Rattle.trace_faults.specs.declared.readies.Readies.TheVariants.{Written}
 use Rattle.trace_ops.specs.declared.operation.Operation.{Operation}
 use Rattle.trace_ops.specs.Listing.{ops_of}
 use Rattle.trace_ops.specs.Polling.{Reads, Programs, Erases, Sequence, Rests, doing_at_end, lines_of, sent_of, sent_as}
-use Rattle.micro_program.specs.Program.{Job}
+use Rattle.micro_word.specs.declared.word.Word.{Word}
+use Rattle.micro_word.specs.declared.word.Word.TheVariants.{Command}
+use Rattle.micro_program.specs.Program.{Job, Done}
 use Rattle.micro_program.specs.Moves.{column_bytes}
 use Rattle.micro_program.specs.Safe.{Seat, Reaches, starts, steps, readies, others, may_step, IsJobOf, IsSafe}
 use Rattle.micro_program.specs.Step.{Stride, answered_step}
@@ -33,6 +35,19 @@ abbrev pub sequence_of : Parts → Job → PlainOp → Sequence
 sequence_of g j (Read row plane column place len) = record { work = Reads; addresses = column_bytes column ++ row_at g j row plane; inputs = 0 }
 sequence_of g j (Program row plane column place len) = record { work = Programs; addresses = column_bytes column ++ row_at g j row plane; inputs = capped len }
 sequence_of g j (Erase row plane) = record { work = Erases; addresses = row_at g j row plane; inputs = 0 }
+
+-- 30h, 10h and D0h end the sequence of an operation
+abbrev pub is_closer : ℕ → Bool
+is_closer byte = byte == 0x30 || (byte == 0x10 || byte == 0xd0)
+
+abbrev pub closes : Word → ℕ
+closes (Command byte) = if is_closer byte then 1 else 0
+closes word = 0
+
+-- how many of them the words done have put on the bus
+abbrev pub closers : List Done → ℕ
+closers [] = 0
+closers (d ∷ done) = closers done + closes d.word
 
 -- the past at which a program was loaded
 abbrev pub began : (s : Channel) (j : Job) (seat : Seat) → Reaches s j seat → List Item
@@ -62,9 +77,10 @@ pub record RunsPlainly (s : Channel) (j : Job) (ops : List PlainOp) (before : Li
 abbrev pub lines_after : Channel → Job → List Item → List Operation
 lines_after s j past = lines_of j.lun.ce (ops_of Written Start s.geometry s.targets (reverse past))
 
--- behind the lines of its target before it there is one for each of the first operations, and after code 0 for each of them
-pub record LinesAre (s : Channel) (j : Job) (ops : List PlainOp) (before past : List Item) (code : ℕ) : Type 0 where
+-- behind the lines of its target before it there is one for each operation whose sequence it has sent, and after code 0 for each of the list
+pub record LinesAre (s : Channel) (j : Job) (ops : List PlainOp) (before past : List Item) (done : List Done) (code : ℕ) : Type 0 where
   pub count : ℕ
+  pub sent : count ≡ closers done
   pub few : count ≤ length ops
   pub lines : map sent_of (lines_after s j past) ≡ map sent_of (lines_after s j before) ++ map sent_as (map (sequence_of s.geometry j) (take count ops))
   pub all : code ≡ 0 → count ≡ length ops
@@ -75,11 +91,11 @@ abbrev pub LinesAreOperations : Type 0
 LinesAreOperations =
     (s : Channel) (j : Job) (ops : List PlainOp) (seat : Seat) (run : Reaches s j seat) (bytes : List ℕ) (r : Stride) (code : ℕ) → RunsPlainly s j ops (began s j seat run) →
     answered_step s.geometry j bytes seat.past seat.ahead seat.done ≡ Some r → r.code ≡ Some code → is_legal s.geometry s.targets r.past ≡ true → AreBytes r.past →
-    LinesAre s j ops (began s j seat run) r.past code
+    LinesAre s j ops (began s j seat run) r.past r.done code
 
 -- and so it is of a verified program, whose trace is legal by that
 abbrev pub VerifiedLinesAreOperations : Type 0
 VerifiedLinesAreOperations =
     (s : Channel) (j : Job) (ops : List PlainOp) (seat : Seat) (run : Reaches s j seat) (bytes : List ℕ) (r : Stride) (code : ℕ) → RunsPlainly s j ops (began s j seat run) →
     IsSafe (plain_text ops) s.geometry → IsJobOf (plain_text ops) s.geometry s j → may_step j seat ≡ true →
-    answered_step s.geometry j bytes seat.past seat.ahead seat.done ≡ Some r → r.code ≡ Some code → AreBytes r.past → LinesAre s j ops (began s j seat run) r.past code
+    answered_step s.geometry j bytes seat.past seat.ahead seat.done ≡ Some r → r.code ≡ Some code → AreBytes r.past → LinesAre s j ops (began s j seat run) r.past r.done code

@@ -2,9 +2,9 @@
 
 ghost use Rattle.plain_operations.specs.Lines.{LinesAreOperations, VerifiedLinesAreOperations};
 
-/// Where a program of plain operations has come to its end alone on a target of one LUN, in a legal trace of the base profile, each operation that it has
-/// done has one line, in order, behind the lines that the target had: with its commands, its column and its row, and how many bytes it programs. After code 0
-/// these are all operations of the list.
+/// Where a program of plain operations has come to its end alone on a target of one LUN, in a legal trace of the base profile, each operation whose sequence it
+/// has sent has one line, in order, behind the lines that the target had: with its commands, its column and its row, and how many bytes it programs. These are
+/// the first operations of its list, and after code 0 all of them.
 pub fn lines_are_operations()
     ensures { LinesAreOperations }
 {}
