@@ -5,3 +5,4 @@ pub mod Going
 pub mod Headers
 pub mod Looking
 pub mod Digits
+pub mod Signals

@@ -1,0 +1,5 @@
+pub mod Texts
+pub mod Levels
+pub mod Frames
+pub mod Headers
+pub mod Dumps

@@ -1,0 +1,10 @@
+//! What a reader of value change dumps is told of the dump of a trace. Each law is the contract of a function that does nothing.
+#![tactic(auto)]
+
+ghost use Rattle.wave_laws.specs.Told.{DrawnIsTold};
+
+/// The dump that is drawn of a trace is read without a fault: its header declares a signal for each line, and what is told of it are the times and changes that were
+/// drawn, in order.
+pub fn drawn_is_told()
+    ensures { DrawnIsTold }
+{}
