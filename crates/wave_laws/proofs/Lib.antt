@@ -3,3 +3,4 @@ pub mod Levels
 pub mod Frames
 pub mod Headers
 pub mod Dumps
+pub mod Followed

@@ -2,9 +2,15 @@
 #![tactic(auto)]
 
 ghost use Rattle.wave_laws.specs.Told.{DrawnIsTold};
+ghost use Rattle.wave_laws.specs.Heard.{LevelsAreHeard};
 
 /// The dump that is drawn of a trace is read without a fault: its header declares a signal for each line, and what is told of it are the times and changes that were
 /// drawn, in order.
 pub fn drawn_is_told()
     ensures { DrawnIsTold }
+{}
+
+/// A reader that keeps the last level of each line holds the levels that were drawn: after each item, where the strobe of the next is low, and at the end.
+pub fn levels_are_heard()
+    ensures { LevelsAreHeard }
 {}
