@@ -99,7 +99,7 @@ record InOrder (targets luns : ℕ) : Type 0 where
   ordered : are_in_order 33 (signals_of targets luns) ≡ true
   count : length (signals_of targets luns) ≡ line_count targets luns
 
-each_of_four : (P : ℕ → Type 0) → P 1 → P 2 → P 3 → P 4 → (n : ℕ) → 1 ≤ n → n ≤ 4 → P n
+pub each_of_four : (P : ℕ → Type 0) → P 1 → P 2 → P 3 → P 4 → (n : ℕ) → 1 ≤ n → n ≤ 4 → P n
 each_of_four P one two three four zero h k = absurd (omega (arith, h))
 each_of_four P one two three four (suc zero) h k = one
 each_of_four P one two three four (suc (suc zero)) h k = two

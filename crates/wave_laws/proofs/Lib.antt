@@ -4,3 +4,4 @@ pub mod Frames
 pub mod Headers
 pub mod Dumps
 pub mod Followed
+pub mod Named

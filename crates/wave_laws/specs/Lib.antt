@@ -1,2 +1,3 @@
 pub mod Told
 pub mod Heard
+pub mod Lines

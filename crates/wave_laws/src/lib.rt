@@ -3,6 +3,7 @@
 
 ghost use Rattle.wave_laws.specs.Told.{DrawnIsTold};
 ghost use Rattle.wave_laws.specs.Heard.{LevelsAreHeard};
+ghost use Rattle.wave_laws.specs.Lines.{NamesAreLines};
 
 /// The dump that is drawn of a trace is read without a fault: its header declares a signal for each line, and what is told of it are the times and changes that were
 /// drawn, in order.
@@ -13,4 +14,9 @@ pub fn drawn_is_told()
 /// A reader that keeps the last level of each line holds the levels that were drawn: after each item, where the strobe of the next is low, and at the end.
 pub fn levels_are_heard()
     ensures { LevelsAreHeard }
+{}
+
+/// By their names alone the signals of such a dump are the lines of the bus and of its model, and each of them is found.
+pub fn names_are_lines()
+    ensures { NamesAreLines }
 {}
