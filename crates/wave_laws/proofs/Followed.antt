@@ -101,7 +101,7 @@ module _ (g : Parts) (targets : ℕ) where
       ap (λ (es : List Event). item_events g targets d i ++ es) (events_on items more (after g targets d i))
       ∙ sym (append_assoc (item_events g targets d i) (events_from g targets (after g targets d i) items) (events_from g targets (after_all g targets (after g targets d i) items) more))
 
-  drawn_on : (items more : List Item) (d : Drawing) → after_all g targets d (items ++ more) ≡ after_all g targets (after_all g targets d items) more
+  pub drawn_on : (items more : List Item) (d : Drawing) → after_all g targets d (items ++ more) ≡ after_all g targets (after_all g targets d items) more
   drawn_on [] more d = refl
   drawn_on (i ∷ items) more d = drawn_on items more (after g targets d i)
 

@@ -5,3 +5,4 @@ pub mod Headers
 pub mod Dumps
 pub mod Followed
 pub mod Named
+pub mod Cycles

@@ -1,3 +1,4 @@
 pub mod Told
 pub mod Heard
 pub mod Lines
+pub mod Cycles

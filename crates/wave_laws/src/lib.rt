@@ -4,6 +4,7 @@
 ghost use Rattle.wave_laws.specs.Told.{DrawnIsTold};
 ghost use Rattle.wave_laws.specs.Heard.{LevelsAreHeard};
 ghost use Rattle.wave_laws.specs.Lines.{NamesAreLines};
+ghost use Rattle.wave_laws.specs.Cycles.{CyclesAreSampled};
 
 /// The dump that is drawn of a trace is read without a fault: its header declares a signal for each line, and what is told of it are the times and changes that were
 /// drawn, in order.
@@ -19,4 +20,9 @@ pub fn levels_are_heard()
 /// By their names alone the signals of such a dump are the lines of the bus and of its model, and each of them is found.
 pub fn names_are_lines()
     ensures { NamesAreLines }
+{}
+
+/// Who samples the held levels where a strobe rises, by those just before, gets each cycle of the trace as it was drawn.
+pub fn cycles_are_sampled()
+    ensures { CyclesAreSampled }
 {}
