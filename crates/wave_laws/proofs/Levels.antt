@@ -12,11 +12,11 @@ use Rattle.vcd_text.specs.Tokens.{level_of, is_known, are_bits}
 
 -- ---- how many
 
-length_readies : (known : Bool) (g : Parts) (past : List Item) (count n : ℕ) → length (readies known g past count n) ≡ count
+pub length_readies : (known : Bool) (g : Parts) (past : List Item) (count n : ℕ) → length (readies known g past count n) ≡ count
 length_readies known g past zero n = refl
 length_readies known g past (suc count) n = ap suc (length_readies known g past count (n + 1))
 
-length_target : (known : Bool) (g : Parts) (past : List Item) (ce count n : ℕ) → length (target_levels known g past ce count n) ≡ 3 * count
+pub length_target : (known : Bool) (g : Parts) (past : List Item) (ce count n : ℕ) → length (target_levels known g past ce count n) ≡ 3 * count
 length_target known g past ce zero n = refl
 length_target known g past ce (suc count) n =
     let rest = length_target known g past ce count (n + 1) in

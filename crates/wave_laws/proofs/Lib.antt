@@ -6,3 +6,4 @@ pub mod Dumps
 pub mod Followed
 pub mod Named
 pub mod Cycles
+pub mod Readies

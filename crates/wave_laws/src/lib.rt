@@ -5,6 +5,7 @@ ghost use Rattle.wave_laws.specs.Told.{DrawnIsTold};
 ghost use Rattle.wave_laws.specs.Heard.{LevelsAreHeard};
 ghost use Rattle.wave_laws.specs.Lines.{NamesAreLines};
 ghost use Rattle.wave_laws.specs.Cycles.{CyclesAreSampled};
+ghost use Rattle.wave_laws.specs.Readies.{BusyFallsAtReadies};
 
 /// The dump that is drawn of a trace is read without a fault: its header declares a signal for each line, and what is told of it are the times and changes that were
 /// drawn, in order.
@@ -25,4 +26,9 @@ pub fn names_are_lines()
 /// Who samples the held levels where a strobe rises, by those just before, gets each cycle of the trace as it was drawn.
 pub fn cycles_are_sampled()
     ensures { CyclesAreSampled }
+{}
+
+/// Up to the first item that breaks a rule, the held level of a LUN that is busy falls with the ready of this LUN, and with nothing else.
+pub fn busy_falls_at_readies()
+    ensures { BusyFallsAtReadies }
 {}
