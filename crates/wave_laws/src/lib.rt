@@ -5,7 +5,7 @@ ghost use Rattle.wave_laws.specs.Told.{DrawnIsTold};
 ghost use Rattle.wave_laws.specs.Heard.{LevelsAreHeard};
 ghost use Rattle.wave_laws.specs.Lines.{NamesAreLines};
 ghost use Rattle.wave_laws.specs.Cycles.{CyclesAreSampled};
-ghost use Rattle.wave_laws.specs.Readies.{BusyFallsAtReadies};
+ghost use Rattle.wave_laws.specs.Readies.{ReadiesAreSeen};
 
 /// The dump that is drawn of a trace is read without a fault: its header declares a signal for each line, and what is told of it are the times and changes that were
 /// drawn, in order.
@@ -28,7 +28,8 @@ pub fn cycles_are_sampled()
     ensures { CyclesAreSampled }
 {}
 
-/// Up to the first item that breaks a rule, the held level of a LUN that is busy falls with the ready of this LUN, and with nothing else.
-pub fn busy_falls_at_readies()
-    ensures { BusyFallsAtReadies }
+/// Up to the first item that breaks a rule, the held levels of a LUN show its readies and those of its array, each where it comes, and nothing else shows one;
+/// and whether a ready is with failure.
+pub fn readies_are_seen()
+    ensures { ReadiesAreSeen }
 {}
