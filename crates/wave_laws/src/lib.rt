@@ -28,8 +28,8 @@ pub fn cycles_are_sampled()
     ensures { CyclesAreSampled }
 {}
 
-/// Up to the first item that breaks a rule, the held levels of a LUN show its readies and those of its array, each where it comes, and nothing else shows one;
-/// and whether a ready is with failure.
+/// Up to the first item that breaks a rule, the held level of a busy LUN falls with its ready alone, that of a busy array, where no strobe rises, with its ready
+/// alone, and a ready tells whether it is with failure.
 pub fn readies_are_seen()
     ensures { ReadiesAreSeen }
 {}
