@@ -11,7 +11,7 @@ use Rattle.vcd_text.specs.Words.{Word, line_after, words_from}
 use Rattle.vcd_text.specs.Header.{Header, Variable, reading}
 use Rattle.vcd_text.proofs.Signals.{word_at, words_of, with_signal, section_read}
 use Rattle.wave_laws.specs.Told.{signal}
-use Rattle.wave_laws.proofs.Texts.{is_dark, word_before}
+use Rattle.wave_laws.proofs.Texts.{is_dark, word_before, is_empty}
 
 -- ---- 1. the line of a signal
 
@@ -70,10 +70,6 @@ Declares h later text = (l line : ℕ) (X : List ℕ) → Declared h later l lin
 abbrev pub declared_text : List Variable → List ℕ
 declared_text [] = []
 declared_text (s ∷ ss) = variable s.code s.name ++ declared_text ss
-
-abbrev pub is_empty : List ℕ → Bool
-is_empty [] = true
-is_empty (b ∷ bytes) = false
 
 abbrev pub is_signal : (code : ℕ) → Variable → Bool
 is_signal code s = (s.code == code) && ((s.width == 1) && (is_empty s.range && is_name s.name))

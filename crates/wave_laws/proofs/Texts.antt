@@ -263,7 +263,7 @@ says_changes widths at (b ∷ before) (a ∷ after) code dark bits have =
 
 -- ---- 6. frames
 
-abbrev is_empty : {A : Type 0} → List A → Bool
+abbrev pub is_empty : {A : Type 0} → List A → Bool
 is_empty [] = true
 is_empty (x ∷ xs) = false
 

@@ -15,10 +15,10 @@ abbrev pub target_roles : (ℕ → Role) → (code count n : ℕ) → List Sourc
 target_roles role code zero n = []
 target_roles role code (suc count) n = line (role n) code ∷ target_roles role (code + 1) count (n + 1)
 
--- DQ, the lowest bit first: it has the highest code
-abbrev pub dq_roles : (last : ℕ) → List Source
-dq_roles last =
-    line (Dq 0) (last + 7) ∷ (line (Dq 1) (last + 6) ∷ (line (Dq 2) (last + 5) ∷ (line (Dq 3) (last + 4) ∷ (line (Dq 4) (last + 3) ∷ (line (Dq 5) (last + 2) ∷ (line (Dq 6) (last + 1) ∷ (line (Dq 7) last ∷ [])))))))
+-- DQ, the lowest bit first; the highest has this code, and each lower one the next
+abbrev pub dq_roles : (code : ℕ) → List Source
+dq_roles code =
+    line (Dq 0) (code + 7) ∷ (line (Dq 1) (code + 6) ∷ (line (Dq 2) (code + 5) ∷ (line (Dq 3) (code + 4) ∷ (line (Dq 4) (code + 3) ∷ (line (Dq 5) (code + 2) ∷ (line (Dq 6) (code + 1) ∷ (line (Dq 7) code ∷ [])))))))
 
 -- a line of so many LUNs of a target, from number n on; each LUN has three codes
 abbrev pub lun_roles : (ℕ → Role) → (code count n : ℕ) → List Source
