@@ -23,7 +23,7 @@ use Rattle.bus_capture.specs.declared.sampler.Strobing.{Strobing}
 use Rattle.bus_capture.specs.declared.inferring.Stamped.{Stamped}
 use Rattle.bus_capture.specs.Sampling.{level, with_enable, enabled_from, kind_of, byte_of, apart, cycle_of, cycle_if, rises, is_lost, lost_if, line_of, other_line, seen_of, is_short, steady, item_of, falls, is_high, array_is_done, ready_of}
 use Rattle.bus_capture.specs.Capturing.{with_item, with_release, with_releases, with_readies, at_time, with_seen, strobe_seen, settled}
-use Rattle.bus_capture.specs.Inferring.{stamps, with_shown, is_waiting, release_of, fails_within}
+use Rattle.bus_capture.specs.Inferring.{stamps, with_shown, is_waiting, is_awaited, lun_fails, release_of, lun_release_of, rise_of, rise_stamps, fails_within}
 use Rattle.bus_capture.specs.Inside.{AreInside, IsSeenInside, AreSeenInside}
 
 -- ---- results
@@ -199,7 +199,25 @@ release_inside false state luns ce os i few h = cc
 release_inside true state luns ce os i few h =
     some_of (is_waiting state luns ce) (Rdy ce 0 (fails_within 65536 false ce os)) i None h (few, omega arith) (none_is i)
 
+lun_release_inside : (infers : Bool) (state : TraceState) (ce lun : ℕ) (os : List Observed) (i : Item) → ce ≤ 3 → lun ≤ 3 → lun_release_of infers state ce lun os ≡ Some i → IsInside i
+lun_release_inside false state ce lun os i few little h = cc
+lun_release_inside true state ce lun os i few little h =
+    some_of (is_awaited state ce lun) (Rdy ce lun (lun_fails state ce lun os)) i None h (few, little) (none_is i)
+
+lun_released_inside : (infers : Bool) (state : TraceState) (ce lun time : ℕ) (os : List Observed) → ce ≤ 3 → lun ≤ 3 → AreInside (stamps time (lun_release_of infers state ce lun os))
+lun_released_inside infers state ce lun time os few little =
+    stamps_inside time (lun_release_of infers state ce lun os) (λ i is. lun_release_inside infers state ce lun os i few little is)
+
 pub released_inside : (infers : Bool) (state : TraceState) (luns ce time : ℕ) (os : List Observed) (stamped : List Stamped) → ce ≤ 3 → AreInside stamped
-    → AreInside (stamped ++ stamps time (release_of infers state luns ce os))
+    → AreInside (stamped ++ rise_stamps time (rise_of infers state luns ce os))
 released_inside infers state luns ce time os stamped few rest =
-    inside_append stamped (stamps time (release_of infers state luns ce os)) rest (stamps_inside time (release_of infers state luns ce os) (λ i is. release_inside infers state luns ce os i few is))
+    let a = stamps time (release_of infers state luns ce os) in
+    let b = stamps time (lun_release_of infers state ce 0 os) in
+    let c = stamps time (lun_release_of infers state ce 1 os) in
+    let d = stamps time (lun_release_of infers state ce 2 os) in
+    let e = stamps time (lun_release_of infers state ce 3 os) in
+    inside_append stamped (a ++ (b ++ (c ++ (d ++ e)))) rest
+    (inside_append a (b ++ (c ++ (d ++ e))) (stamps_inside time (release_of infers state luns ce os) (λ i is. release_inside infers state luns ce os i few is))
+    (inside_append b (c ++ (d ++ e)) (lun_released_inside infers state ce 0 time os few (omega arith))
+    (inside_append c (d ++ e) (lun_released_inside infers state ce 1 time os few (omega arith))
+    (inside_append d e (lun_released_inside infers state ce 2 time os few (omega arith)) (lun_released_inside infers state ce 3 time os few (omega arith))))))

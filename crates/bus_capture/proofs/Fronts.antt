@@ -22,7 +22,7 @@ use Rattle.bus_capture.specs.declared.reading.CaptureReader.{CaptureReader}
 use Rattle.bus_capture.specs.declared.reading.CaptureForm.{CaptureForm}
 use Rattle.bus_capture.specs.declared.reading.CaptureForm.TheVariants as form
 use Rattle.bus_capture.specs.Capturing.{Shown, capturing, shown_in, shown_in_csv}
-use Rattle.bus_capture.specs.Inferring.{items_after, stamps, with_shown, state_after, release_of, released, inferred_by, inferred}
+use Rattle.bus_capture.specs.Inferring.{items_after, stamps, with_shown, state_after, rise_of, after_rise, rise_stamps, inferred_by, inferred}
 use Rattle.bus_capture.specs.Tracing.{inferred_on, traced, comes_dump, last_of, comes_table, comes_as}
 use Rattle.bus_capture.specs.Fronts.{in_front, KeepsFront}
 
@@ -44,8 +44,8 @@ one_front (observation.Item item) time luns infers state later xs ys front =
     ap (λ (l : List Stamped). inferred luns infers state_then l later) (shown_front infers state time item xs ys)
     ∙ front state_then (with_shown infers state time item ys)
 one_front (observation.Released ce) time luns infers state later xs ys front =
-    let more = stamps time (release_of infers state luns ce later) in
-    let state_then = released (release_of infers state luns ce later) state in
+    let more = rise_stamps time (rise_of infers state luns ce later) in
+    let state_then = after_rise (rise_of infers state luns ce later) state in
     ap (λ (l : List Stamped). inferred luns infers state_then l later) (append_assoc xs ys more) ∙ front state_then (ys ++ more)
 
 inferred_front : (luns : ℕ) (infers : Bool) (state : TraceState) (xs ys : List Stamped) (observed : List Observed)

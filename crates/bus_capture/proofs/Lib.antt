@@ -2,6 +2,7 @@ pub mod Captured
 pub mod Refused
 pub mod Unchanged
 pub mod Looking
+pub mod Asked
 pub mod Tracing
 pub mod Spanning
 pub mod Fronts

@@ -1,4 +1,4 @@
--- The readies that a capture without a model shows: by status outputs, and by R/B# of a target of one LUN.
+-- The readies that a capture without a model shows: by status outputs, and by R/B#, in the base profile of a target of one LUN.
 use Rattle.std.specs.Prelude.{ℕ, zero, suc, ◌==◌, ◌&&◌, not, Bool, true, false, if◌then◌else◌, List, [], ◌∷◌, ◌++◌, Option, Some, None, Result, Ok}
 use Rattle.onfi_cycle.specs.declared.item.Kind.{Kind}
 use Rattle.onfi_cycle.specs.declared.item.Kind.TheVariants.{Cmd, Adr, Din, Dout}
@@ -6,7 +6,8 @@ use Rattle.onfi_cycle.specs.declared.item.Cycle.{Cycle}
 use Rattle.onfi_cycle.specs.declared.item.Item.{Item}
 use Rattle.onfi_cycle.specs.declared.item.Item.TheVariants.{Cyc, Rdy, Ard}
 use Rattle.onfi_cycle.specs.declared.lun_state.LunState.{LunState}
-use Rattle.onfi_cycle.specs.Look.{looked}
+use Rattle.onfi_cycle.specs.Effect.{is_shared}
+use Rattle.onfi_cycle.specs.Look.{looked, is_selected_in}
 use Rattle.trace_faults.specs.declared.trace_state.TraceState.{TraceState}
 use Rattle.trace_faults.specs.Recovery.{fresh, gone_on}
 use Rattle.trace_faults.specs.ShownReadies.{ready_before, array_ready_before, with_ready, with_readies, has_fail}
@@ -16,12 +17,14 @@ use Rattle.bus_capture.specs.declared.sampler.Observation.{Observation}
 use Rattle.bus_capture.specs.declared.sampler.Observation.TheVariants as observation
 use Rattle.bus_capture.specs.declared.sampler.Observed.{Observed}
 use Rattle.bus_capture.specs.declared.inferring.Stamped.{Stamped}
+use Rattle.bus_capture.specs.declared.inferring.Rise.{Rise}
 use Rattle.bus_capture.specs.declared.reading.CaptureForm.{CaptureForm}
 use Rattle.bus_capture.specs.declared.reading.CaptureForm.TheVariants.{Dump, Table}
 use Rattle.bus_capture.specs.declared.ahead.Ahead.{Ahead}
 use Rattle.bus_capture.specs.declared.ahead.Ahead.TheVariants.{Going, Known}
 use Rattle.vcd_text.specs.Tokens.{◌>>=◌}
 use Rattle.bus_capture.specs.Capturing.{Shown, shown_in, shown_in_csv}
+use Rattle.bus_capture.specs.Asking.{first_asking, lun_fails_within}
 
 -- ---- how the work ended that R/B# shows to be done: as the status says that the target is asked for next, by 70h; if it isn't, without failure
 
@@ -80,16 +83,45 @@ abbrev pub release_of : (infers : Bool) → TraceState → (luns ce : ℕ) → L
 release_of false state luns ce later = None
 release_of true state luns ce later = if is_waiting state luns ce then Some (Rdy ce 0 (fails_within 65536 false ce later)) else None
 
+-- the LUN of this number is one of several of its target, in the wider profile, and is busy: R/B# of the target is high where all of them are ready
+abbrev pub is_awaited : TraceState → (ce lun : ℕ) → Bool
+is_awaited state ce lun = is_shared state.bus.geometry && is_busy (looked state.bus (record { ce = ce; lun = lun }))
+
+abbrev pub lun_fails : TraceState → (ce lun : ℕ) → List Observed → Bool
+lun_fails state ce lun later =
+    lun_fails_within state.bus.geometry (record { ce = ce; lun = lun }) 65536 (first_asking (is_selected_in state.bus (record { ce = ce; lun = lun }))) later
+
+-- the ready of it that this shows
+abbrev pub lun_release_of : (infers : Bool) → TraceState → (ce lun : ℕ) → List Observed → Option Item
+lun_release_of false state ce lun later = None
+lun_release_of true state ce lun later = if is_awaited state ce lun then Some (Rdy ce lun (lun_fails state ce lun later)) else None
+
+-- all that this shows
+abbrev pub rise_of : (infers : Bool) → TraceState → (luns ce : ℕ) → List Observed → Rise
+rise_of infers state luns ce later = record {
+  alone = release_of infers state luns ce later;
+  zeroth = lun_release_of infers state ce 0 later;
+  first = lun_release_of infers state ce 1 later;
+  second = lun_release_of infers state ce 2 later;
+  third = lun_release_of infers state ce 3 later;
+}
+
 abbrev pub released : Option Item → TraceState → TraceState
 released None state = state
 released (Some item) state = gone_on item state
+
+abbrev pub after_rise : Rise → TraceState → TraceState
+after_rise r state = released r.third (released r.second (released r.first (released r.zeroth (released r.alone state))))
+
+abbrev pub rise_stamps : ℕ → Rise → List Stamped
+rise_stamps time r = stamps time r.alone ++ (stamps time r.zeroth ++ (stamps time r.first ++ (stamps time r.second ++ stamps time r.third)))
 
 -- ---- all items
 
 abbrev pub inferred_by : Observation → ℕ → (luns : ℕ) → (infers : Bool) → TraceState → List Observed → List Stamped → (TraceState → List Stamped → List Stamped) → List Stamped
 inferred_by (observation.Item item) time luns infers state later stamped next = next (state_after infers state item) (with_shown infers state time item stamped)
 inferred_by (observation.Released ce) time luns infers state later stamped next =
-    next (released (release_of infers state luns ce later) state) (stamped ++ stamps time (release_of infers state luns ce later))
+    next (after_rise (rise_of infers state luns ce later) state) (stamped ++ rise_stamps time (rise_of infers state luns ce later))
 
 -- the items of what is seen, after these, on a channel of targets of so many LUNs; a trace is gone on with as a check of all faults does
 abbrev pub inferred : (luns : ℕ) → (infers : Bool) → TraceState → List Stamped → List Observed → List Stamped

@@ -1,5 +1,6 @@
 pub mod Sampling
 pub mod Capturing
+pub mod Asking
 pub mod Inferring
 pub mod Recorded
 pub mod Codes

@@ -15,8 +15,8 @@ pub(crate) enum Ahead {
     Known(bool),
 }
 
-// A status byte tells failure.
-fn has_fail(byte: u8) -> bool
+/// A status byte tells failure.
+pub(crate) fn has_fail(byte: u8) -> bool
     ensures { result ≡ has_fail byte }
 {
     Status(byte).has_failed()
@@ -66,8 +66,8 @@ fn ahead_of(asked: bool, ce: u8, observation: Observation) -> Ahead
     }
 }
 
-// The verdict among what is seen later hangs on no more than so much of it.
-const MOST_AHEAD: usize = 65_536;
+/// The verdict among what is seen later hangs on no more than so much of it.
+pub(crate) const MOST_AHEAD: usize = 65_536;
 
 /// Whether the status tells failure that this target is asked for next, of what is seen later; None where that hangs on what is seen after that. If it isn't
 /// asked for, it doesn't.

@@ -3,14 +3,15 @@ ghost use Rattle.std.specs.Prelude.{◌≡◌, ◌≤◌, List, [], ◌∷◌, �
 ghost use Rattle.onfi_cycle.specs.Look.{looked};
 ghost use Rattle.trace_faults.specs.ShownReadies.{with_readies};
 ghost use Rattle.trace_faults.specs.Recovery.{fresh};
-ghost use Rattle.bus_capture.specs.Inferring.{stamps, with_shown, state_after, is_busy, is_waiting, release_of, released};
+ghost use Rattle.bus_capture.specs.Inferring.{stamps, with_shown, state_after, is_busy, is_waiting, release_of, is_awaited, lun_fails, lun_release_of, rise_of, released, after_rise, rise_stamps};
 ghost use Rattle.bus_capture.specs.Inside.{AreInside, IsSeenInside, AreSeenInside};
 ghost use Rattle.bus_capture.specs.Tracing.{MayFollow, inferred_on};
 
 use crate::ahead::fails_ahead;
+use crate::lun_ahead::{Asking, lun_fails_ahead};
 use crate::sampler::{Observation, Observed};
 use nand_geometry::Geometry;
-use onfi_cycle::{Item, Lun, LunState};
+use onfi_cycle::{Item, Lun, LunState, is_shared};
 use std::alloc::{AllocError, Allocator};
 use trace_faults::{TraceState, go_on_by_readies};
 
@@ -114,6 +115,80 @@ fn release_of(
     Some(Some(Item::Rdy { ce, lun: 0, fail }))
 }
 
+// The LUN is one of several of its target, and is busy.
+fn is_awaited(state: &TraceState, lun: Lun) -> bool
+    ensures { result ≡ is_awaited state.now lun.ce lun.lun }
+{
+    is_shared(&state.bus.geometry()) && is_busy(state.bus.lun_state(lun))
+}
+
+// Whether its work failed, by what is seen later; None where that isn't known yet.
+fn lun_fails(state: &TraceState, lun: Lun, later: &[Observed], is_last: bool) -> Option<bool>
+    ensures known { IfSome result (λ fail. (more : List Observed) → MayFollow is_last more → lun_fails state.now lun.ce lun.lun (later.now ++ more) ≡ fail) }
+    ensures open { IfNone result (is_last ≡ false) }
+{
+    let asking = Asking::first(state.bus.is_selected(lun));
+    match lun_fails_ahead(&state.bus.geometry(), lun, asking, later) {
+        Some(fail) => Some(fail),
+        None => { if is_last { Some(false) } else { None } }
+    }
+}
+
+// The ready of it that a rise of R/B# shows, by what is seen later; None where that isn't known yet.
+fn lun_release_of(
+    state: &TraceState,
+    infers: bool,
+    lun: Lun,
+    later: &[Observed],
+    is_last: bool,
+) -> Option<Option<Item>>
+    ensures known { IfSome result (λ ready. (more : List Observed) → MayFollow is_last more → lun_release_of infers state.now lun.ce lun.lun (later.now ++ more) ≡ ready) }
+    ensures open { IfNone result (is_last ≡ false) }
+{
+    if !infers || !is_awaited(state, lun) {
+        return Some(None);
+    }
+    match lun_fails(state, lun, later, is_last) {
+        Some(fail) => Some(Some(Item::Rdy {
+            ce: lun.ce,
+            lun: lun.lun,
+            fail,
+        })),
+        None => None,
+    }
+}
+
+/// What a rise of R/B# shows: the ready of the one LUN of its target, or of each of several that was busy.
+#[derive(Clone, Copy)]
+pub(crate) struct Rise {
+    alone: Option<Item>,
+    zeroth: Option<Item>,
+    first: Option<Item>,
+    second: Option<Item>,
+    third: Option<Item>,
+}
+
+// The readies that a rise of R/B# shows, by what is seen later; None where they aren't known yet.
+fn rise_of(
+    state: &TraceState,
+    luns: u8,
+    infers: bool,
+    ce: u8,
+    later: &[Observed],
+    is_last: bool,
+) -> Option<Rise>
+    ensures known { IfSome result (λ rise. (more : List Observed) → MayFollow is_last more → rise_of infers state.now luns ce (later.now ++ more) ≡ rise) }
+    ensures open { IfNone result (is_last ≡ false) }
+{
+    Some(Rise {
+        alone: release_of(state, luns, infers, ce, later, is_last)?,
+        zeroth: lun_release_of(state, infers, Lun { ce, lun: 0 }, later, is_last)?,
+        first: lun_release_of(state, infers, Lun { ce, lun: 1 }, later, is_last)?,
+        second: lun_release_of(state, infers, Lun { ce, lun: 2 }, later, is_last)?,
+        third: lun_release_of(state, infers, Lun { ce, lun: 3 }, later, is_last)?,
+    })
+}
+
 // Goes on by a ready, if there is one.
 fn release(state: &mut TraceState, ready: Option<Item>)
     ensures { state.new ≡ released ready state.old }
@@ -121,6 +196,32 @@ fn release(state: &mut TraceState, ready: Option<Item>)
     if let Some(item) = ready {
         let _ = state.go_on(item);
     }
+}
+
+// Goes on by the readies that a rise of R/B# shows.
+fn go_on_by_rise(state: &mut TraceState, rise: Rise)
+    ensures { state.new ≡ after_rise rise state.old }
+{
+    release(state, rise.alone);
+    release(state, rise.zeroth);
+    release(state, rise.first);
+    release(state, rise.second);
+    release(state, rise.third);
+}
+
+// Adds the readies that a rise of R/B# shows.
+fn push_rise<A: Allocator>(
+    stamped: &mut Vec<Stamped, A>,
+    time: u64,
+    rise: Rise,
+) -> Result<(), AllocError>
+    ensures { OnOk result (stamped.new.items ≡ stamped.old.items ++ rise_stamps time rise) }
+{
+    push_some(stamped, time, rise.alone)?;
+    push_some(stamped, time, rise.zeroth)?;
+    push_some(stamped, time, rise.first)?;
+    push_some(stamped, time, rise.second)?;
+    push_some(stamped, time, rise.third)
 }
 
 /// How far items are made of what is seen on targets of so many LUNs: whether readies are inferred, and the state that a check of all faults goes on with.
@@ -157,16 +258,16 @@ impl Inferring {
     ) -> Result<bool, AllocError>
         ensures same { self.new.luns ≡ self.old.luns × self.new.infers ≡ self.old.infers }
         ensures taken { result ≡ Ok true → (more : List Observed) → MayFollow is_last more
-            → (self.new.state ≡ released (release_of self.old.infers self.old.state self.old.luns ce (later.now ++ more)) self.old.state)
-            × (stamped.new.items ≡ stamped.old.items ++ stamps time (release_of self.old.infers self.old.state self.old.luns ce (later.now ++ more))) }
+            → (self.new.state ≡ after_rise (rise_of self.old.infers self.old.state self.old.luns ce (later.now ++ more)) self.old.state)
+            × (stamped.new.items ≡ stamped.old.items ++ rise_stamps time (rise_of self.old.infers self.old.state self.old.luns ce (later.now ++ more))) }
         ensures inside { result ≡ Ok true → ce ≤ 3 → AreInside stamped.old.items → AreInside stamped.new.items }
         ensures open { result ≡ Ok false → (is_last ≡ false) × (self.new ≡ self.old) × (stamped.new.items ≡ stamped.old.items) }
     {
-        match release_of(&self.state, self.luns, self.infers, ce, later, is_last) {
+        match rise_of(&self.state, self.luns, self.infers, ce, later, is_last) {
             None => Ok(false),
-            Some(ready) => {
-                release(&mut self.state, ready);
-                push_some(stamped, time, ready)?;
+            Some(rise) => {
+                go_on_by_rise(&mut self.state, rise);
+                push_rise(stamped, time, rise)?;
                 Ok(true)
             }
         }

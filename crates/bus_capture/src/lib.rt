@@ -7,6 +7,7 @@ mod fault;
 mod inferring;
 mod laws;
 mod levels;
+mod lun_ahead;
 mod reading;
 mod sampler;
 mod sampling;

@@ -1,18 +1,21 @@
 -- A status poll of the one LUN of a target: where its 70h is permitted, its output is too.
-use Rattle.std.proofs.Common.{◌≡◌, ℕ, ◌<◌, ◌≤◌, false, List, [], ◌∷◌, Option, Some, None, length, map, take, get_or, set, refl, sym, ap, ◌∙◌, arith, subst}
-use Rattle.std.specs.Prelude.{nat_le}
+use Rattle.std.proofs.Common.{◌≡◌, ℕ, ◌<◌, ◌≤◌, Bool, true, false, ◌&&◌, cond, List, [], ◌∷◌, Option, Some, None, length, map, take, get_or, set, refl, sym, ap, ◌∙◌, arith, subst}
+use Rattle.std.specs.Prelude.{nat_le, nat_lt}
 use Rattle.std.proofs.lemmas.Bool.Decides.{nat_tests}
 use Rattle.std.proofs.lemmas.List.{length-set, get_or-set_same}
 use Rattle.std.proofs.lemmas.Option.{slice_get-get_or}
 use Rattle.nand_geometry.specs.declared.parts.Parts.{Parts}
 use Rattle.onfi_cycle.specs.declared.command.Command.TheVariants.{ReadStatus}
-use Rattle.onfi_cycle.specs.declared.effect.Effect.TheVariants.{StatusSelected}
+use Rattle.nand_geometry.specs.Optional.{is_wide}
+use Rattle.onfi_cycle.specs.declared.effect.Effect.{Effect}
+use Rattle.onfi_cycle.specs.declared.effect.Effect.TheVariants.{StatusSelected, StatusOfSelected}
 use Rattle.onfi_cycle.specs.declared.forbidden.Forbidden.{Forbidden}
 use Rattle.onfi_cycle.specs.declared.item.Kind.TheVariants.{Cmd, Dout}
 use Rattle.onfi_cycle.specs.declared.tail_facts.TailFacts.{TailFacts}
 use Rattle.onfi_cycle.specs.declared.target_cycle.TargetCycle.TheVariants.{CommandCycle}
 use Rattle.onfi_cycle.specs.Channel.{cycle}
 use Rattle.onfi_cycle.specs.Command.{command}
+use Rattle.onfi_cycle.specs.Effect.{is_shared, status_effect}
 use Rattle.onfi_cycle.specs.Lun.{view_after}
 use Rattle.onfi_cycle.specs.LunView.{LunView}
 use Rattle.onfi_cycle.specs.Permitted.{judge}
@@ -39,22 +42,32 @@ is_read_status : (ce : ℕ) → CommandCycle ReadStatus ≡ target_cycle Cmd 0x7
 unfolding command
 is_read_status ce = refl
 
-after_status : (g : Parts) (n ce : ℕ) (t : TailFacts) (v : LunView) → nat_le n ce ≡ false
+rests : (b : Bool) → (b && false) ≡ false
+rests true = refl
+rests false = refl
+
+not_shared : (g : Parts) → g.luns ≡ 1 → is_shared g ≡ false
+not_shared g one = ap (λ (n : ℕ). is_wide g.optional && nat_lt 1 n) one ∙ rests (is_wide g.optional)
+
+one_status : (g : Parts) → g.luns ≡ 1 → StatusSelected ≡ status_effect g
+one_status g one = sym (ap (λ (b : Bool). cond b StatusOfSelected StatusSelected) (not_shared g one))
+
+after_status : (g : Parts) (n ce : ℕ) (t : TailFacts) (v : LunView) → g.luns ≡ 1 → nat_le n ce ≡ false
     → judge g n (target_after g (cycle ce Cmd 0x70) (target t (v ∷ []))).tail (target_after g (cycle ce Cmd 0x70) (target t (v ∷ []))).luns (cycle ce Dout 0) ≡ None
-after_status g n ce t v h =
-    let is = target_cycled g (record { ce = ce; kind = Cmd; byte = 0x70 }) (CommandCycle ReadStatus) (target t (v ∷ [])) (target (facts_after (CommandCycle ReadStatus) t) (view_after StatusSelected v ∷ [])) (is_read_status ce) refl refl in
+after_status g n ce t v one h =
+    let is = target_cycled g (record { ce = ce; kind = Cmd; byte = 0x70 }) (CommandCycle ReadStatus) (target t (v ∷ [])) (target (facts_after (CommandCycle ReadStatus) t) (view_after StatusSelected v ∷ [])) (is_read_status ce) refl (ap (λ (e : Effect). view_after e v ∷ []) (one_status g one)) in
     subst (λ (u : TargetView). judge g n u.tail u.luns (cycle ce Dout 0) ≡ None) is (shown_gives g n ce t v h)
 
-poll_gives : (g : Parts) (n ce : ℕ) (s : TargetView) → length s.luns ≡ 1 → nat_le n ce ≡ false
+poll_gives : (g : Parts) (n ce : ℕ) (s : TargetView) → g.luns ≡ 1 → length s.luns ≡ 1 → nat_le n ce ≡ false
     → judge g n (target_after g (cycle ce Cmd 0x70) s).tail (target_after g (cycle ce Cmd 0x70) s).luns (cycle ce Dout 0) ≡ None
-poll_gives g n ce s one h = at s.luns one refl
+poll_gives g n ce s single one h = at s.luns one refl
   where
     at : (vs : List LunView) → length vs ≡ 1 → s.luns ≡ vs → judge g n (target_after g (cycle ce Cmd 0x70) s).tail (target_after g (cycle ce Cmd 0x70) s).luns (cycle ce Dout 0) ≡ None
     at [] e is = cc
     at (v ∷ w ∷ vs) e is = absurd (omega (arith, e))
     at (v ∷ []) e is =
         subst (λ (u : TargetView). judge g n (target_after g (cycle ce Cmd 0x70) u).tail (target_after g (cycle ce Cmd 0x70) u).luns (cycle ce Dout 0) ≡ None)
-        (ap (λ (vs : List LunView). target s.tail vs) (sym is)) (after_status g n ce s.tail v h)
+        (ap (λ (vs : List LunView). target s.tail vs) (sym is)) (after_status g n ce s.tail v single h)
 
 pub poll_asks : (k : Kept) → IsSound k → (ce : ℕ) → ce < k.count → (parts_of k.geometry).luns ≡ 1 → (rule : Option Forbidden) → rule ≡ judged (bus_view k) (cycle ce Cmd 0x70) → rule ≡ judged_poll ce (bus_view k)
 poll_asks k s ce low one rule is = at (judged (bus_view k) (cycle ce Cmd 0x70)) refl
@@ -82,7 +95,7 @@ poll_asks k s ce low one rule is = at (judged (bus_view k) (cycle ce Cmd 0x70)) 
         let fits = fits_there k s ce low no_target in
         let luns : length (get_or ts ce (target_of no_target)).luns ≡ 1 = ap (λ (u : TargetView). length u.luns) (get_seen target_of k.count k.targets ce no_target low) ∙ (fits.count ∙ one) in
         let beyond : nat_le (length (set ts ce t)) ce ≡ false = grind (arith, nat_tests, inside) in
-        ap (λ (o : Option TargetView). judged_on g (length (set ts ce t)) o (cycle ce Dout 0)) found ∙ poll_gives g (length (set ts ce t)) ce (get_or ts ce (target_of no_target)) luns beyond
+        ap (λ (o : Option TargetView). judged_on g (length (set ts ce t)) o (cycle ce Dout 0)) found ∙ poll_gives g (length (set ts ce t)) ce (get_or ts ce (target_of no_target)) one luns beyond
 
     after : judged (bus_after (cycle ce Cmd 0x70) (bus_view k)) (cycle ce Dout 0) ≡ None
     after = ap (λ (b : BusView). judged b (cycle ce Dout 0)) (sym (applied g ts (cycle ce Cmd 0x70) ce (target_of no_target) t refl refl)) ∙ gives

@@ -1,5 +1,5 @@
 -- The records of LUNs, of which some change.
-use Rattle.std.proofs.Common.{subst, IfSome, ◌≡◌, ℕ, zero, suc, ◌+◌, ◌<◌, ◌≤◌, Bool, true, cond, Option, Some, None, List, [], ◌∷◌, length, map, take, get_or, slice_set, refl, sym, ap, ◌∙◌, arith, ◌++◌}
+use Rattle.std.proofs.Common.{subst, IfSome, ◌≡◌, ℕ, zero, suc, ◌+◌, ◌<◌, ◌≤◌, ◌==◌, Bool, true, cond, Option, Some, None, List, [], ◌∷◌, length, map, take, get_or, slice_set, refl, sym, ap, ◌∙◌, arith, ◌++◌}
 use Rattle.std.specs.List.{All}
 use Rattle.nand_geometry.specs.declared.parts.Parts.{Parts}
 use Rattle.onfi_cycle.specs.declared.latch.Latch.TheVariants.{Off}
@@ -33,7 +33,7 @@ use Rattle.bus_record.specs.Rule.{by_option}
 use Rattle.target_record.specs.declared.record.OnfiseqTarget.{OnfiseqTarget}
 use Rattle.onfi_cycle.specs.declared.forbidden.Forbidden.{Forbidden}
 use Rattle.onfi_cycle.specs.declared.item.Item.{Item}
-use Rattle.bus_record.specs.Changing.{AreLittle, HaveRoom, effect_of_input, luns_left}
+use Rattle.bus_record.specs.Changing.{AreLittle, HaveRoom, apart_from, effect_of_input, luns_left}
 use Rattle.bus_record.proofs.Done.{input_left, input_keeps_room}
 use Rattle.target_record.specs.declared.record.OnfiseqLun.{OnfiseqLun}
 
@@ -129,10 +129,10 @@ after_output g n c s u kind permitted tail luns =
     (luns ∙ ap (λ (b : Bool). luns_after_cycle g s.tail b OutputCycle 0 s.luns) (sym (is_driven g n c s kind permitted)))
 
 -- an input takes no place in a queue
-pub input_room : (g : Parts) (s : TargetView) → TargetFits g s → HaveRoom (luns_left (effect_of_input s.tail) s.luns)
-input_room g s f = input_keeps_room s.tail s.luns (have_room_each s.luns (have_room g s f))
+pub input_room : (g : Parts) (s : TargetView) → TargetFits g s → HaveRoom (luns_left (effect_of_input g s.tail) s.luns)
+input_room g s f = input_keeps_room g s.tail s.luns (have_room_each s.luns (have_room g s f))
 
-pub after_input : (g : Parts) (c : Cycle) (s u : TargetView) → c.kind ≡ Din → u.tail ≡ facts_after (InputCycle c.byte) s.tail → u.luns ≡ luns_left (effect_of_input s.tail) s.luns → u ≡ target_after g (Cyc c) s
+pub after_input : (g : Parts) (c : Cycle) (s u : TargetView) → c.kind ≡ Din → u.tail ≡ facts_after (InputCycle c.byte) s.tail → u.luns ≡ luns_left (effect_of_input g s.tail) s.luns → u ≡ target_after g (Cyc c) s
 after_input g c s u kind tail luns =
     target_cycled g c (InputCycle c.byte) s u (ap (λ (k : Kind). target_cycle k c.byte) (sym kind)) tail
     (luns ∙ input_left g s.tail c.byte s.luns)
@@ -182,6 +182,18 @@ first_mapped f ls (x ∷ []) rest later l d all one is behind =
     ∙ ap (λ (vs : List LunView). f (lun_of x) ∷ vs) behind
     ∙ sym (ap (λ (xs : List OnfiseqLun). map f (luns_of xs)) all)
 
+-- the first of a list changed by one effect of two, and those behind it
+pub first_apart : (n m lun : ℕ) (e other : Effect) (ls first rest later : List OnfiseqLun) (l d : OnfiseqLun) → ls ≡ first ++ rest → length first ≡ 1 → m ≡ n + 1
+    → lun_of l ≡ view_after (cond (n == lun) e other) (lun_of (get_or first 0 d)) → luns_of later ≡ apart_from m lun e other (luns_of rest)
+    → luns_of (slice_set first 0 l ++ later) ≡ apart_from n lun e other (luns_of ls)
+first_apart n m lun e other ls [] rest later l d all one next is behind = cc
+first_apart n m lun e other ls (x ∷ y ∷ ys) rest later l d all one next is behind = absurd (omega (arith, one))
+first_apart n m lun e other ls (x ∷ []) rest later l d all one next is behind =
+    ap (λ (v : LunView). v ∷ luns_of later) is
+    ∙ ap (λ (vs : List LunView). view_after (cond (n == lun) e other) (lun_of x) ∷ vs)
+    (behind ∙ ap (λ (k : ℕ). apart_from k lun e other (luns_of rest)) next)
+    ∙ sym (ap (λ (xs : List OnfiseqLun). apart_from n lun e other (luns_of xs)) all)
+
 -- the bounds of the first of a list, and of those behind it
 pub first_little : (ls first rest : List OnfiseqLun) (d : OnfiseqLun) → ls ≡ first ++ rest → length first ≡ 1 → AreLittle ls → AreLittle (get_or first 0 d ∷ rest)
 first_little ls [] rest d all one h = cc
@@ -206,3 +218,9 @@ one_room e ls k n d place low h = at ls k low (subst (λ (m : ℕ). HaveRoom (on
     at [] m low room = absurd (omega (arith, low))
     at (x ∷ xs) zero low room = room.0
     at (x ∷ xs) (suc m) low room = at xs m (omega (arith, low)) room.1
+
+pub first_apart_room : (n lun : ℕ) (e other : Effect) (ls first rest : List OnfiseqLun) (d : OnfiseqLun) → ls ≡ first ++ rest → length first ≡ 1 → HaveRoom (apart_from n lun e other (luns_of ls))
+    → HaveRoom (view_after (cond (n == lun) e other) (lun_of (get_or first 0 d)) ∷ apart_from (n + 1) lun e other (luns_of rest))
+first_apart_room n lun e other ls [] rest d all one h = cc
+first_apart_room n lun e other ls (x ∷ y ∷ ys) rest d all one h = absurd (omega (arith, one))
+first_apart_room n lun e other ls (x ∷ []) rest d all one h = subst (λ (xs : List OnfiseqLun). HaveRoom (apart_from n lun e other (luns_of xs))) all h

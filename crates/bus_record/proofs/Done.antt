@@ -1,5 +1,5 @@
 -- What a command, an address or an input does to the LUNs of its target, all at once, is what it does to each of them.
-use Rattle.std.proofs.Common.{◌≡◌, ℕ, zero, suc, ◌+◌, ◌%◌, ◌<◌, ◌==◌, ◌≢◌, Bool, true, false, ◌&&◌, cond, not, Option, Some, None, List, [], ◌∷◌, map, refl, sym, ap, ◌∙◌, arith}
+use Rattle.std.proofs.Common.{◌≡◌, ℕ, zero, suc, ◌+◌, ◌%◌, ◌<◌, ◌==◌, ◌≢◌, Bool, true, false, ◌&&◌, ◌||◌, cond, not, Option, Some, None, List, [], ◌∷◌, map, refl, sym, ap, ◌∙◌, arith}
 use Rattle.std.proofs.lemmas.Bool.{eq-eqb}
 use Rattle.std.proofs.lemmas.Bool.Decides.{nat_tests}
 use Rattle.nand_geometry.specs.declared.parts.Parts.{Parts}
@@ -7,7 +7,7 @@ use Rattle.nand_geometry.specs.Row.{parts_of}
 use Rattle.onfi_cycle.specs.declared.command.Command.{Command}
 use Rattle.onfi_cycle.specs.declared.command.Command.TheVariants.{Read, ReadConfirm, ChangeReadColumn, ChangeReadColumnConfirm, BlockErase, BlockEraseConfirm, BlockErasePlane, ReadStatus, ReadStatusEnhanced, PageProgram, ChangeWriteColumn, ProgramConfirm, ProgramPlane, ReadId, ReadParameterPage, Reset, ReadCacheSequential, ReadCacheEnd, ReadUniqueId, GetFeatures, SetFeatures, ResetLun, SynchronousReset, Unknown}
 use Rattle.onfi_cycle.specs.declared.effect.Effect.{Effect}
-use Rattle.onfi_cycle.specs.declared.effect.Effect.TheVariants.{Unaffected, DataOutputEnabled, StatusSelected, StatusRowAwaited, SelectedForStatus, Deselected, FeaturesReadStarted, FeaturesSet, UniqueIdReadStarted, ParameterPageReadStarted, CacheReadContinued, CacheReadEnded, ResetStarted, ReadColumnChanged}
+use Rattle.onfi_cycle.specs.declared.effect.Effect.TheVariants.{Unaffected, DataOutputEnabled, StatusSelected, StatusRowAwaited, SelectedForStatus, Deselected, FeaturesReadStarted, FeaturesSet, UniqueIdReadStarted, ParameterPageReadStarted, CacheReadContinued, CacheReadEnded, ResetStarted, ReadColumnChanged, TargetResetStarted, AnotherAddressed}
 use Rattle.onfi_cycle.specs.declared.latch.Latch.{Latch}
 use Rattle.onfi_cycle.specs.declared.latch.Latch.TheVariants.{Off, Status, Data}
 use Rattle.onfi_cycle.specs.declared.opening.Opening.{Opening}
@@ -15,13 +15,15 @@ use Rattle.onfi_cycle.specs.declared.tail_facts.TailFacts.{TailFacts}
 use Rattle.onfi_cycle.specs.declared.target_cycle.TargetCycle.{TargetCycle}
 use Rattle.onfi_cycle.specs.declared.target_cycle.TargetCycle.TheVariants.{CommandCycle, AddressCycle, InputCycle}
 use Rattle.onfi_cycle.specs.Applied.{one_after, luns_after_cycle}
-use Rattle.onfi_cycle.specs.Effect.{cycle_effect, address_effect, opening_address_effect, confirm_effect, ends_features, id_effect, is_off, names_lun}
+use Rattle.onfi_cycle.specs.Command.{closes_row, is_read_confirm}
+use Rattle.onfi_cycle.specs.Effect.{cycle_effect, address_effect, opening_address_effect, confirm_effect, other_effect, of_target, is_shared, status_effect, lun_reset_effect, reset_effect, ends_features, id_effect, is_off, names_lun}
 use Rattle.onfi_cycle.specs.Lun.{view_after}
 use Rattle.onfi_cycle.specs.LunView.{LunView}
 use Rattle.onfi_cycle.specs.Sequence.{row, row_with, wants_address, wants_command}
 use Rattle.onfi_cycle.specs.State.{has_driver}
-use Rattle.bus_record.specs.Changing.{HaveRoom, driven, luns_left, effect_of_closer, effect_of_command, effect_of_identity, effect_after_opener, effect_of_address, effect_after_opening, effect_of_input}
-use Rattle.bus_record.specs.declared.target_effect.TargetEffect.TheVariants.{Nothing, OnEach, OnDriver, OnOne, Selection}
+use Rattle.target_record.specs.Record.{HasRoom}
+use Rattle.bus_record.specs.Changing.{HaveRoom, apart_from, driven, luns_left, on_named, effect_of_reset, effect_of_target, effect_of_closer, effect_of_command, effect_of_identity, effect_after_opener, effect_of_address, effect_after_opening, effect_of_input}
+use Rattle.bus_record.specs.declared.target_effect.TargetEffect.TheVariants.{Nothing, OnEach, OnDriver, OnOne, Selection, Apart}
 
 -- 1. what a cycle does to each of them by itself
 
@@ -93,15 +95,83 @@ selection_left : (g : Parts) (t : TailFacts) (cycle : TargetCycle) (lun : ℕ) �
     → one_after SelectedForStatus lun (map (view_after Deselected) vs) ≡ luns_after_cycle g t sole cycle 0 vs
 selection_left g t cycle lun is sole vs = one_left g t cycle SelectedForStatus Deselected lun is (λ v. refl) sole lun 0 (omega arith) vs
 
+-- one of them by its number and the others otherwise, where the effect of the others changes something
+apart_left : (g : Parts) (t : TailFacts) (cycle : TargetCycle) (e other : Effect) (lun : ℕ) → ((s : Latch) (m : ℕ) → cycle_effect g t s cycle m ≡ cond (m == lun) e other) → (sole : Bool) (n : ℕ) (vs : List LunView)
+    → apart_from n lun e other vs ≡ luns_after_cycle g t sole cycle n vs
+apart_left g t cycle e other lun is sole n [] = refl
+apart_left g t cycle e other lun is sole n (v ∷ vs) =
+    step_left g t sole cycle n v vs (apart_from (n + 1) lun e other vs) (cond (n == lun) e other) (is (cond sole v.latch Off) n) (apart_left g t cycle e other lun is sole (n + 1) vs)
+
+flipped : (a b : ℕ) → (a == b) ≡ (b == a)
+flipped a b = at (a == b) refl
+  where
+    at : (x : Bool) → (a == b) ≡ x → x ≡ (b == a)
+    at true w =
+        let same : b ≡ a = grind (arith, nat_tests, w) in
+        sym (eq-eqb b a same)
+    at false w =
+        let ne : b ≢ a = grind (arith, nat_tests, w) in
+        sym (eq_false b a ne)
+
+-- the work of a LUN that a row names
+work_left : (g : Parts) (t : TailFacts) (cycle : TargetCycle) (lun : ℕ) (e : Effect) (reads : Bool) → ((s : Latch) (m : ℕ) → cycle_effect g t s cycle m ≡ cond (lun == m) e (cond (is_shared g) (AnotherAddressed reads) Unaffected)) → (vs : List LunView)
+    → luns_left (on_named g lun e reads) vs ≡ luns_after_cycle g t (has_driver vs) cycle 0 vs
+work_left g t cycle lun e reads is vs = at (is_shared g) refl
+  where
+    other : Bool → Effect
+    other b = cond b (AnotherAddressed reads) Unaffected
+
+    at : (b : Bool) → is_shared g ≡ b → luns_left (cond b (Apart lun e (AnotherAddressed reads)) (OnOne lun e)) vs ≡ luns_after_cycle g t (has_driver vs) cycle 0 vs
+    at true w = apart_left g t cycle e (AnotherAddressed reads) lun (λ s m. is s m ∙ (ap (λ (b : Bool). cond (lun == m) e (other b)) w ∙ ap (λ (b : Bool). cond b e (AnotherAddressed reads)) (flipped lun m))) (has_driver vs) 0 vs
+    at false w = named_left g t cycle e lun (λ s m. is s m ∙ ap (λ (b : Bool). cond (lun == m) e (other b)) w) (has_driver vs) vs
+
+-- what is done for a whole target
+target_left : (g : Parts) (t : TailFacts) (cycle : TargetCycle) (e : Effect) → ((s : Latch) (m : ℕ) → cycle_effect g t s cycle m ≡ of_target g m e) → (vs : List LunView)
+    → luns_left (effect_of_target g e) vs ≡ luns_after_cycle g t (has_driver vs) cycle 0 vs
+target_left g t cycle e is vs = at (is_shared g) refl
+  where
+    at : (b : Bool) → is_shared g ≡ b → luns_left (cond b (Apart 0 e Deselected) (OnEach e)) vs ≡ luns_after_cycle g t (has_driver vs) cycle 0 vs
+    at true w = apart_left g t cycle e Deselected 0 (λ s m. is s m ∙ ap (λ (b : Bool). cond (not b || m == 0) e Deselected) w) (has_driver vs) 0 vs
+    at false w = each_left g t cycle e (λ s m. is s m ∙ ap (λ (b : Bool). cond (not b || m == 0) e Deselected) w) (has_driver vs) 0 vs
+
+reset_of : (b : Bool) → TargetResetStarted b ≡ cond b (TargetResetStarted true) (TargetResetStarted false)
+reset_of true = refl
+reset_of false = refl
+
+resets_left : (g : Parts) (t : TailFacts) (cycle : TargetCycle) → ((s : Latch) (m : ℕ) → cycle_effect g t s cycle m ≡ reset_effect g m) → (vs : List LunView)
+    → luns_left (effect_of_reset g) vs ≡ luns_after_cycle g t (has_driver vs) cycle 0 vs
+resets_left g t cycle is vs = at (is_shared g) refl
+  where
+    at : (b : Bool) → is_shared g ≡ b → luns_left (cond b (Apart 0 (TargetResetStarted true) (TargetResetStarted false)) (OnEach ResetStarted)) vs ≡ luns_after_cycle g t (has_driver vs) cycle 0 vs
+    at true w = apart_left g t cycle (TargetResetStarted true) (TargetResetStarted false) 0 (λ s m. is s m ∙ (ap (λ (b : Bool). cond b (TargetResetStarted (m == 0)) ResetStarted) w ∙ reset_of (m == 0))) (has_driver vs) 0 vs
+    at false w = each_left g t cycle ResetStarted (λ s m. is s m ∙ ap (λ (b : Bool). cond b (TargetResetStarted (m == 0)) ResetStarted) w) (has_driver vs) 0 vs
+
 -- 2. a command
 
-closer_left : (g : Parts) (t : TailFacts) (c : Command) (vs : List LunView) → ((s : Latch) (m : ℕ) → cycle_effect g t s (CommandCycle c) m ≡ cond (wants_command t c && names_lun g (row t) m) (confirm_effect g t c) Unaffected)
+-- a closer that is wanted, and one that isn't
+closes_wanted : (w n c sh : Bool) (e other : Effect) → w ≡ true → c ≡ true → cond (w && n) e (cond (c && (w && sh)) other Unaffected) ≡ cond n e (cond sh other Unaffected)
+closes_wanted w n c sh e other wants closes = rw wants (rw closes refl)
+
+closes_nothing : (w n c sh : Bool) (e other : Effect) → w ≡ false → c ≡ true → cond (w && n) e (cond (c && (w && sh)) other Unaffected) ≡ Unaffected
+closes_nothing w n c sh e other wants closes = rw wants (rw closes refl)
+
+closer_left : (g : Parts) (t : TailFacts) (c : Command) (vs : List LunView) → closes_row c ≡ true
+    → ((s : Latch) (m : ℕ) → cycle_effect g t s (CommandCycle c) m ≡ cond (wants_command t c && names_lun g (row t) m) (confirm_effect g t c) (other_effect g t c))
     → luns_left (effect_of_closer g t c) vs ≡ luns_after_cycle g t (has_driver vs) (CommandCycle c) 0 vs
-closer_left g t c vs is = at (wants_command t c) refl
+closer_left g t c vs closes is = at (wants_command t c) refl
   where
-    at : (b : Bool) → wants_command t c ≡ b → luns_left (cond b (OnOne (parts_of g (row t)).lun (confirm_effect g t c)) Nothing) vs ≡ luns_after_cycle g t (has_driver vs) (CommandCycle c) 0 vs
-    at true w = named_left g t (CommandCycle c) (confirm_effect g t c) (parts_of g (row t)).lun (λ s m. is s m ∙ ap (λ (b : Bool). cond (b && names_lun g (row t) m) (confirm_effect g t c) Unaffected) w) (has_driver vs) vs
-    at false w = nothing_left g t (CommandCycle c) (λ s m. is s m ∙ ap (λ (b : Bool). cond (b && names_lun g (row t) m) (confirm_effect g t c) Unaffected) w) (has_driver vs) 0 vs
+    lun : ℕ
+    lun = (parts_of g (row t)).lun
+
+    e : Effect
+    e = confirm_effect g t c
+
+    other : Effect
+    other = AnotherAddressed (is_read_confirm c)
+
+    at : (b : Bool) → wants_command t c ≡ b → luns_left (cond b (on_named g lun e (is_read_confirm c)) Nothing) vs ≡ luns_after_cycle g t (has_driver vs) (CommandCycle c) 0 vs
+    at true w = work_left g t (CommandCycle c) lun e (is_read_confirm c) (λ s m. is s m ∙ closes_wanted (wants_command t c) (names_lun g (row t) m) (closes_row c) (is_shared g) e other w closes) vs
+    at false w = nothing_left g t (CommandCycle c) (λ s m. is s m ∙ closes_nothing (wants_command t c) (names_lun g (row t) m) (closes_row c) (is_shared g) e other w closes) (has_driver vs) 0 vs
 
 always_rests : (b : Bool) → cond b Unaffected Unaffected ≡ Unaffected
 always_rests true = refl
@@ -121,18 +191,18 @@ column_left g t vs = at (wants_command t ChangeReadColumnConfirm) refl
 
 pub command_left : (g : Parts) (t : TailFacts) (c : Command) (vs : List LunView) → luns_left (effect_of_command g t c) vs ≡ luns_after_cycle g t (has_driver vs) (CommandCycle c) 0 vs
 command_left g t Read vs = each_left g t (CommandCycle Read) DataOutputEnabled (λ s m. refl) (has_driver vs) 0 vs
-command_left g t ReadStatus vs = each_left g t (CommandCycle ReadStatus) StatusSelected (λ s m. refl) (has_driver vs) 0 vs
+command_left g t ReadStatus vs = each_left g t (CommandCycle ReadStatus) (status_effect g) (λ s m. refl) (has_driver vs) 0 vs
 command_left g t ReadStatusEnhanced vs = each_left g t (CommandCycle ReadStatusEnhanced) StatusRowAwaited (λ s m. refl) (has_driver vs) 0 vs
-command_left g t Reset vs = each_left g t (CommandCycle Reset) ResetStarted (λ s m. refl) (has_driver vs) 0 vs
-command_left g t SynchronousReset vs = each_left g t (CommandCycle SynchronousReset) ResetStarted (λ s m. refl) (has_driver vs) 0 vs
+command_left g t Reset vs = resets_left g t (CommandCycle Reset) (λ s m. refl) vs
+command_left g t SynchronousReset vs = resets_left g t (CommandCycle SynchronousReset) (λ s m. refl) vs
 command_left g t ReadCacheSequential vs = driver_left g t (CommandCycle ReadCacheSequential) CacheReadContinued (λ s m. refl) (has_driver vs) vs
 command_left g t ReadCacheEnd vs = driver_left g t (CommandCycle ReadCacheEnd) CacheReadEnded (λ s m. refl) (has_driver vs) vs
 command_left g t ChangeReadColumnConfirm vs = column_left g t vs
-command_left g t ReadConfirm vs = closer_left g t ReadConfirm vs (λ s m. refl)
-command_left g t BlockEraseConfirm vs = closer_left g t BlockEraseConfirm vs (λ s m. refl)
-command_left g t BlockErasePlane vs = closer_left g t BlockErasePlane vs (λ s m. refl)
-command_left g t ProgramConfirm vs = closer_left g t ProgramConfirm vs (λ s m. refl)
-command_left g t ProgramPlane vs = closer_left g t ProgramPlane vs (λ s m. refl)
+command_left g t ReadConfirm vs = closer_left g t ReadConfirm vs refl (λ s m. refl)
+command_left g t BlockEraseConfirm vs = closer_left g t BlockEraseConfirm vs refl (λ s m. refl)
+command_left g t BlockErasePlane vs = closer_left g t BlockErasePlane vs refl (λ s m. refl)
+command_left g t ProgramConfirm vs = closer_left g t ProgramConfirm vs refl (λ s m. refl)
+command_left g t ProgramPlane vs = closer_left g t ProgramPlane vs refl (λ s m. refl)
 command_left g t ChangeReadColumn vs = nothing_left g t (CommandCycle ChangeReadColumn) (λ s m. always_rests (wants_command t ChangeReadColumn && names_lun g (row t) m)) (has_driver vs) 0 vs
 command_left g t BlockErase vs = nothing_left g t (CommandCycle BlockErase) (λ s m. always_rests (wants_command t BlockErase && names_lun g (row t) m)) (has_driver vs) 0 vs
 command_left g t PageProgram vs = nothing_left g t (CommandCycle PageProgram) (λ s m. always_rests (wants_command t PageProgram && names_lun g (row t) m)) (has_driver vs) 0 vs
@@ -147,13 +217,13 @@ command_left g t Unknown vs = nothing_left g t (CommandCycle Unknown) (λ s m. a
 
 -- 3. an address
 
-identity_left : (g : Parts) (t : TailFacts) (byte : ℕ) (e : Effect) (vs : List LunView) → ((s : Latch) (m : ℕ) → cycle_effect g t s (AddressCycle byte) m ≡ cond (wants_address t byte) e Unaffected)
-    → luns_left (effect_of_identity t byte e) vs ≡ luns_after_cycle g t (has_driver vs) (AddressCycle byte) 0 vs
+identity_left : (g : Parts) (t : TailFacts) (byte : ℕ) (e : Effect) (vs : List LunView) → ((s : Latch) (m : ℕ) → cycle_effect g t s (AddressCycle byte) m ≡ cond (wants_address t byte) (of_target g m e) Unaffected)
+    → luns_left (effect_of_identity g t byte e) vs ≡ luns_after_cycle g t (has_driver vs) (AddressCycle byte) 0 vs
 identity_left g t byte e vs is = at (wants_address t byte) refl
   where
-    at : (b : Bool) → wants_address t byte ≡ b → luns_left (cond b (OnEach e) Nothing) vs ≡ luns_after_cycle g t (has_driver vs) (AddressCycle byte) 0 vs
-    at true w = each_left g t (AddressCycle byte) e (λ s m. is s m ∙ ap (λ (b : Bool). cond b e Unaffected) w) (has_driver vs) 0 vs
-    at false w = nothing_left g t (AddressCycle byte) (λ s m. is s m ∙ ap (λ (b : Bool). cond b e Unaffected) w) (has_driver vs) 0 vs
+    at : (b : Bool) → wants_address t byte ≡ b → luns_left (cond b (effect_of_target g e) Nothing) vs ≡ luns_after_cycle g t (has_driver vs) (AddressCycle byte) 0 vs
+    at true w = target_left g t (AddressCycle byte) e (λ s m. is s m ∙ ap (λ (b : Bool). cond b (of_target g m e) Unaffected) w) vs
+    at false w = nothing_left g t (AddressCycle byte) (λ s m. is s m ∙ ap (λ (b : Bool). cond b (of_target g m e) Unaffected) w) (has_driver vs) 0 vs
 
 opener_left : (g : Parts) (t : TailFacts) (byte : ℕ) (c : Command) (k : ℕ) (vs : List LunView) → ((s : Latch) (m : ℕ) → cycle_effect g t s (AddressCycle byte) m ≡ address_effect g t byte c k m)
     → luns_left (effect_after_opener g t byte c k) vs ≡ luns_after_cycle g t (has_driver vs) (AddressCycle byte) 0 vs
@@ -164,9 +234,15 @@ opener_left g t byte ReadStatusEnhanced k vs is = at (k == 2) refl
     at false w = nothing_left g t (AddressCycle byte) (λ s m. is s m ∙ ap (λ (b : Bool). cond b (cond (names_lun g (row_with t byte) m) SelectedForStatus Deselected) Unaffected) w) (has_driver vs) 0 vs
 opener_left g t byte ResetLun k vs is = at (k == 2) refl
   where
-    at : (b : Bool) → (k == 2) ≡ b → luns_left (cond b (OnOne (parts_of g (row_with t byte)).lun ResetStarted) Nothing) vs ≡ luns_after_cycle g t (has_driver vs) (AddressCycle byte) 0 vs
-    at true w = named_left g t (AddressCycle byte) ResetStarted (parts_of g (row_with t byte)).lun (λ s m. is s m ∙ ap (λ (b : Bool). cond (b && names_lun g (row_with t byte) m) ResetStarted Unaffected) w) (has_driver vs) vs
-    at false w = nothing_left g t (AddressCycle byte) (λ s m. is s m ∙ ap (λ (b : Bool). cond (b && names_lun g (row_with t byte) m) ResetStarted Unaffected) w) (has_driver vs) 0 vs
+    lun : ℕ
+    lun = (parts_of g (row_with t byte)).lun
+
+    left : Bool → ℕ → Effect
+    left b m = cond b (lun_reset_effect g (names_lun g (row_with t byte) m)) Unaffected
+
+    at : (b : Bool) → (k == 2) ≡ b → luns_left (cond b (on_named g lun ResetStarted false) Nothing) vs ≡ luns_after_cycle g t (has_driver vs) (AddressCycle byte) 0 vs
+    at true w = work_left g t (AddressCycle byte) lun ResetStarted false (λ s m. is s m ∙ ap (λ (b : Bool). left b m) w) vs
+    at false w = nothing_left g t (AddressCycle byte) (λ s m. is s m ∙ ap (λ (b : Bool). left b m) w) (has_driver vs) 0 vs
 opener_left g t byte ReadId k vs is = identity_left g t byte (id_effect byte) vs is
 opener_left g t byte ReadParameterPage k vs is = identity_left g t byte ParameterPageReadStarted vs is
 opener_left g t byte ReadUniqueId k vs is = identity_left g t byte UniqueIdReadStarted vs is
@@ -199,21 +275,36 @@ address_left g t byte vs = at t.opening refl
 
 -- 4. an input
 
-pub input_left : (g : Parts) (t : TailFacts) (byte : ℕ) (vs : List LunView) → luns_left (effect_of_input t) vs ≡ luns_after_cycle g t (has_driver vs) (InputCycle byte) 0 vs
+pub input_left : (g : Parts) (t : TailFacts) (byte : ℕ) (vs : List LunView) → luns_left (effect_of_input g t) vs ≡ luns_after_cycle g t (has_driver vs) (InputCycle byte) 0 vs
 input_left g t byte vs = at (ends_features t) refl
   where
-    at : (b : Bool) → ends_features t ≡ b → luns_left (cond b (OnEach (FeaturesSet (t.column % 256))) Nothing) vs ≡ luns_after_cycle g t (has_driver vs) (InputCycle byte) 0 vs
-    at true w = each_left g t (InputCycle byte) (FeaturesSet (t.column % 256)) (λ s m. ap (λ (b : Bool). cond b (FeaturesSet (t.column % 256)) Unaffected) w) (has_driver vs) 0 vs
-    at false w = nothing_left g t (InputCycle byte) (λ s m. ap (λ (b : Bool). cond b (FeaturesSet (t.column % 256)) Unaffected) w) (has_driver vs) 0 vs
+    e : Effect
+    e = FeaturesSet (t.column % 256)
+
+    at : (b : Bool) → ends_features t ≡ b → luns_left (cond b (effect_of_target g e) Nothing) vs ≡ luns_after_cycle g t (has_driver vs) (InputCycle byte) 0 vs
+    at true w = target_left g t (InputCycle byte) e (λ s m. ap (λ (b : Bool). cond b (of_target g m e) Unaffected) w) vs
+    at false w = nothing_left g t (InputCycle byte) (λ s m. ap (λ (b : Bool). cond b (of_target g m e) Unaffected) w) (has_driver vs) 0 vs
 
 -- it takes no place in a queue
 set_keeps_room : (address : ℕ) (vs : List LunView) → HaveRoom vs → HaveRoom (map (view_after (FeaturesSet address)) vs)
 set_keeps_room address [] h = tt
 set_keeps_room address (v ∷ vs) h = (h.0, set_keeps_room address vs h.1)
 
-pub input_keeps_room : (t : TailFacts) (vs : List LunView) → HaveRoom vs → HaveRoom (luns_left (effect_of_input t) vs)
-input_keeps_room t vs h = at (ends_features t)
+either_keeps : (address : ℕ) (b : Bool) (v : LunView) → HasRoom v → HasRoom (view_after (cond b (FeaturesSet address) Deselected) v)
+either_keeps address true v h = h
+either_keeps address false v h = h
+
+apart_keeps_room : (address n : ℕ) (vs : List LunView) → HaveRoom vs → HaveRoom (apart_from n 0 (FeaturesSet address) Deselected vs)
+apart_keeps_room address n [] h = tt
+apart_keeps_room address n (v ∷ vs) h = (either_keeps address (n == 0) v h.0, apart_keeps_room address (n + 1) vs h.1)
+
+pub input_keeps_room : (g : Parts) (t : TailFacts) (vs : List LunView) → HaveRoom vs → HaveRoom (luns_left (effect_of_input g t) vs)
+input_keeps_room g t vs h = at (ends_features t) (is_shared g)
   where
-    at : (b : Bool) → HaveRoom (luns_left (cond b (OnEach (FeaturesSet (t.column % 256))) Nothing) vs)
-    at true = set_keeps_room (t.column % 256) vs h
-    at false = h
+    address : ℕ
+    address = t.column % 256
+
+    at : (b sh : Bool) → HaveRoom (luns_left (cond b (cond sh (Apart 0 (FeaturesSet address) Deselected) (OnEach (FeaturesSet address))) Nothing) vs)
+    at true true = apart_keeps_room address 0 vs h
+    at true false = set_keeps_room address vs h
+    at false sh = h

@@ -1,5 +1,5 @@
 //! What a cycle or a ready leaves of the records of the LUNs of a target, which are the first so many of its array.
-ghost use Rattle.std.specs.Prelude.{◌≡◌, true, if◌then◌else◌, ℕ, ◌^◌, ◌<◌, ◌≤◌, map, take};
+ghost use Rattle.std.specs.Prelude.{◌≡◌, true, if◌then◌else◌, ℕ, ◌+◌, ◌^◌, ◌<◌, ◌≤◌, length, map, take};
 ghost use Rattle.std.specs.List.{All};
 ghost use Rattle.nand_geometry.specs.declared.parts.Parts.{Parts};
 ghost use Rattle.onfi_cycle.specs.declared.effect.Effect.{Effect as EffectValue};
@@ -8,7 +8,7 @@ ghost use Rattle.onfi_cycle.specs.declared.target_cycle.TargetCycle.{TargetCycle
 ghost use Rattle.onfi_cycle.specs.Applied.{luns_after_cycle, one_after};
 ghost use Rattle.onfi_cycle.specs.Effect.{cycle_effect};
 ghost use Rattle.onfi_cycle.specs.Lun.{view_after};
-ghost use Rattle.bus_record.specs.Changing.{AreLittle, HaveRoom, driven, luns_left};
+ghost use Rattle.bus_record.specs.Changing.{AreLittle, HaveRoom, apart_from, driven, luns_left};
 ghost use Rattle.bus_record.specs.declared.target_effect.TargetEffect.{TargetEffect as TargetEffectValue};
 ghost use Rattle.target_record.specs.Record.{HasRoom, IsRecord, lun_of, luns_of};
 
@@ -79,6 +79,23 @@ fn change_driver(luns: &mut [OnfiseqLun], effect: Effect)
     }
 }
 
+// From this number on each goes on by one of two effects: the one of a number by the first.
+fn change_apart(luns: &mut [OnfiseqLun], from: u32, number: u32, effect: Effect, others: Effect)
+    requires few { from + length luns.old ≤ 4 }
+    requires numbers { All IsRecord luns.old }
+    requires small { AreLittle luns.old }
+    requires room { HaveRoom (apart_from from number effect others (luns_of luns.old)) }
+    ensures value { luns_of luns.new ≡ apart_from from number effect others (luns_of luns.old) }
+    ensures numbers { All IsRecord luns.new }
+{
+    if luns.is_empty() {
+        return;
+    }
+    let (first, rest) = luns.split_at_mut(1);
+    change(&mut first[0], if from == number { effect } else { others });
+    change_apart(rest, from + 1, number, effect, others);
+}
+
 // The one of this number goes on by an effect, if it is there.
 fn change_one(luns: &mut [OnfiseqLun], number: u32, effect: Effect)
     requires numbers { All IsRecord luns.old }
@@ -93,6 +110,17 @@ fn change_one(luns: &mut [OnfiseqLun], number: u32, effect: Effect)
     }
 }
 
+// A LUN shows nothing, and is neither selected nor overlapped.
+fn deselect(kept: &mut OnfiseqLun)
+    requires { IsRecord kept.old }
+    ensures value { lun_of kept.new ≡ view_after EffectValue.Deselected (lun_of kept.old) }
+    ensures numbers { IsRecord kept.new }
+{
+    kept.latch = latch_code(Latch::Off);
+    kept.selected = 0;
+    kept.overlapped = 0;
+}
+
 // Each shows nothing.
 fn deselect_each(luns: &mut [OnfiseqLun])
     requires { All IsRecord luns.old }
@@ -103,17 +131,19 @@ fn deselect_each(luns: &mut [OnfiseqLun])
         return;
     }
     let (first, rest) = luns.split_at_mut(1);
-    first[0].latch = latch_code(Latch::Off);
+    deselect(&mut first[0]);
     deselect_each(rest);
 }
 
-// A LUN shows its status.
+// A LUN shows its status, is selected, and isn't overlapped.
 fn select(kept: &mut OnfiseqLun)
     requires { IsRecord kept.old }
     ensures value { lun_of kept.new ≡ view_after EffectValue.SelectedForStatus (lun_of kept.old) }
     ensures numbers { IsRecord kept.new }
 {
     kept.latch = latch_code(Latch::Status);
+    kept.selected = 1;
+    kept.overlapped = 0;
 }
 
 // A LUN shows its status, and has lost its column where it gave bytes.
@@ -156,6 +186,7 @@ fn select_one(luns: &mut [OnfiseqLun], number: u32)
 // They are left so by what a command or an address does. The command that polls comes most often, so it has a way of its own.
 #[inline(always)]
 fn change_luns(luns: &mut [OnfiseqLun], effect: TargetEffect)
+    requires few { length luns.old ≤ 4 }
     requires numbers { All IsRecord luns.old }
     requires small { AreLittle luns.old }
     requires room { HaveRoom (luns_left effect (luns_of luns.old)) }
@@ -168,6 +199,11 @@ fn change_luns(luns: &mut [OnfiseqLun], effect: TargetEffect)
         TargetEffect::OnEach(effect) => change_each(luns, effect),
         TargetEffect::OnDriver(effect) => change_driver(luns, effect),
         TargetEffect::OnOne { lun, effect } => change_one(luns, lun, effect),
+        TargetEffect::Apart {
+            lun,
+            effect,
+            others,
+        } => change_apart(luns, 0, lun, effect, others),
         TargetEffect::Selection { lun } => {
             deselect_each(luns);
             select_one(luns, lun);

@@ -52,9 +52,8 @@ pub(crate) fn apply_input(geometry: &OnfiseqGeometry, kept: &mut OnfiseqTarget, 
     ensures numbers { IsTarget kept.new }
     ensures column { kept.new.column < 2 ^ 16 }
 {
-    let _geometry = *geometry;
     let _cycle = cycle;
-    let effect = effect_of_input(kept);
+    let effect = effect_of_input(geometry, kept);
     note_input(kept);
     change_first(&mut kept.luns, kept.count, effect);
 }

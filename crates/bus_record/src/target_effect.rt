@@ -1,14 +1,17 @@
 //! What a command or an address does to the LUNs of its target.
 ghost use Rattle.std.specs.Prelude.{◌≡◌};
 ghost use Rattle.nand_geometry.specs.Limits.{InLimits};
+ghost use Rattle.onfi_cycle.specs.Command.{is_read_confirm};
 ghost use Rattle.onfi_cycle.specs.Effect.{confirm_effect, id_effect};
-ghost use Rattle.bus_record.specs.Changing.{effect_of_closer, effect_of_column_confirm, effect_of_command, selection, reset_of_lun, effect_of_input, effect_of_identity, effect_of_address};
+ghost use Rattle.bus_record.specs.Changing.{effect_of_status, effect_of_reset, effect_of_target, on_named, effect_of_closer, effect_of_column_confirm, effect_of_command, selection, reset_of_lun, effect_of_input, effect_of_identity, effect_of_address};
 ghost use Rattle.target_record.specs.Geometry.{parts_of};
 ghost use Rattle.target_record.specs.Record.{tail_of};
 
 use nand_geometry::Geometry;
 use onfi_cycle::{Command, Effect, FEATURE_BYTES, PageAddress};
-use target_record::{OnfiseqGeometry, OnfiseqTarget, is_set, opening_of, tail_of, wants_command};
+use target_record::{
+    OnfiseqGeometry, OnfiseqTarget, is_set, is_shared, opening_of, tail_of, wants_command,
+};
 
 /// What a cycle does to the LUNs of its target.
 #[derive(Clone, Copy)]
@@ -19,9 +22,20 @@ pub(crate) enum TargetEffect {
     /// To the one that alone drives the bus, if one does.
     OnDriver(Effect),
     /// To the one of this number, if it is there.
-    OnOne { lun: u32, effect: Effect },
+    OnOne {
+        lun: u32,
+        effect: Effect,
+    },
     /// The one of this number, if it is there, shows its status, and the others nothing.
-    Selection { lun: u32 },
+    Selection {
+        lun: u32,
+    },
+    /// This to the one of this number, if it is there, and that to the others.
+    Apart {
+        lun: u32,
+        effect: Effect,
+        others: Effect,
+    },
 }
 
 // What the closer of a row does to the LUN that it names.
@@ -51,6 +65,28 @@ fn confirm_effect(geometry: &Geometry, kept: &OnfiseqTarget, named: Command) -> 
     }
 }
 
+// The work of a LUN, which is work of another for the others where they share their target.
+fn on_named(geometry: &OnfiseqGeometry, lun: u32, effect: Effect, reads: bool) -> TargetEffect
+    ensures { result ≡ on_named (parts_of geometry.now) lun effect reads }
+{
+    if is_shared(geometry) {
+        TargetEffect::Apart {
+            lun,
+            effect,
+            others: Effect::AnotherAddressed { reads },
+        }
+    } else {
+        TargetEffect::OnOne { lun, effect }
+    }
+}
+
+// The command closes a read of a page.
+fn is_read_confirm(named: Command) -> bool
+    ensures { result ≡ is_read_confirm named }
+{
+    matches!(named, Command::ReadConfirm)
+}
+
 // What the closer of a row does.
 #[inline(never)]
 fn effect_of_closer(
@@ -65,9 +101,49 @@ fn effect_of_closer(
         return TargetEffect::Nothing;
     }
     let known = geometry.known();
-    TargetEffect::OnOne {
-        lun: known.parts_of(tail_of(kept).named_row()).lun,
-        effect: confirm_effect(&known, kept, named),
+    let lun = known.parts_of(tail_of(kept).named_row()).lun;
+    let effect = confirm_effect(&known, kept, named);
+    on_named(geometry, lun, effect, is_read_confirm(named))
+}
+
+// What FFh or FCh does.
+fn effect_of_reset(geometry: &OnfiseqGeometry) -> TargetEffect
+    ensures { result ≡ effect_of_reset (parts_of geometry.now) }
+{
+    if is_shared(geometry) {
+        TargetEffect::Apart {
+            lun: 0,
+            effect: Effect::TargetResetStarted { first: true },
+            others: Effect::TargetResetStarted { first: false },
+        }
+    } else {
+        TargetEffect::OnEach(Effect::ResetStarted)
+    }
+}
+
+// What 70h does.
+fn effect_of_status(geometry: &OnfiseqGeometry) -> TargetEffect
+    ensures { result ≡ effect_of_status (parts_of geometry.now) }
+{
+    if is_shared(geometry) {
+        TargetEffect::OnEach(Effect::StatusOfSelected)
+    } else {
+        TargetEffect::OnEach(Effect::StatusSelected)
+    }
+}
+
+// What is done for a whole target.
+fn effect_of_target(geometry: &OnfiseqGeometry, effect: Effect) -> TargetEffect
+    ensures { result ≡ effect_of_target (parts_of geometry.now) effect }
+{
+    if is_shared(geometry) {
+        TargetEffect::Apart {
+            lun: 0,
+            effect,
+            others: Effect::Deselected,
+        }
+    } else {
+        TargetEffect::OnEach(effect)
     }
 }
 
@@ -96,9 +172,9 @@ pub(crate) fn effect_of_command(
 {
     match named {
         Command::Read => TargetEffect::OnEach(Effect::DataOutputEnabled),
-        Command::ReadStatus => TargetEffect::OnEach(Effect::StatusSelected),
+        Command::ReadStatus => effect_of_status(geometry),
         Command::ReadStatusEnhanced => TargetEffect::OnEach(Effect::StatusRowAwaited),
-        Command::Reset | Command::SynchronousReset => TargetEffect::OnEach(Effect::ResetStarted),
+        Command::Reset | Command::SynchronousReset => effect_of_reset(geometry),
         Command::ReadCacheSequential => TargetEffect::OnDriver(Effect::CacheReadContinued),
         Command::ReadCacheEnd => TargetEffect::OnDriver(Effect::CacheReadEnded),
         Command::ChangeReadColumnConfirm => effect_of_column_confirm(kept),
@@ -140,10 +216,8 @@ fn reset_of_lun(geometry: &OnfiseqGeometry, kept: &OnfiseqTarget, byte: u8) -> T
     ensures { result ≡ reset_of_lun (parts_of geometry.now) (tail_of kept.now) byte }
 {
     let row = tail_of(kept).row_with(byte);
-    TargetEffect::OnOne {
-        lun: geometry.known().parts_of(row).lun,
-        effect: Effect::ResetStarted,
-    }
+    let lun = geometry.known().parts_of(row).lun;
+    on_named(geometry, lun, Effect::ResetStarted, false)
 }
 
 // What the address of a 90h does.
@@ -160,25 +234,29 @@ fn id_effect(byte: u8) -> Effect
 
 /// What an input does: the last one of a Set Features starts it.
 #[inline(always)]
-pub(crate) fn effect_of_input(kept: &OnfiseqTarget) -> TargetEffect
-    ensures { result ≡ effect_of_input (tail_of kept.now) }
+pub(crate) fn effect_of_input(geometry: &OnfiseqGeometry, kept: &OnfiseqTarget) -> TargetEffect
+    ensures { result ≡ effect_of_input (parts_of geometry.now) (tail_of kept.now) }
 {
     let tail = tail_of(kept);
     if tail.phase.takes_features() && tail.inputs == FEATURE_BYTES - 1 {
-        TargetEffect::OnEach(Effect::FeaturesSet {
-            address: (tail.column % 256) as u8,
-        })
+        let address = (tail.column % 256) as u8;
+        effect_of_target(geometry, Effect::FeaturesSet { address })
     } else {
         TargetEffect::Nothing
     }
 }
 
 // What the address of what stands beside the array does, if it is wanted.
-fn effect_of_identity(kept: &OnfiseqTarget, byte: u8, effect: Effect) -> TargetEffect
-    ensures { result ≡ effect_of_identity (tail_of kept.now) byte effect }
+fn effect_of_identity(
+    geometry: &OnfiseqGeometry,
+    kept: &OnfiseqTarget,
+    byte: u8,
+    effect: Effect,
+) -> TargetEffect
+    ensures { result ≡ effect_of_identity (parts_of geometry.now) (tail_of kept.now) byte effect }
 {
     if tail_of(kept).wants_address(byte) {
-        TargetEffect::OnEach(effect)
+        effect_of_target(geometry, effect)
     } else {
         TargetEffect::Nothing
     }
@@ -200,12 +278,15 @@ pub(crate) fn effect_of_address(
     match opening.opener {
         Command::ReadStatusEnhanced if opening.addresses == 2 => selection(geometry, kept, byte),
         Command::ResetLun if opening.addresses == 2 => reset_of_lun(geometry, kept, byte),
-        Command::ReadId => effect_of_identity(kept, byte, id_effect(byte)),
+        Command::ReadId => effect_of_identity(geometry, kept, byte, id_effect(byte)),
         Command::ReadParameterPage => {
-            effect_of_identity(kept, byte, Effect::ParameterPageReadStarted)
+            effect_of_identity(geometry, kept, byte, Effect::ParameterPageReadStarted)
         }
-        Command::ReadUniqueId => effect_of_identity(kept, byte, Effect::UniqueIdReadStarted),
+        Command::ReadUniqueId => {
+            effect_of_identity(geometry, kept, byte, Effect::UniqueIdReadStarted)
+        }
         Command::GetFeatures => effect_of_identity(
+            geometry,
             kept,
             byte,
             Effect::FeaturesReadStarted { address: byte },

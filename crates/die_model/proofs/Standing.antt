@@ -25,8 +25,8 @@ use Rattle.onfi_cycle.specs.declared.target_cycle.TargetCycle.{TargetCycle}
 use Rattle.onfi_cycle.specs.declared.target_cycle.TargetCycle.TheVariants.{CommandCycle, AddressCycle, InputCycle, OutputCycle}
 use Rattle.onfi_cycle.specs.Sequence.{opened, row_bytes, row_after_address, tail, with_cycle, begins_sequence, is_nil, input_column, opening, data_phase, phase_after_address, row_with, facts_of, filled, row, target_cycle, wants_command, wants_address, takes_data, wants_column}
 use Rattle.onfi_cycle.specs.Bounds.{names_program}
-use Rattle.onfi_cycle.specs.Effect.{names_lun, page_address, is_off, is_data, confirm_effect, command_effect, opening_address_effect, address_effect, cycle_effect, id_effect, ends_features, input_effect}
-use Rattle.onfi_cycle.specs.Lun.{luns_of, effect_on, latch_alone, is_busy, busy_after, is_caching, is_cache_read, closer, closer_after, is_array_busy, array_busy_after, array_page, array_page_after, register, register_after, queue, queue_after, lun_view}
+use Rattle.onfi_cycle.specs.Effect.{is_shared, acts_for_target, of_target, other_effect, lun_reset_effect, names_lun, page_address, is_off, is_data, confirm_effect, command_effect, opening_address_effect, address_effect, cycle_effect, id_effect, ends_features, input_effect}
+use Rattle.onfi_cycle.specs.Lun.{luns_of, effect_on, latch_alone, is_busy, busy_after, is_caching, is_cache_read, closer, closer_after, is_array_busy, array_busy_after, array_page, array_page_after, register, register_after, queue, queue_after, lun_view, effect_among}
 use Rattle.onfi_cycle.specs.Content.{ArrayWork, ProgramsPage, queued_work, queued_work_after, pending_work, pending_work_after, has_failed, failed_after, content, content_after}
 use Rattle.onfi_cycle.specs.Permitted.{broken}
 use Rattle.onfi_cycle.specs.Channel.{Channel}
@@ -37,7 +37,7 @@ use Rattle.onfi_cycle.specs.Filling.{cycle_filling, filling, filled_by}
 use Rattle.die_model.specs.Standing.{HasBytes, IsFilling, IsDieOf, WorkedBy, RowsFit, DiesGoOn}
 use Rattle.onfi_cycle.specs.declared.data_phase.DataPhase.{DataPhase}
 use Rattle.onfi_cycle.specs.declared.data_phase.DataPhase.TheVariants.{Outside, Inputs, FirstColumn, SecondColumn, FeatureInputs}
-use Rattle.onfi_cycle.specs.Command.{is_page_program, at_last_row, addresses_the_array, is_set_features}
+use Rattle.onfi_cycle.specs.Command.{closes_row, is_read_confirm, is_page_program, at_last_row, addresses_the_array, is_set_features}
 use Rattle.onfi_cycle.specs.LunView.{LunView}
 use Rattle.std.specs.List.{slice_get}
 use Rattle.std.proofs.lemmas.Bool.Decides.{nat_tests}
@@ -59,22 +59,30 @@ choice : (g : Parts) (t : TailFacts) (lun : ℕ) (b : Bool) (x y : Effect) → (
 choice g t lun true x y f h = f refl
 choice g t lun false x y f h = h
 
+-- work of another LUN
+passed_programs : (g : Parts) (t : TailFacts) (c : Command) (lun : ℕ) → Programs g t lun (other_effect g t c)
+passed_programs g t c lun = choice g t lun (closes_row c && (wants_command t c && is_shared g)) (e.AnotherAddressed (is_read_confirm c)) e.Unaffected (λ _. tt) tt
+
+-- work of the whole target
+target_programs : (g : Parts) (t : TailFacts) (lun : ℕ) (x : Effect) → Programs g t lun x → Programs g t lun (of_target g lun x)
+target_programs g t lun x h = choice g t lun (acts_for_target g lun) x e.Deselected (λ _. h) tt
+
 command_programs : (g : Parts) (t : TailFacts) (latch : Latch) (c : Command) (lun : ℕ) → Programs g t lun (command_effect g t latch c lun)
 command_programs g t latch k.Read lun = tt
-command_programs g t latch k.ReadStatus lun = tt
+command_programs g t latch k.ReadStatus lun = choice g t lun (is_shared g) e.StatusOfSelected e.StatusSelected (λ _. tt) tt
 command_programs g t latch k.ReadStatusEnhanced lun = tt
-command_programs g t latch k.Reset lun = tt
-command_programs g t latch k.SynchronousReset lun = tt
+command_programs g t latch k.Reset lun = choice g t lun (is_shared g) (e.TargetResetStarted (lun == 0)) e.ResetStarted (λ _. tt) tt
+command_programs g t latch k.SynchronousReset lun = choice g t lun (is_shared g) (e.TargetResetStarted (lun == 0)) e.ResetStarted (λ _. tt) tt
 command_programs g t latch k.ReadCacheSequential lun = choice g t lun (is_off latch) e.Unaffected e.CacheReadContinued (λ _. tt) tt
 command_programs g t latch k.ReadCacheEnd lun = choice g t lun (is_off latch) e.Unaffected e.CacheReadEnded (λ _. tt) tt
 command_programs g t latch k.ChangeReadColumnConfirm lun = choice g t lun (wants_command t k.ChangeReadColumnConfirm && not (is_off latch)) (e.ReadColumnChanged t.column) e.Unaffected (λ _. tt) tt
 command_programs g t latch k.ProgramConfirm lun =
-    choice g t lun (wants_command t k.ProgramConfirm && names_lun g (row t) lun) (e.ProgramStarted false (page_address g (row t))) e.Unaffected
-    (λ h. record { named = or_left (takes_data t.phase) (wants_column t.phase) (both _ _ h).0; here = (both _ _ h).1; page = refl }) tt
+    choice g t lun (wants_command t k.ProgramConfirm && names_lun g (row t) lun) (e.ProgramStarted false (page_address g (row t))) (other_effect g t k.ProgramConfirm)
+    (λ h. record { named = or_left (takes_data t.phase) (wants_column t.phase) (both _ _ h).0; here = (both _ _ h).1; page = refl }) (passed_programs g t k.ProgramConfirm lun)
 command_programs g t latch k.ProgramPlane lun =
-    choice g t lun (wants_command t k.ProgramPlane && names_lun g (row t) lun) (e.ProgramStarted true (page_address g (row t))) e.Unaffected
-    (λ h. record { named = or_left (takes_data t.phase) (wants_column t.phase) (both _ _ h).0; here = (both _ _ h).1; page = refl }) tt
-command_programs g t latch c lun = choice g t lun (wants_command t c && names_lun g (row t) lun) (confirm_effect g t c) e.Unaffected (λ _. tt) tt
+    choice g t lun (wants_command t k.ProgramPlane && names_lun g (row t) lun) (e.ProgramStarted true (page_address g (row t))) (other_effect g t k.ProgramPlane)
+    (λ h. record { named = or_left (takes_data t.phase) (wants_column t.phase) (both _ _ h).0; here = (both _ _ h).1; page = refl }) (passed_programs g t k.ProgramPlane lun)
+command_programs g t latch c lun = choice g t lun (wants_command t c && names_lun g (row t) lun) (confirm_effect g t c) (other_effect g t c) (λ _. tt) (passed_programs g t c lun)
 
 address_programs : (g : Parts) (t : TailFacts) (byte : ℕ) (c : Command) (n lun : ℕ) → Programs g t lun (address_effect g t byte c n lun)
 address_programs g t byte k.ReadStatusEnhanced n lun = at (n == 2) (names_lun g _ lun)
@@ -83,11 +91,15 @@ address_programs g t byte k.ReadStatusEnhanced n lun = at (n == 2) (names_lun g 
     at true true = tt
     at true false = tt
     at false b = tt
-address_programs g t byte k.ReadId n lun = choice g t lun (wants_address t byte) (id_effect byte) e.Unaffected (λ _. choice g t lun (byte == 0x20) e.IdRead (e.IdentityRead (byte == 0x40)) (λ _. tt) tt) tt
-address_programs g t byte k.ReadUniqueId n lun = choice g t lun (wants_address t byte) e.UniqueIdReadStarted e.Unaffected (λ _. tt) tt
-address_programs g t byte k.GetFeatures n lun = choice g t lun (wants_address t byte) (e.FeaturesReadStarted byte) e.Unaffected (λ _. tt) tt
-address_programs g t byte k.ResetLun n lun = choice g t lun (n == 2 && names_lun g (row_with t byte) lun) e.ResetStarted e.Unaffected (λ _. tt) tt
-address_programs g t byte k.ReadParameterPage n lun = choice g t lun (wants_address t byte) e.ParameterPageReadStarted e.Unaffected (λ _. tt) tt
+address_programs g t byte k.ReadId n lun = choice g t lun (wants_address t byte) (of_target g lun (id_effect byte)) e.Unaffected (λ _. target_programs g t lun (id_effect byte) (choice g t lun (byte == 0x20) e.IdRead (e.IdentityRead (byte == 0x40)) (λ _. tt) tt)) tt
+address_programs g t byte k.ReadUniqueId n lun = choice g t lun (wants_address t byte) (of_target g lun e.UniqueIdReadStarted) e.Unaffected (λ _. target_programs g t lun e.UniqueIdReadStarted tt) tt
+address_programs g t byte k.GetFeatures n lun = choice g t lun (wants_address t byte) (of_target g lun (e.FeaturesReadStarted byte)) e.Unaffected (λ _. target_programs g t lun (e.FeaturesReadStarted byte) tt) tt
+address_programs g t byte k.ResetLun n lun = choice g t lun (n == 2) (lun_reset_effect g (names_lun g (row_with t byte) lun)) e.Unaffected (λ _. resets (names_lun g (row_with t byte) lun)) tt
+  where
+    resets : (named : Bool) → Programs g t lun (lun_reset_effect g named)
+    resets true = tt
+    resets false = choice g t lun (is_shared g) (e.AnotherAddressed false) e.Unaffected (λ _. tt) tt
+address_programs g t byte k.ReadParameterPage n lun = choice g t lun (wants_address t byte) (of_target g lun e.ParameterPageReadStarted) e.Unaffected (λ _. target_programs g t lun e.ParameterPageReadStarted tt) tt
 address_programs g t byte _ n lun = tt
 
 opening_programs : (g : Parts) (t : TailFacts) (byte : ℕ) (o : Option Opening) (lun : ℕ) → Programs g t lun (opening_address_effect g t byte o lun)
@@ -97,11 +109,11 @@ opening_programs g t byte (Some o) lun = address_programs g t byte o.opener o.ad
 cycle_programs : (g : Parts) (t : TailFacts) (latch : Latch) (c : TargetCycle) (lun : ℕ) → Programs g t lun (cycle_effect g t latch c lun)
 cycle_programs g t latch (CommandCycle c) lun = command_programs g t latch c lun
 cycle_programs g t latch (AddressCycle byte) lun = opening_programs g t byte t.opening lun
-cycle_programs g t latch (InputCycle byte) lun = choice g t lun (ends_features t) (e.FeaturesSet (t.column % 256)) e.Unaffected (λ _. tt) tt
+cycle_programs g t latch (InputCycle byte) lun = choice g t lun (ends_features t) (of_target g lun (e.FeaturesSet (t.column % 256))) e.Unaffected (λ _. target_programs g t lun (e.FeaturesSet (t.column % 256)) tt) tt
 cycle_programs g t latch OutputCycle lun = choice g t lun (is_data latch) e.DataOutput e.Unaffected (λ _. tt) tt
 
 effect_programs : (g : Parts) (past : List Item) (i : Item) (l : Lun) → Programs g (facts_of (tail past l.ce)) l.lun (effect_on g past i l)
-unfolding effect_on
+unfolding effect_among
 effect_programs g past (Cyc c) l = choice g (facts_of (tail past l.ce)) l.lun (c.ce == l.ce) _ e.Unaffected (λ _. cycle_programs g (facts_of (tail past l.ce)) (latch_alone g past l) (target_cycle c.kind c.byte) l.lun) tt
 effect_programs g past (Rdy ce lun fail) l = choice g (facts_of (tail past l.ce)) l.lun (ce == l.ce && lun == l.lun) (e.BecameReady fail) e.Unaffected (λ _. tt) tt
 effect_programs g past (Ard ce lun) l = choice g (facts_of (tail past l.ce)) l.lun (ce == l.ce && lun == l.lun) e.ArrayBecameReady e.Unaffected (λ _. tt) tt
@@ -183,6 +195,10 @@ calm_choice : (b : Bool) (x : Effect) → busy_after x false ≡ false → busy_
 calm_choice true x h = h
 calm_choice false x h = refl
 
+calm_target : (b : Bool) (x : Effect) → busy_after x false ≡ false → busy_after (cond b x e.Deselected) false ≡ false
+calm_target true x h = h
+calm_target false x h = refl
+
 calm_address : (g : Parts) (t : List TargetCycle) (byte lun : ℕ) (o : Option Opening) → opening t ≡ o → names_program (facts_of (AddressCycle byte ∷ t)) ≡ true → busy_after (opening_address_effect g (facts_of t) byte o lun) false ≡ false
 calm_address g t byte lun None h n = refl
 calm_address g t byte lun (Some o) h n = at o.opener refl
@@ -204,7 +220,7 @@ calm_address g t byte lun (Some o) h n = at o.opener refl
 
     at : (c : Command) → o.opener ≡ c → busy_after (address_effect g (facts_of t) byte c o.addresses lun) false ≡ false
     at k.ReadStatusEnhanced q = calm_status (o.addresses == 2) (names_lun g (row_with (facts_of t) byte) lun)
-    at k.ReadId q = calm_choice (wants_address (facts_of t) byte) (id_effect byte) (calm_id (byte == 0x20))
+    at k.ReadId q = calm_choice (wants_address (facts_of t) byte) (of_target g lun (id_effect byte)) (calm_target (acts_for_target g lun) (id_effect byte) (calm_id (byte == 0x20)))
       where
         calm_id : (b : Bool) → busy_after (cond b e.IdRead (e.IdentityRead (byte == 0x40))) false ≡ false
         calm_id true = refl
@@ -219,15 +235,15 @@ calm_address g t byte lun (Some o) h n = at o.opener refl
 no_end : (t : TailFacts) → (takes_data t.phase || wants_column t.phase) ≡ true → ends_features t ≡ false
 no_end t h = ap (λ (b : Bool). b && t.inputs == 3) (no_features_inside t.phase h)
 
-calm_input : (t : TailFacts) → (takes_data t.phase || wants_column t.phase) ≡ true → busy_after (input_effect t) false ≡ false
-calm_input t h = ap (λ (b : Bool). busy_after (cond b (e.FeaturesSet (t.column % 256)) e.Unaffected) false) (no_end t h)
+calm_input : (g : Parts) (t : TailFacts) (lun : ℕ) → (takes_data t.phase || wants_column t.phase) ≡ true → busy_after (input_effect g t lun) false ≡ false
+calm_input g t lun h = ap (λ (b : Bool). busy_after (cond b (of_target g lun (e.FeaturesSet (t.column % 256))) e.Unaffected) false) (no_end t h)
 
 calm : (g : Parts) (t : List TargetCycle) (latch : Latch) (cycle : TargetCycle) (lun : ℕ) → names_program (facts_of (with_cycle cycle t)) ≡ true → busy_after (cycle_effect g (facts_of t) latch cycle lun) false ≡ false
 calm g t latch (CommandCycle c) lun h = calm_command g t latch c lun h
 calm g [] latch (AddressCycle byte) lun h = refl
 calm g (d ∷ t) latch (AddressCycle byte) lun h = calm_address g (d ∷ t) byte lun (opening (d ∷ t)) refl h
 calm g [] latch (InputCycle byte) lun h = refl
-calm g (d ∷ t) latch (InputCycle byte) lun h = calm_input (facts_of (d ∷ t)) (input_inside (facts_of (d ∷ t)).inputs (facts_of (d ∷ t)).phase h)
+calm g (d ∷ t) latch (InputCycle byte) lun h = calm_input g (facts_of (d ∷ t)) lun (input_inside (facts_of (d ∷ t)).inputs (facts_of (d ∷ t)).phase h)
 calm g t latch OutputCycle lun h = calm_choice (is_data latch) e.DataOutput refl
 
 carry : (g : Parts) (t u : List TargetCycle) (x : Effect) (old new : Die) → IsAfter x old new → busy_after x false ≡ false → row (facts_of u) ≡ row (facts_of t) → filled (page_len g) u ≡ filled (page_len g) t → HasBytes g t old → HasBytes g u new
@@ -242,7 +258,7 @@ ready_idle true x h = h
 ready_idle false x h = refl
 
 open_leaves : (s : Channel) (past : List Item) (i : Item) (l : Lun) (old new : Die) → filling s.geometry (facts_of (tail past l.ce)) i l ≡ Leaves → IsFilling s.geometry (tail past l.ce) l.lun old → IsAfter (effect_on s.geometry past i l) old new → IsFilling s.geometry (tail (i ∷ past) l.ce) l.lun new
-unfolding effect_on
+unfolding effect_among
 open_leaves s past (Rdy ce lun fail) l old new leaves f a = λ named here. carry s.geometry (tail past l.ce) (tail past l.ce) (effect_on s.geometry past (Rdy ce lun fail) l) old new a (ready_idle (ce == l.ce && lun == l.lun) (e.BecameReady fail) refl) refl refl (f named here)
 open_leaves s past (Ard ce lun) l old new leaves f a = λ named here. carry s.geometry (tail past l.ce) (tail past l.ce) (effect_on s.geometry past (Ard ce lun) l) old new a (ready_idle (ce == l.ce && lun == l.lun) e.ArrayBecameReady refl) refl refl (f named here)
 open_leaves s past (Cyc c) l old new leaves f a = of (c.ce == l.ce) refl leaves
@@ -293,6 +309,7 @@ pending_step (e.FeaturesSet address) bytes q p b f h = refl
 pending_step e.CacheReadContinued bytes q p b f h = refl
 pending_step e.CacheReadEnded bytes q p b f h = refl
 pending_step e.ResetStarted bytes q p b f h = refl
+pending_step (e.TargetResetStarted first) bytes q p b f h = refl
 pending_step (e.BecameReady fail) bytes q p b f h = refl
 pending_step _ bytes q p b f h = f h
 
@@ -388,7 +405,7 @@ tail_on past c ce k same is h n =
     ∙ (ap (λ (z : TargetCycle). with_cycle z (tail past ce)) is ∙ goes_on k (tail past ce) h n)
 
 effect_at : (g : Parts) (past : List Item) (c : Cycle) (l : Lun) (k : TargetCycle) → (c.ce == l.ce) ≡ true → target_cycle c.kind c.byte ≡ k → effect_on g past (Cyc c) l ≡ cycle_effect g (facts_of (tail past l.ce)) (latch_alone g past l) k l.lun
-unfolding effect_on
+unfolding effect_among
 effect_at g past c l k same is =
     ap (λ (b : Bool). cond b (cycle_effect g (facts_of (tail past l.ce)) (latch_alone g past l) (target_cycle c.kind c.byte) l.lun) e.Unaffected) same
     ∙ ap (λ (z : TargetCycle). cycle_effect g (facts_of (tail past l.ce)) (latch_alone g past l) z l.lun) is
@@ -417,7 +434,7 @@ input_goes_on s past i l old new at column byte j fits f w =
     subst (IsDieOf s (i ∷ past) l) (sym w)
     (register_goes_on s past i l old at bytes
     (ap (λ (z : Item). effect_on g past z l) j.is ∙ (effect_at g past j.c l (InputCycle byte) j.ce j.cycle
-    ∙ ap (λ (b : Bool). cond b (e.FeaturesSet ((facts_of t).column % 256)) e.Unaffected) (no_end (facts_of t) named)))
+    ∙ ap (λ (b : Bool). cond b (of_target g l.lun (e.FeaturesSet ((facts_of t).column % 256))) e.Unaffected) (no_end (facts_of t) named)))
     f before.ready
     (ap (λ (p : PageAddress). some_queued_clashes g false p (queue g past l)) j.page ∙ fits.program j.here named)
     (λ n h. subst (λ (u : List TargetCycle). HasBytes g u (with_planes old registers)) (sym (ap (λ (z : Item). tail (z ∷ past) l.ce) j.is ∙ same_tail)) open_one))
@@ -500,7 +517,7 @@ passed g n past i l at h low j =
     let f10 : breaks_queue_clash g t (luns_of g past l.ce) (AddressCycle j.byte) ≡ false = subst (λ (k : TargetCycle). breaks_queue_clash g t (luns_of g past l.ce) k ≡ false) j.cycle (subst (λ (ce : ℕ). breaks_queue_clash g (facts_of (tail past ce)) (luns_of g past ce) (target_cycle j.c.kind j.c.byte) ≡ false) same rules.f10) in
     let ends : ends_row addresses_the_array t ≡ true = ap (opened (λ c n. addresses_the_array c && at_last_row c n)) j.opens ∙ program_addresses_array j.o.opener j.o.addresses j.ends in
     record {
-      ready = sym (named_test g past l (row_with t j.byte) (λ v. v.busy) low j.here) ∙ and_rest _ _ ends f9;
+      ready = sym (named_test g past l (row_with t j.byte) (λ v. v.busy) low j.here) ∙ (neither (named_lun_is g (row_with t j.byte) (λ v. v.busy) (luns_of g past l.ce)) _ (and_rest _ _ ends f9)).0;
       apart =
           ap (λ (p : PageAddress). some_queued_clashes g false p (queue g past l)) j.page
           ∙ program_refuses g j.o.opener j.o.addresses (page_address g (row_with t j.byte)) (queue g past l) j.ends

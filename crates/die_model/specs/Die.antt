@@ -10,7 +10,7 @@ use Rattle.onfi_cycle.specs.declared.queued.Queued.TheVariants.{Erase, Program}
 use Rattle.onfi_cycle.specs.declared.register.Register.{Register}
 use Rattle.onfi_cycle.specs.declared.register.Register.TheVariants.{Empty, Page}
 use Rattle.onfi_cycle.specs.declared.effect.Effect.{Effect}
-use Rattle.onfi_cycle.specs.declared.effect.Effect.TheVariants.{ReadStarted, EraseStarted, ProgramStarted, IdRead, ParameterPageReadStarted, CacheReadContinued, CacheReadEnded, ResetStarted, IdentityRead, UniqueIdReadStarted, FeaturesReadStarted, FeaturesSet}
+use Rattle.onfi_cycle.specs.declared.effect.Effect.TheVariants.{ReadStarted, EraseStarted, ProgramStarted, IdRead, ParameterPageReadStarted, CacheReadContinued, CacheReadEnded, ResetStarted, TargetResetStarted, IdentityRead, UniqueIdReadStarted, FeaturesReadStarted, FeaturesSet}
 use Rattle.onfi_cycle.specs.Lun.{busy_after, array_busy_after, array_page_after, register_after, queue_after}
 use Rattle.onfi_cycle.specs.Content.{ArrayWork, ErasesBlock, ProgramsPage, queued_work_after, pending_work_after, content_after, failed_after, register_bytes, written}
 use Rattle.onfi_cycle.specs.Bounds.{is_row}
@@ -107,6 +107,7 @@ work_begun UniqueIdReadStarted = Some w.UniqueId
 work_begun (FeaturesReadStarted address) = Some (w.Features address)
 work_begun (FeaturesSet address) = Some (w.SetFeatures address)
 work_begun ResetStarted = Some w.Reset
+work_begun (TargetResetStarted _) = Some w.Reset
 work_begun CacheReadContinued = Some w.Cache
 work_begun CacheReadEnded = Some w.CacheEnd
 work_begun _ = None
@@ -124,6 +125,7 @@ caching_after (FeaturesReadStarted _) caching = false
 caching_after (FeaturesSet _) caching = false
 caching_after CacheReadEnded caching = false
 caching_after ResetStarted caching = false
+caching_after (TargetResetStarted _) caching = false
 caching_after _ caching = caching
 
 -- the bytes that a program takes

@@ -40,7 +40,8 @@ fn caching_after(effect: Effect, before: bool) -> bool
         | Effect::FeaturesReadStarted { .. }
         | Effect::FeaturesSet { .. }
         | Effect::CacheReadEnded
-        | Effect::ResetStarted => false,
+        | Effect::ResetStarted
+        | Effect::TargetResetStarted { .. } => false,
         _ => before,
     }
 }

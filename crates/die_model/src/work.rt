@@ -57,7 +57,7 @@ impl Work {
             Effect::UniqueIdReadStarted => Some(Work::UniqueId),
             Effect::FeaturesReadStarted { address } => Some(Work::Features(address)),
             Effect::FeaturesSet { address } => Some(Work::SetFeatures(address)),
-            Effect::ResetStarted => Some(Work::Reset),
+            Effect::ResetStarted | Effect::TargetResetStarted { .. } => Some(Work::Reset),
             Effect::CacheReadContinued => Some(Work::Cache),
             Effect::CacheReadEnded => Some(Work::CacheEnd),
             _ => None,

@@ -187,6 +187,7 @@ settled s j seat c may = at (knows_tail s seat c.scene) refl
             column = λ y. cc;
             row = λ y. cc;
             named = λ y. cc;
+            single = λ y. cc;
           };
           free = λ x. cc;
           shows = c.fits.shows;
@@ -252,7 +253,7 @@ first_fits s j past idle accepted =
     record {
       claim = first_state;
       scene = scene;
-      is = record { facts = refl; view = refl; sole = λ e. cc };
+      is = record { facts = refl; view = refl; sole = λ e. cc; free = idle.free };
       fits = record {
         registers = record {
           column = in_exactly 0;
@@ -265,7 +266,7 @@ first_fits s j past idle accepted =
           cost = (in_exactly 0).most;
           within = omega arith;
         };
-        tail = λ e. record { place = Closed; here = refl; address = no_address; is = open_not (ltb 1 s.geometry.luns) (is_open (facts_of (tail past j.lun.ce))) e; now = λ x. cc; column = λ x. cc; row = λ x. cc; named = λ x. cc };
+        tail = λ e. record { place = Closed; here = refl; address = no_address; is = open_not (ltb 1 s.geometry.luns) (is_open (facts_of (tail past j.lun.ce))) e; now = λ x. cc; column = λ x. cc; row = λ x. cc; named = λ x. cc; single = λ x. cc };
         free = λ e. record { tail = refl; shows = refl; unread = refl };
         shows = tt;
         lun = record { ready = λ e. idle.ready; register = tt; column = tt; queue = idle.no_queue; last = other_there (closer s.geometry past j.lun) idle.no_cache; cached = λ base e. cc };

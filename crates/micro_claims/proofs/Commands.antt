@@ -337,6 +337,7 @@ sound_85 s j k v past c done rest at byte is scene f clear acc =
       column = λ e. cc;
       row = λ e. p.row;
       named = λ e. p.named;
+      single = λ e. cc;
     })
     (shows_kept v.target.shows c (scene_behind g j.lun.lun (CommandCycle ChangeWriteColumn) c) (λ e. e) (ap (λ (e : Effect). (view_after e c.view).latch) effect) f.shows)
     (subst (λ (e : Effect). LunFits g j v.lun (index_now j.base done) (view_after e c.view)) (sym effect) f.lun)

@@ -50,11 +50,11 @@ unread_kept (Some c) k f = at c.read refl
         kept true h = refl
         kept false h = h
 
-poll_lun : (g : Parts) (j : Job) (l : KnownLun) (i : ℕ) (view : LunView) → LunFits g j l i view → LunFits g j (record l { column = unread l.column }) i (polled_view view)
-poll_lun g j l i view f = record { ready = f.ready; register = f.register; column = unread_kept l.column view.column f.column; queue = f.queue; last = f.last; cached = f.cached }
+poll_lun : (g : Parts) (j : Job) (l : KnownLun) (i : ℕ) (view : LunView) (selected overlapped : Bool) → LunFits g j l i view → LunFits g j (record l { column = unread l.column }) i (polled_view selected overlapped view)
+poll_lun g j l i view selected overlapped f = record { ready = f.ready; register = f.register; column = unread_kept l.column view.column f.column; queue = f.queue; last = f.last; cached = f.cached }
 
 -- behind a poll the claim fits; `busy` may be claimed not to be where the poll said so
-poll_fits : (s : Channel) (j : Job) (v : State) (done new : List Done) (later : List Item) (c : Scene) (p : PolledScene s j.lun later c) (l : KnownLun) (r : Registers) → RegistersFit s.geometry j r new → LunFits s.geometry j l (index_now j.base new) (polled_view c.view) → Fits s.geometry j (record { registers = r; target = closed status_shown; lun = l }) new p.now true
+poll_fits : (s : Channel) (j : Job) (v : State) (done new : List Done) (later : List Item) (c : Scene) (p : PolledScene s j.lun later c) (l : KnownLun) (r : Registers) → RegistersFit s.geometry j r new → LunFits s.geometry j l (index_now j.base new) (polled_view p.selected p.overlapped c.view) → Fits s.geometry j (record { registers = r; target = closed status_shown; lun = l }) new p.now true
 poll_fits s j v done new later c p l r registers lun =
     record {
       registers = registers;
@@ -100,7 +100,7 @@ sound_stat s j k v past c done rest at scene f clear acc =
       fine = record {
         moved = p.before ++ (Take ∷ []);
         is_moved = p.moves_are;
-        own = own_poll s j past k.there p;
+        own = own_poll s j past k.there scene.free p;
         inside = refl;
         budget = within_budget s.geometry j v done ReadStatus f.registers clear;
         closed = λ e. cc;
@@ -116,7 +116,7 @@ sound_stat s j k v past c done rest at scene f clear acc =
             is = behind.is;
             fits = poll_fits s j v done (record { word = ReadStatus; answer = Polled one.byte } ∷ done) _ c behind (record v.lun { column = unread v.lun.column }) _
                 (unmoved s.geometry j v v.registers.place true done ReadStatus (Polled one.byte) f.registers clear (record { column = λ n. refl; plane = λ n. refl; index = λ b n. refl }) f.registers.place)
-                (poll_lun s.geometry j v.lun (index_now j.base done) c.view f.lun);
+                (poll_lun s.geometry j v.lun (index_now j.base done) c.view behind.selected behind.overlapped f.lun);
             accepted = acc;
           });
     }
@@ -174,13 +174,13 @@ waiting_fits s j v done later c p f true e =
       free = λ x. record { tail = refl; shows = refl; unread = unread_is (unread v.lun.column) };
       shows = tt;
       lun =
-          let polled_lun = poll_lun s.geometry j v.lun (index_now j.base done) c.view f.lun in
+          let polled_lun = poll_lun s.geometry j v.lun (index_now j.base done) c.view p.selected p.overlapped f.lun in
           subst (λ (w : LunView). LunFits s.geometry j (record v.lun { busy = true; column = unread (unread v.lun.column) }) (index_now j.base done) w) (sym p.view)
           (record { ready = λ x. cc; register = f.lun.register; column = subst (λ (k : Option OutputColumn). OutputColumnFits k (lost c.view.column)) (sym (unread_twice v.lun.column)) polled_lun.column; queue = f.lun.queue; last = f.lun.last; cached = f.lun.cached });
     }
 waiting_fits s j v done later c p f false e =
     poll_fits s j v done done later c p (record v.lun { busy = true; column = unread v.lun.column }) v.registers f.registers
-    (found_busy_lun s.geometry j (record v.lun { column = unread v.lun.column }) (index_now j.base done) (polled_view c.view) (poll_lun s.geometry j v.lun (index_now j.base done) c.view f.lun))
+    (found_busy_lun s.geometry j (record v.lun { column = unread v.lun.column }) (index_now j.base done) (polled_view p.selected p.overlapped c.view) (poll_lun s.geometry j v.lun (index_now j.base done) c.view p.selected p.overlapped f.lun))
 
 pub sound_wait : (s : Channel) (j : Job) (k : KnownJob s j) (v : State) (past : List Item) (c : Scene) (done : List Done) (rest : List Line) (at : ℕ) → IsScene s j.lun past c → Fits s.geometry j v done c true → NoReasons s.geometry j.text v Wait → accepts s.geometry (bounds_of j.text) None (state_after s.geometry v Wait) rest ≡ true → SoundWord s j past done rest at Wait
 unfolding state_after breaks_handover_in_sequence
@@ -189,7 +189,7 @@ sound_wait s j k v past c done rest at scene f clear acc =
       fine = record {
         moved = p.before ++ (Take ∷ []);
         is_moved = p.moves_are;
-        own = own_poll s j past k.there p;
+        own = own_poll s j past k.there scene.free p;
         inside = refl;
         budget = within_budget s.geometry j v done Wait f.registers clear;
         closed = λ e. open_on s j past c scene shut;
@@ -220,7 +220,7 @@ sound_wait s j k v past c done rest at scene f clear acc =
           is = (behind byte).is;
           fits = poll_fits s j v done (record { word = Wait; answer = Polled byte } ∷ done) _ c (behind byte) (record v.lun { busy = false; column = unread v.lun.column }) _
               (unmoved s.geometry j v v.registers.place true done Wait (Polled byte) f.registers clear (record { column = λ n. refl; plane = λ n. refl; index = λ b n. refl }) f.registers.place)
-              (found_ready_lun s.geometry j (record v.lun { column = unread v.lun.column }) (index_now j.base done) (polled_view c.view) (poll_lun s.geometry j v.lun (index_now j.base done) c.view f.lun) ready);
+              (found_ready_lun s.geometry j (record v.lun { column = unread v.lun.column }) (index_now j.base done) (polled_view (behind byte).selected (behind byte).overlapped c.view) (poll_lun s.geometry j v.lun (index_now j.base done) c.view (behind byte).selected (behind byte).overlapped f.lun) ready);
           accepted = acc;
         })
     said byte false e says =
@@ -326,6 +326,7 @@ sound_end s j k v past c done rest at code scene f clear =
           ready = ap (λ (w : LunView). w.busy) view ∙ f.lun.ready one.0;
           no_cache = ap (λ (w : LunView). is_cache_read w.closer) view ∙ not_caching v.lun.last c.view.closer f.lun.last three.1;
           no_queue = ap (λ (w : LunView). w.queue) view ∙ no_rows s.geometry (index_now j.base done) v.lun.queue c.view two.1 f.lun.queue;
+          free = scene.free;
         };
       };
       step = λ bytes r e true_bytes none.

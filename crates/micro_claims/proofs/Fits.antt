@@ -23,7 +23,7 @@ use Rattle.onfi_cycle.specs.Lun.{output_column}
 use Rattle.micro_claims.specs.Spans.{Span}
 use Rattle.micro_claims.specs.Planes.{Planes, has_plane}
 use Rattle.micro_claims.specs.State.{State, Registers, KnownTarget, KnownLun, PageRange, Place, Closed, After, InData, InColumn, InFeatures, Unknown, Drift, NamedRow, Shown, Held, OutputColumn, QueuedRows, NoRows, SomeRows, AnyRows, LastCloser, shows_status, shows_register, holds_page, holds_parameters, holds_identifier, holds_identity, holds_jedec, holds_unique_id, holds_feature, may_be_30, may_be_31, may_be_other}
-use Rattle.micro_claims.specs.Against.{is_inside_address, next_address, first_address}
+use Rattle.micro_claims.specs.Against.{is_inside_address, next_address, first_address, is_in_features}
 use Rattle.micro_program.specs.Program.{Job, Done, column_now, plane_now, index_now, place_now, cost_now}
 use Rattle.micro_program.proofs.Scenes.{Scene}
 
@@ -211,6 +211,7 @@ pub record TailFits (g : Parts) (j : Job) (v : KnownTarget) (n : Now) (t : TailF
   pub column : has_column place ≡ true → ColumnFits (input_column t) v.column
   pub row : has_row place ≡ true → RowIs g j address
   pub named : has_row place ≡ true → NameFits g j address n.index v.named
+  pub single : is_in_features place ≡ true → ltb 1 g.luns ≡ false
 
 -- 4. the LUN
 

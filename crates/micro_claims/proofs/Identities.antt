@@ -14,7 +14,7 @@ use Rattle.onfi_cycle.specs.declared.tail_facts.TailFacts.{TailFacts}
 use Rattle.onfi_cycle.specs.LunView.{LunView}
 use Rattle.onfi_cycle.specs.Command.{command, reads_identity}
 use Rattle.onfi_cycle.specs.Sequence.{facts_after, is_open, wants_address, wants_command, row}
-use Rattle.onfi_cycle.specs.Effect.{names_lun, id_effect}
+use Rattle.onfi_cycle.specs.Effect.{names_lun, of_target, id_effect}
 use Rattle.onfi_cycle.specs.Lun.{view_after}
 use Rattle.onfi_cycle.specs.declared.effect.Effect.{Effect}
 use Rattle.onfi_cycle.specs.declared.effect.Effect.TheVariants.{Unaffected, IdRead, IdentityRead, ParameterPageReadStarted, UniqueIdReadStarted, FeaturesReadStarted}
@@ -31,6 +31,7 @@ use Rattle.micro_claims.specs.Against.{may_be_open, may_be_queued, identity_open
 use Rattle.micro_claims.specs.Reasons.{breaks_cycle_forbidden}
 use Rattle.micro_claims.specs.Leaves.{id_held, beside_read, identity_read, address_leaves_at, with_registers, paid, data_shown}
 use Rattle.micro_claims.specs.Accepts.{state_after, accepts}
+use Rattle.micro_program.proofs.Stepping.{of_one}
 use Rattle.micro_program.proofs.Scenes.{Scene, IsScene, IdentityAllowed, AddressAllowed, scene_behind}
 use Rattle.micro_claims.proofs.Fits.{Address, is_place, ShowsFit, TailFits, latch_among, facts_behind, bytes_of, RegistersFit, Opened, opener_facts, PlaceIs, RowsFit, LunFits, Fits, now_of}
 use Rattle.micro_claims.proofs.Numbers.{in_exactly}
@@ -184,41 +185,44 @@ or_none : (b : Bool) → b ≡ true → (b || false) ≡ true
 or_none true h = refl
 or_none false h = cc
 
-id_step : (s : Channel) (j : Job) (c : Scene) (byte : ℕ) → c.facts ≡ opener_facts ReadId → takes_identity s.geometry ReadId byte ≡ true → Steps s j c byte (id_scene s.geometry byte c)
-id_step s j c byte is takes =
+id_step : (s : Channel) (j : Job) (c : Scene) (byte : ℕ) → c.facts ≡ opener_facts ReadId → ltb 1 s.geometry.luns ≡ false → takes_identity s.geometry ReadId byte ≡ true → Steps s j c byte (id_scene s.geometry byte c)
+id_step s j c byte is single takes =
     let w = is_wide s.geometry.optional in
     let wants : wants_address (opener_facts ReadId) byte ≡ true = or_none _ (id_wanted w (byte == 0x20) (byte == 0x00) (byte == 0x40) takes) in
-    subst (λ (x : Scene). AddressAllowed s.geometry j.lun.lun x byte × (scene_behind s.geometry j.lun.lun (AddressCycle byte) x ≡ id_scene s.geometry byte c)) (sym (begun_is ReadId c is))
-    (record { wanted = wants; profile = id_profile w (byte == 0x20) (byte == 0x00) (byte == 0x40) takes; row = λ e. cc; column = λ e. cc; read_column = λ e. cc }, ap (λ (b : Bool). record { facts = facts_after (AddressCycle byte) (opener_facts ReadId); view = view_after (cond b (id_effect byte) Unaffected) c.view; sole = not (ltb 1 s.geometry.luns) }) wants)
+    subst (λ (x : Scene). AddressAllowed s.geometry j.lun.lun x byte × (scene_behind s.geometry j.lun.lun (AddressCycle byte) x ≡ id_scene s.geometry byte c)) (sym (begun_is ReadId c is)) (
+      record { wanted = wants; profile = id_profile w (byte == 0x20) (byte == 0x00) (byte == 0x40) takes; alone = λ e. single; row = λ e. cc; column = λ e. cc; read_column = λ e. cc },
+      ap (λ (b : Bool). record { facts = facts_after (AddressCycle byte) (opener_facts ReadId); view = view_after (cond b (of_target s.geometry j.lun.lun (id_effect byte)) Unaffected) c.view; sole = not (ltb 1 s.geometry.luns) }) wants
+          ∙ ap (λ (e : Effect). record { facts = facts_after (AddressCycle byte) (opener_facts ReadId); view = view_after e c.view; sole = not (ltb 1 s.geometry.luns) }) (of_one s.geometry j.lun.lun (id_effect byte) single),
+    )
 
 -- ECh and EDh, whose one byte is 00
 abbrev beside_scene : Parts → Command → Effect → ℕ → Scene → Scene
 beside_scene g o e byte c = record { facts = facts_after (AddressCycle byte) (opener_facts o); view = view_after e c.view; sole = not (ltb 1 g.luns) }
 
-ec_step : (s : Channel) (j : Job) (c : Scene) (byte : ℕ) → c.facts ≡ opener_facts ReadParameterPage → takes_identity s.geometry ReadParameterPage byte ≡ true → Steps s j c byte (beside_scene s.geometry ReadParameterPage ParameterPageReadStarted byte c)
-ec_step s j c byte is takes =
+ec_step : (s : Channel) (j : Job) (c : Scene) (byte : ℕ) → c.facts ≡ opener_facts ReadParameterPage → ltb 1 s.geometry.luns ≡ false → takes_identity s.geometry ReadParameterPage byte ≡ true → Steps s j c byte (beside_scene s.geometry ReadParameterPage ParameterPageReadStarted byte c)
+ec_step s j c byte is single takes =
     subst (λ (x : Scene). AddressAllowed s.geometry j.lun.lun x byte × (scene_behind s.geometry j.lun.lun (AddressCycle byte) x ≡ beside_scene s.geometry ReadParameterPage ParameterPageReadStarted byte c)) (sym (begun_is ReadParameterPage c is))
-    (record { wanted = rw takes refl; profile = never (not (is_wide s.geometry.optional)); row = λ e. cc; column = λ e. cc; read_column = λ e. cc }, rw takes refl)
+    (record { wanted = rw takes refl; profile = never (not (is_wide s.geometry.optional)); alone = λ e. single; row = λ e. cc; column = λ e. cc; read_column = λ e. cc }, rw takes (ap (λ (e : Effect). beside_scene s.geometry ReadParameterPage e byte c) (of_one s.geometry j.lun.lun ParameterPageReadStarted single)))
 
-ed_step : (s : Channel) (j : Job) (c : Scene) (byte : ℕ) → c.facts ≡ opener_facts ReadUniqueId → takes_identity s.geometry ReadUniqueId byte ≡ true → Steps s j c byte (beside_scene s.geometry ReadUniqueId UniqueIdReadStarted byte c)
-ed_step s j c byte is takes =
+ed_step : (s : Channel) (j : Job) (c : Scene) (byte : ℕ) → c.facts ≡ opener_facts ReadUniqueId → ltb 1 s.geometry.luns ≡ false → takes_identity s.geometry ReadUniqueId byte ≡ true → Steps s j c byte (beside_scene s.geometry ReadUniqueId UniqueIdReadStarted byte c)
+ed_step s j c byte is single takes =
     subst (λ (x : Scene). AddressAllowed s.geometry j.lun.lun x byte × (scene_behind s.geometry j.lun.lun (AddressCycle byte) x ≡ beside_scene s.geometry ReadUniqueId UniqueIdReadStarted byte c)) (sym (begun_is ReadUniqueId c is))
-    (record { wanted = rw takes refl; profile = never (not (is_wide s.geometry.optional)); row = λ e. cc; column = λ e. cc; read_column = λ e. cc }, rw takes refl)
+    (record { wanted = rw takes refl; profile = never (not (is_wide s.geometry.optional)); alone = λ e. single; row = λ e. cc; column = λ e. cc; read_column = λ e. cc }, rw takes (ap (λ (e : Effect). beside_scene s.geometry ReadUniqueId e byte c) (of_one s.geometry j.lun.lun UniqueIdReadStarted single)))
 
 -- EEh, whose byte may be any
-ee_step : (s : Channel) (j : Job) (c : Scene) (byte : ℕ) → c.facts ≡ opener_facts GetFeatures → Steps s j c byte (beside_scene s.geometry GetFeatures (FeaturesReadStarted byte) byte c)
-ee_step s j c byte is =
+ee_step : (s : Channel) (j : Job) (c : Scene) (byte : ℕ) → c.facts ≡ opener_facts GetFeatures → ltb 1 s.geometry.luns ≡ false → Steps s j c byte (beside_scene s.geometry GetFeatures (FeaturesReadStarted byte) byte c)
+ee_step s j c byte is single =
     subst (λ (x : Scene). AddressAllowed s.geometry j.lun.lun x byte × (scene_behind s.geometry j.lun.lun (AddressCycle byte) x ≡ beside_scene s.geometry GetFeatures (FeaturesReadStarted byte) byte c)) (sym (begun_is GetFeatures c is))
-    (record { wanted = refl; profile = never (not (is_wide s.geometry.optional)); row = λ e. cc; column = λ e. cc; read_column = λ e. cc }, refl)
+    (record { wanted = refl; profile = never (not (is_wide s.geometry.optional)); alone = λ e. single; row = λ e. cc; column = λ e. cc; read_column = λ e. cc }, ap (λ (e : Effect). beside_scene s.geometry GetFeatures e byte c) (of_one s.geometry j.lun.lun (FeaturesReadStarted byte) single))
 
 -- and EFh, which leaves the LUN as it was
 abbrev ef_scene : ℕ → Scene → Scene
 ef_scene byte c = record { facts = facts_after (AddressCycle byte) (opener_facts SetFeatures); view = c.view; sole = c.sole }
 
-ef_step : (s : Channel) (j : Job) (c : Scene) (byte : ℕ) → c.facts ≡ opener_facts SetFeatures → Steps s j c byte (ef_scene byte c)
-ef_step s j c byte is =
+ef_step : (s : Channel) (j : Job) (c : Scene) (byte : ℕ) → c.facts ≡ opener_facts SetFeatures → ltb 1 s.geometry.luns ≡ false → Steps s j c byte (ef_scene byte c)
+ef_step s j c byte is single =
     subst (λ (x : Scene). AddressAllowed s.geometry j.lun.lun x byte × (scene_behind s.geometry j.lun.lun (AddressCycle byte) x ≡ ef_scene byte c)) (sym (begun_is SetFeatures c is))
-    (record { wanted = refl; profile = never (not (is_wide s.geometry.optional)); row = λ e. cc; column = λ e. cc; read_column = λ e. cc }, refl)
+    (record { wanted = refl; profile = never (not (is_wide s.geometry.optional)); alone = λ e. single; row = λ e. cc; column = λ e. cc; read_column = λ e. cc }, refl)
 
 -- what the claim behind such an address says of the scene there
 record IdentityFits (s : Channel) (j : Job) (v : State) (done : List Done) (next : Scene) (left : State) : Type 0 where
@@ -292,7 +296,7 @@ record AtOpener (s : Channel) (j : Job) (v : State) (past : List Item) (c : Scen
 identity_90 : (s : Channel) (j : Job) (v : State) (past : List Item) (c : Scene) (done : List Done) (rest : List Line) (at from count : ℕ) → AtOpener s j v past c done rest from count ReadId → SoundWord s j past done rest at (AddressWord from count)
 identity_90 s j v past c done rest at from count h =
     let byte = byte_of_column from (column_now done) in
-    at_identity s j h.k v past c done rest at from count ReadId (id_scene s.geometry byte c) h.id (id_step s j c byte h.start h.id.takes)
+    at_identity s j h.k v past c done rest at from count ReadId (id_scene s.geometry byte c) h.id (id_step s j c byte h.start h.id.single h.id.takes)
     (beside_fits s j v c done v.lun.busy (id_held byte) (id_scene s.geometry byte c) (identity_read v from ReadId) (id_read v from (column_now done) (h.id.known refl)) h.id.single refl refl (id_latch (byte == 0x20) (byte == 0x40) c.view)
     (id_lun s.geometry j v (index_now j.base done) c.view (byte == 0x20) (byte == 0x40) h.f.lun))
     h.left h.scene h.f h.clear h.acc
@@ -301,7 +305,7 @@ identity_ec : (s : Channel) (j : Job) (v : State) (past : List Item) (c : Scene)
 identity_ec s j v past c done rest at from count h =
     let byte = byte_of_column from (column_now done) in
     let next = beside_scene s.geometry ReadParameterPage ParameterPageReadStarted byte c in
-    at_identity s j h.k v past c done rest at from count ReadParameterPage next h.id (ec_step s j c byte h.start h.id.takes)
+    at_identity s j h.k v past c done rest at from count ReadParameterPage next h.id (ec_step s j c byte h.start h.id.single h.id.takes)
     (beside_fits s j v c done true (record { 0 = 2 }) next (identity_read v from ReadParameterPage) refl h.id.single refl refl refl
     (record { ready = λ e. cc; register = refl; column = record { at = 0; is = refl; below = (in_exactly 0).most; unread = λ e. refl }; queue = h.f.lun.queue; last = refl; cached = λ e x. cc }))
     h.left h.scene h.f h.clear h.acc
@@ -310,7 +314,7 @@ identity_ed : (s : Channel) (j : Job) (v : State) (past : List Item) (c : Scene)
 identity_ed s j v past c done rest at from count h =
     let byte = byte_of_column from (column_now done) in
     let next = beside_scene s.geometry ReadUniqueId UniqueIdReadStarted byte c in
-    at_identity s j h.k v past c done rest at from count ReadUniqueId next h.id (ed_step s j c byte h.start h.id.takes)
+    at_identity s j h.k v past c done rest at from count ReadUniqueId next h.id (ed_step s j c byte h.start h.id.single h.id.takes)
     (beside_fits s j v c done true (record { 0 = 32 }) next (identity_read v from ReadUniqueId) refl h.id.single refl refl refl
     (record { ready = λ e. cc; register = refl; column = record { at = 0; is = refl; below = (in_exactly 0).most; unread = λ e. refl }; queue = h.f.lun.queue; last = refl; cached = λ e x. cc }))
     h.left h.scene h.f h.clear h.acc
@@ -319,7 +323,7 @@ identity_ee : (s : Channel) (j : Job) (v : State) (past : List Item) (c : Scene)
 identity_ee s j v past c done rest at from count h =
     let byte = byte_of_column from (column_now done) in
     let next = beside_scene s.geometry GetFeatures (FeaturesReadStarted byte) byte c in
-    at_identity s j h.k v past c done rest at from count GetFeatures next h.id (ee_step s j c byte h.start)
+    at_identity s j h.k v past c done rest at from count GetFeatures next h.id (ee_step s j c byte h.start h.id.single)
     (beside_fits s j v c done true (record { 0 = 64 }) next (identity_read v from GetFeatures) refl h.id.single refl refl refl
     (record { ready = λ e. cc; register = refl; column = record { at = 0; is = refl; below = (in_exactly 0).most; unread = λ e. refl }; queue = h.f.lun.queue; last = refl; cached = λ e x. cc }))
     h.left h.scene h.f h.clear h.acc
@@ -327,10 +331,10 @@ identity_ee s j v past c done rest at from count h =
 identity_ef : (s : Channel) (j : Job) (v : State) (past : List Item) (c : Scene) (done : List Done) (rest : List Line) (at from count : ℕ) → AtOpener s j v past c done rest from count SetFeatures → SoundWord s j past done rest at (AddressWord from count)
 identity_ef s j v past c done rest at from count h =
     let byte = byte_of_column from (column_now done) in
-    at_identity s j h.k v past c done rest at from count SetFeatures (ef_scene byte c) h.id (ef_step s j c byte h.start)
+    at_identity s j h.k v past c done rest at from count SetFeatures (ef_scene byte c) h.id (ef_step s j c byte h.start h.id.single)
     (record {
       registers = refl;
-      tail = record { place = InFeatures 0; here = refl; address = no_address; is = record { few = omega arith; phase = refl; inputs = refl; begun = refl }; now = λ e. cc; column = λ e. cc; row = λ e. cc; named = λ e. cc };
+      tail = record { place = InFeatures 0; here = refl; address = no_address; is = record { few = omega arith; phase = refl; inputs = refl; begun = refl }; now = λ e. cc; column = λ e. cc; row = λ e. cc; named = λ e. cc; single = λ e. h.id.single };
       shows = shows_kept v.target.shows c (ef_scene byte c) (λ e. e) refl h.f.shows;
       lun = h.f.lun;
     })

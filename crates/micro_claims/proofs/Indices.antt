@@ -69,6 +69,7 @@ tail_moved g j v n m move t none moves f =
       column = f.column;
       row = f.row;
       named = λ e. name_fits g j f.address n.index m.index move v.named moves (f.named e);
+      single = f.single;
     }
 
 lun_moved : (g : Parts) (j : Job) (l : KnownLun) (old new : ℕ) (move : Drift → Option Drift) (view : LunView) → MovesDrifts old new move → LunFits g j l old view → LunFits g j (record l { queue = rows_moved move l.queue }) new view

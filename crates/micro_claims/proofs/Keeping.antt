@@ -18,14 +18,14 @@ use Rattle.onfi_cycle.specs.declared.page_address.PageAddress.{PageAddress}
 use Rattle.onfi_cycle.specs.Effect.{is_off}
 use Rattle.onfi_cycle.specs.LunView.{LunView}
 use Rattle.onfi_cycle.specs.Sequence.{tail, facts_of}
-use Rattle.onfi_cycle.specs.Lun.{latch, latch_after, drivers, is_only, effect_on, lun_view, busy_after, is_busy, is_array_busy, closer, closer_after, array_page, array_page_after, register, register_after, read_column, read_column_after, queue, queue_after}
+use Rattle.onfi_cycle.specs.Lun.{latch, latch_after, drivers, is_only, lun_view, busy_after, is_busy, is_array_busy, closer, closer_after, array_page, array_page_after, register, register_after, read_column, read_column_after, queue, queue_after, effect_among}
 use Rattle.onfi_cycle.specs.OtherLun.{KeepsLun, KeepsTarget, IsSameOrLost}
 use Rattle.onfi_cycle.specs.Permitted.{is_legal}
-use Rattle.onfi_cycle.specs.Channel.{Channel, IsOwn, same_lun, is_there, is_cycle}
+use Rattle.onfi_cycle.specs.Channel.{Channel, IsOwn, same_lun, is_there, is_cycle, is_serving}
 use Rattle.micro_program.specs.Program.{Job, index_now}
 use Rattle.micro_program.specs.Safe.{Seat, after_item}
 use Rattle.micro_claims.specs.State.{KnownLun, OutputColumn, Shown}
-use Rattle.micro_program.proofs.Below.{readies, own_cycles, targets}
+use Rattle.micro_program.proofs.Below.{readies, own_cycles, targets, service}
 use Rattle.micro_program.proofs.Basics.{there_lun}
 use Rattle.micro_program.proofs.Scenes.{Scene}
 use Rattle.micro_program.proofs.Stepping.{drivers_same}
@@ -44,16 +44,16 @@ record ReadyLeaves (g : Parts) (past : List Item) (i : Item) (l : Lun) : Type 0 
   column : read_column g (i ∷ past) l ≡ read_column g past l
   queue : queue g (i ∷ past) l ≡ queue g past l
 
-leaves_latch : (b : Bool) (e : Effect) (x : Latch) → latch_after e x ≡ x → latch_after (cond b e Unaffected) x ≡ x
-leaves_latch true e x h = h
-leaves_latch false e x h = refl
+leaves_latch : (b : Bool) (e : Effect) (selected works : Bool) (x : Latch) → latch_after e selected works x ≡ x → latch_after (cond b e Unaffected) selected works x ≡ x
+leaves_latch true e selected works x h = h
+leaves_latch false e selected works x h = refl
 
 ready_leaves : (g : Parts) (past : List Item) (i : Item) (l : Lun) → is_cycle i ≡ false → ReadyLeaves g past i l
-unfolding effect_on
+unfolding effect_among
 ready_leaves g past (Cyc c) l h = cc
 ready_leaves g past (Rdy ce lun fail) l h =
     record {
-      latches = λ m. leaves_latch (ce == l.ce && lun == m) (BecameReady fail) _ refl;
+      latches = λ m. leaves_latch (ce == l.ce && lun == m) (BecameReady fail) _ _ _ refl;
       busy = λ e. at_busy (ce == l.ce && lun == l.lun) e;
       closer = at_closer (ce == l.ce && lun == l.lun);
       array_page = at_page (ce == l.ce && lun == l.lun);
@@ -87,7 +87,7 @@ ready_leaves g past (Rdy ce lun fail) l h =
     at_queue false = refl
 ready_leaves g past (Ard ce lun) l h =
     record {
-      latches = λ m. leaves_latch (ce == l.ce && lun == m) ArrayBecameReady _ refl;
+      latches = λ m. leaves_latch (ce == l.ce && lun == m) ArrayBecameReady _ _ _ refl;
       busy = λ e. at_busy (ce == l.ce && lun == l.lun) e;
       closer = at_closer (ce == l.ce && lun == l.lun);
       array_page = at_page (ce == l.ce && lun == l.lun);
@@ -151,6 +151,7 @@ ready_kept s j seat i c h =
         facts = ap facts_of (readies.tails seat.past i l.ce h) ∙ c.is.facts;
         view = refl;
         sole = λ e. ap (λ (ds : List ℕ). is_only ds l.lun) same ∙ c.is.sole e;
+        free = service.readies g seat.past i l.ce h c.is.free;
       };
       fits = record {
         registers = c.fits.registers;
@@ -181,8 +182,8 @@ kept_column (Some k) old new unread (inr lost) f =
     cc
 
 -- a LUN of the same target: there are several
-here_kept : (s : Channel) (j : Job) (k : KnownJob s j) (seat : Seat) (c : Cycle) (kept : KeepsLun s.geometry seat.past (Cyc c) j.lun) → Claims s j seat → seat.holding ≡ false → ltb 1 s.geometry.luns ≡ true → Claims s j (after_item (Cyc c) seat)
-here_kept s j k seat c kept claims free several =
+here_kept : (s : Channel) (j : Job) (k : KnownJob s j) (seat : Seat) (c : Cycle) (kept : KeepsLun s.geometry seat.past (Cyc c) j.lun) → Claims s j seat → seat.holding ≡ false → ltb 1 s.geometry.luns ≡ true → is_serving s.geometry (Cyc c ∷ seat.past) j.lun.ce ≡ false → Claims s j (after_item (Cyc c) seat)
+here_kept s j k seat c kept claims free several rests =
     let g = s.geometry in
     let l = j.lun in
     let was = claims.is.view in
@@ -192,7 +193,7 @@ here_kept s j k seat c kept claims free several =
     record {
       claim = claims.claim;
       scene = now;
-      is = record { facts = refl; view = refl; sole = λ e. cc };
+      is = record { facts = refl; view = refl; sole = λ e. cc; free = rests };
       fits = record {
         registers = claims.fits.registers;
         tail = λ e. let none : knows_tail s (after_item (Cyc c) seat) now ≡ false = rw (free, several) refl in cc;
@@ -211,12 +212,17 @@ here_kept s j k seat c kept claims free several =
     }
 
 -- a LUN of another target
-there_kept : (s : Channel) (j : Job) (seat : Seat) (c : Cycle) → KeepsTarget s.geometry seat.past (Cyc c) j.lun.ce → is_array_busy s.geometry (Cyc c ∷ seat.past) j.lun ≡ is_array_busy s.geometry seat.past j.lun → Claims s j seat → Claims s j (after_item (Cyc c) seat)
-there_kept s j seat c kept array claims =
+-- a cycle of another target leaves all of a LUN
+apart_view : (g : Parts) (past : List Item) (c : Cycle) (l : Lun) → (c.ce == l.ce) ≡ false → lun_view g (Cyc c ∷ past) l ≡ lun_view g past l
+unfolding effect_among
+apart_view g past c l e = rw e refl
+
+there_kept : (s : Channel) (j : Job) (seat : Seat) (c : Cycle) → (c.ce == j.lun.ce) ≡ false → is_serving s.geometry (Cyc c ∷ seat.past) j.lun.ce ≡ false → KeepsTarget s.geometry seat.past (Cyc c) j.lun.ce → is_array_busy s.geometry (Cyc c ∷ seat.past) j.lun ≡ is_array_busy s.geometry seat.past j.lun → Claims s j seat → Claims s j (after_item (Cyc c) seat)
+there_kept s j seat c apart rests kept array claims =
     let g = s.geometry in
     let l = j.lun in
     let k = kept.luns l.lun in
-    let view : lun_view g (Cyc c ∷ seat.past) l ≡ lun_view g seat.past l = λ i. record { latch = kept.latch l.lun i; busy = k.busy i; closer = k.closer i; array_busy = k.array_busy i; array_page = k.array_page i; register = k.register i; column = kept.column l.lun i; queue = k.queue i } in
+    let view : lun_view g (Cyc c ∷ seat.past) l ≡ lun_view g seat.past l = apart_view g seat.past c l apart in
     let same : drivers g (Cyc c ∷ seat.past) l.ce ≡ drivers g seat.past l.ce = drivers_same (λ m. latch g (Cyc c ∷ seat.past) (record { ce = l.ce; lun = m })) (λ m. latch g seat.past (record { ce = l.ce; lun = m })) (λ m. ap is_off (kept.latch m)) g.luns 0 in
     record {
       claim = claims.claim;
@@ -225,6 +231,7 @@ there_kept s j seat c kept array claims =
         facts = ap facts_of kept.tail ∙ claims.is.facts;
         view = view ∙ claims.is.view;
         sole = λ e. ap (λ (ds : List ℕ). is_only ds l.lun) same ∙ claims.is.sole e;
+        free = rests;
       };
       fits = claims.fits;
       accepted = claims.accepted;
@@ -236,11 +243,14 @@ other_kept s j k seat c m legal claims free own there ne = at (m.ce == j.lun.ce)
     kept : KeepsLun s.geometry seat.past (Cyc c) j.lun
     kept = own_cycles.others s seat.past c m j.lun legal own ne there k.there
 
+    rests : is_serving s.geometry (Cyc c ∷ seat.past) j.lun.ce ≡ false
+    rests = service.own s.geometry seat.past (Cyc c) m j.lun.ce own.own claims.is.free
+
     here : c.ce ≡ m.ce
     here = eqb-true c.ce m.ce (and_parts (c.ce == m.ce) _ own.own).0
 
     at : (b : Bool) → (m.ce == j.lun.ce) ≡ b → Claims s j (after_item (Cyc c) seat)
-    at true e = here_kept s j k seat c kept claims free (several (m.lun == j.lun.lun) refl)
+    at true e = here_kept s j k seat c kept claims free (several (m.lun == j.lun.lun) refl) rests
       where
         several : (b : Bool) → (m.lun == j.lun.lun) ≡ b → ltb 1 s.geometry.luns ≡ true
         several true f = let both : same_lun m j.lun ≡ true = and_from (m.ce == j.lun.ce) (m.lun == j.lun.lun) e f in cc
@@ -249,7 +259,11 @@ other_kept s j k seat c m legal claims free own there ne = at (m.ce == j.lun.ce)
             let high = there_lun s j.lun k.there in
             grind (arith, nat_tests, f, low, high)
     at false e =
-        there_kept s j seat c (targets s.geometry seat.past (Cyc c) j.lun.ce (λ h. differs (eq-eqb m.ce j.lun.ce (sym here ∙ h)))) kept.array_busy claims
+        there_kept s j seat c (elsewhere (c.ce == j.lun.ce) refl) rests (targets s.geometry seat.past (Cyc c) j.lun.ce (λ h. differs (eq-eqb m.ce j.lun.ce (sym here ∙ h)))) kept.array_busy claims
       where
         differs : (m.ce == j.lun.ce) ≡ true → ⊥
         differs h = cc
+
+        elsewhere : (b : Bool) → (c.ce == j.lun.ce) ≡ b → (c.ce == j.lun.ce) ≡ false
+        elsewhere true f = absurd (differs (eq-eqb m.ce j.lun.ce (sym here ∙ eqb-true c.ce j.lun.ce f)))
+        elsewhere false f = f

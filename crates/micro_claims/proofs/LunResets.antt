@@ -9,13 +9,13 @@ use Rattle.nand_geometry.specs.Row.{row_of}
 use Rattle.onfi_cycle.specs.declared.command.Command.{Command}
 use Rattle.onfi_cycle.specs.declared.command.Command.TheVariants.{ResetLun}
 use Rattle.onfi_cycle.specs.declared.effect.Effect.{Effect}
-use Rattle.onfi_cycle.specs.declared.effect.Effect.TheVariants.{Unaffected, ResetStarted}
+use Rattle.onfi_cycle.specs.declared.effect.Effect.TheVariants.{Unaffected, ResetStarted, AnotherAddressed}
 use Rattle.onfi_cycle.specs.declared.item.Item.{Item}
 use Rattle.onfi_cycle.specs.declared.item.Kind.TheVariants.{Adr}
 use Rattle.onfi_cycle.specs.declared.tail_facts.TailFacts.{TailFacts}
 use Rattle.onfi_cycle.specs.LunView.{LunView}
 use Rattle.onfi_cycle.specs.Sequence.{is_open}
-use Rattle.onfi_cycle.specs.Effect.{names_lun}
+use Rattle.onfi_cycle.specs.Effect.{names_lun, is_shared}
 use Rattle.onfi_cycle.specs.Lun.{view_after}
 use Rattle.onfi_cycle.specs.Channel.{Channel}
 use Rattle.micro_word.specs.declared.word.Word.TheVariants.{Address as AddressWord}
@@ -50,14 +50,14 @@ names_it : (g : Parts) (j : Job) (a : Address) → RowIs g j a → names_lun g (
 names_it g j a row = eq-eqb _ _ (ap (λ (p : RowParts). p.lun) row.reads)
 
 reset_steps : (g : Parts) (j : Job) (a : Address) (view : LunView) (sole : Bool) (n : ℕ) → n ≤ 2 → (n ≡ 2 → RowIs g j a) → OneStep g j.lun.lun (reset_scene a view sole) (bytes_of ResetLun a) n
-reset_steps g j a view sole zero few row = record { allowed = record { wanted = refl; profile = never (not (is_wide g.optional)); row = λ e. cc; column = λ e. cc; read_column = λ e. cc }; leads = refl }
-reset_steps g j a view sole (suc zero) few row = record { allowed = record { wanted = refl; profile = never (not (is_wide g.optional)); row = λ e. cc; column = λ e. cc; read_column = λ e. cc }; leads = refl }
+reset_steps g j a view sole zero few row = record { allowed = record { wanted = refl; profile = never (not (is_wide g.optional)); alone = λ e. cc; row = λ e. cc; column = λ e. cc; read_column = λ e. cc }; leads = refl }
+reset_steps g j a view sole (suc zero) few row = record { allowed = record { wanted = refl; profile = never (not (is_wide g.optional)); alone = λ e. cc; row = λ e. cc; column = λ e. cc; read_column = λ e. cc }; leads = refl }
 reset_steps g j a view sole (suc (suc zero)) few row =
     let r = row refl in
     let names = names_it g j a r in
     record {
-      allowed = record { wanted = refl; profile = never (not (is_wide g.optional)); row = λ e. record { inside = r.inside; names = names; ready = λ x. cc; goes = refl; no_cache = λ x. cc }; column = λ e. cc; read_column = λ e. cc };
-      leads = ap (λ (b : Bool). record { facts = facts_behind (opener_facts ResetLun) (take 3 (bytes_of ResetLun a)); view = view_after (cond b ResetStarted Unaffected) view; sole = false }) names;
+      allowed = record { wanted = refl; profile = never (not (is_wide g.optional)); alone = λ e. cc; row = λ e. record { inside = r.inside; names = names; ready = λ x. cc; goes = refl; no_cache = λ x. cc }; column = λ e. cc; read_column = λ e. cc };
+      leads = ap (λ (b : Bool). record { facts = facts_behind (opener_facts ResetLun) (take 3 (bytes_of ResetLun a)); view = view_after (cond b ResetStarted (cond (is_shared g) (AnotherAddressed false) Unaffected)) view; sole = false }) names;
     }
 reset_steps g j a view sole (suc (suc (suc n))) few row = absurd (omega (arith, few))
 
@@ -158,6 +158,7 @@ goes_reset s j v c done from count n old a f clear here is now = at (n + count =
                 column = λ x. cc;
                 row = λ x. cc;
                 named = λ x. cc;
+                single = λ x. cc;
               });
           shows = subst (λ (y : State). ShowsFit y.target.shows next) (sym left) (shows_kept v.target.shows c next (λ e. e) refl f.shows);
           lun = subst (λ (y : State). LunFits g j y.lun (index_now j.base done) next.view) (sym left) f.lun;

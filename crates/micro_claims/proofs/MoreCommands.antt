@@ -11,14 +11,14 @@ use Rattle.onfi_cycle.specs.declared.command.Command.{Command}
 use Rattle.onfi_cycle.specs.declared.command.Command.TheVariants.{Read, ChangeReadColumn, BlockErase, ReadConfirm, BlockErasePlane, ProgramPlane, Reset, ReadCacheSequential, ReadCacheEnd, ResetLun, SynchronousReset}
 use Rattle.onfi_cycle.specs.declared.item.Item.{Item}
 use Rattle.onfi_cycle.specs.declared.effect.Effect.{Effect}
-use Rattle.onfi_cycle.specs.declared.effect.Effect.TheVariants.{EraseStarted, ProgramStarted, CacheReadContinued, CacheReadEnded, ResetStarted}
+use Rattle.onfi_cycle.specs.declared.effect.Effect.TheVariants.{EraseStarted, ProgramStarted, CacheReadContinued, CacheReadEnded, ResetStarted, TargetResetStarted}
 use Rattle.onfi_cycle.specs.declared.queued.Queued.{Queued}
 use Rattle.onfi_cycle.specs.declared.queued.Queued.TheVariants.{Erase, Program}
 use Rattle.onfi_cycle.specs.declared.tail_facts.TailFacts.{TailFacts}
 use Rattle.onfi_cycle.specs.declared.target_cycle.TargetCycle.TheVariants.{CommandCycle}
 use Rattle.onfi_cycle.specs.Command.{command, closes, address_cycles, is_opener, wants_one_lun}
 use Rattle.onfi_cycle.specs.Sequence.{facts_after, is_open, wants_command, row, takes_data}
-use Rattle.onfi_cycle.specs.Effect.{page_address, names_lun, cycle_effect}
+use Rattle.onfi_cycle.specs.Effect.{page_address, names_lun, cycle_effect, reset_effect}
 use Rattle.onfi_cycle.specs.Lun.{is_page_read, is_cache_read, view_after}
 use Rattle.onfi_cycle.specs.LunView.{LunView}
 use Rattle.onfi_cycle.specs.Channel.{Channel}
@@ -170,8 +170,18 @@ reset_closed g j v n t f h = at (is_wide g.optional) h
     at true h = none (is_open t)
     at false h = ap (λ (b : Bool). b && true) (closed_tail g j v.target n t f h)
 
+reset_one : (g : Parts) (lun : ℕ) → ltb 1 g.luns ≡ false → ResetStarted ≡ reset_effect g lun
+reset_one g lun one = sym (ap (λ (b : Bool). cond (is_wide g.optional && b) (TargetResetStarted (lun == 0)) ResetStarted) one ∙ ap (λ (b : Bool). cond b (TargetResetStarted (lun == 0)) ResetStarted) (none (is_wide g.optional)))
+  where
+    none : (b : Bool) → (b && false) ≡ false
+    none true = refl
+    none false = refl
+
 pub reset_fits : (g : Parts) (j : Job) (v : State) (i : ℕ) (view : LunView) → LunFits g j (reset_started v).lun i (view_after ResetStarted view)
 reset_fits g j v i view = record { ready = λ e. cc; register = tt; column = tt; queue = refl; last = refl; cached = λ e x. cc }
+
+resets_fit : (g : Parts) (j : Job) (v : State) (i lun : ℕ) (view : LunView) → ltb 1 g.luns ≡ false → LunFits g j (reset_started v).lun i (view_after (reset_effect g lun) view)
+resets_fit g j v i lun view one = subst (λ (e : Effect). LunFits g j (reset_started v).lun i (view_after e view)) (reset_one g lun one) (reset_fits g j v i view)
 
 -- FFh
 pub sound_ff : (s : Channel) (j : Job) (k : KnownJob s j) (v : State) (past : List Item) (c : Scene) (done : List Done) (rest : List Line) (at byte : ℕ) → command byte ≡ Reset → IsScene s j.lun past c → Fits s.geometry j v done c true → NoReasons s.geometry j.text v (CommandWord byte) → accepts s.geometry (bounds_of j.text) None (state_after s.geometry v (CommandWord byte)) rest ≡ true → SoundWord s j past done rest at (CommandWord byte)
@@ -182,7 +192,7 @@ sound_ff s j k v past c done rest at byte is scene f clear acc =
     command_sound s j k v past c done rest at byte Reset is scene f clear (record { closed = reset_closed g j v (now_of j done) c.facts (f.tail refl) free.0; one = dec.one }) refl
     (closed_fits g j None None None (now_of j done) _ refl)
     tt
-    (reset_fits g j v (index_now j.base done) c.view)
+    (resets_fit g j v (index_now j.base done) j.lun.lun c.view dec.one)
     acc
 
 -- FCh
@@ -195,7 +205,7 @@ sound_fc s j k v past c done rest at byte is scene f clear acc =
     command_sound s j k v past c done rest at byte SynchronousReset is scene f clear (record { closed = reset_closed g j v (now_of j done) c.facts (f.tail refl) free.0; one = dec.one }, not-false (has_synchronous_reset g.optional) fit.1) refl
     (closed_fits g j None None None (now_of j done) _ refl)
     tt
-    (reset_fits g j v (index_now j.base done) c.view)
+    (resets_fit g j v (index_now j.base done) j.lun.lun c.view dec.one)
     acc
 
 -- FAh

@@ -69,6 +69,7 @@ outside g j v n m t same none f =
       column = f.column;
       row = f.row;
       named = λ e. subst (λ (i : ℕ). NameFits g j f.address i v.named) same (f.named e);
+      single = f.single;
     }
 
 pub sound_column : (s : Channel) (j : Job) (k : KnownJob s j) (v : State) (past : List Item) (c : Scene) (done : List Done) (rest : List Line) (at column : ℕ) → IsScene s j.lun past c → Fits s.geometry j v done c true → NoReasons s.geometry j.text v (Column column) → accepts s.geometry (bounds_of j.text) None (state_after s.geometry v (Column column)) rest ≡ true → SoundWord s j past done rest at (Column column)

@@ -22,7 +22,7 @@ use Rattle.onfi_cycle.specs.declared.item.Kind.TheVariants.{Adr}
 use Rattle.onfi_cycle.specs.declared.tail_facts.TailFacts.{TailFacts}
 use Rattle.onfi_cycle.specs.declared.target_cycle.TargetCycle.TheVariants.{AddressCycle}
 use Rattle.onfi_cycle.specs.LunView.{LunView}
-use Rattle.onfi_cycle.specs.Command.{at_last_row, addresses_the_array, is_change_read_column}
+use Rattle.onfi_cycle.specs.Command.{at_last_row, addresses_the_array, is_change_read_column, reads_identity}
 use Rattle.onfi_cycle.specs.Sequence.{opened, facts_after, column_with, input_column}
 use Rattle.onfi_cycle.specs.Effect.{page_address}
 use Rattle.onfi_cycle.specs.Lun.{is_cache_read}
@@ -239,6 +239,7 @@ goes_read s j v c done from count n old w clear here is now column =
             (λ x. subst (λ (m : ℕ). ColumnFits m v.target.column) (ap input_column facts_are ∙ read_column a n x (omega (arith, few))) (column (let y : nat_le 2 n ≡ true = grind (arith, nat_tests, x) in y))));
         row = λ e. w.address.row (let y : ltb 2 (from + count) ≡ true = grind (arith, nat_tests, begins, e) in y);
         named = λ e. name_led g j v done from count w.address pages w.registers (let y : nat_le 5 (from + count) ≡ true = grind (arith, nat_tests, begins, e) in y);
+        single = λ e. cc;
       };
     }
   where
@@ -333,6 +334,7 @@ goes_program s j v c done from count n old w clear here is now column =
           column = λ x. column_fits (omega (arith, five));
           row = λ x. w.address.row row;
           named = λ x. name_led g j v done from count w.address pages w.registers (let y : nat_le 5 (from + count) ≡ true = grind (arith, nat_tests, begins, five) in y);
+          single = λ x. cc;
         }
     at false e =
         let four : n + count ≤ 4 = let f = few in grind (arith, nat_tests, e, f) in
@@ -345,6 +347,7 @@ goes_program s j v c done from count n old w clear here is now column =
           column = λ x. column_fits (grind (arith, nat_tests, x));
           row = λ x. absurd (too_few x four);
           named = λ x. absurd (too_few x four);
+          single = λ x. cc;
         }
       where
         too_few : nat_le 5 (0 + (n + count)) ≡ true → n + count ≤ 4 → ⊥
@@ -376,6 +379,7 @@ goes_erase s j v c done from count n old w clear here is now =
         column = λ e. cc;
         row = λ e. w.address.row (let y : ltb 2 (from + count) ≡ true = grind (arith, nat_tests, begins, e) in y);
         named = λ e. name_led g j v done from count w.address pages w.registers (let y : nat_le 5 (from + count) ≡ true = grind (arith, nat_tests, begins, e) in y);
+        single = λ e. cc;
       };
     }
   where
@@ -474,6 +478,7 @@ goes_column s j v c done from count n old w clear here is now =
             (λ x. absurd (let y : (2 - n == 0) ≡ false = clear.left in let z : n < 2 = grind (arith, nat_tests, y) in omega (arith, x, z))));
         row = λ e. cc;
         named = λ e. cc;
+        single = λ e. cc;
       };
     }
   where
@@ -506,8 +511,11 @@ goes_column s j v c done from count n old w clear here is now =
 -- one address behind 85h, and the second
 begun_column : (g : Parts) (lun : ℕ) (a : Address) (t : TailFacts) (view : LunView) (sole : Bool) (byte : ℕ) → ColumnBegun 0 a t → AddressAllowed g lun (record { facts = t; view = view; sole = sole }) byte × (scene_behind g lun (AddressCycle byte) (record { facts = t; view = view; sole = sole }) ≡ record { facts = facts_after (AddressCycle byte) t; view = view; sole = sole })
 begun_column g lun a t view sole byte b =
-    (record { wanted = rw (b.alone, b.program.phase) refl; profile = rw b.alone (never (not (is_wide g.optional))); row = λ e. rw_none b.alone e; column = λ e. no_second b.alone b.program.phase e; read_column = λ e. no_read b.alone e }, rw b.alone refl)
+    (record { wanted = rw (b.alone, b.program.phase) refl; profile = rw b.alone (never (not (is_wide g.optional))); alone = λ e. no_target b.alone e; row = λ e. rw_none b.alone e; column = λ e. no_second b.alone b.program.phase e; read_column = λ e. no_read b.alone e }, rw b.alone refl)
   where
+    no_target : {X : Type 0} → t.opening ≡ None → opened (λ d n. reads_identity d) t.opening ≡ true → X
+    no_target e h = let none : opened (λ d n. reads_identity d) t.opening ≡ false = ap (opened (λ d n. reads_identity d)) e in cc
+
     rw_none : {X : Type 0} → t.opening ≡ None → ends_row (λ d. true) t ≡ true → X
     rw_none e h = let none : ends_row (λ d. true) t ≡ false = ap (opened (λ c n. true && at_last_row c n)) e in cc
 
@@ -519,8 +527,11 @@ begun_column g lun a t view sole byte b =
 
 second_column_byte : (g : Parts) (lun : ℕ) (a : Address) (t : TailFacts) (view : LunView) (sole : Bool) (byte : ℕ) → ColumnBegun 1 a t → nat_le (page_len g) (column_with t byte) ≡ false → AddressAllowed g lun (record { facts = t; view = view; sole = sole }) byte × (scene_behind g lun (AddressCycle byte) (record { facts = t; view = view; sole = sole }) ≡ record { facts = facts_after (AddressCycle byte) t; view = view; sole = sole })
 second_column_byte g lun a t view sole byte b inside =
-    (record { wanted = rw (b.alone, b.program.phase) refl; profile = rw b.alone (never (not (is_wide g.optional))); row = λ e. rw_none b.alone e; column = λ e. inside; read_column = λ e. no_read b.alone e }, rw b.alone refl)
+    (record { wanted = rw (b.alone, b.program.phase) refl; profile = rw b.alone (never (not (is_wide g.optional))); alone = λ e. no_target b.alone e; row = λ e. rw_none b.alone e; column = λ e. inside; read_column = λ e. no_read b.alone e }, rw b.alone refl)
   where
+    no_target : {X : Type 0} → t.opening ≡ None → opened (λ d n. reads_identity d) t.opening ≡ true → X
+    no_target e h = let none : opened (λ d n. reads_identity d) t.opening ≡ false = ap (opened (λ d n. reads_identity d)) e in cc
+
     rw_none : {X : Type 0} → t.opening ≡ None → ends_row (λ d. true) t ≡ true → X
     rw_none e h = let none : ends_row (λ d. true) t ≡ false = ap (opened (λ c n. true && at_last_row c n)) e in cc
 
@@ -576,6 +587,7 @@ column_tail s j v c done from count n old t one k b =
       column = λ e. cc;
       row = λ e. row_with_column s.geometry j old (column_now done) k.row;
       named = λ e. same_named s j v c done from count n old (omega (arith, one)) k;
+      single = λ e. cc;
     }
 
 -- back in the data
@@ -594,6 +606,7 @@ data_tail s j v c done from count n old t two low k p column =
           (λ x. absurd (omega (arith, x, low))));
       row = λ e. row_with_column s.geometry j old (column_now done) k.row;
       named = λ e. same_named s j v c done from count n old (omega (arith, two)) k;
+      single = λ e. cc;
     }
 
 column_inside : (s : Channel) (j : Job) (v : State) (c : Scene) (done : List Done) (from count n : ℕ) (old : Address) → n ≤ 1 → n + count ≡ 2 → AtColumn s j v c done from count n old → nat_le (page_len s.geometry) (column_now done % 256 % 256 + 256 * (column_now done / 256 % 256)) ≡ false
@@ -627,6 +640,7 @@ goes_in_column s j v c done from count n old k b now rest =
             column = λ e. cc;
             row = λ e. row_with_column s.geometry j old (column_now done) k.row;
             named = λ e. same_named s j v c done from 0 0 old (omega arith) k;
+            single = λ e. cc;
           };
         }
     by zero (suc zero) k b now few =

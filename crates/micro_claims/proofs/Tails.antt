@@ -107,19 +107,19 @@ no_address = record { column = 0; index = 0; plane = 0; r1 = 0; r2 = 0; r3 = 0 }
 
 pub closed_fits : (g : Parts) (j : Job) (column : Option Span) (named : Option NamedRow) (shows : Option Shown) (n : Now) (t : TailFacts) → is_open t ≡ false → TailFits g j (record { tail = Closed; column = column; named = named; shows = shows }) n t
 closed_fits g j column named shows n t h =
-    record { place = Closed; here = refl; address = no_address; is = h; now = λ e. cc; column = λ e. cc; row = λ e. cc; named = λ e. cc }
+    record { place = Closed; here = refl; address = no_address; is = h; now = λ e. cc; column = λ e. cc; row = λ e. cc; named = λ e. cc; single = λ e. cc }
 
 pub opener_fits : (g : Parts) (j : Job) (shows : Option Shown) (n : Now) (t : TailFacts) (o : Command) → is_place o 0 ≡ true → TailFits g j (record { tail = After o 0; column = None; named = None; shows = shows }) n (facts_after (CommandCycle o) t)
-opener_fits g j shows n t Read h = record { place = After Read 0; here = refl; address = no_address; is = record { place = refl; facts = refl }; now = λ e. cc; column = λ e. cc; row = λ e. cc; named = λ e. cc }
-opener_fits g j shows n t ChangeReadColumn h = record { place = After ChangeReadColumn 0; here = refl; address = no_address; is = record { place = refl; facts = refl }; now = λ e. cc; column = λ e. cc; row = λ e. cc; named = λ e. cc }
-opener_fits g j shows n t BlockErase h = record { place = After BlockErase 0; here = refl; address = no_address; is = record { place = refl; facts = refl }; now = λ e. cc; column = λ e. cc; row = λ e. cc; named = λ e. cc }
-opener_fits g j shows n t PageProgram h = record { place = After PageProgram 0; here = refl; address = no_address; is = record { place = refl; facts = refl }; now = λ e. cc; column = λ e. cc; row = λ e. cc; named = λ e. cc }
-opener_fits g j shows n t ReadId h = record { place = After ReadId 0; here = refl; address = no_address; is = record { place = refl; facts = refl }; now = λ e. cc; column = λ e. cc; row = λ e. cc; named = λ e. cc }
-opener_fits g j shows n t ReadParameterPage h = record { place = After ReadParameterPage 0; here = refl; address = no_address; is = record { place = refl; facts = refl }; now = λ e. cc; column = λ e. cc; row = λ e. cc; named = λ e. cc }
-opener_fits g j shows n t ReadUniqueId h = record { place = After ReadUniqueId 0; here = refl; address = no_address; is = record { place = refl; facts = refl }; now = λ e. cc; column = λ e. cc; row = λ e. cc; named = λ e. cc }
-opener_fits g j shows n t GetFeatures h = record { place = After GetFeatures 0; here = refl; address = no_address; is = record { place = refl; facts = refl }; now = λ e. cc; column = λ e. cc; row = λ e. cc; named = λ e. cc }
-opener_fits g j shows n t SetFeatures h = record { place = After SetFeatures 0; here = refl; address = no_address; is = record { place = refl; facts = refl }; now = λ e. cc; column = λ e. cc; row = λ e. cc; named = λ e. cc }
-opener_fits g j shows n t ResetLun h = record { place = After ResetLun 0; here = refl; address = no_address; is = record { place = refl; facts = refl }; now = λ e. cc; column = λ e. cc; row = λ e. cc; named = λ e. cc }
+opener_fits g j shows n t Read h = record { place = After Read 0; here = refl; address = no_address; is = record { place = refl; facts = refl }; now = λ e. cc; column = λ e. cc; row = λ e. cc; named = λ e. cc; single = λ e. cc }
+opener_fits g j shows n t ChangeReadColumn h = record { place = After ChangeReadColumn 0; here = refl; address = no_address; is = record { place = refl; facts = refl }; now = λ e. cc; column = λ e. cc; row = λ e. cc; named = λ e. cc; single = λ e. cc }
+opener_fits g j shows n t BlockErase h = record { place = After BlockErase 0; here = refl; address = no_address; is = record { place = refl; facts = refl }; now = λ e. cc; column = λ e. cc; row = λ e. cc; named = λ e. cc; single = λ e. cc }
+opener_fits g j shows n t PageProgram h = record { place = After PageProgram 0; here = refl; address = no_address; is = record { place = refl; facts = refl }; now = λ e. cc; column = λ e. cc; row = λ e. cc; named = λ e. cc; single = λ e. cc }
+opener_fits g j shows n t ReadId h = record { place = After ReadId 0; here = refl; address = no_address; is = record { place = refl; facts = refl }; now = λ e. cc; column = λ e. cc; row = λ e. cc; named = λ e. cc; single = λ e. cc }
+opener_fits g j shows n t ReadParameterPage h = record { place = After ReadParameterPage 0; here = refl; address = no_address; is = record { place = refl; facts = refl }; now = λ e. cc; column = λ e. cc; row = λ e. cc; named = λ e. cc; single = λ e. cc }
+opener_fits g j shows n t ReadUniqueId h = record { place = After ReadUniqueId 0; here = refl; address = no_address; is = record { place = refl; facts = refl }; now = λ e. cc; column = λ e. cc; row = λ e. cc; named = λ e. cc; single = λ e. cc }
+opener_fits g j shows n t GetFeatures h = record { place = After GetFeatures 0; here = refl; address = no_address; is = record { place = refl; facts = refl }; now = λ e. cc; column = λ e. cc; row = λ e. cc; named = λ e. cc; single = λ e. cc }
+opener_fits g j shows n t SetFeatures h = record { place = After SetFeatures 0; here = refl; address = no_address; is = record { place = refl; facts = refl }; now = λ e. cc; column = λ e. cc; row = λ e. cc; named = λ e. cc; single = λ e. cc }
+opener_fits g j shows n t ResetLun h = record { place = After ResetLun 0; here = refl; address = no_address; is = record { place = refl; facts = refl }; now = λ e. cc; column = λ e. cc; row = λ e. cc; named = λ e. cc; single = λ e. cc }
 opener_fits g j shows n t _ h = cc
 
 -- 4. where a closer is wanted

@@ -13,10 +13,11 @@ use Rattle.onfi_cycle.specs.declared.tail_facts.TailFacts.{TailFacts}
 use Rattle.onfi_cycle.specs.declared.target_cycle.TargetCycle.TheVariants.{InputCycle, OutputCycle}
 use Rattle.onfi_cycle.specs.LunView.{LunView}
 use Rattle.onfi_cycle.specs.Sequence.{facts_after, extended_facts, phase_after_input, is_open, input_column, takes_features, takes_inputs}
-use Rattle.onfi_cycle.specs.Effect.{input_effect}
+use Rattle.onfi_cycle.specs.Effect.{input_effect, of_target}
 use Rattle.onfi_cycle.specs.Lun.{output_column, option_plus, view_after}
 use Rattle.onfi_cycle.specs.Rules.{register_len, is_empty}
 use Rattle.micro_program.specs.Moves.{Take, gives}
+use Rattle.micro_program.proofs.Stepping.{of_one}
 use Rattle.micro_program.proofs.Scenes.{Scene, InputAllowed, scene_behind}
 use Rattle.micro_program.proofs.SceneMoves.{MovesAllowed, scene_after}
 use Rattle.micro_claims.proofs.Fits.{Address, InProgram, FeaturesBegun}
@@ -119,8 +120,12 @@ input_more : (t : TailFacts) (b : ℕ) → t.is_empty ≡ false → input_column
 input_more t b e = rw e (omega arith)
 
 -- an input of a program does nothing to what the rules see of the LUN
-pub calm_view : (t : TailFacts) (v : LunView) → t.phase ≡ Inputs → view_after (input_effect t) v ≡ v
-calm_view t v phase = rw phase refl
+pub calm_view : (g : Parts) (lun : ℕ) (t : TailFacts) (v : LunView) → t.phase ≡ Inputs → view_after (input_effect g t lun) v ≡ v
+calm_view g lun t v phase = rw phase refl
+
+-- no feature is set in the data of a program
+no_features : {X : Type 0} (p : DataPhase) → p ≡ Inputs → takes_features p ≡ true → X
+no_features p e h = let none : takes_features p ≡ false = ap takes_features e in cc
 
 program_inside : (g : Parts) (t : TailFacts) → t.phase ≡ Inputs → nat_le (page_len g) (input_column t) ≡ false → (not (takes_features t.phase) && nat_le (page_len g) (input_column t)) ≡ false
 program_inside g t phase below = ap (λ (d : DataPhase). not (takes_features d) && nat_le (page_len g) (input_column t)) phase ∙ below
@@ -135,8 +140,8 @@ inputs_go g lun a (b ∷ bytes) c p inside =
     let column = rest.put.column in
     record {
       facts = rest.facts;
-      allowed = (record { wanted = ap takes_inputs p.phase; inside = program_inside g c.facts p.phase below }, rest.allowed);
-      leads = rest.leads ∙ ap (λ (v : LunView). record { facts = rest.facts; view = v; sole = c.sole }) (calm_view c.facts c.view p.phase);
+      allowed = (record { wanted = ap takes_inputs p.phase; alone = λ e. no_features c.facts.phase p.phase e; inside = program_inside g c.facts p.phase below }, rest.allowed);
+      leads = rest.leads ∙ ap (λ (v : LunView). record { facts = rest.facts; view = v; sole = c.sole }) (calm_view g lun c.facts c.view p.phase);
       put = record { program = rest.put.program; column = omega (arith, column, more) };
     }
 
@@ -154,49 +159,49 @@ pub record FeaturesGo (g : Parts) (lun : ℕ) (bytes : List ℕ) (c : Scene) (n 
   pub led : FeaturesLed n c scene
 
 -- each of them is allowed
-feature_allowed : (g : Parts) (c : Scene) → c.facts.phase ≡ FeatureInputs → InputAllowed g c
-feature_allowed g c phase = record { wanted = ap takes_inputs phase; inside = ap (λ (d : DataPhase). not (takes_features d) && nat_le (page_len g) (input_column c.facts)) phase }
+feature_allowed : (g : Parts) (c : Scene) → ltb 1 g.luns ≡ false → c.facts.phase ≡ FeatureInputs → InputAllowed g c
+feature_allowed g c single phase = record { wanted = ap takes_inputs phase; alone = λ e. single; inside = ap (λ (d : DataPhase). not (takes_features d) && nat_le (page_len g) (input_column c.facts)) phase }
 
 -- the facts behind one
 feature_behind : (t : TailFacts) (b n : ℕ) → FeaturesBegun n t → facts_after (InputCycle b) t ≡ record { opening = None; phase = cond (ltb n 3) FeatureInputs Outside; row = t.row; column = t.column; inputs = n + 1; is_empty = false }
 feature_behind t b n f = rw f.begun (λ i. record { opening = None; phase = phase_after_input (f.inputs i) (f.phase i); row = t.row; column = t.column; inputs = f.inputs i + 1; is_empty = false })
 
 -- what one does to the LUN
-feature_effect : (t : TailFacts) (n : ℕ) → FeaturesBegun n t → input_effect t ≡ cond (n == 3) (FeaturesSet (t.column % 256)) Unaffected
-feature_effect t n f = λ i. cond (takes_features (f.phase i) && f.inputs i == 3) (FeaturesSet (t.column % 256)) Unaffected
+feature_effect : (g : Parts) (lun : ℕ) (t : TailFacts) (n : ℕ) → ltb 1 g.luns ≡ false → FeaturesBegun n t → input_effect g t lun ≡ cond (n == 3) (FeaturesSet (t.column % 256)) Unaffected
+feature_effect g lun t n single f = λ i. cond (takes_features (f.phase i) && f.inputs i == 3) (of_one g lun (FeaturesSet (t.column % 256)) single i) Unaffected
 
 -- the scene behind one
-feature_scene : (g : Parts) (lun b n : ℕ) (c : Scene) → FeaturesBegun n c.facts → scene_behind g lun (InputCycle b) c ≡ record {
+feature_scene : (g : Parts) (lun b n : ℕ) (c : Scene) → ltb 1 g.luns ≡ false → FeaturesBegun n c.facts → scene_behind g lun (InputCycle b) c ≡ record {
   facts = record { opening = None; phase = cond (ltb n 3) FeatureInputs Outside; row = c.facts.row; column = c.facts.column; inputs = n + 1; is_empty = false };
   view = view_after (cond (n == 3) (FeaturesSet (c.facts.column % 256)) Unaffected) c.view;
   sole = c.sole;
 }
-feature_scene g lun b n c f = λ i. record { facts = feature_behind c.facts b n f i; view = view_after (feature_effect c.facts n f i) c.view; sole = c.sole }
+feature_scene g lun b n c single f = λ i. record { facts = feature_behind c.facts b n f i; view = view_after (feature_effect g lun c.facts n single f i) c.view; sole = c.sole }
 
 -- one that isn't the fourth
-amid_scene : (g : Parts) (lun b n : ℕ) (c : Scene) → FeaturesBegun n c.facts → ltb n 3 ≡ true → scene_behind g lun (InputCycle b) c ≡ record {
+amid_scene : (g : Parts) (lun b n : ℕ) (c : Scene) → ltb 1 g.luns ≡ false → FeaturesBegun n c.facts → ltb n 3 ≡ true → scene_behind g lun (InputCycle b) c ≡ record {
   facts = record { opening = None; phase = FeatureInputs; row = c.facts.row; column = c.facts.column; inputs = n + 1; is_empty = false };
   view = c.view;
   sole = c.sole;
 }
-amid_scene g lun b n c f few =
+amid_scene g lun b n c single f few =
     let other : (n == 3) ≡ false = grind (arith, nat_tests, few) in
-    feature_scene g lun b n c f ∙ (λ i. record {
+    feature_scene g lun b n c single f ∙ (λ i. record {
       facts = record { opening = None; phase = cond (few i) FeatureInputs Outside; row = c.facts.row; column = c.facts.column; inputs = n + 1; is_empty = false };
       view = view_after (cond (other i) (FeaturesSet (c.facts.column % 256)) Unaffected) c.view;
       sole = c.sole;
     })
 
 -- the fourth
-whole_scene : (g : Parts) (lun b n : ℕ) (c : Scene) → FeaturesBegun n c.facts → ltb n 3 ≡ false → scene_behind g lun (InputCycle b) c ≡ record {
+whole_scene : (g : Parts) (lun b n : ℕ) (c : Scene) → ltb 1 g.luns ≡ false → FeaturesBegun n c.facts → ltb n 3 ≡ false → scene_behind g lun (InputCycle b) c ≡ record {
   facts = record { opening = None; phase = Outside; row = c.facts.row; column = c.facts.column; inputs = n + 1; is_empty = false };
   view = view_after (FeaturesSet (c.facts.column % 256)) c.view;
   sole = c.sole;
 }
-whole_scene g lun b n c f all =
+whole_scene g lun b n c single f all =
     let low = f.few in
     let third : (n == 3) ≡ true = grind (arith, nat_tests, all, low) in
-    feature_scene g lun b n c f ∙ (λ i. record {
+    feature_scene g lun b n c single f ∙ (λ i. record {
       facts = record { opening = None; phase = cond (all i) FeatureInputs Outside; row = c.facts.row; column = c.facts.column; inputs = n + 1; is_empty = false };
       view = view_after (cond (third i) (FeaturesSet (c.facts.column % 256)) Unaffected) c.view;
       sole = c.sole;
@@ -207,9 +212,9 @@ led_from : (n : ℕ) (c d e : Scene) → d.view ≡ c.view → d.sole ≡ c.sole
 led_from n c d e view sole (Amid b v s) = Amid b (v ∙ view) (s ∙ sole)
 led_from n c d e view sole (Whole all shut address v s) = Whole all shut address (v ∙ ap (view_after (FeaturesSet address)) view) (s ∙ sole)
 
-pub features_go : (g : Parts) (lun : ℕ) (bytes : List ℕ) (n : ℕ) (c : Scene) → FeaturesBegun n c.facts → n + length bytes ≤ 4 → FeaturesGo g lun bytes c (n + length bytes)
-features_go g lun [] n c f few = record { scene = c; allowed = tt; leads = refl; led = Amid (subst (λ (m : ℕ). FeaturesBegun m c.facts) (let e : n ≡ n + 0 = omega arith in e) f) refl refl }
-features_go g lun (b ∷ []) n c f few = at (ltb n 3) refl
+pub features_go : (g : Parts) (lun : ℕ) (bytes : List ℕ) (n : ℕ) (c : Scene) → ltb 1 g.luns ≡ false → FeaturesBegun n c.facts → n + length bytes ≤ 4 → FeaturesGo g lun bytes c (n + length bytes)
+features_go g lun [] n c single f few = record { scene = c; allowed = tt; leads = refl; led = Amid (subst (λ (m : ℕ). FeaturesBegun m c.facts) (let e : n ≡ n + 0 = omega arith in e) f) refl refl }
+features_go g lun (b ∷ []) n c single f few = at (ltb n 3) refl
   where
     next : Scene
     next = scene_behind g lun (InputCycle b) c
@@ -219,33 +224,33 @@ features_go g lun (b ∷ []) n c f few = at (ltb n 3) refl
 
     at : (x : Bool) → ltb n 3 ≡ x → FeaturesGo g lun (b ∷ []) c (n + length (b ∷ []))
     at true e =
-        let is = amid_scene g lun b n c f e in
+        let is = amid_scene g lun b n c single f e in
         record {
           scene = next;
-          allowed = (feature_allowed g c f.phase, tt);
+          allowed = (feature_allowed g c single f.phase, tt);
           leads = refl;
           led = subst (λ (d : Scene). FeaturesLed (n + length (b ∷ [])) c d) (sym is) (Amid (record { few = grind (arith, nat_tests, e); phase = refl; inputs = refl; begun = refl }) refl refl);
         }
     at false e =
-        let is = whole_scene g lun b n c f e in
+        let is = whole_scene g lun b n c single f e in
         let low = f.few in
         let last : n + length (b ∷ []) ≡ 4 = grind (arith, nat_tests, e, low) in
         record {
           scene = next;
-          allowed = (feature_allowed g c f.phase, tt);
+          allowed = (feature_allowed g c single f.phase, tt);
           leads = refl;
           led = subst (λ (d : Scene). FeaturesLed (n + length (b ∷ [])) c d) (sym is) (Whole last refl (c.facts.column % 256) refl refl);
         }
-features_go g lun (b ∷ (d ∷ bytes)) n c f few =
+features_go g lun (b ∷ (d ∷ bytes)) n c single f few =
     let early : ltb n 3 ≡ true = grind (arith, nat_tests, few) in
-    let is = amid_scene g lun b n c f early in
+    let is = amid_scene g lun b n c single f early in
     let next : Scene = record { facts = record { opening = None; phase = FeatureInputs; row = c.facts.row; column = c.facts.column; inputs = n + 1; is_empty = false }; view = c.view; sole = c.sole } in
     let begun : FeaturesBegun (n + 1) next.facts = record { few = grind (arith, nat_tests, early); phase = refl; inputs = refl; begun = refl } in
-    let rest = features_go g lun (d ∷ bytes) (n + 1) next begun (omega (arith, few)) in
+    let rest = features_go g lun (d ∷ bytes) (n + 1) next single begun (omega (arith, few)) in
     let number : n + 1 + length (d ∷ bytes) ≡ n + length (b ∷ (d ∷ bytes)) = omega arith in
     record {
       scene = rest.scene;
-      allowed = (feature_allowed g c f.phase, subst (λ (x : Scene). MovesAllowed g lun (gives Din (d ∷ bytes)) x) (sym is) rest.allowed);
+      allowed = (feature_allowed g c single f.phase, subst (λ (x : Scene). MovesAllowed g lun (gives Din (d ∷ bytes)) x) (sym is) rest.allowed);
       leads = ap (scene_after g lun (gives Din (d ∷ bytes))) is ∙ rest.leads;
       led = subst (λ (m : ℕ). FeaturesLed m c rest.scene) number (led_from (n + 1 + length (d ∷ bytes)) c next rest.scene refl refl rest.led);
     }

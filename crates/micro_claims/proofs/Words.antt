@@ -337,6 +337,7 @@ data_goes s j v c done n bytes f here inside count =
             column = λ x. subst (λ (m : ℕ). ColumnFits m (span_more n v.target.column)) (sym go.put.column ∙ refl) (subst (λ (m : ℕ). ColumnFits (input_column c.facts + m) (span_more n v.target.column)) (sym count) on.1);
             row = λ x. p.row;
             named = λ x. p.named;
+            single = λ x. cc;
           });
       shows = subst (λ (x : State). ShowsFit x.target.shows behind) (sym left) (shows_kept v.target.shows c behind (λ e. e) refl f.shows);
       lun = subst (λ (x : State). LunFits g j x.lun (index_now j.base done) c.view) (sym left) f.lun;
@@ -352,8 +353,8 @@ amid_leaves v inputs n e few = features_leaves v inputs n e ∙ ap (λ (b : Bool
 whole_leaves : (v : State) (inputs n : ℕ) → v.target.tail ≡ InFeatures inputs → ltb (inputs + n) 4 ≡ false → put_leaves v n ≡ place_moved n (work_started v.lun.queue v)
 whole_leaves v inputs n e all = features_leaves v inputs n e ∙ ap (λ (b : Bool). place_moved n (cond b (with_target v (record v.target { tail = InFeatures (inputs + n) })) (work_started v.lun.queue v))) all
 
-features_goes : (s : Channel) (j : Job) (v : State) (c : Scene) (done : List Done) (inputs n : ℕ) (bytes : List ℕ) → Fits s.geometry j v done c true → v.target.tail ≡ InFeatures inputs → FeaturesBegun inputs c.facts → inputs + n ≤ 4 → length bytes ≡ n → PutGoes s j v c done n bytes
-features_goes s j v c done inputs n bytes f here begun few count = by go.led
+features_goes : (s : Channel) (j : Job) (v : State) (c : Scene) (done : List Done) (inputs n : ℕ) (bytes : List ℕ) → ltb 1 s.geometry.luns ≡ false → Fits s.geometry j v done c true → v.target.tail ≡ InFeatures inputs → FeaturesBegun inputs c.facts → inputs + n ≤ 4 → length bytes ≡ n → PutGoes s j v c done n bytes
+features_goes s j v c done inputs n bytes one f here begun few count = by go.led
   where
     g : Parts
     g = s.geometry
@@ -362,7 +363,7 @@ features_goes s j v c done inputs n bytes f here begun few count = by go.led
     total = ap (λ (m : ℕ). inputs + m) count
 
     go : FeaturesGo s.geometry j.lun.lun bytes c (inputs + length bytes)
-    go = features_go s.geometry j.lun.lun bytes inputs c begun (omega (arith, few, count))
+    go = features_go s.geometry j.lun.lun bytes inputs c one begun (omega (arith, few, count))
 
     by : FeaturesLed (inputs + length bytes) c go.scene → PutGoes s j v c done n bytes
     by (Amid b view sole) =
@@ -374,7 +375,7 @@ features_goes s j v c done inputs n bytes f here begun few count = by go.led
           leads = go.leads;
           registers = ap (λ (x : State). x.registers) left;
           tail = subst (λ (x : State). TailFits g j x.target (now_of j done) go.scene.facts) (sym left)
-              (record { place = InFeatures (inputs + n); here = refl; address = no_address; is = subst (λ (m : ℕ). FeaturesBegun m go.scene.facts) total b; now = λ x. cc; column = λ x. cc; row = λ x. cc; named = λ x. cc });
+              (record { place = InFeatures (inputs + n); here = refl; address = no_address; is = subst (λ (m : ℕ). FeaturesBegun m go.scene.facts) total b; now = λ x. cc; column = λ x. cc; row = λ x. cc; named = λ x. cc; single = λ x. one });
           shows = subst (λ (x : State). ShowsFit x.target.shows go.scene) (sym left) (shows_kept v.target.shows c go.scene (λ e. sole ∙ e) (ap (λ (w : LunView). w.latch) view) f.shows);
           lun = subst (λ (x : State). LunFits g j x.lun (index_now j.base done) go.scene.view) (sym left) (subst (λ (w : LunView). LunFits g j v.lun (index_now j.base done) w) (sym view) f.lun);
         }
@@ -398,6 +399,9 @@ put_goes s j v c done n bytes f free count = by v.target.tail refl
     at : (t : TailFits s.geometry j v.target (now_of j done) c.facts) (inputs : ℕ) → v.target.tail ≡ InFeatures inputs → FeaturesBegun inputs c.facts
     at t inputs e = subst (λ (p : Place). PlaceIs p t.address c.facts) (sym t.here ∙ e) t.is
 
+    single : (t : TailFits s.geometry j v.target (now_of j done) c.facts) (inputs : ℕ) → v.target.tail ≡ InFeatures inputs → ltb 1 s.geometry.luns ≡ false
+    single t inputs e = t.single (ap is_in_features (sym t.here ∙ e))
+
     none : (p : Place) → v.target.tail ≡ p → takes_inputs_at n p ≡ false → PutGoes s j v c done n bytes
     none p e h = let takes : takes_inputs_at n p ≡ true = ap (takes_inputs_at n) (sym e) ∙ free.takes in let clash : true ≡ false = sym takes ∙ h in cc
 
@@ -405,7 +409,7 @@ put_goes s j v c done n bytes f free count = by v.target.tail refl
     by InData e = data_goes s j v c done n bytes f e (free.inside (ap is_in_features e)) count
     by (InFeatures inputs) e =
         let takes : nat_le (inputs + n) 4 ≡ true = ap (takes_inputs_at n) (sym e) ∙ free.takes in
-        features_goes s j v c done inputs n bytes f e (at (f.tail refl) inputs e) (let x : inputs + n ≤ 4 = grind (arith, nat_tests, takes) in x) count
+        features_goes s j v c done inputs n bytes (single (f.tail refl) inputs e) f e (at (f.tail refl) inputs e) (let x : inputs + n ≤ 4 = grind (arith, nat_tests, takes) in x) count
     by Closed e = none Closed e refl
     by (After o m) e = none (After o m) e refl
     by (InColumn m) e = none (InColumn m) e refl

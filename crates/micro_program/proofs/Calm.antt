@@ -11,11 +11,11 @@ use Rattle.onfi_cycle.specs.declared.page_address.PageAddress.{PageAddress}
 use Rattle.onfi_cycle.specs.declared.register.Register.{Register}
 use Rattle.onfi_cycle.specs.declared.queued.Queued.{Queued}
 use Rattle.onfi_cycle.specs.declared.effect.Effect.{Effect}
-use Rattle.onfi_cycle.specs.declared.effect.Effect.TheVariants.{Unaffected, DataOutputEnabled, StatusSelected, StatusRowAwaited, SelectedForStatus, Deselected, DataOutput, ReadColumnChanged}
+use Rattle.onfi_cycle.specs.declared.effect.Effect.TheVariants.{Unaffected, DataOutputEnabled, StatusSelected, StatusRowAwaited, SelectedForStatus, Deselected, DataOutput, ReadColumnChanged, StatusOfSelected, AnotherAddressed}
 use Rattle.onfi_cycle.specs.Sequence.{target_cycle, tail, facts_of}
 use Rattle.onfi_cycle.specs.Effect.{cycle_effect}
-use Rattle.onfi_cycle.specs.Lun.{latch_alone, effect_on, is_busy, busy_after, closer, closer_after, is_cache_read, is_array_busy, array_busy_after, is_caching, array_page, array_page_after, register, register_after, queue, queue_after}
-use Rattle.onfi_cycle.specs.Channel.{IsIdle, cycle}
+use Rattle.onfi_cycle.specs.Lun.{latch_alone, effect_on, is_busy, busy_after, closer, closer_after, is_cache_read, is_array_busy, array_busy_after, is_caching, array_page, array_page_after, register, register_after, queue, queue_after, effect_among}
+use Rattle.onfi_cycle.specs.Channel.{IsIdle, is_serving, cycle}
 
 abbrev pub is_calm : Effect → Bool
 is_calm Unaffected = true
@@ -26,6 +26,8 @@ is_calm SelectedForStatus = true
 is_calm Deselected = true
 is_calm DataOutput = true
 is_calm (ReadColumnChanged column) = true
+is_calm StatusOfSelected = true
+is_calm (AnotherAddressed reads) = true
 is_calm _ = false
 
 record LeavesAll (e : Effect) : Type 0 where
@@ -45,6 +47,8 @@ leaves_all SelectedForStatus h = record { busy = λ b. refl; closer = λ c. refl
 leaves_all Deselected h = record { busy = λ b. refl; closer = λ c. refl; array_busy = λ b c x. refl; array_page = λ p. refl; register = λ p r. refl; queue = λ q. refl }
 leaves_all DataOutput h = record { busy = λ b. refl; closer = λ c. refl; array_busy = λ b c x. refl; array_page = λ p. refl; register = λ p r. refl; queue = λ q. refl }
 leaves_all (ReadColumnChanged column) h = record { busy = λ b. refl; closer = λ c. refl; array_busy = λ b c x. refl; array_page = λ p. refl; register = λ p r. refl; queue = λ q. refl }
+leaves_all StatusOfSelected h = record { busy = λ b. refl; closer = λ c. refl; array_busy = λ b c x. refl; array_page = λ p. refl; register = λ p r. refl; queue = λ q. refl }
+leaves_all (AnotherAddressed reads) h = record { busy = λ b. refl; closer = λ c. refl; array_busy = λ b c x. refl; array_page = λ p. refl; register = λ p r. refl; queue = λ q. refl }
 leaves_all _ h = cc
 
 -- some items more leave the work, the register and the queue of a LUN
@@ -81,8 +85,8 @@ calmer g p q r l x y =
       queue = y.queue ∙ x.queue;
     }
 
-pub calm_idle : (g : Parts) (before later : List Item) (l : Lun) → Calm g before later l → IsIdle g before l → IsIdle g later l
-calm_idle g before later l k idle = record { ready = k.busy ∙ idle.ready; no_cache = ap is_cache_read k.closer ∙ idle.no_cache; no_queue = k.queue ∙ idle.no_queue }
+pub calm_idle : (g : Parts) (before later : List Item) (l : Lun) → Calm g before later l → is_serving g later l.ce ≡ false → IsIdle g before l → IsIdle g later l
+calm_idle g before later l k free idle = record { ready = k.busy ∙ idle.ready; no_cache = ap is_cache_read k.closer ∙ idle.no_cache; no_queue = k.queue ∙ idle.no_queue; free = free }
 
 pub either_calm : (b : Bool) (x y : Effect) → is_calm x ≡ true → is_calm y ≡ true → is_calm (cond b x y) ≡ true
 either_calm true x y h k = h
@@ -90,7 +94,7 @@ either_calm false x y h k = k
 
 -- what a cycle of its own target does to a LUN
 pub own_effect : (g : Parts) (past : List Item) (l : Lun) (kind : Kind) (byte : ℕ) → effect_on g past (cycle l.ce kind byte) l ≡ cycle_effect g (facts_of (tail past l.ce)) (latch_alone g past l) (target_cycle kind byte) l.lun
-unfolding effect_on
+unfolding effect_among
 own_effect g past l kind byte = rw (eqb_self l.ce) refl
 
 -- a cycle of its own target, after this tail

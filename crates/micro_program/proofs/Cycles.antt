@@ -1,6 +1,6 @@
 -- Single cycles: when they are permitted, what they make of the tail, and that they are of their LUN.
 use Rattle.std.specs.List.{list_any}
-use Rattle.std.proofs.Common.{◌≡◌, ℕ, Bool, true, false, cond, not, List, [], ◌∷◌, Some, None, refl, sym, ap, subst, arith, ltb, leb, eq-eqb}
+use Rattle.std.proofs.Common.{◌≡◌, ℕ, Bool, true, false, cond, not, ◌&&◌, ◌∙◌, List, [], ◌∷◌, Some, None, refl, sym, ap, subst, arith, ltb, leb, eq-eqb}
 use Rattle.std.proofs.lemmas.Bool.Decides.{nat_tests}
 use Rattle.std.proofs.lemmas.Bool.{and_parts, and_from}
 use Rattle.onfi_cycle.proofs.Booleans.{eqb_self}
@@ -15,14 +15,14 @@ use Rattle.onfi_cycle.specs.declared.target_cycle.TargetCycle.{TargetCycle}
 use Rattle.onfi_cycle.specs.declared.target_cycle.TargetCycle.TheVariants.{CommandCycle, AddressCycle, OutputCycle}
 use Rattle.onfi_cycle.specs.declared.tail_facts.TailFacts.{TailFacts}
 use Rattle.nand_geometry.specs.Optional.{is_wide}
-use Rattle.onfi_cycle.specs.Command.{command}
-use Rattle.onfi_cycle.specs.Sequence.{tail, facts_of, with_cycle, target_cycle, is_open, row, row_with}
+use Rattle.onfi_cycle.specs.Command.{command, reads_identity}
+use Rattle.onfi_cycle.specs.Sequence.{tail, facts_of, with_cycle, target_cycle, opened, is_open, row, row_with}
 use Rattle.onfi_cycle.specs.LunView.{LunView}
-use Rattle.onfi_cycle.specs.Effect.{is_data, page_address, names_lun}
+use Rattle.onfi_cycle.specs.Effect.{is_data, is_shared, page_address, names_lun}
 use Rattle.onfi_cycle.specs.Lun.{luns_of}
-use Rattle.onfi_cycle.specs.Rules.{ends_row, named_lun_is, driver, caching, some_queued_clashes, breaks_not_there, breaks_command_unknown, breaks_sequence_open, breaks_several_luns, breaks_no_column_to_change, breaks_command_misplaced, breaks_address_misplaced, breaks_row_outside, breaks_lun_busy, breaks_queue_clash, breaks_input_misplaced, breaks_no_sole_driver, breaks_data_not_ready, breaks_column_outside, breaks_cache_read_misplaced}
+use Rattle.onfi_cycle.specs.Rules.{ends_row, named_lun_is, works_for_target, driver, caching, some_queued_clashes, breaks_not_there, breaks_command_unknown, breaks_sequence_open, breaks_several_luns, breaks_no_column_to_change, breaks_command_misplaced, breaks_address_misplaced, breaks_row_outside, breaks_lun_busy, breaks_queue_clash, breaks_input_misplaced, breaks_no_sole_driver, breaks_data_not_ready, breaks_column_outside, breaks_cache_read_misplaced}
 use Rattle.onfi_cycle.specs.Permitted.{broken, judge_cycle}
-use Rattle.onfi_cycle.specs.Channel.{Channel, IsIdle, IsOwn, is_there, is_open_on, cycle}
+use Rattle.onfi_cycle.specs.Channel.{Channel, IsIdle, IsOwn, is_there, is_open_on, is_serving, cycle}
 use Rattle.micro_program.proofs.Basics.{there_lun}
 use Rattle.micro_program.proofs.Views.{some_at, never}
 
@@ -38,19 +38,38 @@ permitted_cycle s past l kind byte there h =
 pub tail_more : (past : List Item) (ce : ℕ) (kind : Kind) (byte : ℕ) (t : List TargetCycle) → tail past ce ≡ t → tail (cycle ce kind byte ∷ past) ce ≡ with_cycle (target_cycle kind byte) t
 tail_more past ce kind byte t e = rw (eqb_self ce) (ap (with_cycle (target_cycle kind byte)) e)
 
+-- a cycle that serves no whole target, and keeps to its LUN
+pub of_no_target : (shared serves keeps : Bool) → serves ≡ false → keeps ≡ true → (not (shared && serves) && keeps) ≡ true
+of_no_target true true keeps none keep = cc
+of_no_target true false keeps none keep = keep
+of_no_target false serves keeps none keep = keep
+
+-- what is shared has several LUNs, in the wider profile
+shared_by : (g : Parts) → is_wide g.optional ≡ true → ltb 1 g.luns ≡ true → is_shared g ≡ true
+shared_by g e f = rw (e, f) refl
+
 -- an address after a tail that takes it, whose row, if it ends one, names the LUN
-pub own_address : (s : Channel) (l : Lun) (past : List Item) (byte : ℕ) (t : List TargetCycle) → is_there s l ≡ true → tail past l.ce ≡ t → judge_cycle s.geometry (facts_of t) (luns_of s.geometry past l.ce) (AddressCycle byte) ≡ None → cond (ends_row (λ c. true) (facts_of t)) (names_lun s.geometry (row_with (facts_of t) byte) l.lun) true ≡ true → IsOwn s l past (cycle l.ce Adr byte)
-own_address s l past byte t there e judged named =
+pub own_address : (s : Channel) (l : Lun) (past : List Item) (byte : ℕ) (t : List TargetCycle) → is_there s l ≡ true → tail past l.ce ≡ t → judge_cycle s.geometry (facts_of t) (luns_of s.geometry past l.ce) (AddressCycle byte) ≡ None → cond (ends_row (λ c. true) (facts_of t)) (names_lun s.geometry (row_with (facts_of t) byte) l.lun) true ≡ true → opened (λ c n. reads_identity c) (facts_of t).opening ≡ false → IsOwn s l past (cycle l.ce Adr byte)
+own_address s l past byte t there e judged named beside =
     record {
       permitted = permitted_cycle s past l Adr byte there (subst (λ (u : List TargetCycle). judge_cycle s.geometry (facts_of u) (luns_of s.geometry past l.ce) (AddressCycle byte) ≡ None) (sym e) judged);
-      own = and_from _ _ (eqb_self l.ce) (subst (λ (u : List TargetCycle). cond (ends_row (λ c. true) (facts_of u)) (names_lun s.geometry (row_with (facts_of u) byte) l.lun) true ≡ true) (sym e) named);
+      own =
+          and_from _ _ (eqb_self l.ce)
+          (of_no_target (is_shared s.geometry) (opened (λ c n. reads_identity c) (facts_of (tail past l.ce)).opening) _
+          (subst (λ (u : List TargetCycle). opened (λ c n. reads_identity c) (facts_of u).opening ≡ false) (sym e) beside)
+          (subst (λ (u : List TargetCycle). cond (ends_row (λ c. true) (facts_of u)) (names_lun s.geometry (row_with (facts_of u) byte) l.lun) true ≡ true) (sym e) named));
     }
 
 -- 1. Block Erase
 
 judge_erase : (g : Parts) (t : TailFacts) (luns : List LunView) → is_open t ≡ false → list_any (λ v. not v.busy) luns ≡ true → judge_cycle g t luns (CommandCycle BlockErase) ≡ None
 unfolding breaks_command_unknown breaks_sequence_open breaks_several_luns breaks_no_column_to_change breaks_command_misplaced breaks_address_misplaced breaks_row_outside breaks_lun_busy breaks_queue_clash breaks_input_misplaced breaks_no_sole_driver breaks_data_not_ready breaks_column_outside breaks_cache_read_misplaced
-judge_erase g t luns closed ready = rw (closed, ready) refl
+judge_erase g t luns closed ready = at (is_wide g.optional) (ltb 1 g.luns) refl refl
+  where
+    at : (w several : Bool) → is_wide g.optional ≡ w → ltb 1 g.luns ≡ several → judge_cycle g t luns (CommandCycle BlockErase) ≡ None
+    at true true e f = rw (e, f, closed, ready) refl
+    at true false e f = rw (e, f, closed, ready) refl
+    at false several e f = rw (e, closed, ready) refl
 
 -- 60h where nothing is open and the LUN is ready
 pub own_erase : (s : Channel) (l : Lun) (past : List Item) → is_there s l ≡ true → is_open_on past l.ce ≡ false → IsIdle s.geometry past l → IsOwn s l past (cycle l.ce Cmd 0x60)
@@ -58,7 +77,7 @@ unfolding command
 own_erase s l past there closed idle =
     record {
       permitted = permitted_cycle s past l Cmd 0x60 there (judge_erase s.geometry (facts_of (tail past l.ce)) (luns_of s.geometry past l.ce) closed (some_at s.geometry past l (λ v. not v.busy) (there_lun s l there) (rw idle.ready refl)));
-      own = rw (eqb_self l.ce) refl;
+      own = and_from _ _ (eqb_self l.ce) (of_no_target (is_shared s.geometry) false _ refl refl);
     }
 
 pub tail_erase : (past : List Item) (ce : ℕ) → tail (cycle ce Cmd 0x60 ∷ past) ce ≡ CommandCycle BlockErase ∷ []
@@ -81,12 +100,12 @@ judge_erase_2 g luns a b = at (is_wide g.optional) refl
     at true e = rw (e, never) refl
     at false e = rw (e, never) refl
 
-pub judge_erase_3 : (g : Parts) (luns : List LunView) (r1 r2 r3 : ℕ) → is_inside g (parts_of g (row_of r1 r2 r3)) ≡ true → named_lun_is g (row_of r1 r2 r3) (λ v. v.busy) luns ≡ false → named_lun_is g (row_of r1 r2 r3) (λ v. some_queued_clashes g true (page_address g (row_of r1 r2 r3)) v.queue) luns ≡ false → named_lun_is g (row_of r1 r2 r3) caching luns ≡ false → judge_cycle g (facts_of (AddressCycle r2 ∷ (AddressCycle r1 ∷ (CommandCycle BlockErase ∷ [])))) luns (AddressCycle r3) ≡ None
+pub judge_erase_3 : (g : Parts) (luns : List LunView) (r1 r2 r3 : ℕ) → is_inside g (parts_of g (row_of r1 r2 r3)) ≡ true → named_lun_is g (row_of r1 r2 r3) (λ v. v.busy) luns ≡ false → named_lun_is g (row_of r1 r2 r3) (λ v. some_queued_clashes g true (page_address g (row_of r1 r2 r3)) v.queue) luns ≡ false → named_lun_is g (row_of r1 r2 r3) caching luns ≡ false → (is_shared g && list_any works_for_target luns) ≡ false → judge_cycle g (facts_of (AddressCycle r2 ∷ (AddressCycle r1 ∷ (CommandCycle BlockErase ∷ [])))) luns (AddressCycle r3) ≡ None
 unfolding breaks_command_unknown breaks_sequence_open breaks_several_luns breaks_no_column_to_change breaks_command_misplaced breaks_address_misplaced breaks_row_outside breaks_lun_busy breaks_queue_clash breaks_input_misplaced breaks_no_sole_driver breaks_data_not_ready breaks_column_outside breaks_cache_read_misplaced
-judge_erase_3 g luns r1 r2 r3 inside busy clash cache = at (is_wide g.optional) refl
+judge_erase_3 g luns r1 r2 r3 inside busy clash cache free = at (is_wide g.optional) refl
   where
     at : (w : Bool) → is_wide g.optional ≡ w → judge_cycle g (facts_of (AddressCycle r2 ∷ (AddressCycle r1 ∷ (CommandCycle BlockErase ∷ [])))) luns (AddressCycle r3) ≡ None
-    at true e = rw (e, inside, busy, clash, cache) refl
+    at true e = rw (free, e, inside, busy, clash, cache) refl
     at false e = rw (e, inside, busy, clash, cache) refl
 
 -- the tail of an erase with its row
@@ -95,7 +114,12 @@ addressed_erase r1 r2 r3 = AddressCycle r3 ∷ (AddressCycle r2 ∷ (AddressCycl
 
 judge_confirm : (g : Parts) (luns : List LunView) (r1 r2 r3 : ℕ) → judge_cycle g (facts_of (addressed_erase r1 r2 r3)) luns (CommandCycle BlockEraseConfirm) ≡ None
 unfolding breaks_command_unknown breaks_sequence_open breaks_several_luns breaks_no_column_to_change breaks_command_misplaced breaks_address_misplaced breaks_row_outside breaks_lun_busy breaks_queue_clash breaks_input_misplaced breaks_no_sole_driver breaks_data_not_ready breaks_column_outside breaks_cache_read_misplaced
-judge_confirm g luns r1 r2 r3 = refl
+judge_confirm g luns r1 r2 r3 = at (is_wide g.optional) (ltb 1 g.luns) refl refl
+  where
+    at : (w several : Bool) → is_wide g.optional ≡ w → ltb 1 g.luns ≡ several → judge_cycle g (facts_of (addressed_erase r1 r2 r3)) luns (CommandCycle BlockEraseConfirm) ≡ None
+    at true true e f = rw (e, f) refl
+    at true false e f = rw (e, f) refl
+    at false several e f = rw e refl
 
 -- D0h behind the row of the LUN
 pub own_confirm : (s : Channel) (l : Lun) (past : List Item) (r1 r2 r3 : ℕ) → is_there s l ≡ true → tail past l.ce ≡ addressed_erase r1 r2 r3 → (parts_of s.geometry (row_of r1 r2 r3)).lun ≡ l.lun → IsOwn s l past (cycle l.ce Cmd 0xd0)
@@ -103,14 +127,18 @@ unfolding command
 own_confirm s l past r1 r2 r3 there e named =
     record {
       permitted = permitted_cycle s past l Cmd 0xd0 there (subst (λ (u : List TargetCycle). judge_cycle s.geometry (facts_of u) (luns_of s.geometry past l.ce) (CommandCycle BlockEraseConfirm) ≡ None) (sym e) (judge_confirm s.geometry (luns_of s.geometry past l.ce) r1 r2 r3));
-      own = and_from _ _ (eqb_self l.ce) (subst (λ (u : List TargetCycle). names_lun s.geometry (row (facts_of u)) l.lun ≡ true) (sym e) (eq-eqb _ _ named));
+      own = and_from _ _ (eqb_self l.ce) (of_no_target (is_shared s.geometry) false _ refl (subst (λ (u : List TargetCycle). names_lun s.geometry (row (facts_of u)) l.lun ≡ true) (sym e) (eq-eqb _ _ named)));
     }
 
 -- 2. Read Status and Read Status Enhanced
 
 judge_status : (g : Parts) (t : TailFacts) (luns : List LunView) → is_open t ≡ false → ltb 1 g.luns ≡ false → judge_cycle g t luns (CommandCycle ReadStatus) ≡ None
 unfolding breaks_command_unknown breaks_sequence_open breaks_several_luns breaks_no_column_to_change breaks_command_misplaced breaks_address_misplaced breaks_row_outside breaks_lun_busy breaks_queue_clash breaks_input_misplaced breaks_no_sole_driver breaks_data_not_ready breaks_column_outside breaks_cache_read_misplaced
-judge_status g t luns closed one = rw (closed, one) refl
+judge_status g t luns closed one = at (is_wide g.optional) refl
+  where
+    at : (w : Bool) → is_wide g.optional ≡ w → judge_cycle g t luns (CommandCycle ReadStatus) ≡ None
+    at true e = rw (e, closed, one) refl
+    at false e = rw (e, closed, one) refl
 
 -- 70h where nothing is open, on a target with one LUN
 pub own_status : (s : Channel) (l : Lun) (past : List Item) → is_there s l ≡ true → ltb 1 s.geometry.luns ≡ false → is_open_on past l.ce ≡ false → IsOwn s l past (cycle l.ce Cmd 0x70)
@@ -118,24 +146,29 @@ unfolding command
 own_status s l past there one closed =
     record {
       permitted = permitted_cycle s past l Cmd 0x70 there (judge_status s.geometry (facts_of (tail past l.ce)) (luns_of s.geometry past l.ce) closed one);
-      own = rw (eqb_self l.ce) refl;
+      own = and_from _ _ (eqb_self l.ce) (of_no_target (is_shared s.geometry) false _ refl refl);
     }
 
 pub tail_status : (past : List Item) (ce : ℕ) → tail (cycle ce Cmd 0x70 ∷ past) ce ≡ CommandCycle ReadStatus ∷ []
 unfolding command
 tail_status past ce = rw (eqb_self ce) refl
 
-judge_enhanced : (g : Parts) (t : TailFacts) (luns : List LunView) → is_open t ≡ false → g.enhanced ≡ true → judge_cycle g t luns (CommandCycle ReadStatusEnhanced) ≡ None
+judge_enhanced : (g : Parts) (t : TailFacts) (luns : List LunView) → is_open t ≡ false → g.enhanced ≡ true → (is_shared g && list_any works_for_target luns) ≡ false → judge_cycle g t luns (CommandCycle ReadStatusEnhanced) ≡ None
 unfolding breaks_command_unknown breaks_sequence_open breaks_several_luns breaks_no_column_to_change breaks_command_misplaced breaks_address_misplaced breaks_row_outside breaks_lun_busy breaks_queue_clash breaks_input_misplaced breaks_no_sole_driver breaks_data_not_ready breaks_column_outside breaks_cache_read_misplaced
-judge_enhanced g t luns closed enhanced = rw (closed, enhanced) refl
+judge_enhanced g t luns closed enhanced free = at (is_wide g.optional) (ltb 1 g.luns) refl refl
+  where
+    at : (w several : Bool) → is_wide g.optional ≡ w → ltb 1 g.luns ≡ several → judge_cycle g t luns (CommandCycle ReadStatusEnhanced) ≡ None
+    at true true e f = let none : list_any works_for_target luns ≡ false = ap (λ (b : Bool). b && list_any works_for_target luns) (sym (shared_by g e f)) ∙ free in rw (e, f, closed, enhanced, none) refl
+    at true false e f = rw (e, f, closed, enhanced) refl
+    at false several e f = rw (e, closed, enhanced) refl
 
 -- 78h where nothing is open, and it is declared
-pub own_enhanced : (s : Channel) (l : Lun) (past : List Item) → is_there s l ≡ true → s.geometry.enhanced ≡ true → is_open_on past l.ce ≡ false → IsOwn s l past (cycle l.ce Cmd 0x78)
+pub own_enhanced : (s : Channel) (l : Lun) (past : List Item) → is_there s l ≡ true → s.geometry.enhanced ≡ true → is_open_on past l.ce ≡ false → is_serving s.geometry past l.ce ≡ false → IsOwn s l past (cycle l.ce Cmd 0x78)
 unfolding command
-own_enhanced s l past there enhanced closed =
+own_enhanced s l past there enhanced closed free =
     record {
-      permitted = permitted_cycle s past l Cmd 0x78 there (judge_enhanced s.geometry (facts_of (tail past l.ce)) (luns_of s.geometry past l.ce) closed enhanced);
-      own = rw (eqb_self l.ce) refl;
+      permitted = permitted_cycle s past l Cmd 0x78 there (judge_enhanced s.geometry (facts_of (tail past l.ce)) (luns_of s.geometry past l.ce) closed enhanced free);
+      own = and_from _ _ (eqb_self l.ce) (of_no_target (is_shared s.geometry) false _ refl refl);
     }
 
 pub tail_enhanced : (past : List Item) (ce : ℕ) → tail (cycle ce Cmd 0x78 ∷ past) ce ≡ CommandCycle ReadStatusEnhanced ∷ []

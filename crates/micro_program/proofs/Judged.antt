@@ -18,9 +18,9 @@ use Rattle.onfi_cycle.specs.declared.target_cycle.TargetCycle.TheVariants.{Comma
 use Rattle.onfi_cycle.specs.LunView.{LunView}
 use Rattle.onfi_cycle.specs.Command.{at_last_row, addresses_the_array, is_change_read_column}
 use Rattle.onfi_cycle.specs.Sequence.{opened, is_open, takes_inputs, takes_features, wants_command, wants_address, row_with, column_with, input_column}
-use Rattle.onfi_cycle.specs.Effect.{page_address}
+use Rattle.onfi_cycle.specs.Effect.{is_shared, page_address}
 use Rattle.onfi_cycle.specs.Lun.{lun_view, luns_of, views_from}
-use Rattle.onfi_cycle.specs.Rules.{ends_row, named_lun_is, is_some_and, driver, second_of_page, second_column, caching, continues_cache, ends_cache, may_change_column, has_some, is_refused_by, register_len, has_no_byte, is_past_register, breaks_command_unknown, breaks_sequence_open, breaks_several_luns, breaks_no_column_to_change, breaks_command_misplaced, breaks_address_misplaced, breaks_row_outside, breaks_lun_busy, breaks_queue_clash, breaks_input_misplaced, breaks_no_sole_driver, breaks_data_not_ready, breaks_column_outside, breaks_cache_read_misplaced}
+use Rattle.onfi_cycle.specs.Rules.{ends_row, named_lun_is, works_for_target, is_some_and, driver, second_of_page, second_column, caching, continues_cache, ends_cache, may_change_column, has_some, is_refused_by, register_len, has_no_byte, is_past_register, breaks_command_unknown, breaks_sequence_open, breaks_several_luns, breaks_no_column_to_change, breaks_command_misplaced, breaks_address_misplaced, breaks_row_outside, breaks_lun_busy, breaks_queue_clash, breaks_input_misplaced, breaks_no_sole_driver, breaks_data_not_ready, breaks_column_outside, breaks_cache_read_misplaced}
 use Rattle.onfi_cycle.specs.Permitted.{judge_cycle}
 use Rattle.onfi_cycle.specs.Channel.{Channel, is_there}
 use Rattle.micro_program.proofs.Below.{facts}
@@ -30,97 +30,208 @@ use Rattle.micro_program.proofs.Scenes.{Scene, IsScene, CommandAllowed, AddressA
 
 -- 1. commands
 
+-- what is shared has several LUNs, in the wider profile
+shared_by : (g : Parts) → is_wide g.optional ≡ true → ltb 1 g.luns ≡ true → is_shared g ≡ true
+shared_by g e f = rw (e, f) refl
+
 judge_read : (g : Parts) (t : TailFacts) (luns : List LunView) → is_open t ≡ false → list_any (λ v. not v.busy) luns ≡ true → judge_cycle g t luns (CommandCycle Read) ≡ None
 unfolding breaks_command_unknown breaks_sequence_open breaks_several_luns breaks_no_column_to_change breaks_command_misplaced breaks_address_misplaced breaks_row_outside breaks_lun_busy breaks_queue_clash breaks_input_misplaced breaks_no_sole_driver breaks_data_not_ready breaks_column_outside breaks_cache_read_misplaced
-judge_read g t luns closed ready = rw (closed, ready) refl
+judge_read g t luns closed ready = at (is_wide g.optional) (ltb 1 g.luns) refl refl
+  where
+    at : (w several : Bool) → is_wide g.optional ≡ w → ltb 1 g.luns ≡ several → judge_cycle g t luns (CommandCycle Read) ≡ None
+    at true true e f = rw (e, f, closed, ready) refl
+    at true false e f = rw (e, f, closed, ready) refl
+    at false several e f = rw (e, closed, ready) refl
 
 judge_erase : (g : Parts) (t : TailFacts) (luns : List LunView) → is_open t ≡ false → list_any (λ v. not v.busy) luns ≡ true → judge_cycle g t luns (CommandCycle BlockErase) ≡ None
 unfolding breaks_command_unknown breaks_sequence_open breaks_several_luns breaks_no_column_to_change breaks_command_misplaced breaks_address_misplaced breaks_row_outside breaks_lun_busy breaks_queue_clash breaks_input_misplaced breaks_no_sole_driver breaks_data_not_ready breaks_column_outside breaks_cache_read_misplaced
-judge_erase g t luns closed ready = rw (closed, ready) refl
+judge_erase g t luns closed ready = at (is_wide g.optional) (ltb 1 g.luns) refl refl
+  where
+    at : (w several : Bool) → is_wide g.optional ≡ w → ltb 1 g.luns ≡ several → judge_cycle g t luns (CommandCycle BlockErase) ≡ None
+    at true true e f = rw (e, f, closed, ready) refl
+    at true false e f = rw (e, f, closed, ready) refl
+    at false several e f = rw (e, closed, ready) refl
 
 judge_program : (g : Parts) (t : TailFacts) (luns : List LunView) → is_open t ≡ false → list_any (λ v. not v.busy) luns ≡ true → judge_cycle g t luns (CommandCycle PageProgram) ≡ None
 unfolding breaks_command_unknown breaks_sequence_open breaks_several_luns breaks_no_column_to_change breaks_command_misplaced breaks_address_misplaced breaks_row_outside breaks_lun_busy breaks_queue_clash breaks_input_misplaced breaks_no_sole_driver breaks_data_not_ready breaks_column_outside breaks_cache_read_misplaced
-judge_program g t luns closed ready = rw (closed, ready) refl
+judge_program g t luns closed ready = at (is_wide g.optional) (ltb 1 g.luns) refl refl
+  where
+    at : (w several : Bool) → is_wide g.optional ≡ w → ltb 1 g.luns ≡ several → judge_cycle g t luns (CommandCycle PageProgram) ≡ None
+    at true true e f = rw (e, f, closed, ready) refl
+    at true false e f = rw (e, f, closed, ready) refl
+    at false several e f = rw (e, closed, ready) refl
 
 judge_read_column : (g : Parts) (t : TailFacts) (luns : List LunView) (v : LunView) → is_open t ≡ false → list_any (λ w. not w.busy) luns ≡ true → driver luns ≡ Some v → may_change_column v ≡ true → judge_cycle g t luns (CommandCycle ChangeReadColumn) ≡ None
 unfolding breaks_command_unknown breaks_sequence_open breaks_several_luns breaks_no_column_to_change breaks_command_misplaced breaks_address_misplaced breaks_row_outside breaks_lun_busy breaks_queue_clash breaks_input_misplaced breaks_no_sole_driver breaks_data_not_ready breaks_column_outside breaks_cache_read_misplaced
-judge_read_column g t luns v closed ready one may = rw (closed, ready, one, may) refl
+judge_read_column g t luns v closed ready one may = at (is_wide g.optional) (ltb 1 g.luns) refl refl
+  where
+    at : (w several : Bool) → is_wide g.optional ≡ w → ltb 1 g.luns ≡ several → judge_cycle g t luns (CommandCycle ChangeReadColumn) ≡ None
+    at true true e f = rw (e, f, closed, ready, one, may) refl
+    at true false e f = rw (e, f, closed, ready, one, may) refl
+    at false several e f = rw (e, closed, ready, one, may) refl
 
 judge_status : (g : Parts) (t : TailFacts) (luns : List LunView) → is_open t ≡ false → ltb 1 g.luns ≡ false → judge_cycle g t luns (CommandCycle ReadStatus) ≡ None
 unfolding breaks_command_unknown breaks_sequence_open breaks_several_luns breaks_no_column_to_change breaks_command_misplaced breaks_address_misplaced breaks_row_outside breaks_lun_busy breaks_queue_clash breaks_input_misplaced breaks_no_sole_driver breaks_data_not_ready breaks_column_outside breaks_cache_read_misplaced
-judge_status g t luns closed one = rw (closed, one) refl
+judge_status g t luns closed one = at (is_wide g.optional) refl
+  where
+    at : (w : Bool) → is_wide g.optional ≡ w → judge_cycle g t luns (CommandCycle ReadStatus) ≡ None
+    at true e = rw (e, closed, one) refl
+    at false e = rw (e, closed, one) refl
 
-judge_enhanced : (g : Parts) (t : TailFacts) (luns : List LunView) → is_open t ≡ false → g.enhanced ≡ true → judge_cycle g t luns (CommandCycle ReadStatusEnhanced) ≡ None
+judge_enhanced : (g : Parts) (t : TailFacts) (luns : List LunView) → is_open t ≡ false → g.enhanced ≡ true → (is_shared g && list_any works_for_target luns) ≡ false → judge_cycle g t luns (CommandCycle ReadStatusEnhanced) ≡ None
 unfolding breaks_command_unknown breaks_sequence_open breaks_several_luns breaks_no_column_to_change breaks_command_misplaced breaks_address_misplaced breaks_row_outside breaks_lun_busy breaks_queue_clash breaks_input_misplaced breaks_no_sole_driver breaks_data_not_ready breaks_column_outside breaks_cache_read_misplaced
-judge_enhanced g t luns closed enhanced = rw (closed, enhanced) refl
+judge_enhanced g t luns closed enhanced free = at (is_wide g.optional) (ltb 1 g.luns) refl refl
+  where
+    at : (w several : Bool) → is_wide g.optional ≡ w → ltb 1 g.luns ≡ several → judge_cycle g t luns (CommandCycle ReadStatusEnhanced) ≡ None
+    at true true e f = let none : list_any works_for_target luns ≡ false = ap (λ (b : Bool). b && list_any works_for_target luns) (sym (shared_by g e f)) ∙ free in rw (e, f, closed, enhanced, none) refl
+    at true false e f = rw (e, f, closed, enhanced) refl
+    at false several e f = rw (e, closed, enhanced) refl
 
 judge_reset : (g : Parts) (t : TailFacts) (luns : List LunView) → (is_open t && not (is_wide g.optional)) ≡ false → ltb 1 g.luns ≡ false → judge_cycle g t luns (CommandCycle Reset) ≡ None
 unfolding breaks_command_unknown breaks_sequence_open breaks_several_luns breaks_no_column_to_change breaks_command_misplaced breaks_address_misplaced breaks_row_outside breaks_lun_busy breaks_queue_clash breaks_input_misplaced breaks_no_sole_driver breaks_data_not_ready breaks_column_outside breaks_cache_read_misplaced
-judge_reset g t luns closed one = rw (closed, one) refl
+judge_reset g t luns closed one = at (is_wide g.optional) refl
+  where
+    at : (w : Bool) → is_wide g.optional ≡ w → judge_cycle g t luns (CommandCycle Reset) ≡ None
+    at true e = rw (closed, e, one) refl
+    at false e = rw (closed, e, one) refl
 
 judge_synchronous : (g : Parts) (t : TailFacts) (luns : List LunView) → (is_open t && not (is_wide g.optional)) ≡ false → ltb 1 g.luns ≡ false → has_synchronous_reset g.optional ≡ true → judge_cycle g t luns (CommandCycle SynchronousReset) ≡ None
 unfolding breaks_command_unknown breaks_sequence_open breaks_several_luns breaks_no_column_to_change breaks_command_misplaced breaks_address_misplaced breaks_row_outside breaks_lun_busy breaks_queue_clash breaks_input_misplaced breaks_no_sole_driver breaks_data_not_ready breaks_column_outside breaks_cache_read_misplaced
-judge_synchronous g t luns closed one declared = rw (closed, one, declared) refl
+judge_synchronous g t luns closed one declared = at (is_wide g.optional) refl
+  where
+    at : (w : Bool) → is_wide g.optional ≡ w → judge_cycle g t luns (CommandCycle SynchronousReset) ≡ None
+    at true e = rw (closed, e, one, declared) refl
+    at false e = rw (closed, e, one, declared) refl
 
 judge_lun_reset : (g : Parts) (t : TailFacts) (luns : List LunView) → is_open t ≡ false → has_lun_reset g.optional ≡ true → judge_cycle g t luns (CommandCycle ResetLun) ≡ None
 unfolding breaks_command_unknown breaks_sequence_open breaks_several_luns breaks_no_column_to_change breaks_command_misplaced breaks_address_misplaced breaks_row_outside breaks_lun_busy breaks_queue_clash breaks_input_misplaced breaks_no_sole_driver breaks_data_not_ready breaks_column_outside breaks_cache_read_misplaced
-judge_lun_reset g t luns closed declared = rw (closed, declared) refl
+judge_lun_reset g t luns closed declared = at (is_wide g.optional) (ltb 1 g.luns) refl refl
+  where
+    at : (w several : Bool) → is_wide g.optional ≡ w → ltb 1 g.luns ≡ several → judge_cycle g t luns (CommandCycle ResetLun) ≡ None
+    at true true e f = rw (e, f, closed, declared) refl
+    at true false e f = rw (e, f, closed, declared) refl
+    at false several e f = rw (e, closed, declared) refl
 
 judge_id : (g : Parts) (t : TailFacts) (luns : List LunView) → is_open t ≡ false → ltb 1 g.luns ≡ false → list_any (λ v. not v.busy) luns ≡ true → list_any (λ v. has_some v.queue) luns ≡ false → list_any caching luns ≡ false → judge_cycle g t luns (CommandCycle ReadId) ≡ None
 unfolding breaks_command_unknown breaks_sequence_open breaks_several_luns breaks_no_column_to_change breaks_command_misplaced breaks_address_misplaced breaks_row_outside breaks_lun_busy breaks_queue_clash breaks_input_misplaced breaks_no_sole_driver breaks_data_not_ready breaks_column_outside breaks_cache_read_misplaced
-judge_id g t luns closed one ready queue cache = rw (closed, one, ready, queue, cache) refl
+judge_id g t luns closed one ready queue cache = at (is_wide g.optional) refl
+  where
+    at : (w : Bool) → is_wide g.optional ≡ w → judge_cycle g t luns (CommandCycle ReadId) ≡ None
+    at true e = rw (e, closed, one, ready, queue, cache) refl
+    at false e = rw (e, closed, one, ready, queue, cache) refl
 
 judge_parameters : (g : Parts) (t : TailFacts) (luns : List LunView) → is_open t ≡ false → ltb 1 g.luns ≡ false → list_any (λ v. not v.busy) luns ≡ true → list_any (λ v. has_some v.queue) luns ≡ false → list_any caching luns ≡ false → judge_cycle g t luns (CommandCycle ReadParameterPage) ≡ None
 unfolding breaks_command_unknown breaks_sequence_open breaks_several_luns breaks_no_column_to_change breaks_command_misplaced breaks_address_misplaced breaks_row_outside breaks_lun_busy breaks_queue_clash breaks_input_misplaced breaks_no_sole_driver breaks_data_not_ready breaks_column_outside breaks_cache_read_misplaced
-judge_parameters g t luns closed one ready queue cache = rw (closed, one, ready, queue, cache) refl
+judge_parameters g t luns closed one ready queue cache = at (is_wide g.optional) refl
+  where
+    at : (w : Bool) → is_wide g.optional ≡ w → judge_cycle g t luns (CommandCycle ReadParameterPage) ≡ None
+    at true e = rw (e, closed, one, ready, queue, cache) refl
+    at false e = rw (e, closed, one, ready, queue, cache) refl
 
 judge_unique_id : (g : Parts) (t : TailFacts) (luns : List LunView) → is_open t ≡ false → ltb 1 g.luns ≡ false → list_any (λ v. not v.busy) luns ≡ true → list_any (λ v. has_some v.queue) luns ≡ false → list_any caching luns ≡ false → has_unique_id g.optional ≡ true → judge_cycle g t luns (CommandCycle ReadUniqueId) ≡ None
 unfolding breaks_command_unknown breaks_sequence_open breaks_several_luns breaks_no_column_to_change breaks_command_misplaced breaks_address_misplaced breaks_row_outside breaks_lun_busy breaks_queue_clash breaks_input_misplaced breaks_no_sole_driver breaks_data_not_ready breaks_column_outside breaks_cache_read_misplaced
-judge_unique_id g t luns closed one ready queue cache declared = rw (closed, one, ready, queue, cache, declared) refl
+judge_unique_id g t luns closed one ready queue cache declared = at (is_wide g.optional) refl
+  where
+    at : (w : Bool) → is_wide g.optional ≡ w → judge_cycle g t luns (CommandCycle ReadUniqueId) ≡ None
+    at true e = rw (e, closed, one, ready, queue, cache, declared) refl
+    at false e = rw (e, closed, one, ready, queue, cache, declared) refl
 
 judge_features : (g : Parts) (t : TailFacts) (luns : List LunView) → is_open t ≡ false → ltb 1 g.luns ≡ false → list_any (λ v. not v.busy) luns ≡ true → list_any (λ v. has_some v.queue) luns ≡ false → list_any caching luns ≡ false → has_features g.optional ≡ true → judge_cycle g t luns (CommandCycle GetFeatures) ≡ None
 unfolding breaks_command_unknown breaks_sequence_open breaks_several_luns breaks_no_column_to_change breaks_command_misplaced breaks_address_misplaced breaks_row_outside breaks_lun_busy breaks_queue_clash breaks_input_misplaced breaks_no_sole_driver breaks_data_not_ready breaks_column_outside breaks_cache_read_misplaced
-judge_features g t luns closed one ready queue cache declared = rw (closed, one, ready, queue, cache, declared) refl
+judge_features g t luns closed one ready queue cache declared = at (is_wide g.optional) refl
+  where
+    at : (w : Bool) → is_wide g.optional ≡ w → judge_cycle g t luns (CommandCycle GetFeatures) ≡ None
+    at true e = rw (e, closed, one, ready, queue, cache, declared) refl
+    at false e = rw (e, closed, one, ready, queue, cache, declared) refl
 
 judge_set_features : (g : Parts) (t : TailFacts) (luns : List LunView) → is_open t ≡ false → ltb 1 g.luns ≡ false → list_any (λ v. not v.busy) luns ≡ true → list_any (λ v. has_some v.queue) luns ≡ false → list_any caching luns ≡ false → has_features g.optional ≡ true → judge_cycle g t luns (CommandCycle SetFeatures) ≡ None
 unfolding breaks_command_unknown breaks_sequence_open breaks_several_luns breaks_no_column_to_change breaks_command_misplaced breaks_address_misplaced breaks_row_outside breaks_lun_busy breaks_queue_clash breaks_input_misplaced breaks_no_sole_driver breaks_data_not_ready breaks_column_outside breaks_cache_read_misplaced
-judge_set_features g t luns closed one ready queue cache declared = rw (closed, one, ready, queue, cache, declared) refl
+judge_set_features g t luns closed one ready queue cache declared = at (is_wide g.optional) refl
+  where
+    at : (w : Bool) → is_wide g.optional ≡ w → judge_cycle g t luns (CommandCycle SetFeatures) ≡ None
+    at true e = rw (e, closed, one, ready, queue, cache, declared) refl
+    at false e = rw (e, closed, one, ready, queue, cache, declared) refl
 
 judge_cache : (g : Parts) (t : TailFacts) (luns : List LunView) (v : LunView) → is_open t ≡ false → g.cache ≡ true → driver luns ≡ Some v → continues_cache g v ≡ true → judge_cycle g t luns (CommandCycle ReadCacheSequential) ≡ None
 unfolding breaks_command_unknown breaks_sequence_open breaks_several_luns breaks_no_column_to_change breaks_command_misplaced breaks_address_misplaced breaks_row_outside breaks_lun_busy breaks_queue_clash breaks_input_misplaced breaks_no_sole_driver breaks_data_not_ready breaks_column_outside breaks_cache_read_misplaced
-judge_cache g t luns v closed declared one passes = rw (closed, declared, one, passes) refl
+judge_cache g t luns v closed declared one passes = at (is_wide g.optional) (ltb 1 g.luns) refl refl
+  where
+    at : (w several : Bool) → is_wide g.optional ≡ w → ltb 1 g.luns ≡ several → judge_cycle g t luns (CommandCycle ReadCacheSequential) ≡ None
+    at true true e f = rw (e, f, closed, declared, one, passes) refl
+    at true false e f = rw (e, f, closed, declared, one, passes) refl
+    at false several e f = rw (e, closed, declared, one, passes) refl
 
 judge_cache_end : (g : Parts) (t : TailFacts) (luns : List LunView) (v : LunView) → is_open t ≡ false → g.cache ≡ true → driver luns ≡ Some v → ends_cache v ≡ true → judge_cycle g t luns (CommandCycle ReadCacheEnd) ≡ None
 unfolding breaks_command_unknown breaks_sequence_open breaks_several_luns breaks_no_column_to_change breaks_command_misplaced breaks_address_misplaced breaks_row_outside breaks_lun_busy breaks_queue_clash breaks_input_misplaced breaks_no_sole_driver breaks_data_not_ready breaks_column_outside breaks_cache_read_misplaced
-judge_cache_end g t luns v closed declared one passes = rw (closed, declared, one, passes) refl
+judge_cache_end g t luns v closed declared one passes = at (is_wide g.optional) (ltb 1 g.luns) refl refl
+  where
+    at : (w several : Bool) → is_wide g.optional ≡ w → ltb 1 g.luns ≡ several → judge_cycle g t luns (CommandCycle ReadCacheEnd) ≡ None
+    at true true e f = rw (e, f, closed, declared, one, passes) refl
+    at true false e f = rw (e, f, closed, declared, one, passes) refl
+    at false several e f = rw (e, closed, declared, one, passes) refl
 
 judge_30 : (g : Parts) (t : TailFacts) (luns : List LunView) → wants_command t ReadConfirm ≡ true → judge_cycle g t luns (CommandCycle ReadConfirm) ≡ None
 unfolding breaks_command_unknown breaks_sequence_open breaks_several_luns breaks_no_column_to_change breaks_command_misplaced breaks_address_misplaced breaks_row_outside breaks_lun_busy breaks_queue_clash breaks_input_misplaced breaks_no_sole_driver breaks_data_not_ready breaks_column_outside breaks_cache_read_misplaced
-judge_30 g t luns wants = rw wants refl
+judge_30 g t luns wants = at (is_wide g.optional) (ltb 1 g.luns) refl refl
+  where
+    at : (w several : Bool) → is_wide g.optional ≡ w → ltb 1 g.luns ≡ several → judge_cycle g t luns (CommandCycle ReadConfirm) ≡ None
+    at true true e f = rw (e, f, wants) refl
+    at true false e f = rw (e, f, wants) refl
+    at false several e f = rw (e, wants) refl
 
 judge_d0 : (g : Parts) (t : TailFacts) (luns : List LunView) → wants_command t BlockEraseConfirm ≡ true → judge_cycle g t luns (CommandCycle BlockEraseConfirm) ≡ None
 unfolding breaks_command_unknown breaks_sequence_open breaks_several_luns breaks_no_column_to_change breaks_command_misplaced breaks_address_misplaced breaks_row_outside breaks_lun_busy breaks_queue_clash breaks_input_misplaced breaks_no_sole_driver breaks_data_not_ready breaks_column_outside breaks_cache_read_misplaced
-judge_d0 g t luns wants = rw wants refl
+judge_d0 g t luns wants = at (is_wide g.optional) (ltb 1 g.luns) refl refl
+  where
+    at : (w several : Bool) → is_wide g.optional ≡ w → ltb 1 g.luns ≡ several → judge_cycle g t luns (CommandCycle BlockEraseConfirm) ≡ None
+    at true true e f = rw (e, f, wants) refl
+    at true false e f = rw (e, f, wants) refl
+    at false several e f = rw (e, wants) refl
 
 judge_d1 : (g : Parts) (t : TailFacts) (luns : List LunView) → wants_command t BlockErasePlane ≡ true → g.multi_plane ≡ true → judge_cycle g t luns (CommandCycle BlockErasePlane) ≡ None
 unfolding breaks_command_unknown breaks_sequence_open breaks_several_luns breaks_no_column_to_change breaks_command_misplaced breaks_address_misplaced breaks_row_outside breaks_lun_busy breaks_queue_clash breaks_input_misplaced breaks_no_sole_driver breaks_data_not_ready breaks_column_outside breaks_cache_read_misplaced
-judge_d1 g t luns wants declared = rw (wants, declared) refl
+judge_d1 g t luns wants declared = at (is_wide g.optional) (ltb 1 g.luns) refl refl
+  where
+    at : (w several : Bool) → is_wide g.optional ≡ w → ltb 1 g.luns ≡ several → judge_cycle g t luns (CommandCycle BlockErasePlane) ≡ None
+    at true true e f = rw (e, f, wants, declared) refl
+    at true false e f = rw (e, f, wants, declared) refl
+    at false several e f = rw (e, wants, declared) refl
 
 judge_10 : (g : Parts) (t : TailFacts) (luns : List LunView) → wants_command t ProgramConfirm ≡ true → judge_cycle g t luns (CommandCycle ProgramConfirm) ≡ None
 unfolding breaks_command_unknown breaks_sequence_open breaks_several_luns breaks_no_column_to_change breaks_command_misplaced breaks_address_misplaced breaks_row_outside breaks_lun_busy breaks_queue_clash breaks_input_misplaced breaks_no_sole_driver breaks_data_not_ready breaks_column_outside breaks_cache_read_misplaced
-judge_10 g t luns wants = rw wants refl
+judge_10 g t luns wants = at (is_wide g.optional) (ltb 1 g.luns) refl refl
+  where
+    at : (w several : Bool) → is_wide g.optional ≡ w → ltb 1 g.luns ≡ several → judge_cycle g t luns (CommandCycle ProgramConfirm) ≡ None
+    at true true e f = rw (e, f, wants) refl
+    at true false e f = rw (e, f, wants) refl
+    at false several e f = rw (e, wants) refl
 
 judge_11 : (g : Parts) (t : TailFacts) (luns : List LunView) → wants_command t ProgramPlane ≡ true → g.multi_plane ≡ true → judge_cycle g t luns (CommandCycle ProgramPlane) ≡ None
 unfolding breaks_command_unknown breaks_sequence_open breaks_several_luns breaks_no_column_to_change breaks_command_misplaced breaks_address_misplaced breaks_row_outside breaks_lun_busy breaks_queue_clash breaks_input_misplaced breaks_no_sole_driver breaks_data_not_ready breaks_column_outside breaks_cache_read_misplaced
-judge_11 g t luns wants declared = rw (wants, declared) refl
+judge_11 g t luns wants declared = at (is_wide g.optional) (ltb 1 g.luns) refl refl
+  where
+    at : (w several : Bool) → is_wide g.optional ≡ w → ltb 1 g.luns ≡ several → judge_cycle g t luns (CommandCycle ProgramPlane) ≡ None
+    at true true e f = rw (e, f, wants, declared) refl
+    at true false e f = rw (e, f, wants, declared) refl
+    at false several e f = rw (e, wants, declared) refl
 
 judge_e0 : (g : Parts) (t : TailFacts) (luns : List LunView) → wants_command t ChangeReadColumnConfirm ≡ true → judge_cycle g t luns (CommandCycle ChangeReadColumnConfirm) ≡ None
 unfolding breaks_command_unknown breaks_sequence_open breaks_several_luns breaks_no_column_to_change breaks_command_misplaced breaks_address_misplaced breaks_row_outside breaks_lun_busy breaks_queue_clash breaks_input_misplaced breaks_no_sole_driver breaks_data_not_ready breaks_column_outside breaks_cache_read_misplaced
-judge_e0 g t luns wants = rw wants refl
+judge_e0 g t luns wants = at (is_wide g.optional) (ltb 1 g.luns) refl refl
+  where
+    at : (w several : Bool) → is_wide g.optional ≡ w → ltb 1 g.luns ≡ several → judge_cycle g t luns (CommandCycle ChangeReadColumnConfirm) ≡ None
+    at true true e f = rw (e, f, wants) refl
+    at true false e f = rw (e, f, wants) refl
+    at false several e f = rw (e, wants) refl
 
 judge_85 : (g : Parts) (t : TailFacts) (luns : List LunView) → wants_command t ChangeWriteColumn ≡ true → judge_cycle g t luns (CommandCycle ChangeWriteColumn) ≡ None
 unfolding breaks_command_unknown breaks_sequence_open breaks_several_luns breaks_no_column_to_change breaks_command_misplaced breaks_address_misplaced breaks_row_outside breaks_lun_busy breaks_queue_clash breaks_input_misplaced breaks_no_sole_driver breaks_data_not_ready breaks_column_outside breaks_cache_read_misplaced
-judge_85 g t luns wants = rw wants refl
+judge_85 g t luns wants = at (is_wide g.optional) (ltb 1 g.luns) refl refl
+  where
+    at : (w several : Bool) → is_wide g.optional ≡ w → ltb 1 g.luns ≡ several → judge_cycle g t luns (CommandCycle ChangeWriteColumn) ≡ None
+    at true true e f = rw (e, f, wants) refl
+    at true false e f = rw (e, f, wants) refl
+    at false several e f = rw (e, wants) refl
 
 -- the only LUN of its target
 some_of_one : (g : Parts) (past : List Item) (l : Lun) (test : LunView → Bool) → g.luns ≡ 1 → l.lun ≡ 0 → list_any test (luns_of g past l.ce) ≡ (test (lun_view g past l) || false)
@@ -155,7 +266,7 @@ command_judged s l past c there k d a = by d a
     by PageProgram a = judge_program s.geometry c.facts _ a.0 (some_ready a.1)
     by ChangeReadColumn a = judge_read_column s.geometry c.facts _ c.view a.0.0 (some_ready a.0.1) (the_driver a.1) a.2
     by ReadStatus a = judge_status s.geometry c.facts _ a.0 a.1
-    by ReadStatusEnhanced a = judge_enhanced s.geometry c.facts _ a.0 a.1
+    by ReadStatusEnhanced a = judge_enhanced s.geometry c.facts _ a.0 a.1 k.free
     by ReadId a = judge_id s.geometry c.facts _ a.closed a.one (some_ready a.ready) (none_of (λ v. has_some v.queue) a.one a.no_queue) (none_of caching a.one a.no_cache)
     by ReadParameterPage a = judge_parameters s.geometry c.facts _ a.closed a.one (some_ready a.ready) (none_of (λ v. has_some v.queue) a.one a.no_queue) (none_of caching a.one a.no_cache)
     by Reset a = judge_reset s.geometry c.facts _ a.closed a.one
@@ -238,7 +349,7 @@ address_judged s l past c byte there k a = at (ends_row (λ d. true) c.facts) re
         let is : (parts_of g (row_with c.facts byte)).lun ≡ l.lun = eqb-true _ _ r.names in
         judge_address g c.facts luns byte f7
         (both_no (ends_row (λ d. true) c.facts) _ (λ x. is_not _ r.inside))
-        (both_no (ends_row addresses_the_array c.facts) _ (λ x. named (row_with c.facts byte) (λ v. v.busy) is (r.ready x)))
+        (both_no (ends_row addresses_the_array c.facts) _ (λ x. or_from _ _ (named (row_with c.facts byte) (λ v. v.busy) is (r.ready x)) k.free))
         (named (row_with c.facts byte) (λ v. is_refused_by g c.facts.opening (page_address g (row_with c.facts byte)) v.queue) is r.goes)
         f14
         (both_no (ends_row addresses_the_array c.facts) _ (λ x. named (row_with c.facts byte) caching is (r.no_cache x)))

@@ -23,6 +23,6 @@ own_cycles_pass_others s l before later there legal adds =
     record {
       legal = (kept s l before later (λ q. Unit {0}) (λ past c ok own u. tt) legal adds tt).0;
       seats = λ j ahead done differs reaches. (kept s l before later (λ q. Reaches s j (record { past = q; ahead = ahead; done = done; holding = false })) (λ past c ok own r. others (record { past = past; ahead = ahead; done = done; holding = false }) c l r refl own there differs) legal adds reaches).1;
-      idle = λ m differs mt idle. (kept s l before later (λ q. IsIdle s.geometry q m) (λ past c ok own i. own_cycles.idle s.geometry past (Cyc c) m (own_cycles.others s past c l m ok own differs there mt) i) legal adds idle).1;
+      idle = λ m differs mt idle. (kept s l before later (λ q. IsIdle s.geometry q m) (λ past c ok own i. own_cycles.idle s.geometry past (Cyc c) l m own.own (own_cycles.others s past c l m ok own differs there mt) i) legal adds idle).1;
       targets = λ ce differs. (kept s l before later (λ q. is_open_on q ce ≡ is_open_on before ce) (λ past c ok own e. ap (λ (t : List TargetCycle). is_open (facts_of t)) (own_cycles.tails s past c l ce own differs) ∙ e) legal adds refl).1;
     }

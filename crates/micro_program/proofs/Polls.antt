@@ -17,21 +17,22 @@ use Rattle.onfi_cycle.specs.declared.target_cycle.TargetCycle.{TargetCycle}
 use Rattle.onfi_cycle.specs.declared.target_cycle.TargetCycle.TheVariants.{CommandCycle, AddressCycle}
 use Rattle.onfi_cycle.specs.declared.read_column.ReadColumn.{ReadColumn}
 use Rattle.onfi_cycle.specs.declared.effect.Effect.{Effect}
-use Rattle.onfi_cycle.specs.declared.effect.Effect.TheVariants.{SelectedForStatus, Deselected, DataOutput, Unaffected}
+use Rattle.onfi_cycle.specs.declared.effect.Effect.TheVariants.{SelectedForStatus, Deselected, DataOutput, StatusSelected, StatusOfSelected, Unaffected}
 use Rattle.onfi_cycle.specs.Command.{command}
 use Rattle.onfi_cycle.specs.Sequence.{tail, facts_of, is_open}
-use Rattle.onfi_cycle.specs.Effect.{is_data, names_lun, cycle_effect}
-use Rattle.onfi_cycle.specs.Lun.{latch, latch_after, latch_alone, drivers, drivers_from, is_only, is_busy, read_column, read_column_after, lun_view}
+use Rattle.nand_geometry.specs.Optional.{is_wide}
+use Rattle.onfi_cycle.specs.Effect.{is_data, is_shared, names_lun, cycle_effect}
+use Rattle.onfi_cycle.specs.Lun.{latch, latch_after, works, latch_alone, drivers, drivers_from, is_only, is_busy, read_column, read_column_after, lun_view}
 use Rattle.onfi_cycle.specs.Content.{status, shown}
-use Rattle.onfi_cycle.specs.Channel.{Channel, IsChannel, IsOwn, is_there, is_open_on, cycle, byte_of_driver, bus_byte}
+use Rattle.onfi_cycle.specs.Channel.{Channel, IsChannel, IsOwn, is_there, is_open_on, is_serving, cycle, byte_of_driver, bus_byte}
 use Rattle.micro_program.specs.Program.{Job, is_ready_status}
 use Rattle.micro_program.specs.Moves.{Move, Give, Take, poll}
 use Rattle.micro_program.specs.Played.{Played, answered, played}
 use Rattle.micro_program.specs.Safe.{MovesAreOwn}
-use Rattle.micro_program.proofs.Below.{facts, outputs}
+use Rattle.micro_program.proofs.Below.{facts, outputs, service}
 use Rattle.micro_program.proofs.Basics.{there_lun}
 use Rattle.micro_program.proofs.Calm.{Calm, calmer, either_calm, calm_cycle, calm_after, own_effect}
-use Rattle.micro_program.proofs.Cycles.{permitted_cycle, tail_more, own_address, own_status, tail_status, own_enhanced, tail_enhanced, judge_enhanced_1, judge_enhanced_2, judge_enhanced_3, judge_output}
+use Rattle.micro_program.proofs.Cycles.{of_no_target, permitted_cycle, tail_more, own_address, own_status, tail_status, own_enhanced, tail_enhanced, judge_enhanced_1, judge_enhanced_2, judge_enhanced_3, judge_output}
 
 -- a status after data was read loses the column
 abbrev pub lost : ReadColumn → ReadColumn
@@ -42,7 +43,8 @@ pub record Polling (s : Channel) (j : Job) (past : List Item) : Type 0 where
   pub before : List Move
   pub polled : List Item
   pub moves_are : poll s.geometry j ≡ Some (before ++ (Take ∷ []))
-  pub own : MovesAreOwn s j.lun (Take ∷ []) polled → MovesAreOwn s j.lun (before ++ (Take ∷ [])) past
+  pub own : is_serving s.geometry past j.lun.ce ≡ false → MovesAreOwn s j.lun (Take ∷ []) polled → MovesAreOwn s j.lun (before ++ (Take ∷ [])) past
+  pub free : is_serving s.geometry past j.lun.ce ≡ false → is_serving s.geometry polled j.lun.ce ≡ false
   pub plays : played s j.lun.ce (before ++ (Take ∷ [])) past ≡ played s j.lun.ce (Take ∷ []) polled
   pub answers : (bytes : List ℕ) → answered j.lun.ce (before ++ (Take ∷ [])) bytes past ≡ answered j.lun.ce (Take ∷ []) bytes polled
   pub closed : is_open_on polled j.lun.ce ≡ false
@@ -53,17 +55,25 @@ pub record Polling (s : Channel) (j : Job) (past : List Item) : Type 0 where
 
 -- 1. by 70h, where there is one LUN
 
-latch_status : (g : Parts) (past : List Item) (ce n : ℕ) → latch g (cycle ce Cmd 0x70 ∷ past) (record { ce = ce; lun = n }) ≡ Status
+latch_status : (g : Parts) (past : List Item) (ce n : ℕ) → ltb 1 g.luns ≡ false → latch g (cycle ce Cmd 0x70 ∷ past) (record { ce = ce; lun = n }) ≡ Status
 unfolding command
-latch_status g past ce n = rw (eqb_self ce) refl
+latch_status g past ce n one = at (is_wide g.optional) refl
+  where
+    at : (w : Bool) → is_wide g.optional ≡ w → latch g (cycle ce Cmd 0x70 ∷ past) (record { ce = ce; lun = n }) ≡ Status
+    at true e = rw (eqb_self ce, e, one) refl
+    at false e = rw (eqb_self ce, e) refl
 
 calm_status : (g : Parts) (past : List Item) (l : Lun) → Calm g past (cycle l.ce Cmd 0x70 ∷ past) l
 unfolding command
-calm_status g past l = calm_cycle g past l Cmd 0x70 refl
+calm_status g past l = calm_cycle g past l Cmd 0x70 (either_calm (is_shared g) StatusOfSelected StatusSelected refl refl)
+
+either_lost : (b : Bool) (k : ReadColumn) → read_column_after (cond b StatusOfSelected StatusSelected) k ≡ lost k
+either_lost true k = refl
+either_lost false k = refl
 
 column_status : (g : Parts) (past : List Item) (l : Lun) → read_column g (cycle l.ce Cmd 0x70 ∷ past) l ≡ lost (read_column g past l)
 unfolding command
-column_status g past l = ap (λ (e : Effect). read_column_after e (read_column g past l)) (own_effect g past l Cmd 0x70)
+column_status g past l = ap (λ (e : Effect). read_column_after e (read_column g past l)) (own_effect g past l Cmd 0x70) ∙ either_lost (is_shared g) (read_column g past l)
 
 polling_by_70 : (s : Channel) (j : Job) (past : List Item) → ltb 1 s.geometry.luns ≡ false → is_there s j.lun ≡ true → is_open_on past j.lun.ce ≡ false → Polling s j past
 polling_by_70 s j past several there closed =
@@ -71,12 +81,13 @@ polling_by_70 s j past several there closed =
       before = Give Cmd 0x70 ∷ [];
       polled = cycle j.lun.ce Cmd 0x70 ∷ past;
       moves_are = rw several refl;
-      own = λ last. (own_status s j.lun past there several closed, last);
+      own = λ free last. (own_status s j.lun past there several closed, last);
+      free = λ free. service.own s.geometry past (cycle j.lun.ce Cmd 0x70) j.lun j.lun.ce (own_status s j.lun past there several closed).own free;
       plays = refl;
       answers = λ bytes. refl;
       closed = subst (λ (t : List TargetCycle). is_open (facts_of t) ≡ false) (sym (tail_status past j.lun.ce)) refl;
-      one = subst (λ (n : ℕ). is_only (drivers_from (λ m. latch s.geometry (cycle j.lun.ce Cmd 0x70 ∷ past) (record { ce = j.lun.ce; lun = m })) n 0) j.lun.lun ≡ true) (sym one) (rw (latch_status s.geometry past j.lun.ce 0) zero_is);
-      shows = latch_status s.geometry past j.lun.ce j.lun.lun;
+      one = subst (λ (n : ℕ). is_only (drivers_from (λ m. latch s.geometry (cycle j.lun.ce Cmd 0x70 ∷ past) (record { ce = j.lun.ce; lun = m })) n 0) j.lun.lun ≡ true) (sym one) (rw (latch_status s.geometry past j.lun.ce 0 several) zero_is);
+      shows = latch_status s.geometry past j.lun.ce j.lun.lun several;
       leaves = calm_status s.geometry past j.lun;
       column = column_status s.geometry past j.lun;
     }
@@ -96,15 +107,16 @@ calm_enhanced : (g : Parts) (past : List Item) (l : Lun) → Calm g past (cycle 
 unfolding command
 calm_enhanced g past l = calm_cycle g past l Cmd 0x78 refl
 
-picked : (b : Bool) (before : Latch) → latch_after (cond b SelectedForStatus Deselected) before ≡ cond b Status Off
-picked true before = refl
-picked false before = refl
+picked : (b p q : Bool) (before : Latch) → latch_after (cond b SelectedForStatus Deselected) p q before ≡ cond b Status Off
+picked true p q before = refl
+picked false p q before = refl
 
 latch_enhanced : (g : Parts) (past : List Item) (ce n r1 r2 r3 : ℕ) → tail past ce ≡ AddressCycle r2 ∷ (AddressCycle r1 ∷ (CommandCycle ReadStatusEnhanced ∷ [])) → latch g (cycle ce Adr r3 ∷ past) (record { ce = ce; lun = n }) ≡ cond ((parts_of g (row_of r1 r2 r3)).lun == n) Status Off
 latch_enhanced g past ce n r1 r2 r3 e =
+    let v = lun_view g past (record { ce = ce; lun = n }) in
     rw (eqb_self ce)
-    (subst (λ (u : List TargetCycle). latch_after (cycle_effect g (facts_of u) (latch g past (record { ce = ce; lun = n })) (AddressCycle r3) n) (latch g past (record { ce = ce; lun = n })) ≡ cond ((parts_of g (row_of r1 r2 r3)).lun == n) Status Off) (sym e)
-    (picked ((parts_of g (row_of r1 r2 r3)).lun == n) (latch g past (record { ce = ce; lun = n }))))
+    (subst (λ (u : List TargetCycle). latch_after (cycle_effect g (facts_of u) v.latch (AddressCycle r3) n) v.selected (works v) v.latch ≡ cond ((parts_of g (row_of r1 r2 r3)).lun == n) Status Off) (sym e)
+    (picked ((parts_of g (row_of r1 r2 r3)).lun == n) v.selected (works v) v.latch))
 
 -- where one number alone is on, it is the one driver
 none_from : (latches : ℕ → Latch) (k : ℕ) → ((m : ℕ) → latches m ≡ cond (k == m) Status Off) → (count n : ℕ) → k < n → drivers_from latches count n ≡ []
@@ -148,7 +160,12 @@ polling_by_78 s j past limits row several there closed =
       before = Give Cmd 0x78 ∷ (Give Adr row.r1 ∷ (Give Adr row.r2 ∷ (Give Adr row.r3 ∷ [])));
       polled = p4;
       moves_are = rw (several, row.there) refl;
-      own = λ last. (own_enhanced s j.lun past there enhanced closed, (own_address s j.lun p1 row.r1 (CommandCycle ReadStatusEnhanced ∷ []) there t1 (judge_enhanced_1 s.geometry _ row.r1) refl, (own_address s j.lun p2 row.r2 (AddressCycle row.r1 ∷ (CommandCycle ReadStatusEnhanced ∷ [])) there t2 (judge_enhanced_2 s.geometry _ row.r1 row.r2) refl, (own_address s j.lun p3 row.r3 (AddressCycle row.r2 ∷ (AddressCycle row.r1 ∷ (CommandCycle ReadStatusEnhanced ∷ []))) there t3 (judge_enhanced_3 s.geometry _ row.r1 row.r2 row.r3 row.inside) (eq-eqb _ _ named), last))));
+      own = λ free last. (own_enhanced s j.lun past there enhanced closed free, (own_address s j.lun p1 row.r1 (CommandCycle ReadStatusEnhanced ∷ []) there t1 (judge_enhanced_1 s.geometry _ row.r1) refl refl, (own_address s j.lun p2 row.r2 (AddressCycle row.r1 ∷ (CommandCycle ReadStatusEnhanced ∷ [])) there t2 (judge_enhanced_2 s.geometry _ row.r1 row.r2) refl refl, (own_address s j.lun p3 row.r3 (AddressCycle row.r2 ∷ (AddressCycle row.r1 ∷ (CommandCycle ReadStatusEnhanced ∷ []))) there t3 (judge_enhanced_3 s.geometry _ row.r1 row.r2 row.r3 row.inside) (eq-eqb _ _ named) refl, last))));
+      free = λ free.
+          service.own s.geometry p3 (cycle j.lun.ce Adr row.r3) j.lun j.lun.ce (own_address s j.lun p3 row.r3 (AddressCycle row.r2 ∷ (AddressCycle row.r1 ∷ (CommandCycle ReadStatusEnhanced ∷ []))) there t3 (judge_enhanced_3 s.geometry _ row.r1 row.r2 row.r3 row.inside) (eq-eqb _ _ named) refl).own
+          (service.own s.geometry p2 (cycle j.lun.ce Adr row.r2) j.lun j.lun.ce (own_address s j.lun p2 row.r2 (AddressCycle row.r1 ∷ (CommandCycle ReadStatusEnhanced ∷ [])) there t2 (judge_enhanced_2 s.geometry _ row.r1 row.r2) refl refl).own
+          (service.own s.geometry p1 (cycle j.lun.ce Adr row.r1) j.lun j.lun.ce (own_address s j.lun p1 row.r1 (CommandCycle ReadStatusEnhanced ∷ []) there t1 (judge_enhanced_1 s.geometry _ row.r1) refl refl).own
+          (service.own s.geometry past (cycle j.lun.ce Cmd 0x78) j.lun j.lun.ce (own_enhanced s j.lun past there enhanced closed free).own free)));
       plays = refl;
       answers = λ bytes. refl;
       closed = subst (λ (t : List TargetCycle). is_open (facts_of t) ≡ false) (sym t4) refl;
@@ -217,12 +234,12 @@ pub own_output : (s : Channel) (j : Job) (past : List Item) (byte : ℕ) → is_
 own_output s j past byte there p =
     record {
       permitted = permitted_cycle s p.polled j.lun Dout byte there (judge_output s.geometry _ _ (lun_view s.geometry p.polled j.lun) p.closed (facts.sole_driver s.geometry p.polled j.lun p.one) (ap is_data p.shows));
-      own = and_from _ _ (eqb_self j.lun.ce) p.one;
+      own = and_from _ _ (eqb_self j.lun.ce) (of_no_target (is_shared s.geometry) false _ refl p.one);
     }
 
 -- the cycles of a poll are own
-pub own_poll : (s : Channel) (j : Job) (past : List Item) → is_there s j.lun ≡ true → (p : Polling s j past) → MovesAreOwn s j.lun (p.before ++ (Take ∷ [])) past
-own_poll s j past there p = p.own (λ byte. (own_output s j past byte there p, tt))
+pub own_poll : (s : Channel) (j : Job) (past : List Item) → is_there s j.lun ≡ true → is_serving s.geometry past j.lun.ce ≡ false → (p : Polling s j past) → MovesAreOwn s j.lun (p.before ++ (Take ∷ [])) past
+own_poll s j past there free p = p.own free (λ byte. (own_output s j past byte there p, tt))
 
 byte_of_only : (s : Channel) (past : List Item) (l : Lun) (ds : List ℕ) → is_only ds l.lun ≡ true → byte_of_driver s past l.ce ds ≡ shown s.geometry s.parameters s.opening past l
 byte_of_only s past l [] h = cc

@@ -6,7 +6,7 @@ use Rattle.onfi_cycle.specs.declared.item.Item.{Item}
 use Rattle.onfi_cycle.specs.declared.item.Item.TheVariants.{Cyc, Rdy, Ard}
 use Rattle.onfi_cycle.specs.declared.effect.Effect.{Effect}
 use Rattle.onfi_cycle.specs.declared.effect.Effect.TheVariants.{Unaffected, BecameReady, ArrayBecameReady}
-use Rattle.onfi_cycle.specs.Lun.{effect_on, closer, closer_after, queue, queue_after}
+use Rattle.onfi_cycle.specs.Lun.{closer, closer_after, queue, queue_after, effect_among}
 use Rattle.onfi_cycle.specs.Channel.{is_cycle}
 
 abbrev LeavesBoth : Parts → List Item → Lun → Effect → Type 0
@@ -14,7 +14,7 @@ LeavesBoth g past l e = (closer_after e (closer g past l) ≡ closer g past l) �
 
 -- a ready leaves closer and queue
 pub ready_leaves : (g : Parts) (past : List Item) (i : Item) (l : Lun) → is_cycle i ≡ false → (closer g (i ∷ past) l ≡ closer g past l) × (queue g (i ∷ past) l ≡ queue g past l)
-unfolding effect_on
+unfolding effect_among
 ready_leaves g past (Cyc c) l h = cc
 ready_leaves g past (Rdy ce lun fail) l h = at (ce == l.ce && lun == l.lun)
   where

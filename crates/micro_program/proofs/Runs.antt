@@ -7,7 +7,7 @@ use Rattle.onfi_cycle.specs.declared.item.Kind.TheVariants.{Cmd, Adr, Dout}
 use Rattle.onfi_cycle.specs.declared.item.Item.{Item}
 use Rattle.onfi_cycle.specs.declared.item.Item.TheVariants.{Cyc, Rdy}
 use Rattle.onfi_cycle.specs.Command.{command}
-use Rattle.onfi_cycle.specs.Lun.{effect_on}
+use Rattle.onfi_cycle.specs.Lun.{effect_among}
 use Rattle.onfi_cycle.specs.Channel.{Channel}
 use Rattle.micro_word.specs.declared.word.Word.{Word}
 use Rattle.micro_word.specs.declared.word.Word.TheVariants.{Row, Plane, Column, BranchOnStatus, End, Command, Address, Get, Put, Seek, Wait, Yield, Loop, Next, Jump}
@@ -80,11 +80,11 @@ abbrev erase : Microprogram
 erase = record { rows = 1; buffer = 0; budget = 5; words = Command 0x60 ∷ (Address 2 3 ∷ (Command 0xd0 ∷ (Wait ∷ (End 0 ∷ [])))) }
 
 erase_one_block : result one_lun (job one_lun 0 4 erase []) (S ∷ (S ∷ (S ∷ (S ∷ (R false ∷ (S ∷ (S ∷ []))))))) ≡ Some (record { went = Went ∷ (Went ∷ (Went ∷ (NotReady ∷ (Went ∷ (Ended ∷ []))))); trace = c 0x60 ∷ (a 4 ∷ (a 0 ∷ (a 0 ∷ (c 0xd0 ∷ (c 0x70 ∷ (o 0x80 ∷ (Rdy 0 0 false ∷ (c 0x70 ∷ (o 0xe0 ∷ []))))))))); code = Some 0; buffer = []; cost = 5 })
-unfolding unrolled command width effect_on
+unfolding unrolled command width effect_among
 erase_one_block = refl
 
 erase_on_lun_one : result two_luns (job two_luns 1 0 erase []) (S ∷ (S ∷ (S ∷ (R false ∷ (S ∷ (S ∷ [])))))) ≡ Some (record { went = Went ∷ (Went ∷ (Went ∷ (Went ∷ (Ended ∷ [])))); trace = c 0x60 ∷ (a 0x20 ∷ (a 0 ∷ (a 0 ∷ (c 0xd0 ∷ (Rdy 0 1 false ∷ (c 0x78 ∷ (a 0x20 ∷ (a 0 ∷ (a 0 ∷ (o 0xe0 ∷ [])))))))))); code = Some 0; buffer = []; cost = 5 })
-unfolding unrolled command width effect_on
+unfolding unrolled command width effect_among
 erase_on_lun_one = refl
 
 -- the actions of the erase: with no answer up to the wait, with one to the end
@@ -114,11 +114,11 @@ code_of None = None
 code_of (Some r) = r.code
 
 failed_erase_branches : code_of (result one_lun (job one_lun 0 0 erase_or_fail []) (S ∷ (S ∷ (S ∷ (R true ∷ (S ∷ (S ∷ (S ∷ [])))))))) ≡ Some 1
-unfolding unrolled command width effect_on
+unfolding unrolled command width effect_among
 failed_erase_branches = refl
 
 good_erase_goes_on : code_of (result one_lun (job one_lun 0 0 erase_or_fail []) (S ∷ (S ∷ (S ∷ (R false ∷ (S ∷ (S ∷ (S ∷ [])))))))) ≡ Some 0
-unfolding unrolled command width effect_on
+unfolding unrolled command width effect_among
 good_erase_goes_on = refl
 
 -- the words of the actions
@@ -162,7 +162,7 @@ abbrev read_identifier : Microprogram
 read_identifier = record { rows = 1; buffer = 4; budget = 6; words = Column 32 ∷ (Command 0x90 ∷ (Address 0 1 ∷ (Loop 2 ∷ (Loop 2 ∷ (Get 1 ∷ (Next ∷ (Next ∷ (End 3 ∷ [])))))))) }
 
 identifier_is_read : result one_lun (job one_lun 0 0 read_identifier (0 ∷ (0 ∷ (0 ∷ (0 ∷ []))))) (S ∷ (S ∷ (S ∷ (S ∷ (S ∷ (S ∷ (S ∷ (S ∷ (S ∷ (S ∷ (S ∷ (S ∷ (S ∷ (S ∷ (S ∷ (S ∷ (S ∷ []))))))))))))))))) ≡ Some (record { went = replicate 16 Went ++ (Ended ∷ []); trace = c 0x90 ∷ (a 0x20 ∷ (o 0x4f ∷ (o 0x4e ∷ (o 0x46 ∷ (o 0x49 ∷ []))))); code = Some 3; buffer = 0x4f ∷ (0x4e ∷ (0x46 ∷ (0x49 ∷ []))); cost = 6 })
-unfolding unrolled command width effect_on
+unfolding unrolled command width effect_among
 identifier_is_read = refl
 
 -- a page is programmed and read again
@@ -177,5 +177,5 @@ buffer_of None = []
 buffer_of (Some r) = r.buffer
 
 page_is_read_again : buffer_of (result one_lun (job one_lun 0 0 program_then_read (0xa5 ∷ (0x3c ∷ (0 ∷ (0 ∷ []))))) (steps 9 (R false ∷ steps 9 (R false ∷ steps 4 [])))) ≡ 0xa5 ∷ (0x3c ∷ (0xa5 ∷ (0x3c ∷ [])))
-unfolding unrolled command width effect_on
+unfolding unrolled command width effect_among
 page_is_read_again = refl

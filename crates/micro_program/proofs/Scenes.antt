@@ -16,12 +16,12 @@ use Rattle.onfi_cycle.specs.declared.tail_facts.TailFacts.{TailFacts}
 use Rattle.onfi_cycle.specs.declared.target_cycle.TargetCycle.{TargetCycle}
 use Rattle.onfi_cycle.specs.declared.target_cycle.TargetCycle.TheVariants.{CommandCycle, AddressCycle, InputCycle, OutputCycle}
 use Rattle.onfi_cycle.specs.LunView.{LunView}
-use Rattle.onfi_cycle.specs.Sequence.{tail, facts_of, facts_after, is_open, takes_features, takes_inputs, wants_command, wants_address, row, row_with, column_with, input_column}
+use Rattle.onfi_cycle.specs.Sequence.{tail, facts_of, facts_after, opened, is_open, takes_features, takes_inputs, wants_command, wants_address, row, row_with, column_with, input_column}
 use Rattle.onfi_cycle.specs.Effect.{page_address, names_lun, cycle_effect}
 use Rattle.onfi_cycle.specs.Lun.{drivers, is_only, lun_view, view_after}
 use Rattle.onfi_cycle.specs.Rules.{ends_row, second_of_page, second_column, caching, continues_cache, ends_cache, may_change_column, has_some, is_refused_by, register_len, has_no_byte, is_past_register, is_undeclared_address}
-use Rattle.onfi_cycle.specs.Command.{addresses_the_array, is_change_read_column}
-use Rattle.onfi_cycle.specs.Channel.{Channel}
+use Rattle.onfi_cycle.specs.Command.{addresses_the_array, is_change_read_column, reads_identity}
+use Rattle.onfi_cycle.specs.Channel.{Channel, is_serving}
 
 pub record Scene : Type 0 where
   pub facts : TailFacts
@@ -33,6 +33,7 @@ pub record IsScene (s : Channel) (l : Lun) (past : List Item) (c : Scene) : Type
   pub facts : facts_of (tail past l.ce) ≡ c.facts
   pub view : lun_view s.geometry past l ≡ c.view
   pub sole : c.sole ≡ true → is_only (drivers s.geometry past l.ce) l.lun ≡ true
+  pub free : is_serving s.geometry past l.ce ≡ false
 
 -- ---- what is allowed
 
@@ -97,6 +98,7 @@ pub record RowAllowed (g : Parts) (lun : ℕ) (c : Scene) (byte : ℕ) : Type 0 
 pub record AddressAllowed (g : Parts) (lun : ℕ) (c : Scene) (byte : ℕ) : Type 0 where
   pub wanted : wants_address c.facts byte ≡ true
   pub profile : is_undeclared_address g c.facts byte ≡ false
+  pub alone : opened (λ d n. reads_identity d) c.facts.opening ≡ true → ltb 1 g.luns ≡ false
   pub row : ends_row (λ d. true) c.facts ≡ true → RowAllowed g lun c byte
   pub column : second_of_page c.facts ≡ true → nat_le (page_len g) (column_with c.facts byte) ≡ false
   pub read_column : second_column is_change_read_column c.facts ≡ true → (c.sole ≡ true) × (nat_le (register_len g c.view.register) (column_with c.facts byte) ≡ false)
@@ -104,6 +106,7 @@ pub record AddressAllowed (g : Parts) (lun : ℕ) (c : Scene) (byte : ℕ) : Typ
 -- an input of a program, inside the page, or one of the four of a Set Features
 pub record InputAllowed (g : Parts) (c : Scene) : Type 0 where
   pub wanted : takes_inputs c.facts.phase ≡ true
+  pub alone : takes_features c.facts.phase ≡ true → ltb 1 g.luns ≡ false
   pub inside : (not (takes_features c.facts.phase) && nat_le (page_len g) (input_column c.facts)) ≡ false
 
 pub record OutputAllowed (g : Parts) (c : Scene) : Type 0 where

@@ -7,7 +7,7 @@ use Rattle.onfi_cycle.specs.declared.item.Item.{Item}
 use Rattle.onfi_cycle.specs.declared.forbidden.Forbidden.TheVariants.{CommandUnknown}
 use Rattle.onfi_cycle.specs.Command.{command}
 use Rattle.onfi_cycle.specs.Rules.{breaks_not_there, breaks_command_unknown}
-use Rattle.onfi_cycle.specs.Lun.{effect_on}
+use Rattle.onfi_cycle.specs.Lun.{effect_among}
 use Rattle.onfi_cycle.specs.Channel.{IsChannel, cycle}
 use Rattle.micro_word.specs.declared.word.Word.{Word}
 use Rattle.micro_word.specs.declared.word.Word.TheVariants.{End, Command, Address, Get, Wait, Yield}
@@ -53,7 +53,7 @@ refused budget words seat reaches may bad safe =
 
 -- at the beginning, on a fresh channel
 fresh : (t : Microprogram) → Reaches (on one_lun) (job_of t) (loaded (job_of t) [])
-fresh t = starts [] refl (record { ready = refl; no_cache = refl; no_queue = refl })
+fresh t = starts [] refl (record { ready = refl; no_cache = refl; no_queue = refl; free = refl })
 
 -- no word at all
 no_end_is_unsafe : IsUnsafe 0 []
@@ -111,7 +111,7 @@ budget_one_short_is_unsafe =
 
 -- an erase that doesn't wait
 end_while_busy_is_unsafe : IsUnsafe 5 (erase_then (End 0 ∷ []))
-unfolding command width effect_on
+unfolding command width effect_among
 end_while_busy_is_unsafe =
     refused 5 (erase_then (End 0 ∷ [])) (after_step (stride_d0 (End 0 ∷ []))) (at_d0 5 (End 0 ∷ [])) refl
     (λ f. let busy : true ≡ false = (f.idle refl).ready in cc)
@@ -156,7 +156,7 @@ abbrev stride_lie : Stride
 stride_lie = record { past = after_lie; ahead = line 4 (End 0) ∷ []; done = record { word = Wait; answer = Polled 0xe0 } ∷ done_d0; code = None; outcome = Went }
 
 pub truth_is_needed : TruthIsNeeded
-unfolding command width effect_on
+unfolding command width effect_among
 truth_is_needed =
     record {
       s = on one_lun;

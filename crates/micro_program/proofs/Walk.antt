@@ -1,5 +1,5 @@
 -- Moves that are own are played, and what they add is their LUN's own.
-use Rattle.std.proofs.Common.{◌≡◌, ℕ, length, arith, ◌==◌, Bool, true, false, cond, List, [], ◌∷◌, ◌++◌, Option, Some, None, refl, sym, subst, ltb}
+use Rattle.std.proofs.Common.{◌≡◌, ℕ, length, arith, ◌==◌, Bool, true, false, not, ◌&&◌, cond, List, [], ◌∷◌, ◌++◌, Option, Some, None, refl, sym, subst, ltb}
 use Rattle.std.proofs.lemmas.Bool.{and_parts}
 use Rattle.nand_geometry.specs.Row.{row_bytes_of}
 use Rattle.onfi_cycle.specs.declared.lun.Lun.{Lun}
@@ -8,6 +8,7 @@ use Rattle.onfi_cycle.specs.declared.item.Item.TheVariants.{Cyc}
 use Rattle.onfi_cycle.specs.declared.item.Cycle.{Cycle}
 use Rattle.onfi_cycle.specs.declared.item.Kind.{Kind}
 use Rattle.onfi_cycle.specs.declared.item.Kind.TheVariants.{Cmd, Adr, Dout}
+use Rattle.onfi_cycle.specs.Effect.{is_shared}
 use Rattle.onfi_cycle.specs.Permitted.{is_legal}
 use Rattle.onfi_cycle.specs.Channel.{Channel, IsChannel, IsOwn, cycle, bus_byte, is_open_on}
 use Rattle.micro_program.specs.Moves.{Move, Give, Take, and_then, gives, poll, outputs}
@@ -48,7 +49,7 @@ shown s is l [] past own = (record { past = past; bytes = [] }, refl)
 shown s is l (Give kind byte ∷ rest) past own = shown s is l rest (cycle l.ce kind byte ∷ past) own.1
 shown s is l (Take ∷ rest) past own =
     let first = own 0 in
-    let driven = (and_parts (l.ce == l.ce) _ first.0.own).1 in
+    let driven = (and_parts (not (is_shared s.geometry && false)) _ (and_parts (l.ce == l.ce) _ first.0.own).1).1 in
     let b = outputs_show.has_byte s is past l 0 first.0.permitted driven in
     let q = shown s is l rest (cycle l.ce Dout b.0 ∷ past) (own b.0).1 in
     (record { past = q.0.past; bytes = b.0 ∷ q.0.bytes }, rw b.1 (rw q.1 refl))

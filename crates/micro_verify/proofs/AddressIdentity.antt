@@ -82,8 +82,8 @@ unfolding breaks_command_unknown breaks_sequence_open breaks_several_luns breaks
 other_id g view byte base other = at (byte == 0x00 || byte == 0x40) refl
   where
     at : (b : Bool) → (byte == 0x00 || byte == 0x40) ≡ b → judged g (asked ReadId view) (AddressCycle byte) ≡ Some AddressMisplaced
-    at true e = rw (base, other, e) refl
-    at false e = rw (base, other, e) refl
+    at true e = rw (other, e) refl
+    at false e = rw (other, e) refl
 
 other_byte : (g : Parts) (o : Command) (view : LunView) (byte : ℕ) → is_wide g.optional ≡ false → asks o ≡ true → base_identity o byte ≡ false → judged g (asked o view) (AddressCycle byte) ≡ Some AddressMisplaced
 other_byte g ReadId view byte base reads takes = other_id g view byte base takes

@@ -38,14 +38,10 @@ named_none (Some v) test h = h v
 -- an address that is wanted and isn't the last of a row breaks F14 or no rule
 pub plain_judged : (g : Parts) (c : Lone) (byte : ℕ) → wants_address c.facts byte ≡ true → ends_row (λ d. true) c.facts ≡ false → ends_row addresses_the_array c.facts ≡ false → (opened (λ o n. is_read_id o) c.facts.opening && not (byte == 0x20)) ≡ false → ((p : PageAddress) (q : List Queued) → is_refused_by g c.facts.opening p q ≡ false) → judged g c (AddressCycle byte) ≡ cond ((second_of_page c.facts && nat_le (page_len g) (column_with c.facts byte)) || (second_column is_change_read_column c.facts && driver_is (λ v. nat_le (register_len g v.register) (column_with c.facts byte)) (c.view ∷ []))) (Some ColumnOutside) None
 unfolding breaks_command_unknown breaks_sequence_open breaks_several_luns breaks_no_column_to_change breaks_command_misplaced breaks_address_misplaced breaks_row_outside breaks_lun_busy breaks_queue_clash breaks_input_misplaced breaks_no_sole_driver breaks_data_not_ready breaks_column_outside breaks_cache_read_misplaced
-plain_judged g c byte wanted ends array id refuses = at (is_wide g.optional) refl
+plain_judged g c byte wanted ends array id refuses = rw (wanted, id, ends, array, none) refl
   where
     none : named_lun_is g (row_with c.facts byte) (λ v. is_refused_by g c.facts.opening (page_address g (row_with c.facts byte)) v.queue) (c.view ∷ []) ≡ false
     none = named_none (slice_get (c.view ∷ []) (parts_of g (row_with c.facts byte)).lun) (λ v. is_refused_by g c.facts.opening (page_address g (row_with c.facts byte)) v.queue) (λ v. refuses _ _)
-
-    at : (b : Bool) → is_wide g.optional ≡ b → judged g c (AddressCycle byte) ≡ cond ((second_of_page c.facts && nat_le (page_len g) (column_with c.facts byte)) || (second_column is_change_read_column c.facts && driver_is (λ v. nat_le (register_len g v.register) (column_with c.facts byte)) (c.view ∷ []))) (Some ColumnOutside) None
-    at true e = rw (wanted, e, ends, array, none) refl
-    at false e = rw (wanted, e, id, ends, array, none) refl
 
 -- the row is inside, and of the only LUN
 pub record RowThere (g : Parts) (a : Address) : Type 0 where
@@ -80,17 +76,13 @@ read_judged g a view (suc (suc zero)) few row = plain_judged g (cursor Read a vi
 read_judged g a view (suc (suc (suc zero))) few row = plain_judged g (cursor Read a view 3) (nth 3 (bytes_of Read a)) refl refl refl refl (λ p q. refl)
 read_judged g a view (suc (suc (suc (suc zero)))) few row =
     let r = row refl in
-    at r (is_wide g.optional) refl view.busy refl (refused_by g Read (page_address g (row_of a.r1 a.r2 a.r3)) view.queue) refl (caching view) refl
+    at r view.busy refl (refused_by g Read (page_address g (row_of a.r1 a.r2 a.r3)) view.queue) refl (caching view) refl
   where
-    at : RowThere g a → (w : Bool) → is_wide g.optional ≡ w → (b : Bool) → view.busy ≡ b → (q : Bool) → refused_by g Read (page_address g (row_of a.r1 a.r2 a.r3)) view.queue ≡ q → (k : Bool) → caching view ≡ k → IsJudged g Read a view 4
-    at r true x true e q f k h = rw (x, r.inside, r.lun, e) refl
-    at r true x false e true f k h = rw (x, r.inside, r.lun, e, f) refl
-    at r true x false e false f true h = rw (x, r.inside, r.lun, e, f, h) refl
-    at r true x false e false f false h = rw (x, r.inside, r.lun, e, f, h) refl
-    at r false x true e q f k h = rw (x, r.inside, r.lun, e) refl
-    at r false x false e true f k h = rw (x, r.inside, r.lun, e, f) refl
-    at r false x false e false f true h = rw (x, r.inside, r.lun, e, f, h) refl
-    at r false x false e false f false h = rw (x, r.inside, r.lun, e, f, h) refl
+    at : RowThere g a → (b : Bool) → view.busy ≡ b → (q : Bool) → refused_by g Read (page_address g (row_of a.r1 a.r2 a.r3)) view.queue ≡ q → (k : Bool) → caching view ≡ k → IsJudged g Read a view 4
+    at r true e q f k h = rw (r.inside, r.lun, e) refl
+    at r false e true f k h = rw (r.inside, r.lun, e, f) refl
+    at r false e false f true h = rw (r.inside, r.lun, e, f, h) refl
+    at r false e false f false h = rw (r.inside, r.lun, e, f, h) refl
 read_judged g a view (suc (suc (suc (suc (suc i))))) few row = absurd (omega (arith, few))
 
 pub program_judged : (g : Parts) (a : Address) (view : LunView) (i : ℕ) → i ≤ 4 → (i ≡ 4 → RowThere g a) → IsJudged g PageProgram a view i
@@ -101,17 +93,13 @@ program_judged g a view (suc (suc zero)) few row = plain_judged g (cursor PagePr
 program_judged g a view (suc (suc (suc zero))) few row = plain_judged g (cursor PageProgram a view 3) (nth 3 (bytes_of PageProgram a)) refl refl refl refl (λ p q. refl)
 program_judged g a view (suc (suc (suc (suc zero)))) few row =
     let r = row refl in
-    at r (is_wide g.optional) refl view.busy refl (refused_by g PageProgram (page_address g (row_of a.r1 a.r2 a.r3)) view.queue) refl (caching view) refl
+    at r view.busy refl (refused_by g PageProgram (page_address g (row_of a.r1 a.r2 a.r3)) view.queue) refl (caching view) refl
   where
-    at : RowThere g a → (w : Bool) → is_wide g.optional ≡ w → (b : Bool) → view.busy ≡ b → (q : Bool) → refused_by g PageProgram (page_address g (row_of a.r1 a.r2 a.r3)) view.queue ≡ q → (k : Bool) → caching view ≡ k → IsJudged g PageProgram a view 4
-    at r true x true e q f k h = rw (x, r.inside, r.lun, e) refl
-    at r true x false e true f k h = rw (x, r.inside, r.lun, e, f) refl
-    at r true x false e false f true h = rw (x, r.inside, r.lun, e, f, h) refl
-    at r true x false e false f false h = rw (x, r.inside, r.lun, e, f, h) refl
-    at r false x true e q f k h = rw (x, r.inside, r.lun, e) refl
-    at r false x false e true f k h = rw (x, r.inside, r.lun, e, f) refl
-    at r false x false e false f true h = rw (x, r.inside, r.lun, e, f, h) refl
-    at r false x false e false f false h = rw (x, r.inside, r.lun, e, f, h) refl
+    at : RowThere g a → (b : Bool) → view.busy ≡ b → (q : Bool) → refused_by g PageProgram (page_address g (row_of a.r1 a.r2 a.r3)) view.queue ≡ q → (k : Bool) → caching view ≡ k → IsJudged g PageProgram a view 4
+    at r true e q f k h = rw (r.inside, r.lun, e) refl
+    at r false e true f k h = rw (r.inside, r.lun, e, f) refl
+    at r false e false f true h = rw (r.inside, r.lun, e, f, h) refl
+    at r false e false f false h = rw (r.inside, r.lun, e, f, h) refl
 program_judged g a view (suc (suc (suc (suc (suc i))))) few row = absurd (omega (arith, few))
 
 pub erase_judged : (g : Parts) (a : Address) (view : LunView) (i : ℕ) → i ≤ 2 → (i ≡ 2 → RowThere g a) → IsJudged g BlockErase a view i
@@ -120,17 +108,13 @@ erase_judged g a view zero few row = plain_judged g (cursor BlockErase a view 0)
 erase_judged g a view (suc zero) few row = plain_judged g (cursor BlockErase a view 1) (nth 1 (bytes_of BlockErase a)) refl refl refl refl (λ p q. refl)
 erase_judged g a view (suc (suc zero)) few row =
     let r = row refl in
-    at r (is_wide g.optional) refl view.busy refl (refused_by g BlockErase (page_address g (row_of a.r1 a.r2 a.r3)) view.queue) refl (caching view) refl
+    at r view.busy refl (refused_by g BlockErase (page_address g (row_of a.r1 a.r2 a.r3)) view.queue) refl (caching view) refl
   where
-    at : RowThere g a → (w : Bool) → is_wide g.optional ≡ w → (b : Bool) → view.busy ≡ b → (q : Bool) → refused_by g BlockErase (page_address g (row_of a.r1 a.r2 a.r3)) view.queue ≡ q → (k : Bool) → caching view ≡ k → IsJudged g BlockErase a view 2
-    at r true x true e q f k h = rw (x, r.inside, r.lun, e) refl
-    at r true x false e true f k h = rw (x, r.inside, r.lun, e, f) refl
-    at r true x false e false f true h = rw (x, r.inside, r.lun, e, f, h) refl
-    at r true x false e false f false h = rw (x, r.inside, r.lun, e, f, h) refl
-    at r false x true e q f k h = rw (x, r.inside, r.lun, e) refl
-    at r false x false e true f k h = rw (x, r.inside, r.lun, e, f) refl
-    at r false x false e false f true h = rw (x, r.inside, r.lun, e, f, h) refl
-    at r false x false e false f false h = rw (x, r.inside, r.lun, e, f, h) refl
+    at : RowThere g a → (b : Bool) → view.busy ≡ b → (q : Bool) → refused_by g BlockErase (page_address g (row_of a.r1 a.r2 a.r3)) view.queue ≡ q → (k : Bool) → caching view ≡ k → IsJudged g BlockErase a view 2
+    at r true e q f k h = rw (r.inside, r.lun, e) refl
+    at r false e true f k h = rw (r.inside, r.lun, e, f) refl
+    at r false e false f true h = rw (r.inside, r.lun, e, f, h) refl
+    at r false e false f false h = rw (r.inside, r.lun, e, f, h) refl
 erase_judged g a view (suc (suc (suc i))) few row = absurd (omega (arith, few))
 
 pub change_judged : (g : Parts) (a : Address) (view : LunView) (i : ℕ) → i ≤ 1 → is_off view.latch ≡ false → IsJudged g ChangeReadColumn a view i

@@ -30,7 +30,7 @@ use Rattle.onfi_cycle.specs.Command.{command, closes, address_cycles, takes_addr
 use Rattle.onfi_cycle.specs.Sequence.{facts_after, is_proper_beginning, wants_command, wants_column, takes_data, takes_inputs, opened, row, input_column}
 use Rattle.onfi_cycle.specs.Effect.{names_lun, cycle_effect, page_address, is_off, is_data}
 use Rattle.onfi_cycle.specs.Lun.{view_after, resumed, column_at}
-use Rattle.onfi_cycle.specs.Rules.{breaks_command_unknown, breaks_several_luns, is_undeclared, may_change_column, is_page_or_parameters}
+use Rattle.onfi_cycle.specs.Rules.{breaks_command_unknown, is_undeclared, may_change_column, is_page_or_parameters}
 use Rattle.onfi_cycle.specs.Channel.{Channel}
 use Rattle.micro_word.specs.declared.word.Word.TheVariants.{Command as CommandWord}
 use Rattle.micro_word.specs.Text.{Microprogram}
@@ -66,7 +66,7 @@ use Rattle.micro_claims.proofs.Tails.{no_address, closed_by, only_read, only_era
 use Rattle.micro_claims.proofs.Sounding.{NoReasons, no_reasons}
 use Rattle.micro_claims.proofs.Commands.{same_either, out_of_place, wanted, row_names}
 use Rattle.micro_claims.proofs.MoreCommands.{declared, opener_free}
-use Rattle.micro_verify.proofs.Lone.{Lone, IsAlone, IsLone, lone_behind, judged, stops_there}
+use Rattle.micro_verify.proofs.Lone.{Lone, IsAlone, IsLone, lone_behind, judged, stops_there, based}
 use Rattle.micro_verify.proofs.Mirrors.{Mirrors, RegistersMirror, TailMirror, LunMirror, PlaceMirror, Shut, shows_of, held_of, is_modelled, place_queues, place_erases, row_goes_along, BoundIs, NameIs, ColumnMirror, exact_test, is_read_column, kept_plus, drift_from, RowsMirror, QueueMirror, RowMirror, AllMirror}
 use Rattle.micro_verify.proofs.Told.{told_command, barred, wants_by, closes_none}
 use Rattle.micro_verify.proofs.Causes.{Goes, ExactWord, IsFit, reason_holds, reason_is, cost_cause, lowest_row_or_plane_outside}
@@ -120,7 +120,7 @@ profile_is g d base = ap (λ (w : Bool). is_of_base d || (is_known d && w)) base
     none false false = refl
 
 pub command_cause : (s : Channel) (text : Microprogram) (v : State) (r : Run) (c : Lone) (byte : ℕ) → IsFit s text → IsLone s r.past c → Mirrors s.geometry (lone_job s.geometry text) v r.done c → continues_unseen (bounds_of text) (command byte) ≡ false → (reason : Reason) → reason_against s.geometry (bounds_of text) v (CommandWord byte) ≡ Some reason → Cause s (lone_job s.geometry text) r (CommandWord byte) reason
-unfolding breaks_cycle_forbidden breaks_address_unaligned breaks_handover_in_sequence breaks_buffer_passed breaks_row_or_plane_outside breaks_column_too_large breaks_no_status breaks_ends_too_soon breaks_command_not_allowed breaks_command_unknown breaks_several_luns
+unfolding breaks_cycle_forbidden breaks_address_unaligned breaks_handover_in_sequence breaks_buffer_passed breaks_row_or_plane_outside breaks_column_too_large breaks_no_status breaks_ends_too_soon breaks_command_not_allowed breaks_command_unknown
 command_cause s text v r c byte k is m seen reason e = by reason (reason_is s.geometry text v (CommandWord byte) reason e) e
   where
     g : Parts
@@ -163,7 +163,7 @@ command_goes s text v r c byte d k is_d fit is m clear same tail shows lun along
 pub goes_60 : (s : Channel) (text : Microprogram) (v : State) (r : Run) (c : Lone) (byte : ℕ) → IsFit s text → command byte ≡ BlockErase → IsLone s r.past c → Mirrors s.geometry (lone_job s.geometry text) v r.done c → NoReasons s.geometry text v (CommandWord byte) → Goes s text (state_after s.geometry v (CommandWord byte)) r (CommandWord byte)
 goes_60 s text v r c byte k is_d is m clear =
     let g = s.geometry in
-    let effect : cycle_effect g c.facts c.view.latch (CommandCycle BlockErase) 0 ≡ Unaffected = same_either (wants_command c.facts BlockErase && names_lun g (row c.facts) 0) in
+    let effect : cycle_effect (based g) c.facts c.view.latch (CommandCycle BlockErase) 0 ≡ Unaffected = same_either (wants_command c.facts BlockErase && names_lun g (row c.facts) 0) in
     command_goes s text v r c byte BlockErase k is_d refl is m clear refl
     (record { place = After BlockErase 0; single = refl; address = no_address; is = record { place = refl; facts = refl }; now = λ e. cc; column = λ e. cc; row = λ e. cc; named = λ e. cc; base = refl; changes = λ e. cc })
     (m.shows ∙ ap (λ (e : Effect). shows_of (view_after e c.view).latch) (sym effect))
@@ -173,7 +173,7 @@ goes_60 s text v r c byte k is_d is m clear =
 pub goes_80 : (s : Channel) (text : Microprogram) (v : State) (r : Run) (c : Lone) (byte : ℕ) → IsFit s text → command byte ≡ PageProgram → IsLone s r.past c → Mirrors s.geometry (lone_job s.geometry text) v r.done c → NoReasons s.geometry text v (CommandWord byte) → Goes s text (state_after s.geometry v (CommandWord byte)) r (CommandWord byte)
 goes_80 s text v r c byte k is_d is m clear =
     let g = s.geometry in
-    let effect : cycle_effect g c.facts c.view.latch (CommandCycle PageProgram) 0 ≡ Unaffected = same_either (wants_command c.facts PageProgram && names_lun g (row c.facts) 0) in
+    let effect : cycle_effect (based g) c.facts c.view.latch (CommandCycle PageProgram) 0 ≡ Unaffected = same_either (wants_command c.facts PageProgram && names_lun g (row c.facts) 0) in
     command_goes s text v r c byte PageProgram k is_d refl is m clear refl
     (record { place = After PageProgram 0; single = refl; address = no_address; is = record { place = refl; facts = refl }; now = λ e. cc; column = λ e. cc; row = λ e. cc; named = λ e. cc; base = refl; changes = λ e. cc })
     (m.shows ∙ ap (λ (e : Effect). shows_of (view_after e c.view).latch) (sym effect))
@@ -183,7 +183,7 @@ goes_80 s text v r c byte k is_d is m clear =
 pub goes_90 : (s : Channel) (text : Microprogram) (v : State) (r : Run) (c : Lone) (byte : ℕ) → IsFit s text → command byte ≡ ReadId → IsLone s r.past c → Mirrors s.geometry (lone_job s.geometry text) v r.done c → NoReasons s.geometry text v (CommandWord byte) → Goes s text (state_after s.geometry v (CommandWord byte)) r (CommandWord byte)
 goes_90 s text v r c byte k is_d is m clear =
     let g = s.geometry in
-    let effect : cycle_effect g c.facts c.view.latch (CommandCycle ReadId) 0 ≡ Unaffected = same_either (wants_command c.facts ReadId && names_lun g (row c.facts) 0) in
+    let effect : cycle_effect (based g) c.facts c.view.latch (CommandCycle ReadId) 0 ≡ Unaffected = same_either (wants_command c.facts ReadId && names_lun g (row c.facts) 0) in
     command_goes s text v r c byte ReadId k is_d refl is m clear refl
     (record { place = After ReadId 0; single = refl; address = no_address; is = record { place = refl; facts = refl }; now = λ e. cc; column = λ e. cc; row = λ e. cc; named = λ e. cc; base = refl; changes = λ e. cc })
     (m.shows ∙ ap (λ (e : Effect). shows_of (view_after e c.view).latch) (sym effect))
@@ -193,7 +193,7 @@ goes_90 s text v r c byte k is_d is m clear =
 pub goes_ec : (s : Channel) (text : Microprogram) (v : State) (r : Run) (c : Lone) (byte : ℕ) → IsFit s text → command byte ≡ ReadParameterPage → IsLone s r.past c → Mirrors s.geometry (lone_job s.geometry text) v r.done c → NoReasons s.geometry text v (CommandWord byte) → Goes s text (state_after s.geometry v (CommandWord byte)) r (CommandWord byte)
 goes_ec s text v r c byte k is_d is m clear =
     let g = s.geometry in
-    let effect : cycle_effect g c.facts c.view.latch (CommandCycle ReadParameterPage) 0 ≡ Unaffected = same_either (wants_command c.facts ReadParameterPage && names_lun g (row c.facts) 0) in
+    let effect : cycle_effect (based g) c.facts c.view.latch (CommandCycle ReadParameterPage) 0 ≡ Unaffected = same_either (wants_command c.facts ReadParameterPage && names_lun g (row c.facts) 0) in
     command_goes s text v r c byte ReadParameterPage k is_d refl is m clear refl
     (record { place = After ReadParameterPage 0; single = refl; address = no_address; is = record { place = refl; facts = refl }; now = λ e. cc; column = λ e. cc; row = λ e. cc; named = λ e. cc; base = refl; changes = λ e. cc })
     (m.shows ∙ ap (λ (e : Effect). shows_of (view_after e c.view).latch) (sym effect))
@@ -221,7 +221,7 @@ changes_now s text v r c byte is_d m clear =
 pub goes_05 : (s : Channel) (text : Microprogram) (v : State) (r : Run) (c : Lone) (byte : ℕ) → IsFit s text → command byte ≡ ChangeReadColumn → IsLone s r.past c → Mirrors s.geometry (lone_job s.geometry text) v r.done c → NoReasons s.geometry text v (CommandWord byte) → Goes s text (state_after s.geometry v (CommandWord byte)) r (CommandWord byte)
 goes_05 s text v r c byte k is_d is m clear =
     let g = s.geometry in
-    let effect : cycle_effect g c.facts c.view.latch (CommandCycle ChangeReadColumn) 0 ≡ Unaffected = same_either (wants_command c.facts ChangeReadColumn && names_lun g (row c.facts) 0) in
+    let effect : cycle_effect (based g) c.facts c.view.latch (CommandCycle ChangeReadColumn) 0 ≡ Unaffected = same_either (wants_command c.facts ChangeReadColumn && names_lun g (row c.facts) 0) in
     command_goes s text v r c byte ChangeReadColumn k is_d refl is m clear refl
     (record { place = After ChangeReadColumn 0; single = refl; address = no_address; is = record { place = refl; facts = refl }; now = λ e. cc; column = λ e. cc; row = λ e. cc; named = λ e. cc; base = refl; changes = λ x. ap (λ (e : Effect). may_change_column (view_after e c.view)) effect ∙ changes_now s text v r c byte is_d m clear })
     (m.shows ∙ ap (λ (e : Effect). shows_of (view_after e c.view).latch) (sym effect))
@@ -325,7 +325,7 @@ goes_d0 s text v r c byte k is_d is m clear =
     let wants : wants_command c.facts BlockEraseConfirm ≡ true = ap (λ (t : TailFacts). wants_command t BlockEraseConfirm) w.facts in
     let names : names_lun g (row c.facts) 0 ≡ true = row_names g j c.facts w.address (ap row w.facts) (w.row refl) in
     let begun : c.facts.is_empty ≡ false = ap (λ (t : TailFacts). t.is_empty) w.facts in
-    let effect : cycle_effect g c.facts c.view.latch (CommandCycle BlockEraseConfirm) 0 ≡ EraseStarted false (page_address g (row c.facts)) = rw (wants, names) refl in
+    let effect : cycle_effect (based g) c.facts c.view.latch (CommandCycle BlockEraseConfirm) 0 ≡ EraseStarted false (page_address g (row c.facts)) = rw (wants, names) refl in
     command_goes s text v r c byte BlockEraseConfirm k is_d refl is m clear refl
     (shut_tail g j (command_leaves g v BlockEraseConfirm) r.done (lone_behind g (CommandCycle BlockEraseConfirm) c) refl (shut_facts (facts_after (CommandCycle BlockEraseConfirm) c.facts) (rw begun refl) (rw begun refl)))
     (m.shows ∙ ap (λ (e : Effect). shows_of (view_after e c.view).latch) (sym effect))
@@ -342,7 +342,7 @@ goes_10 s text v r c byte k is_d is m clear =
     let wants : wants_command c.facts ProgramConfirm ≡ true = ap takes_data p.program.phase in
     let names : names_lun g (row c.facts) 0 ≡ true = row_names g j c.facts p.address (program_row p.address c.facts p.program) p.row in
     let begun : c.facts.is_empty ≡ false = p.program.begun in
-    let effect : cycle_effect g c.facts c.view.latch (CommandCycle ProgramConfirm) 0 ≡ ProgramStarted false (page_address g (row c.facts)) = rw (wants, names) refl in
+    let effect : cycle_effect (based g) c.facts c.view.latch (CommandCycle ProgramConfirm) 0 ≡ ProgramStarted false (page_address g (row c.facts)) = rw (wants, names) refl in
     command_goes s text v r c byte ProgramConfirm k is_d refl is m clear refl
     (shut_tail g j (command_leaves g v ProgramConfirm) r.done (lone_behind g (CommandCycle ProgramConfirm) c) refl (shut_facts (facts_after (CommandCycle ProgramConfirm) c.facts) (rw begun refl) (rw begun refl)))
     (m.shows ∙ ap (λ (e : Effect). shows_of (view_after e c.view).latch) (sym effect))
@@ -380,7 +380,7 @@ goes_85 s text v r c byte k is_d is m clear =
     let g = s.geometry in
     let j = lone_job s.geometry text in
     let p = programming g j v.target (now_of j r.done) c ChangeWriteColumn refl m.tail (wanted g text v byte ChangeWriteColumn is_d refl refl clear).places in
-    let effect : cycle_effect g c.facts c.view.latch (CommandCycle ChangeWriteColumn) 0 ≡ Unaffected = same_either (wants_command c.facts ChangeWriteColumn && names_lun g (row c.facts) 0) in
+    let effect : cycle_effect (based g) c.facts c.view.latch (CommandCycle ChangeWriteColumn) 0 ≡ Unaffected = same_either (wants_command c.facts ChangeWriteColumn && names_lun g (row c.facts) 0) in
     command_goes s text v r c byte ChangeWriteColumn k is_d refl is m clear refl
     (record { place = InColumn 0; single = refl; address = p.address; is = begins_85 c.facts p.address p.program; now = λ e. cc; column = λ e. cc; row = λ e. p.row; named = λ e. p.named; base = refl; changes = λ e. cc })
     (m.shows ∙ ap (λ (e : Effect). shows_of (view_after e c.view).latch) (sym effect))
@@ -422,7 +422,7 @@ goes_e0 s text v r c byte k is_d is m clear =
     let begun : c.facts.is_empty ≡ false = ap (λ (t : TailFacts). t.is_empty) w.facts in
     let may = w.changes refl in
     let shown = not_off c.view may in
-    let effect : cycle_effect g c.facts c.view.latch (CommandCycle ChangeReadColumnConfirm) 0 ≡ ReadColumnChanged c.facts.column = rw (wants, shown) refl in
+    let effect : cycle_effect (based g) c.facts c.view.latch (CommandCycle ChangeReadColumnConfirm) 0 ≡ ReadColumnChanged c.facts.column = rw (wants, shown) refl in
     command_goes s text v r c byte ChangeReadColumnConfirm k is_d refl is m clear refl
     (shut_tail g j (command_leaves g v ChangeReadColumnConfirm) r.done (lone_behind g (CommandCycle ChangeReadColumnConfirm) c) refl (shut_facts (facts_after (CommandCycle ChangeReadColumnConfirm) c.facts) (rw begun refl) (rw begun refl)))
     (m.shows ∙ ap (λ (e : Effect). shows_of (view_after e c.view).latch) (sym effect))
@@ -496,7 +496,7 @@ goes_30 s text v r c byte k is_d is m clear =
     let begun : c.facts.is_empty ≡ false = ap (λ (t : TailFacts). t.is_empty) w.facts in
     let page = page_of_row g j c.facts w.address (ap row w.facts) (w.row refl) in
     let some : 0 < g.pages = let least = k.alone.is_channel.limits.pages_least in omega (arith, least) in
-    let effect : cycle_effect g c.facts c.view.latch (CommandCycle ReadConfirm) 0 ≡ ReadStarted (page_address g (row c.facts)) c.facts.column = rw (wants, names) refl in
+    let effect : cycle_effect (based g) c.facts c.view.latch (CommandCycle ReadConfirm) 0 ≡ ReadStarted (page_address g (row c.facts)) c.facts.column = rw (wants, names) refl in
     command_goes s text v r c byte ReadConfirm k is_d refl is m clear refl
     (shut_tail g j (command_leaves g v ReadConfirm) r.done (lone_behind g (CommandCycle ReadConfirm) c) refl (shut_facts (facts_after (CommandCycle ReadConfirm) c.facts) (rw begun refl) (rw begun refl)))
     (shows_read g v.target.shows k.one ∙ ap (λ (e : Effect). shows_of (view_after e c.view).latch) (sym effect))
@@ -577,7 +577,7 @@ goes_d1 s text v r c byte k is_d is m clear =
     let names : names_lun g (row c.facts) 0 ≡ true = row_names g j c.facts w.address (ap row w.facts) (w.row refl) in
     let begun : c.facts.is_empty ≡ false = ap (λ (t : TailFacts). t.is_empty) w.facts in
     let page = page_of_row g j c.facts w.address (ap row w.facts) (w.row refl) in
-    let effect : cycle_effect g c.facts c.view.latch (CommandCycle BlockErasePlane) 0 ≡ EraseStarted true (page_address g (row c.facts)) = rw (wants, names) refl in
+    let effect : cycle_effect (based g) c.facts c.view.latch (CommandCycle BlockErasePlane) 0 ≡ EraseStarted true (page_address g (row c.facts)) = rw (wants, names) refl in
     command_goes s text v r c byte BlockErasePlane k is_d dec.fit is m clear refl
     (shut_tail g j (command_leaves g v BlockErasePlane) r.done (lone_behind g (CommandCycle BlockErasePlane) c) refl (shut_facts (facts_after (CommandCycle BlockErasePlane) c.facts) (rw begun refl) (rw begun refl)))
     (m.shows ∙ ap (λ (e : Effect). shows_of (view_after e c.view).latch) (sym effect))
@@ -610,7 +610,7 @@ goes_11 s text v r c byte k is_d is m clear =
     let names : names_lun g (row c.facts) 0 ≡ true = row_names g j c.facts w.address (program_row w.address c.facts w.program) w.row in
     let begun : c.facts.is_empty ≡ false = w.program.begun in
     let page = page_of_row g j c.facts w.address (program_row w.address c.facts w.program) w.row in
-    let effect : cycle_effect g c.facts c.view.latch (CommandCycle ProgramPlane) 0 ≡ ProgramStarted true (page_address g (row c.facts)) = rw (wants, names) refl in
+    let effect : cycle_effect (based g) c.facts c.view.latch (CommandCycle ProgramPlane) 0 ≡ ProgramStarted true (page_address g (row c.facts)) = rw (wants, names) refl in
     command_goes s text v r c byte ProgramPlane k is_d dec.fit is m clear refl
     (shut_tail g j (command_leaves g v ProgramPlane) r.done (lone_behind g (CommandCycle ProgramPlane) c) refl (shut_facts (facts_after (CommandCycle ProgramPlane) c.facts) (rw begun refl) (rw begun refl)))
     (m.shows ∙ ap (λ (e : Effect). shows_of (view_after e c.view).latch) (sym effect))
@@ -669,7 +669,7 @@ goes_31 s text v r c byte k is_d is m clear =
     let two = or_parts (not (drives v.target.shows) || v.lun.busy) (may_be_other v.lun.last) three.0 in
     let one = or_parts (not (drives v.target.shows)) v.lun.busy two.0 in
     let shown : is_off c.view.latch ≡ false = drives_on c.view.latch (sym (ap (λ (o : Option Shown). not (drives o)) m.shows) ∙ one.0) in
-    let effect : cycle_effect g c.facts c.view.latch (CommandCycle ReadCacheSequential) 0 ≡ CacheReadContinued = rw shown refl in
+    let effect : cycle_effect (based g) c.facts c.view.latch (CommandCycle ReadCacheSequential) 0 ≡ CacheReadContinued = rw shown refl in
     command_goes s text v r c byte ReadCacheSequential k is_d dec.fit is m clear refl
     (shut_tail g j (command_leaves g v ReadCacheSequential) r.done (lone_behind g (CommandCycle ReadCacheSequential) c) refl (cache_shut (facts_after (CommandCycle ReadCacheSequential) c.facts) refl))
     (ap (λ (e : Effect). shows_of (view_after e c.view).latch) (sym effect))
@@ -703,7 +703,7 @@ goes_3f s text v r c byte k is_d is m clear =
     let two = or_parts (not (drives v.target.shows) || v.lun.busy) (may_be_other v.lun.last) three.0 in
     let one = or_parts (not (drives v.target.shows)) v.lun.busy two.0 in
     let shown : is_off c.view.latch ≡ false = drives_on c.view.latch (sym (ap (λ (o : Option Shown). not (drives o)) m.shows) ∙ one.0) in
-    let effect : cycle_effect g c.facts c.view.latch (CommandCycle ReadCacheEnd) 0 ≡ CacheReadEnded = rw shown refl in
+    let effect : cycle_effect (based g) c.facts c.view.latch (CommandCycle ReadCacheEnd) 0 ≡ CacheReadEnded = rw shown refl in
     command_goes s text v r c byte ReadCacheEnd k is_d dec.fit is m clear refl
     (shut_tail g j (command_leaves g v ReadCacheEnd) r.done (lone_behind g (CommandCycle ReadCacheEnd) c) refl end_shut)
     (ap (λ (e : Effect). shows_of (view_after e c.view).latch) (sym effect))

@@ -1,25 +1,29 @@
 -- The LUN of a channel that has no other: what it and its tail are tells by itself which cycle is permitted, by which rule it isn't, and
 -- what each cycle leaves.
-use Rattle.std.proofs.Common.{◌≡◌, ℕ, Bool, true, false, ◌||◌, ◌&&◌, Option, Some, None, List, [], ◌∷◌, ◌++◌, refl, sym, ap, ◌∙◌, subst, arith}
+use Rattle.std.proofs.Common.{◌≡◌, ℕ, Bool, true, false, ◌||◌, ◌&&◌, cond, Option, Some, None, List, [], ◌∷◌, ◌++◌, refl, sym, ap, ◌∙◌, subst, arith}
 use Rattle.std.proofs.Math.Bool.{or-true}
 use Rattle.nand_geometry.specs.declared.parts.Parts.{Parts}
+use Rattle.nand_geometry.specs.Optional.{is_wide, no_optional}
+use Rattle.onfi_cycle.specs.declared.command.Command.{Command}
+use Rattle.onfi_cycle.specs.declared.command.Command.TheVariants.{Read, ReadConfirm, ReadStatus, ReadStatusEnhanced, Reset, SynchronousReset, ReadCacheSequential, ReadCacheEnd, ChangeReadColumnConfirm, BlockEraseConfirm, BlockErasePlane, ProgramConfirm, ProgramPlane, ReadId, ReadParameterPage, ReadUniqueId, GetFeatures, ResetLun}
 use Rattle.onfi_cycle.specs.declared.forbidden.Forbidden.{Forbidden}
-use Rattle.onfi_cycle.specs.declared.forbidden.Forbidden.TheVariants.{NoSoleDriver}
+use Rattle.onfi_cycle.specs.declared.forbidden.Forbidden.TheVariants.{CommandUnknown, NoSoleDriver}
 use Rattle.onfi_cycle.specs.declared.item.Item.{Item}
 use Rattle.onfi_cycle.specs.declared.item.Item.TheVariants.{Rdy}
 use Rattle.onfi_cycle.specs.declared.item.Kind.{Kind}
 use Rattle.onfi_cycle.specs.declared.item.Kind.TheVariants.{Dout}
 use Rattle.onfi_cycle.specs.declared.latch.Latch.{Latch}
 use Rattle.onfi_cycle.specs.declared.latch.Latch.TheVariants.{Off, Status, Data}
+use Rattle.onfi_cycle.specs.declared.opening.Opening.{Opening}
 use Rattle.onfi_cycle.specs.declared.tail_facts.TailFacts.{TailFacts}
 use Rattle.onfi_cycle.specs.declared.target_cycle.TargetCycle.{TargetCycle}
-use Rattle.onfi_cycle.specs.declared.target_cycle.TargetCycle.TheVariants.{OutputCycle}
+use Rattle.onfi_cycle.specs.declared.target_cycle.TargetCycle.TheVariants.{CommandCycle, AddressCycle, InputCycle, OutputCycle}
 use Rattle.onfi_cycle.specs.LunView.{LunView}
 use Rattle.onfi_cycle.specs.Sequence.{target_cycle, tail, facts_of, facts_after, is_open}
-use Rattle.onfi_cycle.specs.Effect.{cycle_effect}
+use Rattle.onfi_cycle.specs.Effect.{cycle_effect, command_effect, address_effect, opening_address_effect}
 use Rattle.onfi_cycle.specs.Lun.{latch, latch_alone, alone, drivers_from, drivers, is_only, lun_view, luns_of, views_from, view_after, effect_on, is_cache_read}
-use Rattle.onfi_cycle.specs.Rules.{breaks_not_there, breaks_command_unknown, breaks_sequence_open, breaks_several_luns, breaks_no_column_to_change, breaks_command_misplaced, breaks_address_misplaced, breaks_row_outside, breaks_lun_busy, breaks_queue_clash, breaks_input_misplaced, breaks_no_sole_driver}
-use Rattle.onfi_cycle.specs.Permitted.{broken, judge_cycle, is_legal}
+use Rattle.onfi_cycle.specs.Rules.{breaks_not_there, breaks_command_unknown, breaks_sequence_open, breaks_several_luns, breaks_no_column_to_change, breaks_command_misplaced, breaks_address_misplaced, breaks_row_outside, breaks_lun_busy, breaks_queue_clash, breaks_input_misplaced, breaks_no_sole_driver, breaks_data_not_ready, breaks_column_outside, breaks_cache_read_misplaced}
+use Rattle.onfi_cycle.specs.Permitted.{broken, judge_cycle, judge_known_cycle, is_legal}
 use Rattle.onfi_cycle.specs.Channel.{Channel, IsChannel, cycle}
 use Rattle.micro_program.specs.Moves.{Move, Give, Take, and_then}
 use Rattle.micro_program.specs.Played.{Played, played, with_byte}
@@ -37,6 +41,7 @@ pub record Lone : Type 0 where
 pub record IsAlone (s : Channel) : Type 0 where
   pub is_channel : IsChannel s
   pub one : s.geometry.luns ≡ 1
+  pub base : is_wide s.geometry.optional ≡ false
   pub target : s.targets ≡ 1
 
 -- a legal past, and what it leaves
@@ -45,12 +50,59 @@ pub record IsLone (s : Channel) (past : List Item) (c : Lone) : Type 0 where
   pub facts : facts_of (tail past 0) ≡ c.facts
   pub view : lun_view s.geometry past the_lun ≡ c.view
 
+-- a chip without what it has beside the base profile: its LUNs share nothing
+abbrev pub based : Parts → Parts
+based g = record g { optional = no_optional }
+
 -- the rule that a cycle breaks first
 abbrev pub judged : Parts → Lone → TargetCycle → Option Forbidden
-judged g c d = judge_cycle g c.facts (c.view ∷ []) d
+judged g c d = cond (breaks_command_unknown g d) (Some CommandUnknown) (judge_known_cycle (based g) c.facts (c.view ∷ []) d)
 
 abbrev pub lone_behind : Parts → TargetCycle → Lone → Lone
-lone_behind g d c = record { facts = facts_after d c.facts; view = view_after (cycle_effect g c.facts c.view.latch d 0) c.view }
+lone_behind g d c = record { facts = facts_after d c.facts; view = view_after (cycle_effect (based g) c.facts c.view.latch d 0) c.view }
+
+-- in the base profile nothing else is asked
+known_same : (g : Parts) (t : TailFacts) (vs : List LunView) (d : TargetCycle) → is_wide g.optional ≡ false → judge_known_cycle g t vs d ≡ judge_known_cycle (based g) t vs d
+unfolding breaks_sequence_open breaks_several_luns breaks_no_column_to_change breaks_command_misplaced breaks_address_misplaced breaks_row_outside breaks_lun_busy breaks_queue_clash breaks_input_misplaced breaks_no_sole_driver breaks_data_not_ready breaks_column_outside breaks_cache_read_misplaced
+known_same g t vs (CommandCycle c) base = rw base refl
+known_same g t vs (AddressCycle byte) base = rw base refl
+known_same g t vs (InputCycle byte) base = refl
+known_same g t vs OutputCycle base = refl
+
+command_same : (g : Parts) (t : TailFacts) (la : Latch) (c : Command) (lun : ℕ) → is_wide g.optional ≡ false → command_effect g t la c lun ≡ command_effect (based g) t la c lun
+command_same g t la Read lun base = refl
+command_same g t la ReadStatus lun base = rw base refl
+command_same g t la ReadStatusEnhanced lun base = refl
+command_same g t la Reset lun base = rw base refl
+command_same g t la SynchronousReset lun base = rw base refl
+command_same g t la ReadCacheSequential lun base = refl
+command_same g t la ReadCacheEnd lun base = refl
+command_same g t la ChangeReadColumnConfirm lun base = refl
+command_same g t la ReadConfirm lun base = rw base refl
+command_same g t la BlockEraseConfirm lun base = rw base refl
+command_same g t la BlockErasePlane lun base = rw base refl
+command_same g t la ProgramConfirm lun base = rw base refl
+command_same g t la ProgramPlane lun base = rw base refl
+command_same g t la c lun base = refl
+
+address_same : (g : Parts) (t : TailFacts) (byte : ℕ) (c : Command) (n lun : ℕ) → is_wide g.optional ≡ false → address_effect g t byte c n lun ≡ address_effect (based g) t byte c n lun
+address_same g t byte ReadStatusEnhanced n lun base = refl
+address_same g t byte ReadId n lun base = rw base refl
+address_same g t byte ReadParameterPage n lun base = rw base refl
+address_same g t byte ReadUniqueId n lun base = rw base refl
+address_same g t byte GetFeatures n lun base = rw base refl
+address_same g t byte ResetLun n lun base = rw base refl
+address_same g t byte c n lun base = refl
+
+opening_same : (g : Parts) (t : TailFacts) (byte : ℕ) (o : Option Opening) (lun : ℕ) → is_wide g.optional ≡ false → opening_address_effect g t byte o lun ≡ opening_address_effect (based g) t byte o lun
+opening_same g t byte None lun base = refl
+opening_same g t byte (Some o) lun base = address_same g t byte o.opener o.addresses lun base
+
+effect_same : (g : Parts) (t : TailFacts) (la : Latch) (d : TargetCycle) (lun : ℕ) → is_wide g.optional ≡ false → cycle_effect g t la d lun ≡ cycle_effect (based g) t la d lun
+effect_same g t la (CommandCycle c) lun base = command_same g t la c lun base
+effect_same g t la (AddressCycle byte) lun base = opening_same g t byte t.opening lun base
+effect_same g t la (InputCycle byte) lun base = rw base refl
+effect_same g t la OutputCycle lun base = refl
 
 -- 1. a cycle
 
@@ -62,7 +114,8 @@ pub broken_is : (s : Channel) (past : List Item) (c : Lone) → IsAlone s → Is
 unfolding breaks_not_there
 broken_is s past c k is kind byte =
     subst (λ (n : ℕ). broken s.geometry n past (cycle 0 kind byte) ≡ judged s.geometry c (target_cycle kind byte)) (sym k.target)
-    (ap (λ (t : TailFacts). judge_cycle s.geometry t (luns_of s.geometry past 0) (target_cycle kind byte)) is.facts ∙ ap (λ (vs : List LunView). judge_cycle s.geometry c.facts vs (target_cycle kind byte)) (luns_are s past c k is))
+    (ap (λ (t : TailFacts). judge_cycle s.geometry t (luns_of s.geometry past 0) (target_cycle kind byte)) is.facts ∙ ap (λ (vs : List LunView). judge_cycle s.geometry c.facts vs (target_cycle kind byte)) (luns_are s past c k is)
+    ∙ ap (λ (o : Option Forbidden). cond (breaks_command_unknown s.geometry (target_cycle kind byte)) (Some CommandUnknown) o) (known_same s.geometry c.facts (c.view ∷ []) (target_cycle kind byte) k.base))
 
 alone_is : (g : Parts) (past : List Item) → g.luns ≡ 1 → latch_alone g past the_lun ≡ latch g past the_lun
 alone_is g past one = subst (λ (n : ℕ). alone n (λ m. latch g past (record { ce = 0; lun = m })) 0 ≡ latch g past the_lun) (sym one) (at (latch g past the_lun) refl)
@@ -77,12 +130,12 @@ lone_next s past c k is kind byte h =
     let g = s.geometry in
     let d = target_cycle kind byte in
     let permitted : broken g s.targets past (cycle 0 kind byte) ≡ None = broken_is s past c k is kind byte ∙ h in
-    let effect : effect_on g past (cycle 0 kind byte) the_lun ≡ cycle_effect g c.facts c.view.latch d 0 =
-    own_effect g past the_lun kind byte ∙ (ap (λ (x : Latch). cycle_effect g (facts_of (tail past 0)) x d 0) (alone_is g past k.one ∙ ap (λ (v : LunView). v.latch) is.view) ∙ ap (λ (t : TailFacts). cycle_effect g t c.view.latch d 0) is.facts) in
+    let effect : effect_on g past (cycle 0 kind byte) the_lun ≡ cycle_effect (based g) c.facts c.view.latch d 0 =
+    own_effect g past the_lun kind byte ∙ (ap (λ (x : Latch). cycle_effect g (facts_of (tail past 0)) x d 0) (alone_is g past k.one ∙ ap (λ (v : LunView). v.latch) is.view) ∙ ap (λ (t : TailFacts). cycle_effect g t c.view.latch d 0) is.facts ∙ effect_same g c.facts c.view.latch d 0 k.base) in
     record {
       legal = facts.legal g s.targets past (cycle 0 kind byte) is.legal permitted;
       facts = facts.tail past (record { ce = 0; kind = kind; byte = byte }) 0 refl ∙ ap (facts_after d) is.facts;
-      view = facts.lun g s.targets past (cycle 0 kind byte) the_lun permitted (let one : g.luns ≡ 1 = k.one in omega (arith, one)) ∙ (ap (λ e. view_after e (lun_view g past the_lun)) effect ∙ ap (view_after (cycle_effect g c.facts c.view.latch d 0)) is.view);
+      view = facts.lun g s.targets past (cycle 0 kind byte) the_lun permitted (let one : g.luns ≡ 1 = k.one in omega (arith, one)) ∙ (ap (λ e. view_after e (lun_view g past the_lun)) effect ∙ ap (view_after (cycle_effect (based g) c.facts c.view.latch d 0)) is.view);
     }
 
 -- 2. moves

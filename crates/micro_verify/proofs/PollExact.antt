@@ -37,7 +37,7 @@ polled_shut = record { closed = refl; address = λ b. refl; command = none }
     none _ = refl
 
 abbrev pub polled_lone : Lone → Lone
-polled_lone c = record { facts = polled_facts; view = polled_view c.view }
+polled_lone c = record { facts = polled_facts; view = polled_view c.view.selected c.view.overlapped c.view }
 
 judge_70 : (g : Parts) (c : Lone) → ltb 1 g.luns ≡ false → is_open c.facts ≡ false → judged g c (CommandCycle StatusCommand) ≡ None
 unfolding breaks_command_unknown breaks_sequence_open breaks_several_luns breaks_no_column_to_change breaks_command_misplaced breaks_address_misplaced breaks_row_outside breaks_lun_busy breaks_queue_clash breaks_input_misplaced breaks_no_sole_driver breaks_data_not_ready breaks_column_outside breaks_cache_read_misplaced

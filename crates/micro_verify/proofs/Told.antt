@@ -85,7 +85,7 @@ unfolding breaks_command_unknown breaks_sequence_open breaks_several_luns breaks
 told_reset g c one base = at (is_open c.facts) refl
   where
     at : (o : Bool) → is_open c.facts ≡ o → Told (is_open c.facts || false) (judged g c (CommandCycle Reset))
-    at true e = rw (e, base) refl
+    at true e = rw e refl
     at false e = rw (e, one) tt
 
 told_enhanced : (g : Parts) (c : Lone) → g.enhanced ≡ true → Told (is_open c.facts || false) (judged g c (CommandCycle ReadStatusEnhanced))

@@ -97,7 +97,7 @@ registers_exact g r b done word answer u place m = registers_moved g r r.place b
 
 -- 2. polls
 
-lun_polled : (g : Parts) (l : KnownLun) (now : ℕ) (view : LunView) → LunMirror g l now view → LunMirror g (record l { column = unread l.column }) now (polled_view view)
+lun_polled : (g : Parts) (l : KnownLun) (now : ℕ) (view : LunView) → LunMirror g l now view → LunMirror g (record l { column = unread l.column }) now (polled_view view.selected view.overlapped view)
 lun_polled g l now view m =
     record {
       busy = m.busy;

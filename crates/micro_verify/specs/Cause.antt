@@ -15,10 +15,10 @@ use Rattle.onfi_cycle.specs.declared.page_address.PageAddress.{PageAddress}
 use Rattle.onfi_cycle.specs.declared.tail_facts.TailFacts.{TailFacts}
 use Rattle.onfi_cycle.specs.declared.target_cycle.TargetCycle.TheVariants.{CommandCycle}
 use Rattle.onfi_cycle.specs.Base.{is_of_base}
-use Rattle.onfi_cycle.specs.Command.{command, address_cycles, reads_identity}
+use Rattle.onfi_cycle.specs.Command.{command, address_cycles, reads_identity, wants_one_lun}
 use Rattle.onfi_cycle.specs.Sequence.{tail, facts_of, is_open, opened, wants_second_column}
 use Rattle.onfi_cycle.specs.Lun.{is_busy, is_caching, queue, array_page}
-use Rattle.onfi_cycle.specs.Rules.{has_some, breaks_command_unknown, breaks_several_luns}
+use Rattle.onfi_cycle.specs.Rules.{has_some, breaks_command_unknown}
 use Rattle.onfi_cycle.specs.Permitted.{broken, is_legal}
 use Rattle.onfi_cycle.specs.Channel.{Channel}
 use Rattle.micro_word.specs.declared.format.Format.{Format}
@@ -137,7 +137,7 @@ costs_too_much g budget r word = nat_lt 0 (cost g word) && not (nat_le (cost_now
 
 abbrev pub is_not_for_programs : Parts → Word → Bool
 is_not_for_programs g (CommandWord byte) =
-    asks_status (command byte) || not (is_of_base (command byte)) || breaks_command_unknown g (CommandCycle (command byte)) || breaks_several_luns g (CommandCycle (command byte))
+    asks_status (command byte) || not (is_of_base (command byte)) || breaks_command_unknown g (CommandCycle (command byte)) || (wants_one_lun (command byte) && nat_lt 1 g.luns)
 is_not_for_programs g _ = false
 
 -- left out of V7: the bytes of the word may not be there. 90h and ECh take one byte of the column, so a row byte before all others is no

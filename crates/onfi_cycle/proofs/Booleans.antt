@@ -11,3 +11,8 @@ clash false e h = cc
 
 pub eqb_self : (n : ℕ) → (n == n) ≡ true
 eqb_self n = eq-eqb n n refl
+
+-- what follows of either value
+pub by_case : {A : Type 0} (b : Bool) → (b ≡ true → A) → (b ≡ false → A) → A
+by_case true f k = f refl
+by_case false f k = k refl

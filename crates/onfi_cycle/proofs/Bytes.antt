@@ -16,7 +16,7 @@ use Rattle.onfi_cycle.specs.declared.page_address.PageAddress.{PageAddress}
 use Rattle.onfi_cycle.specs.declared.register.Register.{Register}
 use Rattle.onfi_cycle.specs.declared.register.Register.TheVariants.{Empty, Page, ParameterPage, Identifier, Identity, JedecIdentity, UniqueId, Features}
 use Rattle.onfi_cycle.specs.declared.effect.Effect.{Effect}
-use Rattle.onfi_cycle.specs.declared.effect.Effect.TheVariants.{ReadStarted, EraseStarted, ProgramStarted, ResetStarted, BecameReady, ParameterPageReadStarted, UniqueIdReadStarted, FeaturesReadStarted, FeaturesSet, CacheReadContinued, CacheReadEnded}
+use Rattle.onfi_cycle.specs.declared.effect.Effect.TheVariants.{ReadStarted, EraseStarted, ProgramStarted, ResetStarted, BecameReady, ParameterPageReadStarted, UniqueIdReadStarted, FeaturesReadStarted, FeaturesSet, CacheReadContinued, CacheReadEnded, TargetResetStarted}
 use Rattle.onfi_cycle.specs.Sequence.{tail, facts_of, filled, input_column, is_open, with_cycle}
 use Rattle.onfi_cycle.specs.LunView.{LunView}
 use Rattle.onfi_cycle.specs.Effect.{is_off, is_data}
@@ -51,6 +51,7 @@ queued_after_whole len (EraseStarted false at) bytes q h w = tt
 queued_after_whole len (ProgramStarted true at) bytes q h w = (h, w)
 queued_after_whole len (ProgramStarted false at) bytes q h w = tt
 queued_after_whole len ResetStarted bytes q h w = tt
+queued_after_whole len (TargetResetStarted first) bytes q h w = tt
 queued_after_whole len _ bytes q h w = w
 
 pending_after_whole : (len : ℕ) (e : Effect) (bytes : List ℕ) (q p : List ArrayWork) → length bytes ≡ len → AllWhole len q → AllWhole len p → AllWhole len (pending_work_after e bytes q p)
@@ -66,6 +67,7 @@ pending_after_whole len (FeaturesSet feature) bytes q p h w v = tt
 pending_after_whole len CacheReadContinued bytes q p h w v = tt
 pending_after_whole len CacheReadEnded bytes q p h w v = tt
 pending_after_whole len ResetStarted bytes q p h w v = tt
+pending_after_whole len (TargetResetStarted first) bytes q p h w v = tt
 pending_after_whole len (BecameReady fail) bytes q p h w v = tt
 pending_after_whole len _ bytes q p h w v = v
 

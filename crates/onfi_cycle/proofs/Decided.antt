@@ -12,7 +12,7 @@ use Rattle.onfi_cycle.specs.declared.register.Register.{Register}
 use Rattle.onfi_cycle.specs.declared.register.Register.TheVariants.{Empty, Page, Features}
 use Rattle.onfi_cycle.specs.declared.read_column.ReadColumn.{ReadColumn}
 use Rattle.onfi_cycle.specs.declared.effect.Effect.{Effect}
-use Rattle.onfi_cycle.specs.declared.effect.Effect.TheVariants.{StatusSelected, StatusRowAwaited, IdRead, IdentityRead, UniqueIdReadStarted, FeaturesReadStarted, ParameterPageReadStarted, CacheReadContinued, CacheReadEnded, DataOutput, BecameReady, ReadStarted, EraseStarted, ProgramStarted, ReadColumnChanged}
+use Rattle.onfi_cycle.specs.declared.effect.Effect.TheVariants.{StatusSelected, StatusOfSelected, StatusRowAwaited, IdRead, IdentityRead, UniqueIdReadStarted, FeaturesReadStarted, ParameterPageReadStarted, CacheReadContinued, CacheReadEnded, DataOutput, BecameReady, ReadStarted, EraseStarted, ProgramStarted, ReadColumnChanged}
 use Rattle.onfi_cycle.specs.declared.tail_facts.TailFacts.{TailFacts}
 use Rattle.onfi_cycle.specs.Sequence.{row}
 use Rattle.onfi_cycle.specs.Effect.{page_address}
@@ -168,6 +168,7 @@ column_step past l g byte ParameterPageReadStarted k carries = refl
 column_step past l g byte CacheReadContinued k carries = refl
 column_step past l g byte CacheReadEnded k carries = refl
 column_step past l g byte StatusSelected k carries = refl
+column_step past l g byte StatusOfSelected k carries = refl
 column_step past l g byte StatusRowAwaited k carries = refl
 column_step past l g byte DataOutput k carries = λ i. record { given = k.given; outputs = k.outputs + 1; lost = sym (or-false k.lost) i }
 column_step past l g byte _ k carries = λ i. record { given = k.given; outputs = k.outputs; lost = sym (or-false k.lost) i }

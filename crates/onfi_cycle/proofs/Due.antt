@@ -9,7 +9,7 @@ use Rattle.onfi_cycle.specs.declared.command.Command.{Command}
 use Rattle.onfi_cycle.specs.declared.command.Command.TheVariants.{Read, ChangeReadColumnConfirm, ReadStatus, ReadStatusEnhanced, ReadConfirm, BlockEraseConfirm, BlockErasePlane, ProgramConfirm, ProgramPlane, ReadId, ReadParameterPage, Reset, ReadCacheSequential, ReadCacheEnd, ReadUniqueId, GetFeatures, SetFeatures, ResetLun, SynchronousReset}
 use Rattle.onfi_cycle.specs.declared.item.Cycle.{Cycle}
 use Rattle.onfi_cycle.specs.declared.effect.Effect.{Effect}
-use Rattle.onfi_cycle.specs.declared.effect.Effect.TheVariants.{Unaffected, SelectedForStatus, Deselected, IdRead, ParameterPageReadStarted, ReadColumnChanged, DataOutput, BecameReady, ArrayBecameReady, IdentityRead, UniqueIdReadStarted, FeaturesReadStarted, FeaturesSet, ResetStarted}
+use Rattle.onfi_cycle.specs.declared.effect.Effect.TheVariants.{Unaffected, StatusSelected, StatusOfSelected, AnotherAddressed, SelectedForStatus, Deselected, IdRead, ParameterPageReadStarted, ReadColumnChanged, DataOutput, BecameReady, ArrayBecameReady, IdentityRead, UniqueIdReadStarted, FeaturesReadStarted, FeaturesSet, ResetStarted}
 use Rattle.onfi_cycle.specs.declared.forbidden.Forbidden.TheVariants.{NotThere}
 use Rattle.onfi_cycle.specs.declared.item.Item.{Item}
 use Rattle.onfi_cycle.specs.declared.item.Item.TheVariants.{Cyc, Rdy, Ard}
@@ -22,9 +22,9 @@ use Rattle.onfi_cycle.specs.declared.tail_facts.TailFacts.{TailFacts}
 use Rattle.onfi_cycle.specs.declared.target_cycle.TargetCycle.{TargetCycle}
 use Rattle.onfi_cycle.specs.declared.target_cycle.TargetCycle.TheVariants.{CommandCycle, AddressCycle, InputCycle, OutputCycle}
 use Rattle.onfi_cycle.specs.LunView.{LunView}
-use Rattle.onfi_cycle.specs.Command.{address_cycles, is_opener, takes_address, is_set_features}
+use Rattle.onfi_cycle.specs.Command.{closes_row, is_read_confirm, address_cycles, is_opener, takes_address, is_set_features}
 use Rattle.onfi_cycle.specs.Sequence.{target_of, target_cycle, begins_sequence, facts_of, facts_after, extended_facts, opened, one_address_more, wants_command, wants_address, wants_column, row, row_with, takes_features, phase_after_command, phase_after_address, phase_after_input}
-use Rattle.onfi_cycle.specs.Effect.{is_off, is_data, names_lun, confirm_effect, command_effect, address_effect, opening_address_effect, cycle_effect, ends_features, input_effect}
+use Rattle.onfi_cycle.specs.Effect.{is_off, is_data, is_shared, acts_for_target, other_effect, names_lun, confirm_effect, command_effect, address_effect, opening_address_effect, cycle_effect, ends_features, input_effect}
 use Rattle.onfi_cycle.specs.Lun.{busy_after, array_busy_after, closer_after, is_cache_read, view_after}
 use Rattle.onfi_cycle.specs.Applied.{one_after}
 use Rattle.onfi_cycle.specs.Rules.{lun_is, breaks_not_there}
@@ -62,9 +62,12 @@ confirm_keeps g t ProgramConfirm h = cc
 confirm_keeps g t ProgramPlane h = cc
 confirm_keeps g t c h = unaffected
 
+other_keeps : (g : Parts) (t : TailFacts) (c : Command) → Keeps (other_effect g t c)
+other_keeps g t c = either (closes_row c && (wants_command t c && is_shared g)) (AnotherAddressed (is_read_confirm c)) Unaffected (record { busy = λ b. refl; array = λ b c a. refl; closer = λ c. refl }) unaffected
+
 command_keeps : (g : Parts) (t : TailFacts) (la : Latch) (c : Command) (n : ℕ) → starts c ≡ false → Keeps (command_effect g t la c n)
 command_keeps g t la Read n h = record { busy = λ b. refl; array = λ b c a. refl; closer = λ c. refl }
-command_keeps g t la ReadStatus n h = record { busy = λ b. refl; array = λ b c a. refl; closer = λ c. refl }
+command_keeps g t la ReadStatus n h = either (is_shared g) StatusOfSelected StatusSelected (record { busy = λ b. refl; array = λ b c a. refl; closer = λ c. refl }) (record { busy = λ b. refl; array = λ b c a. refl; closer = λ c. refl })
 command_keeps g t la ReadStatusEnhanced n h = record { busy = λ b. refl; array = λ b c a. refl; closer = λ c. refl }
 command_keeps g t la Reset n h = cc
 command_keeps g t la SynchronousReset n h = cc
@@ -72,7 +75,7 @@ command_keeps g t la ReadCacheSequential n h = cc
 command_keeps g t la ReadCacheEnd n h = cc
 command_keeps g t la ChangeReadColumnConfirm n h =
     either (wants_command t ChangeReadColumnConfirm && not (is_off la)) (ReadColumnChanged t.column) Unaffected (record { busy = λ b. refl; array = λ b c a. refl; closer = λ c. refl }) unaffected
-command_keeps g t la c n h = either (wants_command t c && names_lun g (row t) n) (confirm_effect g t c) Unaffected (confirm_keeps g t c h) unaffected
+command_keeps g t la c n h = either (wants_command t c && names_lun g (row t) n) (confirm_effect g t c) (other_effect g t c) (confirm_keeps g t c h) (other_keeps g t c)
 
 -- ---- work that an address or an input is to start
 
@@ -223,6 +226,12 @@ address_due g t byte n v tf less = at t.opening refl
     started o is e k true last = started_due t u e v k (last_awaited t o is (last refl)) (last_awaits_none byte t o is (not_empty o is t.is_empty refl) (last refl))
     started o is e k false last = keeps_due t u Unaffected v unaffected less
 
+    -- at a LUN that acts for its target, or not
+    served : (o : Opening) → t.opening ≡ Some o → (e : Effect) → Starts e → (w a : Bool) → (w ≡ true → IsLast o) → due_at u (view_after (cond w (cond a e Deselected) Unaffected) v) ≤ due_at t v
+    served o is e k w true last = started o is e k w last
+    served o is e k true false last = keeps_due t u Deselected v (record { busy = λ b. refl; array = λ b c a. refl; closer = λ c. refl }) less
+    served o is e k false false last = keeps_due t u Unaffected v unaffected less
+
     -- the one address of these
     only : (o : Opening) → t.opening ≡ Some o → (c : Command) → o.opener ≡ c → starts_later c ≡ true → address_cycles c ≡ 1 → is_set_features c ≡ false → wants_address t byte ≡ true → IsLast o
     only o is c e later one other w =
@@ -240,27 +249,33 @@ address_due g t byte n v tf less = at t.opening refl
             middle false b c h = cc
 
     -- the third address of a Reset LUN
-    third : (o : Opening) → o.opener ≡ ResetLun → (o.addresses == 2 && names_lun g (row_with t byte) n) ≡ true → IsLast o
-    third o e h =
-        let two : (o.addresses == 2) ≡ true = (both (o.addresses == 2) _ h).0 in
+    third : (o : Opening) → o.opener ≡ ResetLun → (o.addresses == 2) ≡ true → IsLast o
+    third o e two =
         let cycles : address_cycles o.opener ≡ 3 = ap address_cycles e in
         record { later = ap starts_later e; low = grind (arith, nat_tests); last = grind (arith, nat_tests); no_bytes = ap is_set_features e }
 
-    identifier : (w b : Bool) → due_at u (view_after (cond w (cond b IdRead (IdentityRead (byte == 0x40))) Unaffected) v) ≤ due_at t v
-    identifier true true = shows_due t u IdRead v (record { busy = λ b. refl; array = λ b c a. refl; closer = λ c. refl }) less
-    identifier true false = shows_due t u (IdentityRead (byte == 0x40)) v (record { busy = λ b. refl; array = λ b c a. refl; closer = λ c. refl }) less
-    identifier false b = keeps_due t u Unaffected v unaffected less
+    resets : (o : Opening) → t.opening ≡ Some o → o.opener ≡ ResetLun → (b : Bool) → (o.addresses == 2) ≡ b → (named shared : Bool) → due_at u (view_after (cond b (cond named ResetStarted (cond shared (AnotherAddressed false) Unaffected)) Unaffected) v) ≤ due_at t v
+    resets o is e true two true shared = started o is ResetStarted (record { busy = λ b. refl; array = λ b c a. refl; closer = λ c. refl }) true (λ h. third o e two)
+    resets o is e true two false true = keeps_due t u (AnotherAddressed false) v (record { busy = λ b. refl; array = λ b c a. refl; closer = λ c. refl }) less
+    resets o is e true two false false = keeps_due t u Unaffected v unaffected less
+    resets o is e false two named shared = keeps_due t u Unaffected v unaffected less
+
+    identifier : (w a b : Bool) → due_at u (view_after (cond w (cond a (cond b IdRead (IdentityRead (byte == 0x40))) Deselected) Unaffected) v) ≤ due_at t v
+    identifier true false b = keeps_due t u Deselected v (record { busy = λ b. refl; array = λ b c a. refl; closer = λ c. refl }) less
+    identifier true true true = shows_due t u IdRead v (record { busy = λ b. refl; array = λ b c a. refl; closer = λ c. refl }) less
+    identifier true true false = shows_due t u (IdentityRead (byte == 0x40)) v (record { busy = λ b. refl; array = λ b c a. refl; closer = λ c. refl }) less
+    identifier false a b = keeps_due t u Unaffected v unaffected less
 
     kind : (o : Opening) → t.opening ≡ Some o → (c : Command) → o.opener ≡ c → due_at u (view_after (address_effect g t byte c o.addresses n) v) ≤ due_at t v
     kind o is ReadStatusEnhanced e =
         keeps_due t u (address_effect g t byte ReadStatusEnhanced o.addresses n) v
         (either (o.addresses == 2) (cond (names_lun g (row_with t byte) n) SelectedForStatus Deselected) Unaffected (either (names_lun g (row_with t byte) n) SelectedForStatus Deselected (record { busy = λ b. refl; array = λ b c a. refl; closer = λ c. refl }) (record { busy = λ b. refl; array = λ b c a. refl; closer = λ c. refl })) unaffected)
         less
-    kind o is ReadId e = identifier (wants_address t byte) (byte == 0x20)
-    kind o is ReadParameterPage e = started o is ParameterPageReadStarted (record { busy = λ b. refl; array = λ b c a. refl; closer = λ c. refl }) (wants_address t byte) (only o is ReadParameterPage e refl refl refl)
-    kind o is ReadUniqueId e = started o is UniqueIdReadStarted (record { busy = λ b. refl; array = λ b c a. refl; closer = λ c. refl }) (wants_address t byte) (only o is ReadUniqueId e refl refl refl)
-    kind o is GetFeatures e = started o is (FeaturesReadStarted byte) (record { busy = λ b. refl; array = λ b c a. refl; closer = λ c. refl }) (wants_address t byte) (only o is GetFeatures e refl refl refl)
-    kind o is ResetLun e = started o is ResetStarted (record { busy = λ b. refl; array = λ b c a. refl; closer = λ c. refl }) (o.addresses == 2 && names_lun g (row_with t byte) n) (third o e)
+    kind o is ReadId e = identifier (wants_address t byte) (acts_for_target g n) (byte == 0x20)
+    kind o is ReadParameterPage e = served o is ParameterPageReadStarted (record { busy = λ b. refl; array = λ b c a. refl; closer = λ c. refl }) (wants_address t byte) (acts_for_target g n) (only o is ReadParameterPage e refl refl refl)
+    kind o is ReadUniqueId e = served o is UniqueIdReadStarted (record { busy = λ b. refl; array = λ b c a. refl; closer = λ c. refl }) (wants_address t byte) (acts_for_target g n) (only o is ReadUniqueId e refl refl refl)
+    kind o is GetFeatures e = served o is (FeaturesReadStarted byte) (record { busy = λ b. refl; array = λ b c a. refl; closer = λ c. refl }) (wants_address t byte) (acts_for_target g n) (only o is GetFeatures e refl refl refl)
+    kind o is ResetLun e = resets o is e (o.addresses == 2) refl (names_lun g (row_with t byte) n) (is_shared g)
     kind o is c e = keeps_due t u Unaffected v unaffected less
 
     at : (o : Option Opening) → t.opening ≡ o → due_at u (view_after (opening_address_effect g t byte o n) v) ≤ due_at t v
@@ -268,8 +283,8 @@ address_due g t byte n v tf less = at t.opening refl
     at (Some o) e = kind o e o.opener refl
 
 -- the fourth byte of a Set Features starts it
-input_due : (t : TailFacts) (byte : ℕ) (v : LunView) → one_if (awaits_start (facts_after (InputCycle byte) t)) ≤ one_if (awaits_start t) → t.is_empty ≡ false → due_at (facts_after (InputCycle byte) t) (view_after (input_effect t) v) ≤ due_at t v
-input_due t byte v less some = at (ends_features t) refl
+input_due : (g : Parts) (t : TailFacts) (byte n : ℕ) (v : LunView) → one_if (awaits_start (facts_after (InputCycle byte) t)) ≤ one_if (awaits_start t) → t.is_empty ≡ false → due_at (facts_after (InputCycle byte) t) (view_after (input_effect g t n) v) ≤ due_at t v
+input_due g t byte n v less some = at (ends_features t) refl (acts_for_target g n)
   where
     u : TailFacts
     u = facts_after (InputCycle byte) t
@@ -281,26 +296,27 @@ input_due t byte v less some = at (ends_features t) refl
     ended SecondColumn k f e = cc
     ended FeatureInputs k f e = rw e refl
 
-    at : (b : Bool) → ends_features t ≡ b → due_at u (view_after (cond b (FeaturesSet (t.column % 256)) Unaffected) v) ≤ due_at t v
-    at true e =
+    at : (b : Bool) → ends_features t ≡ b → (a : Bool) → due_at u (view_after (cond b (cond a (FeaturesSet (t.column % 256)) Deselected) Unaffected) v) ≤ due_at t v
+    at true e false = keeps_due t u Deselected v (record { busy = λ b. refl; array = λ b c a. refl; closer = λ c. refl }) less
+    at true e true =
         let parts = both (takes_features t.phase) _ e in
         let last : t.inputs ≡ 3 = eqb-true t.inputs 3 parts.1 in
         started_due t u (FeaturesSet (t.column % 256)) v (record { busy = λ b. refl; array = λ b c a. refl; closer = λ c. refl })
         (or_right (opens_later t.opening) (takes_features t.phase) parts.0)
         (ap (λ (b : Bool). awaits_start (cond b t (extended_facts (InputCycle byte) t))) some ∙ ended t.phase t.inputs parts.0 last)
-    at false e = keeps_due t u Unaffected v unaffected less
+    at false e a = keeps_due t u Unaffected v unaffected less
 
 -- where no opener has come no input starts anything
-empty_due : (g : Parts) (t : TailFacts) (byte : ℕ) (v : LunView) → TailFits g t → one_if (awaits_start (facts_after (InputCycle byte) t)) ≤ one_if (awaits_start t) → (b : Bool) → t.is_empty ≡ b → due_at (facts_after (InputCycle byte) t) (view_after (input_effect t) v) ≤ due_at t v
-empty_due g t byte v tf less true e =
+empty_due : (g : Parts) (t : TailFacts) (byte n : ℕ) (v : LunView) → TailFits g t → one_if (awaits_start (facts_after (InputCycle byte) t)) ≤ one_if (awaits_start t) → (b : Bool) → t.is_empty ≡ b → due_at (facts_after (InputCycle byte) t) (view_after (input_effect g t n) v) ≤ due_at t v
+empty_due g t byte n v tf less true e =
     let none : ends_features t ≡ false = rw (tf.outside e) refl in
     rw none (keeps_due t (facts_after (InputCycle byte) t) Unaffected v unaffected less)
-empty_due g t byte v tf less false e = input_due t byte v less e
+empty_due g t byte n v tf less false e = input_due g t byte n v less e
 
 cycle_due : (g : Parts) (t : TailFacts) (la : Latch) (cycle : TargetCycle) (n : ℕ) (v : LunView) → TailFits g t → cycle_starts cycle ≡ false → due_at (facts_after cycle t) (view_after (cycle_effect g t la cycle n) v) ≤ due_at t v
 cycle_due g t la (CommandCycle c) n v tf s = keeps_due t (facts_after (CommandCycle c) t) (command_effect g t la c n) v (command_keeps g t la c n s) (awaits_no_more t (CommandCycle c) s)
 cycle_due g t la (AddressCycle byte) n v tf s = address_due g t byte n v tf (awaits_no_more t (AddressCycle byte) s)
-cycle_due g t la (InputCycle byte) n v tf s = empty_due g t byte v tf (awaits_no_more t (InputCycle byte) s) t.is_empty refl
+cycle_due g t la (InputCycle byte) n v tf s = empty_due g t byte n v tf (awaits_no_more t (InputCycle byte) s) t.is_empty refl
 cycle_due g t la OutputCycle n v tf s =
     keeps_due t (facts_after OutputCycle t) (cycle_effect g t la OutputCycle n) v
     (either (is_data la) DataOutput Unaffected (record { busy = λ b. refl; array = λ b c a. refl; closer = λ c. refl }) unaffected)

@@ -23,11 +23,11 @@ use Rattle.onfi_cycle.specs.declared.tail_facts.TailFacts.{TailFacts}
 use Rattle.onfi_cycle.specs.declared.target_cycle.TargetCycle.{TargetCycle}
 use Rattle.onfi_cycle.specs.declared.target_cycle.TargetCycle.TheVariants.{CommandCycle, AddressCycle, InputCycle, OutputCycle}
 use Rattle.onfi_cycle.specs.declared.effect.Effect.{Effect}
-use Rattle.onfi_cycle.specs.declared.effect.Effect.TheVariants.{Unaffected, SelectedForStatus, Deselected, IdRead, IdentityRead, UniqueIdReadStarted, FeaturesReadStarted, FeaturesSet, ParameterPageReadStarted, CacheReadContinued, CacheReadEnded, ReadColumnChanged, DataOutput, BecameReady, ArrayBecameReady, ResetStarted}
+use Rattle.onfi_cycle.specs.declared.effect.Effect.TheVariants.{Unaffected, SelectedForStatus, Deselected, IdRead, IdentityRead, UniqueIdReadStarted, FeaturesReadStarted, FeaturesSet, ParameterPageReadStarted, CacheReadContinued, CacheReadEnded, ReadColumnChanged, DataOutput, BecameReady, ArrayBecameReady, ResetStarted, StatusSelected, StatusOfSelected, AnotherAddressed, TargetResetStarted}
 use Rattle.onfi_cycle.specs.LunView.{LunView}
-use Rattle.onfi_cycle.specs.Command.{closes, address_cycles, is_opener, takes_address, reads_identity}
+use Rattle.onfi_cycle.specs.Command.{closes, address_cycles, is_opener, takes_address, reads_identity, closes_row, is_read_confirm}
 use Rattle.onfi_cycle.specs.Sequence.{target_cycle, opened, takes_data, takes_features, wants_column, wants_command, wants_address, row, row_with}
-use Rattle.onfi_cycle.specs.Effect.{is_off, is_data, names_lun, page_address, confirm_effect, command_effect, id_effect, address_effect, opening_address_effect, ends_features, cycle_effect}
+use Rattle.onfi_cycle.specs.Effect.{is_off, is_data, names_lun, page_address, confirm_effect, command_effect, id_effect, address_effect, opening_address_effect, ends_features, cycle_effect, is_shared, acts_for_target, of_target, other_effect, lun_reset_effect}
 use Rattle.onfi_cycle.specs.Lun.{is_page_read, output_column, option_plus}
 use Rattle.onfi_cycle.specs.Rules.{driving, are_none, only, driver, is_some_and, driver_is, lacks, is_past, is_empty, register_len, has_no_byte, is_past_register, continues_cache, ends_cache, some_queued_clashes, breaks_not_there, breaks_data_not_ready, breaks_column_outside, breaks_cache_read_misplaced}
 use Rattle.onfi_cycle.specs.Permitted.{judge, judge_cycle}
@@ -175,17 +175,18 @@ ended_fits g t luns v f15 d =
 
 command_fits : (g : Parts) → InLimits g → (t : TailFacts) (luns : List LunView) (n : ℕ) (v : LunView) → TailFits g t → RowFits g t n v → RowStands g t n v → slice_get luns n ≡ Some v → (c : Command) → breaks_cache_read_misplaced g t luns (CommandCycle c) ≡ false → EffectFits g v (command_effect g t (cond (has_driver luns) v.latch Off) c n)
 command_fits g limits t luns n v tf rf rs found Read f15 = tt
-command_fits g limits t luns n v tf rf rs found ReadStatus f15 = tt
+command_fits g limits t luns n v tf rf rs found ReadStatus f15 = choice g v (is_shared g) StatusOfSelected StatusSelected (λ e. tt) (λ e. tt)
 command_fits g limits t luns n v tf rf rs found ReadStatusEnhanced f15 = tt
-command_fits g limits t luns n v tf rf rs found Reset f15 = tt
-command_fits g limits t luns n v tf rf rs found SynchronousReset f15 = tt
+command_fits g limits t luns n v tf rf rs found Reset f15 = choice g v (is_shared g) (TargetResetStarted (n == 0)) ResetStarted (λ e. tt) (λ e. tt)
+command_fits g limits t luns n v tf rf rs found SynchronousReset f15 = choice g v (is_shared g) (TargetResetStarted (n == 0)) ResetStarted (λ e. tt) (λ e. tt)
 command_fits g limits t luns n v tf rf rs found ReadCacheSequential f15 =
     choice g v (is_off (cond (has_driver luns) v.latch Off)) Unaffected CacheReadContinued (λ e. tt) (λ e. continued_fits g limits t luns v f15 (alone_drives luns n v found e))
 command_fits g limits t luns n v tf rf rs found ReadCacheEnd f15 = choice g v (is_off (cond (has_driver luns) v.latch Off)) Unaffected CacheReadEnded (λ e. tt) (λ e. ended_fits g t luns v f15 (alone_drives luns n v found e))
 command_fits g limits t luns n v tf rf rs found ChangeReadColumnConfirm f15 =
     choice g v (wants_command t ChangeReadColumnConfirm && not (is_off (cond (has_driver luns) v.latch Off))) (ReadColumnChanged t.column) Unaffected (λ e. tf.column) (λ e. tt)
 command_fits g limits t luns n v tf rf rs found c f15 =
-    choice g v (wants_command t c && names_lun g (row t) n) (confirm_effect g t c) Unaffected (confirm_fits g limits t n v tf rf rs c) (λ e. tt)
+    choice g v (wants_command t c && names_lun g (row t) n) (confirm_effect g t c) (other_effect g t c) (confirm_fits g limits t n v tf rf rs c)
+    (λ e. choice g v (closes_row c && (wants_command t c && is_shared g)) (AnotherAddressed (is_read_confirm c)) Unaffected (λ e. tt) (λ e. tt))
 
 -- the address of an identity comes at a ready LUN
 pub identity_waits : (t : TailFacts) (byte : ℕ) (o : Opening) → t.opening ≡ Some o → wants_column t.phase ≡ false → reads_identity o.opener ≡ true → wants_address t byte ≡ true → names_identity t ≡ true
@@ -207,14 +208,21 @@ identity_waits t byte o is none reads h = at (wants_column t.phase) none (ap (λ
         of true h = refl
         of false h = cc
 
+-- what is done for a whole target
+served_fits : (g : Parts) (v : LunView) (n : ℕ) (w : Bool) (x : Effect) → (w ≡ true → EffectFits g v x) → EffectFits g v (cond w (of_target g n x) Unaffected)
+served_fits g v n w x f = choice g v w (of_target g n x) Unaffected (λ e. choice g v (acts_for_target g n) x Deselected (λ a. f e) (λ a. tt)) (λ e. tt)
+
 address_kind_fits : (g : Parts) (t : TailFacts) (byte : ℕ) (n : ℕ) (v : LunView) (c : Command) (m : ℕ) → (reads_identity c ≡ true → wants_address t byte ≡ true → v.busy ≡ false) → EffectFits g v (address_effect g t byte c m n)
 address_kind_fits g t byte n v ReadStatusEnhanced m ready =
     choice g v (m == 2) (cond (names_lun g (row_with t byte) n) SelectedForStatus Deselected) Unaffected (λ e. choice g v (names_lun g (row_with t byte) n) SelectedForStatus Deselected (λ e. tt) (λ e. tt)) (λ e. tt)
-address_kind_fits g t byte n v ReadId m ready = choice g v (wants_address t byte) (id_effect byte) Unaffected (λ e. choice g v (byte == 0x20) IdRead (IdentityRead (byte == 0x40)) (λ f. ready refl e) (λ f. ready refl e)) (λ e. tt)
-address_kind_fits g t byte n v ReadUniqueId m ready = choice g v (wants_address t byte) UniqueIdReadStarted Unaffected (λ e. ready refl e) (λ e. tt)
-address_kind_fits g t byte n v GetFeatures m ready = choice g v (wants_address t byte) (FeaturesReadStarted byte) Unaffected (λ e. ready refl e) (λ e. tt)
-address_kind_fits g t byte n v ResetLun m ready = choice g v (m == 2 && names_lun g (row_with t byte) n) ResetStarted Unaffected (λ e. tt) (λ e. tt)
-address_kind_fits g t byte n v ReadParameterPage m ready = choice g v (wants_address t byte) ParameterPageReadStarted Unaffected (λ e. ready refl e) (λ e. tt)
+address_kind_fits g t byte n v ReadId m ready = served_fits g v n (wants_address t byte) (id_effect byte) (λ e. choice g v (byte == 0x20) IdRead (IdentityRead (byte == 0x40)) (λ f. ready refl e) (λ f. ready refl e))
+address_kind_fits g t byte n v ReadUniqueId m ready = served_fits g v n (wants_address t byte) UniqueIdReadStarted (λ e. ready refl e)
+address_kind_fits g t byte n v GetFeatures m ready = served_fits g v n (wants_address t byte) (FeaturesReadStarted byte) (λ e. ready refl e)
+address_kind_fits g t byte n v ResetLun m ready =
+    choice g v (m == 2) (lun_reset_effect g (names_lun g (row_with t byte) n)) Unaffected
+    (λ e. choice g v (names_lun g (row_with t byte) n) ResetStarted _ (λ e. tt) (λ e. choice g v (is_shared g) (AnotherAddressed false) Unaffected (λ e. tt) (λ e. tt)))
+    (λ e. tt)
+address_kind_fits g t byte n v ReadParameterPage m ready = served_fits g v n (wants_address t byte) ParameterPageReadStarted (λ e. ready refl e)
 address_kind_fits g t byte n v c m ready = tt
 
 address_fits : (g : Parts) (t : TailFacts) (byte n : ℕ) (v : LunView) → TailFits g t → RowStands g t n v → EffectFits g v (opening_address_effect g t byte t.opening n)
@@ -262,7 +270,7 @@ cycle_fits : (g : Parts) → InLimits g → (t : TailFacts) (luns : List LunView
 cycle_fits g limits t luns n v tf rf rs found (CommandCycle c) keeps = command_fits g limits t luns n v tf rf rs found c keeps.f15
 cycle_fits g limits t luns n v tf rf rs found (AddressCycle byte) keeps = address_fits g t byte n v tf rs
 cycle_fits g limits t luns n v tf rf rs found (InputCycle byte) keeps =
-    choice g v (ends_features t) (FeaturesSet (t.column % 256)) Unaffected (λ e. rs.identity (or_right (opened (λ c n. reads_identity c && n == 0) t.opening) (takes_features t.phase) (both (takes_features t.phase) _ e).0)) (λ e. tt)
+    served_fits g v n (ends_features t) (FeaturesSet (t.column % 256)) (λ e. rs.identity (or_right (opened (λ c n. reads_identity c && n == 0) t.opening) (takes_features t.phase) (both (takes_features t.phase) _ e).0))
 cycle_fits g limits t luns n v tf rf rs found OutputCycle keeps =
     choice g v (is_data (cond (has_driver luns) v.latch Off)) DataOutput Unaffected
     (λ e. output_fits g limits t luns v keeps.f13 keeps.f14 (alone_drives luns n v found (data_is_on _ e)) (alone_latch luns v e))

@@ -23,7 +23,7 @@ use Rattle.std.proofs.Common.{subst, ltb}
 use Rattle.std.proofs.lemmas.List.{length-set}
 use Rattle.onfi_cycle.specs.Sequence.{AreSmall, target_of, tail, facts_of}
 use Rattle.onfi_cycle.specs.Effect.{is_off, effect_given}
-use Rattle.onfi_cycle.specs.Lun.{latch, latch_alone, effect_on, drivers, is_only, lun_view, luns_of, views_from, view_after}
+use Rattle.onfi_cycle.specs.Lun.{latch, latch_alone, effect_on, effect_among, drivers, is_only, lun_view, luns_of, views_from, first_view, view_after}
 use Rattle.onfi_cycle.specs.Rules.{driver, is_some_and}
 use Rattle.onfi_cycle.specs.Permitted.{judge, broken}
 use Rattle.onfi_cycle.specs.State.{TargetView, BusView, Follows, target_view, targets_from, judged, judged_on, tail_after, effect_alone, luns_after, has_driver, target_after, changed_at, bus_after, target, bus}
@@ -65,7 +65,7 @@ alone_by_views g past l low = at (driver (luns_of g past l.ce)) refl (is_only (d
 -- 2. a target goes on by the items that happen on it
 
 pub effect_by_state : (g : Parts) (past : List Item) (i : Item) (n : ℕ) → n < g.luns → effect_on g past i (record { ce = target_of i; lun = n }) ≡ effect_alone g (facts_of (tail past (target_of i))) (has_driver (luns_of g past (target_of i))) i n (lun_view g past (record { ce = target_of i; lun = n }))
-unfolding effect_on
+unfolding effect_among
 effect_by_state g past i n low =
     ap (λ (s : Latch). effect_given g past s i (record { ce = target_of i; lun = n })) (alone_by_views g past (record { ce = target_of i; lun = n }) low)
 
@@ -94,8 +94,8 @@ target_goes_on g targets past i h =
 -- 3. the others stay
 
 lun_elsewhere : (g : Parts) (past : List Item) (i : Item) (l : Lun) → target_of i ≢ l.ce → lun_view g (i ∷ past) l ≡ lun_view g past l
-unfolding effect_on
-lun_elsewhere g past i l ne = view_with g past i l Unaffected (rests_elsewhere g past (latch_alone g past l) i l ne) (rests_elsewhere g past (latch g past l) i l ne) refl
+unfolding effect_among
+lun_elsewhere g past i l ne = view_with g past i l Unaffected (rests_elsewhere g past (latch_alone g past l) i l ne) (rests_elsewhere g past (latch g past l) i l ne)
 
 luns_elsewhere : (g : Parts) (past : List Item) (i : Item) (ce count n : ℕ) → target_of i ≢ ce → views_from g (i ∷ past) ce count n ≡ views_from g past ce count n
 luns_elsewhere g past i ce zero n ne = refl
@@ -293,7 +293,7 @@ looked_is_look g n s past l f = at (ltb l.ce n) refl (ltb l.lun g.luns) refl
 
 -- what an item does to a LUN, by the state and by the past
 pub effect_elsewhere : (g : Parts) (past : List Item) (i : Item) (l : Lun) → target_of i ≢ l.ce → Unaffected ≡ effect_on g past i l
-unfolding effect_on
+unfolding effect_among
 effect_elsewhere g past i l ne = sym (rests_elsewhere g past (latch_alone g past l) i l ne)
 
 pub target_not_missing : (g : Parts) (n : ℕ) (s : BusView) (past : List Item) (ce : ℕ) → Follows g n s past → ce < n → slice_get s.targets ce ≡ None → ⊥
@@ -324,10 +324,11 @@ views_last g past ce (suc count) n =
     (ap (λ (m : ℕ). views_from g past ce count (n + 1) ++ (lun_view g past (record { ce = ce; lun = m }) ∷ [])) same ∙ views_last g past ce count (n + 1))
 
 -- one LUN more
-pub more_luns : (luns more : List LunView) (k : ℕ) (v : LunView) → ((g : Parts) (ce : ℕ) → luns ≡ views_from g [] ce k 0) → ((g : Parts) (l : Lun) → v ≡ lun_view g [] l) → more ≡ luns ++ (v ∷ []) → (g : Parts) (ce : ℕ) → more ≡ views_from g [] ce (k + 1) 0
+pub more_luns : (luns more : List LunView) (k : ℕ) (v : LunView) → ((g : Parts) (ce : ℕ) → luns ≡ views_from g [] ce k 0) → v ≡ first_view k → more ≡ luns ++ (v ∷ []) → (g : Parts) (ce : ℕ) → more ≡ views_from g [] ce (k + 1) 0
 more_luns luns more k v all fresh is g ce =
     let next : suc k ≡ k + 1 = omega arith in
-    is ∙ (ap (λ (vs : List LunView). vs ++ (v ∷ [])) (all g ce) ∙ (ap (λ (w : LunView). views_from g [] ce k 0 ++ (w ∷ [])) (fresh g (record { ce = ce; lun = 0 + k })) ∙ (views_last g [] ce k 0 ∙ ap (λ (m : ℕ). views_from g [] ce m 0) next)))
+    let last : k ≡ 0 + k = omega arith in
+    is ∙ (ap (λ (vs : List LunView). vs ++ (v ∷ [])) (all g ce) ∙ (ap (λ (w : LunView). views_from g [] ce k 0 ++ (w ∷ [])) (fresh ∙ ap first_view last) ∙ (views_last g [] ce k 0 ∙ ap (λ (m : ℕ). views_from g [] ce m 0) next)))
 
 pub luns_so_far : (g : Parts) (luns : List LunView) (k : ℕ) → ((h : Parts) (ce : ℕ) → luns ≡ views_from h [] ce k 0) → length luns ≡ k
 luns_so_far g luns k all = ap length (all g 0) ∙ views_length g [] 0 k 0
@@ -354,7 +355,7 @@ no_luns_fit g ce zero n = tt
 no_luns_fit g ce (suc count) n = (
   record { outputs = omega arith; given = tt; array_page = omega arith; queue = omega arith },
   record { erase = λ named h. cc; program = λ named h. cc },
-  record { inside = λ named h. cc; ready = λ named h. cc; identity = λ h. cc; alone = λ h. cc },
+  record { inside = λ named h. cc; ready = λ named h. cc; identity = λ h. cc; alone = λ narrow h. cc },
   no_luns_fit g ce count (n + 1),
 )
 

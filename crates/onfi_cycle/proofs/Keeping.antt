@@ -12,18 +12,19 @@ use Rattle.onfi_cycle.specs.declared.effect.Effect.{Effect}
 use Rattle.onfi_cycle.specs.declared.effect.Effect.TheVariants.{Unaffected, BecameReady, ArrayBecameReady}
 use Rattle.onfi_cycle.specs.declared.latch.Latch.{Latch}
 use Rattle.onfi_cycle.specs.Sequence.{tail}
-use Rattle.onfi_cycle.specs.Lun.{effect_on, latch, latch_after, busy_after, closer_after, queue_after, is_busy, closer, is_cache_read, queue, lun_view, view_after, views_from, luns_of}
 use Rattle.onfi_cycle.specs.Effect.{effect_given}
+use Rattle.onfi_cycle.specs.Lun.{effect_on, effect_among, latch, shown_after, busy_after, closer_after, queue_after, is_busy, closer, is_cache_read, queue, lun_view, view_after, views_from, luns_of}
 use Rattle.onfi_cycle.specs.Permitted.{broken, is_legal}
-use Rattle.onfi_cycle.specs.OtherLun.{KeepsLun}
+use Rattle.onfi_cycle.specs.OtherLun.{KeepsLun, is_of}
 use Rattle.onfi_cycle.specs.Decides.{readies, readies_array}
-use Rattle.onfi_cycle.specs.Channel.{Channel, IsIdle, IsOwn, same_lun, is_there, is_cycle}
-use Rattle.onfi_cycle.specs.Steps.{FactsGoOn, ReadiesChange, OutputsShow, OwnCyclesKeep}
+use Rattle.onfi_cycle.specs.Channel.{Channel, IsIdle, IsOwn, same_lun, is_there, is_cycle, is_serving}
+use Rattle.onfi_cycle.specs.Steps.{FactsGoOn, ReadiesChange, OutputsShow, OwnCyclesKeep, ServiceBegins}
 use Rattle.onfi_cycle.proofs.Others.{others_keep, targets_keep}
 use Rattle.onfi_cycle.proofs.Steps.{facts_of_cycle}
 use Rattle.onfi_cycle.proofs.Drivers.{driver_of_target}
 use Rattle.onfi_cycle.proofs.Latches.{latch_by_effect}
 use Rattle.onfi_cycle.proofs.Bytes.{output_shows, output_closes}
+use Rattle.onfi_cycle.proofs.Serving.{first_serves, ready_serves, own_serves}
 
 -- 1. the facts go on
 
@@ -67,31 +68,32 @@ ready_tail past (Rdy a b f) ce h = refl
 ready_tail past (Ard a b) ce h = refl
 
 -- the view after an item whose effect is this, whatever the LUN shows
-pub view_with : (g : Parts) (past : List Item) (i : Item) (l : Lun) (e : Effect) → effect_on g past i l ≡ e → effect_given g past (latch g past l) i l ≡ e → latch_after e (latch g past l) ≡ latch g past l → lun_view g (i ∷ past) l ≡ record (view_after e (lun_view g past l)) { latch = latch g past l }
-view_with g past i l e on given same =
-    ap (λ (x : Effect). record (view_after x (lun_view g past l)) { latch = latch_after (effect_given g past (latch g past l) i l) (latch g past l) }) on ∙
-    ap (λ (x : Latch). record (view_after e (lun_view g past l)) { latch = x }) (ap (λ (x : Effect). latch_after x (latch g past l)) given ∙ same)
+pub view_with : (g : Parts) (past : List Item) (i : Item) (l : Lun) (e : Effect) → effect_on g past i l ≡ e → effect_given g past (latch g past l) i l ≡ e → lun_view g (i ∷ past) l ≡ view_after e (lun_view g past l)
+view_with g past i l e on given =
+    ap (λ (x : Effect). record (view_after x (lun_view g past l)) { latch = shown_after (effect_given g past (latch g past l) i l) (lun_view g past l) }) on ∙
+    ap (λ (x : Effect). record (view_after e (lun_view g past l)) { latch = shown_after x (lun_view g past l) }) given
 
 own_ready : (g : Parts) (past : List Item) (l : Lun) (fail : Bool) → let v = lun_view g past l in lun_view g (Rdy l.ce l.lun fail ∷ past) l ≡ record v { busy = false; array_busy = v.array_busy || (v.busy && is_cache_read v.closer) }
-unfolding effect_on
-own_ready g past l fail = view_with g past (Rdy l.ce l.lun fail) l (BecameReady fail) (rw (eqb_self l.ce, eqb_self l.lun) refl) (rw (eqb_self l.ce, eqb_self l.lun) refl) refl
+unfolding effect_among
+own_ready g past l fail = view_with g past (Rdy l.ce l.lun fail) l (BecameReady fail) (rw (eqb_self l.ce, eqb_self l.lun) refl) (rw (eqb_self l.ce, eqb_self l.lun) refl)
 
 own_array_ready : (g : Parts) (past : List Item) (l : Lun) → let v = lun_view g past l in lun_view g (Ard l.ce l.lun ∷ past) l ≡ record v { array_busy = false }
-unfolding effect_on
-own_array_ready g past l = view_with g past (Ard l.ce l.lun) l ArrayBecameReady (rw (eqb_self l.ce, eqb_self l.lun) refl) (rw (eqb_self l.ce, eqb_self l.lun) refl) refl
+unfolding effect_among
+own_array_ready g past l = view_with g past (Ard l.ce l.lun) l ArrayBecameReady (rw (eqb_self l.ce, eqb_self l.lun) refl) (rw (eqb_self l.ce, eqb_self l.lun) refl)
 
 other_ready : (g : Parts) (past : List Item) (i : Item) (l : Lun) → is_cycle i ≡ false → readies l i ≡ false → readies_array l i ≡ false → lun_view g (i ∷ past) l ≡ lun_view g past l
-unfolding effect_on
+unfolding effect_among
 other_ready g past (Cyc c) l h r a = cc
-other_ready g past (Rdy ce lun fail) l h r a = view_with g past (Rdy ce lun fail) l Unaffected (rw r refl) (rw r refl) refl
-other_ready g past (Ard ce lun) l h r a = view_with g past (Ard ce lun) l Unaffected (rw a refl) (rw a refl) refl
+other_ready g past (Rdy ce lun fail) l h r a = view_with g past (Rdy ce lun fail) l Unaffected (rw r refl) (rw r refl)
+other_ready g past (Ard ce lun) l h r a = view_with g past (Ard ce lun) l Unaffected (rw a refl) (rw a refl)
 
-idle_by : (g : Parts) (past : List Item) (i : Item) (l : Lun) → (e : Effect) → effect_on g past i l ≡ e → busy_after e (is_busy g past l) ≡ false → is_cache_read (closer_after e (closer g past l)) ≡ false → queue_after e (queue g past l) ≡ [] → IsIdle g (i ∷ past) l
-idle_by g past i l e is not_busy not_caching not_queued =
+idle_by : (g : Parts) (past : List Item) (i : Item) (l : Lun) → (e : Effect) → effect_on g past i l ≡ e → busy_after e (is_busy g past l) ≡ false → is_cache_read (closer_after e (closer g past l)) ≡ false → queue_after e (queue g past l) ≡ [] → is_serving g (i ∷ past) l.ce ≡ false → IsIdle g (i ∷ past) l
+idle_by g past i l e is not_busy not_caching not_queued free =
     record {
       ready = ap (λ (x : Effect). busy_after x (is_busy g past l)) is ∙ not_busy;
       no_cache = ap (λ (x : Effect). is_cache_read (closer_after x (closer g past l))) is ∙ not_caching;
       no_queue = ap (λ (x : Effect). queue_after x (queue g past l)) is ∙ not_queued;
+      free = free;
     }
 
 -- a ready, an array ready or nothing leaves an idle LUN idle
@@ -101,21 +103,21 @@ is_harmless (BecameReady failed) = true
 is_harmless ArrayBecameReady = true
 is_harmless _ = false
 
-idle_after : (g : Parts) (past : List Item) (i : Item) (l : Lun) (e : Effect) → effect_on g past i l ≡ e → is_harmless e ≡ true → IsIdle g past l → IsIdle g (i ∷ past) l
-idle_after g past i l Unaffected is h idle = idle_by g past i l Unaffected is idle.ready idle.no_cache idle.no_queue
-idle_after g past i l (BecameReady failed) is h idle = idle_by g past i l (BecameReady failed) is refl idle.no_cache idle.no_queue
-idle_after g past i l ArrayBecameReady is h idle = idle_by g past i l ArrayBecameReady is idle.ready idle.no_cache idle.no_queue
-idle_after g past i l _ is h idle = cc
+idle_after : (g : Parts) (past : List Item) (i : Item) (l : Lun) (e : Effect) → effect_on g past i l ≡ e → is_harmless e ≡ true → is_serving g (i ∷ past) l.ce ≡ false → IsIdle g past l → IsIdle g (i ∷ past) l
+idle_after g past i l Unaffected is h free idle = idle_by g past i l Unaffected is idle.ready idle.no_cache idle.no_queue free
+idle_after g past i l (BecameReady failed) is h free idle = idle_by g past i l (BecameReady failed) is refl idle.no_cache idle.no_queue free
+idle_after g past i l ArrayBecameReady is h free idle = idle_by g past i l ArrayBecameReady is idle.ready idle.no_cache idle.no_queue free
+idle_after g past i l _ is h free idle = cc
 
 either_harmless : (b : Bool) (x : Effect) → is_harmless x ≡ true → is_harmless (cond b x Unaffected) ≡ true
 either_harmless true x h = h
 either_harmless false x h = refl
 
 pub ready_keeps_idle : (g : Parts) (past : List Item) (i : Item) (l : Lun) → is_cycle i ≡ false → IsIdle g past l → IsIdle g (i ∷ past) l
-unfolding effect_on
+unfolding effect_among
 ready_keeps_idle g past (Cyc c) l h idle = cc
-ready_keeps_idle g past (Rdy ce lun fail) l h idle = idle_after g past (Rdy ce lun fail) l _ refl (either_harmless (ce == l.ce && lun == l.lun) (BecameReady fail) refl) idle
-ready_keeps_idle g past (Ard ce lun) l h idle = idle_after g past (Ard ce lun) l _ refl (either_harmless (ce == l.ce && lun == l.lun) ArrayBecameReady refl) idle
+ready_keeps_idle g past (Rdy ce lun fail) l h idle = idle_after g past (Rdy ce lun fail) l _ refl (either_harmless (ce == l.ce && lun == l.lun) (BecameReady fail) refl) (ready_serves g past (Rdy ce lun fail) l.ce refl idle.free) idle
+ready_keeps_idle g past (Ard ce lun) l h idle = idle_after g past (Ard ce lun) l _ refl (either_harmless (ce == l.ce && lun == l.lun) ArrayBecameReady refl) (ready_serves g past (Ard ce lun) l.ce refl idle.free) idle
 
 pub readies_change : ReadiesChange
 readies_change = record { tails = ready_tail; own = own_ready; own_array = own_array_ready; others = other_ready; idle = ready_keeps_idle }
@@ -157,8 +159,17 @@ keeps_apart s past c l m legal own ne lt mt = at (m.ce == l.ce) refl
 own_tails : (s : Channel) (past : List Item) (c : Cycle) (l : Lun) (ce : ℕ) → IsOwn s l past (Cyc c) → (l.ce ≡ ce → ⊥) → tail (Cyc c ∷ past) ce ≡ tail past ce
 own_tails s past c l ce own ne = (targets_keep s.geometry past (Cyc c) ce (λ h. ne (sym (own_here s past c l own) ∙ h))).tail
 
-pub idle_kept : (g : Parts) (past : List Item) (i : Item) (m : Lun) → KeepsLun g past i m → IsIdle g past m → IsIdle g (i ∷ past) m
-idle_kept g past i m k idle = record { ready = k.busy ∙ idle.ready; no_cache = ap is_cache_read k.closer ∙ idle.no_cache; no_queue = k.queue ∙ idle.no_queue }
+pub idle_kept : (g : Parts) (past : List Item) (i : Item) (l m : Lun) → is_of g past l i ≡ true → KeepsLun g past i m → IsIdle g past m → IsIdle g (i ∷ past) m
+idle_kept g past i l m of k idle =
+    record {
+      ready = k.busy ∙ idle.ready;
+      no_cache = ap is_cache_read k.closer ∙ idle.no_cache;
+      no_queue = k.queue ∙ idle.no_queue;
+      free = own_serves g past i l m.ce of idle.free;
+    }
+
+pub service_begins : ServiceBegins
+service_begins = record { first = first_serves; readies = ready_serves; own = own_serves }
 
 pub own_cycles_keep : OwnCyclesKeep
 own_cycles_keep = record { others = keeps_apart; tails = own_tails; idle = idle_kept }

@@ -1,10 +1,10 @@
 -- The latch of a LUN on legal traces.
-use Rattle.std.proofs.Common.{◌≡◌, ℕ, zero, suc, ◌+◌, ◌<◌, ◌≤◌, ◌==◌, Bool, true, false, ◌&&◌, cond, not, List, [], ◌∷◌, Option, Some, None, refl, sym, ap, ◌∙◌, subst, arith, unwrap_or, eqb-true, eq-eqb, ◌%◌}
+use Rattle.std.proofs.Common.{◌≡◌, ℕ, zero, suc, ◌+◌, ◌<◌, ◌≤◌, ◌==◌, Bool, true, false, ◌&&◌, ◌||◌, cond, not, List, [], ◌∷◌, Option, Some, None, refl, sym, ap, ◌∙◌, subst, arith, unwrap_or, eqb-true, eq-eqb, ◌%◌}
 use Rattle.std.proofs.lemmas.Bool.Decides.{nat_tests}
 use Rattle.std.proofs.lemmas.Bool.{not-false, and_parts as both_true}
 use Rattle.nand_geometry.specs.declared.parts.Parts.{Parts}
 use Rattle.onfi_cycle.specs.declared.command.Command.{Command}
-use Rattle.onfi_cycle.specs.declared.command.Command.TheVariants.{Read, ReadConfirm, ChangeReadColumnConfirm, BlockEraseConfirm, BlockErasePlane, ReadStatus, ReadStatusEnhanced, ProgramConfirm, ProgramPlane, ReadId, ReadParameterPage, Reset, ReadCacheSequential, ReadCacheEnd, ReadUniqueId, GetFeatures, ResetLun, SynchronousReset}
+use Rattle.onfi_cycle.specs.declared.command.Command.TheVariants.{Read, ReadConfirm, ChangeReadColumnConfirm, BlockEraseConfirm, BlockErasePlane, ReadStatus, ReadStatusEnhanced, ProgramConfirm, ProgramPlane, ReadId, ReadParameterPage, Reset, ReadCacheSequential, ReadCacheEnd, ReadUniqueId, GetFeatures, SetFeatures, ResetLun, SynchronousReset}
 use Rattle.onfi_cycle.specs.declared.lun.Lun.{Lun}
 use Rattle.onfi_cycle.specs.declared.latch.Latch.{Latch}
 use Rattle.onfi_cycle.specs.declared.latch.Latch.TheVariants.{Off, Status, Data}
@@ -15,14 +15,15 @@ use Rattle.onfi_cycle.specs.declared.opening.Opening.{Opening}
 use Rattle.onfi_cycle.specs.declared.target_cycle.TargetCycle.{TargetCycle}
 use Rattle.onfi_cycle.specs.declared.target_cycle.TargetCycle.TheVariants.{CommandCycle, AddressCycle, InputCycle, OutputCycle}
 use Rattle.onfi_cycle.specs.declared.effect.Effect.{Effect}
-use Rattle.onfi_cycle.specs.declared.effect.Effect.TheVariants.{Unaffected, DataOutputEnabled, SelectedForStatus, Deselected, IdRead, IdentityRead, UniqueIdReadStarted, FeaturesReadStarted, FeaturesSet, ParameterPageReadStarted, CacheReadContinued, CacheReadEnded, BecameReady, ArrayBecameReady, ReadColumnChanged, DataOutput, ResetStarted}
+use Rattle.onfi_cycle.specs.declared.effect.Effect.TheVariants.{Unaffected, StatusSelected, StatusOfSelected, AnotherAddressed, TargetResetStarted, DataOutputEnabled, SelectedForStatus, Deselected, IdRead, IdentityRead, UniqueIdReadStarted, FeaturesReadStarted, FeaturesSet, ParameterPageReadStarted, CacheReadContinued, CacheReadEnded, BecameReady, ArrayBecameReady, ReadColumnChanged, DataOutput, ResetStarted}
 use Rattle.onfi_cycle.specs.LunView.{LunView}
 use Rattle.onfi_cycle.specs.Sequence.{target_cycle, row, row_with, wants_command, wants_address}
-use Rattle.onfi_cycle.specs.Effect.{is_off, is_data, names_lun, command_effect, address_effect, id_effect, opening_address_effect, cycle_effect, ends_features}
-use Rattle.onfi_cycle.specs.Lun.{latch, latch_after, latch_alone, effect_on, drivers_from, is_only, lun_view, views_from, luns_of}
+use Rattle.onfi_cycle.specs.Command.{reads_identity, is_set_features}
+use Rattle.onfi_cycle.specs.Effect.{is_off, is_data, is_shared, acts_for_target, names_lun, command_effect, address_effect, id_effect, opening_address_effect, cycle_effect, ends_features}
+use Rattle.onfi_cycle.specs.Lun.{latch, latch_after, latch_alone, is_selected, is_busy, is_array_busy, effect_on, effect_among, drivers_from, is_only, lun_view, views_from, luns_of, shown_after}
 use Rattle.onfi_cycle.specs.Rules.{driving, are_none, only, driver, is_some_and, driver_is, breaks_cache_read_misplaced, continues_cache, ends_cache}
 use Rattle.onfi_cycle.specs.Permitted.{broken, is_permitted, is_legal}
-use Rattle.onfi_cycle.specs.Decides.{or_before, last_decided, tail_of, drives_alone, address_closer, closing_address, closed_latch, read_latch, selected_latch, third_of_status, selecting_latch, latch_cycle, latch_decided}
+use Rattle.onfi_cycle.specs.Decides.{or_before, last_decided, tail_of, drives_alone, address_closer, closing_address, closed_latch, read_latch, status_latch, turned_off, left_latch, selected_latch, third_of_status, selecting_latch, latch_cycle, latch_decided}
 use Rattle.onfi_cycle.proofs.Others.{permitted_none}
 use Rattle.onfi_cycle.proofs.Meaning.{driver_on, alone_off}
 use Rattle.onfi_cycle.proofs.Passed.{permitted_keeps}
@@ -120,81 +121,139 @@ cache_finds_driver g n past c l h here low is = at (target_cycle c.kind c.byte) 
     at _ is f15 = cc
 
 -- what a cycle leaves of the latch
-read_step : (before : Latch) → latch_after DataOutputEnabled before ≡ unwrap_or (read_latch before) before
-read_step Off = refl
-read_step Status = refl
-read_step Data = refl
+read_step : (selected works : Bool) (before : Latch) → latch_after DataOutputEnabled selected works before ≡ unwrap_or (read_latch before) before
+read_step selected works Off = refl
+read_step selected works Status = refl
+read_step selected works Data = refl
 
-cache_step : (b o : Bool) (before : Latch) (e : Effect) (c : Command) → latch_after e before ≡ Data → closed_latch (Some c) ≡ Some Data → o ≡ not b → latch_after (cond o Unaffected e) before ≡ unwrap_or (closed_latch (cond b (Some c) None)) before
-cache_step true o before e c after closed h = rw (h, closed) after
-cache_step false o before e c after closed h = rw h refl
+cache_step : (b o s w : Bool) (before : Latch) (e : Effect) (c : Command) → latch_after e s w before ≡ Data → closed_latch (Some c) ≡ Some Data → o ≡ not b → latch_after (cond o Unaffected e) s w before ≡ unwrap_or (or_before (closed_latch (cond b (Some c) None)) None) before
+cache_step true o s w before e c after closed h = rw (h, closed) after
+cache_step false o s w before e c after closed h = rw h refl
 
-row_step : (b : Bool) (before : Latch) (e : Effect) (x : Option Command) → latch_after e before ≡ unwrap_or (closed_latch x) before → latch_after (cond b e Unaffected) before ≡ unwrap_or (closed_latch (cond b x None)) before
-row_step true before e x h = h
-row_step false before e x h = refl
+same_either_way : (b s w : Bool) (before : Latch) (e : Effect) → latch_after e s w before ≡ before → latch_after (cond b e Unaffected) s w before ≡ before
+same_either_way true s w before e h = h
+same_either_way false s w before e h = refl
 
-same_either_way : (b : Bool) (before : Latch) (e : Effect) → latch_after e before ≡ before → latch_after (cond b e Unaffected) before ≡ before
-same_either_way true before e h = h
-same_either_way false before e h = refl
+-- the closer of a row; x: it is a read; p, q: the LUN is selected, and works
+row_step : (wants named shared x p q : Bool) (before : Latch) (e : Effect) (o : Option Command) → latch_after e p q before ≡ unwrap_or (closed_latch o) before → latch_after (cond (wants && named) e (cond (true && (wants && shared)) (AnotherAddressed x) Unaffected)) p q before ≡ unwrap_or (or_before (closed_latch (cond (wants && named) o None)) (cond ((true && (shared && (wants && not named))) && (x && not q)) (Some Off) None)) before
+row_step true true shared x p q before e o h = named_step shared (x && not q)
+  where
+    named_step : (shared y : Bool) → latch_after e p q before ≡ unwrap_or (or_before (closed_latch o) (cond ((true && (shared && (true && not true))) && y) (Some Off) None)) before
+    named_step shared y = h ∙ ap (λ (z : Option Latch). unwrap_or z before) (never shared y (closed_latch o))
+      where
+        never : (shared y : Bool) (d : Option Latch) → d ≡ or_before d (cond ((true && (shared && (true && not true))) && y) (Some Off) None)
+        never true y None = refl
+        never false y None = refl
+        never shared y (Some d) = refl
+row_step true false true true p true before e o h = refl
+row_step true false true true p false before e o h = refl
+row_step true false true false p q before e o h = refl
+row_step true false false x p q before e o h = refl
+row_step false named true x p q before e o h = refl
+row_step false named false x p q before e o h = refl
+
+status_step : (shared selected w : Bool) (before : Latch) → latch_after (cond shared StatusOfSelected StatusSelected) selected w before ≡ status_latch shared selected
+status_step true true w before = refl
+status_step true false w before = refl
+status_step false selected w before = refl
+
+reset_step : (shared first s w : Bool) (before : Latch) → latch_after (cond shared (TargetResetStarted first) ResetStarted) s w before ≡ Off
+reset_step true first s w before = refl
+reset_step false first s w before = refl
 
 -- la is what the LUN shows, or shows alone
-command_step : (g : Parts) (past : List Item) (l : Lun) (la : Latch) (c : Command) → (is_cache_cycle (CommandCycle c) ≡ true → is_off la ≡ not (drives_alone g past l)) → latch_after (command_effect g (tail_of past l) la c l.lun) (latch g past l) ≡ unwrap_or (latch_cycle g past l (CommandCycle c)) (latch g past l)
-command_step g past l la Read cache = read_step (latch g past l)
-command_step g past l la ReadStatus cache = refl
+command_step : (g : Parts) (past : List Item) (l : Lun) (la : Latch) (c : Command) → (is_cache_cycle (CommandCycle c) ≡ true → is_off la ≡ not (drives_alone g past l)) → latch_after (command_effect g (tail_of past l) la c l.lun) (is_selected g past l) (is_busy g past l || is_array_busy g past l) (latch g past l) ≡ unwrap_or (latch_cycle g past l (CommandCycle c)) (latch g past l)
+command_step g past l la Read cache = read_step (is_selected g past l) (is_busy g past l || is_array_busy g past l) (latch g past l)
+command_step g past l la ReadStatus cache = status_step (is_shared g) (is_selected g past l) (is_busy g past l || is_array_busy g past l) (latch g past l)
 command_step g past l la ReadStatusEnhanced cache = refl
-command_step g past l la Reset cache = refl
-command_step g past l la SynchronousReset cache = refl
-command_step g past l la ReadCacheSequential cache = cache_step (drives_alone g past l) (is_off la) (latch g past l) CacheReadContinued ReadCacheSequential refl refl (cache refl)
-command_step g past l la ReadCacheEnd cache = cache_step (drives_alone g past l) (is_off la) (latch g past l) CacheReadEnded ReadCacheEnd refl refl (cache refl)
-command_step g past l la ChangeReadColumnConfirm cache = same_either_way (wants_command (tail_of past l) ChangeReadColumnConfirm && not (is_off la)) (latch g past l) (ReadColumnChanged (tail_of past l).column) refl
-command_step g past l la ReadConfirm cache = row_step (wants_command (tail_of past l) ReadConfirm && names_lun g (row (tail_of past l)) l.lun) (latch g past l) _ (Some ReadConfirm) refl
-command_step g past l la BlockEraseConfirm cache = row_step (wants_command (tail_of past l) BlockEraseConfirm && names_lun g (row (tail_of past l)) l.lun) (latch g past l) _ (Some BlockEraseConfirm) refl
-command_step g past l la BlockErasePlane cache = row_step (wants_command (tail_of past l) BlockErasePlane && names_lun g (row (tail_of past l)) l.lun) (latch g past l) _ (Some BlockErasePlane) refl
-command_step g past l la ProgramConfirm cache = row_step (wants_command (tail_of past l) ProgramConfirm && names_lun g (row (tail_of past l)) l.lun) (latch g past l) _ (Some ProgramConfirm) refl
-command_step g past l la ProgramPlane cache = row_step (wants_command (tail_of past l) ProgramPlane && names_lun g (row (tail_of past l)) l.lun) (latch g past l) _ (Some ProgramPlane) refl
-command_step g past l la c cache = same_either_way (wants_command (tail_of past l) c && names_lun g (row (tail_of past l)) l.lun) (latch g past l) Unaffected refl
+command_step g past l la Reset cache = reset_step (is_shared g) (l.lun == 0) (is_selected g past l) (is_busy g past l || is_array_busy g past l) (latch g past l)
+command_step g past l la SynchronousReset cache = reset_step (is_shared g) (l.lun == 0) (is_selected g past l) (is_busy g past l || is_array_busy g past l) (latch g past l)
+command_step g past l la ReadCacheSequential cache = cache_step (drives_alone g past l) (is_off la) (is_selected g past l) (is_busy g past l || is_array_busy g past l) (latch g past l) CacheReadContinued ReadCacheSequential refl refl (cache refl)
+command_step g past l la ReadCacheEnd cache = cache_step (drives_alone g past l) (is_off la) (is_selected g past l) (is_busy g past l || is_array_busy g past l) (latch g past l) CacheReadEnded ReadCacheEnd refl refl (cache refl)
+command_step g past l la ChangeReadColumnConfirm cache = same_either_way (wants_command (tail_of past l) ChangeReadColumnConfirm && not (is_off la)) (is_selected g past l) (is_busy g past l || is_array_busy g past l) (latch g past l) (ReadColumnChanged (tail_of past l).column) refl
+command_step g past l la ReadConfirm cache = row_step (wants_command (tail_of past l) ReadConfirm) (names_lun g (row (tail_of past l)) l.lun) (is_shared g) true (is_selected g past l) (is_busy g past l || is_array_busy g past l) (latch g past l) _ (Some ReadConfirm) refl
+command_step g past l la BlockEraseConfirm cache = row_step (wants_command (tail_of past l) BlockEraseConfirm) (names_lun g (row (tail_of past l)) l.lun) (is_shared g) false (is_selected g past l) (is_busy g past l || is_array_busy g past l) (latch g past l) _ (Some BlockEraseConfirm) refl
+command_step g past l la BlockErasePlane cache = row_step (wants_command (tail_of past l) BlockErasePlane) (names_lun g (row (tail_of past l)) l.lun) (is_shared g) false (is_selected g past l) (is_busy g past l || is_array_busy g past l) (latch g past l) _ (Some BlockErasePlane) refl
+command_step g past l la ProgramConfirm cache = row_step (wants_command (tail_of past l) ProgramConfirm) (names_lun g (row (tail_of past l)) l.lun) (is_shared g) false (is_selected g past l) (is_busy g past l || is_array_busy g past l) (latch g past l) _ (Some ProgramConfirm) refl
+command_step g past l la ProgramPlane cache = row_step (wants_command (tail_of past l) ProgramPlane) (names_lun g (row (tail_of past l)) l.lun) (is_shared g) false (is_selected g past l) (is_busy g past l || is_array_busy g past l) (latch g past l) _ (Some ProgramPlane) refl
+command_step g past l la c cache = same_either_way (wants_command (tail_of past l) c && names_lun g (row (tail_of past l)) l.lun) (is_selected g past l) (is_busy g past l || is_array_busy g past l) (latch g past l) Unaffected refl
 
-identity_step : (b : Bool) (before : Latch) (e : Effect) (c : Command) → latch_after e before ≡ Data → closed_latch (Some c) ≡ Some Data → latch_after (cond b e Unaffected) before ≡ unwrap_or (closed_latch (cond b (Some c) None)) before
-identity_step true before e c after closed = rw closed after
-identity_step false before e c after closed = refl
+-- what reads what stands beside the array; w: its address is wanted; a: the LUN acts for its target
+identity_step : (w a p q : Bool) (before : Latch) (e : Effect) (c : Command) → latch_after e p q before ≡ Data → closed_latch (Some c) ≡ Some Data → reads_identity c ≡ true → latch_after (cond w (cond a e Deselected) Unaffected) p q before ≡ unwrap_or (or_before (closed_latch (cond (w && a) (Some c) None)) (turned_off (w && not false) a c)) before
+identity_step true true p q before e c after closed of = rw closed after
+identity_step true false p q before e c after closed of = rw of refl
+identity_step false a p q before e c after closed of = refl
 
-address_step : (g : Parts) (past : List Item) (l : Lun) (byte : ℕ) (x : Option Opening) → latch_after (opening_address_effect g (tail_of past l) byte x l.lun) (latch g past l) ≡ unwrap_or (or_before (selecting_latch g past l byte x) (closed_latch (closing_address g l (tail_of past l) byte x))) (latch g past l)
+address_step : (g : Parts) (past : List Item) (l : Lun) (byte : ℕ) (x : Option Opening) → latch_after (opening_address_effect g (tail_of past l) byte x l.lun) (is_selected g past l) (is_busy g past l || is_array_busy g past l) (latch g past l) ≡ unwrap_or (or_before (selecting_latch g past l byte x) (or_before (closed_latch (closing_address g l (tail_of past l) byte x)) (left_latch g l (tail_of past l) byte x))) (latch g past l)
 address_step g past l byte None = refl
 address_step g past l byte (Some o) = at o.opener o.addresses
   where
-    selects : (b n : Bool) → latch_after (cond b (cond n SelectedForStatus Deselected) Unaffected) (latch g past l) ≡ unwrap_or (or_before (cond b (selected_latch n) None) None) (latch g past l)
-    selects true true = refl
-    selects true false = refl
-    selects false n = refl
+    p : Bool
+    p = is_selected g past l
 
-    shows_id : (b : Bool) → latch_after (cond b IdRead (IdentityRead (byte == 0x40))) (latch g past l) ≡ Data
+    q : Bool
+    q = is_busy g past l || is_array_busy g past l
+
+    w : Bool
+    w = wants_address (tail_of past l) byte
+
+    a : Bool
+    a = acts_for_target g l.lun
+
+    other : (w a : Bool) (c : Command) → reads_identity c ≡ false → turned_off w a c ≡ None
+    other true true c h = refl
+    other true false c h = rw h refl
+    other false a c h = refl
+
+    set : (w a : Bool) (c : Command) → turned_off (w && not true) a c ≡ None
+    set true a c = refl
+    set false a c = refl
+
+    selects : (b n : Bool) (c : Command) → reads_identity c ≡ false → latch_after (cond b (cond n SelectedForStatus Deselected) Unaffected) p q (latch g past l) ≡ unwrap_or (or_before (cond b (selected_latch n) None) (or_before None (turned_off (w && not false) a c))) (latch g past l)
+    selects true true c h = refl
+    selects true false c h = refl
+    selects false n c h = rw (other (w && not false) a c h) refl
+
+    resets : (b named shared : Bool) → latch_after (cond b (cond named ResetStarted (cond shared (AnotherAddressed false) Unaffected)) Unaffected) p q (latch g past l) ≡ unwrap_or (or_before (closed_latch (cond (b && named) (Some Reset) None)) (turned_off (w && not false) a ResetLun)) (latch g past l)
+    resets true true shared = refl
+    resets true false true = rw (other (w && not false) a ResetLun refl) refl
+    resets true false false = rw (other (w && not false) a ResetLun refl) refl
+    resets false named shared = rw (other (w && not false) a ResetLun refl) refl
+
+    shows_id : (b : Bool) → latch_after (cond b IdRead (IdentityRead (byte == 0x40))) p q (latch g past l) ≡ Data
     shows_id true = refl
     shows_id false = refl
 
-    at : (c : Command) (n : ℕ) → latch_after (address_effect g (tail_of past l) byte c n l.lun) (latch g past l) ≡ unwrap_or (or_before (third_of_status c n (names_lun g (row_with (tail_of past l) byte) l.lun)) (closed_latch (address_closer (wants_address (tail_of past l) byte) (names_lun g (row_with (tail_of past l) byte) l.lun) c n))) (latch g past l)
-    at ReadStatusEnhanced n = selects (n == 2) (names_lun g (row_with (tail_of past l) byte) l.lun)
-    at ReadId n = identity_step (wants_address (tail_of past l) byte) (latch g past l) (id_effect byte) ReadId (shows_id (byte == 0x20)) refl
-    at ReadParameterPage n = identity_step (wants_address (tail_of past l) byte) (latch g past l) ParameterPageReadStarted ReadParameterPage refl refl
-    at ReadUniqueId n = identity_step (wants_address (tail_of past l) byte) (latch g past l) UniqueIdReadStarted ReadUniqueId refl refl
-    at GetFeatures n = identity_step (wants_address (tail_of past l) byte) (latch g past l) (FeaturesReadStarted byte) GetFeatures refl refl
-    at ResetLun n = row_step (n == 2 && names_lun g (row_with (tail_of past l) byte) l.lun) (latch g past l) ResetStarted (Some Reset) refl
-    at _ n = refl
+    at : (c : Command) (n : ℕ) → latch_after (address_effect g (tail_of past l) byte c n l.lun) p q (latch g past l) ≡ unwrap_or (or_before (third_of_status c n (names_lun g (row_with (tail_of past l) byte) l.lun)) (or_before (closed_latch (address_closer (w && a) (names_lun g (row_with (tail_of past l) byte) l.lun) c n)) (turned_off (w && not (is_set_features c)) a c))) (latch g past l)
+    at ReadStatusEnhanced n = selects (n == 2) (names_lun g (row_with (tail_of past l) byte) l.lun) ReadStatusEnhanced refl
+    at ReadId n = identity_step w a p q (latch g past l) (id_effect byte) ReadId (shows_id (byte == 0x20)) refl refl
+    at ReadParameterPage n = identity_step w a p q (latch g past l) ParameterPageReadStarted ReadParameterPage refl refl refl
+    at ReadUniqueId n = identity_step w a p q (latch g past l) UniqueIdReadStarted ReadUniqueId refl refl refl
+    at GetFeatures n = identity_step w a p q (latch g past l) (FeaturesReadStarted byte) GetFeatures refl refl refl
+    at SetFeatures n = rw (set w a SetFeatures) refl
+    at ResetLun n = resets (n == 2) (names_lun g (row_with (tail_of past l) byte) l.lun) (is_shared g)
+    at c n = rw (other (w && not false) a c refl) refl
 
-cycle_step : (g : Parts) (past : List Item) (l : Lun) (la : Latch) (x : TargetCycle) → (is_cache_cycle x ≡ true → is_off la ≡ not (drives_alone g past l)) → latch_after (cycle_effect g (tail_of past l) la x l.lun) (latch g past l) ≡ unwrap_or (latch_cycle g past l x) (latch g past l)
+input_step : (e a p q : Bool) (before : Latch) (f : ℕ) → latch_after (cond e (cond a (FeaturesSet f) Deselected) Unaffected) p q before ≡ unwrap_or (turned_off e a SetFeatures) before
+input_step true true p q before f = refl
+input_step true false p q before f = refl
+input_step false a p q before f = refl
+
+cycle_step : (g : Parts) (past : List Item) (l : Lun) (la : Latch) (x : TargetCycle) → (is_cache_cycle x ≡ true → is_off la ≡ not (drives_alone g past l)) → latch_after (cycle_effect g (tail_of past l) la x l.lun) (is_selected g past l) (is_busy g past l || is_array_busy g past l) (latch g past l) ≡ unwrap_or (latch_cycle g past l x) (latch g past l)
 cycle_step g past l la (CommandCycle c) cache = command_step g past l la c cache
 cycle_step g past l la (AddressCycle byte) cache = address_step g past l byte (tail_of past l).opening
-cycle_step g past l la (InputCycle byte) cache = same_either_way (ends_features (tail_of past l)) (latch g past l) (FeaturesSet ((tail_of past l).column % 256)) refl
-cycle_step g past l la OutputCycle cache = same_either_way (is_data la) (latch g past l) DataOutput refl
+cycle_step g past l la (InputCycle byte) cache = input_step (ends_features (tail_of past l)) (acts_for_target g l.lun) (is_selected g past l) (is_busy g past l || is_array_busy g past l) (latch g past l) ((tail_of past l).column % 256)
+cycle_step g past l la OutputCycle cache = same_either_way (is_data la) (is_selected g past l) (is_busy g past l || is_array_busy g past l) (latch g past l) DataOutput refl
 
 -- what a permitted item leaves of the latch
 latch_step : (g : Parts) (n : ℕ) (past : List Item) (i : Item) (l : Lun) → broken g n past i ≡ None → l.lun < g.luns → latch g (i ∷ past) l ≡ unwrap_or (latch_decided g l past i) (latch g past l)
 latch_step g n past (Cyc c) l h low = at (c.ce == l.ce) refl (cache_finds_driver g n past c l h)
   where
-    at : (b : Bool) → (c.ce == l.ce) ≡ b → (c.ce ≡ l.ce → l.lun < g.luns → is_cache_cycle (target_cycle c.kind c.byte) ≡ true → is_off (latch g past l) ≡ not (drives_alone g past l)) → latch_after (cond b (cycle_effect g (tail_of past l) (latch g past l) (target_cycle c.kind c.byte) l.lun) Unaffected) (latch g past l) ≡ unwrap_or (cond b (latch_cycle g past l (target_cycle c.kind c.byte)) None) (latch g past l)
+    at : (b : Bool) → (c.ce == l.ce) ≡ b → (c.ce ≡ l.ce → l.lun < g.luns → is_cache_cycle (target_cycle c.kind c.byte) ≡ true → is_off (latch g past l) ≡ not (drives_alone g past l)) → latch_after (cond b (cycle_effect g (tail_of past l) (latch g past l) (target_cycle c.kind c.byte) l.lun) Unaffected) (is_selected g past l) (is_busy g past l || is_array_busy g past l) (latch g past l) ≡ unwrap_or (cond b (latch_cycle g past l (target_cycle c.kind c.byte)) None) (latch g past l)
     at true e cache = cycle_step g past l (latch g past l) (target_cycle c.kind c.byte) (cache (eqb-true c.ce l.ce e) low)
     at false e cache = refl
-latch_step g n past (Rdy ce lun fail) l h low = same_either_way (ce == l.ce && lun == l.lun) (latch g past l) (BecameReady fail) refl
-latch_step g n past (Ard ce lun) l h low = same_either_way (ce == l.ce && lun == l.lun) (latch g past l) ArrayBecameReady refl
+latch_step g n past (Rdy ce lun fail) l h low = same_either_way (ce == l.ce && lun == l.lun) (is_selected g past l) (is_busy g past l || is_array_busy g past l) (latch g past l) (BecameReady fail) refl
+latch_step g n past (Ard ce lun) l h low = same_either_way (ce == l.ce && lun == l.lun) (is_selected g past l) (is_busy g past l || is_array_busy g past l) (latch g past l) ArrayBecameReady refl
 
 unwrap_before : (x y : Option Latch) → unwrap_or (or_before x y) Off ≡ unwrap_or x (unwrap_or y Off)
 unwrap_before (Some a) y = refl
@@ -208,16 +267,16 @@ latch_is_decided g n (i ∷ past) l legal low =
     (ap (unwrap_or (latch_decided g l past i)) (latch_is_decided g n past l both.1 low) ∙ sym (unwrap_before (latch_decided g l past i) (last_decided (latch_decided g l) past)))
 
 -- what any item leaves of the latch by what the LUN shows alone
-alone_step : (g : Parts) (past : List Item) (i : Item) (l : Lun) → latch_after (effect_on g past i l) (latch g past l) ≡ unwrap_or (latch_decided g l past i) (latch g past l)
-unfolding effect_on
+alone_step : (g : Parts) (past : List Item) (i : Item) (l : Lun) → shown_after (effect_on g past i l) (lun_view g past l) ≡ unwrap_or (latch_decided g l past i) (latch g past l)
+unfolding effect_among
 alone_step g past (Cyc c) l = at (c.ce == l.ce)
   where
-    at : (b : Bool) → latch_after (cond b (cycle_effect g (tail_of past l) (latch_alone g past l) (target_cycle c.kind c.byte) l.lun) Unaffected) (latch g past l) ≡ unwrap_or (cond b (latch_cycle g past l (target_cycle c.kind c.byte)) None) (latch g past l)
+    at : (b : Bool) → latch_after (cond b (cycle_effect g (tail_of past l) (latch_alone g past l) (target_cycle c.kind c.byte) l.lun) Unaffected) (is_selected g past l) (is_busy g past l || is_array_busy g past l) (latch g past l) ≡ unwrap_or (cond b (latch_cycle g past l (target_cycle c.kind c.byte)) None) (latch g past l)
     at true = cycle_step g past l (latch_alone g past l) (target_cycle c.kind c.byte) (λ cache. alone_off g past l)
     at false = refl
-alone_step g past (Rdy ce lun fail) l = same_either_way (ce == l.ce && lun == l.lun) (latch g past l) (BecameReady fail) refl
-alone_step g past (Ard ce lun) l = same_either_way (ce == l.ce && lun == l.lun) (latch g past l) ArrayBecameReady refl
+alone_step g past (Rdy ce lun fail) l = same_either_way (ce == l.ce && lun == l.lun) (is_selected g past l) (is_busy g past l || is_array_busy g past l) (latch g past l) (BecameReady fail) refl
+alone_step g past (Ard ce lun) l = same_either_way (ce == l.ce && lun == l.lun) (is_selected g past l) (is_busy g past l || is_array_busy g past l) (latch g past l) ArrayBecameReady refl
 
 -- the latch goes on by the effect of a permitted item, as every other fact does
-pub latch_by_effect : (g : Parts) (n : ℕ) (past : List Item) (i : Item) (l : Lun) → broken g n past i ≡ None → l.lun < g.luns → latch g (i ∷ past) l ≡ latch_after (effect_on g past i l) (latch g past l)
+pub latch_by_effect : (g : Parts) (n : ℕ) (past : List Item) (i : Item) (l : Lun) → broken g n past i ≡ None → l.lun < g.luns → latch g (i ∷ past) l ≡ shown_after (effect_on g past i l) (lun_view g past l)
 latch_by_effect g n past i l h low = latch_step g n past i l h low ∙ sym (alone_step g past i l)

@@ -28,3 +28,6 @@ pub mod TailBounds
 pub mod Worked
 pub mod Working
 pub mod Written
+pub mod Selected
+pub mod Serving
+pub mod Closers

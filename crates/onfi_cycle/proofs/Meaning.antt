@@ -4,7 +4,7 @@ use Rattle.std.proofs.lemmas.Bool.{not-false, not-true}
 use Rattle.nand_geometry.specs.declared.parts.Parts.{Parts}
 use Rattle.onfi_cycle.specs.declared.command.Command.{Command}
 use Rattle.onfi_cycle.specs.declared.command.Command.TheVariants.{Read, ReadConfirm, ChangeReadColumnConfirm, BlockEraseConfirm, BlockErasePlane, ReadStatus, ReadStatusEnhanced, ProgramConfirm, ProgramPlane, ReadId, ReadParameterPage, Reset, ReadCacheSequential, ReadCacheEnd, ReadUniqueId, GetFeatures, SetFeatures, ResetLun, SynchronousReset}
-use Rattle.onfi_cycle.specs.Command.{command}
+use Rattle.onfi_cycle.specs.Command.{command, closes_row, is_read_confirm}
 use Rattle.onfi_cycle.specs.declared.lun.Lun.{Lun}
 use Rattle.onfi_cycle.specs.declared.latch.Latch.{Latch}
 use Rattle.onfi_cycle.specs.declared.latch.Latch.TheVariants.{Off}
@@ -17,11 +17,11 @@ use Rattle.onfi_cycle.specs.declared.opening.Opening.{Opening}
 use Rattle.onfi_cycle.specs.declared.target_cycle.TargetCycle.{TargetCycle}
 use Rattle.onfi_cycle.specs.declared.target_cycle.TargetCycle.TheVariants.{CommandCycle, AddressCycle, InputCycle, OutputCycle}
 use Rattle.onfi_cycle.specs.declared.effect.Effect.{Effect}
-use Rattle.onfi_cycle.specs.declared.effect.Effect.TheVariants.{Unaffected, StatusSelected, StatusRowAwaited, SelectedForStatus, Deselected, IdRead, IdentityRead, UniqueIdReadStarted, FeaturesReadStarted, FeaturesSet, ParameterPageReadStarted, CacheReadContinued, CacheReadEnded, DataOutput, ResetStarted, BecameReady, ArrayBecameReady, ReadStarted, EraseStarted, ProgramStarted, ReadColumnChanged}
+use Rattle.onfi_cycle.specs.declared.effect.Effect.TheVariants.{Unaffected, AnotherAddressed, StatusOfSelected, TargetResetStarted, StatusSelected, StatusRowAwaited, SelectedForStatus, Deselected, IdRead, IdentityRead, UniqueIdReadStarted, FeaturesReadStarted, FeaturesSet, ParameterPageReadStarted, CacheReadContinued, CacheReadEnded, DataOutput, ResetStarted, BecameReady, ArrayBecameReady, ReadStarted, EraseStarted, ProgramStarted, ReadColumnChanged}
 use Rattle.onfi_cycle.specs.declared.tail_facts.TailFacts.{TailFacts}
 use Rattle.onfi_cycle.specs.Sequence.{target_cycle, row, row_with, wants_command, wants_address}
-use Rattle.onfi_cycle.specs.Effect.{is_off, is_data, page_address, names_lun, command_effect, address_effect, opening_address_effect, cycle_effect, ends_features}
-use Rattle.onfi_cycle.specs.Lun.{latch, latch_alone, drivers_from, is_only, effect_on}
+use Rattle.onfi_cycle.specs.Effect.{is_off, is_data, is_shared, acts_for_target, other_effect, page_address, names_lun, command_effect, address_effect, opening_address_effect, cycle_effect, ends_features}
+use Rattle.onfi_cycle.specs.Lun.{latch, latch_alone, drivers_from, is_only, effect_on, effect_among}
 use Rattle.onfi_cycle.specs.Decides.{tail_of, drives_alone, byte_of, id_register, row_closer, address_closer, closing_address, closing_cycle, closing, readies, readies_array, is_cycle_of, is_output, is_status_command, is_column_confirm, changes_column, outputs_data}
 
 -- the closer that an effect comes of
@@ -38,6 +38,7 @@ closer_of (FeaturesSet feature) = Some SetFeatures
 closer_of CacheReadContinued = Some ReadCacheSequential
 closer_of CacheReadEnded = Some ReadCacheEnd
 closer_of ResetStarted = Some Reset
+closer_of (TargetResetStarted first) = Some Reset
 closer_of _ = None
 
 abbrev pub is_ready : Effect → Bool
@@ -59,6 +60,7 @@ is_data_output _ = false
 abbrev pub is_status : Effect → Bool
 is_status StatusSelected = true
 is_status StatusRowAwaited = true
+is_status StatusOfSelected = true
 is_status _ = false
 
 -- the row and the column that an effect carries are those of the tail, and what it reads beside the array is what the byte asks for
@@ -135,12 +137,28 @@ nothing_means : (g : Parts) (past : List Item) (l : Lun) (byte : ℕ) (cycle : T
 nothing_means g past l byte cycle none change output status =
     record { closes = none; changes = rw change refl; outputs = rw output refl; status = status; no_ready = refl; no_array_ready = refl; carries = tt }
 
+-- the closer of a row of another LUN
+other_means : (g : Parts) (past : List Item) (l : Lun) (byte : ℕ) (c : Command) → closing_cycle g past l (CommandCycle c) ≡ None → is_column_confirm (CommandCycle c) ≡ false → is_status_command (CommandCycle c) ≡ false → MeansCycle g past l byte (CommandCycle c) (other_effect g (tail_of past l) c)
+other_means g past l byte c none change status =
+    either_means g past l byte (CommandCycle c) (closes_row c && (wants_command (tail_of past l) c && is_shared g)) (AnotherAddressed (is_read_confirm c)) Unaffected
+    (λ h. record { closes = none; changes = rw change refl; outputs = refl; status = status; no_ready = refl; no_array_ready = refl; carries = tt })
+    (λ h. nothing_means g past l byte (CommandCycle c) none change refl status)
+
 command_means : (g : Parts) (past : List Item) (l : Lun) (byte : ℕ) (c : Command) → MeansCycle g past l byte (CommandCycle c) (command_effect g (tail_of past l) (latch_alone g past l) c l.lun)
 command_means g past l byte Read = record { closes = refl; changes = refl; outputs = refl; status = refl; no_ready = refl; no_array_ready = refl; carries = tt }
-command_means g past l byte ReadStatus = record { closes = refl; changes = refl; outputs = refl; status = refl; no_ready = refl; no_array_ready = refl; carries = tt }
+command_means g past l byte ReadStatus =
+    either_means g past l byte (CommandCycle ReadStatus) (is_shared g) StatusOfSelected StatusSelected
+    (λ h. record { closes = refl; changes = refl; outputs = refl; status = refl; no_ready = refl; no_array_ready = refl; carries = tt })
+    (λ h. record { closes = refl; changes = refl; outputs = refl; status = refl; no_ready = refl; no_array_ready = refl; carries = tt })
 command_means g past l byte ReadStatusEnhanced = record { closes = refl; changes = refl; outputs = refl; status = refl; no_ready = refl; no_array_ready = refl; carries = tt }
-command_means g past l byte Reset = record { closes = refl; changes = refl; outputs = refl; status = refl; no_ready = refl; no_array_ready = refl; carries = tt }
-command_means g past l byte SynchronousReset = record { closes = refl; changes = refl; outputs = refl; status = refl; no_ready = refl; no_array_ready = refl; carries = tt }
+command_means g past l byte Reset =
+    either_means g past l byte (CommandCycle Reset) (is_shared g) (TargetResetStarted (l.lun == 0)) ResetStarted
+    (λ h. record { closes = refl; changes = refl; outputs = refl; status = refl; no_ready = refl; no_array_ready = refl; carries = tt })
+    (λ h. record { closes = refl; changes = refl; outputs = refl; status = refl; no_ready = refl; no_array_ready = refl; carries = tt })
+command_means g past l byte SynchronousReset =
+    either_means g past l byte (CommandCycle SynchronousReset) (is_shared g) (TargetResetStarted (l.lun == 0)) ResetStarted
+    (λ h. record { closes = refl; changes = refl; outputs = refl; status = refl; no_ready = refl; no_array_ready = refl; carries = tt })
+    (λ h. record { closes = refl; changes = refl; outputs = refl; status = refl; no_ready = refl; no_array_ready = refl; carries = tt })
 command_means g past l byte ReadCacheSequential =
     cache_means g past l byte ReadCacheSequential CacheReadContinued (alone_off g past l)
     (λ h. nothing_means g past l byte (CommandCycle ReadCacheSequential) (rw h refl) refl refl refl)
@@ -164,25 +182,25 @@ command_means g past l byte ChangeReadColumnConfirm =
     same : (wants_command (tail_of past l) ChangeReadColumnConfirm && drives_alone g past l) ≡ (wants_command (tail_of past l) ChangeReadColumnConfirm && not (is_off (latch_alone g past l)))
     same = ap (λ b. wants_command (tail_of past l) ChangeReadColumnConfirm && b) (not_not (drives_alone g past l) ∙ ap not (sym (alone_off g past l)))
 command_means g past l byte ReadConfirm =
-    either_means g past l byte (CommandCycle ReadConfirm) (wants_command (tail_of past l) ReadConfirm && names_lun g (row (tail_of past l)) l.lun) _ Unaffected
+    either_means g past l byte (CommandCycle ReadConfirm) (wants_command (tail_of past l) ReadConfirm && names_lun g (row (tail_of past l)) l.lun) _ _
     (λ h. record { closes = rw h refl; changes = refl; outputs = refl; status = refl; no_ready = refl; no_array_ready = refl; carries = (refl, refl) })
-    (λ h. nothing_means g past l byte (CommandCycle ReadConfirm) (rw h refl) refl refl refl)
+    (λ h. other_means g past l byte ReadConfirm (rw h refl) refl refl)
 command_means g past l byte BlockEraseConfirm =
-    either_means g past l byte (CommandCycle BlockEraseConfirm) (wants_command (tail_of past l) BlockEraseConfirm && names_lun g (row (tail_of past l)) l.lun) _ Unaffected
+    either_means g past l byte (CommandCycle BlockEraseConfirm) (wants_command (tail_of past l) BlockEraseConfirm && names_lun g (row (tail_of past l)) l.lun) _ _
     (λ h. record { closes = rw h refl; changes = refl; outputs = refl; status = refl; no_ready = refl; no_array_ready = refl; carries = refl })
-    (λ h. nothing_means g past l byte (CommandCycle BlockEraseConfirm) (rw h refl) refl refl refl)
+    (λ h. other_means g past l byte BlockEraseConfirm (rw h refl) refl refl)
 command_means g past l byte BlockErasePlane =
-    either_means g past l byte (CommandCycle BlockErasePlane) (wants_command (tail_of past l) BlockErasePlane && names_lun g (row (tail_of past l)) l.lun) _ Unaffected
+    either_means g past l byte (CommandCycle BlockErasePlane) (wants_command (tail_of past l) BlockErasePlane && names_lun g (row (tail_of past l)) l.lun) _ _
     (λ h. record { closes = rw h refl; changes = refl; outputs = refl; status = refl; no_ready = refl; no_array_ready = refl; carries = refl })
-    (λ h. nothing_means g past l byte (CommandCycle BlockErasePlane) (rw h refl) refl refl refl)
+    (λ h. other_means g past l byte BlockErasePlane (rw h refl) refl refl)
 command_means g past l byte ProgramConfirm =
-    either_means g past l byte (CommandCycle ProgramConfirm) (wants_command (tail_of past l) ProgramConfirm && names_lun g (row (tail_of past l)) l.lun) _ Unaffected
+    either_means g past l byte (CommandCycle ProgramConfirm) (wants_command (tail_of past l) ProgramConfirm && names_lun g (row (tail_of past l)) l.lun) _ _
     (λ h. record { closes = rw h refl; changes = refl; outputs = refl; status = refl; no_ready = refl; no_array_ready = refl; carries = refl })
-    (λ h. nothing_means g past l byte (CommandCycle ProgramConfirm) (rw h refl) refl refl refl)
+    (λ h. other_means g past l byte ProgramConfirm (rw h refl) refl refl)
 command_means g past l byte ProgramPlane =
-    either_means g past l byte (CommandCycle ProgramPlane) (wants_command (tail_of past l) ProgramPlane && names_lun g (row (tail_of past l)) l.lun) _ Unaffected
+    either_means g past l byte (CommandCycle ProgramPlane) (wants_command (tail_of past l) ProgramPlane && names_lun g (row (tail_of past l)) l.lun) _ _
     (λ h. record { closes = rw h refl; changes = refl; outputs = refl; status = refl; no_ready = refl; no_array_ready = refl; carries = refl })
-    (λ h. nothing_means g past l byte (CommandCycle ProgramPlane) (rw h refl) refl refl refl)
+    (λ h. other_means g past l byte ProgramPlane (rw h refl) refl refl)
 command_means g past l byte c =
     either_means g past l byte (CommandCycle c) (wants_command (tail_of past l) c && names_lun g (row (tail_of past l)) l.lun) Unaffected Unaffected
     (λ h. nothing_means g past l byte (CommandCycle c) refl refl refl refl)
@@ -193,37 +211,53 @@ address_nothing : (g : Parts) (past : List Item) (l : Lun) (byte : ℕ) (e : Eff
 address_nothing g past l byte e closes change output status ready array carries =
     record { closes = closes; changes = sym change; outputs = sym output; status = sym status; no_ready = ready; no_array_ready = array; carries = carries }
 
-identity_means : (g : Parts) (past : List Item) (l : Lun) (byte : ℕ) (b : Bool) (c : Command) (e : Effect) → closing_cycle g past l (AddressCycle byte) ≡ cond b (Some c) None → closer_of e ≡ Some c → is_column_change e ≡ false → is_data_output e ≡ false → is_status e ≡ false → is_ready e ≡ false → is_array_ready e ≡ false → Carries g (tail_of past l) byte e → MeansCycle g past l byte (AddressCycle byte) (cond b e Unaffected)
-identity_means g past l byte true c e closes of change output status ready array carries = address_nothing g past l byte e (closes ∙ sym of) change output status ready array carries
-identity_means g past l byte false c e closes of change output status ready array carries = address_nothing g past l byte Unaffected closes refl refl refl refl refl tt
+-- w: the address is wanted; a: the LUN acts for its target
+identity_means : (g : Parts) (past : List Item) (l : Lun) (byte : ℕ) (w a : Bool) (c : Command) (e : Effect) → closing_cycle g past l (AddressCycle byte) ≡ cond (w && a) (Some c) None → closer_of e ≡ Some c → is_column_change e ≡ false → is_data_output e ≡ false → is_status e ≡ false → is_ready e ≡ false → is_array_ready e ≡ false → Carries g (tail_of past l) byte e → MeansCycle g past l byte (AddressCycle byte) (cond w (cond a e Deselected) Unaffected)
+identity_means g past l byte true true c e closes of change output status ready array carries = address_nothing g past l byte e (closes ∙ sym of) change output status ready array carries
+identity_means g past l byte true false c e closes of change output status ready array carries = address_nothing g past l byte Deselected closes refl refl refl refl refl tt
+identity_means g past l byte false a c e closes of change output status ready array carries = address_nothing g past l byte Unaffected closes refl refl refl refl refl tt
 
 address_means : (g : Parts) (past : List Item) (l : Lun) (byte : ℕ) (x : Option Opening) → (tail_of past l).opening ≡ x → MeansCycle g past l byte (AddressCycle byte) (opening_address_effect g (tail_of past l) byte x l.lun)
 address_means g past l byte None h = address_nothing g past l byte Unaffected (ap (closing_address g l (tail_of past l) byte) h) refl refl refl refl refl tt
 address_means g past l byte (Some o) h = at o.opener o.addresses (ap (closing_address g l (tail_of past l) byte) h)
   where
-    id_means : (b : Bool) → (byte == 0x20) ≡ b → closing_cycle g past l (AddressCycle byte) ≡ cond (wants_address (tail_of past l) byte) (Some ReadId) None → MeansCycle g past l byte (AddressCycle byte) (cond (wants_address (tail_of past l) byte) (cond b IdRead (IdentityRead (byte == 0x40))) Unaffected)
-    id_means true e h = identity_means g past l byte (wants_address (tail_of past l) byte) ReadId IdRead h refl refl refl refl refl refl (rw e refl)
-    id_means false e h = identity_means g past l byte (wants_address (tail_of past l) byte) ReadId (IdentityRead (byte == 0x40)) h refl refl refl refl refl refl (rw e refl)
+    w : Bool
+    w = wants_address (tail_of past l) byte
 
-    at : (c : Command) (n : ℕ) → closing_cycle g past l (AddressCycle byte) ≡ address_closer (wants_address (tail_of past l) byte) (names_lun g (row_with (tail_of past l) byte) l.lun) c n → MeansCycle g past l byte (AddressCycle byte) (address_effect g (tail_of past l) byte c n l.lun)
+    a : Bool
+    a = acts_for_target g l.lun
+
+    id_means : (b : Bool) → (byte == 0x20) ≡ b → closing_cycle g past l (AddressCycle byte) ≡ cond (w && a) (Some ReadId) None → MeansCycle g past l byte (AddressCycle byte) (cond w (cond a (cond b IdRead (IdentityRead (byte == 0x40))) Deselected) Unaffected)
+    id_means true e h = identity_means g past l byte w a ReadId IdRead h refl refl refl refl refl refl (rw e refl)
+    id_means false e h = identity_means g past l byte w a ReadId (IdentityRead (byte == 0x40)) h refl refl refl refl refl refl (rw e refl)
+
+    reset_means : (b named shared : Bool) → closing_cycle g past l (AddressCycle byte) ≡ cond (b && named) (Some Reset) None → MeansCycle g past l byte (AddressCycle byte) (cond b (cond named ResetStarted (cond shared (AnotherAddressed false) Unaffected)) Unaffected)
+    reset_means true true shared h = address_nothing g past l byte ResetStarted h refl refl refl refl refl tt
+    reset_means true false true h = address_nothing g past l byte (AnotherAddressed false) h refl refl refl refl refl tt
+    reset_means true false false h = address_nothing g past l byte Unaffected h refl refl refl refl refl tt
+    reset_means false named shared h = address_nothing g past l byte Unaffected h refl refl refl refl refl tt
+
+    at : (c : Command) (n : ℕ) → closing_cycle g past l (AddressCycle byte) ≡ address_closer (w && a) (names_lun g (row_with (tail_of past l) byte) l.lun) c n → MeansCycle g past l byte (AddressCycle byte) (address_effect g (tail_of past l) byte c n l.lun)
     at ReadStatusEnhanced n h =
         either_means g past l byte (AddressCycle byte) (n == 2) _ Unaffected
         (λ k. either_means g past l byte (AddressCycle byte) (names_lun g (row_with (tail_of past l) byte) l.lun) SelectedForStatus Deselected (λ m. address_nothing g past l byte SelectedForStatus h refl refl refl refl refl tt) (λ m. address_nothing g past l byte Deselected h refl refl refl refl refl tt))
         (λ k. address_nothing g past l byte Unaffected h refl refl refl refl refl tt)
     at ReadId n h = id_means (byte == 0x20) refl h
-    at ReadParameterPage n h = identity_means g past l byte (wants_address (tail_of past l) byte) ReadParameterPage ParameterPageReadStarted h refl refl refl refl refl refl tt
-    at ReadUniqueId n h = identity_means g past l byte (wants_address (tail_of past l) byte) ReadUniqueId UniqueIdReadStarted h refl refl refl refl refl refl tt
-    at GetFeatures n h = identity_means g past l byte (wants_address (tail_of past l) byte) GetFeatures (FeaturesReadStarted byte) h refl refl refl refl refl refl refl
-    at ResetLun n h = identity_means g past l byte (n == 2 && names_lun g (row_with (tail_of past l) byte) l.lun) Reset ResetStarted h refl refl refl refl refl refl tt
+    at ReadParameterPage n h = identity_means g past l byte w a ReadParameterPage ParameterPageReadStarted h refl refl refl refl refl refl tt
+    at ReadUniqueId n h = identity_means g past l byte w a ReadUniqueId UniqueIdReadStarted h refl refl refl refl refl refl tt
+    at GetFeatures n h = identity_means g past l byte w a GetFeatures (FeaturesReadStarted byte) h refl refl refl refl refl refl refl
+    at ResetLun n h = reset_means (n == 2) (names_lun g (row_with (tail_of past l) byte) l.lun) (is_shared g) h
     at _ n h = address_nothing g past l byte Unaffected h refl refl refl refl refl tt
 
 cycle_means : (g : Parts) (past : List Item) (l : Lun) (kind : Kind) (byte : ℕ) → MeansCycle g past l byte (target_cycle kind byte) (cycle_effect g (tail_of past l) (latch_alone g past l) (target_cycle kind byte) l.lun)
 cycle_means g past l Cmd byte = command_means g past l byte (command byte)
 cycle_means g past l Adr byte = address_means g past l byte (tail_of past l).opening refl
-cycle_means g past l Din byte =
-    either_means g past l byte (InputCycle byte) (ends_features (tail_of past l)) (FeaturesSet ((tail_of past l).column % 256)) Unaffected
-    (λ h. record { closes = rw h refl; changes = refl; outputs = refl; status = refl; no_ready = refl; no_array_ready = refl; carries = tt })
-    (λ h. nothing_means g past l byte (InputCycle byte) (rw h refl) refl refl refl)
+cycle_means g past l Din byte = at (ends_features (tail_of past l)) refl (acts_for_target g l.lun) refl
+  where
+    at : (b : Bool) → ends_features (tail_of past l) ≡ b → (a : Bool) → acts_for_target g l.lun ≡ a → MeansCycle g past l byte (InputCycle byte) (cond b (cond a (FeaturesSet ((tail_of past l).column % 256)) Deselected) Unaffected)
+    at true h true k = record { closes = rw (h, k) refl; changes = refl; outputs = refl; status = refl; no_ready = refl; no_array_ready = refl; carries = tt }
+    at true h false k = record { closes = rw (h, k) refl; changes = refl; outputs = refl; status = refl; no_ready = refl; no_array_ready = refl; carries = tt }
+    at false h a k = nothing_means g past l byte (InputCycle byte) (rw h refl) refl refl refl
 cycle_means g past l Dout byte =
     either_means g past l byte OutputCycle (is_data (latch_alone g past l)) DataOutput Unaffected
     (λ h. record { closes = refl; changes = refl; outputs = sym (alone_data g past l) ∙ h; status = refl; no_ready = refl; no_array_ready = refl; carries = tt })
@@ -231,7 +265,7 @@ cycle_means g past l Dout byte =
 
 -- the effect of an item says what the item is to the LUN
 pub means : (g : Parts) (past : List Item) (i : Item) (l : Lun) → Means g past i l (effect_on g past i l)
-unfolding effect_on
+unfolding effect_among
 means g past (Cyc c) l = at (c.ce == l.ce) refl (cycle_means g past l c.kind c.byte)
   where
     at : (b : Bool) → (c.ce == l.ce) ≡ b → MeansCycle g past l c.byte (target_cycle c.kind c.byte) (cycle_effect g (tail_of past l) (latch_alone g past l) (target_cycle c.kind c.byte) l.lun) → Means g past (Cyc c) l (cond b (cycle_effect g (tail_of past l) (latch_alone g past l) (target_cycle c.kind c.byte) l.lun) Unaffected)

@@ -18,7 +18,7 @@ use Rattle.onfi_cycle.proofs.Others.{first_passed}
 pub record KeepsRules (g : Parts) (t : TailFacts) (luns : List LunView) (cycle : TargetCycle) : Type 0 where
   pub f2 : breaks_command_unknown g cycle ≡ false
   pub f3 : breaks_sequence_open g t cycle ≡ false
-  pub f4 : breaks_several_luns g cycle ≡ false
+  pub f4 : breaks_several_luns g luns cycle ≡ false
   pub f5 : breaks_no_column_to_change luns cycle ≡ false
   pub f6 : breaks_command_misplaced t cycle ≡ false
   pub f7 : breaks_address_misplaced g t cycle ≡ false
@@ -35,7 +35,7 @@ pub keeps_rules : (g : Parts) (t : TailFacts) (luns : List LunView) (cycle : Tar
 keeps_rules g t luns cycle h =
     let a2 = first_passed (breaks_command_unknown g cycle) CommandUnknown _ h in
     let a3 = first_passed (breaks_sequence_open g t cycle) SequenceOpen _ a2.1 in
-    let a4 = first_passed (breaks_several_luns g cycle) SeveralLuns _ a3.1 in
+    let a4 = first_passed (breaks_several_luns g luns cycle) SeveralLuns _ a3.1 in
     let a5 = first_passed (breaks_no_column_to_change luns cycle) NoColumnToChange _ a4.1 in
     let a6 = first_passed (breaks_command_misplaced t cycle) CommandMisplaced _ a5.1 in
     let a7 = first_passed (breaks_address_misplaced g t cycle) AddressMisplaced _ a6.1 in

@@ -9,7 +9,7 @@ use Rattle.onfi_cycle.specs.declared.queued.Queued.{Queued}
 use Rattle.onfi_cycle.specs.declared.register.Register.{Register}
 use Rattle.onfi_cycle.specs.declared.read_column.ReadColumn.{ReadColumn}
 use Rattle.onfi_cycle.specs.declared.effect.Effect.{Effect}
-use Rattle.onfi_cycle.specs.declared.effect.Effect.TheVariants.{Unaffected, DataOutputEnabled, StatusRowAwaited, Deselected}
+use Rattle.onfi_cycle.specs.declared.effect.Effect.TheVariants.{Unaffected, DataOutputEnabled, StatusRowAwaited, Deselected, StatusOfSelected, AnotherAddressed}
 use Rattle.onfi_cycle.specs.Lun.{effect_on, read_column_after, busy_after, closer_after, array_busy_after, array_page_after, register_after, queue_after}
 use Rattle.onfi_cycle.specs.declared.command.Command.{Command}
 use Rattle.onfi_cycle.specs.Content.{ArrayWork, queued_work_after, pending_work_after, failed_after, content_after}
@@ -21,6 +21,8 @@ is_quiet Unaffected = true
 is_quiet DataOutputEnabled = true
 is_quiet StatusRowAwaited = true
 is_quiet Deselected = true
+is_quiet StatusOfSelected = true
+is_quiet (AnotherAddressed _) = true
 is_quiet _ = false
 
 -- what a quiet effect leaves
@@ -46,6 +48,8 @@ left_by_quiet Unaffected h = record { busy = λ b. refl; closer = λ c. refl; ar
 left_by_quiet DataOutputEnabled h = record { busy = λ b. refl; closer = λ c. refl; array_busy = λ b c d. refl; array_page = λ p. refl; register = λ p r. refl; queue = λ q. refl; queued_work = λ b q. refl; pending_work = λ b q p. refl; failed = λ p b. refl; content = λ g q p old. refl; column = λ k. inl refl }
 left_by_quiet StatusRowAwaited h = record { busy = λ b. refl; closer = λ c. refl; array_busy = λ b c d. refl; array_page = λ p. refl; register = λ p r. refl; queue = λ q. refl; queued_work = λ b q. refl; pending_work = λ b q p. refl; failed = λ p b. refl; content = λ g q p old. refl; column = λ k. lost_or_same k (ltb 0 k.outputs) refl }
 left_by_quiet Deselected h = record { busy = λ b. refl; closer = λ c. refl; array_busy = λ b c d. refl; array_page = λ p. refl; register = λ p r. refl; queue = λ q. refl; queued_work = λ b q. refl; pending_work = λ b q p. refl; failed = λ p b. refl; content = λ g q p old. refl; column = λ k. inl refl }
+left_by_quiet (AnotherAddressed reads) h = record { busy = λ b. refl; closer = λ c. refl; array_busy = λ b c d. refl; array_page = λ p. refl; register = λ p r. refl; queue = λ q. refl; queued_work = λ b q. refl; pending_work = λ b q p. refl; failed = λ p b. refl; content = λ g q p old. refl; column = λ k. inl refl }
+left_by_quiet StatusOfSelected h = record { busy = λ b. refl; closer = λ c. refl; array_busy = λ b c d. refl; array_page = λ p. refl; register = λ p r. refl; queue = λ q. refl; queued_work = λ b q. refl; pending_work = λ b q p. refl; failed = λ p b. refl; content = λ g q p old. refl; column = λ k. lost_or_same k (ltb 0 k.outputs) refl }
 left_by_quiet _ h = cc
 
 -- a quiet item keeps the LUN

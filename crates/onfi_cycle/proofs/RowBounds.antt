@@ -25,7 +25,7 @@ use Rattle.onfi_cycle.specs.declared.target_cycle.TargetCycle.TheVariants.{Comma
 use Rattle.onfi_cycle.specs.LunView.{LunView}
 use Rattle.onfi_cycle.specs.Command.{is_page_program, at_last_row, is_set_features}
 use Rattle.onfi_cycle.specs.Sequence.{target_cycle, begins_sequence, facts_of, facts_after, extended_facts, opened, one_address_more, row_after_address, takes_data, wants_column, wants_command, wants_address, phase_after_command, phase_after_address, phase_after_input, row, row_with, takes_features}
-use Rattle.onfi_cycle.specs.Effect.{names_lun, page_address, cycle_effect, address_effect, opening_address_effect, id_effect, ends_features}
+use Rattle.onfi_cycle.specs.Effect.{names_lun, page_address, cycle_effect, address_effect, opening_address_effect, id_effect, ends_features, of_target, acts_for_target}
 use Rattle.onfi_cycle.specs.Lun.{queue_after, view_after}
 use Rattle.onfi_cycle.specs.Rules.{some_queued_clashes, is_some_and, named_lun_is, refused_by, is_refused_by, breaks_not_there, breaks_queue_clash}
 use Rattle.onfi_cycle.specs.Permitted.{judge, judge_cycle}
@@ -55,13 +55,17 @@ abbrev pub is_reset_lun : Command → Bool
 is_reset_lun ResetLun = true
 is_reset_lun _ = false
 
+-- what is done for a whole target
+served_keeps : (g : Parts) (n : ℕ) (w : Bool) (x : Effect) (q : List Queued) → queue_after x q ≡ q → queue_after (cond w (of_target g n x) Unaffected) q ≡ q
+served_keeps g n w x q h = either_keeps w (of_target g n x) Unaffected q (either_keeps (acts_for_target g n) x Deselected q h refl) refl
+
 address_keeps : (g : Parts) (t : TailFacts) (byte : ℕ) (c : Command) (m n : ℕ) (q : List Queued) → is_reset_lun c ≡ false → queue_after (address_effect g t byte c m n) q ≡ q
 address_keeps g t byte ReadStatusEnhanced m n q h =
     either_keeps (m == 2) (cond (names_lun g (row_with t byte) n) SelectedForStatus Deselected) Unaffected q (either_keeps (names_lun g (row_with t byte) n) SelectedForStatus Deselected q refl refl) refl
-address_keeps g t byte ReadId m n q h = either_keeps (wants_address t byte) (id_effect byte) Unaffected q (either_keeps (byte == 0x20) IdRead (IdentityRead (byte == 0x40)) q refl refl) refl
-address_keeps g t byte ReadParameterPage m n q h = either_keeps (wants_address t byte) ParameterPageReadStarted Unaffected q refl refl
-address_keeps g t byte ReadUniqueId m n q h = either_keeps (wants_address t byte) UniqueIdReadStarted Unaffected q refl refl
-address_keeps g t byte GetFeatures m n q h = either_keeps (wants_address t byte) (FeaturesReadStarted byte) Unaffected q refl refl
+address_keeps g t byte ReadId m n q h = served_keeps g n (wants_address t byte) (id_effect byte) q (either_keeps (byte == 0x20) IdRead (IdentityRead (byte == 0x40)) q refl refl)
+address_keeps g t byte ReadParameterPage m n q h = served_keeps g n (wants_address t byte) ParameterPageReadStarted q refl
+address_keeps g t byte ReadUniqueId m n q h = served_keeps g n (wants_address t byte) UniqueIdReadStarted q refl
+address_keeps g t byte GetFeatures m n q h = served_keeps g n (wants_address t byte) (FeaturesReadStarted byte) q refl
 address_keeps g t byte ResetLun m n q h = cc
 address_keeps g t byte c m n q h = refl
 
@@ -251,7 +255,7 @@ extended_row g t la luns n v (InputCycle byte) some keeps found tf f =
     record {
       erase = λ named h. cc;
       program = λ named h.
-          ap (some_queued_clashes g false (page_address g (row t))) (either_keeps (ends_features t) (FeaturesSet (t.column % 256)) Unaffected v.queue refl refl)
+          ap (some_queued_clashes g false (page_address g (row t))) (served_keeps g n (ends_features t) (FeaturesSet (t.column % 256)) v.queue refl)
           ∙ f.program named (input_inside t.inputs t.phase h);
     }
 extended_row g t la luns n v OutputCycle some keeps found tf f = record { erase = λ named h. cc; program = λ named h. cc }

@@ -3,9 +3,9 @@ use Rattle.std.specs.List.{list_any}
 use Rattle.std.proofs.Common.{◌≡◌, ℕ, suc, ◌+◌, ◌==◌, ◌≤◌, Bool, true, false, ◌&&◌, ◌||◌, cond, not, List, [], ◌∷◌, Option, Some, None, refl, sym, ap, ◌∙◌, arith, length, ltb, subst, zero, ◌<◌}
 use Rattle.std.proofs.lemmas.Bool.Decides.{nat_tests}
 use Rattle.std.specs.List.{slice_get}
-use Rattle.std.proofs.lemmas.Bool.{not-false, not-true, or_left, or_right, and_parts as both}
+use Rattle.std.proofs.lemmas.Bool.{not-false, not-true, or_left, or_right, and_parts as both, or_parts as neither}
 use Rattle.std.proofs.Math.Bool.{and-false, or-false}
-use Rattle.onfi_cycle.proofs.Booleans.{and_rest}
+use Rattle.onfi_cycle.proofs.Booleans.{and_rest, clash}
 use Rattle.nand_geometry.specs.declared.parts.Parts.{Parts}
 use Rattle.nand_geometry.specs.Row.{parts_of, is_inside}
 use Rattle.onfi_cycle.specs.declared.command.Command.{Command}
@@ -26,9 +26,9 @@ use Rattle.onfi_cycle.specs.declared.target_cycle.TargetCycle.TheVariants.{Comma
 use Rattle.onfi_cycle.specs.LunView.{LunView}
 use Rattle.onfi_cycle.specs.Command.{is_page_program, at_last_row, addresses_the_array, reads_identity, is_set_features}
 use Rattle.onfi_cycle.specs.Sequence.{target_cycle, begins_sequence, facts_of, facts_after, extended_facts, opened, one_address_more, row_after_address, wants_command, phase_after_command, phase_after_address, row, row_with, takes_features, phase_after_input}
-use Rattle.onfi_cycle.specs.Effect.{names_lun, page_address, cycle_effect, address_effect, opening_address_effect, ends_features}
+use Rattle.onfi_cycle.specs.Effect.{is_shared, names_lun, page_address, cycle_effect, address_effect, opening_address_effect, ends_features}
 use Rattle.onfi_cycle.specs.Lun.{busy_after, view_after}
-use Rattle.onfi_cycle.specs.Rules.{ends_row, breaks_not_there, breaks_several_luns, breaks_row_outside, breaks_lun_busy}
+use Rattle.onfi_cycle.specs.Rules.{named_lun_is, ends_row, breaks_not_there, breaks_several_luns, breaks_row_outside, breaks_lun_busy}
 use Rattle.onfi_cycle.specs.Permitted.{judge, judge_cycle}
 use Rattle.onfi_cycle.specs.State.{tail_after, effect_alone, has_driver}
 use Rattle.onfi_cycle.specs.Bounds.{TailFits, RowStands, is_read, is_block_erase, names_read, names_erase, names_program, names_row, names_identity, is_row}
@@ -39,7 +39,7 @@ use Rattle.onfi_cycle.proofs.TailBounds.{command_in_features, input_in_features}
 
 -- a tail that names no row and waits for no address of an identity
 unnamed : (g : Parts) (t : TailFacts) (n : ℕ) (v : LunView) → names_row t ≡ false → names_identity t ≡ false → RowStands g t n v
-unnamed g t n v row identity = record { inside = λ named h. cc; ready = λ named h. cc; identity = λ h. cc; alone = λ h. cc }
+unnamed g t n v row identity = record { inside = λ named h. cc; ready = λ named h. cc; identity = λ h. cc; alone = λ narrow h. cc }
 
 -- a LUN that is ready if it was
 stays_ready : (g : Parts) (t : TailFacts) (n : ℕ) (v w : LunView) → (v.busy ≡ false → w.busy ≡ false) → RowStands g t n v → RowStands g t n w
@@ -62,21 +62,31 @@ number_of_one (x ∷ (y ∷ luns)) n v one found = absurd (omega arith)
 
 -- ---- an opener
 
-record Identity (v : LunView) (n : ℕ) : Type 0 where
+record Identity (g : Parts) (v : LunView) (n : ℕ) : Type 0 where
   ready : v.busy ≡ false
-  alone : n ≡ 0
+  alone : is_shared g ≡ false → n ≡ 0
 
-identity_stands : (g : Parts) (t : TailFacts) (luns : List LunView) (n : ℕ) (v : LunView) (c : Command) → KeepsRules g t luns (CommandCycle c) → length luns ≡ g.luns → slice_get luns n ≡ Some v → reads_identity c ≡ true → Identity v n
+-- what no LUN does this one doesn't
+none_at : (test : LunView → Bool) (luns : List LunView) (n : ℕ) (v : LunView) → list_any test luns ≡ false → slice_get luns n ≡ Some v → test v ≡ false
+none_at test [] n v h found = cc
+none_at test (x ∷ luns) zero v h found = let same : x ≡ v = cc in ap test (sym same) ∙ (neither (test x) (list_any test luns) h).0
+none_at test (x ∷ luns) (suc n) v h found = none_at test luns n v (neither (test x) (list_any test luns) h).1 found
+
+identity_stands : (g : Parts) (t : TailFacts) (luns : List LunView) (n : ℕ) (v : LunView) (c : Command) → KeepsRules g t luns (CommandCycle c) → length luns ≡ g.luns → slice_get luns n ≡ Some v → reads_identity c ≡ true → Identity g v n
 unfolding breaks_several_luns breaks_lun_busy
 identity_stands g t luns n v c keeps count found h = of c h keeps.f4 keeps.f9
   where
     few : ltb 1 g.luns ≡ false → length luns ≤ 1
     few e = grind (arith, nat_tests, count)
 
-    when : ltb 1 g.luns ≡ false → not (list_any (λ v. not v.busy) luns) ≡ false → Identity v n
-    when one f9 = record { ready = not-true v.busy (some_of_one (λ v. not v.busy) luns n v (few one) found (not-false _ f9)); alone = number_of_one luns n v (few one) found }
+    by : (shared : Bool) → is_shared g ≡ shared → cond shared false (ltb 1 g.luns) ≡ false → not (list_any (λ v. not v.busy) luns) ≡ false → (shared && list_any (λ v. v.busy) luns) ≡ false → Identity g v n
+    by true e f4 some none = record { ready = none_at (λ v. v.busy) luns n v none found; alone = λ narrow. absurd (clash (is_shared g) e narrow) }
+    by false e one some none = record { ready = not-true v.busy (some_of_one (λ v. not v.busy) luns n v (few one) found (not-false _ some)); alone = λ narrow. number_of_one luns n v (few one) found }
 
-    of : (c : Command) → reads_identity c ≡ true → breaks_several_luns g (CommandCycle c) ≡ false → breaks_lun_busy g t luns (CommandCycle c) ≡ false → Identity v n
+    when : cond (is_shared g) false (ltb 1 g.luns) ≡ false → (not (list_any (λ v. not v.busy) luns) || (is_shared g && list_any (λ v. v.busy) luns)) ≡ false → Identity g v n
+    when f4 f9 = let both_free = neither (not (list_any (λ v. not v.busy) luns)) (is_shared g && list_any (λ v. v.busy) luns) f9 in by (is_shared g) refl f4 both_free.0 both_free.1
+
+    of : (c : Command) → reads_identity c ≡ true → breaks_several_luns g luns (CommandCycle c) ≡ false → breaks_lun_busy g t luns (CommandCycle c) ≡ false → Identity g v n
     of ReadId h f4 f9 = when f4 f9
     of ReadParameterPage h f4 f9 = when f4 f9
     of ReadUniqueId h f4 f9 = when f4 f9
@@ -112,7 +122,7 @@ begun_stands g t la luns n v (CommandCycle c) keeps count found h =
       inside = λ named r. let no = no_row_yet c in cc;
       ready = λ named r. let no = no_row_yet c in cc;
       identity = λ r. let is = begun_identity c r in identity_keeps g t la n c v.busy is ∙ (identity_stands g t luns n v c keeps count found is).ready;
-      alone = λ r. (identity_stands g t luns n v c keeps count found (begun_identity c r)).alone;
+      alone = λ narrow r. (identity_stands g t luns n v c keeps count found (begun_identity c r)).alone narrow;
     }
 begun_stands g t la luns n v (AddressCycle byte) keeps count found h = cc
 begun_stands g t la luns n v (InputCycle byte) keeps count found h = cc
@@ -144,7 +154,7 @@ command_stands g t la n v c some f = of t.is_empty some
           inside = λ named r. let is = goes_on_inside c t.phase r in f.inside named (inputs_named is.phase);
           ready = λ named r. let is = goes_on_inside c t.phase r in kept c is.command v.busy ∙ f.ready named (inputs_named is.phase);
           identity = λ r. let no = command_in_features c t.phase in cc;
-          alone = λ r. let no = command_in_features c t.phase in cc;
+          alone = λ narrow r. let no = command_in_features c t.phase in cc;
         }
 
 -- ---- an address
@@ -230,7 +240,7 @@ address_stands g t la luns n v byte keeps found tf f = at t.opening refl
           inside = λ named h. f.inside named (program_named t (later_address t.phase h));
           ready = λ named h. f.ready named (program_named t (later_address t.phase h));
           identity = λ h. let no = no_features_alone t.phase in cc;
-          alone = λ h. let no = no_features_alone t.phase in cc;
+          alone = λ narrow h. let no = no_features_alone t.phase in cc;
         }
 
     ends : (o : Opening) → t.opening ≡ Some o → names_row (next (Some o)) ≡ true → (addresses_the_array o.opener && at_last_row o.opener o.addresses) ≡ true
@@ -248,7 +258,7 @@ address_stands g t la luns n v byte keeps found tf f = at t.opening refl
     lun_is_ready : (o : Opening) → t.opening ≡ Some o → (addresses_the_array o.opener && at_last_row o.opener o.addresses) ≡ true → names_lun g (row_with t byte) n ≡ true → v.busy ≡ false
     lun_is_ready o is h named =
         judged_row g (row_with t byte) (λ v. v.busy) luns n v
-        (and_rest (ends_row addresses_the_array t) _ (ap (opened (λ c n. addresses_the_array c && at_last_row c n)) is ∙ h) keeps.f9)
+        (neither (named_lun_is g (row_with t byte) (λ v. v.busy) luns) _ (and_rest (ends_row addresses_the_array t) _ (ap (opened (λ c n. addresses_the_array c && at_last_row c n)) is ∙ h) keeps.f9)).0
         named found
 
     first : (o : Opening) → t.opening ≡ Some o → RowStands g (next (Some o)) n (after (Some o))
@@ -262,7 +272,7 @@ address_stands g t la luns n v byte keeps found tf f = at t.opening refl
           identity = λ h.
               let begin = begins_features o h in
               ap (λ (e : Effect). busy_after e v.busy) (set_rests g t byte o.opener o.addresses n (both (is_set_features o.opener) _ begin).0) ∙ f.identity (waits o is begin);
-          alone = λ h. f.alone (waits o is (begins_features o h));
+          alone = λ narrow h. f.alone narrow (waits o is (begins_features o h));
         }
       where
         begins_features : (o : Opening) → names_identity (next (Some o)) ≡ true → (is_set_features o.opener && o.addresses == 0) ≡ true
@@ -295,7 +305,7 @@ extended_stands g t la luns n v (InputCycle byte) some keeps found tf f =
           let inside = input_inside t.inputs t.phase h in
           rests (ap (λ b. b && t.inputs == 3) (no_features_inside t.phase inside)) (f.ready named (program_named t inside));
       identity = λ h. rests (not_last h) (f.identity (still h));
-      alone = λ h. f.alone (still h);
+      alone = λ narrow h. f.alone narrow (still h);
     }
   where
     rests : ends_features t ≡ false → v.busy ≡ false → busy_after (cycle_effect g t la (InputCycle byte) n) v.busy ≡ false
@@ -320,7 +330,7 @@ extended_stands g t la luns n v (InputCycle byte) some keeps found tf f =
         both_or_not : (a : Bool) → (t.inputs == 3) ≡ false → (a && t.inputs == 3) ≡ false
         both_or_not true e = e
         both_or_not false e = refl
-extended_stands g t la luns n v OutputCycle some keeps found tf f = record { inside = λ named h. cc; ready = λ named h. cc; identity = λ h. cc; alone = λ h. cc }
+extended_stands g t la luns n v OutputCycle some keeps found tf f = record { inside = λ named h. cc; ready = λ named h. cc; identity = λ h. cc; alone = λ narrow h. cc }
 
 cycle_stands : (g : Parts) (t : TailFacts) (la : Latch) (luns : List LunView) (n : ℕ) (v : LunView) (cycle : TargetCycle) → KeepsRules g t luns cycle → length luns ≡ g.luns → slice_get luns n ≡ Some v → TailFits g t → RowStands g t n v → RowStands g (facts_after cycle t) n (view_after (cycle_effect g t la cycle n) v)
 cycle_stands g t la luns n v cycle keeps count found tf f = at (begins_sequence cycle) refl

@@ -8,7 +8,7 @@ use Rattle.onfi_cycle.specs.declared.target_cycle.TargetCycle.TheVariants.{Comma
 use Rattle.onfi_cycle.specs.declared.item.Item.TheVariants.{Cyc}
 use Rattle.onfi_cycle.specs.declared.item.Cycle.{Cycle}
 use Rattle.onfi_cycle.specs.Effect.{effect_given}
-use Rattle.onfi_cycle.specs.Lun.{latch, latch_after, effect_on, lun_view, view_after}
+use Rattle.onfi_cycle.specs.Lun.{latch, effect_on, lun_view, shown_after, view_after}
 use Rattle.std.proofs.Common.{eq-eqb, get_or, take, drop, length, sym, ◌∙◌, ◌-◌, ◌≤◌}
 use Rattle.std.proofs.lemmas.Grind.{common_steps}
 use Rattle.onfi_cycle.specs.declared.tail_facts.TailFacts.{TailFacts}
@@ -52,5 +52,5 @@ facts_after_first (x ∷ xs) d c ce r s some first here before now =
     now ∙ (ap (facts_after (target_cycle c.kind c.byte)) before_xs ∙ (sym (facts_of_cycle c xs ce here) ∙ ap (λ (i : Item). facts_of (tail (i ∷ xs) ce)) (sym first)))
 
 -- one item more: the facts of a LUN go on by what the item does to it, and its latch by what that does if the LUN shows alone what it shows
-pub view_step : (g : Parts) (past : List Item) (i : Item) (l : Lun) → lun_view g (i ∷ past) l ≡ record (view_after (effect_on g past i l) (lun_view g past l)) { latch = latch_after (effect_given g past (latch g past l) i l) (latch g past l) }
+pub view_step : (g : Parts) (past : List Item) (i : Item) (l : Lun) → lun_view g (i ∷ past) l ≡ record (view_after (effect_on g past i l) (lun_view g past l)) { latch = shown_after (effect_given g past (latch g past l) i l) (lun_view g past l) }
 view_step g past i l = refl

@@ -11,7 +11,9 @@ use Rattle.onfi_cycle.specs.declared.command.Command.{Command}
 use Rattle.onfi_cycle.specs.declared.command.Command.TheVariants.{Read, ChangeReadColumnConfirm, ReadStatus, ReadStatusEnhanced, PageProgram, ReadId, ReadParameterPage, Reset, ReadCacheSequential, ReadCacheEnd, ReadUniqueId, GetFeatures, ResetLun, SynchronousReset}
 use Rattle.onfi_cycle.specs.declared.item.Cycle.{Cycle}
 use Rattle.onfi_cycle.specs.declared.effect.Effect.{Effect}
-use Rattle.onfi_cycle.specs.declared.effect.Effect.TheVariants.{Unaffected, SelectedForStatus, Deselected, IdRead, ParameterPageReadStarted, CacheReadContinued, CacheReadEnded, ReadColumnChanged, DataOutput, BecameReady, ArrayBecameReady, UniqueIdReadStarted, FeaturesReadStarted, FeaturesSet, ResetStarted}
+use Rattle.onfi_cycle.specs.declared.effect.Effect.TheVariants.{Unaffected, SelectedForStatus, Deselected, IdRead, ParameterPageReadStarted, CacheReadContinued, CacheReadEnded, ReadColumnChanged, DataOutput, BecameReady, ArrayBecameReady, UniqueIdReadStarted, FeaturesReadStarted, FeaturesSet, ResetStarted, AnotherAddressed, StatusSelected, StatusOfSelected}
+use Rattle.onfi_cycle.specs.declared.data_phase.DataPhase.{DataPhase}
+use Rattle.onfi_cycle.specs.declared.data_phase.DataPhase.TheVariants.{Outside, Inputs, FirstColumn, SecondColumn, FeatureInputs}
 use Rattle.onfi_cycle.specs.declared.filling.Filling.{Filling}
 use Rattle.onfi_cycle.specs.declared.filling.Filling.TheVariants.{Leaves, Clears, Fills}
 use Rattle.onfi_cycle.specs.declared.item.Item.{Item}
@@ -24,17 +26,19 @@ use Rattle.onfi_cycle.specs.declared.tail_facts.TailFacts.{TailFacts}
 use Rattle.onfi_cycle.specs.declared.target_cycle.TargetCycle.{TargetCycle}
 use Rattle.onfi_cycle.specs.declared.target_cycle.TargetCycle.TheVariants.{CommandCycle, AddressCycle, InputCycle, OutputCycle}
 use Rattle.onfi_cycle.specs.LunView.{LunView}
-use Rattle.onfi_cycle.specs.Command.{is_page_program, at_last_row, reads_identity, is_reset}
+use Rattle.onfi_cycle.specs.Command.{closes_row, is_read_confirm, is_page_program, at_last_row, reads_identity, is_reset, wants_one_lun}
 use Rattle.onfi_cycle.specs.Sequence.{target_of, target_cycle, tail, facts_of, opened, takes_data, wants_command, wants_address, wants_column, row, row_with, input_column, takes_features}
-use Rattle.onfi_cycle.specs.Effect.{is_off, is_data, names_lun, page_address, confirm_effect, command_effect, address_effect, opening_address_effect, cycle_effect, id_effect, ends_features}
+use Rattle.onfi_cycle.specs.Effect.{is_off, is_data, is_shared, acts_for_target, of_target, other_effect, names_lun, page_address, confirm_effect, command_effect, address_effect, opening_address_effect, cycle_effect, id_effect, ends_features}
 use Rattle.onfi_cycle.specs.Filling.{cycle_filling, filling}
-use Rattle.onfi_cycle.specs.Lun.{latch, latch_alone, drivers, is_only, effect_on, lun_view, luns_of}
+use Rattle.onfi_cycle.specs.Lun.{latch, latch_alone, drivers, is_only, effect_on, effect_among, lun_view, luns_of}
 use Rattle.onfi_cycle.specs.Rules.{ends_row, breaks_several_luns}
 use Rattle.onfi_cycle.specs.Permitted.{broken}
 use Rattle.onfi_cycle.specs.State.{BusView, TargetView, Follows, target_view}
 use Rattle.onfi_cycle.specs.Bounds.{LunFits, RowFits, RowStands, EffectFits, LunsFit, TargetFits, BusFits, TailFits, names_identity}
-use Rattle.onfi_cycle.specs.Working.{fills, begins, works_on, IsLun, FactsFit}
+use Rattle.onfi_cycle.specs.Working.{fills, begins, works_on, is_reset_cycle, resets_several, IsLun, FactsFit}
 use Rattle.onfi_cycle.proofs.Passed.{permitted_keeps}
+use Rattle.onfi_cycle.proofs.Booleans.{clash}
+use Rattle.onfi_cycle.proofs.Others.{chosen_else}
 use Rattle.onfi_cycle.proofs.Keeping.{view_at}
 use Rattle.onfi_cycle.proofs.EffectBounds.{effect_fits, identity_waits}
 use Rattle.onfi_cycle.proofs.Following.{found_target, effect_by_state, effect_elsewhere}
@@ -42,14 +46,10 @@ use Rattle.onfi_cycle.proofs.Following.{found_target, effect_by_state, effect_el
 same_number : (g : Parts) (r n m : ℕ) → names_lun g r n ≡ true → names_lun g r m ≡ true → n ≡ m
 same_number g r n m a b = sym (eqb-true (parts_of g r).lun n a) ∙ eqb-true (parts_of g r).lun m b
 
-abbrev is_reset_cycle : TargetCycle → Bool
-is_reset_cycle (CommandCycle c) = is_reset c
-is_reset_cycle _ = false
-
 -- of two LUNs of a target, what each kind of cycle asks
 record MayShare (g : Parts) (t : TailFacts) (la lb : Latch) (cycle : TargetCycle) (n m : ℕ) : Type 0 where
-  identity : names_identity t ≡ true → n ≡ m
-  reset : breaks_several_luns g cycle ≡ false → is_reset_cycle cycle ≡ true → n ≡ m
+  identity : names_identity t ≡ true → acts_for_target g n ≡ true → acts_for_target g m ≡ true → n ≡ m
+  reset : is_reset_cycle cycle ≡ true → n ≡ m
   driver : is_off la ≡ false → is_off lb ≡ false → n ≡ m
   outside : wants_column t.phase ≡ true → t.opening ≡ None
 
@@ -58,37 +58,61 @@ chosen : (b : Bool) (x : Effect) → begins (cond b x Unaffected) ≡ true → b
 chosen true x h = refl
 chosen false x h = cc
 
+chosen_or : (b : Bool) (x y : Effect) → begins y ≡ false → begins (cond b x y) ≡ true → b ≡ true
+chosen_or true x y rests h = refl
+chosen_or false x y rests h = cc
+
+chosen_twice : (w a : Bool) (x : Effect) → begins (cond w (cond a x Deselected) Unaffected) ≡ true → (w ≡ true) × (a ≡ true)
+chosen_twice true true x h = (refl, refl)
+chosen_twice true false x h = cc
+chosen_twice false a x h = cc
+
+other_begins_none : (g : Parts) (t : TailFacts) (c : Command) → begins (other_effect g t c) ≡ false
+other_begins_none g t c = at (closes_row c && (wants_command t c && is_shared g))
+  where
+    at : (b : Bool) → begins (cond b (AnotherAddressed (is_read_confirm c)) Unaffected) ≡ false
+    at true = refl
+    at false = refl
+
+shows_none : (b : Bool) → begins (cond b StatusOfSelected StatusSelected) ≡ true → false ≡ true
+shows_none true h = h
+shows_none false h = h
+
 unless : (b : Bool) (x : Effect) → begins (cond b Unaffected x) ≡ true → b ≡ false
 unless true x h = cc
 unless false x h = refl
 
-one_of_command : (g : Parts) (t : TailFacts) (la lb : Latch) (c : Command) (n m : ℕ) → breaks_several_luns g (CommandCycle c) ≡ false → MayShare g t la lb (CommandCycle c) n m → begins (command_effect g t la c n) ≡ true → begins (command_effect g t lb c m) ≡ true → n ≡ m
-one_of_command g t la lb Read n m f4 s a b = cc
-one_of_command g t la lb ReadStatus n m f4 s a b = cc
-one_of_command g t la lb ReadStatusEnhanced n m f4 s a b = cc
-one_of_command g t la lb Reset n m f4 s a b = s.reset f4 refl
-one_of_command g t la lb SynchronousReset n m f4 s a b = s.reset f4 refl
-one_of_command g t la lb ReadCacheSequential n m f4 s a b = s.driver (unless (is_off la) CacheReadContinued a) (unless (is_off lb) CacheReadContinued b)
-one_of_command g t la lb ReadCacheEnd n m f4 s a b = s.driver (unless (is_off la) CacheReadEnded a) (unless (is_off lb) CacheReadEnded b)
-one_of_command g t la lb ChangeReadColumnConfirm n m f4 s a b = let no = nothing (wants_command t ChangeReadColumnConfirm && not (is_off la)) a in cc
+one_of_command : (g : Parts) (t : TailFacts) (la lb : Latch) (c : Command) (n m : ℕ) → MayShare g t la lb (CommandCycle c) n m → begins (command_effect g t la c n) ≡ true → begins (command_effect g t lb c m) ≡ true → n ≡ m
+one_of_command g t la lb Read n m s a b = cc
+one_of_command g t la lb ReadStatus n m s a b = let none = shows_none (is_shared g) a in cc
+one_of_command g t la lb ReadStatusEnhanced n m s a b = cc
+one_of_command g t la lb Reset n m s a b = s.reset refl
+one_of_command g t la lb SynchronousReset n m s a b = s.reset refl
+one_of_command g t la lb ReadCacheSequential n m s a b = s.driver (unless (is_off la) CacheReadContinued a) (unless (is_off lb) CacheReadContinued b)
+one_of_command g t la lb ReadCacheEnd n m s a b = s.driver (unless (is_off la) CacheReadEnded a) (unless (is_off lb) CacheReadEnded b)
+one_of_command g t la lb ChangeReadColumnConfirm n m s a b = let no = nothing (wants_command t ChangeReadColumnConfirm && not (is_off la)) a in cc
   where
     nothing : (b : Bool) → begins (cond b (ReadColumnChanged t.column) Unaffected) ≡ true → false ≡ true
     nothing true h = h
     nothing false h = h
-one_of_command g t la lb c n m f4 s a b =
+one_of_command g t la lb c n m s a b =
     same_number g (row t) n m
-    (both (wants_command t c) _ (chosen (wants_command t c && names_lun g (row t) n) (confirm_effect g t c) a)).1
-    (both (wants_command t c) _ (chosen (wants_command t c && names_lun g (row t) m) (confirm_effect g t c) b)).1
+    (both (wants_command t c) _ (chosen_or (wants_command t c && names_lun g (row t) n) (confirm_effect g t c) (other_effect g t c) (other_begins_none g t c) a)).1
+    (both (wants_command t c) _ (chosen_or (wants_command t c && names_lun g (row t) m) (confirm_effect g t c) (other_effect g t c) (other_begins_none g t c) b)).1
 
 -- an address clears the register of the LUN that its row names, or resets that LUN, or is that of an identity
 filled_when : (b : Bool) (x : Filling) → fills (cond b x Leaves) ≡ true → b ≡ true
 filled_when true x h = refl
 filled_when false x h = cc
 
+-- the opener reads or sets what stands beside the array
+abbrev opens_identity : TailFacts → Bool
+opens_identity t = opened (λ c n. reads_identity c) t.opening
+
 -- what an address that begins work is
 data Begun (g : Parts) (t : TailFacts) (byte n : ℕ) : Type 0 where
-  identity : names_identity t ≡ true → Begun g t byte n
-  reset : names_lun g (row_with t byte) n ≡ true → Begun g t byte n
+  identity : opens_identity t ≡ true → names_identity t ≡ true → acts_for_target g n ≡ true → Begun g t byte n
+  reset : opens_identity t ≡ false → names_lun g (row_with t byte) n ≡ true → Begun g t byte n
 
 is_begun : (g : Parts) (t : TailFacts) (byte n : ℕ) → (wants_column t.phase ≡ true → t.opening ≡ None) → begins (opening_address_effect g t byte t.opening n) ≡ true → Begun g t byte n
 is_begun g t byte n alone h = at t.opening refl h
@@ -102,16 +126,22 @@ is_begun g t byte n alone h = at t.opening refl h
     selects true false h = h
     selects false d h = h
 
-    reads : (o : Opening) → t.opening ≡ Some o → reads_identity o.opener ≡ true → wants_address t byte ≡ true → Begun g t byte n
-    reads o e r w = identity (identity_waits t byte o e (outside o e (wants_column t.phase) refl) r w)
+    reads : (o : Opening) → t.opening ≡ Some o → reads_identity o.opener ≡ true → (wants_address t byte ≡ true) × (acts_for_target g n ≡ true) → Begun g t byte n
+    reads o e r w = identity (ap (opened (λ c n. reads_identity c)) e ∙ r) (identity_waits t byte o e (outside o e (wants_column t.phase) refl) r w.0) w.1
+
+    resets : (b named shared : Bool) → begins (cond b (cond named ResetStarted (cond shared (AnotherAddressed false) Unaffected)) Unaffected) ≡ true → named ≡ true
+    resets true true shared h = refl
+    resets true false true h = cc
+    resets true false false h = cc
+    resets false named shared h = cc
 
     kind : (o : Opening) → t.opening ≡ Some o → (c : Command) → o.opener ≡ c → (k : ℕ) → begins (address_effect g t byte c k n) ≡ true → Begun g t byte n
     kind o e ReadStatusEnhanced is k h = let no = selects (k == 2) (names_lun g (row_with t byte) n) h in cc
-    kind o e ReadId is k h = reads o e (ap reads_identity is) (chosen (wants_address t byte) (id_effect byte) h)
-    kind o e ReadParameterPage is k h = reads o e (ap reads_identity is) (chosen (wants_address t byte) ParameterPageReadStarted h)
-    kind o e ReadUniqueId is k h = reads o e (ap reads_identity is) (chosen (wants_address t byte) UniqueIdReadStarted h)
-    kind o e GetFeatures is k h = reads o e (ap reads_identity is) (chosen (wants_address t byte) (FeaturesReadStarted byte) h)
-    kind o e ResetLun is k h = reset (both (k == 2) _ (chosen (k == 2 && names_lun g (row_with t byte) n) ResetStarted h)).1
+    kind o e ReadId is k h = reads o e (ap reads_identity is) (chosen_twice (wants_address t byte) (acts_for_target g n) (id_effect byte) h)
+    kind o e ReadParameterPage is k h = reads o e (ap reads_identity is) (chosen_twice (wants_address t byte) (acts_for_target g n) ParameterPageReadStarted h)
+    kind o e ReadUniqueId is k h = reads o e (ap reads_identity is) (chosen_twice (wants_address t byte) (acts_for_target g n) UniqueIdReadStarted h)
+    kind o e GetFeatures is k h = reads o e (ap reads_identity is) (chosen_twice (wants_address t byte) (acts_for_target g n) (FeaturesReadStarted byte) h)
+    kind o e ResetLun is k h = reset (ap (opened (λ c n. reads_identity c)) e ∙ ap reads_identity is) (resets (k == 2) (names_lun g (row_with t byte) n) (is_shared g) h)
     kind o e c is k h = cc
 
     at : (o : Option Opening) → t.opening ≡ o → begins (opening_address_effect g t byte o n) ≡ true → Begun g t byte n
@@ -123,10 +153,20 @@ either true b h f k = f refl
 either false b h f k = k h
 
 -- the row names the LUN, or an identity is asked for
-one_of_two : (g : Parts) (t : TailFacts) (byte n m : ℕ) → (names_identity t ≡ true → n ≡ m) → Begun g t byte n → Begun g t byte m → n ≡ m
-one_of_two g t byte n m same (identity i) y = same i
-one_of_two g t byte n m same (reset a) (identity i) = same i
-one_of_two g t byte n m same (reset a) (reset b) = same_number g (row_with t byte) n m a b
+one_of_two : (g : Parts) (t : TailFacts) (byte n m : ℕ) → (names_identity t ≡ true → acts_for_target g n ≡ true → acts_for_target g m ≡ true → n ≡ m) → Begun g t byte n → Begun g t byte m → n ≡ m
+one_of_two g t byte n m same (identity o i a) (identity p j b) = same i a b
+one_of_two g t byte n m same (identity o i a) (reset p b) = absurd (clash (opens_identity t) o p)
+one_of_two g t byte n m same (reset o a) (identity p i b) = absurd (clash (opens_identity t) p o)
+one_of_two g t byte n m same (reset o a) (reset p b) = same_number g (row_with t byte) n m a b
+
+-- the fifth address of a program is none of an identity
+program_opens_none : (o : Option Opening) → opened (λ c n. is_page_program c && at_last_row c n) o ≡ true → opened (λ c n. reads_identity c) o ≡ false
+program_opens_none None h = cc
+program_opens_none (Some o) h = of o.opener (both (is_page_program o.opener) _ h).0
+  where
+    of : (c : Command) → is_page_program c ≡ true → reads_identity c ≡ false
+    of PageProgram h = refl
+    of c h = cc
 
 one_of_address : (g : Parts) (t : TailFacts) (la lb : Latch) (byte n m : ℕ) → MayShare g t la lb (AddressCycle byte) n m → (fills (cycle_filling g t (AddressCycle byte) n) || begins (cycle_effect g t la (AddressCycle byte) n)) ≡ true → (fills (cycle_filling g t (AddressCycle byte) m) || begins (cycle_effect g t lb (AddressCycle byte) m)) ≡ true → n ≡ m
 one_of_address g t la lb byte n m s a b =
@@ -135,7 +175,9 @@ one_of_address g t la lb byte n m s a b =
     (either _ _ b (cleared m) (is_begun g t byte m s.outside))
   where
     cleared : (k : ℕ) → fills (cycle_filling g t (AddressCycle byte) k) ≡ true → Begun g t byte k
-    cleared k h = reset (both (ends_row is_page_program t) (names_lun g (row_with t byte) k) (filled_when (ends_row is_page_program t && names_lun g (row_with t byte) k) (Clears (page_address g (row_with t byte))) h)).1
+    cleared k h =
+        let parts = both (ends_row is_page_program t) (names_lun g (row_with t byte) k) (filled_when (ends_row is_page_program t && names_lun g (row_with t byte) k) (Clears (page_address g (row_with t byte))) h) in
+        reset (program_opens_none t.opening parts.0) parts.1
 
 abbrev filled_by_data : Parts → TailFacts → ℕ → Bool
 filled_by_data g t k = takes_data t.phase && names_lun g (row t) k
@@ -143,16 +185,33 @@ filled_by_data g t k = takes_data t.phase && names_lun g (row t) k
 one_of_input : (g : Parts) (t : TailFacts) (la lb : Latch) (byte n m : ℕ) → MayShare g t la lb (InputCycle byte) n m → (fills (cycle_filling g t (InputCycle byte) n) || begins (cycle_effect g t la (InputCycle byte) n)) ≡ true → (fills (cycle_filling g t (InputCycle byte) m) || begins (cycle_effect g t lb (InputCycle byte) m)) ≡ true → n ≡ m
 one_of_input g t la lb byte n m s a b = at (ends_features t) refl
   where
-    names : (x : Bool) → x ≡ false → (k : ℕ) → (fills (cond (filled_by_data g t k) (Fills (page_address g (row t)) (input_column t) byte) Leaves) || begins (cond x (FeaturesSet (t.column % 256)) Unaffected)) ≡ true → names_lun g (row t) k ≡ true
-    names true e k h = cc
-    names false e k h = (both (takes_data t.phase) (names_lun g (row t) k) (filled_when (filled_by_data g t k) (Fills (page_address g (row t)) (input_column t) byte) (left_of (fills (cond (filled_by_data g t k) (Fills (page_address g (row t)) (input_column t) byte) Leaves)) h))).1
-      where
-        left_of : (p : Bool) → (p || false) ≡ true → p ≡ true
-        left_of true h = refl
-        left_of false h = cc
+    fill : ℕ → Filling
+    fill k = cond (filled_by_data g t k) (Fills (page_address g (row t)) (input_column t) byte) Leaves
+
+    start : Bool → ℕ → Effect
+    start x k = cond x (of_target g k (FeaturesSet (t.column % 256))) Unaffected
+
+    named : (k : ℕ) → fills (fill k) ≡ true → (takes_data t.phase ≡ true) × (names_lun g (row t) k ≡ true)
+    named k h = both (takes_data t.phase) (names_lun g (row t) k) (filled_when (filled_by_data g t k) (Fills (page_address g (row t)) (input_column t) byte) h)
+
+    names : (x : Bool) → x ≡ false → (k : ℕ) → (fills (fill k) || begins (start x k)) ≡ true → names_lun g (row t) k ≡ true
+    names x e k h = either (fills (fill k)) (begins (start x k)) h (λ f. (named k f).1) (λ f. let no = chosen x _ f in absurd (clash x no e))
+
+    no_data : (p : DataPhase) → takes_features p ≡ true → takes_data p ≡ true → ⊥
+    no_data Outside f d = cc
+    no_data Inputs f d = cc
+    no_data FirstColumn f d = cc
+    no_data SecondColumn f d = cc
+    no_data FeatureInputs f d = cc
+
+    acts : takes_features t.phase ≡ true → (x : Bool) → (k : ℕ) → (fills (fill k) || begins (start x k)) ≡ true → acts_for_target g k ≡ true
+    acts e x k h = either (fills (fill k)) (begins (start x k)) h (λ f. absurd (no_data t.phase e (named k f).0)) (λ f. (chosen_twice x (acts_for_target g k) (FeaturesSet (t.column % 256)) f).1)
 
     at : (x : Bool) → ends_features t ≡ x → n ≡ m
-    at true e = s.identity (or_right (opened (λ c n. reads_identity c && n == 0) t.opening) (takes_features t.phase) (both (takes_features t.phase) _ e).0)
+    at true e =
+        let features = (both (takes_features t.phase) _ e).0 in
+        s.identity (or_right (opened (λ c n. reads_identity c && n == 0) t.opening) (takes_features t.phase) features)
+        (acts features (ends_features t) n a) (acts features (ends_features t) m b)
     at false e = same_number g (row t) n m (names (ends_features t) e n a) (names (ends_features t) e m b)
 
 no_output : (la : Latch) → begins (cond (is_data la) DataOutput Unaffected) ≡ true → false ≡ true
@@ -165,11 +224,11 @@ no_output la h = of (is_data la) h
 abbrev works_by : Parts → TailFacts → Latch → TargetCycle → ℕ → Bool
 works_by g t la cycle n = fills (cycle_filling g t cycle n) || begins (cycle_effect g t la cycle n)
 
-one_of_cycle : (g : Parts) (t : TailFacts) (la lb : Latch) (cycle : TargetCycle) (n m : ℕ) → breaks_several_luns g cycle ≡ false → MayShare g t la lb cycle n m → works_by g t la cycle n ≡ true → works_by g t lb cycle m ≡ true → n ≡ m
-one_of_cycle g t la lb (CommandCycle c) n m f4 s a b = one_of_command g t la lb c n m f4 s a b
-one_of_cycle g t la lb (AddressCycle byte) n m f4 s a b = one_of_address g t la lb byte n m s a b
-one_of_cycle g t la lb (InputCycle byte) n m f4 s a b = one_of_input g t la lb byte n m s a b
-one_of_cycle g t la lb OutputCycle n m f4 s a b = let no = no_output la a in cc
+one_of_cycle : (g : Parts) (t : TailFacts) (la lb : Latch) (cycle : TargetCycle) (n m : ℕ) → MayShare g t la lb cycle n m → works_by g t la cycle n ≡ true → works_by g t lb cycle m ≡ true → n ≡ m
+one_of_cycle g t la lb (CommandCycle c) n m s a b = one_of_command g t la lb c n m s a b
+one_of_cycle g t la lb (AddressCycle byte) n m s a b = one_of_address g t la lb byte n m s a b
+one_of_cycle g t la lb (InputCycle byte) n m s a b = one_of_input g t la lb byte n m s a b
+one_of_cycle g t la lb OutputCycle n m s a b = let no = no_output la a in cc
 
 -- two that are the only one
 one_only : (ds : List ℕ) (n m : ℕ) → is_only ds n ≡ true → is_only ds m ≡ true → n ≡ m
@@ -186,7 +245,7 @@ alone_is_only g past l h = of (is_only (drivers g past l.ce) l.lun) h
 
 -- where an item works, it happens on the target
 cycle_of : (g : Parts) (past : List Item) (c : Cycle) (l : Lun) → works_on g past (Cyc c) l ≡ true → (c.ce ≡ l.ce) × (works_by g (facts_of (tail past l.ce)) (latch_alone g past l) (target_cycle c.kind c.byte) l.lun ≡ true)
-unfolding effect_on
+unfolding effect_among
 cycle_of g past c l h = at (c.ce == l.ce) refl h
   where
     at : (b : Bool) → (c.ce == l.ce) ≡ b → (fills (cond b (cycle_filling g (facts_of (tail past l.ce)) (target_cycle c.kind c.byte) l.lun) Leaves) || begins (cond b (cycle_effect g (facts_of (tail past l.ce)) (latch_alone g past l) (target_cycle c.kind c.byte) l.lun) Unaffected)) ≡ true → (c.ce ≡ l.ce) × (works_by g (facts_of (tail past l.ce)) (latch_alone g past l) (target_cycle c.kind c.byte) l.lun ≡ true)
@@ -194,7 +253,7 @@ cycle_of g past c l h = at (c.ce == l.ce) refl h
     at false e h = cc
 
 ready_rests : (g : Parts) (past : List Item) (i : Item) (l : Lun) → works_on g past i l ≡ true → (c : Cycle) × (i ≡ Cyc c)
-unfolding effect_on
+unfolding effect_among
 ready_rests g past (Cyc c) l h = (c, refl)
 ready_rests g past (Rdy ce lun fail) l h = let no = of (ce == l.ce && lun == l.lun) h in cc
   where
@@ -207,11 +266,29 @@ ready_rests g past (Ard ce lun) l h = let no = of (ce == l.ce && lun == l.lun) h
     of true h = h
     of false h = h
 
-few_luns : (g : Parts) (cycle : TargetCycle) → breaks_several_luns g cycle ≡ false → is_reset_cycle cycle ≡ true → g.luns ≤ 1
+few_luns : (g : Parts) (luns : List LunView) (cycle : TargetCycle) → (is_shared g && is_reset_cycle cycle) ≡ false → breaks_several_luns g luns cycle ≡ false → is_reset_cycle cycle ≡ true → g.luns ≤ 1
 unfolding breaks_several_luns
-few_luns g (CommandCycle Reset) f4 e = let low : ltb 1 g.luns ≡ false = f4 in grind (arith, nat_tests)
-few_luns g (CommandCycle SynchronousReset) f4 e = let low : ltb 1 g.luns ≡ false = f4 in grind (arith, nat_tests)
-few_luns g cycle f4 e = cc
+few_luns g luns (CommandCycle c) narrow f4 e = of c (chosen_else (is_shared g) _ _ f4 (unshared (is_shared g) (is_reset c) narrow e)) e
+  where
+    unshared : (a b : Bool) → (a && b) ≡ false → b ≡ true → a ≡ false
+    unshared true b h e = cc
+    unshared false b h e = refl
+
+    of : (c : Command) → (wants_one_lun c && ltb 1 g.luns) ≡ false → is_reset c ≡ true → g.luns ≤ 1
+    of Reset f4 e = let low : ltb 1 g.luns ≡ false = f4 in grind (arith, nat_tests)
+    of SynchronousReset f4 e = let low : ltb 1 g.luns ≡ false = f4 in grind (arith, nat_tests)
+    of c f4 e = cc
+few_luns g luns (AddressCycle byte) narrow f4 e = cc
+few_luns g luns (InputCycle byte) narrow f4 e = cc
+few_luns g luns OutputCycle narrow f4 e = cc
+
+-- in the wider profile the first LUN of several acts for its target, and else there is one
+one_acts : (g : Parts) (n m : ℕ) → (is_shared g ≡ false → n ≡ m) → acts_for_target g n ≡ true → acts_for_target g m ≡ true → n ≡ m
+one_acts g n m alone a b = at (is_shared g) alone a b
+  where
+    at : (shared : Bool) → (shared ≡ false → n ≡ m) → (not shared || (n == 0)) ≡ true → (not shared || (m == 0)) ≡ true → n ≡ m
+    at true alone a b = eqb-true n 0 a ∙ sym (eqb-true m 0 b)
+    at false alone a b = alone refl
 
 -- what a state that fits knows of one of its LUNs
 record Known (g : Parts) (past : List Item) (l : Lun) : Type 0 where
@@ -249,8 +326,8 @@ known g n s past l fits f there =
 same_ce : (l m : Lun) → l.ce ≡ m.ce → l.lun ≡ m.lun → l ≡ m
 same_ce l m a b = rw (a, b) refl
 
-one_of_cycles : (g : Parts) (n : ℕ) (s : BusView) (past : List Item) (c : Cycle) (l m : Lun) → BusFits s → Follows g n s past → IsLun g n l → IsLun g n m → broken g n past (Cyc c) ≡ None → works_on g past (Cyc c) l ≡ true → works_on g past (Cyc c) m ≡ true → l ≡ m
-one_of_cycles g n s past c l m fits f there also h a b =
+one_of_cycles : (g : Parts) (n : ℕ) (s : BusView) (past : List Item) (c : Cycle) (l m : Lun) → resets_several g (Cyc c) ≡ false → BusFits s → Follows g n s past → IsLun g n l → IsLun g n m → broken g n past (Cyc c) ≡ None → works_on g past (Cyc c) l ≡ true → works_on g past (Cyc c) m ≡ true → l ≡ m
+one_of_cycles g n s past c l m narrow fits f there also h a b =
     let x = cycle_of g past c l a in
     let y = cycle_of g past c m b in
     let keeps = permitted_keeps g n past c h in
@@ -261,10 +338,10 @@ one_of_cycles g n s past c l m fits f there also h a b =
     let works : works_by g t (latch_alone g past m) (target_cycle c.kind c.byte) m.lun ≡ true = subst (λ (ce : ℕ). works_by g (facts_of (tail past ce)) (latch_alone g past m) (target_cycle c.kind c.byte) m.lun ≡ true) together y.1 in
     let tf = (known g n s past l fits f there).tail_fits in
     same_ce l m (sym together)
-    (one_of_cycle g t (latch_alone g past l) (latch_alone g past m) (target_cycle c.kind c.byte) l.lun m.lun keeps.f4
+    (one_of_cycle g t (latch_alone g past l) (latch_alone g past m) (target_cycle c.kind c.byte) l.lun m.lun
     (record {
-      identity = λ i. stands.alone i ∙ sym (other.alone i);
-      reset = λ f4 e. let few = few_luns g (target_cycle c.kind c.byte) f4 e in let low = there.lun in let low' = also.lun in omega arith;
+      identity = λ i. one_acts g l.lun m.lun (λ one. stands.alone one i ∙ sym (other.alone one i));
+      reset = λ e. let few = few_luns g (luns_of g past c.ce) (target_cycle c.kind c.byte) narrow keeps.f4 e in let low = there.lun in let low' = also.lun in omega arith;
       driver = λ p q. one_only (drivers g past l.ce) l.lun m.lun (alone_is_only g past l p) (subst (λ (ce : ℕ). is_only (drivers g past ce) m.lun ≡ true) together (alone_is_only g past m q));
       outside = tf.in_column;
     })
@@ -302,9 +379,9 @@ facts_fit g n s past fits f =
       row = λ l there. (known g n s past l fits f there).row;
       stands = λ l there. (known g n s past l fits f there).stands;
       effect = λ i l there h. effect_comes g n s past i l fits f there h;
-      one = λ i l m there also h a b.
+      one = λ i l m narrow there also h a b.
           let c = ready_rests g past i l a in
-          one_of_cycles g n s past c.0 l m fits f there also
+          one_of_cycles g n s past c.0 l m (sym (ap (resets_several g) c.1) ∙ narrow) fits f there also
           (sym (ap (broken g n past) c.1) ∙ h)
           (sym (ap (λ (x : Item). works_on g past x l) c.1) ∙ a)
           (sym (ap (λ (x : Item). works_on g past x m) c.1) ∙ b);

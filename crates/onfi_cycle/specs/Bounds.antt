@@ -14,7 +14,7 @@ use Rattle.onfi_cycle.specs.LunView.{LunView}
 use Rattle.onfi_cycle.specs.Sequence.{opened, takes_data, takes_features, wants_column, row}
 use Rattle.onfi_cycle.specs.declared.effect.Effect.{Effect}
 use Rattle.onfi_cycle.specs.declared.effect.Effect.TheVariants.{DataOutput, EraseStarted, ProgramStarted, ReadStarted, ReadColumnChanged, IdRead, IdentityRead, UniqueIdReadStarted, FeaturesReadStarted, FeaturesSet, ParameterPageReadStarted, CacheReadContinued, CacheReadEnded}
-use Rattle.onfi_cycle.specs.Effect.{names_lun, page_address}
+use Rattle.onfi_cycle.specs.Effect.{is_shared, names_lun, page_address}
 use Rattle.onfi_cycle.specs.Rules.{some_queued_clashes}
 use Rattle.onfi_cycle.specs.State.{TargetView, BusView}
 
@@ -80,13 +80,13 @@ names_identity t = opened (λ c n. reads_identity c && n == 0) t.opening || take
 abbrev pub is_row : Parts → PageAddress → Bool
 is_row g p = nat_lt p.block g.blocks && nat_lt p.page g.pages
 
--- the row that the tail names is inside the geometry, and its LUN is ready; what reads or sets what stands beside the array waits at the one
--- LUN of its target, and that is ready
+-- the row that the tail names is inside the geometry, and its LUN is ready; while what reads or sets what stands beside the array is open,
+-- each LUN of its target is ready, and it is the only one, but in the wider profile
 pub record RowStands (g : Parts) (t : TailFacts) (n : ℕ) (v : LunView) : Type 0 where
   pub inside : names_lun g (row t) n ≡ true → names_row t ≡ true → is_row g (page_address g (row t)) ≡ true
   pub ready : names_lun g (row t) n ≡ true → names_row t ≡ true → v.busy ≡ false
   pub identity : names_identity t ≡ true → v.busy ≡ false
-  pub alone : names_identity t ≡ true → n ≡ 0
+  pub alone : is_shared g ≡ false → names_identity t ≡ true → n ≡ 0
 
 -- the row that the tail names goes together with the queue of its LUN
 pub record RowFits (g : Parts) (t : TailFacts) (n : ℕ) (v : LunView) : Type 0 where

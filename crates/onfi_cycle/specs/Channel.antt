@@ -8,7 +8,10 @@ use Rattle.onfi_cycle.specs.declared.item.Kind.{Kind}
 use Rattle.onfi_cycle.specs.declared.item.Item.{Item}
 use Rattle.onfi_cycle.specs.declared.item.Item.TheVariants.{Cyc, Rdy, Ard}
 use Rattle.onfi_cycle.specs.Sequence.{tail, facts_of, is_open}
-use Rattle.onfi_cycle.specs.Lun.{drivers, is_busy, is_caching, queue}
+use Rattle.std.specs.List.{list_any}
+use Rattle.onfi_cycle.specs.Effect.{is_shared}
+use Rattle.onfi_cycle.specs.Lun.{drivers, is_busy, is_caching, queue, luns_of}
+use Rattle.onfi_cycle.specs.Rules.{works_for_target}
 use Rattle.onfi_cycle.specs.Content.{shown}
 use Rattle.onfi_cycle.specs.Permitted.{broken}
 use Rattle.onfi_cycle.specs.OtherLun.{is_of}
@@ -47,11 +50,16 @@ cycle ce kind byte = Cyc (record { ce = ce; kind = kind; byte = byte })
 abbrev pub is_open_on : List Item → ℕ → Bool
 is_open_on past ce = is_open (facts_of (tail past ce))
 
--- the LUN is ready, reads no cache and has nothing queued
+-- work of the whole target goes on, which has several LUNs; so only in the wider profile
+abbrev pub is_serving : Parts → List Item → ℕ → Bool
+is_serving g past ce = is_shared g && list_any works_for_target (luns_of g past ce)
+
+-- the LUN is ready, reads no cache and has nothing queued, and no work of its whole target goes on
 pub record IsIdle (g : Parts) (past : List Item) (l : Lun) : Type 0 where
   pub ready : is_busy g past l ≡ false
   pub no_cache : is_caching g past l ≡ false
   pub no_queue : queue g past l ≡ []
+  pub free : is_serving g past l.ce ≡ false
 
 -- the item is permitted, and one of this LUN
 pub record IsOwn (s : Channel) (l : Lun) (past : List Item) (i : Item) : Type 0 where

@@ -118,6 +118,19 @@ takes_address ReadParameterPage byte = byte == 0x00
 takes_address ReadUniqueId byte = byte == 0x00
 takes_address _ byte = true
 
+-- the closers that work on the row of their tail
+abbrev pub closes_row : Command → Bool
+closes_row ReadConfirm = true
+closes_row BlockEraseConfirm = true
+closes_row BlockErasePlane = true
+closes_row ProgramConfirm = true
+closes_row ProgramPlane = true
+closes_row _ = false
+
+abbrev pub is_read_confirm : Command → Bool
+is_read_confirm ReadConfirm = true
+is_read_confirm _ = false
+
 -- after this many address cycles the next one is the last of a row
 abbrev pub at_last_row : Command → ℕ → Bool
 at_last_row Read n = n == 4
@@ -176,7 +189,11 @@ abbrev pub wants_ready : Command → Bool
 wants_ready ChangeReadColumn = true
 wants_ready c = addresses_the_array c || reads_identity c
 
--- the openers that work on a target with one LUN alone
+-- the commands that are of a whole target, and of none of its LUNs where it has several
+abbrev pub is_of_target : Command → Bool
+is_of_target c = reads_identity c || is_reset c
+
+-- the openers that work on a target with one LUN alone, but in the wider profile
 abbrev pub wants_one_lun : Command → Bool
 wants_one_lun ReadStatus = true
 wants_one_lun ReadId = true

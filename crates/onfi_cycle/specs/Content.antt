@@ -10,7 +10,7 @@ use Rattle.onfi_cycle.specs.declared.page_address.PageAddress.{PageAddress}
 use Rattle.onfi_cycle.specs.declared.register.Register.{Register}
 use Rattle.onfi_cycle.specs.declared.register.Register.TheVariants.{Empty, Page, ParameterPage, Identifier, Identity, JedecIdentity, UniqueId, Features}
 use Rattle.onfi_cycle.specs.declared.effect.Effect.{Effect}
-use Rattle.onfi_cycle.specs.declared.effect.Effect.TheVariants.{ParameterPageReadStarted, UniqueIdReadStarted, FeaturesReadStarted, FeaturesSet, CacheReadContinued, CacheReadEnded, ResetStarted, BecameReady, ReadStarted, EraseStarted, ProgramStarted}
+use Rattle.onfi_cycle.specs.declared.effect.Effect.TheVariants.{ParameterPageReadStarted, UniqueIdReadStarted, FeaturesReadStarted, FeaturesSet, CacheReadContinued, CacheReadEnded, ResetStarted, TargetResetStarted, BecameReady, ReadStarted, EraseStarted, ProgramStarted}
 use Rattle.onfi_cycle.specs.Sequence.{tail, filled}
 use Rattle.onfi_cycle.specs.Lun.{effect_on, latch, is_busy, is_array_busy, read_column, output_column, register}
 
@@ -46,6 +46,7 @@ abbrev pub queued_work_after : Effect → List ℕ → List ArrayWork → List A
 queued_work_after (EraseStarted queued at) bytes works = if queued then ErasesBlock at ∷ works else []
 queued_work_after (ProgramStarted queued at) bytes works = if queued then ProgramsPage at bytes ∷ works else []
 queued_work_after ResetStarted bytes works = []
+queued_work_after (TargetResetStarted _) bytes works = []
 queued_work_after _ bytes works = works
 
 -- the queue with its bytes, the newest first
@@ -64,6 +65,7 @@ pending_work_after (FeaturesSet _) bytes works pending = []
 pending_work_after CacheReadContinued bytes works pending = []
 pending_work_after CacheReadEnded bytes works pending = []
 pending_work_after ResetStarted bytes works pending = []
+pending_work_after (TargetResetStarted _) bytes works pending = []
 pending_work_after (BecameReady _) bytes works pending = []
 pending_work_after _ bytes works pending = pending
 

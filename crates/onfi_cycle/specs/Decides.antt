@@ -1,5 +1,5 @@
 -- What decides each fact of a LUN, in the words of the trace: the newest item that says something of it.
-use Rattle.std.specs.Prelude.{◌≡◌, ℕ, ◌+◌, ◌<◌, ◌==◌, Bool, true, false, ◌||◌, ◌&&◌, nat_lt, if◌then◌else◌, List, [], ◌∷◌, Option, Some, None, unwrap_or}
+use Rattle.std.specs.Prelude.{◌≡◌, ℕ, ◌+◌, ◌<◌, ◌==◌, Bool, true, false, ◌||◌, ◌&&◌, not, nat_lt, if◌then◌else◌, List, [], ◌∷◌, Option, Some, None, unwrap_or}
 use Rattle.nand_geometry.specs.declared.parts.Parts.{Parts}
 use Rattle.onfi_cycle.specs.declared.command.Command.{Command}
 use Rattle.onfi_cycle.specs.declared.command.Command.TheVariants.{Read, ReadConfirm, ChangeReadColumnConfirm, BlockEraseConfirm, BlockErasePlane, ReadStatus, ReadStatusEnhanced, ProgramConfirm, ProgramPlane, ReadId, ReadParameterPage, Reset, ReadCacheSequential, ReadCacheEnd, ReadUniqueId, GetFeatures, SetFeatures, ResetLun, SynchronousReset}
@@ -17,9 +17,10 @@ use Rattle.onfi_cycle.specs.declared.queued.Queued.TheVariants.{Erase, Program}
 use Rattle.onfi_cycle.specs.declared.register.Register.{Register}
 use Rattle.onfi_cycle.specs.declared.register.Register.TheVariants.{Empty, Page, ParameterPage, Identifier, Identity, JedecIdentity, UniqueId, Features}
 use Rattle.onfi_cycle.specs.declared.tail_facts.TailFacts.{TailFacts}
+use Rattle.onfi_cycle.specs.Command.{closes_row, is_read_confirm, is_set_features, reads_identity}
 use Rattle.onfi_cycle.specs.Sequence.{target_cycle, tail, facts_of, row, row_with, wants_command, wants_address}
-use Rattle.onfi_cycle.specs.Effect.{is_data, page_address, names_lun, ends_features}
-use Rattle.onfi_cycle.specs.Lun.{latch, drivers, is_only, is_busy, is_caching, closer, is_array_busy, array_page, register, read_column, queue}
+use Rattle.onfi_cycle.specs.Effect.{is_data, is_shared, acts_for_target, page_address, names_lun, ends_features}
+use Rattle.onfi_cycle.specs.Lun.{latch, drivers, is_only, is_selected, is_overlapped, is_busy, is_caching, closer, is_array_busy, array_page, register, read_column, queue}
 use Rattle.onfi_cycle.specs.Permitted.{is_legal}
 
 -- 1. the newest item that decides, and what stands since
@@ -81,7 +82,8 @@ closing_command g past l ReadCacheSequential = if drives_alone g past l then Som
 closing_command g past l ReadCacheEnd = if drives_alone g past l then Some ReadCacheEnd else None
 closing_command g past l c = row_closer (wants_command (tail_of past l) c && names_lun g (row (tail_of past l)) l.lun) c
 
--- the one address of an opener that reads what stands beside the array closes it, and the last one of Reset LUN, where it names the LUN
+-- the one address of an opener that reads what stands beside the array closes it at the LUN that acts for its target, and the last one of
+-- Reset LUN at the LUN that it names
 abbrev pub address_closer : (wanted named : Bool) → Command → ℕ → Option Command
 address_closer wanted named ReadId n = if wanted then Some ReadId else None
 address_closer wanted named ReadParameterPage n = if wanted then Some ReadParameterPage else None
@@ -92,12 +94,13 @@ address_closer wanted named _ n = None
 
 abbrev pub closing_address : Parts → Lun → TailFacts → ℕ → Option Opening → Option Command
 closing_address g l t byte None = None
-closing_address g l t byte (Some o) = address_closer (wants_address t byte) (names_lun g (row_with t byte) l.lun) o.opener o.addresses
+closing_address g l t byte (Some o) =
+    address_closer (wants_address t byte && acts_for_target g l.lun) (names_lun g (row_with t byte) l.lun) o.opener o.addresses
 
 abbrev pub closing_cycle : Parts → List Item → Lun → TargetCycle → Option Command
 closing_cycle g past l (CommandCycle c) = closing_command g past l c
 closing_cycle g past l (AddressCycle byte) = closing_address g l (tail_of past l) byte (tail_of past l).opening
-closing_cycle g past l (InputCycle byte) = if ends_features (tail_of past l) then Some SetFeatures else None
+closing_cycle g past l (InputCycle byte) = if ends_features (tail_of past l) && acts_for_target g l.lun then Some SetFeatures else None
 closing_cycle g past l OutputCycle = None
 
 -- the command that closes something on the LUN, if the item does
@@ -302,13 +305,36 @@ abbrev pub selecting_latch : Parts → List Item → Lun → ℕ → Option Open
 selecting_latch g past l byte None = None
 selecting_latch g past l byte (Some o) = third_of_status o.opener o.addresses (names_lun g (row_with (tail_of past l) byte) l.lun)
 
+-- 70 shows the status of a LUN; where its target has several in the wider profile, that of the selected one alone
+abbrev pub status_latch : (shared selected : Bool) → Latch
+status_latch shared selected = if shared then (if selected then Status else Off) else Status
+
+-- the closer of a row of another LUN, in the wider profile
+abbrev pub closes_another : Parts → List Item → Lun → Command → Bool
+closes_another g past l c =
+    closes_row c && (is_shared g && (wants_command (tail_of past l) c && not (names_lun g (row (tail_of past l)) l.lun)))
+
+-- a read of another LUN turns a LUN off that doesn't work
+abbrev pub passed_latch : Parts → List Item → Lun → Command → Option Latch
+passed_latch g past l c =
+    if closes_another g past l c && (is_read_confirm c && not (is_busy g past l || is_array_busy g past l)) then Some Off else None
+
+-- what is read or set for the whole target, and its first LUN does, turns the others off
+abbrev pub turned_off : (wanted first : Bool) → Command → Option Latch
+turned_off wanted first c = if wanted && (not first && reads_identity c) then Some Off else None
+
+abbrev pub left_latch : Parts → Lun → TailFacts → ℕ → Option Opening → Option Latch
+left_latch g l t byte None = None
+left_latch g l t byte (Some o) = turned_off (wants_address t byte && not (is_set_features o.opener)) (acts_for_target g l.lun) o.opener
+
 abbrev pub latch_cycle : Parts → List Item → Lun → TargetCycle → Option Latch
-latch_cycle g past l (CommandCycle ReadStatus) = Some Status
+latch_cycle g past l (CommandCycle ReadStatus) = Some (status_latch (is_shared g) (is_selected g past l))
 latch_cycle g past l (CommandCycle Read) = read_latch (latch g past l)
-latch_cycle g past l (CommandCycle c) = closed_latch (closing_command g past l c)
+latch_cycle g past l (CommandCycle c) = or_before (closed_latch (closing_command g past l c)) (passed_latch g past l c)
 latch_cycle g past l (AddressCycle byte) =
-    or_before (selecting_latch g past l byte (tail_of past l).opening) (closed_latch (closing_address g l (tail_of past l) byte (tail_of past l).opening))
-latch_cycle g past l (InputCycle byte) = None
+    or_before (selecting_latch g past l byte (tail_of past l).opening)
+    (or_before (closed_latch (closing_address g l (tail_of past l) byte (tail_of past l).opening)) (left_latch g l (tail_of past l) byte (tail_of past l).opening))
+latch_cycle g past l (InputCycle byte) = turned_off (ends_features (tail_of past l)) (acts_for_target g l.lun) SetFeatures
 latch_cycle g past l OutputCycle = None
 
 abbrev pub latch_decided : Parts → Lun → List Item → Item → Option Latch
@@ -316,7 +342,73 @@ latch_decided g l past (Cyc c) = if c.ce == l.ce then latch_cycle g past l (targ
 latch_decided g l past (Rdy ce lun fail) = None
 latch_decided g l past (Ard ce lun) = None
 
--- 8. each fact of a LUN is what the newest item says that says something of it
+-- 8. which LUN of a target is selected, and which is overlapped
+
+-- the row of work names a LUN: in the wider profile the others of its target are selected no more
+abbrev pub selected_by_row : (begun named shared : Bool) → Option Bool
+selected_by_row begun named shared = if begun && (named || shared) then Some named else None
+
+-- the closer of a row
+abbrev pub begins_on_row : List Item → Lun → Command → Bool
+begins_on_row past l c = closes_row c && wants_command (tail_of past l) c
+
+-- the address of what is read for the whole target
+abbrev pub begins_for_target : TailFacts → ℕ → Command → Bool
+begins_for_target t byte c = reads_identity c && (wants_address t byte && not (is_set_features c))
+
+abbrev pub selected_by_address : Parts → Lun → TailFacts → ℕ → Command → ℕ → Option Bool
+selected_by_address g l t byte ReadStatusEnhanced n = if n == 2 then Some (names_lun g (row_with t byte) l.lun) else None
+selected_by_address g l t byte ResetLun n = selected_by_row (n == 2) (names_lun g (row_with t byte) l.lun) (is_shared g)
+selected_by_address g l t byte c n = if begins_for_target t byte c then Some (acts_for_target g l.lun) else None
+
+abbrev pub selected_by_opening : Parts → Lun → TailFacts → ℕ → Option Opening → Option Bool
+selected_by_opening g l t byte None = None
+selected_by_opening g l t byte (Some o) = selected_by_address g l t byte o.opener o.addresses
+
+-- a LUN is selected by its work and by a 78 of it, and the first one by what is done for the whole target
+abbrev pub selected_cycle : Parts → List Item → Lun → TargetCycle → Option Bool
+selected_cycle g past l (CommandCycle Reset) = Some (acts_for_target g l.lun)
+selected_cycle g past l (CommandCycle SynchronousReset) = Some (acts_for_target g l.lun)
+selected_cycle g past l (CommandCycle c) = selected_by_row (begins_on_row past l c) (names_lun g (row (tail_of past l)) l.lun) (is_shared g)
+selected_cycle g past l (AddressCycle byte) = selected_by_opening g l (tail_of past l) byte (tail_of past l).opening
+selected_cycle g past l (InputCycle byte) = if ends_features (tail_of past l) then Some (acts_for_target g l.lun) else None
+selected_cycle g past l OutputCycle = None
+
+abbrev pub selected_decided : Parts → Lun → List Item → Item → Option Bool
+selected_decided g l past (Cyc c) = if c.ce == l.ce then selected_cycle g past l (target_cycle c.kind c.byte) else None
+selected_decided g l past (Rdy ce lun fail) = None
+selected_decided g l past (Ard ce lun) = None
+
+-- the work of another LUN overlaps one that works
+abbrev pub overlapped_by_row : (begun named shared works : Bool) → Option Bool
+overlapped_by_row begun named shared works = if begun && (not named && (shared && works)) then Some true else None
+
+abbrev pub overlapped_by_address : Parts → Lun → (works : Bool) → TailFacts → ℕ → Command → ℕ → Option Bool
+overlapped_by_address g l works t byte ReadStatusEnhanced n = if n == 2 then Some false else None
+overlapped_by_address g l works t byte ResetLun n = overlapped_by_row (n == 2) (names_lun g (row_with t byte) l.lun) (is_shared g) works
+overlapped_by_address g l works t byte c n = if begins_for_target t byte c then Some false else None
+
+abbrev pub overlapped_by_opening : Parts → Lun → (works : Bool) → TailFacts → ℕ → Option Opening → Option Bool
+overlapped_by_opening g l works t byte None = None
+overlapped_by_opening g l works t byte (Some o) = overlapped_by_address g l works t byte o.opener o.addresses
+
+-- a LUN that works is overlapped by the work of another; a 78 ends that, and so does what is done for the whole target
+abbrev pub overlapped_cycle : Parts → List Item → Lun → TargetCycle → Option Bool
+overlapped_cycle g past l (CommandCycle Reset) = if is_shared g then Some false else None
+overlapped_cycle g past l (CommandCycle SynchronousReset) = if is_shared g then Some false else None
+overlapped_cycle g past l (CommandCycle c) =
+    overlapped_by_row (begins_on_row past l c) (names_lun g (row (tail_of past l)) l.lun) (is_shared g) (is_busy g past l || is_array_busy g past l)
+overlapped_cycle g past l (AddressCycle byte) =
+    overlapped_by_opening g l (is_busy g past l || is_array_busy g past l) (tail_of past l) byte (tail_of past l).opening
+overlapped_cycle g past l (InputCycle byte) = if ends_features (tail_of past l) then Some false else None
+overlapped_cycle g past l OutputCycle = None
+
+abbrev pub overlapped_decided : Parts → Lun → List Item → Item → Option Bool
+overlapped_decided g l past (Cyc c) = if c.ce == l.ce then overlapped_cycle g past l (target_cycle c.kind c.byte) else None
+overlapped_decided g l past (Rdy ce lun fail) = None
+overlapped_decided g l past (Ard ce lun) = None
+
+-- 9. each fact of a LUN is what the newest item says that says something of it
 pub record FactsAreDecided : Type 0 where
   pub busy : (g : Parts) (past : List Item) (l : Lun) → is_busy g past l ≡ unwrap_or (last_decided (busy_decided g l) past) false
   pub closer : (g : Parts) (past : List Item) (l : Lun) → closer g past l ≡ last_decided (closing g l) past
@@ -325,4 +417,6 @@ pub record FactsAreDecided : Type 0 where
   pub register : (g : Parts) (past : List Item) (l : Lun) → register g past l ≡ unwrap_or (last_decided (register_decided g l) past) Empty
   pub column : (g : Parts) (past : List Item) (l : Lun) → read_column g past l ≡ record { given = last_decided (column_decided g l) past; outputs = outputs_since g l past; lost = some_since (gives_column g l) (loses_column g l) past }
   pub queue : (g : Parts) (past : List Item) (l : Lun) → queue g past l ≡ all_since (λ past i. empties_queue (closing g l past i)) (λ past i. queued_row (page_address g (row (tail_of past l))) (closing g l past i)) past
+  pub selected : (g : Parts) (past : List Item) (l : Lun) → is_selected g past l ≡ unwrap_or (last_decided (selected_decided g l) past) (l.lun == 0)
+  pub overlapped : (g : Parts) (past : List Item) (l : Lun) → is_overlapped g past l ≡ unwrap_or (last_decided (overlapped_decided g l) past) false
   pub latch : (g : Parts) (targets : ℕ) (past : List Item) (l : Lun) → is_legal g targets past ≡ true → l.lun < g.luns → latch g past l ≡ unwrap_or (last_decided (latch_decided g l) past) Off

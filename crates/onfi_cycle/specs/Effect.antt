@@ -1,6 +1,7 @@
 -- What an item does to a LUN.
-use Rattle.std.specs.Prelude.{ℕ, ◌==◌, ◌%◌, Bool, true, false, ◌&&◌, not, if◌then◌else◌, List, Option, Some, None, ◌<◌, ◌^◌}
+use Rattle.std.specs.Prelude.{ℕ, ◌==◌, ◌%◌, Bool, true, false, ◌&&◌, ◌||◌, not, nat_lt, if◌then◌else◌, List, Option, Some, None, ◌<◌, ◌^◌}
 use Rattle.nand_geometry.specs.declared.parts.Parts.{Parts}
+use Rattle.nand_geometry.specs.Optional.{is_wide}
 use Rattle.nand_geometry.specs.Row.{parts_of}
 use Rattle.onfi_cycle.specs.declared.command.Command.{Command}
 use Rattle.onfi_cycle.specs.declared.command.Command.TheVariants.{Read, ProgramConfirm, ProgramPlane, ReadConfirm, ReadCacheSequential, ReadCacheEnd, ReadStatus, ReadStatusEnhanced, ReadId, BlockEraseConfirm, BlockErasePlane, ChangeReadColumnConfirm, ReadParameterPage, Reset, ReadUniqueId, GetFeatures, ResetLun, SynchronousReset}
@@ -13,9 +14,10 @@ use Rattle.onfi_cycle.specs.declared.target_cycle.TargetCycle.{TargetCycle}
 use Rattle.onfi_cycle.specs.declared.target_cycle.TargetCycle.TheVariants.{CommandCycle, AddressCycle, InputCycle, OutputCycle}
 use Rattle.onfi_cycle.specs.declared.page_address.PageAddress.{PageAddress}
 use Rattle.onfi_cycle.specs.declared.effect.Effect.{Effect}
-use Rattle.onfi_cycle.specs.declared.effect.Effect.TheVariants.{Unaffected, DataOutputEnabled, StatusSelected, StatusRowAwaited, SelectedForStatus, Deselected, IdRead, IdentityRead, UniqueIdReadStarted, FeaturesReadStarted, FeaturesSet, ParameterPageReadStarted, CacheReadContinued, CacheReadEnded, DataOutput, ResetStarted, BecameReady, ArrayBecameReady, ReadStarted, EraseStarted, ProgramStarted, ReadColumnChanged}
+use Rattle.onfi_cycle.specs.declared.effect.Effect.TheVariants.{Unaffected, DataOutputEnabled, StatusSelected, StatusRowAwaited, SelectedForStatus, Deselected, IdRead, IdentityRead, UniqueIdReadStarted, FeaturesReadStarted, FeaturesSet, ParameterPageReadStarted, CacheReadContinued, CacheReadEnded, DataOutput, ResetStarted, BecameReady, ArrayBecameReady, ReadStarted, EraseStarted, ProgramStarted, ReadColumnChanged, AnotherAddressed, StatusOfSelected, TargetResetStarted}
 use Rattle.onfi_cycle.specs.declared.opening.Opening.{Opening}
 use Rattle.onfi_cycle.specs.declared.tail_facts.TailFacts.{TailFacts}
+use Rattle.onfi_cycle.specs.Command.{closes_row, is_read_confirm}
 use Rattle.onfi_cycle.specs.Sequence.{target_cycle, tail, facts_of, takes_features, wants_command, wants_address, row, row_with}
 
 abbrev pub is_off : Latch → Bool
@@ -45,30 +47,58 @@ confirm_effect g t _ = Unaffected
 abbrev pub names_lun : Parts → ℕ → ℕ → Bool
 names_lun g row lun = (parts_of g row).lun == lun
 
+-- in the wider profile: the target has several LUNs, and commands that are of all of them
+abbrev pub is_shared : Parts → Bool
+is_shared g = is_wide g.optional && nat_lt 1 g.luns
+
+-- the LUN does what is to be done for its whole target: the first one does
+abbrev pub acts_for_target : Parts → ℕ → Bool
+acts_for_target g lun = not (is_shared g) || lun == 0
+
+-- what is done for a whole target, at a LUN of it: the others stop driving
+abbrev pub of_target : Parts → ℕ → Effect → Effect
+of_target g lun a = if acts_for_target g lun then a else Deselected
+
+-- what a Read Status does
+abbrev pub status_effect : Parts → Effect
+status_effect g = if is_shared g then StatusOfSelected else StatusSelected
+
+-- what a reset does
+abbrev pub reset_effect : Parts → ℕ → Effect
+reset_effect g lun = if is_shared g then TargetResetStarted (lun == 0) else ResetStarted
+
+-- what the closer of a row does to a LUN that its tail doesn't name
+abbrev pub other_effect : Parts → TailFacts → Command → Effect
+other_effect g t c = if closes_row c && (wants_command t c && is_shared g) then AnotherAddressed (is_read_confirm c) else Unaffected
+
 -- what a command does to a LUN; latch_alone is its latch if it is the one driver of its target, and else Off
 abbrev pub command_effect : Parts → TailFacts → Latch → Command → ℕ → Effect
 command_effect g t latch_alone Read lun = DataOutputEnabled
-command_effect g t latch_alone ReadStatus lun = StatusSelected
+command_effect g t latch_alone ReadStatus lun = status_effect g
 command_effect g t latch_alone ReadStatusEnhanced lun = StatusRowAwaited
-command_effect g t latch_alone Reset lun = ResetStarted
-command_effect g t latch_alone SynchronousReset lun = ResetStarted
+command_effect g t latch_alone Reset lun = reset_effect g lun
+command_effect g t latch_alone SynchronousReset lun = reset_effect g lun
 command_effect g t latch_alone ReadCacheSequential lun = if is_off latch_alone then Unaffected else CacheReadContinued
 command_effect g t latch_alone ReadCacheEnd lun = if is_off latch_alone then Unaffected else CacheReadEnded
 command_effect g t latch_alone ChangeReadColumnConfirm lun = if wants_command t ChangeReadColumnConfirm && not (is_off latch_alone) then ReadColumnChanged t.column else Unaffected
-command_effect g t latch_alone c lun = if wants_command t c && names_lun g (row t) lun then confirm_effect g t c else Unaffected
+command_effect g t latch_alone c lun = if wants_command t c && names_lun g (row t) lun then confirm_effect g t c else other_effect g t c
 
 -- what the address of a Read ID does
 abbrev pub id_effect : ℕ → Effect
 id_effect byte = if byte == 0x20 then IdRead else IdentityRead (byte == 0x40)
 
+-- what the last row cycle of a Reset LUN does
+abbrev pub lun_reset_effect : Parts → (named : Bool) → Effect
+lun_reset_effect g named = if named then ResetStarted else (if is_shared g then AnotherAddressed false else Unaffected)
+
 -- what an address does that comes after this opener and so many others
 abbrev pub address_effect : Parts → TailFacts → ℕ → Command → ℕ → ℕ → Effect
 address_effect g t byte ReadStatusEnhanced n lun = if n == 2 then (if names_lun g (row_with t byte) lun then SelectedForStatus else Deselected) else Unaffected
-address_effect g t byte ReadId n lun = if wants_address t byte then id_effect byte else Unaffected
-address_effect g t byte ReadParameterPage n lun = if wants_address t byte then ParameterPageReadStarted else Unaffected
-address_effect g t byte ReadUniqueId n lun = if wants_address t byte then UniqueIdReadStarted else Unaffected
-address_effect g t byte GetFeatures n lun = if wants_address t byte then FeaturesReadStarted byte else Unaffected
-address_effect g t byte ResetLun n lun = if n == 2 && names_lun g (row_with t byte) lun then ResetStarted else Unaffected
+address_effect g t byte ReadId n lun = if wants_address t byte then of_target g lun (id_effect byte) else Unaffected
+address_effect g t byte ReadParameterPage n lun = if wants_address t byte then of_target g lun ParameterPageReadStarted else Unaffected
+address_effect g t byte ReadUniqueId n lun = if wants_address t byte then of_target g lun UniqueIdReadStarted else Unaffected
+address_effect g t byte GetFeatures n lun = if wants_address t byte then of_target g lun (FeaturesReadStarted byte) else Unaffected
+address_effect g t byte ResetLun n lun = if n == 2 then lun_reset_effect g (names_lun g (row_with t byte) lun) else Unaffected
 address_effect g t byte _ n lun = Unaffected
 
 abbrev pub opening_address_effect : Parts → TailFacts → ℕ → Option Opening → ℕ → Effect
@@ -80,14 +110,14 @@ abbrev pub ends_features : TailFacts → Bool
 ends_features t = takes_features t.phase && t.inputs == 3
 
 -- what an input does: the fourth byte of a Set Features starts it, for the feature of its one address byte, which the tail keeps as its column
-abbrev pub input_effect : TailFacts → Effect
-input_effect t = if ends_features t then FeaturesSet (t.column % 256) else Unaffected
+abbrev pub input_effect : Parts → TailFacts → ℕ → Effect
+input_effect g t lun = if ends_features t then of_target g lun (FeaturesSet (t.column % 256)) else Unaffected
 
 -- what a cycle does to a LUN of its target, after this tail
 abbrev pub cycle_effect : Parts → TailFacts → Latch → TargetCycle → ℕ → Effect
 cycle_effect g t latch_alone (CommandCycle c) lun = command_effect g t latch_alone c lun
 cycle_effect g t latch_alone (AddressCycle byte) lun = opening_address_effect g t byte t.opening lun
-cycle_effect g t latch_alone (InputCycle byte) lun = input_effect t
+cycle_effect g t latch_alone (InputCycle byte) lun = input_effect g t lun
 cycle_effect g t latch_alone OutputCycle lun = if is_data latch_alone then DataOutput else Unaffected
 
 -- what an item does to a LUN, by the facts of its target's tail

@@ -1,5 +1,5 @@
 -- Of each LUN: what it shows, whether it is busy, its register, its column and its queue, each by the newest item that decides it.
-use Rattle.std.specs.Prelude.{ℕ, zero, suc, ◌+◌, ◌==◌, Bool, true, false, ◌||◌, ◌&&◌, nat_lt, if◌then◌else◌, List, [], ◌∷◌, Option, Some, None}
+use Rattle.std.specs.Prelude.{ℕ, zero, suc, ◌+◌, ◌==◌, Bool, true, false, ◌||◌, ◌&&◌, not, nat_lt, if◌then◌else◌, List, [], ◌∷◌, Option, Some, None}
 use Rattle.nand_geometry.specs.declared.parts.Parts.{Parts}
 use Rattle.onfi_cycle.specs.declared.command.Command.{Command}
 use Rattle.onfi_cycle.specs.declared.command.Command.TheVariants.{ProgramConfirm, ProgramPlane, ReadConfirm, ReadCacheSequential, ReadCacheEnd, ReadId, BlockEraseConfirm, BlockErasePlane, ReadParameterPage, Reset, ReadUniqueId, GetFeatures, SetFeatures}
@@ -15,7 +15,7 @@ use Rattle.onfi_cycle.specs.declared.register.Register.TheVariants.{Empty, Page,
 use Rattle.onfi_cycle.specs.declared.read_column.ReadColumn.{ReadColumn}
 use Rattle.onfi_cycle.specs.LunView.{LunView}
 use Rattle.onfi_cycle.specs.declared.effect.Effect.{Effect}
-use Rattle.onfi_cycle.specs.declared.effect.Effect.TheVariants.{DataOutputEnabled, StatusSelected, StatusRowAwaited, SelectedForStatus, Deselected, IdRead, IdentityRead, UniqueIdReadStarted, FeaturesReadStarted, FeaturesSet, ParameterPageReadStarted, CacheReadContinued, CacheReadEnded, DataOutput, ResetStarted, BecameReady, ArrayBecameReady, ReadStarted, EraseStarted, ProgramStarted, ReadColumnChanged}
+use Rattle.onfi_cycle.specs.declared.effect.Effect.TheVariants.{DataOutputEnabled, StatusSelected, StatusRowAwaited, SelectedForStatus, Deselected, IdRead, IdentityRead, UniqueIdReadStarted, FeaturesReadStarted, FeaturesSet, ParameterPageReadStarted, CacheReadContinued, CacheReadEnded, DataOutput, ResetStarted, BecameReady, ArrayBecameReady, ReadStarted, EraseStarted, ProgramStarted, ReadColumnChanged, AnotherAddressed, StatusOfSelected, TargetResetStarted}
 use Rattle.onfi_cycle.specs.Effect.{effect_given, is_off}
 
 -- of so many LUNs from number n on, those that a latch has on
@@ -39,39 +39,57 @@ resumed Off = Off
 resumed Status = Data
 resumed Data = Data
 
-abbrev pub latch_after : Effect → Latch → Latch
-latch_after DataOutputEnabled latch = resumed latch
-latch_after StatusSelected latch = Status
-latch_after SelectedForStatus latch = Status
-latch_after Deselected latch = Off
-latch_after (ReadStarted _ _) latch = Data
-latch_after IdRead latch = Data
-latch_after (IdentityRead _) latch = Data
-latch_after ParameterPageReadStarted latch = Data
-latch_after UniqueIdReadStarted latch = Data
-latch_after (FeaturesReadStarted _) latch = Data
-latch_after CacheReadContinued latch = Data
-latch_after CacheReadEnded latch = Data
-latch_after ResetStarted latch = Off
-latch_after _ latch = latch
+-- what an effect leaves of the latch of a LUN that is selected, and that works, or not: a read of another LUN turns it off where it doesn't work
+abbrev pub latch_after : Effect → (selected works : Bool) → Latch → Latch
+latch_after DataOutputEnabled selected works latch = resumed latch
+latch_after StatusSelected selected works latch = Status
+latch_after SelectedForStatus selected works latch = Status
+latch_after Deselected selected works latch = Off
+latch_after (ReadStarted _ _) selected works latch = Data
+latch_after IdRead selected works latch = Data
+latch_after (IdentityRead _) selected works latch = Data
+latch_after ParameterPageReadStarted selected works latch = Data
+latch_after UniqueIdReadStarted selected works latch = Data
+latch_after (FeaturesReadStarted _) selected works latch = Data
+latch_after CacheReadContinued selected works latch = Data
+latch_after CacheReadEnded selected works latch = Data
+latch_after ResetStarted selected works latch = Off
+latch_after (TargetResetStarted _) selected works latch = Off
+latch_after StatusOfSelected selected works latch = if selected then Status else Off
+latch_after (AnotherAddressed reads) selected works latch = if reads && not works then Off else latch
+latch_after _ selected works latch = latch
 
--- what a LUN shows when it is read: nothing, its status or its register.
--- (31 and 3F come only where there is one driver, so what the LUN shows is what it shows alone)
-abbrev pub latch : Parts → List Item → Lun → Latch
-latch g [] l = Off
-latch g (i ∷ past) l = let before = latch g past l in latch_after (effect_given g past before i l) before
+-- the LUN that the target's commands are for
+abbrev pub selected_after : Effect → Bool → Bool
+selected_after SelectedForStatus selected = true
+selected_after Deselected selected = false
+selected_after (ReadStarted _ _) selected = true
+selected_after (EraseStarted _ _) selected = true
+selected_after (ProgramStarted _ _) selected = true
+selected_after IdRead selected = true
+selected_after (IdentityRead _) selected = true
+selected_after ParameterPageReadStarted selected = true
+selected_after UniqueIdReadStarted selected = true
+selected_after (FeaturesReadStarted _) selected = true
+selected_after (FeaturesSet _) selected = true
+selected_after ResetStarted selected = true
+selected_after (TargetResetStarted first) selected = first
+selected_after (AnotherAddressed _) selected = false
+selected_after _ selected = selected
 
--- the LUNs of a target that aren't off
-abbrev pub drivers : Parts → List Item → ℕ → List ℕ
-drivers g past ce = drivers_from (λ m. latch g past (record { ce = ce; lun = m })) g.luns 0
-
--- what the LUN shows if it is the one driver of its target
-abbrev pub latch_alone : Parts → List Item → Lun → Latch
-latch_alone g past l = alone g.luns (λ m. latch g past (record { ce = l.ce; lun = m })) l.lun
-
--- what an item does to a LUN
-unfoldable pub effect_on : Parts → List Item → Item → Lun → Effect
-effect_on g past i l = effect_given g past (latch_alone g past l) i l
+-- another LUN was given work while this one worked, and no command for the whole target came since
+abbrev pub overlapped_after : Effect → (works : Bool) → Bool → Bool
+overlapped_after SelectedForStatus works overlapped = false
+overlapped_after Deselected works overlapped = false
+overlapped_after IdRead works overlapped = false
+overlapped_after (IdentityRead _) works overlapped = false
+overlapped_after ParameterPageReadStarted works overlapped = false
+overlapped_after UniqueIdReadStarted works overlapped = false
+overlapped_after (FeaturesReadStarted _) works overlapped = false
+overlapped_after (FeaturesSet _) works overlapped = false
+overlapped_after (TargetResetStarted _) works overlapped = false
+overlapped_after (AnotherAddressed _) works overlapped = overlapped || works
+overlapped_after _ works overlapped = overlapped
 
 abbrev pub busy_after : Effect → Bool → Bool
 busy_after (ReadStarted _ _) busy = true
@@ -84,13 +102,9 @@ busy_after (FeaturesSet _) busy = true
 busy_after CacheReadContinued busy = true
 busy_after CacheReadEnded busy = true
 busy_after ResetStarted busy = true
+busy_after (TargetResetStarted _) busy = true
 busy_after (BecameReady _) busy = false
 busy_after _ busy = busy
-
--- work was started on the LUN, and no ready of it came since
-abbrev pub is_busy : Parts → List Item → Lun → Bool
-is_busy g [] l = false
-is_busy g (i ∷ past) l = busy_after (effect_on g past i l) (is_busy g past l)
 
 abbrev pub closer_after : Effect → Option Command → Option Command
 closer_after (ReadStarted _ _) last = Some ReadConfirm
@@ -105,12 +119,8 @@ closer_after (FeaturesSet _) last = Some SetFeatures
 closer_after CacheReadContinued last = Some ReadCacheSequential
 closer_after CacheReadEnded last = Some ReadCacheEnd
 closer_after ResetStarted last = Some Reset
+closer_after (TargetResetStarted _) last = Some Reset
 closer_after _ last = last
-
--- the last closer of the LUN
-abbrev pub closer : Parts → List Item → Lun → Option Command
-closer g [] l = None
-closer g (i ∷ past) l = closer_after (effect_on g past i l) (closer g past l)
 
 abbrev pub is_cache_read : Option Command → Bool
 is_cache_read (Some ReadCacheSequential) = true
@@ -121,9 +131,13 @@ is_page_read (Some ReadConfirm) = true
 is_page_read (Some ReadCacheSequential) = true
 is_page_read _ = false
 
--- a cache read goes on
-abbrev pub is_caching : Parts → List Item → Lun → Bool
-is_caching g past l = is_cache_read (closer g past l)
+-- the closers of work that is of a whole target
+abbrev pub is_target_work : Option Command → Bool
+is_target_work (Some ReadParameterPage) = true
+is_target_work (Some ReadUniqueId) = true
+is_target_work (Some GetFeatures) = true
+is_target_work (Some SetFeatures) = true
+is_target_work _ = false
 
 abbrev pub array_busy_after : Effect → (busy caching array_busy : Bool) → Bool
 array_busy_after (BecameReady _) busy caching array_busy = array_busy || (busy && caching)
@@ -140,12 +154,8 @@ array_busy_after (FeaturesSet _) busy caching array_busy = false
 array_busy_after CacheReadContinued busy caching array_busy = false
 array_busy_after CacheReadEnded busy caching array_busy = false
 array_busy_after ResetStarted busy caching array_busy = false
+array_busy_after (TargetResetStarted _) busy caching array_busy = false
 array_busy_after _ busy caching array_busy = array_busy
-
--- the 31 that the LUN does last has had its ready, and its array has had none since
-abbrev pub is_array_busy : Parts → List Item → Lun → Bool
-is_array_busy g [] l = false
-is_array_busy g (i ∷ past) l = array_busy_after (effect_on g past i l) (is_busy g past l) (is_caching g past l) (is_array_busy g past l)
 
 abbrev pub next_page : PageAddress → PageAddress
 next_page p = record { block = p.block; page = p.page + 1 }
@@ -154,11 +164,6 @@ abbrev pub array_page_after : Effect → PageAddress → PageAddress
 array_page_after (ReadStarted at _) p = at
 array_page_after CacheReadContinued p = next_page p
 array_page_after _ p = p
-
--- the page that the array was last told to read: that of the last 30, and one more for each 31 since
-abbrev pub array_page : Parts → List Item → Lun → PageAddress
-array_page g [] l = record { block = 0; page = 0 }
-array_page g (i ∷ past) l = array_page_after (effect_on g past i l) (array_page g past l)
 
 abbrev pub register_after : Effect → PageAddress → Register → Register
 register_after (ReadStarted at _) p r = Page at
@@ -173,12 +178,8 @@ register_after (FeaturesSet _) p r = Empty
 register_after CacheReadContinued p r = Page p
 register_after CacheReadEnded p r = Page p
 register_after ResetStarted p r = Empty
+register_after (TargetResetStarted _) p r = Empty
 register_after _ p r = r
-
--- the register, by the last closer; after 31 or 3F the page that the array read before it
-abbrev pub register : Parts → List Item → Lun → Register
-register g [] l = Empty
-register g (i ∷ past) l = register_after (effect_on g past i l) (array_page g past l) (register g past l)
 
 abbrev pub column_at : ℕ → ReadColumn
 column_at from = record { given = Some from; outputs = 0; lost = false }
@@ -195,12 +196,9 @@ read_column_after CacheReadContinued k = column_at 0
 read_column_after CacheReadEnded k = column_at 0
 read_column_after DataOutput k = record k { outputs = k.outputs + 1 }
 read_column_after StatusSelected k = record k { lost = k.lost || nat_lt 0 k.outputs }
+read_column_after StatusOfSelected k = record k { lost = k.lost || nat_lt 0 k.outputs }
 read_column_after StatusRowAwaited k = record k { lost = k.lost || nat_lt 0 k.outputs }
 read_column_after _ k = k
-
-abbrev pub read_column : Parts → List Item → Lun → ReadColumn
-read_column g [] l = record { given = None; outputs = 0; lost = false }
-read_column g (i ∷ past) l = read_column_after (effect_on g past i l) (read_column g past l)
 
 abbrev pub option_plus : ℕ → Option ℕ → Option ℕ
 option_plus n None = None
@@ -214,26 +212,117 @@ abbrev pub queue_after : Effect → List Queued → List Queued
 queue_after (EraseStarted queued at) queue = if queued then Erase at ∷ queue else []
 queue_after (ProgramStarted queued at) queue = if queued then Program at ∷ queue else []
 queue_after ResetStarted queue = []
+queue_after (TargetResetStarted _) queue = []
 queue_after _ queue = queue
+
+-- the LUN works, or its array does
+abbrev pub works : LunView → Bool
+works v = v.busy || v.array_busy
+
+-- what an effect leaves of what a LUN shows
+abbrev pub shown_after : Effect → LunView → Latch
+shown_after a v = latch_after a v.selected (works v) v.latch
+
+-- what an effect makes of a LUN
+abbrev pub view_after : Effect → LunView → LunView
+view_after a v =
+    record {
+      latch = shown_after a v;
+      selected = selected_after a v.selected;
+      overlapped = overlapped_after a (works v) v.overlapped;
+      busy = busy_after a v.busy;
+      closer = closer_after a v.closer;
+      array_busy = array_busy_after a v.busy (is_cache_read v.closer) v.array_busy;
+      array_page = array_page_after a v.array_page;
+      register = register_after a v.array_page v.register;
+      column = read_column_after a v.column;
+      queue = queue_after a v.queue;
+    }
+
+-- the LUN of this number when nothing has happened to it: the first one is selected
+abbrev pub first_view : ℕ → LunView
+first_view lun =
+    record {
+      latch = Off;
+      selected = lun == 0;
+      overlapped = false;
+      busy = false;
+      closer = None;
+      array_busy = false;
+      array_page = record { block = 0; page = 0 };
+      register = Empty;
+      column = record { given = None; outputs = 0; lost = false };
+      queue = [];
+    }
+
+-- what an item does to a LUN, where the LUNs of its target have these latches
+unfoldable pub effect_among : Parts → List Item → (ℕ → Latch) → Item → Lun → Effect
+effect_among g past latches i l = effect_given g past (alone g.luns latches l.lun) i l
+
+-- what the rules see of a LUN, item by item; what it shows goes on by itself, and asks no other LUN
+-- (31 and 3F come only where there is one driver, so what the LUN shows is what it shows alone)
+abbrev pub lun_view : Parts → List Item → Lun → LunView
+lun_view g [] l = first_view l.lun
+lun_view g (i ∷ past) l =
+    let before = lun_view g past l in
+    let latches : ℕ → Latch = λ m. (lun_view g past (record { ce = l.ce; lun = m })).latch in
+    record (view_after (effect_among g past latches i l) before) { latch = shown_after (effect_given g past before.latch i l) before }
+
+-- what a LUN shows when it is read: nothing, its status or its register
+abbrev pub latch : Parts → List Item → Lun → Latch
+latch g past l = (lun_view g past l).latch
+
+-- the LUNs of a target that aren't off
+abbrev pub drivers : Parts → List Item → ℕ → List ℕ
+drivers g past ce = drivers_from (λ m. latch g past (record { ce = ce; lun = m })) g.luns 0
+
+-- what the LUN shows if it is the one driver of its target
+abbrev pub latch_alone : Parts → List Item → Lun → Latch
+latch_alone g past l = alone g.luns (λ m. latch g past (record { ce = l.ce; lun = m })) l.lun
+
+-- what an item does to a LUN
+abbrev pub effect_on : Parts → List Item → Item → Lun → Effect
+effect_on g past i l = effect_among g past (λ m. latch g past (record { ce = l.ce; lun = m })) i l
+
+-- the LUN whose status 70 shows, where its target has several: that of the last 78 or of the last closer of a row, and the first one where a
+-- command for the whole target came since
+abbrev pub is_selected : Parts → List Item → Lun → Bool
+is_selected g past l = (lun_view g past l).selected
+
+-- another LUN of the target was given work while this one worked, and neither a 78 nor a command for the whole target came since
+abbrev pub is_overlapped : Parts → List Item → Lun → Bool
+is_overlapped g past l = (lun_view g past l).overlapped
+
+-- work was started on the LUN, and no ready of it came since
+abbrev pub is_busy : Parts → List Item → Lun → Bool
+is_busy g past l = (lun_view g past l).busy
+
+-- the last closer of the LUN
+abbrev pub closer : Parts → List Item → Lun → Option Command
+closer g past l = (lun_view g past l).closer
+
+-- a cache read goes on
+abbrev pub is_caching : Parts → List Item → Lun → Bool
+is_caching g past l = is_cache_read (closer g past l)
+
+-- the 31 that the LUN does last has had its ready, and its array has had none since
+abbrev pub is_array_busy : Parts → List Item → Lun → Bool
+is_array_busy g past l = (lun_view g past l).array_busy
+
+-- the page that the array was last told to read: that of the last 30, and one more for each 31 since
+abbrev pub array_page : Parts → List Item → Lun → PageAddress
+array_page g past l = (lun_view g past l).array_page
+
+-- the register, by the last closer; after 31 or 3F the page that the array read before it
+abbrev pub register : Parts → List Item → Lun → Register
+register g past l = (lun_view g past l).register
+
+abbrev pub read_column : Parts → List Item → Lun → ReadColumn
+read_column g past l = (lun_view g past l).column
 
 -- the changes whose D1 or 11 stands after the last D0, 10 or reset of the LUN, the newest first
 abbrev pub queue : Parts → List Item → Lun → List Queued
-queue g [] l = []
-queue g (i ∷ past) l = queue_after (effect_on g past i l) (queue g past l)
-
--- what the rules see of a LUN
-abbrev pub lun_view : Parts → List Item → Lun → LunView
-lun_view g past l =
-    record {
-      latch = latch g past l;
-      busy = is_busy g past l;
-      closer = closer g past l;
-      array_busy = is_array_busy g past l;
-      array_page = array_page g past l;
-      register = register g past l;
-      column = read_column g past l;
-      queue = queue g past l;
-    }
+queue g past l = (lun_view g past l).queue
 
 -- the LUNs of a target from number n on, so many
 abbrev pub views_from : Parts → List Item → ℕ → (count n : ℕ) → List LunView
@@ -243,17 +332,3 @@ views_from g past ce (suc count) n = lun_view g past (record { ce = ce; lun = n 
 -- what the rules see of the LUNs of a target
 abbrev pub luns_of : Parts → List Item → ℕ → List LunView
 luns_of g past ce = views_from g past ce g.luns 0
-
--- what an effect makes of a LUN
-abbrev pub view_after : Effect → LunView → LunView
-view_after a v =
-    record {
-      latch = latch_after a v.latch;
-      busy = busy_after a v.busy;
-      closer = closer_after a v.closer;
-      array_busy = array_busy_after a v.busy (is_cache_read v.closer) v.array_busy;
-      array_page = array_page_after a v.array_page;
-      register = register_after a v.array_page v.register;
-      column = read_column_after a v.column;
-      queue = queue_after a v.queue;
-    }

@@ -9,6 +9,8 @@ use Rattle.onfi_cycle.specs.declared.queued.Queued.{Queued}
 
 pub record LunView : Type 0 where
   pub latch : Latch
+  pub selected : Bool
+  pub overlapped : Bool
   pub busy : Bool
   pub closer : Option Command
   pub array_busy : Bool

@@ -1,8 +1,8 @@
 -- What the work of one LUN leaves of the other LUNs.
-use Rattle.std.specs.Prelude.{◌≡◌, ◌≢◌, ◌⊎◌, ℕ, ◌<◌, ◌==◌, Bool, true, false, ◌&&◌, nat_lt, if◌then◌else◌, List, ◌∷◌, None}
+use Rattle.std.specs.Prelude.{◌≡◌, ◌≢◌, ◌⊎◌, ℕ, ◌<◌, ◌==◌, Bool, true, false, ◌&&◌, not, nat_lt, if◌then◌else◌, List, ◌∷◌, None}
 use Rattle.nand_geometry.specs.declared.parts.Parts.{Parts}
 use Rattle.onfi_cycle.specs.declared.command.Command.{Command}
-use Rattle.onfi_cycle.specs.declared.command.Command.TheVariants.{ProgramConfirm, ProgramPlane, ReadConfirm, ReadCacheSequential, ReadCacheEnd, BlockEraseConfirm, BlockErasePlane, ChangeReadColumnConfirm}
+use Rattle.onfi_cycle.specs.declared.command.Command.TheVariants.{ReadCacheSequential, ReadCacheEnd, ChangeReadColumnConfirm}
 use Rattle.onfi_cycle.specs.declared.lun.Lun.{Lun}
 use Rattle.onfi_cycle.specs.declared.item.Item.{Item}
 use Rattle.onfi_cycle.specs.declared.item.Item.TheVariants.{Cyc, Rdy, Ard}
@@ -10,21 +10,13 @@ use Rattle.onfi_cycle.specs.declared.target_cycle.TargetCycle.{TargetCycle}
 use Rattle.onfi_cycle.specs.declared.target_cycle.TargetCycle.TheVariants.{CommandCycle, AddressCycle, InputCycle, OutputCycle}
 use Rattle.onfi_cycle.specs.declared.page_address.PageAddress.{PageAddress}
 use Rattle.onfi_cycle.specs.declared.read_column.ReadColumn.{ReadColumn}
-use Rattle.onfi_cycle.specs.Sequence.{target_of, target_cycle, tail, facts_of, row, row_with}
-use Rattle.onfi_cycle.specs.Effect.{names_lun}
+use Rattle.onfi_cycle.specs.Command.{closes_row, reads_identity, is_of_target}
+use Rattle.onfi_cycle.specs.Sequence.{target_of, target_cycle, tail, facts_of, opened, takes_features, row, row_with}
+use Rattle.onfi_cycle.specs.Effect.{is_shared, names_lun}
 use Rattle.onfi_cycle.specs.Lun.{latch, drivers, is_only, is_busy, closer, is_array_busy, array_page, register, read_column, queue}
 use Rattle.onfi_cycle.specs.Rules.{ends_row}
 use Rattle.onfi_cycle.specs.Permitted.{broken, is_legal}
 use Rattle.onfi_cycle.specs.Content.{queued_work, pending_work, has_failed, content}
-
--- the closers that work on the row of their tail
-abbrev pub closes_row : Command → Bool
-closes_row ReadConfirm = true
-closes_row BlockEraseConfirm = true
-closes_row BlockErasePlane = true
-closes_row ProgramConfirm = true
-closes_row ProgramPlane = true
-closes_row _ = false
 
 -- the commands that work on the one driver
 abbrev pub needs_driver : Command → Bool
@@ -34,14 +26,25 @@ needs_driver ReadCacheEnd = true
 needs_driver _ = false
 
 -- a cycle's row, if it completes one or closes its sequence, and its driver, if it needs one, are this LUN's
-abbrev pub keeps_to : Parts → List Item → Lun → TargetCycle → Bool
-keeps_to g past m (CommandCycle c) =
+abbrev pub keeps_to_lun : Parts → List Item → Lun → TargetCycle → Bool
+keeps_to_lun g past m (CommandCycle c) =
     if closes_row c then names_lun g (row (facts_of (tail past m.ce))) m.lun
     else (if needs_driver c then is_only (drivers g past m.ce) m.lun else true)
-keeps_to g past m (AddressCycle byte) =
+keeps_to_lun g past m (AddressCycle byte) =
     if ends_row (λ c. true) (facts_of (tail past m.ce)) then names_lun g (row_with (facts_of (tail past m.ce)) byte) m.lun else true
-keeps_to g past m (InputCycle byte) = true
-keeps_to g past m OutputCycle = is_only (drivers g past m.ce) m.lun
+keeps_to_lun g past m (InputCycle byte) = true
+keeps_to_lun g past m OutputCycle = is_only (drivers g past m.ce) m.lun
+
+-- a cycle is of a command that is of a whole target
+abbrev pub serves_target : List Item → ℕ → TargetCycle → Bool
+serves_target past ce (CommandCycle c) = is_of_target c
+serves_target past ce (AddressCycle byte) = opened (λ c n. reads_identity c) (facts_of (tail past ce)).opening
+serves_target past ce (InputCycle byte) = takes_features (facts_of (tail past ce)).phase
+serves_target past ce OutputCycle = false
+
+-- a cycle is one of this LUN of its target; none is that is of the whole target, where that has several LUNs
+abbrev pub keeps_to : Parts → List Item → Lun → TargetCycle → Bool
+keeps_to g past m cycle = not (is_shared g && serves_target past m.ce cycle) && keeps_to_lun g past m cycle
 
 -- the item is one of this LUN
 abbrev pub is_of : Parts → List Item → Lun → Item → Bool

@@ -16,7 +16,7 @@ use Rattle.onfi_cycle.specs.Rules.{breaks_not_there, breaks_command_unknown, bre
 abbrev pub judge_known_cycle : Parts → TailFacts → List LunView → TargetCycle → Option Forbidden
 judge_known_cycle g t luns cycle =
     if breaks_sequence_open g t cycle then Some SequenceOpen
-    else (if breaks_several_luns g cycle then Some SeveralLuns
+    else (if breaks_several_luns g luns cycle then Some SeveralLuns
     else (if breaks_no_column_to_change luns cycle then Some NoColumnToChange
     else (if breaks_command_misplaced t cycle then Some CommandMisplaced
     else (if breaks_address_misplaced g t cycle then Some AddressMisplaced

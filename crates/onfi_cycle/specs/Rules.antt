@@ -5,7 +5,7 @@ use Rattle.nand_geometry.specs.declared.parts.Parts.{Parts}
 use Rattle.nand_geometry.specs.Limits.{page_len, planes}
 use Rattle.nand_geometry.specs.Row.{parts_of, is_inside}
 use Rattle.onfi_cycle.specs.declared.command.Command.{Command}
-use Rattle.onfi_cycle.specs.declared.command.Command.TheVariants.{Read, ChangeReadColumn, BlockErase, BlockErasePlane, ReadStatusEnhanced, PageProgram, ProgramPlane, ReadCacheSequential, ReadCacheEnd, ReadUniqueId, GetFeatures, SetFeatures, ResetLun, SynchronousReset}
+use Rattle.onfi_cycle.specs.declared.command.Command.TheVariants.{Read, ChangeReadColumn, BlockErase, BlockErasePlane, ReadStatus, ReadStatusEnhanced, PageProgram, ProgramPlane, ReadCacheSequential, ReadCacheEnd, ReadUniqueId, GetFeatures, SetFeatures, ResetLun, SynchronousReset}
 use Rattle.onfi_cycle.specs.declared.item.Item.{Item}
 use Rattle.onfi_cycle.specs.declared.item.Item.TheVariants.{Cyc, Rdy, Ard}
 use Rattle.nand_geometry.specs.Optional.{is_wide, has_features, has_unique_id, has_lun_reset, has_synchronous_reset}
@@ -20,9 +20,9 @@ use Rattle.onfi_cycle.specs.declared.register.Register.TheVariants.{Empty, Page,
 use Rattle.onfi_cycle.specs.declared.opening.Opening.{Opening}
 use Rattle.onfi_cycle.specs.declared.tail_facts.TailFacts.{TailFacts}
 use Rattle.onfi_cycle.specs.Sequence.{opened, takes_features, takes_inputs, wants_second_column, wants_command, wants_address, is_open, row_with, column_with, input_column}
-use Rattle.onfi_cycle.specs.Effect.{is_off, is_data, page_address}
+use Rattle.onfi_cycle.specs.Effect.{is_off, is_data, is_shared, page_address}
 use Rattle.onfi_cycle.specs.LunView.{LunView}
-use Rattle.onfi_cycle.specs.Lun.{is_cache_read, is_page_read, output_column}
+use Rattle.onfi_cycle.specs.Lun.{is_cache_read, is_page_read, is_target_work, output_column}
 
 -- the LUNs of a target that aren't off
 abbrev pub driving : List LunView → List LunView
@@ -138,10 +138,21 @@ unfoldable pub breaks_sequence_open : Parts → TailFacts → TargetCycle → Bo
 breaks_sequence_open g t (CommandCycle c) = is_opener c && (is_open t && not (is_reset c && is_wide g.optional))
 breaks_sequence_open g t _ = false
 
--- F4: 70, FF, FC, or what reads or sets what stands beside the array, on a target with several LUNs
-unfoldable pub breaks_several_luns : Parts → TargetCycle → Bool
-breaks_several_luns g (CommandCycle c) = wants_one_lun c && nat_lt 1 g.luns
-breaks_several_luns g _ = false
+-- work of the whole target goes on at the LUN
+abbrev pub works_for_target : LunView → Bool
+works_for_target v = v.busy && is_target_work v.closer
+
+-- several LUNs could answer 70, and none answers 78 while work of the whole target goes on
+abbrev pub is_unclear : List LunView → Command → Bool
+is_unclear luns ReadStatus = list_any (λ v. v.overlapped) luns
+is_unclear luns ReadStatusEnhanced = list_any works_for_target luns
+is_unclear luns _ = false
+
+-- F4: 70, FF, FC, or what reads or sets what stands beside the array, on a target with several LUNs; in the wider profile 70 and 78 alone,
+-- where it isn't clear who answers
+unfoldable pub breaks_several_luns : Parts → List LunView → TargetCycle → Bool
+breaks_several_luns g luns (CommandCycle c) = if is_shared g then is_unclear luns c else wants_one_lun c && nat_lt 1 g.luns
+breaks_several_luns g luns _ = false
 
 -- 05h finds something to read: data is shown, no work goes on, and a page, the parameter page or the unique identifier is in the register
 abbrev pub may_change_column : LunView → Bool
@@ -171,10 +182,14 @@ unfoldable pub breaks_row_outside : Parts → TailFacts → TargetCycle → Bool
 breaks_row_outside g t (AddressCycle byte) = ends_row (λ c. true) t && not (is_inside g (parts_of g (row_with t byte)))
 breaks_row_outside g t _ = false
 
--- F9: an opener that wants a ready LUN where there is none; the last row cycle of 00, 60 or 80 names a busy LUN
+-- F9: an opener that wants a ready LUN where there is none; the last row cycle of 00, 60 or 80 names a busy LUN.
+-- In the wider profile, on a target with several LUNs: too what reads or sets what stands beside the array, while some LUN is busy, and
+-- such a row cycle while work of the whole target goes on
 unfoldable pub breaks_lun_busy : Parts → TailFacts → List LunView → TargetCycle → Bool
-breaks_lun_busy g t luns (CommandCycle c) = wants_ready c && not (list_any (λ v. not v.busy) luns)
-breaks_lun_busy g t luns (AddressCycle byte) = ends_row addresses_the_array t && named_lun_is g (row_with t byte) (λ v. v.busy) luns
+breaks_lun_busy g t luns (CommandCycle c) =
+    (wants_ready c && not (list_any (λ v. not v.busy) luns)) || (is_shared g && (reads_identity c && list_any (λ v. v.busy) luns))
+breaks_lun_busy g t luns (AddressCycle byte) =
+    ends_row addresses_the_array t && (named_lun_is g (row_with t byte) (λ v. v.busy) luns || (is_shared g && list_any works_for_target luns))
 breaks_lun_busy g t luns _ = false
 
 -- a queue refuses the last row cycle of this opener, with this page

@@ -1,5 +1,5 @@
 -- What one item more changes: laws for the crates above.
-use Rattle.std.specs.Prelude.{◌≡◌, ℕ, ◌<◌, Bool, true, false, ◌||◌, ◌&&◌, List, ◌∷◌, Some, None, length, slice_get}
+use Rattle.std.specs.Prelude.{◌≡◌, ℕ, ◌<◌, Bool, true, false, ◌||◌, ◌&&◌, List, [], ◌∷◌, Some, None, length, slice_get}
 use Rattle.nand_geometry.specs.declared.parts.Parts.{Parts}
 use Rattle.onfi_cycle.specs.declared.item.Cycle.{Cycle}
 use Rattle.onfi_cycle.specs.declared.item.Kind.TheVariants.{Dout}
@@ -10,9 +10,9 @@ use Rattle.onfi_cycle.specs.Sequence.{target_cycle, tail, facts_of, facts_after}
 use Rattle.onfi_cycle.specs.Lun.{effect_on, drivers, is_only, is_cache_read, lun_view, luns_of, view_after}
 use Rattle.onfi_cycle.specs.Rules.{driver}
 use Rattle.onfi_cycle.specs.Permitted.{broken, is_legal}
-use Rattle.onfi_cycle.specs.OtherLun.{KeepsLun}
+use Rattle.onfi_cycle.specs.OtherLun.{KeepsLun, is_of}
 use Rattle.onfi_cycle.specs.Decides.{readies, readies_array}
-use Rattle.onfi_cycle.specs.Channel.{Channel, IsChannel, IsIdle, IsOwn, same_lun, is_there, is_cycle, cycle, is_open_on, bus_byte}
+use Rattle.onfi_cycle.specs.Channel.{Channel, IsChannel, IsIdle, IsOwn, same_lun, is_there, is_cycle, cycle, is_open_on, is_serving, bus_byte}
 
 -- the facts go on item by item: those of a tail by its cycles, those of a LUN by the effects of permitted items
 pub record FactsGoOn : Type 0 where
@@ -40,4 +40,10 @@ pub record OutputsShow : Type 0 where
 pub record OwnCyclesKeep : Type 0 where
   pub others : (s : Channel) (past : List Item) (c : Cycle) (l m : Lun) → is_legal s.geometry s.targets past ≡ true → IsOwn s l past (Cyc c) → same_lun l m ≡ false → is_there s l ≡ true → is_there s m ≡ true → KeepsLun s.geometry past (Cyc c) m
   pub tails : (s : Channel) (past : List Item) (c : Cycle) (l : Lun) (ce : ℕ) → IsOwn s l past (Cyc c) → (l.ce ≡ ce → ⊥) → tail (Cyc c ∷ past) ce ≡ tail past ce
-  pub idle : (g : Parts) (past : List Item) (i : Item) (m : Lun) → KeepsLun g past i m → IsIdle g past m → IsIdle g (i ∷ past) m
+  pub idle : (g : Parts) (past : List Item) (i : Item) (l m : Lun) → is_of g past l i ≡ true → KeepsLun g past i m → IsIdle g past m → IsIdle g (i ∷ past) m
+
+-- work of a whole target that has several LUNs begins by its own commands alone, which are of none of its LUNs
+pub record ServiceBegins : Type 0 where
+  pub first : (g : Parts) (ce : ℕ) → is_serving g [] ce ≡ false
+  pub readies : (g : Parts) (past : List Item) (i : Item) (ce : ℕ) → is_cycle i ≡ false → is_serving g past ce ≡ false → is_serving g (i ∷ past) ce ≡ false
+  pub own : (g : Parts) (past : List Item) (i : Item) (l : Lun) (ce : ℕ) → is_of g past l i ≡ true → is_serving g past ce ≡ false → is_serving g (i ∷ past) ce ≡ false

@@ -10,7 +10,7 @@ ghost use Rattle.onfi_cycle.specs.Readies.{due_there};
 ghost use Rattle.onfi_cycle.specs.Lun.{effect_on};
 ghost use Rattle.onfi_cycle.specs.Permitted.{broken};
 ghost use Rattle.onfi_cycle.specs.State.{BusView, Follows, judged, bus_after, bus, changed_at, without_sequence, bus_without};
-ghost use Rattle.onfi_cycle.specs.Look.{looked, look_after};
+ghost use Rattle.onfi_cycle.specs.Look.{looked, look_after, is_selected_in, target_works};
 ghost use Rattle.onfi_cycle.specs.Bounds.{BusFits};
 ghost use Rattle.onfi_cycle.specs.Channel.{cycle};
 ghost use Rattle.onfi_cycle.specs.declared.item.Kind.TheVariants.{Din, Dout};
@@ -365,6 +365,26 @@ impl BusState {
         match target_at(self.targets.as_slice(), lun.ce) {
             None => None,
             Some(target) => target.look(&self.geometry, lun.lun),
+        }
+    }
+
+    /// Whether a LUN is the selected one of its target: where that has several, 70h shows its status.
+    pub fn is_selected(&self, lun: Lun) -> bool
+        ensures { result ≡ is_selected_in self.now lun }
+    {
+        match target_at(self.targets.as_slice(), lun.ce) {
+            None => false,
+            Some(target) => target.is_selected(lun.lun),
+        }
+    }
+
+    /// Whether work of a whole target goes on.
+    pub fn target_works(&self, ce: u8) -> bool
+        ensures { result ≡ target_works self.now ce }
+    {
+        match target_at(self.targets.as_slice(), ce) {
+            None => false,
+            Some(target) => target.works_for_target(),
         }
     }
 }

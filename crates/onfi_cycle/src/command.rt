@@ -1,6 +1,6 @@
 //! The commands: their bytes, and what each asks of its sequence.
 ghost use Rattle.std.specs.Prelude.{ℕ, ◌≡◌, ◌<◌, ◌^◌, Option};
-ghost use Rattle.onfi_cycle.specs.Command.{command, opcode, is_known, is_opener, address_cycles, closes, takes_address, at_last_row, addresses_the_array, reads_identity, is_reset, wants_ready, wants_one_lun};
+ghost use Rattle.onfi_cycle.specs.Command.{command, opcode, is_known, is_opener, address_cycles, closes, takes_address, at_last_row, addresses_the_array, reads_identity, is_reset, closes_row, is_of_target, wants_ready, wants_one_lun};
 ghost use Rattle.onfi_cycle.specs.Base.{is_of_base};
 ghost use Rattle.onfi_cycle.specs.Sequence.{is_proper_beginning};
 
@@ -258,6 +258,27 @@ impl Command {
         matches!(self, Command::Reset | Command::SynchronousReset)
     }
 
+    /// It closes a sequence with a row, and works on that.
+    pub fn closes_row(self) -> bool
+        ensures { result ≡ closes_row self }
+    {
+        matches!(
+            self,
+            Command::ReadConfirm
+                | Command::BlockEraseConfirm
+                | Command::BlockErasePlane
+                | Command::ProgramConfirm
+                | Command::ProgramPlane
+        )
+    }
+
+    /// It is of a whole target, and of none of its LUNs where it has several.
+    pub fn is_of_target(self) -> bool
+        ensures { result ≡ is_of_target self }
+    {
+        self.reads_identity() || self.is_reset()
+    }
+
     /// The opener wants a ready LUN on its target.
     pub fn wants_ready(self) -> bool
         ensures { result ≡ wants_ready self }
@@ -267,7 +288,7 @@ impl Command {
             || self.reads_identity()
     }
 
-    /// The opener works on a target with one LUN alone.
+    /// The opener works on a target with one LUN alone, but in the wider profile.
     pub fn wants_one_lun(self) -> bool
         ensures { result ≡ wants_one_lun self }
     {

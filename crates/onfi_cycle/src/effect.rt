@@ -1,7 +1,7 @@
 //! What an item does to a LUN, and what that leaves of each fact of the LUN.
 ghost use Rattle.std.specs.Prelude.{◌≡◌, ◌+◌, ◌^◌, ◌<◌, ◌≤◌, ◌⊎◌};
 ghost use Rattle.onfi_cycle.specs.Effect.{IsSmallEffect};
-ghost use Rattle.onfi_cycle.specs.Lun.{latch_after, busy_after, closer_after, array_busy_after, array_page_after, register_after, read_column_after};
+ghost use Rattle.onfi_cycle.specs.Lun.{latch_after, selected_after, overlapped_after, busy_after, closer_after, array_busy_after, array_page_after, register_after, read_column_after};
 
 use crate::{Command, Latch, PageAddress, ReadColumn, Register};
 
@@ -48,6 +48,12 @@ pub enum Effect {
     DataOutput,
     /// FFh or FCh, or FAh for this LUN.
     ResetStarted,
+    /// FFh or FCh on a target with several LUNs, of which it is the first, or not.
+    TargetResetStarted { first: bool },
+    /// 70h on a target with several LUNs: it shows its status if it is the selected one, and else stops driving.
+    StatusOfSelected,
+    /// A closer of a row, or FAh, gives work to another LUN of its target; 30h reads there.
+    AnotherAddressed { reads: bool },
     /// It becomes ready, with failure or without.
     BecameReady { failed: bool },
     /// Its array becomes ready.
@@ -55,9 +61,9 @@ pub enum Effect {
 }
 
 impl Effect {
-    /// What an effect leaves of a latch.
-    pub fn latch_after(self, before: Latch) -> Latch
-        ensures { result ≡ latch_after self before }
+    /// What an effect leaves of the latch of a LUN that is selected, and that works, or not.
+    pub fn latch_after(self, selected: bool, works: bool, before: Latch) -> Latch
+        ensures { result ≡ latch_after self selected works before }
     {
         match self {
             Effect::DataOutputEnabled => match before {
@@ -65,7 +71,12 @@ impl Effect {
                 _ => Latch::Data,
             },
             Effect::StatusSelected | Effect::SelectedForStatus => Latch::Status,
-            Effect::Deselected | Effect::ResetStarted => Latch::Off,
+            Effect::StatusOfSelected if selected => Latch::Status,
+            Effect::Deselected
+            | Effect::ResetStarted
+            | Effect::TargetResetStarted { .. }
+            | Effect::StatusOfSelected => Latch::Off,
+            Effect::AnotherAddressed { reads: true } if !works => Latch::Off,
             Effect::ReadStarted { .. }
             | Effect::IdRead
             | Effect::IdentityRead { .. }
@@ -74,6 +85,47 @@ impl Effect {
             | Effect::FeaturesReadStarted { .. }
             | Effect::CacheReadContinued
             | Effect::CacheReadEnded => Latch::Data,
+            _ => before,
+        }
+    }
+
+    /// Whether the LUN is the selected one of its target after an effect.
+    pub fn selected_after(self, before: bool) -> bool
+        ensures { result ≡ selected_after self before }
+    {
+        match self {
+            Effect::TargetResetStarted { first } => first,
+            Effect::SelectedForStatus
+            | Effect::ReadStarted { .. }
+            | Effect::EraseStarted { .. }
+            | Effect::ProgramStarted { .. }
+            | Effect::IdRead
+            | Effect::IdentityRead { .. }
+            | Effect::ParameterPageReadStarted
+            | Effect::UniqueIdReadStarted
+            | Effect::FeaturesReadStarted { .. }
+            | Effect::FeaturesSet { .. }
+            | Effect::ResetStarted => true,
+            Effect::Deselected | Effect::AnotherAddressed { .. } => false,
+            _ => before,
+        }
+    }
+
+    /// Whether another LUN was given work while this one worked, after an effect on a LUN that works, or not.
+    pub fn overlapped_after(self, works: bool, before: bool) -> bool
+        ensures { result ≡ overlapped_after self works before }
+    {
+        match self {
+            Effect::AnotherAddressed { .. } => before || works,
+            Effect::SelectedForStatus
+            | Effect::Deselected
+            | Effect::IdRead
+            | Effect::IdentityRead { .. }
+            | Effect::ParameterPageReadStarted
+            | Effect::UniqueIdReadStarted
+            | Effect::FeaturesReadStarted { .. }
+            | Effect::FeaturesSet { .. }
+            | Effect::TargetResetStarted { .. } => false,
             _ => before,
         }
     }
@@ -92,7 +144,8 @@ impl Effect {
             | Effect::FeaturesSet { .. }
             | Effect::CacheReadContinued
             | Effect::CacheReadEnded
-            | Effect::ResetStarted => true,
+            | Effect::ResetStarted
+            | Effect::TargetResetStarted { .. } => true,
             Effect::BecameReady { .. } => false,
             _ => before,
         }
@@ -115,7 +168,7 @@ impl Effect {
             Effect::FeaturesSet { .. } => Some(Command::SetFeatures),
             Effect::CacheReadContinued => Some(Command::ReadCacheSequential),
             Effect::CacheReadEnded => Some(Command::ReadCacheEnd),
-            Effect::ResetStarted => Some(Command::Reset),
+            Effect::ResetStarted | Effect::TargetResetStarted { .. } => Some(Command::Reset),
             _ => before,
         }
     }
@@ -138,7 +191,8 @@ impl Effect {
             | Effect::FeaturesSet { .. }
             | Effect::CacheReadContinued
             | Effect::CacheReadEnded
-            | Effect::ResetStarted => false,
+            | Effect::ResetStarted
+            | Effect::TargetResetStarted { .. } => false,
             _ => before,
         }
     }
@@ -168,7 +222,8 @@ impl Effect {
             Effect::EraseStarted { .. }
             | Effect::ProgramStarted { .. }
             | Effect::FeaturesSet { .. }
-            | Effect::ResetStarted => Register::Empty,
+            | Effect::ResetStarted
+            | Effect::TargetResetStarted { .. } => Register::Empty,
             Effect::IdRead => Register::Identifier,
             Effect::IdentityRead { jedec: true } => Register::JedecIdentity,
             Effect::IdentityRead { jedec: false } => Register::Identity,
@@ -201,10 +256,12 @@ impl Effect {
                 outputs: before.outputs + 1,
                 ..before
             },
-            Effect::StatusSelected | Effect::StatusRowAwaited => ReadColumn {
-                lost: before.lost || 0 < before.outputs,
-                ..before
-            },
+            Effect::StatusSelected | Effect::StatusOfSelected | Effect::StatusRowAwaited => {
+                ReadColumn {
+                    lost: before.lost || 0 < before.outputs,
+                    ..before
+                }
+            }
             _ => before,
         }
     }

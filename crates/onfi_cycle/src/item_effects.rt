@@ -1,6 +1,6 @@
 //! What an item does to a LUN, by the facts of its target's tail.
 ghost use Rattle.std.specs.Prelude.{◌≡◌};
-ghost use Rattle.onfi_cycle.specs.Effect.{names_lun, confirm_effect, command_effect, address_effect, opening_address_effect, id_effect, ends_features, input_effect, cycle_effect, item_effect, IsSmallEffect};
+ghost use Rattle.onfi_cycle.specs.Effect.{names_lun, is_shared, acts_for_target, of_target, status_effect, reset_effect, other_effect, lun_reset_effect, confirm_effect, command_effect, address_effect, opening_address_effect, id_effect, ends_features, input_effect, cycle_effect, item_effect, IsSmallEffect};
 
 use crate::data_phase::FEATURE_BYTES;
 use crate::{Command, Effect, Item, Latch, Lun, PageAddress, TailFacts, TargetCycle};
@@ -11,6 +11,72 @@ pub(crate) fn names_lun(geometry: &Geometry, row: u32, lun: u8) -> bool
     ensures { result ≡ names_lun geometry.now row lun }
 {
     geometry.parts_of(row).lun == u32::from(lun)
+}
+
+/// In the wider profile: the target has several LUNs, and commands that are of all of them.
+pub fn is_shared(geometry: &Geometry) -> bool
+    ensures { result ≡ is_shared geometry.now }
+{
+    let parts = geometry.parts();
+    parts.optional.is_wide() && 1 < parts.luns
+}
+
+/// The LUN of this number does what is to be done for its whole target: the first one does.
+pub fn acts_for_target(geometry: &Geometry, lun: u8) -> bool
+    ensures { result ≡ acts_for_target geometry.now lun }
+{
+    !is_shared(geometry) || lun == 0
+}
+
+/// What is done for a whole target, at a LUN of it: the others stop driving.
+fn of_target(geometry: &Geometry, lun: u8, effect: Effect) -> Effect
+    requires { IsSmallEffect effect }
+    ensures value { result ≡ of_target geometry.now lun effect }
+    ensures small { IsSmallEffect result }
+{
+    if acts_for_target(geometry, lun) {
+        effect
+    } else {
+        Effect::Deselected
+    }
+}
+
+/// What a reset of a target does.
+fn reset_effect(geometry: &Geometry, lun: u8) -> Effect
+    ensures value { result ≡ reset_effect geometry.now lun }
+    ensures small { IsSmallEffect result }
+{
+    if is_shared(geometry) {
+        Effect::TargetResetStarted { first: lun == 0 }
+    } else {
+        Effect::ResetStarted
+    }
+}
+
+/// What a Read Status does.
+fn status_effect(geometry: &Geometry) -> Effect
+    ensures value { result ≡ status_effect geometry.now }
+    ensures small { IsSmallEffect result }
+{
+    if is_shared(geometry) {
+        Effect::StatusOfSelected
+    } else {
+        Effect::StatusSelected
+    }
+}
+
+/// What the closer of a row does to a LUN that its tail doesn't name.
+fn other_effect(geometry: &Geometry, tail: TailFacts, command: Command) -> Effect
+    ensures value { result ≡ other_effect geometry.now tail command }
+    ensures small { IsSmallEffect result }
+{
+    if command.closes_row() && tail.wants_command(command) && is_shared(geometry) {
+        Effect::AnotherAddressed {
+            reads: command == Command::ReadConfirm,
+        }
+    } else {
+        Effect::Unaffected
+    }
 }
 
 /// What the closer of a row does to the LUN that its tail names.
@@ -59,9 +125,9 @@ fn command_effect(
     let drives = !latch_alone.is_off();
     match command {
         Command::Read => Effect::DataOutputEnabled,
-        Command::ReadStatus => Effect::StatusSelected,
+        Command::ReadStatus => status_effect(geometry),
         Command::ReadStatusEnhanced => Effect::StatusRowAwaited,
-        Command::Reset | Command::SynchronousReset => Effect::ResetStarted,
+        Command::Reset | Command::SynchronousReset => reset_effect(geometry, lun),
         Command::ReadCacheSequential if drives => Effect::CacheReadContinued,
         Command::ReadCacheEnd if drives => Effect::CacheReadEnded,
         Command::ReadCacheSequential | Command::ReadCacheEnd => Effect::Unaffected,
@@ -77,7 +143,7 @@ fn command_effect(
         _ if tail.wants_command(command) && names_lun(geometry, tail.named_row(), lun) => {
             confirm_effect(geometry, tail, command)
         }
-        _ => Effect::Unaffected,
+        _ => other_effect(geometry, tail, command),
     }
 }
 
@@ -90,6 +156,20 @@ fn selection_effect(geometry: &Geometry, tail: TailFacts, byte: u8, lun: u8) -> 
         Effect::SelectedForStatus
     } else {
         Effect::Deselected
+    }
+}
+
+/// What the last row cycle of a Reset LUN does.
+fn lun_reset_effect(geometry: &Geometry, is_named: bool) -> Effect
+    ensures value { result ≡ lun_reset_effect geometry.now is_named }
+    ensures small { IsSmallEffect result }
+{
+    if is_named {
+        Effect::ResetStarted
+    } else if is_shared(geometry) {
+        Effect::AnotherAddressed { reads: false }
+    } else {
+        Effect::Unaffected
     }
 }
 
@@ -118,16 +198,19 @@ fn address_effect(geometry: &Geometry, tail: TailFacts, byte: u8, lun: u8) -> Ef
         Command::ReadStatusEnhanced if opening.addresses == 2 => {
             selection_effect(geometry, tail, byte, lun)
         }
-        Command::ResetLun
-            if opening.addresses == 2 && names_lun(geometry, tail.row_with(byte), lun) => {
-            Effect::ResetStarted
+        Command::ResetLun if opening.addresses == 2 => {
+            lun_reset_effect(geometry, names_lun(geometry, tail.row_with(byte), lun))
         }
-        Command::ReadId if tail.wants_address(byte) => id_effect(byte),
-        Command::ReadParameterPage if tail.wants_address(byte) => Effect::ParameterPageReadStarted,
-        Command::ReadUniqueId if tail.wants_address(byte) => Effect::UniqueIdReadStarted,
-        Command::GetFeatures if tail.wants_address(byte) => Effect::FeaturesReadStarted {
-            address: byte,
-        },
+        Command::ReadId if tail.wants_address(byte) => of_target(geometry, lun, id_effect(byte)),
+        Command::ReadParameterPage if tail.wants_address(byte) => {
+            of_target(geometry, lun, Effect::ParameterPageReadStarted)
+        }
+        Command::ReadUniqueId if tail.wants_address(byte) => {
+            of_target(geometry, lun, Effect::UniqueIdReadStarted)
+        }
+        Command::GetFeatures if tail.wants_address(byte) => {
+            of_target(geometry, lun, Effect::FeaturesReadStarted { address: byte })
+        }
         _ => Effect::Unaffected,
     }
 }
@@ -140,14 +223,13 @@ pub(crate) fn ends_features(tail: TailFacts) -> bool
 }
 
 /// What an input does: the last one of a Set Features starts it.
-fn input_effect(tail: TailFacts) -> Effect
-    ensures value { result ≡ input_effect tail }
+fn input_effect(geometry: &Geometry, tail: TailFacts, lun: u8) -> Effect
+    ensures value { result ≡ input_effect geometry.now tail lun }
     ensures small { IsSmallEffect result }
 {
     if ends_features(tail) {
-        Effect::FeaturesSet {
-            address: (tail.column % 256) as u8,
-        }
+        let address = (tail.column % 256) as u8;
+        of_target(geometry, lun, Effect::FeaturesSet { address })
     } else {
         Effect::Unaffected
     }
@@ -174,7 +256,7 @@ pub fn cycle_effect(
             lun,
         ),
         TargetCycle::AddressCycle(byte) => address_effect(geometry, tail, byte, lun),
-        TargetCycle::InputCycle(_) => input_effect(tail),
+        TargetCycle::InputCycle(_) => input_effect(geometry, tail, lun),
         TargetCycle::OutputCycle if latch_alone.is_data() => Effect::DataOutput,
         TargetCycle::OutputCycle => Effect::Unaffected,
     }

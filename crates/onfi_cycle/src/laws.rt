@@ -4,7 +4,7 @@ ghost use Rattle.onfi_cycle.specs.OtherLun.{OthersKeep, TargetsKeep};
 ghost use Rattle.onfi_cycle.specs.Table.{TailsFollowTheTable};
 ghost use Rattle.onfi_cycle.specs.Naming.{TailsName};
 ghost use Rattle.onfi_cycle.specs.Decides.{FactsAreDecided};
-ghost use Rattle.onfi_cycle.specs.Steps.{FactsGoOn, ReadiesChange, OutputsShow, OwnCyclesKeep};
+ghost use Rattle.onfi_cycle.specs.Steps.{FactsGoOn, ReadiesChange, OutputsShow, OwnCyclesKeep, ServiceBegins};
 ghost use Rattle.onfi_cycle.specs.Codes.{RulesAreNumbered};
 
 /// Each command of the profile has one byte, and each byte of the profile one command.
@@ -56,6 +56,11 @@ pub fn outputs_show()
 /// What the permitted cycles of one LUN of a channel keep of the others, and of the tails of other targets.
 pub fn own_cycles_keep()
     ensures { OwnCyclesKeep }
+{}
+
+/// Work of a whole target that has several LUNs begins by its own commands alone, and those are of none of its LUNs.
+pub fn service_begins()
+    ensures { ServiceBegins }
 {}
 
 /// Each rule is that of its number.

@@ -1,8 +1,8 @@
 //! What the rules see of a LUN.
 ghost use Rattle.std.specs.Prelude.{◌≡◌, ◌^◌, ◌<◌, ◌≤◌};
-ghost use Rattle.onfi_cycle.specs.Lun.{is_cache_read, is_page_read};
+ghost use Rattle.onfi_cycle.specs.Lun.{is_cache_read, is_page_read, is_target_work, works};
 ghost use Rattle.onfi_cycle.specs.Outputs.{has_fewer};
-ghost use Rattle.onfi_cycle.specs.Rules.{caching, may_change_column, has_no_byte, is_past_register, continues_cache, ends_cache};
+ghost use Rattle.onfi_cycle.specs.Rules.{works_for_target, caching, may_change_column, has_no_byte, is_past_register, continues_cache, ends_cache};
 
 use crate::{Command, Latch, PageAddress, ReadColumn, Register, WorkQueue};
 use nand_geometry::Geometry;
@@ -25,10 +25,29 @@ pub fn is_page_read(closer: Option<Command>) -> bool
     )
 }
 
+/// The last closer reads or sets what stands beside the array, which is work of a whole target.
+pub fn is_target_work(closer: Option<Command>) -> bool
+    ensures { result ≡ is_target_work closer }
+{
+    matches!(
+        closer,
+        Some(
+            Command::ReadParameterPage
+                | Command::ReadUniqueId
+                | Command::GetFeatures
+                | Command::SetFeatures
+        )
+    )
+}
+
 /// What the rules see of a LUN.
 #[derive(Drop)]
 pub struct LunFacts<Q: WorkQueue> {
     pub latch: Latch,
+    /// It is the LUN whose status 70h shows.
+    pub selected: bool,
+    /// Another LUN of its target was given work while it worked, so that 70h asks for no one LUN.
+    pub overlapped: bool,
     pub busy: bool,
     /// The last command that closed something on this LUN.
     pub closer: Option<Command>,
@@ -45,7 +64,7 @@ impl<Q: WorkQueue> Model for LunFacts<Q> {
 
     ghost Value = { LunView };
 
-    ghost view = { λ f. record { latch = f.latch; busy = f.busy; closer = f.closer; array_busy = f.array_busy; array_page = f.array_page; register = f.register; column = f.column; queue = Q.members f.queue } };
+    ghost view = { λ f. record { latch = f.latch; selected = f.selected; overlapped = f.overlapped; busy = f.busy; closer = f.closer; array_busy = f.array_busy; array_page = f.array_page; register = f.register; column = f.column; queue = Q.members f.queue } };
 
     ghost use Rattle.std.specs.Prelude.{◌<◌, ◌^◌};
 
@@ -53,6 +72,20 @@ impl<Q: WorkQueue> Model for LunFacts<Q> {
 }
 
 impl<Q: WorkQueue> LunFacts<Q> {
+    /// It works, or its array does.
+    pub(crate) fn works(&self) -> bool
+        ensures { result ≡ works self.now }
+    {
+        self.busy || self.array_busy
+    }
+
+    /// Work of its whole target goes on at it.
+    pub(crate) fn works_for_target(&self) -> bool
+        ensures { result ≡ works_for_target self.now }
+    {
+        self.busy && is_target_work(self.closer)
+    }
+
     /// A cache read goes on.
     pub(crate) fn is_caching(&self) -> bool
         ensures { result ≡ caching self.now }

@@ -5,11 +5,12 @@ ghost use Rattle.std.specs.Option.{option_copied};
 ghost use Rattle.nand_geometry.specs.Row.{parts_of};
 ghost use Rattle.onfi_cycle.specs.declared.target_cycle.TargetCycle.{TargetCycle};
 ghost use Rattle.onfi_cycle.specs.Effect.{is_off};
-ghost use Rattle.onfi_cycle.specs.Rules.{breaks_not_there, breaks_command_unknown, breaks_sequence_open, breaks_several_luns, breaks_no_column_to_change, breaks_command_misplaced, breaks_address_misplaced, breaks_row_outside, breaks_lun_busy, breaks_queue_clash, breaks_input_misplaced, breaks_no_sole_driver, breaks_data_not_ready, breaks_column_outside, breaks_cache_read_misplaced, driving, are_none, driver, is_undeclared, is_undeclared_address, planes_clash, queued_clashes, some_queued_clashes, refused_by, is_refused_by, caching, has_some};
+ghost use Rattle.onfi_cycle.specs.Rules.{breaks_not_there, breaks_command_unknown, breaks_sequence_open, breaks_several_luns, breaks_no_column_to_change, breaks_command_misplaced, breaks_address_misplaced, breaks_row_outside, breaks_lun_busy, breaks_queue_clash, breaks_input_misplaced, breaks_no_sole_driver, breaks_data_not_ready, breaks_column_outside, breaks_cache_read_misplaced, driving, are_none, driver, is_undeclared, is_undeclared_address, planes_clash, queued_clashes, some_queued_clashes, refused_by, is_refused_by, caching, has_some, is_unclear, works_for_target, named_lun_is};
 ghost use Rattle.onfi_cycle.specs.Permitted.{judge, judge_cycle, judge_known_cycle};
 
 use crate::{
     Command, Forbidden, Item, LunFacts, PageAddress, Queued, TailFacts, TargetCycle, WorkQueue,
+    is_shared,
 };
 use nand_geometry::Geometry;
 
@@ -114,12 +115,46 @@ fn breaks_sequence_open(geometry: &Geometry, tail: TailFacts, cycle: TargetCycle
     }
 }
 
+fn some_overlapped<Q: WorkQueue>(luns: &[LunFacts<Q>]) -> bool
+    ensures { result ≡ list_any (λ v. v.overlapped) luns.now }
+{
+    luns.iter().any(|lun| lun.overlapped)
+}
+
+/// Work of the whole target goes on at one of its LUNs.
+pub(crate) fn some_works_for_target<Q: WorkQueue>(luns: &[LunFacts<Q>]) -> bool
+    ensures { result ≡ list_any works_for_target luns.now }
+{
+    luns.iter().any(|lun| lun.works_for_target())
+}
+
+/// Several LUNs could answer 70, and none answers 78 while work of the whole target goes on.
+fn is_unclear<Q: WorkQueue>(luns: &[LunFacts<Q>], command: Command) -> bool
+    ensures { result ≡ is_unclear luns.now command }
+{
+    match command {
+        Command::ReadStatus => some_overlapped(luns),
+        Command::ReadStatusEnhanced => some_works_for_target(luns),
+        _ => false,
+    }
+}
+
 #[tactic(auto, unfolding(crate::specs::Rules::breaks_several_luns))]
-fn breaks_several_luns(geometry: &Geometry, cycle: TargetCycle) -> bool
-    ensures { result ≡ breaks_several_luns geometry.now cycle }
+fn breaks_several_luns<Q: WorkQueue>(
+    geometry: &Geometry,
+    luns: &[LunFacts<Q>],
+    cycle: TargetCycle,
+) -> bool
+    ensures { result ≡ breaks_several_luns geometry.now luns.now cycle }
 {
     match cycle {
-        TargetCycle::CommandCycle(command) => command.wants_one_lun() && 1 < geometry.parts().luns,
+        TargetCycle::CommandCycle(command) => {
+            if is_shared(geometry) {
+                is_unclear(luns, command)
+            } else {
+                command.wants_one_lun() && 1 < geometry.parts().luns
+            }
+        }
         _ => false,
     }
 }
@@ -188,6 +223,22 @@ fn some_ready<Q: WorkQueue>(luns: &[LunFacts<Q>]) -> bool
     luns.iter().any(|lun| !lun.busy)
 }
 
+fn some_busy<Q: WorkQueue>(luns: &[LunFacts<Q>]) -> bool
+    ensures { result ≡ list_any (λ v. v.busy) luns.now }
+{
+    luns.iter().any(|lun| lun.busy)
+}
+
+/// The LUN that a row names is there, and busy.
+fn named_is_busy<Q: WorkQueue>(geometry: &Geometry, row: u32, luns: &[LunFacts<Q>]) -> bool
+    ensures { result ≡ named_lun_is geometry.now row (λ v. v.busy) luns.now }
+{
+    match find_named(geometry, row, luns) {
+        None => false,
+        Some(lun) => lun.busy,
+    }
+}
+
 #[tactic(auto, unfolding(crate::specs::Rules::breaks_lun_busy))]
 fn breaks_lun_busy<Q: WorkQueue>(
     geometry: &Geometry,
@@ -198,13 +249,14 @@ fn breaks_lun_busy<Q: WorkQueue>(
     ensures { result ≡ breaks_lun_busy geometry.now tail luns.now cycle }
 {
     match cycle {
-        TargetCycle::CommandCycle(command) => command.wants_ready() && !some_ready(luns),
+        TargetCycle::CommandCycle(command) => {
+            command.wants_ready() && !some_ready(luns)
+                || is_shared(geometry) && command.reads_identity() && some_busy(luns)
+        }
         TargetCycle::AddressCycle(byte) => {
             tail.ends_array_row()
-                && match find_named(geometry, tail.row_with(byte), luns) {
-                    None => false,
-                    Some(lun) => lun.busy,
-                }
+                && (named_is_busy(geometry, tail.row_with(byte), luns)
+                    || is_shared(geometry) && some_works_for_target(luns))
         }
         _ => false,
     }
@@ -399,7 +451,7 @@ fn breaks_cache_read_misplaced<Q: WorkQueue>(
 }
 
 /// The first of F3 to F15 that a command breaks. A closer can break F6 alone.
-#[tactic(auto, unfolding(crate::specs::Rules::breaks_sequence_open, crate::specs::Rules::breaks_several_luns, crate::specs::Rules::breaks_no_column_to_change, crate::specs::Rules::breaks_command_misplaced, crate::specs::Rules::breaks_address_misplaced, crate::specs::Rules::breaks_row_outside, crate::specs::Rules::breaks_lun_busy, crate::specs::Rules::breaks_queue_clash, crate::specs::Rules::breaks_input_misplaced, crate::specs::Rules::breaks_no_sole_driver, crate::specs::Rules::breaks_data_not_ready, crate::specs::Rules::breaks_column_outside, crate::specs::Rules::breaks_cache_read_misplaced))]
+#[tactic(auto, using(crate::proofs::Closers::closer_misplaced, crate::proofs::Closers::closer_passes), unfolding(crate::specs::Rules::breaks_sequence_open, crate::specs::Rules::breaks_several_luns, crate::specs::Rules::breaks_no_column_to_change, crate::specs::Rules::breaks_command_misplaced, crate::specs::Rules::breaks_address_misplaced, crate::specs::Rules::breaks_row_outside, crate::specs::Rules::breaks_lun_busy, crate::specs::Rules::breaks_queue_clash, crate::specs::Rules::breaks_input_misplaced, crate::specs::Rules::breaks_no_sole_driver, crate::specs::Rules::breaks_data_not_ready, crate::specs::Rules::breaks_column_outside, crate::specs::Rules::breaks_cache_read_misplaced))]
 fn judge_command<Q: WorkQueue>(
     geometry: &Geometry,
     tail: TailFacts,
@@ -417,7 +469,7 @@ fn judge_command<Q: WorkQueue>(
         }
     } else if breaks_sequence_open(geometry, tail, cycle) {
         Some(Forbidden::SequenceOpen)
-    } else if breaks_several_luns(geometry, cycle) {
+    } else if breaks_several_luns(geometry, luns, cycle) {
         Some(Forbidden::SeveralLuns)
     } else if breaks_no_column_to_change(luns, cycle) {
         Some(Forbidden::NoColumnToChange)

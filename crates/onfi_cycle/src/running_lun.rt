@@ -4,7 +4,7 @@ ghost use Rattle.nand_geometry.specs.declared.parts.Parts.{Parts};
 ghost use Rattle.onfi_cycle.specs.declared.lun.Lun.{Lun};
 ghost use Rattle.onfi_cycle.specs.declared.latch.Latch.TheVariants.{Off};
 ghost use Rattle.onfi_cycle.specs.Effect.{cycle_effect};
-ghost use Rattle.onfi_cycle.specs.Lun.{view_after, queue_after, lun_view};
+ghost use Rattle.onfi_cycle.specs.Lun.{latch_after, selected_after, overlapped_after, works, view_after, first_view, queue_after};
 ghost use Rattle.onfi_cycle.specs.Bounds.{LunFits};
 ghost use Rattle.onfi_cycle.specs.Outputs.{given_on};
 
@@ -23,19 +23,23 @@ fn apply_to_queue(queue: &mut RowQueue, effect: Effect)
     match effect {
         Effect::EraseStarted { queued: true, row } => queue.insert(0, Queued::Erase(row)),
         Effect::ProgramStarted { queued: true, page } => queue.insert(0, Queued::Program(page)),
-        Effect::EraseStarted { .. } | Effect::ProgramStarted { .. } | Effect::ResetStarted =>
-            queue.clear(),
+        Effect::EraseStarted { .. }
+        | Effect::ProgramStarted { .. }
+        | Effect::ResetStarted
+        | Effect::TargetResetStarted { .. } => queue.clear(),
         _ => {}
     }
 }
 
 impl LunFacts<RowQueue> {
-    /// A LUN to which nothing has happened.
-    pub(crate) fn fresh() -> LunFacts<RowQueue>
-        ensures { (g : Parts) (l : Lun) → result ≡ lun_view g [] l }
+    /// The LUN of this number of its target, when nothing has happened to it.
+    pub(crate) fn fresh(number: u8) -> LunFacts<RowQueue>
+        ensures { result ≡ first_view number }
     {
         LunFacts {
             latch: Latch::Off,
+            selected: number == 0,
+            overlapped: false,
             busy: false,
             closer: None,
             array_busy: false,
@@ -54,6 +58,9 @@ impl LunFacts<RowQueue> {
         requires queue { length self.old.queue ≤ 4 }
         ensures { self.new ≡ view_after effect self.old }
     {
+        let works = self.works();
+        let latch = effect.latch_after(self.selected, works, self.latch);
+        let overlapped = effect.overlapped_after(works, self.overlapped);
         apply_to_queue(&mut self.queue, effect);
         self.column = effect.read_column_after(self.column);
         self.register = effect.register_after(self.array_page, self.register);
@@ -62,7 +69,23 @@ impl LunFacts<RowQueue> {
         self.array_busy = effect.array_busy_after(self.busy, caching, self.array_busy);
         self.closer = effect.closer_after(self.closer);
         self.busy = effect.busy_after(self.busy);
-        self.latch = effect.latch_after(self.latch);
+        self.latch = latch;
+        self.selected = effect.selected_after(self.selected);
+        self.overlapped = overlapped;
+    }
+
+    // Goes on by an effect that changes at most what it shows, and whether it is selected or overlapped.
+    fn turn(&mut self, effect: Effect)
+        ensures latch { self.new ≡ record self.old {
+          latch = latch_after effect self.old.selected (works self.old) self.old.latch;
+          selected = selected_after effect self.old.selected;
+          overlapped = overlapped_after effect (works self.old) self.old.overlapped;
+        } }
+    {
+        let works = self.works();
+        self.latch = effect.latch_after(self.selected, works, self.latch);
+        self.selected = effect.selected_after(self.selected);
+        self.overlapped = effect.overlapped_after(works, self.overlapped);
     }
 
     // Goes on by an effect: most change little.
@@ -74,12 +97,13 @@ impl LunFacts<RowQueue> {
     {
         match effect {
             Effect::Unaffected => {}
-            Effect::DataOutputEnabled | Effect::SelectedForStatus | Effect::Deselected => {
-                self.latch = effect.latch_after(self.latch);
-            }
-            Effect::StatusSelected | Effect::StatusRowAwaited => {
+            Effect::DataOutputEnabled
+            | Effect::SelectedForStatus
+            | Effect::Deselected
+            | Effect::AnotherAddressed { .. } => self.turn(effect),
+            Effect::StatusSelected | Effect::StatusOfSelected | Effect::StatusRowAwaited => {
                 self.column = effect.read_column_after(self.column);
-                self.latch = effect.latch_after(self.latch);
+                self.latch = effect.latch_after(self.selected, self.works(), self.latch);
             }
             Effect::DataOutput | Effect::ReadColumnChanged { .. } => {
                 self.column = effect.read_column_after(self.column);
@@ -138,6 +162,6 @@ impl LunFacts<RowQueue> {
 impl Default for LunFacts<RowQueue> {
     /// A LUN to which nothing has happened.
     fn default() -> LunFacts<RowQueue> {
-        LunFacts::fresh()
+        LunFacts::fresh(0)
     }
 }

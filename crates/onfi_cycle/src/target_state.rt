@@ -12,12 +12,14 @@ ghost use Rattle.onfi_cycle.specs.Filling.{filling};
 ghost use Rattle.onfi_cycle.specs.Readies.{target_due};
 ghost use Rattle.onfi_cycle.specs.State.{TargetView, target_view, effect_alone, has_driver, target_after, without_sequence};
 ghost use Rattle.onfi_cycle.specs.Look.{look_at_some};
+ghost use Rattle.onfi_cycle.specs.Rules.{lun_is, works_for_target};
 ghost use Rattle.onfi_cycle.specs.Bounds.{LunsFit, TargetFits};
 ghost use Rattle.onfi_cycle.specs.Outputs.{AreFew, given_on, given_target, against_rest};
 ghost use Rattle.onfi_cycle.specs.Inputs.{fed_target, against_inputs};
 
 use crate::item_effects::ends_features;
 use crate::readies::due_of;
+use crate::rules::some_works_for_target;
 use crate::{
     Command, Effect, Filling, Forbidden, Item, Latch, Lun, LunFacts, LunState, RowQueue, TailFacts,
     TargetCycle, driver, item_effect,
@@ -206,8 +208,8 @@ impl TargetState {
         ensures { (g : Parts) (ce : ℕ) → g.luns ≡ count → result ≡ target_view g [] ce }
     {
         let mut luns: ArrayVec<LunFacts<RowQueue>, MAX_LUNS> = ArrayVec::new();
-        for _ in 0..count {
-            luns.push(LunFacts::fresh());
+        for number in 0..count {
+            luns.push(LunFacts::fresh(number));
         }
         TargetState {
             tail: TailFacts::none(),
@@ -356,5 +358,22 @@ impl TargetState {
             None => None,
             Some(found) => Some(LunState::of(found)),
         }
+    }
+
+    /// The LUN of this number is there, and is the selected one.
+    pub(crate) fn is_selected(&self, number: u8) -> bool
+        ensures { result ≡ lun_is (λ v. v.selected) self.now.luns number }
+    {
+        match lun_at(self.luns.as_slice(), number) {
+            None => false,
+            Some(found) => found.selected,
+        }
+    }
+
+    /// Work of the whole target goes on.
+    pub(crate) fn works_for_target(&self) -> bool
+        ensures { result ≡ list_any works_for_target self.now.luns }
+    {
+        some_works_for_target(self.luns.as_slice())
     }
 }

@@ -2,4 +2,8 @@ pub mod Decoded
 pub mod OldRules
 pub mod OldTails
 pub mod Same
+pub mod Turns
+pub mod Shared
+pub mod Pasts
+pub mod Alike
 pub mod Widened

@@ -17,14 +17,14 @@ use Rattle.onfi_cycle.specs.declared.target_cycle.TargetCycle.{TargetCycle}
 use Rattle.onfi_cycle.specs.declared.target_cycle.TargetCycle.TheVariants.{CommandCycle, AddressCycle, InputCycle, OutputCycle}
 use Rattle.onfi_cycle.specs.LunView.{LunView}
 use Rattle.onfi_cycle.specs.Base.{is_of_base}
-use Rattle.onfi_cycle.specs.Command.{is_known, is_opener, is_read_id, is_reset, address_cycles, takes_address}
-use Rattle.onfi_cycle.specs.Sequence.{target_of, target_cycle, tail, facts_of, opened, takes_data, takes_features, takes_inputs, wants_column, wants_command, wants_address, is_open, is_proper_beginning, input_column}
+use Rattle.onfi_cycle.specs.Command.{is_known, is_opener, is_read_id, is_reset, address_cycles, takes_address, addresses_the_array}
+use Rattle.onfi_cycle.specs.Sequence.{target_of, target_cycle, tail, facts_of, opened, takes_data, takes_features, takes_inputs, wants_column, wants_command, wants_address, is_open, is_proper_beginning, row_with, input_column}
 use Rattle.onfi_cycle.specs.Lun.{luns_of}
-use Rattle.onfi_cycle.specs.Rules.{driver_is, is_undeclared, breaks_not_there, breaks_command_unknown, breaks_sequence_open, breaks_several_luns, breaks_no_column_to_change, breaks_command_misplaced, breaks_address_misplaced, breaks_row_outside, breaks_lun_busy, breaks_queue_clash, breaks_input_misplaced, breaks_no_sole_driver, breaks_data_not_ready, breaks_column_outside, breaks_cache_read_misplaced}
+use Rattle.onfi_cycle.specs.Rules.{driver_is, ends_row, named_lun_is, is_undeclared, breaks_not_there, breaks_command_unknown, breaks_sequence_open, breaks_several_luns, breaks_no_column_to_change, breaks_command_misplaced, breaks_address_misplaced, breaks_row_outside, breaks_lun_busy, breaks_queue_clash, breaks_input_misplaced, breaks_no_sole_driver, breaks_data_not_ready, breaks_column_outside, breaks_cache_read_misplaced}
 use Rattle.onfi_cycle.specs.Permitted.{judge_cycle, judge_item, judge}
 use Rattle.onfi_profiles.specs.Widening.{in_base}
 use Rattle.onfi_profiles.specs.Tails.{base_takes_inputs, base_takes_address, base_wants_command, base_wants_address, base_is_open, base_facts}
-use Rattle.onfi_profiles.specs.Judging.{base_undeclared, base_command_unknown, base_sequence_open, base_command_misplaced, base_address_misplaced, base_input_misplaced, base_no_sole_driver, base_column_outside, base_judge_cycle, base_judge_item, base_judge, JudgesBase}
+use Rattle.onfi_profiles.specs.Judging.{base_undeclared, base_command_unknown, base_sequence_open, base_command_misplaced, base_several_luns, base_lun_busy, base_address_misplaced, base_input_misplaced, base_no_sole_driver, base_column_outside, base_judge_cycle, base_judge_item, base_judge, JudgesBase}
 use Rattle.onfi_profiles.proofs.OldTails.{AreOfBase, facts_base, tails_kept}
 
 -- 1. parts of rules
@@ -148,18 +148,32 @@ f14 g t luns (CommandCycle c) a = refl
 f14 g t luns (AddressCycle byte) a = refl
 f14 g t luns OutputCycle a = refl
 
+f4 : (g : Parts) (luns : List LunView) (k : TargetCycle) → breaks_several_luns (in_base g) luns k ≡ base_several_luns (in_base g) k
+unfolding breaks_several_luns
+f4 g luns (CommandCycle c) = refl
+f4 g luns (AddressCycle byte) = refl
+f4 g luns (InputCycle byte) = refl
+f4 g luns OutputCycle = refl
+
+f9 : (g : Parts) (t : TailFacts) (luns : List LunView) (k : TargetCycle) → breaks_lun_busy (in_base g) t luns k ≡ base_lun_busy (in_base g) t luns k
+unfolding breaks_lun_busy
+f9 g t luns (CommandCycle c) = or-false _
+f9 g t luns (AddressCycle byte) = ap (λ (b : Bool). ends_row addresses_the_array t && b) (or-false (named_lun_is (in_base g) (row_with t byte) (λ v. v.busy) luns))
+f9 g t luns (InputCycle byte) = refl
+f9 g t luns OutputCycle = refl
+
 -- 3. all of them
 
 cycle_same : (g : Parts) (t : TailFacts) (luns : List LunView) (k : TargetCycle) → AreOfBase t → judge_cycle (in_base g) t luns k ≡ base_judge_cycle (in_base g) t luns k
 cycle_same g t luns k a = λ i.
     cond (f2 g k i) (Some CommandUnknown)
     (cond (f3 g t k a i) (Some SequenceOpen)
-    (cond (breaks_several_luns (in_base g) k) (Some SeveralLuns)
+    (cond (f4 g luns k i) (Some SeveralLuns)
     (cond (breaks_no_column_to_change luns k) (Some NoColumnToChange)
     (cond (f6 t k i) (Some CommandMisplaced)
     (cond (f7 g t k a i) (Some AddressMisplaced)
     (cond (breaks_row_outside (in_base g) t k) (Some RowOutside)
-    (cond (breaks_lun_busy (in_base g) t luns k) (Some LunBusy)
+    (cond (f9 g t luns k i) (Some LunBusy)
     (cond (breaks_queue_clash (in_base g) t luns k) (Some QueueClash)
     (cond (f11 t k a i) (Some InputMisplaced)
     (cond (f12 t luns k a i) (Some NoSoleDriver)

@@ -1,13 +1,11 @@
 -- After a past that is legal in the base profile a tail is what it was.
 use Rattle.std.proofs.Common.{◌≡◌, ℕ, ◌+◌, ◌==◌, Bool, true, false, ◌&&◌, ◌||◌, cond, not, List, [], ◌∷◌, Option, Some, None, refl, sym, ap, subst, ◌∙◌, eqb-true}
-use Rattle.std.specs.Option.{is_none}
 use Rattle.std.proofs.lemmas.Bool.{and_parts}
 use Rattle.nand_geometry.specs.declared.parts.Parts.{Parts}
 use Rattle.onfi_cycle.specs.declared.command.Command.{Command}
 use Rattle.onfi_cycle.specs.declared.command.Command.TheVariants.{ChangeWriteColumn, ReadUniqueId, GetFeatures, SetFeatures, ResetLun, SynchronousReset, Unknown}
 use Rattle.onfi_cycle.specs.declared.data_phase.DataPhase.{DataPhase}
 use Rattle.onfi_cycle.specs.declared.data_phase.DataPhase.TheVariants.{Outside, Inputs, FirstColumn, SecondColumn, FeatureInputs}
-use Rattle.onfi_cycle.specs.declared.item.Cycle.{Cycle}
 use Rattle.onfi_cycle.specs.declared.item.Item.{Item}
 use Rattle.onfi_cycle.specs.declared.item.Item.TheVariants.{Cyc, Rdy, Ard}
 use Rattle.onfi_cycle.specs.declared.opening.Opening.{Opening}
@@ -18,12 +16,12 @@ use Rattle.onfi_cycle.specs.Base.{is_of_base}
 use Rattle.onfi_cycle.specs.Command.{is_known, is_page_program, is_set_features}
 use Rattle.onfi_cycle.specs.Sequence.{target_cycle, tail, facts_of, opened, takes_features, wants_column, one_address_more, row_after_address, column_after_address, next_address_place, phase_after_command, phase_after_last_address, phase_after_address, phase_after_input, begins_sequence, extended_facts, facts_after}
 use Rattle.onfi_cycle.specs.Rules.{is_undeclared, breaks_command_unknown}
-use Rattle.onfi_cycle.specs.Permitted.{broken, is_permitted, is_legal}
+use Rattle.onfi_cycle.specs.Permitted.{is_permitted, is_legal}
 use Rattle.onfi_cycle.proofs.Steps.{facts_of_cycle}
 use Rattle.onfi_cycle.proofs.Passed.{permitted_keeps}
 use Rattle.onfi_profiles.specs.Widening.{in_base}
 use Rattle.onfi_profiles.specs.Tails.{base_phase_after_last_address, base_phase_after_address, base_phase_after_input, base_extended_facts, base_facts_after, base_facts, TailsBase}
-use Rattle.onfi_profiles.proofs.Widened.{none_is}
+use Rattle.onfi_cycle.proofs.Others.{permitted_none}
 
 -- 1. what a tail of the base profile can be
 
@@ -185,7 +183,7 @@ tails g targets (Cyc c ∷ past) ce h = at (c.ce == ce) refl (tails g targets pa
     both = and_parts (is_permitted (in_base g) targets past (Cyc c)) (is_legal (in_base g) targets past) h
 
     of_base : is_base_cycle (target_cycle c.kind c.byte) ≡ true
-    of_base = base_cycle g (target_cycle c.kind c.byte) (permitted_keeps (in_base g) targets past c (none_is (broken (in_base g) targets past (Cyc c)) both.0)).f2
+    of_base = base_cycle g (target_cycle c.kind c.byte) (permitted_keeps (in_base g) targets past c (permitted_none (in_base g) targets past (Cyc c) both.0)).f2
 
     at : (b : Bool) → (c.ce == ce) ≡ b → IsStep (facts_of (tail past ce)) (base_facts past ce) → IsStep (facts_of (tail (Cyc c ∷ past) ce)) (base_facts (Cyc c ∷ past) ce)
     at true e before =

@@ -1,13 +1,15 @@
--- The wider profile permits what the base profile does, and each LUN shows the same.
-use Rattle.std.proofs.Common.{◌≡◌, ℕ, zero, suc, ◌+◌, ◌==◌, Bool, true, false, ◌&&◌, ◌||◌, cond, not, nat_le, List, [], ◌∷◌, Option, Some, None, refl, sym, ap, subst, ◌∙◌}
+-- The wider profile permits what the base profile does, and a LUN that drives alone shows the same.
+use Rattle.std.proofs.Common.{◌≡◌, ℕ, zero, suc, ◌+◌, ◌<◌, ◌==◌, Bool, true, false, ◌&&◌, ◌||◌, cond, not, nat_le, List, [], ◌∷◌, map, Option, Some, None, refl, sym, ap, subst, ◌∙◌, arith}
+use Rattle.std.proofs.Math.Bool.{and-false}
 use Rattle.std.specs.List.{list_any}
 use Rattle.std.specs.Option.{is_none}
-use Rattle.std.proofs.lemmas.Bool.{and_parts, and_from, or_parts, or_from}
+use Rattle.std.proofs.lemmas.Bool.{and_parts, and_from, or_parts, not-false}
 use Rattle.nand_geometry.specs.declared.parts.Parts.{Parts}
 use Rattle.nand_geometry.specs.Optional.{is_wide}
 use Rattle.nand_geometry.specs.Limits.{page_len}
+use Rattle.nand_geometry.specs.Row.{parts_of}
 use Rattle.onfi_cycle.specs.declared.command.Command.{Command}
-use Rattle.onfi_cycle.specs.declared.command.Command.TheVariants.{Read, BlockErase, PageProgram, ReadStatusEnhanced, BlockErasePlane, ProgramPlane, ReadCacheSequential, ReadCacheEnd, ReadUniqueId, GetFeatures, SetFeatures, ResetLun, SynchronousReset}
+use Rattle.onfi_cycle.specs.declared.command.Command.TheVariants.{Read, ChangeReadColumn, ReadStatus, ReadId, ReadParameterPage, BlockErase, PageProgram, ReadStatusEnhanced, BlockErasePlane, ProgramPlane, ReadCacheSequential, ReadCacheEnd, ReadUniqueId, GetFeatures, SetFeatures, ResetLun, SynchronousReset}
 use Rattle.onfi_cycle.specs.declared.item.Item.{Item}
 use Rattle.onfi_cycle.specs.declared.item.Item.TheVariants.{Cyc, Rdy, Ard}
 use Rattle.onfi_cycle.specs.declared.lun.Lun.{Lun}
@@ -18,24 +20,29 @@ use Rattle.onfi_cycle.specs.declared.queued.Queued.TheVariants.{Erase, Program}
 use Rattle.onfi_cycle.specs.declared.register.Register.{Register}
 use Rattle.onfi_cycle.specs.declared.register.Register.TheVariants.{Empty, Page, ParameterPage, Identifier, Identity, JedecIdentity, UniqueId, Features}
 use Rattle.onfi_cycle.specs.declared.effect.Effect.{Effect}
-use Rattle.onfi_cycle.specs.declared.effect.Effect.TheVariants.{BecameReady}
+use Rattle.onfi_cycle.specs.declared.effect.Effect.TheVariants.{Unaffected, BecameReady, AnotherAddressed}
 use Rattle.onfi_cycle.specs.declared.forbidden.Forbidden.{Forbidden}
 use Rattle.onfi_cycle.specs.declared.forbidden.Forbidden.TheVariants.{NotThere}
 use Rattle.onfi_cycle.specs.declared.tail_facts.TailFacts.{TailFacts}
 use Rattle.onfi_cycle.specs.declared.target_cycle.TargetCycle.{TargetCycle}
 use Rattle.onfi_cycle.specs.declared.target_cycle.TargetCycle.TheVariants.{CommandCycle, AddressCycle, InputCycle, OutputCycle}
 use Rattle.onfi_cycle.specs.LunView.{LunView}
-use Rattle.onfi_cycle.specs.Command.{is_known, is_opener, is_read_id, is_reset, at_last_row, is_change_read_column}
-use Rattle.onfi_cycle.specs.Sequence.{opened, filled, tail, facts_of, target_of, target_cycle, takes_features, is_open, wants_address, row_with, column_with, input_column}
-use Rattle.onfi_cycle.specs.Effect.{is_data, page_address}
-use Rattle.onfi_cycle.specs.Lun.{output_column, effect_on, latch, is_busy, is_array_busy, register, read_column, luns_of}
-use Rattle.onfi_cycle.specs.Content.{ArrayWork, queued_work_after, queued_work, pending_work_after, pending_work, content_after, content, failed_after, has_failed, status, register_bytes, byte_at, shown_by, shown}
-use Rattle.onfi_cycle.specs.Rules.{driver_is, named_lun_is, register_len, is_past, is_past_register, planes_clash, queued_clashes, some_queued_clashes, refused_by, is_refused_by, is_undeclared, second_of_page, second_column, breaks_not_there, breaks_command_unknown, breaks_sequence_open, breaks_several_luns, breaks_no_column_to_change, breaks_command_misplaced, breaks_address_misplaced, breaks_row_outside, breaks_lun_busy, breaks_queue_clash, breaks_input_misplaced, breaks_no_sole_driver, breaks_data_not_ready, breaks_column_outside, breaks_cache_read_misplaced}
+use Rattle.onfi_cycle.specs.Command.{is_known, is_opener, is_read_id, is_reset, at_last_row, is_change_read_column, addresses_the_array, reads_identity, wants_ready, wants_one_lun}
+use Rattle.onfi_cycle.specs.Sequence.{opened, opening, filled, tail, facts_of, target_of, target_cycle, is_open, wants_address, row_with, column_with}
+use Rattle.onfi_cycle.specs.Effect.{is_off, is_data, is_shared, page_address}
+use Rattle.onfi_cycle.specs.Lun.{output_column, effect_on, drivers, drivers_from, is_only, closer, is_target_work, is_busy, lun_view, views_from, luns_of}
+use Rattle.onfi_cycle.specs.Content.{ArrayWork, queued_work_after, queued_work, pending_work_after, pending_work, content_after, content, failed_after, has_failed, register_bytes, byte_at, shown_by, shown}
+use Rattle.onfi_cycle.specs.Rules.{has_some, driving, only, is_some_and, lun_is, ends_row, works_for_target, is_unclear, may_change_column, has_no_byte, caching, continues_cache, ends_cache, driver_is, named_lun_is, register_len, is_past, is_past_register, queued_clashes, some_queued_clashes, refused_by, is_refused_by, is_undeclared, second_of_page, second_column, breaks_not_there, breaks_command_unknown, breaks_sequence_open, breaks_several_luns, breaks_no_column_to_change, breaks_address_misplaced, breaks_row_outside, breaks_lun_busy, breaks_queue_clash, breaks_no_sole_driver, breaks_data_not_ready, breaks_column_outside, breaks_cache_read_misplaced}
 use Rattle.onfi_cycle.specs.Permitted.{judge_cycle, judge_item, judge, broken, is_permitted, is_legal}
 use Rattle.onfi_cycle.proofs.Others.{first_passed}
-use Rattle.onfi_cycle.proofs.Passed.{KeepsRules, keeps_rules}
+use Rattle.onfi_cycle.proofs.Passed.{KeepsRules, keeps_rules, permitted_keeps}
+use Rattle.onfi_cycle.proofs.Booleans.{by_case}
+use Rattle.onfi_cycle.proofs.Latches.{IsOne}
 use Rattle.onfi_profiles.specs.Widening.{in_base, Widens}
-use Rattle.onfi_profiles.proofs.Same.{latch_same, effect_same, work_same, array_busy_same, register_same, column_same, luns_same}
+use Rattle.onfi_profiles.proofs.Same.{view_same, effect_same, luns_same}
+use Rattle.onfi_profiles.proofs.Shared.{Like, equal, passes, is_passed, core, one_lun_cycle}
+use Rattle.onfi_profiles.proofs.Pasts.{lun_at, both_legal, in_column, driver_one, column_driver}
+use Rattle.onfi_profiles.proofs.Alike.{AreAlike, plain, same_latches, same_drivers, are_alike, effects_like}
 
 -- 1. rules that hang on the set
 
@@ -114,12 +121,12 @@ refused_same g c p q = refl
 is_refused_same : (g : Parts) (o : Option Opening) (p : PageAddress) (q : List Queued) → is_refused_by (in_base g) o p q ≡ is_refused_by g o p q
 is_refused_same g o p q = λ i. opened (λ c n. at_last_row c n && refused_same g c p q i) o
 
-several_same : (g : Parts) (k : TargetCycle) → breaks_several_luns (in_base g) k ≡ breaks_several_luns g k
+several_same : (g : Parts) → is_shared g ≡ false → (luns : List LunView) (k : TargetCycle) → breaks_several_luns (in_base g) luns k ≡ breaks_several_luns g luns k
 unfolding breaks_several_luns
-several_same g (CommandCycle c) = refl
-several_same g (AddressCycle byte) = refl
-several_same g (InputCycle byte) = refl
-several_same g OutputCycle = refl
+several_same g narrow luns (CommandCycle c) = rw narrow refl
+several_same g narrow luns (AddressCycle byte) = refl
+several_same g narrow luns (InputCycle byte) = refl
+several_same g narrow luns OutputCycle = refl
 
 row_same : (g : Parts) (t : TailFacts) (k : TargetCycle) → breaks_row_outside (in_base g) t k ≡ breaks_row_outside g t k
 unfolding breaks_row_outside
@@ -128,12 +135,12 @@ row_same g t (AddressCycle byte) = refl
 row_same g t (InputCycle byte) = refl
 row_same g t OutputCycle = refl
 
-busy_same : (g : Parts) (t : TailFacts) (luns : List LunView) (k : TargetCycle) → breaks_lun_busy (in_base g) t luns k ≡ breaks_lun_busy g t luns k
+busy_same : (g : Parts) → is_shared g ≡ false → (t : TailFacts) (luns : List LunView) (k : TargetCycle) → breaks_lun_busy (in_base g) t luns k ≡ breaks_lun_busy g t luns k
 unfolding breaks_lun_busy
-busy_same g t luns (CommandCycle c) = refl
-busy_same g t luns (AddressCycle byte) = refl
-busy_same g t luns (InputCycle byte) = refl
-busy_same g t luns OutputCycle = refl
+busy_same g narrow t luns (CommandCycle c) = rw narrow refl
+busy_same g narrow t luns (AddressCycle byte) = rw narrow refl
+busy_same g narrow t luns (InputCycle byte) = refl
+busy_same g narrow t luns OutputCycle = refl
 
 clash_same : (g : Parts) (t : TailFacts) (luns : List LunView) (k : TargetCycle) → breaks_queue_clash (in_base g) t luns k ≡ breaks_queue_clash g t luns k
 unfolding breaks_queue_clash
@@ -164,19 +171,19 @@ cache_same g t luns OutputCycle = refl
 kept : (g : Parts) (t : TailFacts) (luns : List LunView) (k : TargetCycle) → KeepsRules g t luns k → judge_cycle g t luns k ≡ None
 kept g t luns k r = rw (r.f2, r.f3, r.f4, r.f5, r.f6, r.f7, r.f8, r.f9, r.f10, r.f11, r.f12, r.f13, r.f14, r.f15) refl
 
-wider : (g : Parts) (t : TailFacts) (luns : List LunView) (k : TargetCycle) → judge_cycle (in_base g) t luns k ≡ None → judge_cycle g t luns k ≡ None
-wider g t luns k h =
+wider : (g : Parts) → is_shared g ≡ false → (t : TailFacts) (luns : List LunView) (k : TargetCycle) → judge_cycle (in_base g) t luns k ≡ None → judge_cycle g t luns k ≡ None
+wider g narrow t luns k h =
     let r = keeps_rules (in_base g) t luns k h in
     kept g t luns k
     (record {
       f2 = known_too g k r.f2;
       f3 = open_too g t k r.f3;
-      f4 = sym (several_same g k) ∙ r.f4;
+      f4 = sym (several_same g narrow luns k) ∙ r.f4;
       f5 = r.f5;
       f6 = r.f6;
       f7 = address_too g t k r.f7;
       f8 = sym (row_same g t k) ∙ r.f8;
-      f9 = sym (busy_same g t luns k) ∙ r.f9;
+      f9 = sym (busy_same g narrow t luns k) ∙ r.f9;
       f10 = sym (clash_same g t luns k) ∙ r.f10;
       f11 = r.f11;
       f12 = r.f12;
@@ -185,20 +192,277 @@ wider g t luns k h =
       f15 = sym (cache_same g t luns k) ∙ r.f15;
     })
 
-item_wider : (g : Parts) (t : TailFacts) (luns : List LunView) (i : Item) → judge_item (in_base g) t luns i ≡ None → judge_item g t luns i ≡ None
-item_wider g t luns (Cyc c) h = wider g t luns (target_cycle c.kind c.byte) h
-item_wider g t luns (Rdy ce lun fail) h = refl
-item_wider g t luns (Ard ce lun) h = refl
+-- 4. on a target with several LUNs
 
-judged_wider : (g : Parts) (targets : ℕ) (t : TailFacts) (luns : List LunView) (i : Item) → judge (in_base g) targets t luns i ≡ None → judge g targets t luns i ≡ None
-judged_wider g targets t luns i h =
+abbrev shown_facts : LunView → LunView
+shown_facts v = record v { selected = false; overlapped = false }
+
+any_map : (f : LunView → LunView) (test : LunView → Bool) → ((v : LunView) → test (f v) ≡ test v) → (xs : List LunView) → list_any test (map f xs) ≡ list_any test xs
+any_map f test h [] = refl
+any_map f test h (v ∷ vs) = λ i. h v i || any_map f test h vs i
+
+any_by : (f : LunView → LunView) (test : LunView → Bool) → ((v : LunView) → test (f v) ≡ test v) → (xs ys : List LunView) → map f xs ≡ map f ys → list_any test ys ≡ list_any test xs
+any_by f test h xs ys same = sym (any_map f test h ys) ∙ (ap (list_any test) (sym same) ∙ any_map f test h xs)
+
+lun_map : (f : LunView → LunView) (test : LunView → Bool) → ((v : LunView) → test (f v) ≡ test v) → (xs : List LunView) (n : ℕ) → lun_is test (map f xs) n ≡ lun_is test xs n
+lun_map f test h [] n = refl
+lun_map f test h (v ∷ vs) zero = h v
+lun_map f test h (v ∷ vs) (suc n) = lun_map f test h vs n
+
+lun_by : (f : LunView → LunView) (test : LunView → Bool) → ((v : LunView) → test (f v) ≡ test v) → (xs ys : List LunView) → map f xs ≡ map f ys → (n : ℕ) → lun_is test ys n ≡ lun_is test xs n
+lun_by f test h xs ys same n = sym (lun_map f test h ys n) ∙ (ap (λ (zs : List LunView). lun_is test zs n) (sym same) ∙ lun_map f test h xs n)
+
+driving_shown : (xs : List LunView) → driving (map shown_facts xs) ≡ map shown_facts (driving xs)
+driving_shown [] = refl
+driving_shown (v ∷ vs) = at (is_off v.latch) (driving_shown vs)
+  where
+    at : (b : Bool) → driving (map shown_facts vs) ≡ map shown_facts (driving vs) → cond b (driving (map shown_facts vs)) (shown_facts v ∷ driving (map shown_facts vs)) ≡ map shown_facts (cond b (driving vs) (v ∷ driving vs))
+    at true ih = ih
+    at false ih = ap (λ (ws : List LunView). shown_facts v ∷ ws) ih
+
+only_shown : (test : LunView → Bool) → ((v : LunView) → test (shown_facts v) ≡ test v) → (xs : List LunView) → is_some_and test (only (map shown_facts xs)) ≡ is_some_and test (only xs)
+only_shown test h [] = refl
+only_shown test h (v ∷ []) = h v
+only_shown test h (v ∷ (w ∷ ws)) = refl
+
+driver_map : (test : LunView → Bool) → ((v : LunView) → test (shown_facts v) ≡ test v) → (xs : List LunView) → driver_is test (map shown_facts xs) ≡ driver_is test xs
+driver_map test h xs = ap (λ (zs : List LunView). is_some_and test (only zs)) (driving_shown xs) ∙ only_shown test h (driving xs)
+
+driver_by : (test : LunView → Bool) → ((v : LunView) → test (shown_facts v) ≡ test v) → (xs ys : List LunView) → map shown_facts xs ≡ map shown_facts ys → driver_is test ys ≡ driver_is test xs
+driver_by test h xs ys same = sym (driver_map test h ys) ∙ (ap (driver_is test) (sym same) ∙ driver_map test h xs)
+
+-- the cycle is judged by the one driver
+abbrev looks : TailFacts → TargetCycle → Bool
+looks t (CommandCycle ChangeReadColumn) = true
+looks t (CommandCycle ReadCacheSequential) = true
+looks t (CommandCycle ReadCacheEnd) = true
+looks t (CommandCycle c) = false
+looks t (AddressCycle byte) = second_column is_change_read_column t
+looks t (InputCycle byte) = false
+looks t OutputCycle = true
+
+-- what the LUNs of a target are in both profiles
+record BothSee (g : Parts) (t : TailFacts) (k : TargetCycle) (bs ws : List LunView) : Type 0 where
+  one : one_lun_cycle k ≡ false
+  cores : map core bs ≡ map core ws
+  calm : list_any works_for_target bs ≡ false
+  shown : looks t k ≡ true → map shown_facts bs ≡ map shown_facts ws
+
+identity_is_of_one : (c : Command) → wants_one_lun c ≡ false → reads_identity c ≡ false
+identity_is_of_one ReadId h = cc
+identity_is_of_one ReadParameterPage h = cc
+identity_is_of_one ReadUniqueId h = cc
+identity_is_of_one GetFeatures h = cc
+identity_is_of_one SetFeatures h = cc
+identity_is_of_one c h = refl
+
+none_of : (i b : Bool) → i ≡ false → (i && b) ≡ false
+none_of true b h = cc
+none_of false b h = refl
+
+calm_wide : (g : Parts) (t : TailFacts) (k : TargetCycle) (bs ws : List LunView) → BothSee g t k bs ws → list_any works_for_target ws ≡ false
+calm_wide g t k bs ws s = any_by core works_for_target (λ v. refl) bs ws s.cores ∙ s.calm
+
+clear : (g : Parts) (t : TailFacts) (c : Command) (bs ws : List LunView) → BothSee g t (CommandCycle c) bs ws → is_unclear ws c ≡ false
+clear g t ReadStatus bs ws s = let never = s.one in cc
+clear g t ReadStatusEnhanced bs ws s = calm_wide g t (CommandCycle ReadStatusEnhanced) bs ws s
+clear g t c bs ws s = refl
+
+several_too : (g : Parts) → is_shared g ≡ true → (t : TailFacts) (bs ws : List LunView) (k : TargetCycle) → BothSee g t k bs ws → breaks_several_luns g ws k ≡ false
+unfolding breaks_several_luns
+several_too g shared t bs ws (CommandCycle c) s = rw shared (clear g t c bs ws s)
+several_too g shared t bs ws (AddressCycle byte) s = refl
+several_too g shared t bs ws (InputCycle byte) s = refl
+several_too g shared t bs ws OutputCycle s = refl
+
+change_too : (g : Parts) (t : TailFacts) (bs ws : List LunView) (k : TargetCycle) → BothSee g t k bs ws → breaks_no_column_to_change bs k ≡ false → breaks_no_column_to_change ws k ≡ false
+unfolding breaks_no_column_to_change
+change_too g t bs ws (CommandCycle ChangeReadColumn) s h = ap not (driver_by may_change_column (λ v. refl) bs ws (s.shown refl)) ∙ h
+change_too g t bs ws (CommandCycle c) s h = refl
+change_too g t bs ws (AddressCycle byte) s h = refl
+change_too g t bs ws (InputCycle byte) s h = refl
+change_too g t bs ws OutputCycle s h = refl
+
+neither_busy : (x s i b : Bool) → x ≡ false → i ≡ false → (x || (s && (i && b))) ≡ false
+neither_busy true s i b h e = cc
+neither_busy false true true b h e = cc
+neither_busy false true false b h e = refl
+neither_busy false false i b h e = refl
+
+row_free : (e n s w : Bool) → (e && (n || false)) ≡ false → w ≡ false → (e && (n || (s && w))) ≡ false
+row_free false n s w h f = refl
+row_free true true s w h f = cc
+row_free true false true true h f = cc
+row_free true false true false h f = refl
+row_free true false false w h f = refl
+
+busy_too : (g : Parts) (t : TailFacts) (bs ws : List LunView) (k : TargetCycle) → BothSee g t k bs ws → breaks_lun_busy (in_base g) t bs k ≡ false → breaks_lun_busy g t ws k ≡ false
+unfolding breaks_lun_busy
+busy_too g t bs ws (CommandCycle c) s h =
+    neither_busy _ (is_shared g) (reads_identity c) _
+    (ap (λ (b : Bool). wants_ready c && not b) (any_by core (λ v. not v.busy) (λ v. refl) bs ws s.cores) ∙ (or_parts (wants_ready c && not (list_any (λ v. not v.busy) bs)) false h).0)
+    (identity_is_of_one c s.one)
+busy_too g t bs ws (AddressCycle byte) s h =
+    row_free (ends_row addresses_the_array t) (named_lun_is g (row_with t byte) (λ v. v.busy) ws) (is_shared g) (list_any works_for_target ws)
+    (ap (λ (b : Bool). ends_row addresses_the_array t && (b || false)) (lun_by core (λ v. v.busy) (λ v. refl) bs ws s.cores (parts_of g (row_with t byte)).lun) ∙ h)
+    (calm_wide g t (AddressCycle byte) bs ws s)
+busy_too g t bs ws (InputCycle byte) s h = refl
+busy_too g t bs ws OutputCycle s h = refl
+
+clash_too : (g : Parts) (t : TailFacts) (bs ws : List LunView) (k : TargetCycle) → BothSee g t k bs ws → breaks_queue_clash g t bs k ≡ false → breaks_queue_clash g t ws k ≡ false
+unfolding breaks_queue_clash
+clash_too g t bs ws (CommandCycle c) s h = none_of (reads_identity c) (list_any (λ v. has_some v.queue) ws) (identity_is_of_one c s.one)
+clash_too g t bs ws (AddressCycle byte) s h = lun_by core (λ v. is_refused_by g t.opening (page_address g (row_with t byte)) v.queue) (λ v. refl) bs ws s.cores (parts_of g (row_with t byte)).lun ∙ h
+clash_too g t bs ws (InputCycle byte) s h = refl
+clash_too g t bs ws OutputCycle s h = refl
+
+sole_too : (g : Parts) (t : TailFacts) (bs ws : List LunView) (k : TargetCycle) → BothSee g t k bs ws → breaks_no_sole_driver t bs k ≡ false → breaks_no_sole_driver t ws k ≡ false
+unfolding breaks_no_sole_driver
+sole_too g t bs ws OutputCycle s h = ap (λ (b : Bool). is_open t || not b) (driver_by (λ v. true) (λ v. refl) bs ws (s.shown refl)) ∙ h
+sole_too g t bs ws (CommandCycle c) s h = refl
+sole_too g t bs ws (AddressCycle byte) s h = refl
+sole_too g t bs ws (InputCycle byte) s h = refl
+
+ready_too : (g : Parts) (t : TailFacts) (bs ws : List LunView) (k : TargetCycle) → BothSee g t k bs ws → breaks_data_not_ready bs k ≡ false → breaks_data_not_ready ws k ≡ false
+unfolding breaks_data_not_ready
+ready_too g t bs ws OutputCycle s h = driver_by has_no_byte (λ v. refl) bs ws (s.shown refl) ∙ h
+ready_too g t bs ws (CommandCycle c) s h = refl
+ready_too g t bs ws (AddressCycle byte) s h = refl
+ready_too g t bs ws (InputCycle byte) s h = refl
+
+column_too : (g : Parts) (t : TailFacts) (bs ws : List LunView) (k : TargetCycle) → BothSee g t k bs ws → breaks_column_outside g t bs k ≡ false → breaks_column_outside g t ws k ≡ false
+unfolding breaks_column_outside
+column_too g t bs ws (CommandCycle c) s h = refl
+column_too g t bs ws (AddressCycle byte) s h = at (second_column is_change_read_column t) refl
+  where
+    at : (b : Bool) → second_column is_change_read_column t ≡ b → breaks_column_outside g t ws (AddressCycle byte) ≡ false
+    at true e = ap (λ (b : Bool). (second_of_page t && nat_le (page_len g) (column_with t byte)) || (second_column is_change_read_column t && b)) (driver_by (λ v. nat_le (register_len g v.register) (column_with t byte)) (λ v. refl) bs ws (s.shown e)) ∙ h
+    at false e =
+        let first = (or_parts (second_of_page t && nat_le (page_len g) (column_with t byte)) _ h).0 in
+        rw (first, e) refl
+column_too g t bs ws (InputCycle byte) s h = h
+column_too g t bs ws OutputCycle s h = driver_by (is_past_register g) (λ v. refl) bs ws (s.shown refl) ∙ h
+
+cache_too : (g : Parts) (t : TailFacts) (bs ws : List LunView) (k : TargetCycle) → BothSee g t k bs ws → breaks_cache_read_misplaced g t bs k ≡ false → breaks_cache_read_misplaced g t ws k ≡ false
+unfolding breaks_cache_read_misplaced
+cache_too g t bs ws (CommandCycle ReadCacheSequential) s h = ap not (driver_by (continues_cache g) (λ v. refl) bs ws (s.shown refl)) ∙ h
+cache_too g t bs ws (CommandCycle ReadCacheEnd) s h = ap not (driver_by ends_cache (λ v. refl) bs ws (s.shown refl)) ∙ h
+cache_too g t bs ws (CommandCycle c) s h = none_of (reads_identity c) (list_any caching ws) (identity_is_of_one c s.one)
+cache_too g t bs ws (AddressCycle byte) s h = ap (λ (b : Bool). ends_row addresses_the_array t && b) (lun_by core caching (λ v. refl) bs ws s.cores (parts_of g (row_with t byte)).lun) ∙ h
+cache_too g t bs ws (InputCycle byte) s h = refl
+cache_too g t bs ws OutputCycle s h = refl
+
+wider_shared : (g : Parts) → is_shared g ≡ true → (t : TailFacts) (bs ws : List LunView) (k : TargetCycle) → KeepsRules (in_base g) t bs k → BothSee g t k bs ws → judge_cycle g t ws k ≡ None
+wider_shared g shared t bs ws k r s =
+    kept g t ws k
+    (record {
+      f2 = known_too g k r.f2;
+      f3 = open_too g t k r.f3;
+      f4 = several_too g shared t bs ws k s;
+      f5 = change_too g t bs ws k s r.f5;
+      f6 = r.f6;
+      f7 = address_too g t k r.f7;
+      f8 = sym (row_same g t k) ∙ r.f8;
+      f9 = busy_too g t bs ws k s r.f9;
+      f10 = clash_too g t bs ws k s (sym (clash_same g t bs k) ∙ r.f10);
+      f11 = r.f11;
+      f12 = sole_too g t bs ws k s r.f12;
+      f13 = ready_too g t bs ws k s r.f13;
+      f14 = column_too g t bs ws k s (sym (column_same_too g t bs k) ∙ r.f14);
+      f15 = cache_too g t bs ws k s (sym (cache_same g t bs k) ∙ r.f15);
+    })
+
+-- the LUNs of a target, from number n on
+cores_from : (g : Parts) (past : List Item) (ce count n : ℕ) → ((m : ℕ) → m < n + count → core (lun_view (in_base g) past (lun_at ce m)) ≡ core (lun_view g past (lun_at ce m))) → map core (views_from (in_base g) past ce count n) ≡ map core (views_from g past ce count n)
+cores_from g past ce zero n h = refl
+cores_from g past ce (suc count) n h =
+    let first = h n (omega arith) in
+    let rest = cores_from g past ce count (n + 1) (λ m low. h m (omega (arith, low))) in
+    λ i. first i ∷ rest i
+
+shown_from : (g : Parts) (past : List Item) (ce count n : ℕ) → ((m : ℕ) → m < n + count → shown_facts (lun_view (in_base g) past (lun_at ce m)) ≡ shown_facts (lun_view g past (lun_at ce m))) → map shown_facts (views_from (in_base g) past ce count n) ≡ map shown_facts (views_from g past ce count n)
+shown_from g past ce zero n h = refl
+shown_from g past ce (suc count) n h =
+    let first = h n (omega arith) in
+    let rest = shown_from g past ce count (n + 1) (λ m low. h m (omega (arith, low))) in
+    λ i. first i ∷ rest i
+
+calm_from : (g : Parts) (past : List Item) (ce count n : ℕ) → ((m : ℕ) → m < n + count → is_target_work (closer g past (lun_at ce m)) ≡ false) → list_any works_for_target (views_from g past ce count n) ≡ false
+calm_from g past ce zero n h = refl
+calm_from g past ce (suc count) n h =
+    let first = h n (omega arith) in
+    let rest = calm_from g past ce count (n + 1) (λ m low. h m (omega (arith, low))) in
+    (λ i. (is_busy g past (lun_at ce n) && first i) || rest i)
+    ∙ ap (λ (b : Bool). b || false) (and-false (is_busy g past (lun_at ce n)))
+
+all_cores : (g : Parts) (past : List Item) (ce : ℕ) → AreAlike g past ce → map core (luns_of (in_base g) past ce) ≡ map core (luns_of g past ce)
+all_cores g past ce a = cores_from g past ce g.luns 0 (λ m low. a.rest m (omega (arith, low)))
+
+all_shown : (g : Parts) (past : List Item) (ce : ℕ) → AreAlike g past ce → IsOne (drivers (in_base g) past ce) → map shown_facts (luns_of (in_base g) past ce) ≡ map shown_facts (luns_of g past ce)
+all_shown g past ce a one = shown_from g past ce g.luns 0 (λ m low. one_shown m (omega (arith, low)))
+  where
+    one_shown : (m : ℕ) → m < g.luns → shown_facts (lun_view (in_base g) past (lun_at ce m)) ≡ shown_facts (lun_view g past (lun_at ce m))
+    one_shown m low = λ i. record (a.rest m low i) { latch = sym (same_latches g past ce a one m low) i }
+
+-- what a permitted cycle looks at is one driver
+one_looked : (g : Parts) (targets : ℕ) (past : List Item) (ce : ℕ) (k : TargetCycle) → is_legal g targets past ≡ true → KeepsRules g (facts_of (tail past ce)) (luns_of g past ce) k → looks (facts_of (tail past ce)) k ≡ true → IsOne (drivers g past ce)
+unfolding breaks_no_column_to_change breaks_no_sole_driver breaks_cache_read_misplaced
+one_looked g targets past ce (CommandCycle ChangeReadColumn) legal r e = driver_one g past ce may_change_column (not-false _ r.f5)
+one_looked g targets past ce (CommandCycle ReadCacheSequential) legal r e = driver_one g past ce (continues_cache g) (not-false _ r.f15)
+one_looked g targets past ce (CommandCycle ReadCacheEnd) legal r e = driver_one g past ce ends_cache (not-false _ r.f15)
+one_looked g targets past ce (CommandCycle c) legal r e = cc
+one_looked g targets past ce (AddressCycle byte) legal r e = column_driver g targets past ce legal (at (opening (tail past ce)) e)
+  where
+    at : (o : Option Opening) → opened (λ c n. is_change_read_column c && n == 1) o ≡ true → in_column o ≡ true
+    at None e = cc
+    at (Some o) e = (and_parts (is_change_read_column o.opener) _ e).0
+one_looked g targets past ce (InputCycle byte) legal r e = cc
+one_looked g targets past ce OutputCycle legal r e = driver_one g past ce (λ v. true) (not-false _ (or_parts (is_open (facts_of (tail past ce))) _ r.f12).1)
+
+permitted_shared : (g : Parts) → is_shared g ≡ true → (targets : ℕ) (past : List Item) (i : Item) → is_legal (in_base g) targets past ≡ true → broken (in_base g) targets past i ≡ None → broken g targets past i ≡ None
+unfolding breaks_not_there
+permitted_shared g shared targets past (Cyc c) legal h =
+    let first = first_passed (breaks_not_there targets (luns_of (in_base g) past c.ce) (Cyc c)) NotThere (judge_item (in_base g) (facts_of (tail past c.ce)) (luns_of (in_base g) past c.ce) (Cyc c)) h in
+    let k = target_cycle c.kind c.byte in
+    let a = are_alike g targets past c.ce shared legal in
+    let r = permitted_keeps (in_base g) targets past c h in
+    let judged : judge_cycle g (facts_of (tail past c.ce)) (luns_of g past c.ce) k ≡ None =
+    wider_shared g shared (facts_of (tail past c.ce)) (luns_of (in_base g) past c.ce) (luns_of g past c.ce) k r
+    (record {
+      one = (plain g targets past c c.ce shared legal h refl).command;
+      cores = all_cores g past c.ce a;
+      calm = calm_from (in_base g) past c.ce g.luns 0 (λ m low. a.calm m (omega (arith, low)));
+      shown = λ e. all_shown g past c.ce a (one_looked (in_base g) targets past c.ce k legal r e);
+    }) in
+    rw first.0 judged
+permitted_shared g shared targets past (Rdy ce lun fail) legal h = rw same h
+  where
+    same : lun_is (λ v. v.busy) (luns_of g past ce) lun ≡ lun_is (λ v. v.busy) (luns_of (in_base g) past ce) lun
+    same = lun_by core (λ v. v.busy) (λ v. refl) (luns_of (in_base g) past ce) (luns_of g past ce) (all_cores g past ce (are_alike g targets past ce shared legal)) lun
+permitted_shared g shared targets past (Ard ce lun) legal h = rw same h
+  where
+    same : lun_is (λ v. v.array_busy) (luns_of g past ce) lun ≡ lun_is (λ v. v.array_busy) (luns_of (in_base g) past ce) lun
+    same = lun_by core (λ v. v.array_busy) (λ v. refl) (luns_of (in_base g) past ce) (luns_of g past ce) (all_cores g past ce (are_alike g targets past ce shared legal)) lun
+
+-- 5. elsewhere
+
+item_wider : (g : Parts) → is_shared g ≡ false → (t : TailFacts) (luns : List LunView) (i : Item) → judge_item (in_base g) t luns i ≡ None → judge_item g t luns i ≡ None
+item_wider g narrow t luns (Cyc c) h = wider g narrow t luns (target_cycle c.kind c.byte) h
+item_wider g narrow t luns (Rdy ce lun fail) h = refl
+item_wider g narrow t luns (Ard ce lun) h = refl
+
+judged_wider : (g : Parts) → is_shared g ≡ false → (targets : ℕ) (t : TailFacts) (luns : List LunView) (i : Item) → judge (in_base g) targets t luns i ≡ None → judge g targets t luns i ≡ None
+judged_wider g narrow targets t luns i h =
     let first = first_passed (breaks_not_there targets luns i) NotThere (judge_item (in_base g) t luns i) h in
-    rw first.0 (item_wider g t luns i first.1)
+    rw first.0 (item_wider g narrow t luns i first.1)
 
-permitted_wider : (g : Parts) (targets : ℕ) (past : List Item) (i : Item) → broken (in_base g) targets past i ≡ None → broken g targets past i ≡ None
-permitted_wider g targets past i h =
-    judged_wider g targets (facts_of (tail past (target_of i))) (luns_of g past (target_of i)) i
-    (subst (λ (luns : List LunView). judge (in_base g) targets (facts_of (tail past (target_of i))) luns i ≡ None) (luns_same g past (target_of i)) h)
+permitted_narrow : (g : Parts) → is_shared g ≡ false → (targets : ℕ) (past : List Item) (i : Item) → broken (in_base g) targets past i ≡ None → broken g targets past i ≡ None
+permitted_narrow g narrow targets past i h =
+    judged_wider g narrow targets (facts_of (tail past (target_of i))) (luns_of g past (target_of i)) i
+    (subst (λ (luns : List LunView). judge (in_base g) targets (facts_of (tail past (target_of i))) luns i ≡ None) (luns_same g narrow past (target_of i)) h)
+
+permitted_wider : (g : Parts) (targets : ℕ) (past : List Item) (i : Item) → is_legal (in_base g) targets past ≡ true → broken (in_base g) targets past i ≡ None → broken g targets past i ≡ None
+permitted_wider g targets past i legal h = by_case (is_shared g) (λ shared. permitted_shared g shared targets past i legal h) (λ narrow. permitted_narrow g narrow targets past i h)
 
 pub none_is : (o : Option Forbidden) → is_none o ≡ true → o ≡ None
 none_is None h = refl
@@ -208,38 +472,107 @@ legal_wider : (g : Parts) (targets : ℕ) (past : List Item) → is_legal (in_ba
 legal_wider g targets [] h = refl
 legal_wider g targets (i ∷ past) h =
     let both = and_parts (is_permitted (in_base g) targets past i) (is_legal (in_base g) targets past) h in
-    and_from (is_permitted g targets past i) (is_legal g targets past) (ap is_none (permitted_wider g targets past i (none_is _ both.0))) (legal_wider g targets past both.1)
+    and_from (is_permitted g targets past i) (is_legal g targets past) (ap is_none (permitted_wider g targets past i both.1 (none_is _ both.0))) (legal_wider g targets past both.1)
 
--- 4. what is shown
+-- 6. what is shown
 
-queued_same : (g : Parts) (past : List Item) (l : Lun) → queued_work (in_base g) past l ≡ queued_work g past l
-queued_same g [] l = refl
-queued_same g (i ∷ past) l = λ k. queued_work_after (effect_same g past i l k) (filled (page_len g) (tail past l.ce)) (queued_same g past l k)
+-- two effects leave the same of pages and of work
+record AreSame (e e' : Effect) : Type 0 where
+  queued : (bytes : List ℕ) (works : List ArrayWork) → queued_work_after e bytes works ≡ queued_work_after e' bytes works
+  pending : (bytes : List ℕ) (works pending : List ArrayWork) → pending_work_after e bytes works pending ≡ pending_work_after e' bytes works pending
+  failed : (pending : List ArrayWork) (failed : Bool) → failed_after e pending failed ≡ failed_after e' pending failed
+  content : (g : Parts) (pending : List ArrayWork) (p : PageAddress) (old : List ℕ) → content_after g e pending p old ≡ content_after g e' pending p old
 
-pending_same : (g : Parts) (past : List Item) (l : Lun) → pending_work (in_base g) past l ≡ pending_work g past l
-pending_same g [] l = refl
-pending_same g (i ∷ past) l = λ k. pending_work_after (effect_same g past i l k) (filled (page_len g) (tail past l.ce)) (queued_same g past l k) (pending_same g past l k)
+same_by_path : (e e' : Effect) → e ≡ e' → AreSame e e'
+same_by_path e e' h =
+    record {
+      queued = λ b w. ap (λ (x : Effect). queued_work_after x b w) h;
+      pending = λ b w p. ap (λ (x : Effect). pending_work_after x b w p) h;
+      failed = λ p f. ap (λ (x : Effect). failed_after x p f) h;
+      content = λ g p a o. ap (λ (x : Effect). content_after g x p a o) h;
+    }
+
+same_by_passed : (e e' : Effect) → e ≡ Unaffected → is_passed e' ≡ true → AreSame e e'
+same_by_passed e (AnotherAddressed reads) none h = same_by_passed_reads e reads none
+  where
+    same_by_passed_reads : (e : Effect) (reads : Bool) → e ≡ Unaffected → AreSame e (AnotherAddressed reads)
+    same_by_passed_reads e reads none =
+        record {
+          queued = λ b w. ap (λ (x : Effect). queued_work_after x b w) none;
+          pending = λ b w p. ap (λ (x : Effect). pending_work_after x b w p) none;
+          failed = λ p f. ap (λ (x : Effect). failed_after x p f) none;
+          content = λ g p a o. ap (λ (x : Effect). content_after g x p a o) none;
+        }
+same_by_passed e e' none h = cc
+
+same_by_like : (e e' : Effect) → Like e e' → AreSame e e'
+same_by_like e e' (equal is plain) = same_by_path e e' is
+same_by_like e e' (passes none is) = same_by_passed e e' none is
+
+-- the effects of a past that is legal in the base profile are the same, but for the work of other LUNs
+record Goes (g : Parts) (past : List Item) (l : Lun) : Type 0 where
+  queued : queued_work (in_base g) past l ≡ queued_work g past l
+  pending : pending_work (in_base g) past l ≡ pending_work g past l
+  failed : has_failed (in_base g) past l ≡ has_failed g past l
+  content : (opening : Lun → PageAddress → List ℕ) (p : PageAddress) → content (in_base g) opening past l p ≡ content g opening past l p
 
 after_same : (g : Parts) (e : Effect) (pending : List ArrayWork) (p : PageAddress) (old : List ℕ) → content_after (in_base g) e pending p old ≡ content_after g e pending p old
 after_same g (BecameReady failed) pending p old = refl
 after_same g e pending p old = refl
 
-content_same : (g : Parts) (opening : Lun → PageAddress → List ℕ) (past : List Item) (l : Lun) (p : PageAddress) → content (in_base g) opening past l p ≡ content g opening past l p
-content_same g opening [] l p = refl
-content_same g opening (i ∷ past) l p =
-    (λ k. content_after (in_base g) (effect_same g past i l k) (pending_same g past l k) p (content_same g opening past l p k))
-    ∙ after_same g (effect_on g past i l) (pending_work g past l) p (content g opening past l p)
+goes_on : (g : Parts) (past : List Item) (i : Item) (l : Lun) → AreSame (effect_on (in_base g) past i l) (effect_on g past i l) → Goes g past l → Goes g (i ∷ past) l
+goes_on g past i l s before =
+    record {
+      queued = s.queued _ _ ∙ ap (queued_work_after (effect_on g past i l) (filled (page_len g) (tail past l.ce))) before.queued;
+      pending = s.pending _ _ _ ∙ (λ k. pending_work_after (effect_on g past i l) (filled (page_len g) (tail past l.ce)) (before.queued k) (before.pending k));
+      failed = s.failed _ _ ∙ (λ k. failed_after (effect_on g past i l) (before.pending k) (before.failed k));
+      content = λ opening p.
+          after_same g (effect_on (in_base g) past i l) (pending_work (in_base g) past l) p (content (in_base g) opening past l p)
+          ∙ (s.content g _ p _ ∙ (λ k. content_after g (effect_on g past i l) (before.pending k) p (before.content opening p k)));
+    }
 
-failed_same : (g : Parts) (past : List Item) (l : Lun) → has_failed (in_base g) past l ≡ has_failed g past l
-failed_same g [] l = refl
-failed_same g (i ∷ past) l = λ k. failed_after (effect_same g past i l k) (pending_same g past l k) (failed_same g past l k)
+goes : (g : Parts) (targets : ℕ) (past : List Item) (l : Lun) → is_legal (in_base g) targets past ≡ true → l.lun < g.luns → Goes g past l
+goes g targets [] l legal low = record { queued = refl; pending = refl; failed = refl; content = λ opening p. refl }
+goes g targets (i ∷ past) l legal low =
+    let parts = both_legal (in_base g) targets past i legal in
+    goes_on g past i l
+    (by_case (is_shared g)
+    (λ shared. same_by_like _ _ (effects_like g targets past i l shared parts.1 parts.0 low))
+    (λ narrow. same_by_path _ _ (effect_same g narrow past i l)))
+    (goes g targets past l parts.1 low)
 
-status_same : (g : Parts) (past : List Item) (l : Lun) → status (in_base g) past l ≡ status g past l
-status_same g past l = λ k. cond (work_same g past l k) 0x80 (cond (array_busy_same g past l k) 0xc0 (cond (failed_same g past l k) 0xe1 0xe0))
+one_of_only : (ds : List ℕ) (n : ℕ) → is_only ds n ≡ true → IsOne ds
+one_of_only [] n h = cc
+one_of_only (m ∷ []) n h = record { m = m; is = refl }
+one_of_only (m ∷ (k ∷ ds)) n h = cc
 
-shown_same : (g : Parts) (parameters : List ℕ) (opening : Lun → PageAddress → List ℕ) (past : List Item) (l : Lun) → shown (in_base g) parameters opening past l ≡ shown g parameters opening past l
-shown_same g parameters opening past l = λ k.
-    shown_by (latch_same g past l k) (status_same g past l k) (byte_at (register_bytes parameters (λ p. content_same g opening past l p k) (register_same g past l k)) (output_column (column_same g past l k)))
+-- a LUN without what the wider profile alone looks at is the same
+view_shown : (g : Parts) (targets : ℕ) (past : List Item) (l : Lun) → is_legal (in_base g) targets past ≡ true → l.lun < g.luns → is_only (drivers (in_base g) past l.ce) l.lun ≡ true → shown_facts (lun_view (in_base g) past l) ≡ shown_facts (lun_view g past l)
+view_shown g targets past l legal low only = by_case (is_shared g) shared (λ narrow. ap shown_facts (view_same g narrow past l))
+  where
+    shared : is_shared g ≡ true → shown_facts (lun_view (in_base g) past l) ≡ shown_facts (lun_view g past l)
+    shared s =
+        let a = are_alike g targets past l.ce s legal in
+        λ i. record (a.rest l.lun low i) { latch = sym (same_latches g past l.ce a (one_of_only _ l.lun only) l.lun low) i }
+
+drives_too : (g : Parts) (targets : ℕ) (past : List Item) (l : Lun) → is_legal (in_base g) targets past ≡ true → l.ce < targets → l.lun < g.luns → is_only (drivers (in_base g) past l.ce) l.lun ≡ true → is_only (drivers g past l.ce) l.lun ≡ true
+drives_too g targets past l legal here low only = by_case (is_shared g) shared narrow
+  where
+    shared : is_shared g ≡ true → is_only (drivers g past l.ce) l.lun ≡ true
+    shared s = ap (λ (ds : List ℕ). is_only ds l.lun) (same_drivers g past l.ce (are_alike g targets past l.ce s legal) (one_of_only _ l.lun only)) ∙ only
+
+    narrow : is_shared g ≡ false → is_only (drivers g past l.ce) l.lun ≡ true
+    narrow n = (λ i. is_only (drivers_from (λ m. (sym (view_same g n past (record { ce = l.ce; lun = m })) i).latch) g.luns 0) l.lun) ∙ only
+
+shown_same : (g : Parts) (targets : ℕ) (parameters : List ℕ) (opening : Lun → PageAddress → List ℕ) (past : List Item) (l : Lun) → is_legal (in_base g) targets past ≡ true → l.ce < targets → l.lun < g.luns → is_only (drivers (in_base g) past l.ce) l.lun ≡ true → shown (in_base g) parameters opening past l ≡ shown g parameters opening past l
+shown_same g targets parameters opening past l legal here low only = λ k.
+    shown_by (view k).latch (cond (view k).busy 0x80 (cond (view k).array_busy 0xc0 (cond (went.failed k) 0xe1 0xe0))) (byte_at (register_bytes parameters (λ p. went.content opening p k) (view k).register) (output_column (view k).column))
+  where
+    view : shown_facts (lun_view (in_base g) past l) ≡ shown_facts (lun_view g past l)
+    view = view_shown g targets past l legal low only
+
+    went : Goes g past l
+    went = goes g targets past l legal low
 
 pub wider_profile : Widens
-wider_profile = record { legal = legal_wider; shown = shown_same }
+wider_profile = record { legal = legal_wider; driver = drives_too; shown = shown_same }

@@ -1,5 +1,6 @@
 -- How the base profile judged before there was a wider one. Rules whose definitions haven't changed since stand here by their names.
-use Rattle.std.specs.Prelude.{◌≡◌, ℕ, Bool, true, false, ◌&&◌, ◌||◌, not, nat_le, if◌then◌else◌, List, Option, Some, None}
+use Rattle.std.specs.Prelude.{◌≡◌, ℕ, Bool, true, false, ◌&&◌, ◌||◌, not, nat_lt, nat_le, if◌then◌else◌, List, Option, Some, None}
+use Rattle.std.specs.List.{list_any}
 use Rattle.nand_geometry.specs.declared.parts.Parts.{Parts}
 use Rattle.nand_geometry.specs.Limits.{page_len}
 use Rattle.onfi_cycle.specs.declared.command.Command.{Command}
@@ -13,10 +14,10 @@ use Rattle.onfi_cycle.specs.declared.target_cycle.TargetCycle.{TargetCycle}
 use Rattle.onfi_cycle.specs.declared.target_cycle.TargetCycle.TheVariants.{CommandCycle, AddressCycle, InputCycle, OutputCycle}
 use Rattle.onfi_cycle.specs.LunView.{LunView}
 use Rattle.onfi_cycle.specs.Base.{is_of_base}
-use Rattle.onfi_cycle.specs.Command.{is_opener, is_change_read_column}
-use Rattle.onfi_cycle.specs.Sequence.{target_of, target_cycle, column_with, input_column}
+use Rattle.onfi_cycle.specs.Command.{is_opener, is_change_read_column, addresses_the_array, wants_ready, wants_one_lun}
+use Rattle.onfi_cycle.specs.Sequence.{target_of, target_cycle, row_with, column_with, input_column}
 use Rattle.onfi_cycle.specs.Lun.{luns_of}
-use Rattle.onfi_cycle.specs.Rules.{driver_is, is_past_register, register_len, second_of_page, second_column, breaks_not_there, breaks_several_luns, breaks_no_column_to_change, breaks_row_outside, breaks_lun_busy, breaks_queue_clash, breaks_data_not_ready, breaks_cache_read_misplaced}
+use Rattle.onfi_cycle.specs.Rules.{driver_is, is_past_register, register_len, second_of_page, second_column, ends_row, named_lun_is, breaks_not_there, breaks_no_column_to_change, breaks_row_outside, breaks_queue_clash, breaks_data_not_ready, breaks_cache_read_misplaced}
 use Rattle.onfi_cycle.specs.Permitted.{is_legal, broken}
 use Rattle.onfi_profiles.specs.Tails.{base_takes_inputs, base_wants_address, base_wants_command, base_is_open, base_facts}
 use Rattle.onfi_profiles.specs.Widening.{in_base}
@@ -39,6 +40,11 @@ abbrev pub base_sequence_open : TailFacts → TargetCycle → Bool
 base_sequence_open t (CommandCycle c) = is_opener c && base_is_open t
 base_sequence_open t _ = false
 
+-- F4
+abbrev pub base_several_luns : Parts → TargetCycle → Bool
+base_several_luns g (CommandCycle c) = wants_one_lun c && nat_lt 1 g.luns
+base_several_luns g _ = false
+
 -- F6
 abbrev pub base_command_misplaced : TailFacts → TargetCycle → Bool
 base_command_misplaced t (CommandCycle c) = not (is_opener c) && not (base_wants_command t c)
@@ -48,6 +54,12 @@ base_command_misplaced t _ = false
 abbrev pub base_address_misplaced : TailFacts → TargetCycle → Bool
 base_address_misplaced t (AddressCycle byte) = not (base_wants_address t byte)
 base_address_misplaced t _ = false
+
+-- F9
+abbrev pub base_lun_busy : Parts → TailFacts → List LunView → TargetCycle → Bool
+base_lun_busy g t luns (CommandCycle c) = wants_ready c && not (list_any (λ v. not v.busy) luns)
+base_lun_busy g t luns (AddressCycle byte) = ends_row addresses_the_array t && named_lun_is g (row_with t byte) (λ v. v.busy) luns
+base_lun_busy g t luns _ = false
 
 -- F11
 abbrev pub base_input_misplaced : TailFacts → TargetCycle → Bool
@@ -71,12 +83,12 @@ abbrev pub base_judge_cycle : Parts → TailFacts → List LunView → TargetCyc
 base_judge_cycle g t luns cycle =
     if base_command_unknown g cycle then Some CommandUnknown
     else (if base_sequence_open t cycle then Some SequenceOpen
-    else (if breaks_several_luns g cycle then Some SeveralLuns
+    else (if base_several_luns g cycle then Some SeveralLuns
     else (if breaks_no_column_to_change luns cycle then Some NoColumnToChange
     else (if base_command_misplaced t cycle then Some CommandMisplaced
     else (if base_address_misplaced t cycle then Some AddressMisplaced
     else (if breaks_row_outside g t cycle then Some RowOutside
-    else (if breaks_lun_busy g t luns cycle then Some LunBusy
+    else (if base_lun_busy g t luns cycle then Some LunBusy
     else (if breaks_queue_clash g t luns cycle then Some QueueClash
     else (if base_input_misplaced t cycle then Some InputMisplaced
     else (if base_no_sole_driver t luns cycle then Some NoSoleDriver

@@ -11,7 +11,7 @@ pub fn decodes_base()
     ensures { DecodesBase }
 {}
 
-/// What is legal in the base profile is legal in the wider one, whatever the chip has besides, and each LUN shows the same.
+/// What is legal in the base profile is legal in the wider one, whatever the chip has besides, and the one driver of a target gives the same byte.
 pub fn widens()
     ensures { Widens }
 {}

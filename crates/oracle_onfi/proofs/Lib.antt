@@ -1,1 +1,2 @@
 pub mod AndBytes
+pub mod Stepping

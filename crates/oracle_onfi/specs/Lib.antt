@@ -1,3 +1,4 @@
 pub mod Opening
 pub mod Filled
 pub mod Driven
+pub mod Stepped

@@ -119,9 +119,10 @@ fn queued_work_after(
             works.insert(0, program_of(page, bytes))?;
             Ok(works)
         }
-        Effect::EraseStarted { .. } | Effect::ProgramStarted { .. } | Effect::ResetStarted => {
-            Ok(Vec::new(alloc))
-        }
+        Effect::EraseStarted { .. }
+        | Effect::ProgramStarted { .. }
+        | Effect::ResetStarted
+        | Effect::TargetResetStarted { .. } => Ok(Vec::new(alloc)),
         _ => Ok(works),
     }
 }
@@ -179,6 +180,7 @@ fn pending_work_after(
         | Effect::CacheReadContinued
         | Effect::CacheReadEnded
         | Effect::ResetStarted
+        | Effect::TargetResetStarted { .. }
         | Effect::BecameReady { .. } => Ok(Vec::new(alloc)),
         _ => Ok(pending),
     }

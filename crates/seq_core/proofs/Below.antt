@@ -1,6 +1,6 @@
 -- The laws of the crates below, as the proofs here cite them. No other file here names a proof of another crate.
-use Rattle.onfi_cycle.specs.Steps.{FactsGoOn, ReadiesChange}
-use Rattle.onfi_cycle.proofs.Keeping.{facts_go_on, readies_change}
+use Rattle.onfi_cycle.specs.Steps.{FactsGoOn, ReadiesChange, ServiceBegins}
+use Rattle.onfi_cycle.proofs.Keeping.{facts_go_on, readies_change, service_begins}
 pub use Rattle.onfi_cycle.proofs.Keeping.{view_at}
 pub use Rattle.onfi_cycle.proofs.Following.{refilled}
 use Rattle.micro_program.specs.Laws.{AnsweredStepsGoWell, FineStepsGoWell, ModelsAreTruthful, OwnCyclesPassOthers, UnreadyIsBusy}
@@ -20,6 +20,9 @@ facts = facts_go_on
 
 pub readies_leave : ReadiesChange
 readies_leave = readies_change
+
+pub service : ServiceBegins
+service = service_begins
 
 pub fine_steps : FineStepsGoWell
 fine_steps = fine_step

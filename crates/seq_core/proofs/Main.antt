@@ -14,6 +14,7 @@ use Rattle.seq_core.specs.Reply.{Reply, ToReady, ToArrayReady}
 use Rattle.seq_core.specs.After.{Ran, load_fault, after_load, after_unload, after_slot_unload, after_item, run}
 use Rattle.seq_core.specs.Lawful.{HasSeat, LawfulSlot, LawfulAt, has_bus, LawfulWorld}
 use Rattle.seq_core.specs.Headline.{EventsGoWell, HoldersGoOn, AddsAtMost, FreshIsLawful, EventsAreOwn, Headline}
+use Rattle.seq_core.proofs.Below.{service}
 use Rattle.seq_core.proofs.Slots.{same_lun_self, none_of_fresh, there_of_slot}
 use Rattle.seq_core.proofs.Events.{item_lawful, step_lawful}
 use Rattle.seq_core.proofs.Loads.{load_lawful, unload_lawful}
@@ -71,7 +72,7 @@ fresh_is_lawful s =
     record {
       legal = refl;
       size = length-replicate (s.targets * s.geometry.luns) None;
-      slots = λ m there. subst (λ (o : Option Slot). LawfulAt s [] false m o) (sym (none_of_fresh s [] None (s.targets * s.geometry.luns) m)) (record { ready = refl; no_cache = refl; no_queue = refl }, refl);
+      slots = λ m there. subst (λ (o : Option Slot). LawfulAt s [] false m o) (sym (none_of_fresh s [] None (s.targets * s.geometry.luns) m)) (record { ready = refl; no_cache = refl; no_queue = refl; free = service.first s.geometry m.ce }, refl);
       holder = λ l e. cc;
       closed = λ ce h. refl;
     }

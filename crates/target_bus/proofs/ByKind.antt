@@ -15,9 +15,9 @@ use Rattle.onfi_cycle.specs.declared.data_phase.DataPhase.TheVariants.{Outside, 
 use Rattle.onfi_cycle.specs.declared.effect.Effect.TheVariants.{Unaffected, FeaturesSet}
 use Rattle.onfi_cycle.specs.declared.filling.Filling.TheVariants.{Leaves}
 use Rattle.onfi_cycle.specs.Sequence.{tail, facts_of, target_cycle, takes_data, takes_features}
-use Rattle.onfi_cycle.specs.Effect.{cycle_effect}
+use Rattle.onfi_cycle.specs.Effect.{of_target, cycle_effect}
 use Rattle.onfi_cycle.specs.Filling.{filling, cycle_filling}
-use Rattle.onfi_cycle.specs.Lun.{effect_on, latch_alone}
+use Rattle.onfi_cycle.specs.Lun.{effect_on, latch_alone, effect_among}
 use Rattle.onfi_cycle.specs.Permitted.{broken}
 use Rattle.onfi_cycle.specs.State.{BusView, Follows}
 use Rattle.onfi_cycle.specs.Working.{fills, begins}
@@ -49,14 +49,14 @@ no_feature FeatureInputs k h = cc
 
 -- an input of a program does nothing to a LUN but to its page registers
 pub unaffected : (g : Parts) (past : List Item) (c : Cycle) (l : Lun) → is_input c.kind ≡ true → takes_data (facts_of (tail past l.ce)).phase ≡ true → Unaffected ≡ effect_on g past (Cyc c) l
-unfolding effect_on
+unfolding effect_among
 unaffected g past c l h takes = by c.kind (c.ce == l.ce) h
   where
     t : TailFacts
     t = facts_of (tail past l.ce)
 
     by : (k : Kind) (b : Bool) → is_input k ≡ true → Unaffected ≡ cond b (cycle_effect g t (latch_alone g past l) (target_cycle k c.byte) l.lun) Unaffected
-    by Din true h = sym (ap (λ (b : Bool). cond b (FeaturesSet (t.column % 256)) Unaffected) (no_feature t.phase t.inputs takes))
+    by Din true h = sym (ap (λ (b : Bool). cond b (of_target g l.lun (FeaturesSet (t.column % 256))) Unaffected) (no_feature t.phase t.inputs takes))
     by Din false h = refl
     by Cmd b h = cc
     by Adr b h = cc

@@ -1,5 +1,5 @@
 -- The inputs of a Set Features: the last of its four bytes sets the feature, and none before it does anything.
-use Rattle.std.proofs.Common.{◌≡◌, ℕ, zero, suc, ◌+◌, ◌-◌, ◌%◌, ◌<◌, ◌≤◌, ◌==◌, Bool, true, false, ◌&&◌, ◌||◌, cond, ltb, eq-eqb, eqb-true, List, [], ◌∷◌, Option, Some, None, refl, sym, ap, subst, ◌∙◌, arith, length, length-set, set}
+use Rattle.std.proofs.Common.{◌≡◌, ℕ, ◌+◌, ◌-◌, ◌%◌, ◌<◌, ◌==◌, Bool, true, false, ◌&&◌, ◌||◌, cond, ltb, eq-eqb, eqb-true, not, List, [], ◌∷◌, Option, Some, None, refl, sym, ap, subst, ◌∙◌, arith, length, length-set, set}
 use Rattle.std.proofs.lemmas.Bool.{not-false, or_from, or_right, and_parts}
 use Rattle.std.proofs.lemmas.Bool.Decides.{nat_tests}
 use Rattle.std.specs.List.{slice_get}
@@ -7,24 +7,24 @@ use Rattle.nand_geometry.specs.declared.parts.Parts.{Parts}
 use Rattle.onfi_cycle.specs.declared.data_phase.DataPhase.{DataPhase}
 use Rattle.onfi_cycle.specs.declared.data_phase.DataPhase.TheVariants.{Outside, Inputs, FirstColumn, SecondColumn, FeatureInputs}
 use Rattle.onfi_cycle.specs.declared.effect.Effect.{Effect}
-use Rattle.onfi_cycle.specs.declared.effect.Effect.TheVariants.{Unaffected, FeaturesSet}
+use Rattle.onfi_cycle.specs.declared.effect.Effect.TheVariants.{Unaffected, Deselected, FeaturesSet}
 use Rattle.onfi_cycle.specs.declared.filling.Filling.TheVariants.{Leaves}
 use Rattle.onfi_cycle.specs.declared.item.Item.{Item}
 use Rattle.onfi_cycle.specs.declared.item.Kind.TheVariants.{Din}
 use Rattle.onfi_cycle.specs.declared.lun.Lun.{Lun}
 use Rattle.onfi_cycle.specs.declared.tail_facts.TailFacts.{TailFacts}
 use Rattle.onfi_cycle.specs.declared.target_cycle.TargetCycle.TheVariants.{InputCycle}
-use Rattle.onfi_cycle.specs.Sequence.{tail, facts_of, extended_facts, takes_data, takes_features, takes_inputs, phase_after_input, row}
-use Rattle.onfi_cycle.specs.Effect.{names_lun, page_address, input_effect, ends_features, cycle_effect}
+use Rattle.onfi_cycle.specs.Sequence.{extended_facts, takes_data, takes_features, takes_inputs, phase_after_input}
+use Rattle.onfi_cycle.specs.Effect.{is_shared, of_target, input_effect, ends_features}
 use Rattle.onfi_cycle.specs.Filling.{filling, cycle_filling}
-use Rattle.onfi_cycle.specs.Lun.{effect_on, latch_alone, lun_view}
+use Rattle.onfi_cycle.specs.Lun.{effect_on, lun_view, effect_among}
 use Rattle.onfi_cycle.specs.Rules.{breaks_input_misplaced}
 use Rattle.onfi_cycle.specs.Permitted.{broken}
-use Rattle.onfi_cycle.specs.Channel.{Channel, cycle}
+use Rattle.onfi_cycle.specs.Channel.{cycle}
 use Rattle.onfi_cycle.specs.State.{BusView, Follows, judged, bus_after, target_view}
 use Rattle.onfi_cycle.specs.Bounds.{BusFits}
 use Rattle.onfi_cycle.specs.Inputs.{with_inputs, judged_inputs, after_inputs}
-use Rattle.onfi_cycle.specs.Working.{fills, begins, works_on, IsLun, FactsFit}
+use Rattle.onfi_cycle.specs.Working.{fills, begins, IsLun, FactsFit}
 use Rattle.onfi_cycle.proofs.Passed.{permitted_keeps}
 use Rattle.onfi_cycle.proofs.Runs.{Splits, splits, cycle_judged, first_permitted}
 use Rattle.onfi_cycle.proofs.Booleans.{clash}
@@ -34,19 +34,19 @@ use Rattle.onfi_cycle.proofs.Following.{found_target}
 use Rattle.die_model.specs.Die.{Die}
 use Rattle.die_model.specs.Standing.{IsDieOf, WorkedBy, CanWork}
 use Rattle.target_bus.specs.declared.working.Worked.{Worked}
-use Rattle.target_bus.specs.Bus.{Entries, channel_on, number_of, numbered, lun_at, feature_set, FindsWork, IsStanding, StandOnByInputs}
+use Rattle.target_bus.specs.Bus.{Entries, channel_on, number_of, numbered, lun_at, feature_set, FindsWork, IsStanding}
 use Rattle.target_bus.proofs.Inputs.{facts, facts_more, one_followed, one_permitted, one_idle, inputs_there}
 use Rattle.target_bus.proofs.Numbers.{numbered_number}
-use Rattle.target_bus.proofs.Standing.{SameDie, can_begin, one_works, stands_on, cycle_there, die_there}
+use Rattle.target_bus.proofs.Standing.{SameDie, can_begin, input_of_one, one_works, stands_on, cycle_there, die_there}
 
 abbrev input : ℕ → ℕ → Item
 input ce byte = cycle ce Din byte
 
 -- 1. an input where no program takes data
 
-effect_is : (g : Parts) (past : List Item) (ce byte lun : ℕ) → effect_on g past (input ce byte) (lun_at ce lun) ≡ input_effect (facts past ce)
-unfolding effect_on
-effect_is g past ce byte lun = ap (λ (b : Bool). cond b (input_effect (facts past ce)) Unaffected) (eq-eqb ce ce refl)
+effect_is : (g : Parts) (past : List Item) (ce byte lun : ℕ) → effect_on g past (input ce byte) (lun_at ce lun) ≡ input_effect g (facts past ce) lun
+unfolding effect_among
+effect_is g past ce byte lun = ap (λ (b : Bool). cond b (input_effect g (facts past ce) lun) Unaffected) (eq-eqb ce ce refl)
 
 filling_is : (g : Parts) (past : List Item) (ce byte lun : ℕ) → takes_data (facts past ce).phase ≡ false → filling g (facts past ce) (input ce byte) (lun_at ce lun) ≡ Leaves
 filling_is g past ce byte lun none =
@@ -56,7 +56,7 @@ filling_is g past ce byte lun none =
 rests : (g : Parts) (past : List Item) (ce byte : ℕ) → takes_data (facts past ce).phase ≡ false → ends_features (facts past ce) ≡ false → FindsWork g past (input ce byte) ce 0 None
 rests g past ce byte none before = λ m least low.
     or_from _ _ (ap fills (filling_is g past ce byte m none))
-    (ap begins (effect_is g past ce byte m ∙ ap (λ (b : Bool). cond b (FeaturesSet ((facts past ce).column % 256)) Unaffected) before))
+    (ap begins (effect_is g past ce byte m ∙ ap (λ (b : Bool). cond b (of_target g m (FeaturesSet ((facts past ce).column % 256))) Unaffected) before))
 
 -- what waits for more bytes of a feature takes no data
 no_data : (p : DataPhase) → takes_features p ≡ true → takes_data p ≡ false
@@ -132,6 +132,14 @@ one_waits : (s : BusView) (opened : List Entries) (dies : List Die) (past : List
 one_waits s opened dies past ce byte count address f fits h w low =
     one_idle s opened dies past ce byte f fits h (rests s.geometry past ce byte (no_data (facts past ce).phase w.takes) (before_last (facts past ce) count address w low))
 
+-- the first LUN acts for its target
+first_acts : (g : Parts) (x : Effect) → of_target g 0 x ≡ x
+first_acts g x = by (is_shared g)
+  where
+    by : (b : Bool) → cond (not b || true) x Deselected ≡ x
+    by true = refl
+    by false = refl
+
 abbrev sets : ℕ → Worked
 sets address = record { lun = 0; filling = Leaves; effect = FeaturesSet address }
 
@@ -140,9 +148,10 @@ one_sets s opened dies past ce byte address k old new f fits h w place found wor
     let permitted = one_permitted s past ce byte h f.follows in
     let some = f.limits.luns_least in
     let effect : FeaturesSet address ≡ effect_on s.geometry past (input ce byte) (lun_at ce 0) =
-    ap FeaturesSet (sym w.feature) ∙ sym (effect_is s.geometry past ce byte 0 ∙ ap (λ (b : Bool). cond b (FeaturesSet ((facts past ce).column % 256)) Unaffected) (at_last (facts past ce) address w)) in
+    ap FeaturesSet (sym w.feature) ∙ sym (effect_is s.geometry past ce byte 0 ∙ (ap (λ (b : Bool). cond b (of_target s.geometry 0 (FeaturesSet ((facts past ce).column % 256))) Unaffected) (at_last (facts past ce) address w) ∙ first_acts s.geometry (FeaturesSet ((facts past ce).column % 256)))) in
     stands_on s (bus_after (input ce 0) s) opened dies (set dies k new) past (input ce byte) f (one_followed s past ce byte h f.follows) (length-set dies k new)
     (one_works s opened dies past (record { ce = ce; kind = Din; byte = byte }) (sets address) k old new f permitted (facts_fit s.geometry (length s.targets) s past fits f.follows)
+    (input_of_one s.geometry (record { ce = ce; kind = Din; byte = byte }) refl)
     (cycle_there s.geometry (length s.targets) past (record { ce = ce; kind = Din; byte = byte }) permitted)
     (record {
       lun = omega (arith, some);

@@ -1,5 +1,5 @@
 -- A run of inputs: which page register it fills, and how the dies stand after it.
-use Rattle.std.proofs.Common.{◌≡◌, ℕ, zero, suc, ◌+◌, ◌%◌, ◌<◌, ◌≤◌, ◌==◌, Bool, true, false, ◌&&◌, cond, eq-eqb, List, [], ◌∷◌, ◌++◌, Option, Some, None, refl, sym, ap, subst, ◌∙◌, arith, length, length-set, map, reverse, set, get_or}
+use Rattle.std.proofs.Common.{◌≡◌, ℕ, zero, suc, ◌+◌, ◌%◌, ◌<◌, ◌≤◌, ◌==◌, Bool, true, false, cond, eq-eqb, List, [], ◌∷◌, ◌++◌, Option, Some, None, refl, sym, ap, subst, ◌∙◌, arith, length, length-set, map, reverse, set, get_or}
 use Rattle.std.proofs.lemmas.Bool.{or_from, or_left, and_parts}
 use Rattle.std.proofs.lemmas.List.{set-get_or, get_or-set_same}
 use Rattle.std.proofs.lemmas.Option.{slice_get_within}
@@ -18,7 +18,7 @@ use Rattle.onfi_cycle.specs.declared.tail_facts.TailFacts.{TailFacts}
 use Rattle.onfi_cycle.specs.declared.target_cycle.TargetCycle.{TargetCycle}
 use Rattle.onfi_cycle.specs.declared.target_cycle.TargetCycle.TheVariants.{InputCycle}
 use Rattle.onfi_cycle.specs.Sequence.{tail, facts_of, facts_after, extended_facts, takes_data, takes_inputs, phase_after_input, row, input_column}
-use Rattle.onfi_cycle.specs.Effect.{names_lun, page_address}
+use Rattle.onfi_cycle.specs.Effect.{page_address}
 use Rattle.onfi_cycle.specs.Filling.{filling, cycle_filling}
 use Rattle.onfi_cycle.specs.Content.{written}
 use Rattle.onfi_cycle.specs.Permitted.{broken}
@@ -38,7 +38,7 @@ use Rattle.target_bus.specs.declared.working.FilledLun.{FilledLun}
 use Rattle.target_bus.specs.Bus.{Entries, number_of, lun_at, is_filled, IsFilledAt, FindsFilled, FindsWork, IsStanding, IsRunning, StandOnByInputs, ArePut}
 use Rattle.target_bus.proofs.ByKind.{filled, unaffected}
 use Rattle.target_bus.proofs.Runs.{with_pushed}
-use Rattle.target_bus.proofs.Standing.{only_data, stands_on, none_works, one_works, cycle_there, die_there, same_channel, traced}
+use Rattle.target_bus.proofs.Standing.{only_data, stands_on, none_works, input_of_one, one_works, cycle_there, die_there, same_channel, traced}
 
 abbrev input : ℕ → ℕ → Item
 input ce byte = cycle ce Din byte
@@ -151,6 +151,7 @@ one_fills s opened dies past ce byte lun k page column d f fits h here place fou
     sym (filling_is s.geometry past ce lun byte ∙ ap (λ (b : Bool). cond b (Fills (page_address s.geometry (row (facts past ce))) (input_column (facts past ce)) byte) Leaves) here.fills)) in
     stands_on s (bus_after (input ce 0) s) opened dies (set dies k new) past (input ce byte) f (one_followed s past ce byte h f.follows) (length-set dies k new)
     (one_works s opened dies past (record { ce = ce; kind = Din; byte = byte }) (filled lun (Fills page column byte)) k d new f permitted (facts_fit s.geometry (length s.targets) s past fits f.follows)
+    (input_of_one s.geometry (record { ce = ce; kind = Din; byte = byte }) refl)
     (cycle_there s.geometry (length s.targets) past (record { ce = ce; kind = Din; byte = byte }) permitted)
     (record {
       lun = here.there;

@@ -8,3 +8,4 @@ pub mod Runs
 pub mod Outputs
 pub mod Inputs
 pub mod Features
+pub mod Resets

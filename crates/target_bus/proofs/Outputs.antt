@@ -13,7 +13,7 @@ use Rattle.onfi_cycle.specs.declared.latch.Latch.TheVariants.{Off, Status, Data}
 use Rattle.onfi_cycle.specs.declared.lun.Lun.{Lun}
 use Rattle.onfi_cycle.specs.declared.read_column.ReadColumn.{ReadColumn}
 use Rattle.onfi_cycle.specs.Effect.{is_off, is_data}
-use Rattle.onfi_cycle.specs.Lun.{effect_on, latch, latch_after, drivers, drivers_from, is_only, lun_view, register, read_column, read_column_after, output_column, option_plus}
+use Rattle.onfi_cycle.specs.Lun.{effect_on, latch, shown_after, drivers, drivers_from, is_only, lun_view, register, read_column, read_column_after, output_column, option_plus, effect_among}
 use Rattle.onfi_cycle.specs.Content.{shown, shown_by, byte_at, content, register_bytes}
 use Rattle.onfi_cycle.specs.Permitted.{broken}
 use Rattle.onfi_cycle.specs.Channel.{Channel, cycle, bus_byte, byte_of_driver}
@@ -59,7 +59,7 @@ run_stands ce (byte ∷ bytes) s opened dies past f fits h =
 latch_kept : (g : Parts) (past : List Item) (ce byte : ℕ) (l : Lun) → latch g (cycle ce Dout byte ∷ past) l ≡ latch g past l
 latch_kept g past ce byte l = at (ce == l.ce) (is_data (latch g past l))
   where
-    at : (a b : Bool) → latch_after (cond a (cond b DataOutput Unaffected) Unaffected) (latch g past l) ≡ latch g past l
+    at : (a b : Bool) → shown_after (cond a (cond b DataOutput Unaffected) Unaffected) (lun_view g past l) ≡ latch g past l
     at true true = refl
     at true false = refl
     at false b = refl
@@ -74,7 +74,7 @@ drivers_kept : (g : Parts) (past : List Item) (ce byte : ℕ) → drivers g (cyc
 drivers_kept g past ce byte = drivers_same _ _ (λ m. latch_kept g past ce byte (record { ce = ce; lun = m })) g.luns 0
 
 gives_data : (g : Parts) (past : List Item) (ce byte m : ℕ) → drivers g past ce ≡ m ∷ [] → latch g past (record { ce = ce; lun = m }) ≡ Data → effect_on g past (cycle ce Dout byte) (record { ce = ce; lun = m }) ≡ DataOutput
-unfolding effect_on
+unfolding effect_among
 gives_data g past ce byte m one e =
     by (ce == ce) (eq-eqb ce ce refl) (is_only (drivers g past ce) m) (ap (λ (ns : List ℕ). is_only ns m) one ∙ eq-eqb m m refl) (latch g past (record { ce = ce; lun = m })) e
   where

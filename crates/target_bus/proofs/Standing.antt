@@ -32,16 +32,18 @@ use Rattle.onfi_cycle.specs.declared.target_cycle.TargetCycle.{TargetCycle}
 use Rattle.onfi_cycle.specs.declared.target_cycle.TargetCycle.TheVariants.{CommandCycle, AddressCycle, InputCycle, OutputCycle}
 use Rattle.onfi_cycle.specs.LunView.{LunView}
 use Rattle.onfi_cycle.specs.Sequence.{tail, facts_of, target_cycle, takes_data, takes_features, input_column, wants_command, wants_address, row, row_with}
-use Rattle.onfi_cycle.specs.Effect.{is_off, is_data, names_lun, confirm_effect, command_effect, address_effect, opening_address_effect, id_effect, ends_features, cycle_effect}
+use Rattle.onfi_cycle.specs.Effect.{is_shared, acts_for_target, of_target, other_effect, lun_reset_effect, is_off, is_data, names_lun, confirm_effect, command_effect, address_effect, opening_address_effect, id_effect, ends_features, cycle_effect}
+use Rattle.onfi_cycle.specs.Command.{closes_row, is_read_confirm}
 use Rattle.onfi_cycle.specs.Filling.{filling, cycle_filling}
-use Rattle.onfi_cycle.specs.Lun.{effect_on, latch_alone, luns_of, lun_view}
+use Rattle.onfi_cycle.specs.Lun.{effect_on, latch_alone, luns_of, lun_view, effect_among}
 use Rattle.onfi_cycle.specs.Rules.{breaks_not_there, breaks_column_outside, lun_is, is_some_and, some_queued_clashes}
-use Rattle.onfi_cycle.specs.declared.item.Kind.TheVariants.{Dout}
+use Rattle.onfi_cycle.specs.declared.item.Kind.{Kind}
+use Rattle.onfi_cycle.specs.declared.item.Kind.TheVariants.{Cmd, Adr, Din, Dout}
 use Rattle.onfi_cycle.specs.Channel.{Channel, cycle}
 use Rattle.onfi_cycle.specs.Permitted.{broken}
 use Rattle.onfi_cycle.specs.State.{BusView, Follows}
 use Rattle.onfi_cycle.specs.Bounds.{LunFits, EffectFits, is_row}
-use Rattle.onfi_cycle.specs.Working.{fills, begins, works_on, IsLun, FactsFit}
+use Rattle.onfi_cycle.specs.Working.{fills, begins, works_on, is_reset_cycle, resets_several, IsLun, FactsFit}
 use Rattle.onfi_cycle.specs.Readies.{starts, cycle_starts, starts_work, bus_due}
 use Rattle.onfi_cycle.proofs.Others.{first_passed}
 use Rattle.onfi_cycle.proofs.Passed.{permitted_keeps}
@@ -49,20 +51,22 @@ use Rattle.onfi_cycle.proofs.Keeping.{views_length}
 use Rattle.onfi_cycle.proofs.Following.{count_of}
 use Rattle.die_model.specs.Die.{Die, work_begun, is_program, IsAfter}
 use Rattle.die_model.specs.Standing.{IsDieOf, WorkedBy, CanBeginSome, is_no_ready, CanWork, IsWorked}
-use Rattle.die_model.proofs.Standing.{is_input, dies_go_on}
-use Rattle.target_bus.specs.Bus.{Entries, channel_on, opened_page, numbered, number_of, lun_at, StandFor, FindsWork, IsStanding, Permits, IsNext, IsRunning, Traced, spent}
+use Rattle.die_model.proofs.Standing.{is_input as is_an_input, dies_go_on}
+use Rattle.target_bus.specs.Bus.{Entries, is_input, channel_on, opened_page, numbered, number_of, lun_at, StandFor, FindsWork, IsStanding, Permits, IsNext, IsRunning, Traced, spent}
 use Rattle.target_bus.specs.declared.working.Worked.{Worked}
 use Rattle.target_bus.proofs.Numbers.{target_there, lun_there, numbered_number, number_apart, number_below, set_here, set_other}
 
 -- 1. what leaves a die as it is
 
-rests : (x : Effect) (d : Die) → begins x ≡ false → is_no_ready x ≡ true → IsAfter x d d
+pub rests : (x : Effect) (d : Die) → begins x ≡ false → is_no_ready x ≡ true → IsAfter x d d
 rests e.Unaffected d b r = record { geometry = refl; planes = refl; pages = λ p. refl; register = refl; array_page = refl; busy = refl; caching = refl; array_busy = refl; queue = refl; queued = refl; pending = refl; failed = refl }
 rests e.DataOutputEnabled d b r = record { geometry = refl; planes = refl; pages = λ p. refl; register = refl; array_page = refl; busy = refl; caching = refl; array_busy = refl; queue = refl; queued = refl; pending = refl; failed = refl }
 rests e.StatusSelected d b r = record { geometry = refl; planes = refl; pages = λ p. refl; register = refl; array_page = refl; busy = refl; caching = refl; array_busy = refl; queue = refl; queued = refl; pending = refl; failed = refl }
 rests e.StatusRowAwaited d b r = record { geometry = refl; planes = refl; pages = λ p. refl; register = refl; array_page = refl; busy = refl; caching = refl; array_busy = refl; queue = refl; queued = refl; pending = refl; failed = refl }
 rests e.SelectedForStatus d b r = record { geometry = refl; planes = refl; pages = λ p. refl; register = refl; array_page = refl; busy = refl; caching = refl; array_busy = refl; queue = refl; queued = refl; pending = refl; failed = refl }
 rests e.Deselected d b r = record { geometry = refl; planes = refl; pages = λ p. refl; register = refl; array_page = refl; busy = refl; caching = refl; array_busy = refl; queue = refl; queued = refl; pending = refl; failed = refl }
+rests e.StatusOfSelected d b r = record { geometry = refl; planes = refl; pages = λ p. refl; register = refl; array_page = refl; busy = refl; caching = refl; array_busy = refl; queue = refl; queued = refl; pending = refl; failed = refl }
+rests (e.AnotherAddressed reads) d b r = record { geometry = refl; planes = refl; pages = λ p. refl; register = refl; array_page = refl; busy = refl; caching = refl; array_busy = refl; queue = refl; queued = refl; pending = refl; failed = refl }
 rests (e.ReadColumnChanged column) d b r = record { geometry = refl; planes = refl; pages = λ p. refl; register = refl; array_page = refl; busy = refl; caching = refl; array_busy = refl; queue = refl; queued = refl; pending = refl; failed = refl }
 rests e.DataOutput d b r = record { geometry = refl; planes = refl; pages = λ p. refl; register = refl; array_page = refl; busy = refl; caching = refl; array_busy = refl; queue = refl; queued = refl; pending = refl; failed = refl }
 rests x d b r = cc
@@ -77,6 +81,14 @@ either : (P : Effect → Type 0) (b : Bool) (x y : Effect) → P x → P y → P
 either P true x y h k = h
 either P false x y h k = k
 
+-- the work of a closer of a row on the LUNs that it doesn't name
+either_passed : (P : Effect → Type 0) (g : Parts) (t : TailFacts) (c : Command) → P (e.AnotherAddressed (is_read_confirm c)) → P e.Unaffected → P (other_effect g t c)
+either_passed P g t c h k = either P (closes_row c && (wants_command t c && is_shared g)) (e.AnotherAddressed (is_read_confirm c)) e.Unaffected h k
+
+-- the work of a Reset LUN
+either_reset : (P : Effect → Type 0) (g : Parts) (named : Bool) → P e.ResetStarted → P (e.AnotherAddressed false) → P e.Unaffected → P (lun_reset_effect g named)
+either_reset P g named h k u = either P named e.ResetStarted (cond (is_shared g) (e.AnotherAddressed false) e.Unaffected) h (either P (is_shared g) (e.AnotherAddressed false) e.Unaffected k u)
+
 abbrev IsNoReady : Effect → Type 0
 IsNoReady x = is_no_ready x ≡ true
 
@@ -90,14 +102,14 @@ confirm_no_ready g t c = refl
 
 command_no_ready : (g : Parts) (t : TailFacts) (la : Latch) (c : Command) (n : ℕ) → IsNoReady (command_effect g t la c n)
 command_no_ready g t la Read n = refl
-command_no_ready g t la ReadStatus n = refl
+command_no_ready g t la ReadStatus n = either IsNoReady (is_shared g) e.StatusOfSelected e.StatusSelected refl refl
 command_no_ready g t la ReadStatusEnhanced n = refl
-command_no_ready g t la Reset n = refl
-command_no_ready g t la SynchronousReset n = refl
+command_no_ready g t la Reset n = either IsNoReady (is_shared g) (e.TargetResetStarted (n == 0)) e.ResetStarted refl refl
+command_no_ready g t la SynchronousReset n = either IsNoReady (is_shared g) (e.TargetResetStarted (n == 0)) e.ResetStarted refl refl
 command_no_ready g t la ReadCacheSequential n = either IsNoReady (is_off la) e.Unaffected e.CacheReadContinued refl refl
 command_no_ready g t la ReadCacheEnd n = either IsNoReady (is_off la) e.Unaffected e.CacheReadEnded refl refl
 command_no_ready g t la ChangeReadColumnConfirm n = either IsNoReady (wants_command t ChangeReadColumnConfirm && not (is_off la)) (e.ReadColumnChanged t.column) e.Unaffected refl refl
-command_no_ready g t la c n = either IsNoReady (wants_command t c && names_lun g (row t) n) (confirm_effect g t c) e.Unaffected (confirm_no_ready g t c) refl
+command_no_ready g t la c n = either IsNoReady (wants_command t c && names_lun g (row t) n) (confirm_effect g t c) (other_effect g t c) (confirm_no_ready g t c) (either_passed IsNoReady g t c refl refl)
 
 id_no_ready : (byte : ℕ) → IsNoReady (id_effect byte)
 id_no_ready byte = either IsNoReady (byte == 0x20) e.IdRead (e.IdentityRead (byte == 0x40)) refl refl
@@ -108,28 +120,28 @@ address_no_ready g t byte (Some o) n = of o.opener
   where
     of : (c : Command) → IsNoReady (address_effect g t byte c o.addresses n)
     of ReadStatusEnhanced = either IsNoReady (o.addresses == 2) (cond (names_lun g (row_with t byte) n) e.SelectedForStatus e.Deselected) e.Unaffected (either IsNoReady (names_lun g (row_with t byte) n) e.SelectedForStatus e.Deselected refl refl) refl
-    of ReadId = either IsNoReady (wants_address t byte) (id_effect byte) e.Unaffected (id_no_ready byte) refl
-    of ReadParameterPage = either IsNoReady (wants_address t byte) e.ParameterPageReadStarted e.Unaffected refl refl
-    of ReadUniqueId = either IsNoReady (wants_address t byte) e.UniqueIdReadStarted e.Unaffected refl refl
-    of GetFeatures = either IsNoReady (wants_address t byte) (e.FeaturesReadStarted byte) e.Unaffected refl refl
-    of ResetLun = either IsNoReady (o.addresses == 2 && names_lun g (row_with t byte) n) e.ResetStarted e.Unaffected refl refl
+    of ReadId = either IsNoReady (wants_address t byte) (of_target g n (id_effect byte)) e.Unaffected (either IsNoReady (acts_for_target g n) (id_effect byte) e.Deselected (id_no_ready byte) refl) refl
+    of ReadParameterPage = either IsNoReady (wants_address t byte) (of_target g n e.ParameterPageReadStarted) e.Unaffected (either IsNoReady (acts_for_target g n) e.ParameterPageReadStarted e.Deselected refl refl) refl
+    of ReadUniqueId = either IsNoReady (wants_address t byte) (of_target g n e.UniqueIdReadStarted) e.Unaffected (either IsNoReady (acts_for_target g n) e.UniqueIdReadStarted e.Deselected refl refl) refl
+    of GetFeatures = either IsNoReady (wants_address t byte) (of_target g n (e.FeaturesReadStarted byte)) e.Unaffected (either IsNoReady (acts_for_target g n) (e.FeaturesReadStarted byte) e.Deselected refl refl) refl
+    of ResetLun = either IsNoReady (o.addresses == 2) (lun_reset_effect g (names_lun g (row_with t byte) n)) e.Unaffected (either_reset IsNoReady g (names_lun g (row_with t byte) n) refl refl refl) refl
     of c = refl
 
 cycle_no_ready : (g : Parts) (t : TailFacts) (la : Latch) (k : TargetCycle) (n : ℕ) → IsNoReady (cycle_effect g t la k n)
 cycle_no_ready g t la (CommandCycle c) n = command_no_ready g t la c n
 cycle_no_ready g t la (AddressCycle byte) n = address_no_ready g t byte t.opening n
-cycle_no_ready g t la (InputCycle byte) n = either IsNoReady (ends_features t) (e.FeaturesSet (t.column % 256)) e.Unaffected refl refl
+cycle_no_ready g t la (InputCycle byte) n = either IsNoReady (ends_features t) (of_target g n (e.FeaturesSet (t.column % 256))) e.Unaffected (either IsNoReady (acts_for_target g n) (e.FeaturesSet (t.column % 256)) e.Deselected refl refl) refl
 cycle_no_ready g t la OutputCycle n = either IsNoReady (is_data la) e.DataOutput e.Unaffected refl refl
 
 pub no_ready : (g : Parts) (past : List Item) (c : Cycle) (l : Lun) → IsNoReady (effect_on g past (Cyc c) l)
-unfolding effect_on
+unfolding effect_among
 no_ready g past c l =
     either IsNoReady (c.ce == l.ce) (cycle_effect g (facts_of (tail past l.ce)) (latch_alone g past l) (target_cycle c.kind c.byte) l.lun) e.Unaffected
     (cycle_no_ready g (facts_of (tail past l.ce)) (latch_alone g past l) (target_cycle c.kind c.byte) l.lun) refl
 
 -- a cycle of another target works on no LUN of this one
 pub works_here : (g : Parts) (past : List Item) (c : Cycle) (l : Lun) → works_on g past (Cyc c) l ≡ true → c.ce ≡ l.ce
-unfolding effect_on
+unfolding effect_among
 works_here g past c l h = at (c.ce == l.ce) refl h
   where
     at : (b : Bool) → (c.ce == l.ce) ≡ b → (fills (cond b (cycle_filling g (facts_of (tail past l.ce)) (target_cycle c.kind c.byte) l.lun) Leaves) || begins (cond b (cycle_effect g (facts_of (tail past l.ce)) (latch_alone g past l) (target_cycle c.kind c.byte) l.lun) e.Unaffected)) ≡ true → c.ce ≡ l.ce
@@ -174,6 +186,7 @@ can_begin g v d e.ParameterPageReadStarted s f h = record { row = refl; together
 can_begin g v d e.CacheReadContinued s f h = record { row = refl; together = refl; ready = is_ready g v d s h.1; room = small_queue g v d s f; next = small_page g v d s f }
 can_begin g v d e.CacheReadEnded s f h = record { row = refl; together = refl; ready = is_ready g v d s h; room = small_queue g v d s f; next = small_page g v d s f }
 can_begin g v d e.ResetStarted s f h = record { row = refl; together = refl; ready = refl; room = small_queue g v d s f; next = small_page g v d s f }
+can_begin g v d (e.TargetResetStarted first) s f h = record { row = refl; together = refl; ready = refl; room = small_queue g v d s f; next = small_page g v d s f }
 can_begin g v d x s f h = tt
 
 pub only_data : (p : DataPhase) → takes_data p ≡ true → takes_features p ≡ false
@@ -187,7 +200,7 @@ only_data FeatureInputs h = cc
 input_inside : (g : Parts) (n : ℕ) (past : List Item) (i : Item) (l : Lun) (at : PageAddress) (column byte : ℕ) → broken g n past i ≡ None → filling g (facts_of (tail past l.ce)) i l ≡ Fills at column byte → column < page_len g
 unfolding breaks_column_outside
 input_inside g n past i l at column byte h is =
-    let j = is_input g past i l at column byte is in
+    let j = is_an_input g past i l at column byte is in
     let rules = permitted_keeps g n past j.c (sym (ap (broken g n past) j.is) ∙ h) in
     let same : j.c.ce ≡ l.ce = eqb-true j.c.ce l.ce j.ce in
     let f14 : breaks_column_outside g (facts_of (tail past l.ce)) (luns_of g past l.ce) (InputCycle byte) ≡ false = subst (λ (k : TargetCycle). breaks_column_outside g (facts_of (tail past l.ce)) (luns_of g past l.ce) k ≡ false) j.cycle (subst (λ (ce : ℕ). breaks_column_outside g (facts_of (tail past ce)) (luns_of g past ce) (target_cycle j.c.kind j.c.byte) ≡ false) same rules.f14) in
@@ -222,14 +235,14 @@ IsNoProgram x = is_program x ≡ false
 
 command_programs : (g : Parts) (t : TailFacts) (la : Latch) (c : Command) (n : ℕ) → starts c ≡ false → IsNoProgram (command_effect g t la c n)
 command_programs g t la Read n h = refl
-command_programs g t la ReadStatus n h = refl
+command_programs g t la ReadStatus n h = either IsNoProgram (is_shared g) e.StatusOfSelected e.StatusSelected refl refl
 command_programs g t la ReadStatusEnhanced n h = refl
-command_programs g t la Reset n h = refl
-command_programs g t la SynchronousReset n h = refl
+command_programs g t la Reset n h = either IsNoProgram (is_shared g) (e.TargetResetStarted (n == 0)) e.ResetStarted refl refl
+command_programs g t la SynchronousReset n h = either IsNoProgram (is_shared g) (e.TargetResetStarted (n == 0)) e.ResetStarted refl refl
 command_programs g t la ReadCacheSequential n h = either IsNoProgram (is_off la) e.Unaffected e.CacheReadContinued refl refl
 command_programs g t la ReadCacheEnd n h = either IsNoProgram (is_off la) e.Unaffected e.CacheReadEnded refl refl
 command_programs g t la ChangeReadColumnConfirm n h = either IsNoProgram (wants_command t ChangeReadColumnConfirm && not (is_off la)) (e.ReadColumnChanged t.column) e.Unaffected refl refl
-command_programs g t la c n h = either IsNoProgram (wants_command t c && names_lun g (row t) n) (confirm_effect g t c) e.Unaffected (confirm_programs g t c h) refl
+command_programs g t la c n h = either IsNoProgram (wants_command t c && names_lun g (row t) n) (confirm_effect g t c) (other_effect g t c) (confirm_programs g t c h) (either_passed IsNoProgram g t c refl refl)
 
 id_programs : (byte : ℕ) → IsNoProgram (id_effect byte)
 id_programs byte = either IsNoProgram (byte == 0x20) e.IdRead (e.IdentityRead (byte == 0x40)) refl refl
@@ -240,21 +253,21 @@ address_programs g t byte (Some o) n = of o.opener
   where
     of : (c : Command) → IsNoProgram (address_effect g t byte c o.addresses n)
     of ReadStatusEnhanced = either IsNoProgram (o.addresses == 2) (cond (names_lun g (row_with t byte) n) e.SelectedForStatus e.Deselected) e.Unaffected (either IsNoProgram (names_lun g (row_with t byte) n) e.SelectedForStatus e.Deselected refl refl) refl
-    of ReadId = either IsNoProgram (wants_address t byte) (id_effect byte) e.Unaffected (id_programs byte) refl
-    of ReadParameterPage = either IsNoProgram (wants_address t byte) e.ParameterPageReadStarted e.Unaffected refl refl
-    of ReadUniqueId = either IsNoProgram (wants_address t byte) e.UniqueIdReadStarted e.Unaffected refl refl
-    of GetFeatures = either IsNoProgram (wants_address t byte) (e.FeaturesReadStarted byte) e.Unaffected refl refl
-    of ResetLun = either IsNoProgram (o.addresses == 2 && names_lun g (row_with t byte) n) e.ResetStarted e.Unaffected refl refl
+    of ReadId = either IsNoProgram (wants_address t byte) (of_target g n (id_effect byte)) e.Unaffected (either IsNoProgram (acts_for_target g n) (id_effect byte) e.Deselected (id_programs byte) refl) refl
+    of ReadParameterPage = either IsNoProgram (wants_address t byte) (of_target g n e.ParameterPageReadStarted) e.Unaffected (either IsNoProgram (acts_for_target g n) e.ParameterPageReadStarted e.Deselected refl refl) refl
+    of ReadUniqueId = either IsNoProgram (wants_address t byte) (of_target g n e.UniqueIdReadStarted) e.Unaffected (either IsNoProgram (acts_for_target g n) e.UniqueIdReadStarted e.Deselected refl refl) refl
+    of GetFeatures = either IsNoProgram (wants_address t byte) (of_target g n (e.FeaturesReadStarted byte)) e.Unaffected (either IsNoProgram (acts_for_target g n) (e.FeaturesReadStarted byte) e.Deselected refl refl) refl
+    of ResetLun = either IsNoProgram (o.addresses == 2) (lun_reset_effect g (names_lun g (row_with t byte) n)) e.Unaffected (either_reset IsNoProgram g (names_lun g (row_with t byte) n) refl refl refl) refl
     of c = refl
 
 cycle_programs : (g : Parts) (t : TailFacts) (la : Latch) (k : TargetCycle) (n : ℕ) → cycle_starts k ≡ false → IsNoProgram (cycle_effect g t la k n)
 cycle_programs g t la (CommandCycle c) n h = command_programs g t la c n h
 cycle_programs g t la (AddressCycle byte) n h = address_programs g t byte t.opening n
-cycle_programs g t la (InputCycle byte) n h = either IsNoProgram (ends_features t) (e.FeaturesSet (t.column % 256)) e.Unaffected refl refl
+cycle_programs g t la (InputCycle byte) n h = either IsNoProgram (ends_features t) (of_target g n (e.FeaturesSet (t.column % 256))) e.Unaffected (either IsNoProgram (acts_for_target g n) (e.FeaturesSet (t.column % 256)) e.Deselected refl refl) refl
 cycle_programs g t la OutputCycle n h = either IsNoProgram (is_data la) e.DataOutput e.Unaffected refl refl
 
 pub no_program : (g : Parts) (past : List Item) (c : Cycle) (l : Lun) → starts_work (Cyc c) ≡ false → is_program (effect_on g past (Cyc c) l) ≡ false
-unfolding effect_on
+unfolding effect_among
 no_program g past c l h =
     either IsNoProgram (c.ce == l.ce) (cycle_effect g (facts_of (tail past l.ce)) (latch_alone g past l) (target_cycle c.kind c.byte) l.lun) e.Unaffected
     (cycle_programs g (facts_of (tail past l.ce)) (latch_alone g past l) (target_cycle c.kind c.byte) l.lun h) refl
@@ -268,7 +281,7 @@ number_there state opened dies past k f low =
     let below : k < length state.targets * state.geometry.luns = omega (arith, same, low) in
     record { target = target_there state.geometry (length state.targets) k f.limits.luns_least below; lun = lun_there state.geometry k f.limits.luns_least }
 
-die_goes_on : (state : BusView) (opened : List Entries) (dies : List Die) (past : List Item) (i : Item) (k : ℕ) (old new : Die) → IsStanding state opened dies past → broken state.geometry (length state.targets) past i ≡ None → FactsFit state.geometry (length state.targets) past → slice_get dies k ≡ Some old → IsWorked (channel_on state.geometry (length state.targets) opened) past i (numbered state.geometry k) old new → IsDieOf (channel_on state.geometry (length state.targets) opened) (i ∷ past) (numbered state.geometry k) new
+pub die_goes_on : (state : BusView) (opened : List Entries) (dies : List Die) (past : List Item) (i : Item) (k : ℕ) (old new : Die) → IsStanding state opened dies past → broken state.geometry (length state.targets) past i ≡ None → FactsFit state.geometry (length state.targets) past → slice_get dies k ≡ Some old → IsWorked (channel_on state.geometry (length state.targets) opened) past i (numbered state.geometry k) old new → IsDieOf (channel_on state.geometry (length state.targets) opened) (i ∷ past) (numbered state.geometry k) new
 die_goes_on state opened dies past i k old new f h facts found worked =
     let there = number_there state opened dies past k f (slice_get_within dies k old found) in
     dies_go_on (channel_on state.geometry (length state.targets) opened) past i (numbered state.geometry k) old new h there.lun (facts.row (numbered state.geometry k) there) (f.stand k old found) worked
@@ -308,11 +321,22 @@ none_works state opened dies past c f h facts none =
         let here : lun_at c.ce l.lun ≡ l = ap (λ (ce : ℕ). lun_at ce l.lun) (works_here state.geometry past c l works) in
         clash _ works (sym (ap (works_on state.geometry past (Cyc c)) here) ∙ none l.lun (omega arith) there.lun)
 
+-- an input resets nothing
+pub input_of_one : (g : Parts) (c : Cycle) → is_input c.kind ≡ true → resets_several g (Cyc c) ≡ false
+input_of_one g c h = by c.kind (is_shared g) h
+  where
+    by : (k : Kind) (b : Bool) → is_input k ≡ true → (b && is_reset_cycle (target_cycle k c.byte)) ≡ false
+    by Din true h = refl
+    by Din false h = refl
+    by Cmd b h = cc
+    by Adr b h = cc
+    by Dout b h = cc
+
 -- one was found: no other is worked on
-pub one_works : (state : BusView) (opened : List Entries) (dies : List Die) (past : List Item) (c : Cycle) (x : Worked) (k : ℕ) (old new : Die) → IsStanding state opened dies past → broken state.geometry (length state.targets) past (Cyc c) ≡ None → FactsFit state.geometry (length state.targets) past → c.ce < length state.targets → FindsWork state.geometry past (Cyc c) c.ce 0 (Some x) → k ≡ number_of state.geometry (lun_at c.ce x.lun) → slice_get dies k ≡ Some old → WorkedBy old.geometry x.filling x.effect old new → StandFor (channel_on state.geometry (length state.targets) opened) (Cyc c ∷ past) (set dies k new)
-one_works state opened dies past c x k old new f h facts target found place here worked =
+pub one_works : (state : BusView) (opened : List Entries) (dies : List Die) (past : List Item) (c : Cycle) (x : Worked) (k : ℕ) (old new : Die) → IsStanding state opened dies past → broken state.geometry (length state.targets) past (Cyc c) ≡ None → FactsFit state.geometry (length state.targets) past → resets_several state.geometry (Cyc c) ≡ false → c.ce < length state.targets → FindsWork state.geometry past (Cyc c) c.ce 0 (Some x) → k ≡ number_of state.geometry (lun_at c.ce x.lun) → slice_get dies k ≡ Some old → WorkedBy old.geometry x.filling x.effect old new → StandFor (channel_on state.geometry (length state.targets) opened) (Cyc c ∷ past) (set dies k new)
+one_works state opened dies past c x k old new f h facts one target found place here worked =
     stand_changed state opened dies past (Cyc c) k old new f h facts
-    (λ m d low other. resting s past c (numbered g m) d (false_from_ne_true _ (λ works. other (number_apart g m k (facts.one (Cyc c) (numbered g m) (numbered g k) (number_there state opened dies past m f low) there h works (ap (works_on g past (Cyc c)) is ∙ found.works))))))
+    (λ m d low other. resting s past c (numbered g m) d (false_from_ne_true _ (λ works. other (number_apart g m k (facts.one (Cyc c) (numbered g m) (numbered g k) one (number_there state opened dies past m f low) there h works (ap (works_on g past (Cyc c)) is ∙ found.works))))))
     here
     (subst (λ (l : Lun). IsWorked s past (Cyc c) l old new) (sym is)
     (subst (λ (y : Filling). WorkedBy g y (effect_on g past (Cyc c) l) old new) found.filling_is
@@ -367,7 +391,7 @@ finds_later g past i ce n (Some x) none f = f
 -- 5. readies
 
 ready_at : (g : Parts) (past : List Item) (l : Lun) (fail : Bool) → effect_on g past (Rdy l.ce l.lun fail) l ≡ e.BecameReady fail
-unfolding effect_on
+unfolding effect_among
 ready_at g past l fail = at (l.ce == l.ce) (l.lun == l.lun) (eq-eqb l.ce l.ce refl) (eq-eqb l.lun l.lun refl)
   where
     at : (a b : Bool) → a ≡ true → b ≡ true → cond (a && b) (e.BecameReady fail) e.Unaffected ≡ e.BecameReady fail
@@ -376,7 +400,7 @@ ready_at g past l fail = at (l.ce == l.ce) (l.lun == l.lun) (eq-eqb l.ce l.ce re
     at false b h k = cc
 
 array_ready_at : (g : Parts) (past : List Item) (l : Lun) → effect_on g past (Ard l.ce l.lun) l ≡ e.ArrayBecameReady
-unfolding effect_on
+unfolding effect_among
 array_ready_at g past l = at (l.ce == l.ce) (l.lun == l.lun) (eq-eqb l.ce l.ce refl) (eq-eqb l.lun l.lun refl)
   where
     at : (a b : Bool) → a ≡ true → b ≡ true → cond (a && b) e.ArrayBecameReady e.Unaffected ≡ e.ArrayBecameReady
@@ -396,11 +420,11 @@ elsewhere l m x ne = at (l.ce == m.ce) refl (l.lun == m.lun) refl
     at false q b d = refl
 
 ready_elsewhere : (g : Parts) (past : List Item) (l m : Lun) (fail : Bool) → m ≢ l → effect_on g past (Rdy l.ce l.lun fail) m ≡ e.Unaffected
-unfolding effect_on
+unfolding effect_among
 ready_elsewhere g past l m fail ne = elsewhere l m (e.BecameReady fail) ne
 
 array_ready_elsewhere : (g : Parts) (past : List Item) (l m : Lun) → m ≢ l → effect_on g past (Ard l.ce l.lun) m ≡ e.Unaffected
-unfolding effect_on
+unfolding effect_among
 array_ready_elsewhere g past l m ne = elsewhere l m e.ArrayBecameReady ne
 
 -- a LUN that may become ready is there
@@ -541,7 +565,7 @@ enough_due false works due later is most idle = let less = idle refl in omega (a
 
 -- an output works on no LUN
 output_rests : (g : Parts) (past : List Item) (ce byte : ℕ) (l : Lun) → works_on g past (cycle ce Dout byte) l ≡ false
-unfolding effect_on
+unfolding effect_among
 output_rests g past ce byte l = at (ce == l.ce) (is_data (latch_alone g past l))
   where
     at : (a b : Bool) → (fills (cond a Leaves Leaves) || begins (cond a (cond b e.DataOutput e.Unaffected) e.Unaffected)) ≡ false

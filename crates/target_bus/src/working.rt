@@ -9,9 +9,9 @@ ghost use Rattle.onfi_cycle.specs.Sequence.{facts_of, tail, takes_data};
 ghost use Rattle.onfi_cycle.specs.Filling.{filling};
 ghost use Rattle.onfi_cycle.specs.Channel.{is_cycle, cycle};
 ghost use Rattle.onfi_cycle.specs.State.{Follows};
-ghost use Rattle.onfi_cycle.specs.Working.{fills, begins};
+ghost use Rattle.onfi_cycle.specs.Working.{fills, begins, resets_several};
 ghost use Rattle.onfi_cycle.specs.Readies.{starts_work};
-ghost use Rattle.onfi_cycle.specs.declared.effect.Effect.TheVariants.{BecameReady, ArrayBecameReady, FeaturesSet};
+ghost use Rattle.onfi_cycle.specs.declared.effect.Effect.TheVariants.{BecameReady, ArrayBecameReady, FeaturesSet, TargetResetStarted};
 ghost use Rattle.onfi_cycle.specs.declared.filling.Filling.TheVariants.{Leaves};
 ghost use Rattle.die_model.specs.Die.{Die, IsAfter, is_program, filled_with};
 ghost use Rattle.die_model.specs.Standing.{CanWork, WorkedBy};
@@ -20,6 +20,7 @@ ghost use Rattle.target_bus.specs.Bus.{FindsWork, FindsFilled, Permits, PermitsI
 use die_model::LunDie;
 use onfi_cycle::{
     BusState, Cycle, Effect, FEATURE_BYTES, Filling, Item, Kind, Lun, PageAddress, TailFacts,
+    TargetCycle, is_shared,
 };
 use std::alloc::{AllocError, Allocator};
 
@@ -48,6 +49,7 @@ fn begins(effect: Effect) -> bool
             | Effect::CacheReadContinued
             | Effect::CacheReadEnded
             | Effect::ResetStarted
+            | Effect::TargetResetStarted { .. }
     )
 }
 
@@ -208,7 +210,53 @@ fn work_input<A: Allocator + Copy>(
     Ok(())
 }
 
-// Works a permitted cycle on the dies, whatever it is.
+// The cycle resets all LUNs of a target that has several.
+fn resets_several(state: &BusState, cycle: Cycle) -> bool
+    ensures { result ≡ resets_several state.now.geometry (Cyc cycle) }
+{
+    is_shared(&state.geometry())
+        && match TargetCycle::of(cycle.kind, cycle.byte) {
+            TargetCycle::CommandCycle(command) => command.is_reset(),
+            TargetCycle::AddressCycle(_) | TargetCycle::InputCycle(_) | TargetCycle::OutputCycle =>
+                false,
+        }
+}
+
+// Resets the die of a number, as one of its target.
+fn reset_in<A: Allocator + Copy>(dies: &mut [LunDie<A>], place: usize, first: bool)
+    requires inside { place < length dies.old }
+    requires can { (d : Die) → slice_get dies.old place ≡ Some d → CanWork Leaves (TargetResetStarted first) d }
+    ensures { (old : Die) × (new : Die) × (slice_get dies.old place ≡ Some old)
+        × IsAfter (TargetResetStarted first) old new × (dies.new ≡ slice_set dies.old place new) }
+{
+    match work_in(
+        dies,
+        place,
+        Filling::Leaves,
+        Effect::TargetResetStarted { first },
+    ) {
+        Ok(()) => {}
+        Err(_) => unreachable!(),
+    }
+}
+
+// Works a permitted reset of several LUNs on the dies of its target, which takes no memory.
+fn work_reset<A: Allocator + Copy>(state: &BusState, dies: &mut [LunDie<A>], cycle: Cycle)
+    requires few { length dies.old ≤ 16 }
+    requires permitted { Permits state.now dies.old (Cyc cycle) }
+    requires several { resets_several state.now.geometry (Cyc cycle) ≡ true }
+    ensures { StandOn state.now dies.old dies.new (Cyc cycle) }
+{
+    // Its contract says that the dies can be reset.
+    state.facts_fit();
+    let luns = state.geometry().parts().luns;
+    for lun in 0..luns {
+        let here = Lun { ce: cycle.ce, lun };
+        reset_in(dies, here.place(luns), lun == 0);
+    }
+}
+
+// Works a permitted cycle on the dies that works on one of them at most.
 fn work_found<A: Allocator + Copy>(
     state: &BusState,
     dies: &mut [LunDie<A>],
@@ -216,6 +264,7 @@ fn work_found<A: Allocator + Copy>(
 ) -> Result<(), AllocError>
     requires few { length dies.old ≤ 16 }
     requires permitted { Permits state.now dies.old (Cyc cycle) }
+    requires one { resets_several state.now.geometry (Cyc cycle) ≡ false }
     ensures ok { IfOk result (λ _. StandOn state.now dies.old dies.new (Cyc cycle)) }
     ensures err { OnErr result (dies.new ≡ dies.old) }
     ensures memory { starts_work (Cyc cycle) ≡ false → IsOk result }
@@ -235,7 +284,7 @@ fn work_found<A: Allocator + Copy>(
     }
 }
 
-/// Works a permitted cycle on the dies: on one of them at most. Without memory for that all stays as it was.
+/// Works a permitted cycle on the dies: on one of them at most, or it resets those of its target. Without memory for that all stays as it was.
 pub fn work<A: Allocator + Copy>(
     state: &BusState,
     dies: &mut [LunDie<A>],
@@ -249,6 +298,9 @@ pub fn work<A: Allocator + Copy>(
 {
     if is_input(cycle.kind) && takes_data(state, cycle.ce) {
         work_input(state, dies, cycle)
+    } else if resets_several(state, cycle) {
+        work_reset(state, dies, cycle);
+        Ok(())
     } else {
         work_found(state, dies, cycle)
     }

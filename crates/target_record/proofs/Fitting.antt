@@ -14,7 +14,7 @@ use Rattle.onfi_cycle.specs.declared.data_phase.DataPhase.TheVariants as phase
 use Rattle.onfi_cycle.specs.declared.opening.Opening.{Opening}
 use Rattle.onfi_cycle.specs.declared.tail_facts.TailFacts.{TailFacts}
 use Rattle.onfi_cycle.specs.Bounds.{LunFits, LunsFit, RowFits, RowStands, TailFits, TargetFits, is_row, names_erase, names_identity, names_program, names_read, names_row, rooms}
-use Rattle.onfi_cycle.specs.Effect.{names_lun, page_address}
+use Rattle.onfi_cycle.specs.Effect.{is_shared, names_lun, page_address}
 use Rattle.onfi_cycle.specs.LunView.{LunView}
 use Rattle.onfi_cycle.specs.Rules.{some_queued_clashes}
 use Rattle.onfi_cycle.specs.Sequence.{row, takes_features, wants_column}
@@ -136,13 +136,20 @@ row_fits_there g t n v e =
           never_both (names_program t) _ (and_parts (erase_goes g t (page_address g (row t)) v) _ more.1).1 named;
     }
 
-row_stands_there : (g : Parts) (t : TailFacts) (n : ℕ) (v : LunView) → (not (row_lies g t n) || row_goes g t v) ≡ true → identity_waits t n v ≡ true → RowStands g t n v
+-- of a target that isn't shared it is the other
+first_of : (shared first : Bool) → shared ≡ false → (shared || first) ≡ true → first ≡ true
+first_of true first one h = cc
+first_of false first one h = h
+
+row_stands_there : (g : Parts) (t : TailFacts) (n : ℕ) (v : LunView) → (not (row_lies g t n) || row_goes g t v) ≡ true → identity_waits g t n v ≡ true → RowStands g t n v
 row_stands_there g t n v e i =
     record {
       inside = λ on named. (and_parts (is_row g (page_address g (row t))) _ (if_both (names_row t) (names_lun g (row t) n) (row_goes g t v) e on named)).0;
       ready = λ on named. not_so v.busy (and_parts (not v.busy) _ (and_parts (is_row g (page_address g (row t))) _ (if_both (names_row t) (names_lun g (row t) n) (row_goes g t v) e on named)).1).0;
-      identity = λ named. not_so v.busy (and_parts (not v.busy) (n == 0) (if_so (names_identity t) (not v.busy && n == 0) i named)).0;
-      alone = λ named. let zeroth = (and_parts (not v.busy) (n == 0) (if_so (names_identity t) (not v.busy && n == 0) i named)).1 in grind (arith, nat_tests, zeroth);
+      identity = λ named. not_so v.busy (and_parts (not v.busy) (is_shared g || n == 0) (if_so (names_identity t) (not v.busy && (is_shared g || n == 0)) i named)).0;
+      alone = λ one named.
+          let zeroth = first_of (is_shared g) (n == 0) one (and_parts (not v.busy) (is_shared g || n == 0) (if_so (names_identity t) (not v.busy && (is_shared g || n == 0)) i named)).1 in
+          grind (arith, nat_tests, zeroth);
     }
 
 luns_are : (g : Parts) (t : TailFacts) (n : ℕ) (vs : List LunView) → luns_fit g t n vs ≡ true → LunsFit g t n vs
@@ -228,12 +235,14 @@ row_taken g t n v f s =
     and_from _ _ (s.inside on named) (and_from _ _ (not_taken v.busy (s.ready on named))
     (and_from _ _ (never_taken (names_erase t) _ (f.erase on)) (never_taken (names_program t) _ (f.program on)))))
 
-identity_taken : (g : Parts) (t : TailFacts) (n : ℕ) (v : LunView) → RowStands g t n v → identity_waits t n v ≡ true
+identity_taken : (g : Parts) (t : TailFacts) (n : ℕ) (v : LunView) → RowStands g t n v → identity_waits g t n v ≡ true
 identity_taken g t n v s =
-    if_taken (names_identity t) (not v.busy && n == 0) (λ named.
-    let zeroth = s.alone named in
-    let first : (n == 0) ≡ true = grind (arith, nat_tests, zeroth) in
-    and_from _ _ (not_taken v.busy (s.identity named)) first)
+    if_taken (names_identity t) (not v.busy && (is_shared g || n == 0)) (λ named.
+    and_from _ _ (not_taken v.busy (s.identity named)) (alone_taken (is_shared g) refl named))
+  where
+    alone_taken : (shared : Bool) → is_shared g ≡ shared → names_identity t ≡ true → (shared || n == 0) ≡ true
+    alone_taken true e named = refl
+    alone_taken false e named = let zeroth = s.alone e named in grind (arith, nat_tests, zeroth)
 
 luns_taken : (g : Parts) (t : TailFacts) (n : ℕ) (vs : List LunView) → LunsFit g t n vs → luns_fit g t n vs ≡ true
 luns_taken g t n [] f = refl

@@ -1,5 +1,5 @@
 -- The last address of a row inside the geometry, on the LUN that the row names.
-use Rattle.std.specs.Prelude.{ℕ, Bool, ◌&&◌, if◌then◌else◌, Option, Some, None}
+use Rattle.std.specs.Prelude.{ℕ, Bool, ◌&&◌, ◌||◌, if◌then◌else◌, Option, Some, None}
 use Rattle.nand_geometry.specs.declared.parts.Parts.{Parts}
 use Rattle.onfi_cycle.specs.declared.forbidden.Forbidden.{Forbidden}
 use Rattle.onfi_cycle.specs.declared.forbidden.Forbidden.TheVariants.{LunBusy, QueueClash, ColumnOutside, CacheReadMisplaced}
@@ -9,11 +9,16 @@ use Rattle.onfi_cycle.specs.Effect.{page_address}
 use Rattle.onfi_cycle.specs.LunView.{LunView}
 use Rattle.onfi_cycle.specs.Rules.{caching, ends_row, is_refused_by}
 
--- the first of F9 to F15 that it breaks, whose column is outside or not
-abbrev pub named_rule : Parts → TailFacts → ℕ → (outside : Bool) → LunView → Option Forbidden
-named_rule g t row outside v =
-    if ends_row addresses_the_array t && v.busy then Some LunBusy
+-- the first of F9 to F15 that it breaks, whose column is outside or not, and while work of the whole target goes on or not
+abbrev pub named_rule : Parts → TailFacts → ℕ → (outside target_works : Bool) → LunView → Option Forbidden
+named_rule g t row outside target_works v =
+    if ends_row addresses_the_array t && (v.busy || target_works) then Some LunBusy
     else (if is_refused_by g t.opening (page_address g row) v.queue then Some QueueClash
     else (if outside then Some ColumnOutside
     else (if ends_row addresses_the_array t && caching v then Some CacheReadMisplaced
     else None)))
+
+-- the same where the row names none of them
+abbrev pub nobody_rule : TailFacts → (outside target_works : Bool) → Option Forbidden
+nobody_rule t outside target_works =
+    if ends_row addresses_the_array t && target_works then Some LunBusy else (if outside then Some ColumnOutside else None)

@@ -62,6 +62,8 @@ queue_of records = map queued_of records
 abbrev pub lun_of : OnfiseqLun → LunView
 lun_of l = record {
   latch = latch_of l.latch;
+  selected = is_set l.selected;
+  overlapped = is_set l.overlapped;
   busy = is_set l.busy;
   closer = closer_of (is_set l.has_closer) l.closer;
   array_busy = is_set l.array_busy;

@@ -10,7 +10,7 @@ use Rattle.onfi_cycle.specs.declared.opening.Opening.{Opening}
 use Rattle.onfi_cycle.specs.declared.page_address.PageAddress.{PageAddress}
 use Rattle.onfi_cycle.specs.declared.tail_facts.TailFacts.{TailFacts}
 use Rattle.onfi_cycle.specs.Bounds.{TargetFits, is_row, names_erase, names_identity, names_program, names_row, rooms}
-use Rattle.onfi_cycle.specs.Effect.{names_lun, page_address}
+use Rattle.onfi_cycle.specs.Effect.{is_shared, names_lun, page_address}
 use Rattle.onfi_cycle.specs.LunView.{LunView}
 use Rattle.onfi_cycle.specs.Rules.{some_queued_clashes}
 use Rattle.onfi_cycle.specs.Sequence.{row, takes_features, wants_column}
@@ -88,12 +88,12 @@ row_goes g t v = page_goes g t (page_address g (row t)) v
 abbrev pub row_stands : Parts → TailFacts → ℕ → LunView → Bool
 row_stands g t n v = not (row_lies g t n) || row_goes g t v
 
--- a Read ID or a Read Parameter Page waits at the one LUN of its target, and that is ready
-abbrev pub identity_waits : TailFacts → ℕ → LunView → Bool
-identity_waits t n v = not (names_identity t) || (not v.busy && n == 0)
+-- while a Read ID or a Read Parameter Page is open each LUN of its target is ready, and it is the only one, but in the wider profile
+abbrev pub identity_waits : Parts → TailFacts → ℕ → LunView → Bool
+identity_waits g t n v = not (names_identity t) || (not v.busy && (is_shared g || n == 0))
 
 abbrev pub lun_stands : Parts → TailFacts → ℕ → LunView → Bool
-lun_stands g t n v = lun_fits g v && (row_stands g t n v && identity_waits t n v)
+lun_stands g t n v = lun_fits g v && (row_stands g t n v && identity_waits g t n v)
 
 -- of the LUNs of a target, from number n on
 abbrev pub luns_fit : Parts → TailFacts → ℕ → List LunView → Bool

@@ -7,18 +7,18 @@ ghost use Rattle.onfi_cycle.specs.declared.item.Item.{Item as ItemValue};
 ghost use Rattle.onfi_cycle.specs.declared.item.Kind.{Kind as KindValue};
 ghost use Rattle.onfi_cycle.specs.declared.tail_facts.TailFacts.{TailFacts as TailValue};
 ghost use Rattle.onfi_cycle.specs.declared.target_cycle.TargetCycle.{TargetCycle};
-ghost use Rattle.onfi_cycle.specs.Effect.{is_off, is_data, page_address};
+ghost use Rattle.onfi_cycle.specs.Effect.{is_off, is_data, is_shared, page_address};
 ghost use Rattle.onfi_cycle.specs.Lun.{output_column};
 ghost use Rattle.onfi_cycle.specs.LunView.{LunView};
 ghost use Rattle.onfi_cycle.specs.Sequence.{is_open, target_cycle, wants_command};
 ghost use Rattle.onfi_cycle.specs.Permitted.{judge, judge_cycle, judge_known_cycle};
-ghost use Rattle.onfi_cycle.specs.Rules.{are_none, is_undeclared_address, breaks_address_misplaced, breaks_cache_read_misplaced, breaks_column_outside, breaks_command_unknown, breaks_no_column_to_change, caching, continues_cache, driver, driving, ends_cache, ends_row, has_no_byte, has_some, is_past_register, lun_is, is_refused_by, is_undeclared, may_change_column, planes_clash, queued_clashes, refused_by, register_len, second_column, second_of_page, some_queued_clashes};
+ghost use Rattle.onfi_cycle.specs.Rules.{are_none, is_undeclared_address, breaks_address_misplaced, breaks_cache_read_misplaced, breaks_column_outside, breaks_command_unknown, breaks_lun_busy, breaks_no_column_to_change, breaks_several_luns, is_unclear, works_for_target, caching, continues_cache, driver, driving, ends_cache, ends_row, has_no_byte, has_some, is_past_register, lun_is, is_refused_by, is_undeclared, may_change_column, planes_clash, queued_clashes, refused_by, register_len, second_column, second_of_page, some_queued_clashes};
 ghost use Rattle.onfi_cycle.specs.Command.{command, addresses_the_array, is_change_read_column, is_opener};
 ghost use Rattle.onfi_cycle.specs.Bounds.{TargetFits};
 ghost use Rattle.target_record.specs.Geometry.{parts_of};
 ghost use Rattle.target_record.specs.Record.{IsRecord, tail_of, lun_of, luns_of, queue_of, target_of};
 ghost use Rattle.target_record.specs.Record.{IsTarget};
-ghost use Rattle.target_record.specs.Judging.{named_rule};
+ghost use Rattle.target_record.specs.Judging.{named_rule, nobody_rule};
 
 use crate::geometry::OnfiseqGeometry;
 use crate::record::{
@@ -28,7 +28,7 @@ use crate::record::{
 use nand_geometry::{Geometry, Optional};
 use onfi_cycle::{
     Command, Cycle, DataPhase, Forbidden, Item, Kind, PageAddress, Queued, ReadColumn, Register,
-    TailFacts, is_cache_read, is_page_read,
+    TailFacts, is_cache_read, is_page_read, is_target_work,
 };
 
 // ---- what a record says of its LUN
@@ -188,6 +188,51 @@ fn some_ready(luns: &[OnfiseqLun]) -> bool
     }
 }
 
+fn some_busy(luns: &[OnfiseqLun]) -> bool
+    ensures { result ≡ list_any (λ v. v.busy) (luns_of luns.now) }
+{
+    match luns {
+        [] => false,
+        [first, rest @ ..] => is_set(first.busy) || some_busy(rest),
+    }
+}
+
+fn some_overlapped(luns: &[OnfiseqLun]) -> bool
+    ensures { result ≡ list_any (λ v. v.overlapped) (luns_of luns.now) }
+{
+    match luns {
+        [] => false,
+        [first, rest @ ..] => is_set(first.overlapped) || some_overlapped(rest),
+    }
+}
+
+// Work of its whole target goes on at it.
+fn works_for_target(lun: &OnfiseqLun) -> bool
+    ensures { result ≡ works_for_target (lun_of lun.now) }
+{
+    is_set(lun.busy) && is_target_work(closer(lun))
+}
+
+fn some_works_for_target(luns: &[OnfiseqLun]) -> bool
+    ensures { result ≡ list_any works_for_target (luns_of luns.now) }
+{
+    match luns {
+        [] => false,
+        [first, rest @ ..] => works_for_target(first) || some_works_for_target(rest),
+    }
+}
+
+// Several LUNs could answer 70, and none answers 78 while work of the whole target goes on.
+fn is_unclear(luns: &[OnfiseqLun], command: Command) -> bool
+    ensures { result ≡ is_unclear (luns_of luns.now) command }
+{
+    match command {
+        Command::ReadStatus => some_overlapped(luns),
+        Command::ReadStatusEnhanced => some_works_for_target(luns),
+        _ => false,
+    }
+}
+
 fn some_queue(luns: &[OnfiseqLun]) -> bool
     requires { All IsRecord luns.now }
     ensures { result ≡ list_any (λ v. has_some v.queue) (luns_of luns.now) }
@@ -319,9 +364,36 @@ fn breaks_cache_read_misplaced(
     }
 }
 
+// In the wider profile: the target has several LUNs, and commands that are of all of them.
+#[inline(always)]
+pub fn is_shared(geometry: &OnfiseqGeometry) -> bool
+    ensures { result ≡ is_shared (parts_of geometry.now) }
+{
+    Optional(geometry.optional).is_wide() && 1 < geometry.luns
+}
+
+#[tactic(auto, unfolding(onfi_cycle::specs::Rules::breaks_several_luns))]
+fn breaks_several_luns(geometry: &OnfiseqGeometry, luns: &[OnfiseqLun], command: Command) -> bool
+    ensures { result ≡ breaks_several_luns (parts_of geometry.now) (luns_of luns.now) (TargetCycle.CommandCycle command) }
+{
+    if is_shared(geometry) {
+        is_unclear(luns, command)
+    } else {
+        command.wants_one_lun() && 1 < geometry.luns
+    }
+}
+
+#[tactic(auto, unfolding(onfi_cycle::specs::Rules::breaks_lun_busy))]
+fn breaks_lun_busy(geometry: &OnfiseqGeometry, luns: &[OnfiseqLun], command: Command) -> bool
+    ensures { (t : TailValue) → result ≡ breaks_lun_busy (parts_of geometry.now) t (luns_of luns.now) (TargetCycle.CommandCycle command) }
+{
+    command.wants_ready() && !some_ready(luns)
+        || is_shared(geometry) && command.reads_identity() && some_busy(luns)
+}
+
 // The first of F3 to F15 that an opener breaks.
 #[inline(always)]
-#[tactic(auto, unfolding(onfi_cycle::specs::Rules::breaks_sequence_open, onfi_cycle::specs::Rules::breaks_several_luns, onfi_cycle::specs::Rules::breaks_command_misplaced, onfi_cycle::specs::Rules::breaks_address_misplaced, onfi_cycle::specs::Rules::breaks_row_outside, onfi_cycle::specs::Rules::breaks_lun_busy, onfi_cycle::specs::Rules::breaks_queue_clash, onfi_cycle::specs::Rules::breaks_input_misplaced, onfi_cycle::specs::Rules::breaks_no_sole_driver, onfi_cycle::specs::Rules::breaks_data_not_ready, onfi_cycle::specs::Rules::breaks_column_outside))]
+#[tactic(auto, unfolding(onfi_cycle::specs::Rules::breaks_sequence_open, onfi_cycle::specs::Rules::breaks_command_misplaced, onfi_cycle::specs::Rules::breaks_address_misplaced, onfi_cycle::specs::Rules::breaks_row_outside, onfi_cycle::specs::Rules::breaks_queue_clash, onfi_cycle::specs::Rules::breaks_input_misplaced, onfi_cycle::specs::Rules::breaks_no_sole_driver, onfi_cycle::specs::Rules::breaks_data_not_ready, onfi_cycle::specs::Rules::breaks_column_outside))]
 fn judge_opener(
     geometry: &OnfiseqGeometry,
     in_sequence: bool,
@@ -334,11 +406,11 @@ fn judge_opener(
 {
     if in_sequence && !(command.is_reset() && Optional(geometry.optional).is_wide()) {
         Some(Forbidden::SequenceOpen)
-    } else if command.wants_one_lun() && 1 < geometry.luns {
+    } else if breaks_several_luns(geometry, luns, command) {
         Some(Forbidden::SeveralLuns)
     } else if breaks_no_column_to_change(luns, command) {
         Some(Forbidden::NoColumnToChange)
-    } else if command.wants_ready() && !some_ready(luns) {
+    } else if breaks_lun_busy(geometry, luns, command) {
         Some(Forbidden::LunBusy)
     } else if command.reads_identity() && some_queue(luns) {
         Some(Forbidden::QueueClash)
@@ -489,12 +561,13 @@ fn judge_named(
     lun: &OnfiseqLun,
     row: u32,
     is_outside: bool,
+    target_works: bool,
 ) -> Option<Forbidden>
     requires { IsRecord lun.now }
-    ensures { result ≡ named_rule geometry.now tail row is_outside (lun_of lun.now) }
+    ensures { result ≡ named_rule geometry.now tail row is_outside target_works (lun_of lun.now) }
 {
     let is_of_array = ends_array_row(tail);
-    if is_of_array && is_set(lun.busy) {
+    if is_of_array && (is_set(lun.busy) || target_works) {
         Some(Forbidden::LunBusy)
     } else if is_refused_by(geometry, tail, PageAddress::of_row(geometry, row), lun) {
         Some(Forbidden::QueueClash)
@@ -502,6 +575,19 @@ fn judge_named(
         Some(Forbidden::ColumnOutside)
     } else if is_of_array && is_caching(lun) {
         Some(Forbidden::CacheReadMisplaced)
+    } else {
+        None
+    }
+}
+
+// The same where the row names none of them.
+fn judge_nobody(tail: TailFacts, is_outside: bool, target_works: bool) -> Option<Forbidden>
+    ensures { result ≡ nobody_rule tail is_outside target_works }
+{
+    if ends_array_row(tail) && target_works {
+        Some(Forbidden::LunBusy)
+    } else if is_outside {
+        Some(Forbidden::ColumnOutside)
     } else {
         None
     }
@@ -529,10 +615,10 @@ fn judge_end_of_row(
         return Some(Forbidden::RowOutside);
     }
     let is_outside = breaks_column_outside(geometry, tail, luns, byte);
+    let target_works = is_shared(geometry) && some_works_for_target(luns);
     match lun_at(luns, parts.lun as usize) {
-        None if is_outside => Some(Forbidden::ColumnOutside),
-        None => None,
-        Some(lun) => judge_named(&known, tail, lun, row, is_outside),
+        None => judge_nobody(tail, is_outside, target_works),
+        Some(lun) => judge_named(&known, tail, lun, row, is_outside, target_works),
     }
 }
 

@@ -1,9 +1,10 @@
 //! What an effect leaves of the record of a LUN, written where it stands.
 ghost use Rattle.std.specs.Prelude.{◌≡◌, ◌+◌, ◌^◌, ◌<◌, ◌≤◌, true, false, Some, [], ◌∷◌, length};
+ghost use Rattle.onfi_cycle.specs.declared.command.Command.{Command as CommandValue};
 ghost use Rattle.onfi_cycle.specs.declared.effect.Effect.{Effect as EffectValue};
 ghost use Rattle.onfi_cycle.specs.declared.latch.Latch.{Latch as LatchValue};
 ghost use Rattle.onfi_cycle.specs.declared.register.Register.{Register as RegisterValue};
-ghost use Rattle.onfi_cycle.specs.Lun.{column_at, queue_after, view_after};
+ghost use Rattle.onfi_cycle.specs.Lun.{column_at, latch_after, selected_after, overlapped_after, works, queue_after, view_after};
 ghost use Rattle.target_record.specs.Record.{IsRecord, lun_of};
 
 use crate::judging::is_caching;
@@ -55,6 +56,28 @@ fn give_register(kept: &mut OnfiseqLun, closer: Command, register: Register, col
     kept.latch = latch_code(Latch::Data);
 }
 
+// It is the selected LUN of its target.
+#[inline(always)]
+fn be_selected(kept: &mut OnfiseqLun)
+    requires { IsRecord kept.old }
+    ensures value { lun_of kept.new ≡ record (lun_of kept.old) { selected = true } }
+    ensures numbers { IsRecord kept.new }
+    ensures queue { kept.new.queued ≡ kept.old.queued }
+{
+    kept.selected = 1;
+}
+
+// It does what is done for its whole target, whose work overlaps no more.
+#[inline(always)]
+fn act_for_target(kept: &mut OnfiseqLun)
+    requires { IsRecord kept.old }
+    ensures value { lun_of kept.new ≡ record (lun_of kept.old) { selected = true; overlapped = false } }
+    ensures numbers { IsRecord kept.new }
+{
+    kept.selected = 1;
+    kept.overlapped = 0;
+}
+
 // It reads a page, and gives it from this column on.
 #[inline(always)]
 fn start_read(kept: &mut OnfiseqLun, page: PageAddress, column: u32)
@@ -63,6 +86,7 @@ fn start_read(kept: &mut OnfiseqLun, page: PageAddress, column: u32)
     ensures numbers { IsRecord kept.new }
 {
     give_register(kept, Command::ReadConfirm, Register::Page(page), column);
+    be_selected(kept);
     kept.busy = 1;
     kept.array_block = page.block;
     kept.array_page = page.page;
@@ -84,30 +108,52 @@ fn give_cached(kept: &mut OnfiseqLun, closer: Command, next: u64)
     kept.array_page = next;
 }
 
+// Its array begins to work for this closer.
+#[inline(always)]
+fn begin_work(kept: &mut OnfiseqLun, closer: Command)
+    requires { IsRecord kept.old }
+    ensures value { lun_of kept.new ≡ record (lun_of kept.old) { selected = true; busy = true; closer = Some closer; array_busy = false; register = RegisterValue.Empty } }
+    ensures numbers { IsRecord kept.new }
+    ensures queue { kept.new.queued ≡ kept.old.queued }
+{
+    set_register(kept, closer, Register::Empty);
+    be_selected(kept);
+    kept.busy = 1;
+}
+
+// It has one row more in its queue.
+#[inline(always)]
+fn queue_row(kept: &mut OnfiseqLun, row: Queued)
+    requires numbers { IsRecord kept.old }
+    requires room { kept.old.queued ≤ 3 }
+    ensures value { lun_of kept.new ≡ record (lun_of kept.old) { queue = row ∷ (lun_of kept.old).queue } }
+    ensures numbers { IsRecord kept.new }
+{
+    let queue = kept.queue;
+    kept.queue = [queued_record(row), queue[0], queue[1], queue[2]];
+    kept.queued += 1;
+}
+
 // Its array works for this closer, with one row more in its queue.
 #[inline(always)]
 fn queue_work(kept: &mut OnfiseqLun, closer: Command, row: Queued)
     requires numbers { IsRecord kept.old }
     requires room { kept.old.queued ≤ 3 }
-    ensures value { lun_of kept.new ≡ record (lun_of kept.old) { busy = true; closer = Some closer; array_busy = false; register = RegisterValue.Empty; queue = row ∷ (lun_of kept.old).queue } }
+    ensures value { lun_of kept.new ≡ record (lun_of kept.old) { selected = true; busy = true; closer = Some closer; array_busy = false; register = RegisterValue.Empty; queue = row ∷ (lun_of kept.old).queue } }
     ensures numbers { IsRecord kept.new }
 {
-    set_register(kept, closer, Register::Empty);
-    kept.busy = 1;
-    let queue = kept.queue;
-    kept.queue = [queued_record(row), queue[0], queue[1], queue[2]];
-    kept.queued += 1;
+    begin_work(kept, closer);
+    queue_row(kept, row);
 }
 
 // Its array works for this closer, which empties its queue.
 #[inline(always)]
 fn start_work(kept: &mut OnfiseqLun, closer: Command)
     requires { IsRecord kept.old }
-    ensures value { lun_of kept.new ≡ record (lun_of kept.old) { busy = true; closer = Some closer; array_busy = false; register = RegisterValue.Empty; queue = [] } }
+    ensures value { lun_of kept.new ≡ record (lun_of kept.old) { selected = true; busy = true; closer = Some closer; array_busy = false; register = RegisterValue.Empty; queue = [] } }
     ensures numbers { IsRecord kept.new }
 {
-    set_register(kept, closer, Register::Empty);
-    kept.busy = 1;
+    begin_work(kept, closer);
     kept.queue = [NO_ROW; 4];
     kept.queued = 0;
 }
@@ -123,6 +169,36 @@ fn reset(kept: &mut OnfiseqLun)
     kept.latch = latch_code(Latch::Off);
 }
 
+// All LUNs of its target are reset, of which it is the first, or not.
+#[inline(always)]
+fn reset_of_target(kept: &mut OnfiseqLun, is_first: bool)
+    requires { IsRecord kept.old }
+    ensures value { lun_of kept.new ≡ view_after (EffectValue.TargetResetStarted is_first) (lun_of kept.old) }
+    ensures numbers { IsRecord kept.new }
+{
+    reset(kept);
+    kept.selected = flag(is_first);
+    kept.overlapped = 0;
+}
+
+// It changes at most what it shows, and whether it is selected or overlapped.
+#[inline(always)]
+fn turn(kept: &mut OnfiseqLun, effect: Effect)
+    requires { IsRecord kept.old }
+    ensures value { lun_of kept.new ≡ record (lun_of kept.old) {
+      latch = latch_after effect (lun_of kept.old).selected (works (lun_of kept.old)) (lun_of kept.old).latch;
+      selected = selected_after effect (lun_of kept.old).selected;
+      overlapped = overlapped_after effect (works (lun_of kept.old)) (lun_of kept.old).overlapped;
+    } }
+    ensures numbers { IsRecord kept.new }
+{
+    let works = is_set(kept.busy) || is_set(kept.array_busy);
+    let selected = is_set(kept.selected);
+    kept.latch = latch_code(effect.latch_after(selected, works, latch_of(kept.latch)));
+    kept.selected = flag(effect.selected_after(selected));
+    kept.overlapped = flag(effect.overlapped_after(works, is_set(kept.overlapped)));
+}
+
 // It reads its parameter page.
 #[inline(always)]
 fn read_parameter_page(kept: &mut OnfiseqLun)
@@ -131,17 +207,30 @@ fn read_parameter_page(kept: &mut OnfiseqLun)
     ensures numbers { IsRecord kept.new }
 {
     give_register(kept, Command::ReadParameterPage, Register::ParameterPage, 0);
+    act_for_target(kept);
     kept.busy = 1;
+}
+
+// It gives an identity, and is not busy with it.
+#[inline(always)]
+fn give_identity(kept: &mut OnfiseqLun, register: Register)
+    requires { IsRecord kept.old }
+    ensures value { lun_of kept.new ≡ record (lun_of kept.old) { latch = LatchValue.Data; selected = true; overlapped = false; closer = Some CommandValue.ReadId; array_busy = false; register = register; column = column_at 0 } }
+    ensures numbers { IsRecord kept.new }
+{
+    give_register(kept, Command::ReadId, register, 0);
+    act_for_target(kept);
 }
 
 // It reads what stands beside its array, after this closer, and is busy with it.
 #[inline(always)]
 fn read_beside(kept: &mut OnfiseqLun, closer: Command, register: Register)
     requires { IsRecord kept.old }
-    ensures value { lun_of kept.new ≡ record (lun_of kept.old) { latch = LatchValue.Data; busy = true; closer = Some closer; array_busy = false; register = register; column = column_at 0 } }
+    ensures value { lun_of kept.new ≡ record (lun_of kept.old) { latch = LatchValue.Data; selected = true; overlapped = false; busy = true; closer = Some closer; array_busy = false; register = register; column = column_at 0 } }
     ensures numbers { IsRecord kept.new }
 {
     give_register(kept, closer, register, 0);
+    act_for_target(kept);
     kept.busy = 1;
 }
 
@@ -154,6 +243,7 @@ fn set_features(kept: &mut OnfiseqLun, address: u8)
 {
     let _address = address;
     set_register(kept, Command::SetFeatures, Register::Empty);
+    act_for_target(kept);
     kept.busy = 1;
 }
 
@@ -168,12 +258,13 @@ pub fn change(kept: &mut OnfiseqLun, effect: Effect)
 {
     match effect {
         Effect::Unaffected => {}
-        Effect::DataOutputEnabled | Effect::SelectedForStatus | Effect::Deselected => {
-            kept.latch = latch_code(effect.latch_after(latch_of(kept.latch)));
-        }
-        Effect::StatusSelected | Effect::StatusRowAwaited => {
+        Effect::DataOutputEnabled
+        | Effect::SelectedForStatus
+        | Effect::Deselected
+        | Effect::AnotherAddressed { .. } => turn(kept, effect),
+        Effect::StatusSelected | Effect::StatusOfSelected | Effect::StatusRowAwaited => {
             kept.lost = flag(is_set(kept.lost) || 0 < kept.outputs);
-            kept.latch = latch_code(effect.latch_after(latch_of(kept.latch)));
+            turn(kept, effect);
         }
         Effect::ReadStarted { page, column } => start_read(kept, page, column),
         Effect::EraseStarted { queued: true, row } => {
@@ -188,13 +279,9 @@ pub fn change(kept: &mut OnfiseqLun, effect: Effect)
         Effect::ProgramStarted { queued: false, .. } => {
             start_work(kept, Command::ProgramConfirm);
         }
-        Effect::IdRead => give_register(kept, Command::ReadId, Register::Identifier, 0),
-        Effect::IdentityRead { jedec: true } => {
-            give_register(kept, Command::ReadId, Register::JedecIdentity, 0);
-        }
-        Effect::IdentityRead { jedec: false } => {
-            give_register(kept, Command::ReadId, Register::Identity, 0);
-        }
+        Effect::IdRead => give_identity(kept, Register::Identifier),
+        Effect::IdentityRead { jedec: true } => give_identity(kept, Register::JedecIdentity),
+        Effect::IdentityRead { jedec: false } => give_identity(kept, Register::Identity),
         Effect::ParameterPageReadStarted => read_parameter_page(kept),
         Effect::UniqueIdReadStarted => {
             read_beside(kept, Command::ReadUniqueId, Register::UniqueId);
@@ -214,6 +301,7 @@ pub fn change(kept: &mut OnfiseqLun, effect: Effect)
         Effect::ReadColumnChanged { column } => set_column(kept, column),
         Effect::DataOutput => kept.outputs += 1,
         Effect::ResetStarted => reset(kept),
+        Effect::TargetResetStarted { first } => reset_of_target(kept, first),
         Effect::BecameReady { failed } => become_ready(kept, failed),
         Effect::ArrayBecameReady => become_array_ready(kept),
     }

@@ -10,7 +10,7 @@ ghost use Rattle.target_record.specs.Record.{IsRecord, IsTarget, lun_of, luns_of
 ghost use Rattle.target_record.specs.Whole.{IsWhole, WholeAreTaken, are_numbers, erase_goes, given_fits, identity_waits, is_record, is_short, is_whole, lun_fits, lun_stands, luns_fit, page_goes, program_goes, queue_fits, row_goes, row_lies, row_stands, stands_alone, tail_fits, target_fits};
 
 use crate::geometry::OnfiseqGeometry;
-use crate::judging::some_queued_clashes;
+use crate::judging::{is_shared, some_queued_clashes};
 use crate::record::{
     OnfiseqLun, OnfiseqQueued, OnfiseqTarget, given_of, is_set, queued_of, tail_of,
 };
@@ -261,10 +261,15 @@ fn row_stands(geometry: &OnfiseqGeometry, tail: &TailFacts, number: usize, lun: 
     known_row_stands(&geometry.known(), tail, number, lun)
 }
 
-fn identity_waits(tail: &TailFacts, number: usize, lun: &OnfiseqLun) -> bool
-    ensures { result ≡ identity_waits tail.now number (lun_of lun.now) }
+fn identity_waits(
+    geometry: &OnfiseqGeometry,
+    tail: &TailFacts,
+    number: usize,
+    lun: &OnfiseqLun,
+) -> bool
+    ensures { result ≡ identity_waits (parts_of geometry.now) tail.now number (lun_of lun.now) }
 {
-    !names_identity(*tail) || (!is_set(lun.busy) && number == 0)
+    !names_identity(*tail) || (!is_set(lun.busy) && (is_shared(geometry) || number == 0))
 }
 
 // The LUN of this number.
@@ -276,7 +281,7 @@ fn lun_stands(geometry: &OnfiseqGeometry, tail: &TailFacts, number: usize, lun: 
 {
     lun_fits(geometry, lun)
         && row_stands(geometry, tail, number, lun)
-        && identity_waits(tail, number, lun)
+        && identity_waits(geometry, tail, number, lun)
 }
 
 // The LUNs of a target, from this number on.

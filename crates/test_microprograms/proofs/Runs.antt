@@ -2,13 +2,13 @@
 use Rattle.std.specs.Prelude.{refl}
 use Rattle.nand_geometry.specs.Limits.{width}
 use Rattle.onfi_cycle.specs.Command.{command}
-use Rattle.onfi_cycle.specs.Lun.{effect_on}
+use Rattle.onfi_cycle.specs.Lun.{effect_among}
 use Rattle.onfi_cycle.specs.Rules.{breaks_not_there}
 use Rattle.micro_program.specs.Lines.{unrolled}
 use Rattle.test_microprograms.specs.Runs.{WorkedRuns}
 
 pub worked : WorkedRuns
-unfolding unrolled command width effect_on breaks_not_there
+unfolding unrolled command width effect_among breaks_not_there
 worked =
     record {
       erase_trace = refl;

@@ -1,6 +1,6 @@
-use crate::made::{CACHED, Operations, PLAIN, PLANED, SHARED, made};
+use crate::made::{CACHED, Operations, PLAIN, PLANED, SHARED, WIDE, made};
 use die_model::LunDie;
-use nand_geometry::{Geometry, Parts, SMALL_CHIP};
+use nand_geometry::{Geometry, Optional, Parts, SMALL_CHIP};
 use onfi_cycle::{
     Cycle, Forbidden, Item, Kind, Lun, LunFacts, LunState, PageAddress, Queued, WorkQueue,
     is_cache_read, judge,
@@ -57,10 +57,16 @@ const FOUR_LUNS: Parts = Parts {
     ..TWO_LUNS
 };
 
+// Two LUNs in the wider profile, with all that it has beside the base.
+const WIDE_LUNS: Parts = Parts {
+    optional: Optional(0x8a24),
+    ..TWO_LUNS
+};
+
 // A kind of traces: a channel of so many targets, the operations on it, and how many items a trace has at most.
 type Traces = (Parts, u8, Operations, usize);
 
-const TRACES: [Traces; 8] = [
+const TRACES: [Traces; 9] = [
     (ONE_LUN, 1, PLAIN, 26),
     (CACHED_LUN, 1, CACHED, 26),
     (TWO_PLANES, 1, PLANED, 26),
@@ -69,6 +75,7 @@ const TRACES: [Traces; 8] = [
     (UNEVEN, 1, SHARED, 24),
     (TWO_LUNS, 2, SHARED, 20),
     (FOUR_LUNS, 1, SHARED, 20),
+    (WIDE_LUNS, 1, WIDE, 24),
 ];
 
 // The facts of the LUNs of each target, by the look back.

@@ -16,12 +16,14 @@ pub enum Part {
     Output,
     Ready,
     ArrayReady,
+    // A ready of the LUN of this number.
+    ReadyOf(u8),
 }
 
 /// The operations of which a trace is made.
 pub type Operations = [&'static [Part]; 16];
 
-use Part::{Address, ArrayReady, Column, Command, Input, OtherPlane, Output, Ready, Row};
+use Part::{Address, ArrayReady, Column, Command, Input, OtherPlane, Output, Ready, ReadyOf, Row};
 
 const READ: [Part; 9] = [
     Command(0x00),
@@ -254,6 +256,55 @@ const RESET_ERASE_QUEUE: [Part; 10] = [
 
 const READIES: [Part; 2] = [Ready, ArrayReady];
 
+// In the wider profile: what is done for a whole target, of which the first LUN becomes ready, or of a reset each.
+const RESET_ALL: [Part; 3] = [Command(0xff), ReadyOf(0), ReadyOf(1)];
+
+const PARAMETERS_OF_ALL: [Part; 6] = [
+    Command(0xec),
+    Address(0x00),
+    ReadyOf(0),
+    Output,
+    Output,
+    Output,
+];
+
+const UNIQUE_ID: [Part; 5] = [Command(0xed), Address(0x00), ReadyOf(0), Output, Output];
+
+const SET_FEATURES: [Part; 9] = [
+    Command(0xef),
+    Address(0x01),
+    Input,
+    Input,
+    Input,
+    Input,
+    Command(0x70),
+    Output,
+    ReadyOf(0),
+];
+
+const GET_FEATURES: [Part; 6] = [
+    Command(0xee),
+    Address(0x01),
+    ReadyOf(0),
+    Command(0x70),
+    Command(0x00),
+    Output,
+];
+
+const RESET_ONE: [Part; 3] = [Command(0xfa), Row, Ready];
+
+// Work of one LUN, and the status without a row.
+const ERASE_AND_STATUS: [Part; 6] = [
+    Command(0x60),
+    Row,
+    Command(0xd0),
+    Command(0x70),
+    Output,
+    Ready,
+];
+
+const BOTH_READY: [Part; 2] = [ReadyOf(0), ReadyOf(1)];
+
 // What ends most sequences that a spoilt operation has left open.
 const ENDING: [Part; 10] = [
     Address(0x00),
@@ -348,6 +399,26 @@ pub const SHARED: Operations = [
     &ENDING,
 ];
 
+/// Operations of several LUNs in the wider profile.
+pub const WIDE: Operations = [
+    &READ,
+    &READ_ALONE,
+    &PROGRAM_AND_READ,
+    &START_READ,
+    &START_ERASE,
+    &ERASE_AND_STATUS,
+    &RESET_ALL,
+    &RESET_ONE,
+    &SET_FEATURES,
+    &GET_FEATURES,
+    &IDENTIFIER,
+    &PARAMETERS_OF_ALL,
+    &UNIQUE_ID,
+    &STATUS_OF_ROW,
+    &BOTH_READY,
+    &ENDING,
+];
+
 // The low bytes of the rows: mostly page 0 of block 0, then of block 1, and some others. Row 9 isn't among them.
 const ROWS: [u8; 16] = [0, 0, 0, 0, 0, 0, 4, 4, 4, 1, 1, 5, 10, 20, 21, 2];
 
@@ -429,6 +500,11 @@ fn push_part(
             items.push(Item::Rdy { ce, lun, fail })?;
         }
         Part::ArrayReady => items.push(Item::Ard { ce, lun })?,
+        Part::ReadyOf(lun) => items.push(Item::Rdy {
+            ce,
+            lun,
+            fail: false,
+        })?,
     }
     Ok(())
 }

@@ -12,11 +12,11 @@ use Rattle.trace_faults.specs.declared.readies.Readies.TheVariants.{Written, Sho
 use Rattle.trace_faults.specs.Recovery.{fresh_for, gone_on}
 use Rattle.trace_faults.specs.Inside.{IsInside}
 use Rattle.trace_faults.specs.ShownReadies.{ready_before, array_ready_before, with_ready, with_readies, listed}
-use Rattle.trace_faults.specs.Unshown.{unshown, ready_taken}
-use Rattle.trace_faults.specs.Faults.{before_item, faults_of, not_shown_from, not_shown_of, completed_from, completed}
+use Rattle.trace_faults.specs.Unshown.{unshown, further, ready_taken}
+use Rattle.trace_faults.specs.Faults.{before_item, faults_of, not_shown_from, not_shown_of, completed_from, completed, with_unshown, with_further, further_ready, further_readies, taken_readies}
 use Rattle.trace_faults.proofs.Inside.{ready_inside, array_ready_inside}
 use Rattle.trace_faults.proofs.Judged.{faultless_are_legal, first_broken_is_first}
-use Rattle.trace_faults.proofs.Shown.{taken_inside, completed_are_judged}
+use Rattle.trace_faults.proofs.Shown.{taken_inside, further_inside, completed_are_judged}
 use Rattle.trace_text.specs.Line.{IsPrintable}
 use Rattle.trace_text.specs.Checking.{TellsFirst}
 use Rattle.trace_text.specs.declared.checking.CheckRefusal.{CheckRefusal}
@@ -84,6 +84,28 @@ array_ready_printable s i r p is = inside_printable r (array_ready_inside s i r 
 taken_printable : (s : TraceState) (i : Item) (later : List Item) (r : Item) → IsPrintable i → ready_taken (unshown s i later) ≡ Some r → IsPrintable r
 taken_printable s i later r p is = inside_printable r (taken_inside s i later r (printable_inside i p) is)
 
+further_printable : (s : TraceState) (i : Item) (later : List Item) (r : Item) → IsPrintable i → ready_taken (further s i later) ≡ Some r → IsPrintable r
+further_printable s i later r p is = inside_printable r (further_inside s i later r (printable_inside i p) is)
+
+each_printable : (s : TraceState) (i : Item) (later rest : List Item) → IsPrintable i → All IsPrintable rest → All IsPrintable (further_readies s i later ++ rest)
+each_printable s i later rest p all =
+    let one = with_further s i later in
+    let two = with_further one i later in
+    let a = further_ready s i later in
+    let b = further_ready one i later in
+    let c = further_ready two i later in
+    subst (All IsPrintable) (sym (append_assoc a (b ++ c) rest ∙ ap (λ (is : List Item). a ++ is) (append_assoc b c rest)))
+    (some_printable (ready_taken (further s i later)) (b ++ (c ++ rest)) (λ x is. further_printable s i later x p is)
+    (some_printable (ready_taken (further one i later)) (c ++ rest) (λ x is. further_printable one i later x p is)
+    (some_printable (ready_taken (further two i later)) rest (λ x is. further_printable two i later x p is) all)))
+
+all_taken_printable : (s : TraceState) (i : Item) (later rest : List Item) → IsPrintable i → All IsPrintable rest → All IsPrintable (taken_readies s i later ++ rest)
+all_taken_printable s i later rest p all =
+    let t = ready_taken (unshown s i later) in
+    let more = further_readies (with_unshown s i later) i later in
+    subst (All IsPrintable) (sym (append_assoc (listed t) more rest))
+    (some_printable t (more ++ rest) (λ x is. taken_printable s i later x p is) (each_printable (with_unshown s i later) i later rest p all))
+
 completed_from_printable : (items : List Item) (s : TraceState) → All IsPrintable items → All IsPrintable (completed_from s items)
 completed_from_printable [] s all = none_printable
 completed_from_printable (i ∷ items) s all =
@@ -92,13 +114,13 @@ completed_from_printable (i ∷ items) s all =
     let r = ready_before s i in
     let a = array_ready_before (with_ready s i) i in
     let shown = with_readies s i in
-    let t = ready_taken (unshown shown i items) in
+    let t = taken_readies shown i items in
     let next = gone_on i (before_item Shown s i items) in
     let later = completed_from next items in
-    subst (All IsPrintable) (sym (append_assoc (listed r ++ listed a) (listed t) (i ∷ later) ∙ append_assoc (listed r) (listed a) (listed t ++ (i ∷ later))))
-    (some_printable r (listed a ++ (listed t ++ (i ∷ later))) (λ x is. ready_printable s i x here is)
-    (some_printable a (listed t ++ (i ∷ later)) (λ x is. array_ready_printable (with_ready s i) i x here is)
-    (some_printable t (i ∷ later) (λ x is. taken_printable shown i items x here is)
+    subst (All IsPrintable) (sym (append_assoc (listed r ++ listed a) t (i ∷ later) ∙ append_assoc (listed r) (listed a) (t ++ (i ∷ later))))
+    (some_printable r (listed a ++ (t ++ (i ∷ later))) (λ x is. ready_printable s i x here is)
+    (some_printable a (t ++ (i ∷ later)) (λ x is. array_ready_printable (with_ready s i) i x here is)
+    (all_taken_printable shown i items (i ∷ later) here
     (more_printable i later here (completed_from_printable items next rest)))))
 
 pub completed_printable : (g : Parts) (n : ℕ) (items written : List Item) → All IsPrintable items → written ≡ completed g n items → All IsPrintable written

@@ -10,10 +10,10 @@ use Rattle.onfi_cycle.specs.declared.latch.Latch.TheVariants as latch
 use Rattle.onfi_cycle.specs.declared.item.Item.{Item}
 use Rattle.onfi_cycle.specs.declared.item.Kind.TheVariants.{Din, Dout}
 use Rattle.onfi_cycle.specs.declared.effect.Effect.{Effect}
-use Rattle.onfi_cycle.specs.declared.effect.Effect.TheVariants.{Unaffected, FeaturesSet}
-use Rattle.onfi_cycle.specs.Effect.{ends_features}
+use Rattle.onfi_cycle.specs.declared.effect.Effect.TheVariants.{Unaffected, FeaturesSet, Deselected}
+use Rattle.onfi_cycle.specs.Effect.{ends_features, acts_for_target}
 use Rattle.onfi_cycle.specs.Sequence.{facts_of, tail}
-use Rattle.onfi_cycle.specs.Lun.{effect_on, latch_alone}
+use Rattle.onfi_cycle.specs.Lun.{effect_on, latch_alone, effect_among}
 use Rattle.onfi_cycle.specs.Channel.{cycle}
 use Rattle.target_bus.specs.Bus.{numbered}
 use Rattle.target_bus.proofs.Numbers.{set_here, set_other}
@@ -77,7 +77,7 @@ stand_at_first g count k w found = none_begun count k w found
 -- ---- data cycles begin and end no work on a page
 
 output_leaves : (g : Parts) (past : List Item) (ce byte n : ℕ) (l : Lun) (w : Works) → works_after (effect_on g past (cycle ce Dout byte) l) n w ≡ w
-unfolding effect_on
+unfolding effect_among
 output_leaves g past ce byte n l w = at (ce == l.ce) (latch_alone g past l) refl refl
   where
     at : (here : Bool) (x : Latch) → (ce == l.ce) ≡ here → latch_alone g past l ≡ x → works_after (effect_on g past (cycle ce Dout byte) l) n w ≡ w
@@ -87,17 +87,18 @@ output_leaves g past ce byte n l w = at (ce == l.ce) (latch_alone g past l) refl
     at true latch.Data e f = rw (e, f) refl
 
 -- a feature that is set is no work on a page
-set_leaves : (ends : Bool) (address n : ℕ) (w : Works) → works_after (cond ends (FeaturesSet address) Unaffected) n w ≡ w
-set_leaves true address n w = refl
-set_leaves false address n w = refl
+set_leaves : (ends acts : Bool) (address n : ℕ) (w : Works) → works_after (cond ends (cond acts (FeaturesSet address) Deselected) Unaffected) n w ≡ w
+set_leaves true true address n w = refl
+set_leaves true false address n w = refl
+set_leaves false acts address n w = refl
 
 input_leaves : (g : Parts) (past : List Item) (ce byte n : ℕ) (l : Lun) (w : Works) → works_after (effect_on g past (cycle ce Din byte) l) n w ≡ w
-unfolding effect_on
+unfolding effect_among
 input_leaves g past ce byte n l w = at (ce == l.ce) refl
   where
     at : (here : Bool) → (ce == l.ce) ≡ here → works_after (effect_on g past (cycle ce Din byte) l) n w ≡ w
     at false e = rw (e) refl
-    at true e = rw (e) (set_leaves (ends_features (facts_of (tail past l.ce))) ((facts_of (tail past l.ce)).column % 256) n w)
+    at true e = rw (e) (set_leaves (ends_features (facts_of (tail past l.ce))) (acts_for_target g l.lun) ((facts_of (tail past l.ce)).column % 256) n w)
 
 pub stay_at_output : (g : Parts) (past : List Item) (ce byte : ℕ) (all : List Works) → AreWorks g past all → AreWorks g (cycle ce Dout byte ∷ past) all
 stay_at_output g past ce byte all are k w found = are k w found ∙ sym (output_leaves g past ce byte (length past) (numbered g k) (works_on g past (numbered g k)))

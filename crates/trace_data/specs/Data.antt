@@ -15,7 +15,7 @@ use Rattle.onfi_cycle.specs.declared.page_address.PageAddress.{PageAddress}
 use Rattle.onfi_cycle.specs.declared.queued.Queued.{Queued}
 use Rattle.onfi_cycle.specs.declared.queued.Queued.TheVariants.{Erase, Program}
 use Rattle.onfi_cycle.specs.declared.effect.Effect.{Effect}
-use Rattle.onfi_cycle.specs.declared.effect.Effect.TheVariants.{EraseStarted, ProgramStarted, ResetStarted, BecameReady}
+use Rattle.onfi_cycle.specs.declared.effect.Effect.TheVariants.{EraseStarted, ProgramStarted, ResetStarted, TargetResetStarted, BecameReady}
 use Rattle.onfi_cycle.specs.declared.forbidden.Forbidden.{Forbidden as Rule}
 use Rattle.onfi_cycle.specs.declared.lun_state.LunState.{LunState}
 use Rattle.onfi_cycle.specs.Content.{same_page}
@@ -101,6 +101,7 @@ abbrev pub works_after : Effect → ℕ → Works → Works
 works_after (EraseStarted queued at) n w = begun queued (record { work = Erase at; item = n }) w
 works_after (ProgramStarted queued at) n w = begun queued (record { work = Program at; item = n }) w
 works_after ResetStarted n w = over true (unqueued w)
+works_after (TargetResetStarted first) n w = over true (unqueued w)
 works_after (BecameReady failed) n w = over failed w
 works_after _ n w = w
 

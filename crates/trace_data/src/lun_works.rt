@@ -87,7 +87,7 @@ impl LunWorks {
                 let work = Queued::Program(page);
                 self.begin(queued, BegunWork { work, item })
             }
-            Effect::ResetStarted => {
+            Effect::ResetStarted | Effect::TargetResetStarted { .. } => {
                 self.queued.clear();
                 self.end(true)
             }
@@ -95,6 +95,8 @@ impl LunWorks {
             Effect::Unaffected
             | Effect::DataOutputEnabled
             | Effect::StatusSelected
+            | Effect::StatusOfSelected
+            | Effect::AnotherAddressed { .. }
             | Effect::StatusRowAwaited
             | Effect::SelectedForStatus
             | Effect::Deselected

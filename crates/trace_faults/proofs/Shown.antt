@@ -12,22 +12,24 @@ use Rattle.onfi_cycle.specs.declared.forbidden.Forbidden.TheVariants.{NotThere, 
 use Rattle.onfi_cycle.specs.declared.lun_state.LunState.{LunState}
 use Rattle.onfi_cycle.specs.LunView.{LunView}
 use Rattle.onfi_cycle.specs.Rules.{breaks_not_there, lun_is, is_some_and}
-use Rattle.onfi_cycle.specs.Effect.{names_lun}
-use Rattle.onfi_cycle.specs.State.{BusView, TargetView, judged, judged_on}
-use Rattle.onfi_cycle.specs.Look.{looked, look_on, look_at_some, look_at}
+use Rattle.onfi_cycle.specs.Effect.{names_lun, is_shared}
+use Rattle.onfi_cycle.specs.State.{BusView, TargetView, judged, judged_on, bus_without}
+use Rattle.onfi_cycle.specs.Sequence.{target_of}
+use Rattle.nand_geometry.specs.declared.parts.Parts.{Parts}
+use Rattle.onfi_cycle.specs.Look.{looked, look_on, look_at_some, look_at, target_works}
 use Rattle.trace_faults.specs.declared.broken_rule.BrokenRule.{BrokenRule}
 use Rattle.trace_faults.specs.declared.readies.Readies.{Readies}
 use Rattle.trace_faults.specs.declared.readies.Readies.TheVariants.{Written, Shown}
 use Rattle.trace_faults.specs.declared.trace_state.TraceState.{TraceState}
-use Rattle.trace_faults.specs.Outside.{is_opening, is_status}
+use Rattle.trace_faults.specs.Outside.{is_opening, is_outside, is_status, leaves_profile}
 use Rattle.trace_faults.specs.Denied.{lun_drives, driving_lun, has_ready, is_denied}
-use Rattle.trace_faults.specs.Recovery.{fresh_for, judged_here, gone_on}
+use Rattle.trace_faults.specs.Recovery.{fresh_for, judged_here, done_unless, bus_by, gone_on_by, gone_on}
 use Rattle.trace_faults.specs.RowAhead.{given_row}
 use Rattle.trace_faults.specs.ShownReadies.{ready_before, array_ready_before, ready_at, array_ready_at, ready_of, array_ready_of, with_ready, with_readies, gone_on_some, listed, has_array_ready, has_fail, is_output_inside}
 use Rattle.trace_faults.specs.declared.unshown.UnshownReady.{UnshownReady}
 use Rattle.trace_faults.specs.declared.unshown.NotShown.{NotShown}
-use Rattle.trace_faults.specs.Unshown.{is_working, may_be_done, first_of, first_done, is_named, named_done, if_may_be_done, driving_done, or_else, to_begin, wanted_by, unshown_of, unshown, ready_for, ready_taken, rule_without}
-use Rattle.trace_faults.specs.Faults.{before_item, fault_at, faults_from, not_shown_by, completed_from, completed}
+use Rattle.trace_faults.specs.Unshown.{is_working, may_be_done, first_of, first_done, is_named, named_done, if_may_be_done, driving_done, or_else, to_begin, target_done, wanted_by, unshown_of, unshown, needs_each, further, ready_for, ready_taken, rule_without}
+use Rattle.trace_faults.specs.Faults.{before_item, fault_at, faults_from, not_shown_by, completed_from, completed, with_unshown, with_further, with_each, with_taken, further_ready, further_readies, taken_readies}
 use Rattle.trace_faults.specs.Laws.{CompletedAreJudged, WorksThere, TakenAtWork, IsNotShown, NotShownArePermitted}
 use Rattle.trace_faults.specs.Inside.{IsInside}
 use Rattle.trace_faults.proofs.Inside.{only_four}
@@ -221,8 +223,18 @@ where_works : (s : TraceState) (ce : ℕ) (b : Bool) (o : Option ℕ) → Works 
 where_works s ce true o here = here
 where_works s ce false o here = none_works s ce
 
+target_does : (s : TraceState) (ce : ℕ) (row : Option ℕ) → Works s ce (target_done s ce row)
+target_does s ce None = none_works s ce
+target_does s ce (Some row) = where_works s ce (is_shared s.bus.geometry && target_works s.bus ce) (if_may_be_done s ce (Some 0)) (at (may_be_done s ce 0) refl)
+  where
+    at : (b : Bool) → may_be_done s ce 0 ≡ b → Works s ce (cond b (Some 0) None)
+    at true e number h = subst (WorksHere s ce) (same_number 0 number h) (record { works = e; few = omega arith })
+    at false e number h = cc
+
 wanted_works : (rule : Option Forbidden) (s : TraceState) (c : Cycle) (later : List Item) → Works s c.ce (wanted_by rule s c later)
-wanted_works None s c later = named_works s c.ce (given_row c later)
+wanted_works None s c later =
+    or_works s c.ce (named_done s c.ce (given_row c later)) (target_done s c.ce (given_row c later)) (named_works s c.ce (given_row c later))
+    (target_does s c.ce (given_row c later))
 wanted_works (Some NotThere) s c later = none_works s c.ce
 wanted_works (Some CommandUnknown) s c later = none_works s c.ce
 wanted_works (Some SequenceOpen) s c later = none_works s c.ce
@@ -276,7 +288,61 @@ taken_is_permitted s i later x h = at (unshown s i later) refl h
     at None e g = cc
     at (Some ready) e g = subst (λ (y : Item). judged_here s y ≡ None) (same_item (ready_for ready) g) (taken_at_work s i later ready e).works
 
+further_is_permitted : (s : TraceState) (i : Item) (later : List Item) (x : Item) → ready_taken (further s i later) ≡ Some x → judged_here s x ≡ None
+further_is_permitted s i later x h = at (needs_each s.bus.geometry i) h
+  where
+    at : (b : Bool) → ready_taken (cond b (unshown s i later) None) ≡ Some x → judged_here s x ≡ None
+    at true g = taken_is_permitted s i later x g
+    at false g = cc
+
+pub further_inside : (s : TraceState) (i : Item) (later : List Item) (r : Item) → IsInside i → ready_taken (further s i later) ≡ Some r → IsInside r
+further_inside s i later r p h = at (needs_each s.bus.geometry i) h
+  where
+    at : (b : Bool) → ready_taken (cond b (unshown s i later) None) ≡ Some r → IsInside r
+    at true g = taken_inside s i later r p g
+    at false g = cc
+
 -- ---- 4. what is told as not shown is permitted
+
+-- an item leaves the geometry
+either_geometry : (b : Bool) (x y : BusView) (g : Parts) → x.geometry ≡ g → y.geometry ≡ g → (cond b x y).geometry ≡ g
+either_geometry true x y g here there = here
+either_geometry false x y g here there = there
+
+unless_geometry : (rule : Option Forbidden) (i : Item) (s : BusView) → (done_unless rule i s).geometry ≡ s.geometry
+unless_geometry None i s = refl
+unless_geometry (Some rule) i s = refl
+
+by_geometry : (rule : Option Forbidden) (i : Item) (s : BusView) → (bus_by rule i s).geometry ≡ s.geometry
+by_geometry None i s = refl
+by_geometry (Some rule) i s =
+    either_geometry (leaves_profile (Some rule) s (target_of i)) (bus_without (target_of i) s)
+    (cond (is_opening i) (done_unless (judged (bus_without (target_of i) s) i) i (bus_without (target_of i) s)) s) s.geometry refl
+    (either_geometry (is_opening i) (done_unless (judged (bus_without (target_of i) s) i) i (bus_without (target_of i) s)) s s.geometry
+    (unless_geometry (judged (bus_without (target_of i) s) i) i (bus_without (target_of i) s)) refl)
+
+same_geometry : (i : Item) (t : TraceState) → (gone_on i t).bus.geometry ≡ t.bus.geometry
+same_geometry i t = at (is_outside t i)
+  where
+    at : (b : Bool) → (cond b t (gone_on_by (judged t.bus i) i t)).bus.geometry ≡ t.bus.geometry
+    at true = refl
+    at false = by_geometry (judged t.bus i) i t.bus
+
+some_geometry : (o : Option Item) (t : TraceState) → (gone_on_some o t).bus.geometry ≡ t.bus.geometry
+some_geometry None t = refl
+some_geometry (Some i) t = same_geometry i t
+
+shown_geometry : (s : TraceState) (i : Item) → (with_readies s i).bus.geometry ≡ s.bus.geometry
+shown_geometry s i = some_geometry (array_ready_before (with_ready s i) i) (with_ready s i) ∙ some_geometry (ready_before s i) s
+
+-- no further LUN is taken for an item that needs none
+none_taken : (s : TraceState) (i : Item) (later : List Item) → needs_each s.bus.geometry i ≡ false → with_further s i later ≡ s
+none_taken s i later none = ap (λ (b : Bool). gone_on_some (ready_taken (cond b (unshown s i later) None)) s) none
+
+none_further : (s : TraceState) (i : Item) (later : List Item) → needs_each s.bus.geometry i ≡ false → with_each s i later ≡ s
+none_further s i later none =
+    let once = none_taken s i later none in
+    ap (λ (t : TraceState). with_further (with_further t i later) i later) once ∙ (ap (λ (t : TraceState). with_further t i later) once ∙ once)
 
 pub not_shown_are_permitted : NotShownArePermitted
 not_shown_are_permitted state n i later told more h =
@@ -291,21 +357,64 @@ not_shown_are_permitted state n i later told more h =
     no_more : (x y : NotShown) → x ∷ [] ≡ y ∷ more → more ≡ []
     no_more x y g = cc
 
-    with : (ready : UnshownReady) → unshown s i later ≡ Some ready → before_item Shown state i later ≡ gone_on (ready_for ready) s
-    with ready e = ap (λ (o : Option UnshownReady). gone_on_some (ready_taken o) s) e
+    with : (ready : UnshownReady) → unshown s i later ≡ Some ready → before_item Shown state i later ≡ with_each (gone_on (ready_for ready) s) i later
+    with ready e = ap (λ (o : Option UnshownReady). with_each (gone_on_some (ready_taken o) s) i later) e
 
-    at : (o : Option UnshownReady) (rule : Option Forbidden) → unshown s i later ≡ o → judged_here (before_item Shown state i later) i ≡ rule → not_shown_by n o rule ≡ told ∷ more → (more ≡ []) × IsNotShown state n i told
+    -- where the item needs no further LUN, that is the channel after the one ready
+    one_alone : (ready : UnshownReady) → needs_each state.bus.geometry i ≡ false → with_each (gone_on (ready_for ready) s) i later ≡ gone_on (ready_for ready) s
+    one_alone ready none =
+        none_further (gone_on (ready_for ready) s) i later
+        (ap (λ (g : Parts). needs_each g i) (same_geometry (ready_for ready) s ∙ shown_geometry state i) ∙ none)
+
+    at : (o : Option UnshownReady) (rule : Option Forbidden) → unshown s i later ≡ o → judged_here (before_item Shown state i later) i ≡ rule → not_shown_by n o rule ≡ told ∷ more → (more ≡ []) × IsNotShown state n i later told
     at None rule e is g = cc
     at (Some ready) (Some rule) e is g = cc
     at (Some ready) None e is g =
         let w = taken_at_work s i later ready e in
-        let one : NotShown = record { item = n; ready = ready } in (
+        let one : NotShown = record { item = n; ready = ready } in
+        let permitted : judged_here (with_each (gone_on (ready_for ready) s) i later) i ≡ None = sym (ap (λ (b : TraceState). judged_here b i) (with ready e)) ∙ is in (
           no_more one told g,
-          subst (IsNotShown state n i) (same_told one told g)
-              (record { number = refl; target = w.target; works = w.works; permitted = sym (ap (λ (b : TraceState). judged_here b i) (with ready e)) ∙ is }),
+          subst (IsNotShown state n i later) (same_told one told g)
+              (record {
+                number = refl;
+                target = w.target;
+                works = w.works;
+                permitted = permitted;
+                alone = λ none. sym (ap (λ (b : TraceState). judged_here b i) (one_alone ready none)) ∙ permitted;
+              }),
         )
 
 -- ---- 5. the law
+
+-- what is taken is passed over
+passed_further : (s : TraceState) (i : Item) (items rest : List Item) (k m : ℕ) → (faults_from Written s k (further_ready s i items ++ rest) ≡ []) ↔ (faults_from Written (with_further s i items) m rest ≡ [])
+passed_further s i items rest k m = passed s (ready_taken (further s i items)) rest k m (further_is_permitted s i items)
+
+passed_each : (s : TraceState) (i : Item) (items rest : List Item) (k m : ℕ) → (faults_from Written s k (further_readies s i items ++ rest) ≡ []) ↔ (faults_from Written (with_each s i items) m rest ≡ [])
+passed_each s i items rest k m =
+    let one = with_further s i items in
+    let two = with_further one i items in
+    let a = further_ready s i items in
+    let b = further_ready one i items in
+    let c = further_ready two i items in
+    let first = passed_further s i items (b ++ (c ++ rest)) k 0 in
+    let second = passed_further one i items (c ++ rest) 0 0 in
+    let third = passed_further two i items rest 0 m in
+    let grouped = ap (λ (is : List Item). faults_from Written s k is) (append_assoc a (b ++ c) rest ∙ ap (λ (is : List Item). a ++ is) (append_assoc b c rest)) in (
+      λ h. third.0 (second.0 (first.0 (sym grouped ∙ h))),
+      λ h. grouped ∙ first.1 (second.1 (third.1 h)),
+    )
+
+passed_taken : (s : TraceState) (i : Item) (items rest : List Item) (k m : ℕ) → (faults_from Written s k (taken_readies s i items ++ rest) ≡ []) ↔ (faults_from Written (with_taken Shown s i items) m rest ≡ [])
+passed_taken s i items rest k m =
+    let t = ready_taken (unshown s i items) in
+    let more = further_readies (with_unshown s i items) i items in
+    let first = passed s t (more ++ rest) k 0 (taken_is_permitted s i items) in
+    let second = passed_each (with_unshown s i items) i items rest 0 m in
+    let grouped = ap (λ (is : List Item). faults_from Written s k is) (append_assoc (listed t) more rest) in (
+      λ h. second.0 (first.0 (sym grouped ∙ h)),
+      λ h. grouped ∙ first.1 (second.1 h),
+    )
 
 same_from : (items : List Item) (s : TraceState) (k m : ℕ) → (faults_from Shown s k items ≡ []) ↔ (faults_from Written s m (completed_from s items) ≡ [])
 same_from [] s k m = (λ h. refl, λ h. refl)
@@ -313,14 +422,14 @@ same_from (i ∷ items) s k m =
     let r = ready_before s i in
     let a = array_ready_before (with_ready s i) i in
     let shown = with_readies s i in
-    let t = ready_taken (unshown shown i items) in
+    let t = taken_readies shown i items in
     let whole = before_item Shown s i items in
     let rest = completed_from (gone_on i whole) items in
-    let first = passed s r (listed a ++ (listed t ++ (i ∷ rest))) m 0 (ready_is_permitted s i) in
-    let second = passed (with_ready s i) a (listed t ++ (i ∷ rest)) 0 0 (array_ready_is_permitted (with_ready s i) i) in
-    let third = passed shown t (i ∷ rest) 0 0 (taken_is_permitted shown i items) in
+    let first = passed s r (listed a ++ (t ++ (i ∷ rest))) m 0 (ready_is_permitted s i) in
+    let second = passed (with_ready s i) a (t ++ (i ∷ rest)) 0 0 (array_ready_is_permitted (with_ready s i) i) in
     let later = same_from items (gone_on i whole) (k + 1) (0 + 1) in
-    let grouped = ap (λ (is : List Item). faults_from Written s m is) (append_assoc (listed r ++ listed a) (listed t) (i ∷ rest) ∙ append_assoc (listed r) (listed a) (listed t ++ (i ∷ rest))) in (
+    let third = passed_taken shown i items (i ∷ rest) 0 0 in
+    let grouped = ap (λ (is : List Item). faults_from Written s m is) (append_assoc (listed r ++ listed a) t (i ∷ rest) ∙ append_assoc (listed r) (listed a) (t ++ (i ∷ rest))) in (
       λ h. grouped ∙ first.1 (second.1 (third.1 (parted k 0 (judged_here whole i) (faults_from Shown (gone_on i whole) (k + 1) items) (faults_from Written (gone_on i whole) (0 + 1) rest) h later.0))),
       λ h. parted 0 k (judged_here whole i) (faults_from Written (gone_on i whole) (0 + 1) rest) (faults_from Shown (gone_on i whole) (k + 1) items) (third.0 (second.0 (first.0 (sym grouped ∙ h)))) later.1,
     )

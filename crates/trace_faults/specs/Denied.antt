@@ -4,11 +4,11 @@ use Rattle.std.specs.Int.RustNames.{bit_and}
 use Rattle.onfi_cycle.specs.declared.item.Item.{Item}
 use Rattle.onfi_cycle.specs.declared.item.Item.TheVariants.{Cyc, Rdy, Ard}
 use Rattle.onfi_cycle.specs.declared.item.Cycle.{Cycle}
-use Rattle.onfi_cycle.specs.declared.command.Command.TheVariants.{Reset}
+use Rattle.onfi_cycle.specs.declared.command.Command.TheVariants.{Reset, SynchronousReset}
 use Rattle.onfi_cycle.specs.declared.target_cycle.TargetCycle.{TargetCycle}
 use Rattle.onfi_cycle.specs.declared.target_cycle.TargetCycle.TheVariants.{CommandCycle, AddressCycle, InputCycle, OutputCycle}
 use Rattle.onfi_cycle.specs.declared.lun_state.LunState.{LunState}
-use Rattle.onfi_cycle.specs.Effect.{is_off}
+use Rattle.onfi_cycle.specs.Effect.{is_off, is_shared}
 use Rattle.onfi_cycle.specs.Sequence.{target_cycle}
 use Rattle.onfi_cycle.specs.State.{BusView}
 use Rattle.onfi_cycle.specs.Look.{looked}
@@ -57,9 +57,15 @@ busy_at bus ce None byte shown = shown
 busy_at bus ce (Some number) byte shown =
     if says_busy (looked bus (record { ce = ce; lun = number })) byte then slice_set shown (place_of ce number) true else shown
 
--- a reset begins work anew, of which no status was shown; it is for a target of one LUN
+-- no status was shown of the LUNs of a target
+abbrev pub none_shown : ℕ → List Bool → List Bool
+none_shown ce shown =
+    slice_set (slice_set (slice_set (slice_set shown (place_of ce 0) false) (place_of ce 1) false) (place_of ce 2) false) (place_of ce 3) false
+
+-- a reset begins work anew, of which no status was shown: on a target of one LUN, or in the wider profile on each of several
 abbrev pub busy_by : BusView → Cycle → TargetCycle → List Bool → List Bool
-busy_by bus c (CommandCycle Reset) shown = slice_set shown (place_of c.ce 0) false
+busy_by bus c (CommandCycle Reset) shown = if is_shared bus.geometry then none_shown c.ce shown else slice_set shown (place_of c.ce 0) false
+busy_by bus c (CommandCycle SynchronousReset) shown = if is_shared bus.geometry then none_shown c.ce shown else shown
 busy_by bus c (CommandCycle _) shown = shown
 busy_by bus c (AddressCycle byte) shown = shown
 busy_by bus c (InputCycle byte) shown = shown

@@ -11,23 +11,36 @@ use Rattle.trace_faults.specs.Recovery.{fresh_for, judged_here, gone_on}
 use Rattle.trace_faults.specs.declared.unshown.UnshownReady.{UnshownReady}
 use Rattle.trace_faults.specs.declared.unshown.NotShown.{NotShown}
 use Rattle.trace_faults.specs.ShownReadies.{with_readies, shown_readies, listed, gone_on_some}
-use Rattle.trace_faults.specs.Unshown.{unshown, ready_taken}
+use Rattle.trace_faults.specs.Unshown.{unshown, further, ready_taken}
 
 -- the channel with the readies that an item shows, where they aren't written in the trace
 abbrev pub before_taken : Readies → TraceState → Item → TraceState
 before_taken Written state i = state
 before_taken Shown state i = with_readies state i
 
--- the ready that an item needs besides, where readies aren't written; later items may tell of which LUN
+-- the first ready that an item needs besides, where readies aren't written; later items may tell of which LUN
 abbrev pub taken_on : Readies → TraceState → Item → (later : List Item) → Option UnshownReady
 taken_on Written state i later = None
 taken_on Shown state i later = unshown state i later
 
--- the channel with that ready
-abbrev pub with_taken : Readies → TraceState → Item → (later : List Item) → TraceState
-with_taken readies state i later = gone_on_some (ready_taken (taken_on readies state i later)) state
+-- the channel with the ready of one LUN
+abbrev pub with_unshown : TraceState → Item → (later : List Item) → TraceState
+with_unshown state i later = gone_on_some (ready_taken (unshown state i later)) state
 
--- the channel on which an item is judged: where readies aren't written in the trace, with those that the item shows and the one that it needs besides
+-- and with that of a further one, for an item that needs each of its target
+abbrev pub with_further : TraceState → Item → (later : List Item) → TraceState
+with_further state i later = gone_on_some (ready_taken (further state i later)) state
+
+-- and with those of three further ones: a target has four LUNs at most
+abbrev pub with_each : TraceState → Item → (later : List Item) → TraceState
+with_each state i later = with_further (with_further (with_further state i later) i later) i later
+
+-- the channel with what is taken
+abbrev pub with_taken : Readies → TraceState → Item → (later : List Item) → TraceState
+with_taken Written state i later = state
+with_taken Shown state i later = with_each (with_unshown state i later) i later
+
+-- the channel on which an item is judged: where readies aren't written in the trace, with those that the item shows and those that it needs besides
 abbrev pub before_item : Readies → TraceState → Item → (later : List Item) → TraceState
 before_item readies state i later = with_taken readies (before_taken readies state i) i later
 
@@ -67,9 +80,22 @@ not_shown_of readies g targets items = not_shown_from readies (fresh_for g targe
 
 -- ---- the trace that is judged
 
--- the readies before an item: those that it shows, and the one that it needs besides
+-- the ready of a further LUN
+abbrev pub further_ready : TraceState → Item → (later : List Item) → List Item
+further_ready state i later = listed (ready_taken (further state i later))
+
+-- and those of three
+abbrev pub further_readies : TraceState → Item → (later : List Item) → List Item
+further_readies state i later =
+    further_ready state i later ++ (further_ready (with_further state i later) i later ++ further_ready (with_further (with_further state i later) i later) i later)
+
+-- the readies that an item needs on this channel, and that nothing showed
+abbrev pub taken_readies : TraceState → Item → (later : List Item) → List Item
+taken_readies state i later = listed (ready_taken (unshown state i later)) ++ further_readies (with_unshown state i later) i later
+
+-- the readies before an item: those that it shows, and those that it needs besides
 abbrev pub readies_before : TraceState → Item → (later : List Item) → List Item
-readies_before state i later = shown_readies state i ++ listed (ready_taken (unshown (with_readies state i) i later))
+readies_before state i later = shown_readies state i ++ taken_readies (with_readies state i) i later
 
 -- items with their readies, each before its item
 abbrev pub completed_from : TraceState → List Item → List Item

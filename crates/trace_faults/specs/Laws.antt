@@ -1,5 +1,5 @@
 -- What holds of the faults of a trace.
-use Rattle.std.specs.Prelude.{◌≡◌, ◌↔◌, ℕ, true, List, [], ◌∷◌, Some, None, reverse}
+use Rattle.std.specs.Prelude.{◌≡◌, ◌↔◌, ℕ, true, false, List, [], ◌∷◌, Some, None, reverse}
 use Rattle.nand_geometry.specs.declared.parts.Parts.{Parts}
 use Rattle.onfi_cycle.specs.declared.item.Item.{Item}
 use Rattle.onfi_cycle.specs.declared.forbidden.Forbidden.{Forbidden}
@@ -13,8 +13,8 @@ use Rattle.trace_faults.specs.Recovery.{judged_here, gone_on}
 use Rattle.trace_faults.specs.declared.unshown.UnshownReady.{UnshownReady}
 use Rattle.trace_faults.specs.declared.unshown.NotShown.{NotShown}
 use Rattle.trace_faults.specs.ShownReadies.{with_readies}
-use Rattle.trace_faults.specs.Unshown.{unshown, ready_for}
-use Rattle.trace_faults.specs.Faults.{faults_of, not_shown_at, completed}
+use Rattle.trace_faults.specs.Unshown.{unshown, needs_each, ready_for}
+use Rattle.trace_faults.specs.Faults.{faults_of, not_shown_at, completed, with_each}
 use Rattle.trace_faults.specs.Middle.{verdicts_of, all_broken, all_granted, count_passed_over}
 
 -- a trace has no fault exactly when it is legal
@@ -46,18 +46,21 @@ pub record WorksThere (state : TraceState) (i : Item) (ready : UnshownReady) : T
 abbrev pub TakenAtWork : Type 0
 TakenAtWork = (state : TraceState) (i : Item) (later : List Item) (ready : UnshownReady) → unshown state i later ≡ Some ready → WorksThere state i ready
 
--- of the item of this number is told that a ready wasn't shown: that of one LUN of its target, which works after what was shown, and after which the item is permitted
-pub record IsNotShown (state : TraceState) (n : ℕ) (i : Item) (told : NotShown) : Type 0 where
+-- of the item of this number is told that a ready wasn't shown: that of one LUN of its target, which works after what was shown; after it, and after those of
+-- the further LUNs that the item needs, the item is permitted
+pub record IsNotShown (state : TraceState) (n : ℕ) (i : Item) (later : List Item) (told : NotShown) : Type 0 where
   pub number : told.item ≡ n
   pub target : told.ready.lun.ce ≡ target_of i
   pub works : judged_here (with_readies state i) (ready_for told.ready) ≡ None
-  pub permitted : judged_here (gone_on (ready_for told.ready) (with_readies state i)) i ≡ None
+  pub permitted : judged_here (with_each (gone_on (ready_for told.ready) (with_readies state i)) i later) i ≡ None
+  pub alone : needs_each state.bus.geometry i ≡ false → judged_here (gone_on (ready_for told.ready) (with_readies state i)) i ≡ None
 
--- an item that is told as not shown ready is permitted after the ready of a LUN that works, of its own target, and that is all that is told of it
+-- an item that is told as not shown ready is permitted after the ready of a LUN that works, of its own target, and of further ones where it needs each; and
+-- that is all that is told of it
 abbrev pub NotShownArePermitted : Type 0
 NotShownArePermitted =
     (state : TraceState) (n : ℕ) (i : Item) (later : List Item) (told : NotShown) (more : List NotShown) →
-    not_shown_at Shown state n i later ≡ told ∷ more → (more ≡ []) × IsNotShown state n i told
+    not_shown_at Shown state n i later ≡ told ∷ more → (more ≡ []) × IsNotShown state n i later told
 
 -- a trace of which nothing is passed over or taken for granted has the same faults, wherever its recording began
 abbrev pub WholeAreJudgedWhole : Type 0

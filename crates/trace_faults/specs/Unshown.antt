@@ -1,4 +1,4 @@
--- The readies that nothing shows: of a LUN that a cycle needs, whose host waited by R/B# or by the clock.
+-- The readies that nothing shows: of the LUNs that a cycle needs, whose host waited by R/B# or by the clock.
 use Rattle.std.specs.Prelude.{ℕ, Bool, false, not, ◌&&◌, List, Option, Some, None, if◌then◌else◌}
 use Rattle.onfi_cycle.specs.declared.item.Cycle.{Cycle}
 use Rattle.onfi_cycle.specs.declared.item.Item.{Item}
@@ -6,8 +6,13 @@ use Rattle.onfi_cycle.specs.declared.item.Item.TheVariants.{Cyc, Rdy, Ard}
 use Rattle.onfi_cycle.specs.declared.forbidden.Forbidden.{Forbidden}
 use Rattle.onfi_cycle.specs.declared.forbidden.Forbidden.TheVariants.{NotThere, CommandUnknown, SequenceOpen, SeveralLuns, NoColumnToChange, CommandMisplaced, AddressMisplaced, RowOutside, LunBusy, QueueClash, InputMisplaced, NoSoleDriver, DataNotReady, ColumnOutside, CacheReadMisplaced}
 use Rattle.onfi_cycle.specs.declared.lun_state.LunState.{LunState}
-use Rattle.onfi_cycle.specs.Effect.{names_lun}
-use Rattle.onfi_cycle.specs.Look.{looked}
+use Rattle.onfi_cycle.specs.declared.target_cycle.TargetCycle.{TargetCycle}
+use Rattle.onfi_cycle.specs.declared.target_cycle.TargetCycle.TheVariants.{CommandCycle, AddressCycle, InputCycle, OutputCycle}
+use Rattle.nand_geometry.specs.declared.parts.Parts.{Parts}
+use Rattle.onfi_cycle.specs.Command.{reads_identity}
+use Rattle.onfi_cycle.specs.Sequence.{target_cycle}
+use Rattle.onfi_cycle.specs.Effect.{names_lun, is_shared}
+use Rattle.onfi_cycle.specs.Look.{looked, target_works}
 use Rattle.trace_faults.specs.declared.unshown.UnshownReady.{UnshownReady}
 use Rattle.trace_faults.specs.declared.trace_state.TraceState.{TraceState}
 use Rattle.trace_faults.specs.Outside.{is_opening}
@@ -61,10 +66,19 @@ or_else (Some number) other = Some number
 abbrev pub to_begin : TraceState → Cycle → List Item → Option ℕ
 to_begin state c later = or_else (named_done state c.ce (given_row c later)) (first_done state c.ce)
 
+-- the LUN that works for the whole target, the first one, where it may be done: in the wider profile no row is named while it does
+abbrev pub target_done : TraceState → ℕ → Option ℕ → Option ℕ
+target_done state ce None = None
+target_done state ce (Some row) = if is_shared state.bus.geometry && target_works state.bus ce then if_may_be_done state ce (Some 0) else None
+
+-- the LUN that a row needs
+abbrev pub row_done : TraceState → ℕ → Option ℕ → Option ℕ
+row_done state ce row = or_else (named_done state ce row) (target_done state ce row)
+
 -- the LUN whose ready a cycle wants that breaks this rule first, or none: F9 of an opener, F5, F13 and F15 of the LUN that drives the bus; and an
--- opener that breaks none wants the ready of the LUN that its row will name
+-- opener that breaks none wants the ready that its row will need
 abbrev pub wanted_by : Option Forbidden → TraceState → Cycle → List Item → Option ℕ
-wanted_by None state c later = named_done state c.ce (given_row c later)
+wanted_by None state c later = row_done state c.ce (given_row c later)
 wanted_by (Some NotThere) state c later = None
 wanted_by (Some CommandUnknown) state c later = None
 wanted_by (Some SequenceOpen) state c later = None
@@ -95,6 +109,23 @@ abbrev pub unshown : TraceState → Item → (later : List Item) → Option Unsh
 unshown state (Cyc c) later = unshown_of c.ce (rule_without (judged_here state (Cyc c))) (wanted_by (judged_here state (Cyc c)) state c later)
 unshown state (Rdy _ _ _) later = None
 unshown state (Ard _ _) later = None
+
+-- an opener of what stands beside the array
+abbrev pub asks_target : TargetCycle → Bool
+asks_target (CommandCycle command) = reads_identity command
+asks_target (AddressCycle byte) = false
+asks_target (InputCycle byte) = false
+asks_target OutputCycle = false
+
+-- an item that needs each LUN of its target: in the wider profile, such an opener where there are several
+abbrev pub needs_each : Parts → Item → Bool
+needs_each g (Cyc c) = is_shared g && asks_target (target_cycle c.kind c.byte)
+needs_each g (Rdy _ _ _) = false
+needs_each g (Ard _ _) = false
+
+-- a further LUN that is taken for ready before such an item, once those before it are
+abbrev pub further : TraceState → Item → (later : List Item) → Option UnshownReady
+further state i later = if needs_each state.bus.geometry i then unshown state i later else None
 
 -- its ready, without failure
 abbrev pub ready_for : UnshownReady → Item

@@ -1,11 +1,11 @@
 //! Readies that a recording denies.
 ghost use Rattle.std.specs.Prelude.{◌≡◌, false, get_or, slice_set};
 ghost use Rattle.onfi_cycle.specs.Look.{looked};
-ghost use Rattle.trace_faults.specs.Denied.{drives, lun_drives, driving_lun, place_of, says_busy, busy_at, busy_by, shown_busy_after, is_ready_of, tells_readies, told_in, is_denied};
+ghost use Rattle.trace_faults.specs.Denied.{drives, lun_drives, driving_lun, place_of, says_busy, busy_at, none_shown, busy_by, shown_busy_after, is_ready_of, tells_readies, told_in, is_denied};
 
 use crate::outside::is_status;
 use crate::trace_state::TraceState;
-use onfi_cycle::{BusState, Command, Cycle, Item, Lun, LunState, Status, TargetCycle};
+use onfi_cycle::{BusState, Command, Cycle, Item, Lun, LunState, Status, TargetCycle, is_shared};
 
 // Whether the LUN of this number drives the bus when its target is read.
 fn lun_drives(bus: &BusState, ce: u8, number: u8) -> bool
@@ -71,11 +71,25 @@ fn note_output(shown: &mut [bool; 16], bus: &BusState, ce: u8, byte: u8)
     }
 }
 
+// Goes on by a reset of several LUNs.
+fn note_reset(shown: &mut [bool; 16], ce: u8)
+    ensures { shown.new ≡ none_shown ce shown.old }
+{
+    note(shown, place_of(ce, 0), false);
+    note(shown, place_of(ce, 1), false);
+    note(shown, place_of(ce, 2), false);
+    note(shown, place_of(ce, 3), false);
+}
+
 // Goes on by a cycle.
 fn note_cycle(shown: &mut [bool; 16], bus: &BusState, cycle: Cycle)
     ensures { shown.new ≡ shown_busy_after bus.now (Item.Cyc cycle) shown.old }
 {
     match TargetCycle::of(cycle.kind, cycle.byte) {
+        TargetCycle::CommandCycle(Command::Reset | Command::SynchronousReset)
+            if is_shared(&bus.geometry()) => {
+            note_reset(shown, cycle.ce);
+        }
         TargetCycle::CommandCycle(Command::Reset) => note(shown, place_of(cycle.ce, 0), false),
         TargetCycle::OutputCycle => note_output(shown, bus, cycle.ce, cycle.byte),
         TargetCycle::CommandCycle(_) | TargetCycle::AddressCycle(_) | TargetCycle::InputCycle(_) =>

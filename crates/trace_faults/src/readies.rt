@@ -1,11 +1,45 @@
 //! Where the readies of a trace are.
 ghost use Rattle.std.specs.Prelude.{◌≡◌};
-ghost use Rattle.trace_faults.specs.Faults.{before_taken, taken_on, with_taken, before_item};
+ghost use Rattle.trace_faults.specs.Faults.{before_taken, taken_on, with_unshown, with_further, with_each, with_taken, before_item};
+ghost use Rattle.trace_faults.specs.Unshown.{unshown, further, ready_taken};
 
 use crate::shown_readies::{go_on_by_readies, go_on_by_some};
 use crate::trace_state::TraceState;
-use crate::unshown::{UnshownReady, ready_taken, unshown};
+use crate::unshown::{UnshownReady, further, ready_taken, unshown};
 use onfi_cycle::Item;
+
+/// Goes on by the ready of a LUN that an item needs, and that nothing showed, and tells it.
+pub(crate) fn go_on_by_unshown(
+    state: &mut TraceState,
+    item: Item,
+    later: &[Item],
+) -> Option<UnshownReady>
+    ensures ready { result ≡ unshown state.old item later.now }
+    ensures state { state.new ≡ with_unshown state.old item later.now }
+{
+    let ready = unshown(state, item, later);
+    go_on_by_some(state, ready_taken(ready));
+    ready
+}
+
+/// Goes on by the ready of a further LUN that an item needs, and tells it.
+pub(crate) fn go_on_by_further(state: &mut TraceState, item: Item, later: &[Item]) -> Option<Item>
+    ensures ready { result ≡ ready_taken (further state.old item later.now) }
+    ensures state { state.new ≡ with_further state.old item later.now }
+{
+    let ready = ready_taken(further(state, item, later));
+    go_on_by_some(state, ready);
+    ready
+}
+
+// Goes on by the readies of all further LUNs that an item needs.
+fn go_on_by_each(state: &mut TraceState, item: Item, later: &[Item])
+    ensures { state.new ≡ with_each state.old item later.now }
+{
+    let _ = go_on_by_further(state, item, later);
+    let _ = go_on_by_further(state, item, later);
+    let _ = go_on_by_further(state, item, later);
+}
 
 /// Where the readies of a trace are.
 #[derive(Clone, Copy, Debug, PartialEq, Eq)]
@@ -30,17 +64,7 @@ impl Readies {
         }
     }
 
-    // The ready that an item needs besides, where readies aren't written.
-    fn taken_on(self, state: &TraceState, item: Item, later: &[Item]) -> Option<UnshownReady>
-        ensures { result ≡ taken_on self state.now item later.now }
-    {
-        match self {
-            Readies::Written => None,
-            Readies::Shown => unshown(state, item, later),
-        }
-    }
-
-    /// Goes on by the ready that an item needs besides, where readies aren't written, and tells it.
+    /// Goes on by the readies that an item needs besides, where readies aren't written, and tells the first.
     pub(crate) fn go_on_by_taken(
         self,
         state: &mut TraceState,
@@ -50,12 +74,17 @@ impl Readies {
         ensures ready { result ≡ taken_on self state.old item later.now }
         ensures state { state.new ≡ with_taken self state.old item later.now }
     {
-        let ready = self.taken_on(state, item, later);
-        go_on_by_some(state, ready_taken(ready));
-        ready
+        match self {
+            Readies::Written => None,
+            Readies::Shown => {
+                let ready = go_on_by_unshown(state, item, later);
+                go_on_by_each(state, item, later);
+                ready
+            }
+        }
     }
 
-    /// Goes on to where an item is judged: by the readies that it shows, where they aren't written, and the one that it needs besides, which it tells.
+    /// Goes on to where an item is judged: by the readies that it shows, where they aren't written, and those that it needs besides, of which it tells the first.
     pub fn go_on_to(
         self,
         state: &mut TraceState,

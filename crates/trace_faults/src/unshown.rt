@@ -1,16 +1,18 @@
-//! The readies that nothing shows: of a LUN that a cycle needs, whose host waited by R/B# or by the clock.
+//! The readies that nothing shows: of the LUNs that a cycle needs, whose host waited by R/B# or by the clock.
 ghost use Rattle.std.specs.Prelude.{◌≡◌};
 ghost use Rattle.onfi_cycle.specs.Look.{looked};
 ghost use Rattle.trace_faults.specs.Recovery.{judged_here};
-ghost use Rattle.trace_faults.specs.Unshown.{is_working, may_be_done, first_of, first_done, is_named, named_done, driving_done, to_begin, wanted_by, rule_without, unshown_of, unshown, ready_for, ready_taken};
+ghost use Rattle.trace_faults.specs.Unshown.{is_working, may_be_done, first_of, first_done, is_named, named_done, driving_done, to_begin, target_done, row_done, wanted_by, rule_without, unshown_of, unshown, asks_target, needs_each, further, ready_for, ready_taken};
 
 use crate::denied::{find_driver, is_denied};
 use crate::outside::is_opening;
 use crate::row_ahead::given_row;
 use crate::trace_state::TraceState;
-use onfi_cycle::{Cycle, Forbidden, Item, Lun, LunState};
+use nand_geometry::Geometry;
+use onfi_cycle::{Cycle, Forbidden, Item, Lun, LunState, TargetCycle, is_shared};
 
-/// A LUN that is taken for ready before an item, since that needs it and nothing showed it, and the rule that is broken without that.
+/// A LUN that is taken for ready before an item, since that needs it and nothing showed it, and the rule that is broken without that. Where the item needs
+/// several it is the first of them.
 #[derive(Clone, Copy, Debug, PartialEq, Eq)]
 pub struct UnshownReady {
     pub lun: Lun,
@@ -108,6 +110,28 @@ fn to_begin(state: &TraceState, cycle: Cycle, later: &[Item]) -> Option<u8>
     }
 }
 
+// The LUN that works for the whole target, where a row needs it and it may be done.
+fn target_done(state: &TraceState, ce: u8, row: Option<u32>) -> Option<u8>
+    ensures { result ≡ target_done state.now ce row }
+{
+    let _row = row?;
+    if is_shared(&state.bus.geometry()) && state.bus.target_works(ce) && may_be_done(state, ce, 0) {
+        Some(0)
+    } else {
+        None
+    }
+}
+
+// The LUN that a row needs.
+fn row_done(state: &TraceState, ce: u8, row: Option<u32>) -> Option<u8>
+    ensures { result ≡ row_done state.now ce row }
+{
+    match named_done(state, ce, row) {
+        Some(number) => Some(number),
+        None => target_done(state, ce, row),
+    }
+}
+
 // The LUN whose ready a cycle wants that breaks this rule first, or none.
 fn wanted_by(
     rule: Option<Forbidden>,
@@ -118,7 +142,7 @@ fn wanted_by(
     ensures { result ≡ wanted_by rule state.now cycle later.now }
 {
     match rule {
-        None => named_done(state, cycle.ce, given_row(cycle, later)),
+        None => row_done(state, cycle.ce, given_row(cycle, later)),
         Some(Forbidden::LunBusy) => {
             if is_opening(Item::Cyc(cycle)) {
                 to_begin(state, cycle, later)
@@ -180,6 +204,40 @@ pub(crate) fn unshown(state: &TraceState, item: Item, later: &[Item]) -> Option<
     let rule = state.judge(item);
     let number = wanted_by(rule, state, cycle, later);
     unshown_of(cycle.ce, rule_without(rule), number)
+}
+
+// Whether it is an opener of what stands beside the array.
+fn asks_target(cycle: TargetCycle) -> bool
+    ensures { result ≡ asks_target cycle }
+{
+    match cycle {
+        TargetCycle::CommandCycle(command) => command.reads_identity(),
+        TargetCycle::AddressCycle(_) | TargetCycle::InputCycle(_) | TargetCycle::OutputCycle =>
+            false,
+    }
+}
+
+// Whether an item needs each LUN of its target: in the wider profile, such an opener where there are several.
+fn needs_each(geometry: &Geometry, item: Item) -> bool
+    ensures { result ≡ needs_each geometry.now item }
+{
+    match item {
+        Item::Cyc(cycle) => {
+            is_shared(geometry) && asks_target(TargetCycle::of(cycle.kind, cycle.byte))
+        }
+        Item::Rdy { .. } | Item::Ard { .. } => false,
+    }
+}
+
+/// A further LUN that is taken for ready before an item that needs each, once those before it are.
+pub(crate) fn further(state: &TraceState, item: Item, later: &[Item]) -> Option<UnshownReady>
+    ensures { result ≡ further state.now item later.now }
+{
+    if needs_each(&state.bus.geometry(), item) {
+        unshown(state, item, later)
+    } else {
+        None
+    }
 }
 
 impl UnshownReady {

@@ -1,7 +1,7 @@
 -- Behind the last address of a read, a program or an erase its row names the one LUN of its target, and that is ready; so the closer begins work.
 use Rattle.std.proofs.Common.{◌≡◌, ℕ, ◌+◌, ◌==◌, Bool, true, false, ◌&&◌, ◌||◌, cond, List, [], ◌∷◌, Option, Some, None, refl, sym, ap, ◌∙◌, subst, arith, ltb, eqb-true, eq-eqb, ltb-true}
 use Rattle.std.specs.Prelude.{slice_get}
-use Rattle.std.proofs.lemmas.Bool.{and_parts, not-false, or_left, or_right}
+use Rattle.std.proofs.lemmas.Bool.{and_parts, not-false, or_left, or_right, or_parts}
 use Rattle.std.proofs.Math.Bool.{and-false}
 use Rattle.nand_geometry.specs.declared.parts.Parts.{Parts}
 use Rattle.nand_geometry.specs.Row.{parts_of}
@@ -157,7 +157,7 @@ module _ (g : Parts) (t : List TargetCycle) (luns : List LunView) (v : LunView) 
     unfolding breaks_lun_busy
     lun_ready h =
         judged_row g (row_with (facts_of t) byte) (λ v. v.busy) luns 0 v
-        (and_rest (ends_row addresses_the_array (facts_of t)) _ (ap (opened (λ c n. addresses_the_array c && at_last_row c n)) is ∙ h) keeps.f9)
+        (or_parts _ _ (and_rest (ends_row addresses_the_array (facts_of t)) _ (ap (opened (λ c n. addresses_the_array c && at_last_row c n)) is ∙ h) keeps.f9)).0
         (row_inside h) found
 
     first : RowReady g (next byte (Some o)) (v.busy || starts (opening_address_effect g (facts_of t) byte (Some o) 0))

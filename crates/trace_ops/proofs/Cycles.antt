@@ -456,7 +456,7 @@ module _ (g : Parts) (targets n : ℕ) (one_lun : Bool) (past : List Item) (mark
   begin_once : (a b : ℕ) → a < 4 → b < 4 → begins_between c before after a ≡ true → (a ≡ b → ⊥) → begins_between c before after b ≡ false
   begin_once a b low less h apart =
       false_from_ne_true (begins_between c before after b)
-      (λ e. apart (one_begins g targets past c before after here.sees here.saw here.legal here.permitted a b low less h e))
+      (λ e. apart (one_begins g targets past c before after here.sees here.saw here.base here.legal here.permitted a b low less h e))
 
   far : (items : List Item) (a b : ℕ) → (b < 4 → ⊥) → busy_of g targets items a b ≡ false
   far items a b high = false_from_ne_true (busy_of g targets items a b) (λ e. high (let few = (works_there g targets items a b e).few in let all = here.luns in omega (arith, few, all)))
@@ -537,7 +537,7 @@ module _ (g : Parts) (targets n : ℕ) (one_lun : Bool) (past : List Item) (mark
       at : (c.ce ≡ x.ce) ⊎ (c.ce ≡ x.ce → ⊥) → x ≡ at_lun c.ce lun
       at (inl same) =
           lun_is x c.ce lun (sym same)
-          (one_begins g targets past c before after here.sees here.saw here.legal here.permitted x.lun lun (let few = is.lun in let all = here.luns in omega (arith, few, all)) low
+          (one_begins g targets past c before after here.sees here.saw here.base here.legal here.permitted x.lun lun (let few = is.lun in let all = here.luns in omega (arith, few, all)) low
           (sym (work_is x is same) ∙ begins) h)
       at (inr away) = absurd (clash (begins_work g past (Cyc c) x) begins (work_elsewhere g targets past c before after here.sees here.saw x away))
 
@@ -738,7 +738,7 @@ module _ (g : Parts) (targets n : ℕ) (one_lun : Bool) (past : List Item) (mark
 
           at : (begins_between c before after lun ≡ true) ⊎ ((x : ℕ) → starts_by g past (at_lun c.ce x) (CommandCycle (command c.byte)) ≡ false) → w.lun ≡ Some lun
           at (inl h) =
-              known.is ∙ ap Some (one_begins g targets past c before after here.sees here.saw here.legal here.permitted known.lun lun known.few low known.begins h)
+              known.is ∙ ap Some (one_begins g targets past c before after here.sees here.saw here.base here.legal here.permitted known.lun lun known.few low known.begins h)
           at (inr rests) = absurd (none known.lun known.few known.begins Cmd e (rests known.lun))
       by_kind Adr e s =
           let known = turned.settled (ap is_output e) w is started in

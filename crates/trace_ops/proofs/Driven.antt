@@ -7,7 +7,7 @@ use Rattle.nand_geometry.specs.declared.parts.Parts.{Parts}
 use Rattle.onfi_cycle.specs.declared.command.Command.{Command}
 use Rattle.onfi_cycle.specs.declared.command.Command.TheVariants.{Read, ReadConfirm, ChangeReadColumn, ChangeReadColumnConfirm, BlockErase, BlockEraseConfirm, BlockErasePlane, ReadStatus, ReadStatusEnhanced, PageProgram, ChangeWriteColumn, ProgramConfirm, ProgramPlane, ReadId, ReadParameterPage, Reset, ReadCacheSequential, ReadCacheEnd, ReadUniqueId, GetFeatures, SetFeatures, ResetLun, SynchronousReset, Unknown}
 use Rattle.onfi_cycle.specs.declared.effect.Effect.{Effect}
-use Rattle.onfi_cycle.specs.declared.effect.Effect.TheVariants.{BecameReady, ArrayBecameReady, ReadStarted, EraseStarted, ProgramStarted, IdRead, IdentityRead, UniqueIdReadStarted, FeaturesReadStarted, FeaturesSet, ParameterPageReadStarted, CacheReadContinued, CacheReadEnded, ResetStarted}
+use Rattle.onfi_cycle.specs.declared.effect.Effect.TheVariants.{BecameReady, ArrayBecameReady, ReadStarted, EraseStarted, ProgramStarted, IdRead, IdentityRead, UniqueIdReadStarted, FeaturesReadStarted, FeaturesSet, ParameterPageReadStarted, CacheReadContinued, CacheReadEnded, ResetStarted, TargetResetStarted}
 use Rattle.onfi_cycle.specs.declared.forbidden.Forbidden.TheVariants.{NotThere}
 use Rattle.onfi_cycle.specs.declared.item.Cycle.{Cycle}
 use Rattle.onfi_cycle.specs.declared.item.Item.{Item}
@@ -33,37 +33,37 @@ use Rattle.onfi_cycle.proofs.Passed.{permitted_keeps}
 -- ---- who shows something has had a command
 
 -- without a tail no cycle but an opener turns a latch on
-off_command : (g : Parts) (c : Command) (lun : ℕ) → begins_sequence (CommandCycle c) ≡ false → latch_after (cycle_effect g (facts_of []) Off (CommandCycle c) lun) Off ≡ Off
-off_command g ReadConfirm lun h = refl
-off_command g ChangeReadColumnConfirm lun h = refl
-off_command g BlockEraseConfirm lun h = refl
-off_command g BlockErasePlane lun h = refl
-off_command g ChangeWriteColumn lun h = refl
-off_command g ProgramConfirm lun h = refl
-off_command g ProgramPlane lun h = refl
-off_command g Unknown lun h = refl
-off_command g Read lun h = cc
-off_command g ChangeReadColumn lun h = cc
-off_command g BlockErase lun h = cc
-off_command g ReadStatus lun h = cc
-off_command g ReadStatusEnhanced lun h = cc
-off_command g PageProgram lun h = cc
-off_command g ReadId lun h = cc
-off_command g ReadParameterPage lun h = cc
-off_command g Reset lun h = cc
-off_command g ReadCacheSequential lun h = cc
-off_command g ReadCacheEnd lun h = cc
-off_command g ReadUniqueId lun h = cc
-off_command g GetFeatures lun h = cc
-off_command g SetFeatures lun h = cc
-off_command g ResetLun lun h = cc
-off_command g SynchronousReset lun h = cc
+off_command : (g : Parts) (selected working : Bool) (c : Command) (lun : ℕ) → begins_sequence (CommandCycle c) ≡ false → latch_after (cycle_effect g (facts_of []) Off (CommandCycle c) lun) selected working Off ≡ Off
+off_command g selected working ReadConfirm lun h = refl
+off_command g selected working ChangeReadColumnConfirm lun h = refl
+off_command g selected working BlockEraseConfirm lun h = refl
+off_command g selected working BlockErasePlane lun h = refl
+off_command g selected working ChangeWriteColumn lun h = refl
+off_command g selected working ProgramConfirm lun h = refl
+off_command g selected working ProgramPlane lun h = refl
+off_command g selected working Unknown lun h = refl
+off_command g selected working Read lun h = cc
+off_command g selected working ChangeReadColumn lun h = cc
+off_command g selected working BlockErase lun h = cc
+off_command g selected working ReadStatus lun h = cc
+off_command g selected working ReadStatusEnhanced lun h = cc
+off_command g selected working PageProgram lun h = cc
+off_command g selected working ReadId lun h = cc
+off_command g selected working ReadParameterPage lun h = cc
+off_command g selected working Reset lun h = cc
+off_command g selected working ReadCacheSequential lun h = cc
+off_command g selected working ReadCacheEnd lun h = cc
+off_command g selected working ReadUniqueId lun h = cc
+off_command g selected working GetFeatures lun h = cc
+off_command g selected working SetFeatures lun h = cc
+off_command g selected working ResetLun lun h = cc
+off_command g selected working SynchronousReset lun h = cc
 
-off_cycle : (g : Parts) (c : TargetCycle) (lun : ℕ) → begins_sequence c ≡ false → latch_after (cycle_effect g (facts_of []) Off c lun) Off ≡ Off
-off_cycle g (CommandCycle c) lun h = off_command g c lun h
-off_cycle g (AddressCycle byte) lun h = refl
-off_cycle g (InputCycle byte) lun h = refl
-off_cycle g OutputCycle lun h = refl
+off_cycle : (g : Parts) (selected working : Bool) (c : TargetCycle) (lun : ℕ) → begins_sequence c ≡ false → latch_after (cycle_effect g (facts_of []) Off c lun) selected working Off ≡ Off
+off_cycle g selected working (CommandCycle c) lun h = off_command g selected working c lun h
+off_cycle g selected working (AddressCycle byte) lun h = refl
+off_cycle g selected working (InputCycle byte) lun h = refl
+off_cycle g selected working OutputCycle lun h = refl
 
 -- a tail that is empty after a cycle was so before it
 empty_before : (c : TargetCycle) (t : List TargetCycle) → with_cycle c t ≡ [] → (begins_sequence c ≡ false) × (t ≡ [])
@@ -74,11 +74,11 @@ empty_before c t h = at (begins_sequence c) refl t h
     at false e [] h = (e, refl)
     at false e (d ∷ t) h = cc
 
-off_by : (g : Parts) (past : List Item) (c : TargetCycle) (l : Lun) → tail past l.ce ≡ [] → latch g past l ≡ Off → begins_sequence c ≡ false →
-    latch_after (cycle_effect g (facts_of (tail past l.ce)) (latch g past l) c l.lun) (latch g past l) ≡ Off
-off_by g past c l empty off h =
-    ap (λ (t : List TargetCycle). latch_after (cycle_effect g (facts_of t) (latch g past l) c l.lun) (latch g past l)) empty
-    ∙ ap (λ (x : Latch). latch_after (cycle_effect g (facts_of []) x c l.lun) x) off ∙ off_cycle g c l.lun h
+off_by : (g : Parts) (past : List Item) (selected working : Bool) (c : TargetCycle) (l : Lun) → tail past l.ce ≡ [] → latch g past l ≡ Off → begins_sequence c ≡ false →
+    latch_after (cycle_effect g (facts_of (tail past l.ce)) (latch g past l) c l.lun) selected working (latch g past l) ≡ Off
+off_by g past selected working c l empty off h =
+    ap (λ (t : List TargetCycle). latch_after (cycle_effect g (facts_of t) (latch g past l) c l.lun) selected working (latch g past l)) empty
+    ∙ ap (λ (x : Latch). latch_after (cycle_effect g (facts_of []) x c l.lun) selected working x) off ∙ off_cycle g selected working c l.lun h
 
 -- an item more, where the LUN showed nothing before it
 off_after : (g : Parts) (past : List Item) (i : Item) (l : Lun) → (tail past l.ce ≡ [] → latch g past l ≡ Off) → tail (i ∷ past) l.ce ≡ [] → latch g (i ∷ past) l ≡ Off
@@ -87,7 +87,7 @@ off_after g past (Cyc c) l off h = at (c.ce == l.ce) refl h
     at : (b : Bool) → (c.ce == l.ce) ≡ b → cond b (with_cycle (target_cycle c.kind c.byte) (tail past l.ce)) (tail past l.ce) ≡ [] → latch g (Cyc c ∷ past) l ≡ Off
     at true e h =
         let before = empty_before (target_cycle c.kind c.byte) (tail past l.ce) h in
-        rw (e) (off_by g past (target_cycle c.kind c.byte) l before.1 (off before.1) before.0)
+        rw (e) (off_by g past _ _ (target_cycle c.kind c.byte) l before.1 (off before.1) before.0)
     at false e h = rw (e) (off h)
 off_after g past (Rdy ce lun fail) l off h = at (ce == l.ce && lun == l.lun) refl
   where
@@ -195,6 +195,7 @@ array_after (FeaturesSet address) busy caching array h = cc
 array_after CacheReadContinued busy caching array h = cc
 array_after CacheReadEnded busy caching array h = cc
 array_after ResetStarted busy caching array h = cc
+array_after (TargetResetStarted first) busy caching array h = cc
 array_after e busy caching array h = first_of array busy h
 
 pub array_before : (g : Parts) (past : List Item) (i : Item) (l : Lun) → is_array_busy g (i ∷ past) l ≡ true → (is_array_busy g past l || is_busy g past l) ≡ true

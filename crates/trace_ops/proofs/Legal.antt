@@ -12,10 +12,14 @@ use Rattle.onfi_cycle.specs.declared.item.Kind.TheVariants.{Cmd, Adr, Din, Dout}
 use Rattle.onfi_cycle.specs.declared.lun.Lun.{Lun}
 use Rattle.onfi_cycle.specs.declared.target_cycle.TargetCycle.TheVariants.{CommandCycle}
 use Rattle.onfi_cycle.specs.Look.{look_at as look_of, look_after, looked}
-use Rattle.onfi_cycle.specs.Lun.{lun_view, is_busy as works}
+use Rattle.onfi_cycle.specs.Lun.{lun_view, luns_of, is_busy as works}
 use Rattle.onfi_cycle.specs.OtherLun.{keeps_to}
 use Rattle.onfi_cycle.specs.Permitted.{broken, is_legal}
-use Rattle.onfi_cycle.specs.Rules.{breaks_several_luns}
+use Rattle.onfi_cycle.specs.Effect.{is_shared}
+use Rattle.onfi_cycle.specs.LunView.{LunView}
+use Rattle.onfi_cycle.specs.Rules.{breaks_several_luns, is_unclear}
+use Rattle.nand_geometry.specs.declared.optional.Optional.{Optional}
+use Rattle.nand_geometry.specs.Optional.{no_optional, is_wide}
 use Rattle.onfi_cycle.specs.Sequence.{target_of, target_cycle}
 use Rattle.onfi_cycle.specs.State.{BusView, Follows}
 use Rattle.onfi_cycle.proofs.Booleans.{clash}
@@ -31,7 +35,7 @@ use Rattle.trace_ops.specs.declared.judged.Judged.{Judged}
 use Rattle.trace_ops.specs.declared.looks.Looks.{Looks}
 use Rattle.trace_ops.specs.AtWork.{begins_work}
 use Rattle.trace_ops.specs.Listing.{looks_of, look_at, is_busy, is_command, is_reset}
-use Rattle.trace_ops.proofs.Starts.{starts_by, cycle_busy, ready_busy, array_ready_busy, starts_keeps, output_starts}
+use Rattle.trace_ops.proofs.Starts.{starts_by, cycle_busy, ready_busy, array_ready_busy, starts_keeps, output_starts, reset_begins}
 use Rattle.trace_ops.proofs.Tails.{split}
 use Rattle.trace_ops.proofs.Turns.{put_at, put_own, put_other, same_lun}
 use Rattle.trace_ops.proofs.Wholes.{KnowsAll, plain, verdict_so, after_so, known_after}
@@ -183,9 +187,13 @@ reset_starts g past c l h = at c.kind h
     at Din e = cc
     at Dout e = cc
 
-reset_few : (g : Parts) → breaks_several_luns g (CommandCycle Reset) ≡ false → ltb 1 g.luns ≡ false
+-- in the base profile targets aren't shared
+pub is_narrow : (g : Parts) → g.optional ≡ no_optional → is_shared g ≡ false
+is_narrow g base = ap (λ (o : Optional). is_wide o && ltb 1 g.luns) base
+
+reset_few : (g : Parts) (luns : List LunView) → is_shared g ≡ false → breaks_several_luns g luns (CommandCycle Reset) ≡ false → ltb 1 g.luns ≡ false
 unfolding breaks_several_luns
-reset_few g h = h
+reset_few g luns narrow h = sym (ap (λ (b : Bool). cond b (is_unclear luns Reset) (ltb 1 g.luns)) narrow) ∙ h
 
 pub or_other : (a b : Bool) → a ≡ false → (a || b) ≡ true → b ≡ true
 or_other true b h e = cc
@@ -203,7 +211,7 @@ module _ (g : Parts) (targets : ℕ) (past : List Item) (c : Cycle) (before afte
       there = works_there g targets (Cyc c ∷ past) c.ce lun (sym (saw.busy lun lt) ∙ (and_parts (is_busy (look_at after lun)) (not (is_busy (look_at before lun)) || is_reset c) h).0)
 
       at : (r : Bool) → is_reset c ≡ r → (not (is_busy (look_at before lun)) || r) ≡ true → starts_by g past (at_lun c.ce lun) (target_cycle c.kind c.byte) ≡ true
-      at true e m = ap (starts_by g past (at_lun c.ce lun)) (reset_starts g past c (at_lun c.ce lun) e)
+      at true e m = ap (starts_by g past (at_lun c.ce lun)) (reset_starts g past c (at_lun c.ce lun) e) ∙ reset_begins g past (at_lun c.ce lun)
       at false e m = by_before (is_busy (look_at before lun)) refl m
         where
           by_before : (b : Bool) → is_busy (look_at before lun) ≡ b → (not b || false) ≡ true → starts_by g past (at_lun c.ce lun) (target_cycle c.kind c.byte) ≡ true
@@ -263,12 +271,12 @@ module _ (g : Parts) (targets : ℕ) (past : List Item) (c : Cycle) (before afte
       same_busy g targets past (Cyc c ∷ past) a b
       (cycle_busy g past c (at_lun a b) ∙ ap (λ x. works g past (at_lun a b) || (x && starts_by g past (at_lun a b) (target_cycle c.kind c.byte))) (ne_eqb c.ce a apart) ∙ or_nothing (works g past (at_lun a b)))
 
-  module _ (legal : is_legal g targets past ≡ true) (h : broken g targets past (Cyc c) ≡ None) where
+  module _ (base : g.optional ≡ no_optional) (legal : is_legal g targets past ≡ true) (h : broken g targets past (Cyc c) ≡ None) where
     few_luns : is_reset c ≡ true → g.luns ≤ 1
     few_luns e = (let low : ltb 1 g.luns ≡ false = at in grind (arith, nat_tests))
       where
         at : ltb 1 g.luns ≡ false
-        at = reset_few g (sym (ap (breaks_several_luns g) (reset_starts g past c (at_lun c.ce 0) e)) ∙ keeps_several_luns g targets past c h)
+        at = reset_few g (luns_of g past c.ce) (is_narrow g base) (sym (ap (breaks_several_luns g (luns_of g past c.ce)) (reset_starts g past c (at_lun c.ce 0) e)) ∙ keeps_several_luns g targets past c h)
 
     -- a cycle begins work of one LUN at most
     pub one_begins : (a b : ℕ) → a < 4 → b < 4 → begins_between c before after a ≡ true → begins_between c before after b ≡ true → a ≡ b
@@ -287,7 +295,7 @@ module _ (g : Parts) (targets : ℕ) (past : List Item) (c : Cycle) (before afte
             keeps : works g (Cyc c ∷ past) (at_lun c.ce a) ≡ works g past (at_lun c.ce a)
             keeps =
                 (others_keep g targets past (Cyc c) (at_lun c.ce a) (at_lun c.ce b) legal h
-                (ap (λ z. z && keeps_to g past (at_lun c.ce b) (target_cycle c.kind c.byte)) (eq-eqb c.ce c.ce refl) ∙ starts_keeps g past (at_lun c.ce b) (target_cycle c.kind c.byte) (begins_starts b less q)) refl apart x.few y.few).busy
+                (ap (λ z. z && keeps_to g past (at_lun c.ce b) (target_cycle c.kind c.byte)) (eq-eqb c.ce c.ce refl) ∙ starts_keeps g past (at_lun c.ce b) (target_cycle c.kind c.byte) (is_narrow g base) (begins_starts b less q)) refl apart x.few y.few).busy
 
             was : is_busy (look_at before a) ≡ true
             was = sees.busy a low ∙ busy_there g targets past c.ce a x.target x.few ∙ sym keeps ∙ x.works

@@ -14,7 +14,8 @@ use Rattle.onfi_cycle.specs.declared.latch.Latch.{Latch}
 use Rattle.onfi_cycle.specs.declared.target_cycle.TargetCycle.{TargetCycle}
 use Rattle.onfi_cycle.specs.Command.{command, is_opener}
 use Rattle.onfi_cycle.specs.Effect.{is_data, cycle_effect}
-use Rattle.onfi_cycle.specs.Lun.{latch, latch_after, luns_of, is_busy}
+use Rattle.onfi_cycle.specs.LunView.{LunView}
+use Rattle.onfi_cycle.specs.Lun.{latch, latch_after, lun_view, luns_of, is_busy, works as working}
 use Rattle.onfi_cycle.specs.Sequence.{target_cycle, tail, facts_of}
 use Rattle.onfi_cycle.proofs.CommandBytes.{commands_have_bytes}
 use Rattle.onfi_cycle.proofs.Passed.{KeepsRules}
@@ -80,12 +81,15 @@ closed_so Erases b closer byte p q r = rw (p, q, r) refl
 
 output_shows : (g : Parts) (past : List Item) (c : BusCycle) → c.kind ≡ Dout → latch g (Cyc c ∷ past) (at_lun c.ce 0) ≡ latch g past (at_lun c.ce 0)
 output_shows g past c e =
-    ap (λ (k : Kind). latch_after (cond (c.ce == c.ce) (cycle_effect g (facts_of (tail past c.ce)) s (target_cycle k c.byte) 0) Unaffected) s) e ∙ at (c.ce == c.ce) (is_data s)
+    ap (λ (k : Kind). latch_after (cond (c.ce == c.ce) (cycle_effect g (facts_of (tail past c.ce)) s (target_cycle k c.byte) 0) Unaffected) v.selected (working v) s) e ∙ at (c.ce == c.ce) (is_data s)
   where
+    v : LunView
+    v = lun_view g past (at_lun c.ce 0)
+
     s : Latch
     s = latch g past (at_lun c.ce 0)
 
-    at : (b x : Bool) → latch_after (cond b (cond x DataOutput Unaffected) Unaffected) s ≡ s
+    at : (b x : Bool) → latch_after (cond b (cond x DataOutput Unaffected) Unaffected) v.selected (working v) s ≡ s
     at true true = refl
     at true false = refl
     at false x = refl

@@ -27,7 +27,7 @@ use Rattle.trace_ops.proofs.Chains.{small_came}
 use Rattle.trace_ops.proofs.Changed.{there}
 use Rattle.trace_ops.proofs.Cycles.{CycleAt, begins_nothing}
 use Rattle.trace_ops.proofs.Domestic.{Every}
-use Rattle.trace_ops.proofs.Legal.{permitted_as}
+use Rattle.trace_ops.proofs.Legal.{permitted_as, is_narrow}
 use Rattle.trace_ops.proofs.Polled.{Fits, is_unseen, fits_asks}
 use Rattle.trace_ops.proofs.PolledItems.{told_after, has_worked, Polls, long_after}
 use Rattle.trace_ops.proofs.PolledParts.{others_came, asked_folded, unshown, folds}
@@ -99,5 +99,5 @@ module _ (g : Parts) (targets n : ℕ) (seen : Seen) (past : List Item) (marks :
             (begins_nothing g targets n one_lun past marks c before after l pieces here (none_begins g targets n seen past marks l pieces walked one_lun ce later h)))
             ∙ worker_is
             );
-        shows = λ e. shows_status g past ce;
+        shows = λ e. shows_status g past ce (is_narrow g walked.base);
       }))

@@ -26,18 +26,18 @@ use Rattle.trace_ops.proofs.Readies.{all_same, workers_after}
 use Rattle.trace_ops.proofs.Walks.{came, length_came, length_listed, new_many}
 
 pub ready_shows : (g : Parts) (past : List Item) (ce lun : ℕ) (fail : Bool) (at : ℕ) → latch g (Rdy ce lun fail ∷ past) (at_lun at 0) ≡ latch g past (at_lun at 0)
-ready_shows g past ce lun fail at = by (ce == at && lun == 0)
+ready_shows g past ce lun fail at = by _ _ (ce == at && lun == 0)
   where
-    by : (b : Bool) → latch_after (cond b (BecameReady fail) Unaffected) (latch g past (at_lun at 0)) ≡ latch g past (at_lun at 0)
-    by true = refl
-    by false = refl
+    by : (selected working b : Bool) → latch_after (cond b (BecameReady fail) Unaffected) selected working (latch g past (at_lun at 0)) ≡ latch g past (at_lun at 0)
+    by selected working true = refl
+    by selected working false = refl
 
 pub array_ready_shows : (g : Parts) (past : List Item) (ce lun at : ℕ) → latch g (Ard ce lun ∷ past) (at_lun at 0) ≡ latch g past (at_lun at 0)
-array_ready_shows g past ce lun at = by (ce == at && lun == 0)
+array_ready_shows g past ce lun at = by _ _ (ce == at && lun == 0)
   where
-    by : (b : Bool) → latch_after (cond b ArrayBecameReady Unaffected) (latch g past (at_lun at 0)) ≡ latch g past (at_lun at 0)
-    by true = refl
-    by false = refl
+    by : (selected working b : Bool) → latch_after (cond b ArrayBecameReady Unaffected) selected working (latch g past (at_lun at 0)) ≡ latch g past (at_lun at 0)
+    by selected working true = refl
+    by selected working false = refl
 
 module _ (j : Judged) (l : Listing) (lone : IsLone j) (quiet : (k : ℕ) (p : Places) (ops : List Operation) → polled j k j.item p ops ≡ ops) (m : ℕ) (owned : owner_in j (with_ends j l) ≡ Some m) where
   abbrev owner : Option ℕ

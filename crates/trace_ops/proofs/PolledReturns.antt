@@ -53,13 +53,13 @@ no e = cc
 shows_data : (g : Parts) (past : List Item) (ce : ℕ) → latch g past (at_lun ce 0) ≡ Status → latch g (Cyc (record { ce = ce; kind = Cmd; byte = 0x00 }) ∷ past) (at_lun ce 0) ≡ Data
 shows_data g past ce shows = at (ce == ce) refl
   where
-    effect : (t : List TargetCycle) (s : Latch) → s ≡ Status → latch_after (cycle_effect g (facts_of t) s (CommandCycle (command 0x00)) 0) s ≡ Data
-    effect t s e =
-        ap (λ x. latch_after (cycle_effect g (facts_of t) s (CommandCycle x) 0) s) (commands_have_bytes.command_of_byte Read 0x00 refl)
-        ∙ ap (λ x. latch_after (cycle_effect g (facts_of t) x (CommandCycle Read) 0) x) e
+    effect : (t : List TargetCycle) (selected working : Bool) (s : Latch) → s ≡ Status → latch_after (cycle_effect g (facts_of t) s (CommandCycle (command 0x00)) 0) selected working s ≡ Data
+    effect t selected working s e =
+        ap (λ x. latch_after (cycle_effect g (facts_of t) s (CommandCycle x) 0) selected working s) (commands_have_bytes.command_of_byte Read 0x00 refl)
+        ∙ ap (λ x. latch_after (cycle_effect g (facts_of t) x (CommandCycle Read) 0) selected working x) e
 
     at : (b : Bool) → (ce == ce) ≡ b → latch g (Cyc (record { ce = ce; kind = Cmd; byte = 0x00 }) ∷ past) (at_lun ce 0) ≡ Data
-    at true e = rw (e) (effect (tail past ce) (latch g past (at_lun ce 0)) shows)
+    at true e = rw (e) (effect (tail past ce) _ _ (latch g past (at_lun ce 0)) shows)
     at false e = absurd (no (sym (eq-eqb ce ce refl) ∙ e))
 
 module _ (g : Parts) (targets n : ℕ) (seen : Seen) (past : List Item) (marks : List ℕ) (l : Listing) (pieces : ℕ → List TargetCycle) (walked : Walked g targets n seen past marks l pieces)

@@ -17,11 +17,13 @@ use Rattle.onfi_cycle.specs.declared.latch.Latch.TheVariants.{Status}
 use Rattle.onfi_cycle.specs.declared.target_cycle.TargetCycle.{TargetCycle}
 use Rattle.onfi_cycle.specs.declared.target_cycle.TargetCycle.TheVariants.{CommandCycle}
 use Rattle.onfi_cycle.specs.Command.{command, is_opener}
-use Rattle.onfi_cycle.specs.Effect.{cycle_effect}
+use Rattle.onfi_cycle.specs.declared.effect.Effect.TheVariants.{StatusSelected, StatusOfSelected}
+use Rattle.onfi_cycle.specs.Effect.{is_shared, cycle_effect}
 use Rattle.onfi_cycle.specs.Look.{look_at as look_of, look_after}
-use Rattle.onfi_cycle.specs.Lun.{latch, latch_after, lun_view}
+use Rattle.onfi_cycle.specs.Lun.{latch, latch_after, lun_view, luns_of}
 use Rattle.onfi_cycle.specs.Permitted.{broken, is_permitted, is_legal}
-use Rattle.onfi_cycle.specs.Rules.{breaks_several_luns}
+use Rattle.onfi_cycle.specs.LunView.{LunView}
+use Rattle.onfi_cycle.specs.Rules.{breaks_several_luns, is_unclear}
 use Rattle.onfi_cycle.specs.Sequence.{tail, facts_of}
 use Rattle.onfi_cycle.proofs.Booleans.{clash}
 use Rattle.onfi_cycle.proofs.CommandBytes.{commands_have_bytes}
@@ -48,7 +50,7 @@ use Rattle.trace_ops.proofs.Cycles.{CycleAt, begins_nothing}
 use Rattle.trace_ops.proofs.Dated.{new_mark}
 use Rattle.trace_ops.proofs.Latest.{Latest, AreLatest}
 use Rattle.trace_ops.proofs.LatestWork.{latest_item}
-use Rattle.trace_ops.proofs.Legal.{permitted_as, look_there, on_past_on, at_lun, begins_between, begins_starts}
+use Rattle.trace_ops.proofs.Legal.{is_narrow, permitted_as, look_there, on_past_on, at_lun, begins_between, begins_starts}
 use Rattle.trace_ops.proofs.Owned.{new}
 use Rattle.trace_ops.proofs.Pieces.{came_to}
 use Rattle.trace_ops.proofs.Quietly.{selects_workers}
@@ -63,19 +65,21 @@ use Rattle.trace_ops.proofs.Works.{Worked, onto, legal_before}
 status_command : command 0x70 ≡ ReadStatus
 status_command = commands_have_bytes.command_of_byte ReadStatus 0x70 refl
 
-one_lun_alone : (g : Parts) → breaks_several_luns g (CommandCycle ReadStatus) ≡ false → ltb 1 g.luns ≡ false
+one_lun_alone : (g : Parts) (luns : List LunView) → is_shared g ≡ false → breaks_several_luns g luns (CommandCycle ReadStatus) ≡ false → ltb 1 g.luns ≡ false
 unfolding breaks_several_luns
-one_lun_alone g h = h
+one_lun_alone g luns narrow h = sym (ap (λ (b : Bool). cond b (is_unclear luns ReadStatus) (ltb 1 g.luns)) narrow) ∙ h
 
 -- behind it its LUN shows the status
-pub shows_status : (g : Parts) (past : List Item) (ce : ℕ) → latch g (question ce ∷ past) (at_lun ce 0) ≡ Status
-shows_status g past ce = at (ce == ce) refl
+pub shows_status : (g : Parts) (past : List Item) (ce : ℕ) → is_shared g ≡ false → latch g (question ce ∷ past) (at_lun ce 0) ≡ Status
+shows_status g past ce narrow = at (ce == ce) refl
   where
-    effect : (t : List TargetCycle) (s : Latch) → latch_after (cycle_effect g (facts_of t) s (CommandCycle (command 0x70)) 0) s ≡ Status
-    effect t s = ap (λ x. latch_after (cycle_effect g (facts_of t) s (CommandCycle x) 0) s) status_command
+    effect : (t : List TargetCycle) (s x : Latch) (selected works : Bool) → latch_after (cycle_effect g (facts_of t) s (CommandCycle (command 0x70)) 0) selected works x ≡ Status
+    effect t s x selected works =
+        ap (λ y. latch_after (cycle_effect g (facts_of t) s (CommandCycle y) 0) selected works x) status_command
+        ∙ ap (λ (b : Bool). latch_after (cond b StatusOfSelected StatusSelected) selected works x) narrow
 
     at : (b : Bool) → (ce == ce) ≡ b → latch g (question ce ∷ past) (at_lun ce 0) ≡ Status
-    at true e = rw (e) (effect (tail past ce) (latch g past (at_lun ce 0)))
+    at true e = rw (e) (effect (tail past ce) (latch g past (at_lun ce 0)) _ _ _)
     at false e = absurd (no (sym (eq-eqb ce ce refl) ∙ e))
       where
         no : true ≡ false → ⊥
@@ -107,7 +111,7 @@ module _ (g : Parts) (targets n : ℕ) (seen : Seen) (past : List Item) (marks :
   -- ---- which LUN shows its status
 
   few : ltb 1 g.luns ≡ false
-  few = one_lun_alone g (sym (ap (λ x. breaks_several_luns g (CommandCycle x)) status_command) ∙ keeps_several_luns g targets past c h)
+  few = one_lun_alone g (luns_of g past c.ce) (is_narrow g walked.base) (sym (ap (λ x. breaks_several_luns g (luns_of g past c.ce) (CommandCycle x)) status_command) ∙ keeps_several_luns g targets past c h)
 
   one_at_most : g.luns ≤ 1
   one_at_most = (let low : ltb 1 g.luns ≡ false = few in grind (arith, nat_tests))
@@ -130,7 +134,7 @@ module _ (g : Parts) (targets n : ℕ) (seen : Seen) (past : List Item) (marks :
       ap gives_status (look_is 0 (omega arith))
       ∙ ap (λ b. gives_status (cond (b && ltb 0 g.luns) (Some (look_of (lun_view g (Cyc c ∷ past) (at_lun ce 0)))) None)) (lt-ltb ce targets target)
       ∙ ap (λ b. gives_status (cond b (Some (look_of (lun_view g (Cyc c ∷ past) (at_lun ce 0)))) None)) (lt-ltb 0 g.luns some)
-      ∙ ap (λ x. has_status x) (shows_status g past ce)
+      ∙ ap (λ x. has_status x) (shows_status g past ce (is_narrow g walked.base))
 
   -- ---- the operation is a new one
 

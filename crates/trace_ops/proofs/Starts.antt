@@ -8,7 +8,7 @@ use Rattle.onfi_cycle.specs.declared.command.Command.TheVariants.{Read, ReadConf
 use Rattle.onfi_cycle.specs.declared.data_phase.DataPhase.{DataPhase}
 use Rattle.onfi_cycle.specs.declared.data_phase.DataPhase.TheVariants.{Outside, Inputs, FirstColumn, SecondColumn, FeatureInputs}
 use Rattle.onfi_cycle.specs.declared.effect.Effect.{Effect}
-use Rattle.onfi_cycle.specs.declared.effect.Effect.TheVariants.{Unaffected, BecameReady, IdRead, IdentityRead}
+use Rattle.onfi_cycle.specs.declared.effect.Effect.TheVariants.{Unaffected, BecameReady, IdRead, IdentityRead, AnotherAddressed, Deselected, ResetStarted, TargetResetStarted}
 use Rattle.onfi_cycle.specs.declared.item.Cycle.{Cycle}
 use Rattle.onfi_cycle.specs.declared.item.Item.{Item}
 use Rattle.onfi_cycle.specs.declared.item.Item.TheVariants.{Cyc, Rdy, Ard}
@@ -19,10 +19,10 @@ use Rattle.onfi_cycle.specs.declared.opening.Opening.{Opening}
 use Rattle.onfi_cycle.specs.declared.tail_facts.TailFacts.{TailFacts}
 use Rattle.onfi_cycle.specs.declared.target_cycle.TargetCycle.{TargetCycle}
 use Rattle.onfi_cycle.specs.declared.target_cycle.TargetCycle.TheVariants.{CommandCycle, AddressCycle, InputCycle, OutputCycle}
-use Rattle.onfi_cycle.specs.Command.{is_opener, address_cycles, wants_closer, closes, takes_address, at_last_row, is_page_program, is_set_features}
-use Rattle.onfi_cycle.specs.Effect.{is_off, is_data, names_lun, confirm_effect, command_effect, address_effect, opening_address_effect, ends_features, cycle_effect}
-use Rattle.onfi_cycle.specs.Lun.{is_only, drivers, latch, latch_alone, effect_on, busy_after, is_busy}
-use Rattle.onfi_cycle.specs.OtherLun.{keeps_to}
+use Rattle.onfi_cycle.specs.Command.{is_opener, closes_row, is_read_confirm, address_cycles, wants_closer, closes, takes_address, at_last_row, is_page_program, is_set_features}
+use Rattle.onfi_cycle.specs.Effect.{is_off, is_data, is_shared, acts_for_target, of_target, other_effect, lun_reset_effect, names_lun, confirm_effect, command_effect, address_effect, opening_address_effect, ends_features, cycle_effect}
+use Rattle.onfi_cycle.specs.Lun.{is_only, drivers, latch, latch_alone, effect_among, busy_after, is_busy}
+use Rattle.onfi_cycle.specs.OtherLun.{keeps_to, keeps_to_lun, serves_target}
 use Rattle.onfi_cycle.specs.Sequence.{target_cycle, continued, with_cycle, tail, opening, opened, one_address_more, inputs, data_phase, phase_after_command, phase_after_address, phase_after_last_address, phase_after_input, facts_of, wants_address, wants_command, wants_column, takes_features, wants, row, row_with}
 use Rattle.trace_ops.proofs.Contents.{one_less}
 
@@ -54,24 +54,45 @@ confirm_ready g t ProgramConfirm = refl
 confirm_ready g t ProgramPlane = refl
 confirm_ready g t c = refl
 
+-- what the closer of a row does to the other LUNs
+other_ready : (g : Parts) (t : TailFacts) (c : Command) → is_ready (other_effect g t c) ≡ false
+other_ready g t c = either_false is_ready (closes_row c && (wants_command t c && is_shared g)) (AnotherAddressed (is_read_confirm c)) Unaffected refl refl
+
+other_starts : (g : Parts) (t : TailFacts) (c : Command) → starts (other_effect g t c) ≡ false
+other_starts g t c = either_false starts (closes_row c && (wants_command t c && is_shared g)) (AnotherAddressed (is_read_confirm c)) Unaffected refl refl
+
+-- what is done for a whole target
+target_ready : (g : Parts) (lun : ℕ) (e : Effect) → is_ready e ≡ false → is_ready (of_target g lun e) ≡ false
+target_ready g lun e h = either_false is_ready (acts_for_target g lun) e Deselected h refl
+
+target_starts : (g : Parts) (lun : ℕ) (e : Effect) → starts e ≡ false → starts (of_target g lun e) ≡ false
+target_starts g lun e h = either_false starts (acts_for_target g lun) e Deselected h refl
+
+-- a reset of one LUN, at the others
+spared_ready : (g : Parts) → is_ready (cond (is_shared g) (AnotherAddressed false) Unaffected) ≡ false
+spared_ready g = either_false is_ready (is_shared g) _ _ refl refl
+
+spared_starts : (g : Parts) → starts (cond (is_shared g) (AnotherAddressed false) Unaffected) ≡ false
+spared_starts g = either_false starts (is_shared g) _ _ refl refl
+
 command_ready : (g : Parts) (t : TailFacts) (s : Latch) (c : Command) (lun : ℕ) → is_ready (command_effect g t s c lun) ≡ false
 command_ready g t s Read lun = refl
-command_ready g t s ReadStatus lun = refl
+command_ready g t s ReadStatus lun = either_false is_ready (is_shared g) _ _ refl refl
 command_ready g t s ReadStatusEnhanced lun = refl
-command_ready g t s Reset lun = refl
-command_ready g t s SynchronousReset lun = refl
+command_ready g t s Reset lun = either_false is_ready (is_shared g) _ _ refl refl
+command_ready g t s SynchronousReset lun = either_false is_ready (is_shared g) _ _ refl refl
 command_ready g t s ReadCacheSequential lun = either_false is_ready (is_off s) _ _ refl refl
 command_ready g t s ReadCacheEnd lun = either_false is_ready (is_off s) _ _ refl refl
 command_ready g t s ChangeReadColumnConfirm lun = either_false is_ready (wants_command t ChangeReadColumnConfirm && not (is_off s)) _ _ refl refl
-command_ready g t s c lun = either_false is_ready (wants_command t c && names_lun g (row t) lun) _ _ (confirm_ready g t c) refl
+command_ready g t s c lun = either_false is_ready (wants_command t c && names_lun g (row t) lun) _ _ (confirm_ready g t c) (other_ready g t c)
 
 address_ready : (g : Parts) (t : TailFacts) (byte : ℕ) (c : Command) (n lun : ℕ) → is_ready (address_effect g t byte c n lun) ≡ false
 address_ready g t byte ReadStatusEnhanced n lun = either_false is_ready (n == 2) _ _ (either_false is_ready (names_lun g (row_with t byte) lun) _ _ refl refl) refl
-address_ready g t byte ReadId n lun = either_false is_ready (wants_address t byte) _ _ (either_false is_ready (byte == 0x20) _ _ refl refl) refl
-address_ready g t byte ReadParameterPage n lun = either_false is_ready (wants_address t byte) _ _ refl refl
-address_ready g t byte ReadUniqueId n lun = either_false is_ready (wants_address t byte) _ _ refl refl
-address_ready g t byte GetFeatures n lun = either_false is_ready (wants_address t byte) _ _ refl refl
-address_ready g t byte ResetLun n lun = either_false is_ready (n == 2 && names_lun g (row_with t byte) lun) _ _ refl refl
+address_ready g t byte ReadId n lun = either_false is_ready (wants_address t byte) _ _ (target_ready g lun _ (either_false is_ready (byte == 0x20) _ _ refl refl)) refl
+address_ready g t byte ReadParameterPage n lun = either_false is_ready (wants_address t byte) _ _ (target_ready g lun _ refl) refl
+address_ready g t byte ReadUniqueId n lun = either_false is_ready (wants_address t byte) _ _ (target_ready g lun _ refl) refl
+address_ready g t byte GetFeatures n lun = either_false is_ready (wants_address t byte) _ _ (target_ready g lun _ refl) refl
+address_ready g t byte ResetLun n lun = either_false is_ready (n == 2) _ _ (either_false is_ready (names_lun g (row_with t byte) lun) _ _ refl (spared_ready g)) refl
 address_ready g t byte c n lun = refl
 
 opening_ready : (g : Parts) (t : TailFacts) (byte : ℕ) (o : Option Opening) (lun : ℕ) → is_ready (opening_address_effect g t byte o lun) ≡ false
@@ -81,7 +102,7 @@ opening_ready g t byte (Some o) lun = address_ready g t byte o.opener o.addresse
 cycle_ready : (g : Parts) (t : TailFacts) (s : Latch) (c : TargetCycle) (lun : ℕ) → is_ready (cycle_effect g t s c lun) ≡ false
 cycle_ready g t s (CommandCycle c) lun = command_ready g t s c lun
 cycle_ready g t s (AddressCycle byte) lun = opening_ready g t byte t.opening lun
-cycle_ready g t s (InputCycle byte) lun = either_false is_ready (ends_features t) _ _ refl refl
+cycle_ready g t s (InputCycle byte) lun = either_false is_ready (ends_features t) _ _ (target_ready g lun _ refl) refl
 cycle_ready g t s OutputCycle lun = either_false is_ready (is_data s) _ _ refl refl
 
 -- ---- what a cycle does
@@ -97,14 +118,14 @@ on_target false x false h = refl
 
 -- a LUN works after a cycle where it did before, or where the cycle starts it
 pub cycle_busy : (g : Parts) (past : List Item) (c : Cycle) (l : Lun) → is_busy g (Cyc c ∷ past) l ≡ (is_busy g past l || (c.ce == l.ce && starts_by g past l (target_cycle c.kind c.byte)))
-unfolding effect_on
+unfolding effect_among
 cycle_busy g past c l =
     on_target (c.ce == l.ce) _ (is_busy g past l) (cycle_ready g (facts_of (tail past l.ce)) (latch_alone g past l) (target_cycle c.kind c.byte) l.lun)
 
 -- a ready ends the work of its LUN, and changes nothing else
 pub ready_busy : (g : Parts) (past : List Item) (ce lun : ℕ) (fail : Bool) (l : Lun) →
     is_busy g (Rdy ce lun fail ∷ past) l ≡ cond (ce == l.ce && lun == l.lun) false (is_busy g past l)
-unfolding effect_on
+unfolding effect_among
 ready_busy g past ce lun fail l = at (ce == l.ce && lun == l.lun)
   where
     at : (b : Bool) → busy_after (cond b (BecameReady fail) Unaffected) (is_busy g past l) ≡ cond b false (is_busy g past l)
@@ -112,7 +133,7 @@ ready_busy g past ce lun fail l = at (ce == l.ce && lun == l.lun)
     at false = refl
 
 pub array_ready_busy : (g : Parts) (past : List Item) (ce lun : ℕ) (l : Lun) → is_busy g (Ard ce lun ∷ past) l ≡ is_busy g past l
-unfolding effect_on
+unfolding effect_among
 array_ready_busy g past ce lun l = at (ce == l.ce && lun == l.lun)
   where
     at : (b : Bool) → busy_after (cond b Effect.ArrayBecameReady Unaffected) (is_busy g past l) ≡ is_busy g past l
@@ -121,10 +142,15 @@ array_ready_busy g past ce lun l = at (ce == l.ce && lun == l.lun)
 
 -- ---- which LUN it is
 
-named_true : (w n : Bool) (x : Effect) → starts (cond (w && n) x Unaffected) ≡ true → n ≡ true
-named_true true true x h = refl
-named_true true false x h = cc
-named_true false n x h = cc
+named_true : (w n : Bool) (x y : Effect) → starts y ≡ false → starts (cond (w && n) x y) ≡ true → n ≡ true
+named_true true true x y k h = refl
+named_true true false x y k h = (let z = sym k ∙ h in cc)
+named_true false n x y k h = (let z = sym k ∙ h in cc)
+
+reset_named : (g : Parts) (last named : Bool) → starts (cond last (lun_reset_effect g named) Unaffected) ≡ true → named ≡ true
+reset_named g true true h = refl
+reset_named g true false h = (let z = sym (spared_starts g) ∙ h in cc)
+reset_named g false named h = cc
 
 alone_only : (g : Parts) (past : List Item) (l : Lun) (x : Effect) → starts (cond (is_off (latch_alone g past l)) Unaffected x) ≡ true → is_only (drivers g past l.ce) l.lun ≡ true
 alone_only g past l x h = at (is_only (drivers g past l.ce) l.lun) h
@@ -138,12 +164,12 @@ neither_starts : (b : Bool) (x y : Effect) → starts x ≡ false → starts y �
 neither_starts true x y h k e = (let z = sym h ∙ e in cc)
 neither_starts false x y h k e = (let z = sym k ∙ e in cc)
 
-command_keeps : (g : Parts) (past : List Item) (l : Lun) (c : Command) → starts_by g past l (CommandCycle c) ≡ true → keeps_to g past l (CommandCycle c) ≡ true
-command_keeps g past l ReadConfirm h = named_true _ _ _ h
-command_keeps g past l BlockEraseConfirm h = named_true _ _ _ h
-command_keeps g past l BlockErasePlane h = named_true _ _ _ h
-command_keeps g past l ProgramConfirm h = named_true _ _ _ h
-command_keeps g past l ProgramPlane h = named_true _ _ _ h
+command_keeps : (g : Parts) (past : List Item) (l : Lun) (c : Command) → starts_by g past l (CommandCycle c) ≡ true → keeps_to_lun g past l (CommandCycle c) ≡ true
+command_keeps g past l ReadConfirm h = named_true _ _ _ _ (other_starts g (facts_of (tail past l.ce)) ReadConfirm) h
+command_keeps g past l BlockEraseConfirm h = named_true _ _ _ _ (other_starts g (facts_of (tail past l.ce)) BlockEraseConfirm) h
+command_keeps g past l BlockErasePlane h = named_true _ _ _ _ (other_starts g (facts_of (tail past l.ce)) BlockErasePlane) h
+command_keeps g past l ProgramConfirm h = named_true _ _ _ _ (other_starts g (facts_of (tail past l.ce)) ProgramConfirm) h
+command_keeps g past l ProgramPlane h = named_true _ _ _ _ (other_starts g (facts_of (tail past l.ce)) ProgramPlane) h
 command_keeps g past l ReadCacheSequential h = alone_only g past l _ h
 command_keeps g past l ReadCacheEnd h = alone_only g past l _ h
 command_keeps g past l ChangeReadColumnConfirm h =
@@ -157,24 +183,27 @@ address_keeps g t byte BlockErase n lun h = cc
 address_keeps g t byte PageProgram n lun h = cc
 address_keeps g t byte ReadStatusEnhanced n lun h =
     absurd (neither_starts (n == 2) _ _ (either_false starts (names_lun g (row_with t byte) lun) _ _ refl refl) refl h)
-address_keeps g t byte ResetLun n lun h = at (n == 2) (named_true _ _ _ h)
+address_keeps g t byte ResetLun n lun h = at (n == 2) (reset_named g (n == 2) (names_lun g (row_with t byte) lun) h)
   where
     at : (b : Bool) → names_lun g (row_with t byte) lun ≡ true → cond b (names_lun g (row_with t byte) lun) true ≡ true
     at true e = e
     at false e = refl
 address_keeps g t byte c n lun h = refl
 
--- a LUN whose work a cycle starts is the one that the cycle is for
-pub starts_keeps : (g : Parts) (past : List Item) (l : Lun) (c : TargetCycle) → starts_by g past l c ≡ true → keeps_to g past l c ≡ true
-starts_keeps g past l (CommandCycle c) h = command_keeps g past l c h
-starts_keeps g past l (AddressCycle byte) h = at (opening (tail past l.ce)) h
+lun_keeps : (g : Parts) (past : List Item) (l : Lun) (c : TargetCycle) → starts_by g past l c ≡ true → keeps_to_lun g past l c ≡ true
+lun_keeps g past l (CommandCycle c) h = command_keeps g past l c h
+lun_keeps g past l (AddressCycle byte) h = at (opening (tail past l.ce)) h
   where
     at : (o : Option Opening) → starts (opening_address_effect g (facts_of (tail past l.ce)) byte o l.lun) ≡ true →
         cond (opened (λ c n. true && at_last_row c n) o) (names_lun g (row_with (facts_of (tail past l.ce)) byte) l.lun) true ≡ true
     at None h = refl
     at (Some o) h = address_keeps g (facts_of (tail past l.ce)) byte o.opener o.addresses l.lun h
-starts_keeps g past l (InputCycle byte) h = refl
-starts_keeps g past l OutputCycle h = absurd (neither_starts (is_data (latch_alone g past l)) _ _ refl refl h)
+lun_keeps g past l (InputCycle byte) h = refl
+lun_keeps g past l OutputCycle h = absurd (neither_starts (is_data (latch_alone g past l)) _ _ refl refl h)
+
+-- a LUN whose work a cycle starts is the one that the cycle is for, where its target isn't shared
+pub starts_keeps : (g : Parts) (past : List Item) (l : Lun) (c : TargetCycle) → is_shared g ≡ false → starts_by g past l c ≡ true → keeps_to g past l c ≡ true
+starts_keeps g past l c narrow h = ap (λ (b : Bool). not (b && serves_target past l.ce c) && keeps_to_lun g past l c) narrow ∙ lun_keeps g past l c h
 
 -- an output starts none
 pub output_starts : (g : Parts) (past : List Item) (l : Lun) → starts_by g past l OutputCycle ≡ false
@@ -182,7 +211,15 @@ output_starts g past l = either_false starts (is_data (latch_alone g past l)) _ 
 
 -- nor do those that ask for a status, or go back to the data
 pub status_starts : (g : Parts) (past : List Item) (l : Lun) → starts_by g past l (CommandCycle ReadStatus) ≡ false
-status_starts g past l = refl
+status_starts g past l = either_false starts (is_shared g) _ _ refl refl
+
+-- a reset starts work of each
+pub reset_begins : (g : Parts) (past : List Item) (l : Lun) → starts_by g past l (CommandCycle Reset) ≡ true
+reset_begins g past l = at (is_shared g)
+  where
+    at : (b : Bool) → starts (cond b (TargetResetStarted (l.lun == 0)) ResetStarted) ≡ true
+    at true = refl
+    at false = refl
 
 pub read_starts : (g : Parts) (past : List Item) (l : Lun) → starts_by g past l (CommandCycle Read) ≡ false
 read_starts g past l = refl
@@ -289,7 +326,7 @@ closer_ended c (d ∷ t) outside = record { phase = outside (data_phase (d ∷ t
 
 command_ended : (g : Parts) (past : List Item) (l : Lun) (c : Command) (t : List TargetCycle) → starts_by g past l (CommandCycle c) ≡ true → IsEnded (facts_of (with_cycle (CommandCycle c) t))
 command_ended g past l Read t h = cc
-command_ended g past l ReadStatus t h = cc
+command_ended g past l ReadStatus t h = absurd (neither_starts (is_shared g) _ _ refl refl h)
 command_ended g past l ReadStatusEnhanced t h = cc
 command_ended g past l ReadConfirm t h = closer_ended ReadConfirm t (λ d. refl)
 command_ended g past l BlockEraseConfirm t h = closer_ended BlockEraseConfirm t (λ d. refl)
@@ -301,7 +338,7 @@ command_ended g past l Reset t h = record { phase = refl; opening = refl }
 command_ended g past l SynchronousReset t h = record { phase = refl; opening = refl }
 command_ended g past l ReadCacheSequential t h = record { phase = refl; opening = refl }
 command_ended g past l ReadCacheEnd t h = record { phase = refl; opening = refl }
-command_ended g past l c t h = absurd (neither_starts (wants_command (facts_of (tail past l.ce)) c && names_lun g (row (facts_of (tail past l.ce))) l.lun) Unaffected Unaffected refl refl h)
+command_ended g past l c t h = absurd (neither_starts (wants_command (facts_of (tail past l.ce)) c && names_lun g (row (facts_of (tail past l.ce))) l.lun) Unaffected (other_effect g (facts_of (tail past l.ce)) c) refl (other_starts g (facts_of (tail past l.ce)) c) h)
 
 -- an opener that an address ends by which work starts
 record EndsBy (c : Command) (n : ℕ) : Type 0 where
@@ -315,18 +352,18 @@ past_one n = grind (arith, nat_tests)
 one_false : (n : ℕ) → (ltb (n + 1) 1 || false) ≡ false
 one_false n = ap (λ b. b || false) (past_one n)
 
-first_true : (a b : Bool) (x : Effect) → starts (cond (a && b) x Unaffected) ≡ true → a ≡ true
-first_true true b x h = refl
-first_true false b x h = cc
+first_true : (a : Bool) (x : Effect) → starts (cond a x Unaffected) ≡ true → a ≡ true
+first_true true x h = refl
+first_true false x h = cc
 
 address_ends : (g : Parts) (t : TailFacts) (byte : ℕ) (c : Command) (n lun : ℕ) → starts (address_effect g t byte c n lun) ≡ true → EndsBy c n
 address_ends g t byte ReadStatusEnhanced n lun h = absurd (neither_starts (n == 2) _ _ (either_false starts (names_lun g (row_with t byte) lun) _ _ refl refl) refl h)
-address_ends g t byte ReadId n lun h = absurd (neither_starts (wants_address t byte) _ _ (either_false starts (byte == 0x20) IdRead (IdentityRead (byte == 0x40)) refl refl) refl h)
+address_ends g t byte ReadId n lun h = absurd (neither_starts (wants_address t byte) _ _ (target_starts g lun _ (either_false starts (byte == 0x20) IdRead (IdentityRead (byte == 0x40)) refl refl)) refl h)
 address_ends g t byte ReadParameterPage n lun h = record { over = one_false n; program = refl; features = refl }
 address_ends g t byte ReadUniqueId n lun h = record { over = one_false n; program = refl; features = refl }
 address_ends g t byte GetFeatures n lun h = record { over = one_false n; program = refl; features = refl }
 address_ends g t byte ResetLun n lun h =
-    record { over = ap (λ m. ltb (m + 1) 3 || false) (eqb-true n 2 (first_true (n == 2) _ _ h)); program = refl; features = refl }
+    record { over = ap (λ m. ltb (m + 1) 3 || false) (eqb-true n 2 (first_true (n == 2) _ h)); program = refl; features = refl }
 address_ends g t byte c n lun h = cc
 
 address_ended : (g : Parts) (past : List Item) (l : Lun) (byte : ℕ) (t : List TargetCycle) (o : Option Opening) → opening t ≡ o →

@@ -117,13 +117,21 @@ is_taken (Granted rule) lun = false
 is_taken (Broken rule) lun = false
 is_taken (WithoutReady ready) lun = ready.lun.lun == lun
 
+-- a LUN was taken for ready: where an item needs each of its target, the verdict names the first
+abbrev pub takes_some : Verdict → Bool
+takes_some Permitted = false
+takes_some PassedOver = false
+takes_some (Granted rule) = false
+takes_some (Broken rule) = false
+takes_some (WithoutReady ready) = true
+
 -- bit 0 of a status: it failed
 abbrev pub has_failed : ℕ → Bool
 has_failed byte = byte % 2 == 1
 
 abbrev pub end_by_cycle : Judged → BusCycle → (lun : ℕ) → (was is : Bool) → Option Ending
 end_by_cycle j c lun was is =
-    if is_taken j.said lun then Some (ends.NotShown j.number)
+    if is_taken j.said lun || (takes_some j.said && (was && not is)) then Some (ends.NotShown j.number)
     else (if is_output c.kind && (was && not is) then Some (ends.Shown j.number (has_failed c.byte)) else None)
 
 -- how an item ends the work of this LUN, if it does

@@ -1,6 +1,6 @@
 //! How an item ends the work of a LUN.
 ghost use Rattle.std.specs.Prelude.{◌≡◌};
-ghost use Rattle.trace_ops.specs.Listing.{is_taken, has_failed, end_by_cycle, end_by, ended_if, ended_on, all_ended};
+ghost use Rattle.trace_ops.specs.Listing.{is_taken, takes_some, has_failed, end_by_cycle, end_by, ended_if, ended_on, all_ended};
 
 use crate::change::{Change, change_if};
 use crate::judged::Judged;
@@ -22,6 +22,17 @@ pub(crate) fn is_taken(said: Verdict, lun: u8) -> bool
     }
 }
 
+// A LUN was taken for ready: where an item needs each of its target, the verdict names the first.
+fn takes_some(said: Verdict) -> bool
+    ensures { result ≡ takes_some said }
+{
+    match said {
+        Verdict::NotShown(_) => true,
+        Verdict::Permitted | Verdict::PassedOver | Verdict::Granted(_) | Verdict::Broken(_) =>
+            false,
+    }
+}
+
 /// A status byte says that work failed: bit 0.
 pub(crate) fn has_failed(byte: u8) -> bool
     ensures { result ≡ has_failed byte }
@@ -34,7 +45,7 @@ fn end_by_cycle(judged: &Judged, cycle: Cycle, lun: u8, was: bool, is: bool) -> 
     ensures { result ≡ end_by_cycle judged.now cycle lun was is }
 {
     let at = judged.number;
-    if is_taken(judged.said, lun) {
+    if is_taken(judged.said, lun) || takes_some(judged.said) && was && !is {
         Some(Ending::NotShown { at })
     } else if is_output(cycle.kind) && was && !is {
         Some(Ending::Shown {

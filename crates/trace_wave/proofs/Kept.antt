@@ -7,7 +7,7 @@ use Rattle.nand_geometry.specs.declared.parts.Parts.{Parts}
 use Rattle.onfi_cycle.specs.declared.command.Command.{Command}
 use Rattle.onfi_cycle.specs.declared.command.Command.TheVariants.{Read, ChangeReadColumnConfirm, ReadStatus, ReadStatusEnhanced, ReadConfirm, BlockEraseConfirm, BlockErasePlane, ProgramConfirm, ProgramPlane, ReadId, ReadParameterPage, Reset, ReadCacheSequential, ReadCacheEnd, ReadUniqueId, GetFeatures, ResetLun, SynchronousReset}
 use Rattle.onfi_cycle.specs.declared.effect.Effect.{Effect}
-use Rattle.onfi_cycle.specs.declared.effect.Effect.TheVariants.{Unaffected, FeaturesSet, SelectedForStatus, Deselected, ReadColumnChanged, DataOutput}
+use Rattle.onfi_cycle.specs.declared.effect.Effect.TheVariants.{Unaffected, FeaturesSet, SelectedForStatus, Deselected, ReadColumnChanged, DataOutput, StatusSelected, StatusOfSelected, AnotherAddressed}
 use Rattle.onfi_cycle.specs.declared.item.Kind.{Kind}
 use Rattle.onfi_cycle.specs.declared.item.Kind.TheVariants.{Cmd, Adr, Din, Dout}
 use Rattle.onfi_cycle.specs.declared.item.Item.{Item}
@@ -16,10 +16,10 @@ use Rattle.onfi_cycle.specs.declared.latch.Latch.{Latch}
 use Rattle.onfi_cycle.specs.declared.lun.Lun.{Lun}
 use Rattle.onfi_cycle.specs.declared.opening.Opening.{Opening}
 use Rattle.onfi_cycle.specs.declared.tail_facts.TailFacts.{TailFacts}
-use Rattle.onfi_cycle.specs.Command.{command, reads_identity}
+use Rattle.onfi_cycle.specs.Command.{command, reads_identity, closes_row, is_read_confirm}
 use Rattle.onfi_cycle.specs.Sequence.{target_of, target_cycle, opened, wants_command, row, row_with, takes_features, tail, facts_of}
-use Rattle.onfi_cycle.specs.Effect.{is_off, is_data, names_lun, confirm_effect, command_effect, address_effect, opening_address_effect, ends_features, cycle_effect, item_effect}
-use Rattle.onfi_cycle.specs.Lun.{busy_after, array_busy_after, effect_on, latch_alone}
+use Rattle.onfi_cycle.specs.Effect.{is_off, is_data, is_shared, of_target, other_effect, names_lun, confirm_effect, command_effect, address_effect, opening_address_effect, ends_features, cycle_effect, item_effect}
+use Rattle.onfi_cycle.specs.Lun.{busy_after, array_busy_after, effect_on, latch_alone, effect_among}
 use Rattle.onfi_cycle.specs.Readies.{starts}
 use Rattle.onfi_cycle.specs.State.{TargetView, BusView, Follows, judged, judged_on}
 use Rattle.trace_wave.specs.Keeping.{is_reset_lun, kind_keeps_work, keeps_work}
@@ -47,9 +47,12 @@ confirm_keeps g t ProgramConfirm h = cc
 confirm_keeps g t ProgramPlane h = cc
 confirm_keeps g t c h = unaffected
 
+other_keeps : (g : Parts) (t : TailFacts) (c : Command) → Keeps (other_effect g t c)
+other_keeps g t c = either (closes_row c && (wants_command t c && is_shared g)) (AnotherAddressed (is_read_confirm c)) Unaffected (record { busy = λ b. refl; array = λ b c a. refl }) unaffected
+
 command_keeps : (g : Parts) (t : TailFacts) (la : Latch) (c : Command) (n : ℕ) → starts c ≡ false → Keeps (command_effect g t la c n)
 command_keeps g t la Read n h = record { busy = λ b. refl; array = λ b c a. refl }
-command_keeps g t la ReadStatus n h = record { busy = λ b. refl; array = λ b c a. refl }
+command_keeps g t la ReadStatus n h = either (is_shared g) StatusOfSelected StatusSelected (record { busy = λ b. refl; array = λ b c a. refl }) (record { busy = λ b. refl; array = λ b c a. refl })
 command_keeps g t la ReadStatusEnhanced n h = record { busy = λ b. refl; array = λ b c a. refl }
 command_keeps g t la Reset n h = cc
 command_keeps g t la SynchronousReset n h = cc
@@ -57,7 +60,7 @@ command_keeps g t la ReadCacheSequential n h = cc
 command_keeps g t la ReadCacheEnd n h = cc
 command_keeps g t la ChangeReadColumnConfirm n h =
     either (wants_command t ChangeReadColumnConfirm && not (is_off la)) (ReadColumnChanged t.column) Unaffected (record { busy = λ b. refl; array = λ b c a. refl }) unaffected
-command_keeps g t la c n h = either (wants_command t c && names_lun g (row t) n) (confirm_effect g t c) Unaffected (confirm_keeps g t c h) unaffected
+command_keeps g t la c n h = either (wants_command t c && names_lun g (row t) n) (confirm_effect g t c) (other_effect g t c) (confirm_keeps g t c h) (other_keeps g t c)
 
 address_keeps : (g : Parts) (t : TailFacts) (byte n lun : ℕ) (c : Command) → (reads_identity c || is_reset_lun c) ≡ false → Keeps (address_effect g t byte c n lun)
 address_keeps g t byte n lun ReadStatusEnhanced h =
@@ -81,7 +84,7 @@ cycle_keeps g past la ce byte lun Adr h = opening_keeps g (facts_of (tail past c
 cycle_keeps g past la ce byte lun Din h =
     let t = facts_of (tail past ce) in
     let none : ends_features t ≡ false = ap (λ (b : Bool). b && t.inputs == 3) (not-true (takes_features t.phase) h) in
-    subst Keeps (sym (ap (λ (b : Bool). cond b (FeaturesSet (t.column % 256)) Unaffected) none)) unaffected
+    subst Keeps (sym (ap (λ (b : Bool). cond b (of_target g lun (FeaturesSet (t.column % 256))) Unaffected) none)) unaffected
 cycle_keeps g past la ce byte lun Dout h = either (is_data la) DataOutput Unaffected (record { busy = λ b. refl; array = λ b c a. refl }) unaffected
 
 item_keeps : (g : Parts) (past : List Item) (la : Latch) (i : Item) (l : Lun) → keeps_work past i ≡ true → Keeps (item_effect g (facts_of (tail past l.ce)) la i l)
@@ -94,7 +97,7 @@ item_keeps g past la (Rdy ce lun fail) l h = cc
 item_keeps g past la (Ard ce lun) l h = cc
 
 effect_keeps : (g : Parts) (past : List Item) (i : Item) (l : Lun) → keeps_work past i ≡ true → Keeps (effect_on g past i l)
-unfolding effect_on
+unfolding effect_among
 effect_keeps g past i l h = item_keeps g past (latch_alone g past l) i l h
 
 tells_none : (past : List Item) (i : Item) (ce lun : ℕ) → keeps_work past i ≡ true → tells_failure (i ∷ past) ce lun ≡ false

@@ -1,4 +1,4 @@
-use Rattle.std.proofs.Common.{ℕ, ◌*◌, ◌+◌, Some, None, List, sym, ap, subst, ◌∙◌, length}
+use Rattle.std.proofs.Common.{ℕ, ◌*◌, ◌+◌, List, sym, ap, subst, ◌∙◌, length}
 use Rattle.nand_geometry.specs.declared.parts.Parts.{Parts}
 use Rattle.onfi_cycle.specs.Inputs.{with_inputs, after_inputs}
 use Rattle.die_model.specs.Die.{Die}

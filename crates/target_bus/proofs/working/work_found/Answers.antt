@@ -38,7 +38,7 @@ returns-in-Some-clause-ok g c =
     let found = found_in state opened c.args.dies.now past c.args.cycle c.parts-luns.result.luns c.find_work.result (Some c.in-Some.worked) f h luns c.find_work.ensures.past c.in-Some.is in
     let place = c.place.ensures ∙ ap (λ (n : ℕ). c.args.cycle.ce * n + c.in-Some.worked.lun) luns in
     subst (StandFor (channel_on state.geometry (length state.targets) opened) (Cyc c.args.cycle ∷ past)) (sym worked.4)
-    (one_works state opened c.args.dies.now past c.args.cycle c.in-Some.worked _ worked.0 worked.1 f h (c.facts_fit.ensures.past state.geometry (length state.targets) past f.follows)
+    (one_works state opened c.args.dies.now past c.args.cycle c.in-Some.worked _ worked.0 worked.1 f h (c.facts_fit.ensures.past state.geometry (length state.targets) past f.follows) c.requires.one
     (cycle_there state.geometry (length state.targets) past c.args.cycle h) found place worked.2 worked.3))
 
 pub returns-in-Some-clause-memory : goal.returns-in-Some-clause-memory

@@ -5,7 +5,7 @@ use Rattle.onfi_cycle.specs.declared.item.Item.TheVariants.{Cyc}
 use Rattle.onfi_cycle.specs.Working.{fills}
 use Rattle.die_model.specs.Die.{Die}
 use Rattle.target_bus.specs.Bus.{channel_on, StandFor}
-use Rattle.target_bus.proofs.Standing.{worked_there, can_work_at, none_works, one_works, cycle_there, no_program_at, on_ok}
+use Rattle.target_bus.proofs.Standing.{worked_there, can_work_at, none_works, input_of_one, one_works, cycle_there, no_program_at, on_ok}
 use Rattle.target_bus.proofs.ByKind.{filled, none_filled, one_filled, leaves_more, on_err}
 use Rattle.target_bus.proofs.working.work_input.Goals as goal
 
@@ -39,7 +39,7 @@ returns-then-fills-clause-ok g c =
     let place = c.place.ensures ∙ ap (λ (n : ℕ). c.args.cycle.ce * n + c.loop-lun.lun) luns in
     subst (StandFor (channel_on state.geometry (length state.targets) opened) (Cyc c.args.cycle ∷ past)) (sym (worked.4 ∙ ap (λ (ds : List Die). set ds (c.place.result) worked.1) same))
     (one_works state opened c.args.dies.now past c.args.cycle (filled c.loop-lun.lun c.filling-filling.result) _ worked.0 worked.1 f h (c.facts_fit.ensures.past state.geometry (length state.targets) past f.follows)
-    (cycle_there state.geometry (length state.targets) past c.args.cycle h) (one_filled state opened c.args.dies.now past c.args.cycle c.parts-luns.result.luns c.loop-lun.lun c.filling-filling.result f h c.requires.input c.requires.in_data luns c.loop-lun-test.true (sym c.fills.ensures ∙ c.if-fills.true) c.filling-filling.ensures.past) place
+    (input_of_one state.geometry c.args.cycle c.requires.input) (cycle_there state.geometry (length state.targets) past c.args.cycle h) (one_filled state opened c.args.dies.now past c.args.cycle c.parts-luns.result.luns c.loop-lun.lun c.filling-filling.result f h c.requires.input c.requires.in_data luns c.loop-lun-test.true (sym c.fills.ensures ∙ c.if-fills.true) c.filling-filling.ensures.past) place
     (sym (ap (λ (ds : List Die). slice_get ds (c.place.result)) same) ∙ worked.2) worked.3))
 
 pub returns-then-fills-clause-err : goal.returns-then-fills-clause-err

@@ -10,12 +10,12 @@ some_geometry = record { page_bytes = 0; spare_bytes = 0; pages = 0; blocks = 0;
 
 pub push-requires : goal.push-requires
 push-requires c =
-    let same = luns_so_far some_geometry c.loop.luns.items c.loop.counter c.loop.invariant in
-    let below : length c.loop.luns.items < 4 = omega (arith, c.loop-test.true, c.requires) in
+    let same = luns_so_far some_geometry c.loop-number.luns.items c.loop-number.number c.loop-number.invariant in
+    let below : length c.loop-number.luns.items < 4 = omega (arith, c.loop-number-test.true, c.requires) in
     (omega arith, below)
 
-pub loop-preserved : goal.loop-preserved
-loop-preserved c = more_luns c.loop.luns.items _ c.loop.counter c.fresh.result c.loop.invariant c.fresh.ensures c.push.ensures.items
+pub loop-number-preserved : goal.loop-number-preserved
+loop-number-preserved c = more_luns c.loop-number.luns.items _ c.loop-number.number c.fresh.result c.loop-number.invariant c.fresh.ensures c.push.ensures.items
 
 pub returns : goal.returns
-returns c = fresh_target c.none.result c.loop.luns.items c.loop.counter c.args.count c.none.ensures.value c.loop.invariant (omega (arith, c.loop-test.false, c.loop.auto.counter-end))
+returns c = fresh_target c.none.result c.loop-number.luns.items c.loop-number.number c.args.count c.none.ensures.value c.loop-number.invariant (omega (arith, c.loop-number-test.false, c.loop-number.auto.number-end))
