@@ -6,11 +6,12 @@ at the root, once `rt test` in crates/test_channel_calls or the gate has built t
 requests; `rt try --fail-alloc` would build the program anew for each.
 
 A test first makes its channel. A refusal up to there may end the test with out of memory. From the first number on with which it
-passes it has to pass with each, until a run makes fewer requests than the number says; of two workers one has to say at least once that
-it was out of memory. The script says for each test how many requests were refused, and ends with status 1 where one of these runs went
-wrong.
+passes it has to pass with each, until a run makes fewer requests than the number says. A test tells the calls that answered out of
+memory, and each of them has to do so at least once where `TELLS` names it. The script says for each test how many requests were refused
+and which calls answered out of memory, and ends with status 1 where one of these runs went wrong.
 """
 import os
+import re
 import sys
 import tempfile
 
@@ -24,24 +25,45 @@ TESTS = [
     "refusal_tests::each_refusal_loses_nothing",
     "refusal_tests::another_goes_on_after_a_refusal",
 ]
-# What this test says where one of its two workers ended because it was out of memory.
-TELLS = {"refusal_tests::another_goes_on_after_a_refusal": "one of two workers was out of memory"}
+# The calls that have to answer out of memory in these tests, each at least once.
+TELLS = {
+    "call_tests::two_jobs_call_by_call": ["start", "turn", "ready", "finish"],
+    "call_tests::untimely_calls": ["start", "turn", "ready", "finish"],
+    "call_tests::refusals_come_before_memory": ["start", "turn", "ready", "finish"],
+    "refusal_tests::each_refusal_loses_nothing": ["work"],
+    "refusal_tests::another_goes_on_after_a_refusal": ["work of one of two workers"],
+}
 MOST = 100_000
+SHORT = re.compile(r"^out of memory: (.*)$", re.MULTILINE)
+CALL = re.compile(r"([a-z ]+) ([0-9]+)(?:, )?")
 OUT_OF_MEMORY = ("AllocError", "AllocFailed", "OutOfMemory", "out of memory")
+
+
+def count_calls(said, calls):
+    """Adds the calls that a test says were out of memory."""
+    for line in SHORT.findall(said):
+        for call, number in CALL.findall(line):
+            calls[call] = calls.get(call, 0) + int(number)
+
+
+def tell(test, requests, early, passed, calls):
+    """Says what came of a test."""
+    short = ", ".join(f"{call} {number}" for call, number in calls.items())
+    print(f"{test}: {requests} requests, each refused in turn: {early} before the channel stood, and it passed with {passed}; out of memory: {short}")
 
 
 def try_all(refuser, test):
     """Returns whether the test went well with each request refused."""
-    early, passed, told = 0, 0, 0
+    early, passed, calls = 0, 0, {}
     for number in range(1, MOST):
         ran = run_refused(refuser, [PROGRAM, test], request=number)
         said = ran.output + ran.errors
         if ran.status == 0 and ran.requests is not None:
             if ran.requests < number:
-                print(f"{test}: {number - 1} requests, each refused in turn: {early} before the channel stood, and it passed with {passed}")
-                return passed > 0 and (test not in TELLS or told > 0)
+                tell(test, number - 1, early, passed, calls)
+                return passed > 0 and all(calls.get(call, 0) > 0 for call in TELLS[test])
             passed += 1
-            told += TELLS.get(test, "\0") in said
+            count_calls(said, calls)
         elif ran.requests is not None and not passed and any(it in said for it in OUT_OF_MEMORY):
             early += 1
         else:

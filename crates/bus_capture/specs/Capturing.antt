@@ -1,5 +1,5 @@
 -- A capture as items, each with its time.
-use Rattle.std.specs.Prelude.{◌≡◌, ⊤, ℕ, zero, suc, ◌+◌, ◌*◌, ◌/◌, ◌%◌, ◌==◌, ◌||◌, Bool, true, false, if◌then◌else◌, List, [], ◌∷◌, ◌++◌, Option, Some, None, Result, Ok, Err}
+use Rattle.std.specs.Prelude.{◌≡◌, ⊤, ℕ, zero, suc, ◌+◌, ◌-◌, ◌^◌, min, ◌*◌, ◌/◌, ◌%◌, ◌==◌, ◌||◌, Bool, true, false, if◌then◌else◌, List, [], ◌∷◌, ◌++◌, Option, Some, None, Result, Ok, Err}
 use Rattle.onfi_cycle.specs.declared.item.Item.{Item}
 use Rattle.vcd_text.specs.declared.fault.LineFault.{LineFault}
 use Rattle.vcd_text.specs.declared.tokens.Level.{Level}
@@ -23,6 +23,7 @@ use Rattle.bus_signals.specs.declared.role.Role.TheVariants.{We, Re}
 use Rattle.bus_signals.specs.declared.role.Role.TheVariants as role
 use Rattle.bus_signals.specs.declared.source.Source.{Source}
 use Rattle.bus_capture.specs.declared.sampling.Seen.{Seen}
+use Rattle.bus_capture.specs.declared.sampling.Seen.TheVariants as seen
 use Rattle.bus_capture.specs.declared.sampling.Strobe.{Strobe}
 use Rattle.bus_capture.specs.declared.sampling.Strobe.TheVariants.{Write}
 use Rattle.bus_capture.specs.declared.sampling.Strobe.TheVariants as strobe
@@ -35,6 +36,12 @@ use Rattle.bus_signals.specs.Roles.{carriers_of, sources_of}
 use Rattle.bus_capture.specs.Sampling.{level, with_change, seen_of, item_of, rises, is_edge, is_short, steady, ready_of}
 
 -- ---- what is seen at a time
+
+-- how many strobes are none of ours, with what is seen of one more
+abbrev pub counted : ℕ → Seen → ℕ
+counted count seen.Nothing = count
+counted count (seen.Sampled cycle) = count
+counted count seen.Unselected = min (count + 1) (2 ^ 64 - 1)
 
 -- items with one more of this time, if there is one
 abbrev pub with_item : ℕ → Option Item → List Observed → List Observed

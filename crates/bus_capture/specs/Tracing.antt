@@ -1,5 +1,5 @@
 -- What is still to come of a capture that is read in pieces.
-use Rattle.std.specs.Prelude.{◌≡◌, ⊤, ◌≤◌, ℕ, Bool, true, false, List, [], ◌++◌, Option, Some, None, Result, Ok, Err}
+use Rattle.std.specs.Prelude.{◌≡◌, ⊤, ◌≤◌, ℕ, ◌+◌, ◌-◌, ◌^◌, min, length, Bool, true, false, List, [], ◌++◌, Option, Some, None, Result, Ok, Err}
 use Rattle.vcd_text.specs.Tokens.{◌>>=◌}
 use Rattle.vcd_text.specs.Words.{Word, IsCut}
 use Rattle.vcd_text.specs.Header.{Read}
@@ -144,3 +144,12 @@ pub record IsCapturing {A : Type 0} (r : CaptureReader A) : Type 0 where
   pub few : r.setup.now.targets ≤ 4
   pub reading : IsReading r.dump
   pub tabling : IsTablingIf r.table
+
+-- the bytes of the text that are kept, as they may go on: of a header or of a row of names, and of what isn't whole behind it
+abbrev pub left_of : {A : Type 0} → Option (DumpReader A) → Option (TableReader A) → ℕ
+left_of (Some d) table = length d.left.items
+left_of None (Some t) = length t.left.items
+left_of None None = 0
+
+abbrev pub kept_of : {A : Type 0} → CaptureReader A → ℕ
+kept_of r = min (length r.head.items + left_of r.dump r.table) (2 ^ 64 - 1)

@@ -133,7 +133,9 @@ pub(crate) struct DumpReader<A: Allocator> {
 
 impl<A: Allocator + Clone> DumpReader<A> {
     /// How many bytes are kept of what isn't whole yet.
-    pub(crate) fn kept(&self) -> usize {
+    pub(crate) fn kept(&self) -> usize
+        ensures { result ≡ length self.now.left.items }
+    {
         self.left.len()
     }
 

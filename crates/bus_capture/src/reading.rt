@@ -3,7 +3,7 @@ ghost use Rattle.std.specs.Prelude.{◌≡◌, ◌≤◌, ◌++◌, List, ℕ, [
 ghost use Rattle.bus_capture.specs.Capturing.{IsRefusalOf};
 ghost use Rattle.bus_capture.specs.Inferring.{captured_by, captured_after, captured};
 ghost use Rattle.bus_capture.specs.Inside.{AreInside};
-ghost use Rattle.bus_capture.specs.Tracing.{comes, comes_dump, comes_table, dump_after, table_after, IsReading, IsCapturing, IsTabling, IsTablingIf, IsTracing, OpensAs, OpensTable};
+ghost use Rattle.bus_capture.specs.Tracing.{comes, comes_dump, comes_table, kept_of, dump_after, table_after, IsReading, IsCapturing, IsTabling, IsTablingIf, IsTracing, OpensAs, OpensTable};
 
 use crate::dump_reader::DumpReader;
 use crate::fault::{CaptureFault, CaptureRefusal, copy_of};
@@ -389,7 +389,9 @@ impl<'m, A: Allocator + Clone> CaptureReader<'m, A> {
     }
 
     /// How many bytes of the text are kept, as they may go on: of a header, of a word, or of a row.
-    pub fn kept(&self) -> usize {
+    pub fn kept(&self) -> usize
+        ensures { result ≡ kept_of self.now }
+    {
         let left = match (&self.dump, &self.table) {
             (Some(dump), _) => dump.kept(),
             (None, Some(table)) => table.kept(),

@@ -1,7 +1,7 @@
 //! What is seen of a bus, from one time to the next.
 ghost use Rattle.std.specs.Prelude.{◌≡◌, ◌+◌, ◌*◌, ◌/◌, ◌%◌, ◌<◌, ◌≤◌, [], ◌∷◌, ◌++◌, true, Ok, IfErr, OnOk};
 ghost use Rattle.bus_capture.specs.Sampling.{level, item_of};
-ghost use Rattle.bus_capture.specs.Capturing.{with_item, with_release, with_releases, with_readies, with_seen, at_time, settled, is_known, unknown, untouched, strobing_after, begun, later, changed, strobe_seen, IsSeen, IsRefusalOf};
+ghost use Rattle.bus_capture.specs.Capturing.{counted, with_item, with_release, with_releases, with_readies, with_seen, at_time, settled, is_known, unknown, untouched, strobing_after, begun, later, changed, strobe_seen, IsSeen, IsRefusalOf};
 ghost use Rattle.bus_capture.specs.Still.{IsStill, IsStillUnless};
 
 use crate::fault::{BusFault, CaptureFault, CaptureRefusal};
@@ -83,7 +83,9 @@ fn item_of(seen: Seen) -> Option<Item>
 
 // One more strobe that is none of ours is counted.
 #[inline(always)]
-fn count_unselected(unselected: &mut u64, seen: Seen) {
+fn count_unselected(unselected: &mut u64, seen: Seen)
+    ensures { unselected.new ≡ counted unselected.old seen }
+{
     match seen {
         Seen::Nothing | Seen::Sampled(_) => {}
         Seen::Unselected => *unselected = unselected.saturating_add(1),

@@ -90,7 +90,9 @@ pub(crate) struct TableReader<A: Allocator> {
 
 impl<A: Allocator + Clone> TableReader<A> {
     /// How many bytes are kept of what isn't whole yet.
-    pub(crate) fn kept(&self) -> usize {
+    pub(crate) fn kept(&self) -> usize
+        ensures { result ≡ length self.now.left.items }
+    {
         self.left.len()
     }
 

@@ -16,6 +16,13 @@ pub struct Header {
 }
 
 impl Header {
+    /// The largest numbers that there are.
+    pub const LARGEST: Header = Header {
+        rows: 4_096,
+        buffer: 16_777_215,
+        budget: 4_294_967_295,
+    };
+
     /// The header of a text.
     pub fn of<A: Allocator>(text: &Text<A>) -> Header {
         Header {

@@ -13,6 +13,7 @@ mod header;
 mod idle_loop;
 mod idle_poll;
 mod least;
+mod least_number;
 mod linted;
 mod linting;
 mod misordered;

@@ -19,13 +19,6 @@ use std::alloc::{AllocError, Allocator, Global};
 // The header with the largest numbers that there are.
 const LARGEST_HEADER: &str = "rows 4096\nbuffer 16777215\nbudget 4294967295\n";
 
-// Its numbers.
-const LARGEST: Header = Header {
-    rows: 4_096,
-    buffer: 16_777_215,
-    budget: 4_294_967_295,
-};
-
 /// How many lines a header has.
 pub(crate) const HEADER_LINES: usize = 3;
 
@@ -149,7 +142,7 @@ pub fn with_least_header<A: Allocator + Clone>(
 ) -> Result<Text<A>, AllocError>
     ensures { IfOk result (λ y. y.words ≡ text.words) }
 {
-    let text = replace_header(alloc.clone()?, text, LARGEST)?;
+    let text = replace_header(alloc.clone()?, text, Header::LARGEST)?;
     match least_header(alloc.clone()?, &text, geometry)? {
         Some(header) => replace_header(alloc, text, header),
         None => Ok(text),

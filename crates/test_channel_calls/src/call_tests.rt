@@ -191,16 +191,48 @@ fn is_kept(trace: &[Item], call: Call, (count, sum): (usize, u64)) -> bool {
     }
 }
 
-// Makes the calls of a script, and tells how many there were that answered out of memory, and then what they must; or the place of the
+// How many calls answered out of memory, by what they were.
+#[derive(Clone, Copy)]
+struct Shortages {
+    starts: u64,
+    turns: u64,
+    readies: u64,
+    finishes: u64,
+}
+
+impl Shortages {
+    fn none() -> Shortages {
+        Shortages {
+            starts: 0,
+            turns: 0,
+            readies: 0,
+            finishes: 0,
+        }
+    }
+
+    // One more. To park a lease and to take one out asks for no memory.
+    fn count(&mut self, call: Call) {
+        let counted = match call {
+            Call::Start => &mut self.starts,
+            Call::Turn => &mut self.turns,
+            Call::Ready { .. } | Call::ArrayReady { .. } => &mut self.readies,
+            Call::Finish => &mut self.finishes,
+            Call::Park | Call::Unpark => return,
+        };
+        *counted = counted.saturating_add(1);
+    }
+}
+
+// Makes the calls of a script, and tells which there were that answered out of memory, and then what they must; or the place of the
 // first that didn't, that answered out of memory in place of another refusal, or after whose refusal something had changed.
 fn play<L: Turns, R: Wait>(
     rt: &R,
     state: &mut ChannelState<L>,
     pass: &mut WorkerPass<L>,
     script: &[Line],
-) -> Result<u64, usize> {
+) -> Result<Shortages, usize> {
     let mut held = None;
-    let mut refused: u64 = 0;
+    let mut short = Shortages::none();
     for k in 0..script.len() {
         let (call, answer) = script[k];
         let trace = state.trace();
@@ -210,23 +242,23 @@ fn play<L: Turns, R: Wait>(
             if !is_kept(state.trace(), call, before) {
                 return Err(k);
             }
-            refused = refused.saturating_add(1);
+            short.count(call);
             told = make_call(rt, state, pass, &mut held, call);
         }
         if told != answer {
             return Err(k);
         }
     }
-    Ok(refused)
+    Ok(short)
 }
 
-// Plays a script on a channel of one target, for which erases of LUN 0 and LUN 1 are stored. The parts of the channel, and how many
+// Plays a script on a channel of one target, for which erases of LUN 0 and LUN 1 are stored. The parts of the channel, and which
 // calls answered out of memory.
 fn act<L: Turns, R: Wait + AllocGlobal>(
     rt: &R,
     blank: Blank,
     script: &[Line],
-) -> Result<(Gathered, u64), Fail>
+) -> Result<(Gathered, Shortages), Fail>
     requires name { blank.name ≡ L.name }
     requires parts { (blank.parts ≡ L.parts) × (L.all ≡ L.parts) × (L.parts ≡ 9) × (L.origin ≡ None) }
 {
@@ -236,9 +268,9 @@ fn act<L: Turns, R: Wait + AllocGlobal>(
     let mut pass = state.worker().ok_or("a pass")?;
     match play(rt, &mut state, &mut pass, script) {
         Err(k) => Err(Fail::new(format_args!("call {k} answers something else"))),
-        Ok(refused) => {
+        Ok(short) => {
             passes.push(pass)?;
-            Ok((gather(state, passes)?, refused))
+            Ok((gather(state, passes)?, short))
         }
     }
 }
@@ -250,7 +282,7 @@ struct Script {
     trace: &'static str,
     // The jobs that are done, in their order.
     done: [Told; 2],
-    // How many turns there are, and one more for each call that answered out of memory.
+    // How many turns there are, and one more for each that answered out of memory.
     turns: u64,
 }
 
@@ -259,7 +291,7 @@ fn has_ended_as(
     gathered: &Gathered,
     script: &Script,
     trace: &[Item],
-    refused: u64,
+    short: Shortages,
 ) -> Result<(), Fail> {
     let done = gathered.done.as_slice();
     let [first, second] = script.done;
@@ -269,25 +301,40 @@ fn has_ended_as(
     if tell_done(done, 0) != Some(first) || tell_done(done, 1) != Some(second) {
         return Err(Fail::from("other jobs are done"));
     }
-    if is_whole(gathered, script.turns, refused) {
+    if is_whole(gathered, script.turns, short) {
         Ok(())
     } else {
         Err(Fail::from("something isn't given back"))
     }
 }
 
-// Plays a script, and looks at what came of it.
+// Plays a script, and looks at what came of it: which calls answered out of memory.
 fn play_script<L: Turns, R: Wait + AllocGlobal>(
     rt: &R,
     blank: Blank,
     script: &Script,
-) -> Result<(), Fail>
+) -> Result<Shortages, Fail>
     requires name { blank.name ≡ L.name }
     requires parts { (blank.parts ≡ L.parts) × (L.all ≡ L.parts) × (L.parts ≡ 9) × (L.origin ≡ None) }
 {
     let trace = read_trace(rt.alloc(), script.trace)?;
-    let (gathered, refused) = act::<L, R>(rt, blank, script.lines)?;
-    has_ended_as(&gathered, script, trace.as_slice(), refused)
+    let (gathered, short) = act::<L, R>(rt, blank, script.lines)?;
+    has_ended_as(&gathered, script, trace.as_slice(), short)?;
+    Ok(short)
+}
+
+// `tools/fail_allocs.py` looks for what is printed.
+fn tell_short(rt: &HostRuntime, short: Shortages) -> Result<(), Fail> {
+    let Shortages {
+        starts,
+        turns,
+        readies,
+        finishes,
+    } = short;
+    println!(rt;
+        "out of memory: start {starts}, turn {turns}, ready {readies}, finish {finishes}"
+    )?;
+    Ok(())
 }
 
 const READY_ZERO: Call = Call::Ready {
@@ -426,14 +473,14 @@ const REFUSED_TRACE: &str = "0 C 60\n0 A 00\n0 A 00\n0 A 00\n0 C d0\n\
     0 C 78\n0 A 20\n0 A 00\n0 A 00\n0 O e0\n\
     0 C 78\n0 A 00\n0 A 00\n0 A 00\n0 O e0\n";
 
-// All is done and given back, with so many turns, or one more for each call that answered out of memory.
-fn is_whole(gathered: &Gathered, turns: u64, refused: u64) -> bool {
+// All is done and given back, with so many turns, or one more for each that answered out of memory.
+fn is_whole(gathered: &Gathered, turns: u64, short: Shortages) -> bool {
     gathered.done.len() == 2
         && gathered.backlog.is_empty()
         && gathered.seats.len() == 16
         && gathered.parked.len() == 0
         && turns <= gathered.turns
-        && gathered.turns <= turns.saturating_add(refused)
+        && gathered.turns <= turns.saturating_add(short.turns)
 }
 
 const WORKED_SCRIPT: Script = Script {
@@ -459,15 +506,18 @@ const REFUSED_SCRIPT: Script = Script {
 
 #[test]
 fn two_jobs_call_by_call(rt: HostRuntime) -> Result<(), Fail> {
-    play_script::<Brand, _>(&rt, Blank::new(9), &WORKED_SCRIPT)
+    let short = play_script::<Brand, _>(&rt, Blank::new(9), &WORKED_SCRIPT)?;
+    tell_short(&rt, short)
 }
 
 #[test]
 fn untimely_calls(rt: HostRuntime) -> Result<(), Fail> {
-    play_script::<Brand, _>(&rt, Blank::new(9), &UNTIMELY_SCRIPT)
+    let short = play_script::<Brand, _>(&rt, Blank::new(9), &UNTIMELY_SCRIPT)?;
+    tell_short(&rt, short)
 }
 
 #[test]
 fn refusals_come_before_memory(rt: HostRuntime) -> Result<(), Fail> {
-    play_script::<Brand, _>(&rt, Blank::new(9), &REFUSED_SCRIPT)
+    let short = play_script::<Brand, _>(&rt, Blank::new(9), &REFUSED_SCRIPT)?;
+    tell_short(&rt, short)
 }

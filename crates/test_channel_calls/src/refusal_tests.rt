@@ -31,22 +31,25 @@ fn take_pass<L: Turns>(end: WorkEnd<L>) -> Result<WorkerPass<L>, Fail> {
     }
 }
 
-// A worker runs a channel to its end, and once more if it ended for want of memory.
+// A worker runs a channel to its end, and once more if it ended for want of memory; and whether it did.
 fn work_again<L: Turns, G: Gate, R: Wait>(
     rt: &R,
     channel: &Channel<L>,
     gate: &G,
     pass: WorkerPass<L>,
-) -> Result<WorkerPass<L>, Fail> {
+) -> Result<(WorkerPass<L>, bool), Fail> {
     let end = work(rt, channel, gate, pass);
     match end.cause {
-        Cause::Quiet => ended(end),
-        Cause::OutOfMemory => ended(work(rt, channel, gate, take_pass(end)?)),
+        Cause::Quiet => Ok((ended(end)?, false)),
+        Cause::OutOfMemory => Ok((ended(work(rt, channel, gate, take_pass(end)?))?, true)),
     }
 }
 
-// Two erases on one LUN, by one worker.
-fn erase_alone<L: Turns, R: Wait + AllocGlobal>(rt: &R, blank: Blank) -> Result<Gathered, Fail>
+// Two erases on one LUN, by one worker; and whether it ended once for want of memory.
+fn erase_alone<L: Turns, R: Wait + AllocGlobal>(
+    rt: &R,
+    blank: Blank,
+) -> Result<(Gathered, bool), Fail>
     requires name { blank.name ≡ L.name }
     requires parts { (blank.parts ≡ L.parts) × (L.all ≡ L.parts) × (L.parts ≡ 9) × (L.origin ≡ None) }
 {
@@ -55,8 +58,9 @@ fn erase_alone<L: Turns, R: Wait + AllocGlobal>(rt: &R, blank: Blank) -> Result<
     let mut state = make_erasing::<L, R>(rt, blank, TWO_LUNS, 1, &[ON_ZERO, NEXT_ON_ZERO])?;
     let pass = state.worker().ok_or("a pass")?;
     let channel = Channel::new(state);
-    passes.push(work_again(rt, &channel, &Open, pass)?)?;
-    gather(channel.into_state(), passes)
+    let (pass, is_short) = work_again(rt, &channel, &Open, pass)?;
+    passes.push(pass)?;
+    Ok((gather(channel.into_state(), passes)?, is_short))
 }
 
 // All jobs are done and all is given back, after a legal trace.
@@ -72,26 +76,30 @@ fn is_whole(gathered: &Gathered) -> Result<bool, Fail> {
     )
 }
 
-// Both are done in their order, and all is whole. What is done first and second.
+// Both are done in their order, and all is whole. What is done first and second, and whether the worker ended once for want of memory.
 fn tell_both<L: Turns, R: Wait + AllocGlobal>(
     rt: &R,
     blank: Blank,
-) -> Result<(Option<Told>, Option<Told>), Fail>
+) -> Result<([Option<Told>; 2], bool), Fail>
     requires name { blank.name ≡ L.name }
     requires parts { (blank.parts ≡ L.parts) × (L.all ≡ L.parts) × (L.parts ≡ 9) × (L.origin ≡ None) }
 {
-    let gathered = erase_alone::<L, R>(rt, blank)?;
+    let (gathered, is_short) = erase_alone::<L, R>(rt, blank)?;
     if !is_whole(&gathered)? {
         return Err(Fail::from("something isn't given back"));
     }
     let done = gathered.done.as_slice();
-    Ok((tell_done(done, 0), tell_done(done, 1)))
+    Ok(([tell_done(done, 0), tell_done(done, 1)], is_short))
 }
 
+// `tools/fail_allocs.py` looks for what is printed.
 #[test]
 fn each_refusal_loses_nothing(rt: HostRuntime) -> Result<(), Fail> {
-    let told = tell_both::<Brand, _>(&rt, Blank::new(9))?;
-    assert_eq!(rt; told, (Some((0, 0, ZERO, 0)), Some((0, 1, ZERO, 0))));
+    let (told, is_short) = tell_both::<Brand, _>(&rt, Blank::new(9))?;
+    assert_eq!(rt; told, [Some((0, 0, ZERO, 0)), Some((0, 1, ZERO, 0))]);
+    if is_short {
+        println!(rt; "out of memory: work 1")?;
+    }
     Ok(())
 }
 
@@ -112,7 +120,8 @@ fn erase_by_two<L: Turns + Sync, R: Threads + Wait + Sync + AllocGlobal>(
     let (first, second) = work_by_two(rt, &channel, &Open, passes);
     let is_short = first.cause == Cause::OutOfMemory || second.cause == Cause::OutOfMemory;
     let first = take_pass(first)?;
-    ended_passes.push(work_again(rt, &channel, &Open, first)?)?;
+    let (first, _) = work_again(rt, &channel, &Open, first)?;
+    ended_passes.push(first)?;
     ended_passes.push(take_pass(second)?)?;
     Ok((gather(channel.into_state(), ended_passes)?, is_short))
 }
@@ -135,7 +144,7 @@ fn another_goes_on_after_a_refusal(rt: HostRuntime) -> Result<(), Fail> {
     let (is_whole, is_short) = look_at_two::<Brand, _>(&rt, Blank::new(9))?;
     assert!(rt; is_whole);
     if is_short {
-        println!(rt; "one of two workers was out of memory")?;
+        println!(rt; "out of memory: work of one of two workers 1")?;
     }
     Ok(())
 }

@@ -4,6 +4,7 @@ ghost use Rattle.std.specs.Prelude.{◌≡◌, None};
 use channel_work::{ChannelState, Gate, GatherRefused, Gathered, NamedJob, Turns, WorkerPass};
 use onfi_cycle::Lun;
 use std::alloc::Global;
+use std::cell::Cell;
 use std::marker::Brand;
 use std::process::Abort;
 use std::sync::Wait;
@@ -218,6 +219,54 @@ fn park_nine<L: Turns, R: Wait + AllocGlobal>(rt: &R, blank: Blank) -> Result<(u
 #[test]
 fn nine_leases(rt: HostRuntime) -> Result<(), Fail> {
     assert_eq!(rt; park_nine::<Brand, _>(&rt, Blank::new(9))?, (15, 0));
+    Ok(())
+}
+
+// A gate that refuses so many turns, and then gives every one.
+#[derive(Drop)]
+struct Late {
+    refusals: Cell<u32>,
+}
+
+impl Gate for Late {
+    fn may_turn(&self, _worker: u32) -> bool {
+        let left = self.refusals.get();
+        self.refusals.set(left.saturating_sub(1));
+        left == 0
+    }
+
+    fn ready(&self, lun: Lun, busy_polls: u64, works: u64) -> Option<bool> {
+        Open.ready(lun, busy_polls, works)
+    }
+
+    fn array_ready(&self, lun: Lun, works: u64) -> bool {
+        Open.array_ready(lun, works)
+    }
+
+    fn closed(&self) -> bool {
+        true
+    }
+}
+
+// Nine jobs are started before any has a turn, so that the lease of the last can't be parked.
+fn work_late<L: Turns, R: Wait + AllocGlobal>(rt: &R, blank: Blank) -> Result<Gathered, Fail>
+    requires name { blank.name ≡ L.name }
+    requires parts { (blank.parts ≡ L.parts) × (L.all ≡ L.parts) × (L.parts ≡ 9) × (L.origin ≡ None) }
+{
+    let state = make_erasing::<L, R>(rt, blank, FOUR_LUNS, 4, &NINE)?;
+    let gate = Late {
+        refusals: Cell::new(9),
+    };
+    run_alone(rt, state, &gate)
+}
+
+// The worker goes on with that lease, and so its job is done first.
+#[test]
+fn a_lease_without_room_is_gone_on_with(rt: HostRuntime) -> Result<(), Fail> {
+    let gathered = work_late::<Brand, _>(&rt, Blank::new(9))?;
+    let first = tell_done(gathered.done.as_slice(), 0);
+    let told = (first, gathered.done.len(), gathered.parked.len());
+    assert_eq!(rt; told, (Some((0, 8, Lun { ce: 3, lun: 3 }, 0)), 9, 0));
     Ok(())
 }
 

@@ -1,5 +1,5 @@
 -- The value change dump of a trace.
-use Rattle.std.specs.Prelude.{ℕ, ◌+◌, ◌*◌, ◌==◌, Bool, true, false, if◌then◌else◌, List, [], ◌∷◌, ◌++◌, Option, Some, None}
+use Rattle.std.specs.Prelude.{◌≡◌, ℕ, ◌+◌, ◌*◌, ◌==◌, Bool, true, false, if◌then◌else◌, List, [], ◌∷◌, ◌++◌, Option, Some, None}
 use Rattle.nand_geometry.specs.declared.parts.Parts.{Parts}
 use Rattle.onfi_cycle.specs.declared.item.Cycle.{Cycle}
 use Rattle.onfi_cycle.specs.declared.item.Item.{Item}
@@ -108,3 +108,7 @@ last_frame g targets d = time_line (10 * d.items) ++ changes 33 (levels_at g tar
 -- the dump of a trace
 abbrev pub dump : Parts → ℕ → List Item → List ℕ
 dump g targets items = header g targets ++ (frames g targets begun items ++ last_frame g targets (after_all g targets begun items))
+
+-- a text was added to, or stays
+abbrev pub Grows : (before after : List ℕ) → Type 0
+Grows before after = (more : List ℕ) × (after ≡ before ++ more)

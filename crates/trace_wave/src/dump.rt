@@ -5,7 +5,7 @@ ghost use Rattle.nand_geometry.specs.declared.parts.Parts.{Parts};
 ghost use Rattle.trace_wave.specs.Keeping.{IsAt};
 ghost use Rattle.trace_wave.specs.Header.{header};
 ghost use Rattle.onfi_cycle.specs.declared.item.Item.TheVariants.{Cyc};
-ghost use Rattle.trace_wave.specs.Wave.{Drawing, begun, after, after_all, is_ready, item_frames, frames, last_frame, dump};
+ghost use Rattle.trace_wave.specs.Wave.{Drawing, begun, after, after_all, is_ready, item_frames, frames, last_frame, dump, Grows};
 
 use crate::bus::{write_enables_if_changed, write_rise, write_set_up, write_struck};
 use crate::channel::Channel;
@@ -36,6 +36,7 @@ fn make_room<A: Allocator>(
     requires { place ≤ 1024 }
     ensures kept { IfOk result (λ next. out.new.items ++ take next room.now ≡ out.old.items ++ take place room.now) }
     ensures places { IfOk result (λ next. next + 384 ≤ 1024) }
+    ensures grows { Grows out.old.items out.new.items }
 {
     if place + LONGEST_ITEM <= ROOM {
         return Ok(place);
@@ -167,8 +168,8 @@ impl Dump {
         Ok(())
     }
 
-    /// Adds the frames of items, one after the other. After an error those of some first items may have been added, and the dump can't be gone on with.
-    pub fn draw_all<A: Allocator>(
+    // Adds the frames of items, one after the other. After an error those of some first items may have been added.
+    fn draw_each<A: Allocator>(
         &mut self,
         out: &mut Vec<u8, A>,
         items: &[Item],
@@ -177,6 +178,7 @@ impl Dump {
             → OnOk result (out.new.items ≡ out.old.items ++ frames g targets d items.now) }
         ensures goes_on { (g : Parts) (targets : ℕ) (d : Drawing) → IsAt g targets d self.old
             → OnOk result (IsAt g targets (after_all g targets d items.now) self.new) }
+        ensures grows { Grows out.old.items out.new.items }
     {
         let mut room = [0; ROOM];
         let mut place = 0;
@@ -190,6 +192,29 @@ impl Dump {
             rest = behind;
         }
         out.extend_from_slice(&room[..place])
+    }
+
+    /// Adds the frames of items, one after the other. `AllocError` is answered where memory was refused, or after 2^60 items; then nothing is added, and the
+    /// dump can't be gone on with.
+    pub fn draw_all<A: Allocator>(
+        &mut self,
+        out: &mut Vec<u8, A>,
+        items: &[Item],
+    ) -> Result<(), AllocError>
+        ensures drawn { (g : Parts) (targets : ℕ) (d : Drawing) → IsAt g targets d self.old
+            → OnOk result (out.new.items ≡ out.old.items ++ frames g targets d items.now) }
+        ensures goes_on { (g : Parts) (targets : ℕ) (d : Drawing) → IsAt g targets d self.old
+            → OnOk result (IsAt g targets (after_all g targets d items.now) self.new) }
+        ensures refused { OnErr result (out.new.items ≡ out.old.items) }
+    {
+        let written = out.len();
+        match self.draw_each(out, items) {
+            Ok(()) => Ok(()),
+            Err(refused) => {
+                out.truncate(written);
+                Err(refused)
+            }
+        }
     }
 
     /// Ends the dump: its last time, at which no chip is enabled any more. `AllocError` is answered only where memory was refused, and then nothing is added.
