@@ -228,5 +228,5 @@ numbers_meet g words never h x y z =
       buffer = y.buffer;
       budget = z.budget;
       accepted = meets_within g (bounds_with (largest_but Rows h.rows) words) (bounds_with (largest_but Buffer h.buffer) words) (bounds_with (largest_but Budget h.budget) words) (bounds_with h words)
-        (three_meet g (bounds_with (largest_but Rows h.rows) words) (bounds_with (largest_but Buffer h.buffer) words) (bounds_with (largest_but Budget h.budget) words) (bounds_with h words) refl refl refl refl) words never x.accepted y.accepted z.accepted;
+          (three_meet g (bounds_with (largest_but Rows h.rows) words) (bounds_with (largest_but Buffer h.buffer) words) (bounds_with (largest_but Budget h.budget) words) (bounds_with h words) refl refl refl refl) words never x.accepted y.accepted z.accepted;
     }

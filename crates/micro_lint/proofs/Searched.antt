@@ -1,5 +1,5 @@
 -- The search for the least of one number: each question narrows it.
-use Rattle.std.proofs.Common.{◌≡◌, ℕ, ◌+◌, ◌^◌, ◌<◌, ◌≤◌, ◌⊎◌, inl, inr, false, List, Option, Some, None, refl, arith}
+use Rattle.std.proofs.Common.{◌≡◌, ℕ, ◌+◌, ◌^◌, ◌<◌, ◌≤◌, ◌⊎◌, inl, inr, Bool, true, false, List, Option, Some, None, refl, sym, ◌∙◌, subst, arith}
 use Rattle.std.proofs.lemmas.Bool.{cases_lt}
 use Rattle.nand_geometry.specs.declared.parts.Parts.{Parts}
 use Rattle.micro_word.specs.declared.word.Word.{Word}
@@ -7,7 +7,7 @@ use Rattle.micro_walk.specs.Faults.{has_loop}
 use Rattle.micro_explain.specs.declared.header_number.HeaderNumber.{HeaderNumber}
 use Rattle.micro_explain.specs.declared.header_number.HeaderNumber.TheVariants.{Rows, Buffer, Budget}
 use Rattle.micro_lint.specs.declared.header.Header.{Header}
-use Rattle.micro_lint.specs.Least.{IsEnough, IsLeast, IsBetween, IsLeastNumber, largest, largest_but, least_of, most_of}
+use Rattle.micro_lint.specs.Least.{IsEnough, IsEnoughIf, IsLeast, IsBetween, IsLeastNumber, largest, largest_but, least_of, most_of}
 use Rattle.micro_lint.proofs.Enough.{more_is_enough, numbers_meet}
 
 -- beside the largest others more of a number is enough, as far as it goes
@@ -69,3 +69,35 @@ least_header_is g words never h x y z =
 -- where the largest header isn't enough, none is
 pub none_is_enough : (g : Parts) (words : List Word) → has_loop words ≡ false → (IsEnough g words largest → ⊥) → (h : Header) → IsEnough g words h → ⊥
 none_is_enough g words never not h e = let budget = e.budget in not (more_is_enough g words never h largest e.rows (omega arith) e.buffer (omega arith) (omega arith) (omega arith) e)
+
+-- what an answer says of numbers that are these
+pub short_of : (b : Bool) (g : Parts) (words : List Word) (h k : Header) → b ≡ false → h ≡ k → IsEnoughIf b g words h → IsEnough g words k → ⊥
+short_of false g words h k is same x y = x (subst (IsEnough g words) (sym same) y)
+short_of true g words h k is same x y = cc
+
+-- three steps of the search
+pub three_steps : (g : Parts) (w w1 w2 : List Word) (number : HeaderNumber) (l h l1 h1 l2 h2 l3 h3 : ℕ) → w1 ≡ w → w2 ≡ w1 → l ≡ least_of number → h ≡ most_of number → l3 ≡ h3
+    → (has_loop w ≡ false → IsBetween g w number l h → IsBetween g w number l1 h1) → (has_loop w1 ≡ false → IsBetween g w1 number l1 h1 → IsBetween g w1 number l2 h2)
+    → (has_loop w2 ≡ false → IsBetween g w2 number l2 h2 → IsBetween g w2 number l3 h3) → has_loop w ≡ false → IsEnough g w largest → IsLeastNumber g w number h3
+three_steps g w w1 w2 number l h l1 h1 l2 h2 l3 h3 e1 e2 low high end first second third never e =
+    let begun = subst (λ (k : ℕ). IsBetween g w number k h) (sym low) (subst (λ (k : ℕ). IsBetween g w number (least_of number) k) (sym high) (begins g w number e)) in
+    let two = subst (λ (x : List Word). has_loop x ≡ false → IsBetween g x number l1 h1 → IsBetween g x number l2 h2) e1 second in
+    let three = subst (λ (x : List Word). has_loop x ≡ false → IsBetween g x number l2 h2 → IsBetween g x number l3 h3) (e2 ∙ e1) third in
+    subst (λ (k : ℕ). IsBetween g w number k h3) end (three never (two never (first never begun)))
+
+-- the three numbers, found one after another
+pub three_numbers : (g : Parts) (w w0 w1 w2 w3 : List Word) (h : Header) (enough : Bool) → w0 ≡ w → w1 ≡ w0 → w2 ≡ w1 → w3 ≡ w2 → enough ≡ true → (has_loop w0 ≡ false → IsEnoughIf enough g w0 largest)
+    → (has_loop w1 ≡ false → IsEnough g w1 largest → IsLeastNumber g w1 Rows h.rows) → (has_loop w2 ≡ false → IsEnough g w2 largest → IsLeastNumber g w2 Buffer h.buffer)
+    → (has_loop w3 ≡ false → IsEnough g w3 largest → IsLeastNumber g w3 Budget h.budget) → has_loop w ≡ false → IsLeast g w h
+three_numbers g w w0 w1 w2 w3 h enough e0 e1 e2 e3 is some rows buffer budget never =
+    let e : IsEnough g w largest = subst (λ (x : List Word). has_loop x ≡ false → IsEnough g x largest) e0 (subst (λ (b : Bool). has_loop w0 ≡ false → IsEnoughIf b g w0 largest) is some) never in
+    let x = subst (λ (x : List Word). has_loop x ≡ false → IsEnough g x largest → IsLeastNumber g x Rows h.rows) (e1 ∙ e0) rows in
+    let y = subst (λ (x : List Word). has_loop x ≡ false → IsEnough g x largest → IsLeastNumber g x Buffer h.buffer) (e2 ∙ (e1 ∙ e0)) buffer in
+    let z = subst (λ (x : List Word). has_loop x ≡ false → IsEnough g x largest → IsLeastNumber g x Budget h.budget) (e3 ∙ (e2 ∙ (e1 ∙ e0))) budget in
+    least_header_is g w never h (x never e) (y never e) (z never e)
+
+-- none is enough where the largest isn't
+pub none_of : (g : Parts) (w w0 : List Word) (enough : Bool) → w0 ≡ w → enough ≡ false → (has_loop w0 ≡ false → IsEnoughIf enough g w0 largest) → has_loop w ≡ false → (h : Header) → IsEnough g w h → ⊥
+none_of g w w0 enough e0 is none never h e =
+    let no = subst (λ (x : List Word). has_loop x ≡ false → IsEnoughIf enough g x largest) e0 none in
+    none_is_enough g w never (short_of enough g w largest largest is refl (no never)) h e

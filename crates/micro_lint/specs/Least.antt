@@ -1,13 +1,22 @@
 -- The least header of a text.
-use Rattle.std.specs.Prelude.{◌≡◌, ℕ, ◌^◌, ◌<◌, ◌≤◌, Bool, true, false, List, Option, Some, None}
+use Rattle.std.specs.Prelude.{◌≡◌, ℕ, ◌^◌, ◌<◌, ◌≤◌, Bool, true, false, List, length, Option, Some, None}
+use Rattle.std.specs.List.{AllByRecursion}
 use Rattle.nand_geometry.specs.declared.parts.Parts.{Parts}
 use Rattle.micro_word.specs.declared.word.Word.{Word}
+use Rattle.micro_word.specs.declared.format.Format.TheVariants.{Two}
+use Rattle.micro_word.specs.Word.{IsInRange}
+use Rattle.micro_word.specs.Text.{Microprogram}
 use Rattle.micro_program.specs.Lines.{continues_cache_read}
 use Rattle.micro_claims.specs.declared.bounds.Bounds.{Bounds}
-use Rattle.micro_walk.specs.Faults.{fault_within}
+use Rattle.micro_walk.specs.Faults.{has_loop, fault_within}
 use Rattle.micro_explain.specs.declared.header_number.HeaderNumber.{HeaderNumber}
 use Rattle.micro_explain.specs.declared.header_number.HeaderNumber.TheVariants.{Rows, Buffer, Budget}
 use Rattle.micro_lint.specs.declared.header.Header.{Header}
+
+-- the words of a text
+pub record FitWords (words : List Word) : Type 0 where
+  pub count : length words ≤ 1024
+  pub each : AllByRecursion (IsInRange Two (length words)) words
 
 -- what a header gives to words
 abbrev pub bounds_with : Header → List Word → Bounds
@@ -68,3 +77,10 @@ pub record IsBetween (g : Parts) (words : List Word) (number : HeaderNumber) (lo
 -- beside the largest others it is the least that is enough
 abbrev pub IsLeastNumber : Parts → List Word → HeaderNumber → ℕ → Type 0
 IsLeastNumber g words number n = IsBetween g words number n n
+
+-- ---- a text
+
+-- where a text has no loop, each header with which its words are accepted gives as much of each number as its own
+abbrev pub HasLeastHeader : Parts → Microprogram → Type 0
+HasLeastHeader g text =
+    has_loop text.words ≡ false → (h : Header) → IsEnough g text.words h → (text.rows ≤ h.rows) × ((text.buffer ≤ h.buffer) × (text.budget ≤ h.budget))

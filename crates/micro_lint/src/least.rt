@@ -1,7 +1,7 @@
 //! The least header of a text.
-ghost use Rattle.std.specs.Prelude.{◌≡◌, true, false, IfOk};
+ghost use Rattle.std.specs.Prelude.{◌≡◌, false, IfOk};
 ghost use Rattle.micro_walk.specs.Faults.{has_loop};
-ghost use Rattle.micro_lint.specs.Least.{IsEnough, IsEnoughIf, FindsLeast};
+ghost use Rattle.micro_lint.specs.Least.{FitWords, IsEnoughIf, FindsLeast};
 
 use crate::facts::{facts_of, needs_of};
 use crate::header::Header;
@@ -18,6 +18,7 @@ pub(crate) fn try_header<A: Allocator>(
     geometry: &Geometry,
     header: Header,
 ) -> (Vec<Word, A>, bool)
+    requires fit { FitWords words.items }
     ensures words { result.0.items ≡ words.items }
     ensures enough { has_loop words.items ≡ false → IsEnoughIf result.1 geometry.now words.items header }
 {
@@ -33,6 +34,19 @@ pub(crate) fn try_header<A: Allocator>(
     }
 }
 
+// The words of a text, for trials.
+fn copy_words<A: Allocator, B: Allocator>(
+    alloc: B,
+    text: &Text<A>,
+) -> Result<Vec<Word, B>, AllocError>
+    ensures same { IfOk result (λ words. words.items ≡ text.now.words) }
+    ensures fit { IfOk result (λ words. FitWords words.items) }
+{
+    let mut words = Vec::new(alloc);
+    words.extend_from_slice(text.words())?;
+    Ok(words)
+}
+
 /// The least numbers that the header of a text may give for the verifier to accept it for a geometry; None where it accepts it with none. Each number is the least
 /// whatever the others are. Of a text with loops they are those that its certificate needs. It takes some 700 bytes for each word while it works.
 pub fn least_header<A: Allocator, B: Allocator + Clone>(
@@ -44,8 +58,7 @@ pub fn least_header<A: Allocator, B: Allocator + Clone>(
 {
     let facts = facts_of(alloc.clone()?, text, geometry)?;
     let guess = Header::for_needs(needs_of(facts.as_slice())).unwrap_or(Header::LARGEST);
-    let mut words = Vec::new(alloc);
-    words.extend_from_slice(text.words())?;
+    let words = copy_words(alloc, text)?;
     let (words, is_enough) = try_header(words, geometry, Header::LARGEST);
     if !is_enough {
         return Ok(None);

@@ -1,7 +1,7 @@
 //! The least that one number of a header may be.
 ghost use Rattle.std.specs.Prelude.{◌≡◌, ◌-◌, ◌<◌, ◌≤◌, false};
 ghost use Rattle.micro_walk.specs.Faults.{has_loop};
-ghost use Rattle.micro_lint.specs.Least.{IsEnough, IsLeastNumber, IsBetween, largest, least_of, most_of, largest_but};
+ghost use Rattle.micro_lint.specs.Least.{FitWords, IsEnough, IsLeastNumber, IsBetween, largest, least_of, most_of, largest_but};
 
 use crate::header::Header;
 use crate::least::try_header;
@@ -62,6 +62,7 @@ fn largest_but(number: HeaderNumber, to: u32) -> Header
 impl<A: Allocator> Search<A> {
     // Goes on by one number between the two, if it is: it is tried.
     fn narrowed(self, geometry: &Geometry, number: HeaderNumber, tried: u32) -> Search<A>
+        requires fit { FitWords self.words.items }
         requires inside { self.low ≤ self.high }
         ensures words { result.words.items ≡ self.words.items }
         ensures inside { result.low ≤ result.high }
@@ -91,6 +92,7 @@ impl<A: Allocator> Search<A> {
 
     // The search at its end.
     fn ended(self, geometry: &Geometry, number: HeaderNumber) -> Search<A>
+        requires fit { FitWords self.words.items }
         requires inside { self.low ≤ self.high }
         ensures words { result.words.items ≡ self.words.items }
         ensures ended { result.low ≡ result.high }
@@ -99,7 +101,7 @@ impl<A: Allocator> Search<A> {
     {
         let mut search = self;
         while search.low < search.high {
-            let middle = search.low + (search.high - search.low) / 2;
+            let middle = search.low.midpoint(search.high);
             search = search.narrowed(geometry, number, middle);
         }
         search
@@ -114,6 +116,7 @@ pub(crate) fn find_least<A: Allocator>(
     number: HeaderNumber,
     guess: u32,
 ) -> (Vec<Word, A>, u32)
+    requires fit { FitWords words.items }
     ensures words { result.0.items ≡ words.items }
     ensures least { has_loop words.items ≡ false → IsEnough geometry.now words.items largest → IsLeastNumber geometry.now words.items number result.1 }
 {

@@ -6,6 +6,7 @@ use Rattle.micro_word.specs.Text.{Microprogram, file2}
 use Rattle.micro_asm.specs.Reading.{Spells}
 use Rattle.micro_program.specs.Safe.{IsSafe}
 use Rattle.micro_walk.specs.Faults.{fault_of}
+use Rattle.micro_lint.specs.Least.{HasLeastHeader}
 use Rattle.seq_inputs.specs.declared.stop.Stop.{Stop}
 use Rattle.seq_inputs.specs.Stops.{Says}
 use Rattle.seq_inputs.proofs.Verifieds.{said_more}
@@ -22,12 +23,13 @@ reason_said g text x y e spelled same says =
     said_more (RefusesReason g y) (RefusesFor g text) e
     (λ f h. inr (record { y = y; has_words = record { x = x; spelled = spelled; same_words = same }; refuses = h })) says
 
-pub safe_words : (g : Parts) (text : List ℕ) (x y v : Microprogram) → Spells (with_header text) x → y.words ≡ x.words → v ≡ y → IsSafe y g → fault_of g y ≡ None → HasSafeWordsOf g text v
-safe_words g text x y v spelled same is safe faultless =
+pub safe_words : (g : Parts) (text : List ℕ) (x y v : Microprogram) → Spells (with_header text) x → y.words ≡ x.words → v ≡ y → IsSafe y g → fault_of g y ≡ None → HasLeastHeader g y → HasSafeWordsOf g text v
+safe_words g text x y v spelled same is safe faultless least =
     subst (λ (z : Microprogram). HasSafeWordsOf g text z) (sym is) (record {
       has_words = record { x = x; spelled = spelled; same_words = same };
       safe = safe;
       faultless = faultless;
+      least = least;
     })
 
 -- what was read, verified and written

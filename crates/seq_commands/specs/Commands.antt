@@ -12,6 +12,7 @@ use Rattle.micro_asm.specs.Assembly.{assembly}
 use Rattle.micro_asm.specs.Reading.{Spells}
 use Rattle.micro_program.specs.Safe.{IsSafe}
 use Rattle.micro_walk.specs.Faults.{fault_of}
+use Rattle.micro_lint.specs.Least.{HasLeastHeader}
 use Rattle.micro_walk.specs.Verdicts.{MayBe}
 use Rattle.micro_verify.specs.declared.showing.Counter.{Counter as Counted}
 use Rattle.micro_verify.specs.Lazy.{Counter}
@@ -46,11 +47,12 @@ pub record SourceIsRefused (files : Option Store) (path : List ℕ) (fault : Fau
 
 -- ---- asm for a chip
 
--- it is safe for the geometry, and there is nothing against it
+-- it is safe for the geometry, there is nothing against it, and its header is the least, where it has no loop
 pub record HasSafeWordsOf (g : Parts) (text : List ℕ) (y : Microprogram) : Type 0 where
   pub has_words : HasWordsOf text y
   pub safe : IsSafe y g
   pub faultless : fault_of g y ≡ None
+  pub least : HasLeastHeader g y
 
 -- the file at the other path is the word file of a microprogram with the words of the text, which is safe for the geometry of the page; no other file changes
 pub record IsAssembledFor (files later : Option Store) (page : PageFile) (input target : List ℕ) : Type 0 where

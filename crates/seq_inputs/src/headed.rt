@@ -1,8 +1,9 @@
 //! An assembly text that may be without its header.
-ghost use Rattle.std.specs.Prelude.{◌≡◌, ◌-◌, IfOk, IfErr, OnOk};
+ghost use Rattle.std.specs.Prelude.{◌≡◌, ◌-◌, ◌≤◌, IfOk, IfErr, OnOk};
 ghost use Rattle.seq_inputs.specs.Headed.{is_bus_word, is_place_word, is_flow_word, is_word_name, begins_with_word, is_headless, HasWordsOf};
 ghost use Rattle.std.specs.String.{string_bytes};
 ghost use Rattle.micro_asm.specs.Reading.{Spells};
+ghost use Rattle.micro_lint.specs.Least.{HasLeastHeader};
 ghost use Rattle.seq_inputs.specs.Headed.{is_header_name, begins_with_header, has_header, with_header, lines_added, RefusesHeaded};
 ghost use Rattle.seq_inputs.specs.Stops.{Says};
 
@@ -122,7 +123,9 @@ fn replace_header<A: Allocator>(
     text: Text<A>,
     header: Header,
 ) -> Result<Text<A>, AllocError>
-    ensures { IfOk result (λ y. y.words ≡ text.words) }
+    ensures words { IfOk result (λ y. y.words ≡ text.words) }
+    ensures header { 1 ≤ header.rows → header.rows ≤ 4096 → header.buffer ≤ 16777215
+        → IfOk result (λ y. (y.rows ≡ header.rows) × ((y.buffer ≡ header.buffer) × (y.budget ≡ header.budget))) }
 {
     let words = copy_words(alloc, text.words())?;
     let Ok(rows) = u16::try_from(header.rows) else {
@@ -134,13 +137,15 @@ fn replace_header<A: Allocator>(
     }
 }
 
-/// The words of a text with the least header that is known to be enough for a geometry, or with the largest where none is known.
+/// The words of a text with the least header that is enough for a geometry, or with the largest where none is. Of a text with loops it is the least that their certificate
+/// needs.
 pub fn with_least_header<A: Allocator + Clone>(
     alloc: A,
     text: Text<A>,
     geometry: &Geometry,
 ) -> Result<Text<A>, AllocError>
-    ensures { IfOk result (λ y. y.words ≡ text.words) }
+    ensures words { IfOk result (λ y. y.words ≡ text.words) }
+    ensures least { IfOk result (HasLeastHeader geometry.now) }
 {
     let text = replace_header(alloc.clone()?, text, Header::LARGEST)?;
     match least_header(alloc.clone()?, &text, geometry)? {
