@@ -1,5 +1,5 @@
 -- Where all is known of a target, an item tells nothing more of it, and nothing of it is in doubt.
-use Rattle.std.proofs.Common.{◌≡◌, ℕ, Bool, true, false, ◌&&◌, ◌||◌, List, Option, Some, None, refl, sym, ap, ◌∙◌, slice_set}
+use Rattle.std.proofs.Common.{◌≡◌, ℕ, Bool, true, false, ◌||◌, List, Option, Some, None, refl, sym, ap, ◌∙◌, slice_set}
 use Rattle.std.proofs.lemmas.Bool.{and_parts}
 use Rattle.std.proofs.lemmas.List.{set-get_or}
 use Rattle.nand_geometry.specs.declared.parts.Parts.{Parts}
@@ -11,7 +11,7 @@ use Rattle.trace_faults.specs.declared.known.Known.{Known}
 use Rattle.trace_faults.specs.declared.looks.Looks.{Looks}
 use Rattle.trace_faults.specs.declared.lun_known.LunKnown.{LunKnown}
 use Rattle.trace_faults.specs.declared.lun_known.LunKnown.TheVariants.{Nothing, Work, All}
-use Rattle.trace_faults.specs.Middle.{all_known, known_of, knows, is_all, is_doubtful, doubts, is_whole, learned_lun, begins_here, learned}
+use Rattle.trace_faults.specs.Middle.{all_known, known_of, is_all, is_doubtful, doubts, is_whole, learned_lun, begins_here, learned}
 
 kept : (i : Item) (before after : Option LunState) (k : LunKnown) → is_all k ≡ true → learned_lun i before after k ≡ k
 kept i before after Nothing h = cc
