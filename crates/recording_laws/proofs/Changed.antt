@@ -13,8 +13,8 @@ use Rattle.trace_faults.specs.declared.known.Known.{Known}
 use Rattle.trace_faults.specs.declared.lun_known.LunKnown.{LunKnown}
 use Rattle.trace_faults.specs.declared.lun_known.LunKnown.TheVariants.{Nothing, Work, All}
 use Rattle.trace_faults.specs.Middle.{knows, nothing_known, learned_lun, is_all, has_begun}
-use Rattle.recording_laws.proofs.Luns.{IsBelow, Fits, IsHarmless, unseen_after}
-use Rattle.recording_laws.proofs.Lists.{Each}
+use Rattle.recording_laws.proofs.Luns.{IsUnder, IsBelow, is_under, Fits, IsHarmless, unseen_after}
+use Rattle.recording_laws.proofs.Lists.{Each, each_more}
 use Rattle.recording_laws.proofs.Rules.{IsKnown}
 use Rattle.recording_laws.proofs.Unseen.{nothing_fits}
 
@@ -66,6 +66,9 @@ AllFit k n (t ∷ ts) (s ∷ ss) = Fits (knows k n) t s × AllFit k (n + 1) ts s
 AllFit k n [] (s ∷ ss) = ⊥
 AllFit k n (t ∷ ts) [] = ⊥
 
+pub under_each : (ts ss : List LunView) → Each IsBelow ts ss → Each IsUnder ts ss
+under_each ts ss e = each_more IsBelow IsUnder is_under ts ss e
+
 pub below_each : (k : Known) (n : ℕ) (ts ss : List LunView) → AllFit k n ts ss → Each IsBelow ts ss
 below_each k n [] [] f = tt
 below_each k n (t ∷ ts) (s ∷ ss) f = (f.0.below, below_each k (n + 1) ts ss f.1)
@@ -80,7 +83,7 @@ all_begun All h = refl
 pub known_each : (k : Known) (n : ℕ) (ts ss : List LunView) → AllFit k n ts ss → AtEach (λ m s. is_all (knows k m) ≡ true) n ss → Each IsKnown ts ss
 known_each k n [] [] f a = tt
 known_each k n (t ∷ ts) (s ∷ ss) f a =
-    (record { below = f.0.below; begun = f.0.begun (all_begun (knows k n) a.0); same = f.0.same a.0 }, known_each k (n + 1) ts ss f.1 a.1)
+    (record { below = is_under t s f.0.below; begun = f.0.begun (all_begun (knows k n) a.0); same = f.0.same a.0 }, known_each k (n + 1) ts ss f.1 a.1)
 known_each k n [] (s ∷ ss) f a = f
 known_each k n (t ∷ ts) [] f a = f
 
@@ -139,7 +142,7 @@ harmless_from et n (t ∷ ts) [] e h = e
 pub below_unseen : (et : ℕ → LunView → Effect) (ts ss : List LunView) → Each IsBelow ts ss → ((m : ℕ) (s : LunView) → slice_get ss m ≡ Some s → (t : LunView) → IsHarmless (et m t) s) → Each IsBelow (changed et 0 ts) ss
 below_unseen et ts ss e h = harmless_from et 0 ts ss e (at_each (λ m s. (t : LunView) → IsHarmless (et m t) s) ss h)
 
-knows_nothing : (n : ℕ) → n < 4 → knows nothing_known n ≡ Nothing
+pub knows_nothing : (n : ℕ) → n < 4 → knows nothing_known n ≡ Nothing
 knows_nothing zero h = refl
 knows_nothing (suc zero) h = refl
 knows_nothing (suc (suc zero)) h = refl

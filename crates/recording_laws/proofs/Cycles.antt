@@ -5,7 +5,7 @@ use Rattle.nand_geometry.specs.declared.parts.Parts.{Parts}
 use Rattle.onfi_cycle.specs.declared.command.Command.{Command}
 use Rattle.onfi_cycle.specs.declared.command.Command.TheVariants.{Read, ReadConfirm, ChangeReadColumn, ChangeReadColumnConfirm, BlockErase, BlockEraseConfirm, BlockErasePlane, ReadStatus, ReadStatusEnhanced, PageProgram, ProgramConfirm, ProgramPlane, ReadId, ReadParameterPage, Reset, ReadCacheSequential, ReadCacheEnd, ReadUniqueId, GetFeatures, SetFeatures, ResetLun, SynchronousReset}
 use Rattle.onfi_cycle.specs.declared.effect.Effect.{Effect}
-use Rattle.onfi_cycle.specs.declared.effect.Effect.TheVariants.{Unaffected, SelectedForStatus, Deselected, IdRead, IdentityRead, UniqueIdReadStarted, FeaturesReadStarted, FeaturesSet, ParameterPageReadStarted, CacheReadContinued, CacheReadEnded, ReadColumnChanged, DataOutput, ResetStarted}
+use Rattle.onfi_cycle.specs.declared.effect.Effect.TheVariants.{Unaffected, SelectedForStatus, Deselected, IdRead, IdentityRead, UniqueIdReadStarted, FeaturesReadStarted, FeaturesSet, ParameterPageReadStarted, CacheReadContinued, CacheReadEnded, ReadColumnChanged, DataOutput, ResetStarted, AnotherAddressed}
 use Rattle.onfi_cycle.specs.declared.item.Cycle.{Cycle}
 use Rattle.onfi_cycle.specs.declared.item.Item.{Item}
 use Rattle.onfi_cycle.specs.declared.item.Item.TheVariants.{Cyc}
@@ -18,7 +18,7 @@ use Rattle.onfi_cycle.specs.declared.target_cycle.TargetCycle.TheVariants.{Comma
 use Rattle.onfi_cycle.specs.Applied.{asks_driver}
 use Rattle.onfi_cycle.specs.Bounds.{is_read}
 use Rattle.onfi_cycle.specs.Command.{is_opener, closes, address_cycles, is_change_read_column}
-use Rattle.onfi_cycle.specs.Effect.{is_off, is_data, confirm_effect, names_lun, command_effect, id_effect, address_effect, opening_address_effect, cycle_effect, ends_features}
+use Rattle.onfi_cycle.specs.Effect.{is_off, is_data, is_shared, of_target, other_effect, lun_reset_effect, confirm_effect, names_lun, command_effect, id_effect, address_effect, opening_address_effect, cycle_effect, ends_features}
 use Rattle.onfi_cycle.specs.Look.{look_at}
 use Rattle.onfi_cycle.specs.Lun.{is_page_read, view_after}
 use Rattle.onfi_cycle.specs.LunView.{LunView}
@@ -33,6 +33,7 @@ use Rattle.trace_faults.specs.Middle.{knows, is_all, has_begun, is_reset_cycle, 
 use Rattle.recording_laws.proofs.Luns.{Shows, IsBelow, Fits, Asks, fits_after}
 use Rattle.recording_laws.proofs.Lists.{Each, SameOff, same_driver, AllOn, driver_on}
 use Rattle.recording_laws.proofs.Changed.{changed, luns_are_changed, same_changed, AtEach, Goes, GoEach, go_each}
+use Rattle.recording_laws.proofs.Unseen.{other_plain, target_plain}
 
 -- ---- 1. the effects of a cycle
 
@@ -50,6 +51,16 @@ luns_by_cycle g t sole c vs = luns_are_changed g t sole (Cyc c) 0 vs ∙ same_ch
 asks_if : (b : Bool) (x : Effect) (t s : LunView) → (b ≡ true → Asks x t s) → Asks (cond b x Unaffected) t s
 asks_if true x t s h = h refl
 asks_if false x t s h = tt
+
+asks_or : (b : Bool) (x y : Effect) (t s : LunView) → (b ≡ true → Asks x t s) → Asks y t s → Asks (cond b x y) t s
+asks_or true x y t s h k = h refl
+asks_or false x y t s h k = k
+
+asks_other : (g : Parts) (u : TailFacts) (c : Command) (t s : LunView) → is_shared g ≡ false → Asks (other_effect g u c) t s
+asks_other g u c t s plain = subst (λ (e : Effect). Asks e t s) (sym (other_plain g u c plain)) tt
+
+asks_target : (g : Parts) (n : ℕ) (e : Effect) (t s : LunView) → is_shared g ≡ false → Asks e t s → Asks (of_target g n e) t s
+asks_target g n e t s plain h = subst (λ (x : Effect). Asks x t s) (sym (target_plain g n e plain)) h
 
 asks_unless : (b : Bool) (x : Effect) (t s : LunView) → (b ≡ false → Asks x t s) → Asks (cond b Unaffected x) t s
 asks_unless true x t s h = tt
@@ -100,29 +111,29 @@ column_opened (Some o) h = column_wanted o.opener o.addresses h
 abbrev pub ReadsClear : Parts → TailFacts → ℕ → LunView → Type 0
 ReadsClear g u n t = opened (λ c n. is_read c && n == 5) u.opening ≡ true → names_lun g (row u) n ≡ true → t.queue ≡ []
 
-asks_command : (g : Parts) (u : TailFacts) (la : Latch) (c : Command) (n : ℕ) (t s : LunView) → asks_driver (CommandCycle c) ≡ false → ReadsClear g u n t → Asks (command_effect g u la c n) t s
-asks_command g u la Read n t s h z = tt
-asks_command g u la ReadStatus n t s h z = tt
-asks_command g u la ReadStatusEnhanced n t s h z = tt
-asks_command g u la Reset n t s h z = tt
-asks_command g u la SynchronousReset n t s h z = tt
-asks_command g u la ReadCacheSequential n t s h z = cc
-asks_command g u la ReadCacheEnd n t s h z = cc
-asks_command g u la ChangeReadColumnConfirm n t s h z = cc
-asks_command g u la ReadConfirm n t s h z =
-    asks_if (wants_command u ReadConfirm && names_lun g (row u) n) (confirm_effect g u ReadConfirm) t s
-    (λ b. let a = and_parts (wants_command u ReadConfirm) (names_lun g (row u) n) b in z (read_opened u.opening a.0) a.1)
-asks_command g u la c n t s h z = asks_if (wants_command u c && names_lun g (row u) n) (confirm_effect g u c) t s (λ b. tt)
+asks_command : (g : Parts) → is_shared g ≡ false → (u : TailFacts) (la : Latch) (c : Command) (n : ℕ) (t s : LunView) → asks_driver (CommandCycle c) ≡ false → ReadsClear g u n t → Asks (command_effect g u la c n) t s
+asks_command g plain u la Read n t s h z = tt
+asks_command g plain u la ReadStatus n t s h z = rw plain tt
+asks_command g plain u la ReadStatusEnhanced n t s h z = tt
+asks_command g plain u la Reset n t s h z = rw plain tt
+asks_command g plain u la SynchronousReset n t s h z = rw plain tt
+asks_command g plain u la ReadCacheSequential n t s h z = cc
+asks_command g plain u la ReadCacheEnd n t s h z = cc
+asks_command g plain u la ChangeReadColumnConfirm n t s h z = cc
+asks_command g plain u la ReadConfirm n t s h z =
+    asks_or (wants_command u ReadConfirm && names_lun g (row u) n) (confirm_effect g u ReadConfirm) (other_effect g u ReadConfirm) t s
+    (λ b. let a = and_parts (wants_command u ReadConfirm) (names_lun g (row u) n) b in z (read_opened u.opening a.0) a.1) (asks_other g u ReadConfirm t s plain)
+asks_command g plain u la c n t s h z = asks_or (wants_command u c && names_lun g (row u) n) (confirm_effect g u c) (other_effect g u c) t s (λ b. tt) (asks_other g u c t s plain)
 
-resets_command : (g : Parts) (u : TailFacts) (la : Latch) (c : Command) (n : ℕ) → is_reset_cycle (CommandCycle c) ≡ true → command_effect g u la c n ≡ ResetStarted
-resets_command g u la Reset n h = refl
-resets_command g u la c n h = cc
+resets_command : (g : Parts) → is_shared g ≡ false → (u : TailFacts) (la : Latch) (c : Command) (n : ℕ) → is_reset_cycle (CommandCycle c) ≡ true → command_effect g u la c n ≡ ResetStarted
+resets_command g plain u la Reset n h = rw plain refl
+resets_command g plain u la c n h = cc
 
 some_any : (p : LunView → Bool) (o : Option LunView) → is_some_and p o ≡ true → is_some_and (λ v. true) o ≡ true
 some_any p None h = h
 some_any p (Some v) h = refl
 
-all_on_at : (test : LunView → Bool) (n : ℕ) (vs : List LunView) → AllOn test vs → AtEach (λ m v. is_off v.latch ≡ false → test v ≡ true) n vs
+pub all_on_at : (test : LunView → Bool) (n : ℕ) (vs : List LunView) → AllOn test vs → AtEach (λ m v. is_off v.latch ≡ false → test v ≡ true) n vs
 all_on_at test n [] a = tt
 all_on_at test n (v ∷ vs) a = (a.0, all_on_at test (n + 1) vs a.1)
 
@@ -156,31 +167,34 @@ opener_effect g u la lb SetFeatures n o h = neither (wants_command u SetFeatures
 opener_effect g u la lb ResetLun n o h = neither (wants_command u ResetLun && names_lun g (row u) n)
 opener_effect g u la lb c n o h = cc
 
-asks_opener : (g : Parts) (lb : Latch) (c : Command) (n : ℕ) (t s : LunView) → is_opener c ≡ true → asks_driver (CommandCycle c) ≡ false → Asks (command_effect g (facts_of []) lb c n) t s
-asks_opener g lb ReadCacheSequential n t s o h = cc
-asks_opener g lb ReadCacheEnd n t s o h = cc
-asks_opener g lb ReadConfirm n t s o h = cc
-asks_opener g lb ChangeReadColumnConfirm n t s o h = cc
-asks_opener g lb BlockEraseConfirm n t s o h = cc
-asks_opener g lb BlockErasePlane n t s o h = cc
-asks_opener g lb ProgramConfirm n t s o h = cc
-asks_opener g lb ProgramPlane n t s o h = cc
-asks_opener g lb c n t s o h = tt
+asks_opener : (g : Parts) → is_shared g ≡ false → (lb : Latch) (c : Command) (n : ℕ) (t s : LunView) → is_opener c ≡ true → asks_driver (CommandCycle c) ≡ false → Asks (command_effect g (facts_of []) lb c n) t s
+asks_opener g plain lb ReadStatus n t s o h = rw plain tt
+asks_opener g plain lb Reset n t s o h = rw plain tt
+asks_opener g plain lb SynchronousReset n t s o h = rw plain tt
+asks_opener g plain lb ReadCacheSequential n t s o h = cc
+asks_opener g plain lb ReadCacheEnd n t s o h = cc
+asks_opener g plain lb ReadConfirm n t s o h = cc
+asks_opener g plain lb ChangeReadColumnConfirm n t s o h = cc
+asks_opener g plain lb BlockEraseConfirm n t s o h = cc
+asks_opener g plain lb BlockErasePlane n t s o h = cc
+asks_opener g plain lb ProgramConfirm n t s o h = cc
+asks_opener g plain lb ProgramPlane n t s o h = cc
+asks_opener g plain lb c n t s o h = tt
 
 -- ---- 4. addresses and outputs
 
-asks_address_of : (g : Parts) (u : TailFacts) (byte : ℕ) (c : Command) (m n : ℕ) (t s : LunView) → Asks (address_effect g u byte c m n) t s
-asks_address_of g u byte ReadStatusEnhanced m n t s = asks_selected (m == 2) (names_lun g (row_with u byte) n) t s
-asks_address_of g u byte ReadId m n t s = asks_if (wants_address u byte) (id_effect byte) t s (λ w. asks_id byte t s)
-asks_address_of g u byte ReadParameterPage m n t s = asks_if (wants_address u byte) ParameterPageReadStarted t s (λ w. tt)
-asks_address_of g u byte ReadUniqueId m n t s = asks_if (wants_address u byte) UniqueIdReadStarted t s (λ w. tt)
-asks_address_of g u byte GetFeatures m n t s = asks_if (wants_address u byte) (FeaturesReadStarted byte) t s (λ w. tt)
-asks_address_of g u byte ResetLun m n t s = asks_if (m == 2 && names_lun g (row_with u byte) n) ResetStarted t s (λ w. tt)
-asks_address_of g u byte c m n t s = tt
+asks_address_of : (g : Parts) → is_shared g ≡ false → (u : TailFacts) (byte : ℕ) (c : Command) (m n : ℕ) (t s : LunView) → Asks (address_effect g u byte c m n) t s
+asks_address_of g plain u byte ReadStatusEnhanced m n t s = asks_selected (m == 2) (names_lun g (row_with u byte) n) t s
+asks_address_of g plain u byte ReadId m n t s = asks_if (wants_address u byte) (of_target g n (id_effect byte)) t s (λ w. asks_target g n (id_effect byte) t s plain (asks_id byte t s))
+asks_address_of g plain u byte ReadParameterPage m n t s = asks_if (wants_address u byte) (of_target g n ParameterPageReadStarted) t s (λ w. asks_target g n ParameterPageReadStarted t s plain tt)
+asks_address_of g plain u byte ReadUniqueId m n t s = asks_if (wants_address u byte) (of_target g n UniqueIdReadStarted) t s (λ w. asks_target g n UniqueIdReadStarted t s plain tt)
+asks_address_of g plain u byte GetFeatures m n t s = asks_if (wants_address u byte) (of_target g n (FeaturesReadStarted byte)) t s (λ w. asks_target g n (FeaturesReadStarted byte) t s plain tt)
+asks_address_of g plain u byte ResetLun m n t s = asks_if (m == 2) (lun_reset_effect g (names_lun g (row_with u byte) n)) t s (λ w. asks_or (names_lun g (row_with u byte) n) ResetStarted (cond (is_shared g) (AnotherAddressed false) Unaffected) t s (λ b. tt) (rw plain tt))
+asks_address_of g plain u byte c m n t s = tt
 
-asks_address : (g : Parts) (u : TailFacts) (byte : ℕ) (o : Option Opening) (n : ℕ) (t s : LunView) → Asks (opening_address_effect g u byte o n) t s
-asks_address g u byte None n t s = tt
-asks_address g u byte (Some o) n t s = asks_address_of g u byte o.opener o.addresses n t s
+asks_address : (g : Parts) → is_shared g ≡ false → (u : TailFacts) (byte : ℕ) (o : Option Opening) (n : ℕ) (t s : LunView) → Asks (opening_address_effect g u byte o n) t s
+asks_address g plain u byte None n t s = tt
+asks_address g plain u byte (Some o) n t s = asks_address_of g plain u byte o.opener o.addresses n t s
 
 -- a LUN that is seen to show its status, and shows data: no byte of it comes, so what is known of it stands
 output_unseen : (k : LunKnown) (t s : LunView) → s.latch ≡ Status → t.latch ≡ Data → Fits k t s → Fits k (view_after DataOutput t) s
@@ -212,7 +226,7 @@ output_goes i k t s below off resets = at s.latch refl t.latch refl below.latch 
     at Data a Status b h o = cc
     at Data a Data b h o = go_same i k DataOutput DataOutput t s refl tt (λ x. absurd (resets x))
 
-module _ (g : Parts) (i : Item) (k : Known) (ts ss : List LunView) (each : Each IsBelow ts ss) where
+module _ (g : Parts) (plain : is_shared g ≡ false) (i : Item) (k : Known) (ts ss : List LunView) (each : Each IsBelow ts ss) where
   -- 31h and 3Fh, whatever the tails
   go_cache : (u w : TailFacts) (test : LunView → Bool) (c : Command) (x : Effect) → ((la : Latch) (n : ℕ) (t : TailFacts) → command_effect g t la c n ≡ cond (is_off la) Unaffected x) →
       ((t s : LunView) → test s ≡ true → Asks x t s) → (is_reset i ≡ true → ⊥) → driver_is test ts ≡ true → driver_is test ss ≡ true →
@@ -287,8 +301,8 @@ module _ (g : Parts) (i : Item) (k : Known) (ts ss : List LunView) (each : Each 
   go_other u c h r z =
       go_alike (by_cycle g u (has_driver ts) (CommandCycle c)) (by_cycle g u (has_driver ss) (CommandCycle c)) (ReadsClear g u)
       (λ n t s. same_command g u (cond (has_driver ts) t.latch Off) (cond (has_driver ss) s.latch Off) c n h)
-      (λ n t s x. asks_command g u (cond (has_driver ss) s.latch Off) c n t s h x)
-      (λ n s y. resets_command g u (cond (has_driver ss) s.latch Off) c n (r y)) z
+      (λ n t s x. asks_command g plain u (cond (has_driver ss) s.latch Off) c n t s h x)
+      (λ n s y. resets_command g plain u (cond (has_driver ss) s.latch Off) c n (r y)) z
 
   -- a command by which the tail goes on, or that begins a sequence behind one that was seen
   pub go_command : (u : TailFacts) (c : Command) → (is_reset i ≡ true → is_reset_cycle (CommandCycle c) ≡ true) → KeepsRules g u ts (CommandCycle c) → KeepsRules g u ss (CommandCycle c) →
@@ -316,22 +330,22 @@ module _ (g : Parts) (i : Item) (k : Known) (ts ss : List LunView) (each : Each 
   go_opener u c o r a b =
       go_alike (by_cycle g u (has_driver ts) (CommandCycle c)) (by_cycle g (facts_of []) (has_driver ss) (CommandCycle c)) Any
       (λ n t s. opener_effect g u (cond (has_driver ts) t.latch Off) (cond (has_driver ss) s.latch Off) c n o refl)
-      (λ n t s x. asks_opener g (cond (has_driver ss) s.latch Off) c n t s o refl)
-      (λ n s y. resets_command g (facts_of []) (cond (has_driver ss) s.latch Off) c n (r y)) (any_at 0 ts)
+      (λ n t s x. asks_opener g plain (cond (has_driver ss) s.latch Off) c n t s o refl)
+      (λ n s y. resets_command g plain (facts_of []) (cond (has_driver ss) s.latch Off) c n (r y)) (any_at 0 ts)
 
   -- an address
   pub go_address : (u : TailFacts) (byte : ℕ) → (is_reset i ≡ true → is_reset_cycle (AddressCycle byte) ≡ true) →
       GoEach i k (by_cycle g u (has_driver ts) (AddressCycle byte)) (by_cycle g u (has_driver ss) (AddressCycle byte)) 0 ts ss
   go_address u byte r =
       go_alike (by_cycle g u (has_driver ts) (AddressCycle byte)) (by_cycle g u (has_driver ss) (AddressCycle byte)) Any
-      (λ n t s. refl) (λ n t s x. asks_address g u byte u.opening n t s) (λ n s y. let yes = r y in cc) (any_at 0 ts)
+      (λ n t s. refl) (λ n t s x. asks_address g plain u byte u.opening n t s) (λ n s y. let yes = r y in cc) (any_at 0 ts)
 
   -- an input
   pub go_input : (u : TailFacts) (byte : ℕ) → (is_reset i ≡ true → is_reset_cycle (InputCycle byte) ≡ true) →
       GoEach i k (by_cycle g u (has_driver ts) (InputCycle byte)) (by_cycle g u (has_driver ss) (InputCycle byte)) 0 ts ss
   go_input u byte r =
       go_alike (by_cycle g u (has_driver ts) (InputCycle byte)) (by_cycle g u (has_driver ss) (InputCycle byte)) Any
-      (λ n t s. refl) (λ n t s x. asks_if (ends_features u) (FeaturesSet _) t s (λ b. tt)) (λ n s y. let yes = r y in cc) (any_at 0 ts)
+      (λ n t s. refl) (λ n t s x. asks_if (ends_features u) (of_target g n (FeaturesSet _)) t s (λ b. asks_target g n (FeaturesSet _) t s plain tt)) (λ n s y. let yes = r y in cc) (any_at 0 ts)
 
   -- an output
   pub go_output : (u : TailFacts) → (is_reset i ≡ true → is_reset_cycle OutputCycle ≡ true) → KeepsRules g u ts OutputCycle → KeepsRules g u ss OutputCycle →

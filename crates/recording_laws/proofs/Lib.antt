@@ -11,3 +11,5 @@ pub mod Walk
 pub mod Stepped
 pub mod Parts
 pub mod Whole
+pub mod Twins
+pub mod Shared

@@ -4,7 +4,7 @@ use Rattle.std.specs.List.{list_any}
 use Rattle.std.proofs.lemmas.Bool.{and_parts, or_parts, not-true, not-false}
 use Rattle.onfi_cycle.specs.declared.command.Command.TheVariants.{BlockEraseConfirm, BlockErasePlane, ProgramConfirm, ProgramPlane}
 use Rattle.onfi_cycle.specs.declared.effect.Effect.{Effect}
-use Rattle.onfi_cycle.specs.declared.effect.Effect.TheVariants.{Unaffected, DataOutputEnabled, StatusSelected, StatusRowAwaited, SelectedForStatus, Deselected, ReadStarted, EraseStarted, ProgramStarted, IdRead, IdentityRead, UniqueIdReadStarted, FeaturesReadStarted, FeaturesSet, ParameterPageReadStarted, CacheReadContinued, CacheReadEnded, ReadColumnChanged, DataOutput, ResetStarted, BecameReady, ArrayBecameReady}
+use Rattle.onfi_cycle.specs.declared.effect.Effect.TheVariants.{Unaffected, DataOutputEnabled, StatusSelected, StatusRowAwaited, SelectedForStatus, Deselected, ReadStarted, EraseStarted, ProgramStarted, IdRead, IdentityRead, UniqueIdReadStarted, FeaturesReadStarted, FeaturesSet, ParameterPageReadStarted, CacheReadContinued, CacheReadEnded, ReadColumnChanged, DataOutput, ResetStarted, BecameReady, ArrayBecameReady, TargetResetStarted, StatusOfSelected, AnotherAddressed}
 use Rattle.onfi_cycle.specs.declared.latch.Latch.{Latch}
 use Rattle.onfi_cycle.specs.declared.latch.Latch.TheVariants.{Off, Status, Data}
 use Rattle.onfi_cycle.specs.declared.queued.Queued.{Queued}
@@ -45,12 +45,21 @@ kind_of JedecIdentity = JedecIdentity
 kind_of UniqueId = UniqueId
 kind_of (Features address) = Features 0
 
+-- no more is seen than is, as far as the rules see it that hang on nothing that was before
+pub record IsUnder (t s : LunView) : Type 0 where
+  pub busy : s.busy ≡ true → t.busy ≡ true
+  pub queue : Within s.queue t.queue
+  pub latch : Shows s.latch t.latch
+
 -- whatever is known: no more is seen than is
 pub record IsBelow (t s : LunView) : Type 0 where
   pub busy : s.busy ≡ true → t.busy ≡ true
   pub queue : Within s.queue t.queue
   pub latch : Shows s.latch t.latch
   pub calm : is_page_read s.closer ≡ true → s.queue ≡ []
+
+pub is_under : (t s : LunView) → IsBelow t s → IsUnder t s
+is_under t s b = record { busy = b.busy; queue = b.queue; latch = b.latch }
 
 -- once work of it has begun: what the rules see but the queue and what it shows
 pub record IsBegun (t s : LunView) : Type 0 where
@@ -117,10 +126,13 @@ no_page_programmed false h = cc
 
 -- ---- 3. an effect on both
 
--- what an effect asks of the LUN: a read of a page has no queue, and a cache read goes on from one
+-- what an effect asks of the LUN: a read of a page has no queue, and a cache read goes on from one. Three come only where a target is shared
 abbrev pub Asks : Effect → LunView → LunView → Type 0
 Asks (ReadStarted at from) t s = t.queue ≡ []
 Asks CacheReadContinued t s = is_page_read s.closer ≡ true
+Asks (TargetResetStarted first) t s = ⊥
+Asks StatusOfSelected t s = ⊥
+Asks (AnotherAddressed reads) t s = ⊥
 Asks _ t s = Unit {0}
 
 pub below_after : (e : Effect) (t s : LunView) → IsBelow t s → Asks e t s → IsBelow (view_after e t) (view_after e s)
@@ -146,6 +158,9 @@ below_after DataOutput t s b asks = record { busy = b.busy; queue = b.queue; lat
 below_after ResetStarted t s b asks = record { busy = λ h. refl; queue = λ test h. h; latch = tt; calm = λ h. refl }
 below_after (BecameReady failed) t s b asks = record { busy = λ h. h; queue = b.queue; latch = b.latch; calm = b.calm }
 below_after ArrayBecameReady t s b asks = record { busy = b.busy; queue = b.queue; latch = b.latch; calm = b.calm }
+below_after (TargetResetStarted first) t s b asks = absurd asks
+below_after StatusOfSelected t s b asks = absurd asks
+below_after (AnotherAddressed reads) t s b asks = absurd asks
 
 more_out : (k m : ReadColumn) → k ≡ m → read_column_after DataOutput k ≡ read_column_after DataOutput m
 more_out k m h = ap (read_column_after DataOutput) h
@@ -181,6 +196,9 @@ begun_after (BecameReady failed) t s g asks =
       column = g.column;
     }
 begun_after ArrayBecameReady t s g asks = record { busy = g.busy; closer = g.closer; array_busy = refl; page = g.page; register = g.register; column = g.column }
+begun_after (TargetResetStarted first) t s g asks = absurd asks
+begun_after StatusOfSelected t s g asks = absurd asks
+begun_after (AnotherAddressed reads) t s g asks = absurd asks
 
 -- an effect by which the LUN begins work anew, and not by a cache read that goes on
 pub begun_by : (e : Effect) (t s : LunView) → s.busy ≡ false → (view_after e s).busy ≡ true → is_cache_read (view_after e s).closer ≡ false → IsBegun (view_after e t) (view_after e s)
@@ -206,55 +224,64 @@ begun_by DataOutput t s idle busy new = cc
 begun_by ResetStarted t s idle busy new = record { busy = refl; closer = refl; array_busy = refl; page = λ h. cc; register = refl; column = λ h. cc }
 begun_by (BecameReady failed) t s idle busy new = cc
 begun_by ArrayBecameReady t s idle busy new = cc
+begun_by (TargetResetStarted first) t s idle busy new = record { busy = refl; closer = refl; array_busy = refl; page = λ h. cc; register = refl; column = λ h. cc }
+begun_by StatusOfSelected t s idle busy new = cc
+begun_by (AnotherAddressed reads) t s idle busy new = cc
 
-pub same_after : (e : Effect) (t s : LunView) → IsSame t s → IsSame (view_after e t) (view_after e s)
-same_after Unaffected t s m = record { off = m.off; latch = m.latch }
-same_after DataOutputEnabled t s m = record { off = resumed_off t.latch ∙ m.off ∙ sym (resumed_off s.latch); latch = λ h. ap resumed (m.latch h) }
-same_after StatusSelected t s m = record { off = refl; latch = λ h. refl }
-same_after StatusRowAwaited t s m = record { off = m.off; latch = m.latch }
-same_after SelectedForStatus t s m = record { off = refl; latch = λ h. refl }
-same_after Deselected t s m = record { off = refl; latch = λ h. refl }
-same_after (ReadStarted at from) t s m = record { off = refl; latch = λ h. refl }
-same_after (EraseStarted queued at) t s m = record { off = m.off; latch = λ h. cc }
-same_after (ProgramStarted queued at) t s m = record { off = m.off; latch = λ h. cc }
-same_after IdRead t s m = record { off = refl; latch = λ h. refl }
-same_after (IdentityRead jedec) t s m = record { off = refl; latch = λ h. refl }
-same_after UniqueIdReadStarted t s m = record { off = refl; latch = λ h. refl }
-same_after (FeaturesReadStarted address) t s m = record { off = refl; latch = λ h. refl }
-same_after (FeaturesSet address) t s m = record { off = m.off; latch = λ h. cc }
-same_after ParameterPageReadStarted t s m = record { off = refl; latch = λ h. refl }
-same_after CacheReadContinued t s m = record { off = refl; latch = λ h. refl }
-same_after CacheReadEnded t s m = record { off = refl; latch = λ h. refl }
-same_after (ReadColumnChanged from) t s m = record { off = m.off; latch = m.latch }
-same_after DataOutput t s m = record { off = m.off; latch = m.latch }
-same_after ResetStarted t s m = record { off = refl; latch = λ h. refl }
-same_after (BecameReady failed) t s m = record { off = m.off; latch = m.latch }
-same_after ArrayBecameReady t s m = record { off = m.off; latch = m.latch }
+pub same_after : (e : Effect) (t s : LunView) → Asks e t s → IsSame t s → IsSame (view_after e t) (view_after e s)
+same_after Unaffected t s asks m = record { off = m.off; latch = m.latch }
+same_after DataOutputEnabled t s asks m = record { off = resumed_off t.latch ∙ m.off ∙ sym (resumed_off s.latch); latch = λ h. ap resumed (m.latch h) }
+same_after StatusSelected t s asks m = record { off = refl; latch = λ h. refl }
+same_after StatusRowAwaited t s asks m = record { off = m.off; latch = m.latch }
+same_after SelectedForStatus t s asks m = record { off = refl; latch = λ h. refl }
+same_after Deselected t s asks m = record { off = refl; latch = λ h. refl }
+same_after (ReadStarted at from) t s asks m = record { off = refl; latch = λ h. refl }
+same_after (EraseStarted queued at) t s asks m = record { off = m.off; latch = λ h. cc }
+same_after (ProgramStarted queued at) t s asks m = record { off = m.off; latch = λ h. cc }
+same_after IdRead t s asks m = record { off = refl; latch = λ h. refl }
+same_after (IdentityRead jedec) t s asks m = record { off = refl; latch = λ h. refl }
+same_after UniqueIdReadStarted t s asks m = record { off = refl; latch = λ h. refl }
+same_after (FeaturesReadStarted address) t s asks m = record { off = refl; latch = λ h. refl }
+same_after (FeaturesSet address) t s asks m = record { off = m.off; latch = λ h. cc }
+same_after ParameterPageReadStarted t s asks m = record { off = refl; latch = λ h. refl }
+same_after CacheReadContinued t s asks m = record { off = refl; latch = λ h. refl }
+same_after CacheReadEnded t s asks m = record { off = refl; latch = λ h. refl }
+same_after (ReadColumnChanged from) t s asks m = record { off = m.off; latch = m.latch }
+same_after DataOutput t s asks m = record { off = m.off; latch = m.latch }
+same_after ResetStarted t s asks m = record { off = refl; latch = λ h. refl }
+same_after (BecameReady failed) t s asks m = record { off = m.off; latch = m.latch }
+same_after ArrayBecameReady t s asks m = record { off = m.off; latch = m.latch }
+same_after (TargetResetStarted first) t s asks m = absurd asks
+same_after StatusOfSelected t s asks m = absurd asks
+same_after (AnotherAddressed reads) t s asks m = absurd asks
 
 -- an effect by which the LUN is seen to drive the bus, and wasn't
-pub driven_by : (e : Effect) (t s : LunView) → is_off s.latch ≡ true → is_off (view_after e s).latch ≡ false → IsSame (view_after e t) (view_after e s)
-driven_by Unaffected t s off on = cc
-driven_by DataOutputEnabled t s off on = let kept = resumed_off s.latch in cc
-driven_by StatusSelected t s off on = record { off = refl; latch = λ h. refl }
-driven_by StatusRowAwaited t s off on = cc
-driven_by SelectedForStatus t s off on = record { off = refl; latch = λ h. refl }
-driven_by Deselected t s off on = cc
-driven_by (ReadStarted at from) t s off on = record { off = refl; latch = λ h. refl }
-driven_by (EraseStarted queued at) t s off on = cc
-driven_by (ProgramStarted queued at) t s off on = cc
-driven_by IdRead t s off on = record { off = refl; latch = λ h. refl }
-driven_by (IdentityRead jedec) t s off on = record { off = refl; latch = λ h. refl }
-driven_by UniqueIdReadStarted t s off on = record { off = refl; latch = λ h. refl }
-driven_by (FeaturesReadStarted address) t s off on = record { off = refl; latch = λ h. refl }
-driven_by (FeaturesSet address) t s off on = cc
-driven_by ParameterPageReadStarted t s off on = record { off = refl; latch = λ h. refl }
-driven_by CacheReadContinued t s off on = record { off = refl; latch = λ h. refl }
-driven_by CacheReadEnded t s off on = record { off = refl; latch = λ h. refl }
-driven_by (ReadColumnChanged from) t s off on = cc
-driven_by DataOutput t s off on = cc
-driven_by ResetStarted t s off on = cc
-driven_by (BecameReady failed) t s off on = cc
-driven_by ArrayBecameReady t s off on = cc
+pub driven_by : (e : Effect) (t s : LunView) → Asks e t s → is_off s.latch ≡ true → is_off (view_after e s).latch ≡ false → IsSame (view_after e t) (view_after e s)
+driven_by Unaffected t s asks off on = cc
+driven_by DataOutputEnabled t s asks off on = let kept = resumed_off s.latch in cc
+driven_by StatusSelected t s asks off on = record { off = refl; latch = λ h. refl }
+driven_by StatusRowAwaited t s asks off on = cc
+driven_by SelectedForStatus t s asks off on = record { off = refl; latch = λ h. refl }
+driven_by Deselected t s asks off on = cc
+driven_by (ReadStarted at from) t s asks off on = record { off = refl; latch = λ h. refl }
+driven_by (EraseStarted queued at) t s asks off on = cc
+driven_by (ProgramStarted queued at) t s asks off on = cc
+driven_by IdRead t s asks off on = record { off = refl; latch = λ h. refl }
+driven_by (IdentityRead jedec) t s asks off on = record { off = refl; latch = λ h. refl }
+driven_by UniqueIdReadStarted t s asks off on = record { off = refl; latch = λ h. refl }
+driven_by (FeaturesReadStarted address) t s asks off on = record { off = refl; latch = λ h. refl }
+driven_by (FeaturesSet address) t s asks off on = cc
+driven_by ParameterPageReadStarted t s asks off on = record { off = refl; latch = λ h. refl }
+driven_by CacheReadContinued t s asks off on = record { off = refl; latch = λ h. refl }
+driven_by CacheReadEnded t s asks off on = record { off = refl; latch = λ h. refl }
+driven_by (ReadColumnChanged from) t s asks off on = cc
+driven_by DataOutput t s asks off on = cc
+driven_by ResetStarted t s asks off on = cc
+driven_by (BecameReady failed) t s asks off on = cc
+driven_by ArrayBecameReady t s asks off on = cc
+driven_by (TargetResetStarted first) t s asks off on = cc
+driven_by StatusOfSelected t s asks off on = absurd asks
+driven_by (AnotherAddressed reads) t s asks off on = absurd asks
 
 -- an effect by which it begins work, where it is seen to drive the bus
 pub same_begun : (e : Effect) (t s : LunView) → s.busy ≡ false → (view_after e s).busy ≡ true → is_off (view_after e t).latch ≡ is_off (view_after e s).latch → IsSame (view_after e t) (view_after e s)
@@ -280,6 +307,9 @@ same_begun DataOutput t s idle busy off = cc
 same_begun ResetStarted t s idle busy off = record { off = off; latch = λ h. cc }
 same_begun (BecameReady failed) t s idle busy off = cc
 same_begun ArrayBecameReady t s idle busy off = cc
+same_begun (TargetResetStarted first) t s idle busy off = record { off = off; latch = λ h. cc }
+same_begun StatusOfSelected t s idle busy off = cc
+same_begun (AnotherAddressed reads) t s idle busy off = cc
 
 -- ---- 4. what is learned
 
@@ -300,7 +330,7 @@ begins_of e s h =
     let b = and_parts (view_after e s).busy (not (is_cache_read (view_after e s).closer)) a.1 in
     record { idle = not-true s.busy a.0; busy = b.0; new = not-true (is_cache_read (view_after e s).closer) b.1 }
 
-module _ (i : Item) (e : Effect) (t s : LunView) (below : IsBelow (view_after e t) (view_after e s)) (resets : is_reset i ≡ true → e ≡ ResetStarted) where
+module _ (i : Item) (e : Effect) (t s : LunView) (below : IsBelow (view_after e t) (view_after e s)) (asks : Asks e t s) (resets : is_reset i ≡ true → e ≡ ResetStarted) where
   -- it begins work, and drives the bus or is reset
   same_anew : begins_by e s ≡ true → drives_by i e s ≡ true → IsSame (view_after e t) (view_after e s)
   same_anew begins drives = at (is_off (view_after e s).latch) refl
@@ -336,15 +366,15 @@ module _ (i : Item) (e : Effect) (t s : LunView) (below : IsBelow (view_after e 
     where
       at : (o : Bool) → is_off (view_after e s).latch ≡ o → IsSame (view_after e t) (view_after e s)
       at true off = same_anew ((and_parts (begins_by e s) (is_reset i) (rw off at drives)).0) drives
-      at false on = driven_by e t s was on
+      at false on = driven_by e t s asks was on
 
 -- an effect on a LUN as it is and as it is seen, with what is learned of it
 pub fits_after : (k : LunKnown) (i : Item) (e : Effect) (t s : LunView) → Fits k t s → Asks e t s → (is_reset i ≡ true → e ≡ ResetStarted) →
     Fits (learned_lun i (Some (look_at s)) (Some (look_at (view_after e s))) k) (view_after e t) (view_after e s)
-fits_after Nothing i e t s f asks resets = first_fits i e t s (below_after e t s f.below asks) resets (begins_by e s) (drives_by i e s) refl refl
-fits_after Work i e t s f asks resets = work_fits i e t s (below_after e t s f.below asks) resets (drives_by i e s) refl (f.off refl refl) (begun_after e t s (f.begun refl) asks)
+fits_after Nothing i e t s f asks resets = first_fits i e t s (below_after e t s f.below asks) asks resets (begins_by e s) (drives_by i e s) refl refl
+fits_after Work i e t s f asks resets = work_fits i e t s (below_after e t s f.below asks) asks resets (drives_by i e s) refl (f.off refl refl) (begun_after e t s (f.begun refl) asks)
 fits_after All i e t s f asks resets =
-    record { below = below_after e t s f.below asks; begun = λ h. begun_after e t s (f.begun refl) asks; same = λ h. same_after e t s (f.same refl); off = λ h g. cc }
+    record { below = below_after e t s f.below asks; begun = λ h. begun_after e t s (f.begun refl) asks; same = λ h. same_after e t s asks (f.same refl); off = λ h g. cc }
 
 -- ---- 5. an effect that isn't seen
 
@@ -356,6 +386,9 @@ IsHarmless ResetStarted s = (s.queue ≡ []) × (s.latch ≡ Off)
 IsHarmless Deselected s = s.latch ≡ Off
 IsHarmless StatusSelected s = s.latch ≡ Off
 IsHarmless SelectedForStatus s = s.latch ≡ Off
+IsHarmless (TargetResetStarted first) s = (s.queue ≡ []) × (s.latch ≡ Off)
+IsHarmless StatusOfSelected s = s.latch ≡ Off
+IsHarmless (AnotherAddressed reads) s = s.latch ≡ Off
 IsHarmless (BecameReady failed) s = s.busy ≡ false
 IsHarmless _ s = Unit {0}
 
@@ -408,6 +441,9 @@ unseen_after DataOutput t s b h = record { busy = b.busy; queue = b.queue; latch
 unseen_after ResetStarted t s b h = record { busy = λ x. refl; queue = none_more s.queue [] h.0; latch = off_shows s.latch Off h.1; calm = b.calm }
 unseen_after (BecameReady failed) t s b h = record { busy = λ x. cc; queue = b.queue; latch = b.latch; calm = b.calm }
 unseen_after ArrayBecameReady t s b h = record { busy = b.busy; queue = b.queue; latch = b.latch; calm = b.calm }
+unseen_after (TargetResetStarted first) t s b h = record { busy = λ x. refl; queue = none_more s.queue [] h.0; latch = off_shows s.latch Off h.1; calm = b.calm }
+unseen_after StatusOfSelected t s b h = record { busy = b.busy; queue = b.queue; latch = off_shows s.latch (view_after StatusOfSelected t).latch h; calm = b.calm }
+unseen_after (AnotherAddressed reads) t s b h = record { busy = b.busy; queue = b.queue; latch = off_shows s.latch (view_after (AnotherAddressed reads) t).latch h; calm = b.calm }
 
 pub blank_harmless : (e : Effect) (s : LunView) → IsBlank s → IsHarmless e s
 blank_harmless Unaffected s b = tt
@@ -432,3 +468,6 @@ blank_harmless DataOutput s b = tt
 blank_harmless ResetStarted s b = (b.queue, b.latch)
 blank_harmless (BecameReady failed) s b = b.busy
 blank_harmless ArrayBecameReady s b = tt
+blank_harmless (TargetResetStarted first) s b = (b.queue, b.latch)
+blank_harmless StatusOfSelected s b = b.latch
+blank_harmless (AnotherAddressed reads) s b = b.latch

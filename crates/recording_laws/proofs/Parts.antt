@@ -1,5 +1,5 @@
 -- No rule is seen to be broken by a part of a legal trace.
-use Rattle.std.proofs.Common.{◌≡◌, ℕ, zero, suc, ◌+◌, ◌<◌, ◌≤◌, Bool, true, false, not, ◌||◌, leb, List, [], ◌∷◌, ◌++◌, length, reverse, Some, None, refl, sym, ap, ◌∙◌, subst, slice_get, arith, lt-ltb}
+use Rattle.std.proofs.Common.{◌≡◌, ℕ, zero, suc, ◌+◌, ◌<◌, ◌≤◌, Bool, true, false, cond, not, ◌||◌, leb, List, [], ◌∷◌, ◌++◌, length, reverse, Some, None, refl, sym, ap, ◌∙◌, subst, slice_get, arith, lt-ltb}
 use Rattle.std.proofs.lemmas.Bool.{and_parts}
 use Rattle.std.proofs.lemmas.List.{reverse-append}
 use Rattle.std.proofs.lemmas.Option.{slice_get_within}
@@ -8,6 +8,7 @@ use Rattle.onfi_cycle.specs.declared.effect.Effect.TheVariants.{BecameReady, Arr
 use Rattle.onfi_cycle.specs.declared.item.Item.{Item}
 use Rattle.onfi_cycle.specs.declared.item.Item.TheVariants.{Cyc, Rdy, Ard}
 use Rattle.onfi_cycle.specs.declared.lun.Lun.{Lun}
+use Rattle.onfi_cycle.specs.Effect.{is_shared}
 use Rattle.onfi_cycle.specs.Lun.{lun_view, views_from, luns_of}
 use Rattle.onfi_cycle.specs.LunView.{LunView}
 use Rattle.onfi_cycle.specs.Permitted.{broken, is_permitted, is_legal}
@@ -26,6 +27,8 @@ use Rattle.recording_laws.proofs.Lists.{Each}
 use Rattle.recording_laws.proofs.Changed.{all_nothing}
 use Rattle.recording_laws.proofs.Unseen.{blank}
 use Rattle.recording_laws.proofs.Targets.{FitsTarget}
+use Rattle.recording_laws.proofs.Twins.{Beside}
+use Rattle.recording_laws.proofs.Shared.{FitsEither}
 use Rattle.recording_laws.proofs.Readies.{ready_is, array_ready_is}
 use Rattle.recording_laws.proofs.Walk.{FitsBus}
 use Rattle.recording_laws.proofs.Stepped.{Stepped, here_of, cycle_step, ready_step}
@@ -44,14 +47,21 @@ or_nothing : (b : Bool) → (b || false) ≡ b
 or_nothing true = refl
 or_nothing false = refl
 
+opens_nothing : (g : Parts) (b : Bool) → (b || cond (is_shared g) false false) ≡ b
+opens_nothing g b = ap (λ (x : Bool). b || x) (at (is_shared g)) ∙ or_nothing b
+  where
+    at : (x : Bool) → cond x false false ≡ false
+    at true = refl
+    at false = refl
+
 stepped : (g : Parts) (bus : BusView) (seen : Seen) (i : Item) (later : List Item) → FitsBus g bus seen → judged bus i ≡ None → Stepped g bus seen i later
 stepped g bus seen (Cyc c) later f h = cycle_step g bus seen c later f (here_of g bus seen (Cyc c) f h)
 stepped g bus seen (Rdy ce lun fail) later f h =
     ready_step g bus seen (Rdy ce lun fail) later f (here_of g bus seen (Rdy ce lun fail) f h) lun (BecameReady fail) (λ v. v.busy) (ready_is ce lun fail)
-    (ready_there ce lun fail) (λ t. refl) refl refl (λ rule. refl) (λ x y. or_nothing (known_of seen.known ce).opened)
+    (ready_there ce lun fail) (λ t. refl) refl refl (λ rule. refl) (λ x y. opens_nothing seen.state.bus.geometry (known_of seen.known ce).opened)
 stepped g bus seen (Ard ce lun) later f h =
     ready_step g bus seen (Ard ce lun) later f (here_of g bus seen (Ard ce lun) f h) lun ArrayBecameReady (λ v. v.array_busy) (array_ready_is ce lun)
-    (array_ready_there ce lun) (λ t. refl) refl refl (λ rule. refl) (λ x y. or_nothing (known_of seen.known ce).opened)
+    (array_ready_there ce lun) (λ t. refl) refl refl (λ rule. refl) (λ x y. opens_nothing seen.state.bus.geometry (known_of seen.known ce).opened)
 
 -- ---- 2. where the recording begins
 
@@ -74,14 +84,32 @@ first_is_known targets (suc (suc zero)) h few = ap first_known (lt-ltb 2 targets
 first_is_known targets (suc (suc (suc zero))) h few = ap first_known (lt-ltb 3 targets h)
 first_is_known targets (suc (suc (suc (suc ce)))) h few = absurd (omega (arith, h, few))
 
-first_target : (g : Parts) (past : List Item) (ce : ℕ) → g.luns ≤ 4 → FitsTarget g nothing_known (target_view g past ce) (target_view g [] ce)
-first_target g past ce few =
+first_plain : (g : Parts) (past : List Item) (ce : ℕ) → g.luns ≤ 4 → FitsTarget g nothing_known (target_view g past ce) (target_view g [] ce)
+first_plain g past ce few =
     let short : length (luns_of g [] ce) ≤ 4 = let len = views_length g [] ce g.luns 0 in omega (arith, len, few) in
     record {
       few = short;
       luns = all_nothing (luns_of g past ce) (luns_of g [] ce) short (first_below g past ce g.luns 0);
       opened = λ h. cc;
       closed = λ h. record { tail = refl; nothing = refl; comes = blank (λ m s found. blank_from g ce g.luns 0 m s found) };
+    }
+
+beside_from : (g : Parts) (past : List Item) (ce count n : ℕ) → Each Beside (views_from g past ce count n) (views_from g [] ce count n)
+beside_from g past ce zero n = tt
+beside_from g past ce (suc count) n = (tt, beside_from g past ce count (n + 1))
+
+first_target : (g : Parts) (past : List Item) (ce : ℕ) → g.luns ≤ 4 → FitsEither g nothing_known (target_view g past ce) (target_view g [] ce)
+first_target g past ce few =
+    let plain = first_plain g past ce few in
+    record {
+      plain = λ h. plain;
+      shared = λ h.
+          record {
+            few = plain.few;
+            beside = beside_from g past ce g.luns 0;
+            opened = λ y. cc;
+            closed = λ y. record { tail = refl; nothing = refl; blank = λ m s found. blank_from g ce g.luns 0 m s found };
+          };
     }
 
 begins_fitting : (g : Parts) (targets : ℕ) (past items : List Item) → targets ≤ 4 → g.luns ≤ 4 → is_legal g targets past ≡ true → FitsBus g (bus g (targets_from g past targets 0)) (first_seen g targets items)
@@ -101,8 +129,8 @@ begins_fitting g targets past items few luns legal =
           let shown = found_target g targets (bus g (targets_from g [] targets 0)) [] ce (record { legal = refl; geometry = refl; facts = refl }) there in
           let same_t : target_view g past ce ≡ t = cc in
           let same_s : target_view g [] ce ≡ s = cc in
-          subst (λ (k : Known). FitsTarget g k t s) (sym (first_is_known targets ce there few))
-          (subst (λ (u : TargetView). FitsTarget g nothing_known u s) same_t (subst (λ (u : TargetView). FitsTarget g nothing_known (target_view g past ce) u) same_s (first_target g past ce luns)));
+          subst (λ (k : Known). FitsEither g k t s) (sym (first_is_known targets ce there few))
+          (subst (λ (u : TargetView). FitsEither g nothing_known u s) same_t (subst (λ (u : TargetView). FitsEither g nothing_known (target_view g past ce) u) same_s (first_target g past ce luns)));
     }
   where
     follows : Follows g targets (bus g (targets_from g past targets 0)) past

@@ -28,6 +28,7 @@ use Rattle.recording_laws.proofs.Cycles.{go_same}
 use Rattle.recording_laws.proofs.Unseen.{is_quiet, is_named, NoneQueued, AreBlank, MayCome, blank, quiet, named}
 use Rattle.recording_laws.proofs.Granted.{is_sound}
 use Rattle.recording_laws.proofs.Targets.{IsOpened, FitsTarget}
+use Rattle.recording_laws.proofs.Twins.{GoesOn}
 
 -- ---- 1. the two readies
 
@@ -43,6 +44,7 @@ pub record IsReady (i : Item) (lun : ℕ) (x : Effect) (works : LunView → Bool
   pub harmless : (s : LunView) → works s ≡ false → IsHarmless x s
   pub begun : (t s : LunView) → IsBegun t s → works t ≡ works s
   pub blank : (s : LunView) → IsBlank s → works s ≡ false
+  pub goes : (s : LunView) → GoesOn x s
 
 pub ready_is : (ce lun : ℕ) (fail : Bool) → IsReady (Rdy ce lun fail) lun (BecameReady fail) (λ v. v.busy)
 ready_is ce lun fail =
@@ -57,6 +59,7 @@ ready_is ce lun fail =
       harmless = λ s h. h;
       begun = λ t s b. b.busy;
       blank = λ s b. b.busy;
+      goes = λ s. tt;
     }
 
 pub array_ready_is : (ce lun : ℕ) → IsReady (Ard ce lun) lun ArrayBecameReady (λ v. v.array_busy)
@@ -72,13 +75,14 @@ array_ready_is ce lun =
       harmless = λ s h. tt;
       begun = λ t s b. b.array_busy;
       blank = λ s b. b.array_busy;
+      goes = λ s. tt;
     }
 
 module _ (i : Item) (lun : ℕ) (x : Effect) (works : LunView → Bool) (is : IsReady i lun x works) where
-  abbrev by_ready : ℕ → LunView → Effect
+  abbrev pub by_ready : ℕ → LunView → Effect
   by_ready n v = cond (lun == n) x Unaffected
 
-  luns_ready : (g : Parts) (u : TailFacts) (sole : Bool) (vs : List LunView) → luns_after g u sole i 0 vs ≡ changed by_ready 0 vs
+  pub luns_ready : (g : Parts) (u : TailFacts) (sole : Bool) (vs : List LunView) → luns_after g u sole i 0 vs ≡ changed by_ready 0 vs
   luns_ready g u sole vs = luns_are_changed g u sole i 0 vs ∙ same_changed (effect_alone g u sole i) by_ready (is.effect g u sole) 0 vs
 
   -- ---- 2. what stays

@@ -1,10 +1,10 @@
 -- Which rules a permitted cycle may seem to break, by what is seen: those that hang on what was before, and none where all is known.
-use Rattle.std.proofs.Common.{◌≡◌, ◌+◌, Bool, true, false, cond, not, ◌&&◌, ◌||◌, ltb, leb, List, [], ◌∷◌, Option, Some, None, refl, sym, ap, ◌∙◌}
+use Rattle.std.proofs.Common.{◌≡◌, ◌+◌, Bool, true, false, cond, not, ◌&&◌, ◌||◌, ltb, leb, List, [], ◌∷◌, Option, Some, None, refl, sym, ap, ◌∙◌, true≢false}
 use Rattle.std.specs.List.{list_any}
 use Rattle.std.proofs.lemmas.Bool.{and_parts, and_from, and_right, or_left, or_right, or_from, or_parts, not-false, not_from_true}
 use Rattle.nand_geometry.specs.declared.parts.Parts.{Parts}
 use Rattle.onfi_cycle.specs.declared.command.Command.{Command}
-use Rattle.onfi_cycle.specs.declared.command.Command.TheVariants.{Read, ChangeReadColumn, BlockErase, PageProgram, ReadCacheSequential, ReadCacheEnd}
+use Rattle.onfi_cycle.specs.declared.command.Command.TheVariants.{Read, ChangeReadColumn, BlockErase, PageProgram, ReadStatus, ReadStatusEnhanced, ReadCacheSequential, ReadCacheEnd}
 use Rattle.onfi_cycle.specs.declared.forbidden.Forbidden.{Forbidden}
 use Rattle.onfi_cycle.specs.declared.forbidden.Forbidden.TheVariants.{NoColumnToChange, NoSoleDriver, DataNotReady, ColumnOutside, CacheReadMisplaced}
 use Rattle.onfi_cycle.specs.declared.latch.Latch.{Latch}
@@ -18,16 +18,16 @@ use Rattle.onfi_cycle.specs.declared.tail_facts.TailFacts.{TailFacts}
 use Rattle.onfi_cycle.specs.declared.target_cycle.TargetCycle.{TargetCycle}
 use Rattle.onfi_cycle.specs.declared.target_cycle.TargetCycle.TheVariants.{CommandCycle, AddressCycle, InputCycle, OutputCycle}
 use Rattle.onfi_cycle.specs.Command.{is_opener, wants_ready, reads_identity, at_last_row, addresses_the_array, is_change_read_column}
-use Rattle.onfi_cycle.specs.Effect.{is_off, is_data, page_address}
+use Rattle.onfi_cycle.specs.Effect.{is_off, is_data, is_shared, page_address}
 use Rattle.onfi_cycle.specs.Lun.{is_cache_read, is_page_read, output_column}
 use Rattle.onfi_cycle.specs.LunView.{LunView}
 use Rattle.onfi_cycle.specs.Permitted.{judge_cycle}
-use Rattle.onfi_cycle.specs.Rules.{is_some_and, driver_is, named_lun_is, ends_row, register_len, is_page_or_parameters, is_empty, lacks, is_past, queued_clashes, has_some, may_change_column, refused_by, is_refused_by, has_no_byte, is_past_register, second_column, second_of_page, caching, continues_cache, ends_cache, breaks_sequence_open, breaks_no_column_to_change, breaks_command_misplaced, breaks_address_misplaced, breaks_row_outside, breaks_lun_busy, breaks_queue_clash, breaks_input_misplaced, breaks_no_sole_driver, breaks_data_not_ready, breaks_column_outside, breaks_cache_read_misplaced}
+use Rattle.onfi_cycle.specs.Rules.{is_some_and, driver_is, named_lun_is, ends_row, register_len, is_page_or_parameters, is_empty, lacks, is_past, queued_clashes, has_some, may_change_column, refused_by, is_refused_by, works_for_target, is_unclear, has_no_byte, is_past_register, second_column, second_of_page, caching, continues_cache, ends_cache, breaks_sequence_open, breaks_several_luns, breaks_no_column_to_change, breaks_command_misplaced, breaks_address_misplaced, breaks_row_outside, breaks_lun_busy, breaks_queue_clash, breaks_input_misplaced, breaks_no_sole_driver, breaks_data_not_ready, breaks_column_outside, breaks_cache_read_misplaced}
 use Rattle.onfi_cycle.specs.Sequence.{facts_of, row_with, column_with, is_open}
 use Rattle.onfi_cycle.proofs.Passed.{KeepsRules}
 use Rattle.trace_faults.specs.Middle.{hangs_on_before}
-use Rattle.recording_laws.proofs.Luns.{Within, Shows, kind_of, IsBelow, IsBegun, IsSame}
-use Rattle.recording_laws.proofs.Lists.{Each, each_more, any_up, any_down, lun_down, driver_up, driver_down}
+use Rattle.recording_laws.proofs.Luns.{Within, Shows, kind_of, IsUnder, IsBegun, IsSame}
+use Rattle.recording_laws.proofs.Lists.{Each, each_more, either_of, any_up, any_down, lun_down, driver_up, driver_down}
 
 -- ---- 1. Booleans
 
@@ -63,31 +63,68 @@ opening_refused g (Some o) p seen is w h =
     let a = and_parts (at_last_row o.opener o.addresses) (refused_by g o.opener p seen) h in
     and_from (at_last_row o.opener o.addresses) (refused_by g o.opener p is) a.0 (refused_less g o.opener p seen is w a.1)
 
-idle_up : (t s : LunView) → IsBelow t s → not t.busy ≡ true → not s.busy ≡ true
+idle_up : (t s : LunView) → IsUnder t s → not t.busy ≡ true → not s.busy ≡ true
 idle_up t s b h = not_less s.busy t.busy b.busy h
 
-queue_down : (t s : LunView) → IsBelow t s → has_some s.queue ≡ true → has_some t.queue ≡ true
+queue_down : (t s : LunView) → IsUnder t s → has_some s.queue ≡ true → has_some t.queue ≡ true
 queue_down t s b h = has_some_any t.queue ∙ b.queue (λ c. true) (sym (has_some_any s.queue) ∙ h)
 
-module _ (g : Parts) (ts ss : List LunView) (each : Each IsBelow ts ss) where
+-- where a target is shared: no more work is seen that was given beside other work, and none that is of the whole target
+pub record IsClear (ts ss : List LunView) : Type 0 where
+  pub overlapped : list_any (λ v. v.overlapped) ss ≡ true → list_any (λ v. v.overlapped) ts ≡ true
+  pub target : list_any works_for_target ss ≡ true → list_any works_for_target ts ≡ true
+
+pub plain_clear : (g : Parts) (ts ss : List LunView) → is_shared g ≡ false → is_shared g ≡ true → IsClear ts ss
+plain_clear g ts ss plain shared = absurd (true≢false (sym shared ∙ plain))
+
+unclear_down : (ts ss : List LunView) (c : Command) → IsClear ts ss → is_unclear ss c ≡ true → is_unclear ts c ≡ true
+unclear_down ts ss ReadStatus k h = k.overlapped h
+unclear_down ts ss ReadStatusEnhanced k h = k.target h
+unclear_down ts ss c k h = cc
+
+either_less : (a p q r : Bool) → (a ≡ true → q ≡ true → p ≡ true) → cond a p r ≡ false → cond a q r ≡ false
+either_less true p q r f h = less p q (f refl) h
+either_less false p q r f h = h
+
+module _ (g : Parts) (ts ss : List LunView) (each : Each IsUnder ts ss) (clear : is_shared g ≡ true → IsClear ts ss) where
+  pub several_kept : (c : TargetCycle) → breaks_several_luns g ts c ≡ false → breaks_several_luns g ss c ≡ false
+  unfolding breaks_several_luns
+  several_kept (CommandCycle c) h = either_less (is_shared g) (is_unclear ts c) (is_unclear ss c) _ (λ shared. unclear_down ts ss c (clear shared)) h
+  several_kept (AddressCycle byte) h = refl
+  several_kept (InputCycle byte) h = refl
+  several_kept OutputCycle h = refl
+
   pub busy_command : (u t : TailFacts) (c : Command) → breaks_lun_busy g u ts (CommandCycle c) ≡ false → breaks_lun_busy g t ss (CommandCycle c) ≡ false
   unfolding breaks_lun_busy
   busy_command u t c h =
-      and_less (wants_ready c) (not (list_any (λ v. not v.busy) ts)) (not (list_any (λ v. not v.busy) ss))
-      (not_less (list_any (λ v. not v.busy) ts) (list_any (λ v. not v.busy) ss) (any_up IsBelow (λ v. not v.busy) (λ v. not v.busy) idle_up ts ss each)) h
+      let o = or_parts (wants_ready c && not (list_any (λ v. not v.busy) ts)) (is_shared g && (reads_identity c && list_any (λ v. v.busy) ts)) h in
+      or_from (wants_ready c && not (list_any (λ v. not v.busy) ss)) (is_shared g && (reads_identity c && list_any (λ v. v.busy) ss))
+      (and_less (wants_ready c) (not (list_any (λ v. not v.busy) ts)) (not (list_any (λ v. not v.busy) ss))
+      (not_less (list_any (λ v. not v.busy) ts) (list_any (λ v. not v.busy) ss) (any_up IsUnder (λ v. not v.busy) (λ v. not v.busy) idle_up ts ss each)) o.0)
+      (and_less (is_shared g) (reads_identity c && list_any (λ v. v.busy) ts) (reads_identity c && list_any (λ v. v.busy) ss)
+      (λ x.
+      let a = and_parts (reads_identity c) (list_any (λ v. v.busy) ss) x in
+      and_from (reads_identity c) (list_any (λ v. v.busy) ts) a.0 (any_down IsUnder (λ v. v.busy) (λ v. v.busy) (λ p q b. b.busy) ts ss each a.1)) o.1)
 
   pub queue_command : (u t : TailFacts) (c : Command) → breaks_queue_clash g u ts (CommandCycle c) ≡ false → breaks_queue_clash g t ss (CommandCycle c) ≡ false
   unfolding breaks_queue_clash
   queue_command u t c h =
       and_less (reads_identity c) (list_any (λ v. has_some v.queue) ts) (list_any (λ v. has_some v.queue) ss)
-      (any_down IsBelow (λ v. has_some v.queue) (λ v. has_some v.queue) queue_down ts ss each) h
+      (any_down IsUnder (λ v. has_some v.queue) (λ v. has_some v.queue) queue_down ts ss each) h
 
   pub busy_kept : (t : TailFacts) (cycle : TargetCycle) → breaks_lun_busy g t ts cycle ≡ false → breaks_lun_busy g t ss cycle ≡ false
   unfolding breaks_lun_busy
   busy_kept t (CommandCycle c) h = busy_command t t c h
   busy_kept t (AddressCycle byte) h =
-      and_less (ends_row addresses_the_array t) (named_lun_is g (row_with t byte) (λ v. v.busy) ts) (named_lun_is g (row_with t byte) (λ v. v.busy) ss)
-      (lun_down IsBelow (λ v. v.busy) (λ v. v.busy) (λ x y b. b.busy) ts ss _ each) h
+      and_less (ends_row addresses_the_array t) (named_lun_is g (row_with t byte) (λ v. v.busy) ts || (is_shared g && list_any works_for_target ts))
+      (named_lun_is g (row_with t byte) (λ v. v.busy) ss || (is_shared g && list_any works_for_target ss))
+      (λ x.
+      either_of (named_lun_is g (row_with t byte) (λ v. v.busy) ss) (is_shared g && list_any works_for_target ss) x
+      (λ y. or_left (named_lun_is g (row_with t byte) (λ v. v.busy) ts) (is_shared g && list_any works_for_target ts) (lun_down IsUnder (λ v. v.busy) (λ v. v.busy) (λ p q b. b.busy) ts ss _ each y))
+      (λ y.
+      let a = and_parts (is_shared g) (list_any works_for_target ss) y in
+      or_right (named_lun_is g (row_with t byte) (λ v. v.busy) ts) (is_shared g && list_any works_for_target ts)
+      (and_from (is_shared g) (list_any works_for_target ts) a.0 ((clear a.0).target a.1)))) h
   busy_kept t (InputCycle byte) h = refl
   busy_kept t OutputCycle h = refl
 
@@ -97,7 +134,7 @@ module _ (g : Parts) (ts ss : List LunView) (each : Each IsBelow ts ss) where
   queue_kept t (AddressCycle byte) h =
       less (named_lun_is g (row_with t byte) (λ v. is_refused_by g t.opening (page_address g (row_with t byte)) v.queue) ts)
       (named_lun_is g (row_with t byte) (λ v. is_refused_by g t.opening (page_address g (row_with t byte)) v.queue) ss)
-      (lun_down IsBelow (λ v. is_refused_by g t.opening (page_address g (row_with t byte)) v.queue) (λ v. is_refused_by g t.opening (page_address g (row_with t byte)) v.queue)
+      (lun_down IsUnder (λ v. is_refused_by g t.opening (page_address g (row_with t byte)) v.queue) (λ v. is_refused_by g t.opening (page_address g (row_with t byte)) v.queue)
       (λ x y b. opening_refused g t.opening (page_address g (row_with t byte)) y.queue x.queue b.queue) ts ss _ each) h
   queue_kept t (InputCycle byte) h = refl
   queue_kept t OutputCycle h = refl
@@ -125,13 +162,13 @@ five a b c d e = cond a (Some NoColumnToChange) (cond b (Some NoSoleDriver) (con
 abbrev pub five_of : Parts → TailFacts → List LunView → TargetCycle → Option Forbidden
 five_of g t ss cycle = five (breaks_no_column_to_change ss cycle) (breaks_no_sole_driver t ss cycle) (breaks_data_not_ready ss cycle) (breaks_column_outside g t ss cycle) (breaks_cache_read_misplaced g t ss cycle)
 
-pub judged_five : (g : Parts) (t : TailFacts) (ts ss : List LunView) (cycle : TargetCycle) → Each IsBelow ts ss → KeepsRules g t ts cycle → judge_cycle g t ss cycle ≡ five_of g t ss cycle
-judged_five g t ts ss cycle each k = rw (k.f2, k.f3, k.f4, k.f6, k.f7, k.f8, busy_kept g ts ss each t cycle k.f9, queue_kept g ts ss each t cycle k.f10, k.f11) refl
+pub judged_five : (g : Parts) (t : TailFacts) (ts ss : List LunView) (cycle : TargetCycle) → Each IsUnder ts ss → (is_shared g ≡ true → IsClear ts ss) → KeepsRules g t ts cycle → judge_cycle g t ss cycle ≡ five_of g t ss cycle
+judged_five g t ts ss cycle each clear k = rw (k.f2, k.f3, several_kept g ts ss each clear cycle k.f4, k.f6, k.f7, k.f8, busy_kept g ts ss each clear t cycle k.f9, queue_kept g ts ss each clear t cycle k.f10, k.f11) refl
 
 -- the tail is the same, or an opener comes and no tail was seen
-pub only_hangs : (g : Parts) (t : TailFacts) (ts ss : List LunView) (cycle : TargetCycle) → Each IsBelow ts ss → KeepsRules g t ts cycle → OnlyHangs (judge_cycle g t ss cycle)
-only_hangs g t ts ss cycle each k =
-    rw (k.f2, k.f3, k.f4, k.f6, k.f7, k.f8, busy_kept g ts ss each t cycle k.f9, queue_kept g ts ss each t cycle k.f10, k.f11)
+pub only_hangs : (g : Parts) (t : TailFacts) (ts ss : List LunView) (cycle : TargetCycle) → Each IsUnder ts ss → (is_shared g ≡ true → IsClear ts ss) → KeepsRules g t ts cycle → OnlyHangs (judge_cycle g t ss cycle)
+only_hangs g t ts ss cycle each clear k =
+    rw (k.f2, k.f3, several_kept g ts ss each clear cycle k.f4, k.f6, k.f7, k.f8, busy_kept g ts ss each clear t cycle k.f9, queue_kept g ts ss each clear t cycle k.f10, k.f11)
     (only_five (breaks_no_column_to_change ss cycle) (breaks_no_sole_driver t ss cycle) (breaks_data_not_ready ss cycle) (breaks_column_outside g t ss cycle) (breaks_cache_read_misplaced g t ss cycle))
 
 fresh_open : (g : Parts) (c : Command) → breaks_sequence_open g (facts_of []) (CommandCycle c) ≡ false
@@ -154,19 +191,19 @@ fresh_input : (c : Command) → breaks_input_misplaced (facts_of []) (CommandCyc
 unfolding breaks_input_misplaced
 fresh_input c = refl
 
-pub only_hangs_fresh : (g : Parts) (t : TailFacts) (ts ss : List LunView) (c : Command) → is_opener c ≡ true → Each IsBelow ts ss → KeepsRules g t ts (CommandCycle c) → OnlyHangs (judge_cycle g (facts_of []) ss (CommandCycle c))
-only_hangs_fresh g t ts ss c opener each k =
-    rw (k.f2, fresh_open g c, k.f4, fresh_placed c opener, fresh_address g c, fresh_row g c, busy_command g ts ss each t (facts_of []) c k.f9, queue_command g ts ss each t (facts_of []) c k.f10, fresh_input c)
+pub only_hangs_fresh : (g : Parts) (t : TailFacts) (ts ss : List LunView) (c : Command) → is_opener c ≡ true → Each IsUnder ts ss → (is_shared g ≡ true → IsClear ts ss) → KeepsRules g t ts (CommandCycle c) → OnlyHangs (judge_cycle g (facts_of []) ss (CommandCycle c))
+only_hangs_fresh g t ts ss c opener each clear k =
+    rw (k.f2, fresh_open g c, several_kept g ts ss each clear (CommandCycle c) k.f4, fresh_placed c opener, fresh_address g c, fresh_row g c, busy_command g ts ss each clear t (facts_of []) c k.f9, queue_command g ts ss each clear t (facts_of []) c k.f10, fresh_input c)
     (only_five (breaks_no_column_to_change ss (CommandCycle c)) (breaks_no_sole_driver (facts_of []) ss (CommandCycle c)) (breaks_data_not_ready ss (CommandCycle c)) (breaks_column_outside g (facts_of []) ss (CommandCycle c)) (breaks_cache_read_misplaced g (facts_of []) ss (CommandCycle c)))
 
-pub judged_five_fresh : (g : Parts) (t : TailFacts) (ts ss : List LunView) (c : Command) → is_opener c ≡ true → Each IsBelow ts ss → KeepsRules g t ts (CommandCycle c) → judge_cycle g (facts_of []) ss (CommandCycle c) ≡ five_of g (facts_of []) ss (CommandCycle c)
-judged_five_fresh g t ts ss c opener each k =
-    rw (k.f2, fresh_open g c, k.f4, fresh_placed c opener, fresh_address g c, fresh_row g c, busy_command g ts ss each t (facts_of []) c k.f9, queue_command g ts ss each t (facts_of []) c k.f10, fresh_input c) refl
+pub judged_five_fresh : (g : Parts) (t : TailFacts) (ts ss : List LunView) (c : Command) → is_opener c ≡ true → Each IsUnder ts ss → (is_shared g ≡ true → IsClear ts ss) → KeepsRules g t ts (CommandCycle c) → judge_cycle g (facts_of []) ss (CommandCycle c) ≡ five_of g (facts_of []) ss (CommandCycle c)
+judged_five_fresh g t ts ss c opener each clear k =
+    rw (k.f2, fresh_open g c, several_kept g ts ss each clear (CommandCycle c) k.f4, fresh_placed c opener, fresh_address g c, fresh_row g c, busy_command g ts ss each clear t (facts_of []) c k.f9, queue_command g ts ss each clear t (facts_of []) c k.f10, fresh_input c) refl
 
 -- ---- 4. where all is known of each LUN
 
 pub record IsKnown (t s : LunView) : Type 0 where
-  pub below : IsBelow t s
+  pub below : IsUnder t s
   pub begun : IsBegun t s
   pub same : IsSame t s
 
@@ -227,7 +264,7 @@ data_is Off h = cc
 data_is Status h = cc
 data_is Data h = refl
 
-data_down : (t s : LunView) → IsBelow t s → is_data s.latch ≡ true → is_data t.latch ≡ true
+data_down : (t s : LunView) → IsUnder t s → is_data s.latch ≡ true → is_data t.latch ≡ true
 data_down t s b h = of s.latch (data_is s.latch h) b.latch
   where
     of : (l : Latch) → l ≡ Data → Shows l t.latch → is_data t.latch ≡ true
@@ -283,7 +320,7 @@ either_driver : (p q : LunView → Bool) (o : Option LunView) → is_some_and p 
 either_driver p q None a b = refl
 either_driver p q (Some v) a b = or_from (p v) (q v) a b
 
-module _ (g : Parts) (ts ss : List LunView) (each : Each IsKnown ts ss) where
+module _ (g : Parts) (ts ss : List LunView) (each : Each IsKnown ts ss) (clear : is_shared g ≡ true → IsClear ts ss) where
   pub column_kept : (c : TargetCycle) → breaks_no_column_to_change ts c ≡ false → breaks_no_column_to_change ss c ≡ false
   unfolding breaks_no_column_to_change
   column_kept (CommandCycle ChangeReadColumn) h = not_from_true (driver_is may_change_column ss) (driver_up IsKnown may_change_column may_change_column known_off column_up ts ss each (not-false (driver_is may_change_column ts) h))
@@ -338,15 +375,15 @@ module _ (g : Parts) (ts ss : List LunView) (each : Each IsKnown ts ss) where
   cache_kept t (InputCycle byte) h = refl
   cache_kept t OutputCycle h = refl
 
-  below_each : Each IsBelow ts ss
-  below_each = each_more IsKnown IsBelow (λ t s k. k.below) ts ss each
+  below_each : Each IsUnder ts ss
+  below_each = each_more IsKnown IsUnder (λ t s k. k.below) ts ss each
 
   pub none_broken : (t : TailFacts) (cycle : TargetCycle) → KeepsRules g t ts cycle → judge_cycle g t ss cycle ≡ None
   none_broken t cycle k =
-      rw (k.f2, k.f3, k.f4, column_kept cycle k.f5, k.f6, k.f7, k.f8, busy_kept g ts ss below_each t cycle k.f9, queue_kept g ts ss below_each t cycle k.f10, k.f11, driver_kept t cycle k.f12, data_kept cycle k.f13, outside_kept t cycle k.f13 k.f14, cache_kept t cycle k.f15) refl
+      rw (k.f2, k.f3, several_kept g ts ss below_each clear cycle k.f4, column_kept cycle k.f5, k.f6, k.f7, k.f8, busy_kept g ts ss below_each clear t cycle k.f9, queue_kept g ts ss below_each clear t cycle k.f10, k.f11, driver_kept t cycle k.f12, data_kept cycle k.f13, outside_kept t cycle k.f13 k.f14, cache_kept t cycle k.f15) refl
 
   pub none_broken_fresh : (u : TailFacts) (c : Command) → is_opener c ≡ true → KeepsRules g u ts (CommandCycle c) → judge_cycle g (facts_of []) ss (CommandCycle c) ≡ None
   unfolding breaks_no_sole_driver breaks_data_not_ready breaks_column_outside
   none_broken_fresh u c opener k =
-      judged_five_fresh g u ts ss c opener below_each k
+      judged_five_fresh g u ts ss c opener below_each clear k
       ∙ (rw (column_kept (CommandCycle c) k.f5, cache_command u (facts_of []) c k.f15) refl)

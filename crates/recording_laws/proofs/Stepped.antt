@@ -9,6 +9,9 @@ use Rattle.onfi_cycle.specs.declared.forbidden.Forbidden.TheVariants.{NotThere}
 use Rattle.onfi_cycle.specs.declared.item.Cycle.{Cycle}
 use Rattle.onfi_cycle.specs.declared.item.Item.{Item}
 use Rattle.onfi_cycle.specs.declared.item.Item.TheVariants.{Cyc}
+use Rattle.onfi_cycle.specs.declared.command.Command.TheVariants.{Reset}
+use Rattle.onfi_cycle.specs.declared.tail_facts.TailFacts.{TailFacts}
+use Rattle.onfi_cycle.specs.Effect.{is_shared}
 use Rattle.onfi_cycle.specs.LunView.{LunView}
 use Rattle.onfi_cycle.specs.Permitted.{judge_cycle, judge_item, judge}
 use Rattle.onfi_cycle.specs.Rules.{lun_is, breaks_not_there}
@@ -26,13 +29,15 @@ use Rattle.trace_faults.specs.declared.verdict.Verdict.{Verdict}
 use Rattle.trace_faults.specs.declared.verdict.Verdict.TheVariants.{Permitted, PassedOver, Granted}
 use Rattle.trace_faults.specs.Outside.{standings_after}
 use Rattle.trace_faults.specs.Recovery.{all_inside, judged_here, gone_on, gone_on_by}
-use Rattle.trace_faults.specs.Middle.{Seen, nothing_known, known_of, knows, has_begun, is_doubtful, doubts_ready, doubts, hangs_on_before, of_cycle, of_ready, looks_of, learned, verdict_on, is_passed_over, granted_to, judged_on, seen_by, verdict_here, verdict, seen_after, broken_in}
+use Rattle.trace_faults.specs.Middle.{Seen, nothing_known, known_of, knows, has_begun, is_doubtful, doubts_ready, doubts, hangs_on_before, of_cycle, of_ready, looks_of, is_reset_cycle, is_reset, begins_here, learned, verdict_on, is_passed_over, granted_to, judged_on, seen_by, verdict_here, verdict, seen_after, broken_in}
 use Rattle.trace_faults.proofs.Judged.{standings_inside, is_inside, judged_inside}
-use Rattle.recording_laws.proofs.Changed.{below_each, known_each}
-use Rattle.recording_laws.proofs.Rules.{IsKnown, OnlyHangs, only_hangs, only_hangs_fresh, none_broken, none_broken_fresh}
+use Rattle.recording_laws.proofs.Changed.{under_each, below_each, known_each}
+use Rattle.recording_laws.proofs.Rules.{IsKnown, plain_clear, OnlyHangs, only_hangs, only_hangs_fresh, none_broken, none_broken_fresh}
 use Rattle.recording_laws.proofs.Lists.{Each}
 use Rattle.recording_laws.proofs.Targets.{FitsTarget, seen_opened, seen_fresh, granted_opened, granted_fresh, passed_over}
-use Rattle.recording_laws.proofs.Readies.{IsReady, ready_seen, ready_granted, doubted}
+use Rattle.recording_laws.proofs.Readies.{IsReady}
+use Rattle.recording_laws.proofs.Twins.{reset_judged}
+use Rattle.recording_laws.proofs.Shared.{FitsShared, FitsEither, of_plain, of_shared, alike_judged, seen_alike, reset_alike, rests_unseen, either_doubted, either_seen, either_granted}
 use Rattle.recording_laws.proofs.Walk.{verdict_is, after_is, put_here, put_length, put_nothing, known_length, FitsBus, puts, learned_there, undoubted, doubt_at}
 
 -- no rule is broken, and what is known fits
@@ -88,11 +93,11 @@ module _ (g : Parts) (bus : BusView) (seen : Seen) (i : Item) (later : List Item
   low : target_of i < length seen.known
   low = let there = x.there in let few = f.few in let known = f.known in omega (arith, there, few, known)
 
-  fits_here : FitsTarget g k x.is x.shown
+  fits_here : FitsEither g k x.is x.shown
   fits_here = f.each (target_of i) x.is x.shown x.found x.found_shown
 
   -- what is told, and what is left
-  told : (p : Bool) (v : Verdict) (next : Seen) → is_passed_over k i ≡ p → cond p PassedOver (verdict_here seen i) ≡ v → cond p seen (seen_by (verdict_here seen i) i seen) ≡ next → ((n : ℕ) → broken_in n v ≡ []) → FitsBus g (bus_after i bus) next →
+  told : (p : Bool) (v : Verdict) (next : Seen) → is_passed_over seen.state.bus.geometry k i ≡ p → cond p PassedOver (verdict_here seen i) ≡ v → cond p seen (seen_by (verdict_here seen i) i seen) ≡ next → ((n : ℕ) → broken_in n v ≡ []) → FitsBus g (bus_after i bus) next →
       Stepped g bus seen i later
   told p v next over said left none fits =
       let verdict_so : verdict Written seen i later ≡ v = verdict_is seen i later ∙ ap (λ b. cond b PassedOver (verdict_here seen i)) over ∙ said in
@@ -104,7 +109,7 @@ module _ (g : Parts) (bus : BusView) (seen : Seen) (i : Item) (later : List Item
 
   -- the channel as it is goes on, and as it is seen it does by a change of its target
   changed_fits : (h : TargetView → TargetView) (y : Known) (state : TraceState) → state.bus.geometry ≡ g → state.standings ≡ all_inside → state.bus.targets ≡ changed_at h (target_of i) seen.state.bus.targets →
-      FitsTarget g y (target_after g i x.is) (h x.shown) → FitsBus g (bus_after i bus) (record { state = state; known = slice_set seen.known (target_of i) y })
+      FitsEither g y (target_after g i x.is) (h x.shown) → FitsBus g (bus_after i bus) (record { state = state; known = slice_set seen.known (target_of i) y })
   changed_fits h y state geometry inside targets own =
       record {
         geometry = f.geometry;
@@ -117,22 +122,22 @@ module _ (g : Parts) (bus : BusView) (seen : Seen) (i : Item) (later : List Item
             puts g bus.targets seen.state.bus.targets seen.known (target_of i) y (target_after bus.geometry i) h low f.each (λ a b fa fb. mine a b fa fb) m t s ft (ap (λ (us : List TargetView). slice_get us m) (sym targets) ∙ fs);
       }
     where
-      mine : (a b : TargetView) → slice_get bus.targets (target_of i) ≡ Some a → slice_get seen.state.bus.targets (target_of i) ≡ Some b → FitsTarget g y (target_after bus.geometry i a) (h b)
+      mine : (a b : TargetView) → slice_get bus.targets (target_of i) ≡ Some a → slice_get seen.state.bus.targets (target_of i) ≡ Some b → FitsEither g y (target_after bus.geometry i a) (h b)
       mine a b fa fb =
           let same_a : x.is ≡ a = let found = x.found in cc in
           let same_b : x.shown ≡ b = let found = x.found_shown in cc in
-          rw f.geometry (subst (λ (u : TargetView). FitsTarget g y (target_after g i u) (h b)) same_a (subst (λ (u : TargetView). FitsTarget g y (target_after g i x.is) (h u)) same_b own))
+          rw f.geometry (subst (λ (u : TargetView). FitsEither g y (target_after g i u) (h b)) same_a (subst (λ (u : TargetView). FitsEither g y (target_after g i x.is) (h u)) same_b own))
 
   -- an item that is permitted by what is seen
   abbrev learned_by_it : TraceState → Known
-  learned_by_it state = learned i (looks_of seen.state.bus (target_of i)) (looks_of state.bus (target_of i)) k
+  learned_by_it state = learned seen.state.bus.geometry i (looks_of seen.state.bus (target_of i)) (looks_of state.bus (target_of i)) k
 
   next_state : judged_here seen.state i ≡ None → gone_on i seen.state ≡ gone_on_by None i seen.state
   next_state h =
       ap (λ b. cond b seen.state (gone_on_by (judged seen.state.bus i) i seen.state)) (is_inside seen.state i f.inside)
       ∙ ap (λ (o : Option Forbidden). gone_on_by o i seen.state) (sym (judged_inside seen.state i f.inside) ∙ h)
 
-  seen_step : judged_here seen.state i ≡ None → is_passed_over k i ≡ false → verdict_here seen i ≡ Permitted → FitsTarget g (learned_by_it (gone_on_by None i seen.state)) (target_after g i x.is) (target_after g i x.shown) → Stepped g bus seen i later
+  seen_step : judged_here seen.state i ≡ None → is_passed_over seen.state.bus.geometry k i ≡ false → verdict_here seen i ≡ Permitted → FitsEither g (learned_by_it (gone_on_by None i seen.state)) (target_after g i x.is) (target_after g i x.shown) → Stepped g bus seen i later
   seen_step h over said own =
       told false Permitted (record { state = gone_on_by None i seen.state; known = slice_set seen.known (target_of i) (learned_by_it (gone_on_by None i seen.state)) }) over said
       (ap (λ (v : Verdict). seen_by v i seen) said
@@ -140,7 +145,7 @@ module _ (g : Parts) (bus : BusView) (seen : Seen) (i : Item) (later : List Item
       (λ n. refl)
       (changed_fits (target_after seen.state.bus.geometry i) (learned_by_it (gone_on_by None i seen.state)) (gone_on_by None i seen.state) f.seen_geometry
       (ap (λ (xs : List Standing). standings_after None seen.state.bus i xs) f.inside ∙ standings_inside seen.state.bus i) refl
-      (subst (λ (y : Parts). FitsTarget g (learned_by_it (gone_on_by None i seen.state)) (target_after g i x.is) (target_after y i x.shown)) (sym f.seen_geometry) own))
+      (subst (λ (y : Parts). FitsEither g (learned_by_it (gone_on_by None i seen.state)) (target_after g i x.is) (target_after y i x.shown)) (sym f.seen_geometry) own))
 
   -- what is learned of its target
   shown_after : slice_get (bus_after i seen.state.bus).targets (target_of i) ≡ Some (target_after g i x.shown)
@@ -155,7 +160,7 @@ unfold_there : (n : ℕ) (luns : List LunView) (c : Cycle) → breaks_not_there 
 unfolding breaks_not_there
 unfold_there n luns c = refl
 
-module _ (g : Parts) (bus : BusView) (seen : Seen) (c : Cycle) (later : List Item) (f : FitsBus g bus seen) (x : Here g bus seen (Cyc c)) where
+module _ (g : Parts) (bus : BusView) (seen : Seen) (c : Cycle) (later : List Item) (f : FitsBus g bus seen) (x : Here g bus seen (Cyc c)) (plain : is_shared g ≡ false) where
   abbrev d : TargetCycle
   d = target_cycle c.kind c.byte
 
@@ -163,7 +168,7 @@ module _ (g : Parts) (bus : BusView) (seen : Seen) (c : Cycle) (later : List Ite
   at = known_of seen.known c.ce
 
   own : FitsTarget g at x.is x.shown
-  own = fits_here g bus seen (Cyc c) later f x
+  own = (fits_here g bus seen (Cyc c) later f x).plain plain
 
   parted : (leb (length bus.targets) c.ce ≡ false) × (judge_cycle g x.is.tail x.is.luns d ≡ None)
   parted =
@@ -184,10 +189,12 @@ module _ (g : Parts) (bus : BusView) (seen : Seen) (c : Cycle) (later : List Ite
   known_luns h = known_each at 0 x.is.luns x.shown.luns own.luns (undoubted seen.state.bus at c.ce x.shown x.found_shown own.few h)
 
   granted_fits : FitsTarget g nothing_known (target_after g (Cyc c) x.is) (without_sequence x.shown) → FitsBus g (bus_after (Cyc c) bus) (granted_to (Cyc c) seen)
-  granted_fits h = changed_fits g bus seen (Cyc c) later f x without_sequence nothing_known (record seen.state { bus = bus_without c.ce seen.state.bus }) f.seen_geometry f.inside refl h
+  granted_fits h =
+      changed_fits g bus seen (Cyc c) later f x without_sequence nothing_known (record seen.state { bus = bus_without c.ce seen.state.bus }) f.seen_geometry f.inside refl
+      (of_plain g nothing_known (target_after g (Cyc c) x.is) (without_sequence x.shown) plain h)
 
   -- a rule that is seen to be broken hangs on what was before, and some LUN is in doubt
-  granted_step : (rule : Forbidden) → judge_cycle g x.shown.tail x.shown.luns d ≡ Some rule → is_passed_over at (Cyc c) ≡ false → hangs_on_before rule ≡ true → (doubts seen.state.bus at c.ce ≡ false → judge_cycle g x.shown.tail x.shown.luns d ≡ None) →
+  granted_step : (rule : Forbidden) → judge_cycle g x.shown.tail x.shown.luns d ≡ Some rule → is_passed_over seen.state.bus.geometry at (Cyc c) ≡ false → hangs_on_before rule ≡ true → (doubts seen.state.bus at c.ce ≡ false → judge_cycle g x.shown.tail x.shown.luns d ≡ None) →
       FitsTarget g nothing_known (target_after g (Cyc c) x.is) (without_sequence x.shown) → Stepped g bus seen (Cyc c) later
   granted_step rule h over hangs known fits =
       let said : verdict_here seen (Cyc c) ≡ Granted rule = said_so (Some rule) h ∙ rule_granted (doubts seen.state.bus at c.ce) rule (in_doubt (doubts seen.state.bus at c.ce) refl) hangs in
@@ -200,9 +207,12 @@ module _ (g : Parts) (bus : BusView) (seen : Seen) (c : Cycle) (later : List Ite
   abbrev learned_own : Known
   learned_own = learned_by_it g bus seen (Cyc c) later f x (gone_on_by None (Cyc c) seen.state)
 
-  open_now : at.opened ≡ true ⊎ begins_sequence d ≡ true → is_passed_over at (Cyc c) ≡ false
+  begins_plain : begins_here seen.state.bus.geometry (Cyc c) ≡ begins_sequence d
+  begins_plain = ap (λ (y : Parts). begins_here y (Cyc c)) f.seen_geometry ∙ ap (λ (b : Bool). cond b (is_reset (Cyc c)) (begins_sequence d)) plain
+
+  open_now : at.opened ≡ true ⊎ begins_sequence d ≡ true → is_passed_over seen.state.bus.geometry at (Cyc c) ≡ false
   open_now (inl h) = rw h refl
-  open_now (inr h) = rw h (not_from_true (at.opened || true) (of at.opened))
+  open_now (inr h) = ap (λ (b : Bool). not (at.opened || b)) (begins_plain ∙ h) ∙ not_from_true (at.opened || true) (of at.opened)
     where
       of : (b : Bool) → (b || true) ≡ true
       of true = refl
@@ -210,42 +220,42 @@ module _ (g : Parts) (bus : BusView) (seen : Seen) (c : Cycle) (later : List Ite
 
   open_later : at.opened ≡ true ⊎ begins_sequence d ≡ true → learned_own.opened ≡ true
   open_later (inl h) = rw h refl
-  open_later (inr h) = rw h (of at.opened)
+  open_later (inr h) = ap (λ (b : Bool). at.opened || b) (begins_plain ∙ h) ∙ of at.opened
     where
       of : (b : Bool) → (b || true) ≡ true
       of true = refl
       of false = refl
 
   permitted_step : at.opened ≡ true ⊎ begins_sequence d ≡ true → judge_cycle g x.shown.tail x.shown.luns d ≡ None → FitsTarget g learned_own (target_after g (Cyc c) x.is) (target_after g (Cyc c) x.shown) → Stepped g bus seen (Cyc c) later
-  permitted_step some h fits = seen_step g bus seen (Cyc c) later f x (judged_so ∙ h) (open_now some) (said_so None h) fits
+  permitted_step some h fits = seen_step g bus seen (Cyc c) later f x (judged_so ∙ h) (open_now some) (said_so None h) (of_plain g learned_own (target_after g (Cyc c) x.is) (target_after g (Cyc c) x.shown) plain fits)
 
-  pub cycle_step : Stepped g bus seen (Cyc c) later
-  cycle_step = by_opened at.opened refl
+  plain_step : Stepped g bus seen (Cyc c) later
+  plain_step = by_opened at.opened refl
     where
       hangs_of : (rule : Forbidden) (o : Option Forbidden) → OnlyHangs o → o ≡ Some rule → hangs_on_before rule ≡ true
       hangs_of rule None h e = cc
       hangs_of rule (Some other) h e = let same : other ≡ rule = cc in ap hangs_on_before (sym same) ∙ h
 
       learned_now : Rattle.recording_laws.proofs.Changed.IsLearned (Cyc c) at learned_own x.shown.luns (target_after g (Cyc c) x.shown).luns
-      learned_now = learned_there (Cyc c) seen.state.bus (bus_after (Cyc c) seen.state.bus) c.ce at x.shown (target_after g (Cyc c) x.shown) x.found_shown (shown_after g bus seen (Cyc c) later f x)
+      learned_now = learned_there seen.state.bus.geometry (Cyc c) seen.state.bus (bus_after (Cyc c) seen.state.bus) c.ce at x.shown (target_after g (Cyc c) x.shown) x.found_shown (shown_after g bus seen (Cyc c) later f x)
 
       opened_known : at.opened ≡ true → doubts seen.state.bus at c.ce ≡ false → judge_cycle g x.shown.tail x.shown.luns d ≡ None
       opened_known e h =
           let o = own.opened e in
-          ap (λ w. judge_cycle g w x.shown.luns d) (sym o.tail) ∙ none_broken g x.is.luns x.shown.luns (known_luns h) x.is.tail d (keeps_rules g x.is.tail x.is.luns d kept)
+          ap (λ w. judge_cycle g w x.shown.luns d) (sym o.tail) ∙ none_broken g x.is.luns x.shown.luns (known_luns h) (plain_clear g x.is.luns x.shown.luns plain) x.is.tail d (keeps_rules g x.is.tail x.is.luns d kept)
 
       opened_step : at.opened ≡ true → (r : Option Forbidden) → judge_cycle g x.shown.tail x.shown.luns d ≡ r → Stepped g bus seen (Cyc c) later
-      opened_step e None h = permitted_step (inl e) h (seen_opened g at learned_own x.is x.shown c own e (open_later (inl e)) kept h learned_now)
+      opened_step e None h = permitted_step (inl e) h (seen_opened g plain at learned_own x.is x.shown c own e (open_later (inl e)) kept h learned_now)
       opened_step e (Some rule) h =
           let o = own.opened e in
           granted_step rule h (open_now (inl e))
-          (hangs_of rule (judge_cycle g x.is.tail x.shown.luns d) (only_hangs g x.is.tail x.is.luns x.shown.luns d (below_each at 0 x.is.luns x.shown.luns own.luns) (keeps_rules g x.is.tail x.is.luns d kept)) (ap (λ w. judge_cycle g w x.shown.luns d) o.tail ∙ h))
-          (opened_known e) (granted_opened g at x.is x.shown c own rule e kept h)
+          (hangs_of rule (judge_cycle g x.is.tail x.shown.luns d) (only_hangs g x.is.tail x.is.luns x.shown.luns d (under_each x.is.luns x.shown.luns (below_each at 0 x.is.luns x.shown.luns own.luns)) (plain_clear g x.is.luns x.shown.luns plain) (keeps_rules g x.is.tail x.is.luns d kept)) (ap (λ w. judge_cycle g w x.shown.luns d) o.tail ∙ h))
+          (opened_known e) (granted_opened g plain at x.is x.shown c own rule e kept h)
 
       fresh_hangs : (e : TargetCycle) → e ≡ d → begins_sequence e ≡ true → at.opened ≡ false → OnlyHangs (judge_cycle g x.shown.tail x.shown.luns e)
       fresh_hangs (CommandCycle y) e b h =
           subst (λ w. OnlyHangs (judge_cycle g w x.shown.luns (CommandCycle y))) (sym (own.closed h).tail)
-          (only_hangs_fresh g x.is.tail x.is.luns x.shown.luns y b (below_each at 0 x.is.luns x.shown.luns own.luns) (keeps_rules g x.is.tail x.is.luns (CommandCycle y) (ap (judge_cycle g x.is.tail x.is.luns) e ∙ kept)))
+          (only_hangs_fresh g x.is.tail x.is.luns x.shown.luns y b (under_each x.is.luns x.shown.luns (below_each at 0 x.is.luns x.shown.luns own.luns)) (plain_clear g x.is.luns x.shown.luns plain) (keeps_rules g x.is.tail x.is.luns (CommandCycle y) (ap (judge_cycle g x.is.tail x.is.luns) e ∙ kept)))
       fresh_hangs (AddressCycle byte) e b h = cc
       fresh_hangs (InputCycle byte) e b h = cc
       fresh_hangs OutputCycle e b h = cc
@@ -253,19 +263,19 @@ module _ (g : Parts) (bus : BusView) (seen : Seen) (c : Cycle) (later : List Ite
       fresh_known : (e : TargetCycle) → e ≡ d → begins_sequence e ≡ true → at.opened ≡ false → doubts seen.state.bus at c.ce ≡ false → judge_cycle g x.shown.tail x.shown.luns e ≡ None
       fresh_known (CommandCycle y) e b h doubt =
           ap (λ w. judge_cycle g w x.shown.luns (CommandCycle y)) (own.closed h).tail
-          ∙ none_broken_fresh g x.is.luns x.shown.luns (known_luns doubt) x.is.tail y b (keeps_rules g x.is.tail x.is.luns (CommandCycle y) (ap (judge_cycle g x.is.tail x.is.luns) e ∙ kept))
+          ∙ none_broken_fresh g x.is.luns x.shown.luns (known_luns doubt) (plain_clear g x.is.luns x.shown.luns plain) x.is.tail y b (keeps_rules g x.is.tail x.is.luns (CommandCycle y) (ap (judge_cycle g x.is.tail x.is.luns) e ∙ kept))
       fresh_known (AddressCycle byte) e b h doubt = cc
       fresh_known (InputCycle byte) e b h doubt = cc
       fresh_known OutputCycle e b h doubt = cc
 
       fresh_step : at.opened ≡ false → begins_sequence d ≡ true → (r : Option Forbidden) → judge_cycle g x.shown.tail x.shown.luns d ≡ r → Stepped g bus seen (Cyc c) later
-      fresh_step e b None h = permitted_step (inr b) h (seen_fresh g at learned_own x.is x.shown c own e (open_later (inr b)) b kept h learned_now)
+      fresh_step e b None h = permitted_step (inr b) h (seen_fresh g plain at learned_own x.is x.shown c own e (open_later (inr b)) b kept h learned_now)
       fresh_step e b (Some rule) h =
           granted_step rule h (open_now (inr b)) (hangs_of rule (judge_cycle g x.shown.tail x.shown.luns d) (fresh_hangs d refl b e) h) (fresh_known d refl b e)
-          (granted_fresh g at x.is x.shown c own rule e b kept h)
+          (granted_fresh g plain at x.is x.shown c own rule e b kept h)
 
-      over : at.opened ≡ false → begins_sequence d ≡ false → is_passed_over at (Cyc c) ≡ true
-      over e b = rw (e, b) refl
+      over : at.opened ≡ false → begins_sequence d ≡ false → is_passed_over seen.state.bus.geometry at (Cyc c) ≡ true
+      over e b = ap (λ (o : Bool). not (o || begins_here seen.state.bus.geometry (Cyc c))) e ∙ ap not (begins_plain ∙ b)
 
       same_known : slice_set seen.known c.ce at ≡ seen.known
       same_known = set-get_or seen.known c.ce Rattle.trace_faults.specs.Middle.all_known
@@ -274,7 +284,7 @@ module _ (g : Parts) (bus : BusView) (seen : Seen) (c : Cycle) (later : List Ite
       passed_step e b =
           told g bus seen (Cyc c) later f x true PassedOver seen (over e b) refl refl (λ n. refl)
           (subst (λ (ks : List Known). FitsBus g (bus_after (Cyc c) bus) (record { state = seen.state; known = ks })) same_known
-          (changed_fits g bus seen (Cyc c) later f x (λ s. s) at seen.state f.seen_geometry f.inside (sym (put_nothing c.ce seen.state.bus.targets)) (passed_over g at x.is x.shown c own e b kept)))
+          (changed_fits g bus seen (Cyc c) later f x (λ s. s) at seen.state f.seen_geometry f.inside (sym (put_nothing c.ce seen.state.bus.targets)) (of_plain g at (target_after g (Cyc c) x.is) x.shown plain (passed_over g plain at x.is x.shown c own e b kept))))
 
       by_begun : at.opened ≡ false → (b : Bool) → begins_sequence d ≡ b → Stepped g bus seen (Cyc c) later
       by_begun e true b = fresh_step e b (judge_cycle g x.shown.tail x.shown.luns d) refl
@@ -284,16 +294,82 @@ module _ (g : Parts) (bus : BusView) (seen : Seen) (c : Cycle) (later : List Ite
       by_opened true e = opened_step e (judge_cycle g x.shown.tail x.shown.luns d) refl
       by_opened false e = by_begun e (begins_sequence d) refl
 
+-- ---- cycles of a shared target
+
+module _ (g : Parts) (bus : BusView) (seen : Seen) (c : Cycle) (later : List Item) (f : FitsBus g bus seen) (x : Here g bus seen (Cyc c)) (shared : is_shared g ≡ true) where
+  abbrev known : Known
+  known = known_of seen.known c.ce
+
+  abbrev done : TargetCycle
+  done = target_cycle c.kind c.byte
+
+  fit : FitsShared known x.is x.shown
+  fit = (fits_here g bus seen (Cyc c) later f x).shared shared
+
+  split : (leb (length bus.targets) c.ce ≡ false) × (judge_cycle g x.is.tail x.is.luns done ≡ None)
+  split =
+      let p = first_none (breaks_not_there (length bus.targets) x.is.luns (Cyc c)) NotThere (judge_cycle g x.is.tail x.is.luns done) x.permitted in
+      (sym (unfold_there (length bus.targets) x.is.luns c) ∙ p.0, p.1)
+
+  seen_judged : judged_here seen.state (Cyc c) ≡ judge_cycle g x.shown.tail x.shown.luns done
+  seen_judged = x.judged ∙ ap (λ b. cond b (Some NotThere) (judge_cycle g x.shown.tail x.shown.luns done)) (unfold_there (length bus.targets) x.shown.luns c ∙ split.0)
+
+  begins_shared : begins_here seen.state.bus.geometry (Cyc c) ≡ is_reset_cycle done
+  begins_shared = ap (λ (y : Parts). begins_here y (Cyc c)) f.seen_geometry ∙ ap (λ (b : Bool). cond b (is_reset_cycle done) (begins_sequence done)) shared
+
+  abbrev known_later : Known
+  known_later = learned_by_it g bus seen (Cyc c) later f x (gone_on_by None (Cyc c) seen.state)
+
+  permitted : judge_cycle g x.shown.tail x.shown.luns done ≡ None → is_passed_over seen.state.bus.geometry known (Cyc c) ≡ false → FitsShared known_later (target_after g (Cyc c) x.is) (target_after g (Cyc c) x.shown) → Stepped g bus seen (Cyc c) later
+  permitted h over fits =
+      seen_step g bus seen (Cyc c) later f x (seen_judged ∙ h) over (ap (of_cycle (doubts seen.state.bus known c.ce)) (seen_judged ∙ h))
+      (of_shared g known_later (target_after g (Cyc c) x.is) (target_after g (Cyc c) x.shown) shared fits)
+
+  reset_is : (d : TargetCycle) → is_reset_cycle d ≡ true → d ≡ CommandCycle Reset
+  reset_is (CommandCycle Reset) h = refl
+  reset_is d h = cc
+
+  or_true : (b : Bool) → (b || true) ≡ true
+  or_true true = refl
+  or_true false = refl
+
+  shared_step : Stepped g bus seen (Cyc c) later
+  shared_step = at known.opened refl (is_reset_cycle done) refl
+    where
+      at : (b : Bool) → known.opened ≡ b → (r : Bool) → is_reset_cycle done ≡ r → Stepped g bus seen (Cyc c) later
+      at true e r is =
+          permitted (alike_judged g known known_later x.is x.shown c fit e split.1)
+          (ap (λ (o : Bool). not (o || begins_here seen.state.bus.geometry (Cyc c))) e)
+          (seen_alike g known known_later x.is x.shown c fit e (ap (λ (o : Bool). o || begins_here seen.state.bus.geometry (Cyc c)) e) split.1)
+      at false e true is =
+          let reset = reset_is done is in
+          permitted
+          (ap (λ (d : TargetCycle). judge_cycle g x.shown.tail x.shown.luns d) reset ∙ ap (λ (u : TailFacts). judge_cycle g u x.shown.luns (CommandCycle Reset)) (fit.closed e).tail ∙ reset_judged g x.shown.luns shared)
+          (ap (λ (o : Bool). not (known.opened || o)) (begins_shared ∙ is) ∙ not_from_true (known.opened || true) (or_true known.opened))
+          (reset_alike g known known_later x.is x.shown c fit shared reset (ap (λ (o : Bool). known.opened || o) (begins_shared ∙ is) ∙ or_true known.opened))
+      at false e false is =
+          told g bus seen (Cyc c) later f x true PassedOver seen (ap (λ (o : Bool). not (o || begins_here seen.state.bus.geometry (Cyc c))) e ∙ ap not (begins_shared ∙ is)) refl refl (λ n. refl)
+          (subst (λ (ks : List Known). FitsBus g (bus_after (Cyc c) bus) (record { state = seen.state; known = ks })) (set-get_or seen.known c.ce Rattle.trace_faults.specs.Middle.all_known)
+          (changed_fits g bus seen (Cyc c) later f x (λ s. s) known seen.state f.seen_geometry f.inside (sym (put_nothing c.ce seen.state.bus.targets))
+          (of_shared g known (target_after g (Cyc c) x.is) x.shown shared (rests_unseen g known known_later x.is x.shown c fit e))))
+
+pub cycle_step : (g : Parts) (bus : BusView) (seen : Seen) (c : Cycle) (later : List Item) (f : FitsBus g bus seen) (x : Here g bus seen (Cyc c)) → Stepped g bus seen (Cyc c) later
+cycle_step g bus seen c later f x = at (is_shared g) refl
+  where
+    at : (b : Bool) → is_shared g ≡ b → Stepped g bus seen (Cyc c) later
+    at true e = shared_step g bus seen c later f x e
+    at false e = plain_step g bus seen c later f x e
+
 -- ---- readies
 
 module _ (g : Parts) (bus : BusView) (seen : Seen) (i : Item) (later : List Item) (f : FitsBus g bus seen) (x : Here g bus seen i) (lun : ℕ) (e : Rattle.onfi_cycle.specs.declared.effect.Effect.Effect) (works : LunView → Bool) (is : IsReady i lun e works)
     (there : (n : ℕ) (luns : List LunView) → breaks_not_there n luns i ≡ (leb n (target_of i) || not (lun_is works luns lun))) (plain : (t : TargetView) → judge_item g t.tail t.luns i ≡ None)
-    (says : verdict_here seen i ≡ of_ready (doubts_ready seen.state.bus (known_of seen.known (target_of i)) (target_of i) lun) (judged_here seen.state i)) (never : is_passed_over (known_of seen.known (target_of i)) i ≡ false)
-    (grants_nothing : (rule : Forbidden) → seen_by (Granted rule) i seen ≡ seen) (opens_nothing : (before after : BusView) → (learned i (looks_of before (target_of i)) (looks_of after (target_of i)) (known_of seen.known (target_of i))).opened ≡ (known_of seen.known (target_of i)).opened) where
+    (says : verdict_here seen i ≡ of_ready (doubts_ready seen.state.bus (known_of seen.known (target_of i)) (target_of i) lun) (judged_here seen.state i)) (never : is_passed_over seen.state.bus.geometry (known_of seen.known (target_of i)) i ≡ false)
+    (grants_nothing : (rule : Forbidden) → seen_by (Granted rule) i seen ≡ seen) (opens_nothing : (before after : BusView) → (learned seen.state.bus.geometry i (looks_of before (target_of i)) (looks_of after (target_of i)) (known_of seen.known (target_of i))).opened ≡ (known_of seen.known (target_of i)).opened) where
   abbrev of_it : Known
   of_it = known_of seen.known (target_of i)
 
-  mine : FitsTarget g of_it x.is x.shown
+  mine : FitsEither g of_it x.is x.shown
   mine = fits_here g bus seen i later f x
 
   split_there : (leb (length bus.targets) (target_of i) ≡ false) × (lun_is works x.is.luns lun ≡ true)
@@ -320,7 +396,7 @@ module _ (g : Parts) (bus : BusView) (seen : Seen) (i : Item) (later : List Item
 
       doubt : lun_is works x.shown.luns lun ≡ false → doubts_ready seen.state.bus of_it (target_of i) lun ≡ true
       doubt h =
-          let y = doubted i lun e works is g of_it of_it x.is x.shown mine split_there.1 h in
+          let y = either_doubted i lun e works is g of_it of_it x.is x.shown mine split_there.1 h in
           doubt_at seen.state.bus of_it (target_of i) lun x.shown y.lun_seen x.found_shown y.found (has_begun (knows of_it lun)) ∙ not_from_false (has_begun (knows of_it lun)) y.none
 
       said : lun_is works x.shown.luns lun ≡ false → verdict_here seen i ≡ Granted NotThere
@@ -332,11 +408,11 @@ module _ (g : Parts) (bus : BusView) (seen : Seen) (i : Item) (later : List Item
       at : (b : Bool) → lun_is works x.shown.luns lun ≡ b → Stepped g bus seen i later
       at true h =
           seen_step g bus seen i later f x (works_there h) never (says ∙ ap (of_ready (doubts_ready seen.state.bus of_it (target_of i) lun)) (works_there h))
-          (ready_seen i lun e works is g of_it (learned_by_it g bus seen i later f x (gone_on_by None i seen.state)) x.is x.shown mine h
-          (learned_there i seen.state.bus (bus_after i seen.state.bus) (target_of i) of_it x.shown (target_after g i x.shown) x.found_shown (shown_after g bus seen i later f x))
+          (either_seen i lun e works is g of_it (learned_by_it g bus seen i later f x (gone_on_by None i seen.state)) x.is x.shown mine h
+          (learned_there seen.state.bus.geometry i seen.state.bus (bus_after i seen.state.bus) (target_of i) of_it x.shown (target_after g i x.shown) x.found_shown (shown_after g bus seen i later f x))
           (opens_nothing seen.state.bus (bus_after i seen.state.bus)))
       at false h =
-          let y = doubted i lun e works is g of_it of_it x.is x.shown mine split_there.1 h in
+          let y = either_doubted i lun e works is g of_it of_it x.is x.shown mine split_there.1 h in
           told g bus seen i later f x false (Granted NotThere) seen never (said h) (ap (λ (v : Verdict). seen_by v i seen) (said h) ∙ grants_nothing NotThere) (λ n. refl)
           (subst (λ (ks : List Known). FitsBus g (bus_after i bus) (record { state = seen.state; known = ks })) (set-get_or seen.known (target_of i) Rattle.trace_faults.specs.Middle.all_known)
-          (changed_fits g bus seen i later f x (λ s. s) of_it seen.state f.seen_geometry f.inside (sym (put_nothing (target_of i) seen.state.bus.targets)) (ready_granted i lun e works is g of_it of_it x.is x.shown mine h y.none)))
+          (changed_fits g bus seen i later f x (λ s. s) of_it seen.state f.seen_geometry f.inside (sym (put_nothing (target_of i) seen.state.bus.targets)) (either_granted i lun e works is g of_it of_it x.is x.shown mine split_there.1 h y.none)))

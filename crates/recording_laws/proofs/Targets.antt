@@ -21,7 +21,7 @@ use Rattle.onfi_cycle.specs.declared.target_cycle.TargetCycle.{TargetCycle}
 use Rattle.onfi_cycle.specs.declared.target_cycle.TargetCycle.TheVariants.{CommandCycle, AddressCycle, InputCycle, OutputCycle}
 use Rattle.onfi_cycle.specs.Bounds.{is_read}
 use Rattle.onfi_cycle.specs.Command.{is_opener, at_last_row, is_change_read_column}
-use Rattle.onfi_cycle.specs.Effect.{names_lun, page_address, address_effect, opening_address_effect, cycle_effect}
+use Rattle.onfi_cycle.specs.Effect.{is_shared, names_lun, page_address, address_effect, opening_address_effect, cycle_effect}
 use Rattle.onfi_cycle.specs.Lun.{view_after}
 use Rattle.onfi_cycle.specs.LunView.{LunView}
 use Rattle.onfi_cycle.specs.Permitted.{judge_cycle}
@@ -33,8 +33,8 @@ use Rattle.trace_faults.specs.declared.known.Known.{Known}
 use Rattle.trace_faults.specs.Middle.{nothing_known, is_reset_cycle}
 use Rattle.recording_laws.proofs.Luns.{IsBelow, IsHarmless}
 use Rattle.recording_laws.proofs.Lists.{Each}
-use Rattle.recording_laws.proofs.Rules.{five_of, judged_five, judged_five_fresh}
-use Rattle.recording_laws.proofs.Changed.{changed, changed_length, AtEach, at_each, AllFit, below_each, GoEach, all_fit_on, IsLearned, learns_each, below_unseen, all_nothing}
+use Rattle.recording_laws.proofs.Rules.{five_of, IsClear, plain_clear, judged_five, judged_five_fresh}
+use Rattle.recording_laws.proofs.Changed.{changed, changed_length, AtEach, at_each, AllFit, under_each, below_each, GoEach, all_fit_on, IsLearned, learns_each, below_unseen, all_nothing}
 use Rattle.recording_laws.proofs.Cycles.{by_cycle, luns_by_cycle, ReadsClear, go_command, go_opener, go_address, go_input, go_output}
 use Rattle.recording_laws.proofs.Unseen.{NoneQueued, MayCome, may_come_on, unseen_harmless, quiet_command}
 use Rattle.recording_laws.proofs.Granted.{is_sound, is_sound_by, sound_after, is_granted, command_granted, command_comes, Comes, address_granted, input_granted, output_granted}
@@ -192,7 +192,7 @@ reads_clear g u ts h = at_each (ReadsClear g u) ts (λ m t found r names. h r m 
 
 -- ---- 3. a cycle that is seen
 
-module _ (g : Parts) (k later : Known) (t s : TargetView) (c : Cycle) (f : FitsTarget g k t s) where
+module _ (g : Parts) (plain : is_shared g ≡ false) (k later : Known) (t s : TargetView) (c : Cycle) (f : FitsTarget g k t s) where
   abbrev cycle : TargetCycle
   cycle = target_cycle c.kind c.byte
 
@@ -211,10 +211,10 @@ module _ (g : Parts) (k later : Known) (t s : TargetView) (c : Cycle) (f : FitsT
 
   go_cycle : (u : TailFacts) (d : TargetCycle) → d ≡ cycle → KeepsRules g u t.luns d → KeepsRules g u s.luns d → (opened (λ c n. is_change_read_column c) u.opening ≡ true → (has_driver t.luns ≡ true) × (has_driver s.luns ≡ true)) →
       (opened (λ c n. is_read c && n == 5) u.opening ≡ true → NoneQueued g (row u) t.luns) → GoEach (Cyc c) k (by_cycle g u (has_driver t.luns) d) (by_cycle g u (has_driver s.luns) d) 0 t.luns s.luns
-  go_cycle u (CommandCycle x) e a b column read = go_command g (Cyc c) k t.luns s.luns each u x (λ h. ap is_reset_cycle e ∙ h) a b column (reads_clear g u t.luns read)
-  go_cycle u (AddressCycle byte) e a b column read = go_address g (Cyc c) k t.luns s.luns each u byte (λ h. ap is_reset_cycle e ∙ h)
-  go_cycle u (InputCycle byte) e a b column read = go_input g (Cyc c) k t.luns s.luns each u byte (λ h. ap is_reset_cycle e ∙ h)
-  go_cycle u OutputCycle e a b column read = go_output g (Cyc c) k t.luns s.luns each u (λ h. ap is_reset_cycle e ∙ h) a b
+  go_cycle u (CommandCycle x) e a b column read = go_command g plain (Cyc c) k t.luns s.luns each u x (λ h. ap is_reset_cycle e ∙ h) a b column (reads_clear g u t.luns read)
+  go_cycle u (AddressCycle byte) e a b column read = go_address g plain (Cyc c) k t.luns s.luns each u byte (λ h. ap is_reset_cycle e ∙ h)
+  go_cycle u (InputCycle byte) e a b column read = go_input g plain (Cyc c) k t.luns s.luns each u byte (λ h. ap is_reset_cycle e ∙ h)
+  go_cycle u OutputCycle e a b column read = go_output g plain (Cyc c) k t.luns s.luns each u (λ h. ap is_reset_cycle e ∙ h) a b
 
   -- a cycle of a target of which an opener was seen
   pub seen_opened : k.opened ≡ true → later.opened ≡ true → judge_cycle g t.tail t.luns cycle ≡ None → judge_cycle g s.tail s.luns cycle ≡ None → IsLearned (Cyc c) k later s.luns (target_after g (Cyc c) s).luns →
@@ -269,10 +269,10 @@ fresh_of g (AddressCycle byte) u h = cc
 fresh_of g (InputCycle byte) u h = cc
 fresh_of g OutputCycle u h = cc
 
-module _ (g : Parts) (k later : Known) (t s : TargetView) (c : Cycle) (f : FitsTarget g k t s) where
+module _ (g : Parts) (plain : is_shared g ≡ false) (k later : Known) (t s : TargetView) (c : Cycle) (f : FitsTarget g k t s) where
   go_fresh : (u : TailFacts) (d : TargetCycle) → d ≡ target_cycle c.kind c.byte → begins_sequence d ≡ true → KeepsRules g u t.luns d → KeepsRules g (facts_of []) s.luns d →
       GoEach (Cyc c) k (by_cycle g u (has_driver t.luns) d) (by_cycle g (facts_of []) (has_driver s.luns) d) 0 t.luns s.luns
-  go_fresh u (CommandCycle x) e h a b = go_opener g (Cyc c) k t.luns s.luns (each g k later t s c f) u x h (λ y. ap is_reset_cycle e ∙ y) a b
+  go_fresh u (CommandCycle x) e h a b = go_opener g plain (Cyc c) k t.luns s.luns (each g plain k later t s c f) u x h (λ y. ap is_reset_cycle e ∙ y) a b
   go_fresh u (AddressCycle byte) e h a b = cc
   go_fresh u (InputCycle byte) e h a b = cc
   go_fresh u OutputCycle e h a b = cc
@@ -281,8 +281,8 @@ module _ (g : Parts) (k later : Known) (t s : TargetView) (c : Cycle) (f : FitsT
       IsLearned (Cyc c) k later s.luns (target_after g (Cyc c) s).luns → FitsTarget g later (target_after g (Cyc c) t) (target_after g (Cyc c) s)
   seen_fresh was later_open begins permitted seen learned =
       record {
-        few = few_after g k later t s c f s.tail;
-        luns = fit_after g k later t s c f t.tail s.tail (subst (λ (w : TailFacts). GoEach (Cyc c) k (by_cycle g t.tail (has_driver t.luns) d) (by_cycle g w (has_driver s.luns) d) 0 t.luns s.luns) (sym q.tail) (go_fresh t.tail d refl begins a b)) learned;
+        few = few_after g plain k later t s c f s.tail;
+        luns = fit_after g plain k later t s c f t.tail s.tail (subst (λ (w : TailFacts). GoEach (Cyc c) k (by_cycle g t.tail (has_driver t.luns) d) (by_cycle g w (has_driver s.luns) d) 0 t.luns s.luns) (sym q.tail) (go_fresh t.tail d refl begins a b)) learned;
         opened = λ h. record {
           tail = fresh.same s.tail;
           some = fresh.some;
@@ -313,7 +313,10 @@ module _ (g : Parts) (k later : Known) (t s : TargetView) (c : Cycle) (f : FitsT
 
 -- ---- 5. a cycle that is taken for granted, or passed over
 
-module _ (g : Parts) (k : Known) (t s : TargetView) (c : Cycle) (f : FitsTarget g k t s) where
+module _ (g : Parts) (plain : is_shared g ≡ false) (k : Known) (t s : TargetView) (c : Cycle) (f : FitsTarget g k t s) where
+  abbrev clear : is_shared g ≡ true → IsClear t.luns s.luns
+  clear = plain_clear g t.luns s.luns plain
+
   below : Each IsBelow t.luns s.luns
   below = below_each k 0 t.luns s.luns f.luns
 
@@ -338,9 +341,9 @@ module _ (g : Parts) (k : Known) (t s : TargetView) (c : Cycle) (f : FitsTarget 
       record { comes = command_comes g t.tail s.luns x grant; harmless = λ la n v. command_granted g t.tail la x n v grant }
 
   open_comes : (d : TargetCycle) (rule : Forbidden) → KeepsRules g t.tail t.luns d → IsOpened g t s → judge_cycle g t.tail s.luns d ≡ Some rule → Comes g t.tail s.luns d
-  open_comes (CommandCycle x) rule a o h = by_command t.tail x rule (sym (judged_five g t.tail t.luns s.luns (CommandCycle x) below a) ∙ h)
-  open_comes (AddressCycle byte) rule a o h = address_granted g t.tail t.luns s.luns byte rule below a o.some o.sound (sym (judged_five g t.tail t.luns s.luns (AddressCycle byte) below a) ∙ h)
-  open_comes (InputCycle byte) rule a o h = absurd (input_granted g t.tail t.luns s.luns byte rule a (sym (judged_five g t.tail t.luns s.luns (InputCycle byte) below a) ∙ h))
+  open_comes (CommandCycle x) rule a o h = by_command t.tail x rule (sym (judged_five g t.tail t.luns s.luns (CommandCycle x) (under_each t.luns s.luns below) clear a) ∙ h)
+  open_comes (AddressCycle byte) rule a o h = address_granted g t.tail t.luns s.luns byte rule below a o.some o.sound (sym (judged_five g t.tail t.luns s.luns (AddressCycle byte) (under_each t.luns s.luns below) clear a) ∙ h)
+  open_comes (InputCycle byte) rule a o h = absurd (input_granted g t.tail t.luns s.luns byte rule a (sym (judged_five g t.tail t.luns s.luns (InputCycle byte) (under_each t.luns s.luns below) clear a) ∙ h))
   open_comes OutputCycle rule a o h = output_granted g t.tail s.luns o.some
 
   pub granted_opened : (rule : Forbidden) → k.opened ≡ true → judge_cycle g t.tail t.luns (target_cycle c.kind c.byte) ≡ None → judge_cycle g s.tail s.luns (target_cycle c.kind c.byte) ≡ Some rule →
@@ -350,7 +353,7 @@ module _ (g : Parts) (k : Known) (t s : TargetView) (c : Cycle) (f : FitsTarget 
       by_comes (open_comes (target_cycle c.kind c.byte) rule (keeps_rules g t.tail t.luns (target_cycle c.kind c.byte) permitted) o (ap (λ (w : TailFacts). judge_cycle g w s.luns (target_cycle c.kind c.byte)) o.tail ∙ h))
 
   fresh_comes : (d : TargetCycle) (rule : Forbidden) → begins_sequence d ≡ true → KeepsRules g t.tail t.luns d → judge_cycle g (facts_of []) s.luns d ≡ Some rule → Comes g t.tail s.luns d
-  fresh_comes (CommandCycle x) rule begins a h = by_command (facts_of []) x rule (sym (judged_five_fresh g t.tail t.luns s.luns x begins below a) ∙ h)
+  fresh_comes (CommandCycle x) rule begins a h = by_command (facts_of []) x rule (sym (judged_five_fresh g t.tail t.luns s.luns x begins (under_each t.luns s.luns below) clear a) ∙ h)
   fresh_comes (AddressCycle byte) rule begins a h = cc
   fresh_comes (InputCycle byte) rule begins a h = cc
   fresh_comes OutputCycle rule begins a h = cc
@@ -367,7 +370,7 @@ module _ (g : Parts) (k : Known) (t s : TargetView) (c : Cycle) (f : FitsTarget 
       let a = keeps_rules g t.tail t.luns (target_cycle c.kind c.byte) permitted in
       record {
         few = f.few;
-        luns = subst (λ (x : Known). AllFit x 0 (target_after g (Cyc c) t).luns s.luns) (sym q.nothing) (left_below (λ la n v found. unseen_harmless g t.tail t.luns s.luns (target_cycle c.kind c.byte) begins a q.comes n v found la));
+        luns = subst (λ (x : Known). AllFit x 0 (target_after g (Cyc c) t).luns s.luns) (sym q.nothing) (left_below (λ la n v found. unseen_harmless g plain t.tail t.luns s.luns (target_cycle c.kind c.byte) begins a q.comes n v found la));
         opened = λ h. cc;
         closed = λ h. record { tail = q.tail; nothing = q.nothing; comes = may_come_on g t.tail t.luns s.luns (target_cycle c.kind c.byte) begins a q.comes };
       }

@@ -1,5 +1,5 @@
 -- What may still come of a sequence that isn't seen, and what is seen meanwhile.
-use Rattle.std.proofs.Common.{◌≡◌, ◌⊎◌, inl, inr, ℕ, ◌+◌, ◌==◌, Bool, true, false, cond, not, ◌&&◌, ◌||◌, ltb, List, [], Option, Some, None, refl, sym, ap, slice_get, eqb-true, true≢false}
+use Rattle.std.proofs.Common.{◌≡◌, ◌⊎◌, inl, inr, ℕ, ◌+◌, ◌==◌, Bool, true, false, cond, not, ◌&&◌, ◌||◌, ltb, List, [], Option, Some, None, refl, sym, ap, subst, slice_get, eqb-true, true≢false}
 use Rattle.std.proofs.lemmas.Bool.{and_parts, or_parts, not-true, not-false}
 use Rattle.nand_geometry.specs.declared.parts.Parts.{Parts}
 use Rattle.nand_geometry.specs.Row.{row_of}
@@ -8,7 +8,7 @@ use Rattle.onfi_cycle.specs.declared.command.Command.TheVariants.{ReadConfirm, C
 use Rattle.onfi_cycle.specs.declared.data_phase.DataPhase.{DataPhase}
 use Rattle.onfi_cycle.specs.declared.data_phase.DataPhase.TheVariants.{Outside, Inputs, FirstColumn, SecondColumn, FeatureInputs}
 use Rattle.onfi_cycle.specs.declared.effect.Effect.{Effect}
-use Rattle.onfi_cycle.specs.declared.effect.Effect.TheVariants.{Unaffected, IdRead, IdentityRead, UniqueIdReadStarted, FeaturesReadStarted, FeaturesSet, ParameterPageReadStarted, ReadColumnChanged, DataOutput}
+use Rattle.onfi_cycle.specs.declared.effect.Effect.TheVariants.{Unaffected, IdRead, IdentityRead, UniqueIdReadStarted, FeaturesReadStarted, FeaturesSet, ParameterPageReadStarted, ReadColumnChanged, DataOutput, AnotherAddressed}
 use Rattle.onfi_cycle.specs.declared.latch.Latch.{Latch}
 use Rattle.onfi_cycle.specs.declared.opening.Opening.{Opening}
 use Rattle.onfi_cycle.specs.declared.tail_facts.TailFacts.{TailFacts}
@@ -16,8 +16,8 @@ use Rattle.onfi_cycle.specs.declared.target_cycle.TargetCycle.{TargetCycle}
 use Rattle.onfi_cycle.specs.declared.target_cycle.TargetCycle.TheVariants.{CommandCycle, AddressCycle, InputCycle, OutputCycle}
 use Rattle.onfi_cycle.specs.Bounds.{is_block_erase}
 use Rattle.onfi_cycle.specs.declared.row_bytes.RowBytes.{RowBytes}
-use Rattle.onfi_cycle.specs.Command.{is_opener, closes, address_cycles, takes_address, is_page_program}
-use Rattle.onfi_cycle.specs.Effect.{is_off, is_data, confirm_effect, names_lun, command_effect, id_effect, address_effect, opening_address_effect, cycle_effect, ends_features}
+use Rattle.onfi_cycle.specs.Command.{is_opener, closes_row, is_read_confirm, closes, address_cycles, takes_address, is_page_program}
+use Rattle.onfi_cycle.specs.Effect.{is_off, is_data, is_shared, of_target, other_effect, confirm_effect, names_lun, command_effect, id_effect, address_effect, opening_address_effect, cycle_effect, ends_features}
 use Rattle.onfi_cycle.specs.LunView.{LunView}
 use Rattle.onfi_cycle.specs.Rules.{breaks_command_misplaced, breaks_address_misplaced, is_undeclared_address}
 use Rattle.onfi_cycle.specs.Sequence.{begins_sequence, one_address_more, row_after_address, wants_column, opened, takes_data, phase_after_command, phase_after_address, phase_after_last_address, phase_after_input, wants_address, wants_command, row, extended_facts, facts_after}
@@ -206,6 +206,29 @@ pub harmless_if : (b : Bool) (x : Effect) (s : LunView) → (b ≡ true → IsHa
 harmless_if true x s h = h refl
 harmless_if false x s h = tt
 
+harmless_or : (b : Bool) (x y : Effect) (s : LunView) → (b ≡ true → IsHarmless x s) → IsHarmless y s → IsHarmless (cond b x y) s
+harmless_or true x y s h k = h refl
+harmless_or false x y s h k = k
+
+-- where a target isn't shared, the closer of a row does nothing to another LUN
+pub other_plain : (g : Parts) (t : TailFacts) (c : Command) → is_shared g ≡ false → other_effect g t c ≡ Unaffected
+other_plain g t c plain = rw plain (at (closes_row c) (wants_command t c))
+  where
+    at : (a b : Bool) → cond (a && (b && false)) (AnotherAddressed (is_read_confirm c)) Unaffected ≡ Unaffected
+    at true true = refl
+    at true false = refl
+    at false b = refl
+
+other_harmless : (g : Parts) (t : TailFacts) (c : Command) (s : LunView) → is_shared g ≡ false → IsHarmless (other_effect g t c) s
+other_harmless g t c s plain = subst (λ (e : Effect). IsHarmless e s) (sym (other_plain g t c plain)) tt
+
+-- and what is done for a whole target is done by each LUN
+pub target_plain : (g : Parts) (n : ℕ) (e : Effect) → is_shared g ≡ false → of_target g n e ≡ e
+target_plain g n e plain = rw plain refl
+
+target_harmless : (g : Parts) (n : ℕ) (e : Effect) (s : LunView) → is_shared g ≡ false → IsHarmless e s → IsHarmless (of_target g n e) s
+target_harmless g n e s plain h = subst (λ (x : Effect). IsHarmless x s) (sym (target_plain g n e plain)) h
+
 pub harmless_unless : (b : Bool) (x : Effect) (s : LunView) → IsHarmless x s → IsHarmless (cond b Unaffected x) s
 harmless_unless true x s h = tt
 harmless_unless false x s h = h
@@ -249,14 +272,14 @@ program_loud o FirstColumn q h = cc
 program_loud o SecondColumn q h = cc
 
 -- an address after such an opener
-module _ (g : Parts) (t : TailFacts) (byte m : ℕ) (s : LunView) where
+module _ (g : Parts) (t : TailFacts) (byte m : ℕ) (s : LunView) (plain : is_shared g ≡ false) where
   quiet_address : (c : Command) (n : ℕ) → is_led c ≡ false → IsHarmless (address_effect g t byte c n m) s
   quiet_address ReadStatusEnhanced n h = cc
   quiet_address ResetLun n h = cc
-  quiet_address ReadId n h = harmless_if (wants_address t byte) (id_effect byte) s (λ w. id_harmless byte s)
-  quiet_address ReadParameterPage n h = harmless_if (wants_address t byte) ParameterPageReadStarted s (λ w. tt)
-  quiet_address ReadUniqueId n h = harmless_if (wants_address t byte) UniqueIdReadStarted s (λ w. tt)
-  quiet_address GetFeatures n h = harmless_if (wants_address t byte) (FeaturesReadStarted byte) s (λ w. tt)
+  quiet_address ReadId n h = harmless_if (wants_address t byte) (of_target g m (id_effect byte)) s (λ w. target_harmless g m (id_effect byte) s plain (id_harmless byte s))
+  quiet_address ReadParameterPage n h = harmless_if (wants_address t byte) (of_target g m ParameterPageReadStarted) s (λ w. target_harmless g m ParameterPageReadStarted s plain tt)
+  quiet_address ReadUniqueId n h = harmless_if (wants_address t byte) (of_target g m UniqueIdReadStarted) s (λ w. target_harmless g m UniqueIdReadStarted s plain tt)
+  quiet_address GetFeatures n h = harmless_if (wants_address t byte) (of_target g m (FeaturesReadStarted byte)) s (λ w. target_harmless g m (FeaturesReadStarted byte) s plain tt)
   quiet_address c n h = tt
 
   erase_address : (c : Command) (n : ℕ) → is_block_erase c ≡ true → IsHarmless (address_effect g t byte c n m) s
@@ -276,34 +299,34 @@ module _ (g : Parts) (t : TailFacts) (byte m : ℕ) (s : LunView) where
   address_harmless ss (Some o) SecondColumn r (inr n) = absurd (true≢false (sym n.0))
   address_harmless ss (Some o) FeatureInputs r (inr n) = absurd (true≢false (sym n.0))
 
-module _ (g : Parts) (t : TailFacts) (la : Latch) (ss : List LunView) (m : ℕ) (s : LunView) (found : slice_get ss m ≡ Some s) (h : Comes g ss t.opening t.phase (row t)) where
+module _ (g : Parts) (t : TailFacts) (la : Latch) (ss : List LunView) (m : ℕ) (s : LunView) (found : slice_get ss m ≡ Some s) (h : Comes g ss t.opening t.phase (row t)) (plain : is_shared g ≡ false) where
   -- a closer of an erase or a program, by the row of the tail
-  closes_nothing : (w : Bool) (x : Effect) → (IsHarmless x s ≡ (s.queue ≡ [])) → (is_quiet_by t.opening t.phase ≡ true → w ≡ true → ⊥) → IsHarmless (cond (w && names_lun g (row t) m) x Unaffected) s
-  closes_nothing w x is loud = harmless_if (w && names_lun g (row t) m) x s (λ b. at (and_parts w (names_lun g (row t) m) b).0 (and_parts w (names_lun g (row t) m) b).1 h)
+  closes_nothing : (w : Bool) (x : Effect) (c : Command) → (IsHarmless x s ≡ (s.queue ≡ [])) → (is_quiet_by t.opening t.phase ≡ true → w ≡ true → ⊥) → IsHarmless (cond (w && names_lun g (row t) m) x (other_effect g t c)) s
+  closes_nothing w x c is loud = harmless_or (w && names_lun g (row t) m) x (other_effect g t c) s (λ b. at (and_parts w (names_lun g (row t) m) b).0 (and_parts w (names_lun g (row t) m) b).1 h) (other_harmless g t c s plain)
     where
       at : w ≡ true → names_lun g (row t) m ≡ true → Comes g ss t.opening t.phase (row t) → IsHarmless x s
       at a b (inl q) = absurd (loud q a)
       at a b (inr n) = rw is (n.1 m s found b)
 
   command_harmless : (c : Command) → is_opener c ≡ false → wants_command t c ≡ true → IsHarmless (command_effect g t la c m) s
-  command_harmless ReadConfirm o w = harmless_if (wants_command t ReadConfirm && names_lun g (row t) m) (confirm_effect g t ReadConfirm) s (λ b. tt)
+  command_harmless ReadConfirm o w = harmless_or (wants_command t ReadConfirm && names_lun g (row t) m) (confirm_effect g t ReadConfirm) (other_effect g t ReadConfirm) s (λ b. tt) (other_harmless g t ReadConfirm s plain)
   command_harmless ChangeReadColumnConfirm o w = harmless_if (wants_command t ChangeReadColumnConfirm && not (is_off la)) (ReadColumnChanged t.column) s (λ b. tt)
-  command_harmless BlockEraseConfirm o w = closes_nothing (wants_command t BlockEraseConfirm) (confirm_effect g t BlockEraseConfirm) refl (erase_loud t.opening t.phase)
-  command_harmless BlockErasePlane o w = closes_nothing (wants_command t BlockErasePlane) (confirm_effect g t BlockErasePlane) refl (plane_loud t.opening t.phase)
+  command_harmless BlockEraseConfirm o w = closes_nothing (wants_command t BlockEraseConfirm) (confirm_effect g t BlockEraseConfirm) BlockEraseConfirm refl (erase_loud t.opening t.phase)
+  command_harmless BlockErasePlane o w = closes_nothing (wants_command t BlockErasePlane) (confirm_effect g t BlockErasePlane) BlockErasePlane refl (plane_loud t.opening t.phase)
   command_harmless ChangeWriteColumn o w = harmless_if (wants_command t ChangeWriteColumn && names_lun g (row t) m) Unaffected s (λ b. tt)
-  command_harmless ProgramConfirm o w = closes_nothing (wants_command t ProgramConfirm) (confirm_effect g t ProgramConfirm) refl (program_loud t.opening t.phase)
-  command_harmless ProgramPlane o w = closes_nothing (wants_command t ProgramPlane) (confirm_effect g t ProgramPlane) refl (program_loud t.opening t.phase)
+  command_harmless ProgramConfirm o w = closes_nothing (wants_command t ProgramConfirm) (confirm_effect g t ProgramConfirm) ProgramConfirm refl (program_loud t.opening t.phase)
+  command_harmless ProgramPlane o w = closes_nothing (wants_command t ProgramPlane) (confirm_effect g t ProgramPlane) ProgramPlane refl (program_loud t.opening t.phase)
   command_harmless Unknown o w = harmless_if (wants_command t Unknown && names_lun g (row t) m) Unaffected s (λ b. tt)
   command_harmless c o w = cc
 
-pub unseen_harmless : (g : Parts) (t : TailFacts) (ts ss : List LunView) (cycle : TargetCycle) → begins_sequence cycle ≡ false → KeepsRules g t ts cycle → MayCome g t ss →
+pub unseen_harmless : (g : Parts) → is_shared g ≡ false → (t : TailFacts) (ts ss : List LunView) (cycle : TargetCycle) → begins_sequence cycle ≡ false → KeepsRules g t ts cycle → MayCome g t ss →
     (m : ℕ) (s : LunView) → slice_get ss m ≡ Some s → (la : Latch) → IsHarmless (cycle_effect g t la cycle m) s
-unseen_harmless g t ts ss cycle begins k m n s found la = elim (comes_of g t ss m) [ inl b ↦ blank_harmless (cycle_effect g t la cycle n) s (b n s found) | inr c ↦ at cycle begins k c ]
+unseen_harmless g plain t ts ss cycle begins k m n s found la = elim (comes_of g t ss m) [ inl b ↦ blank_harmless (cycle_effect g t la cycle n) s (b n s found) | inr c ↦ at cycle begins k c ]
   where
     at : (cycle : TargetCycle) → begins_sequence cycle ≡ false → KeepsRules g t ts cycle → Comes g ss t.opening t.phase (row t) → IsHarmless (cycle_effect g t la cycle n) s
-    at (CommandCycle c) b k h = command_harmless g t la ss n s found h c b (command_wanted t c b k.f6)
-    at (AddressCycle byte) b k h = address_harmless g t byte n s ss t.opening t.phase (row t) h
-    at (InputCycle byte) b k h = harmless_if (ends_features t) (FeaturesSet _) s (λ b. tt)
+    at (CommandCycle c) b k h = command_harmless g t la ss n s found h plain c b (command_wanted t c b k.f6)
+    at (AddressCycle byte) b k h = address_harmless g t byte n s plain ss t.opening t.phase (row t) h
+    at (InputCycle byte) b k h = harmless_if (ends_features t) (of_target g n (FeaturesSet _)) s (λ b. target_harmless g n (FeaturesSet _) s plain tt)
     at OutputCycle b k h = harmless_if (is_data la) DataOutput s (λ b. tt)
 
 -- ---- 4. what is seen stays as it is

@@ -17,7 +17,7 @@ use Rattle.trace_faults.specs.declared.verdict.Verdict.TheVariants.{PassedOver}
 use Rattle.trace_faults.specs.Recovery.{all_inside}
 use Rattle.trace_faults.specs.Middle.{Seen, known_of, knows, is_all, is_doubtful, doubts_lun, doubts, learned_lun, looks_of, learned, is_passed_over, seen_by, verdict_here, is_granted_here, here, verdict, seen_after}
 use Rattle.recording_laws.proofs.Changed.{AtEach, at_each, IsLearned}
-use Rattle.recording_laws.proofs.Targets.{FitsTarget}
+use Rattle.recording_laws.proofs.Shared.{FitsEither}
 
 -- ---- 1. where readies are written, an item is judged as it stands
 
@@ -28,11 +28,11 @@ either_same false x = refl
 here_is : (seen : Seen) (i : Item) (later : List Item) → here Written seen i later ≡ seen
 here_is seen i later = ap (λ (t : TraceState). record { state = t; known = seen.known }) (either_same (is_granted_here Written seen i) seen.state)
 
-pub verdict_is : (seen : Seen) (i : Item) (later : List Item) → verdict Written seen i later ≡ cond (is_passed_over (known_of seen.known (target_of i)) i) PassedOver (verdict_here seen i)
-verdict_is seen i later = ap (λ (on : Seen). cond (is_passed_over (known_of seen.known (target_of i)) i) PassedOver (verdict_here on i)) (here_is seen i later)
+pub verdict_is : (seen : Seen) (i : Item) (later : List Item) → verdict Written seen i later ≡ cond (is_passed_over seen.state.bus.geometry (known_of seen.known (target_of i)) i) PassedOver (verdict_here seen i)
+verdict_is seen i later = ap (λ (on : Seen). cond (is_passed_over seen.state.bus.geometry (known_of seen.known (target_of i)) i) PassedOver (verdict_here on i)) (here_is seen i later)
 
-pub after_is : (seen : Seen) (i : Item) (later : List Item) → seen_after Written seen i later ≡ cond (is_passed_over (known_of seen.known (target_of i)) i) seen (seen_by (verdict_here seen i) i seen)
-after_is seen i later = ap (λ (on : Seen). cond (is_passed_over (known_of seen.known (target_of i)) i) seen (seen_by (verdict_here on i) i on)) (here_is seen i later)
+pub after_is : (seen : Seen) (i : Item) (later : List Item) → seen_after Written seen i later ≡ cond (is_passed_over seen.state.bus.geometry (known_of seen.known (target_of i)) i) seen (seen_by (verdict_here seen i) i seen)
+after_is seen i later = ap (λ (on : Seen). cond (is_passed_over seen.state.bus.geometry (known_of seen.known (target_of i)) i) seen (seen_by (verdict_here on i) i on)) (here_is seen i later)
 
 -- ---- 2. the targets of a channel
 
@@ -91,19 +91,19 @@ pub record FitsBus (g : Parts) (bus : BusView) (seen : Seen) : Type 0 where
   pub count : length seen.state.bus.targets ≡ length bus.targets
   pub few : length bus.targets ≤ 4
   pub known : length seen.known ≡ 4
-  pub each : (ce : ℕ) (t s : TargetView) → slice_get bus.targets ce ≡ Some t → slice_get seen.state.bus.targets ce ≡ Some s → FitsTarget g (known_of seen.known ce) t s
+  pub each : (ce : ℕ) (t s : TargetView) → slice_get bus.targets ce ≡ Some t → slice_get seen.state.bus.targets ce ≡ Some s → FitsEither g (known_of seen.known ce) t s
 
 -- the targets fit where one of each is changed
 pub puts : (g : Parts) (ts ss : List TargetView) (known : List Known) (ce : ℕ) (k : Known) (f h : TargetView → TargetView) → ce < length known →
-    ((m : ℕ) (t s : TargetView) → slice_get ts m ≡ Some t → slice_get ss m ≡ Some s → FitsTarget g (known_of known m) t s) →
-    ((t s : TargetView) → slice_get ts ce ≡ Some t → slice_get ss ce ≡ Some s → FitsTarget g k (f t) (h s)) →
-    (m : ℕ) (t s : TargetView) → slice_get (changed_at f ce ts) m ≡ Some t → slice_get (changed_at h ce ss) m ≡ Some s → FitsTarget g (known_of (slice_set known ce k) m) t s
+    ((m : ℕ) (t s : TargetView) → slice_get ts m ≡ Some t → slice_get ss m ≡ Some s → FitsEither g (known_of known m) t s) →
+    ((t s : TargetView) → slice_get ts ce ≡ Some t → slice_get ss ce ≡ Some s → FitsEither g k (f t) (h s)) →
+    (m : ℕ) (t s : TargetView) → slice_get (changed_at f ce ts) m ≡ Some t → slice_get (changed_at h ce ss) m ≡ Some s → FitsEither g (known_of (slice_set known ce k) m) t s
 puts g ts ss known ce k f h low each own m t s ft fs =
     let a = put_found f ce ts m t ft in
     let b = put_found h ce ss m s fs in
     at a b (m == ce) refl
   where
-    at : Put f ce ts m t → Put h ce ss m s → (q : Bool) → (m == ce) ≡ q → FitsTarget g (known_of (slice_set known ce k) m) t s
+    at : Put f ce ts m t → Put h ce ss m s → (q : Bool) → (m == ce) ≡ q → FitsEither g (known_of (slice_set known ce k) m) t s
     at a b true e =
         let here : m ≡ ce = eqb-true m ce e in
         rw (a.here here, b.here here, here, known_here known ce k low) (own a.before b.before (ap (slice_get ts) (sym here) ∙ a.found) (ap (slice_get ss) (sym here) ∙ b.found))
@@ -116,16 +116,16 @@ puts g ts ss known ce k f h low each own m t s ft fs =
 look_there : (bus : BusView) (ce n : ℕ) (s : TargetView) → slice_get bus.targets ce ≡ Some s → looked bus (record { ce = ce; lun = n }) ≡ look_at_some (slice_get s.luns n)
 look_there bus ce n s h = ap (λ (o : Option TargetView). look_on o n) h
 
-pub learned_there : (i : Item) (before after : BusView) (ce : ℕ) (k : Known) (s u : TargetView) → slice_get before.targets ce ≡ Some s → slice_get after.targets ce ≡ Some u →
-    IsLearned i k (learned i (looks_of before ce) (looks_of after ce) k) s.luns u.luns
-learned_there i before after ce k s u fs fu n few = at n few
+pub learned_there : (g : Parts) (i : Item) (before after : BusView) (ce : ℕ) (k : Known) (s u : TargetView) → slice_get before.targets ce ≡ Some s → slice_get after.targets ce ≡ Some u →
+    IsLearned i k (learned g i (looks_of before ce) (looks_of after ce) k) s.luns u.luns
+learned_there g i before after ce k s u fs fu n few = at n few
   where
     both : (m : ℕ) (x : LunKnown) → learned_lun i (looked before (record { ce = ce; lun = m })) (looked after (record { ce = ce; lun = m })) x ≡ learned_lun i (look_at_some (slice_get s.luns m)) (look_at_some (slice_get u.luns m)) x
     both m x =
         ap (λ (o : Option LunState). learned_lun i o (looked after (record { ce = ce; lun = m })) x) (look_there before ce m s fs)
         ∙ ap (λ (o : Option LunState). learned_lun i (look_at_some (slice_get s.luns m)) o x) (look_there after ce m u fu)
 
-    at : (m : ℕ) → m < 4 → knows (learned i (looks_of before ce) (looks_of after ce) k) m ≡ learned_lun i (look_at_some (slice_get s.luns m)) (look_at_some (slice_get u.luns m)) (knows k m)
+    at : (m : ℕ) → m < 4 → knows (learned g i (looks_of before ce) (looks_of after ce) k) m ≡ learned_lun i (look_at_some (slice_get s.luns m)) (look_at_some (slice_get u.luns m)) (knows k m)
     at zero h = both 0 k.zeroth
     at (suc zero) h = both 1 k.first
     at (suc (suc zero)) h = both 2 k.second

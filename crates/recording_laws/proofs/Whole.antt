@@ -1,6 +1,7 @@
 -- Once all is known of a channel, nothing of it is in doubt any more.
 use Rattle.std.proofs.Common.{◌≡◌, ℕ, zero, suc, ◌+◌, ◌==◌, arith, Bool, true, false, cond, List, [], ◌∷◌, ◌++◌, Option, Some, None, refl, ap, ◌∙◌, slice_set, get_or}
 use Rattle.std.proofs.lemmas.Bool.{and_parts}
+use Rattle.nand_geometry.specs.declared.parts.Parts.{Parts}
 use Rattle.onfi_cycle.specs.declared.forbidden.Forbidden.{Forbidden}
 use Rattle.onfi_cycle.specs.declared.item.Item.{Item}
 use Rattle.onfi_cycle.specs.declared.item.Item.TheVariants.{Cyc, Rdy, Ard}
@@ -82,10 +83,10 @@ taken_plain (Some ready) (Granted rule) h = cc
 taken_plain (Some ready) (Broken rule) h = refl
 taken_plain (Some ready) (NotShown other) h = refl
 
-never_passed : (k : Known) (i : Item) → is_whole k ≡ true → is_passed_over k i ≡ false
-never_passed k (Cyc c) h = let open_now = (and_parts k.opened _ h).0 in rw open_now refl
-never_passed k (Rdy ce lun fail) h = refl
-never_passed k (Ard ce lun) h = refl
+never_passed : (g : Parts) (k : Known) (i : Item) → is_whole k ≡ true → is_passed_over g k i ≡ false
+never_passed g k (Cyc c) h = let open_now = (and_parts k.opened _ h).0 in rw open_now refl
+never_passed g k (Rdy ce lun fail) h = refl
+never_passed g k (Ard ce lun) h = refl
 
 -- ---- 2. what is left
 
@@ -106,7 +107,7 @@ plain_of readies seen i later whole =
     let k = known_of seen.known (target_of i) in
     let said = said_of readies seen i later in
     let plain : is_plain said ≡ true = taken_plain (taken_on readies (before_taken readies seen.state i) i later) (verdict_here (here readies seen i later) i) (said_plain (here readies seen i later).state k i (whole (target_of i))) in
-    let over = never_passed k i (whole (target_of i)) in
+    let over = never_passed seen.state.bus.geometry k i (whole (target_of i)) in
     record {
       said = ap (λ b. is_plain (cond b PassedOver said)) over ∙ plain;
       next = ap (λ b. cond b seen (seen_by said i (here readies seen i later))) over ∙ left_plain said i (here readies seen i later) plain;
@@ -127,7 +128,7 @@ whole_after readies seen i later whole ce =
     let before = looks_of on.state.bus (target_of i) in
     let after = looks_of (gone_on i on.state).bus (target_of i) in
     ap (λ (s : Seen). is_whole (known_of s.known ce)) p.next
-    ∙ whole_put seen.known (target_of i) ce (learned i before after k) (ap is_whole (learned_whole i before after k (whole (target_of i))) ∙ whole (target_of i)) whole
+    ∙ whole_put seen.known (target_of i) ce (learned on.state.bus.geometry i before after k) (ap is_whole (learned_whole on.state.bus.geometry i before after k (whole (target_of i))) ∙ whole (target_of i)) whole
 
 -- ---- 3. item by item
 

@@ -112,7 +112,7 @@ by_place readies n i items seen false later none nothing = by_granted readies n 
 pub judges : (readies : Readies) (n : ℕ) (items : List Item) → Judges readies n items
 judges readies n [] seen none nothing = refl
 judges readies n (i ∷ items) seen none nothing =
-    by_place readies n i items seen (is_passed_over (known_of seen.known (target_of i)) i) (judges readies (n + 1) items) none nothing
+    by_place readies n i items seen (is_passed_over seen.state.bus.geometry (known_of seen.known (target_of i)) i) (judges readies (n + 1) items) none nothing
 
 pub whole_are_judged_whole : WholeAreJudgedWhole
 whole_are_judged_whole readies g targets items none nothing = judges readies 0 items (first_seen g targets items) none nothing

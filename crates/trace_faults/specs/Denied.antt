@@ -1,17 +1,22 @@
 -- Readies that a recording denies: what isn't taken for granted where readies aren't written.
 use Rattle.std.specs.Prelude.{ℕ, ◌+◌, ◌*◌, ◌==◌, Bool, true, false, not, ◌&&◌, ◌||◌, List, [], ◌∷◌, Option, Some, None, get_or, slice_set, if◌then◌else◌}
 use Rattle.std.specs.Int.RustNames.{bit_and}
+use Rattle.nand_geometry.specs.declared.parts.Parts.{Parts}
 use Rattle.onfi_cycle.specs.declared.item.Item.{Item}
 use Rattle.onfi_cycle.specs.declared.item.Item.TheVariants.{Cyc, Rdy, Ard}
 use Rattle.onfi_cycle.specs.declared.item.Cycle.{Cycle}
+use Rattle.onfi_cycle.specs.declared.item.Kind.{Kind}
+use Rattle.onfi_cycle.specs.declared.item.Kind.TheVariants.{Cmd, Adr, Din, Dout}
 use Rattle.onfi_cycle.specs.declared.command.Command.TheVariants.{Reset, SynchronousReset}
 use Rattle.onfi_cycle.specs.declared.target_cycle.TargetCycle.{TargetCycle}
 use Rattle.onfi_cycle.specs.declared.target_cycle.TargetCycle.TheVariants.{CommandCycle, AddressCycle, InputCycle, OutputCycle}
+use Rattle.onfi_cycle.specs.declared.lun.Lun.{Lun}
 use Rattle.onfi_cycle.specs.declared.lun_state.LunState.{LunState}
 use Rattle.onfi_cycle.specs.Effect.{is_off, is_shared}
 use Rattle.onfi_cycle.specs.Sequence.{target_cycle}
 use Rattle.onfi_cycle.specs.State.{BusView}
-use Rattle.onfi_cycle.specs.Look.{looked}
+use Rattle.onfi_cycle.specs.Look.{looked, is_selected_in}
+use Rattle.onfi_cycle.specs.Rules.{is_undeclared}
 use Rattle.trace_faults.specs.declared.trace_state.TraceState.{TraceState}
 use Rattle.trace_faults.specs.Outside.{is_status}
 
@@ -63,19 +68,49 @@ none_shown ce shown =
     slice_set (slice_set (slice_set (slice_set shown (place_of ce 0) false) (place_of ce 1) false) (place_of ce 2) false) (place_of ce 3) false
 
 -- a reset begins work anew, of which no status was shown: on a target of one LUN, or in the wider profile on each of several
+abbrev pub reset_shown : Parts → ℕ → List Bool → List Bool
+reset_shown g ce shown = if is_shared g then none_shown ce shown else slice_set shown (place_of ce 0) false
+
+-- FC resets where the profile has it
 abbrev pub busy_by : BusView → Cycle → TargetCycle → List Bool → List Bool
-busy_by bus c (CommandCycle Reset) shown = if is_shared bus.geometry then none_shown c.ce shown else slice_set shown (place_of c.ce 0) false
-busy_by bus c (CommandCycle SynchronousReset) shown = if is_shared bus.geometry then none_shown c.ce shown else shown
+busy_by bus c (CommandCycle Reset) shown = reset_shown bus.geometry c.ce shown
+busy_by bus c (CommandCycle SynchronousReset) shown = if is_undeclared bus.geometry SynchronousReset then shown else reset_shown bus.geometry c.ce shown
 busy_by bus c (CommandCycle _) shown = shown
 busy_by bus c (AddressCycle byte) shown = shown
 busy_by bus c (InputCycle byte) shown = shown
 busy_by bus c OutputCycle shown = busy_at bus c.ce (driving_lun bus c.ce) c.byte shown
 
--- of which LUNs the last status since they began their work says that they work, after an item on this channel
+-- of which LUNs the last status since they began their work says that they work, after an item on this channel, but for the LUN that a FA resets
 abbrev pub shown_busy_after : BusView → Item → List Bool → List Bool
 shown_busy_after bus (Cyc c) shown = busy_by bus c (target_cycle c.kind c.byte) shown
 shown_busy_after bus (Rdy ce lun fail) shown = slice_set shown (place_of ce lun) false
 shown_busy_after bus (Ard _ _) shown = shown
+
+-- a LUN that works, and shows nothing
+abbrev pub works_unseen : Option LunState → Bool
+works_unseen None = false
+works_unseen (Some lun) = lun.busy && is_off lun.latch
+
+-- it is the selected one of its target too: its work began anew, and no status of it was shown since
+abbrev pub is_silent : BusView → Lun → Bool
+is_silent bus l = works_unseen (looked bus l) && is_selected_in bus l
+
+abbrev pub silenced : BusView → (ce number : ℕ) → List Bool → List Bool
+silenced bus ce number shown =
+    if is_silent bus (record { ce = ce; lun = number }) then slice_set shown (place_of ce number) false else shown
+
+abbrev pub is_address : Kind → Bool
+is_address Cmd = false
+is_address Adr = true
+is_address Din = false
+is_address Dout = false
+
+-- the last address of a FA leaves the LUN that it resets so, and no other address does: this channel stands behind the item
+abbrev pub after_addresses : BusView → Item → List Bool → List Bool
+after_addresses bus (Cyc c) shown =
+    if is_address c.kind then silenced bus c.ce 3 (silenced bus c.ce 2 (silenced bus c.ce 1 (silenced bus c.ce 0 shown))) else shown
+after_addresses bus (Rdy _ _ _) shown = shown
+after_addresses bus (Ard _ _) shown = shown
 
 -- ---- readies that are written
 

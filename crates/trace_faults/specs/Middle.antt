@@ -10,7 +10,7 @@ use Rattle.onfi_cycle.specs.declared.command.Command.TheVariants.{Reset}
 use Rattle.onfi_cycle.specs.declared.target_cycle.TargetCycle.{TargetCycle}
 use Rattle.onfi_cycle.specs.declared.target_cycle.TargetCycle.TheVariants.{CommandCycle}
 use Rattle.onfi_cycle.specs.Sequence.{target_of, target_cycle}
-use Rattle.onfi_cycle.specs.Effect.{is_off}
+use Rattle.onfi_cycle.specs.Effect.{is_off, is_shared}
 use Rattle.onfi_cycle.specs.State.{BusView}
 use Rattle.onfi_cycle.specs.Look.{looked}
 use Rattle.trace_faults.specs.declared.beginning.Beginning.{Beginning}
@@ -131,10 +131,15 @@ looks_of state ce = record {
   third = looked state (record { ce = ce; lun = 3 });
 }
 
+-- from this item on its target is judged: from an opener. Where a target has several LUNs, and commands that are of all of them, 70 shows the status of the one
+-- that was selected before, and what is for all stops the others: there it is judged from a reset on, after which all is known of it
+abbrev pub begins_here : Parts → Item → Bool
+begins_here g i = if is_shared g then is_reset i else is_opening i
+
 -- what is known of the target of an item after it
-abbrev pub learned : Item → (before after : Looks) → Known → Known
-learned i before after k = record {
-  opened = k.opened || is_opening i;
+abbrev pub learned : Parts → Item → (before after : Looks) → Known → Known
+learned g i before after k = record {
+  opened = k.opened || begins_here g i;
   zeroth = learned_lun i before.zeroth after.zeroth k.zeroth;
   first = learned_lun i before.first after.first k.first;
   second = learned_lun i before.second after.second k.second;
@@ -176,11 +181,11 @@ verdict_on t k (Cyc c) = of_cycle (doubts t.bus k c.ce) (judged_here t (Cyc c))
 verdict_on t k (Rdy ce lun fail) = of_ready (doubts_ready t.bus k ce lun) (judged_here t (Rdy ce lun fail))
 verdict_on t k (Ard ce lun) = of_ready (doubts_ready t.bus k ce lun) (judged_here t (Ard ce lun))
 
--- an item that belongs to a sequence whose opener wasn't seen: a cycle of a target before its first opener
-abbrev pub is_passed_over : Known → Item → Bool
-is_passed_over k (Cyc c) = not (k.opened || is_opening (Cyc c))
-is_passed_over k (Rdy _ _ _) = false
-is_passed_over k (Ard _ _) = false
+-- an item that belongs to a sequence whose opener wasn't seen: a cycle of a target before the first from which that is judged
+abbrev pub is_passed_over : Parts → Known → Item → Bool
+is_passed_over g k (Cyc c) = not (k.opened || begins_here g (Cyc c))
+is_passed_over g k (Rdy _ _ _) = false
+is_passed_over g k (Ard _ _) = false
 
 -- ---- one item after another
 
@@ -200,7 +205,7 @@ judged_on i seen = record {
   state = gone_on i seen.state;
   known =
       slice_set seen.known (target_of i)
-      (learned i (looks_of seen.state.bus (target_of i)) (looks_of (gone_on i seen.state).bus (target_of i)) (known_of seen.known (target_of i)));
+      (learned seen.state.bus.geometry i (looks_of seen.state.bus (target_of i)) (looks_of (gone_on i seen.state).bus (target_of i)) (known_of seen.known (target_of i)));
 }
 
 abbrev pub seen_by : Verdict → Item → Seen → Seen
@@ -251,12 +256,12 @@ said_of readies seen i later = with_ready_taken (taken_on readies (before_taken 
 -- what is said of an item
 abbrev pub verdict : Readies → Seen → Item → (later : List Item) → Verdict
 verdict readies seen i later =
-    if is_passed_over (known_of seen.known (target_of i)) i then PassedOver else said_of readies seen i later
+    if is_passed_over seen.state.bus.geometry (known_of seen.known (target_of i)) i then PassedOver else said_of readies seen i later
 
 -- and what it leaves
 abbrev pub seen_after : Readies → Seen → Item → (later : List Item) → Seen
 seen_after readies seen i later =
-    if is_passed_over (known_of seen.known (target_of i)) i then seen else seen_by (said_of readies seen i later) i (here readies seen i later)
+    if is_passed_over seen.state.bus.geometry (known_of seen.known (target_of i)) i then seen else seen_by (said_of readies seen i later) i (here readies seen i later)
 
 -- ---- a trace
 

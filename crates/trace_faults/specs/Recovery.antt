@@ -9,7 +9,7 @@ use Rattle.trace_faults.specs.declared.standing.Standing.{Standing}
 use Rattle.trace_faults.specs.declared.standing.Standing.TheVariants.{Inside}
 use Rattle.trace_faults.specs.declared.trace_state.TraceState.{TraceState}
 use Rattle.trace_faults.specs.Outside.{is_opening, leaves_profile, standings_after, is_outside}
-use Rattle.trace_faults.specs.Denied.{shown_busy_after, told_in}
+use Rattle.trace_faults.specs.Denied.{shown_busy_after, after_addresses, told_in}
 
 -- ---- the beginning
 
@@ -63,7 +63,7 @@ gone_on_by rule i t = record {
   bus = bus_by rule i t.bus;
   standings = standings_after rule t.bus i t.standings;
   told = t.told;
-  shown_busy = shown_busy_after t.bus i t.shown_busy;
+  shown_busy = after_addresses (bus_by rule i t.bus) i (shown_busy_after t.bus i t.shown_busy);
 }
 
 -- what an item leaves, permitted or not; one that is passed over leaves all as it was

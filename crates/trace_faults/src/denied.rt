@@ -1,11 +1,15 @@
 //! Readies that a recording denies.
 ghost use Rattle.std.specs.Prelude.{◌≡◌, false, get_or, slice_set};
 ghost use Rattle.onfi_cycle.specs.Look.{looked};
-ghost use Rattle.trace_faults.specs.Denied.{drives, lun_drives, driving_lun, place_of, says_busy, busy_at, none_shown, busy_by, shown_busy_after, is_ready_of, tells_readies, told_in, is_denied};
+ghost use Rattle.trace_faults.specs.Denied.{drives, lun_drives, driving_lun, place_of, says_busy, busy_at, none_shown, reset_shown, busy_by, shown_busy_after, works_unseen, is_silent, silenced, is_address, after_addresses, is_ready_of, tells_readies, told_in, is_denied};
 
 use crate::outside::is_status;
 use crate::trace_state::TraceState;
-use onfi_cycle::{BusState, Command, Cycle, Item, Lun, LunState, Status, TargetCycle, is_shared};
+use nand_geometry::Geometry;
+use onfi_cycle::{
+    BusState, Command, Cycle, Item, Kind, Lun, LunState, Status, TargetCycle, is_shared,
+    is_undeclared,
+};
 
 // Whether the LUN of this number drives the bus when its target is read.
 fn lun_drives(bus: &BusState, ce: u8, number: u8) -> bool
@@ -72,7 +76,7 @@ fn note_output(shown: &mut [bool; 16], bus: &BusState, ce: u8, byte: u8)
 }
 
 // Goes on by a reset of several LUNs.
-fn note_reset(shown: &mut [bool; 16], ce: u8)
+fn note_resets(shown: &mut [bool; 16], ce: u8)
     ensures { shown.new ≡ none_shown ce shown.old }
 {
     note(shown, place_of(ce, 0), false);
@@ -81,23 +85,36 @@ fn note_reset(shown: &mut [bool; 16], ce: u8)
     note(shown, place_of(ce, 3), false);
 }
 
+// Goes on by a reset of a target.
+fn note_reset(shown: &mut [bool; 16], geometry: &Geometry, ce: u8)
+    ensures { shown.new ≡ reset_shown geometry.now ce shown.old }
+{
+    if is_shared(geometry) {
+        note_resets(shown, ce);
+    } else {
+        note(shown, place_of(ce, 0), false);
+    }
+}
+
 // Goes on by a cycle.
 fn note_cycle(shown: &mut [bool; 16], bus: &BusState, cycle: Cycle)
     ensures { shown.new ≡ shown_busy_after bus.now (Item.Cyc cycle) shown.old }
 {
     match TargetCycle::of(cycle.kind, cycle.byte) {
-        TargetCycle::CommandCycle(Command::Reset | Command::SynchronousReset)
-            if is_shared(&bus.geometry()) => {
-            note_reset(shown, cycle.ce);
+        TargetCycle::CommandCycle(Command::Reset) => note_reset(shown, &bus.geometry(), cycle.ce),
+        TargetCycle::CommandCycle(Command::SynchronousReset) => {
+            if !is_undeclared(&bus.geometry(), Command::SynchronousReset) {
+                note_reset(shown, &bus.geometry(), cycle.ce);
+            }
         }
-        TargetCycle::CommandCycle(Command::Reset) => note(shown, place_of(cycle.ce, 0), false),
         TargetCycle::OutputCycle => note_output(shown, bus, cycle.ce, cycle.byte),
         TargetCycle::CommandCycle(_) | TargetCycle::AddressCycle(_) | TargetCycle::InputCycle(_) =>
             {}
     }
 }
 
-/// Goes on by an item on this channel: of which LUNs the last status since they began their work says that they work.
+/// Goes on by an item on this channel: of which LUNs the last status since they began their work says that they work. [`note_addresses`] sees to the LUN that
+/// a Reset LUN resets.
 pub(crate) fn note_busy(shown: &mut [bool; 16], bus: &BusState, item: Item)
     ensures { shown.new ≡ shown_busy_after bus.now item shown.old }
 {
@@ -105,6 +122,53 @@ pub(crate) fn note_busy(shown: &mut [bool; 16], bus: &BusState, item: Item)
         Item::Cyc(cycle) => note_cycle(shown, bus, cycle),
         Item::Rdy { ce, lun, .. } => note(shown, place_of(ce, lun), false),
         Item::Ard { .. } => {}
+    }
+}
+
+// Whether a LUN works, and shows nothing.
+fn works_unseen(lun: Option<LunState>) -> bool
+    ensures { result ≡ works_unseen lun }
+{
+    match lun {
+        None => false,
+        Some(lun) => lun.busy && lun.latch.is_off(),
+    }
+}
+
+// Whether a LUN works, is the selected one of its target, and shows nothing: its work began anew, and no status of it was shown since.
+fn is_silent(bus: &BusState, lun: Lun) -> bool
+    ensures { result ≡ is_silent bus.now lun }
+{
+    works_unseen(bus.lun_state(lun)) && bus.is_selected(lun)
+}
+
+// Clears what was shown of a LUN whose work began anew.
+fn note_silent(shown: &mut [bool; 16], bus: &BusState, ce: u8, number: u8)
+    ensures { shown.new ≡ silenced bus.now ce number shown.old }
+{
+    if is_silent(bus, Lun { ce, lun: number }) {
+        note(shown, place_of(ce, number), false);
+    }
+}
+
+fn is_address(kind: Kind) -> bool
+    ensures { result ≡ is_address kind }
+{
+    kind == Kind::Adr
+}
+
+/// Goes on by an item that has left this channel: the last address of a Reset LUN begins the work of its LUN anew.
+pub(crate) fn note_addresses(shown: &mut [bool; 16], bus: &BusState, item: Item)
+    ensures { shown.new ≡ after_addresses bus.now item shown.old }
+{
+    let Item::Cyc(cycle) = item else {
+        return;
+    };
+    if is_address(cycle.kind) {
+        note_silent(shown, bus, cycle.ce, 0);
+        note_silent(shown, bus, cycle.ce, 1);
+        note_silent(shown, bus, cycle.ce, 2);
+        note_silent(shown, bus, cycle.ce, 3);
     }
 }
 

@@ -1,11 +1,12 @@
 //! What a recording that began in the middle has shown of a target.
 ghost use Rattle.std.specs.Prelude.{◌≡◌, get_or, slice_set, nat_lt};
-ghost use Rattle.trace_faults.specs.Middle.{nothing_known, all_known, first_known, all_first_known, known_of, knows, is_doubtful, doubts_ready, doubts_lun, doubts, is_whole, learned};
+ghost use Rattle.trace_faults.specs.Middle.{nothing_known, all_known, first_known, all_first_known, known_of, knows, is_doubtful, doubts_ready, doubts_lun, doubts, is_whole, begins_here, learned};
 
 use crate::looks::Looks;
-use crate::lun_known::LunKnown;
+use crate::lun_known::{LunKnown, is_reset};
 use crate::outside::is_opening;
-use onfi_cycle::{BusState, Item, Lun, LunState};
+use nand_geometry::Geometry;
+use onfi_cycle::{BusState, Item, Lun, LunState, is_shared};
 
 /// How many targets a channel has at most.
 pub(crate) const MOST_TARGETS: usize = 4;
@@ -30,6 +31,18 @@ fn is_doubtful(lun: Option<LunState>, known: bool) -> bool
     match lun {
         None => false,
         Some(_) => !known,
+    }
+}
+
+/// From this item on its target, which has this geometry, is judged: from an opener, or from a reset where it has several LUNs and commands that are of all of
+/// them.
+pub(crate) fn begins_here(geometry: &Geometry, item: Item) -> bool
+    ensures { result ≡ begins_here geometry.now item }
+{
+    if is_shared(geometry) {
+        is_reset(item)
+    } else {
+        is_opening(item)
     }
 }
 
@@ -126,12 +139,18 @@ impl Known {
             || self.doubts_lun(state, ce, 3)
     }
 
-    /// What is known after an item of its target, with a look at its LUNs before it and one after it.
-    pub(crate) fn learned(self, item: Item, before: Looks, after: Looks) -> Known
-        ensures { result ≡ learned item before after self }
+    /// What is known after an item of its target, which has this geometry, with a look at its LUNs before it and one after it.
+    pub(crate) fn learned(
+        self,
+        geometry: &Geometry,
+        item: Item,
+        before: Looks,
+        after: Looks,
+    ) -> Known
+        ensures { result ≡ learned geometry.now item before after self }
     {
         Known {
-            opened: self.opened || is_opening(item),
+            opened: self.opened || begins_here(geometry, item),
             zeroth: self.zeroth.learned(item, before.zeroth, after.zeroth),
             first: self.first.learned(item, before.first, after.first),
             second: self.second.learned(item, before.second, after.second),

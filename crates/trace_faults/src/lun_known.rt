@@ -15,8 +15,8 @@ pub enum LunKnown {
     All,
 }
 
-// The item is the command of a reset.
-fn is_reset(item: Item) -> bool
+/// The item is the command of a reset.
+pub(crate) fn is_reset(item: Item) -> bool
     ensures { result ≡ is_reset item }
 {
     let Item::Cyc(cycle) = item else {

@@ -4,22 +4,29 @@ ghost use Rattle.trace_faults.specs.Middle.{Seen, verdict_on, verdict_here, is_p
 ghost use Rattle.trace_faults.specs.Recovery.{gone_on};
 ghost use Rattle.onfi_cycle.specs.Sequence.{target_of};
 
-use crate::known::{AllKnown, Known, known_of, note_known};
+use crate::known::{AllKnown, Known, begins_here, known_of, note_known};
 use crate::looks::Looks;
-use crate::outside::is_opening;
 use crate::readies::Readies;
 use crate::trace_state::TraceState;
 use crate::verdict::Verdict;
+use nand_geometry::Geometry;
 use onfi_cycle::Item;
 
 // Whether an item belongs to a sequence whose opener wasn't seen.
-fn is_passed_over(known: Known, item: Item) -> bool
-    ensures { result ≡ is_passed_over known item }
+fn is_passed_over(geometry: &Geometry, known: Known, item: Item) -> bool
+    ensures { result ≡ is_passed_over geometry.now known item }
 {
     match item {
-        Item::Cyc(_) => !(known.opened || is_opening(item)),
+        Item::Cyc(_) => !(known.opened || begins_here(geometry, item)),
         Item::Rdy { .. } | Item::Ard { .. } => false,
     }
+}
+
+// Whether an item is passed over where this is kept.
+fn passes_over(state: &TraceState, known: &AllKnown, item: Item) -> bool
+    ensures { result ≡ is_passed_over state.now.bus.geometry (known_of known.now (target_of item)) item }
+{
+    is_passed_over(&state.bus.geometry(), known_of(known, item.target()), item)
 }
 
 // What is said of an item that is judged on this state, of whose target this is known.
@@ -59,11 +66,11 @@ fn grant(state: &mut TraceState, known: &mut AllKnown, item: Item)
 }
 
 // Writes down what an item shows of its target, with a look at its LUNs before it and one after it.
-fn note_learned(known: &mut AllKnown, item: Item, before: Looks, after: Looks)
-    ensures { known.new ≡ slice_set known.old (target_of item) (learned item before after (known_of known.old (target_of item))) }
+fn note_learned(known: &mut AllKnown, geometry: &Geometry, item: Item, before: Looks, after: Looks)
+    ensures { known.new ≡ slice_set known.old (target_of item) (learned geometry.now item before after (known_of known.old (target_of item))) }
 {
     let target = item.target();
-    let now = known_of(known, target).learned(item, before, after);
+    let now = known_of(known, target).learned(geometry, item, before, after);
     note_known(known, target, now);
 }
 
@@ -72,9 +79,16 @@ fn go_on_learning(state: &mut TraceState, known: &mut AllKnown, item: Item)
     ensures state { state.new ≡ gone_on item state.old }
     ensures known { known.new ≡ (judged_on item (record { state = state.old; known = known.old })).known }
 {
+    let geometry = state.bus.geometry();
     let before = Looks::of(&state.bus, item.target());
     let _ = state.go_on(item);
-    note_learned(known, item, before, Looks::of(&state.bus, item.target()));
+    note_learned(
+        known,
+        &geometry,
+        item,
+        before,
+        Looks::of(&state.bus, item.target()),
+    );
 }
 
 // Goes on after an item that was judged.
@@ -135,7 +149,7 @@ pub(crate) fn go_on_from_middle(
     ensures state { state.new ≡ (seen_after readies (record { state = state.old; known = known.old }) item later.now).state }
     ensures known { known.new ≡ (seen_after readies (record { state = state.old; known = known.old }) item later.now).known }
 {
-    if is_passed_over(known_of(known, item.target()), item) {
+    if passes_over(state, known, item) {
         return Verdict::PassedOver;
     }
     let said = go_on_to(state, known, readies, item, later);

@@ -159,7 +159,8 @@ fn count_passed_over(verdicts: &[Verdict]) -> usize
 }
 
 /// Judges a trace on a channel of so many targets of this geometry, 4 at most, whose recording began in the middle: nobody knows what its LUNs did
-/// before. Of each target the cycles before its first opener are passed over. A ready is taken for granted while its LUN hasn't begun work since. While there is a
+/// before. Of each target the cycles before its first opener are passed over; where it has several LUNs, and commands that are of all of them, those before its
+/// first FFh. A ready is taken for granted while its LUN hasn't begun work since. While there is a
 /// LUN that hasn't, or of which it isn't known whether it drives the bus, what hangs on what a LUN drives, holds or had begun is taken for granted, and what
 /// follows such a cycle up to the next opener of its target is passed over. All else is judged as [`find_faults`](crate::find_faults) judges. It takes 4 bytes
 /// an item while it works.

@@ -5,7 +5,7 @@ ghost use Rattle.onfi_cycle.specs.State.{judged, bus_without};
 ghost use Rattle.trace_faults.specs.Recovery.{done_unless, judged_here, recovered, bus_by, gone_on, gone_on_by, without_sequence};
 ghost use Rattle.trace_faults.specs.OutsideSequences.{mark_of};
 
-use crate::denied::note_busy;
+use crate::denied::{note_addresses, note_busy};
 use crate::outside::{is_opening, leaves_profile, note_standing};
 use crate::outside_sequences::{Mark, mark_inside};
 use crate::trace_state::TraceState;
@@ -71,6 +71,7 @@ impl TraceState {
         note_standing(&mut self.standings, rule, &self.bus, item);
         note_busy(&mut self.shown_busy, &self.bus, item);
         go_on_by(&mut self.bus, rule, item);
+        note_addresses(&mut self.shown_busy, &self.bus, item);
     }
 
     /// The same as [`TraceState::go_on`], and what the item is to the sequences outside of the profile. The watcher sees it before it is gone on by.

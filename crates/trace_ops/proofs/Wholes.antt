@@ -1,5 +1,6 @@
 -- A trace that is judged from its start: nothing is passed over, and nothing taken for granted.
 use Rattle.std.proofs.Common.{◌≡◌, ℕ, zero, suc, ◌+◌, Bool, true, false, ◌==◌, cond, List, [], ◌∷◌, ◌++◌, Option, Some, None, refl, ap, ◌∙◌, get_or, slice_set}
+use Rattle.nand_geometry.specs.declared.parts.Parts.{Parts}
 use Rattle.onfi_cycle.specs.declared.item.Item.{Item}
 use Rattle.onfi_cycle.specs.declared.item.Item.TheVariants.{Cyc, Rdy, Ard}
 use Rattle.onfi_cycle.specs.declared.forbidden.Forbidden.{Forbidden}
@@ -67,10 +68,10 @@ said_plain t k (Ard ce lun) h =
     ap (λ (w : Known). verdict_on t w (Ard ce lun)) h
     ∙ ready_plain (doubts_ready t.bus all_known ce lun) (judged_here t (Ard ce lun)) (no_doubt (looked t.bus (record { ce = ce; lun = lun })) (has_begun (knows all_known lun)) (ready_known lun))
 
-never_passed : (k : Known) (i : Item) → k ≡ all_known → is_passed_over k i ≡ false
-never_passed k i h = ap (λ (w : Known). is_passed_over w i) h ∙ at i
+never_passed : (g : Parts) (k : Known) (i : Item) → k ≡ all_known → is_passed_over g k i ≡ false
+never_passed g k i h = ap (λ (w : Known). is_passed_over g w i) h ∙ at i
   where
-    at : (i : Item) → is_passed_over all_known i ≡ false
+    at : (i : Item) → is_passed_over g all_known i ≡ false
     at (Cyc c) = refl
     at (Rdy ce lun fail) = refl
     at (Ard ce lun) = refl
@@ -102,8 +103,8 @@ known_put (x ∷ known) zero (suc m) k h all = all (suc m)
 known_put (x ∷ known) (suc at) zero k h all = all 0
 known_put (x ∷ known) (suc at) (suc m) k h all = known_put known at m k h (λ ce. all (suc ce))
 
-learned_all : (i : Item) (before after : BusView) (ce : ℕ) (k : Known) → k ≡ all_known → learned i (looks_of before ce) (looks_of after ce) k ≡ all_known
-learned_all i before after ce k h = ap (λ (w : Known). learned i (looks_of before ce) (looks_of after ce) w) h
+learned_all : (g : Parts) (i : Item) (before after : BusView) (ce : ℕ) (k : Known) → k ≡ all_known → learned g i (looks_of before ce) (looks_of after ce) k ≡ all_known
+learned_all g i before after ce k h = ap (λ (w : Known). learned g i (looks_of before ce) (looks_of after ce) w) h
 
 -- where an item is judged
 judged_where : (readies : Readies) (seen : Seen) (i : Item) (later : List Item) → KnowsAll seen.known → here readies seen i later ≡ record { state = before_item readies seen.state i later; known = seen.known }
@@ -130,11 +131,11 @@ said_so readies seen i later all =
 pub verdict_so : (readies : Readies) (seen : Seen) (i : Item) (later : List Item) → KnowsAll seen.known →
     verdict readies seen i later ≡ with_ready_taken (taken_there readies seen i later) (plain (rule_there readies seen i later))
 verdict_so readies seen i later all =
-    ap (λ (b : Bool). cond b PassedOver (said_of readies seen i later)) (never_passed (known_of seen.known (target_of i)) i (all (target_of i))) ∙ said_so readies seen i later all
+    ap (λ (b : Bool). cond b PassedOver (said_of readies seen i later)) (never_passed seen.state.bus.geometry (known_of seen.known (target_of i)) i (all (target_of i))) ∙ said_so readies seen i later all
 
 pub after_so : (readies : Readies) (seen : Seen) (i : Item) (later : List Item) → KnowsAll seen.known → seen_after readies seen i later ≡ judged_on i (at_item readies seen i later)
 after_so readies seen i later all =
-    ap (λ (b : Bool). cond b seen (seen_by (said_of readies seen i later) i (here readies seen i later))) (never_passed (known_of seen.known (target_of i)) i (all (target_of i)))
+    ap (λ (b : Bool). cond b seen (seen_by (said_of readies seen i later) i (here readies seen i later))) (never_passed seen.state.bus.geometry (known_of seen.known (target_of i)) i (all (target_of i)))
     ∙ ap (λ (v : Verdict). seen_by v i (here readies seen i later)) (said_so readies seen i later all)
     ∙ ap (λ (on : Seen). seen_by (with_ready_taken (taken_there readies seen i later) (plain (rule_there readies seen i later))) i on) (judged_where readies seen i later all)
     ∙ seen_plain (taken_there readies seen i later) (rule_there readies seen i later) i (at_item readies seen i later)
@@ -142,8 +143,8 @@ after_so readies seen i later all =
 known_on : (readies : Readies) (seen : Seen) (i : Item) (later : List Item) → KnowsAll seen.known → KnowsAll (judged_on i (at_item readies seen i later)).known
 known_on readies seen i later all ce =
     let on = at_item readies seen i later in
-    let k = learned i (looks_of on.state.bus (target_of i)) (looks_of (gone_on i on.state).bus (target_of i)) (known_of seen.known (target_of i)) in
-    known_put seen.known (target_of i) ce k (learned_all i on.state.bus (gone_on i on.state).bus (target_of i) (known_of seen.known (target_of i)) (all (target_of i))) all
+    let k = learned on.state.bus.geometry i (looks_of on.state.bus (target_of i)) (looks_of (gone_on i on.state).bus (target_of i)) (known_of seen.known (target_of i)) in
+    known_put seen.known (target_of i) ce k (learned_all on.state.bus.geometry i on.state.bus (gone_on i on.state).bus (target_of i) (known_of seen.known (target_of i)) (all (target_of i))) all
 
 pub known_after : (readies : Readies) (seen : Seen) (i : Item) (later : List Item) → KnowsAll seen.known → KnowsAll (seen_after readies seen i later).known
 known_after readies seen i later all ce =

@@ -9,4 +9,4 @@ pub returns-then-is_whole-clause-known : goal.returns-then-is_whole-clause-known
 returns-then-is_whole-clause-known c =
     let i = c.args.item in
     let whole : is_whole (known_of c.args.known.now (target_of i)) ≡ true = search rules in
-    nothing_more i (looks_of c.args.state.now.bus (target_of i)) (looks_of (gone_on i c.args.state.now).bus (target_of i)) c.args.known.now (target_of i) whole
+    nothing_more c.args.state.now.bus.geometry i (looks_of c.args.state.now.bus (target_of i)) (looks_of (gone_on i c.args.state.now).bus (target_of i)) c.args.known.now (target_of i) whole

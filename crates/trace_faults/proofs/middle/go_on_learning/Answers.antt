@@ -11,7 +11,7 @@ returns-clause-known c =
     let known = c.args.known.now in
     let before : c.of-before.result ≡ looks_of c.args.state.now.bus (target_of i) = search rules in
     let after : c.of.result ≡ looks_of (gone_on i c.args.state.now).bus (target_of i) = search rules in
-    let noted : c.note_learned.new.known ≡ slice_set known (target_of i) (learned i c.of-before.result c.of.result (known_of known (target_of i))) = search rules in
+    let noted : c.note_learned.new.known ≡ slice_set known (target_of i) (learned c.args.state.now.bus.geometry i c.of-before.result c.of.result (known_of known (target_of i))) = search rules in
     noted
-    ∙ ap (λ (looks : Looks). slice_set known (target_of i) (learned i looks c.of.result (known_of known (target_of i)))) before
-    ∙ ap (λ (looks : Looks). slice_set known (target_of i) (learned i (looks_of c.args.state.now.bus (target_of i)) looks (known_of known (target_of i)))) after
+    ∙ ap (λ (looks : Looks). slice_set known (target_of i) (learned c.args.state.now.bus.geometry i looks c.of.result (known_of known (target_of i)))) before
+    ∙ ap (λ (looks : Looks). slice_set known (target_of i) (learned c.args.state.now.bus.geometry i (looks_of c.args.state.now.bus (target_of i)) looks (known_of known (target_of i)))) after

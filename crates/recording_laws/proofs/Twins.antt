@@ -1,0 +1,146 @@
+-- A LUN of a shared target as it is, and as it is seen from a reset on: both are judged alike, and an effect leaves both alike.
+use Rattle.std.proofs.Common.{◌≡◌, ℕ, ◌+◌, ◌==◌, Bool, true, ◌||◌, List, [], ◌∷◌, Option, Some, None, refl, sym, ap, ◌∙◌, subst}
+use Rattle.nand_geometry.specs.declared.parts.Parts.{Parts}
+use Rattle.onfi_cycle.specs.declared.command.Command.TheVariants.{Reset}
+use Rattle.onfi_cycle.specs.declared.effect.Effect.{Effect}
+use Rattle.onfi_cycle.specs.declared.effect.Effect.TheVariants.{ReadStarted, CacheReadContinued, TargetResetStarted, StatusOfSelected, AnotherAddressed}
+use Rattle.onfi_cycle.specs.declared.latch.Latch.{Latch}
+use Rattle.onfi_cycle.specs.declared.latch.Latch.TheVariants.{Off, Status, Data}
+use Rattle.onfi_cycle.specs.declared.queued.Queued.{Queued}
+use Rattle.onfi_cycle.specs.declared.tail_facts.TailFacts.{TailFacts}
+use Rattle.onfi_cycle.specs.declared.target_cycle.TargetCycle.{TargetCycle}
+use Rattle.onfi_cycle.specs.declared.target_cycle.TargetCycle.TheVariants.{CommandCycle}
+use Rattle.onfi_cycle.specs.Effect.{is_off, is_shared}
+use Rattle.onfi_cycle.specs.Lun.{is_page_read, works, latch_after, selected_after, overlapped_after, queue_after, read_column_after, view_after}
+use Rattle.onfi_cycle.specs.LunView.{LunView}
+use Rattle.onfi_cycle.specs.Permitted.{judge_cycle}
+use Rattle.onfi_cycle.specs.Rules.{is_some_and, driver, works_for_target, breaks_command_unknown, breaks_sequence_open, breaks_several_luns, breaks_no_column_to_change, breaks_command_misplaced, breaks_address_misplaced, breaks_row_outside, breaks_lun_busy, breaks_queue_clash, breaks_input_misplaced, breaks_no_sole_driver, breaks_data_not_ready, breaks_column_outside, breaks_cache_read_misplaced}
+use Rattle.onfi_cycle.specs.Sequence.{facts_of}
+use Rattle.onfi_cycle.specs.State.{has_driver}
+use Rattle.onfi_cycle.proofs.Passed.{KeepsRules}
+use Rattle.recording_laws.proofs.Luns.{Within, Shows, IsBegun, begun_after}
+use Rattle.recording_laws.proofs.Lists.{Each, each_more, any_down, Match, drivers_match}
+use Rattle.recording_laws.proofs.Rules.{IsClear, IsKnown, none_broken}
+use Rattle.recording_laws.proofs.Changed.{changed, AtEach}
+
+-- ---- 1. what is the same
+
+pub record IsTwin (t s : LunView) : Type 0 where
+  pub begun : IsBegun t s
+  pub latch : t.latch ≡ s.latch
+  pub selected : t.selected ≡ s.selected
+  pub overlapped : t.overlapped ≡ s.overlapped
+  pub queue : t.queue ≡ s.queue
+
+same_shows : (l : Latch) → Shows l l
+same_shows Off = tt
+same_shows Status = refl
+same_shows Data = refl
+
+twin_known : (t s : LunView) → IsTwin t s → IsKnown t s
+twin_known t s k =
+    record {
+      below = record {
+        busy = λ h. k.begun.busy ∙ h;
+        queue = subst (λ (q : List Queued). Within s.queue q) (sym k.queue) (λ test h. h);
+        latch = subst (λ (l : Latch). Shows s.latch l) (sym k.latch) (same_shows s.latch);
+      };
+      begun = k.begun;
+      same = record { off = ap is_off k.latch; latch = λ h. k.latch };
+    }
+
+twin_works : (t s : LunView) → IsTwin t s → works_for_target s ≡ true → works_for_target t ≡ true
+twin_works t s k h = rw (k.begun.busy, k.begun.closer) h
+
+twins_clear : (ts ss : List LunView) → Each IsTwin ts ss → IsClear ts ss
+twins_clear ts ss each =
+    record {
+      overlapped = any_down IsTwin (λ v. v.overlapped) (λ v. v.overlapped) (λ t s k h. k.overlapped ∙ h) ts ss each;
+      target = any_down IsTwin works_for_target works_for_target twin_works ts ss each;
+    }
+
+-- what is permitted is seen to be permitted
+pub twins_judged : (g : Parts) (u : TailFacts) (ts ss : List LunView) (cycle : TargetCycle) → Each IsTwin ts ss → KeepsRules g u ts cycle → judge_cycle g u ss cycle ≡ None
+twins_judged g u ts ss cycle each k = none_broken g ts ss (each_more IsTwin IsKnown twin_known ts ss each) (λ shared. twins_clear ts ss each) u cycle k
+
+-- ---- 2. an effect on both
+
+-- a cache read goes on from a read of a page
+abbrev pub GoesOn : Effect → LunView → Type 0
+GoesOn CacheReadContinued s = is_page_read s.closer ≡ true
+GoesOn _ s = Unit {0}
+
+begun_on : (e : Effect) (t s : LunView) → IsBegun t s → GoesOn e s → IsBegun (view_after e t) (view_after e s)
+begun_on (ReadStarted at from) t s b on = record { busy = refl; closer = refl; array_busy = refl; page = λ h. refl; register = refl; column = λ h. refl }
+begun_on (TargetResetStarted first) t s b on = record { busy = refl; closer = refl; array_busy = refl; page = λ h. cc; register = refl; column = λ h. cc }
+begun_on StatusOfSelected t s b on = record { busy = b.busy; closer = b.closer; array_busy = b.array_busy; page = b.page; register = b.register; column = λ h. ap (read_column_after StatusOfSelected) (b.column h) }
+begun_on (AnotherAddressed reads) t s b on = record { busy = b.busy; closer = b.closer; array_busy = b.array_busy; page = b.page; register = b.register; column = b.column }
+begun_on e t s b on = begun_after e t s b on
+
+pub twin_after : (e : Effect) (t s : LunView) → IsTwin t s → GoesOn e s → IsTwin (view_after e t) (view_after e s)
+twin_after e t s k on =
+    let busy = k.begun.busy in
+    let array = k.begun.array_busy in
+    record {
+      begun = begun_on e t s k.begun on;
+      latch = ap (λ (b : Bool). latch_after e b (works t) t.latch) k.selected ∙ ap (λ (l : Latch). latch_after e s.selected (works t) l) k.latch ∙ ap (λ (b : Bool). latch_after e s.selected (b || t.array_busy) s.latch) busy ∙ ap (λ (b : Bool). latch_after e s.selected (s.busy || b) s.latch) array;
+      selected = ap (selected_after e) k.selected;
+      overlapped = ap (overlapped_after e (works t)) k.overlapped ∙ ap (λ (b : Bool). overlapped_after e (b || t.array_busy) s.overlapped) busy ∙ ap (λ (b : Bool). overlapped_after e (s.busy || b) s.overlapped) array;
+      queue = ap (queue_after e) k.queue;
+    }
+
+-- ---- 3. on each LUN
+
+pub twins_after : (f h : ℕ → LunView → Effect) (C : ℕ → LunView → Type 0) → ((n : ℕ) (t s : LunView) → IsTwin t s → C n s → IsTwin (view_after (f n t) t) (view_after (h n s) s)) →
+    (n : ℕ) (ts ss : List LunView) → Each IsTwin ts ss → AtEach C n ss → Each IsTwin (changed f n ts) (changed h n ss)
+twins_after f h C one n [] [] e c = tt
+twins_after f h C one n (t ∷ ts) (s ∷ ss) e c = (one n t s e.0 c.0, twins_after f h C one (n + 1) ts ss e.1 c.1)
+twins_after f h C one n [] (s ∷ ss) e c = e
+twins_after f h C one n (t ∷ ts) [] e c = e
+
+same_there : (a b : Option LunView) → Match IsTwin a b → is_some_and (λ v. true) a ≡ is_some_and (λ v. true) b
+same_there None None m = refl
+same_there (Some t) (Some s) m = refl
+same_there None (Some s) m = absurd m
+same_there (Some t) None m = absurd m
+
+pub twins_driver : (ts ss : List LunView) → Each IsTwin ts ss → has_driver ts ≡ has_driver ss
+twins_driver ts ss each = same_there (driver ts) (driver ss) (drivers_match IsTwin (λ t s k. ap is_off k.latch) ts ss each)
+
+-- ---- 4. a reset
+
+-- as many are seen as there are
+abbrev pub Beside : LunView → LunView → Type 0
+Beside t s = Unit {0}
+
+reset_twin : (first : Bool) (t s : LunView) → IsTwin (view_after (TargetResetStarted first) t) (view_after (TargetResetStarted first) s)
+reset_twin first t s =
+    record {
+      begun = record { busy = refl; closer = refl; array_busy = refl; page = λ h. cc; register = refl; column = λ h. cc };
+      latch = refl;
+      selected = refl;
+      overlapped = refl;
+      queue = refl;
+    }
+
+pub resets_twins : (f h : ℕ → LunView → Effect) → ((n : ℕ) (v : LunView) → f n v ≡ TargetResetStarted (n == 0)) → ((n : ℕ) (v : LunView) → h n v ≡ TargetResetStarted (n == 0)) →
+    (n : ℕ) (ts ss : List LunView) → Each Beside ts ss → Each IsTwin (changed f n ts) (changed h n ss)
+resets_twins f h a b n [] [] e = tt
+resets_twins f h a b n (t ∷ ts) (s ∷ ss) e = (
+  subst (λ (x : Effect). IsTwin (view_after x t) (view_after (h n s) s)) (sym (a n t)) (subst (λ (x : Effect). IsTwin (view_after (TargetResetStarted (n == 0)) t) (view_after x s)) (sym (b n s)) (reset_twin (n == 0) t s)),
+  resets_twins f h a b (n + 1) ts ss e.1,
+)
+resets_twins f h a b n [] (s ∷ ss) e = e
+resets_twins f h a b n (t ∷ ts) [] e = e
+
+-- it is permitted whatever was
+pub reset_judged : (g : Parts) (ss : List LunView) → is_shared g ≡ true → judge_cycle g (facts_of []) ss (CommandCycle Reset) ≡ None
+unfolding breaks_command_unknown breaks_sequence_open breaks_several_luns breaks_no_column_to_change breaks_command_misplaced breaks_address_misplaced breaks_row_outside breaks_lun_busy breaks_queue_clash breaks_input_misplaced breaks_no_sole_driver breaks_data_not_ready breaks_column_outside breaks_cache_read_misplaced
+reset_judged g ss shared = rw shared refl
+
+-- the same on each side
+pub still_beside : (f : ℕ → LunView → Effect) (n : ℕ) (ts ss : List LunView) → Each Beside ts ss → Each Beside (changed f n ts) ss
+still_beside f n [] [] e = tt
+still_beside f n (t ∷ ts) (s ∷ ss) e = (tt, still_beside f (n + 1) ts ss e.1)
+still_beside f n [] (s ∷ ss) e = e
+still_beside f n (t ∷ ts) [] e = e
