@@ -6,3 +6,4 @@ pub mod Rooms
 pub mod Digits
 pub mod Renewed
 pub mod Strobes
+pub mod Growing
