@@ -17,8 +17,9 @@ use Rattle.onfi_cycle.specs.declared.tail_facts.TailFacts.{TailFacts}
 use Rattle.onfi_cycle.specs.declared.target_cycle.TargetCycle.{TargetCycle}
 use Rattle.onfi_cycle.specs.declared.target_cycle.TargetCycle.TheVariants.{CommandCycle, AddressCycle, InputCycle, OutputCycle}
 use Rattle.onfi_cycle.specs.Sequence.{tail, facts_of, row, row_with, target_cycle, wants_command, wants_address}
-use Rattle.onfi_cycle.specs.Effect.{names_lun, is_off, is_data, confirm_effect, command_effect, opening_address_effect, address_effect, cycle_effect, id_effect, ends_features}
-use Rattle.onfi_cycle.specs.Lun.{effect_on, latch_alone, is_busy as lun_is_busy, is_caching, busy_after, array_busy_after}
+use Rattle.onfi_cycle.specs.Effect.{is_shared, acts_for_target, of_target, other_effect, lun_reset_effect, names_lun, is_off, is_data, confirm_effect, command_effect, opening_address_effect, address_effect, cycle_effect, id_effect, ends_features}
+use Rattle.onfi_cycle.specs.Command.{closes_row, is_read_confirm}
+use Rattle.onfi_cycle.specs.Lun.{effect_on, effect_among, latch_alone, is_busy as lun_is_busy, is_caching, busy_after, array_busy_after}
 use Rattle.bus_lines.specs.declared.lines.Lines.{Lines}
 use Rattle.bus_lines.specs.Lines.{idle}
 use Rattle.trace_wave.specs.Levels.{bit, shown, is_busy, has_busy_array, tells_failure, readies, target_levels, targets_levels, bus_levels, rule_bits, levels}
@@ -39,25 +40,34 @@ either : (b : Bool) (x y : Effect) → Keeps x → Keeps y → Keeps (cond b x y
 either true x y h k = h
 either false x y h k = k
 
+-- what the closer of a row does to another LUN, and what is done for a whole target
+other_keeps : (g : Parts) (t : TailFacts) (c : Command) → Keeps (other_effect g t c)
+other_keeps g t c = either (closes_row c && (wants_command t c && is_shared g)) (e.AnotherAddressed (is_read_confirm c)) e.Unaffected refl refl
+
+target_keeps : (g : Parts) (lun : ℕ) (x : Effect) → Keeps x → Keeps (of_target g lun x)
+target_keeps g lun x h = either (acts_for_target g lun) x e.Deselected h refl
+
 command_keeps : (g : Parts) (t : TailFacts) (latch : Latch) (c : Command) (lun : ℕ) → Keeps (command_effect g t latch c lun)
 command_keeps g t latch k.Read lun = refl
-command_keeps g t latch k.ReadStatus lun = refl
+command_keeps g t latch k.ReadStatus lun = either (is_shared g) e.StatusOfSelected e.StatusSelected refl refl
 command_keeps g t latch k.ReadStatusEnhanced lun = refl
-command_keeps g t latch k.Reset lun = refl
-command_keeps g t latch k.SynchronousReset lun = refl
+command_keeps g t latch k.Reset lun = either (is_shared g) (e.TargetResetStarted (lun == 0)) e.ResetStarted refl refl
+command_keeps g t latch k.SynchronousReset lun = either (is_shared g) (e.TargetResetStarted (lun == 0)) e.ResetStarted refl refl
 command_keeps g t latch k.ReadCacheSequential lun = either (is_off latch) e.Unaffected e.CacheReadContinued refl refl
 command_keeps g t latch k.ReadCacheEnd lun = either (is_off latch) e.Unaffected e.CacheReadEnded refl refl
 command_keeps g t latch k.ChangeReadColumnConfirm lun = either (wants_command t k.ChangeReadColumnConfirm && not (is_off latch)) (e.ReadColumnChanged t.column) e.Unaffected refl refl
-command_keeps g t latch c lun = either (wants_command t c && names_lun g (row t) lun) (confirm_effect g t c) e.Unaffected refl refl
+command_keeps g t latch c lun = either (wants_command t c && names_lun g (row t) lun) (confirm_effect g t c) (other_effect g t c) refl (other_keeps g t c)
 
 address_keeps : (g : Parts) (t : TailFacts) (byte : ℕ) (c : Command) (n lun : ℕ) → Keeps (address_effect g t byte c n lun)
 address_keeps g t byte k.ReadStatusEnhanced n lun =
     either (n == 2) (cond (names_lun g (row_with t byte) lun) e.SelectedForStatus e.Deselected) e.Unaffected (either (names_lun g (row_with t byte) lun) e.SelectedForStatus e.Deselected refl refl) refl
-address_keeps g t byte k.ReadId n lun = either (wants_address t byte) (id_effect byte) e.Unaffected (either (byte == 0x20) e.IdRead (e.IdentityRead (byte == 0x40)) refl refl) refl
-address_keeps g t byte k.ReadUniqueId n lun = either (wants_address t byte) e.UniqueIdReadStarted e.Unaffected refl refl
-address_keeps g t byte k.GetFeatures n lun = either (wants_address t byte) (e.FeaturesReadStarted byte) e.Unaffected refl refl
-address_keeps g t byte k.ResetLun n lun = either (n == 2 && names_lun g (row_with t byte) lun) e.ResetStarted e.Unaffected refl refl
-address_keeps g t byte k.ReadParameterPage n lun = either (wants_address t byte) e.ParameterPageReadStarted e.Unaffected refl refl
+address_keeps g t byte k.ReadId n lun = either (wants_address t byte) (of_target g lun (id_effect byte)) e.Unaffected (target_keeps g lun (id_effect byte) (either (byte == 0x20) e.IdRead (e.IdentityRead (byte == 0x40)) refl refl)) refl
+address_keeps g t byte k.ReadUniqueId n lun = either (wants_address t byte) (of_target g lun e.UniqueIdReadStarted) e.Unaffected (target_keeps g lun e.UniqueIdReadStarted refl) refl
+address_keeps g t byte k.GetFeatures n lun = either (wants_address t byte) (of_target g lun (e.FeaturesReadStarted byte)) e.Unaffected (target_keeps g lun (e.FeaturesReadStarted byte) refl) refl
+address_keeps g t byte k.ResetLun n lun =
+    either (n == 2) (lun_reset_effect g (names_lun g (row_with t byte) lun)) e.Unaffected
+    (either (names_lun g (row_with t byte) lun) e.ResetStarted (cond (is_shared g) (e.AnotherAddressed false) e.Unaffected) refl (either (is_shared g) (e.AnotherAddressed false) e.Unaffected refl refl)) refl
+address_keeps g t byte k.ReadParameterPage n lun = either (wants_address t byte) (of_target g lun e.ParameterPageReadStarted) e.Unaffected (target_keeps g lun e.ParameterPageReadStarted refl) refl
 address_keeps g t byte _ n lun = refl
 
 opening_keeps : (g : Parts) (t : TailFacts) (byte : ℕ) (o : Option Opening) (lun : ℕ) → Keeps (opening_address_effect g t byte o lun)
@@ -67,7 +77,7 @@ opening_keeps g t byte (Some o) lun = address_keeps g t byte o.opener o.addresse
 cycle_keeps : (g : Parts) (t : TailFacts) (latch : Latch) (c : TargetCycle) (lun : ℕ) → Keeps (cycle_effect g t latch c lun)
 cycle_keeps g t latch (CommandCycle c) lun = command_keeps g t latch c lun
 cycle_keeps g t latch (AddressCycle byte) lun = opening_keeps g t byte t.opening lun
-cycle_keeps g t latch (InputCycle byte) lun = either (ends_features t) (e.FeaturesSet (t.column % 256)) e.Unaffected refl refl
+cycle_keeps g t latch (InputCycle byte) lun = either (ends_features t) (of_target g lun (e.FeaturesSet (t.column % 256))) e.Unaffected (target_keeps g lun (e.FeaturesSet (t.column % 256)) refl) refl
 cycle_keeps g t latch OutputCycle lun = either (is_data latch) e.DataOutput e.Unaffected refl refl
 
 ready_ends : (b : Bool) (fail : Bool) → busy_after (cond b (e.BecameReady fail) e.Unaffected) true ≡ not b
@@ -76,14 +86,14 @@ ready_ends false fail = refl
 
 -- of a LUN that is busy
 busy_ends : (g : Parts) (past : List Item) (i : Item) (l : Lun) → busy_after (effect_on g past i l) true ≡ not (is_ready_of i l.ce l.lun)
-unfolding effect_on
+unfolding effect_among
 busy_ends g past (Cyc c) l = either (c.ce == l.ce) (cycle_effect g (facts_of (tail past l.ce)) (latch_alone g past l) (target_cycle c.kind c.byte) l.lun) e.Unaffected (cycle_keeps g (facts_of (tail past l.ce)) (latch_alone g past l) (target_cycle c.kind c.byte) l.lun) refl
 busy_ends g past (Rdy ce lun fail) l = ready_ends (ce == l.ce && lun == l.lun) fail
 busy_ends g past (Ard ce lun) l = either (ce == l.ce && lun == l.lun) e.ArrayBecameReady e.Unaffected refl refl
 
 -- of a LUN whose array is busy, by an item that isn't seen on the bus
 array_ends : (g : Parts) (past : List Item) (i : Item) (l : Lun) (busy caching : Bool) → is_ready i ≡ true → array_busy_after (effect_on g past i l) busy caching true ≡ not (is_array_ready_of i l.ce l.lun)
-unfolding effect_on
+unfolding effect_among
 array_ends g past (Cyc c) l busy caching h = absurd (false≢true h)
 array_ends g past (Rdy ce lun fail) l busy caching h = by (ce == l.ce && lun == l.lun)
   where
