@@ -1,5 +1,5 @@
 //! Running what was planned: the queue of jobs, the channel, its hosts and its workers.
-ghost use Rattle.std.specs.Prelude.{◌≡◌, ◌≤◌, [], Some, IfOk, OnOk, length, slice_index_or};
+ghost use Rattle.std.specs.Prelude.{◌≡◌, ◌≤◌, ◌-◌, min, max, [], Some, IfOk, OnOk, length, slice_index_or};
 ghost use Rattle.std.specs.List.{All};
 ghost use Rattle.seq_core.specs.World.{fresh};
 ghost use Rattle.seq_core.specs.Shows.{IsAt, channel_in};
@@ -149,13 +149,14 @@ fn make_hosts<'q, L: RunName>(
     Ok(hosts)
 }
 
-// So many passes of workers, at most 8.
+// A pass for each of so many workers, one at least, as far as the channel has them.
 fn make_passes<L: Turns>(
     alloc: Global,
     state: &mut ChannelState<L>,
     workers: u8,
 ) -> Result<Vec<WorkerPass<L>>, AllocError>
     requires { L.all ≡ 9 }
+    ensures { IfOk result (λ passes. length passes.items ≡ min (max workers 1) (8 - state.old.passes)) }
 {
     let mut passes = Vec::new(alloc);
     for _ in 0..workers.max(1) {
@@ -198,6 +199,7 @@ fn open_channel<L: Turns>(
     requires core { IsAt core (fresh (channel_in core)) }
     requires taker { taker.taken ≡ [] }
     requires from { IsFrom L.origin core taker }
+    ensures { IfOk result (λ state. state.passes ≡ 0) }
 {
     let seats = Seats::of(LeaseTable::new(alloc)?);
     Ok(ChannelState::new(alloc, blank, core, taker, seats))
