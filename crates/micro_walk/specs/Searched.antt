@@ -46,15 +46,16 @@ begun claims head (Some s) = reached claims head (state_at_head s)
 
 -- ---- a turn
 
--- the loop is walked no more, which was entered with `s`, at whose head `h` is claimed and at whose end `r`
-abbrev pub is_walked : Walked → (s h r : State) → Bool
-is_walked l s h r = nat_le l.turns 1 || (nat_le 13 l.again || is_state_within (state_at_heads s r l.turns) h)
+-- the loop is walked no more, where a later turn may begin with `heads`, and `head` is claimed at its head
+abbrev pub is_walked : Walked → (heads head : State) → Bool
+is_walked l heads head = nat_le l.turns 1 || (nat_le 13 l.again || is_state_within heads head)
 
 -- what comes of a turn: the loop is walked again, or left
 pub record Turn : Type 0 where
   pub again : Option Walked
   pub claims : List (Option State)
 
+-- of a loop that was entered with `s`, at whose head `h` is claimed and at whose `next` `r`
 abbrev pub left_at : List (Option State) → ℕ → Walked → (s r : State) → Turn
 left_at claims at l s r = record { again = None; claims = reached claims (at + 1) (state_after_turns s r l.turns) }
 
@@ -67,7 +68,7 @@ again_at claims at l s h r =
 
 -- a loop is walked so seven times more; after that numbers are widened, of which nothing is told
 abbrev pub turn_with : List (Option State) → ℕ → Walked → (s h r : Option State) → Option Turn
-turn_with claims at l (Some s) (Some h) (Some r) = if is_walked l s h r then Some (left_at claims at l s r) else (if nat_lt l.again 7 then Some (again_at claims at l s h r) else None)
+turn_with claims at l (Some s) (Some h) (Some r) = if is_walked l (state_at_heads s r l.turns) h then Some (left_at claims at l s r) else (if nat_lt l.again 7 then Some (again_at claims at l s h r) else None)
 turn_with claims at l s h r = None
 
 abbrev pub turn_at : List (Option State) → ℕ → Walked → Option Turn

@@ -1,8 +1,8 @@
 //! The search for a certificate. Nothing rests on what it finds: the check decides.
-ghost use Rattle.std.specs.Prelude.{◌≡◌, ◌-◌, ◌<◌, ◌≤◌, true, None, length, IfSome};
+ghost use Rattle.std.specs.Prelude.{◌≡◌, ◌-◌, ◌<◌, ◌≤◌, true, false, None, length, IfSome};
 ghost use Rattle.micro_claims.specs.Certificate.{claim};
 ghost use Rattle.micro_claims.specs.Joins.{joined};
-ghost use Rattle.micro_walk.specs.Searched.{Search, forgotten, led_by, turn_at, entered, turned, stepped, searched, search_first};
+ghost use Rattle.micro_walk.specs.Searched.{Search, forgotten, led_by, is_walked, turn_at, entered, turned, stepped, searched, search_first};
 
 use crate::following::reach;
 use crate::shape::MAX_DEPTH;
@@ -90,6 +90,14 @@ fn wider(head: &State, heads: &State, again: u8) -> State
     }
 }
 
+// A loop is walked no more: it has one turn, it was walked again often enough, or a later turn begins with no less than is claimed at its head.
+fn is_walked(walked: &Walked, heads: &State, head: &State) -> bool
+    ensures value { result ≡ is_walked walked.now heads.now head.now }
+    ensures few { result ≡ false → walked.now.again < 13 }
+{
+    walked.turns <= 1 || walked.again >= MOST_AGAIN || heads.is_within(head)
+}
+
 // At the `next` of a loop: the loop once more, where a later turn may begin with more than is claimed at its head.
 fn once_more(claims: &mut [Option<State>], at: usize, walked: &Walked) -> Option<Walked>
     ensures turn { IfSome (turn_at claims.old at walked.now) (λ turn. (result ≡ turn.again) × (claims.new ≡ turn.claims)) }
@@ -103,7 +111,7 @@ fn once_more(claims: &mut [Option<State>], at: usize, walked: &Walked) -> Option
         return None;
     };
     let heads = entry.at_heads(&end, walked.turns);
-    if walked.turns <= 1 || walked.again >= MOST_AGAIN || heads.is_within(&head) {
+    if is_walked(walked, &heads, &head) {
         let after = entry.after_turns(&end, walked.turns);
         reach(claims, at.saturating_add(1), &after);
         return None;
