@@ -17,7 +17,9 @@ use Rattle.micro_walk.specs.Shape.{or_fault, shape_fault}
 use Rattle.micro_walk.specs.Faults.{reached, has_loop, front_fault, early_fault}
 use Rattle.micro_walk.specs.Searched.{Search, not_walked, forgotten, stepped, at_end_or, searched, search_first, is_found, finds_certificate}
 use Rattle.micro_walk.specs.declared.search.Walk.{Walk}
+use Rattle.micro_program.specs.Lines.{all_lead_on}
 use Rattle.micro_walk.proofs.Forgetting.{forgets_all}
+use Rattle.micro_walk.proofs.Verdicts.{no_loops}
 
 -- ---- more steps
 
@@ -152,3 +154,15 @@ finds g text h =
     let two = and_parts (is_none (early_fault g text)) (is_found g (bounds_of text) text.words) one.1 in
     let none = neither_fault (shape_fault text.words) (front_fault g (bounds_of text) text.words) two.0 in
     record { loops = one.0; shape = none.0; front = none.1; found = two.1 }
+
+-- what is found has loops: so a way leads elsewhere
+pub not_straight : (g : Parts) (text : Microprogram) → finds_certificate g text ≡ true → all_lead_on text.words ≡ true → ⊥
+not_straight g text h leads = let clash = sym (no_loops text.words leads) ∙ (finds g text h).loops in absurd cc
+
+-- the same of a text, as it is read
+pub found_of_text : (g : Parts) (text : Microprogram) (b : Bounds) (words : List Word) (most places : ℕ) (stopped : Option ℕ) (claims : List (Option State)) → b ≡ bounds_of text → words ≡ text.words → 256 * length text.words ≤ most → places ≡ length words
+    → IfSome (searched g b words most (search_first places)) (Comes stopped claims) → is_found g (bounds_of text) text.words ≡ true → is_certified (machine g (bounds_of text)) text.words claims ≡ true
+found_of_text g text b words most places stopped claims eb ew enough long is found =
+    (leaves_certificate g (bounds_of text) text.words most places stopped claims enough (long ∙ ap (λ (ws : List Word). length ws) ew)
+    (subst (λ (x : Bounds). IfSome (searched g x text.words most (search_first places)) (Comes stopped claims)) eb
+    (subst (λ (ws : List Word). IfSome (searched g b ws most (search_first places)) (Comes stopped claims)) ew is)) found).1
