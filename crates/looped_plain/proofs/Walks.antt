@@ -37,7 +37,7 @@ is_placed s = is_place_within s.target.tail s.target.tail
 
 -- what all ways claim behind the words, from a state, where `f` is claimed there before; None where something is against a word
 abbrev pub ended : Parts → Bounds → State → (f : Option State) → List Word → Option State
-ended g b s f [] = Some (met f s)
+ended g b s f [] = cond (is_placed s) (Some (met f s)) None
 ended g b s f (BranchOnStatus mask target ∷ rest) = cond (is_placed s && s.registers.polled) (ended g b s (Some (met f s)) rest) None
 ended g b s f (word ∷ rest) = cond (is_placed s && is_none (reason_against g b s word)) (ended g b (state_after g s word) f rest) None
 
@@ -46,6 +46,17 @@ abbrev pub Along : Parts → List (Option State) → (at : ℕ) → State → Li
 Along g claims at s [] = Unit {0}
 Along g claims at s (BranchOnStatus mask target ∷ rest) = (claim claims at ≡ Some s) × Along g claims (at + 1) s rest
 Along g claims at s (word ∷ rest) = (claim claims at ≡ Some s) × Along g claims (at + 1) (state_after g s word) rest
+
+-- what is claimed of the first of them
+pub along_first : (g : Parts) (claims : List (Option State)) (at : ℕ) (s : State) (w : Word) (ws : List Word) → Along g claims at s (w ∷ ws) → claim claims at ≡ Some s
+along_first g claims at s (BranchOnStatus mask target) ws h = h.0
+along_first g claims at s w ws h = h.0
+
+-- other claims, that are the same before `last`
+pub along_same : (g : Parts) (claims others : List (Option State)) (ws : List Word) (at last : ℕ) (s : State) → at + length ws ≡ last → ((p : ℕ) → p < last → claim others p ≡ claim claims p) → Along g claims at s ws → Along g others at s ws
+along_same g claims others [] at last s long same h = tt
+along_same g claims others (BranchOnStatus mask target ∷ ws) at last s long same h = (same at (omega (arith, long)) ∙ h.0, along_same g claims others ws (at + 1) last s (omega (arith, long)) same h.1)
+along_same g claims others (w ∷ ws) at last s long same h = (same at (omega (arith, long)) ∙ h.0, along_same g claims others ws (at + 1) last (state_after g s w) (omega (arith, long)) same h.1)
 
 pub went : (b : Bool) (o : Option State) (r : State) → cond b o None ≡ Some r → (b ≡ true) × (o ≡ Some r)
 went true o r h = (refl, h)
@@ -180,13 +191,13 @@ in_front g b words depth loops k claims between at last s t f w ws r there l les
       long = d.long ∙ l.long;
     }
 
-nothing_left : (g : Parts) (b : Bounds) (words : List Word) (depth : ℕ) (loops : Loops) (k : ℕ) (claims : List (Option State)) (last : ℕ) (s : State) (f : Option State) (r : State) → Opens claims last last f → Some (met f s) ≡ Some r → Walks g b words depth loops k claims last last s [] r
+nothing_left : (g : Parts) (b : Bounds) (words : List Word) (depth : ℕ) (loops : Loops) (k : ℕ) (claims : List (Option State)) (last : ℕ) (s : State) (f : Option State) (r : State) → Opens claims last last f → cond (is_placed s) (Some (met f s)) None ≡ Some r → Walks g b words depth loops k claims last last s [] r
 nothing_left g b words depth loops k claims last s f r d h =
     record {
       after = reached claims last s;
       walked = refl;
       along = tt;
-      ends = reached_there claims last s f d.inside d.failed ∙ h;
+      ends = reached_there claims last s f d.inside d.failed ∙ (went (is_placed s) (Some (met f s)) r h).1;
       before = λ p before. reached_elsewhere claims last p s (λ e. omega (arith, e, before));
       behind = λ p behind. reached_elsewhere claims last p s (λ e. omega (arith, e, behind));
       long = reached_long claims last s;
