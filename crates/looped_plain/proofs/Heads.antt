@@ -250,4 +250,4 @@ stays_within turns t u v w r q a b d =
     (and_from _ _ (cost_within (record { lo = saturated (0 + b.growth); hi = bound_sum (Some 0) (kept ((turns - 1) * w.paid)); grown = Some no_growth }) (record { lo = saturated (0 + a.growth); hi = bound_sum (Some 0) (kept ((turns - 1) * v.paid)); grown = Some no_growth }) paid refl refl) refl)))))))
     (and_from _ _ refl (and_from _ _ refl (and_from _ _ refl (and_from _ _ refl (and_from _ _ refl
     (and_from _ _ (closer_within b.read b.other a.read a.other)
-    (and_from _ _ (free_within _ _ (heads_grown any_number b.cached.index turns) (heads_grown any_number a.cached.index turns)) (free_within _ _ (heads_grown any_number b.cached.page turns) (heads_grown any_number a.cached.page turns))))))))))
+    (and_from _ _ (free_within (span_at_heads any_number b.cached.index turns) (span_at_heads any_number a.cached.index turns) (heads_grown any_number b.cached.index turns) (heads_grown any_number a.cached.index turns)) (free_within (span_at_heads any_number b.cached.page turns) (span_at_heads any_number a.cached.page turns) (heads_grown any_number b.cached.page turns) (heads_grown any_number a.cached.page turns))))))))))

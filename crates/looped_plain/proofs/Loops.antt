@@ -26,7 +26,7 @@ use Rattle.looped_plain.proofs.Certifying.{Claimed, Turns, loop_is_certified, lo
 
 -- ---- places
 
-has_behind : (words : List Word) (ws more : List Word) (at last : ℕ) → at + length ws ≡ last → Has words at (ws ++ more) → Has words last more
+pub has_behind : (words : List Word) (ws more : List Word) (at last : ℕ) → at + length ws ≡ last → Has words at (ws ++ more) → Has words last more
 has_behind words [] more at last long h = let e : at ≡ last = omega (arith, long) in subst (λ (q : ℕ). Has words q more) e h
 has_behind words (w ∷ ws) more at last long h = has_behind words ws more (at + 1) last (omega (arith, long)) (has_rest words at w (ws ++ more) h)
 
@@ -34,7 +34,7 @@ over_words : (ws : List Word) (k : ℕ) → steps_over ws k ≡ length ws + k
 over_words [] k = omega arith
 over_words (w ∷ ws) k = let more = over_words ws k in omega (arith, more)
 
-behind_words : (ws more : List Word) → length (ws ++ more) ≡ length ws + length more
+pub behind_words : (ws more : List Word) → length (ws ++ more) ≡ length ws + length more
 behind_words [] more = omega arith
 behind_words (w ∷ ws) more = let rest = behind_words ws more in omega (arith, rest)
 
@@ -146,10 +146,10 @@ record Ends (g : Parts) (b : Bounds) (words : List Word) (steps : ℕ) (s : Sear
   walked : searched g b words steps s ≡ Some found
   certified : is_certified (machine g b) words found ≡ true
 
-text_long : (turns : ℕ) (ws : List Word) (last : ℕ) → 1 + length ws ≡ last → length (looped turns ws) ≡ last + 1 + 1
+pub text_long : (turns : ℕ) (ws : List Word) (last : ℕ) → 1 + length ws ≡ last → length (looped turns ws) ≡ last + 1 + 1
 text_long turns ws last long = let more = behind_words ws (Next ∷ (End 0 ∷ [])) in omega (arith, more, long)
 
-has_all : (words : List Word) → Has words 0 words
+pub has_all : (words : List Word) → Has words 0 words
 has_all words i = let e : 0 + i ≡ i = omega arith in ap (slice_get words) e
 
 finishes : (g : Parts) (b : Bounds) (ws : List Word) (turns again last : ℕ) (claims : List (Option State)) (h r : State) → 1 + length ws ≡ last → AreInside last ws → Walked g ws last claims h r → is_left turns again r h ≡ true → Turns g b ws turns h r
