@@ -32,7 +32,7 @@ body_inside failure (Read row plane column place len ∷ ops) = body_inside fail
 body_inside failure (Program row plane column place len ∷ ops) = (refl, body_inside failure ops)
 body_inside failure (Erase row plane ∷ ops) = (refl, body_inside failure ops)
 
-body_ends : (failure : ℕ) (ops : List PlainOp) → words_from failure ops ≡ body failure ops ++ (End 0 ∷ (End 1 ∷ []))
+pub body_ends : (failure : ℕ) (ops : List PlainOp) → words_from failure ops ≡ body failure ops ++ (End 0 ∷ (End 1 ∷ []))
 body_ends failure [] = refl
 body_ends failure (op ∷ ops) = ap (λ (ws : List Word). operation_words failure op ++ ws) (body_ends failure ops) ∙ sym (append_assoc (operation_words failure op) (body failure ops) (End 0 ∷ (End 1 ∷ [])))
 
