@@ -12,7 +12,7 @@ use Rattle.micro_verify.specs.Plain.{operations_len, words_from, plain_words, pl
 use Rattle.micro_verify.proofs.PlainShapes.{words_long}
 use Rattle.micro_verify.proofs.PlainInsides.{AllInside, row_fits, part_fits, few_planes, short_page, some_rows, rows_fit, buffer_fits, budget_fits, are_fine}
 
-words_in_range : (g : Parts) → InLimits g → (count failure : ℕ) (ops : List PlainOp) → failure < count → AllInside g ops → AllByRecursion (IsInRange Two count) (words_from failure ops)
+pub words_in_range : (g : Parts) → InLimits g → (count failure : ℕ) (ops : List PlainOp) → failure < count → AllInside g ops → AllByRecursion (IsInRange Two count) (words_from failure ops)
 words_in_range g l count failure [] there inside = (omega arith, (omega arith, tt))
 words_in_range g l count failure (Read row plane column place len ∷ ops) there inside =
     let fits = part_fits g row plane column place len inside.0 in

@@ -58,13 +58,13 @@ FromBranch g x f paid words =
     → goes_well g x (at_rest column planes index page place least grown polled shows register output read other cached paid) (Some (met f (at_rest column planes index page place least grown polled shows register output read other cached paid))) words ≡ true
 
 -- a row and its plane are inside, as the tests of them are told
-record RowTests (x : Microprogram) (row plane : ℕ) : Type 0 where
-  plane_there : nat_lt 3 plane ≡ false
-  row_kept : nat_le row greatest_bound ≡ true
-  row_more : nat_le (row + 1) greatest_bound ≡ true
-  row_there : nat_le (row + 1) x.rows ≡ true
+pub record RowTests (x : Microprogram) (row plane : ℕ) : Type 0 where
+  pub plane_there : nat_lt 3 plane ≡ false
+  pub row_kept : nat_le row greatest_bound ≡ true
+  pub row_more : nat_le (row + 1) greatest_bound ≡ true
+  pub row_there : nat_le (row + 1) x.rows ≡ true
 
-row_tests : (x : Microprogram) (row plane : ℕ) → plane ≤ 3 → row + 1 ≤ x.rows → x.rows ≤ 4096 → RowTests x row plane
+pub row_tests : (x : Microprogram) (row plane : ℕ) → plane ≤ 3 → row + 1 ≤ x.rows → x.rows ≤ 4096 → RowTests x row plane
 row_tests x row plane p r rows =
     record {
       plane_there = not_lt_test 3 plane p;
@@ -74,20 +74,20 @@ row_tests x row plane p r rows =
     }
 
 -- bytes of a page and their places in the buffer are inside, as the tests of them are told
-record BytesTests (g : Parts) (x : Microprogram) (column place len : ℕ) : Type 0 where
-  column_kept : nat_le column greatest_bound ≡ true
-  column_more : nat_le (column + 1) greatest_bound ≡ true
-  column_len : nat_le (column + len) greatest_bound ≡ true
-  column_there : nat_le (column + 1) (page_len g) ≡ true
-  column_inside : nat_le (column + len) (page_len g) ≡ true
-  not_past : nat_le (page_len g) column ≡ false
-  place_kept : nat_le place greatest_bound ≡ true
-  place_len : nat_le (place + len) greatest_bound ≡ true
-  place_inside : nat_le (place + len) x.buffer ≡ true
-  some : nat_lt 0 len ≡ true
-  costs : (len == 0) ≡ false
+pub record BytesTests (g : Parts) (x : Microprogram) (column place len : ℕ) : Type 0 where
+  pub column_kept : nat_le column greatest_bound ≡ true
+  pub column_more : nat_le (column + 1) greatest_bound ≡ true
+  pub column_len : nat_le (column + len) greatest_bound ≡ true
+  pub column_there : nat_le (column + 1) (page_len g) ≡ true
+  pub column_inside : nat_le (column + len) (page_len g) ≡ true
+  pub not_past : nat_le (page_len g) column ≡ false
+  pub place_kept : nat_le place greatest_bound ≡ true
+  pub place_len : nat_le (place + len) greatest_bound ≡ true
+  pub place_inside : nat_le (place + len) x.buffer ≡ true
+  pub some : nat_lt 0 len ≡ true
+  pub costs : (len == 0) ≡ false
 
-bytes_tests : (g : Parts) (x : Microprogram) (column place len : ℕ) → 1 ≤ len → column + len ≤ page_len g → page_len g ≤ 20480 → place + len ≤ x.buffer → x.buffer ≤ 16777215 → BytesTests g x column place len
+pub bytes_tests : (g : Parts) (x : Microprogram) (column place len : ℕ) → 1 ≤ len → column + len ≤ page_len g → page_len g ≤ 20480 → place + len ≤ x.buffer → x.buffer ≤ 16777215 → BytesTests g x column place len
 bytes_tests g x column place len l inside long buffered buffer =
     record {
       column_kept = le_test column greatest_bound (omega (arith, inside, long));

@@ -22,3 +22,6 @@ pub mod ShapeTable
 pub mod Ends
 pub mod Verdicts
 pub mod Front
+pub mod Forgetting
+pub mod Turning
+pub mod Searching

@@ -53,7 +53,7 @@ straight_refused text g b words fault r shape leads some =
     (inl (straight_fault_of text g shape leads ∙ of_text text b words (λ x ws. walked g x 0 (Some first_state) ws) (Some fault) r some))
 
 -- a loop leads elsewhere
-no_loops : (words : List Word) → all_lead_on words ≡ true → has_loop words ≡ false
+pub no_loops : (words : List Word) → all_lead_on words ≡ true → has_loop words ≡ false
 no_loops [] h = refl
 no_loops (word ∷ words) h =
     let parts = and_parts (leads_on word) (all_lead_on words) h in

@@ -3,3 +3,4 @@ pub mod Faults
 pub mod Verdicts
 pub mod Erase
 pub mod Certified
+pub mod Searched

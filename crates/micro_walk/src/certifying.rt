@@ -1,5 +1,8 @@
 //! Texts with branches and loops: claims for their places, found by a search, and the check that they are a certificate.
 ghost use Rattle.std.specs.Prelude.{◌≡◌, ◌↔◌, true, IsOk, IfOk, IfErr};
+ghost use Rattle.micro_claims.specs.Certificate.{is_certified};
+ghost use Rattle.micro_claims.specs.Order.{machine};
+ghost use Rattle.micro_walk.specs.Searched.{is_found};
 ghost use Rattle.micro_walk.specs.Certified.{is_shown};
 ghost use Rattle.micro_claims.specs.State.{bounds_of};
 
@@ -35,9 +38,12 @@ impl Model for Claims {
 }
 
 impl Claims {
-    /// Looks for claims of a text for a geometry. Nothing is promised of them: [`certify`] tells whether they are a certificate. Where the
-    /// search finds something against a word, the claims after it are missing.
-    pub fn find<A: Allocator>(text: &Text<A>, geometry: &Geometry) -> Claims {
+    /// Looks for claims of a text for a geometry; [`certify`] tells whether they are a certificate. Where the search finds something
+    /// against a word, the claims after it are missing.
+    pub fn find<A: Allocator>(text: &Text<A>, geometry: &Geometry) -> Claims
+        // They are a certificate of a text of which the search finds one.
+        ensures { is_found geometry.now (bounds_of text.now) text.now.words ≡ true → is_certified (machine geometry.now (bounds_of text.now)) text.now.words result ≡ true }
+    {
         let words = text.words();
         let mut claims = nothing_known(words.len());
         // How far the search came and where it stopped says nothing of the claims.

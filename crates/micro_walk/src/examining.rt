@@ -1,11 +1,12 @@
 //! Examining a text: its shape first, and then, from its first word on, what is known before each word and whether anything is against it.
-ghost use Rattle.std.specs.Prelude.{◌≡◌, ◌≤◌, ◌<◌, true, false, length, replicate, Option, Some, None, IfOk, IfErr};
+ghost use Rattle.std.specs.Prelude.{◌≡◌, ◌≤◌, ◌<◌, true, false, length, replicate, Option, Some, None, IsOk, IfOk, IfErr};
 ghost use Rattle.micro_claims.specs.declared.refusal.Fault.{Fault};
 ghost use Rattle.micro_program.specs.Lines.{all_lead_on};
 ghost use Rattle.micro_claims.specs.declared.state.State.{State};
 ghost use Rattle.micro_claims.specs.State.{first_state, bounds_of};
 ghost use Rattle.micro_walk.specs.Shape.{shape_fault};
 ghost use Rattle.micro_walk.specs.Faults.{onward, walked, is_loop, has_loop, before_loops, front_fault};
+ghost use Rattle.micro_walk.specs.Searched.{finds_certificate};
 ghost use Rattle.micro_walk.specs.Verdicts.{MayBe, IsVerified};
 
 use crate::claim_table::{FEW_WORDS, nothing_known};
@@ -143,6 +144,7 @@ fn examine_loops<A: Allocator>(
     requires room { claims.old ≡ replicate (length text.now.words) None }
     ensures verified { IfOk result (λ walked. IsVerified text.now geometry.now walked) }
     ensures refused { IfErr result (λ fault. MayBe geometry.now text.now fault) }
+    ensures found { finds_certificate geometry.now text.now ≡ true → IsOk result }
 {
     // The call hands out what the proof needs: that the geometry is within its limits.
     let _ = geometry.parts();
@@ -167,6 +169,7 @@ pub(crate) fn examine_ways<A: Allocator>(
     requires room { known.old ≡ replicate (length text.now.words) None }
     ensures verified { IfOk result (λ walked. IsVerified text.now geometry.now walked) }
     ensures refused { IfErr result (λ fault. MayBe geometry.now text.now fault) }
+    ensures found { finds_certificate geometry.now text.now ≡ true → IsOk result }
 {
     if has_loop(text.words()) {
         examine_loops(text, geometry, known)
@@ -182,6 +185,7 @@ fn examine_few<A: Allocator>(text: &Text<A>, geometry: &Geometry) -> Result<u64,
     requires few { length text.now.words ≤ 64 }
     ensures verified { IfOk result (λ walked. IsVerified text.now geometry.now walked) }
     ensures refused { IfErr result (λ fault. MayBe geometry.now text.now fault) }
+    ensures found { finds_certificate geometry.now text.now ≡ true → IsOk result }
 {
     let mut known = nothing_known::<FEW_WORDS>(text.words().len());
     examine_ways(text, geometry, known.as_mut_slice())
@@ -193,6 +197,7 @@ fn examine_many<A: Allocator>(text: &Text<A>, geometry: &Geometry) -> Result<u64
     requires shape { shape_fault text.now.words ≡ None }
     ensures verified { IfOk result (λ walked. IsVerified text.now geometry.now walked) }
     ensures refused { IfErr result (λ fault. MayBe geometry.now text.now fault) }
+    ensures found { finds_certificate geometry.now text.now ≡ true → IsOk result }
 {
     let mut known = nothing_known::<MAX_WORDS>(text.words().len());
     examine_ways(text, geometry, known.as_mut_slice())
@@ -211,6 +216,8 @@ fn examine_many<A: Allocator>(text: &Text<A>, geometry: &Geometry) -> Result<u64
 pub fn examine<A: Allocator>(text: &Text<A>, geometry: &Geometry) -> Result<u64, Fault>
     ensures verified { IfOk result (λ walked. IsVerified text.now geometry.now walked) }
     ensures refused { IfErr result (λ fault. MayBe geometry.now text.now fault) }
+    // No text with loops is refused of which the search finds a certificate.
+    ensures found { finds_certificate geometry.now text.now ≡ true → IsOk result }
 {
     let words = text.words();
     if let Some(fault) = shape_fault(words) {

@@ -1,6 +1,7 @@
 //! Examining a text with a table that the caller lends.
-ghost use Rattle.std.specs.Prelude.{◌≡◌, ◌≤◌, ◌<◌, length, replicate, Option, None, IfOk, IfErr};
+ghost use Rattle.std.specs.Prelude.{◌≡◌, ◌≤◌, ◌<◌, true, length, replicate, Option, None, IsOk, IfOk, IfErr};
 ghost use Rattle.micro_claims.specs.declared.state.State.{State};
+ghost use Rattle.micro_walk.specs.Searched.{finds_certificate};
 ghost use Rattle.micro_walk.specs.Verdicts.{IsVerified, IsUnexamined, places_wanted};
 
 use crate::examining::{examine_straight, examine_ways};
@@ -42,6 +43,8 @@ pub fn examine_in<A: Allocator>(
 ) -> Result<u64, Unexamined>
     ensures verified { IfOk result (λ walked. IsVerified text.now geometry.now walked × (places_wanted text.now.words ≤ length table.old)) }
     ensures refused { IfErr result (IsUnexamined geometry.now text.now (length table.old)) }
+    // No text with loops is refused of which the search finds a certificate, where the table has the places that it wants.
+    ensures found { finds_certificate geometry.now text.now ≡ true → places_wanted text.now.words ≤ length table.old → IsOk result }
 {
     let words = text.words();
     if let Some(fault) = shape_fault(words) {

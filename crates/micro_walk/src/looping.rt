@@ -1,9 +1,10 @@
 //! Texts with loops: a certificate that is searched for, and checked.
-ghost use Rattle.std.specs.Prelude.{◌≡◌, ◌≤◌, ◌<◌, ◌+◌, true, length, IfOk, IfErr};
+ghost use Rattle.std.specs.Prelude.{◌≡◌, ◌≤◌, ◌<◌, ◌+◌, ◌*◌, true, length, IsOk, IfOk, IfErr};
 ghost use Rattle.micro_claims.specs.declared.refusal.Fault.{Fault};
 ghost use Rattle.micro_claims.specs.Certificate.{is_certified};
 ghost use Rattle.micro_claims.specs.Order.{machine};
 ghost use Rattle.micro_program.specs.Verified.{IsFewWalked};
+ghost use Rattle.micro_walk.specs.Searched.{is_found};
 ghost use Rattle.micro_walk.specs.Shape.{ends};
 ghost use Rattle.micro_walk.specs.Verdicts.{IsOfWord};
 
@@ -23,7 +24,8 @@ const FOUR_DEEP: u32 = 65_536;
 // How many words are walked at most.
 fn most_walked(words: &[Word]) -> u32
     requires { length words.now ≤ 1024 }
-    ensures { IsFewWalked words.now result }
+    ensures few { IsFewWalked words.now result }
+    ensures enough { 256 * length words.now ≤ result }
 {
     let each = if nests_two_deep(words) {
         TWO_DEEP
@@ -119,6 +121,8 @@ pub(crate) fn find_certificate(
     ensures walked { IfOk result (λ walked. IsFewWalked words.now walked) }
     ensures refused { IfErr result (IsOfWord geometry.now bounds words.now) }
     ensures behind { IfErr result (λ fault. first ≤ fault.word) }
+    // No words are refused of which the search finds a certificate.
+    ensures found { is_found geometry.now bounds words.now ≡ true → IsOk result }
 {
     let Found { walked, stopped } = find(geometry, bounds, words, claims, most_walked(words));
     let at = match stopped {

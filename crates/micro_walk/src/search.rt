@@ -1,5 +1,8 @@
 //! The search for a certificate. Nothing rests on what it finds: the check decides.
-ghost use Rattle.std.specs.Prelude.{◌≡◌, ◌<◌, ◌≤◌, length};
+ghost use Rattle.std.specs.Prelude.{◌≡◌, ◌-◌, ◌<◌, ◌≤◌, true, false, None, length, IfSome};
+ghost use Rattle.micro_claims.specs.Certificate.{claim};
+ghost use Rattle.micro_claims.specs.Joins.{joined};
+ghost use Rattle.micro_walk.specs.Searched.{Search, forgotten, led_by, is_walked, turn_at, entered, turned, stepped, searched, search_first};
 
 use crate::following::reach;
 use crate::shape::MAX_DEPTH;
@@ -25,7 +28,8 @@ const NOT_WALKED: Walked = Walked {
 
 // Nothing is claimed from one place to another.
 fn forget(claims: &mut [Option<State>], from: usize, to: usize)
-    ensures { length claims.new ≡ length claims.old }
+    ensures value { claims.new ≡ forgotten from (to - from) claims.old }
+    ensures length { length claims.new ≡ length claims.old }
 {
     for at in from..to {
         if at < claims.len() {
@@ -43,7 +47,8 @@ fn lead(
     word: Word,
 ) -> bool
     requires { at < length claims.old }
-    ensures { length claims.new ≡ length claims.old }
+    ensures led { IfSome (led_by geometry.now bounds claims.old at (claim claims.old at) word) (λ led. (result ≡ true) × (claims.new ≡ led)) }
+    ensures length { length claims.new ≡ length claims.old }
 {
     let Some(state) = &claims[at] else {
         return true;
@@ -75,7 +80,9 @@ const MOST_AGAIN: u8 = 13;
 
 // What a later turn may begin with, once more: from the eighth walk on numbers that still grow have no bound, and from the
 // twelfth nothing is known.
-fn wider(head: &State, heads: &State, again: u8) -> State {
+fn wider(head: &State, heads: &State, again: u8) -> State
+    ensures { again < 7 → result ≡ joined head.now heads.now }
+{
     match again {
         0..=6 => head.join(heads),
         7..=10 => head.widen(heads),
@@ -83,9 +90,18 @@ fn wider(head: &State, heads: &State, again: u8) -> State {
     }
 }
 
+// A loop is walked no more: it has one turn, it was walked again often enough, or a later turn begins with no less than is claimed at its head.
+fn is_walked(walked: &Walked, heads: &State, head: &State) -> bool
+    ensures value { result ≡ is_walked walked.now heads.now head.now }
+    ensures few { result ≡ false → walked.now.again < 13 }
+{
+    walked.turns <= 1 || walked.again >= MOST_AGAIN || heads.is_within(head)
+}
+
 // At the `next` of a loop: the loop once more, where a later turn may begin with more than is claimed at its head.
 fn once_more(claims: &mut [Option<State>], at: usize, walked: &Walked) -> Option<Walked>
-    ensures { length claims.new ≡ length claims.old }
+    ensures turn { IfSome (turn_at claims.old at walked.now) (λ turn. (result ≡ turn.again) × (claims.new ≡ turn.claims)) }
+    ensures length { length claims.new ≡ length claims.old }
 {
     if at >= claims.len() || walked.head >= claims.len() {
         return None;
@@ -95,7 +111,7 @@ fn once_more(claims: &mut [Option<State>], at: usize, walked: &Walked) -> Option
         return None;
     };
     let heads = entry.at_heads(&end, walked.turns);
-    if walked.turns <= 1 || walked.again >= MOST_AGAIN || heads.is_within(&head) {
+    if is_walked(walked, &heads, &head) {
         let after = entry.after_turns(&end, walked.turns);
         reach(claims, at.saturating_add(1), &after);
         return None;
@@ -126,7 +142,8 @@ struct Walk {
 impl Walk {
     // A loop is entered, where there is room for it.
     fn enter(&mut self, claims: &mut [Option<State>], turns: u16) -> bool
-        ensures { length claims.new ≡ length claims.old }
+        ensures entered { IfSome (entered (record { walk = self.old; claims = claims.old }) turns) (λ s. (result ≡ true) × (self.new ≡ s.walk) × (claims.new ≡ s.claims)) }
+        ensures length { length claims.new ≡ length claims.old }
     {
         if self.depth >= MAX_DEPTH || self.at >= claims.len() {
             return false;
@@ -148,7 +165,8 @@ impl Walk {
 
     // At a `next`: back to its loop, or on.
     fn turn(&mut self, claims: &mut [Option<State>]) -> bool
-        ensures { length claims.new ≡ length claims.old }
+        ensures turned { IfSome (turned (record { walk = self.old; claims = claims.old })) (λ s. (result ≡ true) × (self.new ≡ s.walk) × (claims.new ≡ s.claims)) }
+        ensures length { length claims.new ≡ length claims.old }
     {
         if self.depth == 0 || self.depth > MAX_DEPTH {
             return false;
@@ -174,7 +192,8 @@ impl Walk {
         claims: &mut [Option<State>],
         word: Word,
     ) -> bool
-        ensures { length claims.new ≡ length claims.old }
+        ensures stepped { IfSome (stepped geometry.now bounds word (record { walk = self.old; claims = claims.old })) (λ s. (result ≡ true) × (self.new ≡ s.walk) × (claims.new ≡ s.claims)) }
+        ensures length { length claims.new ≡ length claims.old }
     {
         match word {
             Word::Loop { turns } => self.enter(claims, turns),
@@ -198,6 +217,8 @@ pub(crate) fn find(
     most: u32,
 ) -> Found
     ensures few { result.walked ≤ most }
+    // Where it walks through all words, it has claimed what is told of it.
+    ensures through { IfSome (searched geometry.now bounds words.now most (search_first (length claims.old))) (λ found. (result.stopped ≡ None) × (claims.new ≡ found)) }
     ensures length { length claims.new ≡ length claims.old }
 {
     let all = claims.len();

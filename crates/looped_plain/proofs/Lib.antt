@@ -1,0 +1,10 @@
+pub mod Through
+pub mod Walks
+pub mod Certifying
+pub mod Loops
+pub mod Operations
+pub mod Ways
+pub mod Heads
+pub mod Shapes
+pub mod Fitting
+pub mod Looped

@@ -1,0 +1,5 @@
+use Rattle.looped_plain.proofs.Looped.{looped_texts_are_found}
+use Rattle.looped_plain.proofs.laws.looped_texts_are_found.Goals as goal
+
+pub returns : goal.returns
+returns c = looped_texts_are_found
