@@ -14,7 +14,7 @@ import sys
 
 from kit_gate import load_gate
 
-PROVED = re.compile(r"^rt: (\S+) proved$")
+PROVED = re.compile(r"^rt: (\S+) (?:proved$|is kept: )")
 
 
 def crates_of(gate, root):
