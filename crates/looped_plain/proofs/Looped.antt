@@ -18,15 +18,18 @@ use Rattle.micro_claims.specs.declared.state.State.{State}
 use Rattle.micro_claims.specs.declared.bounds.Bounds.{Bounds}
 use Rattle.micro_claims.specs.State.{first_state, bounds_of}
 use Rattle.micro_claims.specs.Reasons.{reason_against, breaks_cycle_forbidden, breaks_address_unaligned, breaks_handover_in_sequence, breaks_buffer_passed, breaks_row_or_plane_outside, breaks_column_too_large, breaks_no_status, breaks_ends_too_soon, breaks_over_budget, breaks_command_not_allowed}
-use Rattle.micro_claims.specs.Order.{state_at_head, state_at_heads, state_after_turns}
+use Rattle.micro_claims.specs.Order.{machine, state_at_head, state_at_heads, state_after_turns}
 use Rattle.micro_claims.specs.Joins.{joined}
 use Rattle.micro_walk.specs.Shape.{or_fault, shape_fault}
 use Rattle.micro_walk.specs.Faults.{known_first, followed, has_loop, front_fault}
 use Rattle.micro_walk.specs.Searched.{is_found}
+use Rattle.micro_walk.specs.Certified.{is_shown}
+use Rattle.micro_walk.proofs.Searching.{finds}
+use Rattle.micro_claims.specs.Certificate.{is_certified}
 use Rattle.micro_walk.proofs.Joining.{joins_claim_less}
 use Rattle.micro_verify.specs.declared.plain_op.PlainOp.{PlainOp}
 use Rattle.micro_verify.specs.declared.plain_op.PlainOp.TheVariants.{Read, Program, Erase}
-use Rattle.micro_verify.specs.Plain.{operations_len, rows_of, buffer_of, budget_of}
+use Rattle.micro_verify.specs.Plain.{operations_len, rows_of, buffer_of, budget_of, plain_fault}
 use Rattle.micro_verify.proofs.PlainInsides.{AllInside, are_fine}
 use Rattle.micro_verify.proofs.PlainOperations.{calm}
 use Rattle.looped_plain.specs.Looped.{IsLooped, LoopedTextsAreFound, LoopedTextsAreFaultless}
@@ -173,3 +176,10 @@ looped_texts_are_faultless g l turns ops text none fits is =
     let b = bounds_of text in
     ap (λ (xs : List Word). or_fault (shape_fault xs) (cond (has_loop xs) None (followed g b (known_first xs) 0 xs))) words
     ∙ ap (λ (o : Option Fault). or_fault o None) shape
+
+-- and claims that are searched for show it
+pub looped_texts_are_shown : (g : Parts) → InLimits g → (turns : ℕ) (ops : List PlainOp) (text : Microprogram) (claims : List (Option State)) → plain_fault g ops ≡ None → FitsFormat Two text → IsLooped turns ops text
+    → (is_found g (bounds_of text) text.words ≡ true → is_certified (machine g (bounds_of text)) text.words claims ≡ true) → is_shown g text claims ≡ true
+looped_texts_are_shown g l turns ops text claims none fits is leaves =
+    let d = finds g text (looped_texts_are_found g l turns ops text none fits is) in
+    and_from _ _ (ap (λ (o : Option Fault). is_none o) d.shape) (leaves d.found)
