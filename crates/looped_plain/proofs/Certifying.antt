@@ -1,5 +1,5 @@
 -- Claims along the words of a loop are its certificate.
-use Rattle.std.proofs.Common.{◌≡◌, ℕ, ◌+◌, ◌<◌, Bool, true, false, ◌&&◌, ◌||◌, cond, List, [], ◌∷◌, ◌++◌, Option, Some, None, refl, sym, ap, ◌∙◌, subst, arith, length}
+use Rattle.std.proofs.Common.{◌≡◌, ℕ, ◌+◌, Bool, true, ◌&&◌, ◌||◌, cond, List, [], ◌∷◌, ◌++◌, Option, Some, None, refl, sym, ap, ◌∙◌, subst, arith, length}
 use Rattle.std.specs.Prelude.{is_none, is_some, nat_le}
 use Rattle.std.proofs.lemmas.Bool.{and_from, and_parts}
 use Rattle.nand_geometry.specs.declared.parts.Parts.{Parts}
@@ -11,12 +11,12 @@ use Rattle.micro_claims.specs.declared.bounds.Bounds.{Bounds}
 use Rattle.micro_claims.specs.State.{first_state}
 use Rattle.micro_claims.specs.Reasons.{reason_against}
 use Rattle.micro_claims.specs.Accepts.{state_after}
-use Rattle.micro_claims.specs.Certificate.{claim, if_there, reaches, turns_hold, loop_holds, word_holds, holds, all_hold, is_certified}
+use Rattle.micro_claims.specs.Certificate.{claim, if_there, reaches, turns_hold, loop_holds, word_holds, holds, all_hold}
 use Rattle.micro_claims.specs.Order.{machine, is_state_within, state_at_head, state_at_heads, state_after_turns, state_step}
 use Rattle.micro_claims.specs.Joins.{joined}
 use Rattle.micro_walk.specs.Faults.{met}
 use Rattle.looped_plain.proofs.Through.{within_itself, within_met, within_second}
-use Rattle.looped_plain.proofs.Walks.{AreInside, is_placed, ended, Along, went, along_first}
+use Rattle.looped_plain.proofs.Walks.{AreInside, is_placed, ended, Along, went}
 
 -- a way that leads to a place claims no less than what all claim there
 arrived : (f : Option State) (s : State) → is_placed s ≡ true → is_state_within s (met f s) ≡ true

@@ -1,11 +1,11 @@
 -- Plain operations in a loop fit the second format.
-use Rattle.std.proofs.Common.{◌≡◌, ℕ, ◌+◌, ◌*◌, ◌^◌, ◌<◌, ◌≤◌, List, [], ◌∷◌, ◌++◌, None, refl, sym, ◌∙◌, subst, arith, length}
+use Rattle.std.proofs.Common.{◌≡◌, ◌+◌, ◌≤◌, List, [], ◌∷◌, ◌++◌, sym, subst, arith, length}
 use Rattle.std.specs.List.{AllByRecursion}
 use Rattle.micro_word.specs.declared.format.Format.TheVariants.{Two}
 use Rattle.micro_word.specs.declared.word.Word.{Word}
-use Rattle.micro_word.specs.declared.word.Word.TheVariants.{End, Loop, Next}
+use Rattle.micro_word.specs.declared.word.Word.TheVariants.{End, Next}
 use Rattle.micro_word.specs.Word.{IsInRange}
-use Rattle.micro_verify.specs.Plain.{operations_len, words_from}
+use Rattle.micro_verify.specs.Plain.{operations_len}
 use Rattle.micro_verify.proofs.PlainFitting.{words_in_range}
 use Rattle.micro_verify.proofs.PlainInsides.{rows_fit, buffer_fits, some_rows, are_fine}
 use Rattle.looped_plain.specs.Looped.{looped_words, LoopedTextsFit}

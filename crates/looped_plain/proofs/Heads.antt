@@ -1,5 +1,5 @@
 -- Plain operations in a loop: where the first turn begins, where a later one may, and why no walk after the second is needed.
-use Rattle.std.proofs.Common.{◌≡◌, ℕ, ◌+◌, ◌-◌, ◌*◌, ◌≤◌, ◌<◌, Bool, true, false, ◌&&◌, ◌||◌, cond, nat_le, min, max, List, [], ◌∷◌, Option, Some, None, refl, sym, ap, ap₂, ◌∙◌, subst, arith}
+use Rattle.std.proofs.Common.{◌≡◌, ℕ, ◌+◌, ◌-◌, ◌*◌, ◌≤◌, Bool, true, false, ◌||◌, cond, nat_le, min, max, List, [], ◌∷◌, Option, Some, None, refl, sym, ap, ap₂, ◌∙◌, subst, arith}
 use Rattle.std.specs.Prelude.{bit_or}
 use Rattle.std.proofs.lemmas.Bool.{and_from}
 use Rattle.std.proofs.lemmas.Bool.Decides.{nat_tests}
@@ -7,24 +7,17 @@ use Rattle.nand_geometry.specs.declared.parts.Parts.{Parts}
 use Rattle.micro_claims.specs.Spans.{Span, greatest_bound, kept, saturated, exactly}
 use Rattle.micro_claims.specs.declared.growth.Growth.{Growth}
 use Rattle.micro_claims.specs.declared.planes.Planes.{Planes}
-use Rattle.micro_claims.specs.declared.page_range.PageRange.{PageRange}
-use Rattle.micro_claims.specs.declared.shown.Shown.{Shown}
-use Rattle.micro_claims.specs.declared.held.Held.{Held}
-use Rattle.micro_claims.specs.declared.output_column.OutputColumn.{OutputColumn}
-use Rattle.micro_claims.specs.declared.cached_page.CachedPage.{CachedPage}
 use Rattle.micro_claims.specs.declared.state.State.{State}
 use Rattle.micro_claims.specs.State.{first_state, any_number}
 use Rattle.micro_claims.specs.Planes.{just_plane, either_plane}
 use Rattle.micro_claims.specs.Sets.{has}
 use Rattle.micro_claims.proofs.Sets.{has_second}
-use Rattle.micro_claims.specs.Order.{no_growth, bound_sum, bound_times, span_at_head, span_heads_by, span_at_heads, output_by, is_bound_within, is_growth_within, is_span_within, is_state_within, state_at_head, state_at_heads}
+use Rattle.micro_claims.specs.Order.{no_growth, bound_sum, span_at_head, span_heads_by, span_at_heads, output_by, is_bound_within, is_growth_within, is_span_within, is_state_within, state_at_head, state_at_heads}
 use Rattle.micro_claims.specs.Joins.{greater_bound, joined_growth, joined, joined_span}
 use Rattle.micro_verify.specs.declared.plain_op.PlainOp.{PlainOp}
 use Rattle.micro_verify.specs.declared.plain_op.PlainOp.TheVariants.{Read, Program, Erase}
-use Rattle.micro_verify.specs.Plain.{budget_of}
 use Rattle.micro_verify.proofs.PlainBasics.{le_test}
 use Rattle.micro_verify.proofs.PlainOperations.{closer_of}
-use Rattle.looped_plain.proofs.Operations.{resting}
 use Rattle.looped_plain.proofs.Ways.{Number, Way, joined_number, joined_way, met_way, way_behind, led_away, way_of, grown_of, NumberIs, Rests, rests_joined, rests_at}
 
 -- ---- where turns begin

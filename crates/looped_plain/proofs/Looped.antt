@@ -1,5 +1,5 @@
 -- Plain operations in a loop are accepted.
-use Rattle.std.proofs.Common.{◌≡◌, ℕ, zero, suc, ◌+◌, ◌-◌, ◌*◌, ◌^◌, ◌<◌, ◌≤◌, ◌==◌, Bool, true, false, ◌&&◌, ◌||◌, not, nat_le, cond, max, List, [], ◌∷◌, ◌++◌, Option, Some, None, refl, sym, ap, ◌∙◌, subst, arith, length}
+use Rattle.std.proofs.Common.{◌≡◌, ℕ, zero, suc, ◌+◌, ◌-◌, ◌*◌, ◌^◌, ◌<◌, ◌≤◌, ◌==◌, Bool, true, false, ◌&&◌, ◌||◌, cond, List, [], ◌∷◌, Option, Some, None, refl, ap, ◌∙◌, subst, arith, length}
 use Rattle.std.specs.Prelude.{is_none}
 use Rattle.std.specs.List.{AllByRecursion}
 use Rattle.std.proofs.Math.Nat.{max-le}
@@ -10,33 +10,34 @@ use Rattle.nand_geometry.specs.declared.parts.Parts.{Parts}
 use Rattle.nand_geometry.specs.Limits.{InLimits}
 use Rattle.micro_word.specs.declared.format.Format.TheVariants.{Two}
 use Rattle.micro_word.specs.declared.word.Word.{Word}
-use Rattle.micro_word.specs.declared.word.Word.TheVariants.{End, Loop, Next}
+use Rattle.micro_word.specs.declared.word.Word.TheVariants.{End}
 use Rattle.micro_word.specs.Word.{IsInRange}
 use Rattle.micro_word.specs.Text.{Microprogram, FitsFormat}
 use Rattle.micro_claims.specs.declared.refusal.Fault.{Fault}
 use Rattle.micro_claims.specs.declared.state.State.{State}
 use Rattle.micro_claims.specs.declared.bounds.Bounds.{Bounds}
-use Rattle.micro_claims.specs.Spans.{greatest_bound}
 use Rattle.micro_claims.specs.State.{first_state, bounds_of}
 use Rattle.micro_claims.specs.Reasons.{reason_against, breaks_cycle_forbidden, breaks_address_unaligned, breaks_handover_in_sequence, breaks_buffer_passed, breaks_row_or_plane_outside, breaks_column_too_large, breaks_no_status, breaks_ends_too_soon, breaks_over_budget, breaks_command_not_allowed}
-use Rattle.micro_claims.specs.Order.{is_state_within, state_at_head, state_at_heads, state_after_turns}
+use Rattle.micro_claims.specs.Order.{machine, state_at_head, state_at_heads, state_after_turns}
 use Rattle.micro_claims.specs.Joins.{joined}
 use Rattle.micro_walk.specs.Shape.{or_fault, shape_fault}
-use Rattle.micro_walk.specs.Faults.{known_first, followed, has_loop, front_fault, fault_of}
-use Rattle.micro_walk.specs.Searched.{is_found, finds_certificate}
+use Rattle.micro_walk.specs.Faults.{known_first, followed, has_loop, front_fault}
+use Rattle.micro_walk.specs.Searched.{is_found}
+use Rattle.micro_walk.specs.Certified.{is_shown}
+use Rattle.micro_walk.proofs.Searching.{finds}
+use Rattle.micro_claims.specs.Certificate.{is_certified}
 use Rattle.micro_walk.proofs.Joining.{joins_claim_less}
 use Rattle.micro_verify.specs.declared.plain_op.PlainOp.{PlainOp}
 use Rattle.micro_verify.specs.declared.plain_op.PlainOp.TheVariants.{Read, Program, Erase}
 use Rattle.micro_verify.specs.Plain.{operations_len, rows_of, buffer_of, budget_of, plain_fault}
 use Rattle.micro_verify.proofs.PlainInsides.{AllInside, are_fine}
 use Rattle.micro_verify.proofs.PlainOperations.{calm}
-use Rattle.looped_plain.specs.Looped.{looped_words, IsLooped, LoopedTextsAreFound, LoopedTextsAreFaultless}
+use Rattle.looped_plain.specs.Looped.{IsLooped, LoopedTextsAreFound, LoopedTextsAreFaultless}
 use Rattle.looped_plain.proofs.Through.{within_itself}
-use Rattle.looped_plain.proofs.Walks.{AreInside, is_placed, ended}
-use Rattle.looped_plain.proofs.Certifying.{Turns, looped}
+use Rattle.looped_plain.proofs.Walks.{is_placed}
+use Rattle.looped_plain.proofs.Certifying.{looped}
 use Rattle.looped_plain.proofs.Loops.{Found, loop_found}
-use Rattle.looped_plain.proofs.Operations.{resting}
-use Rattle.looped_plain.proofs.Ways.{Way, met_way, way_behind, led_away, way_of, Rests, Bounded, body, runs}
+use Rattle.looped_plain.proofs.Ways.{Way, met_way, way_behind, way_of, Rests, Bounded, body, runs}
 use Rattle.looped_plain.proofs.Heads.{first_way, first_rests, second_way, second_rests, second_follows, stays_within}
 use Rattle.looped_plain.proofs.Shapes.{body_long, body_inside, looped_body, loop_shaped}
 
@@ -102,29 +103,33 @@ operations_found g l b turns op ops inside some rows few buffer short budget sma
     let once = once_is_less turns cost some in
     let one = runs g l b failure 0 all first_way h0 None None inside (bounded b turns all 0 rows few buffer short small (omega (arith, once, budget))) first_rests tt in
     let v = way_of g first_way None all in
-    let r = one.0 in
-    (r, record {
-      first = one.1;
-      at_once = λ left. record { ended = one.1; enters = within_itself h0 head_placed; again = left; placed = left_placed turns (0 + v.paid) v r one.2; ready = left_ready g b turns (0 + v.paid) v r one.2 };
-      again = λ more.
-      (let paid : v.paid ≤ cost = pays g all first_way None cost (omega arith) tt in
-      let n = (turns - 1) * v.paid in
-      let less : n ≤ (turns - 1) * cost = mul-le (turns - 1) v.paid (turns - 1) cost (omega arith) paid in
-      let sum = turns_more turns cost some in
-      let w0 = second_way v in
-      let h1 = joined h0 (state_at_heads first_state r turns) in
-      let rests = second_rests turns (0 + v.paid) v r one.2 (omega (arith, less, sum, budget, small)) in
-      let two = runs g l b failure n all w0 h1 None None inside (bounded b turns all (n + w0.paid) rows few buffer short small (omega (arith, less, sum, budget))) rests tt in
-      let w = way_of g w0 None all in
-      let q = two.0 in
-      (q, record {
-        ended = two.1;
-        enters = (joins_claim_less h0 (state_at_heads first_state r turns)).0;
-        again = or_second _ _ (stays_within turns (0 + v.paid) (n + w.paid) v w r q one.2 two.2 (second_follows g op ops w0 refl refl refl));
-        placed = left_placed turns (n + w.paid) w q two.2;
-        ready = left_ready g b turns (n + w.paid) w q two.2;
-      }));
-    })
+    let r = one.0 in (
+      r,
+      record {
+        first = one.1;
+        at_once = λ left. record { ended = one.1; enters = within_itself h0 head_placed; again = left; placed = left_placed turns (0 + v.paid) v r one.2; ready = left_ready g b turns (0 + v.paid) v r one.2 };
+        again = λ more.
+            (let paid : v.paid ≤ cost = pays g all first_way None cost (omega arith) tt in
+            let n = (turns - 1) * v.paid in
+            let less : n ≤ (turns - 1) * cost = mul-le (turns - 1) v.paid (turns - 1) cost (omega arith) paid in
+            let sum = turns_more turns cost some in
+            let w0 = second_way v in
+            let h1 = joined h0 (state_at_heads first_state r turns) in
+            let rests = second_rests turns (0 + v.paid) v r one.2 (omega (arith, less, sum, budget, small)) in
+            let two = runs g l b failure n all w0 h1 None None inside (bounded b turns all (n + w0.paid) rows few buffer short small (omega (arith, less, sum, budget))) rests tt in
+            let w = way_of g w0 None all in
+            let q = two.0 in (
+              q,
+              record {
+                ended = two.1;
+                enters = (joins_claim_less h0 (state_at_heads first_state r turns)).0;
+                again = or_second _ _ (stays_within turns (0 + v.paid) (n + w.paid) v w r q one.2 two.2 (second_follows g op ops w0 refl refl refl));
+                placed = left_placed turns (n + w.paid) w q two.2;
+                ready = left_ready g b turns (n + w.paid) w q two.2;
+              },
+            ));
+      },
+    )
 
 found_of : (g : Parts) → InLimits g → (b : Bounds) (turns : ℕ) (ops : List PlainOp) → AllInside g ops → 0 < length ops → 1 ≤ turns
     → rows_of ops ≤ b.rows → b.rows ≤ 4096 → buffer_of ops ≤ b.buffer → b.buffer ≤ 16777215 → turns * budget_of ops ≤ b.budget → b.budget < 2 ^ 32
@@ -171,3 +176,10 @@ looped_texts_are_faultless g l turns ops text none fits is =
     let b = bounds_of text in
     ap (λ (xs : List Word). or_fault (shape_fault xs) (cond (has_loop xs) None (followed g b (known_first xs) 0 xs))) words
     ∙ ap (λ (o : Option Fault). or_fault o None) shape
+
+-- and claims that are searched for show it
+pub looped_texts_are_shown : (g : Parts) → InLimits g → (turns : ℕ) (ops : List PlainOp) (text : Microprogram) (claims : List (Option State)) → plain_fault g ops ≡ None → FitsFormat Two text → IsLooped turns ops text
+    → (is_found g (bounds_of text) text.words ≡ true → is_certified (machine g (bounds_of text)) text.words claims ≡ true) → is_shown g text claims ≡ true
+looped_texts_are_shown g l turns ops text claims none fits is leaves =
+    let d = finds g text (looped_texts_are_found g l turns ops text none fits is) in
+    and_from _ _ (ap (λ (o : Option Fault). is_none o) d.shape) (leaves d.found)

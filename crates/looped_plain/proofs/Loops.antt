@@ -1,14 +1,13 @@
 -- The search over a loop of straight words and branches that all lead to its `next`: it is walked once, or once more, and then left.
-use Rattle.std.proofs.Common.{◌≡◌, ℕ, zero, suc, ◌+◌, ◌-◌, ◌*◌, ◌<◌, ◌≤◌, ◌==◌, Bool, true, false, ◌&&◌, ◌||◌, nat_lt, nat_le, cond, List, [], ◌∷◌, ◌++◌, Option, Some, None, refl, sym, ap, ◌∙◌, subst, arith, length}
-use Rattle.std.specs.Prelude.{is_none, slice_set, replicate}
+use Rattle.std.proofs.Common.{◌≡◌, ℕ, zero, suc, ◌+◌, ◌-◌, ◌*◌, ◌<◌, ◌≤◌, ◌==◌, Bool, true, false, ◌||◌, nat_lt, nat_le, cond, List, [], ◌∷◌, ◌++◌, Option, Some, None, refl, ap, ◌∙◌, subst, arith, length}
+use Rattle.std.specs.Prelude.{is_none, replicate}
 use Rattle.std.specs.List.{slice_get}
 use Rattle.std.proofs.lemmas.List.{length-replicate}
 use Rattle.std.proofs.lemmas.Bool.{and_from}
 use Rattle.std.proofs.lemmas.Bool.Decides.{nat_tests}
-use Rattle.onfi_cycle.proofs.Booleans.{eqb_self}
 use Rattle.nand_geometry.specs.declared.parts.Parts.{Parts}
 use Rattle.micro_word.specs.declared.word.Word.{Word}
-use Rattle.micro_word.specs.declared.word.Word.TheVariants.{End, BranchOnStatus, Loop, Next, Jump}
+use Rattle.micro_word.specs.declared.word.Word.TheVariants.{End, Loop, Next}
 use Rattle.micro_program.specs.Moves.{and_then}
 use Rattle.micro_claims.specs.declared.state.State.{State}
 use Rattle.micro_claims.specs.declared.bounds.Bounds.{Bounds}
@@ -17,11 +16,11 @@ use Rattle.micro_claims.specs.Reasons.{reason_against}
 use Rattle.micro_claims.specs.Certificate.{claim, if_there, is_certified}
 use Rattle.micro_claims.specs.Order.{machine, is_state_within, state_at_head, state_at_heads, state_after_turns}
 use Rattle.micro_claims.specs.Joins.{joined}
-use Rattle.micro_walk.specs.Faults.{met, reached}
-use Rattle.micro_walk.specs.Searched.{Loops, Search, not_walked, search_first, forgotten, is_walked, Turn, left_at, again_at, turn_with, led_on, led_to, led_by, walk_on, turned, stepped, at_end_or, searched, is_found}
+use Rattle.micro_walk.specs.Faults.{reached}
+use Rattle.micro_walk.specs.Searched.{Loops, Search, not_walked, search_first, forgotten, left_at, again_at, turn_with, led_on, led_by, walk_on, stepped, at_end_or, searched, is_found}
 use Rattle.micro_walk.proofs.Searching.{searched_more, no_word}
-use Rattle.looped_plain.proofs.Through.{within_itself, within_second}
-use Rattle.looped_plain.proofs.Walks.{AreInside, is_placed, ended, Along, along_first, along_same, Has, has_first, has_rest, steps_over, at_place, one_on, Opens, reached_long, reached_there, reached_elsewhere, Walks, body_walked}
+use Rattle.looped_plain.proofs.Through.{within_itself}
+use Rattle.looped_plain.proofs.Walks.{AreInside, ended, Along, along_first, along_same, Has, has_first, has_rest, steps_over, at_place, one_on, Opens, reached_long, reached_there, reached_elsewhere, Walks, body_walked}
 use Rattle.looped_plain.proofs.Certifying.{Claimed, Turns, loop_is_certified, looped, closes}
 
 -- ---- places

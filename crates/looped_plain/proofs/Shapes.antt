@@ -1,8 +1,6 @@
 -- The shape of plain operations in a loop, and what stands before it.
-use Rattle.std.proofs.Common.{◌≡◌, ℕ, zero, suc, ◌+◌, ◌-◌, ◌<◌, ◌≤◌, ◌==◌, Bool, true, false, ◌&&◌, nat_lt, cond, List, [], ◌∷◌, ◌++◌, Option, Some, None, refl, sym, ap, ap₂, ◌∙◌, subst, arith, length, drop, take, append_assoc}
-use Rattle.std.specs.Prelude.{is_none}
+use Rattle.std.proofs.Common.{◌≡◌, ℕ, zero, suc, ◌+◌, ◌-◌, ◌<◌, ◌≤◌, ◌==◌, Bool, true, false, nat_lt, cond, List, [], ◌∷◌, ◌++◌, Option, Some, None, refl, sym, ap, ap₂, ◌∙◌, subst, arith, length, drop, take, append_assoc}
 use Rattle.std.specs.List.{slice_get}
-use Rattle.std.proofs.lemmas.Bool.Decides.{nat_tests}
 use Rattle.onfi_cycle.proofs.Booleans.{eqb_self}
 use Rattle.micro_word.specs.declared.word.Word.{Word}
 use Rattle.micro_word.specs.declared.word.Word.TheVariants.{End, BranchOnStatus, Loop, Next, Jump}
@@ -13,7 +11,7 @@ use Rattle.micro_verify.specs.declared.plain_op.PlainOp.TheVariants.{Read, Progr
 use Rattle.micro_verify.specs.Plain.{operation_words, operations_len, words_from, plain_words}
 use Rattle.micro_verify.proofs.PlainBasics.{lt_test, not_zero}
 use Rattle.looped_plain.specs.Looped.{looped_words}
-use Rattle.looped_plain.proofs.Walks.{AreInside, Has, has_first, has_rest}
+use Rattle.looped_plain.proofs.Walks.{AreInside, has_first, has_rest}
 use Rattle.looped_plain.proofs.Certifying.{around_words, looped}
 use Rattle.looped_plain.proofs.Loops.{has_behind, has_all, text_long}
 use Rattle.looped_plain.proofs.Ways.{body}

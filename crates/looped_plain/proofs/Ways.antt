@@ -1,5 +1,5 @@
 -- What matters of the states in which ways through plain operations end, in a turn of a loop.
-use Rattle.std.proofs.Common.{◌≡◌, ℕ, ◌+◌, ◌-◌, ◌*◌, ◌%◌, ◌^◌, ◌≤◌, ◌<◌, Bool, true, false, ◌&&◌, ◌||◌, cond, min, max, List, [], ◌∷◌, ◌++◌, Option, Some, None, refl, sym, ap, ap₂, ◌∙◌, subst, arith}
+use Rattle.std.proofs.Common.{◌≡◌, ℕ, ◌+◌, ◌%◌, ◌^◌, ◌≤◌, ◌<◌, Bool, true, false, ◌&&◌, ◌||◌, cond, min, max, List, [], ◌∷◌, ◌++◌, Option, Some, None, refl, sym, ap, ap₂, ◌∙◌, subst, arith}
 use Rattle.std.proofs.lemmas.Bool.Decides.{nat_tests}
 use Rattle.nand_geometry.specs.declared.parts.Parts.{Parts}
 use Rattle.nand_geometry.specs.Limits.{InLimits}
@@ -20,7 +20,7 @@ use Rattle.micro_claims.specs.Joins.{joined, joined_span, joined_growth, joined_
 use Rattle.micro_walk.specs.Faults.{met}
 use Rattle.micro_verify.specs.declared.plain_op.PlainOp.{PlainOp}
 use Rattle.micro_verify.specs.declared.plain_op.PlainOp.TheVariants.{Read, Program, Erase}
-use Rattle.micro_verify.specs.Plain.{operation_words, row_of, rows_of, buffer_of, budget_of, operation_cost}
+use Rattle.micro_verify.specs.Plain.{operation_words, rows_of, buffer_of, budget_of}
 use Rattle.micro_verify.proofs.PlainInsides.{AllInside, row_fits, part_fits, few_planes, short_page, plane_below, rows_parts, buffer_parts}
 use Rattle.micro_verify.proofs.PlainOperations.{closer_of}
 use Rattle.looped_plain.proofs.Walks.{is_placed, ended}

@@ -5,4 +5,4 @@
 mod accepting;
 pub mod laws;
 
-pub use accepting::verify_looped;
+pub use accepting::{certify_looped, verify_looped};

@@ -1,5 +1,5 @@
 -- Claims that are forgotten, place by place.
-use Rattle.std.proofs.Common.{◌≡◌, ℕ, zero, suc, ◌≤◌, List, [], ◌∷◌, Option, None, refl, ap, ◌∙◌, arith, length}
+use Rattle.std.proofs.Common.{◌≡◌, ℕ, zero, suc, ◌≤◌, List, [], ◌∷◌, Option, None, refl, ap, arith, length}
 use Rattle.std.specs.Prelude.{slice_set, replicate}
 use Rattle.micro_walk.specs.Searched.{forgotten}
 

@@ -1,4 +1,5 @@
-//! The search for a certificate. Nothing rests on what it finds: the check decides.
+//! The search for a certificate. That a text is safe rests on the check alone; that some texts are accepted rests on what is told here of the search
+//! (`specs/Searched`).
 ghost use Rattle.std.specs.Prelude.{◌≡◌, ◌-◌, ◌<◌, ◌≤◌, true, false, None, length, IfSome};
 ghost use Rattle.micro_claims.specs.Certificate.{claim};
 ghost use Rattle.micro_claims.specs.Joins.{joined};

@@ -1,10 +1,7 @@
-use Rattle.std.proofs.Common.{◌≡◌, ℕ, ◌+◌, ◌-◌, ◌∙◌, None, Some, Option, List, sym, ap, ap₂, subst, arith, length, refl}
-use Rattle.std.specs.Prelude.{replicate}
+use Rattle.std.proofs.Common.{◌∙◌, Option, List, ap}
 use Rattle.std.proofs.lemmas.Option.{slice_get-get_or}
 use Rattle.micro_claims.specs.declared.state.State.{State}
 use Rattle.micro_walk.specs.Faults.{reached}
-use Rattle.micro_walk.specs.Searched.{Search, forgotten, searched, search_first, not_walked}
-use Rattle.micro_walk.proofs.Forgetting.{forgets_all}
 use Rattle.micro_walk.proofs.Searching.{no_word, first_left, step_done, stops, through}
 use Rattle.micro_walk.proofs.search.find.Goals as goal
 

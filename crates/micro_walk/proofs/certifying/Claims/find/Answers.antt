@@ -1,5 +1,4 @@
-use Rattle.std.proofs.Common.{◌≡◌, ℕ, ◌≤◌, ◌*◌, List, Option, Some, None, ap, ◌∙◌, refl, arith, length, rules}
-use Rattle.micro_word.specs.declared.word.Word.{Word}
+use Rattle.std.proofs.Common.{◌≡◌, ◌≤◌, List, Option, None, ap, ◌∙◌, refl, arith, length, rules}
 use Rattle.micro_claims.specs.declared.state.State.{State}
 use Rattle.micro_claims.specs.Certificate.{is_certified}
 use Rattle.micro_claims.specs.Order.{machine}
