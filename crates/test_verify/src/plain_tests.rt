@@ -520,3 +520,48 @@ fn refused_memory(rt: HostRuntime) -> Result<(), Fail> {
     assert!(rt; refused_at > 0 && refused_at < 40);
     Ok(())
 }
+
+// The budget of a text of operations in a loop of so many turns: whether the verifier accepts it with the cost of all turns, and with one cycle less.
+fn accepts_in_a_loop(alloc: Global, ops: &[PlainOp], turns: u16) -> Result<(bool, bool), Fail> {
+    let geometry = Geometry::of(ONE_LUN)?;
+    let verified = plain(alloc, ops, geometry)?;
+    let text = verified.text();
+    let straight = text.words();
+    let (body, _ends) = straight.split_at(straight.len().saturating_sub(2));
+    let mut words = vec![in alloc; Word::Loop { turns }]?;
+    words.extend_from_slice(body)?;
+    words.extend_from_slice(&[Word::Next, Word::End { code: 0 }])?;
+    let all = Header {
+        rows: text.rows(),
+        buffer: text.buffer(),
+        budget: text.budget().saturating_mul(u32::from(turns)),
+        words: words.len(),
+    };
+    let less = Header {
+        budget: all.budget.saturating_sub(1),
+        ..all
+    };
+    Ok((
+        is_accepted(alloc, all, words.as_slice(), geometry)?,
+        is_accepted(alloc, less, words.as_slice(), geometry)?,
+    ))
+}
+
+const TURNS: &[u16] = &[1, 2, 4096];
+
+// The first number of turns whose budget isn't exactly what the verifier asks for.
+fn first_wrong(alloc: Global, ops: &[PlainOp]) -> Result<Option<u16>, Fail> {
+    for turns in TURNS {
+        if accepts_in_a_loop(alloc, ops, *turns)? != (true, false) {
+            return Ok(Some(*turns));
+        }
+    }
+    Ok(None)
+}
+
+#[test]
+fn in_a_loop(rt: HostRuntime) -> Result<(), Fail> {
+    let wrong = first_wrong(rt.alloc(), &PROGRAM_THEN_READ)?;
+    assert_eq!(rt; wrong, None);
+    Ok(())
+}
