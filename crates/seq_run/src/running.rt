@@ -158,11 +158,13 @@ fn make_passes<L: Turns>(
     requires { L.all ≡ 9 }
     ensures { IfOk result (λ passes. length passes.items ≡ min (max workers 1) (8 - state.old.passes)) }
 {
+    let wanted = usize::from(workers.max(1));
     let mut passes = Vec::new(alloc);
-    for _ in 0..workers.max(1) {
-        if let Some(pass) = state.worker() {
-            passes.push(pass)?;
-        }
+    'passes: while passes.len() < wanted {
+        let Some(pass) = state.worker() else {
+            return Ok(passes);
+        };
+        passes.push(pass)?;
     }
     Ok(passes)
 }

@@ -1,9 +1,12 @@
-use Rattle.std.proofs.Common.{◌≡◌, ◌+◌, ◌-◌, ◌≤◌, min, length}
+use Rattle.std.proofs.Common.{◌≡◌, ◌+◌, ◌-◌, ◌<◌, ◌≤◌, length}
 use Rattle.seq_run.proofs.running.make_passes.Given as goal
 
-abbrev pub invariant-loop-i : goal.invariant-loop-i
-invariant-loop-i g l = record {
-  count : length l.passes.items ≡ min l.i (8 - l.fn.state.passes);
+abbrev pub invariant-passes : goal.invariant-passes
+invariant-passes g l = record {
+  few : length l.passes.items ≤ l.wanted;
   taken : l.state.passes ≡ l.fn.state.passes + length l.passes.items;
-  few : l.fn.state.passes ≤ 8;
+  most : 0 < length l.passes.items → l.state.passes ≤ 8;
 }
+
+abbrev pub decreases-passes : goal.decreases-passes
+decreases-passes g l = l.wanted - length l.passes.items
