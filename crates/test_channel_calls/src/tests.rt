@@ -248,8 +248,11 @@ impl Gate for Late {
     }
 }
 
-// Nine jobs are started before any has a turn, so that the lease of the last can't be parked.
-fn work_late<L: Turns, R: Wait + AllocGlobal>(rt: &R, blank: Blank) -> Result<Gathered, Fail>
+// Nine jobs are started before any has a turn, so that the lease of the last can't be parked. Which job is done first, how many are, and how many leases are parked.
+fn work_late<L: Turns, R: Wait + AllocGlobal>(
+    rt: &R,
+    blank: Blank,
+) -> Result<(Option<Told>, usize, usize), Fail>
     requires name { blank.name ≡ L.name }
     requires parts { (blank.parts ≡ L.parts) × (L.all ≡ L.parts) × (L.parts ≡ 9) × (L.origin ≡ None) }
 {
@@ -257,16 +260,21 @@ fn work_late<L: Turns, R: Wait + AllocGlobal>(rt: &R, blank: Blank) -> Result<Ga
     let gate = Late {
         refusals: Cell::new(9),
     };
-    run_alone(rt, state, &gate)
+    let gathered = run_alone(rt, state, &gate)?;
+    let first = tell_done(gathered.done.as_slice(), 0);
+    Ok((first, gathered.done.len(), gathered.parked.len()))
 }
+
+// What the job of the ninth LUN is told as.
+const NINTH: Told = (0, 8, Lun { ce: 3, lun: 3 }, 0);
 
 // The worker goes on with that lease, and so its job is done first.
 #[test]
 fn a_lease_without_room_is_gone_on_with(rt: HostRuntime) -> Result<(), Fail> {
-    let gathered = work_late::<Brand, _>(&rt, Blank::new(9))?;
-    let first = tell_done(gathered.done.as_slice(), 0);
-    let told = (first, gathered.done.len(), gathered.parked.len());
-    assert_eq!(rt; told, (Some((0, 8, Lun { ce: 3, lun: 3 }, 0)), 9, 0));
+    assert_eq!(rt;
+        work_late::<Brand, _>(&rt, Blank::new(9))?,
+        (Some(NINTH), 9, 0)
+    );
     Ok(())
 }
 
