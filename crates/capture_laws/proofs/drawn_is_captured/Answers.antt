@@ -1,0 +1,4 @@
+use Rattle.capture_laws.proofs.drawn_is_captured.Goals as goal
+
+pub returns : goal.returns
+returns c = ?
