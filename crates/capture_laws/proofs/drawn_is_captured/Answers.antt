@@ -1,3 +1,4 @@
+use Rattle.capture_laws.proofs.Placed.{level_shown, one_shown}
 use Rattle.capture_laws.proofs.drawn_is_captured.Goals as goal
 
 pub returns : goal.returns
