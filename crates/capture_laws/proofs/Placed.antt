@@ -56,7 +56,7 @@ get_set_there (z ∷ xs) (suc p) (suc q) y h = get_set_there xs p q y (λ e. h (
 bit_first : (a place : ℕ) → place ≡ 0 → bit_at (a ∷ []) place ≡ shown_bit a
 bit_first a place e = subst (λ (n : ℕ). bit_at (a ∷ []) n ≡ shown_bit a) (sym e) refl
 
-absent_is : (o : Option ℕ) → is_absent o ≡ true → o ≡ None
+pub absent_is : (o : Option ℕ) → is_absent o ≡ true → o ≡ None
 absent_is None h = refl
 absent_is (Some code) h = absurd (false≢true h)
 

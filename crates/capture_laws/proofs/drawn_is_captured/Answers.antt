@@ -1,4 +1,5 @@
 use Rattle.capture_laws.proofs.Placed.{level_shown, one_shown}
+use Rattle.capture_laws.proofs.Tables.{fits}
 use Rattle.capture_laws.proofs.drawn_is_captured.Goals as goal
 
 pub returns : goal.returns
