@@ -1,3 +1,4 @@
 pub mod Placed
 pub mod Tables
 pub mod Standing
+pub mod Settling
