@@ -2,3 +2,4 @@ pub mod Placed
 pub mod Tables
 pub mod Standing
 pub mod Settling
+pub mod Seeing

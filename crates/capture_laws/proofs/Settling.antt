@@ -39,7 +39,7 @@ abbrev pub seen_items : List Observed → List Stamped
 seen_items [] = []
 seen_items (o ∷ os) = seen_as o.time o.observation ++ seen_items os
 
-seen_both : (xs ys : List Observed) → seen_items (xs ++ ys) ≡ seen_items xs ++ seen_items ys
+pub seen_both : (xs ys : List Observed) → seen_items (xs ++ ys) ≡ seen_items xs ++ seen_items ys
 seen_both [] ys = refl
 seen_both (o ∷ xs) ys = ap (λ (zs : List Stamped). seen_as o.time o.observation ++ zs) (seen_both xs ys) ∙ sym (append_assoc (seen_as o.time o.observation) (seen_items xs) (seen_items ys))
 
@@ -60,14 +60,14 @@ releases_unseen time before after os (suc count) n =
 abbrev pub seen_at : ℕ → Item → List Observed → List Observed
 seen_at time i os = os ++ (record { time = time; observation = observation.Item i } ∷ [])
 
-none_ready : (time : ℕ) (before after : List Level) (os : List Observed) (count n : ℕ) → ((m : ℕ) → n ≤ m → m < n + count → ready_of before after (m / 4) (m % 4) ≡ None) →
+pub none_ready : (time : ℕ) (before after : List Level) (os : List Observed) (count n : ℕ) → ((m : ℕ) → n ≤ m → m < n + count → ready_of before after (m / 4) (m % 4) ≡ None) →
     with_readies time before after os count n ≡ os
 none_ready time before after os zero n h = refl
 none_ready time before after os (suc count) n h =
     ap (λ (o : Option Item). with_readies time before after (with_item time o os) count (n + 1)) (h n (omega arith) (omega arith))
     ∙ none_ready time before after os count (n + 1) (λ m from to. h m (omega (arith, from)) (omega (arith, to)))
 
-one_ready : (time : ℕ) (before after : List Level) (os : List Observed) (count n k : ℕ) (i : Item) → n ≤ k → k < n + count → ready_of before after (k / 4) (k % 4) ≡ Some i →
+pub one_ready : (time : ℕ) (before after : List Level) (os : List Observed) (count n k : ℕ) (i : Item) → n ≤ k → k < n + count → ready_of before after (k / 4) (k % 4) ≡ Some i →
     ((m : ℕ) → (m ≡ k → ⊥) → n ≤ m → m < n + count → ready_of before after (m / 4) (m % 4) ≡ None) → with_readies time before after os count n ≡ seen_at time i os
 one_ready time before after os zero n k i from to is h = absurd (omega (arith, from, to))
 one_ready time before after os (suc count) n k i from to is h = by (n == k) refl (one_ready time before after os count (n + 1) k i)
@@ -91,19 +91,19 @@ not_short : (glitch time : ℕ) (since : Option ℕ) → glitch ≡ 0 → is_sho
 not_short glitch time None h = refl
 not_short glitch time (Some t) h = lt-leb (suc (time - t)) glitch (omega (arith, h))
 
-strobe_is : (s : Sampler) (strobe : Strobe) (known : Strobing) → s.glitch ≡ 0 → strobe_seen s strobe known ≡ seen_of s.targets strobe known.driven s.before.of s.after.of
+pub strobe_is : (s : Sampler) (strobe : Strobe) (known : Strobing) → s.glitch ≡ 0 → strobe_seen s strobe known ≡ seen_of s.targets strobe known.driven s.before.of s.after.of
 strobe_is s strobe known h = rw (not_short s.glitch s.time known.since h) refl
 
-quiet_strobe : (targets : ℕ) (strobe : Strobe) (driven : Bool) (before after : List Level) → rises (level before (line_of strobe)) (level after (line_of strobe)) ≡ false →
+pub quiet_strobe : (targets : ℕ) (strobe : Strobe) (driven : Bool) (before after : List Level) → rises (level before (line_of strobe)) (level after (line_of strobe)) ≡ false →
     is_lost driven (level before (line_of strobe)) (level after (line_of strobe)) ≡ false → seen_of targets strobe driven before after ≡ Ok Nothing
 quiet_strobe targets strobe driven before after h k = rw h (rw k refl)
 
-rising_strobe : (targets : ℕ) (strobe : Strobe) (driven : Bool) (before after : List Level) (ce : ℕ) (seen : Result Seen BusFault) → rises (level before (line_of strobe)) (level after (line_of strobe)) ≡ true →
+pub rising_strobe : (targets : ℕ) (strobe : Strobe) (driven : Bool) (before after : List Level) (ce : ℕ) (seen : Result Seen BusFault) → rises (level before (line_of strobe)) (level after (line_of strobe)) ≡ true →
     enabled_from before targets 0 None ≡ Ok (Some ce) → cycle_of strobe ce before ≡ seen → seen_of targets strobe driven before after ≡ seen
 rising_strobe targets strobe driven before after ce seen h k is = rw h (rw k is)
 
 -- a strobe that is driven
-rises_lv : (was is : Bool) → rises (lv was) (lv is) ≡ not was && is
+pub rises_lv : (was is : Bool) → rises (lv was) (lv is) ≡ not was && is
 rises_lv true true = refl
 rises_lv true false = refl
 rises_lv false true = refl
@@ -114,7 +114,7 @@ lost_lv driven true is = refl
 lost_lv driven false true = refl
 lost_lv driven false false = refl
 
-strobe_quiet : (targets : ℕ) (strobe : Strobe) (driven was is : Bool) (before after : List Level) → level before (line_of strobe) ≡ lv was → level after (line_of strobe) ≡ lv is → (not was && is) ≡ false →
+pub strobe_quiet : (targets : ℕ) (strobe : Strobe) (driven was is : Bool) (before after : List Level) → level before (line_of strobe) ≡ lv was → level after (line_of strobe) ≡ lv is → (not was && is) ≡ false →
     seen_of targets strobe driven before after ≡ Ok Nothing
 strobe_quiet targets strobe driven was is before after h k none =
     quiet_strobe targets strobe driven before after (rw (h, k) (rises_lv was is ∙ none)) (rw (h, k) (lost_lv driven was is))
@@ -126,7 +126,7 @@ pub record Settles (s : Sampler) (os : List Observed) (items : List Stamped) : T
   pub is : settled s os ≡ Ok now
   pub seen : seen_items now ≡ items
 
-settles : (s : Sampler) (os : List Observed) (written read : Seen) (items : List Stamped) → strobe_seen s Write s.we ≡ Ok written → strobe_seen s Read s.re ≡ Ok read →
+pub settles : (s : Sampler) (os : List Observed) (written read : Seen) (items : List Stamped) → strobe_seen s Write s.we ≡ Ok written → strobe_seen s Read s.re ≡ Ok read →
     seen_items (with_readies s.time s.before.of s.after.of (with_item s.time (item_of read) (with_item s.time (item_of written) os)) (4 * s.targets) 0) ≡ items → Settles s os items
 settles s os written read items w r h = record {
   now = with_seen s written read os;
