@@ -3,3 +3,4 @@ pub mod Tables
 pub mod Standing
 pub mod Settling
 pub mod Seeing
+pub mod Moving
