@@ -4,3 +4,4 @@ pub mod Standing
 pub mod Settling
 pub mod Seeing
 pub mod Moving
+pub mod Going
