@@ -24,7 +24,7 @@ use Rattle.bus_capture.specs.declared.sampler.Sampler.{Sampler}
 use Rattle.bus_capture.specs.declared.inferring.Stamped.{Stamped}
 use Rattle.bus_capture.specs.Sampling.{level, with_change, line_of, rises, is_lost, seen_of, ready_of}
 use Rattle.bus_capture.specs.Capturing.{capturing, later, changed, settled, unknown, unknown_from}
-use Rattle.wave_laws.specs.Told.{change_event, change_events, events_at, setting_events}
+use Rattle.wave_laws.specs.Told.{change_event, change_events, events_at, frame_events, setting_events}
 use Rattle.wave_laws.specs.Lines.{lines_of}
 use Rattle.capture_laws.proofs.Placed.{are_apart, Shows, one_shown}
 use Rattle.capture_laws.proofs.Settling.{seen_items, none_ready, strobe_is, quiet_strobe, Settles, settles}
@@ -58,7 +58,7 @@ fresh_strobe s strobe driven h k =
 fresh_ready : (after : List Level) (ce lun : ℕ) → ready_of unknown after ce lun ≡ None
 fresh_ready after ce lun = rw (unknown_level (Busy ce lun)) refl
 
-fresh_settles : (s : Sampler) (os : List Observed) → IsFresh s → s.glitch ≡ 0 → Settles s os (seen_items os)
+pub fresh_settles : (s : Sampler) (os : List Observed) → IsFresh s → s.glitch ≡ 0 → Settles s os (seen_items os)
 fresh_settles s os h glitch = settles s os Nothing Nothing (seen_items os)
     (strobe_is s Write s.we glitch ∙ fresh_strobe s Write s.we.driven h.before h.we)
     (strobe_is s Read s.re glitch ∙ fresh_strobe s Read s.re.driven h.before h.re)
@@ -106,7 +106,7 @@ module _ (sources : List Source) (apart : are_apart sources ≡ true) where
           let c = joined (changed sources code (a ∷ []) s) (go (changed sources code (a ∷ []) s) (parted (with_change sources code (a ∷ []) s.after.of) (one_shown sources s.after.of front b a code before apart e shows))) in
           record { xs = c.xs; goes = λ rest. c.goes rest; shows = c.shows }
 
-  settings_go : (values old front : List ℕ) (code : ℕ) (s : Sampler) (os : List Observed) → code ≡ 33 + length front → length old ≡ length values → Shows sources s.after.of (front ++ old) →
+  pub settings_go : (values old front : List ℕ) (code : ℕ) (s : Sampler) (os : List Observed) → code ≡ 33 + length front → length old ≡ length values → Shows sources s.after.of (front ++ old) →
       Changed sources s os (setting_events code values) (front ++ values)
   settings_go [] [] front code s os e same shows = record { xs = s.after.of; goes = λ rest. refl; shows = shows }
   settings_go [] (b ∷ old) front code s os e same shows = absurd (omega (arith, same))
@@ -179,7 +179,7 @@ module _ (sources : List Source) (apart : are_apart sources ≡ true) (targets :
       begins : (told : List Told) → capturing sources s os (Ok (Time t) ∷ told) ≡ capturing sources (later s t) waits.settles.now told
       begins told = rw other (rw waits.settles.is refl)
 
-  first_goes : s.time ≡ t → IsFresh s → Gone sources targets s os (Time t ∷ change_events 33 held next) next (seen_items os) t
+  first_goes : s.time ≡ t → IsFresh s → Gone sources targets s os (Time t ∷ change_events 33 held next) next items t
   first_goes at fresh =
       let c = changes_go sources apart held next [] 33 s os refl same waits.shows in
       record {
@@ -188,10 +188,61 @@ module _ (sources : List Source) (apart : are_apart sources ≡ true) (targets :
         goes = λ rest. begins (all_ok (change_events 33 held next ++ rest)) ∙ c.goes rest;
         waits = record {
           of_targets = waits.of_targets; glitch = waits.glitch; shows = c.shows;
-          settles = fresh_settles (with_levels s c.xs) os (record { before = fresh.before; we = fresh.we; re = fresh.re }) waits.glitch;
+          settles = subst (λ (is : List Stamped). Settles (with_levels s c.xs) os is) seen (fresh_settles (with_levels s c.xs) os (record { before = fresh.before; we = fresh.we; re = fresh.re }) waits.glitch);
         };
         time = omega (arith, at);
       }
     where
       begins : (told : List Told) → capturing sources s os (Ok (Time t) ∷ told) ≡ capturing sources s os told
       begins told = rw (eq-eqb t s.time (sym at)) refl
+
+      same_now : (x y : List Observed) → settled s os ≡ Ok x → settled s os ≡ Ok y → x ≡ y
+      same_now x y h k = cc
+
+      seen : seen_items os ≡ items
+      seen =
+          let f = fresh_settles s os fresh waits.glitch in
+          sym f.seen ∙ ap seen_items (same_now f.now waits.settles.now f.is waits.settles.is) ∙ waits.settles.seen
+
+  come_before : MayCome s t → s.time ≤ t
+  come_before (IsLater after) = omega (arith, after)
+  come_before (IsFirst at fresh) = omega (arith, at)
+
+  -- a time at which nothing is seen
+  pub still_goes : MayCome s t → Sees sources targets held next items items t → more ≡ items → Gone sources targets s os (Time t ∷ change_events 33 held next) next items t
+  still_goes (IsLater after) sees e = subst (λ (is : List Stamped). Gone sources targets s os (Time t ∷ change_events 33 held next) next is t) e (time_goes after (subst (λ (is : List Stamped). Sees sources targets held next items is t) (sym e) sees))
+  still_goes (IsFirst at fresh) sees e = first_goes at fresh
+
+  pub still_frame : MayCome s t → Sees sources targets held next items items t → more ≡ items → Gone sources targets s os (frame_events t held next) next items t
+  still_frame may sees e = by (change_events 33 held next) refl
+    where
+      by : (es : List Event) → change_events 33 held next ≡ es → Gone sources targets s os (events_at t es) next items t
+      by [] is = record {
+        to = s;
+        now = os;
+        goes = λ rest. refl;
+        waits = record {
+          of_targets = waits.of_targets; glitch = waits.glitch; settles = waits.settles;
+          shows = subst (λ (xs : List ℕ). Shows sources s.after.of xs) (none_changed held next 33 same is) waits.shows;
+        };
+        time = come_before may;
+      }
+      by (x ∷ es) is = subst (λ (es : List Event). Gone sources targets s os (Time t ∷ es) next items t) is (still_goes may sees e)
+
+  -- a time at which something is
+  pub telling_frame : s.time < t → Sees sources targets held next items more t → (held ≡ next → ⊥) → Gone sources targets s os (frame_events t held next) next more t
+  telling_frame after sees differs = by (change_events 33 held next) refl
+    where
+      by : (es : List Event) → change_events 33 held next ≡ es → Gone sources targets s os (events_at t es) next more t
+      by [] is = absurd (differs (none_changed held next 33 same is))
+      by (x ∷ es) is = subst (λ (es : List Event). Gone sources targets s os (Time t ∷ es) next more t) is (time_goes after sees)
+
+pub then_goes : (sources : List Source) (targets : ℕ) (s : Sampler) (os : List Observed) (es fs : List Event) (held next : List ℕ) (items more : List Stamped) (t u : ℕ) (one : Gone sources targets s os es held items t) →
+    Gone sources targets one.to one.now fs next more u → Gone sources targets s os (es ++ fs) next more u
+then_goes sources targets s os es fs held next items more t u one two = record {
+  to = two.to;
+  now = two.now;
+  goes = λ rest. ap (λ (xs : List Event). capturing sources s os (all_ok xs)) (append_assoc es fs rest) ∙ one.goes (fs ++ rest) ∙ two.goes rest;
+  waits = two.waits;
+  time = two.time;
+}

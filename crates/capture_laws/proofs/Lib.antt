@@ -5,3 +5,4 @@ pub mod Settling
 pub mod Seeing
 pub mod Moving
 pub mod Going
+pub mod Following

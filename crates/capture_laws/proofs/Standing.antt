@@ -105,10 +105,10 @@ enable_at e (suc count) from (suc n) rest few =
     let next : from + 1 + n ≡ from + suc n = omega arith in
     enable_at e count (from + 1) n rest (omega (arith, few)) ∙ ap (λ (m : ℕ). bit (not (is_at e m))) next
 
-abbrev after_enables : Parts → ℕ → List Item → ℕ → Lines → Option ℕ → List ℕ
+abbrev pub after_enables : Parts → ℕ → List Item → ℕ → Lines → Option ℕ → List ℕ
 after_enables g targets past rule l dq = bit l.cle ∷ (bit l.ale ∷ (bit l.we ∷ (bit l.re ∷ (dq_bits dq ++ model_levels g targets past rule))))
 
-bus_at : (g : Parts) (targets : ℕ) (past : List Item) (rule : ℕ) (l : Lines) (code k : ℕ) → code ≡ 33 + targets + k →
+pub bus_at : (g : Parts) (targets : ℕ) (past : List Item) (rule : ℕ) (l : Lines) (code k : ℕ) → code ≡ 33 + targets + k →
     held_of code (levels g targets past rule l) ≡ get_or (after_enables g targets past rule l l.dq) k 0
 bus_at g targets past rule l code k is =
     let front = enables l.enabled targets 0 in
