@@ -180,7 +180,7 @@ module _ (g : Parts) (s : Sampler) (os : List Observed) (past : List Item) (l m 
           (cycle_is Read c.ce c.byte c.kind s.before.of (b.we ∙ ap lv we) (rw (b.cle, b.ale) kind) (b.byte c.byte dq small)))
       (cycle_seen (rw (we, re, re') refl))
 
-abbrev of_kind : Cycle → Kind → Cycle
+abbrev pub of_kind : Cycle → Kind → Cycle
 of_kind c kind = record { ce = c.ce; kind = kind; byte = c.byte }
 
 -- a cycle is seen where its strobe rises
@@ -229,7 +229,7 @@ others ce lun n h = by (ce == n / 4) (lun == n % 4) refl refl
     by true false e k = refl
     by false b e k = refl
 
-itself : (ce lun : ℕ) → (ce == ce && lun == lun) ≡ true
+pub itself : (ce lun : ℕ) → (ce == ce && lun == lun) ≡ true
 itself ce lun = rw (eq-eqb ce ce refl, eq-eqb lun lun refl) refl
 
 module _ (g : Parts) (s : Sampler) (os : List Observed) (past : List Item) (l : Lines) (i : Item) (moves : Moves g s.targets past i) (glitch : s.glitch ≡ 0) (four : g.luns ≤ 4)
