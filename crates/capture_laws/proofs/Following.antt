@@ -38,6 +38,12 @@ pub record AreHigh (l : Lines) : Type 0 where
   pub we : l.we ≡ true
   pub re : l.re ≡ true
 
+-- a capture of all that is told
+pub record Ends (sources : List Source) (s : Sampler) (os : List Observed) (events : List Event) (items : List Stamped) : Type 0 where
+  pub all : List Observed
+  pub is : capturing sources s os (all_ok events) ≡ Ok all
+  pub seen : seen_items all ≡ items
+
 module _ (g : Parts) (targets : ℕ) (fit : Fits targets g.luns) (few : targets ≤ 4) (few_luns : g.luns ≤ 4) where
   abbrev sources : List Source
   sources = lines_of targets g.luns
@@ -207,12 +213,7 @@ module _ (g : Parts) (targets : ℕ) (fit : Fits targets g.luns) (few : targets 
 
   -- ---- 3. all items
 
-  pub record Ends (s : Sampler) (os : List Observed) (events : List Event) (items : List Stamped) : Type 0 where
-    pub all : List Observed
-    pub is : capturing sources s os (all_ok events) ≡ Ok all
-    pub seen : seen_items all ≡ items
-
-  last_ends : (d : Drawing) → d.rule ≡ 0 → AreHigh d.lines → (s : Sampler) (os : List Observed) (items : List Stamped) → Waits sources targets s os (levels_at g targets d d.lines) items → MayCome s (10 * d.items) → Ends s os (last_events g targets d) items
+  last_ends : (d : Drawing) → d.rule ≡ 0 → AreHigh d.lines → (s : Sampler) (os : List Observed) (items : List Stamped) → Waits sources targets s os (levels_at g targets d d.lines) items → MayCome s (10 * d.items) → Ends sources s os (last_events g targets d) items
   last_ends d free high s os items waits may =
       let one = still_goes sources fit.apart targets s os (levels_at g targets d d.lines) (levels_at g targets d (at_rest d.lines)) items items (10 * d.items) waits (as_long d d d.lines (at_rest d.lines)) may
           (still_sees d d.lines (at_rest d.lines) items (10 * d.items) free high.we high.re) refl in
@@ -224,9 +225,9 @@ module _ (g : Parts) (targets : ℕ) (fit : Fits targets g.luns) (few : targets 
 
   pub items_end : (items : List Item) (d : Drawing) (done : List Item) → d ≡ drawn_by g targets done → (after_all g targets d items).rule ≡ 0 → carry_bytes items ≡ true → AreHigh d.lines →
       (s : Sampler) (os : List Observed) (stamped : List Stamped) → Waits sources targets s os (levels_at g targets d d.lines) stamped → MayCome s (10 * d.items) →
-      Ends s os (events_from g targets d items ++ last_events g targets (after_all g targets d items)) (stamped ++ stamped_from d.items items)
+      Ends sources s os (events_from g targets d items ++ last_events g targets (after_all g targets d items)) (stamped ++ stamped_from d.items items)
   items_end [] d done is legal bytes high s os stamped waits may =
-      subst (λ (is : List Stamped). Ends s os (last_events g targets d) is) (sym (append-nil stamped)) (last_ends d legal high s os stamped waits may)
+      subst (λ (is : List Stamped). Ends sources s os (last_events g targets d) is) (sym (append-nil stamped)) (last_ends d legal high s os stamped waits may)
   items_end (i ∷ items) d done is legal bytes high s os stamped waits may =
       let next = after g targets d i in
       let here : next.rule ≡ 0 = all_stood g targets next items legal in

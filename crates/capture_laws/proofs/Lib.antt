@@ -6,3 +6,4 @@ pub mod Seeing
 pub mod Moving
 pub mod Going
 pub mod Following
+pub mod Captured

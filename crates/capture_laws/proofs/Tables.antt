@@ -64,7 +64,7 @@ lun_isnt true o code h k = absurd (false≢true (sym k))
 lun_isnt false o code h k = absent_is o h
 
 -- among so many
-abbrev is_among : Option ℕ → ℕ → Bool
+abbrev pub is_among : Option ℕ → ℕ → Bool
 is_among None n = true
 is_among (Some c) n = nat_lt (c - 33) n
 
