@@ -1,12 +1,15 @@
 -- What is drawn comes back.
 use Rattle.std.proofs.Common.{◌≡◌, ℕ, zero, suc, ◌+◌, ◌-◌, ◌*◌, ◌^◌, ◌<◌, ◌≤◌, ◌==◌, ◌&&◌, Bool, true, false, cond, not, List, [], ◌∷◌, ◌++◌, length, get_or, Option, Some, None, Ok, Result, refl, sym, ap, ◌∙◌, subst, arith, append_assoc, append-nil}
-use Rattle.std.specs.Prelude.{map, slice_get, nat_lt}
-use Rattle.std.proofs.lemmas.Bool.{leb-true}
+use Rattle.std.specs.Prelude.{slice_get, reverse, is_none}
+use Rattle.std.proofs.lemmas.Grind.{reverse_onto}
+use Rattle.std.proofs.lemmas.Bool.{leb-true, and_parts, false≢true}
 use Rattle.nand_geometry.specs.declared.parts.Parts.{Parts}
 use Rattle.onfi_cycle.specs.declared.item.Item.{Item}
+use Rattle.onfi_cycle.specs.declared.forbidden.Forbidden.{Forbidden}
+use Rattle.onfi_cycle.specs.Permitted.{broken, is_permitted, is_legal}
 use Rattle.bus_lines.specs.Lines.{idle}
 use Rattle.trace_wave.specs.Levels.{levels}
-use Rattle.trace_wave.specs.Wave.{begun, after_all, dump}
+use Rattle.trace_wave.specs.Wave.{Drawing, begun, after, after_all, number_of, dump}
 use Rattle.vcd_text.specs.declared.tokens.Level.{Level}
 use Rattle.vcd_text.specs.declared.tokens.Level.TheVariants.{Unknown}
 use Rattle.vcd_text.specs.Tokens.{◌>>=◌}
@@ -119,6 +122,26 @@ captured_from setup text signals events sources stamped form tells found ends re
     okay : List Stamped → Result (List Stamped) CaptureFault
     okay x = Ok x
 
+-- a drawing of what breaks no rule tells none
+legal_behind : (g : Parts) (targets : ℕ) (later past : List Item) → is_legal g targets (later ++ past) ≡ true → is_legal g targets past ≡ true
+legal_behind g targets [] past h = h
+legal_behind g targets (i ∷ later) past h = legal_behind g targets later past (and_parts (is_permitted g targets (later ++ past) i) (is_legal g targets (later ++ past)) h).1
+
+none_broken : (o : Option Forbidden) → is_none o ≡ true → number_of o ≡ 0
+none_broken None h = refl
+none_broken (Some rule) h = absurd (false≢true h)
+
+legal_drawn : (g : Parts) (targets : ℕ) (items : List Item) (d : Drawing) → d.rule ≡ 0 → is_legal g targets (reverse items ++ d.past) ≡ true → (after_all g targets d items).rule ≡ 0
+legal_drawn g targets [] d none h = none
+legal_drawn g targets (i ∷ items) d none h =
+    let next = after g targets d i in
+    let all : is_legal g targets (reverse items ++ (i ∷ d.past)) ≡ true =
+        ap (is_legal g targets) (sym (ap (λ (xs : List Item). xs ++ d.past) (reverse_onto items i []) ∙ append_assoc (reverse items) (i ∷ []) d.past)) ∙ h in
+    let here = and_parts (is_permitted g targets d.past i) (is_legal g targets d.past) (legal_behind g targets (reverse items) (i ∷ d.past) all) in
+    let free : next.rule ≡ 0 = ap (λ (n : ℕ). cond (n == 0) (number_of (broken g targets d.past i)) n) none ∙ none_broken (broken g targets d.past i) here.0 in
+    let past : next.past ≡ i ∷ d.past = ap (λ (n : ℕ). cond (n == 0) (i ∷ d.past) d.past) free in
+    legal_drawn g targets items next free (ap (λ (past : List Item). is_legal g targets (reverse items ++ past)) past ∙ all)
+
 pub drawn_is_captured : DrawnIsCaptured
 drawn_is_captured setup items plain legal bytes short =
     let g = setup.geometry in
@@ -126,5 +149,6 @@ drawn_is_captured setup items plain legal bytes short =
     captured_from setup (dump g targets items) (signals_of targets g.luns) (events_of g targets items) (lines_of targets g.luns) (stamped_from 0 items) plain.form
     (drawn g targets items plain.some plain.few plain.luns plain.few_luns short)
     (ap (λ (ms : List Mapping). sources_of targets (carriers_of ms (signals_of targets g.luns))) plain.names ∙ names_are_lines targets g.luns plain.some plain.few plain.luns plain.few_luns)
-    (events_end g targets setup.glitch items plain.glitch (fits targets g.luns plain.some plain.few plain.luns plain.few_luns) plain.few plain.few_luns legal bytes)
+    (events_end g targets setup.glitch items plain.glitch (fits targets g.luns plain.some plain.few plain.luns plain.few_luns) plain.few plain.few_luns
+        (legal_drawn g targets items begun refl (ap (is_legal g targets) (append-nil (reverse items)) ∙ legal)) bytes)
     (lines_tell targets g.luns plain.some plain.few plain.luns plain.few_luns)

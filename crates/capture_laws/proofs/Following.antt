@@ -150,12 +150,12 @@ module _ (g : Parts) (targets : ℕ) (fit : Fits targets g.luns) (few : targets 
       let t = 10 * d.items in
       let next = after g targets d (Cyc c) in
       let free = none d (Cyc c) done is legal in
-      let one = still_frame sources fit.apart targets s os (levels_at g targets d l) (levels_at g targets d up) items items t waits (as_long d d l up) may (still_sees d l up items t free high.we high.re) refl in
+      let one = still_frame sources fit.apart targets s os (levels_at g targets d l) (levels_at g targets d up) items t waits (as_long d d l up) may (still_sees d l up items t free high.we high.re) in
       let before : one.to.time < t + 2 = (let h = one.time in omega (arith, h)) in
-      let two = still_frame sources fit.apart targets one.to one.now (levels_at g targets d up) (levels_at g targets d down) items items (t + 2) one.waits (as_long d d up down) (IsLater before) (still_sees d up down items (t + 2) free high.we high.re) refl in
+      let two = still_frame sources fit.apart targets one.to one.now (levels_at g targets d up) (levels_at g targets d down) items (t + 2) one.waits (as_long d d up down) (IsLater before) (still_sees d up down items (t + 2) free high.we high.re) in
       let then' : two.to.time < t + 6 = (let h = two.time in omega (arith, h)) in
-      let three = telling_frame sources fit.apart targets two.to two.now (levels_at g targets d down) (levels_at g targets next (released down)) items (items ++ stamp d (Cyc c)) (t + 6) two.waits
-          (as_long d next down (released down)) then' sees (cycle_differs d next l c c.kind refl) in
+      let three = telling_frame sources fit.apart targets two.to two.now (levels_at g targets d down) (levels_at g targets next (released down)) items (t + 6) two.waits
+          (as_long d next down (released down)) (items ++ stamp d (Cyc c)) then' sees (cycle_differs d next l c c.kind refl) in
       let first = frame_events t (levels_at g targets d l) (levels_at g targets d up) in
       let second = frame_events (t + 2) (levels_at g targets d up) (levels_at g targets d down) in
       let third = frame_events (t + 6) (levels_at g targets d down) (levels_at g targets next (released down)) in
@@ -182,8 +182,8 @@ module _ (g : Parts) (targets : ℕ) (fit : Fits targets g.luns) (few : targets 
       let settle : (s : Sampler) (os : List Observed) → s.targets ≡ targets → s.glitch ≡ 0 → Stands g s.targets s.before.of d.past d.lines → Stands g s.targets s.after.of (i ∷ d.past) d.lines → Settles s os (seen_items os ++ (record { time = s.time; item = i } ∷ [])) =
           λ s os e glitch b a. busy_settles g s os d.past d.lines ce lun fail (moved d i done is legal s e) glitch few_luns (named s d.past true ce lun e name) b a in
       let falls : is_busy g (i ∷ d.past) ce lun ≡ false = (moved_at d i done is legal).busy ce lun name.target name.within name.works ∙ ap not (itself ce lun) in
-      telling_frame sources fit.apart targets s os (levels_at g targets d d.lines) (levels_at g targets next next.lines) items (items ++ stamp d i) (10 * d.items + 6) waits (as_long d next d.lines next.lines)
-          (comes_later s (10 * d.items) (10 * d.items + 6) may (omega arith)) (ready_sees d i done is legal items (10 * d.items + 6) refl settle)
+      telling_frame sources fit.apart targets s os (levels_at g targets d d.lines) (levels_at g targets next next.lines) items (10 * d.items + 6) waits (as_long d next d.lines next.lines)
+          (items ++ stamp d i) (comes_later s (10 * d.items) (10 * d.items + 6) may (omega arith)) (ready_sees d i done is legal items (10 * d.items + 6) refl settle)
           (told_differs d i done is legal 0 ce lun (omega arith) name.target name.within (ap bit name.works) (ap bit falls))
 
   array_goes : (d : Drawing) (ce lun : ℕ) (done : List Item) → d ≡ drawn_by g targets done → (after g targets d (Ard ce lun)).rule ≡ 0 →
@@ -196,8 +196,8 @@ module _ (g : Parts) (targets : ℕ) (fit : Fits targets g.luns) (few : targets 
       let settle : (s : Sampler) (os : List Observed) → s.targets ≡ targets → s.glitch ≡ 0 → Stands g s.targets s.before.of d.past d.lines → Stands g s.targets s.after.of (i ∷ d.past) d.lines → Settles s os (seen_items os ++ (record { time = s.time; item = i } ∷ [])) =
           λ s os e glitch b a. array_settles g s os d.past d.lines ce lun (moved d i done is legal s e) glitch few_luns (named s d.past false ce lun e name) b a in
       let falls : has_busy_array g (i ∷ d.past) ce lun ≡ false = (moved_at d i done is legal).array ce lun name.target name.within refl name.works ∙ ap not (itself ce lun) in
-      telling_frame sources fit.apart targets s os (levels_at g targets d d.lines) (levels_at g targets next next.lines) items (items ++ stamp d i) (10 * d.items + 6) waits (as_long d next d.lines next.lines)
-          (comes_later s (10 * d.items) (10 * d.items + 6) may (omega arith)) (ready_sees d i done is legal items (10 * d.items + 6) refl settle)
+      telling_frame sources fit.apart targets s os (levels_at g targets d d.lines) (levels_at g targets next next.lines) items (10 * d.items + 6) waits (as_long d next d.lines next.lines)
+          (items ++ stamp d i) (comes_later s (10 * d.items) (10 * d.items + 6) may (omega arith)) (ready_sees d i done is legal items (10 * d.items + 6) refl settle)
           (told_differs d i done is legal 1 ce lun (omega arith) name.target name.within (ap bit name.works) (ap bit falls))
 
   item_goes : (d : Drawing) (i : Item) (done : List Item) → d ≡ drawn_by g targets done → (after g targets d i).rule ≡ 0 → carries_byte i ≡ true → AreHigh d.lines →
@@ -215,8 +215,8 @@ module _ (g : Parts) (targets : ℕ) (fit : Fits targets g.luns) (few : targets 
 
   last_ends : (d : Drawing) → d.rule ≡ 0 → AreHigh d.lines → (s : Sampler) (os : List Observed) (items : List Stamped) → Waits sources targets s os (levels_at g targets d d.lines) items → MayCome s (10 * d.items) → Ends sources s os (last_events g targets d) items
   last_ends d free high s os items waits may =
-      let one = still_goes sources fit.apart targets s os (levels_at g targets d d.lines) (levels_at g targets d (at_rest d.lines)) items items (10 * d.items) waits (as_long d d d.lines (at_rest d.lines)) may
-          (still_sees d d.lines (at_rest d.lines) items (10 * d.items) free high.we high.re) refl in
+      let one = still_goes sources fit.apart targets s os (levels_at g targets d d.lines) (levels_at g targets d (at_rest d.lines)) items (10 * d.items) waits (as_long d d d.lines (at_rest d.lines)) may
+          (still_sees d d.lines (at_rest d.lines) items (10 * d.items) free high.we high.re) in
       record {
         all = one.waits.settles.now;
         is = ap (λ (es : List Event). capturing sources s os (all_ok es)) (sym (append-nil (last_events g targets d))) ∙ one.goes [] ∙ one.waits.settles.is;

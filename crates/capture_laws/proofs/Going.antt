@@ -153,10 +153,10 @@ abbrev pub Sees : List Source → ℕ → (held next : List ℕ) → (items more
 Sees sources targets held next items more t =
     (s : Sampler) (os : List Observed) → s.targets ≡ targets → s.glitch ≡ 0 → s.time ≡ t → Shows sources s.before.of held → Shows sources s.after.of next → seen_items os ≡ items → Settles s os more
 
-module _ (sources : List Source) (apart : are_apart sources ≡ true) (targets : ℕ) (s : Sampler) (os : List Observed) (held next : List ℕ) (items more : List Stamped) (t : ℕ)
+module _ (sources : List Source) (apart : are_apart sources ≡ true) (targets : ℕ) (s : Sampler) (os : List Observed) (held next : List ℕ) (items : List Stamped) (t : ℕ)
     (waits : Waits sources targets s os held items) (same : length held ≡ length next) where
-  time_goes : s.time < t → Sees sources targets held next items more t → Gone sources targets s os (Time t ∷ change_events 33 held next) next more t
-  time_goes after sees =
+  time_goes : (more : List Stamped) → s.time < t → Sees sources targets held next items more t → Gone sources targets s os (Time t ∷ change_events 33 held next) next more t
+  time_goes more after sees =
       let c = changes_go sources apart held next [] 33 (later s t) waits.settles.now refl same waits.shows in
       record {
         to = with_levels (later s t) c.xs;
@@ -209,12 +209,12 @@ module _ (sources : List Source) (apart : are_apart sources ≡ true) (targets :
   come_before (IsFirst at fresh) = omega (arith, at)
 
   -- a time at which nothing is seen
-  pub still_goes : MayCome s t → Sees sources targets held next items items t → more ≡ items → Gone sources targets s os (Time t ∷ change_events 33 held next) next items t
-  still_goes (IsLater after) sees e = subst (λ (is : List Stamped). Gone sources targets s os (Time t ∷ change_events 33 held next) next is t) e (time_goes after (subst (λ (is : List Stamped). Sees sources targets held next items is t) (sym e) sees))
-  still_goes (IsFirst at fresh) sees e = first_goes at fresh
+  pub still_goes : MayCome s t → Sees sources targets held next items items t → Gone sources targets s os (Time t ∷ change_events 33 held next) next items t
+  still_goes (IsLater after) sees = time_goes items after sees
+  still_goes (IsFirst at fresh) sees = first_goes at fresh
 
-  pub still_frame : MayCome s t → Sees sources targets held next items items t → more ≡ items → Gone sources targets s os (frame_events t held next) next items t
-  still_frame may sees e = by (change_events 33 held next) refl
+  pub still_frame : MayCome s t → Sees sources targets held next items items t → Gone sources targets s os (frame_events t held next) next items t
+  still_frame may sees = by (change_events 33 held next) refl
     where
       by : (es : List Event) → change_events 33 held next ≡ es → Gone sources targets s os (events_at t es) next items t
       by [] is = record {
@@ -227,15 +227,15 @@ module _ (sources : List Source) (apart : are_apart sources ≡ true) (targets :
         };
         time = come_before may;
       }
-      by (x ∷ es) is = subst (λ (es : List Event). Gone sources targets s os (Time t ∷ es) next items t) is (still_goes may sees e)
+      by (x ∷ es) is = subst (λ (es : List Event). Gone sources targets s os (Time t ∷ es) next items t) is (still_goes may sees)
 
   -- a time at which something is
-  pub telling_frame : s.time < t → Sees sources targets held next items more t → (held ≡ next → ⊥) → Gone sources targets s os (frame_events t held next) next more t
-  telling_frame after sees differs = by (change_events 33 held next) refl
+  pub telling_frame : (more : List Stamped) → s.time < t → Sees sources targets held next items more t → (held ≡ next → ⊥) → Gone sources targets s os (frame_events t held next) next more t
+  telling_frame more after sees differs = by (change_events 33 held next) refl
     where
       by : (es : List Event) → change_events 33 held next ≡ es → Gone sources targets s os (events_at t es) next more t
       by [] is = absurd (differs (none_changed held next 33 same is))
-      by (x ∷ es) is = subst (λ (es : List Event). Gone sources targets s os (Time t ∷ es) next more t) is (time_goes after sees)
+      by (x ∷ es) is = subst (λ (es : List Event). Gone sources targets s os (Time t ∷ es) next more t) is (time_goes more after sees)
 
 pub then_goes : (sources : List Source) (targets : ℕ) (s : Sampler) (os : List Observed) (es fs : List Event) (held next : List ℕ) (items more : List Stamped) (t u : ℕ) (one : Gone sources targets s os es held items t) →
     Gone sources targets one.to one.now fs next more u → Gone sources targets s os (es ++ fs) next more u

@@ -1,9 +1,9 @@
 -- The dump of a legal trace is captured as this trace.
-use Rattle.std.specs.Prelude.{◌≡◌, ℕ, ◌+◌, ◌*◌, ◌^◌, ◌<◌, ◌≤◌, nat_lt, ◌&&◌, Bool, true, List, [], ◌∷◌, length, Ok}
+use Rattle.std.specs.Prelude.{◌≡◌, ℕ, ◌+◌, ◌*◌, ◌^◌, ◌<◌, ◌≤◌, nat_lt, ◌&&◌, Bool, true, List, [], ◌∷◌, length, reverse, Ok}
 use Rattle.onfi_cycle.specs.declared.item.Item.{Item}
 use Rattle.onfi_cycle.specs.declared.item.Item.TheVariants.{Cyc, Rdy, Ard}
+use Rattle.onfi_cycle.specs.Permitted.{is_legal}
 use Rattle.trace_wave.specs.Wave.{dump}
-use Rattle.wave_laws.specs.Heard.{drawn_by}
 use Rattle.bus_capture.specs.declared.inferring.Stamped.{Stamped}
 use Rattle.bus_capture.specs.declared.reading.Setup.{Setup}
 use Rattle.bus_capture.specs.declared.reading.CaptureForm.TheVariants.{Dump}
@@ -34,8 +34,8 @@ pub record IsPlain (setup : Setup) : Type 0 where
   pub luns : 1 ≤ setup.geometry.luns
   pub few_luns : setup.geometry.luns ≤ 4
 
--- up to the first item that breaks a rule
+-- item after item, each at its time
 abbrev pub DrawnIsCaptured : Type 0
 DrawnIsCaptured =
-    (setup : Setup) (items : List Item) → IsPlain setup → (drawn_by setup.geometry setup.targets items).rule ≡ 0 → carry_bytes items ≡ true → 10 * length items < 10 ^ 18 →
+    (setup : Setup) (items : List Item) → IsPlain setup → is_legal setup.geometry setup.targets (reverse items) ≡ true → carry_bytes items ≡ true → 10 * length items < 10 ^ 18 →
     captured setup (dump setup.geometry setup.targets items) ≡ Ok (stamped_from 0 items)
