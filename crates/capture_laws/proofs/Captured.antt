@@ -1,5 +1,5 @@
 -- What is drawn comes back.
-use Rattle.std.proofs.Common.{◌≡◌, ℕ, zero, suc, ◌+◌, ◌-◌, ◌*◌, ◌^◌, ◌<◌, ◌≤◌, ◌==◌, ◌&&◌, Bool, true, false, cond, not, List, [], ◌∷◌, ◌++◌, length, get_or, Option, Some, None, Ok, Result, refl, sym, ap, ◌∙◌, subst, arith, append_assoc, append-nil}
+use Rattle.std.proofs.Common.{◌≡◌, ℕ, zero, suc, ◌-◌, ◌<◌, ◌≤◌, ◌==◌, Bool, true, false, cond, not, List, [], ◌∷◌, ◌++◌, length, get_or, Option, Some, None, Ok, Result, refl, sym, ap, ◌∙◌, arith, append_assoc, append-nil}
 use Rattle.std.specs.Prelude.{slice_get, reverse, is_none}
 use Rattle.std.proofs.lemmas.Grind.{reverse_onto}
 use Rattle.std.proofs.lemmas.Bool.{leb-true, and_parts, false≢true}
@@ -10,11 +10,9 @@ use Rattle.onfi_cycle.specs.Permitted.{broken, is_permitted, is_legal}
 use Rattle.bus_lines.specs.Lines.{idle}
 use Rattle.trace_wave.specs.Levels.{levels}
 use Rattle.trace_wave.specs.Wave.{Drawing, begun, after, after_all, number_of, dump}
-use Rattle.vcd_text.specs.declared.tokens.Level.{Level}
 use Rattle.vcd_text.specs.declared.tokens.Level.TheVariants.{Unknown}
-use Rattle.vcd_text.specs.Tokens.{◌>>=◌}
-use Rattle.vcd_text.specs.Header.{Variable, Read}
-use Rattle.vcd_text.specs.Body.{Event, Told}
+use Rattle.vcd_text.specs.Header.{Variable}
+use Rattle.vcd_text.specs.Body.{Event}
 use Rattle.bus_signals.specs.declared.source.Source.{Source}
 use Rattle.bus_signals.specs.declared.mapping.Mapping.{Mapping}
 use Rattle.bus_signals.specs.Roles.{carriers_of, sources_of}
@@ -24,25 +22,23 @@ use Rattle.bus_capture.specs.declared.fault.CaptureFault.{CaptureFault}
 use Rattle.bus_capture.specs.declared.sampler.Observation.{Observation}
 use Rattle.bus_capture.specs.declared.sampler.Observation.TheVariants as observation
 use Rattle.bus_capture.specs.declared.sampler.Observed.{Observed}
-use Rattle.bus_capture.specs.declared.sampler.Sampler.{Sampler}
 use Rattle.bus_capture.specs.declared.inferring.Stamped.{Stamped}
 use Rattle.bus_capture.specs.declared.reading.Setup.{Setup}
 use Rattle.bus_capture.specs.declared.reading.CaptureForm.{CaptureForm}
 use Rattle.bus_capture.specs.declared.reading.CaptureForm.TheVariants.{Dump}
-use Rattle.bus_capture.specs.Capturing.{Shown, capturing, begun as blank, unknown, unknown_from, in_roles, sources_in, told_items, body_items, tells_readies, shown_in}
-use Rattle.bus_capture.specs.Inferring.{inferred, items_after, captured_by, captured}
-use Rattle.wave_laws.specs.Told.{setting_events, events_from, last_events, events_of, signals_of, Tells}
+use Rattle.bus_capture.specs.Capturing.{begun as blank, unknown, unknown_from, in_roles, sources_in, told_items, body_items, tells_readies, shown_in}
+use Rattle.bus_capture.specs.Inferring.{inferred, captured_by, captured}
+use Rattle.wave_laws.specs.Told.{events_from, last_events, events_of, signals_of, Tells}
 use Rattle.wave_laws.specs.Heard.{drawn_by}
 use Rattle.wave_laws.specs.Lines.{lines_of}
-use Rattle.wave_laws.specs.Readies.{held_of}
 use Rattle.wave_laws.proofs.Dumps.{drawn}
 use Rattle.wave_laws.proofs.Levels.{line_count, length_levels}
 use Rattle.wave_laws.proofs.Named.{names_are_lines}
-use Rattle.capture_laws.specs.Drawn.{carry_bytes, stamped_from, IsPlain, DrawnIsCaptured}
+use Rattle.capture_laws.specs.Drawn.{carry_bytes, stamped_from, DrawnIsCaptured}
 use Rattle.capture_laws.proofs.Placed.{Shows, code_at, held_level}
-use Rattle.capture_laws.proofs.Tables.{Fits, fits, is_among, all_sizes, size_at}
+use Rattle.capture_laws.proofs.Tables.{Fits, fits, is_among, size_at}
 use Rattle.capture_laws.proofs.Settling.{seen_items}
-use Rattle.capture_laws.proofs.Going.{all_ok, with_levels, IsFresh, Waits, IsFirst, settings_go, fresh_settles}
+use Rattle.capture_laws.proofs.Going.{with_levels, IsFresh, Waits, IsFirst, settings_go, fresh_settles}
 use Rattle.capture_laws.proofs.Following.{Ends, items_end}
 
 -- ---- 1. it begins
@@ -136,7 +132,7 @@ legal_drawn g targets [] d none h = none
 legal_drawn g targets (i ∷ items) d none h =
     let next = after g targets d i in
     let all : is_legal g targets (reverse items ++ (i ∷ d.past)) ≡ true =
-        ap (is_legal g targets) (sym (ap (λ (xs : List Item). xs ++ d.past) (reverse_onto items i []) ∙ append_assoc (reverse items) (i ∷ []) d.past)) ∙ h in
+    ap (is_legal g targets) (sym (ap (λ (xs : List Item). xs ++ d.past) (reverse_onto items i []) ∙ append_assoc (reverse items) (i ∷ []) d.past)) ∙ h in
     let here = and_parts (is_permitted g targets d.past i) (is_legal g targets d.past) (legal_behind g targets (reverse items) (i ∷ d.past) all) in
     let free : next.rule ≡ 0 = ap (λ (n : ℕ). cond (n == 0) (number_of (broken g targets d.past i)) n) none ∙ none_broken (broken g targets d.past i) here.0 in
     let past : next.past ≡ i ∷ d.past = ap (λ (n : ℕ). cond (n == 0) (i ∷ d.past) d.past) free in
@@ -150,5 +146,5 @@ drawn_is_captured setup items plain legal bytes short =
     (drawn g targets items plain.some plain.few plain.luns plain.few_luns short)
     (ap (λ (ms : List Mapping). sources_of targets (carriers_of ms (signals_of targets g.luns))) plain.names ∙ names_are_lines targets g.luns plain.some plain.few plain.luns plain.few_luns)
     (events_end g targets setup.glitch items plain.glitch (fits targets g.luns plain.some plain.few plain.luns plain.few_luns) plain.few plain.few_luns
-        (legal_drawn g targets items begun refl (ap (is_legal g targets) (append-nil (reverse items)) ∙ legal)) bytes)
+    (legal_drawn g targets items begun refl (ap (is_legal g targets) (append-nil (reverse items)) ∙ legal)) bytes)
     (lines_tell targets g.luns plain.some plain.few plain.luns plain.few_luns)

@@ -1,7 +1,6 @@
 -- A capture follows what is drawn, item by item.
-use Rattle.std.proofs.Common.{◌≡◌, ℕ, zero, suc, ◌+◌, ◌-◌, ◌*◌, ◌<◌, ◌≤◌, ◌==◌, ◌&&◌, Bool, true, false, cond, not, List, [], ◌∷◌, ◌++◌, length, Option, Some, None, Ok, Result, refl, sym, ap, ◌∙◌, subst, arith, append_assoc, append-nil}
-use Rattle.std.specs.Prelude.{map, nat_lt}
-use Rattle.std.proofs.lemmas.Bool.{eqb-true, leb-true, eq-eqb, and_parts, false≢true}
+use Rattle.std.proofs.Common.{◌≡◌, ℕ, suc, ◌+◌, ◌*◌, ◌<◌, ◌≤◌, ◌==◌, Bool, true, false, not, List, [], ◌∷◌, ◌++◌, length, Ok, refl, sym, ap, ◌∙◌, subst, arith, append_assoc, append-nil}
+use Rattle.std.proofs.lemmas.Bool.{leb-true, and_parts}
 use Rattle.nand_geometry.specs.declared.parts.Parts.{Parts}
 use Rattle.onfi_cycle.specs.declared.item.Cycle.{Cycle}
 use Rattle.onfi_cycle.specs.declared.item.Kind.{Kind}
@@ -11,15 +10,15 @@ use Rattle.onfi_cycle.specs.declared.item.Item.TheVariants.{Cyc, Rdy, Ard}
 use Rattle.bus_lines.specs.declared.lines.Lines.{Lines}
 use Rattle.bus_lines.specs.Lines.{set_up, struck, released, at_rest}
 use Rattle.trace_wave.specs.Levels.{bit, levels, is_busy, has_busy_array}
-use Rattle.trace_wave.specs.Wave.{Drawing, begun, after, after_all, levels_at, lines_struck}
+use Rattle.trace_wave.specs.Wave.{Drawing, begun, after, after_all, levels_at}
 use Rattle.vcd_text.specs.declared.tokens.Level.{Level}
-use Rattle.vcd_text.specs.Body.{Event, Time, Change}
+use Rattle.vcd_text.specs.Body.{Event}
 use Rattle.bus_signals.specs.declared.source.Source.{Source}
 use Rattle.bus_capture.specs.declared.sampler.Observed.{Observed}
 use Rattle.bus_capture.specs.declared.sampler.Sampler.{Sampler}
 use Rattle.bus_capture.specs.declared.inferring.Stamped.{Stamped}
 use Rattle.bus_capture.specs.Capturing.{capturing}
-use Rattle.wave_laws.specs.Told.{change_events, frame_events, strobe_events, item_events, events_from, last_events}
+use Rattle.wave_laws.specs.Told.{frame_events, item_events, events_from, last_events}
 use Rattle.wave_laws.specs.Heard.{drawn_by}
 use Rattle.wave_laws.specs.Lines.{lines_of}
 use Rattle.wave_laws.specs.Readies.{held_of, busy_code}
@@ -98,9 +97,9 @@ module _ (g : Parts) (targets : ℕ) (fit : Fits targets g.luns) (few : targets 
     told_differs part ce lun small h k before now same =
         let code = busy_code g.luns targets ce lun + part in
         let one : held_of code (levels_at g targets d d.lines) ≡ bit true =
-            told_at g targets d.past d.rule d.lines part ce lun code small h k refl ∙ ap (λ (n : ℕ). told (n == 0) g d.past part ce lun) none ∙ before in
+        told_at g targets d.past d.rule d.lines part ce lun code small h k refl ∙ ap (λ (n : ℕ). told (n == 0) g d.past part ce lun) none ∙ before in
         let two : held_of code (levels_at g targets next next.lines) ≡ bit false =
-            told_at g targets next.past next.rule next.lines part ce lun code small h k refl ∙ ap (λ (n : ℕ). told (n == 0) g next.past part ce lun) legal ∙ ap (λ (past : List Item). told true g past part ce lun) past_is ∙ now in
+        told_at g targets next.past next.rule next.lines part ce lun code small h k refl ∙ ap (λ (n : ℕ). told (n == 0) g next.past part ce lun) legal ∙ ap (λ (past : List Item). told true g past part ce lun) past_is ∙ now in
         let both : bit true ≡ bit false = sym one ∙ ap (held_of code) same ∙ two in
         absurd (omega (arith, both))
 
@@ -155,7 +154,7 @@ module _ (g : Parts) (targets : ℕ) (fit : Fits targets g.luns) (few : targets 
       let two = still_frame sources fit.apart targets one.to one.now (levels_at g targets d up) (levels_at g targets d down) items (t + 2) one.waits (as_long d d up down) (IsLater before) (still_sees d up down items (t + 2) free high.we high.re) in
       let then' : two.to.time < t + 6 = (let h = two.time in omega (arith, h)) in
       let three = telling_frame sources fit.apart targets two.to two.now (levels_at g targets d down) (levels_at g targets next (released down)) items (t + 6) two.waits
-          (as_long d next down (released down)) (items ++ stamp d (Cyc c)) then' sees (cycle_differs d next l c c.kind refl) in
+      (as_long d next down (released down)) (items ++ stamp d (Cyc c)) then' sees (cycle_differs d next l c c.kind refl) in
       let first = frame_events t (levels_at g targets d l) (levels_at g targets d up) in
       let second = frame_events (t + 2) (levels_at g targets d up) (levels_at g targets d down) in
       let third = frame_events (t + 6) (levels_at g targets d down) (levels_at g targets next (released down)) in
@@ -166,7 +165,7 @@ module _ (g : Parts) (targets : ℕ) (fit : Fits targets g.luns) (few : targets 
       sees : Sees sources targets (levels_at g targets d (struck (set_up d.lines c) c)) (levels_at g targets (after g targets d (Cyc c)) (released (struck (set_up d.lines c) c))) items (items ++ (record { time = 10 * d.items + 6; item = Cyc c } ∷ [])) (10 * d.items + 6)
       sees s os e glitch time b a seen = one_more s os items (10 * d.items + 6) (Cyc c) time seen
           (cycle_settles g s os d.past d.lines c (moved d (Cyc c) done is legal s e) glitch (subst (λ (n : ℕ). c.ce < n) (sym e) (names g targets d (Cyc c) (none d (Cyc c) done is legal) legal)) small high.we high.re
-              (standing s s.before.of d.past d.rule (struck (set_up d.lines c) c) e (none d (Cyc c) done is legal) b) (standing_next d (Cyc c) done is legal s e a))
+          (standing s s.before.of d.past d.rule (struck (set_up d.lines c) c) e (none d (Cyc c) done is legal) b) (standing_next d (Cyc c) done is legal s e a))
 
   -- a LUN, of a sampler
   named : (s : Sampler) (past : List Item) (busy : Bool) (ce lun : ℕ) → s.targets ≡ targets → Names g targets past busy ce lun → Names g s.targets past busy ce lun
@@ -180,11 +179,11 @@ module _ (g : Parts) (targets : ℕ) (fit : Fits targets g.luns) (few : targets 
       let free = none d i done is legal in
       let name : Names g targets d.past true ce lun = names g targets d i free legal in
       let settle : (s : Sampler) (os : List Observed) → s.targets ≡ targets → s.glitch ≡ 0 → Stands g s.targets s.before.of d.past d.lines → Stands g s.targets s.after.of (i ∷ d.past) d.lines → Settles s os (seen_items os ++ (record { time = s.time; item = i } ∷ [])) =
-          λ s os e glitch b a. busy_settles g s os d.past d.lines ce lun fail (moved d i done is legal s e) glitch few_luns (named s d.past true ce lun e name) b a in
+      λ s os e glitch b a. busy_settles g s os d.past d.lines ce lun fail (moved d i done is legal s e) glitch few_luns (named s d.past true ce lun e name) b a in
       let falls : is_busy g (i ∷ d.past) ce lun ≡ false = (moved_at d i done is legal).busy ce lun name.target name.within name.works ∙ ap not (itself ce lun) in
       telling_frame sources fit.apart targets s os (levels_at g targets d d.lines) (levels_at g targets next next.lines) items (10 * d.items + 6) waits (as_long d next d.lines next.lines)
-          (items ++ stamp d i) (comes_later s (10 * d.items) (10 * d.items + 6) may (omega arith)) (ready_sees d i done is legal items (10 * d.items + 6) refl settle)
-          (told_differs d i done is legal 0 ce lun (omega arith) name.target name.within (ap bit name.works) (ap bit falls))
+      (items ++ stamp d i) (comes_later s (10 * d.items) (10 * d.items + 6) may (omega arith)) (ready_sees d i done is legal items (10 * d.items + 6) refl settle)
+      (told_differs d i done is legal 0 ce lun (omega arith) name.target name.within (ap bit name.works) (ap bit falls))
 
   array_goes : (d : Drawing) (ce lun : ℕ) (done : List Item) → d ≡ drawn_by g targets done → (after g targets d (Ard ce lun)).rule ≡ 0 →
       (s : Sampler) (os : List Observed) (items : List Stamped) → Waits sources targets s os (levels_at g targets d d.lines) items → MayCome s (10 * d.items) → ItemGoes d (Ard ce lun) s os items
@@ -194,11 +193,11 @@ module _ (g : Parts) (targets : ℕ) (fit : Fits targets g.luns) (few : targets 
       let free = none d i done is legal in
       let name : Names g targets d.past false ce lun = names g targets d i free legal in
       let settle : (s : Sampler) (os : List Observed) → s.targets ≡ targets → s.glitch ≡ 0 → Stands g s.targets s.before.of d.past d.lines → Stands g s.targets s.after.of (i ∷ d.past) d.lines → Settles s os (seen_items os ++ (record { time = s.time; item = i } ∷ [])) =
-          λ s os e glitch b a. array_settles g s os d.past d.lines ce lun (moved d i done is legal s e) glitch few_luns (named s d.past false ce lun e name) b a in
+      λ s os e glitch b a. array_settles g s os d.past d.lines ce lun (moved d i done is legal s e) glitch few_luns (named s d.past false ce lun e name) b a in
       let falls : has_busy_array g (i ∷ d.past) ce lun ≡ false = (moved_at d i done is legal).array ce lun name.target name.within refl name.works ∙ ap not (itself ce lun) in
       telling_frame sources fit.apart targets s os (levels_at g targets d d.lines) (levels_at g targets next next.lines) items (10 * d.items + 6) waits (as_long d next d.lines next.lines)
-          (items ++ stamp d i) (comes_later s (10 * d.items) (10 * d.items + 6) may (omega arith)) (ready_sees d i done is legal items (10 * d.items + 6) refl settle)
-          (told_differs d i done is legal 1 ce lun (omega arith) name.target name.within (ap bit name.works) (ap bit falls))
+      (items ++ stamp d i) (comes_later s (10 * d.items) (10 * d.items + 6) may (omega arith)) (ready_sees d i done is legal items (10 * d.items + 6) refl settle)
+      (told_differs d i done is legal 1 ce lun (omega arith) name.target name.within (ap bit name.works) (ap bit falls))
 
   item_goes : (d : Drawing) (i : Item) (done : List Item) → d ≡ drawn_by g targets done → (after g targets d i).rule ≡ 0 → carries_byte i ≡ true → AreHigh d.lines →
       (s : Sampler) (os : List Observed) (items : List Stamped) → Waits sources targets s os (levels_at g targets d d.lines) items → MayCome s (10 * d.items) → ItemGoes d i s os items
@@ -216,7 +215,7 @@ module _ (g : Parts) (targets : ℕ) (fit : Fits targets g.luns) (few : targets 
   last_ends : (d : Drawing) → d.rule ≡ 0 → AreHigh d.lines → (s : Sampler) (os : List Observed) (items : List Stamped) → Waits sources targets s os (levels_at g targets d d.lines) items → MayCome s (10 * d.items) → Ends sources s os (last_events g targets d) items
   last_ends d free high s os items waits may =
       let one = still_goes sources fit.apart targets s os (levels_at g targets d d.lines) (levels_at g targets d (at_rest d.lines)) items (10 * d.items) waits (as_long d d d.lines (at_rest d.lines)) may
-          (still_sees d d.lines (at_rest d.lines) items (10 * d.items) free high.we high.re) in
+      (still_sees d d.lines (at_rest d.lines) items (10 * d.items) free high.we high.re) in
       record {
         all = one.waits.settles.now;
         is = ap (λ (es : List Event). capturing sources s os (all_ok es)) (sym (append-nil (last_events g targets d))) ∙ one.goes [] ∙ one.waits.settles.is;

@@ -1,19 +1,14 @@
 -- A capture goes on from time to time.
-use Rattle.std.proofs.Common.{◌≡◌, ℕ, zero, suc, ◌+◌, ◌-◌, ◌*◌, ◌/◌, ◌%◌, ◌<◌, ◌≤◌, ◌==◌, ◌&&◌, Bool, true, false, cond, not, List, [], ◌∷◌, ◌++◌, length, Option, Some, None, Ok, Result, refl, sym, ap, ◌∙◌, subst, arith, append_assoc, append-nil}
-use Rattle.std.specs.Prelude.{map, slice_get, nat_lt}
+use Rattle.std.proofs.Common.{◌≡◌, ℕ, zero, suc, ◌+◌, ◌*◌, ◌/◌, ◌%◌, ◌<◌, ◌≤◌, ◌==◌, Bool, true, false, cond, List, [], ◌∷◌, ◌++◌, length, None, Ok, refl, sym, ap, ◌∙◌, subst, arith, append_assoc}
+use Rattle.std.specs.Prelude.{map, slice_get}
 use Rattle.std.specs.Option.{unwrap_or}
-use Rattle.std.proofs.lemmas.Bool.{eqb-true, eqb-false, eq-eqb, false≢true}
+use Rattle.std.proofs.lemmas.Bool.{eqb-true, eq-eqb}
 use Rattle.std.proofs.lemmas.List.{length-append}
-use Rattle.nand_geometry.specs.declared.parts.Parts.{Parts}
-use Rattle.onfi_cycle.specs.declared.item.Item.{Item}
-use Rattle.bus_lines.specs.declared.lines.Lines.{Lines}
-use Rattle.trace_wave.specs.Levels.{levels}
 use Rattle.vcd_text.specs.declared.tokens.Level.{Level}
 use Rattle.vcd_text.specs.declared.tokens.Level.TheVariants.{Low, High, Unknown}
-use Rattle.vcd_text.specs.Tokens.{◌>>=◌}
 use Rattle.vcd_text.specs.Body.{Event, Told, Time, Change}
 use Rattle.bus_signals.specs.declared.role.Role.{Role}
-use Rattle.bus_signals.specs.declared.role.Role.TheVariants.{We, Re, Busy, ArrayBusy, Failed}
+use Rattle.bus_signals.specs.declared.role.Role.TheVariants.{Busy}
 use Rattle.bus_signals.specs.declared.source.Source.{Source}
 use Rattle.bus_signals.specs.Roles.{place_of}
 use Rattle.bus_capture.specs.declared.sampling.Seen.TheVariants.{Nothing}
@@ -24,8 +19,7 @@ use Rattle.bus_capture.specs.declared.sampler.Sampler.{Sampler}
 use Rattle.bus_capture.specs.declared.inferring.Stamped.{Stamped}
 use Rattle.bus_capture.specs.Sampling.{level, with_change, line_of, rises, is_lost, seen_of, ready_of}
 use Rattle.bus_capture.specs.Capturing.{capturing, later, changed, settled, unknown, unknown_from}
-use Rattle.wave_laws.specs.Told.{change_event, change_events, events_at, frame_events, setting_events}
-use Rattle.wave_laws.specs.Lines.{lines_of}
+use Rattle.wave_laws.specs.Told.{change_events, events_at, frame_events, setting_events}
 use Rattle.capture_laws.proofs.Placed.{are_apart, Shows, one_shown}
 use Rattle.capture_laws.proofs.Settling.{seen_items, none_ready, strobe_is, quiet_strobe, Settles, settles}
 
@@ -163,7 +157,9 @@ module _ (sources : List Source) (apart : are_apart sources ≡ true) (targets :
         now = waits.settles.now;
         goes = λ rest. begins (all_ok (change_events 33 held next ++ rest)) ∙ c.goes rest;
         waits = record {
-          of_targets = waits.of_targets; glitch = waits.glitch; shows = c.shows;
+          of_targets = waits.of_targets;
+          glitch = waits.glitch;
+          shows = c.shows;
           settles = sees (with_levels (later s t) c.xs) waits.settles.now waits.of_targets waits.glitch refl waits.shows c.shows waits.settles.seen;
         };
         time = omega arith;
@@ -187,7 +183,9 @@ module _ (sources : List Source) (apart : are_apart sources ≡ true) (targets :
         now = os;
         goes = λ rest. begins (all_ok (change_events 33 held next ++ rest)) ∙ c.goes rest;
         waits = record {
-          of_targets = waits.of_targets; glitch = waits.glitch; shows = c.shows;
+          of_targets = waits.of_targets;
+          glitch = waits.glitch;
+          shows = c.shows;
           settles = subst (λ (is : List Stamped). Settles (with_levels s c.xs) os is) seen (fresh_settles (with_levels s c.xs) os (record { before = fresh.before; we = fresh.we; re = fresh.re }) waits.glitch);
         };
         time = omega (arith, at);
@@ -222,7 +220,9 @@ module _ (sources : List Source) (apart : are_apart sources ≡ true) (targets :
         now = os;
         goes = λ rest. refl;
         waits = record {
-          of_targets = waits.of_targets; glitch = waits.glitch; settles = waits.settles;
+          of_targets = waits.of_targets;
+          glitch = waits.glitch;
+          settles = waits.settles;
           shows = subst (λ (xs : List ℕ). Shows sources s.after.of xs) (none_changed held next 33 same is) waits.shows;
         };
         time = come_before may;

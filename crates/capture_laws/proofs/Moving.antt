@@ -1,21 +1,18 @@
 -- What an item that breaks no rule does to the LUNs, as a dump shows it.
-use Rattle.std.proofs.Common.{◌≡◌, ℕ, zero, suc, ◌+◌, ◌-◌, ◌*◌, ◌<◌, ◌≤◌, ◌==◌, ◌&&◌, ◌||◌, Bool, true, false, cond, not, List, [], ◌∷◌, ◌++◌, length, Option, Some, None, refl, sym, ap, ◌∙◌, subst, arith}
-use Rattle.std.specs.Prelude.{slice_get, nat_le}
+use Rattle.std.proofs.Common.{◌≡◌, ℕ, zero, suc, ◌+◌, ◌<◌, ◌==◌, ◌||◌, Bool, true, false, cond, not, List, [], ◌∷◌, ◌++◌, Some, refl, sym, ap, ◌∙◌, subst, arith}
+use Rattle.std.specs.Prelude.{nat_le}
 use Rattle.std.proofs.lemmas.Bool.{eqb-true, leb-false, false≢true}
 use Rattle.nand_geometry.specs.declared.parts.Parts.{Parts}
 use Rattle.onfi_cycle.specs.declared.effect.Effect.{Effect}
 use Rattle.onfi_cycle.specs.declared.effect.Effect.TheVariants as e
-use Rattle.onfi_cycle.specs.declared.forbidden.Forbidden.{Forbidden}
 use Rattle.onfi_cycle.specs.declared.forbidden.Forbidden.TheVariants.{NotThere}
 use Rattle.onfi_cycle.specs.declared.item.Item.{Item}
 use Rattle.onfi_cycle.specs.declared.item.Item.TheVariants.{Cyc, Rdy, Ard}
-use Rattle.onfi_cycle.specs.declared.lun.Lun.{Lun}
 use Rattle.onfi_cycle.specs.LunView.{LunView}
 use Rattle.onfi_cycle.specs.Sequence.{target_of, tail, facts_of}
 use Rattle.onfi_cycle.specs.Rules.{lun_is, breaks_not_there}
 use Rattle.onfi_cycle.specs.Lun.{lun_view, views_from, luns_of, effect_on, busy_after, array_busy_after, is_caching}
 use Rattle.onfi_cycle.specs.Permitted.{judge_item, broken}
-use Rattle.bus_lines.specs.declared.lines.Lines.{Lines}
 use Rattle.bus_lines.specs.Lines.{idle}
 use Rattle.trace_wave.specs.Levels.{bit, levels, is_busy, has_busy_array}
 use Rattle.trace_wave.specs.Wave.{Drawing, begun, after, after_all, number_of, levels_at, lines_struck, is_ready}
@@ -157,8 +154,8 @@ module _ (g : Parts) (targets : ℕ) (items : List Item) (i : Item) (legal : (af
   seen ce lun h k =
       subst (λ (held : List ℕ). AreSeen (busy_code g.luns targets ce lun) i ce lun held (levels_at g targets (after g targets d i) (after g targets d i).lines)) ((are_heard g targets items first refl).struck i)
       (subst (λ (held : List ℕ). AreSeen (busy_code g.luns targets ce lun) i ce lun (all_heard first (told_by g targets items ++ strobe_events g targets d i)) held)
-        ((are_heard g targets (items ++ (i ∷ [])) first refl).drawn ∙ ap (λ (x : Drawing). levels_at g targets x x.lines) on)
-        (readies_are_seen g targets items i first ce lun refl h k (ap (λ (x : Drawing). x.rule) on ∙ legal)))
+      ((are_heard g targets (items ++ (i ∷ [])) first refl).drawn ∙ ap (λ (x : Drawing). levels_at g targets x x.lines) on)
+      (readies_are_seen g targets items i first ce lun refl h k (ap (λ (x : Drawing). x.rule) on ∙ legal)))
 
   here : Stood g targets d i
   here = stood g targets d i legal

@@ -1,15 +1,15 @@
 -- The levels of a capture hold what a reader of the dump holds, each line at its place.
-use Rattle.std.proofs.Common.{◌≡◌, ℕ, zero, suc, ◌+◌, ◌-◌, ◌<◌, ◌≤◌, ◌==◌, Bool, true, false, cond, ◌&&◌, List, [], ◌∷◌, ◌++◌, length, get_or, slice_set, Option, Some, None, refl, sym, ap, ◌∙◌, subst, arith, append_assoc}
-use Rattle.std.specs.Prelude.{slice_get, slice_index, nat_le}
+use Rattle.std.proofs.Common.{◌≡◌, ℕ, zero, suc, ◌+◌, ◌-◌, ◌<◌, ◌≤◌, ◌==◌, Bool, true, false, cond, ◌&&◌, List, [], ◌∷◌, ◌++◌, length, get_or, slice_set, Option, Some, None, refl, sym, ap, ◌∙◌, subst, arith}
+use Rattle.std.specs.Prelude.{slice_get, nat_le}
 use Rattle.std.specs.Option.{unwrap_or}
-use Rattle.std.proofs.lemmas.Bool.{eqb-true, eqb-false, eq-eqb, and_parts, false≢true, leb-true}
+use Rattle.std.proofs.lemmas.Bool.{eqb-true, eqb-false, and_parts, false≢true, leb-true}
 use Rattle.vcd_text.specs.declared.tokens.Level.{Level}
-use Rattle.vcd_text.specs.declared.tokens.Level.TheVariants.{Low, High, Unknown}
+use Rattle.vcd_text.specs.declared.tokens.Level.TheVariants.{Unknown}
 use Rattle.bus_signals.specs.declared.role.Role.{Role}
 use Rattle.bus_signals.specs.declared.source.Source.{Source}
 use Rattle.bus_signals.specs.Roles.{place_of}
 use Rattle.wave_laws.specs.Readies.{held_of}
-use Rattle.bus_capture.specs.Sampling.{level, shown_bit, bit_at, with_source, with_change}
+use Rattle.bus_capture.specs.Sampling.{level, shown_bit, bit_at, with_change}
 
 -- the code of the line at a place
 abbrev pub code_at : List Source → ℕ → Option ℕ

@@ -1,5 +1,5 @@
 -- What is seen at each time of a dump.
-use Rattle.std.proofs.Common.{◌≡◌, ℕ, zero, suc, ◌+◌, ◌-◌, ◌*◌, ◌/◌, ◌%◌, ◌<◌, ◌≤◌, ◌==◌, ◌&&◌, ◌||◌, Bool, true, false, cond, not, List, [], ◌∷◌, ◌++◌, Option, Some, None, Ok, Result, refl, sym, ap, ◌∙◌, subst, arith, append_assoc, append-nil}
+use Rattle.std.proofs.Common.{◌≡◌, ℕ, zero, suc, ◌+◌, ◌*◌, ◌/◌, ◌%◌, ◌<◌, ◌≤◌, ◌==◌, ◌&&◌, ◌||◌, Bool, true, false, cond, not, List, [], ◌∷◌, ◌++◌, Option, Some, None, Ok, refl, sym, ap, ◌∙◌, subst, arith}
 use Rattle.std.specs.Prelude.{nat_lt}
 use Rattle.std.proofs.lemmas.Bool.{eqb-true, eqb-false, eq-eqb, leb-true, le-leb, false≢true}
 use Rattle.nand_geometry.specs.declared.parts.Parts.{Parts}
@@ -13,12 +13,9 @@ use Rattle.bus_lines.specs.Lines.{set_up, struck, released}
 use Rattle.trace_wave.specs.Levels.{is_at, is_busy, has_busy_array, tells_failure}
 use Rattle.trace_wave.specs.Wave.{is_ready}
 use Rattle.vcd_text.specs.declared.tokens.Level.{Level}
-use Rattle.vcd_text.specs.declared.tokens.Level.TheVariants.{Low, High, Unknown}
+use Rattle.vcd_text.specs.declared.tokens.Level.TheVariants.{High}
 use Rattle.vcd_text.specs.Tokens.{◌>>=◌}
-use Rattle.bus_signals.specs.declared.role.Role.{Role}
-use Rattle.bus_signals.specs.declared.role.Role.TheVariants.{Enable, Cle, Ale, We, Re, Dq, Busy, ArrayBusy, Failed}
-use Rattle.bus_capture.specs.declared.fault.BusFault.{BusFault}
-use Rattle.bus_capture.specs.declared.sampling.Seen.{Seen}
+use Rattle.bus_signals.specs.declared.role.Role.TheVariants.{Enable, Busy, ArrayBusy, Failed}
 use Rattle.bus_capture.specs.declared.sampling.Seen.TheVariants.{Nothing, Sampled}
 use Rattle.bus_capture.specs.declared.sampling.Strobe.{Strobe}
 use Rattle.bus_capture.specs.declared.sampling.Strobe.TheVariants.{Write, Read}
@@ -26,8 +23,8 @@ use Rattle.bus_capture.specs.declared.sampler.Observation.TheVariants as observa
 use Rattle.bus_capture.specs.declared.sampler.Observed.{Observed}
 use Rattle.bus_capture.specs.declared.sampler.Sampler.{Sampler}
 use Rattle.bus_capture.specs.declared.inferring.Stamped.{Stamped}
-use Rattle.bus_capture.specs.Sampling.{level, enabled_from, with_enable, cycle_of, kind_of, written_kind, read_kind, byte_of, apart, other_line, rises, falls, is_low, is_high, strobe_rises, array_is_done, ready_of}
-use Rattle.bus_capture.specs.Capturing.{with_readies, strobe_seen}
+use Rattle.bus_capture.specs.Sampling.{level, enabled_from, with_enable, cycle_of, kind_of, written_kind, read_kind, byte_of, other_line, rises, falls, is_low, is_high, strobe_rises, ready_of}
+use Rattle.bus_capture.specs.Capturing.{with_readies}
 use Rattle.wave_laws.specs.Readies.{is_ready_of, is_array_ready_of}
 use Rattle.capture_laws.proofs.Standing.{lv, Stands}
 use Rattle.capture_laws.proofs.Moving.{Names, Moves, array_alone}
@@ -99,8 +96,8 @@ still_settles g s os past l m glitch b a we re =
     (strobe_is s Write s.we glitch ∙ strobe_quiet s.targets Write s.we.driven l.we m.we s.before.of s.after.of b.we a.we we)
     (strobe_is s Read s.re glitch ∙ strobe_quiet s.targets Read s.re.driven l.re m.re s.before.of s.after.of b.re a.re re)
     (ap seen_items (none_ready s.time s.before.of s.after.of os (4 * s.targets) 0
-        (λ n from to. ready_if g s.targets s.before.of s.after.of past past l m b a n (omega (arith, to)) None
-            (λ there. still_by (is_busy g past (n / 4) (n % 4)) (has_busy_array g past (n / 4) (n % 4)) (tells_failure past (n / 4) (n % 4)) (rising_from l m) (n / 4) (n % 4)) (λ none. refl))))
+    (λ n from to. ready_if g s.targets s.before.of s.after.of past past l m b a n (omega (arith, to)) None
+    (λ there. still_by (is_busy g past (n / 4) (n % 4)) (has_busy_array g past (n / 4) (n % 4)) (tells_failure past (n / 4) (n % 4)) (rising_from l m) (n / 4) (n % 4)) (λ none. refl))))
 
 -- ---- 3. a cycle
 
@@ -153,9 +150,9 @@ module _ (g : Parts) (s : Sampler) (os : List Observed) (past : List Item) (l m 
   no_ready : rising_from l m ≡ true → (xs : List Observed) → with_readies s.time s.before.of s.after.of xs (4 * s.targets) 0 ≡ xs
   no_ready rises xs = none_ready s.time s.before.of s.after.of xs (4 * s.targets) 0
       (λ n from to. ready_if g s.targets s.before.of s.after.of past (Cyc c ∷ past) l m b a n (omega (arith, to)) None
-          (λ there. kept_by (is_busy g past (n / 4) (n % 4)) (is_busy g (Cyc c ∷ past) (n / 4) (n % 4)) (has_busy_array g past (n / 4) (n % 4)) (has_busy_array g (Cyc c ∷ past) (n / 4) (n % 4)) (tells_failure (Cyc c ∷ past) (n / 4) (n % 4))
-              (rising_from l m) (n / 4) (n % 4) rises (moves.busy (n / 4) (n % 4) (omega (arith, to)) (leb-true (suc (n % 4)) g.luns there)))
-          (λ none. refl))
+      (λ there. kept_by (is_busy g past (n / 4) (n % 4)) (is_busy g (Cyc c ∷ past) (n / 4) (n % 4)) (has_busy_array g past (n / 4) (n % 4)) (has_busy_array g (Cyc c ∷ past) (n / 4) (n % 4)) (tells_failure (Cyc c ∷ past) (n / 4) (n % 4))
+      (rising_from l m) (n / 4) (n % 4) rises (moves.busy (n / 4) (n % 4) (omega (arith, to)) (leb-true (suc (n % 4)) g.luns there)))
+      (λ none. refl))
 
   abbrev with_cycle : List Stamped
   with_cycle = seen_items os ++ (record { time = s.time; item = Cyc c } ∷ [])
@@ -169,7 +166,7 @@ module _ (g : Parts) (s : Sampler) (os : List Observed) (past : List Item) (l m 
   pub written_settles : l.enabled ≡ Some c.ce → l.dq ≡ Some c.byte → l.we ≡ false → l.re ≡ true → m.we ≡ true → m.re ≡ true → written_kind (lv l.cle) (lv l.ale) ≡ Ok c.kind → Settles s os with_cycle
   written_settles enabled dq we re we' re' kind = settles s os (Sampled c) Nothing with_cycle
       (strobe_is s Write s.we glitch ∙ rising_strobe s.targets Write s.we.driven s.before.of s.after.of c.ce (Ok (Sampled c)) (rw (b.we, a.we, we, we') refl) (chip enabled)
-          (cycle_is Write c.ce c.byte c.kind s.before.of (b.re ∙ ap lv re) (rw (b.cle, b.ale) kind) (b.byte c.byte dq small)))
+      (cycle_is Write c.ce c.byte c.kind s.before.of (b.re ∙ ap lv re) (rw (b.cle, b.ale) kind) (b.byte c.byte dq small)))
       (strobe_is s Read s.re glitch ∙ strobe_quiet s.targets Read s.re.driven l.re m.re s.before.of s.after.of b.re a.re (rw re refl))
       (cycle_seen (rw (we, we') refl))
 
@@ -177,7 +174,7 @@ module _ (g : Parts) (s : Sampler) (os : List Observed) (past : List Item) (l m 
   read_settles enabled dq we re we' re' kind = settles s os Nothing (Sampled c) with_cycle
       (strobe_is s Write s.we glitch ∙ strobe_quiet s.targets Write s.we.driven l.we m.we s.before.of s.after.of b.we a.we (rw we refl))
       (strobe_is s Read s.re glitch ∙ rising_strobe s.targets Read s.re.driven s.before.of s.after.of c.ce (Ok (Sampled c)) (rw (b.re, a.re, re, re') refl) (chip enabled)
-          (cycle_is Read c.ce c.byte c.kind s.before.of (b.we ∙ ap lv we) (rw (b.cle, b.ale) kind) (b.byte c.byte dq small)))
+      (cycle_is Read c.ce c.byte c.kind s.before.of (b.we ∙ ap lv we) (rw (b.cle, b.ale) kind) (b.byte c.byte dq small)))
       (cycle_seen (rw (we, re, re') refl))
 
 abbrev pub of_kind : Cycle → Kind → Cycle
@@ -241,12 +238,12 @@ module _ (g : Parts) (s : Sampler) (os : List Observed) (past : List Item) (l : 
       (strobe_is s Write s.we glitch ∙ strobe_quiet s.targets Write s.we.driven l.we l.we s.before.of s.after.of b.we a.we (not_and l.we))
       (strobe_is s Read s.re glitch ∙ strobe_quiet s.targets Read s.re.driven l.re l.re s.before.of s.after.of b.re a.re (not_and l.re))
       (ap seen_items (one_ready s.time s.before.of s.after.of os (4 * s.targets) 0 (4 * ce + lun) i (omega arith) (omega (arith, h, k, four)) is
-          (λ n ne from to. ready_if g s.targets s.before.of s.after.of past (i ∷ past) l l b a n (omega (arith, to)) None
-              (λ there. same_by (is_busy g past (n / 4) (n % 4)) (is_busy g (i ∷ past) (n / 4) (n % 4)) (has_busy_array g past (n / 4) (n % 4)) (has_busy_array g (i ∷ past) (n / 4) (n % 4)) (tells_failure (i ∷ past) (n / 4) (n % 4))
-                  (rising_from l l) (n / 4) (n % 4)
-                  (λ is. moves.busy (n / 4) (n % 4) (omega (arith, to)) (leb-true (suc (n % 4)) g.luns there) is ∙ ap not (none n ne))
-                  (λ is. moves.array (n / 4) (n % 4) (omega (arith, to)) (leb-true (suc (n % 4)) g.luns there) ready is ∙ ap not (no_array n ne)))
-              (λ none. refl)))
+      (λ n ne from to. ready_if g s.targets s.before.of s.after.of past (i ∷ past) l l b a n (omega (arith, to)) None
+      (λ there. same_by (is_busy g past (n / 4) (n % 4)) (is_busy g (i ∷ past) (n / 4) (n % 4)) (has_busy_array g past (n / 4) (n % 4)) (has_busy_array g (i ∷ past) (n / 4) (n % 4)) (tells_failure (i ∷ past) (n / 4) (n % 4))
+      (rising_from l l) (n / 4) (n % 4)
+      (λ is. moves.busy (n / 4) (n % 4) (omega (arith, to)) (leb-true (suc (n % 4)) g.luns there) is ∙ ap not (none n ne))
+      (λ is. moves.array (n / 4) (n % 4) (omega (arith, to)) (leb-true (suc (n % 4)) g.luns there) ready is ∙ ap not (no_array n ne)))
+      (λ none. refl)))
       ∙ seen_both os (record { time = s.time; observation = observation.Item i } ∷ []))
 
   ready_from : (ce lun : ℕ) → ce < s.targets → lun < g.luns →
@@ -256,9 +253,9 @@ module _ (g : Parts) (s : Sampler) (os : List Observed) (past : List Item) (l : 
       let target : (4 * ce + lun) / 4 ≡ ce = omega (arith, k, four) in
       let which : (4 * ce + lun) % 4 ≡ lun = omega (arith, k, four) in
       ready_if g s.targets s.before.of s.after.of past (i ∷ past) l l b a (4 * ce + lun) (omega (arith, h, k, four)) (Some i)
-          (λ there. subst (λ (n : ℕ). ready_by (is_busy g past n ((4 * ce + lun) % 4)) (is_busy g (i ∷ past) n ((4 * ce + lun) % 4)) (has_busy_array g past n ((4 * ce + lun) % 4)) (has_busy_array g (i ∷ past) n ((4 * ce + lun) % 4)) (tells_failure (i ∷ past) n ((4 * ce + lun) % 4)) (rising_from l l) n ((4 * ce + lun) % 4) ≡ Some i) (sym target)
-              (subst (λ (n : ℕ). ready_by (is_busy g past ce n) (is_busy g (i ∷ past) ce n) (has_busy_array g past ce n) (has_busy_array g (i ∷ past) ce n) (tells_failure (i ∷ past) ce n) (rising_from l l) ce n ≡ Some i) (sym which) is))
-          (λ none. absurd (false≢true (sym none ∙ ap (λ (n : ℕ). nat_lt n g.luns) which ∙ le-leb (suc lun) g.luns k)))
+      (λ there. subst (λ (n : ℕ). ready_by (is_busy g past n ((4 * ce + lun) % 4)) (is_busy g (i ∷ past) n ((4 * ce + lun) % 4)) (has_busy_array g past n ((4 * ce + lun) % 4)) (has_busy_array g (i ∷ past) n ((4 * ce + lun) % 4)) (tells_failure (i ∷ past) n ((4 * ce + lun) % 4)) (rising_from l l) n ((4 * ce + lun) % 4) ≡ Some i) (sym target)
+      (subst (λ (n : ℕ). ready_by (is_busy g past ce n) (is_busy g (i ∷ past) ce n) (has_busy_array g past ce n) (has_busy_array g (i ∷ past) ce n) (tells_failure (i ∷ past) ce n) (rising_from l l) ce n ≡ Some i) (sym which) is))
+      (λ none. absurd (false≢true (sym none ∙ ap (λ (n : ℕ). nat_lt n g.luns) which ∙ le-leb (suc lun) g.luns k)))
 
 failure_told : (past : List Item) (ce lun : ℕ) (fail : Bool) → tells_failure (Rdy ce lun fail ∷ past) ce lun ≡ fail
 failure_told past ce lun fail =
@@ -271,8 +268,8 @@ pub busy_settles : (g : Parts) (s : Sampler) (os : List Observed) (past : List I
 busy_settles g s os past l ce lun fail moves glitch four named b a =
     ready_settles g s os past l (Rdy ce lun fail) moves glitch four b a refl ce lun named.target named.within
     (ready_from g s os past l (Rdy ce lun fail) moves glitch four b a refl ce lun named.target named.within
-        (ready_here (is_busy g past ce lun) (is_busy g (Rdy ce lun fail ∷ past) ce lun) (has_busy_array g past ce lun) (has_busy_array g (Rdy ce lun fail ∷ past) ce lun) (tells_failure (Rdy ce lun fail ∷ past) ce lun) (rising_from l l) ce lun fail
-            named.works (moves.busy ce lun named.target named.within named.works ∙ ap not (itself ce lun)) (failure_told past ce lun fail)))
+    (ready_here (is_busy g past ce lun) (is_busy g (Rdy ce lun fail ∷ past) ce lun) (has_busy_array g past ce lun) (has_busy_array g (Rdy ce lun fail ∷ past) ce lun) (tells_failure (Rdy ce lun fail ∷ past) ce lun) (rising_from l l) ce lun fail
+    named.works (moves.busy ce lun named.target named.within named.works ∙ ap not (itself ce lun)) (failure_told past ce lun fail)))
     (others ce lun) (λ n ne. refl)
 
 -- and that of an array
@@ -281,6 +278,6 @@ pub array_settles : (g : Parts) (s : Sampler) (os : List Observed) (past : List 
 array_settles g s os past l ce lun moves glitch four named b a =
     ready_settles g s os past l (Ard ce lun) moves glitch four b a refl ce lun named.target named.within
     (ready_from g s os past l (Ard ce lun) moves glitch four b a refl ce lun named.target named.within
-        (array_here (is_busy g past ce lun) (is_busy g (Ard ce lun ∷ past) ce lun) (has_busy_array g past ce lun) (has_busy_array g (Ard ce lun ∷ past) ce lun) (tells_failure (Ard ce lun ∷ past) ce lun) (rising_from l l) ce lun
-            (array_alone g past ce lun named.works) named.works (moves.array ce lun named.target named.within refl named.works ∙ ap not (itself ce lun)) (stays l)))
+    (array_here (is_busy g past ce lun) (is_busy g (Ard ce lun ∷ past) ce lun) (has_busy_array g past ce lun) (has_busy_array g (Ard ce lun ∷ past) ce lun) (tells_failure (Ard ce lun ∷ past) ce lun) (rising_from l l) ce lun
+    (array_alone g past ce lun named.works) named.works (moves.array ce lun named.target named.within refl named.works ∙ ap not (itself ce lun)) (stays l)))
     (λ n ne. refl) (others ce lun)

@@ -1,22 +1,12 @@
 -- What is seen where the levels before become those after.
-use Rattle.std.proofs.Common.{◌≡◌, ℕ, zero, suc, ◌+◌, ◌-◌, ◌*◌, ◌/◌, ◌%◌, ◌<◌, ◌≤◌, ◌==◌, ◌&&◌, Bool, true, false, cond, not, List, [], ◌∷◌, ◌++◌, Option, Some, None, Ok, Result, refl, sym, ap, ◌∙◌, subst, arith, append_assoc, append-nil}
-use Rattle.std.specs.Prelude.{nat_lt}
-use Rattle.std.proofs.lemmas.Bool.{eqb-true, eqb-false, lt-leb, false≢true}
-use Rattle.nand_geometry.specs.declared.parts.Parts.{Parts}
-use Rattle.onfi_cycle.specs.declared.item.Cycle.{Cycle}
-use Rattle.onfi_cycle.specs.declared.item.Kind.{Kind}
+use Rattle.std.proofs.Common.{◌≡◌, ℕ, zero, suc, ◌+◌, ◌-◌, ◌*◌, ◌/◌, ◌%◌, ◌<◌, ◌≤◌, ◌==◌, ◌&&◌, Bool, true, false, cond, not, List, [], ◌∷◌, ◌++◌, Option, Some, None, Ok, Result, refl, sym, ap, ◌∙◌, arith, append_assoc, append-nil}
+use Rattle.std.proofs.lemmas.Bool.{eqb-true, eqb-false, lt-leb}
 use Rattle.onfi_cycle.specs.declared.item.Item.{Item}
-use Rattle.onfi_cycle.specs.declared.item.Item.TheVariants.{Cyc, Rdy, Ard}
-use Rattle.bus_lines.specs.declared.lines.Lines.{Lines}
-use Rattle.trace_wave.specs.Levels.{is_at, is_busy, has_busy_array, tells_failure}
 use Rattle.vcd_text.specs.declared.tokens.Level.{Level}
-use Rattle.vcd_text.specs.declared.tokens.Level.TheVariants.{Low, High, Unknown}
-use Rattle.vcd_text.specs.Tokens.{◌>>=◌}
-use Rattle.bus_signals.specs.declared.role.Role.{Role}
-use Rattle.bus_signals.specs.declared.role.Role.TheVariants.{Enable, Cle, Ale, We, Re, Dq, ReadyBusy, Busy, ArrayBusy, Failed}
+use Rattle.bus_signals.specs.declared.role.Role.TheVariants.{ReadyBusy}
 use Rattle.bus_capture.specs.declared.fault.BusFault.{BusFault}
 use Rattle.bus_capture.specs.declared.sampling.Seen.{Seen}
-use Rattle.bus_capture.specs.declared.sampling.Seen.TheVariants.{Nothing, Sampled}
+use Rattle.bus_capture.specs.declared.sampling.Seen.TheVariants.{Nothing}
 use Rattle.bus_capture.specs.declared.sampling.Strobe.{Strobe}
 use Rattle.bus_capture.specs.declared.sampling.Strobe.TheVariants.{Write, Read}
 use Rattle.bus_capture.specs.declared.sampler.Observation.{Observation}
@@ -25,9 +15,9 @@ use Rattle.bus_capture.specs.declared.sampler.Observed.{Observed}
 use Rattle.bus_capture.specs.declared.sampler.Sampler.{Sampler}
 use Rattle.bus_capture.specs.declared.sampler.Strobing.{Strobing}
 use Rattle.bus_capture.specs.declared.inferring.Stamped.{Stamped}
-use Rattle.bus_capture.specs.Sampling.{level, enabled_from, with_enable, cycle_of, cycle_if, kind_of, byte_of, apart, other_line, line_of, rises, is_lost, seen_of, lost_if, item_of, is_short, falls, is_low, is_high, strobe_rises, array_is_done, ready_of}
-use Rattle.bus_capture.specs.Capturing.{with_item, with_release, with_releases, with_readies, with_seen, strobe_seen, settled, unknown, unknown_from}
-use Rattle.capture_laws.proofs.Standing.{lv, Stands}
+use Rattle.bus_capture.specs.Sampling.{level, enabled_from, cycle_of, line_of, rises, is_lost, seen_of, item_of, is_short, ready_of}
+use Rattle.bus_capture.specs.Capturing.{with_item, with_release, with_releases, with_readies, with_seen, strobe_seen, settled}
+use Rattle.capture_laws.proofs.Standing.{lv}
 
 -- ---- 1. the items among what is seen
 

@@ -1,5 +1,5 @@
 -- The levels of a capture that shows what is drawn, line by line.
-use Rattle.std.proofs.Common.{◌≡◌, ℕ, zero, suc, ◌+◌, ◌-◌, ◌*◌, ◌/◌, ◌%◌, ◌<◌, ◌≤◌, ◌==◌, Bool, true, false, cond, not, List, [], ◌∷◌, ◌++◌, length, get_or, Option, Some, None, Ok, Result, refl, sym, ap, ◌∙◌, subst, arith, append_assoc}
+use Rattle.std.proofs.Common.{◌≡◌, ℕ, zero, suc, ◌+◌, ◌-◌, ◌*◌, ◌/◌, ◌%◌, ◌<◌, ◌≤◌, ◌==◌, Bool, true, false, cond, not, List, ◌∷◌, ◌++◌, length, get_or, Option, Some, Ok, Result, refl, ap, ◌∙◌, arith, append_assoc}
 use Rattle.std.specs.Prelude.{nat_lt}
 use Rattle.std.proofs.lemmas.Bool.{eqb-true, agree_below_at, leb-true}
 use Rattle.std.proofs.lemmas.List.{get_or-append-add}
@@ -164,10 +164,10 @@ byte_is : (xs : List Level) (b : ℕ) → b < 256 → IsBit xs 7 b 128 → IsBit
     byte_of xs ≡ Ok b
 byte_is xs b few h7 h6 h5 h4 h3 h2 h1 h0 =
     let at : (n weight : ℕ) → IsBit xs n b weight → weighed (level xs (Dq n)) weight ≡ Ok (worth b weight) =
-        λ n weight h. ap (λ (x : Level). weighed x weight) h ∙ weighed_lv (is_odd (b / weight)) weight in
+    λ n weight h. ap (λ (x : Level). weighed x weight) h ∙ weighed_lv (is_odd (b / weight)) weight in
     by (weighed (level xs (Dq 7)) 128) (weighed (level xs (Dq 6)) 64) (weighed (level xs (Dq 5)) 32) (weighed (level xs (Dq 4)) 16)
-       (weighed (level xs (Dq 3)) 8) (weighed (level xs (Dq 2)) 4) (weighed (level xs (Dq 1)) 2) (weighed (level xs (Dq 0)) 1)
-       (at 7 128 h7) (at 6 64 h6) (at 5 32 h5) (at 4 16 h4) (at 3 8 h3) (at 2 4 h2) (at 1 2 h1) (at 0 1 h0)
+    (weighed (level xs (Dq 3)) 8) (weighed (level xs (Dq 2)) 4) (weighed (level xs (Dq 1)) 2) (weighed (level xs (Dq 0)) 1)
+    (at 7 128 h7) (at 6 64 h6) (at 5 32 h5) (at 4 16 h4) (at 3 8 h3) (at 2 4 h2) (at 1 2 h1) (at 0 1 h0)
     ∙ ap summed_as (total_is b few)
   where
     by : (r7 r6 r5 r4 r3 r2 r1 r0 : Result ℕ BusFault) → r7 ≡ Ok (worth b 128) → r6 ≡ Ok (worth b 64) → r5 ≡ Ok (worth b 32) → r4 ≡ Ok (worth b 16) → r3 ≡ Ok (worth b 8) → r2 ≡ Ok (worth b 4) → r1 ≡ Ok (worth b 2) → r0 ≡ Ok (worth b 1) →
@@ -215,7 +215,7 @@ module _ (g : Parts) (targets : ℕ) (xs : List Level) (past : List Item) (rule 
   lun_line role part ce lun b none small h k few is e =
       line_at role (busy_code g.luns targets ce lun + part) few is
       ∙ ap shown_bit (told_at g targets past rule l part ce lun (busy_code g.luns targets ce lun + part) small h (leb-true (suc lun) g.luns k) refl
-        ∙ ap (λ (n : ℕ). told (n == 0) g past part ce lun) none ∙ e)
+      ∙ ap (λ (n : ℕ). told (n == 0) g past part ce lun) none ∙ e)
       ∙ bit_shown b
 
   pub stands : rule ≡ 0 → targets ≤ 4 → Stands g targets xs past l
@@ -229,10 +229,10 @@ module _ (g : Parts) (targets : ℕ) (xs : List Level) (past : List Item) (rule 
         let same : 0 + n ≡ n = omega arith in
         line_at (Enable n) (33 + n) (omega (arith, within, few)) (fit.enable n within)
         ∙ ap shown_bit (
-            ap (λ (ys : List ℕ). get_or ys (33 + n - 33) 0) (append_assoc (enables l.enabled targets 0) (bit l.cle ∷ (bit l.ale ∷ (bit l.we ∷ (bit l.re ∷ dq_bits l.dq)))) (model_levels g targets past rule))
-            ∙ ap (λ (m : ℕ). get_or (enables l.enabled targets 0 ++ after_enables g targets past rule l l.dq) m 0) place
-            ∙ enable_at l.enabled targets 0 n (after_enables g targets past rule l l.dq) within
-            ∙ ap (λ (m : ℕ). bit (not (is_at l.enabled m))) same)
+        ap (λ (ys : List ℕ). get_or ys (33 + n - 33) 0) (append_assoc (enables l.enabled targets 0) (bit l.cle ∷ (bit l.ale ∷ (bit l.we ∷ (bit l.re ∷ dq_bits l.dq)))) (model_levels g targets past rule))
+        ∙ ap (λ (m : ℕ). get_or (enables l.enabled targets 0 ++ after_enables g targets past rule l l.dq) m 0) place
+        ∙ enable_at l.enabled targets 0 n (after_enables g targets past rule l l.dq) within
+        ∙ ap (λ (m : ℕ). bit (not (is_at l.enabled m))) same)
         ∙ bit_shown (not (is_at l.enabled n));
     byte = λ b is small. byte_is xs b small
         (dq_line 7 4 b 128 (omega arith) refl (driven b is 4)) (dq_line 6 5 b 64 (omega arith) refl (driven b is 5)) (dq_line 5 6 b 32 (omega arith) refl (driven b is 6)) (dq_line 4 7 b 16 (omega arith) refl (driven b is 7))

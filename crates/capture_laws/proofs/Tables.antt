@@ -1,10 +1,9 @@
 -- Where each line of a bus stands, for each number of targets and LUNs.
-use Rattle.std.proofs.Common.{◌≡◌, ℕ, zero, suc, ◌+◌, ◌-◌, ◌*◌, ◌/◌, ◌%◌, ◌<◌, ◌≤◌, ◌==◌, Bool, true, false, cond, ◌&&◌, List, [], ◌∷◌, ◌++◌, Option, Some, None, refl, sym, ap, ◌∙◌, subst, arith}
+use Rattle.std.proofs.Common.{◌≡◌, ℕ, zero, suc, ◌+◌, ◌-◌, ◌*◌, ◌/◌, ◌%◌, ◌<◌, ◌≤◌, ◌==◌, Bool, true, false, ◌&&◌, Option, Some, None, refl, sym, ap, ◌∙◌, arith}
 use Rattle.std.specs.Prelude.{nat_lt}
 use Rattle.std.proofs.lemmas.Bool.{eqb-true, eqb-false, and_parts, false≢true}
 use Rattle.bus_signals.specs.declared.role.Role.{Role}
-use Rattle.bus_signals.specs.declared.role.Role.TheVariants.{Enable, Cle, Ale, We, Re, Dq, ReadyBusy, Busy, ArrayBusy, Failed}
-use Rattle.bus_signals.specs.declared.source.Source.{Source}
+use Rattle.bus_signals.specs.declared.role.Role.TheVariants.{Enable, Busy, ArrayBusy, Failed}
 use Rattle.bus_signals.specs.Roles.{place_of}
 use Rattle.wave_laws.specs.Lines.{lines_of}
 use Rattle.wave_laws.specs.Readies.{busy_code}
@@ -87,12 +86,12 @@ pub fits : (targets luns : ℕ) → 1 ≤ targets → targets ≤ 4 → 1 ≤ lu
 fits targets luns some few some_luns few_luns =
     let at : (f : ℕ → ℕ → Bool) → all_sizes f ≡ true → f targets luns ≡ true = λ f h. size_at f h targets luns some few some_luns few_luns in
     let code : (place code : ℕ → ℕ) → all_sizes (λ t l. is_the (code_at (lines_of t l) (place t)) (code t)) ≡ true → code_at (lines_of targets luns) (place targets) ≡ Some (code targets) =
-        λ place code h. the_is (code_at (lines_of targets luns) (place targets)) (code targets) (at (λ t l. is_the (code_at (lines_of t l) (place t)) (code t)) h) in
+    λ place code h. the_is (code_at (lines_of targets luns) (place targets)) (code targets) (at (λ t l. is_the (code_at (lines_of t l) (place t)) (code t)) h) in
     let lun : (role : ℕ → ℕ → Role) (part : ℕ) → all_sizes (λ t l. all_below (of_lun role part t l) (4 * t)) ≡ true → (n : ℕ) → n < 4 * targets → of_lun role part targets luns n ≡ true =
-        λ role part h n few. below_at (of_lun role part targets luns) (4 * targets) n (at (λ t l. all_below (of_lun role part t l) (4 * t)) h) few in
+    λ role part h n few. below_at (of_lun role part targets luns) (4 * targets) n (at (λ t l. all_below (of_lun role part t l) (4 * t)) h) few in
     let there : (role : ℕ → ℕ → Role) (part : ℕ) → all_sizes (λ t l. all_below (of_lun role part t l) (4 * t)) ≡ true → (n : ℕ) → n < 4 * targets → nat_lt (n % 4) luns ≡ true →
-        code_at (lines_of targets luns) (place_of (role (n / 4) (n % 4))) ≡ Some (busy_code luns targets (n / 4) (n % 4) + part) =
-        λ role part h n few k. lun_is (nat_lt (n % 4) luns) (code_at (lines_of targets luns) (place_of (role (n / 4) (n % 4)))) (busy_code luns targets (n / 4) (n % 4) + part) (lun role part h n few) k in
+    code_at (lines_of targets luns) (place_of (role (n / 4) (n % 4))) ≡ Some (busy_code luns targets (n / 4) (n % 4) + part) =
+    λ role part h n few k. lun_is (nat_lt (n % 4) luns) (code_at (lines_of targets luns) (place_of (role (n / 4) (n % 4)))) (busy_code luns targets (n / 4) (n % 4) + part) (lun role part h n few) k in
     record {
       apart = at (λ t l. are_apart (lines_of t l)) refl;
       among = λ p few. below_at (λ p. is_among (code_at (lines_of targets luns) p) (line_count targets luns)) 68 p (at (λ t l. all_below (λ p. is_among (code_at (lines_of t l) p) (line_count t l)) 68) refl) few;
