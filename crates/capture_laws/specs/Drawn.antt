@@ -9,7 +9,7 @@ use Rattle.bus_capture.specs.declared.reading.Setup.{Setup}
 use Rattle.bus_capture.specs.declared.reading.CaptureForm.TheVariants.{Dump}
 use Rattle.bus_capture.specs.Inferring.{captured}
 
--- what a cycle carries is a byte
+-- what a cycle carries is a byte, as a `u8` always is
 abbrev pub carries_byte : Item → Bool
 carries_byte (Cyc c) = nat_lt c.byte 256
 carries_byte (Rdy _ _ _) = true
