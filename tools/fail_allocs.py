@@ -27,9 +27,9 @@ TESTS = [
 ]
 # The calls that have to answer out of memory in these tests, each at least once.
 TELLS = {
-    "call_tests::two_jobs_call_by_call": ["start", "turn", "ready", "finish"],
-    "call_tests::untimely_calls": ["start", "turn", "ready", "finish"],
-    "call_tests::refusals_come_before_memory": ["start", "turn", "ready", "finish"],
+    "call_tests::two_jobs_call_by_call": ["start", "turn", "finish"],
+    "call_tests::untimely_calls": ["start", "turn", "ready"],
+    "call_tests::refusals_come_before_memory": ["start", "turn"],
     "refusal_tests::each_refusal_loses_nothing": ["work"],
     "refusal_tests::another_goes_on_after_a_refusal": ["work of one of two workers"],
 }

@@ -392,9 +392,9 @@ const WORKED: [Line; 18] = [
     (Call::Unpark, Answer::NoLease),
 ];
 
-// Calls that come too early or too often; LUN 0 is polled four times, so that its ready is the ninth event and asks for memory; LUN 1
+// Calls that come too early or too often; LUN 0 is polled three times, so that its ready is the fifth event and asks for memory; LUN 1
 // fails, overtakes it and still ends with 0.
-const UNTIMELY: [Line; 22] = [
+const UNTIMELY: [Line; 21] = [
     (Call::Turn, Answer::NoLease),
     (Call::Start, Answer::Holds(0)),
     (Call::Finish, Answer::NotEnded),
@@ -403,7 +403,6 @@ const UNTIMELY: [Line; 22] = [
     (Call::Turn, SECOND_POLL),
     (Call::Finish, Answer::NotEnded),
     (Call::Turn, THIRD_POLL),
-    (Call::Turn, FOURTH_POLL),
     (READY_ZERO, YES),
     (READY_ZERO, NOT_BUSY),
     (Call::Park, Answer::Parked),
@@ -423,7 +422,6 @@ const UNTIMELY: [Line; 22] = [
 const UNTIMELY_TRACE: &str = "0 C 60\n0 A 00\n0 A 00\n0 A 00\n0 C d0\n\
     0 C 78\n0 A 00\n0 A 00\n0 A 00\n0 O 80\n\
     0 C 78\n0 A 00\n0 A 00\n0 A 00\n0 O 80\n\
-    0 C 78\n0 A 00\n0 A 00\n0 A 00\n0 O 80\n\
     0 C 78\n0 A 00\n0 A 00\n0 A 00\n0 O 80\n0 R 0 0\n\
     0 C 60\n0 A 20\n0 A 00\n0 A 00\n0 C d0\n\
     0 C 78\n0 A 20\n0 A 00\n0 A 00\n0 O 80\n0 R 1 1\n\
@@ -431,7 +429,7 @@ const UNTIMELY_TRACE: &str = "0 C 60\n0 A 00\n0 A 00\n0 A 00\n0 C d0\n\
     0 C 78\n0 A 00\n0 A 00\n0 A 00\n0 O e0\n";
 
 // Calls that are refused where each of them would ask for memory: the first ready comes before there is room for an event, the first end
-// before there is room for a job that is done, the array ready is the ninth event and the last refused end the seventeenth, and rooms
+// before there is room for a job that is done, the array ready would be the fifth event and the next refused end the ninth, and rooms
 // double.
 const REFUSED: [Line; 24] = [
     (READY_ZERO, NOT_BUSY),
@@ -440,15 +438,15 @@ const REFUSED: [Line; 24] = [
     (Call::Turn, FIRST_POLL),
     (Call::Turn, SECOND_POLL),
     (Call::Turn, THIRD_POLL),
-    (Call::Turn, FOURTH_POLL),
     (ARRAY_READY_ZERO, NOT_BUSY),
+    (Call::Turn, FOURTH_POLL),
     (READY_ZERO, YES),
     (Call::Park, Answer::Parked),
     (Call::Start, Answer::Holds(1)),
     (Call::Turn, FIRST_POLL),
+    (Call::Finish, Answer::NotEnded),
     (Call::Turn, SECOND_POLL),
     (Call::Turn, THIRD_POLL),
-    (Call::Finish, Answer::NotEnded),
     (READY_ONE, YES),
     (READY_ONE, NOT_BUSY),
     (Call::Turn, ENDED),
@@ -494,7 +492,7 @@ const UNTIMELY_SCRIPT: Script = Script {
     lines: &UNTIMELY,
     trace: UNTIMELY_TRACE,
     done: [(0, 1, ONE, 0), (0, 0, ZERO, 0)],
-    turns: 8,
+    turns: 7,
 };
 
 const REFUSED_SCRIPT: Script = Script {
