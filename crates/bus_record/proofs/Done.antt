@@ -15,8 +15,8 @@ use Rattle.onfi_cycle.specs.declared.tail_facts.TailFacts.{TailFacts}
 use Rattle.onfi_cycle.specs.declared.target_cycle.TargetCycle.{TargetCycle}
 use Rattle.onfi_cycle.specs.declared.target_cycle.TargetCycle.TheVariants.{CommandCycle, AddressCycle, InputCycle}
 use Rattle.onfi_cycle.specs.Applied.{one_after, luns_after_cycle}
-use Rattle.onfi_cycle.specs.Command.{closes_row, is_read_confirm}
-use Rattle.onfi_cycle.specs.Effect.{cycle_effect, address_effect, opening_address_effect, confirm_effect, other_effect, of_target, is_shared, status_effect, lun_reset_effect, reset_effect, ends_features, id_effect, is_off, names_lun}
+use Rattle.onfi_cycle.specs.Command.{closes_row, reads_row}
+use Rattle.onfi_cycle.specs.Effect.{cycle_effect, address_effect, opening_address_effect, confirm_effect, other_effect, of_target, is_shared, status_effect, lun_reset_effect, reset_effect, ends_features, id_effect, is_off, names_lun, row_effect, cache_effect}
 use Rattle.onfi_cycle.specs.Lun.{view_after}
 use Rattle.onfi_cycle.specs.LunView.{LunView}
 use Rattle.onfi_cycle.specs.Sequence.{row, row_with, wants_address, wants_command}
@@ -167,10 +167,10 @@ closer_left g t c vs closes is = at (wants_command t c) refl
     e = confirm_effect g t c
 
     other : Effect
-    other = AnotherAddressed (is_read_confirm c)
+    other = AnotherAddressed (reads_row c)
 
-    at : (b : Bool) → wants_command t c ≡ b → luns_left (cond b (on_named g lun e (is_read_confirm c)) Nothing) vs ≡ luns_after_cycle g t (has_driver vs) (CommandCycle c) 0 vs
-    at true w = work_left g t (CommandCycle c) lun e (is_read_confirm c) (λ s m. is s m ∙ closes_wanted (wants_command t c) (names_lun g (row t) m) (closes_row c) (is_shared g) e other w closes) vs
+    at : (b : Bool) → wants_command t c ≡ b → luns_left (cond b (on_named g lun e (reads_row c)) Nothing) vs ≡ luns_after_cycle g t (has_driver vs) (CommandCycle c) 0 vs
+    at true w = work_left g t (CommandCycle c) lun e (reads_row c) (λ s m. is s m ∙ closes_wanted (wants_command t c) (names_lun g (row t) m) (closes_row c) (is_shared g) e other w closes) vs
     at false w = nothing_left g t (CommandCycle c) (λ s m. is s m ∙ closes_nothing (wants_command t c) (names_lun g (row t) m) (closes_row c) (is_shared g) e other w closes) (has_driver vs) 0 vs
 
 always_rests : (b : Bool) → cond b Unaffected Unaffected ≡ Unaffected
@@ -189,13 +189,24 @@ column_left g t vs = at (wants_command t ChangeReadColumnConfirm) refl
     at true w = driver_left g t (CommandCycle ChangeReadColumnConfirm) (ReadColumnChanged t.column) (λ s m. ap (λ (b : Bool). cond (b && not (is_off s)) (ReadColumnChanged t.column) Unaffected) w ∙ drives s (ReadColumnChanged t.column)) (has_driver vs) vs
     at false w = nothing_left g t (CommandCycle ChangeReadColumnConfirm) (λ s m. ap (λ (b : Bool). cond (b && not (is_off s)) (ReadColumnChanged t.column) Unaffected) w) (has_driver vs) 0 vs
 
+-- a 31, which works on the row that wants it, or on the driver
+cache_read_left : (g : Parts) (t : TailFacts) (vs : List LunView) → luns_left (effect_of_command g t ReadCacheSequential) vs ≡ luns_after_cycle g t (has_driver vs) (CommandCycle ReadCacheSequential) 0 vs
+cache_read_left g t vs = at (wants_command t ReadCacheSequential) refl
+  where
+    chosen : (w : Bool) → wants_command t ReadCacheSequential ≡ w → (s : Latch) (m : ℕ) → cycle_effect g t s (CommandCycle ReadCacheSequential) m ≡ cond w (row_effect g t ReadCacheSequential m) (cache_effect s)
+    chosen w e s m = ap (λ (b : Bool). cond b (row_effect g t ReadCacheSequential m) (cache_effect s)) e
+
+    at : (b : Bool) → wants_command t ReadCacheSequential ≡ b → luns_left (cond b (effect_of_closer g t ReadCacheSequential) (OnDriver (CacheReadContinued None))) vs ≡ luns_after_cycle g t (has_driver vs) (CommandCycle ReadCacheSequential) 0 vs
+    at true w = closer_left g t ReadCacheSequential vs refl (chosen true w)
+    at false w = driver_left g t (CommandCycle ReadCacheSequential) (CacheReadContinued None) (chosen false w) (has_driver vs) vs
+
 pub command_left : (g : Parts) (t : TailFacts) (c : Command) (vs : List LunView) → luns_left (effect_of_command g t c) vs ≡ luns_after_cycle g t (has_driver vs) (CommandCycle c) 0 vs
 command_left g t Read vs = each_left g t (CommandCycle Read) DataOutputEnabled (λ s m. refl) (has_driver vs) 0 vs
 command_left g t ReadStatus vs = each_left g t (CommandCycle ReadStatus) (status_effect g) (λ s m. refl) (has_driver vs) 0 vs
 command_left g t ReadStatusEnhanced vs = each_left g t (CommandCycle ReadStatusEnhanced) StatusRowAwaited (λ s m. refl) (has_driver vs) 0 vs
 command_left g t Reset vs = resets_left g t (CommandCycle Reset) (λ s m. refl) vs
 command_left g t SynchronousReset vs = resets_left g t (CommandCycle SynchronousReset) (λ s m. refl) vs
-command_left g t ReadCacheSequential vs = driver_left g t (CommandCycle ReadCacheSequential) CacheReadContinued (λ s m. refl) (has_driver vs) vs
+command_left g t ReadCacheSequential vs = cache_read_left g t vs
 command_left g t ReadCacheEnd vs = driver_left g t (CommandCycle ReadCacheEnd) CacheReadEnded (λ s m. refl) (has_driver vs) vs
 command_left g t ChangeReadColumnConfirm vs = column_left g t vs
 command_left g t ReadConfirm vs = closer_left g t ReadConfirm vs refl (λ s m. refl)

@@ -8,7 +8,7 @@ use Rattle.onfi_cycle.specs.declared.effect.Effect.{Effect}
 use Rattle.onfi_cycle.specs.declared.effect.Effect.TheVariants.{DataOutputEnabled, StatusSelected, StatusRowAwaited, SelectedForStatus, Deselected, IdRead, UniqueIdReadStarted, FeaturesReadStarted, FeaturesSet, ParameterPageReadStarted, CacheReadContinued, CacheReadEnded, ResetStarted, TargetResetStarted, AnotherAddressed, ReadColumnChanged}
 use Rattle.onfi_cycle.specs.declared.opening.Opening.{Opening}
 use Rattle.onfi_cycle.specs.declared.tail_facts.TailFacts.{TailFacts}
-use Rattle.onfi_cycle.specs.Command.{is_read_confirm}
+use Rattle.onfi_cycle.specs.Command.{reads_row}
 use Rattle.onfi_cycle.specs.Applied.{one_after}
 use Rattle.onfi_cycle.specs.Effect.{is_shared, status_effect, confirm_effect, id_effect, ends_features, is_off}
 use Rattle.onfi_cycle.specs.Lun.{view_after}
@@ -65,10 +65,15 @@ abbrev pub effect_of_status : Parts → TargetEffect
 effect_of_status g = OnEach (status_effect g)
 
 abbrev pub effect_of_closer : Parts → TailFacts → Command → TargetEffect
-effect_of_closer g t c = if wants_command t c then on_named g (parts_of g (row t)).lun (confirm_effect g t c) (is_read_confirm c) else Nothing
+effect_of_closer g t c = if wants_command t c then on_named g (parts_of g (row t)).lun (confirm_effect g t c) (reads_row c) else Nothing
 
 abbrev pub effect_of_column_confirm : TailFacts → TargetEffect
 effect_of_column_confirm t = if wants_command t ChangeReadColumnConfirm then OnDriver (ReadColumnChanged t.column) else Nothing
+
+-- a 31 works on the row of the tail where that wants it, and else on the one driver
+abbrev pub effect_of_cache_read : Parts → TailFacts → TargetEffect
+effect_of_cache_read g t =
+    if wants_command t ReadCacheSequential then effect_of_closer g t ReadCacheSequential else OnDriver (CacheReadContinued None)
 
 abbrev pub effect_of_command : Parts → TailFacts → Command → TargetEffect
 effect_of_command g t Read = OnEach DataOutputEnabled
@@ -76,7 +81,7 @@ effect_of_command g t ReadStatus = effect_of_status g
 effect_of_command g t ReadStatusEnhanced = OnEach StatusRowAwaited
 effect_of_command g t Reset = effect_of_reset g
 effect_of_command g t SynchronousReset = effect_of_reset g
-effect_of_command g t ReadCacheSequential = OnDriver CacheReadContinued
+effect_of_command g t ReadCacheSequential = effect_of_cache_read g t
 effect_of_command g t ReadCacheEnd = OnDriver CacheReadEnded
 effect_of_command g t ChangeReadColumnConfirm = effect_of_column_confirm t
 effect_of_command g t ReadConfirm = effect_of_closer g t ReadConfirm

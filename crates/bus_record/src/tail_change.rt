@@ -2,11 +2,18 @@
 ghost use Rattle.std.specs.Prelude.{◌≡◌, ◌==◌, ◌&&◌, true, false, IfSome, ℕ, ◌^◌, ◌<◌, ◌≤◌};
 ghost use Rattle.onfi_cycle.specs.declared.target_cycle.TargetCycle.{TargetCycle as TargetCycleValue};
 ghost use Rattle.onfi_cycle.specs.Command.{command, is_page_program, is_set_features};
-ghost use Rattle.onfi_cycle.specs.Sequence.{column_after_address, facts_after, next_column_place, opened, phase_after_address, phase_after_input};
+ghost use Rattle.onfi_cycle.specs.Sequence.{begins_anew, column_after_address, facts_after, next_column_place, opened, phase_after_address, phase_after_input};
 ghost use Rattle.target_record.specs.Record.{is_set, phase_of, tail_of};
 
 use onfi_cycle::{Command, FEATURE_BYTES};
-use target_record::{OnfiseqTarget, is_set, opening_of};
+use target_record::{OnfiseqTarget, is_set, opening_of, wants_command};
+
+// A tail begins anew with this command: with an opener, but not with a 31h that it wants.
+fn begins_anew(kept: &OnfiseqTarget, named: Command) -> bool
+    ensures { result ≡ begins_anew (tail_of kept.now) (TargetCycleValue.CommandCycle named) }
+{
+    named.is_opener() && !(named == Command::ReadCacheSequential && wants_command(kept, named))
+}
 
 /// The facts of its tail after the command of a byte.
 #[inline(always)]
@@ -18,7 +25,7 @@ pub(crate) fn note_command(kept: &mut OnfiseqTarget, byte: u8, named: Command)
     ensures luns { kept.new.luns ≡ kept.old.luns }
     ensures count { kept.new.count ≡ kept.old.count }
 {
-    if named.is_opener() {
+    if begins_anew(kept, named) {
         kept.is_open = 1;
         kept.opener = byte;
         kept.phase = 0;

@@ -1,9 +1,8 @@
 //! What a command or an address does to the LUNs of its target.
 ghost use Rattle.std.specs.Prelude.{◌≡◌};
 ghost use Rattle.nand_geometry.specs.Limits.{InLimits};
-ghost use Rattle.onfi_cycle.specs.Command.{is_read_confirm};
 ghost use Rattle.onfi_cycle.specs.Effect.{confirm_effect, id_effect};
-ghost use Rattle.bus_record.specs.Changing.{effect_of_status, effect_of_reset, effect_of_target, on_named, effect_of_closer, effect_of_column_confirm, effect_of_command, selection, reset_of_lun, effect_of_input, effect_of_identity, effect_of_address};
+ghost use Rattle.bus_record.specs.Changing.{effect_of_status, effect_of_reset, effect_of_target, on_named, effect_of_closer, effect_of_cache_read, effect_of_column_confirm, effect_of_command, selection, reset_of_lun, effect_of_input, effect_of_identity, effect_of_address};
 ghost use Rattle.target_record.specs.Geometry.{parts_of};
 ghost use Rattle.target_record.specs.Record.{tail_of};
 
@@ -48,6 +47,7 @@ fn confirm_effect(geometry: &Geometry, kept: &OnfiseqTarget, named: Command) -> 
             page,
             column: kept.column,
         },
+        Command::ReadCacheSequential => Effect::CacheReadContinued { to: Some(page) },
         Command::BlockEraseConfirm => Effect::EraseStarted {
             queued: false,
             row: page,
@@ -80,13 +80,6 @@ fn on_named(geometry: &OnfiseqGeometry, lun: u32, effect: Effect, reads: bool) -
     }
 }
 
-// The command closes a read of a page.
-fn is_read_confirm(named: Command) -> bool
-    ensures { result ≡ is_read_confirm named }
-{
-    matches!(named, Command::ReadConfirm)
-}
-
 // What the closer of a row does.
 #[inline(never)]
 fn effect_of_closer(
@@ -103,7 +96,7 @@ fn effect_of_closer(
     let known = geometry.known();
     let lun = known.parts_of(tail_of(kept).named_row()).lun;
     let effect = confirm_effect(&known, kept, named);
-    on_named(geometry, lun, effect, is_read_confirm(named))
+    on_named(geometry, lun, effect, named.reads_row())
 }
 
 // What FFh or FCh does.
@@ -160,6 +153,18 @@ fn effect_of_column_confirm(kept: &OnfiseqTarget) -> TargetEffect
     }
 }
 
+// What 31h does: it works on the row of the tail where that wants it, and else on the one driver.
+fn effect_of_cache_read(geometry: &OnfiseqGeometry, kept: &OnfiseqTarget) -> TargetEffect
+    requires { InLimits (parts_of geometry.now) }
+    ensures { result ≡ effect_of_cache_read (parts_of geometry.now) (tail_of kept.now) }
+{
+    if wants_command(kept, Command::ReadCacheSequential) {
+        effect_of_closer(geometry, kept, Command::ReadCacheSequential)
+    } else {
+        TargetEffect::OnDriver(Effect::CacheReadContinued { to: None })
+    }
+}
+
 /// What a command does.
 #[inline(always)]
 pub(crate) fn effect_of_command(
@@ -175,7 +180,7 @@ pub(crate) fn effect_of_command(
         Command::ReadStatus => effect_of_status(geometry),
         Command::ReadStatusEnhanced => TargetEffect::OnEach(Effect::StatusRowAwaited),
         Command::Reset | Command::SynchronousReset => effect_of_reset(geometry),
-        Command::ReadCacheSequential => TargetEffect::OnDriver(Effect::CacheReadContinued),
+        Command::ReadCacheSequential => effect_of_cache_read(geometry, kept),
         Command::ReadCacheEnd => TargetEffect::OnDriver(Effect::CacheReadEnded),
         Command::ChangeReadColumnConfirm => effect_of_column_confirm(kept),
         Command::ReadConfirm

@@ -47,7 +47,7 @@ queue_begun w.Parameters closed queue h = rw (h refl) refl
 queue_begun w.UniqueId closed queue h = rw (h refl) refl
 queue_begun (w.Features address) closed queue h = rw (h refl) refl
 queue_begun (w.SetFeatures address) closed queue h = rw (h refl) refl
-queue_begun w.Cache closed queue h = rw (h refl) refl
+queue_begun (w.Cache to) closed queue h = rw (h refl) refl
 queue_begun w.CacheEnd closed queue h = rw (h refl) refl
 
 abbrev pub taken : Parts → List (List ℕ) → Work → List ℕ
@@ -68,7 +68,7 @@ queued_begun g registers w.Parameters closed queue h = rw (h refl) refl
 queued_begun g registers w.UniqueId closed queue h = rw (h refl) refl
 queued_begun g registers (w.Features address) closed queue h = rw (h refl) refl
 queued_begun g registers (w.SetFeatures address) closed queue h = rw (h refl) refl
-queued_begun g registers w.Cache closed queue h = rw (h refl) refl
+queued_begun g registers (w.Cache to) closed queue h = rw (h refl) refl
 queued_begun g registers w.CacheEnd closed queue h = rw (h refl) refl
 
 pub pending_begun : (g : Parts) (registers : List (List ℕ)) (work : Work) (closed : Bool) (queue : List Queued) → (is_reset work ≡ false → closed ≡ false) → works_of g registers (cond (closes work) (queue_with work queue) []) ≡ pending_work_after (effect_of work) (taken g registers work) (works_of g registers (cond closed [] queue)) (works_of g registers (cond closed queue []))
@@ -84,7 +84,7 @@ pending_begun g registers w.Parameters closed queue h = refl
 pending_begun g registers w.UniqueId closed queue h = refl
 pending_begun g registers (w.Features address) closed queue h = refl
 pending_begun g registers (w.SetFeatures address) closed queue h = refl
-pending_begun g registers w.Cache closed queue h = refl
+pending_begun g registers (w.Cache to) closed queue h = refl
 pending_begun g registers w.CacheEnd closed queue h = refl
 
 -- 2. pages and failure stay
@@ -102,7 +102,7 @@ content_begun g w.Parameters q p old = refl
 content_begun g w.UniqueId q p old = refl
 content_begun g (w.Features address) q p old = refl
 content_begun g (w.SetFeatures address) q p old = refl
-content_begun g w.Cache q p old = refl
+content_begun g (w.Cache to) q p old = refl
 content_begun g w.CacheEnd q p old = refl
 
 pub failed_begun : (work : Work) (q : List ArrayWork) (b : Bool) → failed_after (effect_of work) q b ≡ b
@@ -118,7 +118,7 @@ failed_begun w.Parameters q b = refl
 failed_begun w.UniqueId q b = refl
 failed_begun (w.Features address) q b = refl
 failed_begun (w.SetFeatures address) q b = refl
-failed_begun w.Cache q b = refl
+failed_begun (w.Cache to) q b = refl
 failed_begun w.CacheEnd q b = refl
 
 -- a page is kept that is read as before
@@ -187,7 +187,7 @@ kept_begun len w.Parameters old new queue k h = still len (page_to_keep w.Parame
 kept_begun len w.UniqueId old new queue k h = still len (page_to_keep w.UniqueId) old new k queue h
 kept_begun len (w.Features address) old new queue k h = still len (page_to_keep (w.Features address)) old new k queue h
 kept_begun len (w.SetFeatures address) old new queue k h = still len (page_to_keep (w.SetFeatures address)) old new k queue h
-kept_begun len w.Cache old new queue k h = still len (page_to_keep w.Cache) old new k queue h
+kept_begun len (w.Cache to) old new queue k h = still len (page_to_keep (w.Cache to)) old new k queue h
 kept_begun len w.CacheEnd old new queue k h = still len (page_to_keep w.CacheEnd) old new k queue h
 
 all_erases : (g : Parts) (at : PageAddress) (queue : List Queued) → some_queued_clashes g true at queue ≡ false → are_erases queue ≡ true
@@ -213,7 +213,7 @@ alike_begun g w.Parameters queue t h = h
 alike_begun g w.UniqueId queue t h = h
 alike_begun g (w.Features address) queue t h = h
 alike_begun g (w.SetFeatures address) queue t h = h
-alike_begun g w.Cache queue t h = h
+alike_begun g (w.Cache to) queue t h = h
 alike_begun g w.CacheEnd queue t h = h
 
 closes_busy : (work : Work) (busy : Bool) → closes work ≡ true → busy_after (effect_of work) busy ≡ true
@@ -239,7 +239,7 @@ row_to_keep g w.Parameters h = refl
 row_to_keep g w.UniqueId h = refl
 row_to_keep g (w.Features address) h = refl
 row_to_keep g (w.SetFeatures address) h = refl
-row_to_keep g w.Cache h = refl
+row_to_keep g (w.Cache to) h = refl
 row_to_keep g w.CacheEnd h = refl
 
 goes_on : (g : Parts) (work : Work) (closed : Bool) (queue : List Queued) → (is_reset work ≡ false → closed ≡ false) → goes_with g work (cond closed [] queue) ≡ true → goes_with g work queue ≡ true
@@ -251,7 +251,7 @@ goes_on g w.Parameters closed queue h t = refl
 goes_on g w.UniqueId closed queue h t = refl
 goes_on g (w.Features address) closed queue h t = refl
 goes_on g (w.SetFeatures address) closed queue h t = refl
-goes_on g w.Cache closed queue h t = refl
+goes_on g (w.Cache to) closed queue h t = refl
 goes_on g w.CacheEnd closed queue h t = refl
 goes_on g (w.Program at) closed queue h t = sym (ap (λ (b : Bool). goes_with g (w.Program at) (cond b [] queue)) (h refl)) ∙ t
 goes_on g (w.Erase at) closed queue h t = sym (ap (λ (b : Bool). goes_with g (w.Erase at) (cond b [] queue)) (h refl)) ∙ t
@@ -334,7 +334,7 @@ taken_is d w.Parameters = refl
 taken_is d w.UniqueId = refl
 taken_is d (w.Features address) = refl
 taken_is d (w.SetFeatures address) = refl
-taken_is d w.Cache = refl
+taken_is d (w.Cache to) = refl
 taken_is d w.CacheEnd = refl
 
 -- 5. the page that stands ready

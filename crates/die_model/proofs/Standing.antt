@@ -25,7 +25,7 @@ use Rattle.onfi_cycle.specs.declared.target_cycle.TargetCycle.{TargetCycle}
 use Rattle.onfi_cycle.specs.declared.target_cycle.TargetCycle.TheVariants.{CommandCycle, AddressCycle, InputCycle, OutputCycle}
 use Rattle.onfi_cycle.specs.Sequence.{opened, row_bytes, row_after_address, tail, with_cycle, begins_sequence, is_nil, input_column, opening, data_phase, phase_after_address, row_with, facts_of, filled, row, target_cycle, wants_command, wants_address, takes_data, wants_column}
 use Rattle.onfi_cycle.specs.Bounds.{names_program}
-use Rattle.onfi_cycle.specs.Effect.{is_shared, acts_for_target, of_target, other_effect, lun_reset_effect, names_lun, page_address, is_off, is_data, confirm_effect, command_effect, opening_address_effect, address_effect, cycle_effect, id_effect, ends_features, input_effect}
+use Rattle.onfi_cycle.specs.Effect.{is_shared, acts_for_target, of_target, other_effect, lun_reset_effect, names_lun, page_address, is_off, is_data, confirm_effect, command_effect, opening_address_effect, address_effect, cycle_effect, id_effect, ends_features, input_effect, row_effect, cache_effect}
 use Rattle.onfi_cycle.specs.Lun.{luns_of, effect_on, latch_alone, is_busy, busy_after, is_caching, is_cache_read, closer, closer_after, is_array_busy, array_busy_after, array_page, array_page_after, register, register_after, queue, queue_after, lun_view, effect_among}
 use Rattle.onfi_cycle.specs.Content.{ArrayWork, ProgramsPage, queued_work, queued_work_after, pending_work, pending_work_after, has_failed, failed_after, content, content_after}
 use Rattle.onfi_cycle.specs.Permitted.{broken}
@@ -37,7 +37,7 @@ use Rattle.onfi_cycle.specs.Filling.{cycle_filling, filling, filled_by}
 use Rattle.die_model.specs.Standing.{HasBytes, IsFilling, IsDieOf, WorkedBy, RowsFit, DiesGoOn}
 use Rattle.onfi_cycle.specs.declared.data_phase.DataPhase.{DataPhase}
 use Rattle.onfi_cycle.specs.declared.data_phase.DataPhase.TheVariants.{Outside, Inputs, FirstColumn, SecondColumn, FeatureInputs}
-use Rattle.onfi_cycle.specs.Command.{closes_row, is_read_confirm, is_page_program, at_last_row, addresses_the_array, is_set_features}
+use Rattle.onfi_cycle.specs.Command.{closes_row, reads_row, is_page_program, at_last_row, addresses_the_array, is_set_features}
 use Rattle.onfi_cycle.specs.LunView.{LunView}
 use Rattle.std.specs.List.{slice_get}
 use Rattle.std.proofs.lemmas.Bool.Decides.{nat_tests}
@@ -48,6 +48,7 @@ use Rattle.onfi_cycle.proofs.Passed.{permitted_keeps}
 use Rattle.onfi_cycle.proofs.RowBounds.{input_inside, no_features_inside}
 use Rattle.onfi_cycle.proofs.Keeping.{view_at}
 use Rattle.die_model.proofs.Tails.{stays, no_opening, blank}
+use Rattle.onfi_cycle.proofs.Steps.{goes_on as not_anew}
 
 -- 1. the bytes of a program that starts are those of its tail
 
@@ -61,7 +62,7 @@ choice g t lun false x y f h = h
 
 -- work of another LUN
 passed_programs : (g : Parts) (t : TailFacts) (c : Command) (lun : ℕ) → Programs g t lun (other_effect g t c)
-passed_programs g t c lun = choice g t lun (closes_row c && (wants_command t c && is_shared g)) (e.AnotherAddressed (is_read_confirm c)) e.Unaffected (λ _. tt) tt
+passed_programs g t c lun = choice g t lun (closes_row c && (wants_command t c && is_shared g)) (e.AnotherAddressed (reads_row c)) e.Unaffected (λ _. tt) tt
 
 -- work of the whole target
 target_programs : (g : Parts) (t : TailFacts) (lun : ℕ) (x : Effect) → Programs g t lun x → Programs g t lun (of_target g lun x)
@@ -73,7 +74,10 @@ command_programs g t latch k.ReadStatus lun = choice g t lun (is_shared g) e.Sta
 command_programs g t latch k.ReadStatusEnhanced lun = tt
 command_programs g t latch k.Reset lun = choice g t lun (is_shared g) (e.TargetResetStarted (lun == 0)) e.ResetStarted (λ _. tt) tt
 command_programs g t latch k.SynchronousReset lun = choice g t lun (is_shared g) (e.TargetResetStarted (lun == 0)) e.ResetStarted (λ _. tt) tt
-command_programs g t latch k.ReadCacheSequential lun = choice g t lun (is_off latch) e.Unaffected e.CacheReadContinued (λ _. tt) tt
+command_programs g t latch k.ReadCacheSequential lun =
+    choice g t lun (wants_command t k.ReadCacheSequential) (row_effect g t k.ReadCacheSequential lun) (cache_effect latch)
+    (λ _. choice g t lun (wants_command t k.ReadCacheSequential && names_lun g (row t) lun) (confirm_effect g t k.ReadCacheSequential) (other_effect g t k.ReadCacheSequential) (λ _. tt) (passed_programs g t k.ReadCacheSequential lun))
+    (choice g t lun (is_off latch) e.Unaffected (e.CacheReadContinued None) (λ _. tt) tt)
 command_programs g t latch k.ReadCacheEnd lun = choice g t lun (is_off latch) e.Unaffected e.CacheReadEnded (λ _. tt) tt
 command_programs g t latch k.ChangeReadColumnConfirm lun = choice g t lun (wants_command t k.ChangeReadColumnConfirm && not (is_off latch)) (e.ReadColumnChanged t.column) e.Unaffected (λ _. tt) tt
 command_programs g t latch k.ProgramConfirm lun =
@@ -183,6 +187,11 @@ calm_command g t latch k.ChangeWriteColumn lun h = of (wants_command (facts_of t
     of : (b : Bool) → busy_after (cond b e.Unaffected e.Unaffected) false ≡ false
     of true = refl
     of false = refl
+calm_command g (d ∷ t) latch k.ReadCacheSequential lun h = at (wants_command (facts_of (d ∷ t)) k.ReadCacheSequential) h
+  where
+    at : (w : Bool) → names_program (facts_of (cond (not w) (CommandCycle k.ReadCacheSequential ∷ []) (CommandCycle k.ReadCacheSequential ∷ (d ∷ t)))) ≡ true → busy_after (command_effect g (facts_of (d ∷ t)) latch k.ReadCacheSequential lun) false ≡ false
+    at true h = cc
+    at false h = cc
 calm_command g [] latch c lun h = cc
 calm_command g (d ∷ t) latch c lun h = cc
 
@@ -306,7 +315,7 @@ pending_step e.ParameterPageReadStarted bytes q p b f h = refl
 pending_step e.UniqueIdReadStarted bytes q p b f h = refl
 pending_step (e.FeaturesReadStarted address) bytes q p b f h = refl
 pending_step (e.FeaturesSet address) bytes q p b f h = refl
-pending_step e.CacheReadContinued bytes q p b f h = refl
+pending_step (e.CacheReadContinued to) bytes q p b f h = refl
 pending_step e.CacheReadEnded bytes q p b f h = refl
 pending_step e.ResetStarted bytes q p b f h = refl
 pending_step (e.TargetResetStarted first) bytes q p b f h = refl
@@ -397,7 +406,7 @@ is_input g past (Cyc c) l at column byte h = of (c.ce == l.ce) refl (target_cycl
 -- the tail goes on with it
 goes_on : (k : TargetCycle) (t : List TargetCycle) → begins_sequence k ≡ false → is_nil t ≡ false → with_cycle k t ≡ k ∷ t
 goes_on k [] h n = cc
-goes_on k (d ∷ t) h n = ap (λ (b : Bool). cond b (k ∷ []) (k ∷ (d ∷ t))) h
+goes_on k (d ∷ t) h n = ap (λ (b : Bool). cond b (k ∷ []) (k ∷ (d ∷ t))) (not_anew (facts_of (d ∷ t)) k h)
 
 tail_on : (past : List Item) (c : Cycle) (ce : ℕ) (k : TargetCycle) → (c.ce == ce) ≡ true → target_cycle c.kind c.byte ≡ k → begins_sequence k ≡ false → is_nil (tail past ce) ≡ false → tail (Cyc c ∷ past) ce ≡ k ∷ tail past ce
 tail_on past c ce k same is h n =

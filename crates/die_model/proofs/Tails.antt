@@ -10,7 +10,7 @@ use Rattle.onfi_cycle.specs.declared.opening.Opening.{Opening}
 use Rattle.onfi_cycle.specs.declared.target_cycle.TargetCycle.{TargetCycle}
 use Rattle.onfi_cycle.specs.declared.target_cycle.TargetCycle.TheVariants.{CommandCycle, AddressCycle, InputCycle, OutputCycle}
 use Rattle.onfi_cycle.specs.Command.{is_opener, is_page_program, at_last_row, is_set_features}
-use Rattle.onfi_cycle.specs.Sequence.{with_cycle, continued, opening, opened, one_address_more, data_phase, takes_data, wants_column, phase_after_command, phase_after_address, phase_after_input, row_bytes, row_after_address, facts_of, filled, row, row_with, input_column, inputs}
+use Rattle.onfi_cycle.specs.Sequence.{with_cycle, continued, opening, opened, one_address_more, data_phase, takes_data, wants_column, phase_after_command, phase_after_address, phase_after_input, row_bytes, row_after_address, facts_of, filled, row, row_with, input_column, inputs, begins_anew}
 use Rattle.onfi_cycle.specs.Bounds.{names_program}
 use Rattle.onfi_cycle.specs.Effect.{names_lun, page_address}
 use Rattle.onfi_cycle.proofs.RowBounds.{input_inside}
@@ -139,7 +139,7 @@ stays_input g len t byte lun leaves named is = of (data_phase t) refl named
     of FeatureInputs e h = let x = input_inside (inputs t) FeatureInputs h in cc
 
 pub stays : (g : Parts) (len : ℕ) (t : List TargetCycle) (cycle : TargetCycle) (lun : ℕ) → cycle_filling g (facts_of t) cycle lun ≡ Leaves → names_program (facts_of (with_cycle cycle t)) ≡ true → names_lun g (row (facts_of (with_cycle cycle t))) lun ≡ true → Stays len t (with_cycle cycle t)
-stays g len t (CommandCycle c) lun leaves named is = stays_command len t c (is_opener c) named
+stays g len t (CommandCycle c) lun leaves named is = stays_command len t c (begins_anew (facts_of t) (CommandCycle c)) named
 stays g len [] (AddressCycle byte) lun leaves named is = cc
 stays g len (d ∷ t) (AddressCycle byte) lun leaves named is = stays_address g len (d ∷ t) byte lun leaves named is
 stays g len [] (InputCycle byte) lun leaves named is = cc

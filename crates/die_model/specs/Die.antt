@@ -92,7 +92,7 @@ effect_of w.UniqueId = UniqueIdReadStarted
 effect_of (w.Features address) = FeaturesReadStarted address
 effect_of (w.SetFeatures address) = FeaturesSet address
 effect_of w.Reset = ResetStarted
-effect_of w.Cache = CacheReadContinued
+effect_of (w.Cache to) = CacheReadContinued to
 effect_of w.CacheEnd = CacheReadEnded
 
 -- the work of an effect on a LUN; None where its die stays as it is or only ends something
@@ -108,12 +108,12 @@ work_begun (FeaturesReadStarted address) = Some (w.Features address)
 work_begun (FeaturesSet address) = Some (w.SetFeatures address)
 work_begun ResetStarted = Some w.Reset
 work_begun (TargetResetStarted _) = Some w.Reset
-work_begun CacheReadContinued = Some w.Cache
+work_begun (CacheReadContinued to) = Some (w.Cache to)
 work_begun CacheReadEnded = Some w.CacheEnd
 work_begun _ = None
 
 abbrev pub caching_after : Effect → Bool → Bool
-caching_after CacheReadContinued caching = true
+caching_after (CacheReadContinued _) caching = true
 caching_after (ReadStarted _ _) caching = false
 caching_after (EraseStarted _ _) caching = false
 caching_after (ProgramStarted _ _) caching = false

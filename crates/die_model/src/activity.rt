@@ -29,7 +29,7 @@ fn caching_after(effect: Effect, before: bool) -> bool
     ensures { result ≡ caching_after effect before }
 {
     match effect {
-        Effect::CacheReadContinued => true,
+        Effect::CacheReadContinued { .. } => true,
         Effect::ReadStarted { .. }
         | Effect::EraseStarted { .. }
         | Effect::ProgramStarted { .. }

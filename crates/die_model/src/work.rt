@@ -29,8 +29,8 @@ pub enum Work {
     SetFeatures(u8),
     /// All work stops, and nothing stays queued.
     Reset,
-    /// The page that the array has read is put into the register, and the array reads the next.
-    Cache,
+    /// The page that the array has read is put into the register, and the array reads this page, or the next one.
+    Cache(Option<PageAddress>),
     /// The page that the array has read is put into the register.
     CacheEnd,
 }
@@ -58,7 +58,7 @@ impl Work {
             Effect::FeaturesReadStarted { address } => Some(Work::Features(address)),
             Effect::FeaturesSet { address } => Some(Work::SetFeatures(address)),
             Effect::ResetStarted | Effect::TargetResetStarted { .. } => Some(Work::Reset),
-            Effect::CacheReadContinued => Some(Work::Cache),
+            Effect::CacheReadContinued { to } => Some(Work::Cache(to)),
             Effect::CacheReadEnded => Some(Work::CacheEnd),
             _ => None,
         }
@@ -84,7 +84,7 @@ impl Work {
             Work::Features(address) => Effect::FeaturesReadStarted { address },
             Work::SetFeatures(address) => Effect::FeaturesSet { address },
             Work::Reset => Effect::ResetStarted,
-            Work::Cache => Effect::CacheReadContinued,
+            Work::Cache(to) => Effect::CacheReadContinued { to },
             Work::CacheEnd => Effect::CacheReadEnded,
         }
     }

@@ -10,11 +10,12 @@ use Rattle.onfi_cycle.specs.declared.item.Kind.TheVariants.{Adr}
 use Rattle.onfi_cycle.specs.declared.target_cycle.TargetCycle.TheVariants.{AddressCycle}
 use Rattle.onfi_cycle.specs.LunView.{LunView}
 use Rattle.onfi_cycle.specs.Effect.{names_lun, page_address}
-use Rattle.onfi_cycle.specs.Rules.{caching, refused_by, register_len}
+use Rattle.onfi_cycle.specs.Rules.{caching, refused_by, register_len, excludes_cache}
 use Rattle.micro_program.specs.Moves.{gives}
 use Rattle.micro_program.proofs.Scenes.{Scene, AddressAllowed, scene_behind}
 use Rattle.micro_program.proofs.SceneMoves.{MovesAllowed, scene_after}
 use Rattle.micro_claims.proofs.Fits.{Address, bytes_of, opener_facts, facts_behind}
+use Rattle.std.proofs.lemmas.Bool.{and_parts}
 
 -- 1. so many steps of any kind
 
@@ -62,7 +63,7 @@ pub record RowGoes (g : Parts) (lun : ℕ) (a : Address) (view : LunView) (o : C
   pub names : names_lun g (row_of a.r1 a.r2 a.r3) lun ≡ true
   pub ready : view.busy ≡ false
   pub goes : refused_by g o (page_address g (row_of a.r1 a.r2 a.r3)) view.queue ≡ false
-  pub no_cache : caching view ≡ false
+  pub no_cache : excludes_cache g o ≡ true → caching view ≡ false
 
 abbrev pub scene_at : Command → Address → LunView → Bool → ℕ → Scene
 scene_at o a view sole n = record { facts = facts_behind (opener_facts o) (take n (bytes_of o a)); view = view; sole = sole }
@@ -79,7 +80,7 @@ read_steps g lun a view sole (suc (suc zero)) few column row = record { allowed 
 read_steps g lun a view sole (suc (suc (suc zero))) few column row = record { allowed = record { wanted = refl; profile = never (not (is_wide g.optional)); alone = λ e. cc; row = λ e. cc; column = λ e. cc; read_column = λ e. cc }; leads = refl }
 read_steps g lun a view sole (suc (suc (suc (suc zero)))) few column row =
     let r = row refl in
-    record { allowed = record { wanted = refl; profile = never (not (is_wide g.optional)); alone = λ e. cc; row = λ e. record { inside = r.inside; names = r.names; ready = λ x. r.ready; goes = r.goes; no_cache = λ x. r.no_cache }; column = λ e. cc; read_column = λ e. cc }; leads = refl }
+    record { allowed = record { wanted = refl; profile = never (not (is_wide g.optional)); alone = λ e. cc; row = λ e. record { inside = r.inside; names = r.names; ready = λ x. r.ready; goes = r.goes; no_cache = λ x. r.no_cache (and_parts (excludes_cache g Read) true x).0 }; column = λ e. cc; read_column = λ e. cc }; leads = refl }
 read_steps g lun a view sole (suc (suc (suc (suc (suc n))))) few column row = absurd (omega (arith, few))
 
 pub program_steps : (g : Parts) (lun : ℕ) (a : Address) (view : LunView) (sole : Bool) (n : ℕ) → n ≤ 4 → (n ≡ 1 → nat_le (page_len g) (carried a) ≡ false) → (n ≡ 4 → RowGoes g lun a view PageProgram) → OneStep g lun (scene_at PageProgram a view sole) (bytes_of PageProgram a) n
@@ -89,7 +90,7 @@ program_steps g lun a view sole (suc (suc zero)) few column row = record { allow
 program_steps g lun a view sole (suc (suc (suc zero))) few column row = record { allowed = record { wanted = refl; profile = never (not (is_wide g.optional)); alone = λ e. cc; row = λ e. cc; column = λ e. cc; read_column = λ e. cc }; leads = refl }
 program_steps g lun a view sole (suc (suc (suc (suc zero)))) few column row =
     let r = row refl in
-    record { allowed = record { wanted = refl; profile = never (not (is_wide g.optional)); alone = λ e. cc; row = λ e. record { inside = r.inside; names = r.names; ready = λ x. r.ready; goes = r.goes; no_cache = λ x. r.no_cache }; column = λ e. cc; read_column = λ e. cc }; leads = refl }
+    record { allowed = record { wanted = refl; profile = never (not (is_wide g.optional)); alone = λ e. cc; row = λ e. record { inside = r.inside; names = r.names; ready = λ x. r.ready; goes = r.goes; no_cache = λ x. r.no_cache refl }; column = λ e. cc; read_column = λ e. cc }; leads = refl }
 program_steps g lun a view sole (suc (suc (suc (suc (suc n))))) few column row = absurd (omega (arith, few))
 
 pub erase_steps : (g : Parts) (lun : ℕ) (a : Address) (view : LunView) (sole : Bool) (n : ℕ) → n ≤ 2 → (n ≡ 2 → RowGoes g lun a view BlockErase) → OneStep g lun (scene_at BlockErase a view sole) (bytes_of BlockErase a) n
@@ -97,7 +98,7 @@ erase_steps g lun a view sole zero few row = record { allowed = record { wanted 
 erase_steps g lun a view sole (suc zero) few row = record { allowed = record { wanted = refl; profile = never (not (is_wide g.optional)); alone = λ e. cc; row = λ e. cc; column = λ e. cc; read_column = λ e. cc }; leads = refl }
 erase_steps g lun a view sole (suc (suc zero)) few row =
     let r = row refl in
-    record { allowed = record { wanted = refl; profile = never (not (is_wide g.optional)); alone = λ e. cc; row = λ e. record { inside = r.inside; names = r.names; ready = λ x. r.ready; goes = r.goes; no_cache = λ x. r.no_cache }; column = λ e. cc; read_column = λ e. cc }; leads = refl }
+    record { allowed = record { wanted = refl; profile = never (not (is_wide g.optional)); alone = λ e. cc; row = λ e. record { inside = r.inside; names = r.names; ready = λ x. r.ready; goes = r.goes; no_cache = λ x. r.no_cache refl }; column = λ e. cc; read_column = λ e. cc }; leads = refl }
 erase_steps g lun a view sole (suc (suc (suc n))) few row = absurd (omega (arith, few))
 
 pub column_steps : (g : Parts) (lun : ℕ) (a : Address) (view : LunView) (sole : Bool) (n : ℕ) → n ≤ 1 → (n ≡ 1 → (sole ≡ true) × (nat_le (register_len g view.register) (carried a) ≡ false)) → OneStep g lun (scene_at ChangeReadColumn a view sole) (bytes_of ChangeReadColumn a) n

@@ -27,7 +27,7 @@ pub record PlaceClear (g : Parts) (v : State) (from count : ℕ) (p : Place) : T
   pub left : (addresses_left p == 0) ≡ false
   pub begins : from ≡ next_address p
   pub few : count ≤ addresses_left p
-  pub row : nat_le 5 (from + count) ≡ true → row_refused v p ≡ false
+  pub row : nat_le 5 (from + count) ≡ true → row_refused g v p ≡ false
   pub column : has_second_column from count ≡ true → is_at_most (bound_plus v.registers.column.hi 1) (column_limit g v p) ≡ true
 
 clash : {X : Type 0} (b : Bool) → b ≡ true → b ≡ false → X
@@ -51,13 +51,13 @@ tests false false true false past refused few false h k i out elsewhere column =
 
 pub place_clear : (g : Parts) (j : Job) (v : State) (done : List Done) (from count : ℕ) (p : Place) → RegistersFit g j v.registers done → takes_identity_at p ≡ false → address_out_of_place g v from count p ≡ false → begins_elsewhere from p ≡ false → column_past g v from count p ≡ false → PlaceClear g v from count p
 place_clear g j v done from count p f idn out elsewhere past =
-    let t = tests (addresses_left p == 0) (takes_identity_at p) (from == next_address p) (has_second_column from count) (not (is_at_most (bound_plus v.registers.column.hi 1) (column_limit g v p))) _ (ltb (addresses_left p) count || (from == next_address p && nat_le 5 (from + count) && row_refused v p)) (surely_past g v from count p) not_past (λ e. none_second (from == next_address p) (has_second_column from count) e) idn out elsewhere past in
-    let refused = or_parts (ltb (addresses_left p) count) (from == next_address p && nat_le 5 (from + count) && row_refused v p) t.2 in
+    let t = tests (addresses_left p == 0) (takes_identity_at p) (from == next_address p) (has_second_column from count) (not (is_at_most (bound_plus v.registers.column.hi 1) (column_limit g v p))) _ (ltb (addresses_left p) count || (from == next_address p && nat_le 5 (from + count) && row_refused g v p)) (surely_past g v from count p) not_past (λ e. none_second (from == next_address p) (has_second_column from count) e) idn out elsewhere past in
+    let refused = or_parts (ltb (addresses_left p) count) (from == next_address p && nat_le 5 (from + count) && row_refused g v p) t.2 in
     record {
       left = t.0;
       begins = eqb-true from (next_address p) t.1;
       few = grind (arith, nat_tests, refused.0);
-      row = λ e. and_rest (nat_le 5 (from + count)) (row_refused v p) e (and_rest (from == next_address p) _ t.1 (assoc (from == next_address p) (nat_le 5 (from + count)) (row_refused v p) refused.1));
+      row = λ e. and_rest (nat_le 5 (from + count)) (row_refused g v p) e (and_rest (from == next_address p) _ t.1 (assoc (from == next_address p) (nat_le 5 (from + count)) (row_refused g v p) refused.1));
       column = λ e. not-false _ (t.3 e);
     }
   where

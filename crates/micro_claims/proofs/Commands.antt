@@ -7,7 +7,7 @@ use Rattle.nand_geometry.specs.declared.row_parts.RowParts.{RowParts}
 use Rattle.nand_geometry.specs.Row.{row_of, parts_of}
 use Rattle.onfi_cycle.specs.declared.row_bytes.RowBytes.{RowBytes}
 use Rattle.onfi_cycle.specs.declared.command.Command.{Command}
-use Rattle.onfi_cycle.specs.declared.command.Command.TheVariants.{Read, ReadConfirm, ChangeReadColumn, ChangeReadColumnConfirm, BlockErase, BlockEraseConfirm, PageProgram, ChangeWriteColumn, ProgramConfirm}
+use Rattle.onfi_cycle.specs.declared.command.Command.TheVariants.{Read, ReadConfirm, ChangeReadColumn, ChangeReadColumnConfirm, BlockErase, BlockEraseConfirm, PageProgram, ChangeWriteColumn, ProgramConfirm, ReadCacheSequential}
 use Rattle.onfi_cycle.specs.declared.data_phase.DataPhase.TheVariants.{Inputs}
 use Rattle.onfi_cycle.specs.declared.item.Item.{Item}
 use Rattle.onfi_cycle.specs.declared.item.Kind.TheVariants.{Cmd}
@@ -23,7 +23,7 @@ use Rattle.onfi_cycle.specs.LunView.{LunView}
 use Rattle.onfi_cycle.specs.Command.{command, is_opener, closes, address_cycles}
 use Rattle.onfi_cycle.specs.Sequence.{facts_after, is_open, wants_command, row, takes_data, input_column}
 use Rattle.onfi_cycle.specs.Effect.{is_off, is_data, names_lun, page_address, cycle_effect}
-use Rattle.onfi_cycle.specs.Lun.{resumed, column_at, view_after}
+use Rattle.onfi_cycle.specs.Lun.{resumed, column_at, view_after, is_cache_read}
 use Rattle.onfi_cycle.specs.Rules.{may_change_column, is_page_or_parameters}
 use Rattle.onfi_cycle.specs.Channel.{Channel}
 use Rattle.micro_word.specs.declared.word.Word.TheVariants.{Command as CommandWord}
@@ -31,8 +31,8 @@ use Rattle.micro_word.specs.Text.{Microprogram}
 use Rattle.micro_program.specs.Lines.{Line}
 use Rattle.micro_program.specs.Program.{Job, Done, index_now}
 use Rattle.micro_claims.specs.Spans.{Span}
-use Rattle.micro_claims.specs.State.{NoRows, other_closer, State, Registers, KnownTarget, KnownLun, NamedRow, Place, Closed, After, InData, InColumn, InFeatures, Shown, Held, bounds_of, Unknown, shows_status, holds_identifier, holds_identity, holds_jedec, holds_feature}
-use Rattle.micro_claims.specs.Against.{holds_short, is_unfit, may_end_sequence, closer_refused, drives, may_be_open, command_out_of_place, opener_refused, place_wants, shows_only_data, has_page_or_parameters}
+use Rattle.micro_claims.specs.State.{NoRows, other_closer, State, Registers, KnownTarget, KnownLun, NamedRow, Place, Closed, After, InData, InColumn, InFeatures, Shown, Held, bounds_of, Unknown, shows_status, holds_identifier, holds_identity, holds_jedec, holds_feature, LastCloser, may_be_31}
+use Rattle.micro_claims.specs.Against.{holds_short, is_unfit, may_end_sequence, closer_refused, drives, may_be_open, command_out_of_place, opener_refused, place_wants, shows_only_data, has_page_or_parameters, reads_cache_at}
 use Rattle.micro_claims.specs.Reasons.{breaks_cycle_forbidden}
 use Rattle.micro_claims.specs.Leaves.{paid, with_registers, resumed_shows, data_shown, opened_by, work_started, given_at, cached_at, shows_after_read, read_started, command_leaves}
 use Rattle.micro_claims.specs.Accepts.{state_after, accepts}
@@ -41,6 +41,7 @@ use Rattle.micro_program.specs.Moves.{Give}
 use Rattle.micro_claims.proofs.Fits.{ColumnBegun, closer_among, Address, is_place, RegistersFit, TailFits, ColumnFits, RowIs, NameFits, ShowsFit, LunFits, OutputColumnFits, RegisterFits, Below, latch_among, register_among, Fits, Now, now_of}
 use Rattle.micro_claims.proofs.Tails.{closed_tail, closed_fits, opener_fits, whole_read, whole_erase, whole_column, Programming, programming}
 use Rattle.micro_claims.proofs.Sounding.{KnownJob, NoReasons, unmoved, SoundWord, plain_sound}
+use Rattle.nand_geometry.specs.Optional.{is_wide}
 
 -- 1. what serves all of them
 
@@ -173,17 +174,17 @@ sound_05 s j k v past c done rest at byte is scene f clear acc =
 pub row_names : (g : Parts) (j : Job) (t : TailFacts) (a : Address) → row t ≡ row_of a.r1 a.r2 a.r3 → RowIs g j a → names_lun g (row t) j.lun.lun ≡ true
 row_names g j t a e r = eq-eqb _ _ (ap (λ (n : ℕ). (parts_of g n).lun) e ∙ ap (λ (p : RowParts). p.lun) r.reads)
 
-pub record Wanted (v : State) (d : Command) : Type 0 where
+pub record Wanted (g : Parts) (v : State) (d : Command) : Type 0 where
   pub places : place_wants d v.target.tail ≡ true
-  pub not_refused : closer_refused v d ≡ false
+  pub not_refused : closer_refused g v d ≡ false
 
-pub wanted : (g : Parts) (text : Microprogram) (v : State) (byte : ℕ) (d : Command) → command byte ≡ d → is_unfit g d ≡ false → is_opener d ≡ false → NoReasons g text v (CommandWord byte) → Wanted v d
+pub wanted : (g : Parts) (text : Microprogram) (v : State) (byte : ℕ) (d : Command) → command byte ≡ d → is_unfit g d ≡ false → (is_opener d && not (reads_cache_at d v.target.tail)) ≡ false → NoReasons g text v (CommandWord byte) → Wanted g v d
 wanted g text v byte d is fit closer clear =
     let free = (not (may_end_sequence g d) && may_be_open v) || opener_refused g v d in
-    let all = not (place_wants d v.target.tail) || closer_refused v d in
-    let fitting = subst (λ (b : Bool). cond b false (cond (is_opener d) free all) ≡ false) fit (out_of_place g text v byte d is clear) in
+    let all = not (place_wants d v.target.tail) || closer_refused g v d in
+    let fitting = subst (λ (b : Bool). cond b false (cond (is_opener d && not (reads_cache_at d v.target.tail)) free all) ≡ false) fit (out_of_place g text v byte d is clear) in
     let closing = subst (λ (b : Bool). cond b free all ≡ false) closer fitting in
-    let both = or_parts (not (place_wants d v.target.tail)) (closer_refused v d) closing in
+    let both = or_parts (not (place_wants d v.target.tail)) (closer_refused g v d) closing in
     record { places = not-false _ both.0; not_refused = both.1 }
 
 -- work that leaves no register, and an empty queue
@@ -241,12 +242,12 @@ read_column_fits None t none h = absurd h
 read_column_fits (Some k) t none h =
     record { at = t.column + 0; is = refl; below = subst (λ (n : ℕ). Below (t.column + n) k.hi) none h; unread = λ e. refl }
 
-page_below : (g : Parts) (j : Job) (a : Address) (now : ℕ) (o : Option NamedRow) → NameFits g j a now o → j.base % g.pages ≡ 0 → Below (a.index % g.pages) (cached_at o).page.hi
+pub page_below : (g : Parts) (j : Job) (a : Address) (now : ℕ) (o : Option NamedRow) → NameFits g j a now o → j.base % g.pages ≡ 0 → Below (a.index % g.pages) (cached_at o).page.hi
 page_below g j a now None h base = tt
 page_below g j a now (Some n) h base = h.page base
 
 -- what is shown behind a read
-read_shown : (g : Parts) (o : Option Shown) (c d : Scene) → d.sole ≡ (c.sole || not (ltb 1 g.luns)) → d.view.latch ≡ Data → ShowsFit o c → ShowsFit (shows_after_read g o) d
+pub read_shown : (g : Parts) (o : Option Shown) (c d : Scene) → d.sole ≡ (c.sole || not (ltb 1 g.luns)) → d.view.latch ≡ Data → ShowsFit o c → ShowsFit (shows_after_read g o) d
 read_shown g (Some w) c d sole latch f = (sole ∙ rw f.0 refl, ap (latch_among (record { 0 = 2 })) latch)
 read_shown g None c d sole latch f = at (ltb 1 g.luns) refl
   where
@@ -254,16 +255,27 @@ read_shown g None c d sole latch f = at (ltb 1 g.luns) refl
     at true e = tt
     at false e = (sole ∙ (ap (λ (b : Bool). c.sole || not b) e ∙ or-true c.sole), ap (latch_among (record { 0 = 2 })) latch)
 
+pub not_caching : (w : LastCloser) (o : Option Command) → closer_among w o ≡ true → may_be_31 w ≡ false → is_cache_read o ≡ false
+not_caching w None h e = refl
+not_caching w (Some ReadCacheSequential) h e = cc
+not_caching w (Some _) h e = refl
+
+-- in the wider profile a 30 comes where no cache read goes on
+reads_alone : (wide : Bool) (w : LastCloser) (o : Option Command) → closer_among w o ≡ true → (wide && may_be_31 w) ≡ false → (wide && is_cache_read o) ≡ false
+reads_alone true w o h e = not_caching w o h e
+reads_alone false w o h e = refl
+
 pub sound_30 : (s : Channel) (j : Job) (k : KnownJob s j) (v : State) (past : List Item) (c : Scene) (done : List Done) (rest : List Line) (at byte : ℕ) → command byte ≡ ReadConfirm → IsScene s j.lun past c → Fits s.geometry j v done c true → NoReasons s.geometry j.text v (CommandWord byte) → accepts s.geometry (bounds_of j.text) None (state_after s.geometry v (CommandWord byte)) rest ≡ true → SoundWord s j past done rest at (CommandWord byte)
 sound_30 s j k v past c done rest at byte is scene f clear acc =
     let g = s.geometry in
-    let w = whole_read g j v.target (now_of j done) c.facts (f.tail refl) (wanted g j.text v byte ReadConfirm is refl refl clear).places in
+    let want = wanted g j.text v byte ReadConfirm is refl refl clear in
+    let w = whole_read g j v.target (now_of j done) c.facts (f.tail refl) want.places in
     let wants : wants_command c.facts ReadConfirm ≡ true = ap (λ (t : TailFacts). wants_command t ReadConfirm) w.facts in
     let row_is : row c.facts ≡ row_of w.address.r1 w.address.r2 w.address.r3 = ap row w.facts in
     let names = row_names g j c.facts w.address row_is (w.row refl) in
     let effect : cycle_effect g c.facts (shown_alone c) (CommandCycle ReadConfirm) j.lun.lun ≡ ReadStarted (page_address g (row c.facts)) c.facts.column = rw (wants, names) refl in
     let page_is : (page_address g (row c.facts)).page ≡ w.address.index % g.pages = ap (λ (n : ℕ). (parts_of g n).page) row_is ∙ ap (λ (p : RowParts). p.page) (w.row refl).reads in
-    command_sound s j k v past c done rest at byte ReadConfirm is scene f clear (wants, names) refl
+    command_sound s j k v past c done rest at byte ReadConfirm is scene f clear ((wants, names), reads_alone (is_wide g.optional) v.lun.last c.view.closer f.lun.last want.not_refused) refl
     (closed_fits g j None None (shows_after_read g v.target.shows) (now_of j done) _ (ap (λ (t : TailFacts). is_open (facts_after (CommandCycle ReadConfirm) t)) w.facts))
     (read_shown g v.target.shows c (scene_behind g j.lun.lun (CommandCycle ReadConfirm) c) refl (ap (λ (e : Effect). (view_after e c.view).latch) effect) f.shows)
     (subst (λ (e : Effect). LunFits g j (read_started g v).lun (index_now j.base done) (view_after e c.view)) (sym effect)

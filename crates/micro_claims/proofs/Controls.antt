@@ -30,7 +30,8 @@ use Rattle.micro_program.proofs.PollScenes.{polled_view, PolledScene, poll_scene
 use Rattle.micro_claims.proofs.Fits.{RowsFit, latch_among, Below, RegistersFit, TailFits, LunFits, OutputColumnFits, Fits, is_unread, Now, now_of}
 use Rattle.micro_claims.proofs.Tails.{closed_tail, closed_fits}
 use Rattle.micro_claims.proofs.Sounding.{KnownJob, Claims, NoReasons, Unmoved, unmoved, within_budget, SoundWord}
-use Rattle.micro_claims.proofs.SoundAddress.{not_caching}
+use Rattle.micro_claims.proofs.Commands.{not_caching}
+
 
 -- 1. the claim behind a poll
 

@@ -38,9 +38,9 @@ use Rattle.micro_claims.proofs.Numbers.{in_exactly}
 use Rattle.micro_claims.proofs.Tails.{no_address, every_place, no_place, closed_tail, closed_fits}
 use Rattle.micro_claims.proofs.Sounding.{KnownJob, NoReasons, unmoved, SoundWord, plain_sound}
 use Rattle.micro_claims.proofs.AddressSteps.{never}
-use Rattle.micro_claims.proofs.Commands.{plain_opener, same_either, shows_kept}
+use Rattle.micro_claims.proofs.Commands.{plain_opener, same_either, shows_kept, not_caching}
 use Rattle.micro_claims.proofs.MoreCommands.{declared, opener_free}
-use Rattle.micro_claims.proofs.SoundAddress.{not_caching, resets_lun, sound_address}
+use Rattle.micro_claims.proofs.SoundAddress.{resets_lun, sound_address}
 use Rattle.micro_claims.proofs.LunResets.{sound_lun_reset}
 use Rattle.micro_claims.proofs.Indices.{only_is}
 

@@ -1,7 +1,7 @@
 -- Queued erases and programs, resets and cache reads are sound.
-use Rattle.std.proofs.Common.{◌≡◌, ℕ, ◌+◌, ◌*◌, ◌/◌, ◌%◌, ◌==◌, Bool, true, false, ◌&&◌, ◌||◌, cond, not, ltb, List, [], ◌∷◌, Option, Some, None, refl, sym, ap, ◌∙◌, subst, arith, eqb-true}
+use Rattle.std.proofs.Common.{◌≡◌, ℕ, ◌+◌, ◌*◌, ◌/◌, ◌%◌, ◌==◌, Bool, true, false, ◌&&◌, ◌||◌, cond, not, ltb, List, [], ◌∷◌, Option, Some, None, refl, sym, ap, ◌∙◌, subst, arith, eqb-true, inl, inr}
 use Rattle.std.proofs.lemmas.Bool.Decides.{nat_tests}
-use Rattle.std.proofs.lemmas.Bool.{not-false, and_parts, or_parts}
+use Rattle.std.proofs.lemmas.Bool.{not-false, and_parts, or_parts, or_left}
 use Rattle.nand_geometry.specs.declared.parts.Parts.{Parts}
 use Rattle.nand_geometry.specs.declared.row_parts.RowParts.{RowParts}
 use Rattle.nand_geometry.specs.Limits.{planes}
@@ -28,18 +28,18 @@ use Rattle.micro_program.specs.Lines.{Line}
 use Rattle.micro_claims.specs.Spans.{bound_plus, is_at_most}
 use Rattle.micro_claims.specs.Planes.{no_planes, either_plane}
 use Rattle.micro_claims.specs.State.{State, Place, Closed, After, InData, InColumn, InFeatures, NamedRow, Drift, QueuedRows, NoRows, SomeRows, AnyRows, LastCloser, bounds_of, Unknown, may_be_30, may_be_other}
-use Rattle.micro_claims.specs.Against.{may_end_sequence, opener_refused, closer_refused, is_unfit, asks_status, command_not_for_programs, drives, may_be_open, place_wants, same_test, continues_unseen}
+use Rattle.micro_claims.specs.Against.{may_end_sequence, opener_refused, closer_refused, is_unfit, asks_status, command_not_for_programs, drives, may_be_open, place_wants, same_test, continues_unseen, reads_cache_at}
 use Rattle.micro_claims.specs.Reasons.{breaks_command_not_allowed}
-use Rattle.micro_claims.specs.Leaves.{work_started, rows_at, goes_along, queued_planes, queued_more, data_shown, reset_started, command_leaves}
+use Rattle.micro_claims.specs.Leaves.{work_started, rows_at, goes_along, queued_planes, queued_more, data_shown, reset_started, command_leaves, cache_read, next_cached, cached_at, shows_after_read}
 use Rattle.micro_claims.specs.Accepts.{state_after, accepts}
 use Rattle.micro_program.specs.Program.{Job, Done, index_now}
 use Rattle.micro_claims.proofs.PlaneSets.{among_first, among_second}
-use Rattle.micro_program.proofs.Scenes.{Scene, IsScene, shown_alone, scene_behind}
-use Rattle.micro_claims.proofs.Fits.{latch_among, DriftFits, Address, NameFits, RowIs, is_of_kind, page_of, RowFits, AllFit, RowsFit, closer_among, LunFits, TailFits, Fits, Now, now_of}
+use Rattle.micro_program.proofs.Scenes.{Scene, IsScene, shown_alone, scene_behind, closed_unwanted}
+use Rattle.micro_claims.proofs.Fits.{latch_among, DriftFits, Address, NameFits, RowIs, is_of_kind, page_of, RowFits, AllFit, RowsFit, closer_among, LunFits, TailFits, Fits, Now, now_of, ShowsFit, Below}
 use Rattle.micro_claims.proofs.Numbers.{below_plus, in_exactly, surely}
-use Rattle.micro_claims.proofs.Tails.{closed_tail, closed_fits, whole_erase_plane, programming}
+use Rattle.micro_claims.proofs.Tails.{closed_tail, closed_fits, whole_erase_plane, programming, whole}
 use Rattle.micro_claims.proofs.Sounding.{KnownJob, NoReasons, SoundWord}
-use Rattle.micro_claims.proofs.Commands.{command_sound, plain_opener, same_either, shows_kept, wanted, row_names, program_row, driven, out_of_place}
+use Rattle.micro_claims.proofs.Commands.{command_sound, plain_opener, same_either, shows_kept, wanted, row_names, program_row, driven, out_of_place, page_below, read_shown}
 
 -- 1. what is declared
 
@@ -151,11 +151,11 @@ sound_11 s j k v past c done rest at byte is scene f clear acc =
 
 -- 3. openers that are whole by themselves
 
-pub opener_free : (g : Parts) (text : Microprogram) (v : State) (byte : ℕ) (d : Command) → command byte ≡ d → is_unfit g d ≡ false → is_opener d ≡ true → NoReasons g text v (CommandWord byte) → ((not (may_end_sequence g d) && may_be_open v) || opener_refused g v d) ≡ false
+pub opener_free : (g : Parts) (text : Microprogram) (v : State) (byte : ℕ) (d : Command) → command byte ≡ d → is_unfit g d ≡ false → (is_opener d && not (reads_cache_at d v.target.tail)) ≡ true → NoReasons g text v (CommandWord byte) → ((not (may_end_sequence g d) && may_be_open v) || opener_refused g v d) ≡ false
 opener_free g text v byte d is fit opener clear =
     let free = (not (may_end_sequence g d) && may_be_open v) || opener_refused g v d in
-    let all = not (place_wants d v.target.tail) || closer_refused v d in
-    let fitting = subst (λ (b : Bool). cond b false (cond (is_opener d) free all) ≡ false) fit (out_of_place g text v byte d is clear) in
+    let all = not (place_wants d v.target.tail) || closer_refused g v d in
+    let fitting = subst (λ (b : Bool). cond b false (cond (is_opener d && not (reads_cache_at d v.target.tail)) free all) ≡ false) fit (out_of_place g text v byte d is clear) in
     subst (λ (b : Bool). cond b free all ≡ false) opener fitting
 
 -- a reset comes where nothing is open, or anywhere in the wider profile
@@ -231,11 +231,27 @@ cache_only w (Some ReadConfirm) h e r = cc
 cache_only w (Some ReadCacheSequential) h e r = refl
 cache_only w (Some _) h e r = cc
 
-pub sound_31 : (s : Channel) (j : Job) (k : KnownJob s j) (v : State) (past : List Item) (c : Scene) (done : List Done) (rest : List Line) (at byte : ℕ) → command byte ≡ ReadCacheSequential → IsScene s j.lun past c → Fits s.geometry j v done c true → NoReasons s.geometry j.text v (CommandWord byte) → accepts s.geometry (bounds_of j.text) None (state_after s.geometry v (CommandWord byte)) rest ≡ true → SoundWord s j past done rest at (CommandWord byte)
-sound_31 s j k v past c done rest at byte is scene f clear acc =
+only_cache_read : (o : Command) → closes o ReadCacheSequential ≡ true → o ≡ Read
+only_cache_read Read h = refl
+only_cache_read ChangeReadColumn h = cc
+only_cache_read BlockErase h = cc
+only_cache_read _ h = cc
+
+leaves_lone : (g : Parts) (v : State) → place_wants ReadCacheSequential v.target.tail ≡ false → command_leaves g v ReadCacheSequential ≡ cache_read (record { 0 = 2 }) (next_cached v.lun.cached) data_shown v
+leaves_lone g v unplaced = rw unplaced refl
+
+leaves_row : (g : Parts) (v : State) → place_wants ReadCacheSequential v.target.tail ≡ true → command_leaves g v ReadCacheSequential ≡ cache_read (record { 0 = 2 }) (cached_at v.target.named) (shows_after_read g v.target.shows) v
+leaves_row g v placed = rw placed refl
+
+-- a 31 that begins a tail leaves nothing open
+shut_behind : (t : TailFacts) → wants_command t ReadCacheSequential ≡ false → is_open (facts_after (CommandCycle ReadCacheSequential) t) ≡ false
+shut_behind t unwanted = rw unwanted refl
+
+sound_lone_31 : (s : Channel) (j : Job) (k : KnownJob s j) (v : State) (past : List Item) (c : Scene) (done : List Done) (rest : List Line) (at byte : ℕ) → command byte ≡ ReadCacheSequential → IsScene s j.lun past c → Fits s.geometry j v done c true → NoReasons s.geometry j.text v (CommandWord byte) → place_wants ReadCacheSequential v.target.tail ≡ false → accepts s.geometry (bounds_of j.text) None (state_after s.geometry v (CommandWord byte)) rest ≡ true → SoundWord s j past done rest at (CommandWord byte)
+sound_lone_31 s j k v past c done rest at byte is scene f clear unplaced acc =
     let g = s.geometry in
     let dec = declared g j.text v byte ReadCacheSequential is clear in
-    let free = or_parts (may_be_open v) (opener_refused g v ReadCacheSequential) (opener_free g j.text v byte ReadCacheSequential is dec.fit refl clear) in
+    let free = or_parts (may_be_open v) (opener_refused g v ReadCacheSequential) (opener_free g j.text v byte ReadCacheSequential is dec.fit (rw unplaced refl) clear) in
     let three = or_parts (not (drives v.target.shows) || v.lun.busy || may_be_other v.lun.last) (not (is_at_most (bound_plus v.lun.cached.page.hi 2) g.pages)) free.1 in
     let two = or_parts (not (drives v.target.shows) || v.lun.busy) (may_be_other v.lun.last) three.0 in
     let one = or_parts (not (drives v.target.shows)) v.lun.busy two.0 in
@@ -246,13 +262,58 @@ sound_31 s j k v past c done rest at byte is scene f clear acc =
     let base = k.cache (not-false _ dec.cache) in
     let most = surely c.view.array_page.page v.lun.cached.page.hi 2 g.pages (f.lun.cached base two.1) (not-false _ three.1) in
     let next : ltb (c.view.array_page.page + 1) g.pages ≡ true = grind (arith, nat_tests, most) in
-    let effect : cycle_effect g c.facts (shown_alone c) (CommandCycle ReadCacheSequential) j.lun.lun ≡ CacheReadContinued = rw (drive.0, drive.1) refl in
-    command_sound s j k v past c done rest at byte ReadCacheSequential is scene f clear (record { closed = shut; declared = not-false g.cache dec.fit; sole = drive.0; passes = rw (ready, read, next) refl }) refl
-    (closed_fits g j None None data_shown (now_of j done) _ refl)
-    (drive.0, ap (λ (e : Effect). latch_among (record { 0 = 2 }) (view_after e c.view).latch) effect)
-    (subst (λ (e : Effect). LunFits g j (command_leaves g v ReadCacheSequential).lun (index_now j.base done) (view_after e c.view)) (sym effect)
-    (record { ready = λ e. cc; register = refl; column = record { at = 0; is = refl; below = (in_exactly 0).most; unread = λ e. refl }; queue = f.lun.queue; last = refl; cached = λ e x. below_plus c.view.array_page.page v.lun.cached.page.hi 1 1 (f.lun.cached e two.1) (omega arith) }))
+    let effect : cycle_effect g c.facts (shown_alone c) (CommandCycle ReadCacheSequential) j.lun.lun ≡ CacheReadContinued None = rw (closed_unwanted c.facts shut, drive.0, drive.1) refl in
+    let leaves : command_leaves g v ReadCacheSequential ≡ cache_read (record { 0 = 2 }) (next_cached v.lun.cached) data_shown v = leaves_lone g v unplaced in
+    command_sound s j k v past c done rest at byte ReadCacheSequential is scene f clear (inl (record { closed = shut; declared = not-false g.cache dec.fit; sole = drive.0; passes = rw (ready, read, next) refl })) (ap (λ (x : State). x.registers) leaves)
+    (subst (λ (x : State). TailFits g j x.target (now_of j done) (facts_after (CommandCycle ReadCacheSequential) c.facts)) (sym leaves)
+    (closed_fits g j None None data_shown (now_of j done) _ (shut_behind c.facts (closed_unwanted c.facts shut))))
+    (subst (λ (x : State). ShowsFit x.target.shows (scene_behind g j.lun.lun (CommandCycle ReadCacheSequential) c)) (sym leaves)
+    (or_left c.sole (not (ltb 1 g.luns)) drive.0, ap (λ (e : Effect). latch_among (record { 0 = 2 }) (view_after e c.view).latch) effect))
+    (subst (λ (x : State). LunFits g j x.lun (index_now j.base done) (view_after (cycle_effect g c.facts (shown_alone c) (CommandCycle ReadCacheSequential) j.lun.lun) c.view)) (sym leaves)
+    (subst (λ (e : Effect). LunFits g j (cache_read (record { 0 = 2 }) (next_cached v.lun.cached) data_shown v).lun (index_now j.base done) (view_after e c.view)) (sym effect)
+    (record { ready = λ e. cc; register = refl; column = record { at = 0; is = refl; below = (in_exactly 0).most; unread = λ e. refl }; queue = f.lun.queue; last = refl; cached = λ e x. below_plus c.view.array_page.page v.lun.cached.page.hi 1 1 (f.lun.cached e two.1) (omega arith) })))
     acc
+
+sound_row_31 : (s : Channel) (j : Job) (k : KnownJob s j) (v : State) (past : List Item) (c : Scene) (done : List Done) (rest : List Line) (at byte : ℕ) → command byte ≡ ReadCacheSequential → IsScene s j.lun past c → Fits s.geometry j v done c true → NoReasons s.geometry j.text v (CommandWord byte) → place_wants ReadCacheSequential v.target.tail ≡ true → accepts s.geometry (bounds_of j.text) None (state_after s.geometry v (CommandWord byte)) rest ≡ true → SoundWord s j past done rest at (CommandWord byte)
+sound_row_31 s j k v past c done rest at byte is scene f clear placed acc =
+    let g = s.geometry in
+    let dec = declared g j.text v byte ReadCacheSequential is clear in
+    let want = wanted g j.text v byte ReadCacheSequential is dec.fit (rw placed refl) clear in
+    let free = or_parts (not (is_wide g.optional)) (may_be_other v.lun.last) want.not_refused in
+    let w = whole g j v.target (now_of j done) c.facts ReadCacheSequential Read only_cache_read refl (f.tail refl) want.places in
+    let wants : wants_command c.facts ReadCacheSequential ≡ true = ap (λ (t : TailFacts). wants_command t ReadCacheSequential) w.facts in
+    let row_is : row c.facts ≡ row_of w.address.r1 w.address.r2 w.address.r3 = ap row w.facts in
+    let names = row_names g j c.facts w.address row_is (w.row refl) in
+    let read = page_read v.lun.last c.view.closer f.lun.last free.1 in
+    let effect : cycle_effect g c.facts (shown_alone c) (CommandCycle ReadCacheSequential) j.lun.lun ≡ CacheReadContinued (Some (page_address g (row c.facts))) = rw (wants, names) refl in
+    let page_is : (page_address g (row c.facts)).page ≡ w.address.index % g.pages = ap (λ (n : ℕ). (parts_of g n).page) row_is ∙ ap (λ (p : RowParts). p.page) (w.row refl).reads in
+    let after : State = cache_read (record { 0 = 2 }) (cached_at v.target.named) (shows_after_read g v.target.shows) v in
+    let leaves : command_leaves g v ReadCacheSequential ≡ after = leaves_row g v placed in
+    command_sound s j k v past c done rest at byte ReadCacheSequential is scene f clear
+    (inr (record { wants = wants; names = names; declared = not-false g.cache dec.fit; wide = not-false (is_wide g.optional) free.0; read = read }))
+    (ap (λ (x : State). x.registers) leaves)
+    (subst (λ (x : State). TailFits g j x.target (now_of j done) (facts_after (CommandCycle ReadCacheSequential) c.facts)) (sym leaves)
+    (closed_fits g j None None (shows_after_read g v.target.shows) (now_of j done) _ (ap (λ (t : TailFacts). is_open (facts_after (CommandCycle ReadCacheSequential) t)) w.facts)))
+    (subst (λ (x : State). ShowsFit x.target.shows (scene_behind g j.lun.lun (CommandCycle ReadCacheSequential) c)) (sym leaves)
+    (read_shown g v.target.shows c (scene_behind g j.lun.lun (CommandCycle ReadCacheSequential) c) refl (ap (λ (e : Effect). (view_after e c.view).latch) effect) f.shows))
+    (subst (λ (x : State). LunFits g j x.lun (index_now j.base done) (view_after (cycle_effect g c.facts (shown_alone c) (CommandCycle ReadCacheSequential) j.lun.lun) c.view)) (sym leaves)
+    (subst (λ (e : Effect). LunFits g j after.lun (index_now j.base done) (view_after e c.view)) (sym effect)
+    (record {
+      ready = λ e. cc;
+      register = refl;
+      column = record { at = 0; is = refl; below = (in_exactly 0).most; unread = λ e. refl };
+      queue = f.lun.queue;
+      last = refl;
+      cached = λ base e. subst (λ (n : ℕ). Below n (cached_at v.target.named).page.hi) (sym page_is) (page_below g j w.address (index_now j.base done) v.target.named (w.named refl) base);
+    })))
+    acc
+
+pub sound_31 : (s : Channel) (j : Job) (k : KnownJob s j) (v : State) (past : List Item) (c : Scene) (done : List Done) (rest : List Line) (at byte : ℕ) → command byte ≡ ReadCacheSequential → IsScene s j.lun past c → Fits s.geometry j v done c true → NoReasons s.geometry j.text v (CommandWord byte) → accepts s.geometry (bounds_of j.text) None (state_after s.geometry v (CommandWord byte)) rest ≡ true → SoundWord s j past done rest at (CommandWord byte)
+sound_31 s j k v past c done rest at byte is scene f clear acc = by_place (place_wants ReadCacheSequential v.target.tail) refl
+  where
+    by_place : (b : Bool) → place_wants ReadCacheSequential v.target.tail ≡ b → SoundWord s j past done rest at (CommandWord byte)
+    by_place true e = sound_row_31 s j k v past c done rest at byte is scene f clear e acc
+    by_place false e = sound_lone_31 s j k v past c done rest at byte is scene f clear e acc
 
 pub sound_3f : (s : Channel) (j : Job) (k : KnownJob s j) (v : State) (past : List Item) (c : Scene) (done : List Done) (rest : List Line) (at byte : ℕ) → command byte ≡ ReadCacheEnd → IsScene s j.lun past c → Fits s.geometry j v done c true → NoReasons s.geometry j.text v (CommandWord byte) → accepts s.geometry (bounds_of j.text) None (state_after s.geometry v (CommandWord byte)) rest ≡ true → SoundWord s j past done rest at (CommandWord byte)
 sound_3f s j k v past c done rest at byte is scene f clear acc =

@@ -26,7 +26,7 @@ use Rattle.onfi_cycle.specs.Command.{at_last_row, addresses_the_array, is_change
 use Rattle.onfi_cycle.specs.Sequence.{opened, facts_after, column_with, input_column}
 use Rattle.onfi_cycle.specs.Effect.{page_address}
 use Rattle.onfi_cycle.specs.Lun.{is_cache_read}
-use Rattle.onfi_cycle.specs.Rules.{planes_clash, queued_clashes, some_queued_clashes, ends_row, second_of_page, second_column, refused_by, register_len}
+use Rattle.onfi_cycle.specs.Rules.{planes_clash, queued_clashes, some_queued_clashes, ends_row, second_of_page, second_column, refused_by, register_len, excludes_cache}
 use Rattle.onfi_cycle.specs.Channel.{Channel}
 use Rattle.micro_claims.specs.Spans.{bound_plus, is_at_most, copied}
 use Rattle.micro_claims.specs.Planes.{Planes, has_plane, share_a_plane}
@@ -44,7 +44,7 @@ use Rattle.micro_program.proofs.Scenes.{Scene, IsScene, AddressAllowed, scene_be
 use Rattle.micro_program.proofs.SceneMoves.{MovesAllowed}
 use Rattle.micro_claims.proofs.Fits.{holds_address, is_of_kind, page_of, RowFits, AllFit, ColumnBegun, Fits, RegisterFits, Below, RegistersFit, Address, all_bytes, bytes_of, opener_facts, facts_behind, InProgram, Opened, PlaceIs, has_column, has_row, now_of, IsNow, ColumnFits, NameFits, RowIs, TailFits, ShowsFit, RowsFit, closer_among, LunFits}
 use Rattle.micro_claims.proofs.Numbers.{surely}
-use Rattle.micro_claims.proofs.Commands.{shows_kept}
+use Rattle.micro_claims.proofs.Commands.{shows_kept, not_caching}
 use Rattle.micro_claims.proofs.Tails.{no_place}
 use Rattle.micro_claims.proofs.Words.{least_register}
 use Rattle.micro_claims.proofs.Sounding.{KnownJob, NoReasons, unmoved, SoundWord, plain_sound}
@@ -53,11 +53,6 @@ use Rattle.micro_claims.proofs.Addressing.{PlaceClear, place_clear, address_now,
 use Rattle.micro_claims.proofs.NamesNow.{named_now}
 
 -- 1. the last row cycle
-
-pub not_caching : (w : LastCloser) (o : Option Command) → closer_among w o ≡ true → may_be_31 w ≡ false → is_cache_read o ≡ false
-not_caching w None h e = refl
-not_caching w (Some ReadCacheSequential) h e = cc
-not_caching w (Some _) h e = refl
 
 none_refuses : (g : Parts) (o : Command) (p : PageAddress) (queue : List Queued) → queue ≡ [] → refused_by g o p queue ≡ false
 none_refuses g Read p queue e = rw e refl
@@ -116,17 +111,17 @@ queue_goes g now (SomeRows erase queued d) queue regs o p plane f clear low amon
     by PageProgram false read kind clear = clear
     by _ e read kind clear = refl
 
-row_goes : (g : Parts) (j : Job) (v : State) (done : List Done) (view : LunView) (a : Address) (o : Command) (n : ℕ) → RegistersFit g j v.registers done → a.index ≡ index_now j.base done → a.plane ≡ plane_now done → LunFits g j v.lun (index_now j.base done) view → RowIs g j a → addresses_the_array o ≡ true → row_refused v (After o n) ≡ false → RowGoes g j.lun.lun a view o
+row_goes : (g : Parts) (j : Job) (v : State) (done : List Done) (view : LunView) (a : Address) (o : Command) (n : ℕ) → RegistersFit g j v.registers done → a.index ≡ index_now j.base done → a.plane ≡ plane_now done → LunFits g j v.lun (index_now j.base done) view → RowIs g j a → addresses_the_array o ≡ true → row_refused g v (After o n) ≡ false → RowGoes g j.lun.lun a view o
 row_goes g j v done view a o n registers index plane f row array refused =
-    let clear = and_rest (addresses_the_array o) (v.lun.busy || may_be_31 v.lun.last || queue_refuses v.lun.queue v.registers.planes o) array refused in
-    let two = or_parts (v.lun.busy || may_be_31 v.lun.last) (queue_refuses v.lun.queue v.registers.planes o) clear in
-    let one = or_parts v.lun.busy (may_be_31 v.lun.last) two.0 in
+    let clear = and_rest (addresses_the_array o) (v.lun.busy || (excludes_cache g o && may_be_31 v.lun.last) || queue_refuses v.lun.queue v.registers.planes o) array refused in
+    let two = or_parts (v.lun.busy || (excludes_cache g o && may_be_31 v.lun.last)) (queue_refuses v.lun.queue v.registers.planes o) clear in
+    let one = or_parts v.lun.busy (excludes_cache g o && may_be_31 v.lun.last) two.0 in
     record {
       inside = row.inside;
       names = eq-eqb _ _ (ap (λ (p : RowParts). p.lun) row.reads);
       ready = f.ready one.0;
       goes = queue_goes g (index_now j.base done) v.lun.queue view.queue v.registers.planes o (page_address g (row_of a.r1 a.r2 a.r3)) a.plane f.queue two.1 row.low (ap (λ (p : ℕ). has_plane p v.registers.planes) plane ∙ registers.plane) (ap (λ (p : RowParts). p.page) row.reads ∙ ap (λ (i : ℕ). i % g.pages) index) (ap (λ (p : RowParts). p.block) row.reads ∙ ap (λ (i : ℕ). i / g.pages * planes g + a.plane) index);
-      no_cache = not_caching v.lun.last view.closer f.last one.1;
+      no_cache = λ e. not_caching v.lun.last view.closer f.last (and_rest (excludes_cache g o) (may_be_31 v.lun.last) e one.1);
     }
 
 -- 2. what an address word makes of a place

@@ -4,11 +4,11 @@ use Rattle.nand_geometry.specs.declared.parts.Parts.{Parts}
 use Rattle.nand_geometry.specs.Limits.{page_len, planes}
 use Rattle.nand_geometry.specs.Optional.{is_wide}
 use Rattle.onfi_cycle.specs.declared.command.Command.{Command}
-use Rattle.onfi_cycle.specs.declared.command.Command.TheVariants.{Read, ChangeReadColumn, ChangeReadColumnConfirm, BlockErase, ReadStatus, ReadStatusEnhanced, PageProgram, ChangeWriteColumn, ProgramConfirm, ProgramPlane, ReadId, ReadParameterPage, ReadCacheSequential, ReadCacheEnd, ReadUniqueId, GetFeatures, SetFeatures, ResetLun}
+use Rattle.onfi_cycle.specs.declared.command.Command.TheVariants.{Read, ReadConfirm, ChangeReadColumn, ChangeReadColumnConfirm, BlockErase, ReadStatus, ReadStatusEnhanced, PageProgram, ChangeWriteColumn, ProgramConfirm, ProgramPlane, ReadId, ReadParameterPage, ReadCacheSequential, ReadCacheEnd, ReadUniqueId, GetFeatures, SetFeatures, ResetLun}
 use Rattle.onfi_cycle.specs.Base.{is_of_base}
 use Rattle.onfi_cycle.specs.Command.{is_known, is_opener, is_reset, address_cycles, closes, addresses_the_array, reads_identity, wants_one_lun}
 use Rattle.onfi_cycle.specs.Sequence.{is_proper_beginning}
-use Rattle.onfi_cycle.specs.Rules.{is_undeclared}
+use Rattle.onfi_cycle.specs.Rules.{is_undeclared, excludes_cache}
 use Rattle.micro_claims.specs.Spans.{bound_plus, is_at_most, only}
 use Rattle.micro_claims.specs.Planes.{share_a_plane, are_below}
 use Rattle.micro_claims.specs.State.{State, Span, Planes, Place, Closed, After, InData, InColumn, InFeatures, Unknown, Shown, Held, OutputColumn, QueuedRows, NoRows, SomeRows, AnyRows, Bounds, shows_status, shows_register, holds_page, holds_parameters, holds_identifier, holds_identity, holds_jedec, holds_unique_id, holds_feature, may_be_30, may_be_31, may_be_other}
@@ -191,10 +191,18 @@ opener_refused g s ReadCacheSequential =
 opener_refused g s ReadCacheEnd = not (drives s.target.shows) || s.lun.busy || may_be_other s.lun.last || may_be_30 s.lun.last
 opener_refused g s _ = false
 
--- a command that is no opener works on the one driver, and there may be none
-abbrev pub closer_refused : State → Command → Bool
-closer_refused s ChangeReadColumnConfirm = not (drives s.target.shows)
-closer_refused s _ = false
+-- a command that the tail wants may be refused: it works on the one driver, and there may be none; it reads, and a cache read may go on; or it
+-- goes on with a cache read, and in the base profile none may there, and nothing may have been read
+abbrev pub closer_refused : Parts → State → Command → Bool
+closer_refused g s ChangeReadColumnConfirm = not (drives s.target.shows)
+closer_refused g s ReadConfirm = is_wide g.optional && may_be_31 s.lun.last
+closer_refused g s ReadCacheSequential = not (is_wide g.optional) || may_be_other s.lun.last
+closer_refused g s _ = false
+
+-- a 31 that the tail wants
+abbrev pub reads_cache_at : Command → Place → Bool
+reads_cache_at ReadCacheSequential p = place_wants ReadCacheSequential p
+reads_cache_at c p = false
 
 -- a reset ends an open sequence in the wider profile
 abbrev pub may_end_sequence : Parts → Command → Bool
@@ -203,11 +211,13 @@ may_end_sequence g c = is_reset c && is_wide g.optional
 abbrev pub command_out_of_place : Parts → State → Command → Bool
 command_out_of_place g s c =
     if is_unfit g c then false
-    else (if is_opener c then (not (may_end_sequence g c) && may_be_open s) || opener_refused g s c else not (place_wants c s.target.tail) || closer_refused s c)
+    else (if is_opener c && not (reads_cache_at c s.target.tail) then (not (may_end_sequence g c) && may_be_open s) || opener_refused g s c
+    else not (place_wants c s.target.tail) || closer_refused g s c)
 
--- 31h may go past the rows of the text
+-- 31h may go past the rows of the text, where it goes to the next one
 abbrev pub command_past_rows : Parts → ℕ → State → Command → Bool
-command_past_rows g rows s ReadCacheSequential = not (is_unfit g ReadCacheSequential) && not (is_at_most (bound_plus s.lun.cached.index.hi 2) rows)
+command_past_rows g rows s ReadCacheSequential =
+    not (is_unfit g ReadCacheSequential) && (not (place_wants ReadCacheSequential s.target.tail) && not (is_at_most (bound_plus s.lun.cached.index.hi 2) rows))
 command_past_rows g rows s _ = false
 
 abbrev pub asks_status : Command → Bool
@@ -262,9 +272,10 @@ identity_refused g s from count (After opener n) = nat_lt 1 g.luns || not (count
 identity_refused g s from count _ = false
 
 -- the last row cycle may be refused; that of FAh is fine whatever the LUN does
-abbrev pub row_refused : State → Place → Bool
-row_refused s (After opener n) = addresses_the_array opener && (s.lun.busy || may_be_31 s.lun.last || queue_refuses s.lun.queue s.registers.planes opener)
-row_refused s _ = false
+abbrev pub row_refused : Parts → State → Place → Bool
+row_refused g s (After opener n) =
+    addresses_the_array opener && (s.lun.busy || (excludes_cache g opener && may_be_31 s.lun.last) || queue_refuses s.lun.queue s.registers.planes opener)
+row_refused g s _ = false
 
 -- the column is surely past its limit, so that nothing is asked of the cycles after it
 abbrev pub surely_past : Parts → State → (from count : ℕ) → Place → Bool
@@ -275,7 +286,7 @@ address_out_of_place g s from count p =
     if addresses_left p == 0 then true
     else (if takes_identity_at p then identity_refused g s from count p
     else (if surely_past g s from count p then false
-    else (nat_lt (addresses_left p) count || (from == next_address p && nat_le 5 (from + count) && row_refused s p))))
+    else (nat_lt (addresses_left p) count || (from == next_address p && nat_le 5 (from + count) && row_refused g s p))))
 
 -- it begins at another byte than the one that is wanted
 abbrev pub begins_elsewhere : (from : ℕ) → Place → Bool

@@ -6,7 +6,7 @@ use Rattle.onfi_cycle.specs.declared.command.Command.TheVariants.{Read, ReadConf
 use Rattle.micro_claims.specs.Spans.{copied, plus, plus_between, greatest_bound}
 use Rattle.micro_claims.specs.Planes.{no_planes, either_plane}
 use Rattle.micro_claims.specs.State.{State, Registers, KnownTarget, KnownLun, Span, PageRange, Place, Closed, After, InData, InColumn, InFeatures, Unknown, Drift, IndexMove, On, To, NamedRow, Shown, Held, OutputColumn, QueuedRows, NoRows, SomeRows, AnyRows, LastCloser, CachedPage, Planes, exactly, not_cached, other_closer, closed, shows_status, shows_register}
-use Rattle.micro_claims.specs.Against.{same_test, byte_of_column}
+use Rattle.micro_claims.specs.Against.{same_test, place_wants, byte_of_column}
 
 -- ---- parts of a state
 
@@ -184,13 +184,22 @@ read_started g s =
       };
     }
 
-abbrev pub cache_read : LastCloser → CachedPage → State → State
-cache_read last cached s =
+abbrev pub cache_read : LastCloser → CachedPage → Option Shown → State → State
+cache_read last cached shows s =
     record {
       registers = s.registers;
-      target = closed data_shown;
+      target = closed shows;
       lun = record { busy = true; register = page_register; column = Some (record { at = exactly 0; read = false }); queue = s.lun.queue; last = last; cached = cached };
     }
+
+abbrev pub next_cached : CachedPage → CachedPage
+next_cached cached = record { index = plus cached.index 1; page = plus cached.page 1 }
+
+-- a 31: the array reads the page of the row, where the tail wants it, and else the next one
+abbrev pub cache_read_on : Parts → State → State
+cache_read_on g s =
+    if place_wants ReadCacheSequential s.target.tail then cache_read (record { 0 = 2 }) (cached_at s.target.named) (shows_after_read g s.target.shows) s
+    else cache_read (record { 0 = 2 }) (next_cached s.lun.cached) data_shown s
 
 -- a reset: whatever the LUN did ends, and nothing is held or queued
 abbrev pub reset_started : State → State
@@ -218,9 +227,8 @@ command_leaves g s BlockErasePlane = work_started (queued_more true s.lun.queue 
 command_leaves g s ProgramPlane = work_started (queued_more false s.lun.queue s.target.named) s
 command_leaves g s Reset = reset_started s
 command_leaves g s SynchronousReset = reset_started s
-command_leaves g s ReadCacheSequential =
-    cache_read (record { 0 = 2 }) (record { index = plus s.lun.cached.index 1; page = plus s.lun.cached.page 1 }) s
-command_leaves g s ReadCacheEnd = cache_read other_closer s.lun.cached s
+command_leaves g s ReadCacheSequential = cache_read_on g s
+command_leaves g s ReadCacheEnd = cache_read other_closer s.lun.cached data_shown s
 command_leaves g s _ = s
 
 -- ---- addresses

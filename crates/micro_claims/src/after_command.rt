@@ -1,6 +1,6 @@
 //! What a command leaves of what is known before it.
 ghost use Rattle.std.specs.Prelude.{◌≡◌};
-ghost use Rattle.micro_claims.specs.Leaves.{given_at, opened_by, work_started, queued_more, read_started, cache_read, reset_started, command_leaves, with_target};
+ghost use Rattle.micro_claims.specs.Leaves.{given_at, opened_by, work_started, queued_more, read_started, cache_read, cache_read_on, reset_started, command_leaves, with_target};
 ghost use Rattle.micro_claims.specs.State.{InColumn, closed};
 
 use crate::cached_page::CachedPage;
@@ -11,7 +11,7 @@ use crate::last_closer::LastCloser;
 use crate::output_column::OutputColumn;
 use crate::place::Place;
 use crate::queued_rows::QueuedRows;
-use crate::shown::DATA_SHOWN;
+use crate::shown::{DATA_SHOWN, Shown};
 use crate::state::State;
 use nand_geometry::Geometry;
 use onfi_cycle::Command;
@@ -48,11 +48,23 @@ impl State {
     }
 
     // After a command that goes on with a cache read, or ends it.
-    fn read_cache(&mut self, last: LastCloser, cached: CachedPage)
-        ensures { self.new ≡ cache_read last cached self.old }
+    fn read_cache(&mut self, last: LastCloser, cached: CachedPage, shows: Option<Shown>)
+        ensures { self.new ≡ cache_read last cached shows self.old }
     {
-        self.target = KnownTarget::closed(DATA_SHOWN);
+        self.target = KnownTarget::closed(shows);
         self.lun = self.lun.caching(last, cached);
+    }
+
+    // After a 31h: the array reads the page of the row, where the tail wants it, and else the next one.
+    fn go_on_with_cache_read(&mut self, geometry: &Geometry)
+        ensures { self.new ≡ cache_read_on geometry.now self.old }
+    {
+        if self.target.tail.wants(Command::ReadCacheSequential) {
+            let shows = self.target.shows_after_read(geometry);
+            self.read_cache(LastCloser::CACHE, CachedPage::of(self.target.named), shows);
+        } else {
+            self.read_cache(LastCloser::CACHE, self.lun.cached.next(), DATA_SHOWN);
+        }
     }
 
     // After a reset.
@@ -113,10 +125,10 @@ impl State {
             Command::BlockErasePlane => self.queue_row(true),
             Command::ProgramPlane => self.queue_row(false),
             Command::Reset | Command::SynchronousReset => self.reset(),
-            Command::ReadCacheSequential => {
-                self.read_cache(LastCloser::CACHE, self.lun.cached.next())
-            },
-            Command::ReadCacheEnd => self.read_cache(LastCloser::OTHER, self.lun.cached),
+            Command::ReadCacheSequential => self.go_on_with_cache_read(geometry),
+            Command::ReadCacheEnd => {
+                self.read_cache(LastCloser::OTHER, self.lun.cached, DATA_SHOWN);
+            }
             Command::ReadStatus | Command::ReadStatusEnhanced | Command::Unknown => {}
         }
     }

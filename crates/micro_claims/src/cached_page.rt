@@ -1,8 +1,7 @@
 //! The page that the array reads.
 ghost use Rattle.std.specs.Prelude.{◌≡◌};
 ghost use Rattle.micro_claims.specs.Joins.{joined_cached};
-ghost use Rattle.micro_claims.specs.Leaves.{cached_at};
-ghost use Rattle.micro_claims.specs.Spans.{plus};
+ghost use Rattle.micro_claims.specs.Leaves.{cached_at, next_cached};
 ghost use Rattle.micro_claims.specs.State.{not_cached};
 
 use crate::named_row::NamedRow;
@@ -43,7 +42,7 @@ impl CachedPage {
 
     // The page after it.
     pub(crate) fn next(self) -> CachedPage
-        ensures { result ≡ record { index = plus self.index 1; page = plus self.page 1 } }
+        ensures { result ≡ next_cached self }
     {
         CachedPage {
             index: self.index.plus(1),

@@ -1,7 +1,8 @@
 //! The reasons against a word, by what is known before it.
 ghost use Rattle.std.specs.Prelude.{◌≡◌, ◌^◌, ◌<◌, ◌==◌, ◌&&◌, not};
-ghost use Rattle.micro_claims.specs.Against.{next_address, is_of_profile, is_unfit, opener_refused, closer_refused, may_end_sequence, command_out_of_place, command_past_rows, command_not_for_programs, has_second_column, column_limit, takes_any_byte, takes_identity, is_identity_byte, identity_refused, row_refused, surely_past, address_out_of_place, begins_elsewhere, column_past, row_outside, output_refused, output_past, input_past, may_be_unready};
+ghost use Rattle.micro_claims.specs.Against.{next_address, is_of_profile, is_unfit, opener_refused, closer_refused, reads_cache_at, may_end_sequence, command_out_of_place, command_past_rows, command_not_for_programs, has_second_column, column_limit, takes_any_byte, takes_identity, is_identity_byte, identity_refused, row_refused, surely_past, address_out_of_place, begins_elsewhere, column_past, row_outside, output_refused, output_past, input_past, may_be_unready};
 ghost use Rattle.nand_geometry.specs.Optional.{is_wide};
+ghost use Rattle.onfi_cycle.specs.Rules.{excludes_cache};
 ghost use Rattle.micro_claims.specs.Reasons.{breaks_cycle_forbidden, breaks_address_unaligned, breaks_handover_in_sequence, breaks_buffer_passed, breaks_row_or_plane_outside, breaks_column_too_large, breaks_no_status, breaks_ends_too_soon, breaks_over_budget, breaks_command_not_allowed, reason_against};
 ghost use Rattle.micro_claims.specs.Spans.{bound_plus, is_at_most};
 ghost use Rattle.micro_program.specs.Program.{cost};
@@ -50,6 +51,23 @@ fn is_unfit(geometry: &Geometry, command: Command) -> bool
     ensures { result ≡ is_unfit geometry.now command }
 {
     !is_of_profile(geometry, command) || is_undeclared(geometry, command)
+}
+
+// A 31h that the tail wants.
+fn reads_cache_at(command: Command, tail: Place) -> bool
+    ensures { result ≡ reads_cache_at command tail }
+{
+    command == Command::ReadCacheSequential && tail.wants(command)
+}
+
+// The opener's row names a LUN that does no cache read: a Read may name one in the wider profile.
+fn excludes_cache(geometry: &Geometry, opener: Command) -> bool
+    ensures { result ≡ excludes_cache geometry.now opener }
+{
+    match opener {
+        Command::Read => !is_wide(geometry),
+        _ => opener.addresses_the_array(),
+    }
 }
 
 // A reset ends an open sequence in the wider profile.
@@ -166,11 +184,16 @@ impl State {
         }
     }
 
-    // A command that is no opener may find no driver to work on.
-    fn refuses_closer(&self, closer: Command) -> bool
-        ensures { result ≡ closer_refused self.now closer }
+    // A command that the tail wants may find no driver to work on, a cache read that goes on, or none that may.
+    fn refuses_closer(&self, geometry: &Geometry, closer: Command) -> bool
+        ensures { result ≡ closer_refused geometry.now self.now closer }
     {
-        closer == Command::ChangeReadColumnConfirm && !self.target.drives()
+        match closer {
+            Command::ChangeReadColumnConfirm => !self.target.drives(),
+            Command::ReadConfirm => is_wide(geometry) && self.lun.last.may_be_31(),
+            Command::ReadCacheSequential => !is_wide(geometry) || self.lun.last.may_be_other(),
+            _ => false,
+        }
     }
 
     fn refuses_command(&self, geometry: &Geometry, command: Command) -> bool
@@ -178,11 +201,11 @@ impl State {
     {
         if is_unfit(geometry, command) {
             false
-        } else if command.is_opener() {
+        } else if command.is_opener() && !reads_cache_at(command, self.target.tail) {
             !may_end_sequence(geometry, command) && self.may_be_open()
                 || self.refuses_opener(geometry, command)
         } else {
-            !self.target.tail.wants(command) || self.refuses_closer(command)
+            !self.target.tail.wants(command) || self.refuses_closer(geometry, command)
         }
     }
 
@@ -192,6 +215,7 @@ impl State {
     {
         command == Command::ReadCacheSequential
             && !is_unfit(geometry, command)
+            && !self.target.tail.wants(command)
             && !is_at_most(bound_plus(self.lun.cached.index.hi(), 2), u64::from(rows))
     }
 
@@ -229,14 +253,14 @@ impl State {
     }
 
     // The last row cycle may be refused; that of Reset LUN is fine whatever the LUN does.
-    fn refuses_row(&self) -> bool
-        ensures { result ≡ row_refused self.now self.now.target.tail }
+    fn refuses_row(&self, geometry: &Geometry) -> bool
+        ensures { result ≡ row_refused geometry.now self.now self.now.target.tail }
     {
         match self.target.tail {
             Place::After { opener, .. } => {
                 opener.addresses_the_array()
                     && (self.lun.busy
-                        || self.lun.last.contains(LastCloser::CACHE)
+                        || excludes_cache(geometry, opener) && self.lun.last.may_be_31()
                         || self.lun.queue.refuses(self.registers.planes, opener))
             }
             _ => false,
@@ -273,7 +297,7 @@ impl State {
             left < usize::from(count)
                 || usize::from(from) == tail.next_address()
                     && u32::from(from) + u32::from(count) >= 5
-                    && self.refuses_row()
+                    && self.refuses_row(geometry)
         }
     }
 

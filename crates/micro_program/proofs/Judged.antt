@@ -1,6 +1,6 @@
 -- What a scene allows is permitted and the LUN's own.
 use Rattle.std.specs.List.{list_any}
-use Rattle.std.proofs.Common.{◌≡◌, ℕ, ◌<◌, Bool, true, false, ◌&&◌, ◌||◌, not, ltb, nat_le, Option, Some, None, List, refl, sym, ap, ◌∙◌, subst, arith, ltb-false, eqb-true}
+use Rattle.std.proofs.Common.{◌≡◌, ℕ, ◌<◌, Bool, true, false, ◌&&◌, ◌||◌, not, ltb, nat_le, Option, Some, None, List, refl, sym, ap, ◌∙◌, subst, arith, ltb-false, eqb-true, inl, inr}
 use Rattle.std.proofs.lemmas.Bool.{and_right, or_from}
 use Rattle.nand_geometry.specs.declared.parts.Parts.{Parts}
 use Rattle.nand_geometry.specs.Limits.{page_len}
@@ -17,16 +17,16 @@ use Rattle.onfi_cycle.specs.declared.tail_facts.TailFacts.{TailFacts}
 use Rattle.onfi_cycle.specs.declared.target_cycle.TargetCycle.TheVariants.{CommandCycle, AddressCycle, InputCycle, OutputCycle}
 use Rattle.onfi_cycle.specs.LunView.{LunView}
 use Rattle.onfi_cycle.specs.Command.{at_last_row, addresses_the_array, is_change_read_column}
-use Rattle.onfi_cycle.specs.Sequence.{opened, is_open, takes_inputs, takes_features, wants_command, wants_address, row_with, column_with, input_column}
-use Rattle.onfi_cycle.specs.Effect.{is_shared, page_address}
-use Rattle.onfi_cycle.specs.Lun.{lun_view, luns_of, views_from}
-use Rattle.onfi_cycle.specs.Rules.{ends_row, named_lun_is, works_for_target, is_some_and, driver, second_of_page, second_column, caching, continues_cache, ends_cache, may_change_column, has_some, is_refused_by, register_len, has_no_byte, is_past_register, breaks_command_unknown, breaks_sequence_open, breaks_several_luns, breaks_no_column_to_change, breaks_command_misplaced, breaks_address_misplaced, breaks_row_outside, breaks_lun_busy, breaks_queue_clash, breaks_input_misplaced, breaks_no_sole_driver, breaks_data_not_ready, breaks_column_outside, breaks_cache_read_misplaced}
+use Rattle.onfi_cycle.specs.Sequence.{opened, is_open, takes_inputs, takes_features, wants_command, wants_address, row_with, column_with, input_column, row}
+use Rattle.onfi_cycle.specs.Effect.{is_shared, page_address, names_lun}
+use Rattle.onfi_cycle.specs.Lun.{lun_view, luns_of, views_from, is_page_read}
+use Rattle.onfi_cycle.specs.Rules.{ends_row, named_lun_is, works_for_target, is_some_and, driver, second_of_page, second_column, caching, continues_cache, ends_cache, may_change_column, has_some, is_refused_by, register_len, has_no_byte, is_past_register, breaks_command_unknown, breaks_sequence_open, breaks_several_luns, breaks_no_column_to_change, breaks_command_misplaced, breaks_address_misplaced, breaks_row_outside, breaks_lun_busy, breaks_queue_clash, breaks_input_misplaced, breaks_no_sole_driver, breaks_data_not_ready, breaks_column_outside, breaks_cache_read_misplaced, excludes_cache}
 use Rattle.onfi_cycle.specs.Permitted.{judge_cycle}
 use Rattle.onfi_cycle.specs.Channel.{Channel, is_there}
 use Rattle.micro_program.proofs.Below.{facts}
 use Rattle.micro_program.proofs.Basics.{there_lun}
 use Rattle.micro_program.proofs.Views.{some_at, passes_at}
-use Rattle.micro_program.proofs.Scenes.{Scene, IsScene, CommandAllowed, AddressAllowed}
+use Rattle.micro_program.proofs.Scenes.{Scene, IsScene, CommandAllowed, AddressAllowed, closed_unwanted}
 
 -- 1. commands
 
@@ -157,9 +157,19 @@ unfolding breaks_command_unknown breaks_sequence_open breaks_several_luns breaks
 judge_cache g t luns v closed declared one passes = at (is_wide g.optional) (ltb 1 g.luns) refl refl
   where
     at : (w several : Bool) → is_wide g.optional ≡ w → ltb 1 g.luns ≡ several → judge_cycle g t luns (CommandCycle ReadCacheSequential) ≡ None
-    at true true e f = rw (e, f, closed, declared, one, passes) refl
-    at true false e f = rw (e, f, closed, declared, one, passes) refl
-    at false several e f = rw (e, closed, declared, one, passes) refl
+    at true true e f = rw (e, f, closed, declared, closed_unwanted t closed, one, passes) refl
+    at true false e f = rw (e, f, closed, declared, closed_unwanted t closed, one, passes) refl
+    at false several e f = rw (e, closed, declared, closed_unwanted t closed, one, passes) refl
+
+judge_row_cache : (g : Parts) (t : TailFacts) (luns : List LunView) → wants_command t ReadCacheSequential ≡ true → is_wide g.optional ≡ true → g.cache ≡ true → named_lun_is g (row t) (λ v. is_page_read v.closer) luns ≡ true → judge_cycle g t luns (CommandCycle ReadCacheSequential) ≡ None
+unfolding breaks_command_unknown breaks_sequence_open breaks_several_luns breaks_no_column_to_change breaks_command_misplaced breaks_address_misplaced breaks_row_outside breaks_lun_busy breaks_queue_clash breaks_input_misplaced breaks_no_sole_driver breaks_data_not_ready breaks_column_outside breaks_cache_read_misplaced
+judge_row_cache g t luns wants wide declared read = at (is_open t) (ltb 1 g.luns) refl refl
+  where
+    at : (opens several : Bool) → is_open t ≡ opens → ltb 1 g.luns ≡ several → judge_cycle g t luns (CommandCycle ReadCacheSequential) ≡ None
+    at true true e f = rw (e, f, wide, declared, wants, read) refl
+    at true false e f = rw (e, f, wide, declared, wants, read) refl
+    at false true e f = rw (e, f, wide, declared, wants, read) refl
+    at false false e f = rw (e, f, wide, declared, wants, read) refl
 
 judge_cache_end : (g : Parts) (t : TailFacts) (luns : List LunView) (v : LunView) → is_open t ≡ false → g.cache ≡ true → driver luns ≡ Some v → ends_cache v ≡ true → judge_cycle g t luns (CommandCycle ReadCacheEnd) ≡ None
 unfolding breaks_command_unknown breaks_sequence_open breaks_several_luns breaks_no_column_to_change breaks_command_misplaced breaks_address_misplaced breaks_row_outside breaks_lun_busy breaks_queue_clash breaks_input_misplaced breaks_no_sole_driver breaks_data_not_ready breaks_column_outside breaks_cache_read_misplaced
@@ -170,13 +180,13 @@ judge_cache_end g t luns v closed declared one passes = at (is_wide g.optional) 
     at true false e f = rw (e, f, closed, declared, one, passes) refl
     at false several e f = rw (e, closed, declared, one, passes) refl
 
-judge_30 : (g : Parts) (t : TailFacts) (luns : List LunView) → wants_command t ReadConfirm ≡ true → judge_cycle g t luns (CommandCycle ReadConfirm) ≡ None
+judge_30 : (g : Parts) (t : TailFacts) (luns : List LunView) → wants_command t ReadConfirm ≡ true → (is_wide g.optional && named_lun_is g (row t) caching luns) ≡ false → judge_cycle g t luns (CommandCycle ReadConfirm) ≡ None
 unfolding breaks_command_unknown breaks_sequence_open breaks_several_luns breaks_no_column_to_change breaks_command_misplaced breaks_address_misplaced breaks_row_outside breaks_lun_busy breaks_queue_clash breaks_input_misplaced breaks_no_sole_driver breaks_data_not_ready breaks_column_outside breaks_cache_read_misplaced
-judge_30 g t luns wants = at (is_wide g.optional) (ltb 1 g.luns) refl refl
+judge_30 g t luns wants free = at (is_wide g.optional) (ltb 1 g.luns) refl refl
   where
     at : (w several : Bool) → is_wide g.optional ≡ w → ltb 1 g.luns ≡ several → judge_cycle g t luns (CommandCycle ReadConfirm) ≡ None
-    at true true e f = rw (e, f, wants) refl
-    at true false e f = rw (e, f, wants) refl
+    at true true e f = let none : named_lun_is g (row t) caching luns ≡ false = ap (λ (b : Bool). b && named_lun_is g (row t) caching luns) (sym e) ∙ free in rw (e, f, wants, none) refl
+    at true false e f = let none : named_lun_is g (row t) caching luns ≡ false = ap (λ (b : Bool). b && named_lun_is g (row t) caching luns) (sym e) ∙ free in rw (e, f, wants, none) refl
     at false several e f = rw (e, wants) refl
 
 judge_d0 : (g : Parts) (t : TailFacts) (luns : List LunView) → wants_command t BlockEraseConfirm ≡ true → judge_cycle g t luns (CommandCycle BlockEraseConfirm) ≡ None
@@ -260,6 +270,10 @@ command_judged s l past c there k d a = by d a
     none_of : (test : LunView → Bool) → ltb 1 s.geometry.luns ≡ false → test c.view ≡ false → list_any test (luns_of s.geometry past l.ce) ≡ false
     none_of test one h = let is = one_lun s l there one in some_of_one s.geometry past l test is.0 is.1 ∙ or_false (test (lun_view s.geometry past l)) (ap test k.view ∙ h)
 
+    -- the LUN that the row of the tail names is this one
+    named_as : (test : LunView → Bool) → names_lun s.geometry (row c.facts) l.lun ≡ true → named_lun_is s.geometry (row c.facts) test (luns_of s.geometry past l.ce) ≡ test c.view
+    named_as test names = passes_at s.geometry past l _ test (there_lun s l there) (eqb-true _ _ names) ∙ ap test k.view
+
     by : (d : Command) → CommandAllowed s.geometry l.lun c d → judge_cycle s.geometry c.facts (luns_of s.geometry past l.ce) (CommandCycle d) ≡ None
     by Read a = judge_read s.geometry c.facts _ a.0 (some_ready a.1)
     by BlockErase a = judge_erase s.geometry c.facts _ a.0 (some_ready a.1)
@@ -270,9 +284,10 @@ command_judged s l past c there k d a = by d a
     by ReadId a = judge_id s.geometry c.facts _ a.closed a.one (some_ready a.ready) (none_of (λ v. has_some v.queue) a.one a.no_queue) (none_of caching a.one a.no_cache)
     by ReadParameterPage a = judge_parameters s.geometry c.facts _ a.closed a.one (some_ready a.ready) (none_of (λ v. has_some v.queue) a.one a.no_queue) (none_of caching a.one a.no_cache)
     by Reset a = judge_reset s.geometry c.facts _ a.closed a.one
-    by ReadCacheSequential a = judge_cache s.geometry c.facts _ c.view a.closed a.declared (the_driver a.sole) a.passes
+    by ReadCacheSequential (inl a) = judge_cache s.geometry c.facts _ c.view a.closed a.declared (the_driver a.sole) a.passes
+    by ReadCacheSequential (inr a) = judge_row_cache s.geometry c.facts _ a.wants a.wide a.declared (named_as (λ v. is_page_read v.closer) a.names ∙ a.read)
     by ReadCacheEnd a = judge_cache_end s.geometry c.facts _ c.view a.closed a.declared (the_driver a.sole) a.passes
-    by ReadConfirm a = judge_30 s.geometry c.facts _ a.0
+    by ReadConfirm a = judge_30 s.geometry c.facts _ a.0.0 (ap (λ (b : Bool). is_wide s.geometry.optional && b) (named_as caching a.0.1) ∙ a.1)
     by BlockEraseConfirm a = judge_d0 s.geometry c.facts _ a.0
     by BlockErasePlane a = judge_d1 s.geometry c.facts _ a.0.0 a.1
     by ProgramConfirm a = judge_10 s.geometry c.facts _ a.0
@@ -352,7 +367,7 @@ address_judged s l past c byte there k a = at (ends_row (λ d. true) c.facts) re
         (both_no (ends_row addresses_the_array c.facts) _ (λ x. or_from _ _ (named (row_with c.facts byte) (λ v. v.busy) is (r.ready x)) k.free))
         (named (row_with c.facts byte) (λ v. is_refused_by g c.facts.opening (page_address g (row_with c.facts byte)) v.queue) is r.goes)
         f14
-        (both_no (ends_row addresses_the_array c.facts) _ (λ x. named (row_with c.facts byte) caching is (r.no_cache x)))
+        (both_no (ends_row (excludes_cache g) c.facts) _ (λ x. named (row_with c.facts byte) caching is (r.no_cache x)))
     at false e =
         let none = ends_none addresses_the_array c.facts.opening e in
         judge_address g c.facts luns byte f7
@@ -360,7 +375,7 @@ address_judged s l past c byte there k a = at (ends_row (λ d. true) c.facts) re
         (both_no (ends_row addresses_the_array c.facts) _ (λ x. clash x none))
         (no_lun (λ v. is_refused_by g c.facts.opening (page_address g (row_with c.facts byte)) v.queue) _ (λ v. refused_none g (page_address g (row_with c.facts byte)) v.queue c.facts.opening e))
         f14
-        (both_no (ends_row addresses_the_array c.facts) _ (λ x. clash x none))
+        (both_no (ends_row (excludes_cache g) c.facts) _ (λ x. clash x (ends_none (excludes_cache g) c.facts.opening e)))
       where
         clash : {x y : Bool} → x ≡ true → x ≡ false → y ≡ false
         clash h k = cc

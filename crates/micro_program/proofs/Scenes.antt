@@ -1,6 +1,6 @@
 -- What one LUN sees of its target: the facts of the tail, what the rules see of the LUN, and whether it is known to drive alone.
 -- Which cycle of its own is permitted, and what it leaves, is told by that alone.
-use Rattle.std.proofs.Common.{◌≡◌, ℕ, ◌==◌, Bool, true, false, ◌&&◌, ◌||◌, cond, not, ltb, nat_le, Option, Some, None, List}
+use Rattle.std.proofs.Common.{◌≡◌, ℕ, ◌==◌, Bool, true, false, ◌&&◌, ◌||◌, cond, not, ltb, nat_le, Option, Some, None, List, ◌⊎◌, refl}
 use Rattle.nand_geometry.specs.declared.parts.Parts.{Parts}
 use Rattle.nand_geometry.specs.Limits.{page_len}
 use Rattle.nand_geometry.specs.Row.{parts_of, is_inside}
@@ -18,10 +18,11 @@ use Rattle.onfi_cycle.specs.declared.target_cycle.TargetCycle.TheVariants.{Comma
 use Rattle.onfi_cycle.specs.LunView.{LunView}
 use Rattle.onfi_cycle.specs.Sequence.{tail, facts_of, facts_after, opened, is_open, takes_features, takes_inputs, wants_command, wants_address, row, row_with, column_with, input_column}
 use Rattle.onfi_cycle.specs.Effect.{page_address, names_lun, cycle_effect}
-use Rattle.onfi_cycle.specs.Lun.{drivers, is_only, lun_view, view_after}
-use Rattle.onfi_cycle.specs.Rules.{ends_row, second_of_page, second_column, caching, continues_cache, ends_cache, may_change_column, has_some, is_refused_by, register_len, has_no_byte, is_past_register, is_undeclared_address}
+use Rattle.onfi_cycle.specs.Lun.{drivers, is_only, lun_view, view_after, is_page_read}
+use Rattle.onfi_cycle.specs.Rules.{ends_row, second_of_page, second_column, caching, continues_cache, ends_cache, may_change_column, has_some, is_refused_by, register_len, has_no_byte, is_past_register, is_undeclared_address, excludes_cache}
 use Rattle.onfi_cycle.specs.Command.{addresses_the_array, is_change_read_column, reads_identity}
 use Rattle.onfi_cycle.specs.Channel.{Channel, is_serving}
+use Rattle.onfi_cycle.proofs.TableLemmas.{command_opens}
 
 pub record Scene : Type 0 where
   pub facts : TailFacts
@@ -61,6 +62,22 @@ pub record CacheAllowed (g : Parts) (c : Scene) (test : LunView → Bool) : Type
   pub sole : c.sole ≡ true
   pub passes : test c.view ≡ true
 
+-- a cache read at the row of the tail
+pub record RowCacheAllowed (g : Parts) (lun : ℕ) (c : Scene) : Type 0 where
+  pub wants : wants_command c.facts ReadCacheSequential ≡ true
+  pub names : names_lun g (row c.facts) lun ≡ true
+  pub declared : g.cache ≡ true
+  pub wide : is_wide g.optional ≡ true
+  pub read : is_page_read c.view.closer ≡ true
+
+-- where nothing is open no 31 is wanted
+pub closed_unwanted : (t : TailFacts) → is_open t ≡ false → wants_command t ReadCacheSequential ≡ false
+closed_unwanted t closed = at (wants_command t ReadCacheSequential) refl
+  where
+    at : (w : Bool) → wants_command t ReadCacheSequential ≡ w → w ≡ false
+    at true w = let opens : is_open t ≡ true = command_opens t ReadCacheSequential w in cc
+    at false w = refl
+
 abbrev pub CommandAllowed : Parts → ℕ → Scene → Command → Type 0
 CommandAllowed g lun c Read = OpenerAllowed c
 CommandAllowed g lun c BlockErase = OpenerAllowed c
@@ -71,9 +88,9 @@ CommandAllowed g lun c ReadStatusEnhanced = (is_open c.facts ≡ false) × (g.en
 CommandAllowed g lun c ReadId = IdentityAllowed g c
 CommandAllowed g lun c ReadParameterPage = IdentityAllowed g c
 CommandAllowed g lun c Reset = ResetAllowed g c
-CommandAllowed g lun c ReadCacheSequential = CacheAllowed g c (continues_cache g)
+CommandAllowed g lun c ReadCacheSequential = CacheAllowed g c (continues_cache g) ⊎ RowCacheAllowed g lun c
 CommandAllowed g lun c ReadCacheEnd = CacheAllowed g c ends_cache
-CommandAllowed g lun c ReadConfirm = CloserAllowed g lun c ReadConfirm
+CommandAllowed g lun c ReadConfirm = CloserAllowed g lun c ReadConfirm × ((is_wide g.optional && caching c.view) ≡ false)
 CommandAllowed g lun c BlockEraseConfirm = CloserAllowed g lun c BlockEraseConfirm
 CommandAllowed g lun c BlockErasePlane = CloserAllowed g lun c BlockErasePlane × (g.multi_plane ≡ true)
 CommandAllowed g lun c ProgramConfirm = CloserAllowed g lun c ProgramConfirm
@@ -93,7 +110,7 @@ pub record RowAllowed (g : Parts) (lun : ℕ) (c : Scene) (byte : ℕ) : Type 0 
   pub names : names_lun g (row_with c.facts byte) lun ≡ true
   pub ready : ends_row addresses_the_array c.facts ≡ true → c.view.busy ≡ false
   pub goes : is_refused_by g c.facts.opening (page_address g (row_with c.facts byte)) c.view.queue ≡ false
-  pub no_cache : ends_row addresses_the_array c.facts ≡ true → caching c.view ≡ false
+  pub no_cache : ends_row (excludes_cache g) c.facts ≡ true → caching c.view ≡ false
 
 pub record AddressAllowed (g : Parts) (lun : ℕ) (c : Scene) (byte : ℕ) : Type 0 where
   pub wanted : wants_address c.facts byte ≡ true
@@ -132,6 +149,7 @@ command_sole g sole Reset = false
 command_sole g sole SynchronousReset = false
 command_sole g sole ReadStatus = false
 command_sole g sole ReadConfirm = sole || not (ltb 1 g.luns)
+command_sole g sole ReadCacheSequential = sole || not (ltb 1 g.luns)
 command_sole g sole _ = sole
 
 -- behind an address that comes after so many others

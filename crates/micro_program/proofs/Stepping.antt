@@ -19,7 +19,7 @@ use Rattle.onfi_cycle.specs.declared.target_cycle.TargetCycle.{TargetCycle}
 use Rattle.onfi_cycle.specs.declared.target_cycle.TargetCycle.TheVariants.{CommandCycle, AddressCycle, InputCycle, OutputCycle}
 use Rattle.onfi_cycle.specs.LunView.{LunView}
 use Rattle.onfi_cycle.specs.Sequence.{tail, facts_of, facts_after, opened, takes_features, target_cycle, wants_command, wants_address, row, row_with}
-use Rattle.onfi_cycle.specs.Effect.{is_off, is_data, is_shared, of_target, lun_reset_effect, names_lun, command_effect, address_effect, opening_address_effect, id_effect, ends_features, cycle_effect}
+use Rattle.onfi_cycle.specs.Effect.{is_off, is_data, is_shared, of_target, lun_reset_effect, names_lun, command_effect, address_effect, opening_address_effect, id_effect, ends_features, cycle_effect, row_effect, cache_effect}
 use Rattle.onfi_cycle.specs.Lun.{latch, latch_after, works, latch_alone, effect_on, drivers, drivers_from, is_only, lun_view, luns_of, view_after}
 use Rattle.nand_geometry.specs.Optional.{is_wide}
 use Rattle.onfi_cycle.specs.Command.{closes_row, reads_identity}
@@ -31,7 +31,7 @@ use Rattle.micro_program.proofs.Below.{facts, service, driver_on}
 use Rattle.micro_program.proofs.Basics.{there_lun}
 use Rattle.micro_program.proofs.Calm.{own_effect}
 use Rattle.micro_program.proofs.Cycles.{of_no_target, permitted_cycle}
-use Rattle.micro_program.proofs.Scenes.{Scene, IsScene, CommandAllowed, AddressAllowed, Allowed, shown_alone, command_sole, opener_sole, address_sole, sole_behind, scene_behind}
+use Rattle.micro_program.proofs.Scenes.{Scene, IsScene, CommandAllowed, AddressAllowed, Allowed, shown_alone, command_sole, opener_sole, address_sole, sole_behind, scene_behind, closed_unwanted}
 use Rattle.micro_program.proofs.Judged.{one_lun, command_judged, address_judged, input_judged, output_judged}
 
 -- 1. permitted, and the LUN's own
@@ -52,14 +52,28 @@ alone_to_target false serves keeps one keep = keep
 pub of_one : (g : Parts) (lun : ℕ) (e : Effect) → ltb 1 g.luns ≡ false → of_target g lun e ≡ e
 of_one g lun e one = ap (λ (b : Bool). cond (not b || lun == 0) e Deselected) (not_shared g one)
 
+-- a 31 is of the LUN of its row, where it is wanted, and else of the driver
+at_row : (w named only : Bool) → w ≡ true → named ≡ true → cond w named only ≡ true
+at_row true named only e h = h
+at_row false named only e h = cc
+
+at_driver : (w named only : Bool) → w ≡ false → only ≡ true → cond w named only ≡ true
+at_driver true named only e h = cc
+at_driver false named only e h = h
+
 command_keeps_to : (s : Channel) (l : Lun) (past : List Item) (c : Scene) → IsScene s l past c → (d : Command) → CommandAllowed s.geometry l.lun c d → keeps_to s.geometry past l (CommandCycle d) ≡ true
-command_keeps_to s l past c k ReadConfirm a = of_no_target (is_shared s.geometry) false _ refl (ap (λ (t : TailFacts). names_lun s.geometry (row t) l.lun) k.facts ∙ a.1)
+command_keeps_to s l past c k ReadConfirm a = of_no_target (is_shared s.geometry) false _ refl (ap (λ (t : TailFacts). names_lun s.geometry (row t) l.lun) k.facts ∙ a.0.1)
 command_keeps_to s l past c k BlockEraseConfirm a = of_no_target (is_shared s.geometry) false _ refl (ap (λ (t : TailFacts). names_lun s.geometry (row t) l.lun) k.facts ∙ a.1)
 command_keeps_to s l past c k BlockErasePlane a = of_no_target (is_shared s.geometry) false _ refl (ap (λ (t : TailFacts). names_lun s.geometry (row t) l.lun) k.facts ∙ a.0.1)
 command_keeps_to s l past c k ProgramConfirm a = of_no_target (is_shared s.geometry) false _ refl (ap (λ (t : TailFacts). names_lun s.geometry (row t) l.lun) k.facts ∙ a.1)
 command_keeps_to s l past c k ProgramPlane a = of_no_target (is_shared s.geometry) false _ refl (ap (λ (t : TailFacts). names_lun s.geometry (row t) l.lun) k.facts ∙ a.0.1)
 command_keeps_to s l past c k ChangeReadColumnConfirm a = of_no_target (is_shared s.geometry) false _ refl (k.sole a.1)
-command_keeps_to s l past c k ReadCacheSequential a = of_no_target (is_shared s.geometry) false _ refl (k.sole a.sole)
+command_keeps_to s l past c k ReadCacheSequential (inl a) =
+    of_no_target (is_shared s.geometry) false _ refl
+    (at_driver (wants_command (facts_of (tail past l.ce)) ReadCacheSequential) _ _ (ap (λ (t : TailFacts). wants_command t ReadCacheSequential) k.facts ∙ closed_unwanted c.facts a.closed) (k.sole a.sole))
+command_keeps_to s l past c k ReadCacheSequential (inr a) =
+    of_no_target (is_shared s.geometry) false _ refl
+    (at_row (wants_command (facts_of (tail past l.ce)) ReadCacheSequential) _ _ (ap (λ (t : TailFacts). wants_command t ReadCacheSequential) k.facts ∙ a.wants) (ap (λ (t : TailFacts). names_lun s.geometry (row t) l.lun) k.facts ∙ a.names))
 command_keeps_to s l past c k ReadCacheEnd a = of_no_target (is_shared s.geometry) false _ refl (k.sole a.sole)
 command_keeps_to s l past c k ReadId a = alone_to_target (is_shared s.geometry) true true (not_shared s.geometry a.one) refl
 command_keeps_to s l past c k ReadParameterPage a = alone_to_target (is_shared s.geometry) true true (not_shared s.geometry a.one) refl
@@ -106,17 +120,18 @@ own_cycle s l past c there k kind byte a =
 
 -- 2. what the LUN is behind it
 
-same_command_effect : (g : Parts) (t : TailFacts) (x : Latch) (c : Scene) (lun : ℕ) → (c.sole ≡ true → x ≡ shown_alone c) → (d : Command) → CommandAllowed g lun c d → command_effect g t x d lun ≡ command_effect g t (shown_alone c) d lun
-same_command_effect g t x c lun h ChangeReadColumnConfirm a = ap (λ (y : Latch). command_effect g t y ChangeReadColumnConfirm lun) (h a.1)
-same_command_effect g t x c lun h ReadCacheSequential a = ap (λ (y : Latch). command_effect g t y ReadCacheSequential lun) (h a.sole)
-same_command_effect g t x c lun h ReadCacheEnd a = ap (λ (y : Latch). command_effect g t y ReadCacheEnd lun) (h a.sole)
-same_command_effect g t x c lun h _ a = refl
+same_command_effect : (g : Parts) (x : Latch) (c : Scene) (lun : ℕ) → (c.sole ≡ true → x ≡ shown_alone c) → (d : Command) → CommandAllowed g lun c d → command_effect g c.facts x d lun ≡ command_effect g c.facts (shown_alone c) d lun
+same_command_effect g x c lun h ChangeReadColumnConfirm a = ap (λ (y : Latch). command_effect g c.facts y ChangeReadColumnConfirm lun) (h a.1)
+same_command_effect g x c lun h ReadCacheSequential (inl a) = ap (λ (y : Latch). command_effect g c.facts y ReadCacheSequential lun) (h a.sole)
+same_command_effect g x c lun h ReadCacheSequential (inr a) = rw a.wants refl
+same_command_effect g x c lun h ReadCacheEnd a = ap (λ (y : Latch). command_effect g c.facts y ReadCacheEnd lun) (h a.sole)
+same_command_effect g x c lun h _ a = refl
 
-same_effect : (g : Parts) (t : TailFacts) (x : Latch) (c : Scene) (lun : ℕ) → (c.sole ≡ true → x ≡ shown_alone c) → (d : TargetCycle) → Allowed g lun c d → cycle_effect g t x d lun ≡ cycle_effect g t (shown_alone c) d lun
-same_effect g t x c lun h (CommandCycle d) a = same_command_effect g t x c lun h d a
-same_effect g t x c lun h (AddressCycle byte) a = refl
-same_effect g t x c lun h (InputCycle byte) a = refl
-same_effect g t x c lun h OutputCycle a = ap (λ (y : Latch). cycle_effect g t y OutputCycle lun) (h a.sole)
+same_effect : (g : Parts) (x : Latch) (c : Scene) (lun : ℕ) → (c.sole ≡ true → x ≡ shown_alone c) → (d : TargetCycle) → Allowed g lun c d → cycle_effect g c.facts x d lun ≡ cycle_effect g c.facts (shown_alone c) d lun
+same_effect g x c lun h (CommandCycle d) a = same_command_effect g x c lun h d a
+same_effect g x c lun h (AddressCycle byte) a = refl
+same_effect g x c lun h (InputCycle byte) a = refl
+same_effect g x c lun h OutputCycle a = ap (λ (y : Latch). cycle_effect g c.facts y OutputCycle lun) (h a.sole)
 
 view_behind : (s : Channel) (l : Lun) (past : List Item) (c : Scene) → is_there s l ≡ true → IsScene s l past c → (kind : Kind) (byte : ℕ) → Allowed s.geometry l.lun c (target_cycle kind byte) → broken s.geometry s.targets past (cycle l.ce kind byte) ≡ None → lun_view s.geometry (cycle l.ce kind byte ∷ past) l ≡ view_after (cycle_effect s.geometry c.facts (shown_alone c) (target_cycle kind byte) l.lun) c.view
 view_behind s l past c there k kind byte a permitted =
@@ -124,7 +139,7 @@ view_behind s l past c there k kind byte a permitted =
     let d = target_cycle kind byte in
     let alone : c.sole ≡ true → latch_alone g past l ≡ shown_alone c = λ h. rw (k.sole h, h) (ap (λ (v : LunView). v.latch) k.view) in
     let effect : effect_on g past (cycle l.ce kind byte) l ≡ cycle_effect g c.facts (shown_alone c) d l.lun =
-    own_effect g past l kind byte ∙ (ap (λ (t : TailFacts). cycle_effect g t (latch_alone g past l) d l.lun) k.facts ∙ same_effect g c.facts (latch_alone g past l) c l.lun alone d a) in
+    own_effect g past l kind byte ∙ (ap (λ (t : TailFacts). cycle_effect g t (latch_alone g past l) d l.lun) k.facts ∙ same_effect g (latch_alone g past l) c l.lun alone d a) in
     facts.lun g s.targets past (cycle l.ce kind byte) l permitted (there_lun s l there) ∙ (ap (λ (e : Effect). view_after e (lun_view g past l)) effect ∙ ap (view_after (cycle_effect g c.facts (shown_alone c) d l.lun)) k.view)
 
 -- 3. whether it drives alone behind it
@@ -248,10 +263,17 @@ command_leaves_off g lun c Read h a m p q Status on off = refl
 command_leaves_off g lun c Read h a m p q Data on off = refl
 command_leaves_off g lun c ReadConfirm h a m p q x on off =
     read_leaves (wants_command c.facts ReadConfirm && names_lun g (row c.facts) m) (wants_command c.facts ReadConfirm && is_shared g) _ p q x
-    (λ e. sym (on (sym (eqb-true _ m (and_parts _ _ e).1) ∙ eqb-true _ lun a.1)))
-    (λ e. off (λ same. not_both (wants_command c.facts ReadConfirm) (names_lun g (row c.facts) m) a.0 (ap (names_lun g (row c.facts)) same ∙ a.1) e))
+    (λ e. sym (on (sym (eqb-true _ m (and_parts _ _ e).1) ∙ eqb-true _ lun a.0.1)))
+    (λ e. off (λ same. not_both (wants_command c.facts ReadConfirm) (names_lun g (row c.facts) m) a.0.0 (ap (names_lun g (row c.facts)) same ∙ a.0.1) e))
 command_leaves_off g lun c ChangeReadColumnConfirm h a m p q x on off = leaves_either (wants_command c.facts ChangeReadColumnConfirm && not (is_off x)) _ p q x (λ e. refl)
-command_leaves_off g lun c ReadCacheSequential h a m p q x on off = leaves_other CacheReadContinued p q x (λ e. refl)
+command_leaves_off g lun c ReadCacheSequential h (inl a) m p q x on off =
+    ap (λ (w : Bool). is_off (latch_after (cond w (row_effect g c.facts ReadCacheSequential m) (cache_effect x)) p q x)) (closed_unwanted c.facts a.closed)
+    ∙ leaves_other (CacheReadContinued None) p q x (λ e. refl)
+command_leaves_off g lun c ReadCacheSequential h (inr a) m p q x on off =
+    ap (λ (w : Bool). is_off (latch_after (cond w (row_effect g c.facts ReadCacheSequential m) (cache_effect x)) p q x)) a.wants
+    ∙ read_leaves (wants_command c.facts ReadCacheSequential && names_lun g (row c.facts) m) (wants_command c.facts ReadCacheSequential && is_shared g) _ p q x
+    (λ e. sym (on (sym (eqb-true _ m (and_parts _ _ e).1) ∙ eqb-true _ lun a.names)))
+    (λ e. off (λ same. not_both (wants_command c.facts ReadCacheSequential) (names_lun g (row c.facts) m) a.wants (ap (names_lun g (row c.facts)) same ∙ a.names) e))
 command_leaves_off g lun c ReadCacheEnd h a m p q x on off = leaves_other CacheReadEnded p q x (λ e. refl)
 command_leaves_off g lun c ReadStatusEnhanced h a m p q x on off = refl
 command_leaves_off g lun c Reset h a m p q x on off = cc
@@ -290,6 +312,9 @@ reset_leaves_off g t byte lun o e is early m p q x on off =
 
 read_lights : (g : Parts) (t : TailFacts) (x : Latch) (p q : Bool) (y : Latch) (lun : ℕ) → wants_command t ReadConfirm ≡ true → names_lun g (row t) lun ≡ true → latch_after (command_effect g t x ReadConfirm lun) p q y ≡ Data
 read_lights g t x p q y lun wants names = rw (wants, names) refl
+
+cache_read_lights : (g : Parts) (t : TailFacts) (x : Latch) (p q : Bool) (y : Latch) (lun : ℕ) → wants_command t ReadCacheSequential ≡ true → names_lun g (row t) lun ≡ true → latch_after (command_effect g t x ReadCacheSequential lun) p q y ≡ Data
+cache_read_lights g t x p q y lun wants names = rw (wants, names) refl
 
 -- the openers whose address makes the LUN show data
 abbrev lights_up : Command → Bool
@@ -334,7 +359,12 @@ sole_next s l past c there k kind byte d is a view h = by d is a view h
     by_command SynchronousReset is a view h = cc
     by_command ReadConfirm is a view h = elim (or_cases c.sole (not (ltb 1 g.luns)) h) [
       | inl e ↦ still (CommandCycle ReadConfirm) is (command_leaves_off g l.lun c ReadConfirm refl a) e
-      | inr e ↦ sole_of_one s l (cycle l.ce kind byte ∷ past) there (not-true (ltb 1 g.luns) e) (off_by _ Data (latch_is (CommandCycle ReadConfirm) view ∙ read_lights g c.facts (shown_alone c) c.view.selected (works c.view) c.view.latch l.lun a.0 a.1) refl)
+      | inr e ↦ sole_of_one s l (cycle l.ce kind byte ∷ past) there (not-true (ltb 1 g.luns) e) (off_by _ Data (latch_is (CommandCycle ReadConfirm) view ∙ read_lights g c.facts (shown_alone c) c.view.selected (works c.view) c.view.latch l.lun a.0.0 a.0.1) refl)
+    ]
+    by_command ReadCacheSequential is (inl a) view h = still (CommandCycle ReadCacheSequential) is (command_leaves_off g l.lun c ReadCacheSequential refl (inl a)) a.sole
+    by_command ReadCacheSequential is (inr a) view h = elim (or_cases c.sole (not (ltb 1 g.luns)) h) [
+      | inl e ↦ still (CommandCycle ReadCacheSequential) is (command_leaves_off g l.lun c ReadCacheSequential refl (inr a)) e
+      | inr e ↦ sole_of_one s l (cycle l.ce kind byte ∷ past) there (not-true (ltb 1 g.luns) e) (off_by _ Data (latch_is (CommandCycle ReadCacheSequential) view ∙ cache_read_lights g c.facts (shown_alone c) c.view.selected (works c.view) c.view.latch l.lun a.wants a.names) refl)
     ]
     by_command d is a view h = still (CommandCycle d) is (command_leaves_off g l.lun c d refl a) h
 

@@ -145,7 +145,7 @@ address_exact s text v r c from count some few many k is m =
         on : (b : Bool) → reads_identity o ≡ b → Goes s text (state_after g v (AddressWord from count)) r (AddressWord from count)
         on true reads =
             let asks_o = asks_there o base reads in
-            let rest = cond (surely_past g v from count (After o n)) false (ltb (address_cycles o - n) count || (from == first_address o + n && nat_le 5 (from + count) && row_refused v (After o n))) in
+            let rest = cond (surely_past g v from count (After o n)) false (ltb (address_cycles o - n) count || (from == first_address o + n && nat_le 5 (from + count) && row_refused g v (After o n))) in
             let clear = taken (address_cycles o - n == 0) (reads_identity o) (identity_refused g v from count (After o n)) rest reads out in
             identity_goes s text v r c from count o n k is m asks_o (asked_is o n m.tail.address c asks_o is_place) single (one_byte s text v r c from count o n m k.base asks_o clear)
         on false other =

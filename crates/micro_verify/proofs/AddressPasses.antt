@@ -40,22 +40,22 @@ pub record PlaceIsClear (s : Channel) (v : State) (from count limit column : ℕ
   pub left : (addresses_left p == 0) ≡ false
   pub begins : from ≡ next_address p
   pub few : count ≤ addresses_left p
-  pub row : nat_le 5 (from + count) ≡ true → row_refused v p ≡ false
+  pub row : nat_le 5 (from + count) ≡ true → row_refused s.geometry v p ≡ false
   pub inside : has_second_column from count ≡ true → nat_le limit column ≡ false
 
 -- the claim knows the column, so that it is inside or surely past
 pub place_is_clear : (s : Channel) (text : Microprogram) (v : State) (r : Run) (c : Lone) (from count limit : ℕ) (p : Place) → Mirrors s.geometry (lone_job s.geometry text) v r.done c → limit ≤ greatest_bound → column_limit s.geometry v p ≡ limit → takes_identity_at p ≡ false → address_out_of_place s.geometry v from count p ≡ false → begins_elsewhere from p ≡ false → column_past s.geometry v from count p ≡ false → PlaceIsClear s v from count limit (column_now r.done) p
 place_is_clear s text v r c from count limit p m low is_limit idn out elsewhere past =
     let x =
-    clears (addresses_left p == 0) (takes_identity_at p) (from == next_address p) (has_second_column from count) over (ltb (addresses_left p) count || (from == next_address p && nat_le 5 (from + count) && row_refused v p)) (identity_refused g v from count p) idn
-    (sym (λ i. cond (addresses_left p == 0) true (cond (takes_identity_at p) (identity_refused g v from count p) (cond (from == next_address p && has_second_column from count && sure i) false (ltb (addresses_left p) count || (from == next_address p && nat_le 5 (from + count) && row_refused v p))))) ∙ out) elsewhere
+    clears (addresses_left p == 0) (takes_identity_at p) (from == next_address p) (has_second_column from count) over (ltb (addresses_left p) count || (from == next_address p && nat_le 5 (from + count) && row_refused g v p)) (identity_refused g v from count p) idn
+    (sym (λ i. cond (addresses_left p == 0) true (cond (takes_identity_at p) (identity_refused g v from count p) (cond (from == next_address p && has_second_column from count && sure i) false (ltb (addresses_left p) count || (from == next_address p && nat_le 5 (from + count) && row_refused g v p))))) ∙ out) elsewhere
     (sym (λ i. not (addresses_left p == 0) && not (takes_identity_at p) && from == next_address p && has_second_column from count && test i) ∙ past) in
-    let two = or_parts (ltb (addresses_left p) count) (from == next_address p && nat_le 5 (from + count) && row_refused v p) x.fits in
+    let two = or_parts (ltb (addresses_left p) count) (from == next_address p && nat_le 5 (from + count) && row_refused g v p) x.fits in
     record {
       left = x.left_none;
       begins = eqb-true from (next_address p) x.begins;
       few = grind (arith, nat_tests, two.0);
-      row = λ e. and_third (from == next_address p) (nat_le 5 (from + count)) (row_refused v p) x.begins e two.1;
+      row = λ e. and_third (from == next_address p) (nat_le 5 (from + count)) (row_refused g v p) x.begins e two.1;
       inside = x.inside;
     }
   where

@@ -97,7 +97,7 @@ not_elsewhere p a t from count is h = at (begins_elsewhere from p) refl
     at false e = refl
 
 -- behind an opener whose addresses carry the registers
-opener_refused : (s : Channel) (text : Microprogram) (v : State) (r : Run) (c : Lone) (from count : ℕ) (o : Command) (n : ℕ) → AddressAt s text v r c from count → AtOpener s text r c from count o n → n < address_cycles o → (is_read_column (After o n) ≡ true → may_change_column c.view ≡ true) → (from == first_address o + n) ≡ true → surely_past s.geometry v from count (After o n) ≡ false → (ltb (address_cycles o - n) count || (from == first_address o + n && nat_le 5 (from + count) && row_refused v (After o n))) ≡ true → WordStops s (lone_job s.geometry text) r (AddressWord from count) is_of_cycle_forbidden
+opener_refused : (s : Channel) (text : Microprogram) (v : State) (r : Run) (c : Lone) (from count : ℕ) (o : Command) (n : ℕ) → AddressAt s text v r c from count → AtOpener s text r c from count o n → n < address_cycles o → (is_read_column (After o n) ≡ true → may_change_column c.view ≡ true) → (from == first_address o + n) ≡ true → surely_past s.geometry v from count (After o n) ≡ false → (ltb (address_cycles o - n) count || (from == first_address o + n && nat_le 5 (from + count) && row_refused s.geometry v (After o n))) ≡ true → WordStops s (lone_job s.geometry text) r (AddressWord from count) is_of_cycle_forbidden
 opener_refused s text v r c from count o n w x inside changes same sure h = by (addresses_the_array o) refl
   where
     g : Parts
@@ -126,7 +126,7 @@ opener_refused s text v r c from count o n w x inside changes same sure h = by (
 
     Column : Command → Type 0
     Column o =
-        AtOpener s text r c from count o n → n < address_cycles o → (takes_column o ≡ true → n ≤ 1 → 2 ≤ from + count → nat_le (limit_of g o c.view) (column_now r.done) ≡ false) → (ltb (address_cycles o - n) count || (from == first_address o + n && nat_le 5 (from + count) && row_refused v (After o n))) ≡ true
+        AtOpener s text r c from count o n → n < address_cycles o → (takes_column o ≡ true → n ≤ 1 → 2 ≤ from + count → nat_le (limit_of g o c.view) (column_now r.done) ≡ false) → (ltb (address_cycles o - n) count || (from == first_address o + n && nat_le 5 (from + count) && row_refused s.geometry v (After o n))) ≡ true
         → WordStops s j r (AddressWord from count) is_of_cycle_forbidden
 
     behind_05 : Column ChangeReadColumn
@@ -181,7 +181,7 @@ refused_stops s text v r c from count w right column_first h =
       where
         on : (b : Bool) → reads_identity o ≡ b → WordStops s j r (AddressWord from count) is_of_cycle_forbidden
         on true reads =
-            let refused = of_identity (address_cycles o - n == 0) (reads_identity o) (identity_refused g v from count (After o n)) (cond (surely_past g v from count (After o n)) false (ltb (address_cycles o - n) count || (from == first_address o + n && nat_le 5 (from + count) && row_refused v (After o n)))) left reads out in
+            let refused = of_identity (address_cycles o - n == 0) (reads_identity o) (identity_refused g v from count (After o n)) (cond (surely_past g v from count (After o n)) false (ltb (address_cycles o - n) count || (from == first_address o + n && nat_le 5 (from + count) && row_refused g v (After o n)))) left reads out in
             let column : only v.registers.column ≡ Some (column_now r.done) = only_is (column_now r.done) v.registers.column (let x = m.registers.column_low in omega (arith, x)) m.registers.column in
             let b = begun o n m.tail.address c.facts is in
             let asks_o = asks_there o base reads in
@@ -192,7 +192,7 @@ refused_stops s text v r c from count w right column_first h =
         on false other =
             let carries = carries_is o n is.place base other in
             let same = begins_there (address_cycles o - n == 0) (reads_identity o) (from == first_address o + n) left other there in
-            let x = unsure (address_cycles o - n == 0) (reads_identity o) (surely_past g v from count (After o n)) (identity_refused g v from count (After o n)) (ltb (address_cycles o - n) count || (from == first_address o + n && nat_le 5 (from + count) && row_refused v (After o n))) left other out in
+            let x = unsure (address_cycles o - n == 0) (reads_identity o) (surely_past g v from count (After o n)) (identity_refused g v from count (After o n)) (ltb (address_cycles o - n) count || (from == first_address o + n && nat_le 5 (from + count) && row_refused g v (After o n))) left other out in
             let inside = more_left (address_cycles o) n left in
             let at_opener = opener_at s text v r c from count o n w (record { old = m.tail.address; opened = is; now = now; changes = changes }) carries inside (eqb-true from (first_address o + n) same) in
             opener_refused s text v r c from count o n w at_opener inside changes same x.0 x.1

@@ -32,7 +32,7 @@ use Rattle.micro_verify.proofs.QueueExact.{refuses_is}
 abbrev pub is_refused : Parts → Command → Address → LunView → Bool
 is_refused g o a view = view.busy || caching view || refused_by g o (page_address g (row_of a.r1 a.r2 a.r3)) view.queue
 
-pub row_refused_is : (g : Parts) (j : Job) (v : State) (done : List Done) (view : LunView) (o : Command) (n : ℕ) (a : Address) → addresses_the_array o ≡ true → RegistersMirror g v.registers done → LunMirror g v.lun (index_now 0 done) view → RowIs g j a → a.index ≡ index_now 0 done → a.plane ≡ plane_now done → row_refused v (After o n) ≡ is_refused g o a view
+pub row_refused_is : (g : Parts) (j : Job) (v : State) (done : List Done) (view : LunView) (o : Command) (n : ℕ) (a : Address) → addresses_the_array o ≡ true → RegistersMirror g v.registers done → LunMirror g v.lun (index_now 0 done) view → RowIs g j a → a.index ≡ index_now 0 done → a.plane ≡ plane_now done → row_refused g v (After o n) ≡ is_refused g o a view
 row_refused_is g j v done view o n a array m lun row index plane =
     let page : (page_address g (row_of a.r1 a.r2 a.r3)).page ≡ index_now 0 done % g.pages = ap (λ (p : RowParts). p.page) row.reads ∙ ap (λ (i : ℕ). i % g.pages) index in
     let block : (page_address g (row_of a.r1 a.r2 a.r3)).block ≡ index_now 0 done / g.pages * planes g + plane_now done = ap (λ (p : RowParts). p.block) row.reads ∙ (λ i. index i / g.pages * planes g + plane i) in

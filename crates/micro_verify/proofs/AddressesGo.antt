@@ -50,7 +50,7 @@ row_is_of_array PageProgram h = refl
 row_is_of_array _ h = cc
 
 -- the row that was named goes along with the queue, which didn't refuse it
-along_led : (g : Parts) (v : State) (r : Run) (c : Lone) (j : Job) (from count : ℕ) (o : Command) (n : ℕ) → Mirrors g j v r.done c → addresses_the_array o ≡ true → 5 ≤ from + count → (nat_le 5 (from + count) ≡ true → row_refused v (After o n) ≡ false) → row_goes_along (is_erase o) (target_after_addresses g v from count).named v.lun.queue ≡ true
+along_led : (g : Parts) (v : State) (r : Run) (c : Lone) (j : Job) (from count : ℕ) (o : Command) (n : ℕ) → Mirrors g j v r.done c → addresses_the_array o ≡ true → 5 ≤ from + count → (nat_le 5 (from + count) ≡ true → row_refused g v (After o n) ≡ false) → row_goes_along (is_erase o) (target_after_addresses g v from count).named v.lun.queue ≡ true
 along_led g v r c j from count o n m array five clear =
     let last : nat_le 5 (from + count) ≡ true = grind (arith, nat_tests, five) in
     let queue = (or_parts (v.lun.busy || may_be_31 v.lun.last) (queue_refuses v.lun.queue v.registers.planes o) (ap (λ (b : Bool). b && (v.lun.busy || may_be_31 v.lun.last || queue_refuses v.lun.queue v.registers.planes o)) (sym array) ∙ clear last)).1 in

@@ -335,8 +335,8 @@ told_command g j v done c d one base low m h = by d h
     wanted : (d : Command) → not (place_wants d v.target.tail) ≡ not (wants_command c.facts d)
     wanted d = ap not (ap (place_wants d) m.tail.single ∙ wants_same m.tail.place m.tail.address c.facts d m.tail.is)
 
-    fitting : (d : Command) → is_unfit g d ≡ false → command_out_of_place g v d ≡ cond (is_opener d) ((not (may_end_sequence g d) && may_be_open v) || opener_refused g v d) (not (place_wants d v.target.tail) || closer_refused v d)
-    fitting d fit = ap (λ (b : Bool). cond b false (cond (is_opener d) ((not (may_end_sequence g d) && may_be_open v) || opener_refused g v d) (not (place_wants d v.target.tail) || closer_refused v d))) fit
+    fitting : (d : Command) → is_unfit g d ≡ false → command_out_of_place g v d ≡ cond (is_opener d) ((not (may_end_sequence g d) && may_be_open v) || opener_refused g v d) (not (place_wants d v.target.tail) || closer_refused g v d)
+    fitting d fit = ap (λ (b : Bool). cond b false (cond (is_opener d) ((not (may_end_sequence g d) && may_be_open v) || opener_refused g v d) (not (place_wants d v.target.tail) || closer_refused g v d))) fit
 
     drive : place_wants ChangeReadColumnConfirm v.target.tail ≡ true → drives v.target.shows ≡ true
     drive h = ap drives m.shows ∙ shows_may_change c.view (m.tail.changes (wants_change m.tail.place (sym (ap (place_wants ChangeReadColumnConfirm) m.tail.single) ∙ h)))

@@ -21,8 +21,8 @@ use Rattle.micro_claims.specs.declared.queued_rows.QueuedRows.TheVariants.{NoRow
 use Rattle.micro_claims.specs.declared.last_closer.LastCloser.{LastCloser}
 use Rattle.micro_claims.specs.declared.cached_page.CachedPage.{CachedPage}
 use Rattle.micro_claims.specs.State.{other_closer, any_number, shows_status, shows_register}
-use Rattle.micro_claims.specs.Against.{same_test}
-use Rattle.micro_claims.specs.Leaves.{with_target, data_shown, rows_at, work_started, same_drift, queued_more, cache_read, command_leaves, column_read, get_leaves, span_more, place_moved, features_put, put_leaves_at, put_leaves, reset_started, page_register}
+use Rattle.micro_claims.specs.Against.{same_test, place_wants}
+use Rattle.micro_claims.specs.Leaves.{with_target, data_shown, rows_at, work_started, same_drift, queued_more, cache_read, command_leaves, column_read, get_leaves, span_more, place_moved, features_put, put_leaves_at, put_leaves, reset_started, page_register, cached_at, next_cached, shows_after_read}
 use Rattle.micro_claims.specs.Order.{SpanAt, May, DriftIs, HasColumn, NamedIs, ShowsIs, RegisteredIs, RowsAre, At, column_number, output_number, Exactly}
 use Rattle.micro_claims.proofs.PlaneSets.{none_has}
 use Rattle.micro_walk.proofs.SpanLaws as numbers
@@ -165,10 +165,10 @@ put_at_place g v s a n d Unknown = data_put g v s a n d
 pub put_at : (g : Parts) (v s a : State) (n : ℕ) → At g v s a → s.target.tail ≡ a.target.tail → At g v (put_leaves s n) (put_leaves a n)
 put_at g v s a n d same = subst (λ (p : Place). At g v (put_leaves s n) (put_leaves_at a n p)) same (put_at_place g v s a n d s.target.tail)
 
-cache_at : (g : Parts) (v s a : State) (last : LastCloser) (x y : CachedPage) → SpanAt v.lun.cached.index x.index y.index → SpanAt v.lun.cached.page x.page y.page → At g v s a → At g v (cache_read last x s) (cache_read last y a)
-cache_at g v s a last x y h k d = record {
+cache_at : (g : Parts) (v s a : State) (last : LastCloser) (x y : CachedPage) (p q : Option Shown) → SpanAt v.lun.cached.index x.index y.index → SpanAt v.lun.cached.page x.page y.page → ShowsIs p q → At g v s a → At g v (cache_read last x p s) (cache_read last y q a)
+cache_at g v s a last x y p q h k shows d = record {
   registers = d.registers;
-  target = one_place g v.target Closed data_shown data_shown data_is;
+  target = one_place g v.target Closed p q shows;
   lun = record { busy = λ e. e; register = page_is; has_column = (first_output v.lun.column).has; column = (first_output v.lun.column).at; queue = d.lun.queue; last_read = λ e. e; last_cache = λ e. e; last_other = λ e. e; cached_index = h; cached_page = k };
 }
 
@@ -179,23 +179,23 @@ reset_at g v s a d = record {
   lun = record { busy = λ e. e; register = tt; has_column = tt; column = any_free _; queue = refl; last_read = λ e. e; last_cache = λ e. e; last_other = λ e. e; cached_index = d.lun.cached_index; cached_page = d.lun.cached_page };
 }
 
-pub command_at : (g : Parts) → InLimits g → (v s a : State) → At g v s a → (c : Command) → At g v (command_leaves g s c) (command_leaves g a c)
-command_at g l v s a d Read = opened_at g v s a (After Read 0) _ _ (resumed_is s.target.shows a.target.shows d.target.shows) d
-command_at g l v s a d ChangeReadColumn = opened_at g v s a (After ChangeReadColumn 0) _ _ d.target.shows d
-command_at g l v s a d BlockErase = opened_at g v s a (After BlockErase 0) _ _ d.target.shows d
-command_at g l v s a d PageProgram = opened_at g v s a (After PageProgram 0) _ _ d.target.shows d
-command_at g l v s a d ReadId = opened_at g v s a (After ReadId 0) _ _ d.target.shows d
-command_at g l v s a d ReadParameterPage = opened_at g v s a (After ReadParameterPage 0) _ _ d.target.shows d
-command_at g l v s a d ReadUniqueId = opened_at g v s a (After ReadUniqueId 0) _ _ d.target.shows d
-command_at g l v s a d GetFeatures = opened_at g v s a (After GetFeatures 0) _ _ d.target.shows d
-command_at g l v s a d SetFeatures = opened_at g v s a (After SetFeatures 0) _ _ d.target.shows d
-command_at g l v s a d ResetLun = opened_at g v s a (After ResetLun 0) _ _ d.target.shows d
-command_at g l v s a d ChangeWriteColumn = record {
+pub command_at : (g : Parts) → InLimits g → (v s a : State) → At g v s a → (c : Command) → (c ≡ ReadCacheSequential → place_wants ReadCacheSequential s.target.tail ≡ place_wants ReadCacheSequential a.target.tail) → At g v (command_leaves g s c) (command_leaves g a c)
+command_at g l v s a d Read same = opened_at g v s a (After Read 0) _ _ (resumed_is s.target.shows a.target.shows d.target.shows) d
+command_at g l v s a d ChangeReadColumn same = opened_at g v s a (After ChangeReadColumn 0) _ _ d.target.shows d
+command_at g l v s a d BlockErase same = opened_at g v s a (After BlockErase 0) _ _ d.target.shows d
+command_at g l v s a d PageProgram same = opened_at g v s a (After PageProgram 0) _ _ d.target.shows d
+command_at g l v s a d ReadId same = opened_at g v s a (After ReadId 0) _ _ d.target.shows d
+command_at g l v s a d ReadParameterPage same = opened_at g v s a (After ReadParameterPage 0) _ _ d.target.shows d
+command_at g l v s a d ReadUniqueId same = opened_at g v s a (After ReadUniqueId 0) _ _ d.target.shows d
+command_at g l v s a d GetFeatures same = opened_at g v s a (After GetFeatures 0) _ _ d.target.shows d
+command_at g l v s a d SetFeatures same = opened_at g v s a (After SetFeatures 0) _ _ d.target.shows d
+command_at g l v s a d ResetLun same = opened_at g v s a (After ResetLun 0) _ _ d.target.shows d
+command_at g l v s a d ChangeWriteColumn same = record {
   registers = d.registers;
   target = (let t = d.target in record { tail = Exactly (InColumn 0); has_column = t.has_column; column = t.column; named = t.named; fine = t.fine; shows = t.shows });
   lun = d.lun;
 }
-command_at g l v s a d ReadConfirm =
+command_at g l v s a d ReadConfirm same = 
     let k = given_is v.lun.column (column_number v.target.column) s.target.column a.target.column d.target.has_column d.target.column in
     record {
       registers = d.registers;
@@ -213,18 +213,29 @@ command_at g l v s a d ReadConfirm =
         cached_page = cached_page_is g l v.lun.cached.page s.target.named a.target.named d.target.named d.target.fine;
       };
     }
-command_at g l v s a d ChangeReadColumnConfirm = record {
+command_at g l v s a d ChangeReadColumnConfirm same = record {
   registers = d.registers;
   target = one_place g v.target Closed s.target.shows a.target.shows d.target.shows;
   lun = lun_with_output v.lun s.lun a.lun _ _ (given_is v.lun.column (column_number v.target.column) s.target.column a.target.column d.target.has_column d.target.column) d.lun;
 }
-command_at g l v s a d BlockEraseConfirm = started_at g v s a NoRows NoRows refl d
-command_at g l v s a d ProgramConfirm = started_at g v s a NoRows NoRows refl d
-command_at g l v s a d BlockErasePlane = started_at g v s a _ _ (queued_is g true s.lun.queue a.lun.queue s.target.named a.target.named d.lun.queue d.target.named) d
-command_at g l v s a d ProgramPlane = started_at g v s a _ _ (queued_is g false s.lun.queue a.lun.queue s.target.named a.target.named d.lun.queue d.target.named) d
-command_at g l v s a d Reset = reset_at g v s a d
-command_at g l v s a d SynchronousReset = reset_at g v s a d
-command_at g l v s a d ReadCacheSequential =
-    cache_at g v s a _ _ _ (numbers.grown v.lun.cached.index s.lun.cached.index a.lun.cached.index 1 d.lun.cached_index) (numbers.grown v.lun.cached.page s.lun.cached.page a.lun.cached.page 1 d.lun.cached_page) d
-command_at g l v s a d ReadCacheEnd = cache_at g v s a other_closer s.lun.cached a.lun.cached d.lun.cached_index d.lun.cached_page d
-command_at g l v s a d _ = d
+command_at g l v s a d BlockEraseConfirm same = started_at g v s a NoRows NoRows refl d
+command_at g l v s a d ProgramConfirm same = started_at g v s a NoRows NoRows refl d
+command_at g l v s a d BlockErasePlane same = started_at g v s a _ _ (queued_is g true s.lun.queue a.lun.queue s.target.named a.target.named d.lun.queue d.target.named) d
+command_at g l v s a d ProgramPlane same = started_at g v s a _ _ (queued_is g false s.lun.queue a.lun.queue s.target.named a.target.named d.lun.queue d.target.named) d
+command_at g l v s a d Reset same = reset_at g v s a d
+command_at g l v s a d SynchronousReset same = reset_at g v s a d
+command_at g l v s a d ReadCacheSequential same = at (place_wants ReadCacheSequential s.target.tail) (place_wants ReadCacheSequential a.target.tail) (same refl)
+  where
+    left : Bool → State → State
+    left w x = cond w (cache_read (record { 0 = 2 }) (cached_at x.target.named) (shows_after_read g x.target.shows) x) (cache_read (record { 0 = 2 }) (next_cached x.lun.cached) data_shown x)
+
+    at : (b c : Bool) → b ≡ c → At g v (left b s) (left c a)
+    at true true e =
+        cache_at g v s a _ _ _ _ _ (cached_index_is g v.lun.cached.index s.target.named a.target.named d.target.named d.target.fine) (cached_page_is g l v.lun.cached.page s.target.named a.target.named d.target.named d.target.fine)
+        (read_is g s.target.shows a.target.shows d.target.shows) d
+    at true false e = absurd cc
+    at false true e = absurd cc
+    at false false e =
+        cache_at g v s a _ _ _ data_shown data_shown (numbers.grown v.lun.cached.index s.lun.cached.index a.lun.cached.index 1 d.lun.cached_index) (numbers.grown v.lun.cached.page s.lun.cached.page a.lun.cached.page 1 d.lun.cached_page) data_is d
+command_at g l v s a d ReadCacheEnd same = cache_at g v s a other_closer s.lun.cached a.lun.cached data_shown data_shown d.lun.cached_index d.lun.cached_page data_is d
+command_at g l v s a d _ same = d

@@ -5,7 +5,7 @@ use Rattle.std.proofs.lemmas.Bool.Decides.{nat_tests}
 use Rattle.nand_geometry.specs.declared.parts.Parts.{Parts}
 use Rattle.nand_geometry.specs.Limits.{InLimits, planes}
 use Rattle.onfi_cycle.specs.declared.command.Command.{Command}
-use Rattle.onfi_cycle.specs.declared.command.Command.TheVariants.{Read, ChangeReadColumn, ChangeReadColumnConfirm, BlockErase, PageProgram, ReadId, ReadParameterPage, ReadUniqueId, GetFeatures, SetFeatures, ReadCacheSequential, ReadCacheEnd}
+use Rattle.onfi_cycle.specs.declared.command.Command.TheVariants.{Read, ChangeReadColumn, ChangeReadColumnConfirm, BlockErase, PageProgram, ReadId, ReadParameterPage, ReadUniqueId, GetFeatures, SetFeatures, ReadCacheSequential, ReadCacheEnd, ReadConfirm}
 use Rattle.onfi_cycle.specs.Command.{command, is_opener, addresses_the_array}
 use Rattle.micro_word.specs.declared.word.Word.{Word}
 use Rattle.micro_word.specs.declared.word.Word.TheVariants.{End, Address, Get, Put, Column, RowAdd, Row, Plane, Wait, Yield, ReadStatus, BranchOnStatus}
@@ -18,11 +18,13 @@ use Rattle.micro_claims.specs.declared.place.Place.{Place}
 use Rattle.micro_claims.specs.declared.place.Place.TheVariants.{Closed, After, InData, InColumn, InFeatures, Unknown}
 use Rattle.micro_claims.specs.declared.output_column.OutputColumn.{OutputColumn}
 use Rattle.micro_claims.specs.declared.bounds.Bounds.{Bounds}
-use Rattle.micro_claims.specs.Against.{may_end_sequence, may_be_open, is_in_features, addresses_left, next_address, takes_identity_at, is_inside_address, drives, least_length, is_unfit, identity_opener_refused, opener_refused, closer_refused, command_out_of_place, command_past_rows, has_second_column, column_limit, identity_refused, row_refused, surely_past, address_out_of_place, begins_elsewhere, column_past, row_outside, output_refused, column_bound, output_past, span_bound, input_past}
+use Rattle.micro_claims.specs.Against.{may_end_sequence, may_be_open, is_in_features, addresses_left, next_address, takes_identity_at, is_inside_address, drives, least_length, is_unfit, identity_opener_refused, opener_refused, closer_refused, command_out_of_place, command_past_rows, has_second_column, column_limit, identity_refused, row_refused, surely_past, address_out_of_place, begins_elsewhere, column_past, row_outside, output_refused, column_bound, output_past, span_bound, input_past, place_wants, is_open_place}
 use Rattle.micro_claims.specs.Reasons.{breaks_cycle_forbidden, breaks_address_unaligned, breaks_handover_in_sequence, breaks_buffer_passed, breaks_row_or_plane_outside, breaks_column_too_large, breaks_no_status, breaks_ends_too_soon, breaks_over_budget, breaks_command_not_allowed}
-use Rattle.micro_claims.specs.Order.{top, May, column_number, output_number, At}
+use Rattle.micro_claims.specs.Order.{top, May, column_number, output_number, At, PlaceIs, Anywhere, NothingOpen, Exactly}
 use Rattle.micro_walk.proofs.Shapes.{and_on, or_on, not_on, same_on, no_too}
-use Rattle.micro_walk.proofs.TestsKept.{Clear, cond_on, most_on, only_data_on, drives_on, show_on, has_register_on, has_page_on, has_column_on, queued_on, length_on, queue_on, identity_byte_on, span_is, open_too, wants_too, inputs_too, features_too, inside_too, known_place, planes_on}
+use Rattle.micro_walk.proofs.TestsKept.{Clear, cond_on, most_on, only_data_on, drives_on, show_on, has_register_on, has_page_on, has_column_on, queued_on, length_on, queue_on, identity_byte_on, span_is, open_too, wants_too, inputs_too, features_too, inside_too, known_place, planes_on, closed_unwanted}
+use Rattle.nand_geometry.specs.Optional.{is_wide}
+use Rattle.onfi_cycle.specs.Rules.{excludes_cache}
 
 -- 1. parts of reasons, each by the combinators
 
@@ -52,18 +54,36 @@ opener_on g v s a d ReadCacheSequential =
 opener_on g v s a d ReadCacheEnd = or_on _ _ _ _ (or_on _ _ _ _ (or_on _ _ _ _ (not_drives_on g v s a d) d.lun.busy) d.lun.last_other) d.lun.last_read
 opener_on g v s a d _ = same_on _
 
-closer_on : (g : Parts) (v s a : State) → At g v s a → (c : Command) → May (closer_refused a c) (closer_refused s c)
+closer_on : (g : Parts) (v s a : State) → At g v s a → (c : Command) → May (closer_refused g a c) (closer_refused g s c)
 closer_on g v s a d ChangeReadColumnConfirm = not_drives_on g v s a d
+closer_on g v s a d ReadConfirm = and_on _ _ _ _ (same_on (is_wide g.optional)) d.lun.last_cache
+closer_on g v s a d ReadCacheSequential = or_on _ _ _ _ (same_on (not (is_wide g.optional))) d.lun.last_other
 closer_on g v s a d _ = same_on _
 
 command_on : (g : Parts) (v s a : State) → At g v s a → (c : Command) → May (command_out_of_place g a c) (command_out_of_place g s c)
+command_on g v s a d ReadCacheSequential =
+    cond_on (is_unfit g ReadCacheSequential) _ _ _ _ (same_on false)
+    (at s.target.tail a.target.tail d.target.tail (opener_on g v s a d ReadCacheSequential) (closer_on g v s a d ReadCacheSequential))
+  where
+    either : (w o c p q : Bool) → May o p → May c q → May (cond (true && not w) o (not w || c)) (cond (true && not w) p (not w || q))
+    either true o c p q ho hc h = hc h
+    either false o c p q ho hc h = ho h
+
+    closed : (q : Place) → is_open_place q ≡ false → place_wants ReadCacheSequential q ≡ false
+    closed q e = closed_unwanted q e
+
+    at : (p q : Place) → PlaceIs p q → {ra rs ca cs : Bool} → May ra rs → May ca cs
+        → May (cond (true && not (place_wants ReadCacheSequential q)) (is_open_place q || ra) (not (place_wants ReadCacheSequential q) || ca)) (cond (true && not (place_wants ReadCacheSequential p)) (is_open_place p || rs) (not (place_wants ReadCacheSequential p) || cs))
+    at _ _ (Anywhere q) r c h = refl
+    at _ _ (NothingOpen q e) {ra} {rs} {ca} {cs} r c h = r (rw (closed q e, e) at h)
+    at _ _ (Exactly q) {ra} {rs} {ca} {cs} r c h = either (place_wants ReadCacheSequential q) (is_open_place q || ra) ca (is_open_place q || rs) cs (or_on _ _ _ _ (same_on (is_open_place q)) r) c h
 command_on g v s a d c =
     cond_on (is_unfit g c) _ _ _ _ (same_on false)
     (cond_on (is_opener c) _ _ _ _ (or_on _ _ _ _ (and_on _ _ _ _ (same_on (not (may_end_sequence g c))) (open_on g v s a d)) (opener_on g v s a d c))
     (or_on _ _ _ _ (not_on _ _ (wants_too c s.target.tail a.target.tail d.target.tail)) (closer_on g v s a d c)))
 
 rows_on : (g : Parts) (rows : ℕ) (v s a : State) → At g v s a → (c : Command) → May (command_past_rows g rows a c) (command_past_rows g rows s c)
-rows_on g rows v s a d ReadCacheSequential = and_on _ _ _ _ (same_on _) (not_on _ _ (most_on s.lun.cached.index.hi a.lun.cached.index.hi 2 rows rows d.lun.cached_index.high (omega arith)))
+rows_on g rows v s a d ReadCacheSequential = and_on _ _ _ _ (same_on _) (and_on _ _ _ _ (not_on _ _ (wants_too ReadCacheSequential s.target.tail a.target.tail d.target.tail)) (not_on _ _ (most_on s.lun.cached.index.hi a.lun.cached.index.hi 2 rows rows d.lun.cached_index.high (omega arith))))
 rows_on g rows v s a d _ = same_on _
 
 -- the outputs of a `get`
@@ -133,14 +153,14 @@ outside_on g rows v s a from count d =
     (or_on _ _ _ _ (not_on _ _ (most_on s.registers.index.hi a.registers.index.hi 1 rows rows d.registers.index.high (omega arith)))
     (not_on _ _ (planes_on (planes g) s.registers.planes a.registers.planes d.registers.planes)))
 
-row_on : (g : Parts) (v s a : State) → At g v s a → (p : Place) → May (row_refused a p) (row_refused s p)
+row_on : (g : Parts) (v s a : State) → At g v s a → (p : Place) → May (row_refused g a p) (row_refused g s p)
 row_on g v s a d Closed = same_on _
 row_on g v s a d InData = same_on _
 row_on g v s a d (InColumn n) = same_on _
 row_on g v s a d (InFeatures n) = same_on _
 row_on g v s a d Unknown = same_on _
 row_on g v s a d (After opener n) =
-    and_on _ _ _ _ (same_on (addresses_the_array opener)) (or_on _ _ _ _ (or_on _ _ _ _ d.lun.busy d.lun.last_cache) (queue_on s.lun.queue a.lun.queue s.registers.planes a.registers.planes opener d.lun.queue d.registers.planes))
+    and_on _ _ _ _ (same_on (addresses_the_array opener)) (or_on _ _ _ _ (or_on _ _ _ _ d.lun.busy (and_on _ _ _ _ (same_on (excludes_cache g opener)) d.lun.last_cache)) (queue_on s.lun.queue a.lun.queue s.registers.planes a.registers.planes opener d.lun.queue d.registers.planes))
 
 identity_on : (g : Parts) (v s a : State) (from count : ℕ) → At g v s a → (p : Place) → May (identity_refused g a from count p) (identity_refused g s from count p)
 identity_on g v s a from count d Closed = same_on _
@@ -181,8 +201,8 @@ address_on g v s a from count d p past h =
     let order = d.registers.column.order in
     place_on (addresses_left p == 0) (takes_identity_at p) (from == next_address p) (has_second_column from count) (is_at_most (bound_plus s.registers.column.hi 1) (column_limit g s p)) (nat_le (column_limit g s p) s.registers.column.lo)
     (identity_refused g a from count p) (identity_refused g s from count p)
-    (nat_lt (addresses_left p) count || (from == next_address p && nat_le 5 (from + count) && row_refused a p))
-    (nat_lt (addresses_left p) count || (from == next_address p && nat_le 5 (from + count) && row_refused s p))
+    (nat_lt (addresses_left p) count || (from == next_address p && nat_le 5 (from + count) && row_refused g a p))
+    (nat_lt (addresses_left p) count || (from == next_address p && nat_le 5 (from + count) && row_refused g s p))
     past (not_surely s.registers.column.lo (column_limit g s p) s.registers.column.hi (omega (arith, low, high, order)))
     (or_on _ _ _ _ (same_on _) (and_on _ _ _ _ (same_on (from == next_address p && nat_le 5 (from + count))) (row_on g v s a d p)))
     (identity_on g v s a from count d p)

@@ -1,11 +1,12 @@
 -- Claims meet the laws.
 use Rattle.std.proofs.Common.{◌≡◌, false, Option, Some, None, refl, subst, cond, arith}
-use Rattle.std.specs.Prelude.{is_none}
+use Rattle.std.specs.Prelude.{is_none, ◌||◌}
 use Rattle.std.proofs.lemmas.Nat.{mod_below}
-use Rattle.std.proofs.lemmas.Bool.{not-false}
+use Rattle.std.proofs.lemmas.Bool.{not-false, or_parts}
 use Rattle.nand_geometry.specs.declared.parts.Parts.{Parts}
 use Rattle.nand_geometry.specs.Limits.{InLimits}
 use Rattle.onfi_cycle.specs.Command.{command}
+use Rattle.onfi_cycle.specs.declared.command.Command.{Command as Commands}
 use Rattle.micro_word.specs.declared.word.Word.{Word}
 use Rattle.micro_word.specs.declared.word.Word.TheVariants.{Command, Address, Get, Put, Seek, Column, RowAdd, Row, Plane, Wait, Yield, ReadStatus}
 use Rattle.micro_claims.specs.declared.refusal.Reason.{Reason}
@@ -13,14 +14,14 @@ use Rattle.micro_program.specs.Program.{cost}
 use Rattle.micro_claims.specs.declared.state.State.{State}
 use Rattle.micro_claims.specs.declared.bounds.Bounds.{Bounds}
 use Rattle.micro_claims.specs.declared.place.Place.{Place}
-use Rattle.micro_claims.specs.Against.{address_out_of_place}
-use Rattle.micro_claims.specs.Reasons.{reason_against, breaks_cycle_forbidden}
+use Rattle.micro_claims.specs.Against.{address_out_of_place, command_out_of_place, command_not_for_programs, is_unfit, asks_status}
+use Rattle.micro_claims.specs.Reasons.{reason_against, breaks_cycle_forbidden, breaks_command_not_allowed}
 use Rattle.micro_claims.specs.Leaves.{drift_more}
 use Rattle.micro_claims.specs.Accepts.{word_leaves, state_after}
 use Rattle.micro_claims.specs.Order.{At, machine, state_step}
 use Rattle.micro_claims.specs.Certificate.{Laws}
 use Rattle.micro_walk.proofs.SpanLaws as numbers
-use Rattle.micro_walk.proofs.TestsKept.{Clear, clear_of, none_of, known_place, known_inputs, known_column}
+use Rattle.micro_walk.proofs.TestsKept.{Clear, clear_of, none_of, known_cache_read, known_place, known_inputs, known_column}
 use Rattle.micro_walk.proofs.ReasonsKept.{clear_too}
 use Rattle.micro_walk.proofs.LeavesKept.{with_column, with_plane, with_place, paid_at, registers_at, drift_same, set_alike, polled_at, ready_at, handed_at, moved_at}
 use Rattle.micro_walk.proofs.CommandsKept.{command_at, get_at, put_at}
@@ -29,8 +30,12 @@ use Rattle.micro_walk.proofs.StateOrder.{begins, eases, enters, again, leaves}
 
 -- what a word leaves
 word_at : (g : Parts) → InLimits g → (text : Bounds) (v s a : State) → At g v s a → (word : Word) → Clear g text s word → At g v (word_leaves g s word) (word_leaves g a word)
-unfolding breaks_cycle_forbidden
-word_at g l text v s a d (Command byte) c = command_at g l v s a d (command byte)
+unfolding breaks_cycle_forbidden breaks_command_not_allowed
+word_at g l text v s a d (Command byte) c =
+    command_at g l v s a d (command byte) (λ is.
+    known_cache_read g s s.target.tail a.target.tail d.target.tail refl
+    (subst (λ (x : Commands). is_unfit g x ≡ false) is (or_parts (is_unfit g (command byte)) _ (or_parts (is_unfit g (command byte) || asks_status (command byte)) _ (or_parts (command_not_for_programs g (command byte)) _ c.no_command_not_allowed).0).0).0)
+    (subst (λ (x : Commands). command_out_of_place g s x ≡ false) is c.no_cycle_forbidden))
 word_at g l text v s a d (Address from count) c =
     address_at g l v s a from count d (known_place g s from count s.target.tail a.target.tail d.target.tail c.no_cycle_forbidden)
     (λ n e. known_column g s a from count n (numbers.is_of v.registers.column s.registers.column a.registers.column d.registers.column) (subst (λ (p : Place). address_out_of_place g s from count p ≡ false) e c.no_cycle_forbidden))

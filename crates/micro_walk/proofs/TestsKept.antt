@@ -1,12 +1,12 @@
 -- What isn't against a word in a claim isn't against it in an actual claim of which it is claimed.
-use Rattle.std.proofs.Common.{◌≡◌, ℕ, ◌-◌, ◌≤◌, ◌==◌, Bool, true, false, ◌&&◌, ◌||◌, cond, not, Option, Some, None, refl, sym, ap, ◌∙◌, subst, arith}
+use Rattle.std.proofs.Common.{◌≡◌, ℕ, ◌-◌, ◌≤◌, ◌==◌, Bool, true, false, ◌&&◌, ◌||◌, cond, not, Option, Some, None, refl, sym, ap, ◌∙◌, subst, arith, eqb-true}
 use Rattle.std.specs.Prelude.{nat_le, nat_lt, min}
 use Rattle.std.proofs.lemmas.Bool.Decides.{nat_tests}
 use Rattle.std.proofs.lemmas.Bool.{not-false, or_left, or_parts, and_parts, and_from}
 use Rattle.nand_geometry.specs.declared.parts.Parts.{Parts}
 use Rattle.nand_geometry.specs.Limits.{InLimits, page_len}
 use Rattle.onfi_cycle.specs.declared.command.Command.{Command}
-use Rattle.onfi_cycle.specs.declared.command.Command.TheVariants.{Read, ReadId}
+use Rattle.onfi_cycle.specs.declared.command.Command.TheVariants.{Read, ReadId, ReadCacheSequential}
 use Rattle.onfi_cycle.specs.declared.register.Register.{Register}
 use Rattle.onfi_cycle.specs.declared.register.Register.TheVariants.{Empty, Page, ParameterPage, Identifier, Identity, JedecIdentity, UniqueId, Features}
 use Rattle.onfi_cycle.specs.Rules.{register_len}
@@ -26,7 +26,7 @@ use Rattle.micro_claims.specs.declared.drift.Drift.{Drift}
 use Rattle.micro_claims.specs.declared.bounds.Bounds.{Bounds}
 use Rattle.micro_claims.specs.declared.place.Place.TheVariants.{Unknown, Closed, After, InData, InColumn, InFeatures}
 use Rattle.micro_claims.specs.declared.planes.Planes.{Planes}
-use Rattle.micro_claims.specs.Against.{shows_only_data, drives, may_show_data, has_register, holds_short, has_page_or_parameters, has_column, length_of, least_length, may_be_queued, is_read, is_erase, same_test, queue_refuses, byte_of_column, takes_any_byte, takes_identity, is_identity_byte, is_open_place, place_wants, is_in_features, takes_inputs_at, is_inside_address, address_out_of_place}
+use Rattle.micro_claims.specs.Against.{shows_only_data, drives, may_show_data, has_register, holds_short, has_page_or_parameters, has_column, length_of, least_length, may_be_queued, is_read, is_erase, same_test, queue_refuses, byte_of_column, takes_any_byte, takes_identity, is_identity_byte, is_open_place, place_wants, is_in_features, takes_inputs_at, is_inside_address, address_out_of_place, is_unfit, command_out_of_place}
 use Rattle.micro_claims.specs.Reasons.{breaks_cycle_forbidden, breaks_address_unaligned, breaks_handover_in_sequence, breaks_buffer_passed, breaks_row_or_plane_outside, breaks_column_too_large, breaks_no_status, breaks_ends_too_soon, breaks_over_budget, breaks_command_not_allowed, reason_against}
 use Rattle.micro_claims.specs.declared.planes.Planes.{Planes}
 use Rattle.micro_claims.specs.Planes.{has_plane, share_a_plane, are_below}
@@ -38,6 +38,7 @@ use Rattle.micro_claims.proofs.Words.{held_length}
 use Rattle.micro_claims.proofs.Identities.{any_byte, least_is}
 use Rattle.micro_walk.proofs.SpanLaws.{at_most_too, only_too}
 use Rattle.micro_walk.proofs.Shapes.{or_on, not_on, same_on}
+use Rattle.onfi_cycle.specs.Command.{closes, address_cycles}
 
 -- 1. nothing is against a word
 
@@ -99,6 +100,35 @@ pub wants_too : (c : Command) (s a : Place) → PlaceIs s a → May (place_wants
 wants_too c _ _ (Anywhere p) h = absurd cc
 wants_too c _ _ (NothingOpen p e) h = absurd cc
 wants_too c _ _ (Exactly p) h = h
+
+-- a 31 that is wanted closes what is open
+cache_read_open : (p : Place) → place_wants ReadCacheSequential p ≡ true → is_open_place p ≡ true
+cache_read_open Closed h = absurd cc
+cache_read_open InData h = absurd cc
+cache_read_open (InColumn n) h = absurd cc
+cache_read_open (InFeatures n) h = absurd cc
+cache_read_open Unknown h = absurd cc
+cache_read_open (After o n) h = by o h
+  where
+    five : (n : ℕ) → (n == 5) ≡ true → (nat_lt 0 n && nat_le n 5) ≡ true
+    five n h = let is : n ≡ 5 = eqb-true n 5 h in rw is refl
+
+    by : (o : Command) → (closes o ReadCacheSequential && n == address_cycles o) ≡ true → is_open_place (After o n) ≡ true
+    by Read h = five n h
+    by _ h = absurd cc
+
+pub closed_unwanted : (q : Place) → is_open_place q ≡ false → place_wants ReadCacheSequential q ≡ false
+closed_unwanted q e = at (place_wants ReadCacheSequential q) refl
+  where
+    at : (b : Bool) → place_wants ReadCacheSequential q ≡ b → b ≡ false
+    at true w = absurd (let no : true ≡ false = sym (cache_read_open q w) ∙ e in cc)
+    at false w = refl
+
+-- and where it isn't refused it is known whether it is wanted
+pub known_cache_read : (g : Parts) (s : State) (p q : Place) → PlaceIs p q → s.target.tail ≡ p → is_unfit g ReadCacheSequential ≡ false → command_out_of_place g s ReadCacheSequential ≡ false → place_wants ReadCacheSequential p ≡ place_wants ReadCacheSequential q
+known_cache_read g s _ _ (Anywhere q) is fit h = absurd (let no : true ≡ false = rw (is, fit) at h in cc)
+known_cache_read g s _ _ (NothingOpen q e) is fit h = sym (closed_unwanted q e)
+known_cache_read g s _ _ (Exactly q) is fit h = refl
 
 pub inputs_too : (n : ℕ) (s a : Place) → PlaceIs s a → May (takes_inputs_at n s) (takes_inputs_at n a)
 inputs_too n _ _ (Anywhere p) h = absurd cc

@@ -1,10 +1,9 @@
--- A command that is no opener can break F6 alone.
-use Rattle.std.proofs.Common.{◌≡◌, ℕ, Bool, true, false, ◌&&◌, cond, List, Option, Some, None, refl, ap, ◌∙◌, sym}
+-- A command that is no opener can break F6 and F15 alone.
+use Rattle.std.proofs.Common.{◌≡◌, Bool, true, false, ◌&&◌, cond, List, Some, None, refl, ap, ◌∙◌, sym}
 use Rattle.nand_geometry.specs.declared.parts.Parts.{Parts}
 use Rattle.onfi_cycle.specs.declared.command.Command.{Command}
 use Rattle.onfi_cycle.specs.declared.command.Command.TheVariants.{ReadConfirm, ChangeReadColumnConfirm, BlockEraseConfirm, BlockErasePlane, ChangeWriteColumn, ProgramConfirm, ProgramPlane, Unknown}
-use Rattle.onfi_cycle.specs.declared.forbidden.Forbidden.{Forbidden}
-use Rattle.onfi_cycle.specs.declared.forbidden.Forbidden.TheVariants.{SeveralLuns, CommandMisplaced, LunBusy}
+use Rattle.onfi_cycle.specs.declared.forbidden.Forbidden.TheVariants.{SeveralLuns, CommandMisplaced, LunBusy, CacheReadMisplaced}
 use Rattle.onfi_cycle.specs.declared.tail_facts.TailFacts.{TailFacts}
 use Rattle.onfi_cycle.specs.declared.target_cycle.TargetCycle.TheVariants.{CommandCycle}
 use Rattle.onfi_cycle.specs.LunView.{LunView}
@@ -13,27 +12,33 @@ use Rattle.onfi_cycle.specs.Effect.{is_shared}
 use Rattle.onfi_cycle.specs.Rules.{breaks_sequence_open, breaks_several_luns, breaks_no_column_to_change, breaks_command_misplaced, breaks_address_misplaced, breaks_row_outside, breaks_lun_busy, breaks_queue_clash, breaks_input_misplaced, breaks_no_sole_driver, breaks_data_not_ready, breaks_column_outside, breaks_cache_read_misplaced}
 use Rattle.onfi_cycle.specs.Permitted.{judge_known_cycle}
 
--- s: the target is shared; x: the command is misplaced
-only_misplaced : (s x : Bool) → cond x (Some CommandMisplaced) None ≡ cond (cond s false false) (Some SeveralLuns) (cond x (Some CommandMisplaced) (cond (s && false) (Some LunBusy) None))
-only_misplaced true true = refl
-only_misplaced true false = refl
-only_misplaced false true = refl
-only_misplaced false false = refl
+-- s: the target is shared; x: the command is misplaced; y: it reads where a cache read goes on
+only_misplaced : (s x y : Bool) → cond x (Some CommandMisplaced) (cond y (Some CacheReadMisplaced) None) ≡ cond (cond s false false) (Some SeveralLuns) (cond x (Some CommandMisplaced) (cond (s && false) (Some LunBusy) (cond y (Some CacheReadMisplaced) None)))
+only_misplaced true true y = refl
+only_misplaced true false y = refl
+only_misplaced false true y = refl
+only_misplaced false false y = refl
 
-closer_judged : (g : Parts) (t : TailFacts) (luns : List LunView) (c : Command) → is_opener c ≡ false → cond (breaks_command_misplaced t (CommandCycle c)) (Some CommandMisplaced) None ≡ judge_known_cycle g t luns (CommandCycle c)
+closer_judged : (g : Parts) (t : TailFacts) (luns : List LunView) (c : Command) → is_opener c ≡ false → cond (breaks_command_misplaced t (CommandCycle c)) (Some CommandMisplaced) (cond (breaks_cache_read_misplaced g t luns (CommandCycle c)) (Some CacheReadMisplaced) None) ≡ judge_known_cycle g t luns (CommandCycle c)
 unfolding breaks_sequence_open breaks_several_luns breaks_no_column_to_change breaks_address_misplaced breaks_row_outside breaks_lun_busy breaks_queue_clash breaks_input_misplaced breaks_no_sole_driver breaks_data_not_ready breaks_column_outside breaks_cache_read_misplaced
-closer_judged g t luns ReadConfirm h = only_misplaced (is_shared g) (breaks_command_misplaced t (CommandCycle ReadConfirm))
-closer_judged g t luns ChangeReadColumnConfirm h = only_misplaced (is_shared g) (breaks_command_misplaced t (CommandCycle ChangeReadColumnConfirm))
-closer_judged g t luns BlockEraseConfirm h = only_misplaced (is_shared g) (breaks_command_misplaced t (CommandCycle BlockEraseConfirm))
-closer_judged g t luns BlockErasePlane h = only_misplaced (is_shared g) (breaks_command_misplaced t (CommandCycle BlockErasePlane))
-closer_judged g t luns ChangeWriteColumn h = only_misplaced (is_shared g) (breaks_command_misplaced t (CommandCycle ChangeWriteColumn))
-closer_judged g t luns ProgramConfirm h = only_misplaced (is_shared g) (breaks_command_misplaced t (CommandCycle ProgramConfirm))
-closer_judged g t luns ProgramPlane h = only_misplaced (is_shared g) (breaks_command_misplaced t (CommandCycle ProgramPlane))
-closer_judged g t luns Unknown h = only_misplaced (is_shared g) (breaks_command_misplaced t (CommandCycle Unknown))
+closer_judged g t luns ReadConfirm h = only_misplaced (is_shared g) (breaks_command_misplaced t (CommandCycle ReadConfirm)) (breaks_cache_read_misplaced g t luns (CommandCycle ReadConfirm))
+closer_judged g t luns ChangeReadColumnConfirm h = only_misplaced (is_shared g) (breaks_command_misplaced t (CommandCycle ChangeReadColumnConfirm)) (breaks_cache_read_misplaced g t luns (CommandCycle ChangeReadColumnConfirm))
+closer_judged g t luns BlockEraseConfirm h = only_misplaced (is_shared g) (breaks_command_misplaced t (CommandCycle BlockEraseConfirm)) (breaks_cache_read_misplaced g t luns (CommandCycle BlockEraseConfirm))
+closer_judged g t luns BlockErasePlane h = only_misplaced (is_shared g) (breaks_command_misplaced t (CommandCycle BlockErasePlane)) (breaks_cache_read_misplaced g t luns (CommandCycle BlockErasePlane))
+closer_judged g t luns ChangeWriteColumn h = only_misplaced (is_shared g) (breaks_command_misplaced t (CommandCycle ChangeWriteColumn)) (breaks_cache_read_misplaced g t luns (CommandCycle ChangeWriteColumn))
+closer_judged g t luns ProgramConfirm h = only_misplaced (is_shared g) (breaks_command_misplaced t (CommandCycle ProgramConfirm)) (breaks_cache_read_misplaced g t luns (CommandCycle ProgramConfirm))
+closer_judged g t luns ProgramPlane h = only_misplaced (is_shared g) (breaks_command_misplaced t (CommandCycle ProgramPlane)) (breaks_cache_read_misplaced g t luns (CommandCycle ProgramPlane))
+closer_judged g t luns Unknown h = only_misplaced (is_shared g) (breaks_command_misplaced t (CommandCycle Unknown)) (breaks_cache_read_misplaced g t luns (CommandCycle Unknown))
 closer_judged g t luns c h = cc
 
 pub closer_misplaced : (g : Parts) (t : TailFacts) (luns : List LunView) (c : Command) → is_opener c ≡ false → breaks_command_misplaced t (CommandCycle c) ≡ true → Some CommandMisplaced ≡ judge_known_cycle g t luns (CommandCycle c)
-closer_misplaced g t luns c h e = ap (λ (b : Bool). cond b (Some CommandMisplaced) None) (sym e) ∙ closer_judged g t luns c h
+closer_misplaced g t luns c h e = ap (λ (b : Bool). cond b (Some CommandMisplaced) (cond (breaks_cache_read_misplaced g t luns (CommandCycle c)) (Some CacheReadMisplaced) None)) (sym e) ∙ closer_judged g t luns c h
 
-pub closer_passes : (g : Parts) (t : TailFacts) (luns : List LunView) (c : Command) → is_opener c ≡ false → breaks_command_misplaced t (CommandCycle c) ≡ false → None ≡ judge_known_cycle g t luns (CommandCycle c)
-closer_passes g t luns c h e = ap (λ (b : Bool). cond b (Some CommandMisplaced) None) (sym e) ∙ closer_judged g t luns c h
+behind_misplaced : (g : Parts) (t : TailFacts) (luns : List LunView) (c : Command) → is_opener c ≡ false → breaks_command_misplaced t (CommandCycle c) ≡ false → cond (breaks_cache_read_misplaced g t luns (CommandCycle c)) (Some CacheReadMisplaced) None ≡ judge_known_cycle g t luns (CommandCycle c)
+behind_misplaced g t luns c h e = ap (λ (b : Bool). cond b (Some CommandMisplaced) (cond (breaks_cache_read_misplaced g t luns (CommandCycle c)) (Some CacheReadMisplaced) None)) (sym e) ∙ closer_judged g t luns c h
+
+pub closer_reads : (g : Parts) (t : TailFacts) (luns : List LunView) (c : Command) → is_opener c ≡ false → breaks_command_misplaced t (CommandCycle c) ≡ false → breaks_cache_read_misplaced g t luns (CommandCycle c) ≡ true → Some CacheReadMisplaced ≡ judge_known_cycle g t luns (CommandCycle c)
+closer_reads g t luns c h e f = ap (λ (b : Bool). cond b (Some CacheReadMisplaced) None) (sym f) ∙ behind_misplaced g t luns c h e
+
+pub closer_passes : (g : Parts) (t : TailFacts) (luns : List LunView) (c : Command) → is_opener c ≡ false → breaks_command_misplaced t (CommandCycle c) ≡ false → breaks_cache_read_misplaced g t luns (CommandCycle c) ≡ false → None ≡ judge_known_cycle g t luns (CommandCycle c)
+closer_passes g t luns c h e f = ap (λ (b : Bool). cond b (Some CacheReadMisplaced) None) (sym f) ∙ behind_misplaced g t luns c h e

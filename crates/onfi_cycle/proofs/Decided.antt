@@ -14,10 +14,11 @@ use Rattle.onfi_cycle.specs.declared.read_column.ReadColumn.{ReadColumn}
 use Rattle.onfi_cycle.specs.declared.effect.Effect.{Effect}
 use Rattle.onfi_cycle.specs.declared.effect.Effect.TheVariants.{StatusSelected, StatusOfSelected, StatusRowAwaited, IdRead, IdentityRead, UniqueIdReadStarted, FeaturesReadStarted, ParameterPageReadStarted, CacheReadContinued, CacheReadEnded, DataOutput, BecameReady, ReadStarted, EraseStarted, ProgramStarted, ReadColumnChanged}
 use Rattle.onfi_cycle.specs.declared.tail_facts.TailFacts.{TailFacts}
-use Rattle.onfi_cycle.specs.Sequence.{row}
+use Rattle.onfi_cycle.specs.declared.command.Command.TheVariants.{ReadCacheSequential}
+use Rattle.onfi_cycle.specs.Sequence.{row, wants_command}
 use Rattle.onfi_cycle.specs.Effect.{page_address}
-use Rattle.onfi_cycle.specs.Lun.{effect_on, busy_after, closer_after, array_busy_after, array_page_after, register_after, read_column_after, queue_after, is_busy, is_caching, closer, is_array_busy, array_page, register, read_column, queue}
-use Rattle.onfi_cycle.specs.Decides.{or_before, last_decided, count_since, some_since, with_some, all_since, tail_of, closing, work_of, busy_decided, ends_array_work, array_busy_decided, reads_page, reads_on, page_read, pages_on, first_page, page_of_array, byte_of, register_of, register_decided, changes_column, column_of, column_decided, is_given, gives_column, outputs_data, outputs_since, loses_column, is_status_command, is_cycle_of, empties_queue, queued_row}
+use Rattle.onfi_cycle.specs.Lun.{effect_on, busy_after, closer_after, array_busy_after, array_page_after, next_page, register_after, read_column_after, queue_after, is_busy, is_caching, closer, is_array_busy, array_page, register, read_column, queue}
+use Rattle.onfi_cycle.specs.Decides.{or_before, last_decided, count_since, some_since, with_some, all_since, tail_of, closing, work_of, busy_decided, ends_array_work, array_busy_decided, reads_page, reads_its_row, reads_on, page_read, pages_on, first_page, page_of_array, byte_of, register_of, register_decided, changes_column, column_of, column_decided, is_given, gives_column, outputs_data, outputs_since, loses_column, is_status_command, is_cycle_of, empties_queue, queued_row}
 use Rattle.onfi_cycle.proofs.Meaning.{means, closer_of, is_ready, is_array_ready, is_column_change, is_data_output, is_status, Carries}
 
 -- what was decided before, unless this decides
@@ -96,12 +97,16 @@ plus_none p = λ i. record { block = p.block; page = add_none p.page i }
     add_none : (n : ℕ) → n ≡ n + 0
     add_none n = omega arith
 
-array_page_step : (g : Parts) (t : TailFacts) (byte : ℕ) (e : Effect) (q : PageAddress) (n : ℕ) → Carries g t byte e → array_page_after e (pages_on q n) ≡ cond (reads_page (closer_of e)) (pages_on (page_address g (row t)) 0) (cond (reads_on (closer_of e)) (pages_on q (n + 1)) (pages_on q n))
+array_page_step : (g : Parts) (t : TailFacts) (byte : ℕ) (e : Effect) (q : PageAddress) (n : ℕ) → Carries g t byte e → array_page_after e (pages_on q n) ≡ cond (reads_page (wants_command t ReadCacheSequential) (closer_of e)) (pages_on (page_address g (row t)) 0) (cond (reads_on (closer_of e)) (pages_on q (n + 1)) (pages_on q n))
 array_page_step g t byte (ReadStarted page column) q n carries = carries.0 ∙ plus_none (page_address g (row t))
-array_page_step g t byte CacheReadContinued q n carries = λ i. record { block = q.block; page = add_assoc_one q.page n i }
+array_page_step g t byte (CacheReadContinued to) q n carries = ap (λ x. unwrap_or x (next_page (pages_on q n))) carries ∙ to_page (wants_command t ReadCacheSequential)
   where
     add_assoc_one : (a b : ℕ) → a + b + 1 ≡ a + (b + 1)
     add_assoc_one a b = omega arith
+
+    to_page : (wanted : Bool) → unwrap_or (cond wanted (Some (page_address g (row t))) None) (next_page (pages_on q n)) ≡ cond wanted (pages_on (page_address g (row t)) 0) (pages_on q (n + 1))
+    to_page true = plus_none (page_address g (row t))
+    to_page false = λ i. record { block = q.block; page = add_assoc_one q.page n i }
 array_page_step g t byte (EraseStarted true row) q n carries = refl
 array_page_step g t byte (EraseStarted false row) q n carries = refl
 array_page_step g t byte (ProgramStarted true page) q n carries = refl
@@ -121,9 +126,9 @@ array_page_is_decided g (i ∷ past) l =
     let m = means g past i l in
     let p0 = page_address g (row (tail_of past l)) in
     let last = last_decided (page_read g l) past in
-    let n = count_since (λ past i. reads_page (closing g l past i)) (λ past i. reads_on (closing g l past i)) past in
-    let F : Option Command → PageAddress = λ c. cond (reads_page c) (pages_on p0 0) (cond (reads_on c) (pages_on (unwrap_or last first_page) (n + 1)) (pages_on (unwrap_or last first_page) n)) in
-    ap (array_page_after e) (array_page_is_decided g past l) ∙ (array_page_step g (tail_of past l) (byte_of i) e (unwrap_or last first_page) n m.carries ∙ (ap F (sym m.closes) ∙ page_more (reads_page (closing g l past i)) (reads_on (closing g l past i)) p0 last n))
+    let n = count_since (reads_its_row g l) (λ past i. reads_on (closing g l past i)) past in
+    let F : Option Command → PageAddress = λ c. cond (reads_page (wants_command (tail_of past l) ReadCacheSequential) c) (pages_on p0 0) (cond (reads_on c) (pages_on (unwrap_or last first_page) (n + 1)) (pages_on (unwrap_or last first_page) n)) in
+    ap (array_page_after e) (array_page_is_decided g past l) ∙ (array_page_step g (tail_of past l) (byte_of i) e (unwrap_or last first_page) n m.carries ∙ (ap F (sym m.closes) ∙ page_more (reads_its_row g l past i) (reads_on (closing g l past i)) p0 last n))
 
 register_step : (g : Parts) (past : List Item) (l : Lun) (byte : ℕ) (e : Effect) (before : Register) → Carries g (tail_of past l) byte e → register_after e (array_page g past l) before ≡ unwrap_or (register_of g past l byte (closer_of e)) before
 register_step g past l byte (ReadStarted page column) before carries = ap Page carries.0
@@ -165,7 +170,7 @@ column_step past l g byte (IdentityRead jedec) k carries = refl
 column_step past l g byte UniqueIdReadStarted k carries = refl
 column_step past l g byte (FeaturesReadStarted address) k carries = refl
 column_step past l g byte ParameterPageReadStarted k carries = refl
-column_step past l g byte CacheReadContinued k carries = refl
+column_step past l g byte (CacheReadContinued to) k carries = refl
 column_step past l g byte CacheReadEnded k carries = refl
 column_step past l g byte StatusSelected k carries = refl
 column_step past l g byte StatusOfSelected k carries = refl

@@ -22,8 +22,8 @@ use Rattle.onfi_cycle.specs.declared.tail_facts.TailFacts.{TailFacts}
 use Rattle.onfi_cycle.specs.declared.target_cycle.TargetCycle.{TargetCycle}
 use Rattle.onfi_cycle.specs.declared.target_cycle.TargetCycle.TheVariants.{CommandCycle, AddressCycle, InputCycle, OutputCycle}
 use Rattle.onfi_cycle.specs.LunView.{LunView}
-use Rattle.onfi_cycle.specs.Command.{closes_row, is_read_confirm, address_cycles, is_opener, takes_address, is_set_features}
-use Rattle.onfi_cycle.specs.Sequence.{target_of, target_cycle, begins_sequence, facts_of, facts_after, extended_facts, opened, one_address_more, wants_command, wants_address, wants_column, row, row_with, takes_features, phase_after_command, phase_after_address, phase_after_input}
+use Rattle.onfi_cycle.specs.Command.{closes_row, reads_row, address_cycles, is_opener, takes_address, is_set_features}
+use Rattle.onfi_cycle.specs.Sequence.{target_of, target_cycle, begins_anew, facts_of, facts_after, extended_facts, opened, one_address_more, wants_command, wants_address, wants_column, row, row_with, takes_features, phase_after_command, phase_after_address, phase_after_input}
 use Rattle.onfi_cycle.specs.Effect.{is_off, is_data, is_shared, acts_for_target, other_effect, names_lun, confirm_effect, command_effect, address_effect, opening_address_effect, cycle_effect, ends_features, input_effect}
 use Rattle.onfi_cycle.specs.Lun.{busy_after, array_busy_after, closer_after, is_cache_read, view_after}
 use Rattle.onfi_cycle.specs.Applied.{one_after}
@@ -56,6 +56,7 @@ either false x y h k = k
 
 confirm_keeps : (g : Parts) (t : TailFacts) (c : Command) → starts c ≡ false → Keeps (confirm_effect g t c)
 confirm_keeps g t ReadConfirm h = cc
+confirm_keeps g t ReadCacheSequential h = cc
 confirm_keeps g t BlockEraseConfirm h = cc
 confirm_keeps g t BlockErasePlane h = cc
 confirm_keeps g t ProgramConfirm h = cc
@@ -63,7 +64,7 @@ confirm_keeps g t ProgramPlane h = cc
 confirm_keeps g t c h = unaffected
 
 other_keeps : (g : Parts) (t : TailFacts) (c : Command) → Keeps (other_effect g t c)
-other_keeps g t c = either (closes_row c && (wants_command t c && is_shared g)) (AnotherAddressed (is_read_confirm c)) Unaffected (record { busy = λ b. refl; array = λ b c a. refl; closer = λ c. refl }) unaffected
+other_keeps g t c = either (closes_row c && (wants_command t c && is_shared g)) (AnotherAddressed (reads_row c)) Unaffected (record { busy = λ b. refl; array = λ b c a. refl; closer = λ c. refl }) unaffected
 
 command_keeps : (g : Parts) (t : TailFacts) (la : Latch) (c : Command) (n : ℕ) → starts c ≡ false → Keeps (command_effect g t la c n)
 command_keeps g t la Read n h = record { busy = λ b. refl; array = λ b c a. refl; closer = λ c. refl }
@@ -134,7 +135,7 @@ extended_awaits t (InputCycle byte) some h = or_right (opens_later t.opening) (t
 extended_awaits t OutputCycle some h = cc
 
 awaits_no_more : (t : TailFacts) (cycle : TargetCycle) → cycle_starts cycle ≡ false → one_if (awaits_start (facts_after cycle t)) ≤ one_if (awaits_start t)
-awaits_no_more t cycle s = at (begins_sequence cycle) refl
+awaits_no_more t cycle s = at (begins_anew t cycle) refl
   where
     none : (b : Bool) → (b ≡ true → false ≡ true) → one_if b ≤ one_if (awaits_start t)
     none true h = let no = h refl in cc
@@ -144,7 +145,7 @@ awaits_no_more t cycle s = at (begins_sequence cycle) refl
     less true h = let was = h refl in rw was (omega arith)
     less false h = omega arith
 
-    begun : (k : TargetCycle) → cycle_starts k ≡ false → begins_sequence k ≡ true → awaits_start (extended_facts k (facts_of [])) ≡ true → false ≡ true
+    begun : (k : TargetCycle) → cycle_starts k ≡ false → begins_anew t k ≡ true → awaits_start (extended_facts k (facts_of [])) ≡ true → false ≡ true
     begun (CommandCycle c) s b h = either_way (starts_later c && ltb 0 (address_cycles c)) (takes_features (phase_after_command c Outside)) h (opens_none c s) (λ f. let no = command_in_features c Outside in cc)
     begun (AddressCycle byte) s b h = cc
     begun (InputCycle byte) s b h = cc
@@ -154,7 +155,7 @@ awaits_no_more t cycle s = at (begins_sequence cycle) refl
     on true e = omega arith
     on false e = less _ (extended_awaits t cycle e)
 
-    at : (b : Bool) → begins_sequence cycle ≡ b → one_if (awaits_start (cond b (extended_facts cycle (facts_of [])) (cond t.is_empty t (extended_facts cycle t)))) ≤ one_if (awaits_start t)
+    at : (b : Bool) → begins_anew t cycle ≡ b → one_if (awaits_start (cond b (extended_facts cycle (facts_of [])) (cond t.is_empty t (extended_facts cycle t)))) ≤ one_if (awaits_start t)
     at true e = none _ (begun cycle s e)
     at false e = on t.is_empty refl
 

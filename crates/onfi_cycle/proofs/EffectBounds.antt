@@ -25,15 +25,15 @@ use Rattle.onfi_cycle.specs.declared.target_cycle.TargetCycle.TheVariants.{Comma
 use Rattle.onfi_cycle.specs.declared.effect.Effect.{Effect}
 use Rattle.onfi_cycle.specs.declared.effect.Effect.TheVariants.{Unaffected, SelectedForStatus, Deselected, IdRead, IdentityRead, UniqueIdReadStarted, FeaturesReadStarted, FeaturesSet, ParameterPageReadStarted, CacheReadContinued, CacheReadEnded, ReadColumnChanged, DataOutput, BecameReady, ArrayBecameReady, ResetStarted, StatusSelected, StatusOfSelected, AnotherAddressed, TargetResetStarted}
 use Rattle.onfi_cycle.specs.LunView.{LunView}
-use Rattle.onfi_cycle.specs.Command.{closes, address_cycles, is_opener, takes_address, reads_identity, closes_row, is_read_confirm}
+use Rattle.onfi_cycle.specs.Command.{closes, address_cycles, is_opener, takes_address, reads_identity, closes_row, reads_row}
 use Rattle.onfi_cycle.specs.Sequence.{target_cycle, opened, takes_data, takes_features, wants_column, wants_command, wants_address, row, row_with}
-use Rattle.onfi_cycle.specs.Effect.{is_off, is_data, names_lun, page_address, confirm_effect, command_effect, id_effect, address_effect, opening_address_effect, ends_features, cycle_effect, is_shared, acts_for_target, of_target, other_effect, lun_reset_effect}
+use Rattle.onfi_cycle.specs.Effect.{is_off, is_data, names_lun, page_address, confirm_effect, row_effect, cache_effect, command_effect, id_effect, address_effect, opening_address_effect, ends_features, cycle_effect, is_shared, acts_for_target, of_target, other_effect, lun_reset_effect}
 use Rattle.onfi_cycle.specs.Lun.{is_page_read, output_column, option_plus}
 use Rattle.onfi_cycle.specs.Rules.{driving, are_none, only, driver, is_some_and, driver_is, lacks, is_past, is_empty, register_len, has_no_byte, is_past_register, continues_cache, ends_cache, some_queued_clashes, breaks_not_there, breaks_data_not_ready, breaks_column_outside, breaks_cache_read_misplaced}
 use Rattle.onfi_cycle.specs.Permitted.{judge, judge_cycle}
 use Rattle.onfi_cycle.specs.State.{effect_alone, has_driver}
 use Rattle.onfi_cycle.specs.Bounds.{TailFits, RowFits, RowStands, CanStart, EffectFits, is_read, is_block_erase, names_read, names_erase, names_program, names_row, names_identity}
-use Rattle.onfi_cycle.proofs.Others.{first_passed}
+use Rattle.onfi_cycle.proofs.Others.{first_passed, chosen_else}
 use Rattle.onfi_cycle.proofs.Passed.{KeepsRules, keeps_rules}
 
 -- a LUN that is on is among those that drive
@@ -113,6 +113,10 @@ wants_read : (c : Command) (n : ℕ) → (closes c ReadConfirm && n == address_c
 wants_read Read n h = h
 wants_read c n h = cc
 
+wants_cache_read : (c : Command) (n : ℕ) → (closes c ReadCacheSequential && n == address_cycles c) ≡ true → (is_read c && n == 5) ≡ true
+wants_cache_read Read n h = h
+wants_cache_read c n h = cc
+
 wants_erase : (c : Command) (n : ℕ) → (closes c BlockEraseConfirm && n == address_cycles c) ≡ true → (is_block_erase c && n == 3) ≡ true
 wants_erase BlockErase n h = h
 wants_erase c n h = cc
@@ -150,6 +154,9 @@ confirm_fits : (g : Parts) → InLimits g → (t : TailFacts) (n : ℕ) (v : Lun
 confirm_fits g limits t n v tf rf rs ReadConfirm h =
     let parts = both (wants_command t ReadConfirm) _ h in
     (page_is_small g limits (row t), tf.column, can_start g t n v rs parts.1 (read_named t (opened_too _ _ wants_read t.opening parts.0)))
+confirm_fits g limits t n v tf rf rs ReadCacheSequential h =
+    let parts = both (wants_command t ReadCacheSequential) _ h in
+    (page_is_small g limits (row t), can_start g t n v rs parts.1 (read_named t (opened_too _ _ wants_cache_read t.opening parts.0)))
 confirm_fits g limits t n v tf rf rs BlockEraseConfirm h = let parts = both (wants_command t BlockEraseConfirm) _ h in erase_fits g t n v rf rs parts.1 (opened_too _ _ wants_erase t.opening parts.0)
 confirm_fits g limits t n v tf rf rs BlockErasePlane h = let parts = both (wants_command t BlockErasePlane) _ h in erase_fits g t n v rf rs parts.1 (opened_too _ _ wants_plane_erase t.opening parts.0)
 confirm_fits g limits t n v tf rf rs ProgramConfirm h = let parts = both (wants_command t ProgramConfirm) _ h in program_fits g t n v rf rs parts.1 parts.0
@@ -157,10 +164,11 @@ confirm_fits g limits t n v tf rf rs ProgramPlane h = let parts = both (wants_co
 confirm_fits g limits t n v tf rf rs c h = tt
 
 -- a cache read goes on inside its block
-continued_fits : (g : Parts) → InLimits g → (t : TailFacts) (luns : List LunView) (v : LunView) → breaks_cache_read_misplaced g t luns (CommandCycle ReadCacheSequential) ≡ false → IsDriver luns v → (v.array_page.page + 1 < 2 ^ 32) × (v.busy ≡ false)
+continued_fits : (g : Parts) → InLimits g → (t : TailFacts) (luns : List LunView) (v : LunView) → breaks_cache_read_misplaced g t luns (CommandCycle ReadCacheSequential) ≡ false → wants_command t ReadCacheSequential ≡ false → IsDriver luns v → (v.array_page.page + 1 < 2 ^ 32) × (v.busy ≡ false)
 unfolding breaks_cache_read_misplaced
-continued_fits g limits t luns v f15 d =
-    let passes : continues_cache g v ≡ true = sym (driver_passes (continues_cache g) luns v d) ∙ not-false _ f15 in
+continued_fits g limits t luns v f15 unwanted d =
+    let unless : not (driver_is (continues_cache g) luns) ≡ false = chosen_else (wants_command t ReadCacheSequential) _ _ f15 unwanted in
+    let passes : continues_cache g v ≡ true = sym (driver_passes (continues_cache g) luns v d) ∙ not-false _ unless in
     let inside = (both (is_page_read v.closer) _ (both (not v.busy) _ passes).1).1 in
     let pages = limits.pages_most in
     let low : v.array_page.page + 1 < 2 ^ 32 = grind (arith, nat_tests) in
@@ -173,6 +181,11 @@ ended_fits g t luns v f15 d =
     let passes : ends_cache v ≡ true = sym (driver_passes ends_cache luns v d) ∙ not-false _ f15 in
     not-true v.busy (both (not v.busy) _ passes).0
 
+row_effect_fits : (g : Parts) → InLimits g → (t : TailFacts) (n : ℕ) (v : LunView) → TailFits g t → RowFits g t n v → RowStands g t n v → (c : Command) → EffectFits g v (row_effect g t c n)
+row_effect_fits g limits t n v tf rf rs c =
+    choice g v (wants_command t c && names_lun g (row t) n) (confirm_effect g t c) (other_effect g t c) (confirm_fits g limits t n v tf rf rs c)
+    (λ e. choice g v (closes_row c && (wants_command t c && is_shared g)) (AnotherAddressed (reads_row c)) Unaffected (λ e. tt) (λ e. tt))
+
 command_fits : (g : Parts) → InLimits g → (t : TailFacts) (luns : List LunView) (n : ℕ) (v : LunView) → TailFits g t → RowFits g t n v → RowStands g t n v → slice_get luns n ≡ Some v → (c : Command) → breaks_cache_read_misplaced g t luns (CommandCycle c) ≡ false → EffectFits g v (command_effect g t (cond (has_driver luns) v.latch Off) c n)
 command_fits g limits t luns n v tf rf rs found Read f15 = tt
 command_fits g limits t luns n v tf rf rs found ReadStatus f15 = choice g v (is_shared g) StatusOfSelected StatusSelected (λ e. tt) (λ e. tt)
@@ -180,13 +193,12 @@ command_fits g limits t luns n v tf rf rs found ReadStatusEnhanced f15 = tt
 command_fits g limits t luns n v tf rf rs found Reset f15 = choice g v (is_shared g) (TargetResetStarted (n == 0)) ResetStarted (λ e. tt) (λ e. tt)
 command_fits g limits t luns n v tf rf rs found SynchronousReset f15 = choice g v (is_shared g) (TargetResetStarted (n == 0)) ResetStarted (λ e. tt) (λ e. tt)
 command_fits g limits t luns n v tf rf rs found ReadCacheSequential f15 =
-    choice g v (is_off (cond (has_driver luns) v.latch Off)) Unaffected CacheReadContinued (λ e. tt) (λ e. continued_fits g limits t luns v f15 (alone_drives luns n v found e))
+    choice g v (wants_command t ReadCacheSequential) (row_effect g t ReadCacheSequential n) (cache_effect (cond (has_driver luns) v.latch Off)) (λ w. row_effect_fits g limits t n v tf rf rs ReadCacheSequential)
+    (λ w. choice g v (is_off (cond (has_driver luns) v.latch Off)) Unaffected (CacheReadContinued None) (λ e. tt) (λ e. continued_fits g limits t luns v f15 w (alone_drives luns n v found e)))
 command_fits g limits t luns n v tf rf rs found ReadCacheEnd f15 = choice g v (is_off (cond (has_driver luns) v.latch Off)) Unaffected CacheReadEnded (λ e. tt) (λ e. ended_fits g t luns v f15 (alone_drives luns n v found e))
 command_fits g limits t luns n v tf rf rs found ChangeReadColumnConfirm f15 =
     choice g v (wants_command t ChangeReadColumnConfirm && not (is_off (cond (has_driver luns) v.latch Off))) (ReadColumnChanged t.column) Unaffected (λ e. tf.column) (λ e. tt)
-command_fits g limits t luns n v tf rf rs found c f15 =
-    choice g v (wants_command t c && names_lun g (row t) n) (confirm_effect g t c) (other_effect g t c) (confirm_fits g limits t n v tf rf rs c)
-    (λ e. choice g v (closes_row c && (wants_command t c && is_shared g)) (AnotherAddressed (is_read_confirm c)) Unaffected (λ e. tt) (λ e. tt))
+command_fits g limits t luns n v tf rf rs found c f15 = row_effect_fits g limits t n v tf rf rs c
 
 -- the address of an identity comes at a ready LUN
 pub identity_waits : (t : TailFacts) (byte : ℕ) (o : Opening) → t.opening ≡ Some o → wants_column t.phase ≡ false → reads_identity o.opener ≡ true → wants_address t byte ≡ true → names_identity t ≡ true

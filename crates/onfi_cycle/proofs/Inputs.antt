@@ -22,8 +22,8 @@ use Rattle.onfi_cycle.specs.Channel.{cycle}
 use Rattle.onfi_cycle.specs.Bounds.{TailFits, BusFits}
 use Rattle.onfi_cycle.specs.State.{TargetView, BusView, judged, judged_on, luns_after, has_driver, target_after, changed_at, bus_after, bus, target}
 use Rattle.onfi_cycle.specs.Inputs.{judged_inputs, after_inputs, fed_tail, fed_target, fed_bus, has_no_room, takes_fewer_features, against_inputs}
-use Rattle.onfi_cycle.specs.Runs.{first_rule, judged_run, after_run}
-use Rattle.onfi_cycle.specs.Effect.{ends_features, cycle_effect}
+use Rattle.onfi_cycle.specs.Runs.{first_rule, judged_run}
+use Rattle.onfi_cycle.specs.Effect.{cycle_effect}
 use Rattle.onfi_cycle.specs.Applied.{luns_after_cycle}
 use Rattle.onfi_cycle.specs.Lun.{view_after}
 use Rattle.onfi_cycle.specs.declared.latch.Latch.TheVariants.{Off}

@@ -12,6 +12,8 @@ use Rattle.onfi_cycle.specs.declared.item.Cycle.{Cycle}
 use Rattle.onfi_cycle.specs.declared.item.Item.{Item}
 use Rattle.onfi_cycle.specs.declared.item.Item.TheVariants.{Cyc, Rdy, Ard}
 use Rattle.onfi_cycle.specs.declared.opening.Opening.{Opening}
+use Rattle.onfi_cycle.specs.declared.page_address.PageAddress.{PageAddress}
+use Rattle.onfi_cycle.specs.declared.tail_facts.TailFacts.{TailFacts}
 use Rattle.onfi_cycle.specs.declared.target_cycle.TargetCycle.{TargetCycle}
 use Rattle.onfi_cycle.specs.declared.target_cycle.TargetCycle.TheVariants.{CommandCycle, AddressCycle, InputCycle, OutputCycle}
 use Rattle.onfi_cycle.specs.declared.effect.Effect.{Effect}
@@ -19,7 +21,7 @@ use Rattle.onfi_cycle.specs.declared.effect.Effect.TheVariants.{Unaffected, Stat
 use Rattle.onfi_cycle.specs.LunView.{LunView}
 use Rattle.onfi_cycle.specs.Sequence.{target_cycle, row, row_with, wants_command, wants_address}
 use Rattle.onfi_cycle.specs.Command.{reads_identity, is_set_features}
-use Rattle.onfi_cycle.specs.Effect.{is_off, is_data, is_shared, acts_for_target, names_lun, command_effect, address_effect, id_effect, opening_address_effect, cycle_effect, ends_features}
+use Rattle.onfi_cycle.specs.Effect.{is_off, is_data, is_shared, acts_for_target, page_address, names_lun, command_effect, address_effect, id_effect, opening_address_effect, cycle_effect, ends_features}
 use Rattle.onfi_cycle.specs.Lun.{latch, latch_after, latch_alone, is_selected, is_busy, is_array_busy, effect_on, effect_among, drivers_from, is_only, lun_view, views_from, luns_of, shown_after}
 use Rattle.onfi_cycle.specs.Rules.{driving, are_none, only, driver, is_some_and, driver_is, breaks_cache_read_misplaced, continues_cache, ends_cache}
 use Rattle.onfi_cycle.specs.Permitted.{broken, is_permitted, is_legal}
@@ -105,18 +107,25 @@ off_or_driver g past l (Some v) test e h low =
     let one = one_by_views g past l.ce g.luns 0 v e in
     sole_off (λ m. latch g past (record { ce = l.ce; lun = m })) g.luns 0 one.m l.lun one.is (omega arith) (omega arith) ∙ ap (λ ds. not (is_only ds l.lun)) (sym one.is)
 
-abbrev pub is_cache_cycle : TargetCycle → Bool
-is_cache_cycle (CommandCycle ReadCacheSequential) = true
-is_cache_cycle (CommandCycle ReadCacheEnd) = true
-is_cache_cycle _ = false
+-- a cache read of the one driver
+abbrev pub is_cache_cycle : TailFacts → TargetCycle → Bool
+is_cache_cycle t (CommandCycle ReadCacheSequential) = not (wants_command t ReadCacheSequential)
+is_cache_cycle t (CommandCycle ReadCacheEnd) = true
+is_cache_cycle t _ = false
+
+otherwise : (w x y : Bool) → not w ≡ true → cond w x y ≡ false → y ≡ false
+otherwise true x y h e = cc
+otherwise false x y h e = e
 
 -- a cache read that is permitted finds one driver
-pub cache_finds_driver : (g : Parts) (n : ℕ) (past : List Item) (c : Cycle) (l : Lun) → broken g n past (Cyc c) ≡ None → c.ce ≡ l.ce → l.lun < g.luns → is_cache_cycle (target_cycle c.kind c.byte) ≡ true → is_off (latch g past l) ≡ not (drives_alone g past l)
+pub cache_finds_driver : (g : Parts) (n : ℕ) (past : List Item) (c : Cycle) (l : Lun) → broken g n past (Cyc c) ≡ None → c.ce ≡ l.ce → l.lun < g.luns → is_cache_cycle (tail_of past l) (target_cycle c.kind c.byte) ≡ true → is_off (latch g past l) ≡ not (drives_alone g past l)
 unfolding breaks_cache_read_misplaced
 cache_finds_driver g n past c l h here low is = at (target_cycle c.kind c.byte) is (subst (λ ce. breaks_cache_read_misplaced g (tail_of past (record { ce = ce; lun = l.lun })) (luns_of g past ce) (target_cycle c.kind c.byte) ≡ false) here (permitted_keeps g n past c h).f15)
   where
-    at : (x : TargetCycle) → is_cache_cycle x ≡ true → breaks_cache_read_misplaced g (tail_of past l) (luns_of g past l.ce) x ≡ false → is_off (latch g past l) ≡ not (drives_alone g past l)
-    at (CommandCycle ReadCacheSequential) is f15 = off_or_driver g past l (driver (luns_of g past l.ce)) (continues_cache g) refl (not-false (driver_is (continues_cache g) (luns_of g past l.ce)) f15) low
+    at : (x : TargetCycle) → is_cache_cycle (tail_of past l) x ≡ true → breaks_cache_read_misplaced g (tail_of past l) (luns_of g past l.ce) x ≡ false → is_off (latch g past l) ≡ not (drives_alone g past l)
+    at (CommandCycle ReadCacheSequential) is f15 =
+        let unwanted : not (driver_is (continues_cache g) (luns_of g past l.ce)) ≡ false = otherwise (wants_command (tail_of past l) ReadCacheSequential) _ _ is f15 in
+        off_or_driver g past l (driver (luns_of g past l.ce)) (continues_cache g) refl (not-false (driver_is (continues_cache g) (luns_of g past l.ce)) unwanted) low
     at (CommandCycle ReadCacheEnd) is f15 = off_or_driver g past l (driver (luns_of g past l.ce)) ends_cache refl (not-false (driver_is ends_cache (luns_of g past l.ce)) f15) low
     at _ is f15 = cc
 
@@ -161,14 +170,20 @@ reset_step : (shared first s w : Bool) (before : Latch) → latch_after (cond sh
 reset_step true first s w before = refl
 reset_step false first s w before = refl
 
+-- a 31; b: the LUN is the one driver
+read_on_step : (wants named shared b o p q : Bool) (before : Latch) (page : PageAddress) → (not wants ≡ true → o ≡ not b) → latch_after (cond wants (cond (wants && named) (CacheReadContinued (Some page)) (cond (true && (wants && shared)) (AnotherAddressed true) Unaffected)) (cond o Unaffected (CacheReadContinued None))) p q before ≡ unwrap_or (or_before (closed_latch (cond wants (cond named (Some ReadCacheSequential) None) (cond b (Some ReadCacheSequential) None))) (cond ((true && (shared && (wants && not named))) && (true && not q)) (Some Off) None)) before
+read_on_step true named shared b o p q before page cache = row_step true named shared true p q before (CacheReadContinued (Some page)) (Some ReadCacheSequential) refl
+read_on_step false named true b o p q before page cache = cache_step b o p q before (CacheReadContinued None) ReadCacheSequential refl refl (cache refl)
+read_on_step false named false b o p q before page cache = cache_step b o p q before (CacheReadContinued None) ReadCacheSequential refl refl (cache refl)
+
 -- la is what the LUN shows, or shows alone
-command_step : (g : Parts) (past : List Item) (l : Lun) (la : Latch) (c : Command) → (is_cache_cycle (CommandCycle c) ≡ true → is_off la ≡ not (drives_alone g past l)) → latch_after (command_effect g (tail_of past l) la c l.lun) (is_selected g past l) (is_busy g past l || is_array_busy g past l) (latch g past l) ≡ unwrap_or (latch_cycle g past l (CommandCycle c)) (latch g past l)
+command_step : (g : Parts) (past : List Item) (l : Lun) (la : Latch) (c : Command) → (is_cache_cycle (tail_of past l) (CommandCycle c) ≡ true → is_off la ≡ not (drives_alone g past l)) → latch_after (command_effect g (tail_of past l) la c l.lun) (is_selected g past l) (is_busy g past l || is_array_busy g past l) (latch g past l) ≡ unwrap_or (latch_cycle g past l (CommandCycle c)) (latch g past l)
 command_step g past l la Read cache = read_step (is_selected g past l) (is_busy g past l || is_array_busy g past l) (latch g past l)
 command_step g past l la ReadStatus cache = status_step (is_shared g) (is_selected g past l) (is_busy g past l || is_array_busy g past l) (latch g past l)
 command_step g past l la ReadStatusEnhanced cache = refl
 command_step g past l la Reset cache = reset_step (is_shared g) (l.lun == 0) (is_selected g past l) (is_busy g past l || is_array_busy g past l) (latch g past l)
 command_step g past l la SynchronousReset cache = reset_step (is_shared g) (l.lun == 0) (is_selected g past l) (is_busy g past l || is_array_busy g past l) (latch g past l)
-command_step g past l la ReadCacheSequential cache = cache_step (drives_alone g past l) (is_off la) (is_selected g past l) (is_busy g past l || is_array_busy g past l) (latch g past l) CacheReadContinued ReadCacheSequential refl refl (cache refl)
+command_step g past l la ReadCacheSequential cache = read_on_step (wants_command (tail_of past l) ReadCacheSequential) (names_lun g (row (tail_of past l)) l.lun) (is_shared g) (drives_alone g past l) (is_off la) (is_selected g past l) (is_busy g past l || is_array_busy g past l) (latch g past l) (page_address g (row (tail_of past l))) cache
 command_step g past l la ReadCacheEnd cache = cache_step (drives_alone g past l) (is_off la) (is_selected g past l) (is_busy g past l || is_array_busy g past l) (latch g past l) CacheReadEnded ReadCacheEnd refl refl (cache refl)
 command_step g past l la ChangeReadColumnConfirm cache = same_either_way (wants_command (tail_of past l) ChangeReadColumnConfirm && not (is_off la)) (is_selected g past l) (is_busy g past l || is_array_busy g past l) (latch g past l) (ReadColumnChanged (tail_of past l).column) refl
 command_step g past l la ReadConfirm cache = row_step (wants_command (tail_of past l) ReadConfirm) (names_lun g (row (tail_of past l)) l.lun) (is_shared g) true (is_selected g past l) (is_busy g past l || is_array_busy g past l) (latch g past l) _ (Some ReadConfirm) refl
@@ -239,7 +254,7 @@ input_step true true p q before f = refl
 input_step true false p q before f = refl
 input_step false a p q before f = refl
 
-cycle_step : (g : Parts) (past : List Item) (l : Lun) (la : Latch) (x : TargetCycle) → (is_cache_cycle x ≡ true → is_off la ≡ not (drives_alone g past l)) → latch_after (cycle_effect g (tail_of past l) la x l.lun) (is_selected g past l) (is_busy g past l || is_array_busy g past l) (latch g past l) ≡ unwrap_or (latch_cycle g past l x) (latch g past l)
+cycle_step : (g : Parts) (past : List Item) (l : Lun) (la : Latch) (x : TargetCycle) → (is_cache_cycle (tail_of past l) x ≡ true → is_off la ≡ not (drives_alone g past l)) → latch_after (cycle_effect g (tail_of past l) la x l.lun) (is_selected g past l) (is_busy g past l || is_array_busy g past l) (latch g past l) ≡ unwrap_or (latch_cycle g past l x) (latch g past l)
 cycle_step g past l la (CommandCycle c) cache = command_step g past l la c cache
 cycle_step g past l la (AddressCycle byte) cache = address_step g past l byte (tail_of past l).opening
 cycle_step g past l la (InputCycle byte) cache = input_step (ends_features (tail_of past l)) (acts_for_target g l.lun) (is_selected g past l) (is_busy g past l || is_array_busy g past l) (latch g past l) ((tail_of past l).column % 256)
@@ -249,7 +264,7 @@ cycle_step g past l la OutputCycle cache = same_either_way (is_data la) (is_sele
 latch_step : (g : Parts) (n : ℕ) (past : List Item) (i : Item) (l : Lun) → broken g n past i ≡ None → l.lun < g.luns → latch g (i ∷ past) l ≡ unwrap_or (latch_decided g l past i) (latch g past l)
 latch_step g n past (Cyc c) l h low = at (c.ce == l.ce) refl (cache_finds_driver g n past c l h)
   where
-    at : (b : Bool) → (c.ce == l.ce) ≡ b → (c.ce ≡ l.ce → l.lun < g.luns → is_cache_cycle (target_cycle c.kind c.byte) ≡ true → is_off (latch g past l) ≡ not (drives_alone g past l)) → latch_after (cond b (cycle_effect g (tail_of past l) (latch g past l) (target_cycle c.kind c.byte) l.lun) Unaffected) (is_selected g past l) (is_busy g past l || is_array_busy g past l) (latch g past l) ≡ unwrap_or (cond b (latch_cycle g past l (target_cycle c.kind c.byte)) None) (latch g past l)
+    at : (b : Bool) → (c.ce == l.ce) ≡ b → (c.ce ≡ l.ce → l.lun < g.luns → is_cache_cycle (tail_of past l) (target_cycle c.kind c.byte) ≡ true → is_off (latch g past l) ≡ not (drives_alone g past l)) → latch_after (cond b (cycle_effect g (tail_of past l) (latch g past l) (target_cycle c.kind c.byte) l.lun) Unaffected) (is_selected g past l) (is_busy g past l || is_array_busy g past l) (latch g past l) ≡ unwrap_or (cond b (latch_cycle g past l (target_cycle c.kind c.byte)) None) (latch g past l)
     at true e cache = cycle_step g past l (latch g past l) (target_cycle c.kind c.byte) (cache (eqb-true c.ce l.ce e) low)
     at false e cache = refl
 latch_step g n past (Rdy ce lun fail) l h low = same_either_way (ce == l.ce && lun == l.lun) (is_selected g past l) (is_busy g past l || is_array_busy g past l) (latch g past l) (BecameReady fail) refl

@@ -1,5 +1,5 @@
 -- What an effect that keeps what fits leaves of a LUN.
-use Rattle.std.proofs.Common.{◌≡◌, ℕ, zero, suc, ◌+◌, ◌%◌, ◌/◌, ◌^◌, ◌<◌, ◌≤◌, ◌==◌, Bool, true, false, ◌||◌, cond, not, List, [], ◌∷◌, refl, arith, length}
+use Rattle.std.proofs.Common.{◌≡◌, ℕ, zero, suc, ◌+◌, ◌%◌, ◌/◌, ◌^◌, ◌<◌, ◌≤◌, ◌==◌, Bool, true, false, ◌||◌, cond, not, List, [], ◌∷◌, Some, None, refl, arith, length}
 use Rattle.std.proofs.lemmas.Bool.Decides.{nat_tests}
 use Rattle.std.proofs.lemmas.Bool.{or_parts as either}
 use Rattle.nand_geometry.specs.declared.parts.Parts.{Parts}
@@ -83,7 +83,8 @@ lun_fits g limits UniqueIdReadStarted v h f = record { outputs = omega arith; gi
 lun_fits g limits (FeaturesReadStarted address) v h f = record { outputs = omega arith; given = omega arith; array_page = f.array_page; queue = f.queue }
 lun_fits g limits (FeaturesSet feature) v h f = record { outputs = f.outputs; given = f.given; array_page = f.array_page; queue = f.queue }
 lun_fits g limits ParameterPageReadStarted v h f = record { outputs = omega arith; given = omega arith; array_page = f.array_page; queue = f.queue }
-lun_fits g limits CacheReadContinued v h f = record { outputs = omega arith; given = omega arith; array_page = h.0; queue = f.queue }
+lun_fits g limits (CacheReadContinued None) v h f = record { outputs = omega arith; given = omega arith; array_page = h.0; queue = f.queue }
+lun_fits g limits (CacheReadContinued (Some page)) v h f = record { outputs = omega arith; given = omega arith; array_page = h.0; queue = f.queue }
 lun_fits g limits CacheReadEnded v h f = record { outputs = omega arith; given = omega arith; array_page = f.array_page; queue = f.queue }
 lun_fits g limits (ReadColumnChanged column) v h f = record { outputs = omega arith; given = h; array_page = f.array_page; queue = f.queue }
 lun_fits g limits DataOutput v h f = record { outputs = omega arith; given = f.given; array_page = f.array_page; queue = f.queue }

@@ -1,10 +1,11 @@
 -- What each effect means, in the words of the trace.
 use Rattle.std.proofs.Common.{◌≡◌, ℕ, zero, suc, ◌+◌, ◌==◌, Bool, true, false, ◌&&◌, cond, not, List, [], ◌∷◌, Option, Some, None, refl, sym, ap, ◌∙◌, subst, eqb-true, ◌%◌}
-use Rattle.std.proofs.lemmas.Bool.{not-false, not-true}
+use Rattle.std.proofs.lemmas.Bool.{not-false, not-true, and_parts as both}
+use Rattle.onfi_cycle.proofs.Booleans.{and_rest}
 use Rattle.nand_geometry.specs.declared.parts.Parts.{Parts}
 use Rattle.onfi_cycle.specs.declared.command.Command.{Command}
 use Rattle.onfi_cycle.specs.declared.command.Command.TheVariants.{Read, ReadConfirm, ChangeReadColumnConfirm, BlockEraseConfirm, BlockErasePlane, ReadStatus, ReadStatusEnhanced, ProgramConfirm, ProgramPlane, ReadId, ReadParameterPage, Reset, ReadCacheSequential, ReadCacheEnd, ReadUniqueId, GetFeatures, SetFeatures, ResetLun, SynchronousReset}
-use Rattle.onfi_cycle.specs.Command.{command, closes_row, is_read_confirm}
+use Rattle.onfi_cycle.specs.Command.{command, closes_row, reads_row}
 use Rattle.onfi_cycle.specs.declared.lun.Lun.{Lun}
 use Rattle.onfi_cycle.specs.declared.latch.Latch.{Latch}
 use Rattle.onfi_cycle.specs.declared.latch.Latch.TheVariants.{Off}
@@ -20,7 +21,7 @@ use Rattle.onfi_cycle.specs.declared.effect.Effect.{Effect}
 use Rattle.onfi_cycle.specs.declared.effect.Effect.TheVariants.{Unaffected, AnotherAddressed, StatusOfSelected, TargetResetStarted, StatusSelected, StatusRowAwaited, SelectedForStatus, Deselected, IdRead, IdentityRead, UniqueIdReadStarted, FeaturesReadStarted, FeaturesSet, ParameterPageReadStarted, CacheReadContinued, CacheReadEnded, DataOutput, ResetStarted, BecameReady, ArrayBecameReady, ReadStarted, EraseStarted, ProgramStarted, ReadColumnChanged}
 use Rattle.onfi_cycle.specs.declared.tail_facts.TailFacts.{TailFacts}
 use Rattle.onfi_cycle.specs.Sequence.{target_cycle, row, row_with, wants_command, wants_address}
-use Rattle.onfi_cycle.specs.Effect.{is_off, is_data, is_shared, acts_for_target, other_effect, page_address, names_lun, command_effect, address_effect, opening_address_effect, cycle_effect, ends_features}
+use Rattle.onfi_cycle.specs.Effect.{is_off, is_data, is_shared, acts_for_target, other_effect, row_effect, cache_effect, page_address, names_lun, command_effect, address_effect, opening_address_effect, cycle_effect, ends_features}
 use Rattle.onfi_cycle.specs.Lun.{latch, latch_alone, drivers_from, is_only, effect_on, effect_among}
 use Rattle.onfi_cycle.specs.Decides.{tail_of, drives_alone, byte_of, id_register, row_closer, address_closer, closing_address, closing_cycle, closing, readies, readies_array, is_cycle_of, is_output, is_status_command, is_column_confirm, changes_column, outputs_data}
 
@@ -35,7 +36,7 @@ closer_of ParameterPageReadStarted = Some ReadParameterPage
 closer_of UniqueIdReadStarted = Some ReadUniqueId
 closer_of (FeaturesReadStarted address) = Some GetFeatures
 closer_of (FeaturesSet feature) = Some SetFeatures
-closer_of CacheReadContinued = Some ReadCacheSequential
+closer_of (CacheReadContinued to) = Some ReadCacheSequential
 closer_of CacheReadEnded = Some ReadCacheEnd
 closer_of ResetStarted = Some Reset
 closer_of (TargetResetStarted first) = Some Reset
@@ -72,6 +73,7 @@ Carries g t byte (ReadColumnChanged column) = column ≡ t.column
 Carries g t byte IdRead = id_register byte ≡ Identifier
 Carries g t byte (IdentityRead jedec) = id_register byte ≡ cond jedec JedecIdentity Identity
 Carries g t byte (FeaturesReadStarted address) = address ≡ byte
+Carries g t byte (CacheReadContinued to) = to ≡ cond (wants_command t ReadCacheSequential) (Some (page_address g (row t))) None
 Carries g t byte _ = Unit {0}
 
 -- what an item is to a LUN, said by its effect
@@ -140,7 +142,7 @@ nothing_means g past l byte cycle none change output status =
 -- the closer of a row of another LUN
 other_means : (g : Parts) (past : List Item) (l : Lun) (byte : ℕ) (c : Command) → closing_cycle g past l (CommandCycle c) ≡ None → is_column_confirm (CommandCycle c) ≡ false → is_status_command (CommandCycle c) ≡ false → MeansCycle g past l byte (CommandCycle c) (other_effect g (tail_of past l) c)
 other_means g past l byte c none change status =
-    either_means g past l byte (CommandCycle c) (closes_row c && (wants_command (tail_of past l) c && is_shared g)) (AnotherAddressed (is_read_confirm c)) Unaffected
+    either_means g past l byte (CommandCycle c) (closes_row c && (wants_command (tail_of past l) c && is_shared g)) (AnotherAddressed (reads_row c)) Unaffected
     (λ h. record { closes = none; changes = rw change refl; outputs = refl; status = status; no_ready = refl; no_array_ready = refl; carries = tt })
     (λ h. nothing_means g past l byte (CommandCycle c) none change refl status)
 
@@ -160,9 +162,13 @@ command_means g past l byte SynchronousReset =
     (λ h. record { closes = refl; changes = refl; outputs = refl; status = refl; no_ready = refl; no_array_ready = refl; carries = tt })
     (λ h. record { closes = refl; changes = refl; outputs = refl; status = refl; no_ready = refl; no_array_ready = refl; carries = tt })
 command_means g past l byte ReadCacheSequential =
-    cache_means g past l byte ReadCacheSequential CacheReadContinued (alone_off g past l)
-    (λ h. nothing_means g past l byte (CommandCycle ReadCacheSequential) (rw h refl) refl refl refl)
-    (λ h. record { closes = rw h refl; changes = refl; outputs = refl; status = refl; no_ready = refl; no_array_ready = refl; carries = tt })
+    either_means g past l byte (CommandCycle ReadCacheSequential) (wants_command (tail_of past l) ReadCacheSequential) (row_effect g (tail_of past l) ReadCacheSequential l.lun) (cache_effect (latch_alone g past l))
+    (λ w. either_means g past l byte (CommandCycle ReadCacheSequential) (wants_command (tail_of past l) ReadCacheSequential && names_lun g (row (tail_of past l)) l.lun) _ _
+    (λ h. let named = (both (wants_command (tail_of past l) ReadCacheSequential) _ h).1 in record { closes = rw (w, named) refl; changes = refl; outputs = refl; status = refl; no_ready = refl; no_array_ready = refl; carries = rw w refl })
+    (λ h. let unnamed = and_rest (wants_command (tail_of past l) ReadCacheSequential) _ w h in other_means g past l byte ReadCacheSequential (rw (w, unnamed) refl) refl refl))
+    (λ w. cache_means g past l byte ReadCacheSequential (CacheReadContinued None) (alone_off g past l)
+    (λ h. nothing_means g past l byte (CommandCycle ReadCacheSequential) (rw (w, h) refl) refl refl refl)
+    (λ h. record { closes = rw (w, h) refl; changes = refl; outputs = refl; status = refl; no_ready = refl; no_array_ready = refl; carries = rw w refl }))
 command_means g past l byte ReadCacheEnd =
     cache_means g past l byte ReadCacheEnd CacheReadEnded (alone_off g past l)
     (λ h. nothing_means g past l byte (CommandCycle ReadCacheEnd) (rw h refl) refl refl refl)

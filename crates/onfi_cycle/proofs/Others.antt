@@ -11,7 +11,7 @@ use Rattle.onfi_cycle.specs.declared.latch.Latch.{Latch}
 use Rattle.onfi_cycle.specs.declared.latch.Latch.TheVariants.{Off}
 use Rattle.onfi_cycle.specs.declared.command.Command.{Command}
 use Rattle.onfi_cycle.specs.declared.command.Command.TheVariants.{Read, ProgramConfirm, ProgramPlane, ReadConfirm, ReadCacheSequential, ReadCacheEnd, ReadStatus, ReadStatusEnhanced, ReadId, BlockEraseConfirm, BlockErasePlane, ChangeReadColumnConfirm, ReadParameterPage, Reset, ChangeWriteColumn, ReadUniqueId, GetFeatures, SetFeatures, ResetLun, SynchronousReset}
-use Rattle.onfi_cycle.specs.Command.{closes_row, is_read_confirm, is_opener, is_page_program, is_set_features, at_last_row, reads_identity, is_of_target, wants_one_lun}
+use Rattle.onfi_cycle.specs.Command.{closes_row, reads_row, is_page_program, is_set_features, at_last_row, reads_identity, is_of_target, wants_one_lun}
 use Rattle.onfi_cycle.specs.declared.data_phase.DataPhase.{DataPhase}
 use Rattle.onfi_cycle.specs.declared.data_phase.DataPhase.TheVariants.{Outside, Inputs, FirstColumn, SecondColumn, FeatureInputs}
 use Rattle.onfi_cycle.specs.declared.target_cycle.TargetCycle.{TargetCycle}
@@ -20,8 +20,8 @@ use Rattle.onfi_cycle.specs.declared.effect.Effect.{Effect}
 use Rattle.onfi_cycle.specs.declared.effect.Effect.TheVariants.{Unaffected, SelectedForStatus, Deselected, StatusSelected, StatusOfSelected, AnotherAddressed, BecameReady, ArrayBecameReady, ResetStarted}
 use Rattle.onfi_cycle.specs.declared.opening.Opening.{Opening}
 use Rattle.onfi_cycle.specs.declared.tail_facts.TailFacts.{TailFacts}
-use Rattle.onfi_cycle.specs.Sequence.{takes_features, phase_after_command, phase_after_last_address, phase_after_address, phase_after_input, data_phase, inputs, continued, target_of, facts_of, row_with, target_cycle, with_cycle, one_address_more, tail, opening, opened, wants_command, row}
-use Rattle.onfi_cycle.specs.Effect.{is_shared, other_effect, names_lun, command_effect, address_effect, opening_address_effect, cycle_effect, effect_given}
+use Rattle.onfi_cycle.specs.Sequence.{takes_features, phase_after_command, phase_after_last_address, phase_after_address, phase_after_input, data_phase, inputs, continued, target_of, facts_of, row_with, target_cycle, with_cycle, one_address_more, tail, opening, opened, wants_command, works_on_row, begins_anew, row}
+use Rattle.onfi_cycle.specs.Effect.{is_shared, other_effect, row_effect, cache_effect, names_lun, command_effect, address_effect, opening_address_effect, cycle_effect, effect_given}
 use Rattle.onfi_cycle.specs.Lun.{effect_on, effect_among, latch_alone, drivers, is_only, lun_view, shown_after, read_column, read_column_after, luns_of}
 use Rattle.onfi_cycle.specs.LunView.{LunView}
 use Rattle.onfi_cycle.specs.declared.item.Cycle.{Cycle}
@@ -47,7 +47,7 @@ quiet_named true false x y h q = q
 quiet_named false b x y h q = q
 
 other_is_quiet : (g : Parts) (t : TailFacts) (c : Command) → is_quiet (other_effect g t c) ≡ true
-other_is_quiet g t c = quiet_choice (closes_row c && (wants_command t c && is_shared g)) (AnotherAddressed (is_read_confirm c)) Unaffected refl refl
+other_is_quiet g t c = quiet_choice (closes_row c && (wants_command t c && is_shared g)) (AnotherAddressed (reads_row c)) Unaffected refl refl
 
 -- a command that is permitted on a target with several LUNs, and that is one of a LUN
 record MayServe (g : Parts) (c : Command) : Type 0 where
@@ -63,15 +63,19 @@ shows_one true f = refl
 shows_one false f = let no = f refl in cc
 
 -- such a command that works on another LUN
-quiet_command : (g : Parts) (t : TailFacts) (s : Latch) (c : Command) (l m : ℕ) → l ≢ m → MayServe g c → (closes_row c ≡ true → names_lun g (row t) m ≡ true) → (needs_driver c ≡ true → s ≡ Off) → is_quiet (command_effect g t s c l) ≡ true
+quiet_command : (g : Parts) (t : TailFacts) (s : Latch) (c : Command) (l m : ℕ) → l ≢ m → MayServe g c → (works_on_row t c ≡ true → names_lun g (row t) m ≡ true) → (needs_driver c ≡ true → works_on_row t c ≡ false → s ≡ Off) → is_quiet (command_effect g t s c l) ≡ true
 quiet_command g t s Read l m ne one named driver = refl
 quiet_command g t s ReadStatus l m ne one named driver = shows_one (is_shared g) one.one
 quiet_command g t s ReadStatusEnhanced l m ne one named driver = refl
 quiet_command g t s Reset l m ne one named driver = no_reset (is_shared g) _ _ one.one one.target
 quiet_command g t s SynchronousReset l m ne one named driver = no_reset (is_shared g) _ _ one.one one.target
-quiet_command g t s ReadCacheSequential l m ne one named driver = rw (driver refl) refl
-quiet_command g t s ReadCacheEnd l m ne one named driver = rw (driver refl) refl
-quiet_command g t s ChangeReadColumnConfirm l m ne one named driver = rw (driver refl) (quiet_named (wants_command t ChangeReadColumnConfirm) false _ _ refl refl)
+quiet_command g t s ReadCacheSequential l m ne one named driver = at (wants_command t ReadCacheSequential) named driver
+  where
+    at : (w : Bool) → (w ≡ true → names_lun g (row t) m ≡ true) → (needs_driver ReadCacheSequential ≡ true → w ≡ false → s ≡ Off) → is_quiet (cond w (row_effect g t ReadCacheSequential l) (cache_effect s)) ≡ true
+    at true named driver = quiet_named (wants_command t ReadCacheSequential) (names_lun g (row t) l) _ _ (not_both _ l m ne (named refl)) (other_is_quiet g t ReadCacheSequential)
+    at false named driver = rw (driver refl refl) refl
+quiet_command g t s ReadCacheEnd l m ne one named driver = rw (driver refl refl) refl
+quiet_command g t s ChangeReadColumnConfirm l m ne one named driver = rw (driver refl refl) (quiet_named (wants_command t ChangeReadColumnConfirm) false _ _ refl refl)
 quiet_command g t s ReadConfirm l m ne one named driver = quiet_named (wants_command t ReadConfirm) (names_lun g (row t) l) _ _ (not_both _ l m ne (named refl)) (other_is_quiet g t ReadConfirm)
 quiet_command g t s BlockEraseConfirm l m ne one named driver = quiet_named (wants_command t BlockEraseConfirm) (names_lun g (row t) l) _ _ (not_both _ l m ne (named refl)) (other_is_quiet g t BlockEraseConfirm)
 quiet_command g t s BlockErasePlane l m ne one named driver = quiet_named (wants_command t BlockErasePlane) (names_lun g (row t) l) _ _ (not_both _ l m ne (named refl)) (other_is_quiet g t BlockErasePlane)
@@ -143,6 +147,11 @@ other_with_cycle g luns (CommandCycle c) t narrow several f4 h = at c t (chosen_
     at ReadUniqueId t f4 = absurd (clash _ several f4)
     at GetFeatures t f4 = absurd (clash _ several f4)
     at SetFeatures t f4 = absurd (clash _ several f4)
+    at ReadCacheSequential (d ∷ t) f4 = of (wants_command (facts_of (d ∷ t)) ReadCacheSequential)
+      where
+        of : (w : Bool) → is_other_opening (opening (cond (not w) (CommandCycle ReadCacheSequential ∷ []) (CommandCycle ReadCacheSequential ∷ (d ∷ t)))) ≡ true
+        of true = refl
+        of false = refl
     at c [] f4 = refl
     at c (d ∷ t) f4 = refl
 other_with_cycle g luns (AddressCycle byte) [] narrow several f4 h = refl
@@ -186,7 +195,7 @@ no_features_by_input n SecondColumn h = refl
 no_features_by_input n FeatureInputs h = cc
 
 no_features_with : (cycle : TargetCycle) (t : List TargetCycle) → is_other_opening (opening t) ≡ true → takes_features (data_phase t) ≡ false → takes_features (data_phase (with_cycle cycle t)) ≡ false
-no_features_with (CommandCycle c) t o h = at (is_opener c) t
+no_features_with (CommandCycle c) t o h = at (begins_anew (facts_of t) (CommandCycle c)) t
   where
     at : (b : Bool) (t : List TargetCycle) → takes_features (data_phase (cond b (CommandCycle c ∷ []) (continued (CommandCycle c) t))) ≡ false
     at true t = no_features_by_command c Outside
@@ -246,13 +255,6 @@ chosen_false : (b x y : Bool) → cond b x y ≡ true → b ≡ false → y ≡ 
 chosen_false true x y h e = cc
 chosen_false false x y h e = h
 
--- a command that needs the driver closes no row
-driver_no_row : (c : Command) → needs_driver c ≡ true → closes_row c ≡ false
-driver_no_row ChangeReadColumnConfirm h = refl
-driver_no_row ReadCacheSequential h = refl
-driver_no_row ReadCacheEnd h = refl
-driver_no_row _ h = cc
-
 -- of two that don't go together, one is false
 unserved : (a b : Bool) → not (a && b) ≡ true → a ≡ true → b ≡ false
 unserved true true h e = cc
@@ -269,9 +271,9 @@ quiet_cycle g past luns ce l m (CommandCycle c) ne several f4 other keep =
       one = λ e. and_false_left (wants_one_lun c) (ltb 1 g.luns) several (chosen_else (is_shared g) _ _ f4 e);
       target = unserved (is_shared g) (is_of_target c) kept.0;
     })
-    (chosen_true (closes_row c) _ _ kept.1)
-    (λ h. shows_nothing g past (record { ce = ce; lun = l }) (record { ce = ce; lun = m }) refl ne
-    (chosen_true (needs_driver c) _ _ (chosen_false (closes_row c) _ _ kept.1 (driver_no_row c h)) h))
+    (chosen_true (works_on_row (facts_of (tail past ce)) c) _ _ kept.1)
+    (λ h e. shows_nothing g past (record { ce = ce; lun = l }) (record { ce = ce; lun = m }) refl ne
+    (chosen_true (needs_driver c) _ _ (chosen_false (works_on_row (facts_of (tail past ce)) c) _ _ kept.1 e) h))
 quiet_cycle g past luns ce l m (AddressCycle byte) ne several f4 other keep = at (opening (tail past ce)) opens kept.1
   where
     kept : (not (is_shared g && opened (λ c n. reads_identity c) (opening (tail past ce))) ≡ true) × (keeps_to_lun g past (record { ce = ce; lun = m }) (AddressCycle byte) ≡ true)

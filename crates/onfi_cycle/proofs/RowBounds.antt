@@ -24,7 +24,7 @@ use Rattle.onfi_cycle.specs.declared.target_cycle.TargetCycle.{TargetCycle}
 use Rattle.onfi_cycle.specs.declared.target_cycle.TargetCycle.TheVariants.{CommandCycle, AddressCycle, InputCycle, OutputCycle}
 use Rattle.onfi_cycle.specs.LunView.{LunView}
 use Rattle.onfi_cycle.specs.Command.{is_page_program, at_last_row, is_set_features}
-use Rattle.onfi_cycle.specs.Sequence.{target_cycle, begins_sequence, facts_of, facts_after, extended_facts, opened, one_address_more, row_after_address, takes_data, wants_column, wants_command, wants_address, phase_after_command, phase_after_address, phase_after_input, row, row_with, takes_features}
+use Rattle.onfi_cycle.specs.Sequence.{target_cycle, begins_sequence, begins_anew, facts_of, facts_after, extended_facts, opened, one_address_more, row_after_address, takes_data, wants_column, wants_command, wants_address, phase_after_command, phase_after_address, phase_after_input, row, row_with, takes_features}
 use Rattle.onfi_cycle.specs.Effect.{names_lun, page_address, cycle_effect, address_effect, opening_address_effect, id_effect, ends_features, of_target, acts_for_target}
 use Rattle.onfi_cycle.specs.Lun.{queue_after, view_after}
 use Rattle.onfi_cycle.specs.Rules.{some_queued_clashes, is_some_and, named_lun_is, refused_by, is_refused_by, breaks_not_there, breaks_queue_clash}
@@ -33,6 +33,7 @@ use Rattle.onfi_cycle.specs.State.{tail_after, effect_alone, has_driver}
 use Rattle.onfi_cycle.specs.Bounds.{TailFits, RowFits, is_block_erase, names_erase, names_program}
 use Rattle.onfi_cycle.proofs.Others.{first_passed}
 use Rattle.onfi_cycle.proofs.Passed.{KeepsRules, keeps_rules}
+use Rattle.onfi_cycle.proofs.Steps.{anew_opens}
 
 -- a tail that names no row
 unnamed : (g : Parts) (t : TailFacts) (n : ℕ) (v : LunView) → names_erase t ≡ false → names_program t ≡ false → RowFits g t n v
@@ -261,7 +262,7 @@ extended_row g t la luns n v (InputCycle byte) some keeps found tf f =
 extended_row g t la luns n v OutputCycle some keeps found tf f = record { erase = λ named h. cc; program = λ named h. cc }
 
 cycle_row : (g : Parts) (t : TailFacts) (la : Latch) (luns : List LunView) (n : ℕ) (v : LunView) (cycle : TargetCycle) → KeepsRules g t luns cycle → slice_get luns n ≡ Some v → TailFits g t → RowFits g t n v → RowFits g (facts_after cycle t) n (view_after (cycle_effect g t la cycle n) v)
-cycle_row g t la luns n v cycle keeps found tf f = at (begins_sequence cycle) refl
+cycle_row g t la luns n v cycle keeps found tf f = at (begins_anew t cycle) refl
   where
     w : LunView
     w = view_after (cycle_effect g t la cycle n) v
@@ -273,8 +274,8 @@ cycle_row g t la luns n v cycle keeps found tf f = at (begins_sequence cycle) re
     on true e = empty e
     on false e = extended_row g t la luns n v cycle e keeps found tf f
 
-    at : (b : Bool) → begins_sequence cycle ≡ b → RowFits g (cond b (extended_facts cycle (facts_of [])) (cond t.is_empty t (extended_facts cycle t))) n w
-    at true e = begun_row g n w cycle e
+    at : (b : Bool) → begins_anew t cycle ≡ b → RowFits g (cond b (extended_facts cycle (facts_of [])) (cond t.is_empty t (extended_facts cycle t))) n w
+    at true e = begun_row g n w cycle (anew_opens t cycle e)
     at false e = on t.is_empty refl
 
 -- a permitted item on its target

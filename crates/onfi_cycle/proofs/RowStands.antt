@@ -25,7 +25,7 @@ use Rattle.onfi_cycle.specs.declared.target_cycle.TargetCycle.{TargetCycle}
 use Rattle.onfi_cycle.specs.declared.target_cycle.TargetCycle.TheVariants.{CommandCycle, AddressCycle, InputCycle, OutputCycle}
 use Rattle.onfi_cycle.specs.LunView.{LunView}
 use Rattle.onfi_cycle.specs.Command.{is_page_program, at_last_row, addresses_the_array, reads_identity, is_set_features}
-use Rattle.onfi_cycle.specs.Sequence.{target_cycle, begins_sequence, facts_of, facts_after, extended_facts, opened, one_address_more, row_after_address, wants_command, phase_after_command, phase_after_address, row, row_with, takes_features, phase_after_input}
+use Rattle.onfi_cycle.specs.Sequence.{target_cycle, begins_anew, facts_of, facts_after, extended_facts, opened, one_address_more, row_after_address, wants_command, phase_after_command, phase_after_address, row, row_with, takes_features, phase_after_input}
 use Rattle.onfi_cycle.specs.Effect.{is_shared, names_lun, page_address, cycle_effect, address_effect, opening_address_effect, ends_features}
 use Rattle.onfi_cycle.specs.Lun.{busy_after, view_after}
 use Rattle.onfi_cycle.specs.Rules.{named_lun_is, ends_row, breaks_not_there, breaks_several_luns, breaks_row_outside, breaks_lun_busy}
@@ -116,7 +116,7 @@ begun_identity c h = of (reads_identity c) (rw (begun_outside c) at h)
     of true h = refl
     of false h = cc
 
-begun_stands : (g : Parts) (t : TailFacts) (la : Latch) (luns : List LunView) (n : ℕ) (v : LunView) (cycle : TargetCycle) → KeepsRules g t luns cycle → length luns ≡ g.luns → slice_get luns n ≡ Some v → begins_sequence cycle ≡ true → RowStands g (extended_facts cycle (facts_of [])) n (view_after (cycle_effect g t la cycle n) v)
+begun_stands : (g : Parts) (t : TailFacts) (la : Latch) (luns : List LunView) (n : ℕ) (v : LunView) (cycle : TargetCycle) → KeepsRules g t luns cycle → length luns ≡ g.luns → slice_get luns n ≡ Some v → begins_anew t cycle ≡ true → RowStands g (extended_facts cycle (facts_of [])) n (view_after (cycle_effect g t la cycle n) v)
 begun_stands g t la luns n v (CommandCycle c) keeps count found h =
     record {
       inside = λ named r. let no = no_row_yet c in cc;
@@ -333,7 +333,7 @@ extended_stands g t la luns n v (InputCycle byte) some keeps found tf f =
 extended_stands g t la luns n v OutputCycle some keeps found tf f = record { inside = λ named h. cc; ready = λ named h. cc; identity = λ h. cc; alone = λ narrow h. cc }
 
 cycle_stands : (g : Parts) (t : TailFacts) (la : Latch) (luns : List LunView) (n : ℕ) (v : LunView) (cycle : TargetCycle) → KeepsRules g t luns cycle → length luns ≡ g.luns → slice_get luns n ≡ Some v → TailFits g t → RowStands g t n v → RowStands g (facts_after cycle t) n (view_after (cycle_effect g t la cycle n) v)
-cycle_stands g t la luns n v cycle keeps count found tf f = at (begins_sequence cycle) refl
+cycle_stands g t la luns n v cycle keeps count found tf f = at (begins_anew t cycle) refl
   where
     w : LunView
     w = view_after (cycle_effect g t la cycle n) v
@@ -345,7 +345,7 @@ cycle_stands g t la luns n v cycle keeps count found tf f = at (begins_sequence 
     on true e = empty e
     on false e = extended_stands g t la luns n v cycle e keeps found tf f
 
-    at : (b : Bool) → begins_sequence cycle ≡ b → RowStands g (cond b (extended_facts cycle (facts_of [])) (cond t.is_empty t (extended_facts cycle t))) n w
+    at : (b : Bool) → begins_anew t cycle ≡ b → RowStands g (cond b (extended_facts cycle (facts_of [])) (cond t.is_empty t (extended_facts cycle t))) n w
     at true e = begun_stands g t la luns n v cycle keeps count found e
     at false e = on t.is_empty refl
 

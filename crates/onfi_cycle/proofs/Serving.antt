@@ -1,7 +1,7 @@
 -- Work of a whole target that has several LUNs begins by its own commands alone.
 use Rattle.std.specs.List.{list_any}
-use Rattle.std.proofs.Common.{◌≡◌, ℕ, zero, suc, ◌+◌, ◌==◌, Bool, true, false, ◌&&◌, not, cond, ◌%◌, List, [], ◌∷◌, Option, Some, None, refl, sym, ap, ◌∙◌, subst, eqb-true}
-use Rattle.std.proofs.lemmas.Bool.{and_parts, not-true, or_from, or_parts as neither}
+use Rattle.std.proofs.Common.{◌≡◌, ℕ, zero, suc, ◌+◌, ◌==◌, Bool, true, false, ◌&&◌, not, cond, ◌%◌, List, [], ◌∷◌, Option, Some, None, refl, sym, ap, ◌∙◌, eqb-true}
+use Rattle.std.proofs.lemmas.Bool.{and_parts, or_from, or_parts as neither}
 use Rattle.nand_geometry.specs.declared.parts.Parts.{Parts}
 use Rattle.onfi_cycle.specs.declared.command.Command.{Command}
 use Rattle.onfi_cycle.specs.declared.command.Command.TheVariants.{Read, ReadConfirm, ChangeReadColumn, ChangeReadColumnConfirm, BlockErase, BlockEraseConfirm, BlockErasePlane, ReadStatus, ReadStatusEnhanced, PageProgram, ChangeWriteColumn, ProgramConfirm, ProgramPlane, ReadId, ReadParameterPage, Reset, ReadCacheSequential, ReadCacheEnd, ReadUniqueId, GetFeatures, SetFeatures, ResetLun, SynchronousReset, Unknown}
@@ -15,9 +15,9 @@ use Rattle.onfi_cycle.specs.declared.opening.Opening.{Opening}
 use Rattle.onfi_cycle.specs.declared.tail_facts.TailFacts.{TailFacts}
 use Rattle.onfi_cycle.specs.declared.target_cycle.TargetCycle.{TargetCycle}
 use Rattle.onfi_cycle.specs.declared.target_cycle.TargetCycle.TheVariants.{CommandCycle, AddressCycle, InputCycle, OutputCycle}
-use Rattle.onfi_cycle.specs.Command.{closes_row, is_read_confirm, reads_identity}
+use Rattle.onfi_cycle.specs.Command.{closes_row, reads_row, reads_identity}
 use Rattle.onfi_cycle.specs.Sequence.{target_cycle, tail, facts_of, opened, takes_features, wants_command, row, row_with}
-use Rattle.onfi_cycle.specs.Effect.{is_off, is_data, is_shared, names_lun, confirm_effect, command_effect, address_effect, opening_address_effect, lun_reset_effect, of_target, input_effect, cycle_effect}
+use Rattle.onfi_cycle.specs.Effect.{is_off, is_data, is_shared, names_lun, confirm_effect, row_effect, cache_effect, command_effect, address_effect, opening_address_effect, lun_reset_effect, of_target, cycle_effect}
 use Rattle.onfi_cycle.specs.Lun.{busy_after, closer_after, is_target_work, effect_on, effect_among, alone, latch, is_busy, closer, lun_view, views_from}
 use Rattle.onfi_cycle.specs.Rules.{works_for_target}
 use Rattle.onfi_cycle.specs.OtherLun.{serves_target, keeps_to_lun, keeps_to, is_of}
@@ -55,7 +55,7 @@ serves_no_more UniqueIdReadStarted b c h k = cc
 serves_no_more (FeaturesReadStarted address) b c h k = cc
 serves_no_more (FeaturesSet address) b c h k = cc
 serves_no_more ParameterPageReadStarted b c h k = cc
-serves_no_more CacheReadContinued b c h k = refl
+serves_no_more (CacheReadContinued to) b c h k = refl
 serves_no_more CacheReadEnded b c h k = refl
 serves_no_more (ReadColumnChanged column) b c h k = k
 serves_no_more DataOutput b c h k = k
@@ -78,29 +78,32 @@ closer_serves named others reads x h = either named x (cond others (AnotherAddre
 
 command_serves : (g : Parts) (t : TailFacts) (la : Latch) (c : Command) (n : ℕ) → begins_service (command_effect g t la c n) ≡ false
 command_serves g t la Read n = refl
-command_serves g t la ReadConfirm n = closer_serves (wants_command t ReadConfirm && names_lun g (row t) n) (closes_row ReadConfirm && (wants_command t ReadConfirm && is_shared g)) (is_read_confirm ReadConfirm) (confirm_effect g t ReadConfirm) refl
-command_serves g t la ChangeReadColumn n = closer_serves (wants_command t ChangeReadColumn && names_lun g (row t) n) (closes_row ChangeReadColumn && (wants_command t ChangeReadColumn && is_shared g)) (is_read_confirm ChangeReadColumn) (confirm_effect g t ChangeReadColumn) refl
+command_serves g t la ReadConfirm n = closer_serves (wants_command t ReadConfirm && names_lun g (row t) n) (closes_row ReadConfirm && (wants_command t ReadConfirm && is_shared g)) (reads_row ReadConfirm) (confirm_effect g t ReadConfirm) refl
+command_serves g t la ChangeReadColumn n = closer_serves (wants_command t ChangeReadColumn && names_lun g (row t) n) (closes_row ChangeReadColumn && (wants_command t ChangeReadColumn && is_shared g)) (reads_row ChangeReadColumn) (confirm_effect g t ChangeReadColumn) refl
 command_serves g t la ChangeReadColumnConfirm n = either (wants_command t ChangeReadColumnConfirm && not (is_off la)) (ReadColumnChanged t.column) Unaffected refl refl
-command_serves g t la BlockErase n = closer_serves (wants_command t BlockErase && names_lun g (row t) n) (closes_row BlockErase && (wants_command t BlockErase && is_shared g)) (is_read_confirm BlockErase) (confirm_effect g t BlockErase) refl
-command_serves g t la BlockEraseConfirm n = closer_serves (wants_command t BlockEraseConfirm && names_lun g (row t) n) (closes_row BlockEraseConfirm && (wants_command t BlockEraseConfirm && is_shared g)) (is_read_confirm BlockEraseConfirm) (confirm_effect g t BlockEraseConfirm) refl
-command_serves g t la BlockErasePlane n = closer_serves (wants_command t BlockErasePlane && names_lun g (row t) n) (closes_row BlockErasePlane && (wants_command t BlockErasePlane && is_shared g)) (is_read_confirm BlockErasePlane) (confirm_effect g t BlockErasePlane) refl
+command_serves g t la BlockErase n = closer_serves (wants_command t BlockErase && names_lun g (row t) n) (closes_row BlockErase && (wants_command t BlockErase && is_shared g)) (reads_row BlockErase) (confirm_effect g t BlockErase) refl
+command_serves g t la BlockEraseConfirm n = closer_serves (wants_command t BlockEraseConfirm && names_lun g (row t) n) (closes_row BlockEraseConfirm && (wants_command t BlockEraseConfirm && is_shared g)) (reads_row BlockEraseConfirm) (confirm_effect g t BlockEraseConfirm) refl
+command_serves g t la BlockErasePlane n = closer_serves (wants_command t BlockErasePlane && names_lun g (row t) n) (closes_row BlockErasePlane && (wants_command t BlockErasePlane && is_shared g)) (reads_row BlockErasePlane) (confirm_effect g t BlockErasePlane) refl
 command_serves g t la ReadStatus n = either (is_shared g) StatusOfSelected StatusSelected refl refl
 command_serves g t la ReadStatusEnhanced n = refl
-command_serves g t la PageProgram n = closer_serves (wants_command t PageProgram && names_lun g (row t) n) (closes_row PageProgram && (wants_command t PageProgram && is_shared g)) (is_read_confirm PageProgram) (confirm_effect g t PageProgram) refl
-command_serves g t la ChangeWriteColumn n = closer_serves (wants_command t ChangeWriteColumn && names_lun g (row t) n) (closes_row ChangeWriteColumn && (wants_command t ChangeWriteColumn && is_shared g)) (is_read_confirm ChangeWriteColumn) (confirm_effect g t ChangeWriteColumn) refl
-command_serves g t la ProgramConfirm n = closer_serves (wants_command t ProgramConfirm && names_lun g (row t) n) (closes_row ProgramConfirm && (wants_command t ProgramConfirm && is_shared g)) (is_read_confirm ProgramConfirm) (confirm_effect g t ProgramConfirm) refl
-command_serves g t la ProgramPlane n = closer_serves (wants_command t ProgramPlane && names_lun g (row t) n) (closes_row ProgramPlane && (wants_command t ProgramPlane && is_shared g)) (is_read_confirm ProgramPlane) (confirm_effect g t ProgramPlane) refl
-command_serves g t la ReadId n = closer_serves (wants_command t ReadId && names_lun g (row t) n) (closes_row ReadId && (wants_command t ReadId && is_shared g)) (is_read_confirm ReadId) (confirm_effect g t ReadId) refl
-command_serves g t la ReadParameterPage n = closer_serves (wants_command t ReadParameterPage && names_lun g (row t) n) (closes_row ReadParameterPage && (wants_command t ReadParameterPage && is_shared g)) (is_read_confirm ReadParameterPage) (confirm_effect g t ReadParameterPage) refl
+command_serves g t la PageProgram n = closer_serves (wants_command t PageProgram && names_lun g (row t) n) (closes_row PageProgram && (wants_command t PageProgram && is_shared g)) (reads_row PageProgram) (confirm_effect g t PageProgram) refl
+command_serves g t la ChangeWriteColumn n = closer_serves (wants_command t ChangeWriteColumn && names_lun g (row t) n) (closes_row ChangeWriteColumn && (wants_command t ChangeWriteColumn && is_shared g)) (reads_row ChangeWriteColumn) (confirm_effect g t ChangeWriteColumn) refl
+command_serves g t la ProgramConfirm n = closer_serves (wants_command t ProgramConfirm && names_lun g (row t) n) (closes_row ProgramConfirm && (wants_command t ProgramConfirm && is_shared g)) (reads_row ProgramConfirm) (confirm_effect g t ProgramConfirm) refl
+command_serves g t la ProgramPlane n = closer_serves (wants_command t ProgramPlane && names_lun g (row t) n) (closes_row ProgramPlane && (wants_command t ProgramPlane && is_shared g)) (reads_row ProgramPlane) (confirm_effect g t ProgramPlane) refl
+command_serves g t la ReadId n = closer_serves (wants_command t ReadId && names_lun g (row t) n) (closes_row ReadId && (wants_command t ReadId && is_shared g)) (reads_row ReadId) (confirm_effect g t ReadId) refl
+command_serves g t la ReadParameterPage n = closer_serves (wants_command t ReadParameterPage && names_lun g (row t) n) (closes_row ReadParameterPage && (wants_command t ReadParameterPage && is_shared g)) (reads_row ReadParameterPage) (confirm_effect g t ReadParameterPage) refl
 command_serves g t la Reset n = either (is_shared g) (TargetResetStarted (n == 0)) ResetStarted refl refl
-command_serves g t la ReadCacheSequential n = either (is_off la) Unaffected CacheReadContinued refl refl
+command_serves g t la ReadCacheSequential n =
+    either (wants_command t ReadCacheSequential) (row_effect g t ReadCacheSequential n) (cache_effect la)
+    (closer_serves (wants_command t ReadCacheSequential && names_lun g (row t) n) (closes_row ReadCacheSequential && (wants_command t ReadCacheSequential && is_shared g)) (reads_row ReadCacheSequential) (confirm_effect g t ReadCacheSequential) refl)
+    (either (is_off la) Unaffected (CacheReadContinued None) refl refl)
 command_serves g t la ReadCacheEnd n = either (is_off la) Unaffected CacheReadEnded refl refl
-command_serves g t la ReadUniqueId n = closer_serves (wants_command t ReadUniqueId && names_lun g (row t) n) (closes_row ReadUniqueId && (wants_command t ReadUniqueId && is_shared g)) (is_read_confirm ReadUniqueId) (confirm_effect g t ReadUniqueId) refl
-command_serves g t la GetFeatures n = closer_serves (wants_command t GetFeatures && names_lun g (row t) n) (closes_row GetFeatures && (wants_command t GetFeatures && is_shared g)) (is_read_confirm GetFeatures) (confirm_effect g t GetFeatures) refl
-command_serves g t la SetFeatures n = closer_serves (wants_command t SetFeatures && names_lun g (row t) n) (closes_row SetFeatures && (wants_command t SetFeatures && is_shared g)) (is_read_confirm SetFeatures) (confirm_effect g t SetFeatures) refl
-command_serves g t la ResetLun n = closer_serves (wants_command t ResetLun && names_lun g (row t) n) (closes_row ResetLun && (wants_command t ResetLun && is_shared g)) (is_read_confirm ResetLun) (confirm_effect g t ResetLun) refl
+command_serves g t la ReadUniqueId n = closer_serves (wants_command t ReadUniqueId && names_lun g (row t) n) (closes_row ReadUniqueId && (wants_command t ReadUniqueId && is_shared g)) (reads_row ReadUniqueId) (confirm_effect g t ReadUniqueId) refl
+command_serves g t la GetFeatures n = closer_serves (wants_command t GetFeatures && names_lun g (row t) n) (closes_row GetFeatures && (wants_command t GetFeatures && is_shared g)) (reads_row GetFeatures) (confirm_effect g t GetFeatures) refl
+command_serves g t la SetFeatures n = closer_serves (wants_command t SetFeatures && names_lun g (row t) n) (closes_row SetFeatures && (wants_command t SetFeatures && is_shared g)) (reads_row SetFeatures) (confirm_effect g t SetFeatures) refl
+command_serves g t la ResetLun n = closer_serves (wants_command t ResetLun && names_lun g (row t) n) (closes_row ResetLun && (wants_command t ResetLun && is_shared g)) (reads_row ResetLun) (confirm_effect g t ResetLun) refl
 command_serves g t la SynchronousReset n = either (is_shared g) (TargetResetStarted (n == 0)) ResetStarted refl refl
-command_serves g t la Unknown n = closer_serves (wants_command t Unknown && names_lun g (row t) n) (closes_row Unknown && (wants_command t Unknown && is_shared g)) (is_read_confirm Unknown) (confirm_effect g t Unknown) refl
+command_serves g t la Unknown n = closer_serves (wants_command t Unknown && names_lun g (row t) n) (closes_row Unknown && (wants_command t Unknown && is_shared g)) (reads_row Unknown) (confirm_effect g t Unknown) refl
 
 address_serves : (g : Parts) (t : TailFacts) (byte : ℕ) (c : Command) (k n : ℕ) → reads_identity c ≡ false → begins_service (address_effect g t byte c k n) ≡ false
 address_serves g t byte Read k n none = refl

@@ -12,17 +12,33 @@ use Rattle.onfi_cycle.specs.Lun.{latch, effect_on, lun_view, shown_after, view_a
 use Rattle.std.proofs.Common.{eq-eqb, get_or, take, drop, length, sym, ◌∙◌, ◌-◌, ◌≤◌}
 use Rattle.std.proofs.lemmas.Grind.{common_steps}
 use Rattle.onfi_cycle.specs.declared.tail_facts.TailFacts.{TailFacts}
-use Rattle.onfi_cycle.specs.Sequence.{tail, target_cycle, with_cycle, continued, begins_sequence, facts_of, facts_after}
+use Rattle.onfi_cycle.specs.Sequence.{tail, target_cycle, with_cycle, continued, begins_sequence, begins_anew, facts_of, facts_after}
+use Rattle.onfi_cycle.specs.Command.{is_opener}
+use Rattle.std.proofs.lemmas.Bool.{and_parts}
 
--- an opener begins anew; else the facts go on, and where there is no tail there still is none
-facts_on : (cycle : TargetCycle) (t : List TargetCycle) → begins_sequence cycle ≡ false → facts_of (continued cycle t) ≡ facts_after cycle (facts_of t)
+-- what begins a tail anew is an opener
+pub anew_opens : (t : TailFacts) (cycle : TargetCycle) → begins_anew t cycle ≡ true → begins_sequence cycle ≡ true
+anew_opens t (CommandCycle c) h = (and_parts (is_opener c) _ h).0
+anew_opens t (AddressCycle byte) h = cc
+anew_opens t (InputCycle byte) h = cc
+anew_opens t OutputCycle h = cc
+
+-- and what is none doesn't
+pub goes_on : (t : TailFacts) (cycle : TargetCycle) → begins_sequence cycle ≡ false → begins_anew t cycle ≡ false
+goes_on t (CommandCycle c) h = rw h refl
+goes_on t (AddressCycle byte) h = refl
+goes_on t (InputCycle byte) h = refl
+goes_on t OutputCycle h = refl
+
+-- what begins a tail anew is all of it; else the facts go on, and where there is no tail there still is none
+facts_on : (cycle : TargetCycle) (t : List TargetCycle) → begins_anew (facts_of t) cycle ≡ false → facts_of (continued cycle t) ≡ facts_after cycle (facts_of t)
 facts_on cycle [] h = rw h refl
 facts_on (CommandCycle c) (d ∷ t) h = rw h refl
 facts_on (AddressCycle byte) (d ∷ t) h = refl
 facts_on (InputCycle byte) (d ∷ t) h = refl
 facts_on OutputCycle (d ∷ t) h = refl
 
-facts_anew : (cycle : TargetCycle) (t : List TargetCycle) → begins_sequence cycle ≡ true → facts_of (cycle ∷ []) ≡ facts_after cycle (facts_of t)
+facts_anew : (cycle : TargetCycle) (t : List TargetCycle) → begins_anew (facts_of t) cycle ≡ true → facts_of (cycle ∷ []) ≡ facts_after cycle (facts_of t)
 facts_anew (CommandCycle c) t h = rw h refl
 facts_anew (AddressCycle byte) t h = cc
 facts_anew (InputCycle byte) t h = cc
@@ -30,9 +46,9 @@ facts_anew OutputCycle t h = cc
 
 -- the facts of a tail with one cycle more come from its facts
 pub facts_with_cycle : (cycle : TargetCycle) (t : List TargetCycle) → facts_of (with_cycle cycle t) ≡ facts_after cycle (facts_of t)
-facts_with_cycle cycle t = at (begins_sequence cycle) refl
+facts_with_cycle cycle t = at (begins_anew (facts_of t) cycle) refl
   where
-    at : (b : Bool) → begins_sequence cycle ≡ b → facts_of (cond b (cycle ∷ []) (continued cycle t)) ≡ facts_after cycle (facts_of t)
+    at : (b : Bool) → begins_anew (facts_of t) cycle ≡ b → facts_of (cond b (cycle ∷ []) (continued cycle t)) ≡ facts_after cycle (facts_of t)
     at true h = facts_anew cycle t h
     at false h = facts_on cycle t h
 

@@ -5,7 +5,7 @@ use Rattle.std.proofs.lemmas.List.{reverse-append, reverse-reverse}
 use Rattle.std.proofs.lemmas.Bool.{or_cases, or_right, and_parts, and_from, or_left}
 use Rattle.onfi_cycle.proofs.Booleans.{clash}
 use Rattle.onfi_cycle.specs.declared.command.Command.{Command}
-use Rattle.onfi_cycle.specs.declared.command.Command.TheVariants.{Read, ReadConfirm, ChangeReadColumn, ChangeReadColumnConfirm, BlockErase, BlockEraseConfirm, BlockErasePlane, ReadStatusEnhanced, PageProgram, ChangeWriteColumn, ProgramConfirm, ProgramPlane, ReadId, ReadParameterPage, ReadUniqueId, GetFeatures, SetFeatures, ResetLun, SynchronousReset}
+use Rattle.onfi_cycle.specs.declared.command.Command.TheVariants.{Read, ReadConfirm, ChangeReadColumn, ChangeReadColumnConfirm, BlockErase, BlockEraseConfirm, BlockErasePlane, ReadStatusEnhanced, PageProgram, ChangeWriteColumn, ProgramConfirm, ProgramPlane, ReadId, ReadParameterPage, ReadUniqueId, GetFeatures, SetFeatures, ResetLun, ReadCacheSequential}
 use Rattle.onfi_cycle.specs.declared.opening.Opening.{Opening}
 use Rattle.onfi_cycle.specs.declared.data_phase.DataPhase.{DataPhase}
 use Rattle.onfi_cycle.specs.declared.data_phase.DataPhase.TheVariants.{Outside, Inputs, FirstColumn, SecondColumn, FeatureInputs}
@@ -17,7 +17,7 @@ use Rattle.onfi_cycle.specs.Sequence.{begins_sequence, one_address_more, opening
 use Rattle.onfi_cycle.specs.Table.{IsProgramData, IsProgramCloser, IsSequence, IsBeginning, IsProperBeginning, TailsFollowTheTable}
 use Rattle.onfi_cycle.specs.Table.IsProgramData.{nothing, input, column}
 use Rattle.onfi_cycle.specs.Table.IsProgramCloser.{whole, plane}
-use Rattle.onfi_cycle.specs.Table.IsSequence.{read, change_read_column, erase, erase_plane, read_status, read_status_enhanced, program, read_id, read_parameter_page, reset, read_cache_sequential, read_cache_end, read_manufacturer, read_jedec, read_unique_id, get_features, set_features, reset_lun, synchronous_reset}
+use Rattle.onfi_cycle.specs.Table.IsSequence.{read, read_cache_random, change_read_column, erase, erase_plane, read_status, read_status_enhanced, program, read_id, read_parameter_page, reset, read_cache_sequential, read_cache_end, read_manufacturer, read_jedec, read_unique_id, get_features, set_features, reset_lun, synchronous_reset}
 
 -- 1. A sequence, read in the order of time, is wanted cycle by cycle.
 
@@ -62,6 +62,7 @@ data_scans f _ closer (column c1 c2 more rest) k h =
 -- each sequence of the table
 sequence_scans : (s : List TargetCycle) → IsSequence s → scans s ≡ true
 sequence_scans _ (read c1 c2 r1 r2 r3) = refl
+sequence_scans _ (read_cache_random c1 c2 r1 r2 r3) = refl
 sequence_scans _ (change_read_column c1 c2) = refl
 sequence_scans _ (erase r1 r2 r3) = refl
 sequence_scans _ (erase_plane r1 r2 r3) = refl
@@ -436,6 +437,15 @@ address_begins ResetLun bs b h = reset_begins (bs ++ (b ∷ [])) (grind (arith, 
 address_begins c bs b h = absurd (grind (arith, nat_tests, h))
 
 -- a closer straight after the addresses of its opener
+cache_read_ends : (bs : List ℕ) → length bs ≡ 5 → IsSequence (CommandCycle Read ∷ (addresses bs ++ (CommandCycle ReadCacheSequential ∷ [])))
+cache_read_ends (a ∷ (b ∷ (c ∷ (d ∷ (e ∷ []))))) h = read_cache_random a b c d e
+cache_read_ends [] h = absurd (omega arith)
+cache_read_ends (a ∷ []) h = absurd (omega arith)
+cache_read_ends (a ∷ (b ∷ [])) h = absurd (omega arith)
+cache_read_ends (a ∷ (b ∷ (c ∷ []))) h = absurd (omega arith)
+cache_read_ends (a ∷ (b ∷ (c ∷ (d ∷ [])))) h = absurd (omega arith)
+cache_read_ends (a ∷ (b ∷ (c ∷ (d ∷ (e ∷ (x ∷ more)))))) h = absurd (omega arith)
+
 read_ends : (bs : List ℕ) → length bs ≡ 5 → IsSequence (CommandCycle Read ∷ (addresses bs ++ (CommandCycle ReadConfirm ∷ [])))
 read_ends (a ∷ (b ∷ (c ∷ (d ∷ (e ∷ []))))) h = read a b c d e
 read_ends [] h = absurd (omega arith)
@@ -467,6 +477,7 @@ erase_plane_ends (a ∷ (b ∷ (c ∷ (x ∷ more)))) h = absurd (omega arith)
 
 closer_ends : (c d : Command) (bs : List ℕ) → (closes c d && length bs == address_cycles c) ≡ true → IsSequence (CommandCycle c ∷ (addresses bs ++ (CommandCycle d ∷ [])))
 closer_ends Read ReadConfirm bs h = read_ends bs (eqb-true (length bs) 5 h)
+closer_ends Read ReadCacheSequential bs h = cache_read_ends bs (eqb-true (length bs) 5 h)
 closer_ends ChangeReadColumn ChangeReadColumnConfirm bs h = change_ends bs (eqb-true (length bs) 2 h)
 closer_ends BlockErase BlockEraseConfirm bs h = erase_ends bs (eqb-true (length bs) 3 h)
 closer_ends BlockErase BlockErasePlane bs h = erase_plane_ends bs (eqb-true (length bs) 3 h)
@@ -650,6 +661,7 @@ right_true false false c h = h
 -- an opener that is closed by this, with its addresses whole
 closed_is_proper : (c d : Command) (n : ℕ) → (closes c d && n == address_cycles c) ≡ true → is_proper_beginning c n ≡ true
 closed_is_proper Read ReadConfirm n h = grind (arith, nat_tests, h)
+closed_is_proper Read ReadCacheSequential n h = grind (arith, nat_tests, h)
 closed_is_proper ChangeReadColumn ChangeReadColumnConfirm n h = grind (arith, nat_tests, h)
 closed_is_proper BlockErase BlockEraseConfirm n h = grind (arith, nat_tests, h)
 closed_is_proper BlockErase BlockErasePlane n h = grind (arith, nat_tests, h)
@@ -659,7 +671,7 @@ opened_by_command : (x : Option Opening) (d : Command) → opened (λ c n. close
 opened_by_command None d h = cc
 opened_by_command (Some o) d h = closed_is_proper o.opener d o.addresses h
 
-command_opens : (x : TailFacts) (c : Command) → wants_command x c ≡ true → is_open x ≡ true
+pub command_opens : (x : TailFacts) (c : Command) → wants_command x c ≡ true → is_open x ≡ true
 command_opens x ChangeWriteColumn h = middle_true (opened is_proper_beginning x.opening) (takes_inputs x.phase) (wants_column x.phase) (or_left (takes_data x.phase) (takes_features x.phase) h)
 command_opens x ProgramConfirm h = middle_true (opened is_proper_beginning x.opening) (takes_inputs x.phase) (wants_column x.phase) (or_left (takes_data x.phase) (takes_features x.phase) h)
 command_opens x ProgramPlane h = middle_true (opened is_proper_beginning x.opening) (takes_inputs x.phase) (wants_column x.phase) (or_left (takes_data x.phase) (takes_features x.phase) h)
@@ -739,7 +751,7 @@ tails_follow =
         λ w. wanted_begins t c w,
         λ b. elim (beginning_wants t c b) [ inl p ↦ absurd (clash (begins_sequence c) p.1 h) | inr w ↦ w ],
       );
-      no_opener_inside = λ d t c h. (
+      opener_inside = λ d t c h. (
         λ w. wanted_begins (d ∷ t) c w,
         λ b. elim (beginning_wants (d ∷ t) c b) [ inl p ↦ absurd (cons_is_some d t p.0) | inr w ↦ w ],
       );

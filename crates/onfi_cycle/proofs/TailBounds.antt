@@ -14,7 +14,7 @@ use Rattle.onfi_cycle.specs.declared.target_cycle.TargetCycle.{TargetCycle}
 use Rattle.onfi_cycle.specs.declared.target_cycle.TargetCycle.TheVariants.{CommandCycle, AddressCycle, InputCycle, OutputCycle}
 use Rattle.onfi_cycle.specs.LunView.{LunView}
 use Rattle.onfi_cycle.specs.Command.{address_cycles, is_opener, takes_address, is_page_program, is_set_features}
-use Rattle.onfi_cycle.specs.Sequence.{takes_features, target_cycle, begins_sequence, facts_of, facts_after, extended_facts, opened, one_address_more, wants_column, phase_after_command, phase_after_address, phase_after_last_address, phase_after_input}
+use Rattle.onfi_cycle.specs.Sequence.{takes_features, target_cycle, begins_sequence, begins_anew, facts_of, facts_after, extended_facts, opened, one_address_more, wants_column, phase_after_command, phase_after_address, phase_after_last_address, phase_after_input}
 use Rattle.onfi_cycle.specs.Rules.{breaks_not_there, breaks_address_misplaced, breaks_column_outside}
 use Rattle.onfi_cycle.specs.Permitted.{judge, judge_cycle}
 use Rattle.onfi_cycle.specs.State.{tail_after}
@@ -23,6 +23,7 @@ use Rattle.onfi_cycle.specs.declared.item.Item.TheVariants.{Cyc, Rdy, Ard}
 use Rattle.onfi_cycle.specs.declared.forbidden.Forbidden.TheVariants.{NotThere}
 use Rattle.onfi_cycle.proofs.Others.{first_passed}
 use Rattle.onfi_cycle.proofs.Passed.{keeps_rules}
+use Rattle.onfi_cycle.proofs.Steps.{anew_opens}
 use Rattle.onfi_cycle.specs.Bounds.{TailFits}
 
 -- no opener takes more than five addresses
@@ -181,14 +182,14 @@ begun_fits g OutputCycle h = cc
 
 -- a permitted cycle
 cycle_fits : (g : Parts) (luns : List LunView) (cycle : TargetCycle) (t : TailFacts) → breaks_address_misplaced g t cycle ≡ false → breaks_column_outside g t luns cycle ≡ false → (facts_after cycle t).column < 2 ^ 16 → TailFits g t → TailFits g (facts_after cycle t)
-cycle_fits g luns cycle t f7 f14 small f = at (begins_sequence cycle) refl small
+cycle_fits g luns cycle t f7 f14 small f = at (begins_anew t cycle) refl small
   where
     on : (e : Bool) → t.is_empty ≡ e → (cond e t (extended_facts cycle t)).column < 2 ^ 16 → TailFits g (cond e t (extended_facts cycle t))
     on true e small = f
     on false e small = extended_fits g luns cycle t e f7 f14 small f
 
-    at : (b : Bool) → begins_sequence cycle ≡ b → (cond b (extended_facts cycle (facts_of [])) (cond t.is_empty t (extended_facts cycle t))).column < 2 ^ 16 → TailFits g (cond b (extended_facts cycle (facts_of [])) (cond t.is_empty t (extended_facts cycle t)))
-    at true h small = begun_fits g cycle h
+    at : (b : Bool) → begins_anew t cycle ≡ b → (cond b (extended_facts cycle (facts_of [])) (cond t.is_empty t (extended_facts cycle t))).column < 2 ^ 16 → TailFits g (cond b (extended_facts cycle (facts_of [])) (cond t.is_empty t (extended_facts cycle t)))
+    at true h small = begun_fits g cycle (anew_opens t cycle h)
     at false h small = on t.is_empty refl small
 
 -- a permitted item

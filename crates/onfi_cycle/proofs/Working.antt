@@ -11,7 +11,7 @@ use Rattle.onfi_cycle.specs.declared.command.Command.{Command}
 use Rattle.onfi_cycle.specs.declared.command.Command.TheVariants.{Read, ChangeReadColumnConfirm, ReadStatus, ReadStatusEnhanced, PageProgram, ReadId, ReadParameterPage, Reset, ReadCacheSequential, ReadCacheEnd, ReadUniqueId, GetFeatures, ResetLun, SynchronousReset}
 use Rattle.onfi_cycle.specs.declared.item.Cycle.{Cycle}
 use Rattle.onfi_cycle.specs.declared.effect.Effect.{Effect}
-use Rattle.onfi_cycle.specs.declared.effect.Effect.TheVariants.{Unaffected, SelectedForStatus, Deselected, IdRead, ParameterPageReadStarted, CacheReadContinued, CacheReadEnded, ReadColumnChanged, DataOutput, BecameReady, ArrayBecameReady, UniqueIdReadStarted, FeaturesReadStarted, FeaturesSet, ResetStarted, AnotherAddressed, StatusSelected, StatusOfSelected}
+use Rattle.onfi_cycle.specs.declared.effect.Effect.TheVariants.{Unaffected, SelectedForStatus, Deselected, ParameterPageReadStarted, CacheReadContinued, CacheReadEnded, ReadColumnChanged, DataOutput, BecameReady, ArrayBecameReady, UniqueIdReadStarted, FeaturesReadStarted, FeaturesSet, ResetStarted, AnotherAddressed, StatusSelected, StatusOfSelected}
 use Rattle.onfi_cycle.specs.declared.data_phase.DataPhase.{DataPhase}
 use Rattle.onfi_cycle.specs.declared.data_phase.DataPhase.TheVariants.{Outside, Inputs, FirstColumn, SecondColumn, FeatureInputs}
 use Rattle.onfi_cycle.specs.declared.filling.Filling.{Filling}
@@ -26,9 +26,9 @@ use Rattle.onfi_cycle.specs.declared.tail_facts.TailFacts.{TailFacts}
 use Rattle.onfi_cycle.specs.declared.target_cycle.TargetCycle.{TargetCycle}
 use Rattle.onfi_cycle.specs.declared.target_cycle.TargetCycle.TheVariants.{CommandCycle, AddressCycle, InputCycle, OutputCycle}
 use Rattle.onfi_cycle.specs.LunView.{LunView}
-use Rattle.onfi_cycle.specs.Command.{closes_row, is_read_confirm, is_page_program, at_last_row, reads_identity, is_reset, wants_one_lun}
+use Rattle.onfi_cycle.specs.Command.{closes_row, reads_row, is_page_program, at_last_row, reads_identity, is_reset, wants_one_lun}
 use Rattle.onfi_cycle.specs.Sequence.{target_of, target_cycle, tail, facts_of, opened, takes_data, wants_command, wants_address, wants_column, row, row_with, input_column, takes_features}
-use Rattle.onfi_cycle.specs.Effect.{is_off, is_data, is_shared, acts_for_target, of_target, other_effect, names_lun, page_address, confirm_effect, command_effect, address_effect, opening_address_effect, cycle_effect, id_effect, ends_features}
+use Rattle.onfi_cycle.specs.Effect.{is_off, is_data, is_shared, acts_for_target, of_target, other_effect, row_effect, cache_effect, names_lun, page_address, confirm_effect, command_effect, address_effect, opening_address_effect, cycle_effect, id_effect, ends_features}
 use Rattle.onfi_cycle.specs.Filling.{cycle_filling, filling}
 use Rattle.onfi_cycle.specs.Lun.{latch, latch_alone, drivers, is_only, effect_on, effect_among, lun_view, luns_of}
 use Rattle.onfi_cycle.specs.Rules.{ends_row, breaks_several_luns}
@@ -70,7 +70,7 @@ chosen_twice false a x h = cc
 other_begins_none : (g : Parts) (t : TailFacts) (c : Command) → begins (other_effect g t c) ≡ false
 other_begins_none g t c = at (closes_row c && (wants_command t c && is_shared g))
   where
-    at : (b : Bool) → begins (cond b (AnotherAddressed (is_read_confirm c)) Unaffected) ≡ false
+    at : (b : Bool) → begins (cond b (AnotherAddressed (reads_row c)) Unaffected) ≡ false
     at true = refl
     at false = refl
 
@@ -88,7 +88,16 @@ one_of_command g t la lb ReadStatus n m s a b = let none = shows_none (is_shared
 one_of_command g t la lb ReadStatusEnhanced n m s a b = cc
 one_of_command g t la lb Reset n m s a b = s.reset refl
 one_of_command g t la lb SynchronousReset n m s a b = s.reset refl
-one_of_command g t la lb ReadCacheSequential n m s a b = s.driver (unless (is_off la) CacheReadContinued a) (unless (is_off lb) CacheReadContinued b)
+one_of_command g t la lb ReadCacheSequential n m s a b = at (wants_command t ReadCacheSequential) a b
+  where
+    named : (k : ℕ) → begins (row_effect g t ReadCacheSequential k) ≡ true → names_lun g (row t) k ≡ true
+    named k h =
+        (both (wants_command t ReadCacheSequential) _
+        (chosen_or (wants_command t ReadCacheSequential && names_lun g (row t) k) (confirm_effect g t ReadCacheSequential) (other_effect g t ReadCacheSequential) (other_begins_none g t ReadCacheSequential) h)).1
+
+    at : (w : Bool) → begins (cond w (row_effect g t ReadCacheSequential n) (cache_effect la)) ≡ true → begins (cond w (row_effect g t ReadCacheSequential m) (cache_effect lb)) ≡ true → n ≡ m
+    at true a b = same_number g (row t) n m (named n a) (named m b)
+    at false a b = s.driver (unless (is_off la) (CacheReadContinued None) a) (unless (is_off lb) (CacheReadContinued None) b)
 one_of_command g t la lb ReadCacheEnd n m s a b = s.driver (unless (is_off la) CacheReadEnded a) (unless (is_off lb) CacheReadEnded b)
 one_of_command g t la lb ChangeReadColumnConfirm n m s a b = let no = nothing (wants_command t ChangeReadColumnConfirm && not (is_off la)) a in cc
   where

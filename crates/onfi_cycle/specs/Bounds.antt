@@ -1,5 +1,5 @@
 -- What stays small while only permitted items come, so that a running channel fits numbers and lists of fixed size.
-use Rattle.std.specs.Prelude.{◌≡◌, ℕ, ◌+◌, ◌^◌, ◌%◌, ◌<◌, ◌≤◌, ◌==◌, Bool, true, false, ◌||◌, ◌&&◌, nat_lt, if◌then◌else◌, List, [], ◌∷◌, None, length, IfSome, All}
+use Rattle.std.specs.Prelude.{◌≡◌, ℕ, ◌+◌, ◌^◌, ◌%◌, ◌<◌, ◌≤◌, ◌==◌, Bool, true, false, ◌||◌, ◌&&◌, nat_lt, if◌then◌else◌, List, [], ◌∷◌, Some, None, length, IfSome, All}
 use Rattle.nand_geometry.specs.declared.parts.Parts.{Parts}
 use Rattle.nand_geometry.specs.Limits.{InLimits, page_len, planes}
 use Rattle.onfi_cycle.specs.declared.command.Command.{Command}
@@ -127,6 +127,7 @@ EffectFits g v UniqueIdReadStarted = v.busy ≡ false
 EffectFits g v (FeaturesReadStarted address) = v.busy ≡ false
 EffectFits g v (FeaturesSet address) = v.busy ≡ false
 EffectFits g v ParameterPageReadStarted = v.busy ≡ false
-EffectFits g v CacheReadContinued = (v.array_page.page + 1 < 2 ^ 32) × (v.busy ≡ false)
+EffectFits g v (CacheReadContinued None) = (v.array_page.page + 1 < 2 ^ 32) × (v.busy ≡ false)
+EffectFits g v (CacheReadContinued (Some page)) = (page.page < 2 ^ 32) × CanStart g v page
 EffectFits g v CacheReadEnded = v.busy ≡ false
 EffectFits g v _ = Unit {0}

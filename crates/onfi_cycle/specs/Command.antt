@@ -106,6 +106,7 @@ wants_closer _ = false
 -- the second command closes what the first opened, straight after its addresses
 abbrev pub closes : Command → Command → Bool
 closes Read ReadConfirm = true
+closes Read ReadCacheSequential = true
 closes ChangeReadColumn ChangeReadColumnConfirm = true
 closes BlockErase BlockEraseConfirm = true
 closes BlockErase BlockErasePlane = true
@@ -118,18 +119,21 @@ takes_address ReadParameterPage byte = byte == 0x00
 takes_address ReadUniqueId byte = byte == 0x00
 takes_address _ byte = true
 
--- the closers that work on the row of their tail
+-- the closers that work on the row of their tail; a 31 that closes nothing works on none
 abbrev pub closes_row : Command → Bool
 closes_row ReadConfirm = true
+closes_row ReadCacheSequential = true
 closes_row BlockEraseConfirm = true
 closes_row BlockErasePlane = true
 closes_row ProgramConfirm = true
 closes_row ProgramPlane = true
 closes_row _ = false
 
-abbrev pub is_read_confirm : Command → Bool
-is_read_confirm ReadConfirm = true
-is_read_confirm _ = false
+-- those that read it
+abbrev pub reads_row : Command → Bool
+reads_row ReadConfirm = true
+reads_row ReadCacheSequential = true
+reads_row _ = false
 
 -- after this many address cycles the next one is the last of a row
 abbrev pub at_last_row : Command → ℕ → Bool

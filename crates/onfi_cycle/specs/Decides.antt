@@ -17,7 +17,7 @@ use Rattle.onfi_cycle.specs.declared.queued.Queued.TheVariants.{Erase, Program}
 use Rattle.onfi_cycle.specs.declared.register.Register.{Register}
 use Rattle.onfi_cycle.specs.declared.register.Register.TheVariants.{Empty, Page, ParameterPage, Identifier, Identity, JedecIdentity, UniqueId, Features}
 use Rattle.onfi_cycle.specs.declared.tail_facts.TailFacts.{TailFacts}
-use Rattle.onfi_cycle.specs.Command.{closes_row, is_read_confirm, is_set_features, reads_identity}
+use Rattle.onfi_cycle.specs.Command.{closes_row, reads_row, is_set_features, reads_identity}
 use Rattle.onfi_cycle.specs.Sequence.{target_cycle, tail, facts_of, row, row_with, wants_command, wants_address}
 use Rattle.onfi_cycle.specs.Effect.{is_data, is_shared, acts_for_target, page_address, names_lun, ends_features}
 use Rattle.onfi_cycle.specs.Lun.{latch, drivers, is_only, is_selected, is_overlapped, is_busy, is_caching, closer, is_array_busy, array_page, register, read_column, queue}
@@ -68,17 +68,21 @@ drives_alone g past l = is_only (drivers g past l.ce) l.lun
 -- the closers of a row: the tail wants them, and its row names their LUN
 abbrev pub row_closer : Bool → Command → Option Command
 row_closer named ReadConfirm = if named then Some ReadConfirm else None
+row_closer named ReadCacheSequential = if named then Some ReadCacheSequential else None
 row_closer named BlockEraseConfirm = if named then Some BlockEraseConfirm else None
 row_closer named BlockErasePlane = if named then Some BlockErasePlane else None
 row_closer named ProgramConfirm = if named then Some ProgramConfirm else None
 row_closer named ProgramPlane = if named then Some ProgramPlane else None
 row_closer named _ = None
 
--- a command that closes something on the LUN: a closer of a row that names it, a reset of the target, and the cache reads of the one driver
+-- a command that closes something on the LUN: a closer of a row that names it, a reset of the target, and a cache read of the one driver
+-- behind no row
 abbrev pub closing_command : Parts → List Item → Lun → Command → Option Command
 closing_command g past l Reset = Some Reset
 closing_command g past l SynchronousReset = Some Reset
-closing_command g past l ReadCacheSequential = if drives_alone g past l then Some ReadCacheSequential else None
+closing_command g past l ReadCacheSequential =
+    if wants_command (tail_of past l) ReadCacheSequential then row_closer (names_lun g (row (tail_of past l)) l.lun) ReadCacheSequential
+    else (if drives_alone g past l then Some ReadCacheSequential else None)
 closing_command g past l ReadCacheEnd = if drives_alone g past l then Some ReadCacheEnd else None
 closing_command g past l c = row_closer (wants_command (tail_of past l) c && names_lun g (row (tail_of past l)) l.lun) c
 
@@ -166,17 +170,23 @@ array_busy_decided g l past i =
 
 -- 4. the register and the page of the array
 
-abbrev pub reads_page : Option Command → Bool
-reads_page (Some ReadConfirm) = true
-reads_page _ = false
+-- a closer reads the page of its row: a 30, and a 31 that its tail wants
+abbrev pub reads_page : (wanted : Bool) → Option Command → Bool
+reads_page wanted (Some ReadConfirm) = true
+reads_page wanted (Some ReadCacheSequential) = wanted
+reads_page wanted _ = false
 
 abbrev pub reads_on : Option Command → Bool
 reads_on (Some ReadCacheSequential) = true
 reads_on _ = false
 
--- the page of the last Read
+-- the item reads the page of a row on the LUN
+abbrev pub reads_its_row : Parts → Lun → List Item → Item → Bool
+reads_its_row g l past i = reads_page (wants_command (tail_of past l) ReadCacheSequential) (closing g l past i)
+
+-- the page that it reads
 abbrev pub page_read : Parts → Lun → List Item → Item → Option PageAddress
-page_read g l past i = if reads_page (closing g l past i) then Some (page_address g (row (tail_of past l))) else None
+page_read g l past i = if reads_its_row g l past i then Some (page_address g (row (tail_of past l))) else None
 
 -- so many pages on in its block
 abbrev pub pages_on : PageAddress → ℕ → PageAddress
@@ -185,11 +195,11 @@ pages_on p k = record { block = p.block; page = p.page + k }
 abbrev pub first_page : PageAddress
 first_page = record { block = 0; page = 0 }
 
--- the page of the last Read, and one more for each Read Cache Sequential since
+-- the page of the last row that was read, and one more for each Read Cache Sequential since
 abbrev pub page_of_array : Parts → Lun → List Item → PageAddress
 page_of_array g l past =
     pages_on (unwrap_or (last_decided (page_read g l) past) first_page)
-    (count_since (λ past i. reads_page (closing g l past i)) (λ past i. reads_on (closing g l past i)) past)
+    (count_since (reads_its_row g l) (λ past i. reads_on (closing g l past i)) past)
 
 -- the byte of a cycle
 abbrev pub byte_of : Item → ℕ
@@ -317,7 +327,7 @@ closes_another g past l c =
 -- a read of another LUN turns a LUN off that doesn't work
 abbrev pub passed_latch : Parts → List Item → Lun → Command → Option Latch
 passed_latch g past l c =
-    if closes_another g past l c && (is_read_confirm c && not (is_busy g past l || is_array_busy g past l)) then Some Off else None
+    if closes_another g past l c && (reads_row c && not (is_busy g past l || is_array_busy g past l)) then Some Off else None
 
 -- what is read or set for the whole target, and its first LUN does, turns the others off
 abbrev pub turned_off : (wanted first : Bool) → Command → Option Latch

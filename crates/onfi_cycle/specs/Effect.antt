@@ -1,5 +1,5 @@
 -- What an item does to a LUN.
-use Rattle.std.specs.Prelude.{ℕ, ◌==◌, ◌%◌, Bool, true, false, ◌&&◌, ◌||◌, not, nat_lt, if◌then◌else◌, List, Option, Some, None, ◌<◌, ◌^◌}
+use Rattle.std.specs.Prelude.{ℕ, ◌==◌, ◌%◌, Bool, true, false, ◌&&◌, ◌||◌, not, nat_lt, if◌then◌else◌, List, Option, Some, None, IfSome, ◌<◌, ◌^◌}
 use Rattle.nand_geometry.specs.declared.parts.Parts.{Parts}
 use Rattle.nand_geometry.specs.Optional.{is_wide}
 use Rattle.nand_geometry.specs.Row.{parts_of}
@@ -17,7 +17,7 @@ use Rattle.onfi_cycle.specs.declared.effect.Effect.{Effect}
 use Rattle.onfi_cycle.specs.declared.effect.Effect.TheVariants.{Unaffected, DataOutputEnabled, StatusSelected, StatusRowAwaited, SelectedForStatus, Deselected, IdRead, IdentityRead, UniqueIdReadStarted, FeaturesReadStarted, FeaturesSet, ParameterPageReadStarted, CacheReadContinued, CacheReadEnded, DataOutput, ResetStarted, BecameReady, ArrayBecameReady, ReadStarted, EraseStarted, ProgramStarted, ReadColumnChanged, AnotherAddressed, StatusOfSelected, TargetResetStarted}
 use Rattle.onfi_cycle.specs.declared.opening.Opening.{Opening}
 use Rattle.onfi_cycle.specs.declared.tail_facts.TailFacts.{TailFacts}
-use Rattle.onfi_cycle.specs.Command.{closes_row, is_read_confirm}
+use Rattle.onfi_cycle.specs.Command.{closes_row, reads_row}
 use Rattle.onfi_cycle.specs.Sequence.{target_cycle, tail, facts_of, takes_features, wants_command, wants_address, row, row_with}
 
 abbrev pub is_off : Latch → Bool
@@ -37,6 +37,7 @@ page_address g row = let at = parts_of g row in record { block = at.block; page 
 -- what the closer of a row does to the LUN that its tail names
 abbrev pub confirm_effect : Parts → TailFacts → Command → Effect
 confirm_effect g t ReadConfirm = ReadStarted (page_address g (row t)) t.column
+confirm_effect g t ReadCacheSequential = CacheReadContinued (Some (page_address g (row t)))
 confirm_effect g t BlockEraseConfirm = EraseStarted false (page_address g (row t))
 confirm_effect g t BlockErasePlane = EraseStarted true (page_address g (row t))
 confirm_effect g t ProgramConfirm = ProgramStarted false (page_address g (row t))
@@ -69,7 +70,15 @@ reset_effect g lun = if is_shared g then TargetResetStarted (lun == 0) else Rese
 
 -- what the closer of a row does to a LUN that its tail doesn't name
 abbrev pub other_effect : Parts → TailFacts → Command → Effect
-other_effect g t c = if closes_row c && (wants_command t c && is_shared g) then AnotherAddressed (is_read_confirm c) else Unaffected
+other_effect g t c = if closes_row c && (wants_command t c && is_shared g) then AnotherAddressed (reads_row c) else Unaffected
+
+-- what the closer of a row does to a LUN
+abbrev pub row_effect : Parts → TailFacts → Command → ℕ → Effect
+row_effect g t c lun = if wants_command t c && names_lun g (row t) lun then confirm_effect g t c else other_effect g t c
+
+-- what a 31 does that no tail wants: it is of the one driver
+abbrev pub cache_effect : Latch → Effect
+cache_effect latch_alone = if is_off latch_alone then Unaffected else CacheReadContinued None
 
 -- what a command does to a LUN; latch_alone is its latch if it is the one driver of its target, and else Off
 abbrev pub command_effect : Parts → TailFacts → Latch → Command → ℕ → Effect
@@ -78,10 +87,10 @@ command_effect g t latch_alone ReadStatus lun = status_effect g
 command_effect g t latch_alone ReadStatusEnhanced lun = StatusRowAwaited
 command_effect g t latch_alone Reset lun = reset_effect g lun
 command_effect g t latch_alone SynchronousReset lun = reset_effect g lun
-command_effect g t latch_alone ReadCacheSequential lun = if is_off latch_alone then Unaffected else CacheReadContinued
+command_effect g t latch_alone ReadCacheSequential lun = if wants_command t ReadCacheSequential then row_effect g t ReadCacheSequential lun else cache_effect latch_alone
 command_effect g t latch_alone ReadCacheEnd lun = if is_off latch_alone then Unaffected else CacheReadEnded
 command_effect g t latch_alone ChangeReadColumnConfirm lun = if wants_command t ChangeReadColumnConfirm && not (is_off latch_alone) then ReadColumnChanged t.column else Unaffected
-command_effect g t latch_alone c lun = if wants_command t c && names_lun g (row t) lun then confirm_effect g t c else other_effect g t c
+command_effect g t latch_alone c lun = row_effect g t c lun
 
 -- what the address of a Read ID does
 abbrev pub id_effect : ℕ → Effect
@@ -130,7 +139,8 @@ item_effect g t latch_alone (Ard ce lun) l = if ce == l.ce && lun == l.lun then 
 abbrev pub effect_given : Parts → List Item → Latch → Item → Lun → Effect
 effect_given g past latch_alone i l = item_effect g (facts_of (tail past l.ce)) latch_alone i l
 
--- the page of a started read, for numbers of fixed width
+-- the page of a read, for numbers of fixed width
 abbrev pub IsSmallEffect : Effect → Type 0
 IsSmallEffect (ReadStarted page column) = page.page < 2 ^ 32
+IsSmallEffect (CacheReadContinued to) = IfSome to (λ page. page.page < 2 ^ 32)
 IsSmallEffect _ = Unit {0}

@@ -1,5 +1,5 @@
 -- Of each LUN: what it shows, whether it is busy, its register, its column and its queue, each by the newest item that decides it.
-use Rattle.std.specs.Prelude.{ℕ, zero, suc, ◌+◌, ◌==◌, Bool, true, false, ◌||◌, ◌&&◌, not, nat_lt, if◌then◌else◌, List, [], ◌∷◌, Option, Some, None}
+use Rattle.std.specs.Prelude.{ℕ, zero, suc, ◌+◌, ◌==◌, Bool, true, false, ◌||◌, ◌&&◌, not, nat_lt, if◌then◌else◌, List, [], ◌∷◌, Option, Some, None, unwrap_or}
 use Rattle.nand_geometry.specs.declared.parts.Parts.{Parts}
 use Rattle.onfi_cycle.specs.declared.command.Command.{Command}
 use Rattle.onfi_cycle.specs.declared.command.Command.TheVariants.{ProgramConfirm, ProgramPlane, ReadConfirm, ReadCacheSequential, ReadCacheEnd, ReadId, BlockEraseConfirm, BlockErasePlane, ReadParameterPage, Reset, ReadUniqueId, GetFeatures, SetFeatures}
@@ -51,7 +51,7 @@ latch_after (IdentityRead _) selected works latch = Data
 latch_after ParameterPageReadStarted selected works latch = Data
 latch_after UniqueIdReadStarted selected works latch = Data
 latch_after (FeaturesReadStarted _) selected works latch = Data
-latch_after CacheReadContinued selected works latch = Data
+latch_after (CacheReadContinued _) selected works latch = Data
 latch_after CacheReadEnded selected works latch = Data
 latch_after ResetStarted selected works latch = Off
 latch_after (TargetResetStarted _) selected works latch = Off
@@ -64,6 +64,7 @@ abbrev pub selected_after : Effect → Bool → Bool
 selected_after SelectedForStatus selected = true
 selected_after Deselected selected = false
 selected_after (ReadStarted _ _) selected = true
+selected_after (CacheReadContinued (Some _)) selected = true
 selected_after (EraseStarted _ _) selected = true
 selected_after (ProgramStarted _ _) selected = true
 selected_after IdRead selected = true
@@ -99,7 +100,7 @@ busy_after ParameterPageReadStarted busy = true
 busy_after UniqueIdReadStarted busy = true
 busy_after (FeaturesReadStarted _) busy = true
 busy_after (FeaturesSet _) busy = true
-busy_after CacheReadContinued busy = true
+busy_after (CacheReadContinued _) busy = true
 busy_after CacheReadEnded busy = true
 busy_after ResetStarted busy = true
 busy_after (TargetResetStarted _) busy = true
@@ -116,7 +117,7 @@ closer_after ParameterPageReadStarted last = Some ReadParameterPage
 closer_after UniqueIdReadStarted last = Some ReadUniqueId
 closer_after (FeaturesReadStarted _) last = Some GetFeatures
 closer_after (FeaturesSet _) last = Some SetFeatures
-closer_after CacheReadContinued last = Some ReadCacheSequential
+closer_after (CacheReadContinued _) last = Some ReadCacheSequential
 closer_after CacheReadEnded last = Some ReadCacheEnd
 closer_after ResetStarted last = Some Reset
 closer_after (TargetResetStarted _) last = Some Reset
@@ -151,7 +152,7 @@ array_busy_after ParameterPageReadStarted busy caching array_busy = false
 array_busy_after UniqueIdReadStarted busy caching array_busy = false
 array_busy_after (FeaturesReadStarted _) busy caching array_busy = false
 array_busy_after (FeaturesSet _) busy caching array_busy = false
-array_busy_after CacheReadContinued busy caching array_busy = false
+array_busy_after (CacheReadContinued _) busy caching array_busy = false
 array_busy_after CacheReadEnded busy caching array_busy = false
 array_busy_after ResetStarted busy caching array_busy = false
 array_busy_after (TargetResetStarted _) busy caching array_busy = false
@@ -162,7 +163,7 @@ next_page p = record { block = p.block; page = p.page + 1 }
 
 abbrev pub array_page_after : Effect → PageAddress → PageAddress
 array_page_after (ReadStarted at _) p = at
-array_page_after CacheReadContinued p = next_page p
+array_page_after (CacheReadContinued to) p = unwrap_or to (next_page p)
 array_page_after _ p = p
 
 abbrev pub register_after : Effect → PageAddress → Register → Register
@@ -175,7 +176,7 @@ register_after ParameterPageReadStarted p r = ParameterPage
 register_after UniqueIdReadStarted p r = UniqueId
 register_after (FeaturesReadStarted address) p r = Features address
 register_after (FeaturesSet _) p r = Empty
-register_after CacheReadContinued p r = Page p
+register_after (CacheReadContinued _) p r = Page p
 register_after CacheReadEnded p r = Page p
 register_after ResetStarted p r = Empty
 register_after (TargetResetStarted _) p r = Empty
@@ -192,7 +193,7 @@ read_column_after (IdentityRead _) k = column_at 0
 read_column_after ParameterPageReadStarted k = column_at 0
 read_column_after UniqueIdReadStarted k = column_at 0
 read_column_after (FeaturesReadStarted _) k = column_at 0
-read_column_after CacheReadContinued k = column_at 0
+read_column_after (CacheReadContinued _) k = column_at 0
 read_column_after CacheReadEnded k = column_at 0
 read_column_after DataOutput k = record k { outputs = k.outputs + 1 }
 read_column_after StatusSelected k = record k { lost = k.lost || nat_lt 0 k.outputs }
@@ -309,7 +310,7 @@ is_caching g past l = is_cache_read (closer g past l)
 abbrev pub is_array_busy : Parts → List Item → Lun → Bool
 is_array_busy g past l = (lun_view g past l).array_busy
 
--- the page that the array was last told to read: that of the last 30, and one more for each 31 since
+-- the page that the array was last told to read: that of the last 30 or 31 behind a row, and one more for each other 31 since
 abbrev pub array_page : Parts → List Item → Lun → PageAddress
 array_page g past l = (lun_view g past l).array_page
 

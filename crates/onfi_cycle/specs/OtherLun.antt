@@ -10,25 +10,25 @@ use Rattle.onfi_cycle.specs.declared.target_cycle.TargetCycle.{TargetCycle}
 use Rattle.onfi_cycle.specs.declared.target_cycle.TargetCycle.TheVariants.{CommandCycle, AddressCycle, InputCycle, OutputCycle}
 use Rattle.onfi_cycle.specs.declared.page_address.PageAddress.{PageAddress}
 use Rattle.onfi_cycle.specs.declared.read_column.ReadColumn.{ReadColumn}
-use Rattle.onfi_cycle.specs.Command.{closes_row, reads_identity, is_of_target}
-use Rattle.onfi_cycle.specs.Sequence.{target_of, target_cycle, tail, facts_of, opened, takes_features, row, row_with}
+use Rattle.onfi_cycle.specs.Command.{reads_identity, is_of_target}
+use Rattle.onfi_cycle.specs.Sequence.{target_of, target_cycle, tail, facts_of, opened, takes_features, works_on_row, row, row_with}
 use Rattle.onfi_cycle.specs.Effect.{is_shared, names_lun}
 use Rattle.onfi_cycle.specs.Lun.{latch, drivers, is_only, is_busy, closer, is_array_busy, array_page, register, read_column, queue}
 use Rattle.onfi_cycle.specs.Rules.{ends_row}
 use Rattle.onfi_cycle.specs.Permitted.{broken, is_legal}
 use Rattle.onfi_cycle.specs.Content.{queued_work, pending_work, has_failed, content}
 
--- the commands that work on the one driver
+-- the commands that work on the one driver, where they work on no row
 abbrev pub needs_driver : Command → Bool
 needs_driver ChangeReadColumnConfirm = true
 needs_driver ReadCacheSequential = true
 needs_driver ReadCacheEnd = true
 needs_driver _ = false
 
--- a cycle's row, if it completes one or closes its sequence, and its driver, if it needs one, are this LUN's
+-- a cycle's row, if it completes one or works on it, and its driver, if it needs one, are this LUN's
 abbrev pub keeps_to_lun : Parts → List Item → Lun → TargetCycle → Bool
 keeps_to_lun g past m (CommandCycle c) =
-    if closes_row c then names_lun g (row (facts_of (tail past m.ce))) m.lun
+    if works_on_row (facts_of (tail past m.ce)) c then names_lun g (row (facts_of (tail past m.ce))) m.lun
     else (if needs_driver c then is_only (drivers g past m.ce) m.lun else true)
 keeps_to_lun g past m (AddressCycle byte) =
     if ends_row (λ c. true) (facts_of (tail past m.ce)) then names_lun g (row_with (facts_of (tail past m.ce)) byte) m.lun else true

@@ -5,7 +5,7 @@ use Rattle.nand_geometry.specs.declared.parts.Parts.{Parts}
 use Rattle.nand_geometry.specs.Limits.{page_len, planes}
 use Rattle.nand_geometry.specs.Row.{parts_of, is_inside}
 use Rattle.onfi_cycle.specs.declared.command.Command.{Command}
-use Rattle.onfi_cycle.specs.declared.command.Command.TheVariants.{Read, ChangeReadColumn, BlockErase, BlockErasePlane, ReadStatus, ReadStatusEnhanced, PageProgram, ProgramPlane, ReadCacheSequential, ReadCacheEnd, ReadUniqueId, GetFeatures, SetFeatures, ResetLun, SynchronousReset}
+use Rattle.onfi_cycle.specs.declared.command.Command.TheVariants.{Read, ReadConfirm, ChangeReadColumn, BlockErase, BlockErasePlane, ReadStatus, ReadStatusEnhanced, PageProgram, ProgramPlane, ReadCacheSequential, ReadCacheEnd, ReadUniqueId, GetFeatures, SetFeatures, ResetLun, SynchronousReset}
 use Rattle.onfi_cycle.specs.declared.item.Item.{Item}
 use Rattle.onfi_cycle.specs.declared.item.Item.TheVariants.{Cyc, Rdy, Ard}
 use Rattle.nand_geometry.specs.Optional.{is_wide, has_features, has_unique_id, has_lun_reset, has_synchronous_reset}
@@ -19,7 +19,7 @@ use Rattle.onfi_cycle.specs.declared.register.Register.{Register}
 use Rattle.onfi_cycle.specs.declared.register.Register.TheVariants.{Empty, Page, ParameterPage, Identifier, Identity, JedecIdentity, UniqueId, Features}
 use Rattle.onfi_cycle.specs.declared.opening.Opening.{Opening}
 use Rattle.onfi_cycle.specs.declared.tail_facts.TailFacts.{TailFacts}
-use Rattle.onfi_cycle.specs.Sequence.{opened, takes_features, takes_inputs, wants_second_column, wants_command, wants_address, is_open, row_with, column_with, input_column}
+use Rattle.onfi_cycle.specs.Sequence.{opened, takes_features, takes_inputs, wants_second_column, wants_command, wants_address, works_on_row, is_open, row, row_with, column_with, input_column}
 use Rattle.onfi_cycle.specs.Effect.{is_off, is_data, is_shared, page_address}
 use Rattle.onfi_cycle.specs.LunView.{LunView}
 use Rattle.onfi_cycle.specs.Lun.{is_cache_read, is_page_read, is_target_work, output_column}
@@ -133,9 +133,9 @@ unfoldable pub breaks_command_unknown : Parts → TargetCycle → Bool
 breaks_command_unknown g (CommandCycle c) = not (is_known c) || is_undeclared g c
 breaks_command_unknown g _ = false
 
--- F3: an opener while a sequence is open, but a reset in the wider profile
+-- F3: an opener while a sequence is open, but in the wider profile a reset, and a 31 that the tail wants
 unfoldable pub breaks_sequence_open : Parts → TailFacts → TargetCycle → Bool
-breaks_sequence_open g t (CommandCycle c) = is_opener c && (is_open t && not (is_reset c && is_wide g.optional))
+breaks_sequence_open g t (CommandCycle c) = is_opener c && (is_open t && not ((is_reset c || works_on_row t c) && is_wide g.optional))
 breaks_sequence_open g t _ = false
 
 -- work of the whole target goes on at the LUN
@@ -258,11 +258,24 @@ continues_cache g v = not v.busy && (is_page_read v.closer && nat_lt (v.array_pa
 abbrev pub ends_cache : LunView → Bool
 ends_cache v = not v.busy && caching v
 
+-- the openers whose row names a LUN that does no cache read: a Read may name one in the wider profile
+abbrev pub excludes_cache : Parts → Command → Bool
+excludes_cache g Read = not (is_wide g.optional)
+excludes_cache g c = addresses_the_array c
+
+-- a 31 finds no LUN that may go on with a cache read: that of the row, where the tail wants it, or the one driver
+abbrev pub finds_no_cache_read : Parts → TailFacts → List LunView → Bool
+finds_no_cache_read g t luns =
+    if wants_command t ReadCacheSequential then not (named_lun_is g (row t) (λ v. is_page_read v.closer) luns) else not (driver_is (continues_cache g) luns)
+
 -- F15: 31 or 3F without one driver that isn't busy; 31 after another closer than 30 or 31, or with no page left in the block;
--- 3F without a cache read; the last row cycle of 00, 60 or 80, or what reads or sets what stands beside the array, while one goes on
+-- 3F without a cache read; the last row cycle of 00, 60 or 80, or what reads or sets what stands beside the array, while one goes on.
+-- In the wider profile a 31 that the tail wants is of the LUN that its row names, and asks for its last closer alone; the last row cycle of 00
+-- may come while a cache read goes on, and its 30 may not
 unfoldable pub breaks_cache_read_misplaced : Parts → TailFacts → List LunView → TargetCycle → Bool
-breaks_cache_read_misplaced g t luns (CommandCycle ReadCacheSequential) = not (driver_is (continues_cache g) luns)
+breaks_cache_read_misplaced g t luns (CommandCycle ReadCacheSequential) = finds_no_cache_read g t luns
+breaks_cache_read_misplaced g t luns (CommandCycle ReadConfirm) = is_wide g.optional && named_lun_is g (row t) caching luns
 breaks_cache_read_misplaced g t luns (CommandCycle ReadCacheEnd) = not (driver_is ends_cache luns)
 breaks_cache_read_misplaced g t luns (CommandCycle c) = reads_identity c && list_any caching luns
-breaks_cache_read_misplaced g t luns (AddressCycle byte) = ends_row addresses_the_array t && named_lun_is g (row_with t byte) caching luns
+breaks_cache_read_misplaced g t luns (AddressCycle byte) = ends_row (excludes_cache g) t && named_lun_is g (row_with t byte) caching luns
 breaks_cache_read_misplaced g t luns _ = false

@@ -1,6 +1,6 @@
 -- The tail of a target, which is its cycles from the last opener on, and what the rules see of it.
 -- A past is a list of items, the newest first; so is a tail.
-use Rattle.std.specs.Prelude.{ℕ, ◌%◌, ◌+◌, ◌*◌, ◌==◌, Bool, true, false, ◌||◌, ◌&&◌, nat_lt, nat_le, if◌then◌else◌, List, [], ◌∷◌, Option, Some, None, replicate, slice_set, IfSome, ◌≤◌, ◌<◌, ◌^◌}
+use Rattle.std.specs.Prelude.{ℕ, ◌%◌, ◌+◌, ◌*◌, ◌==◌, Bool, true, false, ◌||◌, ◌&&◌, not, nat_lt, nat_le, if◌then◌else◌, List, [], ◌∷◌, Option, Some, None, replicate, slice_set, IfSome, ◌≤◌, ◌<◌, ◌^◌}
 use Rattle.nand_geometry.specs.Row.{row_of}
 use Rattle.onfi_cycle.specs.declared.target_cycle.TargetCycle.{TargetCycle}
 use Rattle.onfi_cycle.specs.declared.target_cycle.TargetCycle.TheVariants.{CommandCycle, AddressCycle, InputCycle, OutputCycle}
@@ -10,12 +10,12 @@ use Rattle.onfi_cycle.specs.declared.data_phase.DataPhase.{DataPhase}
 use Rattle.onfi_cycle.specs.declared.data_phase.DataPhase.TheVariants.{Outside, Inputs, FirstColumn, SecondColumn, FeatureInputs}
 use Rattle.onfi_cycle.specs.declared.tail_facts.TailFacts.{TailFacts}
 use Rattle.onfi_cycle.specs.declared.command.Command.{Command}
-use Rattle.onfi_cycle.specs.declared.command.Command.TheVariants.{Read, ChangeWriteColumn, ProgramConfirm, ProgramPlane}
+use Rattle.onfi_cycle.specs.declared.command.Command.TheVariants.{Read, ChangeWriteColumn, ProgramConfirm, ProgramPlane, ReadCacheSequential}
 use Rattle.onfi_cycle.specs.declared.item.Kind.{Kind}
 use Rattle.onfi_cycle.specs.declared.item.Kind.TheVariants.{Cmd, Adr, Din, Dout}
 use Rattle.onfi_cycle.specs.declared.item.Item.{Item}
 use Rattle.onfi_cycle.specs.declared.item.Item.TheVariants.{Cyc, Rdy, Ard}
-use Rattle.onfi_cycle.specs.Command.{command, is_opener, address_cycles, wants_closer, closes, takes_address, is_page_program, is_set_features}
+use Rattle.onfi_cycle.specs.Command.{command, is_opener, address_cycles, wants_closer, closes, closes_row, takes_address, is_page_program, is_set_features}
 
 -- where an item happens
 abbrev pub target_of : Item → ℕ
@@ -30,7 +30,7 @@ target_cycle Adr byte = AddressCycle byte
 target_cycle Din byte = InputCycle byte
 target_cycle Dout byte = OutputCycle
 
--- the cycle is an opener, so that a tail begins with it
+-- the cycle is an opener
 abbrev pub begins_sequence : TargetCycle → Bool
 begins_sequence (CommandCycle c) = is_opener c
 begins_sequence (AddressCycle byte) = false
@@ -41,17 +41,6 @@ begins_sequence OutputCycle = false
 abbrev pub continued : TargetCycle → List TargetCycle → List TargetCycle
 continued cycle [] = []
 continued cycle (c ∷ t) = cycle ∷ (c ∷ t)
-
--- a tail with one cycle more: an opener begins it anew
-abbrev pub with_cycle : TargetCycle → List TargetCycle → List TargetCycle
-with_cycle cycle t = if begins_sequence cycle then cycle ∷ [] else continued cycle t
-
--- the tail: the cycles of a target from its last opener on, the newest first
-abbrev pub tail : List Item → ℕ → List TargetCycle
-tail [] ce = []
-tail (Cyc c ∷ past) ce = if c.ce == ce then with_cycle (target_cycle c.kind c.byte) (tail past ce) else tail past ce
-tail (Rdy _ _ _ ∷ past) ce = tail past ce
-tail (Ard _ _ ∷ past) ce = tail past ce
 
 -- an opener, if nothing stands before it
 abbrev pub opening_of_command : Command → List TargetCycle → Option Opening
@@ -190,12 +179,35 @@ abbrev pub wants_address : TailFacts → ℕ → Bool
 wants_address t byte =
     opened (λ c n. is_opener c && nat_lt n (address_cycles c) && takes_address c byte) t.opening || wants_column t.phase
 
--- the next cycle may be this command, which is no opener
+-- the next cycle may be this command, which closes the sequence or is amid its data
 abbrev pub wants_command : TailFacts → Command → Bool
 wants_command t ChangeWriteColumn = takes_data t.phase
 wants_command t ProgramConfirm = takes_data t.phase
 wants_command t ProgramPlane = takes_data t.phase
 wants_command t d = opened (λ c n. closes c d && n == address_cycles c) t.opening
+
+-- the command works on the row of its tail: the closers of a row, of which 31 is one where the tail wants it
+abbrev pub works_on_row : TailFacts → Command → Bool
+works_on_row t ReadCacheSequential = wants_command t ReadCacheSequential
+works_on_row t c = closes_row c
+
+-- a tail begins anew with the cycle: with an opener, but not with a 31 that it wants
+abbrev pub begins_anew : TailFacts → TargetCycle → Bool
+begins_anew t (CommandCycle c) = is_opener c && not (works_on_row t c)
+begins_anew t (AddressCycle byte) = false
+begins_anew t (InputCycle byte) = false
+begins_anew t OutputCycle = false
+
+-- a tail with one cycle more
+abbrev pub with_cycle : TargetCycle → List TargetCycle → List TargetCycle
+with_cycle cycle t = if begins_anew (facts_of t) cycle then cycle ∷ [] else continued cycle t
+
+-- the tail: the cycles of a target from its last opener on that began it anew, the newest first
+abbrev pub tail : List Item → ℕ → List TargetCycle
+tail [] ce = []
+tail (Cyc c ∷ past) ce = if c.ce == ce then with_cycle (target_cycle c.kind c.byte) (tail past ce) else tail past ce
+tail (Rdy _ _ _ ∷ past) ce = tail past ce
+tail (Ard _ _ ∷ past) ce = tail past ce
 
 -- the tail with this cycle is a beginning of a sequence
 abbrev pub wants : TailFacts → TargetCycle → Bool
@@ -260,9 +272,9 @@ extended_facts (InputCycle byte) t =
     record { opening = None; phase = phase_after_input t.inputs t.phase; row = t.row; column = t.column; inputs = t.inputs + 1; is_empty = false }
 extended_facts OutputCycle t = record { opening = None; phase = Outside; row = t.row; column = t.column; inputs = 0; is_empty = false }
 
--- what a cycle makes of them: an opener begins anew, and where there is no tail nothing else begins one
+-- what a cycle makes of them; where there is no tail nothing but an opener begins one
 abbrev pub facts_after : TargetCycle → TailFacts → TailFacts
-facts_after cycle t = if begins_sequence cycle then extended_facts cycle (facts_of []) else (if t.is_empty then t else extended_facts cycle t)
+facts_after cycle t = if begins_anew t cycle then extended_facts cycle (facts_of []) else (if t.is_empty then t else extended_facts cycle t)
 
 -- a bound on the counts of a tail, for numbers of fixed width
 pub record AreSmall (n : ℕ) (t : TailFacts) : Type 0 where

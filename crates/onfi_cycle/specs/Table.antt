@@ -20,6 +20,7 @@ pub data IsProgramCloser : Command → Type 0 where
 -- the table: an opener, its addresses, the inputs of a program, and its closer
 pub data IsSequence : List TargetCycle → Type 0 where
   read : (c1 c2 r1 r2 r3 : ℕ) → IsSequence (CommandCycle Read ∷ (AddressCycle c1 ∷ (AddressCycle c2 ∷ (AddressCycle r1 ∷ (AddressCycle r2 ∷ (AddressCycle r3 ∷ (CommandCycle ReadConfirm ∷ [])))))))
+  read_cache_random : (c1 c2 r1 r2 r3 : ℕ) → IsSequence (CommandCycle Read ∷ (AddressCycle c1 ∷ (AddressCycle c2 ∷ (AddressCycle r1 ∷ (AddressCycle r2 ∷ (AddressCycle r3 ∷ (CommandCycle ReadCacheSequential ∷ [])))))))
   change_read_column : (c1 c2 : ℕ) → IsSequence (CommandCycle ChangeReadColumn ∷ (AddressCycle c1 ∷ (AddressCycle c2 ∷ (CommandCycle ChangeReadColumnConfirm ∷ []))))
   erase : (r1 r2 r3 : ℕ) → IsSequence (CommandCycle BlockErase ∷ (AddressCycle r1 ∷ (AddressCycle r2 ∷ (AddressCycle r3 ∷ (CommandCycle BlockEraseConfirm ∷ [])))))
   erase_plane : (r1 r2 r3 : ℕ) → IsSequence (CommandCycle BlockErase ∷ (AddressCycle r1 ∷ (AddressCycle r2 ∷ (AddressCycle r3 ∷ (CommandCycle BlockErasePlane ∷ [])))))
@@ -48,11 +49,11 @@ abbrev pub IsProperBeginning : List TargetCycle → Type 0
 IsProperBeginning cycles = (next : TargetCycle) × IsBeginning (cycles ++ (next ∷ []))
 
 -- what the rules compute of a tail, by the table: a cycle continues a tail exactly where both together begin some sequence
--- (of an opener it is said where some tail is there), and a sequence is open exactly where it is begun, not ended, and more
+-- (of an opener, as 31 is one, it is said where some tail is there), and a sequence is open exactly where it is begun, not ended, and more
 -- than a lone 00
 pub record TailsFollowTheTable : Type 0 where
   pub goes_on : (t : List TargetCycle) (c : TargetCycle) → begins_sequence c ≡ false → (wants (facts_of t) c ≡ true) ↔ IsBeginning (reverse (c ∷ t))
-  pub no_opener_inside : (b : TargetCycle) (t : List TargetCycle) (c : TargetCycle) → begins_sequence c ≡ true → (wants (facts_of (b ∷ t)) c ≡ true) ↔ IsBeginning (reverse (c ∷ (b ∷ t)))
+  pub opener_inside : (b : TargetCycle) (t : List TargetCycle) (c : TargetCycle) → begins_sequence c ≡ true → (wants (facts_of (b ∷ t)) c ≡ true) ↔ IsBeginning (reverse (c ∷ (b ∷ t)))
   pub opens : (t : List TargetCycle) → t ≢ [] → t ≢ CommandCycle Read ∷ [] → (is_open (facts_of t) ≡ true) ↔ IsProperBeginning (reverse t)
   pub lone_read : is_open (facts_of (CommandCycle Read ∷ [])) ≡ false
   pub no_tail : is_open (facts_of []) ≡ false

@@ -1,6 +1,6 @@
 //! The commands: their bytes, and what each asks of its sequence.
 ghost use Rattle.std.specs.Prelude.{ℕ, ◌≡◌, ◌<◌, ◌^◌, Option};
-ghost use Rattle.onfi_cycle.specs.Command.{command, opcode, is_known, is_opener, address_cycles, closes, takes_address, at_last_row, addresses_the_array, reads_identity, is_reset, closes_row, is_of_target, wants_ready, wants_one_lun};
+ghost use Rattle.onfi_cycle.specs.Command.{command, opcode, is_known, is_opener, address_cycles, closes, takes_address, at_last_row, addresses_the_array, reads_identity, is_reset, closes_row, reads_row, is_of_target, wants_ready, wants_one_lun};
 ghost use Rattle.onfi_cycle.specs.Base.{is_of_base};
 ghost use Rattle.onfi_cycle.specs.Sequence.{is_proper_beginning};
 
@@ -47,7 +47,7 @@ pub enum Command {
     ReadParameterPage,
     /// FFh, Reset Definition.
     Reset,
-    /// 31h, Read Cache Definition.
+    /// 31h, Read Cache Definition. It closes a Read too, which is Read Cache Random there.
     ReadCacheSequential,
     /// 3Fh, Read Cache Definition.
     ReadCacheEnd,
@@ -192,7 +192,9 @@ impl Command {
         ensures { result ≡ closes self closer }
     {
         match self {
-            Command::Read => matches!(closer, Command::ReadConfirm),
+            Command::Read => {
+                matches!(closer, Command::ReadConfirm | Command::ReadCacheSequential)
+            }
             Command::ChangeReadColumn => matches!(closer, Command::ChangeReadColumnConfirm),
             Command::BlockErase => {
                 matches!(
@@ -258,13 +260,21 @@ impl Command {
         matches!(self, Command::Reset | Command::SynchronousReset)
     }
 
-    /// It closes a sequence with a row, and works on that.
+    /// It reads the row of the sequence that it closes.
+    pub fn reads_row(self) -> bool
+        ensures { result ≡ reads_row self }
+    {
+        matches!(self, Command::ReadConfirm | Command::ReadCacheSequential)
+    }
+
+    /// It closes a sequence with a row, and works on that. [`Command::ReadCacheSequential`] may come behind no row too.
     pub fn closes_row(self) -> bool
         ensures { result ≡ closes_row self }
     {
         matches!(
             self,
             Command::ReadConfirm
+                | Command::ReadCacheSequential
                 | Command::BlockEraseConfirm
                 | Command::BlockErasePlane
                 | Command::ProgramConfirm

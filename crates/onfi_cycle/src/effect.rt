@@ -38,8 +38,8 @@ pub enum Effect {
     FeaturesSet { address: u8 },
     /// The address of ECh: it reads its parameter page.
     ParameterPageReadStarted,
-    /// 31h: it gives the page that its array has read, and its array reads the next.
-    CacheReadContinued,
+    /// 31h: it gives the page that its array has read, and its array reads the page of the row before, or the next one.
+    CacheReadContinued { to: Option<PageAddress> },
     /// 3Fh: it gives the page that its array has read.
     CacheReadEnded,
     /// E0h: it gives its register from this column on.
@@ -83,7 +83,7 @@ impl Effect {
             | Effect::ParameterPageReadStarted
             | Effect::UniqueIdReadStarted
             | Effect::FeaturesReadStarted { .. }
-            | Effect::CacheReadContinued
+            | Effect::CacheReadContinued { .. }
             | Effect::CacheReadEnded => Latch::Data,
             _ => before,
         }
@@ -97,6 +97,7 @@ impl Effect {
             Effect::TargetResetStarted { first } => first,
             Effect::SelectedForStatus
             | Effect::ReadStarted { .. }
+            | Effect::CacheReadContinued { to: Some(_) }
             | Effect::EraseStarted { .. }
             | Effect::ProgramStarted { .. }
             | Effect::IdRead
@@ -142,7 +143,7 @@ impl Effect {
             | Effect::UniqueIdReadStarted
             | Effect::FeaturesReadStarted { .. }
             | Effect::FeaturesSet { .. }
-            | Effect::CacheReadContinued
+            | Effect::CacheReadContinued { .. }
             | Effect::CacheReadEnded
             | Effect::ResetStarted
             | Effect::TargetResetStarted { .. } => true,
@@ -166,7 +167,7 @@ impl Effect {
             Effect::UniqueIdReadStarted => Some(Command::ReadUniqueId),
             Effect::FeaturesReadStarted { .. } => Some(Command::GetFeatures),
             Effect::FeaturesSet { .. } => Some(Command::SetFeatures),
-            Effect::CacheReadContinued => Some(Command::ReadCacheSequential),
+            Effect::CacheReadContinued { .. } => Some(Command::ReadCacheSequential),
             Effect::CacheReadEnded => Some(Command::ReadCacheEnd),
             Effect::ResetStarted | Effect::TargetResetStarted { .. } => Some(Command::Reset),
             _ => before,
@@ -189,7 +190,7 @@ impl Effect {
             | Effect::UniqueIdReadStarted
             | Effect::FeaturesReadStarted { .. }
             | Effect::FeaturesSet { .. }
-            | Effect::CacheReadContinued
+            | Effect::CacheReadContinued { .. }
             | Effect::CacheReadEnded
             | Effect::ResetStarted
             | Effect::TargetResetStarted { .. } => false,
@@ -204,8 +205,9 @@ impl Effect {
         ensures small { IsSmallEffect self → result.page ≤ 2 ^ 32 ⊎ result.page ≤ before.page + 1 }
     {
         match self {
-            Effect::ReadStarted { page, .. } => page,
-            Effect::CacheReadContinued => PageAddress {
+            Effect::ReadStarted { page, .. } | Effect::CacheReadContinued { to: Some(page) } =>
+                page,
+            Effect::CacheReadContinued { to: None } => PageAddress {
                 block: before.block,
                 page: before.page + 1,
             },
@@ -230,7 +232,9 @@ impl Effect {
             Effect::ParameterPageReadStarted => Register::ParameterPage,
             Effect::UniqueIdReadStarted => Register::UniqueId,
             Effect::FeaturesReadStarted { address } => Register::Features(address),
-            Effect::CacheReadContinued | Effect::CacheReadEnded => Register::Page(array_page),
+            Effect::CacheReadContinued { .. } | Effect::CacheReadEnded => Register::Page(
+                array_page,
+            ),
             _ => before,
         }
     }
@@ -250,7 +254,7 @@ impl Effect {
             | Effect::ParameterPageReadStarted
             | Effect::UniqueIdReadStarted
             | Effect::FeaturesReadStarted { .. }
-            | Effect::CacheReadContinued
+            | Effect::CacheReadContinued { .. }
             | Effect::CacheReadEnded => ReadColumn::given(0),
             Effect::DataOutput => ReadColumn {
                 outputs: before.outputs + 1,

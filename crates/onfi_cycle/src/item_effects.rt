@@ -1,6 +1,6 @@
 //! What an item does to a LUN, by the facts of its target's tail.
 ghost use Rattle.std.specs.Prelude.{◌≡◌};
-ghost use Rattle.onfi_cycle.specs.Effect.{names_lun, is_shared, acts_for_target, of_target, status_effect, reset_effect, other_effect, lun_reset_effect, confirm_effect, command_effect, address_effect, opening_address_effect, id_effect, ends_features, input_effect, cycle_effect, item_effect, IsSmallEffect};
+ghost use Rattle.onfi_cycle.specs.Effect.{names_lun, is_shared, acts_for_target, of_target, status_effect, reset_effect, other_effect, row_effect, cache_effect, lun_reset_effect, confirm_effect, command_effect, address_effect, opening_address_effect, id_effect, ends_features, input_effect, cycle_effect, item_effect, IsSmallEffect};
 
 use crate::data_phase::FEATURE_BYTES;
 use crate::{Command, Effect, Item, Latch, Lun, PageAddress, TailFacts, TargetCycle};
@@ -72,7 +72,7 @@ fn other_effect(geometry: &Geometry, tail: TailFacts, command: Command) -> Effec
 {
     if command.closes_row() && tail.wants_command(command) && is_shared(geometry) {
         Effect::AnotherAddressed {
-            reads: command == Command::ReadConfirm,
+            reads: command.reads_row(),
         }
     } else {
         Effect::Unaffected
@@ -90,6 +90,7 @@ fn confirm_effect(geometry: &Geometry, tail: TailFacts, command: Command) -> Eff
             page: at,
             column: tail.column,
         },
+        Command::ReadCacheSequential => Effect::CacheReadContinued { to: Some(at) },
         Command::BlockEraseConfirm => Effect::EraseStarted {
             queued: false,
             row: at,
@@ -107,6 +108,30 @@ fn confirm_effect(geometry: &Geometry, tail: TailFacts, command: Command) -> Eff
             page: at,
         },
         _ => Effect::Unaffected,
+    }
+}
+
+/// What the closer of a row does to a LUN.
+fn row_effect(geometry: &Geometry, tail: TailFacts, command: Command, lun: u8) -> Effect
+    ensures value { result ≡ row_effect geometry.now tail command lun }
+    ensures small { IsSmallEffect result }
+{
+    if tail.wants_command(command) && names_lun(geometry, tail.named_row(), lun) {
+        confirm_effect(geometry, tail, command)
+    } else {
+        other_effect(geometry, tail, command)
+    }
+}
+
+/// What a 31h does that no tail wants: it is of the one driver.
+fn cache_effect(latch_alone: Latch) -> Effect
+    ensures value { result ≡ cache_effect latch_alone }
+    ensures small { IsSmallEffect result }
+{
+    if latch_alone.is_off() {
+        Effect::Unaffected
+    } else {
+        Effect::CacheReadContinued { to: None }
     }
 }
 
@@ -128,9 +153,9 @@ fn command_effect(
         Command::ReadStatus => status_effect(geometry),
         Command::ReadStatusEnhanced => Effect::StatusRowAwaited,
         Command::Reset | Command::SynchronousReset => reset_effect(geometry, lun),
-        Command::ReadCacheSequential if drives => Effect::CacheReadContinued,
+        Command::ReadCacheSequential if !tail.wants_command(command) => cache_effect(latch_alone),
         Command::ReadCacheEnd if drives => Effect::CacheReadEnded,
-        Command::ReadCacheSequential | Command::ReadCacheEnd => Effect::Unaffected,
+        Command::ReadCacheEnd => Effect::Unaffected,
         Command::ChangeReadColumnConfirm => {
             if tail.wants_command(Command::ChangeReadColumnConfirm) && drives {
                 Effect::ReadColumnChanged {
@@ -140,10 +165,7 @@ fn command_effect(
                 Effect::Unaffected
             }
         }
-        _ if tail.wants_command(command) && names_lun(geometry, tail.named_row(), lun) => {
-            confirm_effect(geometry, tail, command)
-        }
-        _ => other_effect(geometry, tail, command),
+        _ => row_effect(geometry, tail, command, lun),
     }
 }
 

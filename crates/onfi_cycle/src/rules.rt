@@ -5,12 +5,13 @@ ghost use Rattle.std.specs.Option.{option_copied};
 ghost use Rattle.nand_geometry.specs.Row.{parts_of};
 ghost use Rattle.onfi_cycle.specs.declared.target_cycle.TargetCycle.{TargetCycle};
 ghost use Rattle.onfi_cycle.specs.Effect.{is_off};
-ghost use Rattle.onfi_cycle.specs.Rules.{breaks_not_there, breaks_command_unknown, breaks_sequence_open, breaks_several_luns, breaks_no_column_to_change, breaks_command_misplaced, breaks_address_misplaced, breaks_row_outside, breaks_lun_busy, breaks_queue_clash, breaks_input_misplaced, breaks_no_sole_driver, breaks_data_not_ready, breaks_column_outside, breaks_cache_read_misplaced, driving, are_none, driver, is_undeclared, is_undeclared_address, planes_clash, queued_clashes, some_queued_clashes, refused_by, is_refused_by, caching, has_some, is_unclear, works_for_target, named_lun_is};
+ghost use Rattle.onfi_cycle.specs.Lun.{is_page_read};
+ghost use Rattle.onfi_cycle.specs.Rules.{breaks_not_there, breaks_command_unknown, breaks_sequence_open, breaks_several_luns, breaks_no_column_to_change, breaks_command_misplaced, breaks_address_misplaced, breaks_row_outside, breaks_lun_busy, breaks_queue_clash, breaks_input_misplaced, breaks_no_sole_driver, breaks_data_not_ready, breaks_column_outside, breaks_cache_read_misplaced, driving, are_none, driver, is_undeclared, is_undeclared_address, planes_clash, queued_clashes, some_queued_clashes, refused_by, is_refused_by, caching, has_some, is_unclear, works_for_target, named_lun_is, driver_is, continues_cache, ends_row, excludes_cache, finds_no_cache_read};
 ghost use Rattle.onfi_cycle.specs.Permitted.{judge, judge_cycle, judge_known_cycle};
 
 use crate::{
     Command, Forbidden, Item, LunFacts, PageAddress, Queued, TailFacts, TargetCycle, WorkQueue,
-    is_shared,
+    is_page_read, is_shared,
 };
 use nand_geometry::Geometry;
 
@@ -109,7 +110,8 @@ fn breaks_sequence_open(geometry: &Geometry, tail: TailFacts, cycle: TargetCycle
         TargetCycle::CommandCycle(command) => {
             command.is_opener()
                 && tail.is_open()
-                && !(command.is_reset() && geometry.parts().optional.is_wide())
+                && !((command.is_reset() || tail.works_on_row(command))
+                    && geometry.parts().optional.is_wide())
         }
         _ => false,
     }
@@ -420,6 +422,71 @@ fn some_caching<Q: WorkQueue>(luns: &[LunFacts<Q>]) -> bool
     luns.iter().any(|lun| lun.is_caching())
 }
 
+/// The LUN that a row names is there, and a cache read goes on at it.
+fn named_is_caching<Q: WorkQueue>(geometry: &Geometry, row: u32, luns: &[LunFacts<Q>]) -> bool
+    ensures { result ≡ named_lun_is geometry.now row caching luns.now }
+{
+    match find_named(geometry, row, luns) {
+        None => false,
+        Some(lun) => lun.is_caching(),
+    }
+}
+
+/// The LUN that a row names is there, and has read a page, so that a cache read may go on from it.
+fn named_has_read<Q: WorkQueue>(geometry: &Geometry, row: u32, luns: &[LunFacts<Q>]) -> bool
+    ensures { result ≡ named_lun_is geometry.now row (λ v. is_page_read v.closer) luns.now }
+{
+    match find_named(geometry, row, luns) {
+        None => false,
+        Some(lun) => is_page_read(lun.closer),
+    }
+}
+
+/// The one driver may go on with a cache read.
+fn driver_continues_cache<Q: WorkQueue>(geometry: &Geometry, luns: &[LunFacts<Q>]) -> bool
+    ensures { result ≡ driver_is (continues_cache geometry.now) luns.now }
+{
+    match driver(luns) {
+        None => false,
+        Some(lun) => lun.continues_cache(geometry),
+    }
+}
+
+/// A 31h finds no LUN that may go on with a cache read: that of the row, where the tail wants it, or the one driver.
+fn finds_no_cache_read<Q: WorkQueue>(
+    geometry: &Geometry,
+    tail: TailFacts,
+    luns: &[LunFacts<Q>],
+) -> bool
+    ensures { result ≡ finds_no_cache_read geometry.now tail luns.now }
+{
+    if tail.wants_command(Command::ReadCacheSequential) {
+        !named_has_read(geometry, tail.named_row(), luns)
+    } else {
+        !driver_continues_cache(geometry, luns)
+    }
+}
+
+/// The opener's row names a LUN that does no cache read: a Read may name one in the wider profile.
+fn excludes_cache(geometry: &Geometry, opener: Command) -> bool
+    ensures { result ≡ excludes_cache geometry.now opener }
+{
+    match opener {
+        Command::Read => !geometry.parts().optional.is_wide(),
+        _ => opener.addresses_the_array(),
+    }
+}
+
+/// The next address is the last row cycle of such an opener.
+fn ends_row_without_cache(geometry: &Geometry, tail: TailFacts) -> bool
+    ensures { result ≡ ends_row (excludes_cache geometry.now) tail }
+{
+    match tail.opening {
+        None => false,
+        Some(opening) => excludes_cache(geometry, opening.opener) && opening.is_at_last_row(),
+    }
+}
+
 #[tactic(auto, unfolding(crate::specs::Rules::breaks_cache_read_misplaced))]
 fn breaks_cache_read_misplaced<Q: WorkQueue>(
     geometry: &Geometry,
@@ -430,28 +497,28 @@ fn breaks_cache_read_misplaced<Q: WorkQueue>(
     ensures { result ≡ breaks_cache_read_misplaced geometry.now tail luns.now cycle }
 {
     match cycle {
-        TargetCycle::CommandCycle(Command::ReadCacheSequential) => match driver(luns) {
-            None => true,
-            Some(lun) => !lun.continues_cache(geometry),
-        },
+        TargetCycle::CommandCycle(Command::ReadCacheSequential) => {
+            finds_no_cache_read(geometry, tail, luns)
+        }
+        TargetCycle::CommandCycle(Command::ReadConfirm) => {
+            geometry.parts().optional.is_wide()
+                && named_is_caching(geometry, tail.named_row(), luns)
+        }
         TargetCycle::CommandCycle(Command::ReadCacheEnd) => match driver(luns) {
             None => true,
             Some(lun) => !lun.ends_cache(),
         },
         TargetCycle::CommandCycle(command) => command.reads_identity() && some_caching(luns),
         TargetCycle::AddressCycle(byte) => {
-            tail.ends_array_row()
-                && match find_named(geometry, tail.row_with(byte), luns) {
-                    None => false,
-                    Some(lun) => lun.is_caching(),
-                }
+            ends_row_without_cache(geometry, tail)
+                && named_is_caching(geometry, tail.row_with(byte), luns)
         }
         _ => false,
     }
 }
 
-/// The first of F3 to F15 that a command breaks. A closer can break F6 alone.
-#[tactic(auto, using(crate::proofs::Closers::closer_misplaced, crate::proofs::Closers::closer_passes), unfolding(crate::specs::Rules::breaks_sequence_open, crate::specs::Rules::breaks_several_luns, crate::specs::Rules::breaks_no_column_to_change, crate::specs::Rules::breaks_command_misplaced, crate::specs::Rules::breaks_address_misplaced, crate::specs::Rules::breaks_row_outside, crate::specs::Rules::breaks_lun_busy, crate::specs::Rules::breaks_queue_clash, crate::specs::Rules::breaks_input_misplaced, crate::specs::Rules::breaks_no_sole_driver, crate::specs::Rules::breaks_data_not_ready, crate::specs::Rules::breaks_column_outside, crate::specs::Rules::breaks_cache_read_misplaced))]
+/// The first of F3 to F15 that a command breaks. A closer can break F6 and F15 alone.
+#[tactic(auto, using(crate::proofs::Closers::closer_misplaced, crate::proofs::Closers::closer_reads, crate::proofs::Closers::closer_passes), unfolding(crate::specs::Rules::breaks_sequence_open, crate::specs::Rules::breaks_several_luns, crate::specs::Rules::breaks_no_column_to_change, crate::specs::Rules::breaks_command_misplaced, crate::specs::Rules::breaks_address_misplaced, crate::specs::Rules::breaks_row_outside, crate::specs::Rules::breaks_lun_busy, crate::specs::Rules::breaks_queue_clash, crate::specs::Rules::breaks_input_misplaced, crate::specs::Rules::breaks_no_sole_driver, crate::specs::Rules::breaks_data_not_ready, crate::specs::Rules::breaks_column_outside, crate::specs::Rules::breaks_cache_read_misplaced))]
 fn judge_command<Q: WorkQueue>(
     geometry: &Geometry,
     tail: TailFacts,
@@ -464,6 +531,8 @@ fn judge_command<Q: WorkQueue>(
     if !command.is_opener() {
         if breaks_command_misplaced(tail, cycle) {
             Some(Forbidden::CommandMisplaced)
+        } else if breaks_cache_read_misplaced(geometry, tail, luns, cycle) {
+            Some(Forbidden::CacheReadMisplaced)
         } else {
             None
         }

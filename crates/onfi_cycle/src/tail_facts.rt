@@ -1,7 +1,7 @@
 //! The tail of a target, by its facts: one cycle at a time, with nothing kept but the facts.
 ghost use Rattle.std.specs.Prelude.{ℕ, [], ◌≡◌, ◌+◌, ◌^◌, ◌<◌, ◌≤◌, true, IfSome};
 ghost use Rattle.onfi_cycle.specs.Command.{addresses_the_array, is_change_read_column};
-ghost use Rattle.onfi_cycle.specs.Sequence.{AreSmall, target_cycle, begins_sequence, facts_of, facts_after, extended_facts, next_address_place, column_after_address, takes_data, takes_inputs, wants_address, wants_command, wants, is_proper_beginning, is_open, row, row_with, column_with, input_column, target_of};
+ghost use Rattle.onfi_cycle.specs.Sequence.{AreSmall, target_cycle, begins_anew, works_on_row, facts_of, facts_after, extended_facts, next_address_place, column_after_address, takes_data, takes_inputs, wants_address, wants_command, wants, is_proper_beginning, is_open, row, row_with, column_with, input_column, target_of};
 ghost use Rattle.onfi_cycle.specs.Rules.{ends_row, second_of_page, second_column};
 ghost use Rattle.onfi_cycle.specs.Inputs.{fed_tail, takes_fewer_features, has_no_room};
 
@@ -70,8 +70,8 @@ impl TailFacts {
         }
     }
 
-    /// The facts of a tail with one cycle more. An opener begins a tail anew; where there is no tail, nothing
-    /// else begins one. The counts grow by one at most, and have room for 2^63 cycles.
+    /// The facts of a tail with one cycle more. An opener that the tail doesn't want begins a tail anew; where there is
+    /// no tail, nothing else begins one. The counts grow by one at most, and have room for 2^63 cycles.
     pub fn after(self, cycle: TargetCycle) -> TailFacts
         requires { AreSmall (2 ^ 63) self }
         ensures value { result ≡ facts_after cycle self }
@@ -92,6 +92,13 @@ impl TailFacts {
             (None, DataPhase::SecondColumn) => 1,
             (None, _) => 2,
         }
+    }
+
+    // A tail begins anew with this command: with an opener, but not with a 31h that it wants.
+    fn begins_anew(self, command: Command) -> bool
+        ensures { result ≡ begins_anew self (TargetCycle.CommandCycle command) }
+    {
+        command.is_opener() && !self.works_on_row(command)
     }
 
     // Goes on with a tail that isn't empty by an address.
@@ -119,7 +126,7 @@ impl TailFacts {
         ensures small { (n : ℕ) → AreSmall n self.old → AreSmall (n + 1) self.new }
     {
         match cycle {
-            TargetCycle::CommandCycle(command) if command.is_opener() => {
+            TargetCycle::CommandCycle(command) if self.begins_anew(command) => {
                 *self = TailFacts::opened_by(command);
             }
             _ if self.is_empty => {}
@@ -163,7 +170,7 @@ impl TailFacts {
         opens || self.phase.wants_column()
     }
 
-    /// The tail goes on with this command, which is no opener.
+    /// The tail goes on with this command, which closes its sequence or is amid its data.
     pub fn wants_command(self, command: Command) -> bool
         ensures { result ≡ wants_command self command }
     {
@@ -175,6 +182,16 @@ impl TailFacts {
                 None => false,
                 Some(opening) => opening.is_closed_by(command),
             },
+        }
+    }
+
+    /// The command works on the row of the tail: the closers of a row, of which 31h is one where the tail wants it.
+    pub fn works_on_row(self, command: Command) -> bool
+        ensures { result ≡ works_on_row self command }
+    {
+        match command {
+            Command::ReadCacheSequential => self.wants_command(command),
+            _ => command.closes_row(),
         }
     }
 

@@ -1,6 +1,6 @@
 -- After a past that is legal in the base profile: on a target with several LUNs each LUN is what it is there, but for what it shows where
 -- several show something.
-use Rattle.std.proofs.Common.{◌≡◌, ℕ, ◌<◌, ◌==◌, Bool, true, false, ◌&&◌, ◌||◌, cond, ltb, List, [], ◌∷◌, Option, Some, None, refl, sym, arith, subst, eqb-true}
+use Rattle.std.proofs.Common.{◌≡◌, ℕ, ◌<◌, ◌==◌, Bool, true, false, ◌&&◌, ◌||◌, cond, ltb, List, [], ◌∷◌, Option, Some, None, refl, sym, arith, subst, eqb-true, not}
 use Rattle.std.proofs.lemmas.Bool.{not-false, and_parts, or_parts}
 use Rattle.nand_geometry.specs.declared.parts.Parts.{Parts}
 use Rattle.nand_geometry.specs.Optional.{is_wide}
@@ -24,16 +24,17 @@ use Rattle.onfi_cycle.specs.Sequence.{opened, tail, target_cycle, facts_of, is_o
 use Rattle.onfi_cycle.specs.Effect.{is_shared, cycle_effect}
 use Rattle.onfi_cycle.specs.Lun.{latch, latch_alone, latch_after, closer, is_target_work, drivers, is_only, is_selected, is_busy, is_array_busy, effect_on, effect_among, lun_view, luns_of}
 use Rattle.onfi_cycle.specs.Applied.{asks_driver}
-use Rattle.onfi_cycle.specs.Rules.{driver_is, continues_cache, ends_cache, breaks_several_luns, breaks_command_misplaced, breaks_no_sole_driver, breaks_cache_read_misplaced}
+use Rattle.onfi_cycle.specs.Rules.{driver_is, continues_cache, ends_cache, breaks_several_luns, breaks_command_misplaced, breaks_no_sole_driver, breaks_cache_read_misplaced, breaks_sequence_open}
 use Rattle.onfi_cycle.specs.Permitted.{broken, is_legal}
 use Rattle.onfi_cycle.proofs.Latches.{IsOne}
-use Rattle.onfi_cycle.proofs.Others.{other_openings}
+use Rattle.onfi_cycle.proofs.Others.{other_openings, chosen_else}
 use Rattle.onfi_cycle.proofs.Passed.{KeepsRules, permitted_keeps}
 use Rattle.onfi_profiles.specs.Widening.{in_base}
 use Rattle.onfi_profiles.proofs.OldTails.{AreOfBase, facts_base, tails_kept}
 use Rattle.onfi_profiles.proofs.Turns.{Turn, kept, Shows, alike, shows_on, alike_by_sole, drivers_same}
 use Rattle.onfi_profiles.proofs.Shared.{IsPlain, Like, equal, core, one_lun_cycle, cycle_turn, cycle_like, core_on, calm_on}
 use Rattle.onfi_profiles.proofs.Pasts.{lun_at, both_legal, in_column, driver_one, column_driver, read_inside}
+use Rattle.onfi_profiles.proofs.Unwanted.{unwanted}
 
 -- what each LUN of a target is in both profiles
 pub record AreAlike (g : Parts) (past : List Item) (ce : ℕ) : Type 0 where
@@ -69,6 +70,9 @@ plain g targets past c ce shared legal h here =
       identity = (other_openings (in_base g) targets past ce refl (several g shared) legal).opens;
       phase = old.phase;
       inside = read_inside (in_base g) targets past ce legal;
+      alone = λ is. unwanted (in_base g) (facts_of (tail past ce)) refl
+          (subst (λ (k : TargetCycle). breaks_sequence_open (in_base g) (facts_of (tail past ce)) k ≡ false) is
+          (subst (λ (x : ℕ). breaks_sequence_open (in_base g) (facts_of (tail past x)) (target_cycle c.kind c.byte) ≡ false) here (permitted_keeps (in_base g) targets past c h).f3));
     }
 
 column_wanted : (o : Option Opening) → opened (λ c n. closes c ChangeReadColumnConfirm && n == address_cycles c) o ≡ true → in_column o ≡ true
@@ -80,14 +84,16 @@ column_wanted (Some o) h = of o.opener o.addresses h
     of c n h = cc
 
 -- a cycle whose work hangs on the one driver finds one
-sole : (g : Parts) (targets : ℕ) (past : List Item) (c : Cycle) (ce : ℕ) → is_legal g targets past ≡ true → broken g targets past (Cyc c) ≡ None → c.ce ≡ ce → asks_driver (target_cycle c.kind c.byte) ≡ true → IsOne (drivers g past ce)
+sole : (g : Parts) (targets : ℕ) (past : List Item) (c : Cycle) (ce : ℕ) → is_wide g.optional ≡ false → is_legal g targets past ≡ true → broken g targets past (Cyc c) ≡ None → c.ce ≡ ce → asks_driver (target_cycle c.kind c.byte) ≡ true → IsOne (drivers g past ce)
 unfolding breaks_command_misplaced breaks_no_sole_driver breaks_cache_read_misplaced
-sole g targets past c ce legal h here asks =
+sole g targets past c ce narrow legal h here asks =
     subst (λ (x : ℕ). IsOne (drivers g past x)) here
     (of (target_cycle c.kind c.byte) asks (permitted_keeps g targets past c h))
   where
     of : (k : TargetCycle) → asks_driver k ≡ true → KeepsRules g (facts_of (tail past c.ce)) (luns_of g past c.ce) k → IsOne (drivers g past c.ce)
-    of (CommandCycle ReadCacheSequential) asks r = driver_one g past c.ce (continues_cache g) (not-false (driver_is (continues_cache g) (luns_of g past c.ce)) r.f15)
+    of (CommandCycle ReadCacheSequential) asks r =
+        let f15 : not (driver_is (continues_cache g) (luns_of g past c.ce)) ≡ false = chosen_else (wants_command (facts_of (tail past c.ce)) ReadCacheSequential) _ _ r.f15 (unwanted g (facts_of (tail past c.ce)) narrow r.f3) in
+        driver_one g past c.ce (continues_cache g) (not-false (driver_is (continues_cache g) (luns_of g past c.ce)) f15)
     of (CommandCycle ReadCacheEnd) asks r = driver_one g past c.ce ends_cache (not-false (driver_is ends_cache (luns_of g past c.ce)) r.f15)
     of (CommandCycle ChangeReadColumnConfirm) asks r = column_driver g targets past c.ce legal (column_wanted _ (not-false (wants_command (facts_of (tail past c.ce)) ChangeReadColumnConfirm) r.f6))
     of (CommandCycle c) asks r = cc
@@ -159,7 +165,7 @@ cycle_step g targets past c ce shared legal h before =
     }
   where
     one : (c.ce == ce) ≡ true → asks_driver (target_cycle c.kind c.byte) ≡ true → IsOne (drivers (in_base g) past ce)
-    one e asks = sole (in_base g) targets past c ce legal h (eqb-true c.ce ce e) asks
+    one e asks = sole (in_base g) targets past c ce refl legal h (eqb-true c.ce ce e) asks
 
     like : (m : ℕ) → m < g.luns → Like (cond (c.ce == ce) (cycle_effect (in_base g) (facts_of (tail past ce)) (latch_alone (in_base g) past (lun_at ce m)) (target_cycle c.kind c.byte) m) Unaffected) (cond (c.ce == ce) (cycle_effect g (facts_of (tail past ce)) (latch_alone g past (lun_at ce m)) (target_cycle c.kind c.byte) m) Unaffected)
     like m low = like_or_not (c.ce == ce) _ _ (λ e. cycle_like g (facts_of (tail past ce)) (target_cycle c.kind c.byte) m (latch_alone (in_base g) past (lun_at ce m)) (latch_alone g past (lun_at ce m)) (plain g targets past c ce shared legal h (eqb-true c.ce ce e)) (λ asks. same_alone g past ce before (one e asks) m low))
@@ -180,4 +186,4 @@ effects_like g targets past (Ard a b) l shared legal h low = ready_like (a == l.
 effects_like g targets past (Cyc c) l shared legal h low =
     like_or_not (c.ce == l.ce) _ _
     (λ e. cycle_like g (facts_of (tail past l.ce)) (target_cycle c.kind c.byte) l.lun (latch_alone (in_base g) past (lun_at l.ce l.lun)) (latch_alone g past (lun_at l.ce l.lun)) (plain g targets past c l.ce shared legal h (eqb-true c.ce l.ce e))
-    (λ asks. same_alone g past l.ce (are_alike g targets past l.ce shared legal) (sole (in_base g) targets past c l.ce legal h (eqb-true c.ce l.ce e) asks) l.lun low))
+    (λ asks. same_alone g past l.ce (are_alike g targets past l.ce shared legal) (sole (in_base g) targets past c l.ce refl legal h (eqb-true c.ce l.ce e) asks) l.lun low))

@@ -1,4 +1,5 @@
 pub mod Decoded
+pub mod Unwanted
 pub mod OldRules
 pub mod OldTails
 pub mod Same

@@ -4,7 +4,7 @@ use Rattle.std.proofs.Math.Bool.{or-false}
 use Rattle.nand_geometry.specs.declared.parts.Parts.{Parts}
 use Rattle.nand_geometry.specs.Limits.{page_len}
 use Rattle.onfi_cycle.specs.declared.command.Command.{Command}
-use Rattle.onfi_cycle.specs.declared.command.Command.TheVariants.{ChangeWriteColumn, ProgramConfirm, ProgramPlane, ReadId, ReadUniqueId, GetFeatures, SetFeatures, ResetLun, SynchronousReset, Unknown}
+use Rattle.onfi_cycle.specs.declared.command.Command.TheVariants.{ChangeWriteColumn, ProgramConfirm, ProgramPlane, ReadId, ReadUniqueId, GetFeatures, SetFeatures, ResetLun, SynchronousReset, Unknown, ReadCacheSequential}
 use Rattle.onfi_cycle.specs.declared.data_phase.DataPhase.{DataPhase}
 use Rattle.onfi_cycle.specs.declared.data_phase.DataPhase.TheVariants.{Outside, Inputs, FirstColumn, SecondColumn, FeatureInputs}
 use Rattle.onfi_cycle.specs.declared.forbidden.Forbidden.{Forbidden}
@@ -18,14 +18,15 @@ use Rattle.onfi_cycle.specs.declared.target_cycle.TargetCycle.TheVariants.{Comma
 use Rattle.onfi_cycle.specs.LunView.{LunView}
 use Rattle.onfi_cycle.specs.Base.{is_of_base}
 use Rattle.onfi_cycle.specs.Command.{is_known, is_opener, is_read_id, is_reset, address_cycles, takes_address, addresses_the_array}
-use Rattle.onfi_cycle.specs.Sequence.{target_of, target_cycle, tail, facts_of, opened, takes_data, takes_features, takes_inputs, wants_column, wants_command, wants_address, is_open, is_proper_beginning, row_with, input_column}
-use Rattle.onfi_cycle.specs.Lun.{luns_of}
-use Rattle.onfi_cycle.specs.Rules.{driver_is, ends_row, named_lun_is, is_undeclared, breaks_not_there, breaks_command_unknown, breaks_sequence_open, breaks_several_luns, breaks_no_column_to_change, breaks_command_misplaced, breaks_address_misplaced, breaks_row_outside, breaks_lun_busy, breaks_queue_clash, breaks_input_misplaced, breaks_no_sole_driver, breaks_data_not_ready, breaks_column_outside, breaks_cache_read_misplaced}
+use Rattle.onfi_cycle.specs.Sequence.{target_of, target_cycle, opened, takes_data, takes_features, takes_inputs, wants_column, wants_command, wants_address, is_open, is_proper_beginning, row_with, input_column, works_on_row, row}
+use Rattle.onfi_cycle.specs.Lun.{luns_of, is_page_read}
+use Rattle.onfi_cycle.specs.Rules.{driver_is, ends_row, named_lun_is, is_undeclared, breaks_not_there, breaks_command_unknown, breaks_sequence_open, breaks_several_luns, breaks_no_column_to_change, breaks_command_misplaced, breaks_address_misplaced, breaks_row_outside, breaks_lun_busy, breaks_queue_clash, breaks_input_misplaced, breaks_no_sole_driver, breaks_data_not_ready, breaks_column_outside, breaks_cache_read_misplaced, continues_cache, caching}
 use Rattle.onfi_cycle.specs.Permitted.{judge_cycle, judge_item, judge}
 use Rattle.onfi_profiles.specs.Widening.{in_base}
 use Rattle.onfi_profiles.specs.Tails.{base_takes_inputs, base_takes_address, base_wants_command, base_wants_address, base_is_open, base_facts}
-use Rattle.onfi_profiles.specs.Judging.{base_undeclared, base_command_unknown, base_sequence_open, base_command_misplaced, base_several_luns, base_lun_busy, base_address_misplaced, base_input_misplaced, base_no_sole_driver, base_column_outside, base_judge_cycle, base_judge_item, base_judge, JudgesBase}
+use Rattle.onfi_profiles.specs.Judging.{base_undeclared, base_command_unknown, base_sequence_open, base_command_misplaced, base_several_luns, base_lun_busy, base_address_misplaced, base_input_misplaced, base_no_sole_driver, base_column_outside, base_judge_cycle, base_judge_item, JudgesBase, base_cache_read_misplaced}
 use Rattle.onfi_profiles.proofs.OldTails.{AreOfBase, facts_base, tails_kept}
+use Rattle.onfi_profiles.proofs.Unwanted.{unwanted, excluded_same}
 
 -- 1. parts of rules
 
@@ -108,7 +109,7 @@ f2 g OutputCycle = refl
 
 f3 : (g : Parts) (t : TailFacts) (k : TargetCycle) → AreOfBase t → breaks_sequence_open (in_base g) t k ≡ base_sequence_open t k
 unfolding breaks_sequence_open
-f3 g t (CommandCycle c) a = no_exception (is_opener c) (is_open t) (is_reset c) ∙ ap (λ (b : Bool). is_opener c && b) (open_same t a)
+f3 g t (CommandCycle c) a = no_exception (is_opener c) (is_open t) (is_reset c || works_on_row t c) ∙ ap (λ (b : Bool). is_opener c && b) (open_same t a)
 f3 g t (AddressCycle byte) a = refl
 f3 g t (InputCycle byte) a = refl
 f3 g t OutputCycle a = refl
@@ -162,24 +163,36 @@ f9 g t luns (AddressCycle byte) = ap (λ (b : Bool). ends_row addresses_the_arra
 f9 g t luns (InputCycle byte) = refl
 f9 g t luns OutputCycle = refl
 
+f15 : (g : Parts) (t : TailFacts) (luns : List LunView) (k : TargetCycle) → breaks_sequence_open (in_base g) t k ≡ false → breaks_cache_read_misplaced (in_base g) t luns k ≡ base_cache_read_misplaced (in_base g) t luns k
+unfolding breaks_cache_read_misplaced
+f15 g t luns (CommandCycle ReadCacheSequential) h = ap (λ (w : Bool). cond w (not (named_lun_is (in_base g) (row t) (λ v. is_page_read v.closer) luns)) (not (driver_is (continues_cache (in_base g)) luns))) (unwanted (in_base g) t refl h)
+f15 g t luns (CommandCycle c) h = refl
+f15 g t luns (AddressCycle byte) h = ap (λ (b : Bool). b && named_lun_is (in_base g) (row_with t byte) caching luns) (excluded_same g t)
+f15 g t luns (InputCycle byte) h = refl
+f15 g t luns OutputCycle h = refl
+
 -- 3. all of them
 
 cycle_same : (g : Parts) (t : TailFacts) (luns : List LunView) (k : TargetCycle) → AreOfBase t → judge_cycle (in_base g) t luns k ≡ base_judge_cycle (in_base g) t luns k
-cycle_same g t luns k a = λ i.
-    cond (f2 g k i) (Some CommandUnknown)
-    (cond (f3 g t k a i) (Some SequenceOpen)
-    (cond (f4 g luns k i) (Some SeveralLuns)
-    (cond (breaks_no_column_to_change luns k) (Some NoColumnToChange)
-    (cond (f6 t k i) (Some CommandMisplaced)
-    (cond (f7 g t k a i) (Some AddressMisplaced)
-    (cond (breaks_row_outside (in_base g) t k) (Some RowOutside)
-    (cond (f9 g t luns k i) (Some LunBusy)
-    (cond (breaks_queue_clash (in_base g) t luns k) (Some QueueClash)
-    (cond (f11 t k a i) (Some InputMisplaced)
-    (cond (f12 t luns k a i) (Some NoSoleDriver)
-    (cond (breaks_data_not_ready luns k) (Some DataNotReady)
-    (cond (f14 g t luns k a i) (Some ColumnOutside)
-    (cond (breaks_cache_read_misplaced (in_base g) t luns k) (Some CacheReadMisplaced) None)))))))))))))
+cycle_same g t luns k a = at (breaks_sequence_open (in_base g) t k) refl
+  where
+    at : (b : Bool) → breaks_sequence_open (in_base g) t k ≡ b → judge_cycle (in_base g) t luns k ≡ base_judge_cycle (in_base g) t luns k
+    at true e = rw (f2 g k, e, sym (f3 g t k a) ∙ e) refl
+    at false e = λ i.
+        cond (f2 g k i) (Some CommandUnknown)
+        (cond (f3 g t k a i) (Some SequenceOpen)
+        (cond (f4 g luns k i) (Some SeveralLuns)
+        (cond (breaks_no_column_to_change luns k) (Some NoColumnToChange)
+        (cond (f6 t k i) (Some CommandMisplaced)
+        (cond (f7 g t k a i) (Some AddressMisplaced)
+        (cond (breaks_row_outside (in_base g) t k) (Some RowOutside)
+        (cond (f9 g t luns k i) (Some LunBusy)
+        (cond (breaks_queue_clash (in_base g) t luns k) (Some QueueClash)
+        (cond (f11 t k a i) (Some InputMisplaced)
+        (cond (f12 t luns k a i) (Some NoSoleDriver)
+        (cond (breaks_data_not_ready luns k) (Some DataNotReady)
+        (cond (f14 g t luns k a i) (Some ColumnOutside)
+        (cond (f15 g t luns k e i) (Some CacheReadMisplaced) None)))))))))))))
 
 item_same : (g : Parts) (t : TailFacts) (luns : List LunView) (i : Item) → AreOfBase t → judge_item (in_base g) t luns i ≡ base_judge_item (in_base g) t luns i
 item_same g t luns (Cyc c) a = cycle_same g t luns (target_cycle c.kind c.byte) a

@@ -14,11 +14,13 @@ use Rattle.onfi_cycle.specs.declared.target_cycle.TargetCycle.{TargetCycle}
 use Rattle.onfi_cycle.specs.declared.target_cycle.TargetCycle.TheVariants.{CommandCycle, AddressCycle, InputCycle, OutputCycle}
 use Rattle.onfi_cycle.specs.Base.{is_of_base}
 use Rattle.onfi_cycle.specs.Command.{is_known, is_page_program, is_set_features}
-use Rattle.onfi_cycle.specs.Sequence.{target_cycle, tail, facts_of, opened, takes_features, wants_column, one_address_more, row_after_address, column_after_address, next_address_place, phase_after_command, phase_after_last_address, phase_after_address, phase_after_input, begins_sequence, extended_facts, facts_after}
-use Rattle.onfi_cycle.specs.Rules.{is_undeclared, breaks_command_unknown}
+use Rattle.onfi_cycle.specs.Sequence.{target_cycle, tail, facts_of, opened, takes_features, wants_column, one_address_more, row_after_address, column_after_address, next_address_place, phase_after_command, phase_after_last_address, phase_after_address, phase_after_input, begins_sequence, begins_anew, extended_facts, facts_after}
+use Rattle.onfi_cycle.specs.Rules.{is_undeclared, breaks_command_unknown, breaks_sequence_open}
+use Rattle.onfi_cycle.specs.Lun.{luns_of}
 use Rattle.onfi_cycle.specs.Permitted.{is_permitted, is_legal}
 use Rattle.onfi_cycle.proofs.Steps.{facts_of_cycle}
-use Rattle.onfi_cycle.proofs.Passed.{permitted_keeps}
+use Rattle.onfi_cycle.proofs.Passed.{KeepsRules, permitted_keeps}
+use Rattle.onfi_profiles.proofs.Unwanted.{anew_same}
 use Rattle.onfi_profiles.specs.Widening.{in_base}
 use Rattle.onfi_profiles.specs.Tails.{base_phase_after_last_address, base_phase_after_address, base_phase_after_input, base_extended_facts, base_facts_after, base_facts, TailsBase}
 use Rattle.onfi_cycle.proofs.Others.{permitted_none}
@@ -163,8 +165,9 @@ extended (InputCycle byte) t a h =
     }
 extended OutputCycle t a h = record { same = refl; base = record { opener = refl; phase = refl; alone = λ e. refl; nothing = λ e. cc } }
 
-step : (k : TargetCycle) (t : TailFacts) → AreOfBase t → is_base_cycle k ≡ true → IsStep (facts_after k t) (base_facts_after k t)
-step k t a h = by (begins_sequence k) t.is_empty
+step : (k : TargetCycle) (t : TailFacts) → AreOfBase t → is_base_cycle k ≡ true → begins_anew t k ≡ begins_sequence k → IsStep (facts_after k t) (base_facts_after k t)
+step k t a h anew =
+    subst (λ (b : Bool). IsStep (cond b (extended_facts k (facts_of [])) (cond t.is_empty t (extended_facts k t))) (base_facts_after k t)) (sym anew) (by (begins_sequence k) t.is_empty)
   where
     by : (b e : Bool) → IsStep (cond b (extended_facts k (facts_of [])) (cond e t (extended_facts k t))) (cond b (base_extended_facts k (facts_of [])) (cond e t (base_extended_facts k t)))
     by true e = extended k (facts_of []) nothing_yet h
@@ -182,12 +185,21 @@ tails g targets (Cyc c ∷ past) ce h = at (c.ce == ce) refl (tails g targets pa
     both : (is_permitted (in_base g) targets past (Cyc c) ≡ true) × (is_legal (in_base g) targets past ≡ true)
     both = and_parts (is_permitted (in_base g) targets past (Cyc c)) (is_legal (in_base g) targets past) h
 
+    keeps : KeepsRules (in_base g) (facts_of (tail past c.ce)) (luns_of (in_base g) past c.ce) (target_cycle c.kind c.byte)
+    keeps = permitted_keeps (in_base g) targets past c (permitted_none (in_base g) targets past (Cyc c) both.0)
+
     of_base : is_base_cycle (target_cycle c.kind c.byte) ≡ true
-    of_base = base_cycle g (target_cycle c.kind c.byte) (permitted_keeps (in_base g) targets past c (permitted_none (in_base g) targets past (Cyc c) both.0)).f2
+    of_base = base_cycle g (target_cycle c.kind c.byte) keeps.f2
+
+    closed : c.ce ≡ ce → facts_of (tail past ce) ≡ base_facts past ce → breaks_sequence_open (in_base g) (base_facts past ce) (target_cycle c.kind c.byte) ≡ false
+    closed here same =
+        ap (λ (t : TailFacts). breaks_sequence_open (in_base g) t (target_cycle c.kind c.byte)) (sym same)
+        ∙ subst (λ (x : ℕ). breaks_sequence_open (in_base g) (facts_of (tail past x)) (target_cycle c.kind c.byte) ≡ false) here keeps.f3
 
     at : (b : Bool) → (c.ce == ce) ≡ b → IsStep (facts_of (tail past ce)) (base_facts past ce) → IsStep (facts_of (tail (Cyc c ∷ past) ce)) (base_facts (Cyc c ∷ past) ce)
     at true e before =
-        let next = step (target_cycle c.kind c.byte) (base_facts past ce) before.base of_base in
+        let anew = anew_same g (base_facts past ce) (target_cycle c.kind c.byte) (closed (eqb-true c.ce ce e) before.same) in
+        let next = step (target_cycle c.kind c.byte) (base_facts past ce) before.base of_base anew in
         record {
           same = facts_of_cycle c past ce (eqb-true c.ce ce e) ∙ (ap (facts_after (target_cycle c.kind c.byte)) before.same ∙ (next.same ∙ ap (λ (b : Bool). cond b (base_facts_after (target_cycle c.kind c.byte) (base_facts past ce)) (base_facts past ce)) (sym e)));
           base = subst (λ (b : Bool). AreOfBase (cond b (base_facts_after (target_cycle c.kind c.byte) (base_facts past ce)) (base_facts past ce))) (sym e) next.base;

@@ -4,7 +4,7 @@ use Rattle.std.proofs.lemmas.Bool.{not-false, and_parts}
 use Rattle.nand_geometry.specs.declared.parts.Parts.{Parts}
 use Rattle.nand_geometry.specs.Row.{parts_of, is_inside, row_of}
 use Rattle.onfi_cycle.specs.declared.command.Command.{Command}
-use Rattle.onfi_cycle.specs.declared.command.Command.TheVariants.{Read, ReadConfirm, ChangeReadColumn}
+use Rattle.onfi_cycle.specs.declared.command.Command.TheVariants.{Read, ReadConfirm, ChangeReadColumn, ReadCacheSequential}
 use Rattle.onfi_cycle.specs.declared.effect.Effect.{Effect}
 use Rattle.onfi_cycle.specs.declared.effect.Effect.TheVariants.{Unaffected, BecameReady, ArrayBecameReady}
 use Rattle.onfi_cycle.specs.declared.item.Cycle.{Cycle}
@@ -19,13 +19,18 @@ use Rattle.onfi_cycle.specs.LunView.{LunView}
 use Rattle.onfi_cycle.specs.Command.{address_cycles, closes, at_last_row, is_change_read_column}
 use Rattle.onfi_cycle.specs.Sequence.{one_address_more, opened, opening, tail, target_cycle, with_cycle, facts_of, row, row_with, row_bytes, row_after_address, wants_command}
 use Rattle.onfi_cycle.specs.Effect.{cycle_effect, address_effect, opening_address_effect, names_lun}
-use Rattle.onfi_cycle.specs.Lun.{latch, latch_after, is_selected, is_busy, is_array_busy, drivers, drivers_from, effect_among, luns_of}
-use Rattle.onfi_cycle.specs.Rules.{driver, driver_is, is_some_and, may_change_column, breaks_no_column_to_change, breaks_row_outside}
+use Rattle.onfi_cycle.specs.Lun.{latch, latch_after, is_selected, is_busy, is_array_busy, drivers, drivers_from, effect_among, luns_of, closer, closer_after, is_cache_read, latch_alone}
+use Rattle.onfi_cycle.specs.Rules.{driver, driver_is, is_some_and, may_change_column, breaks_no_column_to_change, breaks_row_outside, ends_row, excludes_cache, caching, named_lun_is, breaks_cache_read_misplaced, breaks_command_misplaced}
 use Rattle.onfi_cycle.specs.Permitted.{broken, is_permitted, is_legal}
 use Rattle.onfi_cycle.proofs.Latches.{IsOne, one_by_views}
 use Rattle.onfi_cycle.proofs.Others.{permitted_none}
 use Rattle.onfi_cycle.proofs.Passed.{permitted_keeps}
 use Rattle.onfi_cycle.proofs.RowBounds.{next_is}
+use Rattle.std.specs.List.{slice_get}
+use Rattle.nand_geometry.specs.Optional.{is_wide}
+use Rattle.onfi_cycle.specs.declared.tail_facts.TailFacts.{TailFacts}
+use Rattle.onfi_cycle.proofs.Keeping.{view_at}
+use Rattle.onfi_cycle.proofs.Booleans.{and_rest as rest_false}
 
 abbrev pub lun_at : ℕ → ℕ → Lun
 lun_at ce m = record { ce = ce; lun = m }
@@ -65,6 +70,11 @@ record Leads (g : Parts) (k : TargetCycle) (t : List TargetCycle) : Type 0 where
 
 leads : (g : Parts) (k : TargetCycle) (t : List TargetCycle) → in_column (opening (with_cycle k t)) ≡ true → Leads g k t
 leads g (CommandCycle ChangeReadColumn) t h = record { rests = λ m la. neither (wants_command (facts_of t) ChangeReadColumn && names_lun g (row (facts_of t)) m); begun = inl refl }
+leads g (CommandCycle ReadCacheSequential) (d ∷ t) h = at (wants_command (facts_of (d ∷ t)) ReadCacheSequential) h
+  where
+    at : (w : Bool) → in_column (opening (cond (not w) (CommandCycle ReadCacheSequential ∷ []) (CommandCycle ReadCacheSequential ∷ (d ∷ t)))) ≡ true → Leads g (CommandCycle ReadCacheSequential) (d ∷ t)
+    at true h = cc
+    at false h = cc
 leads g (CommandCycle c) [] h = cc
 leads g (CommandCycle c) (d ∷ t) h = cc
 leads g (AddressCycle byte) [] h = cc
@@ -151,6 +161,11 @@ and_rest false b e h = cc
 no_read : (c : Command) (t : List TargetCycle) → whole_read (opening (with_cycle (CommandCycle c) t)) ≡ true → false ≡ true
 no_read Read [] h = h
 no_read Read (d ∷ t) h = h
+no_read ReadCacheSequential (d ∷ t) h = at (wants_command (facts_of (d ∷ t)) ReadCacheSequential) h
+  where
+    at : (w : Bool) → whole_read (opening (cond (not w) (CommandCycle ReadCacheSequential ∷ []) (CommandCycle ReadCacheSequential ∷ (d ∷ t)))) ≡ true → false ≡ true
+    at true h = h
+    at false h = h
 no_read c [] h = h
 no_read c (d ∷ t) h = h
 
@@ -187,3 +202,78 @@ read_inside g targets (Cyc c ∷ past) ce legal h =
     at : broken g targets past (Cyc c) ≡ None → (whole_read (opening (tail past ce)) ≡ true → named false < g.luns) → (b : Bool) → (c.ce == ce) ≡ b → whole_read (opening (cond b (with_cycle (target_cycle c.kind c.byte) (tail past ce)) (tail past ce))) ≡ true → named (c.ce == ce) < g.luns
     at permitted ih true e h = subst (λ (b : Bool). named b < g.luns) (sym e) (read_by g targets past c ce permitted (eqb-true c.ce ce e) h)
     at permitted ih false e h = subst (λ (b : Bool). named b < g.luns) (sym e) (ih h)
+
+-- 3. in the base profile a whole read names a LUN that does no cache read
+
+same_closer : (b : Bool) (e : Effect) (c : Option Command) → closer_after e c ≡ c → closer_after (cond b e Unaffected) c ≡ c
+same_closer true e c h = h
+same_closer false e c h = refl
+
+read_rests : (g : Parts) (t : TailFacts) (byte : ℕ) (c : Command) (n m : ℕ) → (closes c ReadConfirm && n + 1 == address_cycles c) ≡ true → address_effect g t byte c n m ≡ Unaffected
+read_rests g t byte Read n m h = refl
+read_rests g t byte c n m h = cc
+
+last_excludes : (g : Parts) → is_wide g.optional ≡ false → (c : Command) (n : ℕ) → (closes c ReadConfirm && n + 1 == address_cycles c) ≡ true → (excludes_cache g c && at_last_row c n) ≡ true
+last_excludes g narrow Read n h = let four : n ≡ 4 = next_is n 4 h in rw (narrow, four) refl
+last_excludes g narrow c n h = cc
+
+uncached_by : (g : Parts) (targets : ℕ) (past : List Item) (c : Cycle) (ce n : ℕ) (la : Latch) → is_wide g.optional ≡ false → broken g targets past (Cyc c) ≡ None → c.ce ≡ ce → n < g.luns → whole_read (opening (with_cycle (target_cycle c.kind c.byte) (tail past ce))) ≡ true
+    → n ≡ (parts_of g (row (facts_of (with_cycle (target_cycle c.kind c.byte) (tail past ce))))).lun
+    → is_cache_read (closer_after (cycle_effect g (facts_of (tail past ce)) la (target_cycle c.kind c.byte) n) (closer g past (lun_at ce n))) ≡ false
+unfolding breaks_cache_read_misplaced
+uncached_by g targets past c ce n la narrow h here low whole named =
+    at (target_cycle c.kind c.byte) (tail past ce) (subst (λ (x : ℕ). breaks_cache_read_misplaced g (facts_of (tail past x)) (luns_of g past x) (target_cycle c.kind c.byte) ≡ false) here (permitted_keeps g targets past c h).f15) whole named
+  where
+    before : (r : ℕ) → n ≡ (parts_of g r).lun → named_lun_is g r caching (luns_of g past ce) ≡ false → is_cache_read (closer g past (lun_at ce n)) ≡ false
+    before r is free =
+        sym (ap (is_some_and caching) (view_at g past (lun_at ce n) low)) ∙ (ap (λ (m : ℕ). is_some_and caching (slice_get (luns_of g past ce) m)) is ∙ free)
+
+    ends : (byte : ℕ) (t : List TargetCycle) (o : Option Opening) → opening t ≡ o → (ends_row (excludes_cache g) (facts_of t) && named_lun_is g (row_with (facts_of t) byte) caching (luns_of g past ce)) ≡ false → whole_read (one_address_more o) ≡ true
+        → n ≡ (parts_of g (row_of (row_after_address o byte (row_bytes t)).r1 (row_after_address o byte (row_bytes t)).r2 (row_after_address o byte (row_bytes t)).r3)).lun
+        → is_cache_read (closer_after (opening_address_effect g (facts_of t) byte (opening t) n) (closer g past (lun_at ce n))) ≡ false
+    ends byte t None e f15 whole named = cc
+    ends byte t (Some o) e f15 whole named =
+        let rests : opening_address_effect g (facts_of t) byte (opening t) n ≡ Unaffected = ap (λ (x : Option Opening). opening_address_effect g (facts_of t) byte x n) e ∙ read_rests g (facts_of t) byte o.opener o.addresses n whole in
+        let last : ends_row (excludes_cache g) (facts_of t) ≡ true = ap (opened (λ c n. excludes_cache g c && at_last_row c n)) e ∙ last_excludes g narrow o.opener o.addresses whole in
+        ap (λ (x : Effect). is_cache_read (closer_after x (closer g past (lun_at ce n)))) rests ∙ before (row_with (facts_of t) byte) named (rest_false (ends_row (excludes_cache g) (facts_of t)) _ last f15)
+
+    at : (k : TargetCycle) (t : List TargetCycle) → breaks_cache_read_misplaced g (facts_of t) (luns_of g past ce) k ≡ false → whole_read (opening (with_cycle k t)) ≡ true → n ≡ (parts_of g (row (facts_of (with_cycle k t)))).lun
+        → is_cache_read (closer_after (cycle_effect g (facts_of t) la k n) (closer g past (lun_at ce n))) ≡ false
+    at (CommandCycle c) t f15 whole named = let no = no_read c t whole in cc
+    at (AddressCycle byte) [] f15 whole named = cc
+    at (AddressCycle byte) (d ∷ t) f15 whole named = ends byte (d ∷ t) (opening (d ∷ t)) refl f15 whole named
+    at (InputCycle byte) [] f15 whole named = cc
+    at (InputCycle byte) (d ∷ t) f15 whole named = cc
+    at OutputCycle [] f15 whole named = cc
+    at OutputCycle (d ∷ t) f15 whole named = cc
+
+read_uncached : (g : Parts) (targets : ℕ) (past : List Item) (ce : ℕ) → is_wide g.optional ≡ false → is_legal g targets past ≡ true → whole_read (opening (tail past ce)) ≡ true → is_cache_read (closer g past (lun_at ce (parts_of g (row (facts_of (tail past ce)))).lun)) ≡ false
+unfolding effect_among
+read_uncached g targets [] ce narrow legal h = cc
+read_uncached g targets (Rdy a b f ∷ past) ce narrow legal h =
+    let n = (parts_of g (row (facts_of (tail past ce)))).lun in
+    ap is_cache_read (same_closer (a == ce && b == n) (BecameReady f) (closer g past (lun_at ce n)) refl) ∙ read_uncached g targets past ce narrow (both_legal g targets past (Rdy a b f) legal).1 h
+read_uncached g targets (Ard a b ∷ past) ce narrow legal h =
+    let n = (parts_of g (row (facts_of (tail past ce)))).lun in
+    ap is_cache_read (same_closer (a == ce && b == n) ArrayBecameReady (closer g past (lun_at ce n)) refl) ∙ read_uncached g targets past ce narrow (both_legal g targets past (Ard a b) legal).1 h
+read_uncached g targets (Cyc c ∷ past) ce narrow legal h =
+    let parts = both_legal g targets past (Cyc c) legal in
+    at parts.0 (read_uncached g targets past ce narrow parts.1) (c.ce == ce) refl h (read_inside g targets (Cyc c ∷ past) ce legal h)
+  where
+    named : Bool → ℕ
+    named b = (parts_of g (row (facts_of (cond b (with_cycle (target_cycle c.kind c.byte) (tail past ce)) (tail past ce))))).lun
+
+    at : broken g targets past (Cyc c) ≡ None → (whole_read (opening (tail past ce)) ≡ true → is_cache_read (closer g past (lun_at ce (named false))) ≡ false) → (b : Bool) → (c.ce == ce) ≡ b → whole_read (opening (cond b (with_cycle (target_cycle c.kind c.byte) (tail past ce)) (tail past ce))) ≡ true → named b < g.luns
+        → is_cache_read (closer_after (cond b (cycle_effect g (facts_of (tail past ce)) (latch_alone g past (lun_at ce (named b))) (target_cycle c.kind c.byte) (named b)) Unaffected) (closer g past (lun_at ce (named b)))) ≡ false
+    at permitted ih true e h low = uncached_by g targets past c ce (named true) (latch_alone g past (lun_at ce (named true))) narrow permitted (eqb-true c.ce ce e) low h refl
+    at permitted ih false e h low = ih h
+
+-- the LUN that a permitted 30 of the base profile names
+pub confirm_uncached : (g : Parts) (targets : ℕ) (past : List Item) (c : Cycle) → is_wide g.optional ≡ false → is_legal g targets past ≡ true → broken g targets past (Cyc c) ≡ None → target_cycle c.kind c.byte ≡ CommandCycle ReadConfirm
+    → named_lun_is g (row (facts_of (tail past c.ce))) caching (luns_of g past c.ce) ≡ false
+unfolding breaks_command_misplaced
+confirm_uncached g targets past c narrow legal h is =
+    let f6 : not (whole_read (opening (tail past c.ce))) ≡ false = subst (λ (k : TargetCycle). breaks_command_misplaced (facts_of (tail past c.ce)) k ≡ false) is (permitted_keeps g targets past c h).f6 in
+    let whole = not-false (whole_read (opening (tail past c.ce))) f6 in
+    let n = (parts_of g (row (facts_of (tail past c.ce)))).lun in
+    ap (is_some_and caching) (view_at g past (lun_at c.ce n) (read_inside g targets past c.ce legal whole)) ∙ read_uncached g targets past c.ce narrow legal whole

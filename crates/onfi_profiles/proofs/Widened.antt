@@ -9,7 +9,7 @@ use Rattle.nand_geometry.specs.Optional.{is_wide}
 use Rattle.nand_geometry.specs.Limits.{page_len}
 use Rattle.nand_geometry.specs.Row.{parts_of}
 use Rattle.onfi_cycle.specs.declared.command.Command.{Command}
-use Rattle.onfi_cycle.specs.declared.command.Command.TheVariants.{Read, ChangeReadColumn, ReadStatus, ReadId, ReadParameterPage, BlockErase, PageProgram, ReadStatusEnhanced, BlockErasePlane, ProgramPlane, ReadCacheSequential, ReadCacheEnd, ReadUniqueId, GetFeatures, SetFeatures, ResetLun, SynchronousReset}
+use Rattle.onfi_cycle.specs.declared.command.Command.TheVariants.{Read, ChangeReadColumn, ReadStatus, ReadId, ReadParameterPage, BlockErase, PageProgram, ReadStatusEnhanced, BlockErasePlane, ProgramPlane, ReadCacheSequential, ReadCacheEnd, ReadUniqueId, GetFeatures, SetFeatures, ResetLun, SynchronousReset, ReadConfirm}
 use Rattle.onfi_cycle.specs.declared.item.Item.{Item}
 use Rattle.onfi_cycle.specs.declared.item.Item.TheVariants.{Cyc, Rdy, Ard}
 use Rattle.onfi_cycle.specs.declared.lun.Lun.{Lun}
@@ -28,21 +28,22 @@ use Rattle.onfi_cycle.specs.declared.target_cycle.TargetCycle.{TargetCycle}
 use Rattle.onfi_cycle.specs.declared.target_cycle.TargetCycle.TheVariants.{CommandCycle, AddressCycle, InputCycle, OutputCycle}
 use Rattle.onfi_cycle.specs.LunView.{LunView}
 use Rattle.onfi_cycle.specs.Command.{is_known, is_opener, is_read_id, is_reset, at_last_row, is_change_read_column, addresses_the_array, reads_identity, wants_ready, wants_one_lun}
-use Rattle.onfi_cycle.specs.Sequence.{opened, opening, filled, tail, facts_of, target_of, target_cycle, is_open, wants_address, row_with, column_with}
+use Rattle.onfi_cycle.specs.Sequence.{opened, opening, filled, tail, facts_of, target_of, target_cycle, is_open, wants_address, row_with, column_with, works_on_row, wants_command, row}
 use Rattle.onfi_cycle.specs.Effect.{is_off, is_data, is_shared, page_address}
-use Rattle.onfi_cycle.specs.Lun.{output_column, effect_on, drivers, drivers_from, is_only, closer, is_target_work, is_busy, lun_view, views_from, luns_of}
+use Rattle.onfi_cycle.specs.Lun.{output_column, effect_on, drivers, drivers_from, is_only, closer, is_target_work, is_busy, lun_view, views_from, luns_of, is_page_read}
 use Rattle.onfi_cycle.specs.Content.{ArrayWork, queued_work_after, queued_work, pending_work_after, pending_work, content_after, content, failed_after, has_failed, register_bytes, byte_at, shown_by, shown}
-use Rattle.onfi_cycle.specs.Rules.{has_some, driving, only, is_some_and, lun_is, ends_row, works_for_target, is_unclear, may_change_column, has_no_byte, caching, continues_cache, ends_cache, driver_is, named_lun_is, register_len, is_past, is_past_register, queued_clashes, some_queued_clashes, refused_by, is_refused_by, is_undeclared, second_of_page, second_column, breaks_not_there, breaks_command_unknown, breaks_sequence_open, breaks_several_luns, breaks_no_column_to_change, breaks_address_misplaced, breaks_row_outside, breaks_lun_busy, breaks_queue_clash, breaks_no_sole_driver, breaks_data_not_ready, breaks_column_outside, breaks_cache_read_misplaced}
+use Rattle.onfi_cycle.specs.Rules.{has_some, driving, only, is_some_and, lun_is, ends_row, works_for_target, is_unclear, may_change_column, has_no_byte, caching, continues_cache, ends_cache, driver_is, named_lun_is, register_len, is_past, is_past_register, queued_clashes, some_queued_clashes, refused_by, is_refused_by, is_undeclared, second_of_page, second_column, breaks_not_there, breaks_command_unknown, breaks_sequence_open, breaks_several_luns, breaks_no_column_to_change, breaks_address_misplaced, breaks_row_outside, breaks_lun_busy, breaks_queue_clash, breaks_no_sole_driver, breaks_data_not_ready, breaks_column_outside, breaks_cache_read_misplaced, excludes_cache}
 use Rattle.onfi_cycle.specs.Permitted.{judge_cycle, judge_item, judge, broken, is_permitted, is_legal}
-use Rattle.onfi_cycle.proofs.Others.{first_passed}
+use Rattle.onfi_cycle.proofs.Others.{first_passed, chosen_else}
 use Rattle.onfi_cycle.proofs.Passed.{KeepsRules, keeps_rules, permitted_keeps}
 use Rattle.onfi_cycle.proofs.Booleans.{by_case}
 use Rattle.onfi_cycle.proofs.Latches.{IsOne}
 use Rattle.onfi_profiles.specs.Widening.{in_base, Widens}
 use Rattle.onfi_profiles.proofs.Same.{view_same, effect_same, luns_same}
 use Rattle.onfi_profiles.proofs.Shared.{Like, equal, passes, is_passed, core, one_lun_cycle}
-use Rattle.onfi_profiles.proofs.Pasts.{lun_at, both_legal, in_column, driver_one, column_driver}
+use Rattle.onfi_profiles.proofs.Pasts.{lun_at, both_legal, in_column, driver_one, column_driver, confirm_uncached}
 use Rattle.onfi_profiles.proofs.Alike.{AreAlike, plain, same_latches, same_drivers, are_alike, effects_like}
+use Rattle.onfi_profiles.proofs.Unwanted.{unwanted, excluded_same, excluded_less}
 
 -- 1. rules that hang on the set
 
@@ -75,7 +76,7 @@ wider_open true true false w h = cc
 
 open_too : (g : Parts) (t : TailFacts) (k : TargetCycle) → breaks_sequence_open (in_base g) t k ≡ false → breaks_sequence_open g t k ≡ false
 unfolding breaks_sequence_open
-open_too g t (CommandCycle c) h = wider_open (is_opener c) (is_open t) (is_reset c) (is_wide g.optional) h
+open_too g t (CommandCycle c) h = wider_open (is_opener c) (is_open t) (is_reset c || works_on_row t c) (is_wide g.optional) h
 open_too g t (AddressCycle byte) h = refl
 open_too g t (InputCycle byte) h = refl
 open_too g t OutputCycle h = refl
@@ -157,22 +158,28 @@ column_same_too g t luns (AddressCycle byte) = λ i.
 column_same_too g t luns (InputCycle byte) = refl
 column_same_too g t luns OutputCycle = λ i. driver_is (λ v. is_data v.latch && is_past (output_column v.column) (len_same g v.register i)) luns
 
-cache_same : (g : Parts) (t : TailFacts) (luns : List LunView) (k : TargetCycle) → breaks_cache_read_misplaced (in_base g) t luns k ≡ breaks_cache_read_misplaced g t luns k
+-- a 30 names a LUN that does no cache read
+abbrev NamesUncached : Parts → TailFacts → List LunView → TargetCycle → Type 0
+NamesUncached g t luns k = k ≡ CommandCycle ReadConfirm → named_lun_is g (row t) caching luns ≡ false
+
+cache_wider : (g : Parts) (t : TailFacts) (luns : List LunView) (k : TargetCycle) → NamesUncached g t luns k → breaks_cache_read_misplaced (in_base g) t luns k ≡ false → breaks_cache_read_misplaced g t luns k ≡ false
 unfolding breaks_cache_read_misplaced
-cache_same g t luns (CommandCycle ReadCacheSequential) = refl
-cache_same g t luns (CommandCycle ReadCacheEnd) = refl
-cache_same g t luns (CommandCycle c) = refl
-cache_same g t luns (AddressCycle byte) = refl
-cache_same g t luns (InputCycle byte) = refl
-cache_same g t luns OutputCycle = refl
+cache_wider g t luns (CommandCycle ReadCacheSequential) free h = h
+cache_wider g t luns (CommandCycle ReadConfirm) free h = ap (λ (b : Bool). is_wide g.optional && b) (free refl) ∙ and-false (is_wide g.optional)
+cache_wider g t luns (CommandCycle ReadCacheEnd) free h = h
+cache_wider g t luns (CommandCycle c) free h = h
+cache_wider g t luns (AddressCycle byte) free h =
+    excluded_less g t (named_lun_is g (row_with t byte) caching luns) (ap (λ (b : Bool). b && named_lun_is g (row_with t byte) caching luns) (sym (excluded_same g t)) ∙ h)
+cache_wider g t luns (InputCycle byte) free h = refl
+cache_wider g t luns OutputCycle free h = refl
 
 -- 3. all of them
 
 kept : (g : Parts) (t : TailFacts) (luns : List LunView) (k : TargetCycle) → KeepsRules g t luns k → judge_cycle g t luns k ≡ None
 kept g t luns k r = rw (r.f2, r.f3, r.f4, r.f5, r.f6, r.f7, r.f8, r.f9, r.f10, r.f11, r.f12, r.f13, r.f14, r.f15) refl
 
-wider : (g : Parts) → is_shared g ≡ false → (t : TailFacts) (luns : List LunView) (k : TargetCycle) → judge_cycle (in_base g) t luns k ≡ None → judge_cycle g t luns k ≡ None
-wider g narrow t luns k h =
+wider : (g : Parts) → is_shared g ≡ false → (t : TailFacts) (luns : List LunView) (k : TargetCycle) → NamesUncached g t luns k → judge_cycle (in_base g) t luns k ≡ None → judge_cycle g t luns k ≡ None
+wider g narrow t luns k free h =
     let r = keeps_rules (in_base g) t luns k h in
     kept g t luns k
     (record {
@@ -189,7 +196,7 @@ wider g narrow t luns k h =
       f12 = r.f12;
       f13 = r.f13;
       f14 = sym (column_same_too g t luns k) ∙ r.f14;
-      f15 = sym (cache_same g t luns k) ∙ r.f15;
+      f15 = cache_wider g t luns k free r.f15;
     })
 
 -- 4. on a target with several LUNs
@@ -247,6 +254,8 @@ record BothSee (g : Parts) (t : TailFacts) (k : TargetCycle) (bs ws : List LunVi
   cores : map core bs ≡ map core ws
   calm : list_any works_for_target bs ≡ false
   shown : looks t k ≡ true → map shown_facts bs ≡ map shown_facts ws
+  alone : k ≡ CommandCycle ReadCacheSequential → wants_command t ReadCacheSequential ≡ false
+  free : NamesUncached g t bs k
 
 identity_is_of_one : (c : Command) → wants_one_lun c ≡ false → reads_identity c ≡ false
 identity_is_of_one ReadId h = cc
@@ -345,10 +354,15 @@ column_too g t bs ws OutputCycle s h = driver_by (is_past_register g) (λ v. ref
 
 cache_too : (g : Parts) (t : TailFacts) (bs ws : List LunView) (k : TargetCycle) → BothSee g t k bs ws → breaks_cache_read_misplaced g t bs k ≡ false → breaks_cache_read_misplaced g t ws k ≡ false
 unfolding breaks_cache_read_misplaced
-cache_too g t bs ws (CommandCycle ReadCacheSequential) s h = ap not (driver_by (continues_cache g) (λ v. refl) bs ws (s.shown refl)) ∙ h
+cache_too g t bs ws (CommandCycle ReadCacheSequential) s h =
+    let unless : not (driver_is (continues_cache g) bs) ≡ false = chosen_else (wants_command t ReadCacheSequential) _ _ h (s.alone refl) in
+    ap (λ (w : Bool). cond w (not (named_lun_is g (row t) (λ v. is_page_read v.closer) ws)) (not (driver_is (continues_cache g) ws))) (s.alone refl)
+    ∙ (ap not (driver_by (continues_cache g) (λ v. refl) bs ws (s.shown refl)) ∙ unless)
+cache_too g t bs ws (CommandCycle ReadConfirm) s h =
+    ap (λ (b : Bool). is_wide g.optional && b) (lun_by core caching (λ v. refl) bs ws s.cores (parts_of g (row t)).lun) ∙ h
 cache_too g t bs ws (CommandCycle ReadCacheEnd) s h = ap not (driver_by ends_cache (λ v. refl) bs ws (s.shown refl)) ∙ h
 cache_too g t bs ws (CommandCycle c) s h = none_of (reads_identity c) (list_any caching ws) (identity_is_of_one c s.one)
-cache_too g t bs ws (AddressCycle byte) s h = ap (λ (b : Bool). ends_row addresses_the_array t && b) (lun_by core caching (λ v. refl) bs ws s.cores (parts_of g (row_with t byte)).lun) ∙ h
+cache_too g t bs ws (AddressCycle byte) s h = ap (λ (b : Bool). ends_row (excludes_cache g) t && b) (lun_by core caching (λ v. refl) bs ws s.cores (parts_of g (row_with t byte)).lun) ∙ h
 cache_too g t bs ws (InputCycle byte) s h = refl
 cache_too g t bs ws OutputCycle s h = refl
 
@@ -369,7 +383,7 @@ wider_shared g shared t bs ws k r s =
       f12 = sole_too g t bs ws k s r.f12;
       f13 = ready_too g t bs ws k s r.f13;
       f14 = column_too g t bs ws k s (sym (column_same_too g t bs k) ∙ r.f14);
-      f15 = cache_too g t bs ws k s (sym (cache_same g t bs k) ∙ r.f15);
+      f15 = cache_too g t bs ws k s (cache_wider g t bs k s.free r.f15);
     })
 
 -- the LUNs of a target, from number n on
@@ -405,19 +419,21 @@ all_shown g past ce a one = shown_from g past ce g.luns 0 (λ m low. one_shown m
     one_shown m low = λ i. record (a.rest m low i) { latch = sym (same_latches g past ce a one m low) i }
 
 -- what a permitted cycle looks at is one driver
-one_looked : (g : Parts) (targets : ℕ) (past : List Item) (ce : ℕ) (k : TargetCycle) → is_legal g targets past ≡ true → KeepsRules g (facts_of (tail past ce)) (luns_of g past ce) k → looks (facts_of (tail past ce)) k ≡ true → IsOne (drivers g past ce)
+one_looked : (g : Parts) (targets : ℕ) (past : List Item) (ce : ℕ) (k : TargetCycle) → is_wide g.optional ≡ false → is_legal g targets past ≡ true → KeepsRules g (facts_of (tail past ce)) (luns_of g past ce) k → looks (facts_of (tail past ce)) k ≡ true → IsOne (drivers g past ce)
 unfolding breaks_no_column_to_change breaks_no_sole_driver breaks_cache_read_misplaced
-one_looked g targets past ce (CommandCycle ChangeReadColumn) legal r e = driver_one g past ce may_change_column (not-false _ r.f5)
-one_looked g targets past ce (CommandCycle ReadCacheSequential) legal r e = driver_one g past ce (continues_cache g) (not-false _ r.f15)
-one_looked g targets past ce (CommandCycle ReadCacheEnd) legal r e = driver_one g past ce ends_cache (not-false _ r.f15)
-one_looked g targets past ce (CommandCycle c) legal r e = cc
-one_looked g targets past ce (AddressCycle byte) legal r e = column_driver g targets past ce legal (at (opening (tail past ce)) e)
+one_looked g targets past ce (CommandCycle ChangeReadColumn) narrow legal r e = driver_one g past ce may_change_column (not-false _ r.f5)
+one_looked g targets past ce (CommandCycle ReadCacheSequential) narrow legal r e =
+    let f15 : not (driver_is (continues_cache g) (luns_of g past ce)) ≡ false = chosen_else (wants_command (facts_of (tail past ce)) ReadCacheSequential) _ _ r.f15 (unwanted g (facts_of (tail past ce)) narrow r.f3) in
+    driver_one g past ce (continues_cache g) (not-false _ f15)
+one_looked g targets past ce (CommandCycle ReadCacheEnd) narrow legal r e = driver_one g past ce ends_cache (not-false _ r.f15)
+one_looked g targets past ce (CommandCycle c) narrow legal r e = cc
+one_looked g targets past ce (AddressCycle byte) narrow legal r e = column_driver g targets past ce legal (at (opening (tail past ce)) e)
   where
     at : (o : Option Opening) → opened (λ c n. is_change_read_column c && n == 1) o ≡ true → in_column o ≡ true
     at None e = cc
     at (Some o) e = (and_parts (is_change_read_column o.opener) _ e).0
-one_looked g targets past ce (InputCycle byte) legal r e = cc
-one_looked g targets past ce OutputCycle legal r e = driver_one g past ce (λ v. true) (not-false _ (or_parts (is_open (facts_of (tail past ce))) _ r.f12).1)
+one_looked g targets past ce (InputCycle byte) narrow legal r e = cc
+one_looked g targets past ce OutputCycle narrow legal r e = driver_one g past ce (λ v. true) (not-false _ (or_parts (is_open (facts_of (tail past ce))) _ r.f12).1)
 
 permitted_shared : (g : Parts) → is_shared g ≡ true → (targets : ℕ) (past : List Item) (i : Item) → is_legal (in_base g) targets past ≡ true → broken (in_base g) targets past i ≡ None → broken g targets past i ≡ None
 unfolding breaks_not_there
@@ -432,7 +448,9 @@ permitted_shared g shared targets past (Cyc c) legal h =
       one = (plain g targets past c c.ce shared legal h refl).command;
       cores = all_cores g past c.ce a;
       calm = calm_from (in_base g) past c.ce g.luns 0 (λ m low. a.calm m (omega (arith, low)));
-      shown = λ e. all_shown g past c.ce a (one_looked (in_base g) targets past c.ce k legal r e);
+      shown = λ e. all_shown g past c.ce a (one_looked (in_base g) targets past c.ce k refl legal r e);
+      alone = (plain g targets past c c.ce shared legal h refl).alone;
+      free = confirm_uncached (in_base g) targets past c refl legal h;
     }) in
     rw first.0 judged
 permitted_shared g shared targets past (Rdy ce lun fail) legal h = rw same h
@@ -446,23 +464,34 @@ permitted_shared g shared targets past (Ard ce lun) legal h = rw same h
 
 -- 5. elsewhere
 
-item_wider : (g : Parts) → is_shared g ≡ false → (t : TailFacts) (luns : List LunView) (i : Item) → judge_item (in_base g) t luns i ≡ None → judge_item g t luns i ≡ None
-item_wider g narrow t luns (Cyc c) h = wider g narrow t luns (target_cycle c.kind c.byte) h
-item_wider g narrow t luns (Rdy ce lun fail) h = refl
-item_wider g narrow t luns (Ard ce lun) h = refl
+abbrev ItemUncached : Parts → TailFacts → List LunView → Item → Type 0
+ItemUncached g t luns (Cyc c) = NamesUncached g t luns (target_cycle c.kind c.byte)
+ItemUncached g t luns (Rdy ce lun fail) = Unit {0}
+ItemUncached g t luns (Ard ce lun) = Unit {0}
 
-judged_wider : (g : Parts) → is_shared g ≡ false → (targets : ℕ) (t : TailFacts) (luns : List LunView) (i : Item) → judge (in_base g) targets t luns i ≡ None → judge g targets t luns i ≡ None
-judged_wider g narrow targets t luns i h =
+item_wider : (g : Parts) → is_shared g ≡ false → (t : TailFacts) (luns : List LunView) (i : Item) → ItemUncached g t luns i → judge_item (in_base g) t luns i ≡ None → judge_item g t luns i ≡ None
+item_wider g narrow t luns (Cyc c) free h = wider g narrow t luns (target_cycle c.kind c.byte) free h
+item_wider g narrow t luns (Rdy ce lun fail) free h = refl
+item_wider g narrow t luns (Ard ce lun) free h = refl
+
+judged_wider : (g : Parts) → is_shared g ≡ false → (targets : ℕ) (t : TailFacts) (luns : List LunView) (i : Item) → ItemUncached g t luns i → judge (in_base g) targets t luns i ≡ None → judge g targets t luns i ≡ None
+judged_wider g narrow targets t luns i free h =
     let first = first_passed (breaks_not_there targets luns i) NotThere (judge_item (in_base g) t luns i) h in
-    rw first.0 (item_wider g narrow t luns i first.1)
+    rw first.0 (item_wider g narrow t luns i free first.1)
 
-permitted_narrow : (g : Parts) → is_shared g ≡ false → (targets : ℕ) (past : List Item) (i : Item) → broken (in_base g) targets past i ≡ None → broken g targets past i ≡ None
-permitted_narrow g narrow targets past i h =
-    judged_wider g narrow targets (facts_of (tail past (target_of i))) (luns_of g past (target_of i)) i
+item_uncached : (g : Parts) → is_shared g ≡ false → (targets : ℕ) (past : List Item) (i : Item) → is_legal (in_base g) targets past ≡ true → broken (in_base g) targets past i ≡ None → ItemUncached g (facts_of (tail past (target_of i))) (luns_of g past (target_of i)) i
+item_uncached g narrow targets past (Cyc c) legal h =
+    subst (λ (luns : List LunView). NamesUncached g (facts_of (tail past c.ce)) luns (target_cycle c.kind c.byte)) (luns_same g narrow past c.ce) (confirm_uncached (in_base g) targets past c refl legal h)
+item_uncached g narrow targets past (Rdy ce lun fail) legal h = tt
+item_uncached g narrow targets past (Ard ce lun) legal h = tt
+
+permitted_narrow : (g : Parts) → is_shared g ≡ false → (targets : ℕ) (past : List Item) (i : Item) → is_legal (in_base g) targets past ≡ true → broken (in_base g) targets past i ≡ None → broken g targets past i ≡ None
+permitted_narrow g narrow targets past i legal h =
+    judged_wider g narrow targets (facts_of (tail past (target_of i))) (luns_of g past (target_of i)) i (item_uncached g narrow targets past i legal h)
     (subst (λ (luns : List LunView). judge (in_base g) targets (facts_of (tail past (target_of i))) luns i ≡ None) (luns_same g narrow past (target_of i)) h)
 
 permitted_wider : (g : Parts) (targets : ℕ) (past : List Item) (i : Item) → is_legal (in_base g) targets past ≡ true → broken (in_base g) targets past i ≡ None → broken g targets past i ≡ None
-permitted_wider g targets past i legal h = by_case (is_shared g) (λ shared. permitted_shared g shared targets past i legal h) (λ narrow. permitted_narrow g narrow targets past i h)
+permitted_wider g targets past i legal h = by_case (is_shared g) (λ shared. permitted_shared g shared targets past i legal h) (λ narrow. permitted_narrow g narrow targets past i legal h)
 
 pub none_is : (o : Option Forbidden) → is_none o ≡ true → o ≡ None
 none_is None h = refl

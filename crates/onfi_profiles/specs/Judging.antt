@@ -14,10 +14,10 @@ use Rattle.onfi_cycle.specs.declared.target_cycle.TargetCycle.{TargetCycle}
 use Rattle.onfi_cycle.specs.declared.target_cycle.TargetCycle.TheVariants.{CommandCycle, AddressCycle, InputCycle, OutputCycle}
 use Rattle.onfi_cycle.specs.LunView.{LunView}
 use Rattle.onfi_cycle.specs.Base.{is_of_base}
-use Rattle.onfi_cycle.specs.Command.{is_opener, is_change_read_column, addresses_the_array, wants_ready, wants_one_lun}
+use Rattle.onfi_cycle.specs.Command.{is_opener, is_change_read_column, addresses_the_array, reads_identity, wants_ready, wants_one_lun}
 use Rattle.onfi_cycle.specs.Sequence.{target_of, target_cycle, row_with, column_with, input_column}
 use Rattle.onfi_cycle.specs.Lun.{luns_of}
-use Rattle.onfi_cycle.specs.Rules.{driver_is, is_past_register, register_len, second_of_page, second_column, ends_row, named_lun_is, breaks_not_there, breaks_no_column_to_change, breaks_row_outside, breaks_queue_clash, breaks_data_not_ready, breaks_cache_read_misplaced}
+use Rattle.onfi_cycle.specs.Rules.{driver_is, is_past_register, register_len, second_of_page, second_column, ends_row, named_lun_is, breaks_not_there, breaks_no_column_to_change, breaks_row_outside, breaks_queue_clash, breaks_data_not_ready, caching, continues_cache, ends_cache}
 use Rattle.onfi_cycle.specs.Permitted.{is_legal, broken}
 use Rattle.onfi_profiles.specs.Tails.{base_takes_inputs, base_wants_address, base_wants_command, base_is_open, base_facts}
 use Rattle.onfi_profiles.specs.Widening.{in_base}
@@ -79,6 +79,14 @@ base_column_outside g t luns (InputCycle byte) = nat_le (page_len g) (input_colu
 base_column_outside g t luns OutputCycle = driver_is (is_past_register g) luns
 base_column_outside g t luns (CommandCycle c) = false
 
+-- F15
+abbrev pub base_cache_read_misplaced : Parts → TailFacts → List LunView → TargetCycle → Bool
+base_cache_read_misplaced g t luns (CommandCycle ReadCacheSequential) = not (driver_is (continues_cache g) luns)
+base_cache_read_misplaced g t luns (CommandCycle ReadCacheEnd) = not (driver_is ends_cache luns)
+base_cache_read_misplaced g t luns (CommandCycle c) = reads_identity c && list_any caching luns
+base_cache_read_misplaced g t luns (AddressCycle byte) = ends_row addresses_the_array t && named_lun_is g (row_with t byte) caching luns
+base_cache_read_misplaced g t luns _ = false
+
 abbrev pub base_judge_cycle : Parts → TailFacts → List LunView → TargetCycle → Option Forbidden
 base_judge_cycle g t luns cycle =
     if base_command_unknown g cycle then Some CommandUnknown
@@ -94,7 +102,7 @@ base_judge_cycle g t luns cycle =
     else (if base_no_sole_driver t luns cycle then Some NoSoleDriver
     else (if breaks_data_not_ready luns cycle then Some DataNotReady
     else (if base_column_outside g t luns cycle then Some ColumnOutside
-    else (if breaks_cache_read_misplaced g t luns cycle then Some CacheReadMisplaced
+    else (if base_cache_read_misplaced g t luns cycle then Some CacheReadMisplaced
     else None)))))))))))))
 
 abbrev pub base_judge_item : Parts → TailFacts → List LunView → Item → Option Forbidden

@@ -3,12 +3,11 @@ use Rattle.std.specs.Prelude.{ℕ, if◌then◌else◌, List, replicate, slice_s
 use Rattle.onfi_cycle.specs.declared.tail_facts.TailFacts.{TailFacts}
 use Rattle.onfi_cycle.specs.declared.target_cycle.TargetCycle.{TargetCycle}
 use Rattle.onfi_cycle.specs.declared.target_cycle.TargetCycle.TheVariants.{CommandCycle, AddressCycle, InputCycle, OutputCycle}
-use Rattle.onfi_cycle.specs.Command.{is_opener}
-use Rattle.onfi_cycle.specs.Sequence.{input_column}
+use Rattle.onfi_cycle.specs.Sequence.{begins_anew, input_column}
 
--- what a cycle after a tail makes of the bytes given so far: an opener begins with FF alone, an input puts its byte at its column
+-- what a cycle after a tail makes of the bytes given so far: what begins a tail anew begins with FF alone, an input puts its byte at its column
 abbrev pub filled_after : ℕ → TargetCycle → TailFacts → List ℕ → List ℕ
-filled_after len (CommandCycle c) t bytes = if is_opener c then replicate len 0xff else bytes
+filled_after len (CommandCycle c) t bytes = if begins_anew t (CommandCycle c) then replicate len 0xff else bytes
 filled_after len (AddressCycle byte) t bytes = bytes
 filled_after len (InputCycle byte) t bytes = if t.is_empty then bytes else slice_set bytes (input_column t) byte
 filled_after len OutputCycle t bytes = bytes

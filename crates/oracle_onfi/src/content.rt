@@ -37,7 +37,11 @@ fn filled_after(
     ensures { IfOk result (λ v. v.items ≡ filled_after (page_len geometry.now) cycle tail before.items) }
 {
     match cycle {
-        TargetCycle::CommandCycle(command) if command.is_opener() => erased_page(alloc, geometry),
+        TargetCycle::CommandCycle(command)
+            if command.is_opener() && !tail.works_on_row(command) =>
+        {
+            erased_page(alloc, geometry)
+        }
         TargetCycle::InputCycle(byte) if !tail.is_empty => {
             let mut bytes = before;
             let column = tail.input_column();
@@ -177,7 +181,7 @@ fn pending_work_after(
         | Effect::UniqueIdReadStarted
         | Effect::FeaturesReadStarted { .. }
         | Effect::FeaturesSet { .. }
-        | Effect::CacheReadContinued
+        | Effect::CacheReadContinued { .. }
         | Effect::CacheReadEnded
         | Effect::ResetStarted
         | Effect::TargetResetStarted { .. }

@@ -16,7 +16,7 @@ use Rattle.onfi_cycle.specs.declared.opening.Opening.{Opening}
 use Rattle.onfi_cycle.specs.declared.tail_facts.TailFacts.{TailFacts}
 use Rattle.onfi_cycle.specs.declared.target_cycle.TargetCycle.{TargetCycle}
 use Rattle.onfi_cycle.specs.declared.target_cycle.TargetCycle.TheVariants.{CommandCycle, AddressCycle, InputCycle, OutputCycle}
-use Rattle.onfi_cycle.specs.Command.{closes_row, is_read_confirm}
+use Rattle.onfi_cycle.specs.Command.{closes_row, reads_row}
 use Rattle.onfi_cycle.specs.Effect.{is_off, is_data, is_shared, acts_for_target, of_target, lun_reset_effect, confirm_effect, other_effect, names_lun, id_effect, command_effect, address_effect, opening_address_effect, ends_features, cycle_effect}
 use Rattle.onfi_cycle.specs.Lun.{is_page_read, view_after}
 use Rattle.onfi_cycle.specs.LunView.{LunView}
@@ -80,7 +80,7 @@ confirm_goes g u ProgramPlane s = tt
 confirm_goes g u c s = tt
 
 other_goes : (g : Parts) (u : TailFacts) (c : Command) (s : LunView) → GoesOn (other_effect g u c) s
-other_goes g u c s = goes_either (closes_row c && (wants_command u c && is_shared g)) (AnotherAddressed (is_read_confirm c)) Unaffected s tt tt
+other_goes g u c s = goes_either (closes_row c && (wants_command u c && is_shared g)) (AnotherAddressed (reads_row c)) Unaffected s tt tt
 
 target_goes : (g : Parts) (n : ℕ) (e : Effect) (s : LunView) → GoesOn e s → GoesOn (of_target g n e) s
 target_goes g n e s h = goes_either (acts_for_target g n) e Deselected s h tt

@@ -16,7 +16,7 @@ use Rattle.onfi_cycle.specs.declared.target_cycle.TargetCycle.{TargetCycle}
 use Rattle.onfi_cycle.specs.declared.target_cycle.TargetCycle.TheVariants.{CommandCycle, AddressCycle, InputCycle, OutputCycle}
 use Rattle.onfi_cycle.specs.Bounds.{is_block_erase}
 use Rattle.onfi_cycle.specs.declared.row_bytes.RowBytes.{RowBytes}
-use Rattle.onfi_cycle.specs.Command.{is_opener, closes_row, is_read_confirm, closes, address_cycles, takes_address, is_page_program}
+use Rattle.onfi_cycle.specs.Command.{is_opener, closes_row, reads_row, closes, address_cycles, takes_address, is_page_program}
 use Rattle.onfi_cycle.specs.Effect.{is_off, is_data, is_shared, of_target, other_effect, confirm_effect, names_lun, command_effect, id_effect, address_effect, opening_address_effect, cycle_effect, ends_features}
 use Rattle.onfi_cycle.specs.LunView.{LunView}
 use Rattle.onfi_cycle.specs.Rules.{breaks_command_misplaced, breaks_address_misplaced, is_undeclared_address}
@@ -214,7 +214,7 @@ harmless_or false x y s h k = k
 pub other_plain : (g : Parts) (t : TailFacts) (c : Command) → is_shared g ≡ false → other_effect g t c ≡ Unaffected
 other_plain g t c plain = rw plain (at (closes_row c) (wants_command t c))
   where
-    at : (a b : Bool) → cond (a && (b && false)) (AnotherAddressed (is_read_confirm c)) Unaffected ≡ Unaffected
+    at : (a b : Bool) → cond (a && (b && false)) (AnotherAddressed (reads_row c)) Unaffected ≡ Unaffected
     at true true = refl
     at true false = refl
     at false b = refl

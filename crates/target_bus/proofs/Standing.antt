@@ -32,8 +32,8 @@ use Rattle.onfi_cycle.specs.declared.target_cycle.TargetCycle.{TargetCycle}
 use Rattle.onfi_cycle.specs.declared.target_cycle.TargetCycle.TheVariants.{CommandCycle, AddressCycle, InputCycle, OutputCycle}
 use Rattle.onfi_cycle.specs.LunView.{LunView}
 use Rattle.onfi_cycle.specs.Sequence.{tail, facts_of, target_cycle, takes_data, takes_features, input_column, wants_command, wants_address, row, row_with}
-use Rattle.onfi_cycle.specs.Effect.{is_shared, acts_for_target, of_target, other_effect, lun_reset_effect, is_off, is_data, names_lun, confirm_effect, command_effect, address_effect, opening_address_effect, id_effect, ends_features, cycle_effect}
-use Rattle.onfi_cycle.specs.Command.{closes_row, is_read_confirm}
+use Rattle.onfi_cycle.specs.Effect.{is_shared, acts_for_target, of_target, other_effect, lun_reset_effect, is_off, is_data, names_lun, confirm_effect, command_effect, address_effect, opening_address_effect, id_effect, ends_features, cycle_effect, row_effect, cache_effect}
+use Rattle.onfi_cycle.specs.Command.{closes_row, reads_row}
 use Rattle.onfi_cycle.specs.Filling.{filling, cycle_filling}
 use Rattle.onfi_cycle.specs.Lun.{effect_on, latch_alone, luns_of, lun_view, effect_among}
 use Rattle.onfi_cycle.specs.Rules.{breaks_not_there, breaks_column_outside, lun_is, is_some_and, some_queued_clashes}
@@ -82,8 +82,8 @@ either P true x y h k = h
 either P false x y h k = k
 
 -- the work of a closer of a row on the LUNs that it doesn't name
-either_passed : (P : Effect → Type 0) (g : Parts) (t : TailFacts) (c : Command) → P (e.AnotherAddressed (is_read_confirm c)) → P e.Unaffected → P (other_effect g t c)
-either_passed P g t c h k = either P (closes_row c && (wants_command t c && is_shared g)) (e.AnotherAddressed (is_read_confirm c)) e.Unaffected h k
+either_passed : (P : Effect → Type 0) (g : Parts) (t : TailFacts) (c : Command) → P (e.AnotherAddressed (reads_row c)) → P e.Unaffected → P (other_effect g t c)
+either_passed P g t c h k = either P (closes_row c && (wants_command t c && is_shared g)) (e.AnotherAddressed (reads_row c)) e.Unaffected h k
 
 -- the work of a Reset LUN
 either_reset : (P : Effect → Type 0) (g : Parts) (named : Bool) → P e.ResetStarted → P (e.AnotherAddressed false) → P e.Unaffected → P (lun_reset_effect g named)
@@ -94,6 +94,7 @@ IsNoReady x = is_no_ready x ≡ true
 
 confirm_no_ready : (g : Parts) (t : TailFacts) (c : Command) → IsNoReady (confirm_effect g t c)
 confirm_no_ready g t ReadConfirm = refl
+confirm_no_ready g t ReadCacheSequential = refl
 confirm_no_ready g t BlockEraseConfirm = refl
 confirm_no_ready g t BlockErasePlane = refl
 confirm_no_ready g t ProgramConfirm = refl
@@ -106,7 +107,10 @@ command_no_ready g t la ReadStatus n = either IsNoReady (is_shared g) e.StatusOf
 command_no_ready g t la ReadStatusEnhanced n = refl
 command_no_ready g t la Reset n = either IsNoReady (is_shared g) (e.TargetResetStarted (n == 0)) e.ResetStarted refl refl
 command_no_ready g t la SynchronousReset n = either IsNoReady (is_shared g) (e.TargetResetStarted (n == 0)) e.ResetStarted refl refl
-command_no_ready g t la ReadCacheSequential n = either IsNoReady (is_off la) e.Unaffected e.CacheReadContinued refl refl
+command_no_ready g t la ReadCacheSequential n =
+    either IsNoReady (wants_command t ReadCacheSequential) (row_effect g t ReadCacheSequential n) (cache_effect la)
+    (either IsNoReady (wants_command t ReadCacheSequential && names_lun g (row t) n) (confirm_effect g t ReadCacheSequential) (other_effect g t ReadCacheSequential) (confirm_no_ready g t ReadCacheSequential) (either_passed IsNoReady g t ReadCacheSequential refl refl))
+    (either IsNoReady (is_off la) e.Unaffected (e.CacheReadContinued None) refl refl)
 command_no_ready g t la ReadCacheEnd n = either IsNoReady (is_off la) e.Unaffected e.CacheReadEnded refl refl
 command_no_ready g t la ChangeReadColumnConfirm n = either IsNoReady (wants_command t ChangeReadColumnConfirm && not (is_off la)) (e.ReadColumnChanged t.column) e.Unaffected refl refl
 command_no_ready g t la c n = either IsNoReady (wants_command t c && names_lun g (row t) n) (confirm_effect g t c) (other_effect g t c) (confirm_no_ready g t c) (either_passed IsNoReady g t c refl refl)
@@ -183,7 +187,8 @@ can_begin g v d e.UniqueIdReadStarted s f h = record { row = refl; together = re
 can_begin g v d (e.FeaturesReadStarted address) s f h = record { row = refl; together = refl; ready = is_ready g v d s h; room = small_queue g v d s f; next = small_page g v d s f }
 can_begin g v d (e.FeaturesSet address) s f h = record { row = refl; together = refl; ready = is_ready g v d s h; room = small_queue g v d s f; next = small_page g v d s f }
 can_begin g v d e.ParameterPageReadStarted s f h = record { row = refl; together = refl; ready = is_ready g v d s h; room = small_queue g v d s f; next = small_page g v d s f }
-can_begin g v d e.CacheReadContinued s f h = record { row = refl; together = refl; ready = is_ready g v d s h.1; room = small_queue g v d s f; next = small_page g v d s f }
+can_begin g v d (e.CacheReadContinued None) s f h = record { row = refl; together = refl; ready = is_ready g v d s h.1; room = small_queue g v d s f; next = small_page g v d s f }
+can_begin g v d (e.CacheReadContinued (Some at)) s f h = record { row = refl; together = refl; ready = is_ready g v d s h.1.ready; room = small_queue g v d s f; next = small_page g v d s f }
 can_begin g v d e.CacheReadEnded s f h = record { row = refl; together = refl; ready = is_ready g v d s h; room = small_queue g v d s f; next = small_page g v d s f }
 can_begin g v d e.ResetStarted s f h = record { row = refl; together = refl; ready = refl; room = small_queue g v d s f; next = small_page g v d s f }
 can_begin g v d (e.TargetResetStarted first) s f h = record { row = refl; together = refl; ready = refl; room = small_queue g v d s f; next = small_page g v d s f }
@@ -224,6 +229,7 @@ can_work s past c l d h there facts f = of (filling s.geometry (facts_of (tail p
 -- a cycle that starts no work programs nothing
 confirm_programs : (g : Parts) (t : TailFacts) (c : Command) → starts c ≡ false → is_program (confirm_effect g t c) ≡ false
 confirm_programs g t ReadConfirm h = refl
+confirm_programs g t ReadCacheSequential h = refl
 confirm_programs g t BlockEraseConfirm h = refl
 confirm_programs g t BlockErasePlane h = refl
 confirm_programs g t ProgramConfirm h = cc
@@ -239,7 +245,10 @@ command_programs g t la ReadStatus n h = either IsNoProgram (is_shared g) e.Stat
 command_programs g t la ReadStatusEnhanced n h = refl
 command_programs g t la Reset n h = either IsNoProgram (is_shared g) (e.TargetResetStarted (n == 0)) e.ResetStarted refl refl
 command_programs g t la SynchronousReset n h = either IsNoProgram (is_shared g) (e.TargetResetStarted (n == 0)) e.ResetStarted refl refl
-command_programs g t la ReadCacheSequential n h = either IsNoProgram (is_off la) e.Unaffected e.CacheReadContinued refl refl
+command_programs g t la ReadCacheSequential n h =
+    either IsNoProgram (wants_command t ReadCacheSequential) (row_effect g t ReadCacheSequential n) (cache_effect la)
+    (either IsNoProgram (wants_command t ReadCacheSequential && names_lun g (row t) n) (confirm_effect g t ReadCacheSequential) (other_effect g t ReadCacheSequential) refl (either_passed IsNoProgram g t ReadCacheSequential refl refl))
+    (either IsNoProgram (is_off la) e.Unaffected (e.CacheReadContinued None) refl refl)
 command_programs g t la ReadCacheEnd n h = either IsNoProgram (is_off la) e.Unaffected e.CacheReadEnded refl refl
 command_programs g t la ChangeReadColumnConfirm n h = either IsNoProgram (wants_command t ChangeReadColumnConfirm && not (is_off la)) (e.ReadColumnChanged t.column) e.Unaffected refl refl
 command_programs g t la c n h = either IsNoProgram (wants_command t c && names_lun g (row t) n) (confirm_effect g t c) (other_effect g t c) (confirm_programs g t c h) (either_passed IsNoProgram g t c refl refl)

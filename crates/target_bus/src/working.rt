@@ -46,7 +46,7 @@ fn begins(effect: Effect) -> bool
             | Effect::FeaturesReadStarted { .. }
             | Effect::FeaturesSet { .. }
             | Effect::ParameterPageReadStarted
-            | Effect::CacheReadContinued
+            | Effect::CacheReadContinued { .. }
             | Effect::CacheReadEnded
             | Effect::ResetStarted
             | Effect::TargetResetStarted { .. }

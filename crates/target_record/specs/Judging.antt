@@ -7,7 +7,7 @@ use Rattle.onfi_cycle.specs.declared.tail_facts.TailFacts.{TailFacts}
 use Rattle.onfi_cycle.specs.Command.{addresses_the_array}
 use Rattle.onfi_cycle.specs.Effect.{page_address}
 use Rattle.onfi_cycle.specs.LunView.{LunView}
-use Rattle.onfi_cycle.specs.Rules.{caching, ends_row, is_refused_by}
+use Rattle.onfi_cycle.specs.Rules.{excludes_cache, caching, ends_row, is_refused_by}
 
 -- the first of F9 to F15 that it breaks, whose column is outside or not, and while work of the whole target goes on or not
 abbrev pub named_rule : Parts → TailFacts → ℕ → (outside target_works : Bool) → LunView → Option Forbidden
@@ -15,7 +15,7 @@ named_rule g t row outside target_works v =
     if ends_row addresses_the_array t && (v.busy || target_works) then Some LunBusy
     else (if is_refused_by g t.opening (page_address g row) v.queue then Some QueueClash
     else (if outside then Some ColumnOutside
-    else (if ends_row addresses_the_array t && caching v then Some CacheReadMisplaced
+    else (if ends_row (excludes_cache g) t && caching v then Some CacheReadMisplaced
     else None)))
 
 -- the same where the row names none of them

@@ -3,16 +3,17 @@ ghost use Rattle.std.specs.Prelude.{◌≡◌, ℕ, length, List, ◌^◌, ◌<�
 ghost use Rattle.std.specs.List.{All, list_all, list_any};
 ghost use Rattle.std.specs.Option.{option_copied, option_map};
 ghost use Rattle.nand_geometry.specs.Limits.{InLimits};
+ghost use Rattle.onfi_cycle.specs.declared.command.Command.{Command as CommandValue};
 ghost use Rattle.onfi_cycle.specs.declared.item.Item.{Item as ItemValue};
 ghost use Rattle.onfi_cycle.specs.declared.item.Kind.{Kind as KindValue};
 ghost use Rattle.onfi_cycle.specs.declared.tail_facts.TailFacts.{TailFacts as TailValue};
 ghost use Rattle.onfi_cycle.specs.declared.target_cycle.TargetCycle.{TargetCycle};
 ghost use Rattle.onfi_cycle.specs.Effect.{is_off, is_data, is_shared, page_address};
-ghost use Rattle.onfi_cycle.specs.Lun.{output_column};
+ghost use Rattle.onfi_cycle.specs.Lun.{is_page_read, output_column};
 ghost use Rattle.onfi_cycle.specs.LunView.{LunView};
-ghost use Rattle.onfi_cycle.specs.Sequence.{is_open, target_cycle, wants_command};
+ghost use Rattle.onfi_cycle.specs.Sequence.{is_open, target_cycle, wants_command, works_on_row, row};
 ghost use Rattle.onfi_cycle.specs.Permitted.{judge, judge_cycle, judge_known_cycle};
-ghost use Rattle.onfi_cycle.specs.Rules.{are_none, is_undeclared_address, breaks_address_misplaced, breaks_cache_read_misplaced, breaks_column_outside, breaks_command_unknown, breaks_lun_busy, breaks_no_column_to_change, breaks_several_luns, is_unclear, works_for_target, caching, continues_cache, driver, driving, ends_cache, ends_row, has_no_byte, has_some, is_past_register, lun_is, is_refused_by, is_undeclared, may_change_column, planes_clash, queued_clashes, refused_by, register_len, second_column, second_of_page, some_queued_clashes};
+ghost use Rattle.onfi_cycle.specs.Rules.{are_none, is_undeclared_address, breaks_address_misplaced, breaks_cache_read_misplaced, breaks_column_outside, breaks_command_unknown, breaks_lun_busy, breaks_no_column_to_change, breaks_several_luns, is_unclear, works_for_target, caching, continues_cache, driver, driving, ends_cache, ends_row, excludes_cache, named_lun_is, has_no_byte, has_some, is_past_register, lun_is, is_refused_by, is_undeclared, may_change_column, planes_clash, queued_clashes, refused_by, register_len, second_column, second_of_page, some_queued_clashes};
 ghost use Rattle.onfi_cycle.specs.Command.{command, addresses_the_array, is_change_read_column, is_opener};
 ghost use Rattle.onfi_cycle.specs.Bounds.{TargetFits};
 ghost use Rattle.target_record.specs.Geometry.{parts_of};
@@ -136,6 +137,13 @@ fn continues_cache(geometry: &OnfiseqGeometry, lun: &OnfiseqLun) -> bool
         && is_page_read(closer(lun))
         && lun.array_page < pages
         && lun.array_page + 1 < pages
+}
+
+// It has read a page, so that a cache read may go on from it.
+fn has_read(lun: &OnfiseqLun) -> bool
+    ensures { result ≡ is_page_read (lun_of lun.now).closer }
+{
+    is_page_read(closer(lun))
 }
 
 // Read Cache End may come.
@@ -283,7 +291,7 @@ fn is_open(kept: &OnfiseqTarget) -> bool
     opens || phase.takes_inputs() || phase.wants_column()
 }
 
-/// The tail goes on with this command, which is no opener.
+/// The tail goes on with this command, which closes its sequence or is amid its data.
 pub fn wants_command(kept: &OnfiseqTarget, command: Command) -> bool
     ensures { result ≡ wants_command (tail_of kept.now) command }
 {
@@ -348,8 +356,9 @@ fn breaks_cache_read_misplaced(
     luns: &[OnfiseqLun],
     command: Command,
 ) -> bool
-    requires { All IsRecord luns.now }
-    ensures { (t : TailValue) → result ≡ breaks_cache_read_misplaced (parts_of geometry.now) t (luns_of luns.now) (TargetCycle.CommandCycle command) }
+    requires opener { is_opener command ≡ true }
+    requires numbers { All IsRecord luns.now }
+    ensures { (t : TailValue) → works_on_row t command ≡ false → result ≡ breaks_cache_read_misplaced (parts_of geometry.now) t (luns_of luns.now) (TargetCycle.CommandCycle command) }
 {
     match command {
         Command::ReadCacheSequential => match driver(luns) {
@@ -391,7 +400,7 @@ fn breaks_lun_busy(geometry: &OnfiseqGeometry, luns: &[OnfiseqLun], command: Com
         || is_shared(geometry) && command.reads_identity() && some_busy(luns)
 }
 
-// The first of F3 to F15 that an opener breaks.
+// The first of F3 to F15 that an opener breaks which the tail doesn't want.
 #[inline(always)]
 #[tactic(auto, unfolding(onfi_cycle::specs::Rules::breaks_sequence_open, onfi_cycle::specs::Rules::breaks_command_misplaced, onfi_cycle::specs::Rules::breaks_address_misplaced, onfi_cycle::specs::Rules::breaks_row_outside, onfi_cycle::specs::Rules::breaks_queue_clash, onfi_cycle::specs::Rules::breaks_input_misplaced, onfi_cycle::specs::Rules::breaks_no_sole_driver, onfi_cycle::specs::Rules::breaks_data_not_ready, onfi_cycle::specs::Rules::breaks_column_outside))]
 fn judge_opener(
@@ -402,7 +411,7 @@ fn judge_opener(
 ) -> Option<Forbidden>
     requires opener { is_opener command ≡ true }
     requires numbers { All IsRecord luns.now }
-    ensures { (t : TailValue) → is_open t ≡ in_sequence → result ≡ judge_known_cycle (parts_of geometry.now) t (luns_of luns.now) (TargetCycle.CommandCycle command) }
+    ensures { (t : TailValue) → is_open t ≡ in_sequence → works_on_row t command ≡ false → result ≡ judge_known_cycle (parts_of geometry.now) t (luns_of luns.now) (TargetCycle.CommandCycle command) }
 {
     if in_sequence && !(command.is_reset() && Optional(geometry.optional).is_wide()) {
         Some(Forbidden::SequenceOpen)
@@ -415,6 +424,79 @@ fn judge_opener(
     } else if command.reads_identity() && some_queue(luns) {
         Some(Forbidden::QueueClash)
     } else if breaks_cache_read_misplaced(geometry, luns, command) {
+        Some(Forbidden::CacheReadMisplaced)
+    } else {
+        None
+    }
+}
+
+// ---- cache reads of a row
+
+// The LUN that the row of the tail names is there, and a cache read goes on at it.
+fn named_is_caching(geometry: &OnfiseqGeometry, kept: &OnfiseqTarget) -> bool
+    requires limits { InLimits (parts_of geometry.now) }
+    requires numbers { IsTarget kept.now }
+    ensures { result ≡ named_lun_is (parts_of geometry.now) (row (tail_of kept.now)) caching (target_of kept.now).luns }
+{
+    let named = geometry.known().parts_of(tail_of(kept).named_row()).lun;
+    match lun_at(&kept.luns[..kept.count], named as usize) {
+        None => false,
+        Some(lun) => is_caching(lun),
+    }
+}
+
+// The LUN that the row of the tail names is there, and has read a page.
+fn named_has_read(geometry: &OnfiseqGeometry, kept: &OnfiseqTarget) -> bool
+    requires limits { InLimits (parts_of geometry.now) }
+    requires numbers { IsTarget kept.now }
+    ensures { result ≡ named_lun_is (parts_of geometry.now) (row (tail_of kept.now)) (λ v. is_page_read v.closer) (target_of kept.now).luns }
+{
+    let named = geometry.known().parts_of(tail_of(kept).named_row()).lun;
+    match lun_at(&kept.luns[..kept.count], named as usize) {
+        None => false,
+        Some(lun) => has_read(lun),
+    }
+}
+
+// The first of F3 to F15 that a 31h breaks which the tail wants.
+#[inline(never)]
+#[tactic(auto, unfolding(onfi_cycle::specs::Rules::breaks_sequence_open, onfi_cycle::specs::Rules::breaks_several_luns, onfi_cycle::specs::Rules::breaks_no_column_to_change, onfi_cycle::specs::Rules::breaks_command_misplaced, onfi_cycle::specs::Rules::breaks_address_misplaced, onfi_cycle::specs::Rules::breaks_row_outside, onfi_cycle::specs::Rules::breaks_lun_busy, onfi_cycle::specs::Rules::breaks_queue_clash, onfi_cycle::specs::Rules::breaks_input_misplaced, onfi_cycle::specs::Rules::breaks_no_sole_driver, onfi_cycle::specs::Rules::breaks_data_not_ready, onfi_cycle::specs::Rules::breaks_column_outside, onfi_cycle::specs::Rules::breaks_cache_read_misplaced))]
+fn judge_random_cache_read(
+    geometry: &OnfiseqGeometry,
+    kept: &OnfiseqTarget,
+) -> Option<Forbidden>
+    requires limits { InLimits (parts_of geometry.now) }
+    requires numbers { IsTarget kept.now }
+    requires wanted { wants_command (tail_of kept.now) CommandValue.ReadCacheSequential ≡ true }
+    ensures { result ≡ judge_known_cycle (parts_of geometry.now) (tail_of kept.now) (target_of kept.now).luns (TargetCycle.CommandCycle CommandValue.ReadCacheSequential) }
+{
+    if is_open(kept) && !Optional(geometry.optional).is_wide() {
+        Some(Forbidden::SequenceOpen)
+    } else if named_has_read(geometry, kept) {
+        None
+    } else {
+        Some(Forbidden::CacheReadMisplaced)
+    }
+}
+
+// The first of F6 to F15 that a closer breaks.
+#[tactic(auto, unfolding(onfi_cycle::specs::Rules::breaks_sequence_open, onfi_cycle::specs::Rules::breaks_several_luns, onfi_cycle::specs::Rules::breaks_no_column_to_change, onfi_cycle::specs::Rules::breaks_command_misplaced, onfi_cycle::specs::Rules::breaks_address_misplaced, onfi_cycle::specs::Rules::breaks_row_outside, onfi_cycle::specs::Rules::breaks_lun_busy, onfi_cycle::specs::Rules::breaks_queue_clash, onfi_cycle::specs::Rules::breaks_input_misplaced, onfi_cycle::specs::Rules::breaks_no_sole_driver, onfi_cycle::specs::Rules::breaks_data_not_ready, onfi_cycle::specs::Rules::breaks_column_outside, onfi_cycle::specs::Rules::breaks_cache_read_misplaced))]
+fn judge_closer(
+    geometry: &OnfiseqGeometry,
+    kept: &OnfiseqTarget,
+    command: Command,
+) -> Option<Forbidden>
+    requires closer { is_opener command ≡ false }
+    requires limits { InLimits (parts_of geometry.now) }
+    requires numbers { IsTarget kept.now }
+    ensures { result ≡ judge_known_cycle (parts_of geometry.now) (tail_of kept.now) (target_of kept.now).luns (TargetCycle.CommandCycle command) }
+{
+    if !wants_command(kept, command) {
+        Some(Forbidden::CommandMisplaced)
+    } else if command == Command::ReadConfirm
+        && Optional(geometry.optional).is_wide()
+        && named_is_caching(geometry, kept)
+    {
         Some(Forbidden::CacheReadMisplaced)
     } else {
         None
@@ -510,6 +592,27 @@ fn ends_array_row(tail: TailFacts) -> bool
     }
 }
 
+// The opener's row names a LUN that does no cache read: a Read may name one in the wider profile.
+fn excludes_cache(geometry: &Geometry, opener: Command) -> bool
+    ensures { result ≡ excludes_cache geometry.now opener }
+{
+    match opener {
+        Command::Read => !geometry.parts().optional.is_wide(),
+        _ => opener.addresses_the_array(),
+    }
+}
+
+// The next address is the last row cycle of such an opener.
+fn ends_row_without_cache(geometry: &Geometry, tail: TailFacts) -> bool
+    ensures { result ≡ ends_row (excludes_cache geometry.now) tail }
+{
+    match tail.opening {
+        None => false,
+        Some(opening) => excludes_cache(geometry, opening.opener)
+            && opening.opener.at_last_row(opening.addresses),
+    }
+}
+
 // The next address is the second column cycle of a Read, a Page Program or a Change Write Column.
 fn is_at_second_column_of_page(tail: TailFacts) -> bool
     ensures { result ≡ second_of_page tail }
@@ -573,7 +676,7 @@ fn judge_named(
         Some(Forbidden::QueueClash)
     } else if is_outside {
         Some(Forbidden::ColumnOutside)
-    } else if is_of_array && is_caching(lun) {
+    } else if ends_row_without_cache(geometry, tail) && is_caching(lun) {
         Some(Forbidden::CacheReadMisplaced)
     } else {
         None
@@ -734,23 +837,23 @@ fn is_array_not_busy(luns: &[OnfiseqLun], number: u8) -> bool
     }
 }
 
-// The first of F3 to F15 that a command breaks. A closer can break F6 alone.
+// The first of F3 to F15 that a command breaks. A closer can break F6 and F15 alone.
 #[inline(always)]
-#[tactic(auto, unfolding(onfi_cycle::specs::Rules::breaks_sequence_open, onfi_cycle::specs::Rules::breaks_several_luns, onfi_cycle::specs::Rules::breaks_no_column_to_change, onfi_cycle::specs::Rules::breaks_command_misplaced, onfi_cycle::specs::Rules::breaks_address_misplaced, onfi_cycle::specs::Rules::breaks_row_outside, onfi_cycle::specs::Rules::breaks_lun_busy, onfi_cycle::specs::Rules::breaks_queue_clash, onfi_cycle::specs::Rules::breaks_input_misplaced, onfi_cycle::specs::Rules::breaks_no_sole_driver, onfi_cycle::specs::Rules::breaks_data_not_ready, onfi_cycle::specs::Rules::breaks_column_outside, onfi_cycle::specs::Rules::breaks_cache_read_misplaced))]
 fn judge_command(
     geometry: &OnfiseqGeometry,
     kept: &OnfiseqTarget,
     command: Command,
 ) -> Option<Forbidden>
-    requires { IsTarget kept.now }
+    requires limits { InLimits (parts_of geometry.now) }
+    requires numbers { IsTarget kept.now }
     ensures { result ≡ judge_known_cycle (parts_of geometry.now) (tail_of kept.now) (target_of kept.now).luns (TargetCycle.CommandCycle command) }
 {
-    if command.is_opener() {
-        judge_opener(geometry, is_open(kept), &kept.luns[..kept.count], command)
-    } else if wants_command(kept, command) {
-        None
+    if !command.is_opener() {
+        judge_closer(geometry, kept, command)
+    } else if command == Command::ReadCacheSequential && wants_command(kept, command) {
+        judge_random_cache_read(geometry, kept)
     } else {
-        Some(Forbidden::CommandMisplaced)
+        judge_opener(geometry, is_open(kept), &kept.luns[..kept.count], command)
     }
 }
 
@@ -762,7 +865,8 @@ fn judge_command_there(
     kept: &OnfiseqTarget,
     command: Command,
 ) -> Option<Forbidden>
-    requires { IsTarget kept.now }
+    requires limits { InLimits (parts_of geometry.now) }
+    requires numbers { IsTarget kept.now }
     ensures { result ≡ judge_cycle (parts_of geometry.now) (tail_of kept.now) (target_of kept.now).luns (TargetCycle.CommandCycle command) }
 {
     if breaks_command_unknown(geometry, command) {

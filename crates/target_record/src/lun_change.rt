@@ -108,6 +108,30 @@ fn give_cached(kept: &mut OnfiseqLun, closer: Command, next: u64)
     kept.array_page = next;
 }
 
+// It gives the page that its array has read, and the array reads the next.
+#[inline(always)]
+fn continue_cache_read(kept: &mut OnfiseqLun)
+    requires numbers { IsRecord kept.old }
+    requires array_page { kept.old.array_page < 2 ^ 32 }
+    ensures value { lun_of kept.new ≡ view_after (EffectValue.CacheReadContinued None) (lun_of kept.old) }
+    ensures numbers { IsRecord kept.new }
+{
+    let next = kept.array_page + 1;
+    give_cached(kept, Command::ReadCacheSequential, next);
+}
+
+// It gives the page that its array has read, and the array reads this one.
+#[inline(always)]
+fn read_cache_at(kept: &mut OnfiseqLun, page: PageAddress)
+    requires { IsRecord kept.old }
+    ensures value { lun_of kept.new ≡ view_after (EffectValue.CacheReadContinued (Some page)) (lun_of kept.old) }
+    ensures numbers { IsRecord kept.new }
+{
+    give_cached(kept, Command::ReadCacheSequential, page.page);
+    be_selected(kept);
+    kept.array_block = page.block;
+}
+
 // Its array begins to work for this closer.
 #[inline(always)]
 fn begin_work(kept: &mut OnfiseqLun, closer: Command)
@@ -290,10 +314,8 @@ pub fn change(kept: &mut OnfiseqLun, effect: Effect)
             read_beside(kept, Command::GetFeatures, Register::Features(address));
         }
         Effect::FeaturesSet { address } => set_features(kept, address),
-        Effect::CacheReadContinued => {
-            let next = kept.array_page + 1;
-            give_cached(kept, Command::ReadCacheSequential, next);
-        }
+        Effect::CacheReadContinued { to: None } => continue_cache_read(kept),
+        Effect::CacheReadContinued { to: Some(page) } => read_cache_at(kept, page),
         Effect::CacheReadEnded => {
             let next = kept.array_page;
             give_cached(kept, Command::ReadCacheEnd, next);

@@ -107,7 +107,7 @@ impl LunWorks {
             | Effect::FeaturesReadStarted { .. }
             | Effect::FeaturesSet { .. }
             | Effect::ParameterPageReadStarted
-            | Effect::CacheReadContinued
+            | Effect::CacheReadContinued { .. }
             | Effect::CacheReadEnded
             | Effect::ReadColumnChanged { .. }
             | Effect::DataOutput

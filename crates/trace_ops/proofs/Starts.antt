@@ -19,7 +19,7 @@ use Rattle.onfi_cycle.specs.declared.opening.Opening.{Opening}
 use Rattle.onfi_cycle.specs.declared.tail_facts.TailFacts.{TailFacts}
 use Rattle.onfi_cycle.specs.declared.target_cycle.TargetCycle.{TargetCycle}
 use Rattle.onfi_cycle.specs.declared.target_cycle.TargetCycle.TheVariants.{CommandCycle, AddressCycle, InputCycle, OutputCycle}
-use Rattle.onfi_cycle.specs.Command.{is_opener, closes_row, is_read_confirm, address_cycles, wants_closer, closes, takes_address, at_last_row, is_page_program, is_set_features}
+use Rattle.onfi_cycle.specs.Command.{is_opener, closes_row, reads_row, address_cycles, wants_closer, closes, takes_address, at_last_row, is_page_program, is_set_features}
 use Rattle.onfi_cycle.specs.Effect.{is_off, is_data, is_shared, acts_for_target, of_target, other_effect, lun_reset_effect, names_lun, confirm_effect, command_effect, address_effect, opening_address_effect, ends_features, cycle_effect}
 use Rattle.onfi_cycle.specs.Lun.{is_only, drivers, latch, latch_alone, effect_among, busy_after, is_busy}
 use Rattle.onfi_cycle.specs.OtherLun.{keeps_to, keeps_to_lun, serves_target}
@@ -56,10 +56,10 @@ confirm_ready g t c = refl
 
 -- what the closer of a row does to the other LUNs
 other_ready : (g : Parts) (t : TailFacts) (c : Command) → is_ready (other_effect g t c) ≡ false
-other_ready g t c = either_false is_ready (closes_row c && (wants_command t c && is_shared g)) (AnotherAddressed (is_read_confirm c)) Unaffected refl refl
+other_ready g t c = either_false is_ready (closes_row c && (wants_command t c && is_shared g)) (AnotherAddressed (reads_row c)) Unaffected refl refl
 
 other_starts : (g : Parts) (t : TailFacts) (c : Command) → starts (other_effect g t c) ≡ false
-other_starts g t c = either_false starts (closes_row c && (wants_command t c && is_shared g)) (AnotherAddressed (is_read_confirm c)) Unaffected refl refl
+other_starts g t c = either_false starts (closes_row c && (wants_command t c && is_shared g)) (AnotherAddressed (reads_row c)) Unaffected refl refl
 
 -- what is done for a whole target
 target_ready : (g : Parts) (lun : ℕ) (e : Effect) → is_ready e ≡ false → is_ready (of_target g lun e) ≡ false

@@ -16,7 +16,7 @@ use Rattle.onfi_cycle.specs.declared.latch.Latch.{Latch}
 use Rattle.onfi_cycle.specs.declared.lun.Lun.{Lun}
 use Rattle.onfi_cycle.specs.declared.opening.Opening.{Opening}
 use Rattle.onfi_cycle.specs.declared.tail_facts.TailFacts.{TailFacts}
-use Rattle.onfi_cycle.specs.Command.{command, reads_identity, closes_row, is_read_confirm}
+use Rattle.onfi_cycle.specs.Command.{command, reads_identity, closes_row, reads_row}
 use Rattle.onfi_cycle.specs.Sequence.{target_of, target_cycle, opened, wants_command, row, row_with, takes_features, tail, facts_of}
 use Rattle.onfi_cycle.specs.Effect.{is_off, is_data, is_shared, of_target, other_effect, names_lun, confirm_effect, command_effect, address_effect, opening_address_effect, ends_features, cycle_effect, item_effect}
 use Rattle.onfi_cycle.specs.Lun.{busy_after, array_busy_after, effect_on, latch_alone, effect_among}
@@ -41,6 +41,7 @@ either false x y h k = k
 
 confirm_keeps : (g : Parts) (t : TailFacts) (c : Command) → starts c ≡ false → Keeps (confirm_effect g t c)
 confirm_keeps g t ReadConfirm h = cc
+confirm_keeps g t ReadCacheSequential h = cc
 confirm_keeps g t BlockEraseConfirm h = cc
 confirm_keeps g t BlockErasePlane h = cc
 confirm_keeps g t ProgramConfirm h = cc
@@ -48,7 +49,7 @@ confirm_keeps g t ProgramPlane h = cc
 confirm_keeps g t c h = unaffected
 
 other_keeps : (g : Parts) (t : TailFacts) (c : Command) → Keeps (other_effect g t c)
-other_keeps g t c = either (closes_row c && (wants_command t c && is_shared g)) (AnotherAddressed (is_read_confirm c)) Unaffected (record { busy = λ b. refl; array = λ b c a. refl }) unaffected
+other_keeps g t c = either (closes_row c && (wants_command t c && is_shared g)) (AnotherAddressed (reads_row c)) Unaffected (record { busy = λ b. refl; array = λ b c a. refl }) unaffected
 
 command_keeps : (g : Parts) (t : TailFacts) (la : Latch) (c : Command) (n : ℕ) → starts c ≡ false → Keeps (command_effect g t la c n)
 command_keeps g t la Read n h = record { busy = λ b. refl; array = λ b c a. refl }

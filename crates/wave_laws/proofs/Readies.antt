@@ -17,8 +17,8 @@ use Rattle.onfi_cycle.specs.declared.tail_facts.TailFacts.{TailFacts}
 use Rattle.onfi_cycle.specs.declared.target_cycle.TargetCycle.{TargetCycle}
 use Rattle.onfi_cycle.specs.declared.target_cycle.TargetCycle.TheVariants.{CommandCycle, AddressCycle, InputCycle, OutputCycle}
 use Rattle.onfi_cycle.specs.Sequence.{tail, facts_of, row, row_with, target_cycle, wants_command, wants_address}
-use Rattle.onfi_cycle.specs.Effect.{is_shared, acts_for_target, of_target, other_effect, lun_reset_effect, names_lun, is_off, is_data, confirm_effect, command_effect, opening_address_effect, address_effect, cycle_effect, id_effect, ends_features}
-use Rattle.onfi_cycle.specs.Command.{closes_row, is_read_confirm}
+use Rattle.onfi_cycle.specs.Effect.{is_shared, acts_for_target, of_target, other_effect, lun_reset_effect, names_lun, is_off, is_data, confirm_effect, command_effect, opening_address_effect, address_effect, cycle_effect, id_effect, ends_features, row_effect, cache_effect}
+use Rattle.onfi_cycle.specs.Command.{closes_row, reads_row}
 use Rattle.onfi_cycle.specs.Lun.{effect_on, effect_among, latch_alone, is_busy as lun_is_busy, is_caching, busy_after, array_busy_after}
 use Rattle.bus_lines.specs.declared.lines.Lines.{Lines}
 use Rattle.bus_lines.specs.Lines.{idle}
@@ -42,7 +42,7 @@ either false x y h k = k
 
 -- what the closer of a row does to another LUN, and what is done for a whole target
 other_keeps : (g : Parts) (t : TailFacts) (c : Command) → Keeps (other_effect g t c)
-other_keeps g t c = either (closes_row c && (wants_command t c && is_shared g)) (e.AnotherAddressed (is_read_confirm c)) e.Unaffected refl refl
+other_keeps g t c = either (closes_row c && (wants_command t c && is_shared g)) (e.AnotherAddressed (reads_row c)) e.Unaffected refl refl
 
 target_keeps : (g : Parts) (lun : ℕ) (x : Effect) → Keeps x → Keeps (of_target g lun x)
 target_keeps g lun x h = either (acts_for_target g lun) x e.Deselected h refl
@@ -53,7 +53,10 @@ command_keeps g t latch k.ReadStatus lun = either (is_shared g) e.StatusOfSelect
 command_keeps g t latch k.ReadStatusEnhanced lun = refl
 command_keeps g t latch k.Reset lun = either (is_shared g) (e.TargetResetStarted (lun == 0)) e.ResetStarted refl refl
 command_keeps g t latch k.SynchronousReset lun = either (is_shared g) (e.TargetResetStarted (lun == 0)) e.ResetStarted refl refl
-command_keeps g t latch k.ReadCacheSequential lun = either (is_off latch) e.Unaffected e.CacheReadContinued refl refl
+command_keeps g t latch k.ReadCacheSequential lun =
+    either (wants_command t k.ReadCacheSequential) (row_effect g t k.ReadCacheSequential lun) (cache_effect latch)
+    (either (wants_command t k.ReadCacheSequential && names_lun g (row t) lun) (confirm_effect g t k.ReadCacheSequential) (other_effect g t k.ReadCacheSequential) refl (other_keeps g t k.ReadCacheSequential))
+    (either (is_off latch) e.Unaffected (e.CacheReadContinued None) refl refl)
 command_keeps g t latch k.ReadCacheEnd lun = either (is_off latch) e.Unaffected e.CacheReadEnded refl refl
 command_keeps g t latch k.ChangeReadColumnConfirm lun = either (wants_command t k.ChangeReadColumnConfirm && not (is_off latch)) (e.ReadColumnChanged t.column) e.Unaffected refl refl
 command_keeps g t latch c lun = either (wants_command t c && names_lun g (row t) lun) (confirm_effect g t c) (other_effect g t c) refl (other_keeps g t c)

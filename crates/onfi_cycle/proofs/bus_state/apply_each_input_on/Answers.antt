@@ -1,5 +1,4 @@
-use Rattle.std.proofs.Common.{◌≡◌, ℕ, ◌+◌, ◌-◌, refl, sym, ap, ◌∙◌, subst, arith}
-use Rattle.onfi_cycle.specs.Bounds.{BusFits}
+use Rattle.std.proofs.Common.{◌≡◌, ℕ, ◌-◌, refl, sym, ap, ◌∙◌, arith}
 use Rattle.onfi_cycle.specs.Inputs.{after_inputs}
 use Rattle.onfi_cycle.specs.State.{judged, bus}
 use Rattle.onfi_cycle.specs.declared.item.Kind.TheVariants.{Din}
