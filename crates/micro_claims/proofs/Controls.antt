@@ -32,7 +32,6 @@ use Rattle.micro_claims.proofs.Tails.{closed_tail, closed_fits}
 use Rattle.micro_claims.proofs.Sounding.{KnownJob, Claims, NoReasons, Unmoved, unmoved, within_budget, SoundWord}
 use Rattle.micro_claims.proofs.Commands.{not_caching}
 
-
 -- 1. the claim behind a poll
 
 -- a column that wasn't read isn't lost by a status

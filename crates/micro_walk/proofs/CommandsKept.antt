@@ -195,7 +195,7 @@ command_at g l v s a d ChangeWriteColumn same = record {
   target = (let t = d.target in record { tail = Exactly (InColumn 0); has_column = t.has_column; column = t.column; named = t.named; fine = t.fine; shows = t.shows });
   lun = d.lun;
 }
-command_at g l v s a d ReadConfirm same = 
+command_at g l v s a d ReadConfirm same =
     let k = given_is v.lun.column (column_number v.target.column) s.target.column a.target.column d.target.has_column d.target.column in
     record {
       registers = d.registers;

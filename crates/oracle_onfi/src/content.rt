@@ -37,11 +37,8 @@ fn filled_after(
     ensures { IfOk result (λ v. v.items ≡ filled_after (page_len geometry.now) cycle tail before.items) }
 {
     match cycle {
-        TargetCycle::CommandCycle(command)
-            if command.is_opener() && !tail.works_on_row(command) =>
-        {
-            erased_page(alloc, geometry)
-        }
+        TargetCycle::CommandCycle(command) if command.is_opener() && !tail.works_on_row(command) =>
+            { erased_page(alloc, geometry) }
         TargetCycle::InputCycle(byte) if !tail.is_empty => {
             let mut bytes = before;
             let column = tail.input_column();

@@ -461,10 +461,7 @@ fn named_has_read(geometry: &OnfiseqGeometry, kept: &OnfiseqTarget) -> bool
 // The first of F3 to F15 that a 31h breaks which the tail wants.
 #[inline(never)]
 #[tactic(auto, unfolding(onfi_cycle::specs::Rules::breaks_sequence_open, onfi_cycle::specs::Rules::breaks_several_luns, onfi_cycle::specs::Rules::breaks_no_column_to_change, onfi_cycle::specs::Rules::breaks_command_misplaced, onfi_cycle::specs::Rules::breaks_address_misplaced, onfi_cycle::specs::Rules::breaks_row_outside, onfi_cycle::specs::Rules::breaks_lun_busy, onfi_cycle::specs::Rules::breaks_queue_clash, onfi_cycle::specs::Rules::breaks_input_misplaced, onfi_cycle::specs::Rules::breaks_no_sole_driver, onfi_cycle::specs::Rules::breaks_data_not_ready, onfi_cycle::specs::Rules::breaks_column_outside, onfi_cycle::specs::Rules::breaks_cache_read_misplaced))]
-fn judge_random_cache_read(
-    geometry: &OnfiseqGeometry,
-    kept: &OnfiseqTarget,
-) -> Option<Forbidden>
+fn judge_random_cache_read(geometry: &OnfiseqGeometry, kept: &OnfiseqTarget) -> Option<Forbidden>
     requires limits { InLimits (parts_of geometry.now) }
     requires numbers { IsTarget kept.now }
     requires wanted { wants_command (tail_of kept.now) CommandValue.ReadCacheSequential ≡ true }
