@@ -29,6 +29,10 @@ two_luns = record { page_bytes = 512; spare_bytes = 16; pages = 4; blocks = 8; l
 abbrev with_cache : Parts
 with_cache = record { page_bytes = 512; spare_bytes = 16; pages = 4; blocks = 8; luns = 1; plane_bits = 0; enhanced = false; multi_plane = false; cache = true; optional = no_optional }
 
+-- the same, read as one of the wider profile
+abbrev wide_cache : Parts
+wide_cache = record { page_bytes = 512; spare_bytes = 16; pages = 4; blocks = 8; luns = 1; plane_bits = 0; enhanced = false; multi_plane = false; cache = true; optional = record { 0 = 32770 } }
+
 abbrev c : ℕ → Item
 c byte = Cyc (record { ce = 0; kind = Cmd; byte = byte })
 
@@ -235,6 +239,32 @@ column_given_again = refl
 cache_read : passes with_cache (reverse (c 0x0 ∷ (a 0x0 ∷ (a 0x0 ∷ (a 0x0 ∷ (a 0x0 ∷ (a 0x0 ∷ (c 0x30 ∷ (r 0 ∷ (c 0x31 ∷ (c 0x70 ∷ (o 0x80 ∷ (r 0 ∷ (c 0x70 ∷ (o 0xc0 ∷ (Ard 0 0 ∷ (c 0x0 ∷ (o 0xff ∷ (c 0x3f ∷ (r 0 ∷ (c 0x0 ∷ (o 0xff ∷ [])))))))))))))))))))))) ≡ true
 unfolding command width effect_among breaks_not_there breaks_command_unknown breaks_sequence_open breaks_several_luns breaks_no_column_to_change breaks_command_misplaced breaks_address_misplaced breaks_row_outside breaks_lun_busy breaks_queue_clash breaks_input_misplaced breaks_no_sole_driver breaks_data_not_ready breaks_column_outside breaks_cache_read_misplaced
 cache_read = refl
+
+-- 31h behind the row of a 00h, which the wider profile has
+
+random_cache_read : passes wide_cache (reverse (c 0x0 ∷ (a 0x0 ∷ (a 0x0 ∷ (a 0x0 ∷ (a 0x0 ∷ (a 0x0 ∷ (c 0x30 ∷ (r 0 ∷ (c 0x0 ∷ (a 0x0 ∷ (a 0x0 ∷ (a 0x2 ∷ (a 0x0 ∷ (a 0x0 ∷ (c 0x31 ∷ (r 0 ∷ (o 0xff ∷ (c 0x31 ∷ (r 0 ∷ (c 0x3f ∷ (r 0 ∷ (o 0xff ∷ []))))))))))))))))))))))) ≡ true
+unfolding command width effect_among breaks_not_there breaks_command_unknown breaks_sequence_open breaks_several_luns breaks_no_column_to_change breaks_command_misplaced breaks_address_misplaced breaks_row_outside breaks_lun_busy breaks_queue_clash breaks_input_misplaced breaks_no_sole_driver breaks_data_not_ready breaks_column_outside breaks_cache_read_misplaced
+random_cache_read = refl
+
+random_cache_read_in_the_base : then_breaks with_cache (c 0x0 ∷ (a 0x0 ∷ (a 0x0 ∷ (a 0x0 ∷ (a 0x0 ∷ (a 0x0 ∷ (c 0x30 ∷ (r 0 ∷ (c 0x0 ∷ (a 0x0 ∷ (a 0x0 ∷ (a 0x2 ∷ (a 0x0 ∷ (a 0x0 ∷ [])))))))))))))) (c 0x31) ≡ Some SequenceOpen
+unfolding command width effect_among breaks_not_there breaks_command_unknown breaks_sequence_open breaks_several_luns breaks_no_column_to_change breaks_command_misplaced breaks_address_misplaced breaks_row_outside breaks_lun_busy breaks_queue_clash breaks_input_misplaced breaks_no_sole_driver breaks_data_not_ready breaks_column_outside breaks_cache_read_misplaced
+random_cache_read_in_the_base = refl
+
+random_cache_read_without_a_read : then_breaks wide_cache (c 0x0 ∷ (a 0x0 ∷ (a 0x0 ∷ (a 0x0 ∷ (a 0x0 ∷ (a 0x0 ∷ [])))))) (c 0x31) ≡ Some CacheReadMisplaced
+unfolding command width effect_among breaks_not_there breaks_command_unknown breaks_sequence_open breaks_several_luns breaks_no_column_to_change breaks_command_misplaced breaks_address_misplaced breaks_row_outside breaks_lun_busy breaks_queue_clash breaks_input_misplaced breaks_no_sole_driver breaks_data_not_ready breaks_column_outside breaks_cache_read_misplaced
+random_cache_read_without_a_read = refl
+
+read_amid_a_cache_read : then_breaks wide_cache (c 0x0 ∷ (a 0x0 ∷ (a 0x0 ∷ (a 0x0 ∷ (a 0x0 ∷ (a 0x0 ∷ (c 0x30 ∷ (r 0 ∷ (c 0x0 ∷ (a 0x0 ∷ (a 0x0 ∷ (a 0x2 ∷ (a 0x0 ∷ (a 0x0 ∷ (c 0x31 ∷ (r 0 ∷ (c 0x0 ∷ (a 0x0 ∷ (a 0x0 ∷ (a 0x3 ∷ (a 0x0 ∷ (a 0x0 ∷ [])))))))))))))))))))))) (c 0x30) ≡ Some CacheReadMisplaced
+unfolding command width effect_among breaks_not_there breaks_command_unknown breaks_sequence_open breaks_several_luns breaks_no_column_to_change breaks_command_misplaced breaks_address_misplaced breaks_row_outside breaks_lun_busy breaks_queue_clash breaks_input_misplaced breaks_no_sole_driver breaks_data_not_ready breaks_column_outside breaks_cache_read_misplaced
+read_amid_a_cache_read = refl
+
+erase_amid_a_random_cache_read : then_breaks wide_cache (c 0x0 ∷ (a 0x0 ∷ (a 0x0 ∷ (a 0x0 ∷ (a 0x0 ∷ (a 0x0 ∷ (c 0x30 ∷ (r 0 ∷ (c 0x0 ∷ (a 0x0 ∷ (a 0x0 ∷ (a 0x2 ∷ (a 0x0 ∷ (a 0x0 ∷ (c 0x31 ∷ (r 0 ∷ (c 0x60 ∷ (a 0x4 ∷ (a 0x0 ∷ []))))))))))))))))))) (a 0x0) ≡ Some CacheReadMisplaced
+unfolding command width effect_among breaks_not_there breaks_command_unknown breaks_sequence_open breaks_several_luns breaks_no_column_to_change breaks_command_misplaced breaks_address_misplaced breaks_row_outside breaks_lun_busy breaks_queue_clash breaks_input_misplaced breaks_no_sole_driver breaks_data_not_ready breaks_column_outside breaks_cache_read_misplaced
+erase_amid_a_random_cache_read = refl
+
+cache_read_of_the_last_page : then_breaks wide_cache (c 0x0 ∷ (a 0x0 ∷ (a 0x0 ∷ (a 0x0 ∷ (a 0x0 ∷ (a 0x0 ∷ (c 0x30 ∷ (r 0 ∷ (c 0x0 ∷ (a 0x0 ∷ (a 0x0 ∷ (a 0x3 ∷ (a 0x0 ∷ (a 0x0 ∷ (c 0x31 ∷ (r 0 ∷ [])))))))))))))))) (c 0x31) ≡ Some CacheReadMisplaced
+unfolding command width effect_among breaks_not_there breaks_command_unknown breaks_sequence_open breaks_several_luns breaks_no_column_to_change breaks_command_misplaced breaks_address_misplaced breaks_row_outside breaks_lun_busy breaks_queue_clash breaks_input_misplaced breaks_no_sole_driver breaks_data_not_ready breaks_column_outside breaks_cache_read_misplaced
+cache_read_of_the_last_page = refl
 
 -- 4. what pages contain, and what a LUN shows
 

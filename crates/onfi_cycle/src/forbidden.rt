@@ -13,7 +13,7 @@ pub enum Forbidden {
     CommandUnknown,
     #[error("a sequence is open on the target, so none may begin")]
     SequenceOpen,
-    #[error("the command works on targets with one LUN alone")]
+    #[error("the target has several LUNs, which can't take the command, or not now")]
     SeveralLuns,
     #[error("a change of the read column needs one driver that is ready and gives a page or the parameter page")]
     NoColumnToChange,
