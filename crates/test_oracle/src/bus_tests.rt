@@ -1,4 +1,4 @@
-use crate::made::{CACHED, Operations, PLAIN, PLANED, SHARED, WIDE, made};
+use crate::made::{CACHED, ELSEWHERE, Operations, PLAIN, PLANED, SHARED, WIDE, made};
 use die_model::LunDie;
 use nand_geometry::{Geometry, Optional, Parts, SMALL_CHIP};
 use onfi_cycle::{
@@ -63,10 +63,16 @@ const WIDE_LUNS: Parts = Parts {
     ..TWO_LUNS
 };
 
+// The same with read cache.
+const WIDE_CACHED: Parts = Parts {
+    cache: true,
+    ..WIDE_LUNS
+};
+
 // A kind of traces: a channel of so many targets, the operations on it, and how many items a trace has at most.
 type Traces = (Parts, u8, Operations, usize);
 
-const TRACES: [Traces; 9] = [
+const TRACES: [Traces; 10] = [
     (ONE_LUN, 1, PLAIN, 26),
     (CACHED_LUN, 1, CACHED, 26),
     (TWO_PLANES, 1, PLANED, 26),
@@ -76,6 +82,7 @@ const TRACES: [Traces; 9] = [
     (TWO_LUNS, 2, SHARED, 20),
     (FOUR_LUNS, 1, SHARED, 20),
     (WIDE_LUNS, 1, WIDE, 24),
+    (WIDE_CACHED, 1, ELSEWHERE, 26),
 ];
 
 // The facts of the LUNs of each target, by the look back.

@@ -176,6 +176,35 @@ const CACHE_READ_ALONE: [Part; 13] = [
     Output,
 ];
 
+// In the wider profile: a cache read that goes on at the row of a second 00h, and one behind whatever its LUN did before.
+const RANDOM_CACHE_READ: [Part; 15] = [
+    Command(0x00),
+    Column,
+    Row,
+    Command(0x30),
+    Ready,
+    Command(0x00),
+    Column,
+    OtherPlane,
+    Command(0x31),
+    Ready,
+    Output,
+    Command(0x3f),
+    Ready,
+    Output,
+    Output,
+];
+
+const GO_ON_ELSEWHERE: [Part; 7] = [
+    Command(0x00),
+    Column,
+    Row,
+    Command(0x31),
+    Ready,
+    ArrayReady,
+    Output,
+];
+
 const RESET_CACHE_READ: [Part; 9] = [
     Command(0x00),
     Column,
@@ -416,6 +445,26 @@ pub const WIDE: Operations = [
     &UNIQUE_ID,
     &STATUS_OF_ROW,
     &BOTH_READY,
+    &ENDING,
+];
+
+/// Those with the cache read at a row, of several LUNs in the wider profile.
+pub const ELSEWHERE: Operations = [
+    &READ,
+    &PROGRAM_AND_READ,
+    &PROGRAM_AND_READ,
+    &START_READ,
+    &RANDOM_CACHE_READ,
+    &RANDOM_CACHE_READ,
+    &RANDOM_CACHE_READ,
+    &GO_ON_ELSEWHERE,
+    &GO_ON_ELSEWHERE,
+    &SHORT_CACHE_READ,
+    &CACHE_READ_ALONE,
+    &STATUS_OF_ROW,
+    &DATA_AGAIN,
+    &ERASE_PLANES,
+    &READIES,
     &ENDING,
 ];
 
