@@ -1,7 +1,8 @@
 -- From rest to rest: what is known behind each plain operation in a turn of a loop.
-use Rattle.std.proofs.Common.{◌≡◌, ℕ, ◌+◌, ◌%◌, ◌^◌, ◌≤◌, ◌<◌, Bool, true, false, nat_le, List, [], ◌∷◌, Option, Some, None, arith}
+use Rattle.std.proofs.Common.{◌≡◌, ℕ, ◌+◌, ◌%◌, ◌^◌, ◌≤◌, ◌<◌, Bool, true, false, not, nat_le, List, [], ◌∷◌, Option, Some, None, arith}
 use Rattle.nand_geometry.specs.declared.parts.Parts.{Parts}
 use Rattle.nand_geometry.specs.Limits.{page_len, planes}
+use Rattle.nand_geometry.specs.Optional.{is_wide}
 use Rattle.onfi_cycle.specs.Command.{command}
 use Rattle.micro_word.specs.declared.word.Word.{Word}
 use Rattle.micro_word.specs.declared.word.Word.TheVariants.{Command, Address, Get, Put, Seek, Column, Row, Plane, Wait, BranchOnStatus}
@@ -20,7 +21,7 @@ use Rattle.micro_claims.specs.Reasons.{reason_against, breaks_cycle_forbidden, b
 use Rattle.micro_claims.specs.Accepts.{state_after}
 use Rattle.micro_walk.specs.Faults.{met}
 use Rattle.micro_verify.proofs.PlainBasics.{le_test}
-use Rattle.micro_verify.proofs.PlainOperations.{at_rest, calm, row_tests, bytes_tests}
+use Rattle.micro_verify.proofs.PlainOperations.{at_rest, calm, calm_too, row_tests, bytes_tests}
 use Rattle.looped_plain.proofs.Walks.{ended}
 
 -- a number that was set
@@ -67,7 +68,7 @@ read_ends g b P f row plane column place len total paid rest p below r rows l in
     let paid3 : nat_le (total + 1 + 5 + 1) b.budget ≡ true = le_test _ _ (omega (arith, cost)) in
     let paid4 : nat_le (total + 1 + 5 + 1 + 1) b.budget ≡ true = le_test _ _ (omega (arith, cost)) in
     let paid5 : nat_le (total + 1 + 5 + 1 + 1 + len) b.budget ≡ true = le_test _ _ (omega (arith, cost)) in
-    rw (at.plane_there, below, at.row_kept, at.row_more, at.row_there, these.column_kept, these.column_more, these.column_len, these.column_there, these.column_inside, these.not_past, these.place_kept, these.place_len, these.place_inside, kept1, kept2, kept3, kept4, kept5, grew1, grew2, grew3, grew4, grew5, paid1, paid2, paid3, paid4, paid5, these.some, these.costs, calm read other)
+    rw (at.plane_there, below, at.row_kept, at.row_more, at.row_there, these.column_kept, these.column_more, these.column_len, these.column_there, these.column_inside, these.not_past, these.place_kept, these.place_len, these.place_inside, kept1, kept2, kept3, kept4, kept5, grew1, grew2, grew3, grew4, grew5, paid1, paid2, paid3, paid4, paid5, these.some, these.costs, calm_too (is_wide g.optional) read other, calm_too (not (is_wide g.optional)) read other)
     (on _ _ _ _ _ _))
 
 pub program_ends : (g : Parts) (b : Bounds) (P : Option State → Type 0) (f : Option State) (row plane column place len total paid failure : ℕ) (rest : List Word)

@@ -1,27 +1,38 @@
-//! A cache read that may not go on, or may not end.
+//! A cache read that may not go on, may not end, or isn't ended.
 
 use crate::busy::Busy;
+use crate::command_at::CommandAt;
 use crate::no_driver::NoDriver;
 use crate::refused::Refused;
 use micro_claims::{bound_plus, is_at_most};
 use onfi_cycle::Command;
 use std::fmt;
 
-/// Why `cmd 31` or `cmd 3f` may come at a wrong time.
+/// Why `cmd 31` or `cmd 3f` may come at a wrong time, or `cmd 30` amid a cache read.
 #[derive(Clone, Copy, Debug, PartialEq, Eq)]
 pub enum CacheCause {
     NoDriver(NoDriver),
     Busy(Busy),
     /// `cmd 31` where the last work may be none of `cmd 30` and `cmd 31`.
     NothingToContinue,
+    /// The same at a row.
+    NothingBeforeRow,
     /// `cmd 31` where the page that it reads may be past its block, of so many pages.
     PastBlock { pages: u32 },
     /// `cmd 3f` where the last work may be another than `cmd 31`.
     NothingToEnd,
+    /// `cmd 30` where a cache read may go on since this command.
+    NotEnded {
+        since: CommandAt,
+        /// It surely goes on.
+        surely: bool,
+        /// `cmd 31` may come in its place.
+        goes_on_here: bool,
+    },
 }
 
 impl CacheCause {
-    /// Against `cmd 31`.
+    /// Against `cmd 31` behind no row.
     pub(crate) fn of_next(refused: &Refused<'_>) -> Option<CacheCause> {
         let lun = &refused.state.lun;
         let pages = refused.geometry.parts().pages;
@@ -48,7 +59,30 @@ impl CacheCause {
         }
     }
 
-    // Against both.
+    /// Against `cmd 31` at a row.
+    pub(crate) fn of_row(refused: &Refused<'_>) -> Option<CacheCause> {
+        if refused.state.lun.last.may_be_other() {
+            Some(CacheCause::NothingBeforeRow)
+        } else {
+            None
+        }
+    }
+
+    /// Against `cmd 30`.
+    pub(crate) fn of_page_read(refused: &Refused<'_>) -> Option<CacheCause> {
+        let last = refused.state.lun.last;
+        if last.may_be_31() {
+            Some(CacheCause::NotEnded {
+                since: refused.cache_read(),
+                surely: !last.may_be_30() && !last.may_be_other(),
+                goes_on_here: !last.may_be_other(),
+            })
+        } else {
+            None
+        }
+    }
+
+    // Against `cmd 31` behind no row, and `cmd 3f`.
     fn of_lun(refused: &Refused<'_>) -> Option<CacheCause> {
         if let Some(no_driver) = NoDriver::of(refused) {
             Some(CacheCause::NoDriver(no_driver))
@@ -75,6 +109,19 @@ impl fmt::Display for CacheCause {
             CacheCause::NothingToEnd => {
                 f.write_str("the last work of the LUN must be `cmd 31`, and it may be another")
             }
+            CacheCause::NothingBeforeRow => f.write_str(
+                "the last work of the LUN must be `cmd 30` or `cmd 31`, and it may be another: a cache read begins with `cmd 30`",
+            ),
+            CacheCause::NotEnded {
+                since,
+                surely,
+                goes_on_here,
+            } => write!(
+                f,
+                "the cache read of {since} {}: {}`cmd 3f` and a `wait` must end it before `cmd 00`",
+                if *surely { "goes on" } else { "may go on" },
+                if *goes_on_here { "`cmd 31` goes on with it at this row, or " } else { "" }
+            ),
         }
     }
 }

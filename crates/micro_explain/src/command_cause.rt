@@ -22,7 +22,7 @@ pub enum CommandCause {
     NotBegun { opener: Command },
     /// The LUN may not take it.
     Lun(LunCause),
-    /// It goes on with a cache read, or ends it.
+    /// It goes on with a cache read, ends it, or comes amid it.
     Cache(CacheCause),
 }
 
@@ -57,6 +57,9 @@ fn opener_of(closer: Command) -> Option<Command> {
 
 impl CommandCause {
     pub(crate) fn of(refused: &Refused<'_>, command: Command) -> Option<CommandCause> {
+        if refused.state.target.tail.wants(command) {
+            return CommandCause::of_wanted(refused, command);
+        }
         if !command.is_opener() {
             return CommandCause::of_closer(refused, command);
         }
@@ -100,15 +103,25 @@ impl CommandCause {
         }
     }
 
-    // Against a command that is no opener.
-    fn of_closer(refused: &Refused<'_>, closer: Command) -> Option<CommandCause> {
-        let tail = refused.state.target.tail;
-        if tail.wants(closer) {
-            return Some(CommandCause::ReadColumn(ReadColumnCause::of(refused)?));
+    // Against a command that the sequence wants.
+    fn of_wanted(refused: &Refused<'_>, closer: Command) -> Option<CommandCause> {
+        match closer {
+            Command::ReadConfirm => {
+                Some(CommandCause::Cache(CacheCause::of_page_read(refused)?))
+            }
+            Command::ReadCacheSequential if refused.is_wide() => {
+                Some(CommandCause::Cache(CacheCause::of_row(refused)?))
+            }
+            Command::ReadCacheSequential => Some(CommandCause::SequenceOpen(refused.open())),
+            _ => Some(CommandCause::ReadColumn(ReadColumnCause::of(refused)?)),
         }
+    }
+
+    // Against a command that is no opener, and that the sequence doesn't want.
+    fn of_closer(refused: &Refused<'_>, closer: Command) -> Option<CommandCause> {
         let open = refused.open();
         match open.command {
-            None if !tail.is_open() => Some(CommandCause::NotBegun {
+            None if !refused.state.target.tail.is_open() => Some(CommandCause::NotBegun {
                 opener: opener_of(closer)?,
             }),
             _ => Some(CommandCause::Misplaced(open)),

@@ -18,6 +18,11 @@ pub enum LunCause {
     CacheRead(CommandAt),
 }
 
+// The row of the opener may name a LUN whose cache read goes on: that of a Read in the wider profile.
+fn may_name_caching(refused: &Refused<'_>, opener: Command) -> bool {
+    opener == Command::Read && refused.is_wide()
+}
+
 impl LunCause {
     /// Against what wants the LUN to be ready.
     pub(crate) fn of_busy(refused: &Refused<'_>) -> Option<LunCause> {
@@ -54,6 +59,8 @@ impl LunCause {
             Some(busy)
         } else if let Some(queue) = QueueCause::of_row(refused, opener) {
             Some(LunCause::Queue(queue))
+        } else if may_name_caching(refused, opener) {
+            None
         } else {
             LunCause::of_cache(refused)
         }

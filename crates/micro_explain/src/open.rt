@@ -13,6 +13,8 @@ pub struct Open {
     pub command: Option<CommandAt>,
     /// Operations of several planes are declared.
     pub multi_plane: bool,
+    /// A cache read may go on at any row.
+    pub reads_cache_at_rows: bool,
 }
 
 impl fmt::Display for Open {
@@ -20,6 +22,7 @@ impl fmt::Display for Open {
         let wanted = Wanted {
             place: self.place,
             multi_plane: self.multi_plane,
+            reads_cache_at_rows: self.reads_cache_at_rows,
         };
         match (self.place, self.command) {
             (Place::Closed, _) => f.write_str("no sequence is open"),

@@ -59,7 +59,13 @@ impl Refused<'_> {
                 Some(command) => Some(self.last(command)),
             },
             multi_plane: self.geometry.parts().multi_plane,
+            reads_cache_at_rows: self.is_wide() && self.geometry.parts().cache,
         }
+    }
+
+    /// The chip is read as one of the wider profile.
+    pub(crate) fn is_wide(&self) -> bool {
+        self.geometry.parts().optional.is_wide()
     }
 
     /// The target has several LUNs.

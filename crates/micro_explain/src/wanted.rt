@@ -10,12 +10,15 @@ pub(crate) struct Wanted {
     pub place: Place,
     /// Operations of several planes are declared.
     pub multi_plane: bool,
+    /// A cache read may go on at any row.
+    pub reads_cache_at_rows: bool,
 }
 
 impl Wanted {
     // What ends the sequence of an opener whose addresses have come.
     fn closer(self, opener: Command) -> &'static str {
         match opener {
+            Command::Read if self.reads_cache_at_rows => "`cmd 30` or `cmd 31`",
             Command::Read => "`cmd 30`",
             Command::ChangeReadColumn => "`cmd e0`",
             Command::BlockErase if self.multi_plane => "`cmd d0` or `cmd d1`",

@@ -17,7 +17,7 @@ use Rattle.micro_claims.specs.declared.refusal.Reason.TheVariants.{CycleForbidde
 use Rattle.micro_claims.specs.declared.refusal.Fault.{Fault}
 use Rattle.micro_claims.specs.declared.state.State.{State}
 use Rattle.micro_claims.specs.declared.bounds.Bounds.{Bounds}
-use Rattle.micro_claims.specs.Against.{is_unfit, command_past_rows, row_outside, command_not_for_programs, continues_unseen}
+use Rattle.micro_claims.specs.Against.{is_unfit, place_wants, command_past_rows, row_outside, command_not_for_programs, continues_unseen}
 use Rattle.micro_claims.specs.Reasons.{breaks_cycle_forbidden, breaks_address_unaligned, breaks_handover_in_sequence, breaks_buffer_passed, breaks_row_or_plane_outside, breaks_column_too_large, breaks_no_status, breaks_ends_too_soon, breaks_over_budget, breaks_command_not_allowed, reason_against}
 use Rattle.micro_claims.specs.Planes.{are_below}
 use Rattle.micro_claims.specs.Certificate.{claim}
@@ -93,7 +93,7 @@ or_more : (x y z : Bool) → (x ≡ false → z ≡ false) → (x || y) ≡ fals
 or_more x y z more h = let p = or_parts x y h in or_from z y (more p.0) p.1
 
 past_rows_more : (g : Parts) (m n : ℕ) → m ≤ n → (s : State) (c : Command) → command_past_rows g m s c ≡ false → command_past_rows g n s c ≡ false
-past_rows_more g m n le s ReadCacheSequential h = and_more (not (is_unfit g ReadCacheSequential)) _ _ (at_most_more (bound_plus s.lun.cached.index.hi 2) m n le) h
+past_rows_more g m n le s ReadCacheSequential h = and_more (not (is_unfit g ReadCacheSequential)) _ _ (and_more (not (place_wants ReadCacheSequential s.target.tail)) _ _ (at_most_more (bound_plus s.lun.cached.index.hi 2) m n le)) h
 past_rows_more g m n le s _ h = refl
 
 row_more : (g : Parts) (m n : ℕ) → m ≤ n → (s : State) (from count : ℕ) → row_outside g m s from count ≡ false → row_outside g n s from count ≡ false

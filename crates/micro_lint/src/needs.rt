@@ -13,13 +13,18 @@ pub(crate) struct Needs {
     pub budget: Option<u32>,
 }
 
+// A 31h goes on to the next row: one that the tail wants goes on at the row of its address.
+fn goes_to_next_row(state: &State, command: Command) -> bool {
+    command == Command::ReadCacheSequential && !state.target.tail.wants(command)
+}
+
 // How many rows a word needs: those up to the one that an address names, or to which a cache read goes on.
 fn rows_needed(state: &State, word: Word) -> Option<u32> {
     match word {
         Word::Address { from, count } if u32::from(from) + u32::from(count) > 2 => {
             bound_plus(state.registers.index.hi(), 1)
         }
-        Word::Command { byte } if Command::of(byte) == Command::ReadCacheSequential => {
+        Word::Command { byte } if goes_to_next_row(state, Command::of(byte)) => {
             bound_plus(state.lun.cached.index.hi(), 2)
         }
         _ => Some(1),

@@ -11,6 +11,7 @@ use Rattle.onfi_cycle.specs.declared.tail_facts.TailFacts.{TailFacts}
 use Rattle.onfi_cycle.specs.declared.target_cycle.TargetCycle.TheVariants.{AddressCycle}
 use Rattle.onfi_cycle.specs.Command.{addresses_the_array, reads_identity}
 use Rattle.onfi_cycle.specs.Sequence.{facts_after, input_column}
+use Rattle.onfi_cycle.specs.Rules.{excludes_cache}
 use Rattle.onfi_cycle.specs.Channel.{Channel}
 use Rattle.micro_word.specs.declared.word.Word.TheVariants.{Address as AddressWord}
 use Rattle.micro_word.specs.Text.{Microprogram}
@@ -53,7 +54,7 @@ row_is_of_array _ h = cc
 along_led : (g : Parts) (v : State) (r : Run) (c : Lone) (j : Job) (from count : ℕ) (o : Command) (n : ℕ) → Mirrors g j v r.done c → addresses_the_array o ≡ true → 5 ≤ from + count → (nat_le 5 (from + count) ≡ true → row_refused g v (After o n) ≡ false) → row_goes_along (is_erase o) (target_after_addresses g v from count).named v.lun.queue ≡ true
 along_led g v r c j from count o n m array five clear =
     let last : nat_le 5 (from + count) ≡ true = grind (arith, nat_tests, five) in
-    let queue = (or_parts (v.lun.busy || may_be_31 v.lun.last) (queue_refuses v.lun.queue v.registers.planes o) (ap (λ (b : Bool). b && (v.lun.busy || may_be_31 v.lun.last || queue_refuses v.lun.queue v.registers.planes o)) (sym array) ∙ clear last)).1 in
+    let queue = (or_parts (v.lun.busy || (excludes_cache g o && may_be_31 v.lun.last)) (queue_refuses v.lun.queue v.registers.planes o) (ap (λ (b : Bool). b && (v.lun.busy || (excludes_cache g o && may_be_31 v.lun.last) || queue_refuses v.lun.queue v.registers.planes o)) (sym array) ∙ clear last)).1 in
     subst (λ (b : Bool). row_goes_along (is_erase o) (cond b (Some (name_now g v.registers)) v.target.named) v.lun.queue ≡ true) (sym last) (along_now g (index_now 0 r.done) v.lun.queue c.view.queue v.registers.planes o m.lun.queue queue)
 
 -- the word leads to these facts, and the tail is mirrored there

@@ -38,6 +38,7 @@ use Rattle.micro_claims.specs.declared.refusal.Reason.{Reason}
 use Rattle.micro_claims.specs.declared.refusal.Reason.TheVariants.{CycleForbidden, RowOrPlaneOutside, OverBudget, CommandNotAllowed}
 use Rattle.micro_program.specs.Program.{Job, index_now}
 use Rattle.micro_program.specs.Moves.{Give}
+use Rattle.micro_program.proofs.Scenes.{closed_unwanted}
 use Rattle.micro_claims.specs.declared.state.State.{State}
 use Rattle.micro_claims.specs.declared.registers.Registers.{Registers}
 use Rattle.micro_claims.specs.declared.known_target.KnownTarget.{KnownTarget}
@@ -48,8 +49,8 @@ use Rattle.micro_claims.specs.declared.place.Place.{Place}
 use Rattle.micro_claims.specs.declared.place.Place.TheVariants.{Closed, After, InData, InColumn, InFeatures, Unknown}
 use Rattle.micro_claims.specs.State.{bounds_of, may_be_other}
 use Rattle.micro_claims.specs.Spans.{greatest_bound, kept, bound_plus, is_at_most}
-use Rattle.micro_claims.specs.Against.{place_wants, same_test, is_of_profile, is_unfit, is_data_command, may_be_open, opener_refused, shows_only_data, has_page_or_parameters, has_register, drives, asks_status, command_out_of_place, command_past_rows, command_not_for_programs, continues_unseen}
-use Rattle.micro_claims.specs.Leaves.{paid, with_registers, resumed_shows, shows_after_read, data_shown, given_at, cached_at, command_leaves, queued_more, queued_planes, goes_along, same_drift, rows_at}
+use Rattle.micro_claims.specs.Against.{place_wants, closer_refused, same_test, is_of_profile, is_unfit, is_data_command, may_be_open, opener_refused, shows_only_data, has_page_or_parameters, has_register, drives, asks_status, command_out_of_place, command_past_rows, command_not_for_programs, continues_unseen}
+use Rattle.micro_claims.specs.Leaves.{paid, with_registers, resumed_shows, shows_after_read, data_shown, given_at, cached_at, cache_read, next_cached, command_leaves, queued_more, queued_planes, goes_along, same_drift, rows_at}
 use Rattle.micro_claims.specs.Planes.{no_planes, either_plane}
 use Rattle.micro_claims.specs.declared.planes.Planes.{Planes}
 use Rattle.micro_claims.specs.declared.drift.Drift.{Drift}
@@ -67,7 +68,7 @@ use Rattle.micro_claims.proofs.Sounding.{NoReasons, no_reasons}
 use Rattle.micro_claims.proofs.Commands.{same_either, out_of_place, wanted, row_names}
 use Rattle.micro_claims.proofs.MoreCommands.{declared, opener_free}
 use Rattle.micro_verify.proofs.Lone.{Lone, IsAlone, IsLone, lone_behind, judged, stops_there, based}
-use Rattle.micro_verify.proofs.Mirrors.{Mirrors, RegistersMirror, TailMirror, LunMirror, PlaceMirror, Shut, shows_of, held_of, is_modelled, place_queues, place_erases, row_goes_along, BoundIs, NameIs, ColumnMirror, exact_test, is_read_column, kept_plus, drift_from, RowsMirror, QueueMirror, RowMirror, AllMirror}
+use Rattle.micro_verify.proofs.Mirrors.{Mirrors, RegistersMirror, TailMirror, LunMirror, PlaceMirror, Shut, shows_of, held_of, is_modelled, place_queues, place_erases, row_goes_along, BoundIs, NameIs, ColumnMirror, exact_test, is_read_column, kept_plus, drift_from, RowsMirror, QueueMirror, RowMirror, AllMirror, open_same}
 use Rattle.micro_verify.proofs.Told.{told_command, barred, wants_by, closes_none}
 use Rattle.micro_verify.proofs.Causes.{Goes, ExactWord, IsFit, reason_holds, reason_is, cost_cause, lowest_row_or_plane_outside}
 use Rattle.micro_verify.proofs.WordsExact.{goes_by, registers_exact, shut_tail, told_breaks, told_none}
@@ -99,15 +100,19 @@ next_outside rows n h = grind (arith, nat_tests, h)
 past_rows : (s : Channel) (text : Microprogram) (v : State) (r : Run) (c : Lone) → text.rows ≤ greatest_bound → IsLone s r.past c → LunMirror s.geometry v.lun (index_now 0 r.done) c.view → (d : Command) → command_past_rows s.geometry text.rows v d ≡ true → command_out_of_place s.geometry v d ≡ false → next_page_outside s.geometry text.rows r d ≡ true
 past_rows s text v r c low is m ReadCacheSequential h out =
     let g = s.geometry in
-    let both = and_parts (not (is_unfit g ReadCacheSequential)) (not (is_at_most (bound_plus v.lun.cached.index.hi 2) text.rows)) h in
+    let both = and_parts (not (is_unfit g ReadCacheSequential)) (not (place_wants ReadCacheSequential v.target.tail) && not (is_at_most (bound_plus v.lun.cached.index.hi 2) text.rows)) h in
+    let last = and_parts (not (place_wants ReadCacheSequential v.target.tail)) (not (is_at_most (bound_plus v.lun.cached.index.hi 2) text.rows)) both.1 in
     let fit = not-true (is_unfit g ReadCacheSequential) both.0 in
-    let free : (may_be_open v || opener_refused g v ReadCacheSequential) ≡ false = sym (ap (λ (b : Bool). cond b false (may_be_open v || opener_refused g v ReadCacheSequential)) fit) ∙ out in
+    let free : (may_be_open v || opener_refused g v ReadCacheSequential) ≡ false =
+    sym
+    (λ i. cond (fit i) false (cond (last.0 i) (may_be_open v || opener_refused g v ReadCacheSequential) (not (place_wants ReadCacheSequential v.target.tail) || closer_refused g v ReadCacheSequential)))
+    ∙ out in
     let all = or_parts (may_be_open v) (opener_refused g v ReadCacheSequential) free in
     let three = or_parts (not (drives v.target.shows) || v.lun.busy || may_be_other v.lun.last) _ all.1 in
     let other = (or_parts (not (drives v.target.shows) || v.lun.busy) (may_be_other v.lun.last) three.0).1 in
     let exact : not (is_at_most (bound_plus v.lun.cached.index.hi 2) text.rows) ≡ not (nat_le (index_of g c.view.array_page + 2) text.rows) =
     ap (λ (o : Option ℕ). not (is_at_most (bound_plus o 2) text.rows)) (m.cached_index other) ∙ ap not (exact_test (index_of g c.view.array_page) 2 text.rows low) in
-    ap (λ (w : LunView). nat_le text.rows (index_of g w.array_page + 1)) is.view ∙ next_outside text.rows (index_of g c.view.array_page) (sym exact ∙ both.1)
+    ap (λ (w : LunView). nat_le text.rows (index_of g w.array_page + 1)) is.view ∙ next_outside text.rows (index_of g c.view.array_page) (sym exact ∙ last.1)
 past_rows s text v r c low is m _ h out = cc
 
 -- the commands of the base profile
@@ -659,21 +664,39 @@ end_shut = record { closed = refl; address = λ b. refl; command = none }
     none ProgramPlane = refl
     none _ = refl
 
+-- in the base profile a 31h that goes is wanted by no tail
+lone_31 : (g : Parts) (text : Microprogram) (v : State) (byte : ℕ) → command byte ≡ ReadCacheSequential → is_wide g.optional ≡ false → is_unfit g ReadCacheSequential ≡ false → NoReasons g text v (CommandWord byte) → place_wants ReadCacheSequential v.target.tail ≡ false
+lone_31 g text v byte is_d base fit clear = at (place_wants ReadCacheSequential v.target.tail) refl
+  where
+    at : (b : Bool) → place_wants ReadCacheSequential v.target.tail ≡ b → b ≡ false
+    at false e = refl
+    at true e =
+        let want = wanted g text v byte ReadCacheSequential is_d fit (rw e refl) clear in
+        let refused : (not (is_wide g.optional) || may_be_other v.lun.last) ≡ true = ap (λ (w : Bool). not w || may_be_other v.lun.last) base in
+        let both : true ≡ false = sym refused ∙ want.not_refused in
+        both
+
 pub goes_31 : (s : Channel) (text : Microprogram) (v : State) (r : Run) (c : Lone) (byte : ℕ) → IsFit s text → command byte ≡ ReadCacheSequential → IsLone s r.past c → Mirrors s.geometry (lone_job s.geometry text) v r.done c → NoReasons s.geometry text v (CommandWord byte) → Goes s text (state_after s.geometry v (CommandWord byte)) r (CommandWord byte)
 goes_31 s text v r c byte k is_d is m clear =
     let g = s.geometry in
     let j = lone_job s.geometry text in
     let dec = declared g text v byte ReadCacheSequential is_d clear in
-    let free = or_parts (may_be_open v) (opener_refused g v ReadCacheSequential) (opener_free g text v byte ReadCacheSequential is_d dec.fit refl clear) in
+    let unplaced = lone_31 g text v byte is_d k.base dec.fit clear in
+    let free = or_parts (may_be_open v) (opener_refused g v ReadCacheSequential) (opener_free g text v byte ReadCacheSequential is_d dec.fit (rw unplaced refl) clear) in
     let three = or_parts (not (drives v.target.shows) || v.lun.busy || may_be_other v.lun.last) _ free.1 in
     let two = or_parts (not (drives v.target.shows) || v.lun.busy) (may_be_other v.lun.last) three.0 in
     let one = or_parts (not (drives v.target.shows)) v.lun.busy two.0 in
     let shown : is_off c.view.latch ≡ false = drives_on c.view.latch (sym (ap (λ (o : Option Shown). not (drives o)) m.shows) ∙ one.0) in
-    let effect : cycle_effect (based g) c.facts c.view.latch (CommandCycle ReadCacheSequential) 0 ≡ CacheReadContinued = rw shown refl in
-    command_goes s text v r c byte ReadCacheSequential k is_d dec.fit is m clear refl
-    (shut_tail g j (command_leaves g v ReadCacheSequential) r.done (lone_behind g (CommandCycle ReadCacheSequential) c) refl (cache_shut (facts_after (CommandCycle ReadCacheSequential) c.facts) refl))
-    (ap (λ (e : Effect). shows_of (view_after e c.view).latch) (sym effect))
-    (subst (λ (e : Effect). LunMirror g (command_leaves g v ReadCacheSequential).lun (index_now 0 r.done) (view_after e c.view)) (sym effect)
+    let unwanted = closed_unwanted c.facts (sym (open_same g j v r.done c m) ∙ free.0) in
+    let effect : cycle_effect (based g) c.facts c.view.latch (CommandCycle ReadCacheSequential) 0 ≡ CacheReadContinued None = rw (unwanted, shown) refl in
+    let after : State = cache_read (record { 0 = 2 }) (next_cached v.lun.cached) data_shown v in
+    let leaves : command_leaves g v ReadCacheSequential ≡ after = rw unplaced refl in
+    command_goes s text v r c byte ReadCacheSequential k is_d dec.fit is m clear (ap (λ (x : State). x.registers) leaves)
+    (subst (λ (x : State). TailMirror g j x.target (now_of j r.done) (lone_behind g (CommandCycle ReadCacheSequential) c)) (sym leaves)
+    (shut_tail g j after r.done (lone_behind g (CommandCycle ReadCacheSequential) c) refl (cache_shut (facts_after (CommandCycle ReadCacheSequential) c.facts) (rw unwanted refl))))
+    (ap (λ (x : State). x.target.shows) leaves ∙ ap (λ (e : Effect). shows_of (view_after e c.view).latch) (sym effect))
+    (subst (λ (x : State). LunMirror g x.lun (index_now 0 r.done) (lone_behind g (CommandCycle ReadCacheSequential) c).view) (sym leaves)
+    (subst (λ (e : Effect). LunMirror g after.lun (index_now 0 r.done) (view_after e c.view)) (sym effect)
     (record {
       busy = refl;
       register = refl;
@@ -687,9 +710,16 @@ goes_31 s text v r c byte k is_d is m clear =
       read = λ e. refl;
       cached_page = λ e. ap (λ (o : Option ℕ). bound_plus o 1) (m.lun.cached_page two.1) ∙ kept_plus c.view.array_page.page 1;
       cached_index = λ e. ap (λ (o : Option ℕ). bound_plus o 1) (m.lun.cached_index two.1) ∙ (kept_plus (index_of g c.view.array_page) 1 ∙ ap kept (next_index (c.view.array_page.block / planes g * g.pages) c.view.array_page.page));
-    }))
-    (λ e. cc)
+    })))
+    (λ e. absurd (queues_none e))
   where
+    queues_none : place_queues (command_leaves s.geometry v ReadCacheSequential).target.tail ≡ true → ⊥
+    queues_none e = at (place_wants ReadCacheSequential v.target.tail) e
+      where
+        at : (b : Bool) → place_queues (cond b (cache_read (record { 0 = 2 }) (cached_at v.target.named) (shows_after_read s.geometry v.target.shows) v) (cache_read (record { 0 = 2 }) (next_cached v.lun.cached) data_shown v)).target.tail ≡ true → ⊥
+        at true e = cc
+        at false e = cc
+
     next_index : (n p : ℕ) → n + p + 1 ≡ n + (p + 1)
     next_index n p = omega arith
 

@@ -1,6 +1,6 @@
 -- The LUN of a channel that has no other: what it and its tail are tells by itself which cycle is permitted, by which rule it isn't, and
 -- what each cycle leaves.
-use Rattle.std.proofs.Common.{◌≡◌, ℕ, Bool, true, false, ◌||◌, ◌&&◌, cond, Option, Some, None, List, [], ◌∷◌, ◌++◌, refl, sym, ap, ◌∙◌, subst, arith}
+use Rattle.std.proofs.Common.{◌≡◌, ℕ, Bool, true, false, ◌||◌, ◌&&◌, cond, not, Option, Some, None, List, [], ◌∷◌, ◌++◌, refl, sym, ap, ◌∙◌, subst, arith}
 use Rattle.std.proofs.Math.Bool.{or-true}
 use Rattle.nand_geometry.specs.declared.parts.Parts.{Parts}
 use Rattle.nand_geometry.specs.Optional.{is_wide, no_optional}
@@ -19,10 +19,11 @@ use Rattle.onfi_cycle.specs.declared.tail_facts.TailFacts.{TailFacts}
 use Rattle.onfi_cycle.specs.declared.target_cycle.TargetCycle.{TargetCycle}
 use Rattle.onfi_cycle.specs.declared.target_cycle.TargetCycle.TheVariants.{CommandCycle, AddressCycle, InputCycle, OutputCycle}
 use Rattle.onfi_cycle.specs.LunView.{LunView}
-use Rattle.onfi_cycle.specs.Sequence.{target_cycle, tail, facts_of, facts_after, is_open}
+use Rattle.onfi_cycle.specs.Sequence.{target_cycle, tail, facts_of, facts_after, is_open, opened}
 use Rattle.onfi_cycle.specs.Effect.{cycle_effect, command_effect, address_effect, opening_address_effect}
 use Rattle.onfi_cycle.specs.Lun.{latch, latch_alone, alone, drivers_from, drivers, is_only, lun_view, luns_of, views_from, view_after, effect_on, is_cache_read}
-use Rattle.onfi_cycle.specs.Rules.{breaks_not_there, breaks_command_unknown, breaks_sequence_open, breaks_several_luns, breaks_no_column_to_change, breaks_command_misplaced, breaks_address_misplaced, breaks_row_outside, breaks_lun_busy, breaks_queue_clash, breaks_input_misplaced, breaks_no_sole_driver, breaks_data_not_ready, breaks_column_outside, breaks_cache_read_misplaced}
+use Rattle.onfi_cycle.specs.Command.{at_last_row}
+use Rattle.onfi_cycle.specs.Rules.{ends_row, excludes_cache, breaks_not_there, breaks_command_unknown, breaks_sequence_open, breaks_several_luns, breaks_no_column_to_change, breaks_command_misplaced, breaks_address_misplaced, breaks_row_outside, breaks_lun_busy, breaks_queue_clash, breaks_input_misplaced, breaks_no_sole_driver, breaks_data_not_ready, breaks_column_outside, breaks_cache_read_misplaced}
 use Rattle.onfi_cycle.specs.Permitted.{broken, judge_cycle, judge_known_cycle, is_legal}
 use Rattle.onfi_cycle.specs.Channel.{Channel, IsChannel, cycle}
 use Rattle.micro_program.specs.Moves.{Move, Give, Take, and_then}
@@ -61,11 +62,26 @@ judged g c d = cond (breaks_command_unknown g d) (Some CommandUnknown) (judge_kn
 abbrev pub lone_behind : Parts → TargetCycle → Lone → Lone
 lone_behind g d c = record { facts = facts_after d c.facts; view = view_after (cycle_effect (based g) c.facts c.view.latch d 0) c.view }
 
--- in the base profile nothing else is asked
+-- in the base profile no row may name a LUN that is caching
+ends_same : (g : Parts) (t : TailFacts) → is_wide g.optional ≡ false → ends_row (excludes_cache g) t ≡ ends_row (excludes_cache (based g)) t
+ends_same g t base = at t.opening
+  where
+    same : (c : Command) → excludes_cache g c ≡ excludes_cache (based g) c
+    same Read = ap not base
+    same _ = refl
+
+    at : (o : Option Opening) → opened (λ c n. excludes_cache g c && at_last_row c n) o ≡ opened (λ c n. excludes_cache (based g) c && at_last_row c n) o
+    at None = refl
+    at (Some o) = ap (λ (b : Bool). b && at_last_row o.opener o.addresses) (same o.opener)
+
+-- and nothing else is asked
 known_same : (g : Parts) (t : TailFacts) (vs : List LunView) (d : TargetCycle) → is_wide g.optional ≡ false → judge_known_cycle g t vs d ≡ judge_known_cycle (based g) t vs d
 unfolding breaks_sequence_open breaks_several_luns breaks_no_column_to_change breaks_command_misplaced breaks_address_misplaced breaks_row_outside breaks_lun_busy breaks_queue_clash breaks_input_misplaced breaks_no_sole_driver breaks_data_not_ready breaks_column_outside breaks_cache_read_misplaced
+known_same g t vs (CommandCycle ReadConfirm) base = rw base refl
+known_same g t vs (CommandCycle ReadCacheSequential) base = rw base refl
+known_same g t vs (CommandCycle ReadCacheEnd) base = rw base refl
 known_same g t vs (CommandCycle c) base = rw base refl
-known_same g t vs (AddressCycle byte) base = rw base refl
+known_same g t vs (AddressCycle byte) base = let ends = ends_same g t base in rw (base, ends) refl
 known_same g t vs (InputCycle byte) base = refl
 known_same g t vs OutputCycle base = refl
 
@@ -75,7 +91,7 @@ command_same g t la ReadStatus lun base = rw base refl
 command_same g t la ReadStatusEnhanced lun base = refl
 command_same g t la Reset lun base = rw base refl
 command_same g t la SynchronousReset lun base = rw base refl
-command_same g t la ReadCacheSequential lun base = refl
+command_same g t la ReadCacheSequential lun base = rw base refl
 command_same g t la ReadCacheEnd lun base = refl
 command_same g t la ChangeReadColumnConfirm lun base = refl
 command_same g t la ReadConfirm lun base = rw base refl

@@ -1,7 +1,8 @@
 -- From rest to rest: over each operation nothing is against the words.
-use Rattle.std.proofs.Common.{◌≡◌, ℕ, ◌+◌, ◌^◌, ◌≤◌, ◌<◌, ◌==◌, Bool, true, false, cond, nat_le, nat_lt, List, ◌∷◌, Option, Some, refl, arith}
+use Rattle.std.proofs.Common.{◌≡◌, ℕ, ◌+◌, ◌^◌, ◌≤◌, ◌<◌, ◌==◌, Bool, true, false, ◌&&◌, cond, not, nat_le, nat_lt, List, ◌∷◌, Option, Some, refl, arith}
 use Rattle.nand_geometry.specs.declared.parts.Parts.{Parts}
 use Rattle.nand_geometry.specs.Limits.{page_len, planes}
+use Rattle.nand_geometry.specs.Optional.{is_wide}
 use Rattle.onfi_cycle.specs.Command.{command}
 use Rattle.micro_word.specs.declared.word.Word.{Word}
 use Rattle.micro_word.specs.declared.word.Word.TheVariants.{Command, Address, Get, Put, Seek, Column, Row, Plane, Wait, BranchOnStatus}
@@ -35,6 +36,11 @@ calm true true = refl
 calm true false = refl
 calm false true = refl
 calm false false = refl
+
+-- no cache read goes on, whatever else is asked
+pub calm_too : (asks read other : Bool) → (asks && may_be_31 (closer_of read other)) ≡ false
+calm_too true read other = calm read other
+calm_too false read other = refl
 
 -- nothing is open, the LUN is ready, its queue empty and no cache read, so many cycles being paid at most; the rest may be anything
 abbrev pub at_rest : (column : Span) (planes : Planes) (index : Span) (page : PageRange) (place : Span) (least : ℕ) (grown : Option Growth) (polled : Bool) (shows : Option Shown) (register : Option Held) (output : Option OutputColumn) (read other : Bool) (cached : CachedPage) (paid : ℕ) → State
@@ -121,7 +127,7 @@ read_goes_well g x f row plane column place len paid rest p below r rows l insid
     let paid3 : nat_le (paid + 1 + 5 + 1) x.budget ≡ true = le_test _ _ (omega (arith, cost)) in
     let paid4 : nat_le (paid + 1 + 5 + 1 + 1) x.budget ≡ true = le_test _ _ (omega (arith, cost)) in
     let paid5 : nat_le (paid + 1 + 5 + 1 + 1 + len) x.budget ≡ true = le_test _ _ (omega (arith, cost)) in
-    rw (at.plane_there, below, at.row_kept, at.row_more, at.row_there, these.column_kept, these.column_more, these.column_len, these.column_there, these.column_inside, these.not_past, these.place_kept, these.place_len, these.place_inside, kept1, kept2, kept3, kept4, kept5, paid1, paid2, paid3, paid4, paid5, these.some, these.costs, calm read other)
+    rw (at.plane_there, below, at.row_kept, at.row_more, at.row_there, these.column_kept, these.column_more, these.column_len, these.column_there, these.column_inside, these.not_past, these.place_kept, these.place_len, these.place_inside, kept1, kept2, kept3, kept4, kept5, paid1, paid2, paid3, paid4, paid5, these.some, these.costs, calm_too (is_wide g.optional) read other, calm_too (not (is_wide g.optional)) read other)
     (on _ _ _ _ _ _ _ _ _ _ _ true false _))
 
 pub program_goes_well : (g : Parts) (x : Microprogram) (f : Option State) (row plane column place len paid failure : ℕ) (rest : List Word)

@@ -20,14 +20,15 @@ use Rattle.onfi_cycle.specs.Sequence.{is_open, wants_command, takes_data, opened
 use Rattle.onfi_cycle.specs.Lun.{is_cache_read, is_page_read}
 use Rattle.onfi_cycle.specs.LunView.{LunView}
 use Rattle.onfi_cycle.specs.Effect.{is_data}
-use Rattle.micro_claims.specs.State.{may_be_other}
+use Rattle.micro_claims.specs.State.{may_be_31, may_be_other}
 use Rattle.micro_claims.specs.Spans.{greatest_bound, bound_plus, is_at_most}
 use Rattle.onfi_cycle.specs.Rules.{has_some, may_change_column, is_page_or_parameters, breaks_command_unknown, breaks_sequence_open, breaks_several_luns, breaks_no_column_to_change, breaks_command_misplaced, breaks_address_misplaced, breaks_row_outside, breaks_lun_busy, breaks_queue_clash, breaks_input_misplaced, breaks_no_sole_driver, breaks_data_not_ready, breaks_column_outside, breaks_cache_read_misplaced}
 use Rattle.micro_program.specs.Program.{Job, Done}
+use Rattle.micro_program.proofs.Scenes.{closed_unwanted}
 use Rattle.micro_claims.specs.declared.state.State.{State}
 use Rattle.micro_claims.specs.declared.place.Place.{Place}
 use Rattle.micro_claims.specs.declared.place.Place.TheVariants.{Closed, After, InData, InColumn, InFeatures, Unknown as UnknownPlace}
-use Rattle.micro_claims.specs.Against.{place_wants, is_data_command, may_be_open, shows_only_data, has_page_or_parameters, drives, is_unfit, may_end_sequence, opener_refused, closer_refused, command_out_of_place}
+use Rattle.micro_claims.specs.Against.{place_wants, is_data_command, may_be_open, shows_only_data, has_page_or_parameters, drives, is_unfit, may_end_sequence, opener_refused, closer_refused, reads_cache_at, command_out_of_place}
 use Rattle.micro_verify.specs.Cause.{is_of_cycle_forbidden}
 use Rattle.micro_claims.proofs.Fits.{Address}
 use Rattle.micro_verify.proofs.Lone.{Lone, judged}
@@ -245,26 +246,34 @@ told_11 g c fit = at (wants_command c.facts ProgramPlane) refl
     at true e = rw (fit, e) tt
     at false e = rw (fit, e) refl
 
--- 31h and 3Fh, where they are declared
-told_31 : (g : Parts) (c : Lone) → not g.cache ≡ false → Told (is_open c.facts || (not (drives (shows_of c.view.latch)) || c.view.busy || not (is_page_read c.view.closer) || not (nat_le (c.view.array_page.page + 2) g.pages))) (judged g c (CommandCycle ReadCacheSequential))
+-- 31h and 3Fh, where they are declared; a 31h that the tail wants comes amid a sequence
+told_row_31 : (g : Parts) (c : Lone) → not g.cache ≡ false → wants_command c.facts ReadCacheSequential ≡ true → Told true (judged g c (CommandCycle ReadCacheSequential))
 unfolding breaks_command_unknown breaks_sequence_open breaks_several_luns breaks_no_column_to_change breaks_command_misplaced breaks_address_misplaced breaks_row_outside breaks_lun_busy breaks_queue_clash breaks_input_misplaced breaks_no_sole_driver breaks_data_not_ready breaks_column_outside breaks_cache_read_misplaced
-told_31 g c fit = at (is_open c.facts) refl c.view.latch refl c.view.busy refl (is_page_read c.view.closer) refl (nat_le (c.view.array_page.page + 2) g.pages) refl
+told_row_31 g c fit wants = at (is_open c.facts) refl
+  where
+    at : (o : Bool) → is_open c.facts ≡ o → Told true (judged g c (CommandCycle ReadCacheSequential))
+    at true e = rw (fit, wants, e) refl
+    at false e = let none = closed_unwanted c.facts e in let both : true ≡ false = sym wants ∙ none in cc
+
+told_31 : (g : Parts) (c : Lone) → not g.cache ≡ false → wants_command c.facts ReadCacheSequential ≡ false → Told (is_open c.facts || (not (drives (shows_of c.view.latch)) || c.view.busy || not (is_page_read c.view.closer) || not (nat_le (c.view.array_page.page + 2) g.pages))) (judged g c (CommandCycle ReadCacheSequential))
+unfolding breaks_command_unknown breaks_sequence_open breaks_several_luns breaks_no_column_to_change breaks_command_misplaced breaks_address_misplaced breaks_row_outside breaks_lun_busy breaks_queue_clash breaks_input_misplaced breaks_no_sole_driver breaks_data_not_ready breaks_column_outside breaks_cache_read_misplaced
+told_31 g c fit unwanted = at (is_open c.facts) refl c.view.latch refl c.view.busy refl (is_page_read c.view.closer) refl (nat_le (c.view.array_page.page + 2) g.pages) refl
   where
     next : (b : Bool) → nat_le (c.view.array_page.page + 2) g.pages ≡ b → ltb (c.view.array_page.page + 1) g.pages ≡ b
     next true e = grind (arith, nat_tests, e)
     next false e = grind (arith, nat_tests, e)
 
     at : (o : Bool) → is_open c.facts ≡ o → (x : Latch) → c.view.latch ≡ x → (b : Bool) → c.view.busy ≡ b → (q : Bool) → is_page_read c.view.closer ≡ q → (n : Bool) → nat_le (c.view.array_page.page + 2) g.pages ≡ n → Told (is_open c.facts || (not (drives (shows_of c.view.latch)) || c.view.busy || not (is_page_read c.view.closer) || not (nat_le (c.view.array_page.page + 2) g.pages))) (judged g c (CommandCycle ReadCacheSequential))
-    at true e x k b f q h n i = rw (fit, e) refl
-    at false e Off k b f q h n i = rw (fit, e, k) refl
-    at false e Status k true f q h n i = rw (fit, e, k, f) refl
-    at false e Status k false f false h n i = rw (fit, e, k, f, h) refl
-    at false e Status k false f true h true i = rw (fit, e, k, f, h, i, next true i) tt
-    at false e Status k false f true h false i = rw (fit, e, k, f, h, i, next false i) refl
-    at false e Data k true f q h n i = rw (fit, e, k, f) refl
-    at false e Data k false f false h n i = rw (fit, e, k, f, h) refl
-    at false e Data k false f true h true i = rw (fit, e, k, f, h, i, next true i) tt
-    at false e Data k false f true h false i = rw (fit, e, k, f, h, i, next false i) refl
+    at true e x k b f q h n i = rw (fit, unwanted, e) refl
+    at false e Off k b f q h n i = rw (fit, unwanted, e, k) refl
+    at false e Status k true f q h n i = rw (fit, unwanted, e, k, f) refl
+    at false e Status k false f false h n i = rw (fit, unwanted, e, k, f, h) refl
+    at false e Status k false f true h true i = rw (fit, unwanted, e, k, f, h, i, next true i) tt
+    at false e Status k false f true h false i = rw (fit, unwanted, e, k, f, h, i, next false i) refl
+    at false e Data k true f q h n i = rw (fit, unwanted, e, k, f) refl
+    at false e Data k false f false h n i = rw (fit, unwanted, e, k, f, h) refl
+    at false e Data k false f true h true i = rw (fit, unwanted, e, k, f, h, i, next true i) tt
+    at false e Data k false f true h false i = rw (fit, unwanted, e, k, f, h, i, next false i) refl
 
 caches_a_page : (o : Option Command) → is_page_read o ≡ false → is_cache_read o ≡ false
 caches_a_page None h = refl
@@ -335,8 +344,8 @@ told_command g j v done c d one base low m h = by d h
     wanted : (d : Command) → not (place_wants d v.target.tail) ≡ not (wants_command c.facts d)
     wanted d = ap not (ap (place_wants d) m.tail.single ∙ wants_same m.tail.place m.tail.address c.facts d m.tail.is)
 
-    fitting : (d : Command) → is_unfit g d ≡ false → command_out_of_place g v d ≡ cond (is_opener d) ((not (may_end_sequence g d) && may_be_open v) || opener_refused g v d) (not (place_wants d v.target.tail) || closer_refused g v d)
-    fitting d fit = ap (λ (b : Bool). cond b false (cond (is_opener d) ((not (may_end_sequence g d) && may_be_open v) || opener_refused g v d) (not (place_wants d v.target.tail) || closer_refused g v d))) fit
+    fitting : (d : Command) → is_unfit g d ≡ false → command_out_of_place g v d ≡ cond (is_opener d && not (reads_cache_at d v.target.tail)) ((not (may_end_sequence g d) && may_be_open v) || opener_refused g v d) (not (place_wants d v.target.tail) || closer_refused g v d)
+    fitting d fit = ap (λ (b : Bool). cond b false (cond (is_opener d && not (reads_cache_at d v.target.tail)) ((not (may_end_sequence g d) && may_be_open v) || opener_refused g v d) (not (place_wants d v.target.tail) || closer_refused g v d))) fit
 
     drive : place_wants ChangeReadColumnConfirm v.target.tail ≡ true → drives v.target.shows ≡ true
     drive h = ap drives m.shows ∙ shows_may_change c.view (m.tail.changes (wants_change m.tail.place (sym (ap (place_wants ChangeReadColumnConfirm) m.tail.single) ∙ h)))
@@ -353,7 +362,7 @@ told_command g j v done c d one base low m h = by d h
     by ChangeReadColumn h = told_by _ _ _ (λ i. shut i || (not (shows_only_data (m.shows i)) || m.lun.busy i || not (has_page_or_parameters (m.lun.register i)))) (told_change g c m.lun.known)
     by ReadId h = told_by _ _ _ (λ i. shut i || (not (one i) && (m.lun.busy i || queue_same g _ v.lun.queue c.view.queue m.lun.queue i || m.lun.caching i))) (told_identity g c one)
     by ReadParameterPage h = told_by _ _ _ (λ i. shut i || (not (one i) && (m.lun.busy i || queue_same g _ v.lun.queue c.view.queue m.lun.queue i || m.lun.caching i))) (told_parameters g c one)
-    by ReadConfirm h = told_by _ _ _ (or-false _ ∙ wanted ReadConfirm) (told_30 g c)
+    by ReadConfirm h = told_by _ _ _ (ap (λ (w : Bool). not (place_wants ReadConfirm v.target.tail) || (w && may_be_31 v.lun.last)) base ∙ (or-false _ ∙ wanted ReadConfirm)) (told_30 g c)
     by BlockEraseConfirm h = told_by _ _ _ (or-false _ ∙ wanted BlockEraseConfirm) (told_d0 g c)
     by ProgramConfirm h = told_by _ _ _ (or-false _ ∙ wanted ProgramConfirm) (told_10 g c)
     by ChangeWriteColumn h = told_by _ _ _ (or-false _ ∙ wanted ChangeWriteColumn) (told_85 g c)
@@ -361,11 +370,21 @@ told_command g j v done c d one base low m h = by d h
     by ChangeReadColumnConfirm h = told_by _ _ _ (not_where _ _ drive ∙ wanted ChangeReadColumnConfirm) (told_e0 g c)
     by BlockErasePlane h = told_by _ _ _ (fitting BlockErasePlane h ∙ (or-false _ ∙ wanted BlockErasePlane)) (told_d1 g c h)
     by ProgramPlane h = told_by _ _ _ (fitting ProgramPlane h ∙ (or-false _ ∙ wanted ProgramPlane)) (told_11 g c h)
-    by ReadCacheSequential h =
-        told_by _ _ _
-        (fitting ReadCacheSequential h ∙ (ap (λ (b : Bool). may_be_open v || b) (or_where (not (drives v.target.shows) || v.lun.busy || may_be_other v.lun.last) _ _ (λ e. page_test (or_second _ _ e)))
-        ∙ (λ i. shut i || (not (drives (m.shows i)) || m.lun.busy i || m.lun.other i || not (nat_le (c.view.array_page.page + 2) g.pages)))))
-        (told_31 g c h)
+    by ReadCacheSequential h = at (wants_command c.facts ReadCacheSequential) refl
+      where
+        placed : place_wants ReadCacheSequential v.target.tail ≡ wants_command c.facts ReadCacheSequential
+        placed = ap (place_wants ReadCacheSequential) m.tail.single ∙ wants_same m.tail.place m.tail.address c.facts ReadCacheSequential m.tail.is
+
+        by_place : (b : Bool) → place_wants ReadCacheSequential v.target.tail ≡ b → command_out_of_place g v ReadCacheSequential ≡ cond (not b) (may_be_open v || opener_refused g v ReadCacheSequential) (not b || closer_refused g v ReadCacheSequential)
+        by_place b e = fitting ReadCacheSequential h ∙ ap (λ (x : Bool). cond (not x) (may_be_open v || opener_refused g v ReadCacheSequential) (not x || closer_refused g v ReadCacheSequential)) e
+
+        at : (b : Bool) → wants_command c.facts ReadCacheSequential ≡ b → Told (command_out_of_place g v ReadCacheSequential) (judged g c (CommandCycle ReadCacheSequential))
+        at true e = told_by _ _ _ (by_place true (placed ∙ e) ∙ ap (λ (w : Bool). not w || may_be_other v.lun.last) base) (told_row_31 g c h e)
+        at false e =
+            told_by _ _ _
+            (by_place false (placed ∙ e) ∙ (ap (λ (b : Bool). may_be_open v || b) (or_where (not (drives v.target.shows) || v.lun.busy || may_be_other v.lun.last) _ _ (λ e. page_test (or_second _ _ e)))
+            ∙ (λ i. shut i || (not (drives (m.shows i)) || m.lun.busy i || m.lun.other i || not (nat_le (c.view.array_page.page + 2) g.pages)))))
+            (told_31 g c h e)
     by ReadCacheEnd h =
         told_by _ _ _
         (fitting ReadCacheEnd h ∙ (ap (λ (b : Bool). may_be_open v || b) (or_where (not (drives v.target.shows) || v.lun.busy || may_be_other v.lun.last) _ _ (λ e. m.lun.read (or_second _ _ e)))
