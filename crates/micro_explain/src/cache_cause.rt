@@ -18,7 +18,9 @@ pub enum CacheCause {
     /// The same at a row.
     NothingBeforeRow,
     /// `cmd 31` where the page that it reads may be past its block, of so many pages.
-    PastBlock { pages: u32 },
+    PastBlock {
+        pages: u32,
+    },
     /// `cmd 3f` where the last work may be another than `cmd 31`.
     NothingToEnd,
     /// `cmd 30` where a cache read may go on since this command.
@@ -120,7 +122,11 @@ impl fmt::Display for CacheCause {
                 f,
                 "the cache read of {since} {}: {}`cmd 3f` and a `wait` must end it before `cmd 00`",
                 if *surely { "goes on" } else { "may go on" },
-                if *goes_on_here { "`cmd 31` goes on with it at this row, or " } else { "" }
+                if *goes_on_here {
+                    "`cmd 31` goes on with it at this row, or "
+                } else {
+                    ""
+                }
             ),
         }
     }
