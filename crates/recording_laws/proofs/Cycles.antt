@@ -1,7 +1,8 @@
 -- A permitted cycle that is seen, on each LUN of its target.
-use Rattle.std.proofs.Common.{◌≡◌, ℕ, ◌+◌, ◌==◌, Bool, true, false, cond, not, ◌&&◌, List, [], ◌∷◌, Option, Some, None, refl, sym, ap, ◌∙◌, subst}
-use Rattle.std.proofs.lemmas.Bool.{and_parts, or_parts, not-false}
+use Rattle.std.proofs.Common.{◌≡◌, ℕ, ◌+◌, ◌==◌, Bool, true, false, cond, not, ◌&&◌, List, [], ◌∷◌, Option, Some, None, refl, sym, ap, ◌∙◌, subst, slice_get, eqb-true}
+use Rattle.std.proofs.lemmas.Bool.{and_parts, or_parts, not-true, not-false}
 use Rattle.nand_geometry.specs.declared.parts.Parts.{Parts}
+use Rattle.nand_geometry.specs.Row.{parts_of}
 use Rattle.onfi_cycle.specs.declared.command.Command.{Command}
 use Rattle.onfi_cycle.specs.declared.command.Command.TheVariants.{Read, ReadConfirm, ChangeReadColumn, ChangeReadColumnConfirm, BlockErase, BlockEraseConfirm, BlockErasePlane, ReadStatus, ReadStatusEnhanced, PageProgram, ProgramConfirm, ProgramPlane, ReadId, ReadParameterPage, Reset, ReadCacheSequential, ReadCacheEnd, ReadUniqueId, GetFeatures, SetFeatures, ResetLun, SynchronousReset}
 use Rattle.onfi_cycle.specs.declared.effect.Effect.{Effect}
@@ -18,12 +19,12 @@ use Rattle.onfi_cycle.specs.declared.target_cycle.TargetCycle.TheVariants.{Comma
 use Rattle.onfi_cycle.specs.Applied.{asks_driver}
 use Rattle.onfi_cycle.specs.Bounds.{is_read}
 use Rattle.onfi_cycle.specs.Command.{is_opener, closes, address_cycles, is_change_read_column}
-use Rattle.onfi_cycle.specs.Effect.{is_off, is_data, is_shared, of_target, other_effect, lun_reset_effect, confirm_effect, names_lun, command_effect, id_effect, address_effect, opening_address_effect, cycle_effect, ends_features}
+use Rattle.onfi_cycle.specs.Effect.{is_off, is_data, is_shared, of_target, other_effect, lun_reset_effect, confirm_effect, row_effect, cache_effect, names_lun, command_effect, id_effect, address_effect, opening_address_effect, cycle_effect, ends_features}
 use Rattle.onfi_cycle.specs.Look.{look_at}
 use Rattle.onfi_cycle.specs.Lun.{is_page_read, view_after}
 use Rattle.onfi_cycle.specs.LunView.{LunView}
-use Rattle.onfi_cycle.specs.Rules.{is_some_and, driver, driver_is, is_empty, continues_cache, ends_cache, breaks_no_sole_driver, breaks_cache_read_misplaced}
-use Rattle.onfi_cycle.specs.Sequence.{target_cycle, facts_of, opened, wants_address, wants_command, row, row_with, is_open}
+use Rattle.onfi_cycle.specs.Rules.{is_some_and, driver, driver_is, named_lun_is, is_empty, continues_cache, ends_cache, breaks_no_sole_driver, breaks_cache_read_misplaced}
+use Rattle.onfi_cycle.specs.Sequence.{target_cycle, facts_of, begins_anew, opened, wants_address, wants_command, row, row_with, is_open}
 use Rattle.onfi_cycle.specs.State.{effect_alone, luns_after, has_driver}
 use Rattle.onfi_cycle.proofs.Booleans.{eqb_self}
 use Rattle.onfi_cycle.proofs.Passed.{KeepsRules}
@@ -32,7 +33,7 @@ use Rattle.trace_faults.specs.declared.lun_known.LunKnown.{LunKnown}
 use Rattle.trace_faults.specs.Middle.{knows, is_all, has_begun, is_reset_cycle, is_reset, learned_lun}
 use Rattle.recording_laws.proofs.Luns.{Shows, IsBelow, Fits, Asks, fits_after}
 use Rattle.recording_laws.proofs.Lists.{Each, SameOff, same_driver, AllOn, driver_on}
-use Rattle.recording_laws.proofs.Changed.{changed, luns_are_changed, same_changed, AtEach, Goes, GoEach, go_each}
+use Rattle.recording_laws.proofs.Changed.{changed, luns_are_changed, same_changed, AtEach, at_each, Goes, GoEach, go_each}
 use Rattle.recording_laws.proofs.Unseen.{other_plain, target_plain}
 
 -- ---- 1. the effects of a cycle
@@ -226,12 +227,20 @@ output_goes i k t s below off resets = at s.latch refl t.latch refl below.latch 
     at Data a Status b h o = cc
     at Data a Data b h o = go_same i k DataOutput DataOutput t s refl tt (λ x. absurd (resets x))
 
+-- a 31h that no tail wants is of the one driver
+cache_read_on : (g : Parts) (u : TailFacts) → wants_command u ReadCacheSequential ≡ false → (la : Latch) (n : ℕ) → command_effect g u la ReadCacheSequential n ≡ cond (is_off la) Unaffected (CacheReadContinued None)
+cache_read_on g u h la n = ap (λ (b : Bool). cond b (row_effect g u ReadCacheSequential n) (cache_effect la)) h
+
+-- a LUN that the row names has read a page
+abbrev ReadsPages : Parts → TailFacts → ℕ → LunView → Type 0
+ReadsPages g u n s = names_lun g (row u) n ≡ true → is_page_read s.closer ≡ true
+
 module _ (g : Parts) (plain : is_shared g ≡ false) (i : Item) (k : Known) (ts ss : List LunView) (each : Each IsBelow ts ss) where
   -- 31h and 3Fh, whatever the tails
-  go_cache : (u w : TailFacts) (test : LunView → Bool) (c : Command) (x : Effect) → ((la : Latch) (n : ℕ) (t : TailFacts) → command_effect g t la c n ≡ cond (is_off la) Unaffected x) →
+  go_cache : (u w : TailFacts) (test : LunView → Bool) (c : Command) (x : Effect) → ((la : Latch) (n : ℕ) → command_effect g u la c n ≡ cond (is_off la) Unaffected x) → ((la : Latch) (n : ℕ) → command_effect g w la c n ≡ cond (is_off la) Unaffected x) →
       ((t s : LunView) → test s ≡ true → Asks x t s) → (is_reset i ≡ true → ⊥) → driver_is test ts ≡ true → driver_is test ss ≡ true →
       GoEach i k (by_cycle g u (has_driver ts) (CommandCycle c)) (by_cycle g w (has_driver ss) (CommandCycle c)) 0 ts ss
-  go_cache u w test c x is asks resets dt ds =
+  go_cache u w test c x isu isw asks resets dt ds =
       go_each i k (by_cycle g u (has_driver ts) (CommandCycle c)) (by_cycle g w (has_driver ss) (CommandCycle c)) SameOff Any (λ m v. is_off v.latch ≡ false → test v ≡ true) one 0 ts ss
       (same_driver ts ss each ht hs) (any_at 0 ts) (all_on_at test 0 ss (driver_on test ss ds))
     where
@@ -242,10 +251,10 @@ module _ (g : Parts) (plain : is_shared g ≡ false) (i : Item) (k : Known) (ts 
       hs = some_any test (driver ss) ds
 
       plain_t : (n : ℕ) (t : LunView) → by_cycle g u (has_driver ts) (CommandCycle c) n t ≡ cond (is_off t.latch) Unaffected x
-      plain_t n t = is (cond (has_driver ts) t.latch Off) n u ∙ ap (λ b. cond (is_off (cond b t.latch Off)) Unaffected x) ht
+      plain_t n t = isu (cond (has_driver ts) t.latch Off) n ∙ ap (λ b. cond (is_off (cond b t.latch Off)) Unaffected x) ht
 
       plain_s : (n : ℕ) (s : LunView) → by_cycle g w (has_driver ss) (CommandCycle c) n s ≡ cond (is_off s.latch) Unaffected x
-      plain_s n s = is (cond (has_driver ss) s.latch Off) n w ∙ ap (λ b. cond (is_off (cond b s.latch Off)) Unaffected x) hs
+      plain_s n s = isw (cond (has_driver ss) s.latch Off) n ∙ ap (λ b. cond (is_off (cond b s.latch Off)) Unaffected x) hs
 
       one : (n : ℕ) (t s : LunView) → SameOff t s → Any n t → (is_off s.latch ≡ false → test s ≡ true) → Goes i (knows k n) (by_cycle g u (has_driver ts) (CommandCycle c) n t) (by_cycle g w (has_driver ss) (CommandCycle c) n s) t s
       one n t s off a on =
@@ -255,6 +264,34 @@ module _ (g : Parts) (plain : is_shared g ≡ false) (i : Item) (k : Known) (ts 
           at : (b : Bool) → is_off s.latch ≡ b → Goes i (knows k n) (cond (is_off t.latch) Unaffected x) (cond b Unaffected x) t s
           at true e = rw (off ∙ e) (go_same i (knows k n) Unaffected Unaffected t s refl tt (λ h. absurd (resets h)))
           at false e = rw (off ∙ e) (go_same i (knows k n) x x t s refl (asks t s (on e)) (λ h. absurd (resets h)))
+
+  -- a 31h that the tail wants, which reads on at the LUN of its row
+  go_row : (u : TailFacts) → wants_command u ReadCacheSequential ≡ true → (is_reset i ≡ true → ⊥) → named_lun_is g (row u) (λ v. is_page_read v.closer) ss ≡ true →
+      GoEach i k (by_cycle g u (has_driver ts) (CommandCycle ReadCacheSequential)) (by_cycle g u (has_driver ss) (CommandCycle ReadCacheSequential)) 0 ts ss
+  go_row u w resets reads =
+      go_each i k (by_cycle g u (has_driver ts) (CommandCycle ReadCacheSequential)) (by_cycle g u (has_driver ss) (CommandCycle ReadCacheSequential)) IsBelow Any (ReadsPages g u) one 0 ts ss each (any_at 0 ts)
+      (at_each (ReadsPages g u) ss named_reads)
+    where
+      named_reads : (m : ℕ) (s : LunView) → slice_get ss m ≡ Some s → ReadsPages g u m s
+      named_reads m s found names =
+          let here : (parts_of g (row u)).lun ≡ m = eqb-true (parts_of g (row u)).lun m names in
+          let at : slice_get ss (parts_of g (row u)).lun ≡ Some s = ap (slice_get ss) here ∙ found in
+          sym (ap (is_some_and (λ v. is_page_read v.closer)) at) ∙ reads
+
+      on_row : (la : Latch) (n : ℕ) → command_effect g u la ReadCacheSequential n ≡ row_effect g u ReadCacheSequential n
+      on_row la n = ap (λ (b : Bool). cond b (row_effect g u ReadCacheSequential n) (cache_effect la)) w
+
+      asks_row : (n : ℕ) (t s : LunView) → ReadsPages g u n s → Asks (row_effect g u ReadCacheSequential n) t s
+      asks_row n t s h =
+          asks_or (wants_command u ReadCacheSequential && names_lun g (row u) n) (confirm_effect g u ReadCacheSequential) (other_effect g u ReadCacheSequential) t s
+          (λ b. h (and_parts (wants_command u ReadCacheSequential) (names_lun g (row u) n) b).1) (asks_other g u ReadCacheSequential t s plain)
+
+      one : (n : ℕ) (t s : LunView) → IsBelow t s → Any n t → ReadsPages g u n s →
+          Goes i (knows k n) (by_cycle g u (has_driver ts) (CommandCycle ReadCacheSequential) n t) (by_cycle g u (has_driver ss) (CommandCycle ReadCacheSequential) n s) t s
+      one n t s below any h =
+          go_same i (knows k n) (by_cycle g u (has_driver ts) (CommandCycle ReadCacheSequential) n t) (by_cycle g u (has_driver ss) (CommandCycle ReadCacheSequential) n s) t s
+          (on_row (cond (has_driver ts) t.latch Off) n ∙ sym (on_row (cond (has_driver ss) s.latch Off) n))
+          (subst (λ (e : Effect). Asks e t s) (sym (on_row (cond (has_driver ss) s.latch Off) n)) (asks_row n t s h)) (λ r. absurd (resets r))
 
   -- E0h, where its tail has one driver
   go_column : (u : TailFacts) → (opened (λ c n. is_change_read_column c) u.opening ≡ true → (has_driver ts ≡ true) × (has_driver ss ≡ true)) → (is_reset i ≡ true → ⊥) →
@@ -309,25 +346,34 @@ module _ (g : Parts) (plain : is_shared g ≡ false) (i : Item) (k : Known) (ts 
       (opened (λ c n. is_change_read_column c) u.opening ≡ true → (has_driver ts ≡ true) × (has_driver ss ≡ true)) → AtEach (ReadsClear g u) 0 ts →
       GoEach i k (by_cycle g u (has_driver ts) (CommandCycle c)) (by_cycle g u (has_driver ss) (CommandCycle c)) 0 ts ss
   unfolding breaks_cache_read_misplaced
-  go_command u ReadCacheSequential r a b d z =
-      go_cache u u (continues_cache g) ReadCacheSequential CacheReadContinued (λ la n t. refl) (λ t s h. (and_parts (is_page_read s.closer) _ (and_parts (not s.busy) _ h).1).0) (λ h. let yes = r h in cc)
-      (not-false (driver_is (continues_cache g) ts) a.f15) (not-false (driver_is (continues_cache g) ss) b.f15)
+  go_command u ReadCacheSequential r a b d z = at (wants_command u ReadCacheSequential) refl a.f15 b.f15
+    where
+      at : (w : Bool) → wants_command u ReadCacheSequential ≡ w → cond w (not (named_lun_is g (row u) (λ v. is_page_read v.closer) ts)) (not (driver_is (continues_cache g) ts)) ≡ false →
+          cond w (not (named_lun_is g (row u) (λ v. is_page_read v.closer) ss)) (not (driver_is (continues_cache g) ss)) ≡ false →
+          GoEach i k (by_cycle g u (has_driver ts) (CommandCycle ReadCacheSequential)) (by_cycle g u (has_driver ss) (CommandCycle ReadCacheSequential)) 0 ts ss
+      at true e x y = go_row u e (λ h. let yes = r h in cc) (not-false (named_lun_is g (row u) (λ v. is_page_read v.closer) ss) y)
+      at false e x y =
+          go_cache u u (continues_cache g) ReadCacheSequential (CacheReadContinued None) (cache_read_on g u e) (cache_read_on g u e)
+          (λ t s h. (and_parts (is_page_read s.closer) _ (and_parts (not s.busy) _ h).1).0) (λ h. let yes = r h in cc)
+          (not-false (driver_is (continues_cache g) ts) x) (not-false (driver_is (continues_cache g) ss) y)
   go_command u ReadCacheEnd r a b d z =
-      go_cache u u ends_cache ReadCacheEnd CacheReadEnded (λ la n t. refl) (λ t s h. tt) (λ h. let yes = r h in cc) (not-false (driver_is ends_cache ts) a.f15) (not-false (driver_is ends_cache ss) b.f15)
+      go_cache u u ends_cache ReadCacheEnd CacheReadEnded (λ la n. refl) (λ la n. refl) (λ t s h. tt) (λ h. let yes = r h in cc) (not-false (driver_is ends_cache ts) a.f15) (not-false (driver_is ends_cache ss) b.f15)
   go_command u ChangeReadColumnConfirm r a b d z = go_column u d (λ h. let yes = r h in cc)
   go_command u c r a b d z = go_other u c refl r z
 
   -- an opener behind a sequence that wasn't seen
-  pub go_opener : (u : TailFacts) (c : Command) → is_opener c ≡ true → (is_reset i ≡ true → is_reset_cycle (CommandCycle c) ≡ true) → KeepsRules g u ts (CommandCycle c) → KeepsRules g (facts_of []) ss (CommandCycle c) →
+  pub go_opener : (u : TailFacts) (c : Command) → is_opener c ≡ true → begins_anew u (CommandCycle c) ≡ true → (is_reset i ≡ true → is_reset_cycle (CommandCycle c) ≡ true) → KeepsRules g u ts (CommandCycle c) → KeepsRules g (facts_of []) ss (CommandCycle c) →
       GoEach i k (by_cycle g u (has_driver ts) (CommandCycle c)) (by_cycle g (facts_of []) (has_driver ss) (CommandCycle c)) 0 ts ss
   unfolding breaks_cache_read_misplaced
-  go_opener u ReadCacheSequential o r a b =
-      go_cache u (facts_of []) (continues_cache g) ReadCacheSequential CacheReadContinued (λ la n t. refl) (λ t s h. (and_parts (is_page_read s.closer) _ (and_parts (not s.busy) _ h).1).0) (λ h. let yes = r h in cc)
-      (not-false (driver_is (continues_cache g) ts) a.f15) (not-false (driver_is (continues_cache g) ss) b.f15)
-  go_opener u ReadCacheEnd o r a b =
-      go_cache u (facts_of []) ends_cache ReadCacheEnd CacheReadEnded (λ la n t. refl) (λ t s h. tt) (λ h. let yes = r h in cc) (not-false (driver_is ends_cache ts) a.f15) (not-false (driver_is ends_cache ss) b.f15)
-  go_opener u ChangeReadColumnConfirm o r a b = cc
-  go_opener u c o r a b =
+  go_opener u ReadCacheSequential o anew r a b =
+      let none = not-true (wants_command u ReadCacheSequential) anew in
+      let driven = rw none at a.f15 in
+      go_cache u (facts_of []) (continues_cache g) ReadCacheSequential (CacheReadContinued None) (cache_read_on g u none) (cache_read_on g (facts_of []) refl) (λ t s h. (and_parts (is_page_read s.closer) _ (and_parts (not s.busy) _ h).1).0) (λ h. let yes = r h in cc)
+      (not-false (driver_is (continues_cache g) ts) driven) (not-false (driver_is (continues_cache g) ss) b.f15)
+  go_opener u ReadCacheEnd o anew r a b =
+      go_cache u (facts_of []) ends_cache ReadCacheEnd CacheReadEnded (λ la n. refl) (λ la n. refl) (λ t s h. tt) (λ h. let yes = r h in cc) (not-false (driver_is ends_cache ts) a.f15) (not-false (driver_is ends_cache ss) b.f15)
+  go_opener u ChangeReadColumnConfirm o anew r a b = cc
+  go_opener u c o anew r a b =
       go_alike (by_cycle g u (has_driver ts) (CommandCycle c)) (by_cycle g (facts_of []) (has_driver ss) (CommandCycle c)) Any
       (λ n t s. opener_effect g u (cond (has_driver ts) t.latch Off) (cond (has_driver ss) s.latch Off) c n o refl)
       (λ n t s x. asks_opener g plain (cond (has_driver ss) s.latch Off) c n t s o refl)

@@ -1,10 +1,10 @@
 -- A permitted cycle that is taken for granted: what it leaves, and what may come after it.
 use Rattle.std.proofs.Common.{◌≡◌, ◌⊎◌, inl, inr, ℕ, zero, suc, ◌+◌, ◌==◌, Bool, true, false, cond, not, ◌&&◌, List, [], ◌∷◌, Option, Some, None, refl, sym, ap, ◌∙◌, subst, slice_get, eqb-true, eq-eqb}
-use Rattle.std.proofs.lemmas.Bool.{and_parts, or_parts}
+use Rattle.std.proofs.lemmas.Bool.{and_parts, and_from, or_left, or_parts}
 use Rattle.nand_geometry.specs.declared.parts.Parts.{Parts}
 use Rattle.nand_geometry.specs.Row.{parts_of}
 use Rattle.onfi_cycle.specs.declared.command.Command.{Command}
-use Rattle.onfi_cycle.specs.declared.command.Command.TheVariants.{Read, ChangeReadColumn, BlockErase, PageProgram, ReadId, ReadParameterPage, ReadCacheSequential, ReadCacheEnd, ReadUniqueId, GetFeatures, SetFeatures}
+use Rattle.onfi_cycle.specs.declared.command.Command.TheVariants.{Read, ReadConfirm, ChangeReadColumn, ChangeWriteColumn, BlockErase, PageProgram, ReadId, ReadParameterPage, ReadCacheSequential, ReadCacheEnd, ReadUniqueId, GetFeatures, SetFeatures}
 use Rattle.onfi_cycle.specs.declared.data_phase.DataPhase.{DataPhase}
 use Rattle.onfi_cycle.specs.declared.data_phase.DataPhase.TheVariants.{Outside, Inputs, FirstColumn, SecondColumn, FeatureInputs}
 use Rattle.onfi_cycle.specs.declared.effect.Effect.TheVariants.{Unaffected, CacheReadContinued, CacheReadEnded, DataOutput}
@@ -14,17 +14,18 @@ use Rattle.onfi_cycle.specs.declared.opening.Opening.{Opening}
 use Rattle.onfi_cycle.specs.declared.tail_facts.TailFacts.{TailFacts}
 use Rattle.onfi_cycle.specs.declared.target_cycle.TargetCycle.{TargetCycle}
 use Rattle.onfi_cycle.specs.declared.target_cycle.TargetCycle.TheVariants.{CommandCycle, AddressCycle, InputCycle, OutputCycle}
-use Rattle.onfi_cycle.specs.Command.{is_opener, is_page_program, is_set_features, at_last_row, addresses_the_array, is_change_read_column, reads_identity}
-use Rattle.onfi_cycle.specs.Effect.{is_off, is_data, names_lun, command_effect, address_effect, opening_address_effect, cycle_effect}
+use Rattle.nand_geometry.specs.Optional.{is_wide}
+use Rattle.onfi_cycle.specs.Command.{is_page_program, is_set_features, at_last_row, is_change_read_column, reads_identity}
+use Rattle.onfi_cycle.specs.Effect.{is_off, is_data, is_shared, names_lun, confirm_effect, other_effect, row_effect, cache_effect, command_effect, address_effect, opening_address_effect, cycle_effect}
 use Rattle.onfi_cycle.specs.Lun.{is_cache_read, is_page_read}
 use Rattle.onfi_cycle.specs.LunView.{LunView}
-use Rattle.onfi_cycle.specs.Rules.{is_some_and, named_lun_is, ends_row, second_column, second_of_page, caching, breaks_no_column_to_change, breaks_no_sole_driver, breaks_data_not_ready, breaks_column_outside, breaks_cache_read_misplaced}
-use Rattle.onfi_cycle.specs.Sequence.{facts_of, opened, phase_after_address, phase_after_last_address, phase_after_command, one_address_more, row, row_with, wants_command, extended_facts, facts_after}
+use Rattle.onfi_cycle.specs.Rules.{is_some_and, named_lun_is, ends_row, excludes_cache, second_column, second_of_page, caching, breaks_no_column_to_change, breaks_no_sole_driver, breaks_data_not_ready, breaks_column_outside, breaks_cache_read_misplaced}
+use Rattle.onfi_cycle.specs.Sequence.{facts_of, begins_anew, opened, phase_after_address, phase_after_last_address, phase_after_command, one_address_more, row, row_with, wants_command, extended_facts, facts_after}
 use Rattle.onfi_cycle.proofs.Passed.{KeepsRules}
 use Rattle.recording_laws.proofs.Luns.{IsBelow, IsHarmless}
 use Rattle.recording_laws.proofs.Lists.{Each}
 use Rattle.recording_laws.proofs.Rules.{five, five_of}
-use Rattle.recording_laws.proofs.Unseen.{is_led, is_quiet_by, is_named_by, NoneQueued, MayCome, quiet, named, quiet_command, harmless_if, harmless_unless}
+use Rattle.recording_laws.proofs.Unseen.{is_led, is_quiet_by, is_named_by, NoneQueued, MayCome, quiet, named, quiet_command, harmless_if, harmless_or, other_harmless, harmless_unless}
 
 -- ---- 1. tails
 
@@ -65,7 +66,7 @@ sound_address (Some o) FirstColumn h = cc
 sound_address (Some o) SecondColumn h = cc
 
 pub sound_after : (cycle : TargetCycle) (t : TailFacts) → t.is_empty ≡ false → is_sound t ≡ true → is_sound (facts_after cycle t) ≡ true
-sound_after (CommandCycle c) t some h = at (is_opener c) t.is_empty some
+sound_after (CommandCycle c) t some h = at (begins_anew t (CommandCycle c)) t.is_empty some
   where
     at : (b e : Bool) → e ≡ false → is_sound (cond b (extended_facts (CommandCycle c) (facts_of [])) (cond e t (record { opening = cond e (Some (record { opener = c; addresses = 0 })) None; phase = phase_after_command c t.phase; row = t.row; column = t.column; inputs = 0; is_empty = false }))) ≡ true
     at true e f = ap (is_sound_by (Some (record { opener = c; addresses = 0 }))) (quiet_command c Outside refl)
@@ -77,9 +78,10 @@ sound_after OutputCycle t some h = rw some refl
 
 -- ---- 2. which command may be taken for granted
 
--- 05h, 31h, 3Fh, and what reads or sets what stands beside the array
+-- 05h, 30h, 31h, 3Fh, and what reads or sets what stands beside the array
 abbrev pub grants : Command → Bool
 grants ChangeReadColumn = true
+grants ReadConfirm = true
 grants ReadCacheSequential = true
 grants ReadCacheEnd = true
 grants c = reads_identity c
@@ -87,6 +89,7 @@ grants c = reads_identity c
 none_granted : (g : Parts) (t : TailFacts) (ss : List LunView) (c : Command) → grants c ≡ false → five_of g t ss (CommandCycle c) ≡ None
 unfolding breaks_no_column_to_change breaks_no_sole_driver breaks_data_not_ready breaks_column_outside breaks_cache_read_misplaced
 none_granted g t ss ChangeReadColumn h = cc
+none_granted g t ss ReadConfirm h = cc
 none_granted g t ss ReadCacheSequential h = cc
 none_granted g t ss ReadCacheEnd h = cc
 none_granted g t ss ReadId h = cc
@@ -103,19 +106,14 @@ is_granted g t ss c rule h = at (grants c) refl
     at true e = e
     at false e = let none = none_granted g t ss c e in cc
 
-pub granted_opens : (c : Command) → grants c ≡ true → is_opener c ≡ true
-granted_opens ChangeReadColumn h = refl
-granted_opens ReadCacheSequential h = refl
-granted_opens ReadCacheEnd h = refl
-granted_opens ReadId h = refl
-granted_opens ReadParameterPage h = refl
-granted_opens ReadUniqueId h = refl
-granted_opens GetFeatures h = refl
-granted_opens SetFeatures h = refl
-granted_opens c h = cc
+-- it ends the data of a program
+granted_ends : (c : Command) (p : DataPhase) → grants c ≡ true → phase_after_command c p ≡ Outside
+granted_ends ChangeWriteColumn p h = cc
+granted_ends c p h = refl
 
 granted_free : (c : Command) → grants c ≡ true → not (is_led c) ≡ true
 granted_free ChangeReadColumn h = refl
+granted_free ReadConfirm h = refl
 granted_free ReadCacheSequential h = refl
 granted_free ReadCacheEnd h = refl
 granted_free ReadId h = refl
@@ -125,20 +123,33 @@ granted_free GetFeatures h = refl
 granted_free SetFeatures h = refl
 granted_free c h = cc
 
-pub command_granted : (g : Parts) (t : TailFacts) (la : Latch) (c : Command) (n : ℕ) (s : LunView) → grants c ≡ true → IsHarmless (command_effect g t la c n) s
-command_granted g t la ReadCacheSequential n s h = harmless_unless (is_off la) CacheReadContinued s tt
-command_granted g t la ReadCacheEnd n s h = harmless_unless (is_off la) CacheReadEnded s tt
-command_granted g t la ChangeReadColumn n s h = harmless_if (wants_command t ChangeReadColumn && names_lun g (row t) n) Unaffected s (λ b. tt)
-command_granted g t la ReadId n s h = harmless_if (wants_command t ReadId && names_lun g (row t) n) Unaffected s (λ b. tt)
-command_granted g t la ReadParameterPage n s h = harmless_if (wants_command t ReadParameterPage && names_lun g (row t) n) Unaffected s (λ b. tt)
-command_granted g t la ReadUniqueId n s h = harmless_if (wants_command t ReadUniqueId && names_lun g (row t) n) Unaffected s (λ b. tt)
-command_granted g t la GetFeatures n s h = harmless_if (wants_command t GetFeatures && names_lun g (row t) n) Unaffected s (λ b. tt)
-command_granted g t la SetFeatures n s h = harmless_if (wants_command t SetFeatures && names_lun g (row t) n) Unaffected s (λ b. tt)
-command_granted g t la c n s h = cc
+pub command_granted : (g : Parts) → is_shared g ≡ false → (t : TailFacts) (la : Latch) (c : Command) (n : ℕ) (s : LunView) → grants c ≡ true → IsHarmless (command_effect g t la c n) s
+command_granted g plain t la ReadConfirm n s h = harmless_or (wants_command t ReadConfirm && names_lun g (row t) n) (confirm_effect g t ReadConfirm) (other_effect g t ReadConfirm) s (λ b. tt) (other_harmless g t ReadConfirm s plain)
+command_granted g plain t la ReadCacheSequential n s h =
+    harmless_or (wants_command t ReadCacheSequential) (row_effect g t ReadCacheSequential n) (cache_effect la) s
+    (λ w. harmless_or (wants_command t ReadCacheSequential && names_lun g (row t) n) (confirm_effect g t ReadCacheSequential) (other_effect g t ReadCacheSequential) s (λ b. tt) (other_harmless g t ReadCacheSequential s plain))
+    (harmless_unless (is_off la) (CacheReadContinued None) s tt)
+command_granted g plain t la ReadCacheEnd n s h = harmless_unless (is_off la) CacheReadEnded s tt
+command_granted g plain t la ChangeReadColumn n s h = harmless_if (wants_command t ChangeReadColumn && names_lun g (row t) n) Unaffected s (λ b. tt)
+command_granted g plain t la ReadId n s h = harmless_if (wants_command t ReadId && names_lun g (row t) n) Unaffected s (λ b. tt)
+command_granted g plain t la ReadParameterPage n s h = harmless_if (wants_command t ReadParameterPage && names_lun g (row t) n) Unaffected s (λ b. tt)
+command_granted g plain t la ReadUniqueId n s h = harmless_if (wants_command t ReadUniqueId && names_lun g (row t) n) Unaffected s (λ b. tt)
+command_granted g plain t la GetFeatures n s h = harmless_if (wants_command t GetFeatures && names_lun g (row t) n) Unaffected s (λ b. tt)
+command_granted g plain t la SetFeatures n s h = harmless_if (wants_command t SetFeatures && names_lun g (row t) n) Unaffected s (λ b. tt)
+command_granted g plain t la c n s h = cc
 
 -- behind such a command nothing is to be seen
-pub command_comes : (g : Parts) (t : TailFacts) (ss : List LunView) (c : Command) → grants c ≡ true → MayCome g (facts_after (CommandCycle c) t) ss
-command_comes g t ss c h = rw (granted_opens c h) (quiet (ap (is_quiet_by (Some (record { opener = c; addresses = 0 }))) (quiet_command c Outside refl) ∙ granted_free c h))
+pub command_comes : (g : Parts) (t : TailFacts) (ss : List LunView) (c : Command) → (t.is_empty ≡ false) ⊎ (begins_anew t (CommandCycle c) ≡ true) → grants c ≡ true → MayCome g (facts_after (CommandCycle c) t) ss
+command_comes g t ss c some h = at (begins_anew t (CommandCycle c)) refl some
+  where
+    on : (e : Bool) → t.is_empty ≡ e → e ≡ false → MayCome g (cond e t (extended_facts (CommandCycle c) t)) ss
+    on true x f = cc
+    on false x f = quiet (ap (λ (b : Bool). is_quiet_by (cond b (Some (record { opener = c; addresses = 0 })) None) (phase_after_command c t.phase)) x ∙ ap (is_quiet_by None) (granted_ends c t.phase h))
+
+    at : (b : Bool) → begins_anew t (CommandCycle c) ≡ b → (t.is_empty ≡ false) ⊎ (b ≡ true) → MayCome g (cond b (extended_facts (CommandCycle c) (facts_of [])) (cond t.is_empty t (extended_facts (CommandCycle c) t))) ss
+    at true x y = quiet (ap (is_quiet_by (Some (record { opener = c; addresses = 0 }))) (quiet_command c Outside refl) ∙ granted_free c h)
+    at false x (inl f) = on t.is_empty refl f
+    at false x (inr f) = cc
 
 -- ---- 3. an address
 
@@ -180,27 +191,29 @@ address_free g t byte ChangeReadColumn m n s h = tt
 address_free g t byte c m n s h = cc
 
 -- what comes behind the last address of a row, whose LUN is seen to read on
-row_comes : (c : Command) (n : ℕ) (p : DataPhase) → (addresses_the_array c && at_last_row c n) ≡ true → is_sound_by (Some (record { opener = c; addresses = n })) p ≡ true →
+row_comes : (g : Parts) (c : Command) (n : ℕ) (p : DataPhase) → (excludes_cache g c && at_last_row c n) ≡ true → is_sound_by (Some (record { opener = c; addresses = n })) p ≡ true →
     (is_quiet_by (Some (record { opener = c; addresses = n + 1 })) (phase_after_address (Some (record { opener = c; addresses = n })) p) ≡ true)
-    ⊎ (is_named_by (Some (record { opener = c; addresses = n + 1 })) (phase_after_address (Some (record { opener = c; addresses = n })) p) ≡ true)
-row_comes Read n Outside h sound = inl refl
-row_comes BlockErase n Outside h sound = inr (one_more n 2 h)
-row_comes PageProgram n Outside h sound = inr (rw h (one_more n 4 h))
-row_comes PageProgram n Inputs h sound = let five : n ≡ 5 = eqb-true n 5 sound in let four = rw five at h in cc
-row_comes c n FirstColumn h sound = cc
-row_comes c n SecondColumn h sound = cc
-row_comes Read n Inputs h sound = cc
-row_comes Read n FeatureInputs h sound = cc
-row_comes BlockErase n Inputs h sound = cc
-row_comes BlockErase n FeatureInputs h sound = cc
-row_comes PageProgram n FeatureInputs h sound = cc
-row_comes c n p h sound = cc
+    ⊎ (is_named_by g (Some (record { opener = c; addresses = n + 1 })) (phase_after_address (Some (record { opener = c; addresses = n })) p) ≡ true)
+row_comes g Read n Outside h sound =
+    let both = and_parts (not (is_wide g.optional)) (n == 4) h in
+    inr (and_from (not (is_wide g.optional)) (n + 1 == 5) both.0 (one_more n 4 both.1))
+row_comes g BlockErase n Outside h sound = inr (or_left (n + 1 == 3) (not (is_wide g.optional) && false) (one_more n 2 h))
+row_comes g PageProgram n Outside h sound = inr (rw h (one_more n 4 h))
+row_comes g PageProgram n Inputs h sound = let five : n ≡ 5 = eqb-true n 5 sound in let four = rw five at h in cc
+row_comes g c n FirstColumn h sound = cc
+row_comes g c n SecondColumn h sound = cc
+row_comes g Read n Inputs h sound = cc
+row_comes g Read n FeatureInputs h sound = cc
+row_comes g BlockErase n Inputs h sound = cc
+row_comes g BlockErase n FeatureInputs h sound = cc
+row_comes g PageProgram n FeatureInputs h sound = cc
+row_comes g c n p h sound = cc
 
-row_quiet : (c : Command) (n : ℕ) → (addresses_the_array c && at_last_row c n) ≡ true → addresses_quietly c ≡ true
-row_quiet Read n h = refl
-row_quiet BlockErase n h = refl
-row_quiet PageProgram n h = refl
-row_quiet c n h = cc
+row_quiet : (g : Parts) (c : Command) (n : ℕ) → (excludes_cache g c && at_last_row c n) ≡ true → addresses_quietly c ≡ true
+row_quiet g Read n h = refl
+row_quiet g BlockErase n h = refl
+row_quiet g PageProgram n h = refl
+row_quiet g c n h = cc
 
 column_comes : (c : Command) (n : ℕ) (p : DataPhase) → (is_change_read_column c && n == 1) ≡ true → is_sound_by (Some (record { opener = c; addresses = n })) p ≡ true →
     is_quiet_by (Some (record { opener = c; addresses = n + 1 })) (phase_after_address (Some (record { opener = c; addresses = n })) p) ≡ true
@@ -229,12 +242,12 @@ module _ (g : Parts) (t : TailFacts) (ss : List LunView) (byte : ℕ) (some : t.
         harmless = λ la n s. subst (λ (x : Option Opening). IsHarmless (opening_address_effect g t byte x n) s) (sym e) (address_free g t byte o.opener o.addresses n s (column_quiet o.opener o.addresses h));
       }
 
-  after_row : (o : Option Opening) → t.opening ≡ o → opened (λ c n. addresses_the_array c && at_last_row c n) o ≡ true → is_sound_by o t.phase ≡ true → NoneQueued g (row_with t byte) ss → Comes g t ss (AddressCycle byte)
+  after_row : (o : Option Opening) → t.opening ≡ o → opened (λ c n. excludes_cache g c && at_last_row c n) o ≡ true → is_sound_by o t.phase ≡ true → NoneQueued g (row_with t byte) ss → Comes g t ss (AddressCycle byte)
   after_row None e h q none = cc
   after_row (Some o) e h q none =
       record {
-        comes = rw some (elim (row_comes o.opener o.addresses t.phase h q) [ inl x ↦ quiet (rw e x) | inr x ↦ named (rw e x) (rw e none) ]);
-        harmless = λ la n s. subst (λ (x : Option Opening). IsHarmless (opening_address_effect g t byte x n) s) (sym e) (address_free g t byte o.opener o.addresses n s (row_quiet o.opener o.addresses h));
+        comes = rw some (elim (row_comes g o.opener o.addresses t.phase h q) [ inl x ↦ quiet (rw e x) | inr x ↦ named (rw e x) (rw e none) ]);
+        harmless = λ la n s. subst (λ (x : Option Opening). IsHarmless (opening_address_effect g t byte x n) s) (sym e) (address_free g t byte o.opener o.addresses n s (row_quiet g o.opener o.addresses h));
       }
 
 pub address_granted : (g : Parts) (t : TailFacts) (ts ss : List LunView) (byte : ℕ) (rule : Forbidden) → Each IsBelow ts ss → KeepsRules g t ts (AddressCycle byte) → t.is_empty ≡ false → is_sound t ≡ true →
@@ -251,7 +264,7 @@ address_granted g t ts ss byte rule each k some sound h =
 
     by_row : breaks_cache_read_misplaced g t ss (AddressCycle byte) ≡ true → Comes g t ss (AddressCycle byte)
     by_row b =
-        let a = and_parts (ends_row addresses_the_array t) (named_lun_is g (row_with t byte) caching ss) b in
+        let a = and_parts (ends_row (excludes_cache g) t) (named_lun_is g (row_with t byte) caching ss) b in
         after_row g t ss byte some sound t.opening refl a.0 sound (none_queued g (row_with t byte) ts ss each a.1)
 
     at : (b : Bool) → breaks_column_outside g t ss (AddressCycle byte) ≡ b → (c : Bool) → breaks_cache_read_misplaced g t ss (AddressCycle byte) ≡ c →

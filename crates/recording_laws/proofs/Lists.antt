@@ -41,6 +41,13 @@ any_down R p q f (t ∷ ts) [] e h = absurd e
 
 -- ---- a test of the LUN of a number
 
+pub lun_up : (R : LunView → LunView → Type 0) (p q : LunView → Bool) → ((t s : LunView) → R t s → p t ≡ true → q s ≡ true) → (ts ss : List LunView) (n : ℕ) → Each R ts ss → lun_is p ts n ≡ true → lun_is q ss n ≡ true
+lun_up R p q f [] [] n e h = cc
+lun_up R p q f (t ∷ ts) (s ∷ ss) zero e h = f t s e.0 h
+lun_up R p q f (t ∷ ts) (s ∷ ss) (suc n) e h = lun_up R p q f ts ss n e.1 h
+lun_up R p q f [] (s ∷ ss) n e h = absurd e
+lun_up R p q f (t ∷ ts) [] n e h = absurd e
+
 pub lun_down : (R : LunView → LunView → Type 0) (p q : LunView → Bool) → ((t s : LunView) → R t s → q s ≡ true → p t ≡ true) → (ts ss : List LunView) (n : ℕ) → Each R ts ss → lun_is q ss n ≡ true → lun_is p ts n ≡ true
 lun_down R p q f [] [] n e h = cc
 lun_down R p q f (t ∷ ts) (s ∷ ss) zero e h = f t s e.0 h

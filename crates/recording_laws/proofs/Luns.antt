@@ -1,5 +1,5 @@
 -- A LUN as it is, and as it is seen by a check that began in the middle: what an effect leaves of both.
-use Rattle.std.proofs.Common.{◌≡◌, Bool, true, false, cond, not, ◌&&◌, ◌||◌, List, [], ◌∷◌, Some, refl, sym, ap, ◌∙◌, subst}
+use Rattle.std.proofs.Common.{◌≡◌, Bool, true, false, cond, not, ◌&&◌, ◌||◌, List, [], ◌∷◌, Some, None, refl, sym, ap, ◌∙◌, subst}
 use Rattle.std.specs.List.{list_any}
 use Rattle.std.proofs.lemmas.Bool.{and_parts, or_parts, not-true, not-false}
 use Rattle.onfi_cycle.specs.declared.command.Command.TheVariants.{BlockEraseConfirm, BlockErasePlane, ProgramConfirm, ProgramPlane}
@@ -129,7 +129,7 @@ no_page_programmed false h = cc
 -- what an effect asks of the LUN: a read of a page has no queue, and a cache read goes on from one. Three come only where a target is shared
 abbrev pub Asks : Effect → LunView → LunView → Type 0
 Asks (ReadStarted at from) t s = t.queue ≡ []
-Asks CacheReadContinued t s = is_page_read s.closer ≡ true
+Asks (CacheReadContinued to) t s = is_page_read s.closer ≡ true
 Asks (TargetResetStarted first) t s = ⊥
 Asks StatusOfSelected t s = ⊥
 Asks (AnotherAddressed reads) t s = ⊥
@@ -151,7 +151,7 @@ below_after UniqueIdReadStarted t s b asks = record { busy = λ h. refl; queue =
 below_after (FeaturesReadStarted address) t s b asks = record { busy = λ h. refl; queue = b.queue; latch = refl; calm = λ h. cc }
 below_after (FeaturesSet address) t s b asks = record { busy = λ h. refl; queue = b.queue; latch = b.latch; calm = λ h. cc }
 below_after ParameterPageReadStarted t s b asks = record { busy = λ h. refl; queue = b.queue; latch = refl; calm = λ h. cc }
-below_after CacheReadContinued t s b asks = record { busy = λ h. refl; queue = b.queue; latch = refl; calm = λ h. b.calm asks }
+below_after (CacheReadContinued to) t s b asks = record { busy = λ h. refl; queue = b.queue; latch = refl; calm = λ h. b.calm asks }
 below_after CacheReadEnded t s b asks = record { busy = λ h. refl; queue = b.queue; latch = refl; calm = λ h. cc }
 below_after (ReadColumnChanged from) t s b asks = record { busy = b.busy; queue = b.queue; latch = b.latch; calm = b.calm }
 below_after DataOutput t s b asks = record { busy = b.busy; queue = b.queue; latch = b.latch; calm = b.calm }
@@ -181,7 +181,8 @@ begun_after UniqueIdReadStarted t s g asks = record { busy = refl; closer = refl
 begun_after (FeaturesReadStarted address) t s g asks = record { busy = refl; closer = refl; array_busy = refl; page = λ h. cc; register = refl; column = λ h. refl }
 begun_after (FeaturesSet address) t s g asks = record { busy = refl; closer = refl; array_busy = refl; page = λ h. cc; register = refl; column = λ h. cc }
 begun_after ParameterPageReadStarted t s g asks = record { busy = refl; closer = refl; array_busy = refl; page = λ h. cc; register = refl; column = λ h. refl }
-begun_after CacheReadContinued t s g asks = record { busy = refl; closer = refl; array_busy = refl; page = λ h. ap next_page (g.page asks); register = refl; column = λ h. refl }
+begun_after (CacheReadContinued None) t s g asks = record { busy = refl; closer = refl; array_busy = refl; page = λ h. ap next_page (g.page asks); register = refl; column = λ h. refl }
+begun_after (CacheReadContinued (Some page)) t s g asks = record { busy = refl; closer = refl; array_busy = refl; page = λ h. refl; register = refl; column = λ h. refl }
 begun_after CacheReadEnded t s g asks = record { busy = refl; closer = refl; array_busy = refl; page = λ h. cc; register = refl; column = λ h. refl }
 begun_after (ReadColumnChanged from) t s g asks = record { busy = g.busy; closer = g.closer; array_busy = g.array_busy; page = g.page; register = g.register; column = λ h. refl }
 begun_after DataOutput t s g asks = record { busy = g.busy; closer = g.closer; array_busy = g.array_busy; page = g.page; register = g.register; column = λ h. more_out t.column s.column (g.column h) }
@@ -217,7 +218,7 @@ begun_by UniqueIdReadStarted t s idle busy new = record { busy = refl; closer = 
 begun_by (FeaturesReadStarted address) t s idle busy new = record { busy = refl; closer = refl; array_busy = refl; page = λ h. cc; register = refl; column = λ h. refl }
 begun_by (FeaturesSet address) t s idle busy new = record { busy = refl; closer = refl; array_busy = refl; page = λ h. cc; register = refl; column = λ h. cc }
 begun_by ParameterPageReadStarted t s idle busy new = record { busy = refl; closer = refl; array_busy = refl; page = λ h. cc; register = refl; column = λ h. refl }
-begun_by CacheReadContinued t s idle busy new = cc
+begun_by (CacheReadContinued to) t s idle busy new = cc
 begun_by CacheReadEnded t s idle busy new = record { busy = refl; closer = refl; array_busy = refl; page = λ h. cc; register = refl; column = λ h. refl }
 begun_by (ReadColumnChanged from) t s idle busy new = cc
 begun_by DataOutput t s idle busy new = cc
@@ -244,7 +245,7 @@ same_after UniqueIdReadStarted t s asks m = record { off = refl; latch = λ h. r
 same_after (FeaturesReadStarted address) t s asks m = record { off = refl; latch = λ h. refl }
 same_after (FeaturesSet address) t s asks m = record { off = m.off; latch = λ h. cc }
 same_after ParameterPageReadStarted t s asks m = record { off = refl; latch = λ h. refl }
-same_after CacheReadContinued t s asks m = record { off = refl; latch = λ h. refl }
+same_after (CacheReadContinued to) t s asks m = record { off = refl; latch = λ h. refl }
 same_after CacheReadEnded t s asks m = record { off = refl; latch = λ h. refl }
 same_after (ReadColumnChanged from) t s asks m = record { off = m.off; latch = m.latch }
 same_after DataOutput t s asks m = record { off = m.off; latch = m.latch }
@@ -272,7 +273,7 @@ driven_by UniqueIdReadStarted t s asks off on = record { off = refl; latch = λ 
 driven_by (FeaturesReadStarted address) t s asks off on = record { off = refl; latch = λ h. refl }
 driven_by (FeaturesSet address) t s asks off on = cc
 driven_by ParameterPageReadStarted t s asks off on = record { off = refl; latch = λ h. refl }
-driven_by CacheReadContinued t s asks off on = record { off = refl; latch = λ h. refl }
+driven_by (CacheReadContinued to) t s asks off on = record { off = refl; latch = λ h. refl }
 driven_by CacheReadEnded t s asks off on = record { off = refl; latch = λ h. refl }
 driven_by (ReadColumnChanged from) t s asks off on = cc
 driven_by DataOutput t s asks off on = cc
@@ -300,7 +301,7 @@ same_begun UniqueIdReadStarted t s idle busy off = record { off = off; latch = �
 same_begun (FeaturesReadStarted address) t s idle busy off = record { off = off; latch = λ h. refl }
 same_begun (FeaturesSet address) t s idle busy off = record { off = off; latch = λ h. cc }
 same_begun ParameterPageReadStarted t s idle busy off = record { off = off; latch = λ h. refl }
-same_begun CacheReadContinued t s idle busy off = record { off = off; latch = λ h. refl }
+same_begun (CacheReadContinued to) t s idle busy off = record { off = off; latch = λ h. refl }
 same_begun CacheReadEnded t s idle busy off = record { off = off; latch = λ h. refl }
 same_begun (ReadColumnChanged from) t s idle busy off = cc
 same_begun DataOutput t s idle busy off = cc
@@ -398,6 +399,7 @@ pub record IsBlank (s : LunView) : Type 0 where
   pub array_busy : s.array_busy ≡ false
   pub queue : s.queue ≡ []
   pub latch : s.latch ≡ Off
+  pub closer : s.closer ≡ None
 
 off_shows : (s t : Latch) → s ≡ Off → Shows s t
 off_shows Off t h = tt
@@ -434,7 +436,7 @@ unseen_after UniqueIdReadStarted t s b h = record { busy = λ x. refl; queue = b
 unseen_after (FeaturesReadStarted address) t s b h = record { busy = λ x. refl; queue = b.queue; latch = data_shows s.latch; calm = b.calm }
 unseen_after (FeaturesSet address) t s b h = record { busy = λ x. refl; queue = b.queue; latch = b.latch; calm = b.calm }
 unseen_after ParameterPageReadStarted t s b h = record { busy = λ x. refl; queue = b.queue; latch = data_shows s.latch; calm = b.calm }
-unseen_after CacheReadContinued t s b h = record { busy = λ x. refl; queue = b.queue; latch = data_shows s.latch; calm = b.calm }
+unseen_after (CacheReadContinued to) t s b h = record { busy = λ x. refl; queue = b.queue; latch = data_shows s.latch; calm = b.calm }
 unseen_after CacheReadEnded t s b h = record { busy = λ x. refl; queue = b.queue; latch = data_shows s.latch; calm = b.calm }
 unseen_after (ReadColumnChanged from) t s b h = record { busy = b.busy; queue = b.queue; latch = b.latch; calm = b.calm }
 unseen_after DataOutput t s b h = record { busy = b.busy; queue = b.queue; latch = b.latch; calm = b.calm }
@@ -461,7 +463,7 @@ blank_harmless UniqueIdReadStarted s b = tt
 blank_harmless (FeaturesReadStarted address) s b = tt
 blank_harmless (FeaturesSet address) s b = tt
 blank_harmless ParameterPageReadStarted s b = tt
-blank_harmless CacheReadContinued s b = tt
+blank_harmless (CacheReadContinued to) s b = tt
 blank_harmless CacheReadEnded s b = tt
 blank_harmless (ReadColumnChanged from) s b = tt
 blank_harmless DataOutput s b = tt

@@ -74,7 +74,7 @@ blank_from g ce zero n m s h = cc
 blank_from g ce (suc count) n zero s h =
     let l : Lun = record { ce = ce; lun = n } in
     let same : lun_view g [] l ≡ s = cc in
-    subst IsBlank same (record { busy = refl; array_busy = refl; queue = refl; latch = refl })
+    subst IsBlank same (record { busy = refl; array_busy = refl; queue = refl; latch = refl; closer = refl })
 blank_from g ce (suc count) n (suc m) s h = blank_from g ce count (n + 1) m s h
 
 first_is_known : (targets ce : ℕ) → ce < targets → targets ≤ 4 → known_of (all_first_known targets) ce ≡ nothing_known

@@ -198,7 +198,7 @@ module _ (i : Item) (lun : ℕ) (x : Effect) (works : LunView → Bool) (is : Is
     comes_after h (blank b) = absurd (none_works b h)
     comes_after h (quiet q) = quiet (ap is_quiet (is.tail g t) ∙ q)
     comes_after h (named n e) =
-        named (ap is_named (is.tail g t) ∙ n)
+        named (ap (is_named g) (is.tail g t) ∙ n)
         (subst (λ (vs : List LunView). NoneQueued g (row (target_after g i t).tail) vs) (sym (luns_ready g s.tail (has_driver s.luns) s.luns))
         (subst (λ (w : TailFacts). NoneQueued g (row w) (changed by_ready 0 s.luns)) (sym (is.tail g t)) (still_none g (row t.tail) s.luns e)))
 

@@ -1,10 +1,10 @@
 -- Which rules a permitted cycle may seem to break, by what is seen: those that hang on what was before, and none where all is known.
 use Rattle.std.proofs.Common.{◌≡◌, ◌+◌, Bool, true, false, cond, not, ◌&&◌, ◌||◌, ltb, leb, List, [], ◌∷◌, Option, Some, None, refl, sym, ap, ◌∙◌, true≢false}
 use Rattle.std.specs.List.{list_any}
-use Rattle.std.proofs.lemmas.Bool.{and_parts, and_from, and_right, or_left, or_right, or_from, or_parts, not-false, not_from_true}
+use Rattle.std.proofs.lemmas.Bool.{and_parts, and_from, and_right, or_left, or_right, or_from, or_parts, not-true, not-false, not_from_true}
 use Rattle.nand_geometry.specs.declared.parts.Parts.{Parts}
 use Rattle.onfi_cycle.specs.declared.command.Command.{Command}
-use Rattle.onfi_cycle.specs.declared.command.Command.TheVariants.{Read, ChangeReadColumn, BlockErase, PageProgram, ReadStatus, ReadStatusEnhanced, ReadCacheSequential, ReadCacheEnd}
+use Rattle.onfi_cycle.specs.declared.command.Command.TheVariants.{Read, ChangeReadColumn, BlockErase, PageProgram, ReadStatus, ReadStatusEnhanced, ReadConfirm, ReadCacheSequential, ReadCacheEnd}
 use Rattle.onfi_cycle.specs.declared.forbidden.Forbidden.{Forbidden}
 use Rattle.onfi_cycle.specs.declared.forbidden.Forbidden.TheVariants.{NoColumnToChange, NoSoleDriver, DataNotReady, ColumnOutside, CacheReadMisplaced}
 use Rattle.onfi_cycle.specs.declared.latch.Latch.{Latch}
@@ -17,17 +17,18 @@ use Rattle.onfi_cycle.specs.declared.register.Register.TheVariants.{Empty, Page,
 use Rattle.onfi_cycle.specs.declared.tail_facts.TailFacts.{TailFacts}
 use Rattle.onfi_cycle.specs.declared.target_cycle.TargetCycle.{TargetCycle}
 use Rattle.onfi_cycle.specs.declared.target_cycle.TargetCycle.TheVariants.{CommandCycle, AddressCycle, InputCycle, OutputCycle}
+use Rattle.nand_geometry.specs.Optional.{is_wide}
 use Rattle.onfi_cycle.specs.Command.{is_opener, wants_ready, reads_identity, at_last_row, addresses_the_array, is_change_read_column}
 use Rattle.onfi_cycle.specs.Effect.{is_off, is_data, is_shared, page_address}
 use Rattle.onfi_cycle.specs.Lun.{is_cache_read, is_page_read, output_column}
 use Rattle.onfi_cycle.specs.LunView.{LunView}
 use Rattle.onfi_cycle.specs.Permitted.{judge_cycle}
-use Rattle.onfi_cycle.specs.Rules.{is_some_and, driver_is, named_lun_is, ends_row, register_len, is_page_or_parameters, is_empty, lacks, is_past, queued_clashes, has_some, may_change_column, refused_by, is_refused_by, works_for_target, is_unclear, has_no_byte, is_past_register, second_column, second_of_page, caching, continues_cache, ends_cache, breaks_sequence_open, breaks_several_luns, breaks_no_column_to_change, breaks_command_misplaced, breaks_address_misplaced, breaks_row_outside, breaks_lun_busy, breaks_queue_clash, breaks_input_misplaced, breaks_no_sole_driver, breaks_data_not_ready, breaks_column_outside, breaks_cache_read_misplaced}
-use Rattle.onfi_cycle.specs.Sequence.{facts_of, row_with, column_with, is_open}
+use Rattle.onfi_cycle.specs.Rules.{is_some_and, driver_is, named_lun_is, ends_row, excludes_cache, register_len, is_page_or_parameters, is_empty, lacks, is_past, queued_clashes, has_some, may_change_column, refused_by, is_refused_by, works_for_target, is_unclear, has_no_byte, is_past_register, second_column, second_of_page, caching, continues_cache, ends_cache, breaks_sequence_open, breaks_several_luns, breaks_no_column_to_change, breaks_command_misplaced, breaks_address_misplaced, breaks_row_outside, breaks_lun_busy, breaks_queue_clash, breaks_input_misplaced, breaks_no_sole_driver, breaks_data_not_ready, breaks_column_outside, breaks_cache_read_misplaced}
+use Rattle.onfi_cycle.specs.Sequence.{facts_of, begins_anew, wants_command, row, row_with, column_with, is_open}
 use Rattle.onfi_cycle.proofs.Passed.{KeepsRules}
 use Rattle.trace_faults.specs.Middle.{hangs_on_before}
 use Rattle.recording_laws.proofs.Luns.{Within, Shows, kind_of, IsUnder, IsBegun, IsSame}
-use Rattle.recording_laws.proofs.Lists.{Each, each_more, either_of, any_up, any_down, lun_down, driver_up, driver_down}
+use Rattle.recording_laws.proofs.Lists.{Each, each_more, either_of, any_up, any_down, lun_up, lun_down, driver_up, driver_down}
 
 -- ---- 1. Booleans
 
@@ -320,6 +321,11 @@ either_driver : (p q : LunView → Bool) (o : Option LunView) → is_some_and p 
 either_driver p q None a b = refl
 either_driver p q (Some v) a b = or_from (p v) (q v) a b
 
+-- of two tests that both are kept, whichever it is
+either_kept : (w a b c d : Bool) → (a ≡ true → c ≡ true) → (b ≡ true → d ≡ true) → cond w (not a) (not b) ≡ false → cond w (not c) (not d) ≡ false
+either_kept true a b c d f h e = not_from_true c (f (not-false a e))
+either_kept false a b c d f h e = not_from_true d (h (not-false b e))
+
 module _ (g : Parts) (ts ss : List LunView) (each : Each IsKnown ts ss) (clear : is_shared g ≡ true → IsClear ts ss) where
   pub column_kept : (c : TargetCycle) → breaks_no_column_to_change ts c ≡ false → breaks_no_column_to_change ss c ≡ false
   unfolding breaks_no_column_to_change
@@ -360,17 +366,33 @@ module _ (g : Parts) (ts ss : List LunView) (each : Each IsKnown ts ss) (clear :
       (driver_down IsKnown (λ v. is_past_register g v || has_no_byte v) (is_past_register g) known_off (past_down g) ts ss each)
       (either_driver (is_past_register g) has_no_byte _ h d)
 
-  pub cache_command : (u t : TailFacts) (c : Command) → breaks_cache_read_misplaced g u ts (CommandCycle c) ≡ false → breaks_cache_read_misplaced g t ss (CommandCycle c) ≡ false
+  pub cache_command : (t : TailFacts) (c : Command) → breaks_cache_read_misplaced g t ts (CommandCycle c) ≡ false → breaks_cache_read_misplaced g t ss (CommandCycle c) ≡ false
   unfolding breaks_cache_read_misplaced
-  cache_command u t ReadCacheSequential h = not_from_true (driver_is (continues_cache g) ss) (driver_up IsKnown (continues_cache g) (continues_cache g) known_off (continues_up g) ts ss each (not-false (driver_is (continues_cache g) ts) h))
-  cache_command u t ReadCacheEnd h = not_from_true (driver_is ends_cache ss) (driver_up IsKnown ends_cache ends_cache known_off ends_up ts ss each (not-false (driver_is ends_cache ts) h))
-  cache_command u t c h = and_less (reads_identity c) (list_any caching ts) (list_any caching ss) (any_down IsKnown caching caching caching_down ts ss each) h
+  cache_command t ReadCacheSequential h =
+      either_kept (wants_command t ReadCacheSequential) (named_lun_is g (row t) (λ v. is_page_read v.closer) ts) (driver_is (continues_cache g) ts)
+      (named_lun_is g (row t) (λ v. is_page_read v.closer) ss) (driver_is (continues_cache g) ss)
+      (lun_up IsKnown (λ v. is_page_read v.closer) (λ v. is_page_read v.closer) (λ x y k r. ap is_page_read (sym k.begun.closer) ∙ r) ts ss _ each)
+      (driver_up IsKnown (continues_cache g) (continues_cache g) known_off (continues_up g) ts ss each) h
+  cache_command t ReadConfirm h =
+      and_less (is_wide g.optional) (named_lun_is g (row t) caching ts) (named_lun_is g (row t) caching ss) (lun_down IsKnown caching caching caching_down ts ss _ each) h
+  cache_command t ReadCacheEnd h = not_from_true (driver_is ends_cache ss) (driver_up IsKnown ends_cache ends_cache known_off ends_up ts ss each (not-false (driver_is ends_cache ts) h))
+  cache_command t c h = and_less (reads_identity c) (list_any caching ts) (list_any caching ss) (any_down IsKnown caching caching caching_down ts ss each) h
+
+  -- an opener that closes nothing, behind what wasn't seen
+  pub cache_fresh : (u : TailFacts) (c : Command) → begins_anew u (CommandCycle c) ≡ true → breaks_cache_read_misplaced g u ts (CommandCycle c) ≡ false → breaks_cache_read_misplaced g (facts_of []) ss (CommandCycle c) ≡ false
+  unfolding breaks_cache_read_misplaced
+  cache_fresh u ReadCacheSequential anew h =
+      let driven = rw (not-true (wants_command u ReadCacheSequential) anew) at h in
+      not_from_true (driver_is (continues_cache g) ss) (driver_up IsKnown (continues_cache g) (continues_cache g) known_off (continues_up g) ts ss each (not-false (driver_is (continues_cache g) ts) driven))
+  cache_fresh u ReadConfirm anew h = cc
+  cache_fresh u ReadCacheEnd anew h = not_from_true (driver_is ends_cache ss) (driver_up IsKnown ends_cache ends_cache known_off ends_up ts ss each (not-false (driver_is ends_cache ts) h))
+  cache_fresh u c anew h = and_less (reads_identity c) (list_any caching ts) (list_any caching ss) (any_down IsKnown caching caching caching_down ts ss each) h
 
   pub cache_kept : (t : TailFacts) (c : TargetCycle) → breaks_cache_read_misplaced g t ts c ≡ false → breaks_cache_read_misplaced g t ss c ≡ false
   unfolding breaks_cache_read_misplaced
-  cache_kept t (CommandCycle c) h = cache_command t t c h
+  cache_kept t (CommandCycle c) h = cache_command t c h
   cache_kept t (AddressCycle byte) h =
-      and_less (ends_row addresses_the_array t) (named_lun_is g (row_with t byte) caching ts) (named_lun_is g (row_with t byte) caching ss)
+      and_less (ends_row (excludes_cache g) t) (named_lun_is g (row_with t byte) caching ts) (named_lun_is g (row_with t byte) caching ss)
       (lun_down IsKnown caching caching caching_down ts ss _ each) h
   cache_kept t (InputCycle byte) h = refl
   cache_kept t OutputCycle h = refl
@@ -382,8 +404,8 @@ module _ (g : Parts) (ts ss : List LunView) (each : Each IsKnown ts ss) (clear :
   none_broken t cycle k =
       rw (k.f2, k.f3, several_kept g ts ss below_each clear cycle k.f4, column_kept cycle k.f5, k.f6, k.f7, k.f8, busy_kept g ts ss below_each clear t cycle k.f9, queue_kept g ts ss below_each clear t cycle k.f10, k.f11, driver_kept t cycle k.f12, data_kept cycle k.f13, outside_kept t cycle k.f13 k.f14, cache_kept t cycle k.f15) refl
 
-  pub none_broken_fresh : (u : TailFacts) (c : Command) → is_opener c ≡ true → KeepsRules g u ts (CommandCycle c) → judge_cycle g (facts_of []) ss (CommandCycle c) ≡ None
+  pub none_broken_fresh : (u : TailFacts) (c : Command) → is_opener c ≡ true → begins_anew u (CommandCycle c) ≡ true → KeepsRules g u ts (CommandCycle c) → judge_cycle g (facts_of []) ss (CommandCycle c) ≡ None
   unfolding breaks_no_sole_driver breaks_data_not_ready breaks_column_outside
-  none_broken_fresh u c opener k =
+  none_broken_fresh u c opener anew k =
       judged_five_fresh g u ts ss c opener below_each clear k
-      ∙ (rw (column_kept (CommandCycle c) k.f5, cache_command u (facts_of []) c k.f15) refl)
+      ∙ (rw (column_kept (CommandCycle c) k.f5, cache_fresh u c anew k.f15) refl)

@@ -1,8 +1,9 @@
 -- A shared target as it is, and as it is seen: nothing of it is judged before a reset, and from there on both are alike.
-use Rattle.std.proofs.Common.{◌≡◌, ℕ, zero, suc, ◌+◌, ◌≤◌, ◌==◌, Bool, true, false, cond, not, ◌&&◌, List, [], ◌∷◌, length, Option, Some, None, refl, sym, ap, ◌∙◌, subst, slice_get, arith, true≢false}
+use Rattle.std.proofs.Common.{◌≡◌, ℕ, zero, suc, ◌+◌, ◌≤◌, ◌==◌, Bool, true, false, cond, not, ◌&&◌, List, [], ◌∷◌, length, Option, Some, None, refl, sym, ap, ◌∙◌, subst, slice_get, arith, eqb-true, true≢false}
 use Rattle.std.proofs.lemmas.Bool.{and_parts, not-false}
 use Rattle.std.proofs.lemmas.Option.{slice_get_within}
 use Rattle.nand_geometry.specs.declared.parts.Parts.{Parts}
+use Rattle.nand_geometry.specs.Row.{parts_of}
 use Rattle.onfi_cycle.specs.declared.command.Command.{Command}
 use Rattle.onfi_cycle.specs.declared.command.Command.TheVariants.{Read, ReadStatus, ReadStatusEnhanced, Reset, SynchronousReset, ReadCacheSequential, ReadCacheEnd, ChangeReadColumnConfirm, ReadConfirm, BlockEraseConfirm, BlockErasePlane, ProgramConfirm, ProgramPlane, ReadId, ReadParameterPage, ReadUniqueId, GetFeatures, ResetLun}
 use Rattle.onfi_cycle.specs.declared.effect.Effect.{Effect}
@@ -17,18 +18,18 @@ use Rattle.onfi_cycle.specs.declared.tail_facts.TailFacts.{TailFacts}
 use Rattle.onfi_cycle.specs.declared.target_cycle.TargetCycle.{TargetCycle}
 use Rattle.onfi_cycle.specs.declared.target_cycle.TargetCycle.TheVariants.{CommandCycle, AddressCycle, InputCycle, OutputCycle}
 use Rattle.onfi_cycle.specs.Command.{closes_row, reads_row}
-use Rattle.onfi_cycle.specs.Effect.{is_off, is_data, is_shared, acts_for_target, of_target, lun_reset_effect, confirm_effect, other_effect, names_lun, id_effect, command_effect, address_effect, opening_address_effect, ends_features, cycle_effect}
+use Rattle.onfi_cycle.specs.Effect.{is_off, is_data, is_shared, acts_for_target, of_target, lun_reset_effect, confirm_effect, other_effect, row_effect, cache_effect, names_lun, id_effect, command_effect, address_effect, opening_address_effect, ends_features, cycle_effect}
 use Rattle.onfi_cycle.specs.Lun.{is_page_read, view_after}
 use Rattle.onfi_cycle.specs.LunView.{LunView}
 use Rattle.onfi_cycle.specs.Permitted.{judge_cycle}
-use Rattle.onfi_cycle.specs.Rules.{is_some_and, driver_is, lun_is, continues_cache, breaks_cache_read_misplaced}
+use Rattle.onfi_cycle.specs.Rules.{is_some_and, driver_is, lun_is, named_lun_is, continues_cache, breaks_cache_read_misplaced}
 use Rattle.onfi_cycle.specs.Sequence.{target_cycle, facts_of, facts_after, wants_address, wants_command, row, row_with}
 use Rattle.onfi_cycle.specs.State.{TargetView, has_driver, target_after}
 use Rattle.onfi_cycle.proofs.Passed.{keeps_rules}
 use Rattle.trace_faults.specs.declared.known.Known.{Known}
 use Rattle.trace_faults.specs.Middle.{knows, nothing_known, has_begun}
 use Rattle.recording_laws.proofs.Lists.{Each, each_more, driver_on}
-use Rattle.recording_laws.proofs.Changed.{changed, changed_length, AtEach, knows_nothing, IsLearned}
+use Rattle.recording_laws.proofs.Changed.{changed, changed_length, AtEach, at_each, knows_nothing, IsLearned}
 use Rattle.recording_laws.proofs.Cycles.{by_cycle, luns_by_cycle, all_on_at}
 use Rattle.recording_laws.proofs.Unseen.{AreBlank}
 use Rattle.recording_laws.proofs.Targets.{FitsTarget}
@@ -71,23 +72,24 @@ goes_either : (b : Bool) (x y : Effect) (s : LunView) → GoesOn x s → GoesOn 
 goes_either true x y s h k = h
 goes_either false x y s h k = k
 
-confirm_goes : (g : Parts) (u : TailFacts) (c : Command) (s : LunView) → GoesOn (confirm_effect g u c) s
-confirm_goes g u ReadConfirm s = tt
-confirm_goes g u BlockEraseConfirm s = tt
-confirm_goes g u BlockErasePlane s = tt
-confirm_goes g u ProgramConfirm s = tt
-confirm_goes g u ProgramPlane s = tt
-confirm_goes g u c s = tt
+abbrev goes_on_by : Command → Bool
+goes_on_by ReadCacheSequential = true
+goes_on_by _ = false
+
+confirm_goes : (g : Parts) (u : TailFacts) (c : Command) (s : LunView) → goes_on_by c ≡ false → GoesOn (confirm_effect g u c) s
+confirm_goes g u ReadCacheSequential s h = cc
+confirm_goes g u ReadConfirm s h = tt
+confirm_goes g u BlockEraseConfirm s h = tt
+confirm_goes g u BlockErasePlane s h = tt
+confirm_goes g u ProgramConfirm s h = tt
+confirm_goes g u ProgramPlane s h = tt
+confirm_goes g u c s h = tt
 
 other_goes : (g : Parts) (u : TailFacts) (c : Command) (s : LunView) → GoesOn (other_effect g u c) s
 other_goes g u c s = goes_either (closes_row c && (wants_command u c && is_shared g)) (AnotherAddressed (reads_row c)) Unaffected s tt tt
 
 target_goes : (g : Parts) (n : ℕ) (e : Effect) (s : LunView) → GoesOn e s → GoesOn (of_target g n e) s
 target_goes g n e s h = goes_either (acts_for_target g n) e Deselected s h tt
-
-abbrev goes_on_by : Command → Bool
-goes_on_by ReadCacheSequential = true
-goes_on_by _ = false
 
 command_goes : (g : Parts) (u : TailFacts) (la : Latch) (c : Command) (n : ℕ) (s : LunView) → goes_on_by c ≡ false → GoesOn (command_effect g u la c n) s
 command_goes g u la Read n s h = tt
@@ -98,7 +100,7 @@ command_goes g u la SynchronousReset n s h = goes_either (is_shared g) (TargetRe
 command_goes g u la ReadCacheSequential n s h = cc
 command_goes g u la ReadCacheEnd n s h = goes_either (is_off la) Unaffected CacheReadEnded s tt tt
 command_goes g u la ChangeReadColumnConfirm n s h = goes_either (wants_command u ChangeReadColumnConfirm && not (is_off la)) (ReadColumnChanged u.column) Unaffected s tt tt
-command_goes g u la c n s h = goes_either (wants_command u c && names_lun g (row u) n) (confirm_effect g u c) (other_effect g u c) s (confirm_goes g u c s) (other_goes g u c s)
+command_goes g u la c n s h = goes_either (wants_command u c && names_lun g (row u) n) (confirm_effect g u c) (other_effect g u c) s (confirm_goes g u c s h) (other_goes g u c s)
 
 id_goes : (byte : ℕ) (s : LunView) → GoesOn (id_effect byte) s
 id_goes byte s = goes_either (byte == 0x20) IdRead (IdentityRead (byte == 0x40)) s tt tt
@@ -126,19 +128,44 @@ each_goes : (g : Parts) (u : TailFacts) (sole : Bool) (d : TargetCycle) (n : ℕ
 each_goes g u sole d n [] f = tt
 each_goes g u sole d n (v ∷ vs) f = (f n v, each_goes g u sole d (n + 1) vs f)
 
-reads_on : (g : Parts) (u : TailFacts) (sole : Bool) (n : ℕ) (vs : List LunView) → AtEach (λ m v. is_off v.latch ≡ false → continues_cache g v ≡ true) n vs → AtEach (Goes g u sole (CommandCycle ReadCacheSequential)) n vs
-reads_on g u sole n [] a = tt
-reads_on g u sole n (v ∷ vs) a = (at sole (is_off v.latch) refl, reads_on g u sole (n + 1) vs a.1)
+reads_on : (g : Parts) (u : TailFacts) (sole : Bool) → wants_command u ReadCacheSequential ≡ false → (n : ℕ) (vs : List LunView) → AtEach (λ m v. is_off v.latch ≡ false → continues_cache g v ≡ true) n vs → AtEach (Goes g u sole (CommandCycle ReadCacheSequential)) n vs
+reads_on g u sole none n [] a = tt
+reads_on g u sole none n (v ∷ vs) a = (
+  subst (λ (w : Bool). GoesOn (cond w (row_effect g u ReadCacheSequential n) (cache_effect (cond sole v.latch Off))) v) (sym none) (at sole (is_off v.latch) refl),
+  reads_on g u sole none (n + 1) vs a.1,
+)
   where
-    at : (b o : Bool) → is_off v.latch ≡ o → GoesOn (cond (is_off (cond b v.latch Off)) Unaffected CacheReadContinued) v
+    at : (b o : Bool) → is_off v.latch ≡ o → GoesOn (cond (is_off (cond b v.latch Off)) Unaffected (CacheReadContinued None)) v
     at false o e = tt
     at true true e = rw e tt
     at true false e = rw e (and_parts (is_page_read v.closer) _ (and_parts (not v.busy) _ (a.0 e)).1).0
 
+-- a 31h that the tail wants reads on at the LUN of its row
+reads_row_on : (g : Parts) (u : TailFacts) (sole : Bool) (vs : List LunView) → wants_command u ReadCacheSequential ≡ true → named_lun_is g (row u) (λ v. is_page_read v.closer) vs ≡ true →
+    AtEach (Goes g u sole (CommandCycle ReadCacheSequential)) 0 vs
+reads_row_on g u sole vs w reads = at_each (Goes g u sole (CommandCycle ReadCacheSequential)) vs one
+  where
+    one : (m : ℕ) (v : LunView) → slice_get vs m ≡ Some v → Goes g u sole (CommandCycle ReadCacheSequential) m v
+    one m v found = subst (λ (x : Bool). GoesOn (cond x (row_effect g u ReadCacheSequential m) (cache_effect (cond sole v.latch Off))) v) (sym w) (at (wants_command u ReadCacheSequential && names_lun g (row u) m) refl)
+      where
+        named : names_lun g (row u) m ≡ true → is_page_read v.closer ≡ true
+        named names =
+            let here : (parts_of g (row u)).lun ≡ m = eqb-true (parts_of g (row u)).lun m names in
+            let there : slice_get vs (parts_of g (row u)).lun ≡ Some v = ap (slice_get vs) here ∙ found in
+            sym (ap (is_some_and (λ v. is_page_read v.closer)) there) ∙ reads
+
+        at : (b : Bool) → (wants_command u ReadCacheSequential && names_lun g (row u) m) ≡ b → GoesOn (cond b (confirm_effect g u ReadCacheSequential) (other_effect g u ReadCacheSequential)) v
+        at true e = named (and_parts (wants_command u ReadCacheSequential) (names_lun g (row u) m) e).1
+        at false e = other_goes g u ReadCacheSequential v
+
 goes_on : (g : Parts) (u : TailFacts) (sole : Bool) (d : TargetCycle) (vs : List LunView) → breaks_cache_read_misplaced g u vs d ≡ false → AtEach (Goes g u sole d) 0 vs
 unfolding breaks_cache_read_misplaced
-goes_on g u sole (CommandCycle ReadCacheSequential) vs h =
-    reads_on g u sole 0 vs (all_on_at (continues_cache g) 0 vs (driver_on (continues_cache g) vs (not-false (driver_is (continues_cache g) vs) h)))
+goes_on g u sole (CommandCycle ReadCacheSequential) vs h = at (wants_command u ReadCacheSequential) refl h
+  where
+    at : (w : Bool) → wants_command u ReadCacheSequential ≡ w → cond w (not (named_lun_is g (row u) (λ v. is_page_read v.closer) vs)) (not (driver_is (continues_cache g) vs)) ≡ false →
+        AtEach (Goes g u sole (CommandCycle ReadCacheSequential)) 0 vs
+    at true e x = reads_row_on g u sole vs e (not-false (named_lun_is g (row u) (λ v. is_page_read v.closer) vs) x)
+    at false e x = reads_on g u sole e 0 vs (all_on_at (continues_cache g) 0 vs (driver_on (continues_cache g) vs (not-false (driver_is (continues_cache g) vs) x)))
 goes_on g u sole (CommandCycle c) vs h = each_goes g u sole (CommandCycle c) 0 vs (λ m v. command_goes g u (cond sole v.latch Off) c m v refl)
 goes_on g u sole (AddressCycle byte) vs h = each_goes g u sole (AddressCycle byte) 0 vs (λ m v. opening_goes g u byte u.opening m v)
 goes_on g u sole (InputCycle byte) vs h = each_goes g u sole (InputCycle byte) 0 vs (λ m v. goes_either (ends_features u) (of_target g m (FeaturesSet _)) Unaffected v (target_goes g m (FeaturesSet _) v tt) tt)

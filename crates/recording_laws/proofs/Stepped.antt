@@ -34,7 +34,7 @@ use Rattle.trace_faults.proofs.Judged.{standings_inside, is_inside, judged_insid
 use Rattle.recording_laws.proofs.Changed.{under_each, below_each, known_each}
 use Rattle.recording_laws.proofs.Rules.{IsKnown, plain_clear, OnlyHangs, only_hangs, only_hangs_fresh, none_broken, none_broken_fresh}
 use Rattle.recording_laws.proofs.Lists.{Each}
-use Rattle.recording_laws.proofs.Targets.{FitsTarget, seen_opened, seen_fresh, granted_opened, granted_fresh, passed_over}
+use Rattle.recording_laws.proofs.Targets.{FitsTarget, seen_opened, seen_fresh, granted_opened, granted_fresh, passed_over, known_anew}
 use Rattle.recording_laws.proofs.Readies.{IsReady}
 use Rattle.recording_laws.proofs.Twins.{reset_judged}
 use Rattle.recording_laws.proofs.Shared.{FitsShared, FitsEither, of_plain, of_shared, alike_judged, seen_alike, reset_alike, rests_unseen, either_doubted, either_seen, either_granted}
@@ -263,7 +263,9 @@ module _ (g : Parts) (bus : BusView) (seen : Seen) (c : Cycle) (later : List Ite
       fresh_known : (e : TargetCycle) → e ≡ d → begins_sequence e ≡ true → at.opened ≡ false → doubts seen.state.bus at c.ce ≡ false → judge_cycle g x.shown.tail x.shown.luns e ≡ None
       fresh_known (CommandCycle y) e b h doubt =
           ap (λ w. judge_cycle g w x.shown.luns (CommandCycle y)) (own.closed h).tail
-          ∙ none_broken_fresh g x.is.luns x.shown.luns (known_luns doubt) (plain_clear g x.is.luns x.shown.luns plain) x.is.tail y b (keeps_rules g x.is.tail x.is.luns (CommandCycle y) (ap (judge_cycle g x.is.tail x.is.luns) e ∙ kept))
+          ∙ none_broken_fresh g x.is.luns x.shown.luns (known_luns doubt) (plain_clear g x.is.luns x.shown.luns plain) x.is.tail y b
+          (known_anew g x.is.tail x.is.luns x.shown.luns y b (keeps_rules g x.is.tail x.is.luns (CommandCycle y) (ap (judge_cycle g x.is.tail x.is.luns) e ∙ kept)) (own.closed h).comes (known_luns doubt))
+          (keeps_rules g x.is.tail x.is.luns (CommandCycle y) (ap (judge_cycle g x.is.tail x.is.luns) e ∙ kept))
       fresh_known (AddressCycle byte) e b h doubt = cc
       fresh_known (InputCycle byte) e b h doubt = cc
       fresh_known OutputCycle e b h doubt = cc

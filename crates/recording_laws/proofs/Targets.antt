@@ -1,11 +1,12 @@
 -- A target as it is, and as it is seen: what a permitted cycle of it leaves of both.
-use Rattle.std.proofs.Common.{◌≡◌, ℕ, ◌+◌, ◌≤◌, ◌==◌, Bool, true, false, cond, ◌&&◌, ◌||◌, List, [], ◌∷◌, length, Option, Some, None, refl, sym, ap, ◌∙◌, subst, slice_get, eqb-true, eq-eqb, arith}
+use Rattle.std.proofs.Common.{◌≡◌, ◌⊎◌, inl, inr, zero, suc, not, ℕ, ◌+◌, ◌≤◌, ◌==◌, Bool, true, false, cond, ◌&&◌, ◌||◌, List, [], ◌∷◌, length, Option, Some, None, refl, sym, ap, ◌∙◌, subst, slice_get, eqb-true, eq-eqb, arith}
 use Rattle.std.proofs.lemmas.Bool.{and_parts, or_left, or_right, not-false}
 use Rattle.nand_geometry.specs.declared.parts.Parts.{Parts}
 use Rattle.nand_geometry.specs.Row.{parts_of}
 use Rattle.onfi_cycle.specs.declared.command.Command.{Command}
-use Rattle.onfi_cycle.specs.declared.command.Command.TheVariants.{Read, ChangeReadColumn}
-use Rattle.onfi_cycle.specs.declared.data_phase.DataPhase.TheVariants.{Outside}
+use Rattle.onfi_cycle.specs.declared.command.Command.TheVariants.{Read, ReadConfirm, ChangeReadColumn, BlockErase, BlockEraseConfirm, BlockErasePlane, PageProgram, ProgramConfirm, ProgramPlane, ReadCacheSequential}
+use Rattle.onfi_cycle.specs.declared.data_phase.DataPhase.{DataPhase}
+use Rattle.onfi_cycle.specs.declared.data_phase.DataPhase.TheVariants.{Outside, Inputs, FirstColumn, SecondColumn, FeatureInputs}
 use Rattle.onfi_cycle.specs.declared.effect.Effect.{Effect}
 use Rattle.onfi_cycle.specs.declared.effect.Effect.TheVariants.{Unaffected}
 use Rattle.onfi_cycle.specs.declared.forbidden.Forbidden.{Forbidden}
@@ -19,25 +20,27 @@ use Rattle.onfi_cycle.specs.declared.queued.Queued.{Queued}
 use Rattle.onfi_cycle.specs.declared.tail_facts.TailFacts.{TailFacts}
 use Rattle.onfi_cycle.specs.declared.target_cycle.TargetCycle.{TargetCycle}
 use Rattle.onfi_cycle.specs.declared.target_cycle.TargetCycle.TheVariants.{CommandCycle, AddressCycle, InputCycle, OutputCycle}
-use Rattle.onfi_cycle.specs.Bounds.{is_read}
-use Rattle.onfi_cycle.specs.Command.{is_opener, at_last_row, is_change_read_column}
-use Rattle.onfi_cycle.specs.Effect.{is_shared, names_lun, page_address, address_effect, opening_address_effect, cycle_effect}
-use Rattle.onfi_cycle.specs.Lun.{view_after}
+use Rattle.onfi_cycle.specs.Bounds.{is_read, is_block_erase}
+use Rattle.nand_geometry.specs.Optional.{is_wide}
+use Rattle.onfi_cycle.specs.Command.{is_opener, closes, address_cycles, at_last_row, is_change_read_column, is_page_program}
+use Rattle.onfi_cycle.specs.Effect.{is_off, is_shared, names_lun, page_address, address_effect, opening_address_effect, cycle_effect}
+use Rattle.onfi_cycle.specs.Lun.{is_page_read, view_after}
 use Rattle.onfi_cycle.specs.LunView.{LunView}
 use Rattle.onfi_cycle.specs.Permitted.{judge_cycle}
-use Rattle.onfi_cycle.specs.Rules.{is_some_and, driver, driver_is, has_some, may_change_column, refused_by, is_refused_by, breaks_no_column_to_change, breaks_queue_clash}
-use Rattle.onfi_cycle.specs.Sequence.{target_cycle, facts_of, opened, one_address_more, row, row_with, wants_command, extended_facts, facts_after, begins_sequence}
+use Rattle.onfi_cycle.specs.Rules.{is_some_and, driving, only, driver, driver_is, lun_is, named_lun_is, continues_cache, has_some, may_change_column, refused_by, is_refused_by, breaks_sequence_open, breaks_no_column_to_change, breaks_queue_clash, breaks_cache_read_misplaced}
+use Rattle.onfi_cycle.specs.Sequence.{target_cycle, facts_of, opened, one_address_more, row, row_with, wants_command, extended_facts, facts_after, begins_sequence, begins_anew, works_on_row}
 use Rattle.onfi_cycle.specs.State.{TargetView, luns_after, has_driver, target_after, without_sequence}
 use Rattle.onfi_cycle.proofs.Passed.{KeepsRules, keeps_rules}
+use Rattle.onfi_cycle.proofs.TableLemmas.{command_opens}
 use Rattle.trace_faults.specs.declared.known.Known.{Known}
 use Rattle.trace_faults.specs.Middle.{nothing_known, is_reset_cycle}
 use Rattle.recording_laws.proofs.Luns.{IsBelow, IsHarmless}
-use Rattle.recording_laws.proofs.Lists.{Each}
-use Rattle.recording_laws.proofs.Rules.{five_of, IsClear, plain_clear, judged_five, judged_five_fresh}
+use Rattle.recording_laws.proofs.Lists.{Each, lun_up}
+use Rattle.recording_laws.proofs.Rules.{five_of, IsKnown, IsClear, plain_clear, judged_five, judged_five_fresh}
 use Rattle.recording_laws.proofs.Changed.{changed, changed_length, AtEach, at_each, AllFit, under_each, below_each, GoEach, all_fit_on, IsLearned, learns_each, below_unseen, all_nothing}
 use Rattle.recording_laws.proofs.Cycles.{by_cycle, luns_by_cycle, ReadsClear, go_command, go_opener, go_address, go_input, go_output}
-use Rattle.recording_laws.proofs.Unseen.{NoneQueued, MayCome, may_come_on, unseen_harmless, quiet_command}
-use Rattle.recording_laws.proofs.Granted.{is_sound, is_sound_by, sound_after, is_granted, command_granted, command_comes, Comes, address_granted, input_granted, output_granted}
+use Rattle.recording_laws.proofs.Unseen.{is_led, is_quiet_by, is_quiet, is_named_by, is_named, NoneQueued, AreBlank, MayCome, blank, quiet, named, not_led, may_come_on, unseen_harmless, quiet_command}
+use Rattle.recording_laws.proofs.Granted.{is_sound, is_sound_by, sound_after, grants, is_granted, command_granted, command_comes, Comes, address_granted, input_granted, output_granted}
 
 -- ---- 1. a target
 
@@ -69,7 +72,7 @@ unaffected_from f h n [] = refl
 unaffected_from f h n (v ∷ vs) = ap (λ (e : Effect). view_after e v ∷ changed f (n + 1) vs) (h n v) ∙ ap (λ (ws : List LunView). v ∷ ws) (unaffected_from f h (n + 1) vs)
 
 some_after : (cycle : TargetCycle) (t : TailFacts) → t.is_empty ≡ false → (facts_after cycle t).is_empty ≡ false
-some_after (CommandCycle c) t some = at (is_opener c) t.is_empty some
+some_after (CommandCycle c) t some = at (begins_anew t (CommandCycle c)) t.is_empty some
   where
     at : (b e : Bool) → e ≡ false → (cond b (extended_facts (CommandCycle c) (facts_of [])) (cond e t (extended_facts (CommandCycle c) t))).is_empty ≡ false
     at true e f = refl
@@ -130,7 +133,7 @@ opened_driver g w vs c f5 h = at c (is_column c h) f5
 
 driver_after : (g : Parts) (u : TailFacts) (vs : List LunView) (cycle : TargetCycle) → u.is_empty ≡ false → (opened (λ c n. is_change_read_column c) u.opening ≡ true → has_driver vs ≡ true) → breaks_no_column_to_change vs cycle ≡ false →
     opened (λ c n. is_change_read_column c) (facts_after cycle u).opening ≡ true → has_driver (changed (by_cycle g u (has_driver vs) cycle) 0 vs) ≡ true
-driver_after g u vs (CommandCycle c) some before f5 h = at (is_opener c) u.is_empty some h
+driver_after g u vs (CommandCycle c) some before f5 h = at (begins_anew u (CommandCycle c)) u.is_empty some h
   where
     at : (b e : Bool) → e ≡ false → opened (λ c n. is_change_read_column c) (cond b (extended_facts (CommandCycle c) (facts_of [])) (cond e u (extended_facts (CommandCycle c) (record u { is_empty = e })))).opening ≡ true →
         has_driver (changed (by_cycle g u (has_driver vs) (CommandCycle c)) 0 vs) ≡ true
@@ -173,7 +176,7 @@ one_more_read (Some o) h = or_right (is_change_read_column o.opener) (is_read o.
 
 read_after : (g : Parts) (u : TailFacts) (ts : List LunView) (cycle : TargetCycle) → u.is_empty ≡ false → breaks_queue_clash g u ts cycle ≡ false → opened (λ c n. is_read c && n == 5) (facts_after cycle u).opening ≡ true →
     NoneQueued g (row (facts_after cycle u)) (changed (by_cycle g u (has_driver ts) cycle) 0 ts)
-read_after g u ts (CommandCycle c) some f h = absurd (at (is_opener c) u.is_empty some h)
+read_after g u ts (CommandCycle c) some f h = absurd (at (begins_anew u (CommandCycle c)) u.is_empty some h)
   where
     at : (b e : Bool) → e ≡ false → opened (λ c n. is_read c && n == 5) (cond b (extended_facts (CommandCycle c) (facts_of [])) (cond e u (extended_facts (CommandCycle c) (record u { is_empty = e })))).opening ≡ true → ⊥
     at true e f x = let five = (and_parts (is_read c) (0 == 5) x).1 in cc
@@ -250,16 +253,141 @@ module _ (g : Parts) (plain : is_shared g ≡ false) (k later : Known) (t s : Ta
 -- ---- 4. an opener behind what wasn't seen
 
 record Fresh (g : Parts) (d : TargetCycle) (u : TailFacts) : Type 0 where
-  same : (w : TailFacts) → facts_after d u ≡ facts_after d w
+  same : facts_after d u ≡ facts_after d (facts_of [])
   some : (facts_after d u).is_empty ≡ false
   sound : is_sound (facts_after d u) ≡ true
   column : opened (λ c n. is_change_read_column c) (facts_after d u).opening ≡ true → (w : TailFacts) (vs : List LunView) → breaks_no_column_to_change vs d ≡ false → has_driver (changed (by_cycle g w (has_driver vs) d) 0 vs) ≡ true
   read : opened (λ c n. is_read c && n == 5) (facts_after d u).opening ≡ true → ⊥
 
-fresh_of : (g : Parts) (d : TargetCycle) (u : TailFacts) → begins_sequence d ≡ true → Fresh g d u
+-- behind no tail an opener begins one
+opens_nothing : (c : Command) → is_opener c ≡ true → begins_anew (facts_of []) (CommandCycle c) ≡ true
+opens_nothing ReadConfirm h = cc
+opens_nothing BlockEraseConfirm h = cc
+opens_nothing BlockErasePlane h = cc
+opens_nothing ProgramConfirm h = cc
+opens_nothing ProgramPlane h = cc
+opens_nothing ReadCacheSequential h = refl
+opens_nothing c h = h
+
+-- so does each behind another, but a 31h that it wants
+anew_by : (t : TailFacts) (c : Command) → is_opener c ≡ true → (c ≡ ReadCacheSequential → wants_command t ReadCacheSequential ≡ false) → begins_anew t (CommandCycle c) ≡ true
+anew_by t ReadConfirm h w = cc
+anew_by t BlockEraseConfirm h w = cc
+anew_by t BlockErasePlane h w = cc
+anew_by t ProgramConfirm h w = cc
+anew_by t ProgramPlane h w = cc
+anew_by t ReadCacheSequential h w = ap not (w refl)
+anew_by t c h w = h
+
+-- in the base profile none that is permitted is wanted
+unwanted : (g : Parts) (t : TailFacts) → is_wide g.optional ≡ false → breaks_sequence_open g t (CommandCycle ReadCacheSequential) ≡ false → wants_command t ReadCacheSequential ≡ false
+unfolding breaks_sequence_open
+unwanted g t narrow h = at (wants_command t ReadCacheSequential) refl
+  where
+    at : (w : Bool) → wants_command t ReadCacheSequential ≡ w → w ≡ false
+    at true w = let no : true ≡ false = rw (command_opens t ReadCacheSequential w, w, narrow) at h in cc
+    at false w = refl
+
+abbrev ReadClosed : Option Opening → Bool
+ReadClosed o = opened (λ c n. closes c ReadCacheSequential && n == address_cycles c) o
+
+led_unread : (c : Command) (n : ℕ) → is_led c ≡ false → (closes c ReadCacheSequential && n == address_cycles c) ≡ false
+led_unread Read n h = cc
+led_unread c n h = refl
+
+erase_unread : (c : Command) (n : ℕ) → is_block_erase c ≡ true → (closes c ReadCacheSequential && n == address_cycles c) ≡ false
+erase_unread BlockErase n h = refl
+erase_unread c n h = cc
+
+program_unread : (c : Command) (n : ℕ) → is_page_program c ≡ true → (closes c ReadCacheSequential && n == address_cycles c) ≡ false
+program_unread PageProgram n h = refl
+program_unread c n h = cc
+
+quiet_unread : (o : Option Opening) (p : DataPhase) → is_quiet_by o p ≡ true → ReadClosed o ≡ false
+quiet_unread None p h = refl
+quiet_unread (Some o) p h = led_unread o.opener o.addresses (not_led o p h)
+
+named_unread : (g : Parts) (o : Option Opening) (p : DataPhase) → is_wide g.optional ≡ true → is_named_by g o p ≡ true → ReadClosed o ≡ false
+named_unread g None p w h = refl
+named_unread g (Some o) Inputs w h = program_unread o.opener o.addresses (and_parts (is_page_program o.opener) (o.addresses == 5) h).0
+named_unread g (Some o) Outside w h = at (is_block_erase o.opener && o.addresses == 3) refl h
+  where
+    at : (b : Bool) → (is_block_erase o.opener && o.addresses == 3) ≡ b → (b || (not (is_wide g.optional) && (is_read o.opener && o.addresses == 5))) ≡ true → ReadClosed (Some o) ≡ false
+    at true x y = erase_unread o.opener o.addresses (and_parts (is_block_erase o.opener) (o.addresses == 3) x).0
+    at false x y = let no : false ≡ true = rw w at y in cc
+named_unread g (Some o) FirstColumn w h = cc
+named_unread g (Some o) SecondColumn w h = cc
+named_unread g (Some o) FeatureInputs w h = cc
+
+-- behind what wasn't seen, where something was seen before, no 31h that is permitted is wanted
+quiet_read : (g : Parts) (t : TailFacts) → is_quiet t ≡ true → wants_command t ReadCacheSequential ≡ false
+quiet_read g t h = quiet_unread t.opening t.phase h
+
+named_read : (g : Parts) (t : TailFacts) → is_named g t ≡ true → breaks_sequence_open g t (CommandCycle ReadCacheSequential) ≡ false → wants_command t ReadCacheSequential ≡ false
+named_read g t h f3 = at (is_wide g.optional) refl
+  where
+    at : (w : Bool) → is_wide g.optional ≡ w → wants_command t ReadCacheSequential ≡ false
+    at true e = named_unread g t.opening t.phase e h
+    at false e = unwanted g t e f3
+
+-- of LUNs of which nothing was seen none drives the bus
+blank_driving : (vs : List LunView) → AreBlank vs → driving vs ≡ []
+blank_driving [] b = refl
+blank_driving (v ∷ vs) b = ap (λ (l : Latch). cond (is_off l) (driving vs) (v ∷ driving vs)) (b 0 v refl).latch ∙ blank_driving vs (λ m s found. b (suc m) s found)
+
+blank_driver : (vs : List LunView) (test : LunView → Bool) → AreBlank vs → driver_is test vs ≡ true → ⊥
+blank_driver vs test b h = let none : is_some_and test (only []) ≡ true = ap (λ (ds : List LunView). is_some_and test (only ds)) (sym (blank_driving vs b)) ∙ h in cc
+
+-- and none has read a page
+blank_reader : (vs : List LunView) (n : ℕ) → AreBlank vs → lun_is (λ v. is_page_read v.closer) vs n ≡ true → ⊥
+blank_reader [] n b h = cc
+blank_reader (v ∷ vs) zero b h = let none : is_page_read None ≡ true = ap is_page_read (sym (b 0 v refl).closer) ∙ h in cc
+blank_reader (v ∷ vs) (suc n) b h = blank_reader vs n (λ m s found. b (suc m) s found) h
+
+-- an opener that is seen to be permitted behind what wasn't seen begins a tail
+fresh_anew : (g : Parts) (t : TailFacts) (ts ss : List LunView) (c : Command) → is_opener c ≡ true → KeepsRules g t ts (CommandCycle c) → KeepsRules g (facts_of []) ss (CommandCycle c) → MayCome g t ss → begins_anew t (CommandCycle c) ≡ true
+unfolding breaks_cache_read_misplaced
+fresh_anew g t ts ss ReadCacheSequential h a b (blank e) = absurd (blank_driver ss (continues_cache g) e (not-false (driver_is (continues_cache g) ss) b.f15))
+fresh_anew g t ts ss ReadCacheSequential h a b (quiet e) = ap not (quiet_read g t e)
+fresh_anew g t ts ss ReadCacheSequential h a b (named e n) = ap not (named_read g t e a.f3)
+fresh_anew g t ts ss ReadConfirm h a b m = cc
+fresh_anew g t ts ss BlockEraseConfirm h a b m = cc
+fresh_anew g t ts ss BlockErasePlane h a b m = cc
+fresh_anew g t ts ss ProgramConfirm h a b m = cc
+fresh_anew g t ts ss ProgramPlane h a b m = cc
+fresh_anew g t ts ss c h a b m = h
+
+-- so does one where all is known of each LUN
+pub known_anew : (g : Parts) (t : TailFacts) (ts ss : List LunView) (c : Command) → is_opener c ≡ true → KeepsRules g t ts (CommandCycle c) → MayCome g t ss → Each IsKnown ts ss → begins_anew t (CommandCycle c) ≡ true
+unfolding breaks_cache_read_misplaced
+known_anew g t ts ss ReadCacheSequential h a (blank e) each = ap not (at (wants_command t ReadCacheSequential) refl a.f15)
+  where
+    at : (w : Bool) → wants_command t ReadCacheSequential ≡ w → cond w (not (named_lun_is g (row t) (λ v. is_page_read v.closer) ts)) (not (driver_is (continues_cache g) ts)) ≡ false → w ≡ false
+    at false x f = refl
+    at true x f =
+        absurd (blank_reader ss (parts_of g (row t)).lun e
+        (lun_up IsKnown (λ v. is_page_read v.closer) (λ v. is_page_read v.closer) (λ x y k r. ap is_page_read (sym k.begun.closer) ∙ r) ts ss (parts_of g (row t)).lun each
+        (not-false (named_lun_is g (row t) (λ v. is_page_read v.closer) ts) f)))
+known_anew g t ts ss ReadCacheSequential h a (quiet e) each = ap not (quiet_read g t e)
+known_anew g t ts ss ReadCacheSequential h a (named e n) each = ap not (named_read g t e a.f3)
+known_anew g t ts ss ReadConfirm h a m each = cc
+known_anew g t ts ss BlockEraseConfirm h a m each = cc
+known_anew g t ts ss BlockErasePlane h a m each = cc
+known_anew g t ts ss ProgramConfirm h a m each = cc
+known_anew g t ts ss ProgramPlane h a m each = cc
+known_anew g t ts ss c h a m each = h
+
+-- what comes behind one that is taken for granted
+fresh_comes_on : (g : Parts) (t : TailFacts) (ts ss : List LunView) (c : Command) → is_opener c ≡ true → grants c ≡ true → KeepsRules g t ts (CommandCycle c) → MayCome g t ss → MayCome g (facts_after (CommandCycle c) t) ss
+fresh_comes_on g t ts ss c h grant a (blank e) = blank e
+fresh_comes_on g t ts ss c h grant a (quiet e) = command_comes g t ss c (inr (anew_by t c h (λ same. quiet_read g t e))) grant
+fresh_comes_on g t ts ss c h grant a (named e n) =
+    command_comes g t ss c (inr (anew_by t c h (λ same. named_read g t e (ap (λ (x : Command). breaks_sequence_open g t (CommandCycle x)) (sym same) ∙ a.f3)))) grant
+
+fresh_of : (g : Parts) (d : TargetCycle) (u : TailFacts) → begins_anew u d ≡ true → Fresh g d u
 fresh_of g (CommandCycle c) u h =
     record {
-      same = λ w. rw h refl;
+      same = rw (h, opens_nothing c (and_parts (is_opener c) (not (works_on_row u c)) h).0) refl;
       some = rw h refl;
       sound = rw h (ap (is_sound_by (Some (record { opener = c; addresses = 0 }))) (quiet_command c Outside refl));
       column = λ x w vs f5. opened_driver g w vs c f5 (rw h at x);
@@ -270,21 +398,21 @@ fresh_of g (InputCycle byte) u h = cc
 fresh_of g OutputCycle u h = cc
 
 module _ (g : Parts) (plain : is_shared g ≡ false) (k later : Known) (t s : TargetView) (c : Cycle) (f : FitsTarget g k t s) where
-  go_fresh : (u : TailFacts) (d : TargetCycle) → d ≡ target_cycle c.kind c.byte → begins_sequence d ≡ true → KeepsRules g u t.luns d → KeepsRules g (facts_of []) s.luns d →
+  go_fresh : (u : TailFacts) (d : TargetCycle) → d ≡ target_cycle c.kind c.byte → begins_sequence d ≡ true → begins_anew u d ≡ true → KeepsRules g u t.luns d → KeepsRules g (facts_of []) s.luns d →
       GoEach (Cyc c) k (by_cycle g u (has_driver t.luns) d) (by_cycle g (facts_of []) (has_driver s.luns) d) 0 t.luns s.luns
-  go_fresh u (CommandCycle x) e h a b = go_opener g plain (Cyc c) k t.luns s.luns (each g plain k later t s c f) u x h (λ y. ap is_reset_cycle e ∙ y) a b
-  go_fresh u (AddressCycle byte) e h a b = cc
-  go_fresh u (InputCycle byte) e h a b = cc
-  go_fresh u OutputCycle e h a b = cc
+  go_fresh u (CommandCycle x) e h anew a b = go_opener g plain (Cyc c) k t.luns s.luns (each g plain k later t s c f) u x h anew (λ y. ap is_reset_cycle e ∙ y) a b
+  go_fresh u (AddressCycle byte) e h anew a b = cc
+  go_fresh u (InputCycle byte) e h anew a b = cc
+  go_fresh u OutputCycle e h anew a b = cc
 
   pub seen_fresh : k.opened ≡ false → later.opened ≡ true → begins_sequence (target_cycle c.kind c.byte) ≡ true → judge_cycle g t.tail t.luns (target_cycle c.kind c.byte) ≡ None → judge_cycle g s.tail s.luns (target_cycle c.kind c.byte) ≡ None →
       IsLearned (Cyc c) k later s.luns (target_after g (Cyc c) s).luns → FitsTarget g later (target_after g (Cyc c) t) (target_after g (Cyc c) s)
   seen_fresh was later_open begins permitted seen learned =
       record {
         few = few_after g plain k later t s c f s.tail;
-        luns = fit_after g plain k later t s c f t.tail s.tail (subst (λ (w : TailFacts). GoEach (Cyc c) k (by_cycle g t.tail (has_driver t.luns) d) (by_cycle g w (has_driver s.luns) d) 0 t.luns s.luns) (sym q.tail) (go_fresh t.tail d refl begins a b)) learned;
+        luns = fit_after g plain k later t s c f t.tail s.tail (subst (λ (w : TailFacts). GoEach (Cyc c) k (by_cycle g t.tail (has_driver t.luns) d) (by_cycle g w (has_driver s.luns) d) 0 t.luns s.luns) (sym q.tail) (go_fresh t.tail d refl begins anew a b)) learned;
         opened = λ h. record {
-          tail = fresh.same s.tail;
+          tail = fresh.same ∙ ap (facts_after d) (sym q.tail);
           some = fresh.some;
           sound = fresh.sound;
           column = λ x. (
@@ -302,14 +430,23 @@ module _ (g : Parts) (plain : is_shared g ≡ false) (k later : Known) (t s : Ta
       q : IsClosed g k t s
       q = f.closed was
 
-      fresh : Fresh g d t.tail
-      fresh = fresh_of g d t.tail begins
-
       a : KeepsRules g t.tail t.luns d
       a = keeps_rules g t.tail t.luns d permitted
 
       b : KeepsRules g (facts_of []) s.luns d
       b = keeps_rules g (facts_of []) s.luns d (ap (λ (w : TailFacts). judge_cycle g w s.luns d) (sym q.tail) ∙ seen)
+
+      opens_anew : (e : TargetCycle) → begins_sequence e ≡ true → KeepsRules g t.tail t.luns e → KeepsRules g (facts_of []) s.luns e → begins_anew t.tail e ≡ true
+      opens_anew (CommandCycle x) h x' y = fresh_anew g t.tail t.luns s.luns x h x' y q.comes
+      opens_anew (AddressCycle byte) h x' y = cc
+      opens_anew (InputCycle byte) h x' y = cc
+      opens_anew OutputCycle h x' y = cc
+
+      anew : begins_anew t.tail d ≡ true
+      anew = opens_anew d begins a b
+
+      fresh : Fresh g d t.tail
+      fresh = fresh_of g d t.tail anew
 
 -- ---- 5. a cycle that is taken for granted, or passed over
 
@@ -335,13 +472,13 @@ module _ (g : Parts) (plain : is_shared g ≡ false) (k : Known) (t s : TargetVi
         closed = λ h. record { tail = refl; nothing = refl; comes = x.comes };
       }
 
-  by_command : (u : TailFacts) (x : Command) (rule : Forbidden) → five_of g u s.luns (CommandCycle x) ≡ Some rule → Comes g t.tail s.luns (CommandCycle x)
-  by_command u x rule h =
+  by_command : (u : TailFacts) (x : Command) (rule : Forbidden) → five_of g u s.luns (CommandCycle x) ≡ Some rule → (grants x ≡ true → MayCome g (facts_after (CommandCycle x) t.tail) s.luns) → Comes g t.tail s.luns (CommandCycle x)
+  by_command u x rule h comes =
       let grant = is_granted g u s.luns x rule h in
-      record { comes = command_comes g t.tail s.luns x grant; harmless = λ la n v. command_granted g t.tail la x n v grant }
+      record { comes = comes grant; harmless = λ la n v. command_granted g plain t.tail la x n v grant }
 
   open_comes : (d : TargetCycle) (rule : Forbidden) → KeepsRules g t.tail t.luns d → IsOpened g t s → judge_cycle g t.tail s.luns d ≡ Some rule → Comes g t.tail s.luns d
-  open_comes (CommandCycle x) rule a o h = by_command t.tail x rule (sym (judged_five g t.tail t.luns s.luns (CommandCycle x) (under_each t.luns s.luns below) clear a) ∙ h)
+  open_comes (CommandCycle x) rule a o h = by_command t.tail x rule (sym (judged_five g t.tail t.luns s.luns (CommandCycle x) (under_each t.luns s.luns below) clear a) ∙ h) (command_comes g t.tail s.luns x (inl o.some))
   open_comes (AddressCycle byte) rule a o h = address_granted g t.tail t.luns s.luns byte rule below a o.some o.sound (sym (judged_five g t.tail t.luns s.luns (AddressCycle byte) (under_each t.luns s.luns below) clear a) ∙ h)
   open_comes (InputCycle byte) rule a o h = absurd (input_granted g t.tail t.luns s.luns byte rule a (sym (judged_five g t.tail t.luns s.luns (InputCycle byte) (under_each t.luns s.luns below) clear a) ∙ h))
   open_comes OutputCycle rule a o h = output_granted g t.tail s.luns o.some
@@ -352,17 +489,18 @@ module _ (g : Parts) (plain : is_shared g ≡ false) (k : Known) (t s : TargetVi
       let o = f.opened was in
       by_comes (open_comes (target_cycle c.kind c.byte) rule (keeps_rules g t.tail t.luns (target_cycle c.kind c.byte) permitted) o (ap (λ (w : TailFacts). judge_cycle g w s.luns (target_cycle c.kind c.byte)) o.tail ∙ h))
 
-  fresh_comes : (d : TargetCycle) (rule : Forbidden) → begins_sequence d ≡ true → KeepsRules g t.tail t.luns d → judge_cycle g (facts_of []) s.luns d ≡ Some rule → Comes g t.tail s.luns d
-  fresh_comes (CommandCycle x) rule begins a h = by_command (facts_of []) x rule (sym (judged_five_fresh g t.tail t.luns s.luns x begins (under_each t.luns s.luns below) clear a) ∙ h)
-  fresh_comes (AddressCycle byte) rule begins a h = cc
-  fresh_comes (InputCycle byte) rule begins a h = cc
-  fresh_comes OutputCycle rule begins a h = cc
+  fresh_comes : (d : TargetCycle) (rule : Forbidden) → begins_sequence d ≡ true → KeepsRules g t.tail t.luns d → MayCome g t.tail s.luns → judge_cycle g (facts_of []) s.luns d ≡ Some rule → Comes g t.tail s.luns d
+  fresh_comes (CommandCycle x) rule begins a m h =
+      by_command (facts_of []) x rule (sym (judged_five_fresh g t.tail t.luns s.luns x begins (under_each t.luns s.luns below) clear a) ∙ h) (λ grant. fresh_comes_on g t.tail t.luns s.luns x begins grant a m)
+  fresh_comes (AddressCycle byte) rule begins a m h = cc
+  fresh_comes (InputCycle byte) rule begins a m h = cc
+  fresh_comes OutputCycle rule begins a m h = cc
 
   pub granted_fresh : (rule : Forbidden) → k.opened ≡ false → begins_sequence (target_cycle c.kind c.byte) ≡ true → judge_cycle g t.tail t.luns (target_cycle c.kind c.byte) ≡ None → judge_cycle g s.tail s.luns (target_cycle c.kind c.byte) ≡ Some rule →
       FitsTarget g nothing_known (target_after g (Cyc c) t) (without_sequence s)
   granted_fresh rule was begins permitted h =
       let q = f.closed was in
-      by_comes (fresh_comes (target_cycle c.kind c.byte) rule begins (keeps_rules g t.tail t.luns (target_cycle c.kind c.byte) permitted) (ap (λ (w : TailFacts). judge_cycle g w s.luns (target_cycle c.kind c.byte)) (sym q.tail) ∙ h))
+      by_comes (fresh_comes (target_cycle c.kind c.byte) rule begins (keeps_rules g t.tail t.luns (target_cycle c.kind c.byte) permitted) q.comes (ap (λ (w : TailFacts). judge_cycle g w s.luns (target_cycle c.kind c.byte)) (sym q.tail) ∙ h))
 
   pub passed_over : k.opened ≡ false → begins_sequence (target_cycle c.kind c.byte) ≡ false → judge_cycle g t.tail t.luns (target_cycle c.kind c.byte) ≡ None → FitsTarget g k (target_after g (Cyc c) t) s
   passed_over was begins permitted =

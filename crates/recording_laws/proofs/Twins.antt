@@ -67,7 +67,7 @@ twins_judged g u ts ss cycle each k = none_broken g ts ss (each_more IsTwin IsKn
 
 -- a cache read goes on from a read of a page
 abbrev pub GoesOn : Effect → LunView → Type 0
-GoesOn CacheReadContinued s = is_page_read s.closer ≡ true
+GoesOn (CacheReadContinued to) s = is_page_read s.closer ≡ true
 GoesOn _ s = Unit {0}
 
 begun_on : (e : Effect) (t s : LunView) → IsBegun t s → GoesOn e s → IsBegun (view_after e t) (view_after e s)
@@ -75,6 +75,7 @@ begun_on (ReadStarted at from) t s b on = record { busy = refl; closer = refl; a
 begun_on (TargetResetStarted first) t s b on = record { busy = refl; closer = refl; array_busy = refl; page = λ h. cc; register = refl; column = λ h. cc }
 begun_on StatusOfSelected t s b on = record { busy = b.busy; closer = b.closer; array_busy = b.array_busy; page = b.page; register = b.register; column = λ h. ap (read_column_after StatusOfSelected) (b.column h) }
 begun_on (AnotherAddressed reads) t s b on = record { busy = b.busy; closer = b.closer; array_busy = b.array_busy; page = b.page; register = b.register; column = b.column }
+begun_on (CacheReadContinued to) t s b on = begun_after (CacheReadContinued to) t s b on
 begun_on e t s b on = begun_after e t s b on
 
 pub twin_after : (e : Effect) (t s : LunView) → IsTwin t s → GoesOn e s → IsTwin (view_after e t) (view_after e s)

@@ -2,9 +2,10 @@
 use Rattle.std.proofs.Common.{◌≡◌, ◌⊎◌, inl, inr, ℕ, ◌+◌, ◌==◌, Bool, true, false, cond, not, ◌&&◌, ◌||◌, ltb, List, [], Option, Some, None, refl, sym, ap, subst, slice_get, eqb-true, true≢false}
 use Rattle.std.proofs.lemmas.Bool.{and_parts, or_parts, not-true, not-false}
 use Rattle.nand_geometry.specs.declared.parts.Parts.{Parts}
+use Rattle.nand_geometry.specs.Optional.{is_wide}
 use Rattle.nand_geometry.specs.Row.{row_of}
 use Rattle.onfi_cycle.specs.declared.command.Command.{Command}
-use Rattle.onfi_cycle.specs.declared.command.Command.TheVariants.{ReadConfirm, ChangeReadColumnConfirm, BlockErase, BlockEraseConfirm, BlockErasePlane, ReadStatusEnhanced, PageProgram, ChangeWriteColumn, ProgramConfirm, ProgramPlane, ReadId, ReadParameterPage, ReadUniqueId, GetFeatures, SetFeatures, ResetLun, Unknown}
+use Rattle.onfi_cycle.specs.declared.command.Command.TheVariants.{Read, ReadConfirm, ReadCacheSequential, ChangeReadColumnConfirm, BlockErase, BlockEraseConfirm, BlockErasePlane, ReadStatusEnhanced, PageProgram, ChangeWriteColumn, ProgramConfirm, ProgramPlane, ReadId, ReadParameterPage, ReadUniqueId, GetFeatures, SetFeatures, ResetLun, Unknown}
 use Rattle.onfi_cycle.specs.declared.data_phase.DataPhase.{DataPhase}
 use Rattle.onfi_cycle.specs.declared.data_phase.DataPhase.TheVariants.{Outside, Inputs, FirstColumn, SecondColumn, FeatureInputs}
 use Rattle.onfi_cycle.specs.declared.effect.Effect.{Effect}
@@ -14,13 +15,13 @@ use Rattle.onfi_cycle.specs.declared.opening.Opening.{Opening}
 use Rattle.onfi_cycle.specs.declared.tail_facts.TailFacts.{TailFacts}
 use Rattle.onfi_cycle.specs.declared.target_cycle.TargetCycle.{TargetCycle}
 use Rattle.onfi_cycle.specs.declared.target_cycle.TargetCycle.TheVariants.{CommandCycle, AddressCycle, InputCycle, OutputCycle}
-use Rattle.onfi_cycle.specs.Bounds.{is_block_erase}
+use Rattle.onfi_cycle.specs.Bounds.{is_block_erase, is_read}
 use Rattle.onfi_cycle.specs.declared.row_bytes.RowBytes.{RowBytes}
 use Rattle.onfi_cycle.specs.Command.{is_opener, closes_row, reads_row, closes, address_cycles, takes_address, is_page_program}
 use Rattle.onfi_cycle.specs.Effect.{is_off, is_data, is_shared, of_target, other_effect, confirm_effect, names_lun, command_effect, id_effect, address_effect, opening_address_effect, cycle_effect, ends_features}
 use Rattle.onfi_cycle.specs.LunView.{LunView}
 use Rattle.onfi_cycle.specs.Rules.{breaks_command_misplaced, breaks_address_misplaced, is_undeclared_address}
-use Rattle.onfi_cycle.specs.Sequence.{begins_sequence, one_address_more, row_after_address, wants_column, opened, takes_data, phase_after_command, phase_after_address, phase_after_last_address, phase_after_input, wants_address, wants_command, row, extended_facts, facts_after}
+use Rattle.onfi_cycle.specs.Sequence.{begins_sequence, begins_anew, works_on_row, one_address_more, row_after_address, wants_column, opened, takes_data, phase_after_command, phase_after_address, phase_after_last_address, phase_after_input, wants_address, wants_command, row, extended_facts, facts_after}
 use Rattle.onfi_cycle.proofs.Passed.{KeepsRules}
 use Rattle.trace_faults.specs.declared.lun_known.LunKnown.TheVariants.{Nothing}
 use Rattle.recording_laws.proofs.Luns.{IsBelow, Fits, IsHarmless, IsBlank, blank_harmless}
@@ -33,6 +34,7 @@ is_led ReadStatusEnhanced = true
 is_led ResetLun = true
 is_led BlockErase = true
 is_led PageProgram = true
+is_led Read = true
 is_led _ = false
 
 -- the sequence of the tail takes nothing from what was seen
@@ -46,17 +48,20 @@ is_quiet_by _ _ = false
 abbrev pub is_quiet : TailFacts → Bool
 is_quiet t = is_quiet_by t.opening t.phase
 
--- the tail names the row of an erase or of a program, and it is whole
-abbrev pub is_named_by : Option Opening → DataPhase → Bool
-is_named_by None Inputs = true
-is_named_by None FirstColumn = true
-is_named_by None SecondColumn = true
-is_named_by (Some o) Inputs = is_page_program o.opener && o.addresses == 5
-is_named_by (Some o) Outside = is_block_erase o.opener && o.addresses == 3
-is_named_by _ _ = false
+-- the tail names the row of an erase or of a program, or in the base profile of a read, and it is whole
+abbrev pub is_whole_row : Parts → Opening → Bool
+is_whole_row g o = (is_block_erase o.opener && o.addresses == 3) || (not (is_wide g.optional) && (is_read o.opener && o.addresses == 5))
 
-abbrev pub is_named : TailFacts → Bool
-is_named t = is_named_by t.opening t.phase
+abbrev pub is_named_by : Parts → Option Opening → DataPhase → Bool
+is_named_by g None Inputs = true
+is_named_by g None FirstColumn = true
+is_named_by g None SecondColumn = true
+is_named_by g (Some o) Inputs = is_page_program o.opener && o.addresses == 5
+is_named_by g (Some o) Outside = is_whole_row g o
+is_named_by g _ _ = false
+
+abbrev pub is_named : Parts → TailFacts → Bool
+is_named g t = is_named_by g t.opening t.phase
 
 -- of the LUN that a row names nothing is seen to be queued
 abbrev pub NoneQueued : Parts → ℕ → List LunView → Type 0
@@ -69,7 +74,7 @@ AreBlank ss = (m : ℕ) (s : LunView) → slice_get ss m ≡ Some s → IsBlank 
 pub data MayCome (g : Parts) (t : TailFacts) (ss : List LunView) : Type 0 where
   blank : AreBlank ss → MayCome g t ss
   quiet : is_quiet t ≡ true → MayCome g t ss
-  named : is_named t ≡ true → NoneQueued g (row t) ss → MayCome g t ss
+  named : is_named g t ≡ true → NoneQueued g (row t) ss → MayCome g t ss
 
 -- ---- 2. what may come goes on
 
@@ -82,15 +87,16 @@ quiet_command ChangeWriteColumn FeatureInputs h = refl
 quiet_command c p h = refl
 
 -- a command leads back to the data of a program or ends it
-write_command : (c : Command) → (is_quiet_by None (phase_after_command c Inputs) ≡ true) ⊎ (is_named_by None (phase_after_command c Inputs) ≡ true)
-write_command ChangeWriteColumn = inr refl
-write_command c = inl refl
+write_command : (g : Parts) (c : Command) → (is_quiet_by None (phase_after_command c Inputs) ≡ true) ⊎ (is_named_by g None (phase_after_command c Inputs) ≡ true)
+write_command g ChangeWriteColumn = inr refl
+write_command g c = inl refl
 
 quiet_last : (c : Command) (n : ℕ) → is_led c ≡ false → is_quiet_by (Some (record { opener = c; addresses = n + 1 })) (phase_after_last_address (Some (record { opener = c; addresses = n }))) ≡ true
 quiet_last ReadStatusEnhanced n h = cc
 quiet_last ResetLun n h = cc
 quiet_last BlockErase n h = cc
 quiet_last PageProgram n h = cc
+quiet_last Read n h = cc
 quiet_last SetFeatures n h = of (n == 0)
   where
     of : (b : Bool) → is_quiet_by (Some (record { opener = SetFeatures; addresses = n + 1 })) (cond b FeatureInputs Outside) ≡ true
@@ -105,7 +111,7 @@ feature_input false = refl
 module _ (g : Parts) (ss : List LunView) where
   -- by the parts of a tail
   abbrev Comes : Option Opening → DataPhase → ℕ → Type 0
-  Comes o p r = (is_quiet_by o p ≡ true) ⊎ ((is_named_by o p ≡ true) × NoneQueued g r ss)
+  Comes o p r = (is_quiet_by o p ≡ true) ⊎ ((is_named_by g o p ≡ true) × NoneQueued g r ss)
 
   after_command : (c : Command) (o : Option Opening) (p : DataPhase) (r : ℕ) → Comes o p r → Comes None (phase_after_command c p) r
   after_command c None Outside r h = inl (ap (is_quiet_by None) (quiet_command c Outside refl))
@@ -118,8 +124,8 @@ module _ (g : Parts) (ss : List LunView) where
   after_command c (Some o) SecondColumn r h = inl (ap (is_quiet_by None) (quiet_command c SecondColumn refl))
   after_command c None Inputs r (inl q) = cc
   after_command c (Some o) Inputs r (inl q) = cc
-  after_command c None Inputs r (inr n) = elim (write_command c) [ inl q ↦ inl q | inr w ↦ inr (w, n.1) ]
-  after_command c (Some o) Inputs r (inr n) = elim (write_command c) [ inl q ↦ inl q | inr w ↦ inr (w, n.1) ]
+  after_command c None Inputs r (inr n) = elim (write_command g c) [ inl q ↦ inl q | inr w ↦ inr (w, n.1) ]
+  after_command c (Some o) Inputs r (inr n) = elim (write_command g c) [ inl q ↦ inl q | inr w ↦ inr (w, n.1) ]
 
   after_input : (k : ℕ) (o : Option Opening) (p : DataPhase) (r : ℕ) → Comes o p r → Comes None (phase_after_input k p) r
   after_input k o Outside r h = inl refl
@@ -135,6 +141,18 @@ module _ (g : Parts) (ss : List LunView) where
 erase_full : (c : Command) (n byte : ℕ) → (is_block_erase c && n == 3) ≡ true → ((is_opener c && ltb n (address_cycles c) && takes_address c byte) || false) ≡ true → ⊥
 erase_full BlockErase n byte e h = let three : n ≡ 3 = eqb-true n 3 e in let full = rw three at h in cc
 erase_full c n byte e h = cc
+
+read_full : (c : Command) (n byte : ℕ) → (is_read c && n == 5) ≡ true → ((is_opener c && ltb n (address_cycles c) && takes_address c byte) || false) ≡ true → ⊥
+read_full Read n byte e h = let five : n ≡ 5 = eqb-true n 5 e in let full = rw five at h in cc
+read_full c n byte e h = cc
+
+-- so is each row that is named
+row_full : (g : Parts) (o : Opening) (byte : ℕ) → is_whole_row g o ≡ true → ((is_opener o.opener && ltb o.addresses (address_cycles o.opener) && takes_address o.opener byte) || false) ≡ true → ⊥
+row_full g o byte e h = at (is_block_erase o.opener && o.addresses == 3) refl e
+  where
+    at : (b : Bool) → (is_block_erase o.opener && o.addresses == 3) ≡ b → (b || (not (is_wide g.optional) && (is_read o.opener && o.addresses == 5))) ≡ true → ⊥
+    at true x y = erase_full o.opener o.addresses byte x h
+    at false x y = read_full o.opener o.addresses byte (and_parts (not (is_wide g.optional)) (is_read o.opener && o.addresses == 5) y).1 h
 
 program_full : (c : Command) (n byte : ℕ) → (is_page_program c && n == 5) ≡ true → ((is_opener c && ltb n (address_cycles c) && takes_address c byte) || false) ≡ true → ⊥
 program_full PageProgram n byte e h = let five : n ≡ 5 = eqb-true n 5 e in let full = rw five at h in cc
@@ -155,7 +173,7 @@ module _ (g : Parts) (ss : List LunView) where
   after_address byte None SecondColumn r w (inl q) = cc
   after_address byte None SecondColumn r w (inr n) = inr (refl, n.1)
   after_address byte (Some o) Outside r w (inl q) = inl (quiet_last o.opener o.addresses (not-true (is_led o.opener) q))
-  after_address byte (Some o) Outside r w (inr n) = absurd (erase_full o.opener o.addresses byte n.0 w)
+  after_address byte (Some o) Outside r w (inr n) = absurd (row_full g o byte n.0 w)
   after_address byte (Some o) Inputs r w (inl q) = cc
   after_address byte (Some o) Inputs r w (inr n) = absurd (program_full o.opener o.addresses byte n.0 w)
   after_address byte (Some o) FirstColumn r w (inl q) = cc
@@ -182,9 +200,16 @@ of_comes : (g : Parts) (t : TailFacts) (ss : List LunView) → Comes g ss t.open
 of_comes g t ss (inl q) = quiet q
 of_comes g t ss (inr n) = named n.0 n.1
 
+-- what is no opener begins no tail anew
+no_opener : (t : TailFacts) (cycle : TargetCycle) → begins_sequence cycle ≡ false → begins_anew t cycle ≡ false
+no_opener t (CommandCycle c) h = ap (λ (b : Bool). b && not (works_on_row t c)) h
+no_opener t (AddressCycle byte) h = refl
+no_opener t (InputCycle byte) h = refl
+no_opener t OutputCycle h = refl
+
 -- a permitted cycle that isn't seen
 pub may_come_on : (g : Parts) (t : TailFacts) (ts ss : List LunView) (cycle : TargetCycle) → begins_sequence cycle ≡ false → KeepsRules g t ts cycle → MayCome g t ss → MayCome g (facts_after cycle t) ss
-may_come_on g t ts ss cycle begins k m = elim (comes_of g t ss m) [ inl b ↦ blank b | inr c ↦ rw begins (at t.is_empty refl c) ]
+may_come_on g t ts ss cycle begins k m = elim (comes_of g t ss m) [ inl b ↦ blank b | inr c ↦ rw (no_opener t cycle begins) (at t.is_empty refl c) ]
   where
     first : (c : Command) (e : Bool) → e ≡ false → Comes g ss None (phase_after_command c t.phase) (row t) → Comes g ss (cond e (Some (record { opener = c; addresses = 0 })) None) (phase_after_command c t.phase) (row t)
     first c false f x = x
@@ -206,7 +231,7 @@ pub harmless_if : (b : Bool) (x : Effect) (s : LunView) → (b ≡ true → IsHa
 harmless_if true x s h = h refl
 harmless_if false x s h = tt
 
-harmless_or : (b : Bool) (x y : Effect) (s : LunView) → (b ≡ true → IsHarmless x s) → IsHarmless y s → IsHarmless (cond b x y) s
+pub harmless_or : (b : Bool) (x y : Effect) (s : LunView) → (b ≡ true → IsHarmless x s) → IsHarmless y s → IsHarmless (cond b x y) s
 harmless_or true x y s h k = h refl
 harmless_or false x y s h k = k
 
@@ -219,7 +244,7 @@ other_plain g t c plain = rw plain (at (closes_row c) (wants_command t c))
     at true false = refl
     at false b = refl
 
-other_harmless : (g : Parts) (t : TailFacts) (c : Command) (s : LunView) → is_shared g ≡ false → IsHarmless (other_effect g t c) s
+pub other_harmless : (g : Parts) (t : TailFacts) (c : Command) (s : LunView) → is_shared g ≡ false → IsHarmless (other_effect g t c) s
 other_harmless g t c s plain = subst (λ (e : Effect). IsHarmless e s) (sym (other_plain g t c plain)) tt
 
 -- and what is done for a whole target is done by each LUN
@@ -248,7 +273,7 @@ plane_led : (c : Command) (n : ℕ) → (closes c BlockErasePlane && n == addres
 plane_led BlockErase n h = refl
 plane_led c n h = cc
 
-not_led : (o : Opening) (p : DataPhase) → is_quiet_by (Some o) p ≡ true → is_led o.opener ≡ false
+pub not_led : (o : Opening) (p : DataPhase) → is_quiet_by (Some o) p ≡ true → is_led o.opener ≡ false
 not_led o Outside q = not-true (is_led o.opener) q
 not_led o FeatureInputs q = not-true (is_led o.opener) q
 not_led o Inputs q = cc
@@ -276,6 +301,7 @@ module _ (g : Parts) (t : TailFacts) (byte m : ℕ) (s : LunView) (plain : is_sh
   quiet_address : (c : Command) (n : ℕ) → is_led c ≡ false → IsHarmless (address_effect g t byte c n m) s
   quiet_address ReadStatusEnhanced n h = cc
   quiet_address ResetLun n h = cc
+  quiet_address Read n h = cc
   quiet_address ReadId n h = harmless_if (wants_address t byte) (of_target g m (id_effect byte)) s (λ w. target_harmless g m (id_effect byte) s plain (id_harmless byte s))
   quiet_address ReadParameterPage n h = harmless_if (wants_address t byte) (of_target g m ParameterPageReadStarted) s (λ w. target_harmless g m ParameterPageReadStarted s plain tt)
   quiet_address ReadUniqueId n h = harmless_if (wants_address t byte) (of_target g m UniqueIdReadStarted) s (λ w. target_harmless g m UniqueIdReadStarted s plain tt)
@@ -286,6 +312,17 @@ module _ (g : Parts) (t : TailFacts) (byte m : ℕ) (s : LunView) (plain : is_sh
   erase_address BlockErase n h = tt
   erase_address c n h = cc
 
+  read_address : (c : Command) (n : ℕ) → is_read c ≡ true → IsHarmless (address_effect g t byte c n m) s
+  read_address Read n h = tt
+  read_address c n h = cc
+
+  row_address : (o : Opening) → is_whole_row g o ≡ true → IsHarmless (address_effect g t byte o.opener o.addresses m) s
+  row_address o h = at (is_block_erase o.opener && o.addresses == 3) refl h
+    where
+      at : (b : Bool) → (is_block_erase o.opener && o.addresses == 3) ≡ b → (b || (not (is_wide g.optional) && (is_read o.opener && o.addresses == 5))) ≡ true → IsHarmless (address_effect g t byte o.opener o.addresses m) s
+      at true x y = erase_address o.opener o.addresses (and_parts (is_block_erase o.opener) (o.addresses == 3) x).0
+      at false x y = read_address o.opener o.addresses (and_parts (is_read o.opener) (o.addresses == 5) (and_parts (not (is_wide g.optional)) (is_read o.opener && o.addresses == 5) y).1).0
+
   program_address : (c : Command) (n : ℕ) → is_page_program c ≡ true → IsHarmless (address_effect g t byte c n m) s
   program_address PageProgram n h = tt
   program_address c n h = cc
@@ -294,7 +331,7 @@ module _ (g : Parts) (t : TailFacts) (byte m : ℕ) (s : LunView) (plain : is_sh
   address_harmless ss None p r h = tt
   address_harmless ss (Some o) p r (inl q) = quiet_address o.opener o.addresses (not_led o p q)
   address_harmless ss (Some o) Inputs r (inr n) = program_address o.opener o.addresses (and_parts (is_page_program o.opener) (o.addresses == 5) n.0).0
-  address_harmless ss (Some o) Outside r (inr n) = erase_address o.opener o.addresses (and_parts (is_block_erase o.opener) (o.addresses == 3) n.0).0
+  address_harmless ss (Some o) Outside r (inr n) = row_address o n.0
   address_harmless ss (Some o) FirstColumn r (inr n) = absurd (true≢false (sym n.0))
   address_harmless ss (Some o) SecondColumn r (inr n) = absurd (true≢false (sym n.0))
   address_harmless ss (Some o) FeatureInputs r (inr n) = absurd (true≢false (sym n.0))

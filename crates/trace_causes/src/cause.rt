@@ -84,6 +84,15 @@ pub enum Cause {
         command: u8,
         luns: u8,
     },
+    /// Several LUNs of the target may answer the command.
+    SeveralAnswer {
+        command: u8,
+    },
+    /// No LUN answers the command while work of the whole target goes on.
+    TargetWorks {
+        command: u8,
+        since: Option<CommandAt>,
+    },
     /// The target wants something else.
     Other {
         cycle: Unwanted,
@@ -161,6 +170,21 @@ fn write_several_luns<W: fmt::Write>(
     Ok(())
 }
 
+// Of a command that no LUN answers while work of the whole target goes on, since a command in this line.
+fn write_target_works<W: fmt::Write>(
+    f: &mut fmt::Formatter<W>,
+    command: u8,
+    since: Option<CommandAt>,
+    line: Option<usize>,
+) -> fmt::Result {
+    f.write_str("work of the whole target goes on")?;
+    if let Some(since) = since {
+        f.write_str(" since ")?;
+        since.write_in(f, line)?;
+    }
+    write!(f, ", and no LUN of it answers `{command:02x}`")
+}
+
 // Of a target that no LUN drives: since a reset in this line, or from the beginning.
 fn write_no_driver<W: fmt::Write>(
     f: &mut fmt::Formatter<W>,
@@ -229,8 +253,10 @@ impl Cause {
                 since: Undriven::Reset(reset),
             } => Some(reset),
             Cause::ColumnLost { asked, .. } => asked,
+            Cause::TargetWorks { since, .. } => since,
             Cause::Outside { .. }
             | Cause::SeveralLuns { .. }
+            | Cause::SeveralAnswer { .. }
             | Cause::Unopened { .. }
             | Cause::Nothing(_)
             | Cause::RowOutside { .. }
@@ -262,6 +288,11 @@ impl fmt::Display for CauseInLine {
                 open.write_in(f, line)
             }
             Cause::SeveralLuns { command, luns } => write_several_luns(f, command, luns),
+            Cause::SeveralAnswer { command } => write!(
+                f,
+                "`{command:02x}` may be answered by more than one LUN of this target: `78` asks one LUN of it for its status"
+            ),
+            Cause::TargetWorks { command, since } => write_target_works(f, command, since, line),
             Cause::Other { cycle, open } => {
                 write!(f, "{cycle}: ")?;
                 open.write_in(f, line)

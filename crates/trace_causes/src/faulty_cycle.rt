@@ -58,6 +58,33 @@ impl FaultyCycle {
         }
     }
 
+    // The command with which work of the whole target began, where that is known.
+    fn target_work(&self) -> Option<CommandAt> {
+        let since = self.past.work[0]?;
+        if Command::of(since.byte).is_of_target() {
+            Some(since)
+        } else {
+            None
+        }
+    }
+
+    // In the wider profile a target with several LUNs takes each command, where it is clear who answers.
+    fn several_luns(&self) -> Cause {
+        let command = self.cycle.byte;
+        let parts = self.geometry.parts();
+        if !parts.optional.is_wide() {
+            let luns = parts.luns;
+            return Cause::SeveralLuns { command, luns };
+        }
+        match Command::of(command) {
+            Command::ReadStatusEnhanced => Cause::TargetWorks {
+                command,
+                since: self.target_work(),
+            },
+            _ => Cause::SeveralAnswer { command },
+        }
+    }
+
     // The part of a row that isn't there.
     fn row_outside(&self) -> Cause {
         let row = self
@@ -171,10 +198,7 @@ impl FaultyCycle {
     pub fn cause_of(&self, rule: Forbidden) -> Option<Cause> {
         match rule {
             Forbidden::SequenceOpen => Some(Cause::Open(self.open()?)),
-            Forbidden::SeveralLuns => Some(Cause::SeveralLuns {
-                command: self.cycle.byte,
-                luns: self.geometry.parts().luns,
-            }),
+            Forbidden::SeveralLuns => Some(self.several_luns()),
             Forbidden::CommandMisplaced => Some(self.command_misplaced()),
             Forbidden::AddressMisplaced => Some(self.unwanted(Unwanted::Address)),
             Forbidden::RowOutside => Some(self.row_outside()),

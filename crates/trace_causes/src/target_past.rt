@@ -3,7 +3,7 @@
 use crate::cause::Undriven;
 use crate::open_sequence::CommandAt;
 use crate::target_look::{MOST_LUNS, TargetLook};
-use onfi_cycle::{Command, LunState};
+use onfi_cycle::{Command, LunState, TailFacts};
 
 /// Where in a trace a target came to what it does now.
 #[derive(Clone, Copy)]
@@ -56,10 +56,10 @@ impl TargetPast {
         }
     }
 
-    /// Goes on by a command that the target took.
-    pub fn note_command(&mut self, command: CommandAt) {
+    /// Goes on by a command that the target took, behind which its tail has these facts. A 31h that closes a 00h is no opener.
+    pub fn note_command(&mut self, command: CommandAt, tail: TailFacts) {
         self.last = Some(command);
-        if Command::of(command.byte).is_opener() {
+        if Command::of(command.byte).is_opener() && tail.opening.is_some() {
             self.opener = self.last;
         }
         match Command::of(command.byte) {

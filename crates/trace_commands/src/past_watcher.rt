@@ -77,12 +77,14 @@ impl<A: Allocator> PastWatcher<A> {
     // Notes a command that its target has taken.
     fn note_command(&mut self, state: &TraceState, cycle: Cycle, item: usize) {
         let mut past = self.past(cycle.ce);
-        past.note_command(CommandAt {
+        let target = TargetLook::of(&state.bus, cycle.ce);
+        let command = CommandAt {
             byte: cycle.byte,
             item: Some(item),
-        });
+        };
+        past.note_command(command, target.tail);
         if starts_work(Item::Cyc(cycle)) {
-            past.note_work(TargetLook::of(&state.bus, cycle.ce));
+            past.note_work(target);
         }
         self.set_past(cycle.ce, past);
     }

@@ -37,7 +37,8 @@ use Rattle.trace_ops.proofs.Changed.{by, put, there, length_changed}
 use Rattle.trace_ops.proofs.Spans.{same_some, which}
 use Rattle.trace_ops.proofs.Within.{AreWithin}
 use Rattle.trace_ops.proofs.Walks.{came, length_new, length_came, length_ends, mark_new, within_listed}
-use Rattle.trace_ops.proofs.Contents.{closer_by, opener_begins}
+use Rattle.trace_ops.proofs.Contents.{closer_by, opener_begins, closes_none}
+use Rattle.trace_ops.proofs.HeldReads.{Kept, kept_of}
 use Rattle.trace_ops.proofs.Pieces.{Each, Awaited, closer_of_kind, closer_with, each_quiet, each_came, kept_beginning}
 
 -- ---- what is never folded
@@ -528,11 +529,15 @@ command_of (Cyc c) = command_of_kind c.kind c.byte
 command_of (Rdy ce lun fail) = None
 command_of (Ard ce lun) = None
 
+-- an opener that closes nothing
+abbrev Alone : ℕ → Type 0
+Alone byte = (is_opener (command byte) ≡ true) × ((byte == 0x31) ≡ false)
+
 -- what is known of the operation to which an item came
 pub record Context (j : Judged) (k : ℕ) (ops : List Operation) : Type 0 where
   pub small : k < length ops
   pub began : Began j k ops
-  pub opener : (byte : ℕ) → command_of j.item ≡ Some byte → is_opener (command byte) ≡ true → (o : Operation) → slice_get ops k ≡ Some o → o.beginning ≡ begins.Opener byte
+  pub opener : (byte : ℕ) → command_of j.item ≡ Some byte → Alone byte → (o : Operation) → slice_get ops k ≡ Some o → o.beginning ≡ begins.Opener byte
   pub closer : command_of j.item ≡ Some 0xe0 → Main ops k
 
 module _ (j : Judged) (k : ℕ) (ops : List Operation) (o : Operation) (is : slice_get ops k ≡ Some o) (small : k < length ops) where
@@ -557,16 +562,20 @@ module _ (j : Judged) (k : ℕ) (ops : List Operation) (o : Operation) (is : sli
   main_so : (is_some o.closer || not (asks o.beginning)) ≡ true → Main ops k
   main_so h = (small, (λ w there'. ap is_main (same_one w there') ∙ or_right (is_some o.start) _ h))
 
-  module _ (opener : (byte : ℕ) → command_of j.item ≡ Some byte → is_opener (command byte) ≡ true → (w : Operation) → slice_get ops k ≡ Some w → w.beginning ≡ begins.Opener byte)
+  module _ (opener : (byte : ℕ) → command_of j.item ≡ Some byte → Alone byte → (w : Operation) → slice_get ops k ≡ Some w → w.beginning ≡ begins.Opener byte)
       (closer : command_of j.item ≡ Some 0xe0 → Main ops k) where
-    asks_so : (byte code : ℕ) → command_of j.item ≡ Some byte → asks (begins.Opener code) ≡ true → (byte == code) ≡ true → is_opener (command byte) ≡ true → Asking ops k
+    asks_so : (byte code : ℕ) → command_of j.item ≡ Some byte → asks (begins.Opener code) ≡ true → (byte == code) ≡ true → Alone byte → Asking ops k
     asks_so byte code cmd good e opens = asking_so (ap asks (opener byte cmd opens o is ∙ ap begins.Opener (eqb-true byte code e)) ∙ good)
 
-    status_opens : (byte : ℕ) → (byte == 0x70) ≡ true → is_opener (command byte) ≡ true
-    status_opens byte e = ap is_opener (commands_have_bytes.command_of_byte ReadStatus byte (ap Some (sym (eqb-true byte 0x70 e))))
+    status_opens : (byte : ℕ) → (byte == 0x70) ≡ true → Alone byte
+    status_opens byte e =
+        let is = eqb-true byte 0x70 e in
+        (ap is_opener (commands_have_bytes.command_of_byte ReadStatus byte (ap Some (sym is))), ap (λ n. n == 0x31) is)
 
-    read_opens : (byte : ℕ) → (byte == 0x00) ≡ true → is_opener (command byte) ≡ true
-    read_opens byte e = ap is_opener (commands_have_bytes.command_of_byte Read byte (ap Some (sym (eqb-true byte 0x00 e))))
+    read_opens : (byte : ℕ) → (byte == 0x00) ≡ true → Alone byte
+    read_opens byte e =
+        let is = eqb-true byte 0x00 e in
+        (ap is_opener (commands_have_bytes.command_of_byte Read byte (ap Some (sym is))), ap (λ n. n == 0x31) is)
 
     command_fits : (byte : ℕ) (starts : Bool) (after : Option LunState) → command_of j.item ≡ Some byte → (starts ≡ true → Main ops k) → RoleFits (role_of_command byte starts after) ops k
     command_fits byte starts after cmd main =
@@ -653,19 +662,22 @@ sound_selects j k l context sound =
 
 -- ---- one item
 
+alone_begins : (newest : Option Operation) (byte : ℕ) → Alone byte → begins_one newest byte ≡ true
+alone_begins newest byte alone = opener_begins newest byte alone.0 (closes_none newest byte alone.1)
+
 -- a command that opens is the first of a new one
-opens_new : (ops : List Operation) (p : Places) (j : Judged) (i : Item) (byte : ℕ) → command_of i ≡ Some byte → is_opener (command byte) ≡ true → owner_of ops p j i ≡ None
+opens_new : (ops : List Operation) (p : Places) (j : Judged) (i : Item) (byte : ℕ) → command_of i ≡ Some byte → Alone byte → owner_of ops p j i ≡ None
 opens_new ops p j (Cyc c) byte cmd opens = at c.kind cmd
   where
     at : (kind : Kind) → command_of_kind kind c.byte ≡ Some byte → cycle_owner ops p j c kind ≡ None
-    at Cmd e = ap (λ x. cond x None (found p.newest j.ce)) (opener_begins (op_of ops (found p.newest j.ce)) c.byte (ap (λ n. is_opener (command n)) (same_some e) ∙ opens))
+    at Cmd e = ap (λ x. cond x None (found p.newest j.ce)) (alone_begins (op_of ops (found p.newest j.ce)) c.byte (subst Alone (sym (same_some e)) opens))
     at Adr e = cc
     at Din e = cc
     at Dout e = cc
 opens_new ops p j (Rdy ce lun fail) byte cmd opens = cc
 opens_new ops p j (Ard ce lun) byte cmd opens = cc
 
-new_opener : (j : Judged) (newest : Option Operation) (i : Item) (byte : ℕ) → command_of i ≡ Some byte → is_opener (command byte) ≡ true → (new_one j newest i).beginning ≡ begins.Opener byte
+new_opener : (j : Judged) (newest : Option Operation) (i : Item) (byte : ℕ) → command_of i ≡ Some byte → Alone byte → (new_one j newest i).beginning ≡ begins.Opener byte
 new_opener j newest (Cyc c) byte cmd opens = at c.kind cmd
   where
     begun_so : (b : Bool) → b ≡ true → (cond b (begun j.ce j.number (begins.Opener c.byte)) (begun j.ce j.number begins.Cut)).beginning ≡ begins.Opener c.byte
@@ -673,7 +685,7 @@ new_opener j newest (Cyc c) byte cmd opens = at c.kind cmd
     begun_so false e = cc
 
     at : (kind : Kind) → command_of_kind kind c.byte ≡ Some byte → (new_by_command j newest c kind).beginning ≡ begins.Opener byte
-    at Cmd e = begun_so (begins_one newest c.byte) (opener_begins newest c.byte (ap (λ n. is_opener (command n)) (same_some e) ∙ opens)) ∙ ap begins.Opener (same_some e)
+    at Cmd e = begun_so (begins_one newest c.byte) (alone_begins newest c.byte (subst Alone (sym (same_some e)) opens)) ∙ ap begins.Opener (same_some e)
     at Adr e = cc
     at Din e = cc
     at Dout e = cc
@@ -681,11 +693,11 @@ new_opener j newest (Rdy ce lun fail) byte cmd opens = cc
 new_opener j newest (Ard ce lun) byte cmd opens = cc
 
 -- the operation of an opener begins with it
-abbrev OpensWith : Judged → ℕ → ℕ → Beginning → Option ℕ → Type 0
-OpensWith j mark k b closer = k ≡ mark → (byte : ℕ) → command_of j.item ≡ Some byte → is_opener (command byte) ≡ true → b ≡ begins.Opener byte
+abbrev OpensWith : Judged → ℕ → ℕ → Beginning → Kept → Type 0
+OpensWith j mark k b kept = k ≡ mark → (byte : ℕ) → command_of j.item ≡ Some byte → Alone byte → b ≡ begins.Opener byte
 
-abbrev Anything : ℕ → Beginning → Option ℕ → Type 0
-Anything k b closer = Unit {0}
+abbrev Anything : ℕ → Beginning → Kept → Type 0
+Anything k b kept = Unit {0}
 
 mark_is_new : (j : Judged) (l : Listing) → owner_in j (with_ends j l) ≡ None → mark_in j (with_ends j l) ≡ length (with_ends j l).ops
 mark_is_new j l h = ap (λ o. number_of o (with_ends j l).ops) h
@@ -696,24 +708,24 @@ opens_came j l = each_came Anything (OpensWith j mark) j l (λ k o is. tt) old n
     mark : ℕ
     mark = mark_in j (with_ends j l)
 
-    old : (k : ℕ) (b : Beginning) (closer : Option ℕ) → k < length (with_ends j l).ops → Anything k b closer →
-        Awaited (OpensWith j (mark_in j (with_ends j l))) (mark_in j (with_ends j l)) (owner_in j (with_ends j l)) j j.item k b closer
-    old k b closer lt any = (
+    old : (k : ℕ) (b : Beginning) (kept : Kept) → k < length (with_ends j l).ops → Anything k b kept →
+        Awaited (OpensWith j (mark_in j (with_ends j l))) (mark_in j (with_ends j l)) (owner_in j (with_ends j l)) j j.item k b kept
+    old k b kept lt any = (
       (λ apart same. absurd (apart same)),
       (λ same again byte cmd opens. absurd (let e = mark_is_new j l (opens_new (with_ends j l).ops l.places j j.item byte cmd opens) in omega (arith, e, same, lt))),
     )
 
     new : owner_in j (with_ends j l) ≡ None →
         Awaited (OpensWith j (mark_in j (with_ends j l))) (mark_in j (with_ends j l)) (owner_in j (with_ends j l)) j j.item (length (with_ends j l).ops)
-        (new_one j (op_of (with_ends j l).ops (found l.places.newest j.ce)) j.item).beginning (new_one j (op_of (with_ends j l).ops (found l.places.newest j.ce)) j.item).closer
+        (new_one j (op_of (with_ends j l).ops (found l.places.newest j.ce)) j.item).beginning (kept_of (new_one j (op_of (with_ends j l).ops (found l.places.newest j.ce)) j.item))
     new h = (
       (λ apart. absurd (apart (sym (mark_is_new j l h)))),
       (λ same again byte cmd opens. new_opener j (op_of (with_ends j l).ops (found l.places.newest j.ce)) j.item byte cmd opens),
     )
 
 -- E0 is the closer of its operation, or that isn't a question
-abbrev ClosedBy : Judged → ℕ → ℕ → Beginning → Option ℕ → Type 0
-ClosedBy j mark k b closer = k ≡ mark → command_of j.item ≡ Some 0xe0 → (is_some closer || not (asks b)) ≡ true
+abbrev ClosedBy : Judged → ℕ → ℕ → Beginning → Kept → Type 0
+ClosedBy j mark k b kept = k ≡ mark → command_of j.item ≡ Some 0xe0 → (is_some kept.closer || not (asks b)) ≡ true
 
 closes_e0 : (b : Beginning) (closer : Option ℕ) → (is_some (closer_by b closer 0xe0) || not (asks b)) ≡ true
 closes_e0 b (Some c) = refl
@@ -767,18 +779,18 @@ new_closed j newest (Ard ce lun) closer cmd = cc
 closed_came : (j : Judged) (l : Listing) → Each (ClosedBy j (mark_in j (with_ends j l))) (came j l).ops
 closed_came j l = each_came Anything (ClosedBy j (mark_in j (with_ends j l))) j l (λ k o is. tt) old new
   where
-    old : (k : ℕ) (b : Beginning) (closer : Option ℕ) → k < length (with_ends j l).ops → Anything k b closer →
-        Awaited (ClosedBy j (mark_in j (with_ends j l))) (mark_in j (with_ends j l)) (owner_in j (with_ends j l)) j j.item k b closer
-    old k b closer lt any = ((λ apart same. absurd (apart same)), (λ same again cmd. at (owner_in j (with_ends j l)) refl same cmd))
+    old : (k : ℕ) (b : Beginning) (kept : Kept) → k < length (with_ends j l).ops → Anything k b kept →
+        Awaited (ClosedBy j (mark_in j (with_ends j l))) (mark_in j (with_ends j l)) (owner_in j (with_ends j l)) j j.item k b kept
+    old k b kept lt any = ((λ apart same. absurd (apart same)), (λ same again cmd. at (owner_in j (with_ends j l)) refl same cmd))
       where
         at : (o : Option ℕ) → owner_in j (with_ends j l) ≡ o → k ≡ mark_in j (with_ends j l) → command_of j.item ≡ Some 0xe0 →
-            (is_some (closer_with (owner_in j (with_ends j l)) j j.item b closer) || not (asks b)) ≡ true
+            (is_some (closer_with (owner_in j (with_ends j l)) j j.item b kept.closer) || not (asks b)) ≡ true
         at None h same cmd = absurd (let e = mark_is_new j l h in omega (arith, e, same, lt))
-        at (Some m) h same cmd = old_closed (owner_in j (with_ends j l)) m j j.item b closer h cmd
+        at (Some m) h same cmd = old_closed (owner_in j (with_ends j l)) m j j.item b kept.closer h cmd
 
     new : owner_in j (with_ends j l) ≡ None →
         Awaited (ClosedBy j (mark_in j (with_ends j l))) (mark_in j (with_ends j l)) (owner_in j (with_ends j l)) j j.item (length (with_ends j l).ops)
-        (new_one j (op_of (with_ends j l).ops (found l.places.newest j.ce)) j.item).beginning (new_one j (op_of (with_ends j l).ops (found l.places.newest j.ce)) j.item).closer
+        (new_one j (op_of (with_ends j l).ops (found l.places.newest j.ce)) j.item).beginning (kept_of (new_one j (op_of (with_ends j l).ops (found l.places.newest j.ce)) j.item))
     new h = ((λ apart. absurd (apart (sym (mark_is_new j l h)))), (λ same again cmd. new_closed j (op_of (with_ends j l).ops (found l.places.newest j.ce)) j.item _ cmd))
 
 pub small_came : (j : Judged) (l : Listing) → AreWithin (length l.ops) l.places → mark_in j (with_ends j l) < length (came j l).ops

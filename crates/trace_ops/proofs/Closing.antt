@@ -25,7 +25,7 @@ use Rattle.onfi_cycle.specs.Lun.{is_busy, latch_alone, luns_of, lun_view}
 use Rattle.onfi_cycle.specs.LunView.{LunView}
 use Rattle.onfi_cycle.specs.Permitted.{broken, is_permitted, is_legal}
 use Rattle.onfi_cycle.specs.Rules.{ends_row, breaks_row_outside, breaks_lun_busy}
-use Rattle.onfi_cycle.specs.Sequence.{target_cycle, begins_sequence, continued, with_cycle, tail, opening, opened, one_address_more, data_phase, phase_after_address, phase_after_last_address, row_bytes, row_after_address, column, facts_of, row, row_with, wants_command, wants_column, takes_data}
+use Rattle.onfi_cycle.specs.Sequence.{target_cycle, begins_anew, continued, with_cycle, tail, opening, opened, one_address_more, data_phase, phase_after_address, phase_after_last_address, row_bytes, row_after_address, column, facts_of, row, row_with, wants_command, wants_column, takes_data}
 use Rattle.onfi_cycle.proofs.Booleans.{and_rest, clash}
 use Rattle.onfi_cycle.proofs.Keeping.{view_at}
 use Rattle.onfi_cycle.proofs.Others.{permitted_none}
@@ -207,12 +207,12 @@ goes_on_ready g d t luns v found one was la OutputCycle keeps = record { named =
 
 any_ready : (g : Parts) (t : List TargetCycle) (luns : List LunView) (v : LunView) → slice_get luns 0 ≡ Some v → g.luns ≡ 1 → RowReady g (facts_of t) v.busy → (la : Latch) (cycle : TargetCycle) →
     KeepsRules g (facts_of t) luns cycle → RowReady g (facts_of (with_cycle cycle t)) (v.busy || starts (cycle_effect g (facts_of t) la cycle 0))
-any_ready g t luns v found one was la cycle keeps = at (begins_sequence cycle) refl
+any_ready g t luns v found one was la cycle keeps = at (begins_anew (facts_of t) cycle) refl
   where
     busy : Bool
     busy = v.busy || starts (cycle_effect g (facts_of t) la cycle 0)
 
-    opens : (c : TargetCycle) → begins_sequence c ≡ true → RowReady g (facts_of (c ∷ [])) busy
+    opens : (c : TargetCycle) → begins_anew (facts_of t) c ≡ true → RowReady g (facts_of (c ∷ [])) busy
     opens (CommandCycle c) h = unnamed g (facts_of (CommandCycle c ∷ [])) busy (no_row_yet c)
     opens (AddressCycle byte) h = cc
     opens (InputCycle byte) h = cc
@@ -225,7 +225,7 @@ any_ready g t luns v found one was la cycle keeps = at (begins_sequence cycle) r
         (goes_on_ready g d u luns v found one (subst (λ (x : List TargetCycle). RowReady g (facts_of x) v.busy) (sym e) was) la cycle
         (subst (λ (x : List TargetCycle). KeepsRules g (facts_of x) luns cycle) (sym e) keeps))
 
-    at : (b : Bool) → begins_sequence cycle ≡ b → RowReady g (facts_of (cond b (cycle ∷ []) (continued cycle t))) busy
+    at : (b : Bool) → begins_anew (facts_of t) cycle ≡ b → RowReady g (facts_of (cond b (cycle ∷ []) (continued cycle t))) busy
     at true e = opens cycle e
     at false e = on t refl
 

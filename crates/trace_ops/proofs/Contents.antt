@@ -16,7 +16,7 @@ use Rattle.trace_ops.specs.declared.operation.Beginning.{Beginning}
 use Rattle.trace_ops.specs.declared.operation.Beginning.TheVariants as begins
 use Rattle.trace_ops.specs.declared.operation.Operation.{Operation}
 use Rattle.trace_ops.specs.Operation.{opener_of, is_byte, is_unknown, closes_as_known, is_open_program}
-use Rattle.trace_ops.specs.Listing.{is_open_program_op, begins_one}
+use Rattle.trace_ops.specs.Listing.{is_open_program_op, is_open_read_op, closes_read, begins_one}
 use Rattle.trace_ops.proofs.Spans.{same_some}
 
 -- the operation began with this opener, and no command has closed it
@@ -48,7 +48,7 @@ not_unknown c byte h e = none (sym h ∙ ap opcode e)
     none : Some byte ≡ None → ⊥
     none e = cc
 
-byte_of : (byte code : ℕ) (c : Command) → opcode c ≡ Some code → command byte ≡ c → byte ≡ code
+pub byte_of : (byte code : ℕ) (c : Command) → opcode c ≡ Some code → command byte ≡ c → byte ≡ code
 byte_of byte code c h is =
     let known : command byte ≡ Unknown → ⊥ = λ e. not_unknown c code h (sym is ∙ e) in
     same_some (sym (commands_have_bytes.byte_of_command byte known) ∙ ap opcode is ∙ h)
@@ -238,11 +238,26 @@ base_closer SetFeatures o k = cc
 base_closer ResetLun o k = cc
 base_closer SynchronousReset o k = cc
 
--- an opener begins an operation
-pub opener_begins : (newest : Option Operation) (byte : ℕ) → is_opener (command byte) ≡ true → begins_one newest byte ≡ true
-opener_begins newest byte h = ap (λ x. x || ((is_unknown byte && not (closes_as_known byte)) || (byte == 0x85 && not (is_open_program_op newest)))) h
+-- an opener begins an operation, if it isn't a 31h that closes a read
+pub opener_begins : (newest : Option Operation) (byte : ℕ) → is_opener (command byte) ≡ true → closes_read newest byte ≡ false → begins_one newest byte ≡ true
+opener_begins newest byte h apart =
+    ap (λ x. (x && not (closes_read newest byte)) || ((is_unknown byte && not (closes_as_known byte)) || (byte == 0x85 && not (is_open_program_op newest)))) h
+    ∙ ap (λ x. not x || ((is_unknown byte && not (closes_as_known byte)) || (byte == 0x85 && not (is_open_program_op newest)))) apart
 
-in_data : (d : DataPhase) → takes_data d ≡ true → in_program d ≡ true
+-- a command that isn't 31h closes no read so
+pub closes_none : (newest : Option Operation) (byte : ℕ) → (byte == 0x31) ≡ false → closes_read newest byte ≡ false
+closes_none newest byte h = ap (λ x. x && is_open_read_op newest) h
+
+-- a 31h that closes a read begins none
+pub closing_begins_none : (newest : Option Operation) (byte : ℕ) → closes_read newest byte ≡ true → begins_one newest byte ≡ false
+closing_begins_none newest byte h =
+    let is : byte ≡ 0x31 = eqb-true byte 0x31 (and_parts (byte == 0x31) (is_open_read_op newest) h).0 in
+    let code : command byte ≡ ReadCacheSequential = commands_have_bytes.command_of_byte ReadCacheSequential byte (ap Some (sym is)) in
+    let other : (byte == 0x85) ≡ false = ap (λ n. n == 0x85) is in
+    ap (λ c. (is_opener c && not (closes_read newest byte)) || ((not (is_of_base c) && not (closes_as_known byte)) || (byte == 0x85 && not (is_open_program_op newest)))) code
+    ∙ ap (λ x. not x || (byte == 0x85 && not (is_open_program_op newest))) h ∙ ap (λ x. x && not (is_open_program_op newest)) other
+
+pub in_data : (d : DataPhase) → takes_data d ≡ true → in_program d ≡ true
 in_data Inputs h = refl
 in_data d h = cc
 
@@ -251,7 +266,7 @@ pub wanted_begins_none : (o : Operation) (t : List TargetCycle) (byte : ℕ) →
     wants_command (facts_of t) (command byte) ≡ true → begins_one (Some o) byte ≡ false
 wanted_begins_none o t byte content known no_opener wanted =
     let base : is_of_base (command byte) ≡ true = base_closer (command byte) no_opener known in
-    ap (λ x. x || ((is_unknown byte && not (closes_as_known byte)) || (byte == 0x85 && not (is_open_program o)))) no_opener
+    ap (λ x. (x && not (closes_read (Some o) byte)) || ((is_unknown byte && not (closes_as_known byte)) || (byte == 0x85 && not (is_open_program o)))) no_opener
     ∙ ap (λ x. (not x && not (closes_as_known byte)) || (byte == 0x85 && not (is_open_program o))) base
     ∙ at (byte == 0x85) refl
   where

@@ -1,11 +1,11 @@
 -- What a cycle of a legal trace of the base profile does to who is at work where.
 use Rattle.std.proofs.Common.{◌≡◌, ◌⊎◌, inl, inr, ℕ, zero, suc, ◌<◌, ◌≤◌, ◌==◌, Bool, true, false, ◌&&◌, ◌||◌, not, cond, List, ◌∷◌, Option, Some, None, is_some, refl, sym, ap, ◌∙◌, subst, arith, length, slice_set, eqb-true, ltb, ◌+◌, ◌++◌, [], ltb-true, lt-ltb}
 use Rattle.std.specs.Prelude.{slice_get}
-use Rattle.std.proofs.lemmas.Bool.{or_from, false_from_ne_true}
+use Rattle.std.proofs.lemmas.Bool.{and_parts, or_from, false_from_ne_true}
 use Rattle.std.proofs.lemmas.Option.{slice_get_within}
 use Rattle.nand_geometry.specs.declared.parts.Parts.{Parts}
 use Rattle.nand_geometry.specs.Optional.{no_optional}
-use Rattle.onfi_cycle.specs.declared.command.Command.TheVariants.{ChangeWriteColumn}
+use Rattle.onfi_cycle.specs.declared.command.Command.TheVariants.{ChangeWriteColumn, ReadCacheSequential}
 use Rattle.onfi_cycle.specs.declared.item.Cycle.{Cycle as BusCycle}
 use Rattle.onfi_cycle.specs.declared.item.Item.{Item}
 use Rattle.onfi_cycle.specs.declared.item.Item.TheVariants.{Cyc}
@@ -19,7 +19,7 @@ use Rattle.onfi_cycle.specs.LunView.{LunView}
 use Rattle.onfi_cycle.specs.Command.{command, is_known, is_opener}
 use Rattle.onfi_cycle.specs.Lun.{luns_of}
 use Rattle.onfi_cycle.specs.Permitted.{broken, is_legal}
-use Rattle.onfi_cycle.specs.Sequence.{target_cycle, begins_sequence, with_cycle, tail, facts_of, wants, wants_command}
+use Rattle.onfi_cycle.specs.Sequence.{target_cycle, begins_sequence, with_cycle, tail, opening, facts_of, wants, wants_command, is_open}
 use Rattle.onfi_cycle.specs.Working.{IsLun}
 use Rattle.onfi_cycle.proofs.Booleans.{clash}
 use Rattle.onfi_cycle.proofs.CommandBytes.{commands_have_bytes}
@@ -35,13 +35,14 @@ use Rattle.trace_ops.specs.declared.operation.Ending.TheVariants as ends
 use Rattle.trace_ops.specs.declared.operation.Operation.{Operation}
 use Rattle.trace_ops.specs.Operation.{opener_of, is_byte, is_unknown, is_output, changed, changed_at}
 use Rattle.trace_ops.specs.AtWork.{begins_work}
-use Rattle.trace_ops.specs.Listing.{Listing, found, worker, op_of, look_at, is_busy, has_failed, end_by, ended_if, ended_on, begins_one, cycle_owner, new_by_command, new_one, number_of, with_new, is_address_kind, change_of, unfolded, begins_by, starts_on, abandoned_by, begun_on, all_begun, role_of_kind, role_by, all_selected, with_ends, owner_in, mark_in, listed}
+use Rattle.trace_ops.specs.Listing.{Listing, found, worker, op_of, look_at, is_busy, has_failed, end_by, ended_if, ended_on, is_open_read_op, closes_read, begins_one, cycle_owner, new_by_command, new_one, number_of, with_new, is_address_kind, change_of, unfolded, begins_by, starts_on, abandoned_by, begun_on, all_begun, role_of_kind, role_by, all_selected, with_ends, owner_in, mark_in, listed}
 use Rattle.trace_ops.proofs.Quiet.{is_plain, plain_is_quiet, by_ends, by_unfold, by_begin, by_begins, by_selects}
 use Rattle.trace_ops.proofs.Changed.{by, there}
 use Rattle.trace_ops.proofs.Contents.{Content, opener_begins, wanted_begins_none}
+use Rattle.trace_ops.proofs.HeldReads.{kept_of, whole_read, Held, whole_is_open}
 use Rattle.trace_ops.proofs.Pieces.{Each, each_quiet, Holds, Stands, newest_by, listed_newest, found_same, found_other, found_below, kept_beginning}
 use Rattle.trace_ops.proofs.Spans.{same_some, which}
-use Rattle.trace_ops.proofs.Tails.{split, tail_own, tail_other, target_below, known_command, wanted_command, wanted_address, wanted_input, no_command}
+use Rattle.trace_ops.proofs.Tails.{split, base_shut, tail_own, tail_other, target_below, known_command, wanted_command, wanted_address, wanted_input, no_command}
 use Rattle.trace_ops.proofs.Walks.{came, length_ends, mark_new}
 use Rattle.trace_ops.proofs.Within.{AreWithin}
 use Rattle.trace_ops.proofs.Addressed.{base_command, fits_of, command_sets, address_sets, status_address}
@@ -180,21 +181,54 @@ module _ (g : Parts) (targets n : ℕ) (one_lun : Bool) (past : List Item) (mark
 
   -- ---- the operation that the cycle comes to
 
-  pub owned_by : (kind : Kind) → is_output kind ≡ false → (m : ℕ) → cycle_owner (with_ends j l).ops l.places j c kind ≡ Some m →
+  -- what is known of its sequence
+  held_at : (m : ℕ) (o : Operation) → found l.places.newest c.ce ≡ Some m → slice_get (with_ends j l).ops m ≡ Some o → Held o.beginning (kept_of o) (tail past c.ce)
+  held_at m o newest is =
+      by_ends (Each (Holds l.places.newest past)) (each_quiet (Holds l.places.newest past)) j l.places l.ops here.stands.content m o is c.ce newest
+
+  content_at : (m : ℕ) (o : Operation) → found l.places.newest c.ce ≡ Some m → slice_get (with_ends j l).ops m ≡ Some o → Content o.beginning o.closer (tail past c.ce)
+  content_at m o newest is =
+      (held_at m o newest is).content
+
+  -- no 31h that is permitted closes a read
+  pub closes_no_read : (kind : Kind) → kind ≡ Cmd → KeepsRules g (facts_of (tail past c.ce)) (luns_of g past c.ce) (target_cycle kind c.byte) → closes_read (op_of (with_ends j l).ops (found l.places.newest c.ce)) c.byte ≡ false
+  closes_no_read Adr e kept = cc
+  closes_no_read Din e kept = cc
+  closes_no_read Dout e kept = cc
+  closes_no_read Cmd e kept = at (closes_read newest c.byte) refl
+    where
+      newest : Option Operation
+      newest = op_of (with_ends j l).ops (found l.places.newest c.ce)
+
+      reads : (k : Option ℕ) → found l.places.newest c.ce ≡ k → (o : Option Operation) → op_of (with_ends j l).ops k ≡ o → is_open_read_op o ≡ true → opening (tail past c.ce) ≡ Some whole_read
+      reads None p None q r = cc
+      reads None p (Some o) q r = cc
+      reads (Some k) p None q r = cc
+      reads (Some k) p (Some o) q r = (held_at k o p q).reads r
+
+      at : (b : Bool) → closes_read newest c.byte ≡ b → b ≡ false
+      at false h = refl
+      at true h =
+          let both = and_parts (c.byte == 0x31) (is_open_read_op newest) h in
+          let code = commands_have_bytes.command_of_byte ReadCacheSequential c.byte (ap Some (sym (eqb-true c.byte 0x31 both.0))) in
+          absurd (clash (is_open (facts_of (tail past c.ce))) (whole_is_open (tail past c.ce) (reads (found l.places.newest c.ce) refl newest refl both.1))
+          (base_shut g (facts_of (tail past c.ce)) (command c.byte) here.base kept.f3 (ap is_opener code)))
+
+  pub owned_by : (kind : Kind) → KeepsRules g (facts_of (tail past c.ce)) (luns_of g past c.ce) (target_cycle kind c.byte) → is_output kind ≡ false → (m : ℕ) → cycle_owner (with_ends j l).ops l.places j c kind ≡ Some m →
       (found l.places.newest c.ce ≡ Some m) × (begins_sequence (target_cycle kind c.byte) ≡ false)
-  owned_by Cmd input m h = at (begins_one (op_of (with_ends j l).ops (found l.places.newest c.ce)) c.byte) refl h
+  owned_by Cmd kept input m h = at (begins_one (op_of (with_ends j l).ops (found l.places.newest c.ce)) c.byte) refl h
     where
       no_opener : (b : Bool) → is_opener (command c.byte) ≡ b → begins_one (op_of (with_ends j l).ops (found l.places.newest c.ce)) c.byte ≡ false → is_opener (command c.byte) ≡ false
-      no_opener true e none = absurd (clash _ (opener_begins (op_of (with_ends j l).ops (found l.places.newest c.ce)) c.byte e) none)
+      no_opener true e none = absurd (clash _ (opener_begins (op_of (with_ends j l).ops (found l.places.newest c.ce)) c.byte e (closes_no_read Cmd refl kept)) none)
       no_opener false e none = e
 
       at : (b : Bool) → begins_one (op_of (with_ends j l).ops (found l.places.newest c.ce)) c.byte ≡ b → cond b None (found l.places.newest c.ce) ≡ Some m →
           (found l.places.newest c.ce ≡ Some m) × (begins_sequence (target_cycle Cmd c.byte) ≡ false)
       at true e h = cc
       at false e h = (h, no_opener (is_opener (command c.byte)) refl e)
-  owned_by Adr input m h = (h, refl)
-  owned_by Din input m h = (h, refl)
-  owned_by Dout input m h = cc
+  owned_by Adr kept input m h = (h, refl)
+  owned_by Din kept input m h = (h, refl)
+  owned_by Dout kept input m h = cc
 
   new_ce : (kind : Kind) (newest : Option Operation) → (new_by_command j newest c kind).ce ≡ c.ce
   new_ce Cmd newest = by (λ (z : Operation). z.ce) (begins_one newest c.byte) _ _ c.ce refl refl
@@ -233,7 +267,7 @@ module _ (g : Parts) (targets n : ℕ) (one_lun : Bool) (past : List Item) (mark
   mine_by input (Some m) h o is = (rests.0, at (is_some o.start) refl)
     where
       newest : (found l.places.newest c.ce ≡ Some m) × (begins_sequence (target_cycle c.kind c.byte) ≡ false)
-      newest = owned_by c.kind input m h
+      newest = owned_by c.kind keeps input m h
 
       rests : (o.ce ≡ c.ce) × (is_some o.start ≡ true → IsEnded (facts_of (tail past c.ce)))
       rests = on_ends (Resting l.places.newest past) here.resting m o is c.ce newest.0
@@ -247,11 +281,6 @@ module _ (g : Parts) (targets n : ℕ) (one_lun : Bool) (past : List Item) (mark
 
   pub mine : is_output c.kind ≡ false → (o : Operation) → slice_get more mark ≡ Some o → New o
   mine input o is = mine_by input owner refl o is
-
-  -- what is known of its sequence
-  content_at : (m : ℕ) (o : Operation) → found l.places.newest c.ce ≡ Some m → slice_get (with_ends j l).ops m ≡ Some o → Content o.beginning o.closer (tail past c.ce)
-  content_at m o newest is =
-      by_ends (Each (Holds l.places.newest past)) (each_quiet (Holds l.places.newest past)) j l.places l.ops here.stands.content m o is c.ce newest
 
   -- ---- it is one that the model knows
 
@@ -271,7 +300,7 @@ module _ (g : Parts) (targets n : ℕ) (one_lun : Bool) (past : List Item) (mark
 
   fits_by : (x : Option ℕ) → owner ≡ x → (o : Operation) → slice_get (with_ends j l).ops (number_of x (with_ends j l).ops) ≡ Some o → FitsItem (Cyc c) o.beginning
   fits_by None h o is = absurd (let small = slice_get_within (with_ends j l).ops many o is in omega (arith, small))
-  fits_by (Some m) h o is = fits_kind c.kind keeps o (λ e. content_at m o (owned_by c.kind (ap is_output e) m h).0 is)
+  fits_by (Some m) h o is = fits_kind c.kind keeps o (λ e. content_at m o (owned_by c.kind keeps (ap is_output e) m h).0 is)
 
   -- a command that goes on with a sequence comes to the newest operation
   pub goes_to : (k : ℕ) → found l.places.newest c.ce ≡ Some k → is_known (command c.byte) ≡ true → is_opener (command c.byte) ≡ false →
@@ -342,7 +371,7 @@ module _ (g : Parts) (targets n : ℕ) (one_lun : Bool) (past : List Item) (mark
           subst (λ (x : ℕ). IsEnded (facts_of (tail (Cyc c ∷ past) x))) same
           (subst (λ (t : List TargetCycle). IsEnded (facts_of t)) (sym (tail_own c past)) (output_tail c.kind c.byte (tail past c.ce) out))
       ended same false input s =
-          let owned = (owned_by c.kind input m h).0 in
+          let owned = (owned_by c.kind keeps input m h).0 in
           let number : k ≡ m = same_some (sym newest ∙ ap (found l.places.newest) (sym same) ∙ owned) in
           absurd (clash (is_some o.start) s (mine_by input (Some m) h o (ap (slice_get (with_ends j l).ops) (sym number) ∙ is)).1)
 
@@ -445,7 +474,7 @@ module _ (g : Parts) (targets n : ℕ) (one_lun : Bool) (past : List Item) (mark
           ap (λ (z : Operation). z.beginning) new.1 ∙ ap (λ (k : Kind). (new_by_command j (op_of (with_ends j l).ops (found l.places.newest c.ce)) c k).beginning) e in
           absurd (no (ap (λ (x : Beginning). is_byte (opener_of x) 0x78) (sym cut) ∙ asks))
   asks_by (Some m) h e o is asks lun =
-      status_address g past c.ce c.byte o.beginning o.closer (content_at m o (owned_by c.kind (ap is_output e) m h).0 is) asks lun
+      status_address g past c.ce c.byte o.beginning o.closer (content_at m o (owned_by c.kind keeps (ap is_output e) m h).0 is) asks lun
 
   pub asks_none : c.kind ≡ Adr → (o : Operation) → slice_get more mark ≡ Some o → is_byte (opener_of o.beginning) 0x78 ≡ true →
       (lun : ℕ) → starts_by g past (at_lun c.ce lun) (target_cycle Adr c.byte) ≡ false

@@ -20,11 +20,12 @@ use Rattle.onfi_cycle.specs.declared.tail_facts.TailFacts.{TailFacts}
 use Rattle.onfi_cycle.specs.declared.target_cycle.TargetCycle.{TargetCycle}
 use Rattle.onfi_cycle.specs.declared.target_cycle.TargetCycle.TheVariants.{CommandCycle, AddressCycle, InputCycle, OutputCycle}
 use Rattle.onfi_cycle.specs.LunView.{LunView}
+use Rattle.onfi_cycle.specs.Command.{is_opener}
 use Rattle.onfi_cycle.specs.Effect.{is_off, cycle_effect}
 use Rattle.onfi_cycle.specs.Lun.{latch, latch_after, array_busy_after, effect_on, is_busy, is_caching, is_array_busy, lun_view, luns_of, views_from}
 use Rattle.onfi_cycle.specs.Permitted.{broken}
 use Rattle.onfi_cycle.specs.Rules.{driving, driver_is, is_some_and, lun_is, breaks_not_there, breaks_no_sole_driver}
-use Rattle.onfi_cycle.specs.Sequence.{begins_sequence, continued, with_cycle, tail, facts_of, is_open, target_cycle}
+use Rattle.onfi_cycle.specs.Sequence.{begins_sequence, begins_anew, continued, with_cycle, tail, facts_of, is_open, target_cycle}
 use Rattle.onfi_cycle.specs.Working.{IsLun}
 use Rattle.onfi_cycle.proofs.Keeping.{views_length, view_at}
 use Rattle.onfi_cycle.proofs.Others.{first_passed}
@@ -65,14 +66,47 @@ off_cycle g selected working (AddressCycle byte) lun h = refl
 off_cycle g selected working (InputCycle byte) lun h = refl
 off_cycle g selected working OutputCycle lun h = refl
 
+-- behind no tail an opener begins one
+command_of_nothing : (c : Command) → begins_anew (facts_of []) (CommandCycle c) ≡ is_opener c
+command_of_nothing ReadConfirm = refl
+command_of_nothing ChangeReadColumnConfirm = refl
+command_of_nothing BlockEraseConfirm = refl
+command_of_nothing BlockErasePlane = refl
+command_of_nothing ChangeWriteColumn = refl
+command_of_nothing ProgramConfirm = refl
+command_of_nothing ProgramPlane = refl
+command_of_nothing Unknown = refl
+command_of_nothing Read = refl
+command_of_nothing ChangeReadColumn = refl
+command_of_nothing BlockErase = refl
+command_of_nothing ReadStatus = refl
+command_of_nothing ReadStatusEnhanced = refl
+command_of_nothing PageProgram = refl
+command_of_nothing ReadId = refl
+command_of_nothing ReadParameterPage = refl
+command_of_nothing Reset = refl
+command_of_nothing ReadCacheSequential = refl
+command_of_nothing ReadCacheEnd = refl
+command_of_nothing ReadUniqueId = refl
+command_of_nothing GetFeatures = refl
+command_of_nothing SetFeatures = refl
+command_of_nothing ResetLun = refl
+command_of_nothing SynchronousReset = refl
+
+anew_of_nothing : (c : TargetCycle) → begins_anew (facts_of []) c ≡ begins_sequence c
+anew_of_nothing (CommandCycle c) = command_of_nothing c
+anew_of_nothing (AddressCycle byte) = refl
+anew_of_nothing (InputCycle byte) = refl
+anew_of_nothing OutputCycle = refl
+
 -- a tail that is empty after a cycle was so before it
 empty_before : (c : TargetCycle) (t : List TargetCycle) → with_cycle c t ≡ [] → (begins_sequence c ≡ false) × (t ≡ [])
-empty_before c t h = at (begins_sequence c) refl t h
+empty_before c t h = at t (begins_anew (facts_of t) c) refl h
   where
-    at : (b : Bool) → begins_sequence c ≡ b → (t : List TargetCycle) → cond b (c ∷ []) (continued c t) ≡ [] → (begins_sequence c ≡ false) × (t ≡ [])
-    at true e t h = cc
-    at false e [] h = (e, refl)
-    at false e (d ∷ t) h = cc
+    at : (u : List TargetCycle) (b : Bool) → begins_anew (facts_of u) c ≡ b → cond b (c ∷ []) (continued c u) ≡ [] → (begins_sequence c ≡ false) × (u ≡ [])
+    at u true e h = cc
+    at [] false e h = (sym (anew_of_nothing c) ∙ e, refl)
+    at (d ∷ u) false e h = cc
 
 off_by : (g : Parts) (past : List Item) (selected working : Bool) (c : TargetCycle) (l : Lun) → tail past l.ce ≡ [] → latch g past l ≡ Off → begins_sequence c ≡ false →
     latch_after (cycle_effect g (facts_of (tail past l.ce)) (latch g past l) c l.lun) selected working (latch g past l) ≡ Off

@@ -30,7 +30,7 @@ use Rattle.trace_ops.specs.Listing.{Listing, found, op_of, begins_one, new_by_co
 use Rattle.trace_ops.proofs.Asking.{Asking, Enhanced, asking_command, asking_input, asking_rests, asking_output, asking_address, asking_status, asking_read, not_read, enhanced_of}
 use Rattle.trace_ops.proofs.Changed.{by}
 use Rattle.trace_ops.proofs.Chains.{new_parent}
-use Rattle.trace_ops.proofs.Contents.{Content, opener_begins}
+use Rattle.trace_ops.proofs.Contents.{Content, opener_begins, closes_none}
 use Rattle.trace_ops.proofs.Cycles.{CycleAt, same_ops, on_ends, owned_by, output_is, asks_none, begins_nothing, begins_turned, came_like, first, turned, target_few, all_like}
 use Rattle.trace_ops.proofs.Domestic.{Every, every_at, every_new}
 use Rattle.trace_ops.proofs.Legal.{permitted_as, at_lun, begins_between, begins_starts, output_begins}
@@ -106,6 +106,13 @@ opens_so byte h = at (opens_by byte h)
     at (inl e) = ap is_opener e
     at (inr e) = ap is_opener e
 
+no_31 : (byte : ℕ) → (byte == 0x70 || byte == 0x00) ≡ true → (byte == 0x31) ≡ false
+no_31 byte h = at (byte == 0x70) refl h
+  where
+    at : (x : Bool) → (byte == 0x70) ≡ x → (x || byte == 0x00) ≡ true → (byte == 0x31) ≡ false
+    at true e h = ap (λ n. n == 0x31) (eqb-true byte 0x70 e)
+    at false e h = ap (λ n. n == 0x31) (eqb-true byte 0x00 h)
+
 asks_new : (byte : ℕ) → (byte == 0x70 || byte == 0x00) ≡ true → asks_so (begins.Opener byte) 0 None ≡ true
 asks_new byte h = at (byte == 0x70) (byte == 0x78) (byte == 0x00) h
   where
@@ -157,7 +164,7 @@ module _ (g : Parts) (targets n : ℕ) (one_lun : Bool) (past : List Item) (mark
   mark_none h = ap (λ (x : Option ℕ). number_of x (with_ends j l).ops) h
 
   owned : is_output c.kind ≡ false → (m : ℕ) → owner ≡ Some m → (found l.places.newest c.ce ≡ Some m) × (begins_sequence (target_cycle c.kind c.byte) ≡ false)
-  owned input m h = owned_by g targets n one_lun past marks c before after l pieces here c.kind input m h
+  owned input m h = owned_by g targets n one_lun past marks c before after l pieces here c.kind keeps input m h
 
   -- ---- an operation that asks begins no work
 
@@ -322,7 +329,7 @@ module _ (g : Parts) (targets n : ℕ) (one_lun : Bool) (past : List Item) (mark
 
   content_open : (m : ℕ) → owner ≡ Some m → is_output c.kind ≡ false → (o : Operation) → slice_get (unfolded j mark more) mark ≡ Some o → Content o.beginning o.closer (tail past c.ce)
   content_open m h input o is =
-      by_unfold (Each (Holds l.places.newest past)) (each_quiet (Holds l.places.newest past)) j mark more (content_by owner m h) mark o is c.ce ((owned input m h).0 ∙ ap Some (sym (mark_some m h)))
+      (by_unfold (Each (Holds l.places.newest past)) (each_quiet (Holds l.places.newest past)) j mark more (content_by owner m h) mark o is c.ce ((owned input m h).0 ∙ ap Some (sym (mark_some m h)))).content
 
   -- how the operation of the cycle changes
   abbrev Loud : Option ℕ → Kind → Change
@@ -437,7 +444,7 @@ module _ (g : Parts) (targets n : ℕ) (one_lun : Bool) (past : List Item) (mark
       every
 
   new_fits : (kind : Kind) (newest : Option Operation) → FitBy kind (new_by_command j newest c kind)
-  new_fits Cmd newest may = at (begins_one newest c.byte) (opener_begins newest c.byte (opens_so c.byte may))
+  new_fits Cmd newest may = at (begins_one newest c.byte) (opener_begins newest c.byte (opens_so c.byte may) (closes_none newest c.byte (no_31 c.byte may)))
     where
       at : (b : Bool) → b ≡ true →
           (asks_so (cond b (begun c.ce n (begins.Opener c.byte)) (begun c.ce n begins.Cut)).beginning (cond b (begun c.ce n (begins.Opener c.byte)) (begun c.ce n begins.Cut)).address_count
@@ -574,7 +581,7 @@ module _ (g : Parts) (targets n : ℕ) (one_lun : Bool) (past : List Item) (mark
           ap (λ (z : Operation). z.beginning) new.1 ∙ ap (λ (k : Kind). (new_by_command j (op_of (with_ends j l).ops (found l.places.newest c.ce)) c k).beginning) e in
           absurd (off (ap (λ (x : Beginning). is_byte (opener_of x) 0x78) (sym cut) ∙ asks))
   enhanced_more (Some m) h e o is asks =
-      let content = content_by (Some m) m refl m o is c.ce (owned (ap is_output e) m h).0 in
+      let content = (content_by (Some m) m refl m o is c.ce (owned (ap is_output e) m h).0).content in
       (enhanced_of o.beginning o.closer (tail past c.ce) c.byte content asks (wants c.kind e keeps)).asking
     where
       wants : (kind : Kind) → kind ≡ Adr → KeepsRules g (facts_of (tail past c.ce)) (luns_of g past c.ce) (target_cycle kind c.byte) → wants_address (facts_of (tail past c.ce)) c.byte ≡ true

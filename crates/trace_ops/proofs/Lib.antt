@@ -11,6 +11,7 @@ pub mod Tails
 pub mod Pieces
 pub mod Chains
 pub mod Starts
+pub mod HeldReads
 pub mod AtWork
 pub mod Turns
 pub mod Domestic

@@ -19,7 +19,7 @@ use Rattle.trace_ops.specs.Operation.{begun}
 use Rattle.trace_ops.specs.Listing.{Listing, found, op_of, is_command, cycle_owner, output_owner, begins_one, new_by_command, new_one, with_ends, owner_in}
 use Rattle.trace_ops.specs.Openings.{opened_at, opens, opening}
 use Rattle.trace_ops.proofs.Contents.{opener_begins}
-use Rattle.trace_ops.proofs.Cycles.{CycleAt, target_few, goes_to}
+use Rattle.trace_ops.proofs.Cycles.{CycleAt, target_few, closes_no_read, goes_to}
 use Rattle.trace_ops.proofs.Driven.{output_tailed}
 use Rattle.trace_ops.proofs.Legal.{permitted_as}
 use Rattle.trace_ops.proofs.Pieces.{none_newest}
@@ -63,17 +63,17 @@ module _ (g : Parts) (targets n : ℕ) (one_lun : Bool) (past : List Item) (mark
   abbrev before_it : Option Operation
   before_it = op_of (with_ends j l).ops newest
 
-  begins_so : (kind : Kind) → (is_command kind && is_opener (command c.byte)) ≡ true → (cycle_owner (with_ends j l).ops l.places j c kind ≡ None) × (opened_at (new_by_command j before_it c kind) ≡ opening n (Cyc c))
-  begins_so Cmd h =
-      let so = opener_begins before_it c.byte h in
+  begins_so : (kind : Kind) → KeepsRules g (facts_of (tail past c.ce)) (luns_of g past c.ce) (target_cycle kind c.byte) → (is_command kind && is_opener (command c.byte)) ≡ true → (cycle_owner (with_ends j l).ops l.places j c kind ≡ None) × (opened_at (new_by_command j before_it c kind) ≡ opening n (Cyc c))
+  begins_so Cmd kept h =
+      let so = opener_begins before_it c.byte h (closes_no_read g targets n one_lun past marks c before after l pieces here Cmd refl kept) in
       (ap (λ b. cond b None newest) so, at (begins_one before_it c.byte) so)
     where
       at : (b : Bool) → b ≡ true → opened_at (cond b (begun c.ce n (begins.Opener c.byte)) (begun c.ce n begins.Cut)) ≡ opening n (Cyc c)
       at true e = refl
       at false e = cc
-  begins_so Adr h = cc
-  begins_so Din h = cc
-  begins_so Dout h = cc
+  begins_so Adr kept h = cc
+  begins_so Din kept h = cc
+  begins_so Dout kept h = cc
 
   pub new : opens (Cyc c) ≡ true → (owner_in j (with_ends j l) ≡ None) × (opened_at (new_one j before_it (Cyc c)) ≡ opening n (Cyc c))
-  new h = begins_so c.kind h
+  new h = begins_so c.kind (permitted_keeps g targets past c here.permitted) h

@@ -1,8 +1,8 @@
 -- In a legal trace the commands, addresses and inputs of an operation are the tail of its target.
-use Rattle.std.proofs.Common.{◌≡◌, ◌⊎◌, inl, inr, ℕ, zero, suc, ◌+◌, ◌<◌, ◌≤◌, ◌==◌, Bool, true, false, cond, List, [], ◌∷◌, ◌++◌, Option, Some, None, is_some, is_none, refl, sym, ap, ◌∙◌, subst, arith, length, slice_set, reverse, eq-eqb, ne_eqb, if◌then◌else◌}
+use Rattle.std.proofs.Common.{◌≡◌, ◌⊎◌, inl, inr, ℕ, zero, suc, ◌+◌, ◌<◌, ◌≤◌, ◌==◌, Bool, true, false, cond, List, [], ◌∷◌, ◌++◌, Option, Some, None, is_some, is_none, refl, sym, ap, ◌∙◌, subst, arith, length, slice_set, reverse, eqb-true, eq-eqb, ne_eqb, ◌&&◌, not, if◌then◌else◌}
 use Rattle.std.specs.Prelude.{slice_get}
 use Rattle.std.specs.List.{All}
-use Rattle.std.proofs.lemmas.Bool.{and_parts}
+use Rattle.std.proofs.lemmas.Bool.{and_parts, or_parts}
 use Rattle.std.proofs.lemmas.Option.{slice_get_within}
 use Rattle.std.proofs.lemmas.List.{length-set, reverse-append, append_assoc}
 use Rattle.std.proofs.lemmas.List.Elements.{All-head, All-tail}
@@ -15,10 +15,18 @@ use Rattle.onfi_cycle.specs.declared.item.Kind.{Kind}
 use Rattle.onfi_cycle.specs.declared.item.Kind.TheVariants.{Cmd, Adr, Din, Dout}
 use Rattle.onfi_cycle.specs.declared.target_cycle.TargetCycle.{TargetCycle}
 use Rattle.onfi_cycle.specs.declared.target_cycle.TargetCycle.TheVariants.{CommandCycle, OutputCycle}
+use Rattle.onfi_cycle.specs.declared.command.Command.{Command}
+use Rattle.onfi_cycle.specs.declared.command.Command.TheVariants.{ReadConfirm, BlockEraseConfirm, BlockErasePlane, ProgramConfirm, ProgramPlane, ReadCacheSequential}
+use Rattle.onfi_cycle.specs.declared.tail_facts.TailFacts.{TailFacts}
+use Rattle.onfi_cycle.specs.LunView.{LunView}
+use Rattle.onfi_cycle.specs.Lun.{luns_of}
+use Rattle.onfi_cycle.specs.Rules.{breaks_no_sole_driver}
 use Rattle.onfi_cycle.specs.Command.{command, is_known, is_opener}
 use Rattle.onfi_cycle.specs.Permitted.{broken, is_permitted, is_legal}
-use Rattle.onfi_cycle.specs.Sequence.{target_of, target_cycle, begins_sequence, continued, tail, facts_of, wants_command, wants_address, takes_inputs}
-use Rattle.onfi_cycle.proofs.Passed.{permitted_keeps}
+use Rattle.onfi_cycle.specs.Sequence.{target_of, target_cycle, begins_anew, continued, tail, opening, facts_of, wants_command, wants_address, takes_inputs, is_open}
+use Rattle.onfi_cycle.proofs.Booleans.{clash}
+use Rattle.onfi_cycle.proofs.CommandBytes.{commands_have_bytes}
+use Rattle.onfi_cycle.proofs.Passed.{KeepsRules, permitted_keeps}
 use Rattle.trace_faults.specs.declared.readies.Readies.{Readies}
 use Rattle.trace_faults.specs.Middle.{Seen, seen_after}
 use Rattle.trace_ops.specs.declared.change.Change.{Change}
@@ -29,16 +37,17 @@ use Rattle.trace_ops.specs.declared.operation.Beginning.TheVariants as begins
 use Rattle.trace_ops.specs.declared.operation.Operation.{Operation}
 use Rattle.trace_ops.specs.declared.role.Role.{Role}
 use Rattle.trace_ops.specs.declared.role.Role.TheVariants as role
-use Rattle.trace_ops.specs.Operation.{begun, is_output, takes_address, with_byte, says_ready, changed, changed_by, changed_at}
-use Rattle.trace_ops.specs.Listing.{Listing, found, op_of, begins_one, either_of, cycle_owner, new_one, newest_with, number_of, with_new, is_new_opener, change_of, unfolded, starts_on, begun_on, all_begun, role_by, selected_by, selected_on, all_selected, with_ends, owner_in, mark_in, listed, judged_as, marks_from, nothing_listed}
+use Rattle.trace_ops.specs.Operation.{begun, is_open_read, is_output, takes_address, with_byte, says_ready, changed, changed_by, changed_at}
+use Rattle.trace_ops.specs.Listing.{Listing, found, op_of, is_open_read_op, closes_read, begins_one, either_of, cycle_owner, new_one, newest_with, number_of, with_new, is_new_opener, change_of, unfolded, starts_on, begun_on, all_begun, role_by, selected_by, selected_on, all_selected, with_ends, owner_in, mark_in, listed, judged_as, marks_from, nothing_listed}
 use Rattle.trace_ops.specs.Laws.{with_part, piece_on, without_outputs}
 use Rattle.trace_ops.proofs.Quiet.{is_quiet, by_ends, by_unfold, by_rest}
 use Rattle.trace_ops.proofs.Changed.{by, put, there}
 use Rattle.trace_ops.proofs.Spans.{same_some, which}
 use Rattle.trace_ops.proofs.Within.{Within, AreWithin}
 use Rattle.trace_ops.proofs.Walks.{came, new_many, length_ends, length_came, length_listed, within_listed}
-use Rattle.trace_ops.proofs.Tails.{split, tail_own, tail_other, after_output, goes_on, target_below, known_command, wanted_command, wanted_address, wanted_input, no_command, no_address, no_input}
-use Rattle.trace_ops.proofs.Contents.{Content, closer_by, content_output, content_opener, content_command, content_address, content_input, opener_begins, wanted_begins_none}
+use Rattle.trace_ops.proofs.Tails.{split, tail_own, tail_other, after_output, goes_on, no_opener_goes_on, target_below, known_command, wanted_command, wanted_address, wanted_input, no_command, no_address, no_input}
+use Rattle.trace_ops.proofs.Contents.{byte_of, closer_by, opener_begins, closing_begins_none, wanted_begins_none}
+use Rattle.trace_ops.proofs.HeldReads.{Kept, kept_of, count_after, whole_read, Held, whole_wants, wanted_reading, held_output, held_cut, held_opener, held_command, held_address, held_input}
 
 -- ---- the newest of each target
 
@@ -133,23 +142,36 @@ quiet_closer (SetLun lun) o quiet = refl
 quiet_closer (Fold parent) o quiet = refl
 quiet_closer Unfold o quiet = refl
 
--- what holds of the beginning and the closer of each operation
-abbrev pub Each : (ℕ → Beginning → Option ℕ → Type 0) → List Operation → Type 0
-Each P ops = (k : ℕ) (o : Operation) → slice_get ops k ≡ Some o → P k o.beginning o.closer
+quiet_kept : (c : Change) (o : Operation) → is_quiet c ≡ true → kept_of (changed c o) ≡ kept_of o
+quiet_kept (Opened n said) o quiet = cc
+quiet_kept (CycleOf n kind byte said) o quiet = cc
+quiet_kept (LoneReady n said) o quiet = cc
+quiet_kept (End e) o quiet = by kept_of (is_some o.end) o _ (kept_of o) refl refl
+quiet_kept (Begin n lun) o quiet = refl
+quiet_kept (Poll n byte) o quiet = by kept_of (is_some o.status) o _ (kept_of o) refl (by kept_of (says_ready byte) _ _ (kept_of o) refl refl)
+quiet_kept (Show byte) o quiet = refl
+quiet_kept (Hold page) o quiet = refl
+quiet_kept (SetLun lun) o quiet = refl
+quiet_kept (Fold parent) o quiet = refl
+quiet_kept Unfold o quiet = refl
 
-pub each_quiet : (P : ℕ → Beginning → Option ℕ → Type 0) (m : ℕ) (c : Change) (ops : List Operation) → is_quiet c ≡ true → Each P ops → Each P (changed_at m c ops)
+-- what holds of the beginning of each operation, and of what its bytes change
+abbrev pub Each : (ℕ → Beginning → Kept → Type 0) → List Operation → Type 0
+Each P ops = (k : ℕ) (o : Operation) → slice_get ops k ≡ Some o → P k o.beginning (kept_of o)
+
+pub each_quiet : (P : ℕ → Beginning → Kept → Type 0) (m : ℕ) (c : Change) (ops : List Operation) → is_quiet c ≡ true → Each P ops → Each P (changed_at m c ops)
 each_quiet P m c ops quiet all = at (slice_get ops m) refl
   where
     at : (o : Option Operation) → slice_get ops m ≡ o → Each P (changed_by o c ops m)
     at None h k w is = all k w is
     at (Some o) h k w is = by_place (put ops m k (changed c o) w is)
       where
-        by_place : ((k ≡ m) × (w ≡ changed c o)) ⊎ ((k ≡ m → ⊥) × (slice_get ops k ≡ Some w)) → P k w.beginning w.closer
+        by_place : ((k ≡ m) × (w ≡ changed c o)) ⊎ ((k ≡ m → ⊥) × (slice_get ops k ≡ Some w)) → P k w.beginning (kept_of w)
         by_place (inl both) =
             let mine = all k o (ap (slice_get ops) both.0 ∙ h) in
             let b : w.beginning ≡ o.beginning = ap (λ (z : Operation). z.beginning) both.1 ∙ kept_beginning c o in
-            let cl : w.closer ≡ o.closer = ap (λ (z : Operation). z.closer) both.1 ∙ quiet_closer c o quiet in
-            subst (λ (x : Beginning). P k x w.closer) (sym b) (subst (λ (x : Option ℕ). P k o.beginning x) (sym cl) mine)
+            let cl : kept_of w ≡ kept_of o = ap kept_of both.1 ∙ quiet_kept c o quiet in
+            subst (λ (x : Beginning). P k x (kept_of w)) (sym b) (subst (λ (x : Kept). P k o.beginning x) (sym cl) mine)
         by_place (inr old) = all k w old.1
 
 -- the closer once an item has come
@@ -164,26 +186,66 @@ closer_with owner j (Cyc c) b closer = if is_new_opener owner j c.kind then clos
 closer_with owner j (Rdy ce lun fail) b closer = closer
 closer_with owner j (Ard ce lun) b closer = closer
 
-byte_closer : (kind : Kind) (byte : ℕ) (o : Operation) → (with_byte kind byte o).closer ≡ closer_of_kind kind byte o.beginning o.closer
-byte_closer Cmd byte o = refl
-byte_closer Adr byte o = by (λ (z : Operation). z.closer) (takes_address o) _ o o.closer refl refl
-byte_closer Din byte o = refl
-byte_closer Dout byte o = refl
+-- and whether it still takes addresses, and how many it has
+abbrev pub addressed_of_kind : Kind → Bool → Bool
+addressed_of_kind Cmd addressed = false
+addressed_of_kind Adr addressed = addressed
+addressed_of_kind Din addressed = false
+addressed_of_kind Dout addressed = addressed
 
-loud_closer : (owner : Option ℕ) (j : Judged) (i : Item) (o : Operation) → (changed (change_of owner j i) o).closer ≡ closer_with owner j i o.beginning o.closer
-loud_closer owner j (Cyc c) o = at (is_new_opener owner j c.kind)
+abbrev pub addressed_with : Option ℕ → Judged → Item → Bool → Bool
+addressed_with owner j (Cyc c) addressed = if is_new_opener owner j c.kind then addressed else addressed_of_kind c.kind addressed
+addressed_with owner j (Rdy ce lun fail) addressed = addressed
+addressed_with owner j (Ard ce lun) addressed = addressed
+
+abbrev pub count_of_kind : Kind → Kept → ℕ
+count_of_kind Cmd kept = kept.address_count
+count_of_kind Adr kept = count_after kept
+count_of_kind Din kept = kept.address_count
+count_of_kind Dout kept = kept.address_count
+
+abbrev pub count_with : Option ℕ → Judged → Item → Kept → ℕ
+count_with owner j (Cyc c) kept = if is_new_opener owner j c.kind then kept.address_count else count_of_kind c.kind kept
+count_with owner j (Rdy ce lun fail) kept = kept.address_count
+count_with owner j (Ard ce lun) kept = kept.address_count
+
+-- all of that
+abbrev pub kept_with : Option ℕ → Judged → Item → Beginning → Kept → Kept
+kept_with owner j i b kept = record { closer = closer_with owner j i b kept.closer; is_addressed = addressed_with owner j i kept.is_addressed; address_count = count_with owner j i kept }
+
+abbrev kept_of_kind : Kind → ℕ → Beginning → Kept → Kept
+kept_of_kind kind byte b kept = record { closer = closer_of_kind kind byte b kept.closer; is_addressed = addressed_of_kind kind kept.is_addressed; address_count = count_of_kind kind kept }
+
+byte_kept : (kind : Kind) (byte : ℕ) (o : Operation) → kept_of (with_byte kind byte o) ≡ kept_of_kind kind byte o.beginning (kept_of o)
+byte_kept Cmd byte o = refl
+byte_kept Adr byte o = at (takes_address o)
   where
-    at : (opens : Bool) → (changed (cond opens (Opened j.number j.said) (CycleOf j.number c.kind c.byte j.said)) o).closer ≡ cond opens o.closer (closer_of_kind c.kind c.byte o.beginning o.closer)
+    at : (x : Bool) → kept_of (cond x (record o { addresses = slice_set o.addresses o.address_count byte; address_count = o.address_count + 1 }) o)
+        ≡ record { closer = o.closer; is_addressed = o.is_addressed; address_count = cond x (o.address_count + 1) o.address_count }
     at true = refl
-    at false = byte_closer c.kind c.byte o
-loud_closer owner j (Rdy ce lun fail) o = refl
-loud_closer owner j (Ard ce lun) o = refl
+    at false = refl
+byte_kept Din byte o = refl
+byte_kept Dout byte o = refl
+
+loud_kept : (owner : Option ℕ) (j : Judged) (i : Item) (o : Operation) → kept_of (changed (change_of owner j i) o) ≡ kept_with owner j i o.beginning (kept_of o)
+loud_kept owner j (Cyc c) o = at (is_new_opener owner j c.kind)
+  where
+    at : (opens : Bool) → kept_of (changed (cond opens (Opened j.number j.said) (CycleOf j.number c.kind c.byte j.said)) o)
+        ≡ record {
+          closer = cond opens o.closer (closer_of_kind c.kind c.byte o.beginning o.closer);
+          is_addressed = cond opens o.is_addressed (addressed_of_kind c.kind o.is_addressed);
+          address_count = cond opens o.address_count (count_of_kind c.kind (kept_of o));
+        }
+    at true = refl
+    at false = byte_kept c.kind c.byte o
+loud_kept owner j (Rdy ce lun fail) o = refl
+loud_kept owner j (Ard ce lun) o = refl
 
 -- what holds before the item of this mark comes, so that it holds afterwards
-abbrev pub Awaited : (ℕ → Beginning → Option ℕ → Type 0) → ℕ → Option ℕ → Judged → Item → ℕ → Beginning → Option ℕ → Type 0
-Awaited P mark owner j i k b closer = ((k ≡ mark → ⊥) → P k b closer) × (k ≡ mark → P k b (closer_with owner j i b closer))
+abbrev pub Awaited : (ℕ → Beginning → Kept → Type 0) → ℕ → Option ℕ → Judged → Item → ℕ → Beginning → Kept → Type 0
+Awaited P mark owner j i k b kept = ((k ≡ mark → ⊥) → P k b kept) × (k ≡ mark → P k b (kept_with owner j i b kept))
 
-each_loud : (P : ℕ → Beginning → Option ℕ → Type 0) (mark : ℕ) (owner : Option ℕ) (j : Judged) (i : Item) (ops : List Operation) → Each (Awaited P mark owner j i) ops →
+each_loud : (P : ℕ → Beginning → Kept → Type 0) (mark : ℕ) (owner : Option ℕ) (j : Judged) (i : Item) (ops : List Operation) → Each (Awaited P mark owner j i) ops →
     Each P (changed_at mark (change_of owner j i) ops)
 each_loud P mark owner j i ops all = at (slice_get ops mark) refl
   where
@@ -194,35 +256,35 @@ each_loud P mark owner j i ops all = at (slice_get ops mark) refl
         none e = cc
     at (Some o) h k w is = by_place (put ops mark k (changed (change_of owner j i) o) w is)
       where
-        by_place : ((k ≡ mark) × (w ≡ changed (change_of owner j i) o)) ⊎ ((k ≡ mark → ⊥) × (slice_get ops k ≡ Some w)) → P k w.beginning w.closer
+        by_place : ((k ≡ mark) × (w ≡ changed (change_of owner j i) o)) ⊎ ((k ≡ mark → ⊥) × (slice_get ops k ≡ Some w)) → P k w.beginning (kept_of w)
         by_place (inl both) =
             let mine = (all k o (ap (slice_get ops) both.0 ∙ h)).1 both.0 in
             let b : w.beginning ≡ o.beginning = ap (λ (z : Operation). z.beginning) both.1 ∙ kept_beginning (change_of owner j i) o in
-            let cl : w.closer ≡ closer_with owner j i o.beginning o.closer = ap (λ (z : Operation). z.closer) both.1 ∙ loud_closer owner j i o in
-            subst (λ (x : Beginning). P k x w.closer) (sym b) (subst (λ (x : Option ℕ). P k o.beginning x) (sym cl) mine)
+            let cl : kept_of w ≡ kept_with owner j i o.beginning (kept_of o) = ap kept_of both.1 ∙ loud_kept owner j i o in
+            subst (λ (x : Beginning). P k x (kept_of w)) (sym b) (subst (λ (x : Kept). P k o.beginning x) (sym cl) mine)
         by_place (inr old) = (all k w old.1).0 old.0
 
 -- an operation more
-each_new : (P : ℕ → Beginning → Option ℕ → Type 0) (ops : List Operation) (o : Operation) → Each P ops → P (length ops) o.beginning o.closer → Each P (ops ++ (o ∷ []))
+each_new : (P : ℕ → Beginning → Kept → Type 0) (ops : List Operation) (o : Operation) → Each P ops → P (length ops) o.beginning (kept_of o) → Each P (ops ++ (o ∷ []))
 each_new P ops o all mine k w is = by_place (which ops o k w is)
   where
-    by_place : (slice_get ops k ≡ Some w) ⊎ ((k ≡ length ops) × (w ≡ o)) → P k w.beginning w.closer
+    by_place : (slice_get ops k ≡ Some w) ⊎ ((k ≡ length ops) × (w ≡ o)) → P k w.beginning (kept_of w)
     by_place (inl old) = all k w old
-    by_place (inr new) = subst (λ (n : ℕ). P n w.beginning w.closer) (sym new.0) (subst (λ (z : Operation). P (length ops) z.beginning z.closer) (sym new.1) mine)
+    by_place (inr new) = subst (λ (n : ℕ). P n w.beginning (kept_of w)) (sym new.0) (subst (λ (z : Operation). P (length ops) z.beginning (kept_of z)) (sym new.1) mine)
 
 -- all operations once an item has come to its own, by what holds before
-pub each_came : (P Q : ℕ → Beginning → Option ℕ → Type 0) (j : Judged) (l : Listing) → Each P l.ops →
-    ((k : ℕ) (b : Beginning) (closer : Option ℕ) → k < length (with_ends j l).ops → P k b closer → Awaited Q (mark_in j (with_ends j l)) (owner_in j (with_ends j l)) j j.item k b closer) →
+pub each_came : (P Q : ℕ → Beginning → Kept → Type 0) (j : Judged) (l : Listing) → Each P l.ops →
+    ((k : ℕ) (b : Beginning) (kept : Kept) → k < length (with_ends j l).ops → P k b kept → Awaited Q (mark_in j (with_ends j l)) (owner_in j (with_ends j l)) j j.item k b kept) →
     (owner_in j (with_ends j l) ≡ None →
     Awaited Q (mark_in j (with_ends j l)) (owner_in j (with_ends j l)) j j.item (length (with_ends j l).ops)
-    (new_one j (op_of (with_ends j l).ops (found l.places.newest j.ce)) j.item).beginning (new_one j (op_of (with_ends j l).ops (found l.places.newest j.ce)) j.item).closer) →
+    (new_one j (op_of (with_ends j l).ops (found l.places.newest j.ce)) j.item).beginning (kept_of (new_one j (op_of (with_ends j l).ops (found l.places.newest j.ce)) j.item))) →
     Each Q (came j l).ops
 each_came P Q j l all old new =
     let e = with_ends j l in
     let owner = owner_in j e in
     let mark = mark_in j e in
     let ended : Each P e.ops = by_ends (Each P) (each_quiet P) j l.places l.ops all in
-    let awaited : Each (Awaited Q mark owner j j.item) e.ops = λ k o is. old k o.beginning o.closer (slice_get_within e.ops k o is) (ended k o is) in
+    let awaited : Each (Awaited Q mark owner j j.item) e.ops = λ k o is. old k o.beginning (kept_of o) (slice_get_within e.ops k o is) (ended k o is) in
     let with' : Each (Awaited Q mark owner j j.item) (with_new owner j e).ops = at owner refl awaited in
     let alone = by_unfold (Each (Awaited Q mark owner j j.item)) (each_quiet (Awaited Q mark owner j j.item)) j mark (with_new owner j e).ops with' in
     each_loud Q mark owner j j.item (unfolded j mark (with_new owner j e).ops) alone
@@ -233,19 +295,19 @@ each_came P Q j l all old new =
     at (Some k) h awaited = awaited
 
 -- and after all that it does besides
-each_listed : (P Q : ℕ → Beginning → Option ℕ → Type 0) (j : Judged) (l : Listing) → Each P l.ops →
-    ((k : ℕ) (b : Beginning) (closer : Option ℕ) → k < length (with_ends j l).ops → P k b closer → Awaited Q (mark_in j (with_ends j l)) (owner_in j (with_ends j l)) j j.item k b closer) →
+each_listed : (P Q : ℕ → Beginning → Kept → Type 0) (j : Judged) (l : Listing) → Each P l.ops →
+    ((k : ℕ) (b : Beginning) (kept : Kept) → k < length (with_ends j l).ops → P k b kept → Awaited Q (mark_in j (with_ends j l)) (owner_in j (with_ends j l)) j j.item k b kept) →
     (owner_in j (with_ends j l) ≡ None →
     Awaited Q (mark_in j (with_ends j l)) (owner_in j (with_ends j l)) j j.item (length (with_ends j l).ops)
-    (new_one j (op_of (with_ends j l).ops (found l.places.newest j.ce)) j.item).beginning (new_one j (op_of (with_ends j l).ops (found l.places.newest j.ce)) j.item).closer) →
+    (new_one j (op_of (with_ends j l).ops (found l.places.newest j.ce)) j.item).beginning (kept_of (new_one j (op_of (with_ends j l).ops (found l.places.newest j.ce)) j.item))) →
     Each Q (listed j l).ops
 each_listed P Q j l all old new = by_rest (Each Q) (each_quiet Q) j (mark_in j (with_ends j l)) (came j l) (each_came P Q j l all old new)
 
 -- ---- one item
 
 -- the newest operation of a target has its tail, as far as the past goes
-abbrev pub Holds : List (Option ℕ) → List Item → ℕ → Beginning → Option ℕ → Type 0
-Holds newest past k b closer = (ce : ℕ) → found newest ce ≡ Some k → Content b closer (tail past ce)
+abbrev pub Holds : List (Option ℕ) → List Item → ℕ → Beginning → Kept → Type 0
+Holds newest past k b kept = (ce : ℕ) → found newest ce ≡ Some k → Held b kept (tail past ce)
 
 -- the pieces so far, by number, after this past
 pub record Stands (past : List Item) (l : Listing) (pieces : ℕ → List TargetCycle) : Type 0 where
@@ -299,10 +361,10 @@ module _ (past : List Item) (i : Item) (j : Judged) (l : Listing) (pieces : ℕ 
   mark_so o h = ap (λ x. number_of x (with_ends j l).ops) h
 
   -- an item that brings no cycle of a sequence, and no newest
-  pub still : (listed j l).places.newest ≡ l.places.newest → ((d k : ℕ) (b : Beginning) (closer : Option ℕ) → found l.places.newest d ≡ Some k → Content b closer (tail past d) → Content b closer (tail (i ∷ past) d)) →
+  pub still : (listed j l).places.newest ≡ l.places.newest → ((d k : ℕ) (b : Beginning) (kept : Kept) → found l.places.newest d ≡ Some k → Held b kept (tail past d) → Held b kept (tail (i ∷ past) d)) →
       ((d : ℕ) → without_outputs (tail (i ∷ past) d) ≡ without_outputs (tail past d)) → ((d : ℕ) → tail past d ≡ [] → tail (i ∷ past) d ≡ []) → ((t : List TargetCycle) → with_part i t ≡ t) →
-      ((b : Beginning) (closer : Option ℕ) → closer_with owner j j.item b closer ≡ closer) → Stands (i ∷ past) (listed j l) (came_to mark i pieces)
-  still same content outs none part closers = record {
+      ((b : Beginning) (kept : Kept) → kept_with owner j j.item b kept ≡ kept) → Stands (i ∷ past) (listed j l) (came_to mark i pieces)
+  still same content outs none part kepts = record {
     four = ap length same ∙ stands.four;
     nobody = λ d lt h. none d (stands.nobody d lt (old d None h));
     piece = λ d k h. came_same mark i pieces k part ∙ stands.piece d k (old d (Some k) h) ∙ sym (outs d);
@@ -314,18 +376,18 @@ module _ (past : List Item) (i : Item) (j : Judged) (l : Listing) (pieces : ℕ 
       old : (d : ℕ) (o : Option ℕ) → found (listed j l).places.newest d ≡ o → found l.places.newest d ≡ o
       old d o h = ap (λ p. found p d) (sym same) ∙ h
 
-      on_old : (k : ℕ) (b : Beginning) (closer : Option ℕ) → k < many → Holds l.places.newest past k b closer →
-          Awaited (Holds (listed j l).places.newest (i ∷ past)) mark owner j j.item k b closer
-      on_old k b closer lt holds = (
-        (λ e d h. content d k b closer (old d (Some k) h) (holds d (old d (Some k) h))),
-        (λ e d h. subst (λ (x : Option ℕ). Content b x (tail (i ∷ past) d)) (sym (closers b closer)) (content d k b closer (old d (Some k) h) (holds d (old d (Some k) h)))),
+      on_old : (k : ℕ) (b : Beginning) (kept : Kept) → k < many → Holds l.places.newest past k b kept →
+          Awaited (Holds (listed j l).places.newest (i ∷ past)) mark owner j j.item k b kept
+      on_old k b kept lt holds = (
+        (λ e d h. content d k b kept (old d (Some k) h) (holds d (old d (Some k) h))),
+        (λ e d h. subst (λ (x : Kept). Held b x (tail (i ∷ past) d)) (sym (kepts b kept)) (content d k b kept (old d (Some k) h) (holds d (old d (Some k) h)))),
       )
 
-      none_there : (b : Beginning) (closer : Option ℕ) → Holds (listed j l).places.newest (i ∷ past) many b closer
-      none_there b closer d h = absurd (let s = below d many (old d (Some many) h) in omega (arith, s))
+      none_there : (b : Beginning) (kept : Kept) → Holds (listed j l).places.newest (i ∷ past) many b kept
+      none_there b kept d h = absurd (let s = below d many (old d (Some many) h) in omega (arith, s))
 
       on_new : Awaited (Holds (listed j l).places.newest (i ∷ past)) mark owner j j.item many
-          (new_one j (op_of (with_ends j l).ops (found l.places.newest j.ce)) j.item).beginning (new_one j (op_of (with_ends j l).ops (found l.places.newest j.ce)) j.item).closer
+          (new_one j (op_of (with_ends j l).ops (found l.places.newest j.ce)) j.item).beginning (kept_of (new_one j (op_of (with_ends j l).ops (found l.places.newest j.ce)) j.item))
       on_new = ((λ e. none_there _ _), (λ e. none_there _ _))
 
   abbrev newcomer : Operation
@@ -333,7 +395,7 @@ module _ (past : List Item) (i : Item) (j : Judged) (l : Listing) (pieces : ℕ 
 
   -- an item that becomes the newest operation of its target, with the first cycle of a sequence or none
   pub renewed : (ce : ℕ) → ce < 4 → owner ≡ None → (listed j l).places.newest ≡ slice_set l.places.newest ce (Some many) → ((d : ℕ) → (ce ≡ d → ⊥) → tail (i ∷ past) d ≡ tail past d) →
-      with_part i [] ≡ without_outputs (tail (i ∷ past) ce) → Content newcomer.beginning (closer_with owner j j.item newcomer.beginning newcomer.closer) (tail (i ∷ past) ce) →
+      with_part i [] ≡ without_outputs (tail (i ∷ past) ce) → Held newcomer.beginning (kept_with owner j j.item newcomer.beginning (kept_of newcomer)) (tail (i ∷ past) ce) →
       Stands (i ∷ past) (listed j l) (came_to mark i pieces)
   renewed ce lt nobodys same others outs content = record {
     four = ap length same ∙ length-set l.places.newest ce (Some many) ∙ stands.four;
@@ -400,26 +462,26 @@ module _ (past : List Item) (i : Item) (j : Judged) (l : Listing) (pieces : ℕ 
       at_apart a b k x y (inr p) (inl q) = absurd (both b a k q p y x)
       at_apart a b k x y (inr p) (inr q) = stands.apart a b k (theirs a k p x) (theirs b k q y)
 
-      on_old : (k : ℕ) (b : Beginning) (closer : Option ℕ) → k < many → Holds l.places.newest past k b closer →
-          Awaited (Holds (listed j l).places.newest (i ∷ past)) mark owner j j.item k b closer
-      on_old k b closer small holds = ((λ e d h. at_place d h (split ce d)), (λ e. absurd (omega (arith, e, is, small))))
+      on_old : (k : ℕ) (b : Beginning) (kept : Kept) → k < many → Holds l.places.newest past k b kept →
+          Awaited (Holds (listed j l).places.newest (i ∷ past)) mark owner j j.item k b kept
+      on_old k b kept small holds = ((λ e d h. at_place d h (split ce d)), (λ e. absurd (omega (arith, e, is, small))))
         where
-          at_place : (d : ℕ) → found (listed j l).places.newest d ≡ Some k → (ce ≡ d) ⊎ (ce ≡ d → ⊥) → Content b closer (tail (i ∷ past) d)
+          at_place : (d : ℕ) → found (listed j l).places.newest d ≡ Some k → (ce ≡ d) ⊎ (ce ≡ d → ⊥) → Held b kept (tail (i ∷ past) d)
           at_place d h (inl e) = absurd (let number = mine d k e h in omega (arith, number, small))
-          at_place d h (inr away) = subst (λ (t : List TargetCycle). Content b closer t) (sym (others d away)) (holds d (theirs d k away h))
+          at_place d h (inr away) = subst (λ (t : List TargetCycle). Held b kept t) (sym (others d away)) (holds d (theirs d k away h))
 
-      on_new : Awaited (Holds (listed j l).places.newest (i ∷ past)) mark owner j j.item many newcomer.beginning newcomer.closer
+      on_new : Awaited (Holds (listed j l).places.newest (i ∷ past)) mark owner j j.item many newcomer.beginning (kept_of newcomer)
       on_new = ((λ e. absurd (e (sym is))), (λ e d h. at_place d h (split ce d)))
         where
           at_place : (d : ℕ) → found (listed j l).places.newest d ≡ Some many → (ce ≡ d) ⊎ (ce ≡ d → ⊥) →
-              Content newcomer.beginning (closer_with owner j j.item newcomer.beginning newcomer.closer) (tail (i ∷ past) d)
-          at_place d h (inl e) = subst (λ (x : ℕ). Content newcomer.beginning (closer_with owner j j.item newcomer.beginning newcomer.closer) (tail (i ∷ past) x)) e content
+              Held newcomer.beginning (kept_with owner j j.item newcomer.beginning (kept_of newcomer)) (tail (i ∷ past) d)
+          at_place d h (inl e) = subst (λ (x : ℕ). Held newcomer.beginning (kept_with owner j j.item newcomer.beginning (kept_of newcomer)) (tail (i ∷ past) x)) e content
           at_place d h (inr away) = absurd (let small = below d many (theirs d many away h) in omega (arith, small))
 
   -- an item that goes on with the sequence of its target
   pub gone_on : (ce k : ℕ) (cycle : TargetCycle) → found l.places.newest ce ≡ Some k → owner ≡ Some k → (listed j l).places.newest ≡ l.places.newest →
       ((d : ℕ) → (ce ≡ d → ⊥) → tail (i ∷ past) d ≡ tail past d) → with_part i (pieces k) ≡ cycle ∷ pieces k → without_outputs (tail (i ∷ past) ce) ≡ cycle ∷ without_outputs (tail past ce) →
-      ((b : Beginning) (closer : Option ℕ) → Content b closer (tail past ce) → Content b (closer_with owner j j.item b closer) (tail (i ∷ past) ce)) →
+      ((b : Beginning) (kept : Kept) → Held b kept (tail past ce) → Held b (kept_with owner j j.item b kept) (tail (i ∷ past) ce)) →
       Stands (i ∷ past) (listed j l) (came_to mark i pieces)
   gone_on ce k cycle newest mine same others part outs content = record {
     four = ap length same ∙ stands.four;
@@ -455,24 +517,33 @@ module _ (past : List Item) (i : Item) (j : Judged) (l : Listing) (pieces : ℕ 
       at_piece d m h (inr away) =
           came_other mark i pieces m (λ e. away (stands.apart ce d m (newest ∙ ap Some (sym is ∙ e)) (old d (Some m) h))) ∙ stands.piece d m (old d (Some m) h) ∙ ap without_outputs (sym (others d away))
 
-      on_old : (m : ℕ) (b : Beginning) (closer : Option ℕ) → m < many → Holds l.places.newest past m b closer →
-          Awaited (Holds (listed j l).places.newest (i ∷ past)) mark owner j j.item m b closer
-      on_old m b closer small holds = ((λ e d h. at_other e d h (split ce d)), (λ e d h. at_own e d h (split ce d)))
+      on_old : (m : ℕ) (b : Beginning) (kept : Kept) → m < many → Holds l.places.newest past m b kept →
+          Awaited (Holds (listed j l).places.newest (i ∷ past)) mark owner j j.item m b kept
+      on_old m b kept small holds = ((λ e d h. at_other e d h (split ce d)), (λ e d h. at_own e d h (split ce d)))
         where
-          at_other : (m ≡ mark → ⊥) → (d : ℕ) → found (listed j l).places.newest d ≡ Some m → (ce ≡ d) ⊎ (ce ≡ d → ⊥) → Content b closer (tail (i ∷ past) d)
+          at_other : (m ≡ mark → ⊥) → (d : ℕ) → found (listed j l).places.newest d ≡ Some m → (ce ≡ d) ⊎ (ce ≡ d → ⊥) → Held b kept (tail (i ∷ past) d)
           at_other e d h (inl same') = absurd (e (same_some (sym (old d (Some m) h) ∙ ap (found l.places.newest) (sym same') ∙ newest) ∙ sym is))
-          at_other e d h (inr away) = subst (λ (t : List TargetCycle). Content b closer t) (sym (others d away)) (holds d (old d (Some m) h))
+          at_other e d h (inr away) = subst (λ (t : List TargetCycle). Held b kept t) (sym (others d away)) (holds d (old d (Some m) h))
 
-          at_own : m ≡ mark → (d : ℕ) → found (listed j l).places.newest d ≡ Some m → (ce ≡ d) ⊎ (ce ≡ d → ⊥) → Content b (closer_with owner j j.item b closer) (tail (i ∷ past) d)
+          at_own : m ≡ mark → (d : ℕ) → found (listed j l).places.newest d ≡ Some m → (ce ≡ d) ⊎ (ce ≡ d → ⊥) → Held b (kept_with owner j j.item b kept) (tail (i ∷ past) d)
           at_own e d h (inl same') =
-              subst (λ (x : ℕ). Content b (closer_with owner j j.item b closer) (tail (i ∷ past) x)) same' (content b closer (holds ce (ap (found l.places.newest) same' ∙ old d (Some m) h)))
+              subst (λ (x : ℕ). Held b (kept_with owner j j.item b kept) (tail (i ∷ past) x)) same' (content b kept (holds ce (ap (found l.places.newest) same' ∙ old d (Some m) h)))
           at_own e d h (inr away) = absurd (away (stands.apart ce d m (newest ∙ ap Some (sym is ∙ sym e)) (old d (Some m) h)))
 
 -- ---- one item of a legal past
 
-same_either : {X : Type 0} (b : Bool) (x : X) → cond b x x ≡ x
-same_either true x = refl
-same_either false x = refl
+-- an output that is permitted comes behind a sequence that isn't open
+shut_output : (t : TailFacts) (luns : List LunView) → breaks_no_sole_driver t luns OutputCycle ≡ false → is_open t ≡ false
+unfolding breaks_no_sole_driver
+shut_output t luns h = (or_parts (is_open t) _ h).0
+
+same_kept : (b : Bool) (kept : Kept) → record {
+  closer = cond b kept.closer kept.closer;
+  is_addressed = cond b kept.is_addressed kept.is_addressed;
+  address_count = cond b kept.address_count kept.address_count;
+} ≡ kept
+same_kept true kept = refl
+same_kept false kept = refl
 
 newest_kept : (owner : Option ℕ) (i : Item) (ce n : ℕ) (newest : List (Option ℕ)) → newest_with i ce n newest ≡ newest → newest_by owner i ce n newest ≡ newest
 newest_kept None i ce n newest h = h
@@ -491,22 +562,26 @@ StandsAfter readies one_lun seen n later past l pieces i =
     Stands (i ∷ past) (listed (JudgedAs readies one_lun seen n i later) l)
     (came_to (mark_in (JudgedAs readies one_lun seen n i later) (with_ends (JudgedAs readies one_lun seen n i later) l)) i pieces)
 
+-- an operation holds the opener that begins it
+abbrev FreshlyHeld : Judged → Cycle → Operation → Option ℕ → Type 0
+FreshlyHeld j c o owner = Held o.beginning (kept_with owner j (Cyc c) o.beginning (kept_of o)) (CommandCycle (command c.byte) ∷ [])
+
 module _ (readies : Readies) (one_lun : Bool) (seen : Seen) (n : ℕ) (later past : List Item) (l : Listing) (pieces : ℕ → List TargetCycle) (stands : Stands past l pieces)
     (w : AreWithin (length l.ops) l.places) where
   stands_ready : (ce lun : ℕ) (fail : Bool) → StandsAfter readies one_lun seen n later past l pieces (Rdy ce lun fail)
   stands_ready ce lun fail =
       let j = JudgedAs readies one_lun seen n (Rdy ce lun fail) later in
       still past (Rdy ce lun fail) j l pieces stands w (listed_newest j l ∙ newest_kept (owner_in j (with_ends j l)) (Rdy ce lun fail) ce (length (with_ends j l).ops) l.places.newest refl)
-      (λ d k b closer h c. c) (λ d. refl) (λ d h. h) (λ t. refl) (λ b closer. refl)
+      (λ d k b kept h c. c) (λ d. refl) (λ d h. h) (λ t. refl) (λ b kept. refl)
 
   stands_array_ready : (ce lun : ℕ) → StandsAfter readies one_lun seen n later past l pieces (Ard ce lun)
   stands_array_ready ce lun =
       let j = JudgedAs readies one_lun seen n (Ard ce lun) later in
       still past (Ard ce lun) j l pieces stands w (listed_newest j l ∙ newest_kept (owner_in j (with_ends j l)) (Ard ce lun) ce (length (with_ends j l).ops) l.places.newest refl)
-      (λ d k b closer h c. c) (λ d. refl) (λ d h. h) (λ t. refl) (λ b closer. refl)
+      (λ d k b kept h c. c) (λ d. refl) (λ d h. h) (λ t. refl) (λ b kept. refl)
 
-  stands_output : (ce byte : ℕ) → ce < 4 → StandsAfter readies one_lun seen n later past l pieces (Cyc (record { ce = ce; kind = Dout; byte = byte }))
-  stands_output ce byte lt = at (owner_in j (with_ends j l)) refl
+  stands_output : (ce byte : ℕ) → ce < 4 → is_open (facts_of (tail past ce)) ≡ false → StandsAfter readies one_lun seen n later past l pieces (Cyc (record { ce = ce; kind = Dout; byte = byte }))
+  stands_output ce byte lt shut = at (owner_in j (with_ends j l)) refl
     where
       c : Cycle
       c = record { ce = ce; kind = Dout; byte = byte }
@@ -514,12 +589,12 @@ module _ (readies : Readies) (one_lun : Bool) (seen : Seen) (n : ℕ) (later pas
       j : Judged
       j = JudgedAs readies one_lun seen n (Cyc c) later
 
-      own : (b : Beginning) (closer : Option ℕ) → Content b closer (tail (Cyc c ∷ past) ce)
-      own b closer = subst (λ (t : List TargetCycle). Content b closer t) (sym (tail_own c past)) (content_output b closer (tail past ce))
+      own : (b : Beginning) (kept : Kept) → Held b kept (tail past ce) → Held b kept (tail (Cyc c ∷ past) ce)
+      own b kept was = subst (λ (t : List TargetCycle). Held b kept t) (sym (tail_own c past)) (held_output b kept (tail past ce) was shut)
 
-      content : (d k : ℕ) (b : Beginning) (closer : Option ℕ) → Content b closer (tail past d) → (ce ≡ d) ⊎ (ce ≡ d → ⊥) → Content b closer (tail (Cyc c ∷ past) d)
-      content d k b closer was (inl e) = subst (λ (x : ℕ). Content b closer (tail (Cyc c ∷ past) x)) e (own b closer)
-      content d k b closer was (inr away) = subst (λ (t : List TargetCycle). Content b closer t) (sym (tail_other c past d away)) was
+      content : (d k : ℕ) (b : Beginning) (kept : Kept) → Held b kept (tail past d) → (ce ≡ d) ⊎ (ce ≡ d → ⊥) → Held b kept (tail (Cyc c ∷ past) d)
+      content d k b kept was (inl e) = subst (λ (x : ℕ). Held b kept (tail (Cyc c ∷ past) x)) e (own b kept (subst (λ (x : ℕ). Held b kept (tail past x)) (sym e) was))
+      content d k b kept was (inr away) = subst (λ (t : List TargetCycle). Held b kept t) (sym (tail_other c past d away)) was
 
       outs : (d : ℕ) → (ce ≡ d) ⊎ (ce ≡ d → ⊥) → without_outputs (tail (Cyc c ∷ past) d) ≡ without_outputs (tail past d)
       outs d (inl e) =
@@ -534,14 +609,19 @@ module _ (readies : Readies) (one_lun : Bool) (seen : Seen) (n : ℕ) (later pas
       at None h =
           let nothing : tail past ce ≡ [] = stands.nobody ce lt (none_newest _ _ (found l.places.newest ce) h) in
           renewed past (Cyc c) j l pieces stands w ce lt h (newest_so past (Cyc c) j l pieces stands w None h) (λ d away. tail_other c past d away)
-          (sym (ap without_outputs (tail_own c past ∙ ap (continued OutputCycle) nothing))) (own _ _)
+          (sym (ap without_outputs (tail_own c past ∙ ap (continued OutputCycle) nothing)))
+          (subst (λ (t : List TargetCycle). Held begins.Cut (kept_with (owner_in j (with_ends j l)) j (Cyc c) begins.Cut (kept_of (begun ce n begins.Cut))) t) (sym (tail_own c past))
+          (held_cut (kept_with (owner_in j (with_ends j l)) j (Cyc c) begins.Cut (kept_of (begun ce n begins.Cut))) (tail past ce)))
       at (Some k) h =
           still past (Cyc c) j l pieces stands w (newest_so past (Cyc c) j l pieces stands w (Some k) h)
-          (λ d m b closer found' was. content d m b closer was (split ce d)) (λ d. outs d (split ce d)) (λ d is. empty d is (split ce d)) (λ t. refl)
-          (λ b closer. same_either (is_new_opener (owner_in j (with_ends j l)) j Dout) closer)
+          (λ d m b kept found' was. content d m b kept was (split ce d)) (λ d. outs d (split ce d)) (λ d is. empty d is (split ce d)) (λ t. refl)
+          (λ b kept. same_kept (is_new_opener (owner_in j (with_ends j l)) j Dout) kept)
 
-  stands_opener : (ce byte : ℕ) → ce < 4 → is_opener (command byte) ≡ true → StandsAfter readies one_lun seen n later past l pieces (Cyc (record { ce = ce; kind = Cmd; byte = byte }))
-  stands_opener ce byte lt opens =
+  -- a command that begins an operation, and a tail
+  stands_opener : (ce byte : ℕ) → ce < 4 → begins_anew (facts_of (tail past ce)) (CommandCycle (command byte)) ≡ true →
+      begins_one (op_of (with_ends (JudgedAs readies one_lun seen n (Cyc (record { ce = ce; kind = Cmd; byte = byte })) later) l).ops (found l.places.newest ce)) byte ≡ true →
+      StandsAfter readies one_lun seen n later past l pieces (Cyc (record { ce = ce; kind = Cmd; byte = byte }))
+  stands_opener ce byte lt anew begins_so =
       renewed past (Cyc c) j l pieces stands w ce lt nobodys (newest_so past (Cyc c) j l pieces stands w None nobodys) (λ d away. tail_other c past d away) (sym (ap without_outputs tail_is)) content
     where
       c : Cycle
@@ -553,46 +633,27 @@ module _ (readies : Readies) (one_lun : Bool) (seen : Seen) (n : ℕ) (later pas
       before : Option Operation
       before = op_of (with_ends j l).ops (found l.places.newest ce)
 
-      begins_so : begins_one before byte ≡ true
-      begins_so = opener_begins before byte opens
-
       nobodys : owner_in j (with_ends j l) ≡ None
       nobodys = ap (λ x. cond x None (found l.places.newest ce)) begins_so
 
       tail_is : tail (Cyc c ∷ past) ce ≡ CommandCycle (command byte) ∷ []
-      tail_is = tail_own c past ∙ ap (λ x. cond x (CommandCycle (command byte) ∷ []) (continued (CommandCycle (command byte)) (tail past ce))) opens
+      tail_is = tail_own c past ∙ ap (λ x. cond x (CommandCycle (command byte) ∷ []) (continued (CommandCycle (command byte)) (tail past ce))) anew
 
-      beginning_is : (new_one j before (Cyc c)).beginning ≡ begins.Opener byte
-      beginning_is = at (begins_one before byte) begins_so
-        where
-          at : (x : Bool) → x ≡ true → (cond x (begun ce n (begins.Opener byte)) (begun ce n begins.Cut)).beginning ≡ begins.Opener byte
-          at true h = refl
-          at false h = cc
+      fresh : FreshlyHeld j c (new_one j before (Cyc c)) None
+      fresh =
+          subst (λ (x : Bool). FreshlyHeld j c (cond x (begun ce n (begins.Opener byte)) (begun ce n begins.Cut)) None) (sym begins_so) (held_opener byte)
 
-      closer_is : (new_one j before (Cyc c)).closer ≡ None
-      closer_is = at (begins_one before byte)
-        where
-          at : (x : Bool) → (cond x (begun ce n (begins.Opener byte)) (begun ce n begins.Cut)).closer ≡ None
-          at true = refl
-          at false = refl
-
-      closer : Option ℕ
-      closer = closer_with (owner_in j (with_ends j l)) j (Cyc c) (new_one j before (Cyc c)).beginning (new_one j before (Cyc c)).closer
-
-      closer_none : closer ≡ None
-      closer_none = ap (λ o. closer_with o j (Cyc c) (new_one j before (Cyc c)).beginning (new_one j before (Cyc c)).closer) nobodys ∙ closer_is
-
-      content : Content (new_one j before (Cyc c)).beginning closer (tail (Cyc c ∷ past) ce)
+      content : Held (new_one j before (Cyc c)).beginning (kept_with (owner_in j (with_ends j l)) j (Cyc c) (new_one j before (Cyc c)).beginning (kept_of (new_one j before (Cyc c)))) (tail (Cyc c ∷ past) ce)
       content =
-          subst (λ (t : List TargetCycle). Content (new_one j before (Cyc c)).beginning closer t) (sym tail_is)
-          (subst (λ (x : Option ℕ). Content (new_one j before (Cyc c)).beginning x (CommandCycle (command byte) ∷ [])) (sym closer_none)
-          (subst (λ (x : Beginning). Content x None (CommandCycle (command byte) ∷ [])) (sym beginning_is) (content_opener byte)))
+          subst (λ (t : List TargetCycle). Held (new_one j before (Cyc c)).beginning
+          (kept_with (owner_in j (with_ends j l)) j (Cyc c) (new_one j before (Cyc c)).beginning (kept_of (new_one j before (Cyc c)))) t) (sym tail_is)
+          (subst (λ (x : Option ℕ). FreshlyHeld j c (new_one j before (Cyc c)) x) (sym nobodys) fresh)
 
   -- a cycle that its tail wants
-  stands_wanted : (c : Cycle) → c.ce < 4 → begins_sequence (target_cycle c.kind c.byte) ≡ false →
+  stands_wanted : (c : Cycle) → c.ce < 4 → begins_anew (facts_of (tail past c.ce)) (target_cycle c.kind c.byte) ≡ false →
       ((t : List TargetCycle) → with_part (Cyc c) t ≡ target_cycle c.kind c.byte ∷ t) → ((t : List TargetCycle) → without_outputs (target_cycle c.kind c.byte ∷ t) ≡ target_cycle c.kind c.byte ∷ without_outputs t) →
-      ((k : ℕ) (b : Beginning) (closer : Option ℕ) (d : TargetCycle) (t : List TargetCycle) → Content b closer (d ∷ t) →
-      Content b (closer_with (Some k) (JudgedAs readies one_lun seen n (Cyc c) later) (Cyc c) b closer) (target_cycle c.kind c.byte ∷ (d ∷ t))) →
+      ((k : ℕ) (b : Beginning) (kept : Kept) (d : TargetCycle) (t : List TargetCycle) → tail past c.ce ≡ d ∷ t → Held b kept (d ∷ t) →
+      Held b (kept_with (Some k) (JudgedAs readies one_lun seen n (Cyc c) later) (Cyc c) b kept) (target_cycle c.kind c.byte ∷ (d ∷ t))) →
       (tail past c.ce ≡ [] → ⊥) →
       ((k : ℕ) → found l.places.newest c.ce ≡ Some k → owner_in (JudgedAs readies one_lun seen n (Cyc c) later) (with_ends (JudgedAs readies one_lun seen n (Cyc c) later) l) ≡ Some k) →
       StandsAfter readies one_lun seen n later past l pieces (Cyc c)
@@ -612,9 +673,9 @@ module _ (readies : Readies) (one_lun : Bool) (seen : Seen) (n : ℕ) (later pas
           let tail_is : tail (Cyc c ∷ past) c.ce ≡ cycle ∷ (d ∷ t) = tail_own c past ∙ goes_on cycle d t (tail past c.ce) no_opener is in
           gone_on past (Cyc c) j l pieces stands w c.ce k cycle h mine (newest_so past (Cyc c) j l pieces stands w (Some k) mine) (λ e away. tail_other c past e away) (part (pieces k))
           (ap without_outputs tail_is ∙ outs (d ∷ t) ∙ ap (λ x. cycle ∷ without_outputs x) (sym is))
-          (λ b closer was.
-          subst (λ (x : List TargetCycle). Content b (closer_with (owner_in j (with_ends j l)) j (Cyc c) b closer) x) (sym tail_is)
-          (subst (λ (o : Option ℕ). Content b (closer_with o j (Cyc c) b closer) (cycle ∷ (d ∷ t))) (sym mine) (content k b closer d t (subst (λ (x : List TargetCycle). Content b closer x) is was))))
+          (λ b kept was.
+          subst (λ (x : List TargetCycle). Held b (kept_with (owner_in j (with_ends j l)) j (Cyc c) b kept) x) (sym tail_is)
+          (subst (λ (o : Option ℕ). Held b (kept_with o j (Cyc c) b kept) (cycle ∷ (d ∷ t))) (sym mine) (content k b kept d t is (subst (λ (x : List TargetCycle). Held b kept x) is was))))
 
 module _ (readies : Readies) (one_lun : Bool) (g : Parts) (targets : ℕ) (few : targets ≤ 4) where
   module _ (seen : Seen) (n : ℕ) (later past : List Item) (l : Listing) (pieces : ℕ → List TargetCycle) (stands : Stands past l pieces) (w : AreWithin (length l.ops) l.places) where
@@ -629,45 +690,125 @@ module _ (readies : Readies) (one_lun : Bool) (g : Parts) (targets : ℕ) (few :
         let small = found_below (length l.ops) l.places.newest ce k w.newest h in
         let same = length_ends j l in
         let o = there ops k (omega (arith, small, same)) in
-        let begins_so = wanted_begins_none o.0 (tail past ce) byte (each k o.0 o.1 ce h) known no_opener wanted in
+        let begins_so = wanted_begins_none o.0 (tail past ce) byte (each k o.0 o.1 ce h).content known no_opener wanted in
         ap (λ x. cond (begins_one (op_of ops x) byte) None x) h ∙ ap (λ x. cond (begins_one x byte) None (Some k)) o.1 ∙ ap (λ x. cond x None (Some k)) begins_so
 
     stands_cycle : (ce byte : ℕ) (kind : Kind) → broken g targets past (Cyc (record { ce = ce; kind = kind; byte = byte })) ≡ None →
         StandsAfter readies one_lun seen n later past l pieces (Cyc (record { ce = ce; kind = kind; byte = byte }))
-    stands_cycle ce byte Cmd h = at (is_opener (command byte)) refl
+    stands_cycle ce byte Cmd h = at (closes_read newest byte) refl (is_opener (command byte)) refl
       where
         c : Cycle
         c = record { ce = ce; kind = Cmd; byte = byte }
 
+        j : Judged
+        j = JudgedAs readies one_lun seen n (Cyc c) later
+
+        newest : Option Operation
+        newest = op_of (with_ends j l).ops (found l.places.newest ce)
+
         lt : ce < 4
         lt = (let small = target_below g targets past c h in let all = few in omega (arith, small, all))
 
-        at : (x : Bool) → is_opener (command byte) ≡ x → StandsAfter readies one_lun seen n later past l pieces (Cyc c)
-        at true opens = stands_opener readies one_lun seen n later past l pieces stands w ce byte lt opens
-        at false opens =
-            let keeps = permitted_keeps g targets past c h in
+        keeps : KeepsRules g (facts_of (tail past ce)) (luns_of g past ce) (CommandCycle (command byte))
+        keeps = permitted_keeps g targets past c h
+
+        each : Each (Holds l.places.newest past) (with_ends j l).ops
+        each = by_ends (Each (Holds l.places.newest past)) (each_quiet (Holds l.places.newest past)) j l.places l.ops stands.content
+
+        on : wants_command (facts_of (tail past ce)) (command byte) ≡ true → begins_anew (facts_of (tail past ce)) (CommandCycle (command byte)) ≡ false →
+            ((k : ℕ) → found l.places.newest ce ≡ Some k → owner_in j (with_ends j l) ≡ Some k) → StandsAfter readies one_lun seen n later past l pieces (Cyc c)
+        on wanted goes owned =
+            stands_wanted readies one_lun seen n later past l pieces stands w c lt goes (λ t. refl) (λ t. refl)
+            (λ k b kept d t is was. held_command b kept byte d t was (ap (λ (u : List TargetCycle). wants_command (facts_of u) (command byte)) (sym is) ∙ wanted))
+            (λ e. no_command (command byte) (ap (λ t. wants_command (facts_of t) (command byte)) (sym e) ∙ wanted)) owned
+
+        -- a 31h that closes a read
+        closing : closes_read newest byte ≡ true → StandsAfter readies one_lun seen n later past l pieces (Cyc c)
+        closing e = on wanted goes (λ k found'. ap (λ x. cond x None (found l.places.newest ce)) (closing_begins_none newest byte e) ∙ found')
+          where
+            code : command byte ≡ ReadCacheSequential
+            code = commands_have_bytes.command_of_byte ReadCacheSequential byte (ap Some (sym (eqb-true byte 0x31 (and_parts (byte == 0x31) (is_open_read_op newest) e).0)))
+
+            at_place : (k : Option ℕ) → found l.places.newest ce ≡ k → (o : Option Operation) → op_of (with_ends j l).ops k ≡ o → is_open_read_op o ≡ true → opening (tail past ce) ≡ Some whole_read
+            at_place None p None q r = cc
+            at_place None p (Some o) q r = cc
+            at_place (Some k) p None q r = cc
+            at_place (Some k) p (Some o) q r = (each k o q ce p).reads r
+
+            whole : opening (tail past ce) ≡ Some whole_read
+            whole = at_place (found l.places.newest ce) refl newest refl (and_parts (byte == 0x31) (is_open_read_op newest) e).1
+
+            wanted : wants_command (facts_of (tail past ce)) (command byte) ≡ true
+            wanted = ap (wants_command (facts_of (tail past ce))) code ∙ whole_wants (tail past ce) whole
+
+            goes : begins_anew (facts_of (tail past ce)) (CommandCycle (command byte)) ≡ false
+            goes = ap (λ x. begins_anew (facts_of (tail past ce)) (CommandCycle x)) code ∙ ap not (whole_wants (tail past ce) whole)
+
+        -- an opener that closes none
+        opening_so : closes_read newest byte ≡ false → is_opener (command byte) ≡ true → StandsAfter readies one_lun seen n later past l pieces (Cyc c)
+        opening_so e opens = stands_opener readies one_lun seen n later past l pieces stands w ce byte lt (anew (command byte) refl opens) (opener_begins newest byte opens e)
+          where
+            unread : command byte ≡ ReadCacheSequential → wants_command (facts_of (tail past ce)) ReadCacheSequential ≡ true → ⊥
+            unread code wanted = at_place (found l.places.newest ce) refl
+              where
+                is : (byte == 0x31) ≡ true
+                is = eq-eqb byte 0x31 (byte_of byte 0x31 ReadCacheSequential refl code)
+
+                at_place : (k : Option ℕ) → found l.places.newest ce ≡ k → ⊥
+                at_place None p =
+                    no_command ReadCacheSequential (ap (λ t. wants_command (facts_of t) ReadCacheSequential) (sym (stands.nobody ce lt p)) ∙ wanted)
+                at_place (Some k) p =
+                    let small = found_below (length l.ops) l.places.newest ce k w.newest p in
+                    let same = length_ends j l in
+                    let o = there (with_ends j l).ops k (omega (arith, small, same)) in
+                    let there' : newest ≡ Some o.0 = ap (op_of (with_ends j l).ops) p ∙ o.1 in
+                    let reads = wanted_reading o.0.beginning (kept_of o.0) (tail past ce) (each k o.0 o.1 ce p) wanted in
+                    clash (closes_read newest byte) (ap (λ x. closes_read x byte) there' ∙ ap (λ x. x && is_open_read o.0) is ∙ reads) e
+
+            off : (x : Bool) → wants_command (facts_of (tail past ce)) ReadCacheSequential ≡ x → command byte ≡ ReadCacheSequential → x ≡ false
+            off true q code = absurd (unread code q)
+            off false q code = refl
+
+            anew : (x : Command) → command byte ≡ x → is_opener (command byte) ≡ true → begins_anew (facts_of (tail past ce)) (CommandCycle (command byte)) ≡ true
+            anew x code h = ap (λ y. begins_anew (facts_of (tail past ce)) (CommandCycle y)) code ∙ of x code (ap is_opener (sym code) ∙ h)
+              where
+                of : (y : Command) → command byte ≡ y → is_opener y ≡ true → begins_anew (facts_of (tail past ce)) (CommandCycle y) ≡ true
+                of ReadCacheSequential code h = ap not (off (wants_command (facts_of (tail past ce)) ReadCacheSequential) refl code)
+                of ReadConfirm code h = cc
+                of BlockEraseConfirm code h = cc
+                of BlockErasePlane code h = cc
+                of ProgramConfirm code h = cc
+                of ProgramPlane code h = cc
+                of y code h = h
+
+        at : (r : Bool) → closes_read newest byte ≡ r → (x : Bool) → is_opener (command byte) ≡ x → StandsAfter readies one_lun seen n later past l pieces (Cyc c)
+        at true e x opens = closing e
+        at false e true opens = opening_so e opens
+        at false e false opens =
             let known = known_command g (command byte) keeps.f2 in
             let wanted = wanted_command (facts_of (tail past ce)) (command byte) keeps.f6 opens in
-            stands_wanted readies one_lun seen n later past l pieces stands w c lt opens (λ t. refl) (λ t. refl) (λ k b closer d t was. content_command b closer byte d t was)
-            (λ e. no_command (command byte) (ap (λ t. wants_command (facts_of t) (command byte)) (sym e) ∙ wanted)) (λ k found'. goes_on_with ce byte k found' known opens wanted)
+            on wanted (no_opener_goes_on (facts_of (tail past ce)) (CommandCycle (command byte)) opens) (λ k found'. goes_on_with ce byte k found' known opens wanted)
     stands_cycle ce byte Adr h =
         let c : Cycle = record { ce = ce; kind = Adr; byte = byte } in
         let small = target_below g targets past c h in
         let all = few in
         let wanted = wanted_address g (facts_of (tail past ce)) byte (permitted_keeps g targets past c h).f7 in
-        stands_wanted readies one_lun seen n later past l pieces stands w c (omega (arith, small, all)) refl (λ t. refl) (λ t. refl) (λ k b closer d t was. content_address b closer byte (d ∷ t) was)
+        stands_wanted readies one_lun seen n later past l pieces stands w c (omega (arith, small, all)) refl (λ t. refl) (λ t. refl)
+        (λ k b kept d t is was. held_address b kept byte (d ∷ t) was (ap (λ (u : List TargetCycle). wants_address (facts_of u) byte) (sym is) ∙ wanted))
         (λ e. no_address byte (ap (λ t. wants_address (facts_of t) byte) (sym e) ∙ wanted)) (λ k found'. found')
     stands_cycle ce byte Din h =
         let c : Cycle = record { ce = ce; kind = Din; byte = byte } in
         let small = target_below g targets past c h in
         let all = few in
         let wanted = wanted_input (facts_of (tail past ce)) byte (permitted_keeps g targets past c h).f11 in
-        stands_wanted readies one_lun seen n later past l pieces stands w c (omega (arith, small, all)) refl (λ t. refl) (λ t. refl) (λ k b closer d t was. content_input b closer byte (d ∷ t) was)
+        stands_wanted readies one_lun seen n later past l pieces stands w c (omega (arith, small, all)) refl (λ t. refl) (λ t. refl)
+        (λ k b kept d t is was. held_input b kept byte (d ∷ t) was (ap (λ (u : List TargetCycle). takes_inputs (facts_of u).phase) (sym is) ∙ wanted))
         (λ e. no_input (ap (λ t. takes_inputs (facts_of t).phase) (sym e) ∙ wanted)) (λ k found'. found')
     stands_cycle ce byte Dout h =
         let small = target_below g targets past (record { ce = ce; kind = Dout; byte = byte }) h in
         let all = few in
         stands_output readies one_lun seen n later past l pieces stands w ce byte (omega (arith, small, all))
+        (shut_output (facts_of (tail past ce)) (luns_of g past ce) (permitted_keeps g targets past (record { ce = ce; kind = Dout; byte = byte }) h).f12)
 
     pub stands_on : (i : Item) → broken g targets past i ≡ None → StandsAfter readies one_lun seen n later past l pieces i
     stands_on (Cyc c) h = stands_cycle c.ce c.byte c.kind h
@@ -759,5 +900,5 @@ nothing_stands = record {
     none : (k : ℕ) → None ≡ Some k → ⊥
     none k h = cc
 
-    nobody : (k : ℕ) (o : Operation) → None ≡ Some o → Holds nothing_listed.places.newest [] k o.beginning o.closer
+    nobody : (k : ℕ) (o : Operation) → None ≡ Some o → Holds nothing_listed.places.newest [] k o.beginning (kept_of o)
     nobody k o h = cc

@@ -159,7 +159,7 @@ module _ (g : Parts) (targets n : ℕ) (one_lun : Bool) (past : List Item) (mark
     mark_is : mark ≡ at
     mark_is =
         mark_some mine'.0 mine'.1
-        ∙ same_some (sym (owned_by g targets n one_lun past marks c before after l pieces here c.kind input mine'.0 mine'.1).0 ∙ was.newest refl)
+        ∙ same_some (sym (owned_by g targets n one_lun past marks c before after l pieces here c.kind (keeps g targets n one_lun past marks c before after l pieces here) input mine'.0 mine'.1).0 ∙ was.newest refl)
 
     held_more : Every Held more
     held_more =

@@ -20,7 +20,7 @@ use Rattle.onfi_cycle.specs.declared.tail_facts.TailFacts.{TailFacts}
 use Rattle.onfi_cycle.specs.declared.target_cycle.TargetCycle.{TargetCycle}
 use Rattle.onfi_cycle.specs.declared.target_cycle.TargetCycle.TheVariants.{CommandCycle, AddressCycle, InputCycle, OutputCycle}
 use Rattle.onfi_cycle.specs.Command.{is_opener, closes_row, reads_row, address_cycles, wants_closer, closes, takes_address, at_last_row, is_page_program, is_set_features}
-use Rattle.onfi_cycle.specs.Effect.{is_off, is_data, is_shared, acts_for_target, of_target, other_effect, lun_reset_effect, names_lun, confirm_effect, command_effect, address_effect, opening_address_effect, ends_features, cycle_effect}
+use Rattle.onfi_cycle.specs.Effect.{is_off, is_data, is_shared, acts_for_target, of_target, other_effect, lun_reset_effect, names_lun, confirm_effect, row_effect, cache_effect, command_effect, address_effect, opening_address_effect, ends_features, cycle_effect}
 use Rattle.onfi_cycle.specs.Lun.{is_only, drivers, latch, latch_alone, effect_among, busy_after, is_busy}
 use Rattle.onfi_cycle.specs.OtherLun.{keeps_to, keeps_to_lun, serves_target}
 use Rattle.onfi_cycle.specs.Sequence.{target_cycle, continued, with_cycle, tail, opening, opened, one_address_more, inputs, data_phase, phase_after_command, phase_after_address, phase_after_last_address, phase_after_input, facts_of, wants_address, wants_command, wants_column, takes_features, wants, row, row_with}
@@ -48,6 +48,7 @@ either_false p false x y h k = k
 
 confirm_ready : (g : Parts) (t : TailFacts) (c : Command) → is_ready (confirm_effect g t c) ≡ false
 confirm_ready g t ReadConfirm = refl
+confirm_ready g t ReadCacheSequential = refl
 confirm_ready g t BlockEraseConfirm = refl
 confirm_ready g t BlockErasePlane = refl
 confirm_ready g t ProgramConfirm = refl
@@ -81,7 +82,10 @@ command_ready g t s ReadStatus lun = either_false is_ready (is_shared g) _ _ ref
 command_ready g t s ReadStatusEnhanced lun = refl
 command_ready g t s Reset lun = either_false is_ready (is_shared g) _ _ refl refl
 command_ready g t s SynchronousReset lun = either_false is_ready (is_shared g) _ _ refl refl
-command_ready g t s ReadCacheSequential lun = either_false is_ready (is_off s) _ _ refl refl
+command_ready g t s ReadCacheSequential lun =
+    either_false is_ready (wants_command t ReadCacheSequential) _ _
+    (either_false is_ready (wants_command t ReadCacheSequential && names_lun g (row t) lun) _ _ (confirm_ready g t ReadCacheSequential) (other_ready g t ReadCacheSequential))
+    (either_false is_ready (is_off s) _ _ refl refl)
 command_ready g t s ReadCacheEnd lun = either_false is_ready (is_off s) _ _ refl refl
 command_ready g t s ChangeReadColumnConfirm lun = either_false is_ready (wants_command t ChangeReadColumnConfirm && not (is_off s)) _ _ refl refl
 command_ready g t s c lun = either_false is_ready (wants_command t c && names_lun g (row t) lun) _ _ (confirm_ready g t c) (other_ready g t c)
@@ -170,7 +174,15 @@ command_keeps g past l BlockEraseConfirm h = named_true _ _ _ _ (other_starts g 
 command_keeps g past l BlockErasePlane h = named_true _ _ _ _ (other_starts g (facts_of (tail past l.ce)) BlockErasePlane) h
 command_keeps g past l ProgramConfirm h = named_true _ _ _ _ (other_starts g (facts_of (tail past l.ce)) ProgramConfirm) h
 command_keeps g past l ProgramPlane h = named_true _ _ _ _ (other_starts g (facts_of (tail past l.ce)) ProgramPlane) h
-command_keeps g past l ReadCacheSequential h = alone_only g past l _ h
+command_keeps g past l ReadCacheSequential h = at (wants_command (facts_of (tail past l.ce)) ReadCacheSequential) h
+  where
+    of : Effect
+    of = row_effect g (facts_of (tail past l.ce)) ReadCacheSequential l.lun
+
+    at : (w : Bool) → starts (cond w of (cache_effect (latch_alone g past l))) ≡ true →
+        cond w (names_lun g (row (facts_of (tail past l.ce))) l.lun) (is_only (drivers g past l.ce) l.lun) ≡ true
+    at true h = named_true _ _ _ _ (other_starts g (facts_of (tail past l.ce)) ReadCacheSequential) h
+    at false h = alone_only g past l _ h
 command_keeps g past l ReadCacheEnd h = alone_only g past l _ h
 command_keeps g past l ChangeReadColumnConfirm h =
     absurd (neither_starts (wants_command (facts_of (tail past l.ce)) ChangeReadColumnConfirm && not (is_off (latch_alone g past l))) _ _ refl refl h)
@@ -336,7 +348,11 @@ command_ended g past l ProgramPlane t h = closer_ended ProgramPlane t (λ d. ref
 command_ended g past l ChangeReadColumnConfirm t h = closer_ended ChangeReadColumnConfirm t (λ d. refl)
 command_ended g past l Reset t h = record { phase = refl; opening = refl }
 command_ended g past l SynchronousReset t h = record { phase = refl; opening = refl }
-command_ended g past l ReadCacheSequential t h = record { phase = refl; opening = refl }
+command_ended g past l ReadCacheSequential t h = at (wants_command (facts_of t) ReadCacheSequential)
+  where
+    at : (w : Bool) → IsEnded (facts_of (cond (true && not w) (CommandCycle ReadCacheSequential ∷ []) (continued (CommandCycle ReadCacheSequential) t)))
+    at true = closer_ended ReadCacheSequential t (λ d. refl)
+    at false = record { phase = refl; opening = refl }
 command_ended g past l ReadCacheEnd t h = record { phase = refl; opening = refl }
 command_ended g past l c t h = absurd (neither_starts (wants_command (facts_of (tail past l.ce)) c && names_lun g (row (facts_of (tail past l.ce))) l.lun) Unaffected (other_effect g (facts_of (tail past l.ce)) c) refl (other_starts g (facts_of (tail past l.ce)) c) h)
 

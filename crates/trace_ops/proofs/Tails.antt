@@ -1,6 +1,7 @@
 -- How the newest operation of each target and the tail of that go together, item by item of a legal past.
 use Rattle.std.proofs.Common.{◌≡◌, ◌⊎◌, inl, inr, ℕ, ◌<◌, ◌==◌, Bool, true, false, ◌&&◌, ◌||◌, not, cond, List, [], ◌∷◌, None, refl, sym, ap, ◌∙◌, eqb-true, eq-eqb, ne_eqb, leb, leb-false}
 use Rattle.nand_geometry.specs.declared.parts.Parts.{Parts}
+use Rattle.nand_geometry.specs.Optional.{no_optional, is_wide}
 use Rattle.onfi_cycle.specs.declared.command.Command.{Command}
 use Rattle.onfi_cycle.specs.declared.command.Command.TheVariants.{Read, ReadConfirm, ChangeReadColumn, ChangeReadColumnConfirm, BlockErase, BlockEraseConfirm, BlockErasePlane, ReadStatus, ReadStatusEnhanced, PageProgram, ChangeWriteColumn, ProgramConfirm, ProgramPlane, ReadId, ReadParameterPage, Reset, ReadCacheSequential, ReadCacheEnd, ReadUniqueId, GetFeatures, SetFeatures, ResetLun, SynchronousReset, Unknown}
 use Rattle.onfi_cycle.specs.declared.forbidden.Forbidden.TheVariants.{NotThere}
@@ -10,11 +11,11 @@ use Rattle.onfi_cycle.specs.declared.item.Item.TheVariants.{Cyc}
 use Rattle.onfi_cycle.specs.declared.tail_facts.TailFacts.{TailFacts}
 use Rattle.onfi_cycle.specs.declared.target_cycle.TargetCycle.{TargetCycle}
 use Rattle.onfi_cycle.specs.declared.target_cycle.TargetCycle.TheVariants.{CommandCycle, AddressCycle, InputCycle, OutputCycle}
-use Rattle.onfi_cycle.specs.Command.{is_known, is_opener}
+use Rattle.onfi_cycle.specs.Command.{is_known, is_opener, is_reset}
 use Rattle.onfi_cycle.specs.Lun.{luns_of}
 use Rattle.onfi_cycle.specs.Permitted.{broken, judge_item}
-use Rattle.onfi_cycle.specs.Rules.{is_undeclared, is_undeclared_address, breaks_not_there, breaks_command_unknown, breaks_command_misplaced, breaks_address_misplaced, breaks_input_misplaced}
-use Rattle.onfi_cycle.specs.Sequence.{target_cycle, begins_sequence, continued, with_cycle, tail, facts_of, wants_command, wants_address, takes_inputs}
+use Rattle.onfi_cycle.specs.Rules.{is_undeclared, is_undeclared_address, breaks_not_there, breaks_command_unknown, breaks_sequence_open, breaks_command_misplaced, breaks_address_misplaced, breaks_input_misplaced}
+use Rattle.onfi_cycle.specs.Sequence.{target_cycle, begins_sequence, begins_anew, works_on_row, continued, with_cycle, tail, facts_of, wants_command, wants_address, takes_inputs, is_open}
 use Rattle.onfi_cycle.proofs.Others.{first_passed}
 use Rattle.trace_ops.specs.Laws.{without_outputs}
 
@@ -42,9 +43,16 @@ pub after_output : (t : List TargetCycle) → without_outputs (continued OutputC
 after_output [] = refl
 after_output (c ∷ t) = refl
 
--- a cycle that is no opener goes on with what is there
-pub goes_on : (cycle x : TargetCycle) (rest t : List TargetCycle) → begins_sequence cycle ≡ false → t ≡ x ∷ rest → with_cycle cycle t ≡ cycle ∷ (x ∷ rest)
+-- a cycle that is no opener, or is a 31h that the tail wants, goes on with what is there
+pub goes_on : (cycle x : TargetCycle) (rest t : List TargetCycle) → begins_anew (facts_of t) cycle ≡ false → t ≡ x ∷ rest → with_cycle cycle t ≡ cycle ∷ (x ∷ rest)
 goes_on cycle x rest t begins is = ap (λ b. cond b (cycle ∷ []) (continued cycle t)) begins ∙ ap (continued cycle) is
+
+-- what is no opener begins no tail anew
+pub no_opener_goes_on : (t : TailFacts) (cycle : TargetCycle) → begins_sequence cycle ≡ false → begins_anew t cycle ≡ false
+no_opener_goes_on t (CommandCycle c) h = ap (λ b. b && not (works_on_row t c)) h
+no_opener_goes_on t (AddressCycle byte) h = refl
+no_opener_goes_on t (InputCycle byte) h = refl
+no_opener_goes_on t OutputCycle h = refl
 
 -- ---- what a permitted cycle tells
 
@@ -70,6 +78,18 @@ wanted_command t c h opens = at (is_opener c) (wants_command t c) h opens
     at true y h opens = cc
     at false true h opens = refl
     at false false h opens = cc
+
+-- in the base profile no opener is permitted while a sequence is open
+pub base_shut : (g : Parts) (t : TailFacts) (c : Command) → g.optional ≡ no_optional → breaks_sequence_open g t (CommandCycle c) ≡ false → is_opener c ≡ true → is_open t ≡ false
+unfolding breaks_sequence_open
+base_shut g t c base h opens = at (is_opener c) (is_open t) (is_reset c || works_on_row t c) (is_wide g.optional) opens (ap is_wide base) h
+  where
+    at : (x o r w : Bool) → x ≡ true → w ≡ false → (x && (o && not (r && w))) ≡ false → o ≡ false
+    at x false r w p q h = refl
+    at true true true false p q h = cc
+    at true true false false p q h = cc
+    at true true r true p q h = cc
+    at false true r w p q h = cc
 
 pub wanted_address : (g : Parts) (t : TailFacts) (byte : ℕ) → breaks_address_misplaced g t (AddressCycle byte) ≡ false → wants_address t byte ≡ true
 unfolding breaks_address_misplaced

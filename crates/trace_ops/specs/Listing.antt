@@ -31,7 +31,7 @@ use Rattle.trace_ops.specs.declared.judged.Judged.{Judged}
 use Rattle.trace_ops.specs.declared.looks.Looks.{Looks}
 use Rattle.trace_ops.specs.declared.role.Role.{Role}
 use Rattle.trace_ops.specs.declared.role.Role.TheVariants as role
-use Rattle.trace_ops.specs.Operation.{is_permitted, begun, opener_of, is_byte, is_unknown, closes_as_known, is_foreign, is_alone, is_open_program, is_output, says_ready, changed_at, changed_if}
+use Rattle.trace_ops.specs.Operation.{is_permitted, begun, opener_of, is_byte, is_unknown, closes_as_known, is_foreign, is_alone, is_open_program, is_open_read, is_output, says_ready, changed_at, changed_if}
 
 -- ---- a look at the LUNs of a target
 
@@ -163,10 +163,18 @@ abbrev pub is_open_program_op : Option Operation → Bool
 is_open_program_op None = false
 is_open_program_op (Some o) = is_open_program o
 
--- a command begins an operation: an opener, one that isn't known but 15h, 32h and 35h, and 85h outside of a program
+abbrev pub is_open_read_op : Option Operation → Bool
+is_open_read_op None = false
+is_open_read_op (Some o) = is_open_read o
+
+-- a 31h behind the addresses of a read, which it closes
+abbrev pub closes_read : Option Operation → ℕ → Bool
+closes_read newest byte = byte == 0x31 && is_open_read_op newest
+
+-- a command begins an operation: an opener but a 31h that closes a read, one that isn't known but 15h, 32h and 35h, and 85h outside of a program
 abbrev pub begins_one : Option Operation → ℕ → Bool
 begins_one newest byte =
-    is_opener (command byte) || ((is_unknown byte && not (closes_as_known byte)) || (byte == 0x85 && not (is_open_program_op newest)))
+    (is_opener (command byte) && not (closes_read newest byte)) || ((is_unknown byte && not (closes_as_known byte)) || (byte == 0x85 && not (is_open_program_op newest)))
 
 -- a 00h alone that goes back to what a foreign one gives
 abbrev pub returns_to_foreign : List Operation → Option Operation → Bool

@@ -102,6 +102,10 @@ is_alone o = is_byte (opener_of o.beginning) 0 && (o.address_count == 0 && not (
 abbrev pub is_open_program : Operation → Bool
 is_open_program o = is_byte (opener_of o.beginning) 0x80 && not (is_some o.closer)
 
+-- a 00h with its five addresses that no command has closed
+abbrev pub is_open_read : Operation → Bool
+is_open_read o = is_byte (opener_of o.beginning) 0 && (o.address_count == 5 && not (is_some o.closer))
+
 -- ---- one cycle more
 
 -- a count stops at 2 ^ 64 - 1, which no trace reaches

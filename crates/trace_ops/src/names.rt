@@ -25,6 +25,7 @@ impl fmt::Display for OperationName {
 // The name of what begins with 00h.
 fn name_of_read(operation: Operation) -> &'static str {
     match operation.closer {
+        Some(0x31) => "read-cache-random",
         Some(0x32) => "read-plane",
         Some(0x35) => "copyback-read",
         Some(_) => "read",

@@ -1,6 +1,6 @@
 //! An operation of a trace: what its items are together.
 ghost use Rattle.std.specs.Prelude.{◌≡◌};
-ghost use Rattle.trace_ops.specs.Operation.{begun, opener_of, is_byte, is_unknown, closes_as_known, is_foreign_opener, is_foreign_closer, has_other_address, is_foreign, is_alone, is_open_program, one_more, closer_after, takes_address, with_address, with_byte, is_output, noted, with_end, says_ready, with_status, with_poll, is_permitted, is_clean};
+ghost use Rattle.trace_ops.specs.Operation.{begun, opener_of, is_byte, is_unknown, closes_as_known, is_foreign_opener, is_foreign_closer, has_other_address, is_foreign, is_alone, is_open_program, is_open_read, one_more, closer_after, takes_address, with_address, with_byte, is_output, noted, with_end, says_ready, with_status, with_poll, is_permitted, is_clean};
 
 use onfi_cycle::{Command, Kind, PageAddress};
 use trace_faults::Verdict;
@@ -233,6 +233,13 @@ impl Operation {
         ensures { result ≡ is_open_program self }
     {
         is_byte(self.opener(), 0x80) && self.closer.is_none()
+    }
+
+    /// It is a 00h with its five addresses that no command has closed.
+    pub(crate) fn is_open_read(self) -> bool
+        ensures { result ≡ is_open_read self }
+    {
+        is_byte(self.opener(), 0) && self.address_count == 5 && self.closer.is_none()
     }
 
     // Its closer, once this command has come.

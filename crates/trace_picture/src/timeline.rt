@@ -64,6 +64,51 @@ fn broken_by(said: Verdict) -> Option<Forbidden> {
     }
 }
 
+// How an item comes to the boxes of its target.
+#[derive(Clone, Copy, PartialEq, Eq)]
+enum Coming {
+    // It breaks a rule.
+    Broken,
+    // It begins a sequence.
+    Begins,
+    // It goes on with what is there.
+    GoesOn,
+}
+
+// A command goes on with the row that its target has got: of the openers 31h alone does, behind a 00h and its addresses.
+fn works_on_row(state: &BusState, ce: u8, command: Command) -> bool {
+    match state.tail(ce) {
+        None => false,
+        Some(tail) => tail.works_on_row(command),
+    }
+}
+
+// The item begins a sequence on a channel of this state.
+fn begins_sequence(state: &BusState, item: Item) -> bool {
+    match item {
+        Item::Cyc(
+            Cycle {
+                ce,
+                kind: Kind::Cmd,
+                byte,
+            },
+        ) => {
+            let command = Command::of(byte);
+            command.is_opener() && !works_on_row(state, ce, command)
+        }
+        Item::Cyc(_) | Item::Rdy { .. } | Item::Ard { .. } => false,
+    }
+}
+
+// How an item comes that breaks this rule or none, and begins a sequence or doesn't.
+fn coming_by(rule: Option<Forbidden>, begins: bool) -> Coming {
+    match rule {
+        Some(_) => Coming::Broken,
+        None if begins => Coming::Begins,
+        None => Coming::GoesOn,
+    }
+}
+
 // Puts an entry at a place, if there is one.
 fn set_entry(entries: &mut [Option<usize>], place: usize, entry: Option<usize>) {
     if place < entries.len() {
@@ -203,7 +248,14 @@ impl<A: Allocator> Timeline<A> {
         }
     }
 
-    // Adds a cycle that breaks no rule; the lane of its target then.
+    // Adds a cycle that begins a sequence; the lane of its target then.
+    fn draw_opener(&mut self, cycle: Cycle, item: usize) -> Result<Lane, AllocError> {
+        let command = Command::of(cycle.byte);
+        let place = self.begin(cycle.ce, Label::of_opener(command), item)?;
+        Ok(Lane::begun(place, command))
+    }
+
+    // Adds a cycle that goes on with what is there; the lane of its target then.
     fn draw_cycle(
         &mut self,
         geometry: &Geometry,
@@ -214,14 +266,7 @@ impl<A: Allocator> Timeline<A> {
         let Cycle { ce, kind, byte } = cycle;
         let label = self.label_of(lane);
         match kind {
-            Kind::Cmd => {
-                let command = Command::of(byte);
-                if command.is_opener() {
-                    let place = self.begin(ce, Label::of_opener(command), item)?;
-                    return Ok(Lane::begun(place, command));
-                }
-                self.extend(lane, ce, label, item)
-            }
+            Kind::Cmd => self.extend(lane, ce, label, item),
             Kind::Adr => {
                 let lane = lane.with_address(byte);
                 self.extend(lane, ce, lane.label(geometry, label), item)
@@ -254,37 +299,38 @@ impl<A: Allocator> Timeline<A> {
         Ok(Lane::begun(place, Command::Unknown))
     }
 
-    // Adds a cycle, which breaks this rule or none.
+    // Adds a cycle, which comes so.
     fn draw_cycle_of(
         &mut self,
         running: &mut Running,
         geometry: &Geometry,
         cycle: Cycle,
         item: usize,
-        rule: Option<Forbidden>,
+        coming: Coming,
     ) -> Result<(), AllocError> {
         let at = usize::from(cycle.ce);
         if at < 4 {
-            running.lanes[at] = match rule {
-                None => self.draw_cycle(geometry, running.lanes[at], cycle, item)?,
-                Some(_) => self.draw_broken(cycle.ce, item)?,
+            running.lanes[at] = match coming {
+                Coming::Broken => self.draw_broken(cycle.ce, item)?,
+                Coming::Begins => self.draw_opener(cycle, item)?,
+                Coming::GoesOn => self.draw_cycle(geometry, running.lanes[at], cycle, item)?,
             };
         }
         Ok(())
     }
 
-    // Adds an item, which breaks this rule or none.
+    // Adds an item, which comes so.
     fn draw_item(
         &mut self,
         running: &mut Running,
         geometry: &Geometry,
         item: Item,
         place: usize,
-        rule: Option<Forbidden>,
+        coming: Coming,
     ) -> Result<(), AllocError> {
         match item {
-            Item::Cyc(cycle) => self.draw_cycle_of(running, geometry, cycle, place, rule),
-            Item::Rdy { ce, lun, fail } if fail && rule.is_none() => {
+            Item::Cyc(cycle) => self.draw_cycle_of(running, geometry, cycle, place, coming),
+            Item::Rdy { ce, lun, fail } if fail && coming != Coming::Broken => {
                 self.failures.push(Failure {
                     ce,
                     lun,
@@ -305,12 +351,14 @@ impl<A: Allocator> Timeline<A> {
         later: &[Item],
         place: usize,
     ) -> Result<(), AllocError> {
+        let begins = begins_sequence(&judge.state.bus, item);
         let rule = broken_by(judge.take(Readies::Written, item, later));
         if let Some(rule) = rule {
             self.broken.push(Broken { item: place, rule })?;
         }
         let geometry = judge.state.bus.geometry();
-        self.draw_item(running, &geometry, item, place, rule)?;
+        let coming = coming_by(rule, begins);
+        self.draw_item(running, &geometry, item, place, coming)?;
         self.look_at_all(running, &judge.state.bus, item.target(), place)
     }
 
