@@ -1,3 +1,4 @@
+use nand_geometry::Profile;
 use std::alloc::Global;
 use std::process::Abort;
 use std::test::Fail;
@@ -31,9 +32,9 @@ const REFUSED: [(&str, VendorFault, usize); 24] = [
     ("da x\n", VendorFault::BadForm, 1),
 ];
 
-// What is wrong with a file, if something is.
-fn fault_of(alloc: Global, text: &str) -> Result<Option<VendorFileFault>, Fail> {
-    match read_sequences(alloc, text) {
+// What is wrong with a file for a profile, if something is.
+fn fault_of(alloc: Global, profile: Profile, text: &str) -> Result<Option<VendorFileFault>, Fail> {
+    match read_sequences(alloc, profile, text) {
         Ok(_) => Ok(None),
         Err(VendorRefusal::Fault(fault)) => Ok(Some(fault)),
         Err(VendorRefusal::OutOfMemory) => Err(Fail::from("out of memory")),
@@ -47,7 +48,7 @@ fn try_refused(
     fault: VendorFault,
     line: usize,
 ) -> Result<(), Fail> {
-    let found = fault_of(alloc, text)?;
+    let found = fault_of(alloc, Profile::Base, text)?;
     assert!(rt; found == Some(VendorFileFault { fault, line }), "{text:?}");
     Ok(())
 }
@@ -75,9 +76,34 @@ const STEPS: [Step; 9] = [
 
 #[test]
 fn taken(rt: HostRuntime) -> Result<(), Fail> {
-    let steps = read_sequences(rt.alloc(), "36\tA I2 16 ; reads again\n\n  90 A=00 O* R")?;
+    let text = "36\tA I2 16 ; reads again\n\n  90 A=00 O* R";
+    let steps = read_sequences(rt.alloc(), Profile::Base, text)?;
     assert!(rt; steps.as_slice() == STEPS.as_slice());
-    let steps = read_sequences(rt.alloc(), linux())?;
+    let steps = read_sequences(rt.alloc(), Profile::Base, linux(Profile::Base))?;
     assert_eq!(rt; steps.len(), 22);
+    let steps = read_sequences(rt.alloc(), Profile::Onfi, linux(Profile::Onfi))?;
+    assert_eq!(rt; steps.len(), 3);
+    Ok(())
+}
+
+// Commands and addresses of the wider profile, which the base profile lacks: the fault of each line there.
+const KNOWN: [(&str, Option<VendorFault>); 5] = [
+    ("ef A I4\n", Some(VendorFault::KnownCommand)),
+    ("ed A O*\n", Some(VendorFault::KnownCommand)),
+    ("90 A=40 O*\n", Some(VendorFault::KnownCommand)),
+    ("90 A=21 O*\n", None),
+    ("da\n", None),
+];
+
+#[test]
+fn refused_in_the_wider_profile(rt: HostRuntime) -> Result<(), Fail> {
+    for (text, fault) in KNOWN {
+        let found = fault_of(rt.alloc(), Profile::Onfi, text)?;
+        assert_eq!(rt; found.map(|found| found.fault), fault, "{text}");
+        assert!(rt;
+            fault_of(rt.alloc(), Profile::Base, text)?.is_none(),
+            "{text}"
+        );
+    }
     Ok(())
 }

@@ -1,4 +1,4 @@
-use nand_geometry::{Geometry, SMALL_CHIP};
+use nand_geometry::{Geometry, Profile, SMALL_CHIP};
 use onfi_cycle::{Forbidden, Item};
 use std::alloc::Global;
 use std::process::Abort;
@@ -257,7 +257,7 @@ fn faults_of(alloc: Global, row: Row, passed: &Passed<Global>) -> Result<Vec<Bro
 
 // What a row comes to: its first fault, and how much is passed over.
 fn told_of(alloc: Global, row: Row) -> Result<(Option<(usize, Forbidden)>, usize, usize), Fail> {
-    let steps = read_sequences(alloc, row.file)?;
+    let steps = read_sequences(alloc, Profile::Base, row.file)?;
     let items = parse(alloc, row.trace)?;
     let passed = passed_of(alloc, row, steps.as_slice(), items.as_slice())?;
     let faults = faults_of(alloc, row, &passed)?;

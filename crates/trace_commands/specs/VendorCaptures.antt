@@ -54,7 +54,7 @@ pub record IsKeptShownFor (files : Option Store) (request : VendorCaptureRequest
   pub g : Parts
   pub has_page : HasPageAs files request.capture.profile request.capture.page.now g
   pub steps : List Step
-  pub has_sequences : HasSequences files request.vendor.now steps
+  pub has_sequences : HasSequences files request.capture.profile request.vendor.now steps
   pub setup : Setup
   pub is_setup : IsSetup request.capture g setup
   pub shown : IsKeptShown files request.capture setup steps made
@@ -85,11 +85,11 @@ pub record KeptIsRefused (files : Option Store) (request : VendorCaptureRequest)
   pub g : Parts
   pub has_page : HasPageAs files request.capture.profile request.capture.page.now g
   pub steps : List Step
-  pub has_sequences : HasSequences files request.vendor.now steps
+  pub has_sequences : HasSequences files request.capture.profile request.vendor.now steps
   pub setup : Setup
   pub is_setup : IsSetup request.capture g setup
   pub refused : KeptRefuses files request.capture setup steps fault
 
 -- what is wrong with the vendor file or the capture
 abbrev pub VendorCaptureIsRefused : Option Store → VendorCaptureRequest → RecordingFault → Type 0
-VendorCaptureIsRefused files request fault = VendorIsRefused files request.vendor.now fault ⊎ KeptIsRefused files request fault
+VendorCaptureIsRefused files request fault = VendorIsRefused files request.capture.profile request.vendor.now fault ⊎ KeptIsRefused files request fault

@@ -3,6 +3,7 @@ use Rattle.std.specs.Prelude.{◌≡◌, ◌⊎◌, [], ◌∷◌, ℕ, true, fa
 use Rattle.std.specs.Str.{bytes_eq}
 use Rattle.seq_files.specs.Store.{Store, Holds}
 use Rattle.nand_geometry.specs.declared.parts.Parts.{Parts}
+use Rattle.nand_geometry.specs.declared.optional.Profile.{Profile}
 use Rattle.onfi_cycle.specs.declared.item.Item.{Item}
 use Rattle.onfi_cycle.specs.Permitted.{is_legal}
 use Rattle.trace_text.specs.Forms.{IsTraceText}
@@ -27,25 +28,25 @@ use Rattle.trace_commands.specs.Checks.{told_of, judged_trace, legal_text, fault
 abbrev pub is_linux : List ℕ → Bool
 is_linux path = bytes_eq path (codes "linux")
 
--- the text of a vendor file: the one that is built in, or that at the path
-abbrev pub IsVendorText : Option Store → (path text : List ℕ) → Type 0
-IsVendorText files path text = ((is_linux path ≡ true) × (text ≡ linux)) ⊎ ((is_linux path ≡ false) × Holds files path text)
+-- the text of a vendor file: the one that is built in for the profile, or that at the path
+abbrev pub IsVendorText : Option Store → Profile → (path text : List ℕ) → Type 0
+IsVendorText files profile path text = ((is_linux path ≡ true) × (text ≡ linux profile)) ⊎ ((is_linux path ≡ false) × Holds files path text)
 
--- its sequences
-pub record HasSequences (files : Option Store) (path : List ℕ) (steps : List Step) : Type 0 where
+-- its sequences for a profile
+pub record HasSequences (files : Option Store) (profile : Profile) (path : List ℕ) (steps : List Step) : Type 0 where
   pub text : List ℕ
-  pub is_text : IsVendorText files path text
-  pub is_read : sequences_in text ≡ Ok steps
+  pub is_text : IsVendorText files profile path text
+  pub is_read : sequences_in profile text ≡ Ok steps
 
 -- its first fault
-abbrev pub RefusesVendor : List ℕ → RecordingFault → Type 0
-RefusesVendor text (Vendor fault line) = sequences_in text ≡ Err (record { fault = fault; line = line })
-RefusesVendor text _ = ⊥
+abbrev pub RefusesVendor : Profile → List ℕ → RecordingFault → Type 0
+RefusesVendor profile text (Vendor fault line) = sequences_in profile text ≡ Err (record { fault = fault; line = line })
+RefusesVendor profile text _ = ⊥
 
-pub record VendorIsRefused (files : Option Store) (path : List ℕ) (fault : RecordingFault) : Type 0 where
+pub record VendorIsRefused (files : Option Store) (profile : Profile) (path : List ℕ) (fault : RecordingFault) : Type 0 where
   pub text : List ℕ
-  pub is_text : IsVendorText files path text
-  pub refuses : RefusesVendor text fault
+  pub is_text : IsVendorText files profile path text
+  pub refuses : RefusesVendor profile text fault
 
 -- ---- what is judged
 
@@ -84,7 +85,7 @@ pub record IsJudgedVendor (files later : Option Store) (request : VendorCheckReq
   pub g : Parts
   pub has_page : HasPageAs files request.check.profile request.check.page.now g
   pub steps : List Step
-  pub has_sequences : HasSequences files request.vendor.now steps
+  pub has_sequences : HasSequences files request.check.profile request.vendor.now steps
   pub text : List ℕ
   pub is_there : Holds files request.check.input.now text
   pub judged : IsJudgedVendorText files later request.check g steps text told assumed
@@ -110,7 +111,7 @@ pub record IsVendorFaulty (files later : Option Store) (request : VendorCheckReq
 -- the vendor file or the text of the trace is refused
 abbrev pub VendorTextIsRefused : Option Store → VendorCheckRequest → RecordingFault → Type 0
 VendorTextIsRefused files request fault =
-    VendorIsRefused files request.vendor.now fault ⊎ TraceIsRefused files request.check.form request.check.page.now request.check.input.now fault
+    VendorIsRefused files request.check.profile request.vendor.now fault ⊎ TraceIsRefused files request.check.form request.check.page.now request.check.input.now fault
 
 -- what such a check finds wrong, and what it prints and leaves then
 abbrev pub VendorCheckRefuses : (files later : Option Store) → VendorCheckRequest → RecordingFault → (printed : List ℕ) → Type 0

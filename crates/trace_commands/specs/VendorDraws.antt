@@ -20,7 +20,7 @@ pub record IsVendorDrawn (files later : Option Store) (request : VendorDrawReque
   pub g : Parts
   pub has_page : HasPageAs files request.draw.profile request.draw.page.now g
   pub steps : List Step
-  pub has_sequences : HasSequences files request.vendor.now steps
+  pub has_sequences : HasSequences files request.draw.profile request.vendor.now steps
   pub text : List ℕ
   pub is_there : Holds files request.draw.input.now text
   pub items : List Item
@@ -32,4 +32,4 @@ pub record IsVendorDrawn (files later : Option Store) (request : VendorDrawReque
 -- the vendor file or the text of the trace is refused
 abbrev pub VendorDrawIsRefused : Option Store → VendorDrawRequest → RecordingFault → Type 0
 VendorDrawIsRefused files request fault =
-    VendorIsRefused files request.vendor.now fault ⊎ TraceIsRefused files request.draw.lines request.draw.page.now request.draw.input.now fault
+    VendorIsRefused files request.draw.profile request.vendor.now fault ⊎ TraceIsRefused files request.draw.lines request.draw.page.now request.draw.input.now fault

@@ -149,7 +149,7 @@ fn show_kept_at<'p, A: Allocator + Clone, F: Files>(
 {
     let capture = request.capture;
     let geometry = geometry_as(alloc.clone()?, files, capture.profile, capture.page)?;
-    let steps = match sequences_at(alloc.clone()?, files, request.vendor) {
+    let steps = match sequences_at(alloc.clone()?, files, capture.profile, request.vendor) {
         Ok(steps) => steps,
         Err(stop) => return Err(stop),
     };

@@ -228,7 +228,7 @@ fn check_vendor_at<'p, A: Allocator + Clone, F: Files>(
 {
     let check = request.check;
     let geometry = geometry_as(alloc.clone()?, files, check.profile, check.page)?;
-    let steps = match sequences_at(alloc.clone()?, files, request.vendor) {
+    let steps = match sequences_at(alloc.clone()?, files, check.profile, request.vendor) {
         Ok(steps) => steps,
         Err(stop) => return Err(stop),
     };

@@ -92,7 +92,7 @@ fn draw_vendor_at<'p, A: Allocator + Clone, F: Files>(
 {
     let draw = request.draw;
     let geometry = geometry_as(alloc.clone()?, files, draw.profile, draw.page)?;
-    let steps = match sequences_at(alloc.clone()?, files, request.vendor) {
+    let steps = match sequences_at(alloc.clone()?, files, draw.profile, request.vendor) {
         Ok(steps) => steps,
         Err(stop) => return Err(stop),
     };

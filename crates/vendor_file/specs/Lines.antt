@@ -2,10 +2,12 @@
 use Rattle.std.specs.Prelude.{ℕ, ◌+◌, ◌==◌, ◌&&◌, ◌||◌, not, Bool, true, false, if◌then◌else◌, List, [], ◌∷◌, ◌++◌, replicate, Option, Some, None, Result, Ok, Err}
 use Rattle.micro_asm.specs.Line.{fields, before_comment}
 use Rattle.micro_asm.specs.Reading.{lines}
-use Rattle.onfi_cycle.specs.Command.{command, takes_address}
+use Rattle.nand_geometry.specs.declared.optional.Profile.{Profile}
+use Rattle.nand_geometry.specs.declared.optional.Profile.TheVariants.{Base, Onfi}
+use Rattle.onfi_cycle.specs.Command.{command, is_known, takes_address}
 use Rattle.onfi_cycle.specs.Base.{is_of_base}
 use Rattle.onfi_cycle.specs.declared.command.Command.{Command as Named}
-use Rattle.onfi_cycle.specs.declared.command.Command.TheVariants.{ReadId, ReadParameterPage}
+use Rattle.onfi_cycle.specs.declared.command.Command.TheVariants.{ReadId}
 use Rattle.vendor_file.specs.declared.fault.VendorFault.{VendorFault}
 use Rattle.vendor_file.specs.declared.fault.VendorFault.TheVariants.{BadForm, KnownCommand, Twice}
 use Rattle.vendor_file.specs.declared.fault.VendorFileFault.{VendorFileFault}
@@ -56,59 +58,59 @@ sequence_by (Some byte) words = steps_from (begun_by byte) words
 
 -- ---- what may begin one
 
--- the command is one of the base profile, declared or not
-abbrev pub is_profile : ℕ → Bool
-is_profile byte = is_of_base (command byte)
+-- the command is one of the profile, declared or not
+abbrev pub is_profile : Profile → ℕ → Bool
+is_profile Base byte = is_of_base (command byte)
+is_profile Onfi byte = is_known (command byte)
 
--- an address that the base profile hasn't of 90 or EC
-abbrev pub is_other : Named → ℕ → Bool
-is_other ReadId byte = not (byte == 0x20)
-is_other ReadParameterPage byte = not (takes_address ReadParameterPage byte)
-is_other _ byte = false
+-- an address that the profile hasn't of 90, EC or ED
+abbrev pub is_other : Profile → Named → ℕ → Bool
+is_other Base ReadId byte = not (byte == 0x20)
+is_other profile c byte = not (takes_address c byte)
 
-abbrev pub begins_otherwise : Named → List Step → Bool
-begins_otherwise c (Address byte ∷ steps) = is_other c byte
-begins_otherwise c _ = false
+abbrev pub begins_otherwise : Profile → Named → List Step → Bool
+begins_otherwise profile c (Address byte ∷ steps) = is_other profile c byte
+begins_otherwise profile c _ = false
 
--- a command of the base profile begins none but with such an address
-abbrev pub is_free : List Step → Bool
-is_free (Begin byte ∷ steps) = not (is_profile byte) || begins_otherwise (command byte) steps
-is_free _ = false
+-- a command of the profile begins none but with such an address
+abbrev pub is_free : Profile → List Step → Bool
+is_free profile (Begin byte ∷ steps) = not (is_profile profile byte) || begins_otherwise profile (command byte) steps
+is_free profile _ = false
 
 abbrev pub is_same_address : (first second : List Step) → Bool
 is_same_address (Address a ∷ first) (Address b ∷ second) = a == b
 is_same_address _ _ = false
 
 -- two sequences begin with one command, and where that is one of the profile's with one address
-abbrev pub begin_alike : (first second : List Step) → Bool
-begin_alike (Begin a ∷ first) (Begin b ∷ second) = a == b && (not (is_profile a) || is_same_address first second)
-begin_alike _ _ = false
+abbrev pub begin_alike : Profile → (first second : List Step) → Bool
+begin_alike profile (Begin a ∷ first) (Begin b ∷ second) = a == b && (not (is_profile profile a) || is_same_address first second)
+begin_alike profile _ _ = false
 
-abbrev pub stands_in : (line before : List Step) → Bool
-stands_in line [] = false
-stands_in line (step ∷ before) = begin_alike line (step ∷ before) || stands_in line before
+abbrev pub stands_in : Profile → (line before : List Step) → Bool
+stands_in profile line [] = false
+stands_in profile line (step ∷ before) = begin_alike profile line (step ∷ before) || stands_in profile line before
 
 -- ---- all lines
 
 -- a sequence after those before it
-abbrev pub placed : List Step → Result (List Step) VendorFault → Result (List Step) VendorFault
-placed before (Err fault) = Err fault
-placed before (Ok line) = if is_free line then (if stands_in line before then Err Twice else Ok (before ++ line)) else Err KnownCommand
+abbrev pub placed : Profile → List Step → Result (List Step) VendorFault → Result (List Step) VendorFault
+placed profile before (Err fault) = Err fault
+placed profile before (Ok line) = if is_free profile line then (if stands_in profile line before then Err Twice else Ok (before ++ line)) else Err KnownCommand
 
 -- the words of a line after the sequences before it
-abbrev pub line_after : List Step → List (List ℕ) → Result (List Step) VendorFault
-line_after before [] = Ok before
-line_after before (first ∷ words) = placed before (sequence_by (byte_of first) words)
+abbrev pub line_after : Profile → List Step → List (List ℕ) → Result (List Step) VendorFault
+line_after profile before [] = Ok before
+line_after profile before (first ∷ words) = placed profile before (sequence_by (byte_of first) words)
 
 abbrev pub with_line : ℕ → Result (List Step) VendorFault → (List Step → Result (List Step) VendorFileFault) → Result (List Step) VendorFileFault
 with_line n (Ok steps) later = later steps
 with_line n (Err fault) later = Err (record { fault = fault; line = n })
 
 -- lines from number n on, after these sequences
-abbrev pub read_from : ℕ → List Step → List (List ℕ) → Result (List Step) VendorFileFault
-read_from n before [] = Ok before
-read_from n before (line ∷ more) = with_line n (line_after before (fields (before_comment line))) (λ steps. read_from (n + 1) steps more)
+abbrev pub read_from : Profile → ℕ → List Step → List (List ℕ) → Result (List Step) VendorFileFault
+read_from profile n before [] = Ok before
+read_from profile n before (line ∷ more) = with_line n (line_after profile before (fields (before_comment line))) (λ steps. read_from profile (n + 1) steps more)
 
--- a whole file
-abbrev pub sequences_in : List ℕ → Result (List Step) VendorFileFault
-sequences_in text = read_from 1 [] (lines text)
+-- a whole file, for a profile
+abbrev pub sequences_in : Profile → List ℕ → Result (List Step) VendorFileFault
+sequences_in profile text = read_from profile 1 [] (lines text)

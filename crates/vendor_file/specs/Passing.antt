@@ -1,6 +1,9 @@
 -- Which items of a trace belong to a vendor's sequences.
 use Rattle.std.specs.Prelude.{ℕ, ◌+◌, ◌==◌, ◌&&◌, ◌||◌, not, nat_lt, Bool, true, false, if◌then◌else◌, List, [], ◌∷◌, length, replicate, get_or, slice_set, Option, Some, None}
 use Rattle.nand_geometry.specs.declared.parts.Parts.{Parts}
+use Rattle.nand_geometry.specs.declared.optional.Profile.{Profile}
+use Rattle.nand_geometry.specs.declared.optional.Profile.TheVariants.{Base, Onfi}
+use Rattle.nand_geometry.specs.Optional.{is_wide}
 use Rattle.onfi_cycle.specs.declared.item.Item.{Item}
 use Rattle.onfi_cycle.specs.declared.item.Item.TheVariants.{Cyc, Rdy, Ard}
 use Rattle.onfi_cycle.specs.declared.item.Cycle.{Cycle}
@@ -113,18 +116,22 @@ abbrev pub begins_with : Option ℕ → List Step → Bool
 begins_with next (Address byte ∷ steps) = is_next next byte
 begins_with next _ = false
 
+-- the profile that a chip is read for
+abbrev pub profile_of : Parts → Profile
+profile_of g = if is_wide g.optional then Onfi else Base
+
 -- this command begins the sequence at the front, and where it is one of the profile's, the address that comes next
-abbrev pub is_begun : (byte : ℕ) → (next : Option ℕ) → List Step → Bool
-is_begun byte next (Begin first ∷ steps) = first == byte && (not (is_profile byte) || begins_with next steps)
-is_begun byte next _ = false
+abbrev pub is_begun : Profile → (byte : ℕ) → (next : Option ℕ) → List Step → Bool
+is_begun profile byte next (Begin first ∷ steps) = first == byte && (not (is_profile profile byte) || begins_with next steps)
+is_begun profile byte next _ = false
 
 -- the place of the first step of the sequence that is begun so, of which the first has number n
-abbrev pub first_step : (n byte : ℕ) → (next : Option ℕ) → List Step → Option ℕ
-first_step n byte next [] = None
-first_step n byte next (step ∷ steps) = if is_begun byte next (step ∷ steps) then Some (n + 1) else first_step (n + 1) byte next steps
+abbrev pub first_step : Profile → (n byte : ℕ) → (next : Option ℕ) → List Step → Option ℕ
+first_step profile n byte next [] = None
+first_step profile n byte next (step ∷ steps) = if is_begun profile byte next (step ∷ steps) then Some (n + 1) else first_step profile (n + 1) byte next steps
 
-abbrev pub begun_at : List Step → Cycle → (later : List Item) → Option ℕ
-begun_at steps c later = if is_command c.kind then first_step 0 c.byte (next_address c.ce later) steps else None
+abbrev pub begun_at : Profile → List Step → Cycle → (later : List Item) → Option ℕ
+begun_at profile steps c later = if is_command c.kind then first_step profile 0 c.byte (next_address c.ce later) steps else None
 
 -- ---- what becomes of an item
 
@@ -145,29 +152,29 @@ begun_between bus ce (Some place) = if is_open bus ce then kept_in None else beg
 
 -- a cycle of a target that is in no sequence
 abbrev pub outside : List Step → BusView → Cycle → (later : List Item) → Part
-outside steps bus c later = begun_between bus c.ce (begun_at steps c later)
+outside steps bus c later = begun_between bus c.ce (begun_at (profile_of bus.geometry) steps c later)
 
 -- the rule that a cycle breaks that isn't next
-abbrev pub rule_of : Kind → ℕ → Forbidden
-rule_of Cmd byte = if is_profile byte then CommandMisplaced else CommandUnknown
-rule_of Adr byte = AddressMisplaced
-rule_of Din byte = InputMisplaced
-rule_of Dout byte = NoSoleDriver
+abbrev pub rule_of : Profile → Kind → ℕ → Forbidden
+rule_of profile Cmd byte = if is_profile profile byte then CommandMisplaced else CommandUnknown
+rule_of profile Adr byte = AddressMisplaced
+rule_of profile Din byte = InputMisplaced
+rule_of profile Dout byte = NoSoleDriver
 
 abbrev pub opens : Cycle → Option ℕ → Bool
 opens c None = begins_sequence (target_cycle c.kind c.byte)
 opens c (Some place) = true
 
 -- a cycle that isn't next: what begins a sequence drops the one that it comes in, and all else is as if it hadn't come
-abbrev pub broken_by : Cycle → ℕ → (begun : Option ℕ) → Part
-broken_by c place begun =
-    if opens c begun then record (begun_by begun) { rule = Some SequenceOpen } else record { rule = Some (rule_of c.kind c.byte); is_kept = false; begins = false; place = Some place }
+abbrev pub broken_by : Profile → Cycle → ℕ → (begun : Option ℕ) → Part
+broken_by profile c place begun =
+    if opens c begun then record (begun_by begun) { rule = Some SequenceOpen } else record { rule = Some (rule_of profile c.kind c.byte); is_kept = false; begins = false; place = Some place }
 
 -- a cycle of a target that is at this place
 abbrev pub inside : List Step → BusView → ℕ → Cycle → (later : List Item) → Part
 inside steps bus place c later =
     if wants (step_at steps place) c then passed (place_on steps place) else (
-    if may_end (step_at steps place) then outside steps bus c later else broken_by c place (begun_at steps c later))
+    if may_end (step_at steps place) then outside steps bus c later else broken_by (profile_of bus.geometry) c place (begun_at (profile_of bus.geometry) steps c later))
 
 abbrev pub part_of_cycle : List Step → BusView → Option ℕ → Cycle → (later : List Item) → Part
 part_of_cycle steps bus None c later = outside steps bus c later

@@ -1,5 +1,6 @@
 -- What reading answers, in memory.
 use Rattle.std.specs.Prelude.{◌≡◌, ⊤, ℕ, List, Result, Ok, Err}
+use Rattle.nand_geometry.specs.declared.optional.Profile.{Profile}
 use Rattle.micro_asm.specs.Line.{fields, before_comment}
 use Rattle.vendor_file.specs.declared.fault.VendorFault.{VendorFault}
 use Rattle.vendor_file.specs.declared.reading.LineStop.{LineStop}
@@ -16,6 +17,6 @@ IsRefusalOf (Fault f) result = result ≡ Err f
 IsRefusalOf OutOfMemory result = ⊤
 
 -- a line is added to the sequences before it, or it is at fault
-abbrev pub IsLine : {U : Type 0} → List Step → List ℕ → Result U LineStop → List Step → Type 0
-IsLine before line (Ok u) after = line_after before (fields (before_comment line)) ≡ Ok after
-IsLine before line (Err stop) after = IsRefusalOf stop (line_after before (fields (before_comment line)))
+abbrev pub IsLine : {U : Type 0} → Profile → List Step → List ℕ → Result U LineStop → List Step → Type 0
+IsLine profile before line (Ok u) after = line_after profile before (fields (before_comment line)) ≡ Ok after
+IsLine profile before line (Err stop) after = IsRefusalOf stop (line_after profile before (fields (before_comment line)))

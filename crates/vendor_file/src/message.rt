@@ -25,7 +25,7 @@ fn advice(fault: VendorFault) -> &'static str {
             "a line is the byte of a command, as `ef`, and then its steps: a byte, `A`, `A4`, `A=01`, `I`, `I4`, `I*`, `O`, `O4`, `O*`, and last `R`"
         }
         VendorFault::KnownCommand => {
-            "the profile has this command: only `90` and `ec` may begin a line, with an address of their own, as `90 A=00 O*`"
+            "the profile has this command, which begins a line only with an address that the profile hasn't, as `ec A=40 O*`"
         }
         VendorFault::Twice => "a line before it begins with the same command",
     }

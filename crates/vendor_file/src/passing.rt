@@ -2,12 +2,12 @@
 ghost use Rattle.std.specs.Prelude.{◌≡◌, ◌≤◌, ◌+◌, slice_set};
 ghost use Rattle.onfi_cycle.specs.Sequence.{target_of};
 ghost use Rattle.onfi_cycle.specs.State.{judged};
-ghost use Rattle.vendor_file.specs.Passing.{step_at, place_after, place_of, is_command, is_address, is_input, is_output, wants, may_end, place_on, is_sequence_open, is_open, address_in, cycle_on, next_address, is_next, begins_with, is_begun, first_step, begun_at, kept_in, passed, begun_by, outside, rule_of, opens, broken_by, inside, part_of_cycle, ready_place, ready_on, is_idle, passed_ready, part_of_ready, part_of, state_after, after_part, beginning};
+ghost use Rattle.vendor_file.specs.Passing.{step_at, place_after, place_of, is_command, is_address, is_input, is_output, wants, may_end, place_on, is_sequence_open, is_open, address_in, cycle_on, next_address, is_next, begins_with, profile_of, is_begun, first_step, begun_at, kept_in, passed, begun_by, outside, rule_of, opens, broken_by, inside, part_of_cycle, ready_place, ready_on, is_idle, passed_ready, part_of_ready, part_of, state_after, after_part, beginning};
 
 use crate::part::Part;
 use crate::reading::is_profile;
 use crate::step::Step;
-use nand_geometry::Geometry;
+use nand_geometry::{Geometry, Profile};
 use onfi_cycle::{BusState, Cycle, Forbidden, Item, Kind, Lun, LunState, TargetCycle};
 use trace_faults::{Readies, TraceState};
 
@@ -175,26 +175,37 @@ fn begins_with(next: Option<u8>, steps: &[Step]) -> bool
     }
 }
 
+// The profile that the chip of a channel is read for.
+fn profile_of(bus: &BusState) -> Profile
+    ensures { result ≡ profile_of bus.now.geometry }
+{
+    if bus.geometry().parts().optional.is_wide() {
+        Profile::Onfi
+    } else {
+        Profile::Base
+    }
+}
+
 // The sequence at the front of these steps is begun by this command.
-fn is_begun(byte: u8, next: Option<u8>, steps: &[Step]) -> bool
-    ensures { result ≡ is_begun byte next steps.now }
+fn is_begun(profile: Profile, byte: u8, next: Option<u8>, steps: &[Step]) -> bool
+    ensures { result ≡ is_begun profile byte next steps.now }
 {
     match steps {
         [Step::Begin(first), others @ ..] => {
-            *first == byte && (!is_profile(byte) || begins_with(next, others))
+            *first == byte && (!is_profile(profile, byte) || begins_with(next, others))
         }
         _ => false,
     }
 }
 
 // The place of the first step of the sequence that a command begins.
-fn first_step(byte: u8, next: Option<u8>, steps: &[Step]) -> Option<usize>
-    ensures { result ≡ first_step 0 byte next steps.now }
+fn first_step(profile: Profile, byte: u8, next: Option<u8>, steps: &[Step]) -> Option<usize>
+    ensures { result ≡ first_step profile 0 byte next steps.now }
 {
     let mut place = 0;
     let mut rest = steps;
     'rest: while let [_, after @ ..] = rest {
-        if is_begun(byte, next, rest) {
+        if is_begun(profile, byte, next, rest) {
             return Some(place + 1);
         }
         place += 1;
@@ -203,11 +214,11 @@ fn first_step(byte: u8, next: Option<u8>, steps: &[Step]) -> Option<usize>
     None
 }
 
-fn begun_at(steps: &[Step], cycle: Cycle, later: &[Item]) -> Option<usize>
-    ensures { result ≡ begun_at steps.now cycle later.now }
+fn begun_at(profile: Profile, steps: &[Step], cycle: Cycle, later: &[Item]) -> Option<usize>
+    ensures { result ≡ begun_at profile steps.now cycle later.now }
 {
     if is_command(cycle.kind) {
-        first_step(cycle.byte, next_address(cycle.ce, later), steps)
+        first_step(profile, cycle.byte, next_address(cycle.ce, later), steps)
     } else {
         None
     }
@@ -255,7 +266,7 @@ impl Part {
 fn outside(steps: &[Step], bus: &BusState, cycle: Cycle, later: &[Item]) -> Part
     ensures { result ≡ outside steps.now bus.now cycle later.now }
 {
-    match begun_at(steps, cycle, later) {
+    match begun_at(profile_of(bus), steps, cycle, later) {
         None => Part::kept(None),
         Some(place) => {
             if is_open(bus, cycle.ce) {
@@ -268,12 +279,12 @@ fn outside(steps: &[Step], bus: &BusState, cycle: Cycle, later: &[Item]) -> Part
 }
 
 // The rule that a cycle breaks that isn't next.
-fn rule_of(kind: Kind, byte: u8) -> Forbidden
-    ensures { result ≡ rule_of kind byte }
+fn rule_of(profile: Profile, kind: Kind, byte: u8) -> Forbidden
+    ensures { result ≡ rule_of profile kind byte }
 {
     match kind {
         Kind::Cmd => {
-            if is_profile(byte) {
+            if is_profile(profile, byte) {
                 Forbidden::CommandMisplaced
             } else {
                 Forbidden::CommandUnknown
@@ -295,8 +306,8 @@ fn opens(cycle: Cycle, begun: Option<usize>) -> bool
 }
 
 // A cycle that isn't next.
-fn broken_by(cycle: Cycle, place: usize, begun: Option<usize>) -> Part
-    ensures { result ≡ broken_by cycle place begun }
+fn broken_by(profile: Profile, cycle: Cycle, place: usize, begun: Option<usize>) -> Part
+    ensures { result ≡ broken_by profile cycle place begun }
 {
     if opens(cycle, begun) {
         Part {
@@ -305,7 +316,7 @@ fn broken_by(cycle: Cycle, place: usize, begun: Option<usize>) -> Part
         }
     } else {
         Part {
-            rule: Some(rule_of(cycle.kind, cycle.byte)),
+            rule: Some(rule_of(profile, cycle.kind, cycle.byte)),
             is_kept: false,
             begins: false,
             place: Some(place),
@@ -324,7 +335,13 @@ fn inside(steps: &[Step], bus: &BusState, place: usize, cycle: Cycle, later: &[I
     if step.may_end() {
         return outside(steps, bus, cycle, later);
     }
-    broken_by(cycle, place, begun_at(steps, cycle, later))
+    let profile = profile_of(bus);
+    broken_by(
+        profile,
+        cycle,
+        place,
+        begun_at(profile, steps, cycle, later),
+    )
 }
 
 fn part_of_cycle(

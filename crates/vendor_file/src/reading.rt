@@ -10,6 +10,7 @@ use crate::fault::{VendorFault, VendorFileFault, VendorRefusal};
 use crate::step::Step;
 use crate::token::{Token, byte_of, token_of};
 use micro_asm::{before_comment, next_field, next_line};
+use nand_geometry::Profile;
 use onfi_cycle::Command;
 use std::alloc::{AllocError, Allocator};
 
@@ -118,40 +119,42 @@ fn steps_of<A: Allocator>(alloc: A, first: &[u8], words: &[u8]) -> Result<Vec<St
     }
 }
 
-/// The command is one of the base profile, declared or not.
-pub(crate) fn is_profile(byte: u8) -> bool
-    ensures { result ≡ is_profile byte }
+/// The command is one of the profile, declared or not.
+pub(crate) fn is_profile(profile: Profile, byte: u8) -> bool
+    ensures { result ≡ is_profile profile byte }
 {
-    Command::of(byte).is_of_base()
-}
-
-// An address that the base profile hasn't of 90 or EC.
-fn is_other(command: Command, byte: u8) -> bool
-    ensures { result ≡ is_other command byte }
-{
-    match command {
-        Command::ReadId => byte != 0x20,
-        Command::ReadParameterPage => !command.takes_address(byte),
-        _ => false,
+    match profile {
+        Profile::Base => Command::of(byte).is_of_base(),
+        Profile::Onfi => Command::of(byte).is_known(),
     }
 }
 
-fn begins_otherwise(command: Command, steps: &[Step]) -> bool
-    ensures { result ≡ begins_otherwise command steps.now }
+// An address that the profile hasn't of 90, EC or ED.
+fn is_other(profile: Profile, command: Command, byte: u8) -> bool
+    ensures { result ≡ is_other profile command byte }
+{
+    match (profile, command) {
+        (Profile::Base, Command::ReadId) => byte != 0x20,
+        _ => !command.takes_address(byte),
+    }
+}
+
+fn begins_otherwise(profile: Profile, command: Command, steps: &[Step]) -> bool
+    ensures { result ≡ begins_otherwise profile command steps.now }
 {
     match steps {
-        [Step::Address(byte), ..] => is_other(command, *byte),
+        [Step::Address(byte), ..] => is_other(profile, command, *byte),
         _ => false,
     }
 }
 
 // A command of the profile begins no sequence but with such an address.
-fn is_free(line: &[Step]) -> bool
-    ensures { result ≡ is_free line.now }
+fn is_free(profile: Profile, line: &[Step]) -> bool
+    ensures { result ≡ is_free profile line.now }
 {
     match line {
         [Step::Begin(byte), steps @ ..] => {
-            !is_profile(*byte) || begins_otherwise(Command::of(*byte), steps)
+            !is_profile(profile, *byte) || begins_otherwise(profile, Command::of(*byte), steps)
         }
         _ => false,
     }
@@ -170,13 +173,13 @@ fn is_same_address(first: &[Step], second: &[Step]) -> bool
 }
 
 // Two sequences begin with one command, and where that is one of the profile's with one address.
-fn begin_alike(first: &[Step], second: &[Step]) -> bool
-    ensures { result ≡ begin_alike first.now second.now }
+fn begin_alike(profile: Profile, first: &[Step], second: &[Step]) -> bool
+    ensures { result ≡ begin_alike profile first.now second.now }
 {
     match first {
         [Step::Begin(one), others @ ..] => match second {
             [Step::Begin(other), rest @ ..] => {
-                *one == *other && (!is_profile(*one) || is_same_address(others, rest))
+                *one == *other && (!is_profile(profile, *one) || is_same_address(others, rest))
             }
             _ => false,
         },
@@ -185,12 +188,12 @@ fn begin_alike(first: &[Step], second: &[Step]) -> bool
 }
 
 // A sequence that begins so is there.
-fn stands_in(line: &[Step], before: &[Step]) -> bool
-    ensures { result ≡ stands_in line.now before.now }
+fn stands_in(profile: Profile, line: &[Step], before: &[Step]) -> bool
+    ensures { result ≡ stands_in profile line.now before.now }
 {
     let mut rest = before;
     'rest: while let [_, after @ ..] = rest {
-        if begin_alike(line, rest) {
+        if begin_alike(profile, line, rest) {
             return true;
         }
         rest = after;
@@ -201,12 +204,13 @@ fn stands_in(line: &[Step], before: &[Step]) -> bool
 // Adds the sequence of a line that begins with this word, and goes on with these.
 fn push_sequence<A: Allocator + Clone>(
     alloc: &A,
+    profile: Profile,
     steps: &mut Vec<Step, A>,
     first: &[u8],
     words: &[u8],
 ) -> Result<(), LineStop>
-    ensures ok { OnOk result (line_after steps.old.items (first.now ∷ fields words.now) ≡ Ok steps.new.items) }
-    ensures err { IfErr result (λ e. IsRefusalOf e (line_after steps.old.items (first.now ∷ fields words.now))) }
+    ensures ok { OnOk result (line_after profile steps.old.items (first.now ∷ fields words.now) ≡ Ok steps.new.items) }
+    ensures err { IfErr result (λ e. IsRefusalOf e (line_after profile steps.old.items (first.now ∷ fields words.now))) }
 {
     let Ok(copy) = alloc.clone() else {
         return Err(LineStop::OutOfMemory);
@@ -215,10 +219,10 @@ fn push_sequence<A: Allocator + Clone>(
         Ok(line) => line,
         Err(stop) => return Err(stop),
     };
-    if !is_free(line.as_slice()) {
+    if !is_free(profile, line.as_slice()) {
         return Err(LineStop::Fault(VendorFault::KnownCommand));
     }
-    if stands_in(line.as_slice(), steps.as_slice()) {
+    if stands_in(profile, line.as_slice(), steps.as_slice()) {
         return Err(LineStop::Fault(VendorFault::Twice));
     }
     match steps.extend_from_slice(line.as_slice()) {
@@ -230,25 +234,27 @@ fn push_sequence<A: Allocator + Clone>(
 // Adds the sequence of a line, if it has one.
 fn push_line<A: Allocator + Clone>(
     alloc: &A,
+    profile: Profile,
     steps: &mut Vec<Step, A>,
     line: &[u8],
 ) -> Result<(), LineStop>
-    ensures { IsLine steps.old.items line.now result steps.new.items }
+    ensures { IsLine profile steps.old.items line.now result steps.new.items }
 {
     match next_field(before_comment(line)) {
         None => Ok(()),
-        Some((first, words)) => push_sequence(alloc, steps, first, words),
+        Some((first, words)) => push_sequence(alloc, profile, steps, first, words),
     }
 }
 
-/// The sequences of a vendor file, one after the other, each as its first command and its steps. A file that isn't of this form is refused by its first
+/// The sequences of a vendor file for a profile, one after the other, each as its first command and its steps. A file that isn't of this form is refused by its first
 /// faulty line; `OutOfMemory` is answered only where memory was refused.
 pub fn read_sequences<A: Allocator + Clone>(
     alloc: A,
+    profile: Profile,
     text: &str,
 ) -> Result<Vec<Step, A>, VendorRefusal>
-    ensures ok { IfOk result (λ steps. sequences_in text.now ≡ Ok steps.items) }
-    ensures fault { (fault : VendorFileFault) → result ≡ Err (VendorRefusal.Fault fault) → sequences_in text.now ≡ Err fault }
+    ensures ok { IfOk result (λ steps. sequences_in profile text.now ≡ Ok steps.items) }
+    ensures fault { (fault : VendorFileFault) → result ≡ Err (VendorRefusal.Fault fault) → sequences_in profile text.now ≡ Err fault }
 {
     let Ok(copy) = alloc.clone() else {
         return Err(VendorRefusal::OutOfMemory);
@@ -257,7 +263,7 @@ pub fn read_sequences<A: Allocator + Clone>(
     let mut rest = text.as_bytes();
     let mut number = 1;
     'lines: while let Some((line, after)) = next_line(rest) {
-        match push_line(&alloc, &mut steps, line) {
+        match push_line(&alloc, profile, &mut steps, line) {
             Ok(()) => {}
             Err(LineStop::Fault(fault)) => {
                 return Err(VendorRefusal::Fault(VendorFileFault {

@@ -6,7 +6,7 @@ use Rattle.vendor_file.proofs.reading.read_sequences.Given as goal
 abbrev pub invariant-lines : goal.invariant-lines
 invariant-lines g l = record {
   room : l.number + length l.rest ≤ length l.text + 1;
-  same : read_from l.number l.steps.items (lines l.rest) ≡ read_from 1 [] (lines l.text);
+  same : read_from l.profile l.number l.steps.items (lines l.rest) ≡ read_from l.profile 1 [] (lines l.text);
 }
 
 abbrev pub decreases-lines : goal.decreases-lines
