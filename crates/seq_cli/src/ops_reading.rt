@@ -112,7 +112,7 @@ fn read_block<'a>(matches: &ArgMatches<'a>) -> Result<Option<u32>, OpsMistake<'a
 }
 
 // The names of operations but for those of openers that have none.
-const KINDS: [&str; 31] = [
+const KINDS: [&str; 32] = [
     "column",
     "column-enhanced",
     "copyback-program",
@@ -132,6 +132,7 @@ const KINDS: [&str; 31] = [
     "read",
     "read-cache",
     "read-cache-end",
+    "read-cache-random",
     "read-plane",
     "ready",
     "reset",

@@ -4,21 +4,20 @@ use Rattle.std.proofs.lemmas.Bool.{and_parts}
 use Rattle.onfi_cycle.specs.declared.command.Command.{Command}
 use Rattle.onfi_cycle.specs.declared.command.Command.TheVariants.{Read, ChangeWriteColumn, ReadCacheSequential}
 use Rattle.onfi_cycle.specs.declared.data_phase.DataPhase.{DataPhase}
-use Rattle.onfi_cycle.specs.declared.data_phase.DataPhase.TheVariants.{Outside, Inputs, FirstColumn, SecondColumn, FeatureInputs}
+use Rattle.onfi_cycle.specs.declared.data_phase.DataPhase.TheVariants.{Outside, FirstColumn, SecondColumn}
 use Rattle.onfi_cycle.specs.declared.opening.Opening.{Opening}
-use Rattle.onfi_cycle.specs.declared.tail_facts.TailFacts.{TailFacts}
 use Rattle.onfi_cycle.specs.declared.target_cycle.TargetCycle.{TargetCycle}
 use Rattle.onfi_cycle.specs.declared.target_cycle.TargetCycle.TheVariants.{CommandCycle, AddressCycle, InputCycle, OutputCycle}
 use Rattle.onfi_cycle.specs.Bounds.{is_read}
 use Rattle.onfi_cycle.specs.Command.{command, is_opener, address_cycles, closes, takes_address, is_page_program, is_set_features}
-use Rattle.onfi_cycle.specs.Sequence.{continued, opening, opened, one_address_more, data_phase, facts_of, wants_command, wants_address, wants_column, takes_data, takes_inputs, is_proper_beginning, is_open}
+use Rattle.onfi_cycle.specs.Sequence.{continued, opening, opened, one_address_more, data_phase, facts_of, wants_command, wants_address, wants_column, takes_inputs, is_proper_beginning, is_open}
 use Rattle.onfi_cycle.proofs.Booleans.{clash}
 use Rattle.onfi_cycle.proofs.CommandBytes.{commands_have_bytes}
 use Rattle.trace_ops.specs.declared.operation.Beginning.{Beginning}
 use Rattle.trace_ops.specs.declared.operation.Beginning.TheVariants as begins
 use Rattle.trace_ops.specs.declared.operation.Operation.{Operation}
-use Rattle.trace_ops.specs.Operation.{opener_of, is_byte, is_open_read}
-use Rattle.trace_ops.proofs.Contents.{Opens, Content, byte_of, closer_by, in_program, in_data, content_output, content_opener, content_command, content_address, content_input}
+use Rattle.trace_ops.specs.Operation.{opener_of, is_byte}
+use Rattle.trace_ops.proofs.Contents.{Content, byte_of, closer_by, in_program, in_data, content_output, content_opener, content_command, content_address, content_input}
 use Rattle.trace_ops.proofs.Spans.{same_some}
 use Rattle.trace_ops.proofs.Starts.{outside_opening}
 
