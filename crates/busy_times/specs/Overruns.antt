@@ -30,7 +30,7 @@ is_closer (Some other) byte = other == byte
 abbrev pub bound_by : (opener : ℕ) → (closer : Option ℕ) → Option BusyTime
 bound_by opener closer =
     if opener == 0x31 || (opener == 0x3f || opener == 0xec) then Some busy.Read
-    else (if opener == 0x00 && is_closer closer 0x30 then Some busy.Read
+    else (if opener == 0x00 && (is_closer closer 0x30 || is_closer closer 0x31) then Some busy.Read
     else (if opener == 0x80 && is_closer closer 0x10 then Some busy.Program
     else (if opener == 0x60 && is_closer closer 0xd0 then Some busy.Erase
     else (if opener == 0xff then Some busy.Reset

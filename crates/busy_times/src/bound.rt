@@ -21,7 +21,7 @@ fn bound_by(opener: u8, closer: Option<u8>) -> Option<BusyTime>
 {
     if opener == 0x31 || opener == 0x3f || opener == 0xec {
         Some(BusyTime::Read)
-    } else if opener == 0x00 && is_closer(closer, 0x30) {
+    } else if opener == 0x00 && (is_closer(closer, 0x30) || is_closer(closer, 0x31)) {
         Some(BusyTime::Read)
     } else if opener == 0x80 && is_closer(closer, 0x10) {
         Some(BusyTime::Program)
