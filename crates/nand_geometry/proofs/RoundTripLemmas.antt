@@ -7,7 +7,7 @@ use Rattle.nand_geometry.specs.Limits.{fault_of, InLimits}
 use Rattle.nand_geometry.specs.declared.optional.Profile.{Profile}
 use Rattle.nand_geometry.specs.declared.optional.Profile.TheVariants.{Base, Onfi}
 use Rattle.nand_geometry.specs.Flag.{flag}
-use Rattle.nand_geometry.specs.Optional.{no_optional, has_features, has_unique_id, has_lun_reset, has_synchronous_reset, wide_with, kept_optional, as_read}
+use Rattle.nand_geometry.specs.Optional.{no_optional, has_features, has_unique_id, has_enhanced_column, has_lun_reset, has_synchronous_reset, wide_with, kept_optional, as_read}
 use Rattle.nand_geometry.specs.Page.{page_body, crc, page, parameter_bytes}
 use Rattle.nand_geometry.specs.Reading.{whole_copies, has_bit, is_signed, is_sound, optional_by, declared_by, declared_as, has_lun_operations, copy_fault, IsDamaged, PagesReadBack, ParametersReadBack}
 use Rattle.nand_geometry.proofs.ChecksumLemmas.{crc_fits}
@@ -32,47 +32,80 @@ features_read false false true = record { narrow = refl; several_luns = refl; se
 features_read false false false = record { narrow = refl; several_luns = refl; several_planes = refl; double_rate = refl }
 
 -- and those of the optional commands
-record CommandsRead (cache features enhanced unique reset : Bool) (number : ℕ) : Type 0 where
+record CommandsRead (cache features enhanced unique column reset : Bool) (number : ℕ) : Type 0 where
   read_cache : has_bit (number % 256) 1 ≡ cache
   set_features : has_bit (number % 256) 2 ≡ features
   status_enhanced : has_bit (number % 256) 3 ≡ enhanced
   unique_id : has_bit (number % 256) 5 ≡ unique
+  enhanced_column : has_bit (number % 256) 6 ≡ column
   lun_reset : has_bit (number / 256 % 256) 1 ≡ reset
 
-commands_read : (cache features enhanced unique reset : Bool)
-    → CommandsRead cache features enhanced unique reset (flag 1 cache + flag 2 features + flag 3 enhanced + flag 5 unique + flag 9 reset)
-commands_read true true true true true = record { read_cache = refl; set_features = refl; status_enhanced = refl; unique_id = refl; lun_reset = refl }
-commands_read true true true true false = record { read_cache = refl; set_features = refl; status_enhanced = refl; unique_id = refl; lun_reset = refl }
-commands_read true true true false true = record { read_cache = refl; set_features = refl; status_enhanced = refl; unique_id = refl; lun_reset = refl }
-commands_read true true true false false = record { read_cache = refl; set_features = refl; status_enhanced = refl; unique_id = refl; lun_reset = refl }
-commands_read true true false true true = record { read_cache = refl; set_features = refl; status_enhanced = refl; unique_id = refl; lun_reset = refl }
-commands_read true true false true false = record { read_cache = refl; set_features = refl; status_enhanced = refl; unique_id = refl; lun_reset = refl }
-commands_read true true false false true = record { read_cache = refl; set_features = refl; status_enhanced = refl; unique_id = refl; lun_reset = refl }
-commands_read true true false false false = record { read_cache = refl; set_features = refl; status_enhanced = refl; unique_id = refl; lun_reset = refl }
-commands_read true false true true true = record { read_cache = refl; set_features = refl; status_enhanced = refl; unique_id = refl; lun_reset = refl }
-commands_read true false true true false = record { read_cache = refl; set_features = refl; status_enhanced = refl; unique_id = refl; lun_reset = refl }
-commands_read true false true false true = record { read_cache = refl; set_features = refl; status_enhanced = refl; unique_id = refl; lun_reset = refl }
-commands_read true false true false false = record { read_cache = refl; set_features = refl; status_enhanced = refl; unique_id = refl; lun_reset = refl }
-commands_read true false false true true = record { read_cache = refl; set_features = refl; status_enhanced = refl; unique_id = refl; lun_reset = refl }
-commands_read true false false true false = record { read_cache = refl; set_features = refl; status_enhanced = refl; unique_id = refl; lun_reset = refl }
-commands_read true false false false true = record { read_cache = refl; set_features = refl; status_enhanced = refl; unique_id = refl; lun_reset = refl }
-commands_read true false false false false = record { read_cache = refl; set_features = refl; status_enhanced = refl; unique_id = refl; lun_reset = refl }
-commands_read false true true true true = record { read_cache = refl; set_features = refl; status_enhanced = refl; unique_id = refl; lun_reset = refl }
-commands_read false true true true false = record { read_cache = refl; set_features = refl; status_enhanced = refl; unique_id = refl; lun_reset = refl }
-commands_read false true true false true = record { read_cache = refl; set_features = refl; status_enhanced = refl; unique_id = refl; lun_reset = refl }
-commands_read false true true false false = record { read_cache = refl; set_features = refl; status_enhanced = refl; unique_id = refl; lun_reset = refl }
-commands_read false true false true true = record { read_cache = refl; set_features = refl; status_enhanced = refl; unique_id = refl; lun_reset = refl }
-commands_read false true false true false = record { read_cache = refl; set_features = refl; status_enhanced = refl; unique_id = refl; lun_reset = refl }
-commands_read false true false false true = record { read_cache = refl; set_features = refl; status_enhanced = refl; unique_id = refl; lun_reset = refl }
-commands_read false true false false false = record { read_cache = refl; set_features = refl; status_enhanced = refl; unique_id = refl; lun_reset = refl }
-commands_read false false true true true = record { read_cache = refl; set_features = refl; status_enhanced = refl; unique_id = refl; lun_reset = refl }
-commands_read false false true true false = record { read_cache = refl; set_features = refl; status_enhanced = refl; unique_id = refl; lun_reset = refl }
-commands_read false false true false true = record { read_cache = refl; set_features = refl; status_enhanced = refl; unique_id = refl; lun_reset = refl }
-commands_read false false true false false = record { read_cache = refl; set_features = refl; status_enhanced = refl; unique_id = refl; lun_reset = refl }
-commands_read false false false true true = record { read_cache = refl; set_features = refl; status_enhanced = refl; unique_id = refl; lun_reset = refl }
-commands_read false false false true false = record { read_cache = refl; set_features = refl; status_enhanced = refl; unique_id = refl; lun_reset = refl }
-commands_read false false false false true = record { read_cache = refl; set_features = refl; status_enhanced = refl; unique_id = refl; lun_reset = refl }
-commands_read false false false false false = record { read_cache = refl; set_features = refl; status_enhanced = refl; unique_id = refl; lun_reset = refl }
+commands_read : (cache features enhanced unique column reset : Bool)
+    → CommandsRead cache features enhanced unique column reset (flag 1 cache + flag 2 features + flag 3 enhanced + flag 5 unique + flag 6 column + flag 9 reset)
+commands_read true true true true true true = record { read_cache = refl; set_features = refl; status_enhanced = refl; unique_id = refl; enhanced_column = refl; lun_reset = refl }
+commands_read true true true true true false = record { read_cache = refl; set_features = refl; status_enhanced = refl; unique_id = refl; enhanced_column = refl; lun_reset = refl }
+commands_read true true true true false true = record { read_cache = refl; set_features = refl; status_enhanced = refl; unique_id = refl; enhanced_column = refl; lun_reset = refl }
+commands_read true true true true false false = record { read_cache = refl; set_features = refl; status_enhanced = refl; unique_id = refl; enhanced_column = refl; lun_reset = refl }
+commands_read true true true false true true = record { read_cache = refl; set_features = refl; status_enhanced = refl; unique_id = refl; enhanced_column = refl; lun_reset = refl }
+commands_read true true true false true false = record { read_cache = refl; set_features = refl; status_enhanced = refl; unique_id = refl; enhanced_column = refl; lun_reset = refl }
+commands_read true true true false false true = record { read_cache = refl; set_features = refl; status_enhanced = refl; unique_id = refl; enhanced_column = refl; lun_reset = refl }
+commands_read true true true false false false = record { read_cache = refl; set_features = refl; status_enhanced = refl; unique_id = refl; enhanced_column = refl; lun_reset = refl }
+commands_read true true false true true true = record { read_cache = refl; set_features = refl; status_enhanced = refl; unique_id = refl; enhanced_column = refl; lun_reset = refl }
+commands_read true true false true true false = record { read_cache = refl; set_features = refl; status_enhanced = refl; unique_id = refl; enhanced_column = refl; lun_reset = refl }
+commands_read true true false true false true = record { read_cache = refl; set_features = refl; status_enhanced = refl; unique_id = refl; enhanced_column = refl; lun_reset = refl }
+commands_read true true false true false false = record { read_cache = refl; set_features = refl; status_enhanced = refl; unique_id = refl; enhanced_column = refl; lun_reset = refl }
+commands_read true true false false true true = record { read_cache = refl; set_features = refl; status_enhanced = refl; unique_id = refl; enhanced_column = refl; lun_reset = refl }
+commands_read true true false false true false = record { read_cache = refl; set_features = refl; status_enhanced = refl; unique_id = refl; enhanced_column = refl; lun_reset = refl }
+commands_read true true false false false true = record { read_cache = refl; set_features = refl; status_enhanced = refl; unique_id = refl; enhanced_column = refl; lun_reset = refl }
+commands_read true true false false false false = record { read_cache = refl; set_features = refl; status_enhanced = refl; unique_id = refl; enhanced_column = refl; lun_reset = refl }
+commands_read true false true true true true = record { read_cache = refl; set_features = refl; status_enhanced = refl; unique_id = refl; enhanced_column = refl; lun_reset = refl }
+commands_read true false true true true false = record { read_cache = refl; set_features = refl; status_enhanced = refl; unique_id = refl; enhanced_column = refl; lun_reset = refl }
+commands_read true false true true false true = record { read_cache = refl; set_features = refl; status_enhanced = refl; unique_id = refl; enhanced_column = refl; lun_reset = refl }
+commands_read true false true true false false = record { read_cache = refl; set_features = refl; status_enhanced = refl; unique_id = refl; enhanced_column = refl; lun_reset = refl }
+commands_read true false true false true true = record { read_cache = refl; set_features = refl; status_enhanced = refl; unique_id = refl; enhanced_column = refl; lun_reset = refl }
+commands_read true false true false true false = record { read_cache = refl; set_features = refl; status_enhanced = refl; unique_id = refl; enhanced_column = refl; lun_reset = refl }
+commands_read true false true false false true = record { read_cache = refl; set_features = refl; status_enhanced = refl; unique_id = refl; enhanced_column = refl; lun_reset = refl }
+commands_read true false true false false false = record { read_cache = refl; set_features = refl; status_enhanced = refl; unique_id = refl; enhanced_column = refl; lun_reset = refl }
+commands_read true false false true true true = record { read_cache = refl; set_features = refl; status_enhanced = refl; unique_id = refl; enhanced_column = refl; lun_reset = refl }
+commands_read true false false true true false = record { read_cache = refl; set_features = refl; status_enhanced = refl; unique_id = refl; enhanced_column = refl; lun_reset = refl }
+commands_read true false false true false true = record { read_cache = refl; set_features = refl; status_enhanced = refl; unique_id = refl; enhanced_column = refl; lun_reset = refl }
+commands_read true false false true false false = record { read_cache = refl; set_features = refl; status_enhanced = refl; unique_id = refl; enhanced_column = refl; lun_reset = refl }
+commands_read true false false false true true = record { read_cache = refl; set_features = refl; status_enhanced = refl; unique_id = refl; enhanced_column = refl; lun_reset = refl }
+commands_read true false false false true false = record { read_cache = refl; set_features = refl; status_enhanced = refl; unique_id = refl; enhanced_column = refl; lun_reset = refl }
+commands_read true false false false false true = record { read_cache = refl; set_features = refl; status_enhanced = refl; unique_id = refl; enhanced_column = refl; lun_reset = refl }
+commands_read true false false false false false = record { read_cache = refl; set_features = refl; status_enhanced = refl; unique_id = refl; enhanced_column = refl; lun_reset = refl }
+commands_read false true true true true true = record { read_cache = refl; set_features = refl; status_enhanced = refl; unique_id = refl; enhanced_column = refl; lun_reset = refl }
+commands_read false true true true true false = record { read_cache = refl; set_features = refl; status_enhanced = refl; unique_id = refl; enhanced_column = refl; lun_reset = refl }
+commands_read false true true true false true = record { read_cache = refl; set_features = refl; status_enhanced = refl; unique_id = refl; enhanced_column = refl; lun_reset = refl }
+commands_read false true true true false false = record { read_cache = refl; set_features = refl; status_enhanced = refl; unique_id = refl; enhanced_column = refl; lun_reset = refl }
+commands_read false true true false true true = record { read_cache = refl; set_features = refl; status_enhanced = refl; unique_id = refl; enhanced_column = refl; lun_reset = refl }
+commands_read false true true false true false = record { read_cache = refl; set_features = refl; status_enhanced = refl; unique_id = refl; enhanced_column = refl; lun_reset = refl }
+commands_read false true true false false true = record { read_cache = refl; set_features = refl; status_enhanced = refl; unique_id = refl; enhanced_column = refl; lun_reset = refl }
+commands_read false true true false false false = record { read_cache = refl; set_features = refl; status_enhanced = refl; unique_id = refl; enhanced_column = refl; lun_reset = refl }
+commands_read false true false true true true = record { read_cache = refl; set_features = refl; status_enhanced = refl; unique_id = refl; enhanced_column = refl; lun_reset = refl }
+commands_read false true false true true false = record { read_cache = refl; set_features = refl; status_enhanced = refl; unique_id = refl; enhanced_column = refl; lun_reset = refl }
+commands_read false true false true false true = record { read_cache = refl; set_features = refl; status_enhanced = refl; unique_id = refl; enhanced_column = refl; lun_reset = refl }
+commands_read false true false true false false = record { read_cache = refl; set_features = refl; status_enhanced = refl; unique_id = refl; enhanced_column = refl; lun_reset = refl }
+commands_read false true false false true true = record { read_cache = refl; set_features = refl; status_enhanced = refl; unique_id = refl; enhanced_column = refl; lun_reset = refl }
+commands_read false true false false true false = record { read_cache = refl; set_features = refl; status_enhanced = refl; unique_id = refl; enhanced_column = refl; lun_reset = refl }
+commands_read false true false false false true = record { read_cache = refl; set_features = refl; status_enhanced = refl; unique_id = refl; enhanced_column = refl; lun_reset = refl }
+commands_read false true false false false false = record { read_cache = refl; set_features = refl; status_enhanced = refl; unique_id = refl; enhanced_column = refl; lun_reset = refl }
+commands_read false false true true true true = record { read_cache = refl; set_features = refl; status_enhanced = refl; unique_id = refl; enhanced_column = refl; lun_reset = refl }
+commands_read false false true true true false = record { read_cache = refl; set_features = refl; status_enhanced = refl; unique_id = refl; enhanced_column = refl; lun_reset = refl }
+commands_read false false true true false true = record { read_cache = refl; set_features = refl; status_enhanced = refl; unique_id = refl; enhanced_column = refl; lun_reset = refl }
+commands_read false false true true false false = record { read_cache = refl; set_features = refl; status_enhanced = refl; unique_id = refl; enhanced_column = refl; lun_reset = refl }
+commands_read false false true false true true = record { read_cache = refl; set_features = refl; status_enhanced = refl; unique_id = refl; enhanced_column = refl; lun_reset = refl }
+commands_read false false true false true false = record { read_cache = refl; set_features = refl; status_enhanced = refl; unique_id = refl; enhanced_column = refl; lun_reset = refl }
+commands_read false false true false false true = record { read_cache = refl; set_features = refl; status_enhanced = refl; unique_id = refl; enhanced_column = refl; lun_reset = refl }
+commands_read false false true false false false = record { read_cache = refl; set_features = refl; status_enhanced = refl; unique_id = refl; enhanced_column = refl; lun_reset = refl }
+commands_read false false false true true true = record { read_cache = refl; set_features = refl; status_enhanced = refl; unique_id = refl; enhanced_column = refl; lun_reset = refl }
+commands_read false false false true true false = record { read_cache = refl; set_features = refl; status_enhanced = refl; unique_id = refl; enhanced_column = refl; lun_reset = refl }
+commands_read false false false true false true = record { read_cache = refl; set_features = refl; status_enhanced = refl; unique_id = refl; enhanced_column = refl; lun_reset = refl }
+commands_read false false false true false false = record { read_cache = refl; set_features = refl; status_enhanced = refl; unique_id = refl; enhanced_column = refl; lun_reset = refl }
+commands_read false false false false true true = record { read_cache = refl; set_features = refl; status_enhanced = refl; unique_id = refl; enhanced_column = refl; lun_reset = refl }
+commands_read false false false false true false = record { read_cache = refl; set_features = refl; status_enhanced = refl; unique_id = refl; enhanced_column = refl; lun_reset = refl }
+commands_read false false false false false true = record { read_cache = refl; set_features = refl; status_enhanced = refl; unique_id = refl; enhanced_column = refl; lun_reset = refl }
+commands_read false false false false false false = record { read_cache = refl; set_features = refl; status_enhanced = refl; unique_id = refl; enhanced_column = refl; lun_reset = refl }
 
 -- a number in its bytes, read again
 two_bytes : (n : ℕ) → n < 65536 → n % 256 + 256 * (n / 256 % 256) ≡ n
@@ -97,19 +130,20 @@ unfolding optional_by
 page_optional g =
     let o = g.optional in
     let f = features_read (nat_lt 1 g.luns) g.multi_plane (has_synchronous_reset o) in
-    let k = commands_read g.cache (has_features o) g.enhanced (has_unique_id o) (has_lun_reset o) in
+    let k = commands_read g.cache (has_features o) g.enhanced (has_unique_id o) (has_enhanced_column o) (has_lun_reset o) in
     let set_features = k.set_features in
     let unique_id = k.unique_id in
+    let enhanced_column = k.enhanced_column in
     let lun_reset = k.lun_reset in
     let double_rate = f.double_rate in
-    λ i. wide_with (set_features i) (unique_id i) (lun_reset i) (double_rate i)
+    λ i. wide_with (set_features i) (unique_id i) (enhanced_column i) (lun_reset i) (double_rate i)
 
 page_numbers : (g : Parts) → InLimits g → declared_by (page g) ≡ as_read Base g
 unfolding declared_by
 page_numbers g limits =
     let o = g.optional in
     let f = features_read (nat_lt 1 g.luns) g.multi_plane (has_synchronous_reset o) in
-    let k = commands_read g.cache (has_features o) g.enhanced (has_unique_id o) (has_lun_reset o) in
+    let k = commands_read g.cache (has_features o) g.enhanced (has_unique_id o) (has_enhanced_column o) (has_lun_reset o) in
     let page_bytes = four_bytes g.page_bytes (omega (arith, limits.page_bytes_most)) in
     let spare_bytes = two_bytes g.spare_bytes (omega (arith, limits.spare_bytes_most)) in
     let pages = four_bytes g.pages (omega (arith, limits.pages_most)) in

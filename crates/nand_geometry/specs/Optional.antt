@@ -21,6 +21,9 @@ has_features o = has_all o 4
 abbrev pub has_unique_id : Optional → Bool
 has_unique_id o = has_all o 32
 
+abbrev pub has_enhanced_column : Optional → Bool
+has_enhanced_column o = has_all o 64
+
 abbrev pub has_lun_reset : Optional → Bool
 has_lun_reset o = has_all o 512
 
@@ -31,14 +34,14 @@ abbrev pub is_wide : Optional → Bool
 is_wide o = has_all o 32768
 
 -- the set of a chip that is read as one of the wider profile, by what it declares
-abbrev pub wide_with : (features unique_id lun_reset synchronous_reset : Bool) → Optional
-wide_with features unique_id lun_reset synchronous_reset =
-    record { 0 = 32768 + flag 2 features + flag 5 unique_id + flag 9 lun_reset + flag 11 synchronous_reset }
+abbrev pub wide_with : (features unique_id enhanced_column lun_reset synchronous_reset : Bool) → Optional
+wide_with features unique_id enhanced_column lun_reset synchronous_reset =
+    record { 0 = 32768 + flag 2 features + flag 5 unique_id + flag 6 enhanced_column + flag 9 lun_reset + flag 11 synchronous_reset }
 
 -- what is left of a set where a page that declares it is read for a profile
 abbrev pub kept_optional : Profile → Optional → Optional
 kept_optional Base o = no_optional
-kept_optional Onfi o = wide_with (has_features o) (has_unique_id o) (has_lun_reset o) (has_synchronous_reset o)
+kept_optional Onfi o = wide_with (has_features o) (has_unique_id o) (has_enhanced_column o) (has_lun_reset o) (has_synchronous_reset o)
 
 -- a geometry as its own page is read for a profile
 abbrev pub as_read : Profile → Parts → Parts

@@ -1,6 +1,6 @@
 //! The commands beyond the base profile that a chip has.
 ghost use Rattle.std.specs.Prelude.{⊤, ◌≡◌, [], ◌∷◌, codes};
-ghost use Rattle.nand_geometry.specs.Optional.{no_optional, is_wide, has_features, has_unique_id, has_lun_reset, has_synchronous_reset};
+ghost use Rattle.nand_geometry.specs.Optional.{no_optional, is_wide, has_features, has_unique_id, has_enhanced_column, has_lun_reset, has_synchronous_reset};
 
 use bitflags::{Flag, Flags, bitflag_items};
 
@@ -23,6 +23,8 @@ bitflag_items! {
         const FEATURES = 4;
         /// EDh, Read Unique ID (byte 8 bit 5).
         const UNIQUE_ID = 32;
+        /// 06h, Change Read Column Enhanced (byte 8 bit 6).
+        const ENHANCED_COLUMN = 64;
         /// FAh, Reset LUN (byte 9 bit 1).
         const RESET_LUN = 512;
         /// FCh, Synchronous Reset (byte 6 bit 5, or byte 7 bit 2 or 5: an interface of double data rate).
@@ -37,7 +39,7 @@ impl Flags for Optional {
 
     ghost exact = { ⊤ };
 
-    ghost table = { (codes "FEATURES", 4) ∷ (codes "UNIQUE_ID", 32) ∷ (codes "RESET_LUN", 512) ∷ (codes "SYNCHRONOUS_RESET", 2048) ∷ (codes "WIDE", 32768) ∷ [] };
+    ghost table = { (codes "FEATURES", 4) ∷ (codes "UNIQUE_ID", 32) ∷ (codes "ENHANCED_COLUMN", 64) ∷ (codes "RESET_LUN", 512) ∷ (codes "SYNCHRONOUS_RESET", 2048) ∷ (codes "WIDE", 32768) ∷ [] };
 
     ghost set_of = { λ o. o.0 };
 
@@ -77,6 +79,13 @@ impl Optional {
         ensures { result ≡ has_unique_id self }
     {
         self.contains(Optional::UNIQUE_ID)
+    }
+
+    /// The chip has Change Read Column Enhanced.
+    pub fn has_enhanced_column(self) -> bool
+        ensures { result ≡ has_enhanced_column self }
+    {
+        self.contains(Optional::ENHANCED_COLUMN)
     }
 
     /// The chip has Reset LUN.

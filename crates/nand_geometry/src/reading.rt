@@ -98,6 +98,7 @@ fn optional_by(copy: &[u8]) -> Optional
         Optional::WIDE.0
             + flag(2, has_bit(copy[8], 2))
             + flag(5, has_bit(copy[8], 5))
+            + flag(6, has_bit(copy[8], 6))
             + flag(9, has_bit(copy[9], 1))
             + flag(11, has_double_rate(copy)),
     )

@@ -33,7 +33,8 @@ fn features(parts: Parts) -> u16
     flag(1, parts.luns > 1) + flag(3, parts.multi_plane) + flag(5, optional.has_synchronous_reset())
 }
 
-/// Read cache is bit 1, Get and Set Features bit 2, Read Status Enhanced bit 3, Read Unique ID bit 5, Reset LUN bit 9.
+/// Read cache is bit 1, Get and Set Features bit 2, Read Status Enhanced bit 3, Read Unique ID bit 5, Change Read Column Enhanced
+/// bit 6, Reset LUN bit 9.
 fn optional_commands(parts: Parts) -> u16
     ensures { result ≡ optional_commands parts }
 {
@@ -42,6 +43,7 @@ fn optional_commands(parts: Parts) -> u16
         + flag(2, optional.has_features())
         + flag(3, parts.enhanced)
         + flag(5, optional.has_unique_id())
+        + flag(6, optional.has_enhanced_column())
         + flag(9, optional.has_lun_reset())
 }
 

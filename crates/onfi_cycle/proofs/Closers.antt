@@ -9,7 +9,7 @@ use Rattle.onfi_cycle.specs.declared.target_cycle.TargetCycle.TheVariants.{Comma
 use Rattle.onfi_cycle.specs.LunView.{LunView}
 use Rattle.onfi_cycle.specs.Command.{is_opener}
 use Rattle.onfi_cycle.specs.Effect.{is_shared}
-use Rattle.onfi_cycle.specs.Rules.{breaks_sequence_open, breaks_several_luns, breaks_no_column_to_change, breaks_command_misplaced, breaks_address_misplaced, breaks_row_outside, breaks_lun_busy, breaks_queue_clash, breaks_input_misplaced, breaks_no_sole_driver, breaks_data_not_ready, breaks_column_outside, breaks_cache_read_misplaced}
+use Rattle.onfi_cycle.specs.Rules.{breaks_sequence_open, breaks_several_luns, breaks_no_column_to_change, breaks_command_misplaced, breaks_address_misplaced, breaks_row_outside, breaks_lun_busy, breaks_queue_clash, breaks_input_misplaced, breaks_no_sole_driver, breaks_data_not_ready, breaks_column_outside, breaks_cache_read_misplaced, breaks_plane_not_held}
 use Rattle.onfi_cycle.specs.Permitted.{judge_known_cycle}
 
 -- s: the target is shared; x: the command is misplaced; y: it reads where a cache read goes on
@@ -20,7 +20,7 @@ only_misplaced false true y = refl
 only_misplaced false false y = refl
 
 closer_judged : (g : Parts) (t : TailFacts) (luns : List LunView) (c : Command) → is_opener c ≡ false → cond (breaks_command_misplaced t (CommandCycle c)) (Some CommandMisplaced) (cond (breaks_cache_read_misplaced g t luns (CommandCycle c)) (Some CacheReadMisplaced) None) ≡ judge_known_cycle g t luns (CommandCycle c)
-unfolding breaks_sequence_open breaks_several_luns breaks_no_column_to_change breaks_address_misplaced breaks_row_outside breaks_lun_busy breaks_queue_clash breaks_input_misplaced breaks_no_sole_driver breaks_data_not_ready breaks_column_outside breaks_cache_read_misplaced
+unfolding breaks_sequence_open breaks_several_luns breaks_no_column_to_change breaks_address_misplaced breaks_row_outside breaks_lun_busy breaks_queue_clash breaks_input_misplaced breaks_no_sole_driver breaks_data_not_ready breaks_column_outside breaks_cache_read_misplaced breaks_plane_not_held
 closer_judged g t luns ReadConfirm h = only_misplaced (is_shared g) (breaks_command_misplaced t (CommandCycle ReadConfirm)) (breaks_cache_read_misplaced g t luns (CommandCycle ReadConfirm))
 closer_judged g t luns ChangeReadColumnConfirm h = only_misplaced (is_shared g) (breaks_command_misplaced t (CommandCycle ChangeReadColumnConfirm)) (breaks_cache_read_misplaced g t luns (CommandCycle ChangeReadColumnConfirm))
 closer_judged g t luns BlockEraseConfirm h = only_misplaced (is_shared g) (breaks_command_misplaced t (CommandCycle BlockEraseConfirm)) (breaks_cache_read_misplaced g t luns (CommandCycle BlockEraseConfirm))

@@ -17,9 +17,9 @@ use Rattle.onfi_cycle.specs.declared.tail_facts.TailFacts.{TailFacts}
 use Rattle.onfi_cycle.specs.declared.target_cycle.TargetCycle.{TargetCycle}
 use Rattle.onfi_cycle.specs.declared.target_cycle.TargetCycle.TheVariants.{CommandCycle, AddressCycle, InputCycle, OutputCycle}
 use Rattle.onfi_cycle.specs.declared.effect.Effect.{Effect}
-use Rattle.onfi_cycle.specs.declared.effect.Effect.TheVariants.{Unaffected, StatusSelected, StatusOfSelected, AnotherAddressed, TargetResetStarted, DataOutputEnabled, SelectedForStatus, Deselected, IdRead, IdentityRead, UniqueIdReadStarted, FeaturesReadStarted, FeaturesSet, ParameterPageReadStarted, CacheReadContinued, CacheReadEnded, BecameReady, ArrayBecameReady, ReadColumnChanged, DataOutput, ResetStarted}
+use Rattle.onfi_cycle.specs.declared.effect.Effect.TheVariants.{Unaffected, StatusSelected, StatusOfSelected, AnotherAddressed, TargetResetStarted, DataOutputEnabled, SelectedForStatus, Deselected, IdRead, IdentityRead, UniqueIdReadStarted, FeaturesReadStarted, FeaturesSet, ParameterPageReadStarted, CacheReadContinued, CacheReadEnded, BecameReady, ArrayBecameReady, ReadColumnChanged, DataOutput, ResetStarted, PlaneSelected}
 use Rattle.onfi_cycle.specs.LunView.{LunView}
-use Rattle.onfi_cycle.specs.Sequence.{target_cycle, row, row_with, wants_command, wants_address}
+use Rattle.onfi_cycle.specs.Sequence.{target_cycle, row, row_with, wants_command, wants_address, selects_plane}
 use Rattle.onfi_cycle.specs.Command.{reads_identity, is_set_features}
 use Rattle.onfi_cycle.specs.Effect.{is_off, is_data, is_shared, acts_for_target, page_address, names_lun, command_effect, address_effect, id_effect, opening_address_effect, cycle_effect, ends_features}
 use Rattle.onfi_cycle.specs.Lun.{latch, latch_after, latch_alone, is_selected, is_busy, is_array_busy, effect_on, effect_among, drivers_from, is_only, lun_view, views_from, luns_of, shown_after}
@@ -176,6 +176,12 @@ read_on_step true named shared b o p q before page cache = row_step true named s
 read_on_step false named true b o p q before page cache = cache_step b o p q before (CacheReadContinued None) ReadCacheSequential refl refl (cache refl)
 read_on_step false named false b o p q before page cache = cache_step b o p q before (CacheReadContinued None) ReadCacheSequential refl refl (cache refl)
 
+-- E0; s: it closes a 06; c: it changes the column of the one driver
+plane_step : (s named c p q : Bool) (before : Latch) (from : ℕ) → latch_after (cond s (cond named (PlaneSelected from) Deselected) (cond c (ReadColumnChanged from) Unaffected)) p q before ≡ unwrap_or (cond s (Some (cond named Data Off)) None) before
+plane_step true true c p q before from = refl
+plane_step true false c p q before from = refl
+plane_step false named c p q before from = same_either_way c p q before (ReadColumnChanged from) refl
+
 -- la is what the LUN shows, or shows alone
 command_step : (g : Parts) (past : List Item) (l : Lun) (la : Latch) (c : Command) → (is_cache_cycle (tail_of past l) (CommandCycle c) ≡ true → is_off la ≡ not (drives_alone g past l)) → latch_after (command_effect g (tail_of past l) la c l.lun) (is_selected g past l) (is_busy g past l || is_array_busy g past l) (latch g past l) ≡ unwrap_or (latch_cycle g past l (CommandCycle c)) (latch g past l)
 command_step g past l la Read cache = read_step (is_selected g past l) (is_busy g past l || is_array_busy g past l) (latch g past l)
@@ -185,7 +191,8 @@ command_step g past l la Reset cache = reset_step (is_shared g) (l.lun == 0) (is
 command_step g past l la SynchronousReset cache = reset_step (is_shared g) (l.lun == 0) (is_selected g past l) (is_busy g past l || is_array_busy g past l) (latch g past l)
 command_step g past l la ReadCacheSequential cache = read_on_step (wants_command (tail_of past l) ReadCacheSequential) (names_lun g (row (tail_of past l)) l.lun) (is_shared g) (drives_alone g past l) (is_off la) (is_selected g past l) (is_busy g past l || is_array_busy g past l) (latch g past l) (page_address g (row (tail_of past l))) cache
 command_step g past l la ReadCacheEnd cache = cache_step (drives_alone g past l) (is_off la) (is_selected g past l) (is_busy g past l || is_array_busy g past l) (latch g past l) CacheReadEnded ReadCacheEnd refl refl (cache refl)
-command_step g past l la ChangeReadColumnConfirm cache = same_either_way (wants_command (tail_of past l) ChangeReadColumnConfirm && not (is_off la)) (is_selected g past l) (is_busy g past l || is_array_busy g past l) (latch g past l) (ReadColumnChanged (tail_of past l).column) refl
+command_step g past l la ChangeReadColumnConfirm cache =
+    plane_step (selects_plane (tail_of past l)) (names_lun g (row (tail_of past l)) l.lun) (wants_command (tail_of past l) ChangeReadColumnConfirm && not (is_off la)) (is_selected g past l) (is_busy g past l || is_array_busy g past l) (latch g past l) (tail_of past l).column
 command_step g past l la ReadConfirm cache = row_step (wants_command (tail_of past l) ReadConfirm) (names_lun g (row (tail_of past l)) l.lun) (is_shared g) true (is_selected g past l) (is_busy g past l || is_array_busy g past l) (latch g past l) _ (Some ReadConfirm) refl
 command_step g past l la BlockEraseConfirm cache = row_step (wants_command (tail_of past l) BlockEraseConfirm) (names_lun g (row (tail_of past l)) l.lun) (is_shared g) false (is_selected g past l) (is_busy g past l || is_array_busy g past l) (latch g past l) _ (Some BlockEraseConfirm) refl
 command_step g past l la BlockErasePlane cache = row_step (wants_command (tail_of past l) BlockErasePlane) (names_lun g (row (tail_of past l)) l.lun) (is_shared g) false (is_selected g past l) (is_busy g past l || is_array_busy g past l) (latch g past l) _ (Some BlockErasePlane) refl

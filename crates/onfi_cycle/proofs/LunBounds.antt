@@ -8,7 +8,7 @@ use Rattle.onfi_cycle.specs.declared.page_address.PageAddress.{PageAddress}
 use Rattle.onfi_cycle.specs.declared.queued.Queued.{Queued}
 use Rattle.onfi_cycle.specs.declared.queued.Queued.TheVariants.{Erase, Program}
 use Rattle.onfi_cycle.specs.declared.effect.Effect.{Effect}
-use Rattle.onfi_cycle.specs.declared.effect.Effect.TheVariants.{Unaffected, DataOutputEnabled, StatusSelected, StatusRowAwaited, SelectedForStatus, Deselected, ReadStarted, EraseStarted, ProgramStarted, IdRead, IdentityRead, UniqueIdReadStarted, FeaturesReadStarted, FeaturesSet, ParameterPageReadStarted, CacheReadContinued, CacheReadEnded, ReadColumnChanged, DataOutput, ResetStarted, TargetResetStarted, StatusOfSelected, AnotherAddressed, BecameReady, ArrayBecameReady}
+use Rattle.onfi_cycle.specs.declared.effect.Effect.TheVariants.{Unaffected, DataOutputEnabled, StatusSelected, StatusRowAwaited, SelectedForStatus, Deselected, ReadStarted, EraseStarted, ProgramStarted, IdRead, IdentityRead, UniqueIdReadStarted, FeaturesReadStarted, FeaturesSet, ParameterPageReadStarted, CacheReadContinued, CacheReadEnded, ReadColumnChanged, DataOutput, ResetStarted, TargetResetStarted, StatusOfSelected, AnotherAddressed, BecameReady, ArrayBecameReady, PlaneSelected}
 use Rattle.onfi_cycle.specs.LunView.{LunView}
 use Rattle.onfi_cycle.specs.Lun.{view_after}
 use Rattle.onfi_cycle.specs.Rules.{planes_clash, queued_clashes, some_queued_clashes}
@@ -87,6 +87,7 @@ lun_fits g limits (CacheReadContinued None) v h f = record { outputs = omega ari
 lun_fits g limits (CacheReadContinued (Some page)) v h f = record { outputs = omega arith; given = omega arith; array_page = h.0; queue = f.queue }
 lun_fits g limits CacheReadEnded v h f = record { outputs = omega arith; given = omega arith; array_page = f.array_page; queue = f.queue }
 lun_fits g limits (ReadColumnChanged column) v h f = record { outputs = omega arith; given = h; array_page = f.array_page; queue = f.queue }
+lun_fits g limits (PlaneSelected column) v h f = record { outputs = omega arith; given = h; array_page = f.array_page; queue = f.queue }
 lun_fits g limits DataOutput v h f = record { outputs = omega arith; given = f.given; array_page = f.array_page; queue = f.queue }
 lun_fits g limits ResetStarted v h f = record { outputs = f.outputs; given = f.given; array_page = f.array_page; queue = omega arith }
 lun_fits g limits (TargetResetStarted first) v h f = record { outputs = f.outputs; given = f.given; array_page = f.array_page; queue = omega arith }

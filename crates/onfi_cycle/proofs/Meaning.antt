@@ -18,12 +18,12 @@ use Rattle.onfi_cycle.specs.declared.opening.Opening.{Opening}
 use Rattle.onfi_cycle.specs.declared.target_cycle.TargetCycle.{TargetCycle}
 use Rattle.onfi_cycle.specs.declared.target_cycle.TargetCycle.TheVariants.{CommandCycle, AddressCycle, InputCycle, OutputCycle}
 use Rattle.onfi_cycle.specs.declared.effect.Effect.{Effect}
-use Rattle.onfi_cycle.specs.declared.effect.Effect.TheVariants.{Unaffected, AnotherAddressed, StatusOfSelected, TargetResetStarted, StatusSelected, StatusRowAwaited, SelectedForStatus, Deselected, IdRead, IdentityRead, UniqueIdReadStarted, FeaturesReadStarted, FeaturesSet, ParameterPageReadStarted, CacheReadContinued, CacheReadEnded, DataOutput, ResetStarted, BecameReady, ArrayBecameReady, ReadStarted, EraseStarted, ProgramStarted, ReadColumnChanged}
+use Rattle.onfi_cycle.specs.declared.effect.Effect.TheVariants.{Unaffected, AnotherAddressed, StatusOfSelected, TargetResetStarted, StatusSelected, StatusRowAwaited, SelectedForStatus, Deselected, IdRead, IdentityRead, UniqueIdReadStarted, FeaturesReadStarted, FeaturesSet, ParameterPageReadStarted, CacheReadContinued, CacheReadEnded, DataOutput, ResetStarted, BecameReady, ArrayBecameReady, ReadStarted, EraseStarted, ProgramStarted, ReadColumnChanged, PlaneSelected}
 use Rattle.onfi_cycle.specs.declared.tail_facts.TailFacts.{TailFacts}
-use Rattle.onfi_cycle.specs.Sequence.{target_cycle, row, row_with, wants_command, wants_address}
-use Rattle.onfi_cycle.specs.Effect.{is_off, is_data, is_shared, acts_for_target, other_effect, row_effect, cache_effect, page_address, names_lun, command_effect, address_effect, opening_address_effect, cycle_effect, ends_features}
+use Rattle.onfi_cycle.specs.Sequence.{target_cycle, row, row_with, wants_command, wants_address, selects_plane}
+use Rattle.onfi_cycle.specs.Effect.{is_off, is_data, is_shared, acts_for_target, other_effect, row_effect, cache_effect, page_address, names_lun, command_effect, address_effect, opening_address_effect, cycle_effect, ends_features, plane_effect, column_effect}
 use Rattle.onfi_cycle.specs.Lun.{latch, latch_alone, drivers_from, is_only, effect_on, effect_among}
-use Rattle.onfi_cycle.specs.Decides.{tail_of, drives_alone, byte_of, id_register, row_closer, address_closer, closing_address, closing_cycle, closing, readies, readies_array, is_cycle_of, is_output, is_status_command, is_column_confirm, changes_column, outputs_data}
+use Rattle.onfi_cycle.specs.Decides.{tail_of, drives_alone, byte_of, id_register, row_closer, address_closer, closing_address, closing_cycle, closing, readies, readies_array, is_cycle_of, is_output, is_status_command, is_column_confirm, changes_column, outputs_data, confirms_column}
 
 -- the closer that an effect comes of
 abbrev pub closer_of : Effect → Option Command
@@ -51,6 +51,7 @@ is_array_ready ArrayBecameReady = true
 is_array_ready _ = false
 
 abbrev pub is_column_change : Effect → Bool
+is_column_change (PlaneSelected column) = true
 is_column_change (ReadColumnChanged column) = true
 is_column_change _ = false
 
@@ -70,6 +71,7 @@ Carries g t byte (ReadStarted page column) = (page ≡ page_address g (row t)) �
 Carries g t byte (EraseStarted queued at) = at ≡ page_address g (row t)
 Carries g t byte (ProgramStarted queued page) = page ≡ page_address g (row t)
 Carries g t byte (ReadColumnChanged column) = column ≡ t.column
+Carries g t byte (PlaneSelected column) = column ≡ t.column
 Carries g t byte IdRead = id_register byte ≡ Identifier
 Carries g t byte (IdentityRead jedec) = id_register byte ≡ cond jedec JedecIdentity Identity
 Carries g t byte (FeaturesReadStarted address) = address ≡ byte
@@ -117,7 +119,7 @@ alone_data g past l = at (drives_alone g past l)
 -- what a cycle of its target is to a LUN
 record MeansCycle (g : Parts) (past : List Item) (l : Lun) (byte : ℕ) (cycle : TargetCycle) (e : Effect) : Type 0 where
   closes : closing_cycle g past l cycle ≡ closer_of e
-  changes : (is_column_confirm cycle && (wants_command (tail_of past l) ChangeReadColumnConfirm && drives_alone g past l)) ≡ is_column_change e
+  changes : (is_column_confirm cycle && confirms_column (tail_of past l) (names_lun g (row (tail_of past l)) l.lun) (drives_alone g past l)) ≡ is_column_change e
   outputs : (is_output cycle && (drives_alone g past l && is_data (latch g past l))) ≡ is_data_output e
   status : is_status_command cycle ≡ is_status e
   no_ready : is_ready e ≡ false
@@ -174,16 +176,26 @@ command_means g past l byte ReadCacheEnd =
     (λ h. nothing_means g past l byte (CommandCycle ReadCacheEnd) (rw h refl) refl refl refl)
     (λ h. record { closes = rw h refl; changes = refl; outputs = refl; status = refl; no_ready = refl; no_array_ready = refl; carries = tt })
 command_means g past l byte ChangeReadColumnConfirm =
-    either_means g past l byte (CommandCycle ChangeReadColumnConfirm) (wants_command (tail_of past l) ChangeReadColumnConfirm && not (is_off (latch_alone g past l))) (ReadColumnChanged (tail_of past l).column) Unaffected
-    (λ h. record { closes = at (wants_command (tail_of past l) ChangeReadColumnConfirm && names_lun g (row (tail_of past l)) l.lun); changes = same ∙ h; outputs = refl; status = refl; no_ready = refl; no_array_ready = refl; carries = refl })
-    (λ h. record { closes = at (wants_command (tail_of past l) ChangeReadColumnConfirm && names_lun g (row (tail_of past l)) l.lun); changes = same ∙ h; outputs = refl; status = refl; no_ready = refl; no_array_ready = refl; carries = tt })
+    either_means g past l byte (CommandCycle ChangeReadColumnConfirm) (selects_plane (tail_of past l)) (plane_effect g (tail_of past l) l.lun) (column_effect (tail_of past l) (latch_alone g past l))
+    (λ s. either_means g past l byte (CommandCycle ChangeReadColumnConfirm) (names_lun g (row (tail_of past l)) l.lun) (PlaneSelected (tail_of past l).column) Deselected
+    (λ h. record { closes = closes; changes = rw (s, h) refl; outputs = refl; status = refl; no_ready = refl; no_array_ready = refl; carries = refl })
+    (λ h. record { closes = closes; changes = rw (s, h) refl; outputs = refl; status = refl; no_ready = refl; no_array_ready = refl; carries = tt }))
+    (λ s. either_means g past l byte (CommandCycle ChangeReadColumnConfirm) (wants_command (tail_of past l) ChangeReadColumnConfirm && not (is_off (latch_alone g past l))) (ReadColumnChanged (tail_of past l).column) Unaffected
+    (λ h. record { closes = closes; changes = unselected s ∙ (same ∙ h); outputs = refl; status = refl; no_ready = refl; no_array_ready = refl; carries = refl })
+    (λ h. record { closes = closes; changes = unselected s ∙ (same ∙ h); outputs = refl; status = refl; no_ready = refl; no_array_ready = refl; carries = tt }))
   where
     at : (b : Bool) → row_closer b ChangeReadColumnConfirm ≡ None
     at b = refl
 
+    closes : row_closer (wants_command (tail_of past l) ChangeReadColumnConfirm && names_lun g (row (tail_of past l)) l.lun) ChangeReadColumnConfirm ≡ None
+    closes = at (wants_command (tail_of past l) ChangeReadColumnConfirm && names_lun g (row (tail_of past l)) l.lun)
+
     not_not : (b : Bool) → b ≡ not (not b)
     not_not true = refl
     not_not false = refl
+
+    unselected : selects_plane (tail_of past l) ≡ false → confirms_column (tail_of past l) (names_lun g (row (tail_of past l)) l.lun) (drives_alone g past l) ≡ (wants_command (tail_of past l) ChangeReadColumnConfirm && drives_alone g past l)
+    unselected s = rw s refl
 
     same : (wants_command (tail_of past l) ChangeReadColumnConfirm && drives_alone g past l) ≡ (wants_command (tail_of past l) ChangeReadColumnConfirm && not (is_off (latch_alone g past l)))
     same = ap (λ b. wants_command (tail_of past l) ChangeReadColumnConfirm && b) (not_not (drives_alone g past l) ∙ ap not (sym (alone_off g past l)))

@@ -5,7 +5,7 @@ use Rattle.std.proofs.lemmas.List.{reverse-reverse}
 use Rattle.std.proofs.lemmas.Bool.{or_cases, and_parts}
 use Rattle.nand_geometry.specs.Row.{row_of}
 use Rattle.onfi_cycle.specs.declared.command.Command.{Command}
-use Rattle.onfi_cycle.specs.declared.command.Command.TheVariants.{Read, ChangeReadColumn, BlockErase, ReadStatusEnhanced, PageProgram, ChangeWriteColumn, ReadId, ReadParameterPage, ReadUniqueId, GetFeatures, SetFeatures, ResetLun}
+use Rattle.onfi_cycle.specs.declared.command.Command.TheVariants.{Read, ChangeReadColumn, BlockErase, ReadStatusEnhanced, PageProgram, ChangeWriteColumn, ReadId, ReadParameterPage, ReadUniqueId, GetFeatures, SetFeatures, ResetLun, ChangeReadColumnEnhanced}
 use Rattle.onfi_cycle.specs.declared.opening.Opening.{Opening}
 use Rattle.onfi_cycle.specs.declared.row_bytes.RowBytes.{RowBytes}
 use Rattle.onfi_cycle.specs.declared.data_phase.DataPhase.{DataPhase}
@@ -60,6 +60,13 @@ opening_rows ChangeReadColumn [] h = λ r1 r2 r3 older is. cc
 opening_rows ChangeReadColumn (a ∷ []) h = λ r1 r2 r3 older is. cc
 opening_rows ChangeReadColumn (a ∷ (b ∷ [])) h = λ r1 r2 r3 older is. cc
 opening_rows ChangeReadColumn (a ∷ (b ∷ (x ∷ more))) h = absurd (omega arith)
+opening_rows ChangeReadColumnEnhanced [] h = λ r1 r2 r3 older is. cc
+opening_rows ChangeReadColumnEnhanced (a ∷ []) h = λ r1 r2 r3 older is. cc
+opening_rows ChangeReadColumnEnhanced (a ∷ (b ∷ [])) h = λ r1 r2 r3 older is. cc
+opening_rows ChangeReadColumnEnhanced (a ∷ (b ∷ (c ∷ []))) h = λ r1 r2 r3 older is. cc
+opening_rows ChangeReadColumnEnhanced (a ∷ (b ∷ (c ∷ (d ∷ [])))) h = λ r1 r2 r3 older is. cc
+opening_rows ChangeReadColumnEnhanced (a ∷ (b ∷ (c ∷ (d ∷ (e ∷ []))))) h = λ r1 r2 r3 older is. same_row c d e r1 r2 r3 older is
+opening_rows ChangeReadColumnEnhanced (a ∷ (b ∷ (c ∷ (d ∷ (e ∷ (x ∷ more)))))) h = absurd (omega arith)
 opening_rows BlockErase [] h = λ r1 r2 r3 older is. cc
 opening_rows BlockErase (a ∷ []) h = λ r1 r2 r3 older is. cc
 opening_rows BlockErase (a ∷ (b ∷ [])) h = λ r1 r2 r3 older is. cc
@@ -112,6 +119,13 @@ opening_columns ChangeReadColumn [] h = λ w c1 c2 older is s. cc
 opening_columns ChangeReadColumn (a ∷ []) h = λ w c1 c2 older is s. absurd (odd_is_not_whole a w)
 opening_columns ChangeReadColumn (a ∷ (b ∷ [])) h = λ w c1 c2 older is s. same_column a b c1 c2 older is s
 opening_columns ChangeReadColumn (a ∷ (b ∷ (x ∷ more))) h = absurd (omega arith)
+opening_columns ChangeReadColumnEnhanced [] h = λ w c1 c2 older is s. cc
+opening_columns ChangeReadColumnEnhanced (a ∷ []) h = λ w c1 c2 older is s. absurd (odd_is_not_whole a w)
+opening_columns ChangeReadColumnEnhanced (a ∷ (b ∷ [])) h = λ w c1 c2 older is s. same_column a b c1 c2 older is s
+opening_columns ChangeReadColumnEnhanced (a ∷ (b ∷ (c ∷ []))) h = λ w c1 c2 older is s. same_column a b c1 c2 older is s
+opening_columns ChangeReadColumnEnhanced (a ∷ (b ∷ (c ∷ (d ∷ [])))) h = λ w c1 c2 older is s. same_column a b c1 c2 older is s
+opening_columns ChangeReadColumnEnhanced (a ∷ (b ∷ (c ∷ (d ∷ (e ∷ []))))) h = λ w c1 c2 older is s. same_column a b c1 c2 older is s
+opening_columns ChangeReadColumnEnhanced (a ∷ (b ∷ (c ∷ (d ∷ (e ∷ (x ∷ more)))))) h = absurd (omega arith)
 opening_columns BlockErase [] h = λ w c1 c2 older is s. cc
 opening_columns BlockErase (a ∷ []) h = λ w c1 c2 older is s. cc
 opening_columns BlockErase (a ∷ (b ∷ [])) h = λ w c1 c2 older is s. cc

@@ -9,7 +9,7 @@ use Rattle.onfi_cycle.proofs.Booleans.{and_rest, clash}
 use Rattle.nand_geometry.specs.declared.parts.Parts.{Parts}
 use Rattle.nand_geometry.specs.Row.{parts_of, is_inside}
 use Rattle.onfi_cycle.specs.declared.command.Command.{Command}
-use Rattle.onfi_cycle.specs.declared.command.Command.TheVariants.{Read, BlockErase, PageProgram, ChangeWriteColumn, ReadId, ReadParameterPage, ReadUniqueId, GetFeatures, SetFeatures}
+use Rattle.onfi_cycle.specs.declared.command.Command.TheVariants.{Read, BlockErase, PageProgram, ChangeWriteColumn, ReadId, ReadParameterPage, ReadUniqueId, GetFeatures, SetFeatures, ChangeReadColumnEnhanced}
 use Rattle.onfi_cycle.specs.declared.data_phase.DataPhase.{DataPhase}
 use Rattle.onfi_cycle.specs.declared.data_phase.DataPhase.TheVariants.{Inputs, Outside, FirstColumn, SecondColumn, FeatureInputs}
 use Rattle.onfi_cycle.specs.declared.effect.Effect.{Effect}
@@ -180,6 +180,7 @@ one_of false false c h x y z = z h
 -- no address of theirs does anything
 array_rests : (g : Parts) (t : TailFacts) (byte : ℕ) (c : Command) (m n : ℕ) → addresses_the_array c ≡ true → address_effect g t byte c m n ≡ Unaffected
 array_rests g t byte Read m n h = refl
+array_rests g t byte ChangeReadColumnEnhanced m n h = refl
 array_rests g t byte BlockErase m n h = refl
 array_rests g t byte PageProgram m n h = refl
 array_rests g t byte _ m n h = cc

@@ -12,9 +12,9 @@ use Rattle.onfi_cycle.specs.declared.opening.Opening.{Opening}
 use Rattle.onfi_cycle.specs.declared.target_cycle.TargetCycle.{TargetCycle}
 use Rattle.onfi_cycle.specs.declared.target_cycle.TargetCycle.TheVariants.{CommandCycle, AddressCycle, InputCycle, OutputCycle}
 use Rattle.onfi_cycle.specs.declared.effect.Effect.{Effect}
-use Rattle.onfi_cycle.specs.declared.effect.Effect.TheVariants.{Unaffected, StatusSelected, StatusOfSelected, AnotherAddressed, TargetResetStarted, SelectedForStatus, Deselected, IdRead, IdentityRead, UniqueIdReadStarted, FeaturesReadStarted, FeaturesSet, ParameterPageReadStarted, CacheReadContinued, CacheReadEnded, BecameReady, ArrayBecameReady, ReadColumnChanged, DataOutput, ResetStarted}
+use Rattle.onfi_cycle.specs.declared.effect.Effect.TheVariants.{Unaffected, StatusSelected, StatusOfSelected, AnotherAddressed, TargetResetStarted, SelectedForStatus, Deselected, IdRead, IdentityRead, UniqueIdReadStarted, FeaturesReadStarted, FeaturesSet, ParameterPageReadStarted, CacheReadContinued, CacheReadEnded, BecameReady, ArrayBecameReady, ReadColumnChanged, DataOutput, ResetStarted, PlaneSelected}
 use Rattle.onfi_cycle.specs.declared.page_address.PageAddress.{PageAddress}
-use Rattle.onfi_cycle.specs.Sequence.{target_cycle, row, row_with, wants_command, wants_address}
+use Rattle.onfi_cycle.specs.Sequence.{target_cycle, row, row_with, wants_command, wants_address, selects_plane}
 use Rattle.onfi_cycle.specs.Effect.{is_off, is_data, is_shared, acts_for_target, page_address, names_lun, command_effect, address_effect, id_effect, opening_address_effect, cycle_effect, ends_features}
 use Rattle.onfi_cycle.specs.Lun.{selected_after, overlapped_after, latch_alone, is_selected, is_overlapped, is_busy, is_array_busy, effect_on, effect_among}
 use Rattle.onfi_cycle.specs.Decides.{or_before, last_decided, tail_of, selected_by_row, selected_by_address, selected_by_opening, selected_cycle, selected_decided, overlapped_by_row, overlapped_by_address, overlapped_by_opening, overlapped_cycle, overlapped_decided}
@@ -46,6 +46,12 @@ read_on_selected : (wants named shared o p : Bool) (page : PageAddress) → sele
 read_on_selected true named shared o p page = row_selected true named shared true p (CacheReadContinued (Some page)) refl
 read_on_selected false named shared o p page = same_selected o p Unaffected (CacheReadContinued None) refl refl
 
+-- E0; s: it closes a 06; c: it changes the column of the one driver
+plane_selected : (s named c p : Bool) (from : ℕ) → selected_after (cond s (cond named (PlaneSelected from) Deselected) (cond c (ReadColumnChanged from) Unaffected)) p ≡ unwrap_or (cond s (Some named) None) p
+plane_selected true true c p from = refl
+plane_selected true false c p from = refl
+plane_selected false named c p from = same_selected c p (ReadColumnChanged from) Unaffected refl refl
+
 command_selected : (g : Parts) (past : List Item) (l : Lun) (la : Latch) (c : Command) (p : Bool) → selected_after (command_effect g (tail_of past l) la c l.lun) p ≡ unwrap_or (selected_cycle g past l (CommandCycle c)) p
 command_selected g past l la Read p = refl
 command_selected g past l la ReadStatus p = same_selected (is_shared g) p StatusOfSelected StatusSelected refl refl
@@ -54,7 +60,7 @@ command_selected g past l la Reset p = reset_selected (is_shared g) (l.lun == 0)
 command_selected g past l la SynchronousReset p = reset_selected (is_shared g) (l.lun == 0) p
 command_selected g past l la ReadCacheSequential p = read_on_selected (wants_command (tail_of past l) ReadCacheSequential) (names_lun g (row (tail_of past l)) l.lun) (is_shared g) (is_off la) p (page_address g (row (tail_of past l)))
 command_selected g past l la ReadCacheEnd p = same_selected (is_off la) p Unaffected CacheReadEnded refl refl
-command_selected g past l la ChangeReadColumnConfirm p = same_selected (wants_command (tail_of past l) ChangeReadColumnConfirm && not (is_off la)) p (ReadColumnChanged (tail_of past l).column) Unaffected refl refl
+command_selected g past l la ChangeReadColumnConfirm p = plane_selected (selects_plane (tail_of past l)) (names_lun g (row (tail_of past l)) l.lun) (wants_command (tail_of past l) ChangeReadColumnConfirm && not (is_off la)) p (tail_of past l).column
 command_selected g past l la ReadConfirm p = row_selected (wants_command (tail_of past l) ReadConfirm) (names_lun g (row (tail_of past l)) l.lun) (is_shared g) true p _ refl
 command_selected g past l la BlockEraseConfirm p = row_selected (wants_command (tail_of past l) BlockEraseConfirm) (names_lun g (row (tail_of past l)) l.lun) (is_shared g) false p _ refl
 command_selected g past l la BlockErasePlane p = row_selected (wants_command (tail_of past l) BlockErasePlane) (names_lun g (row (tail_of past l)) l.lun) (is_shared g) false p _ refl
@@ -159,6 +165,11 @@ read_on_overlapped : (wants named shared o q p : Bool) (page : PageAddress) → 
 read_on_overlapped true named shared o q p page = row_overlapped true named shared true q p (CacheReadContinued (Some page)) refl
 read_on_overlapped false named shared o q p page = same_overlapped o q p Unaffected (CacheReadContinued None) refl refl
 
+plane_overlapped : (s named c q p : Bool) (from : ℕ) → overlapped_after (cond s (cond named (PlaneSelected from) Deselected) (cond c (ReadColumnChanged from) Unaffected)) q p ≡ unwrap_or (cond s (Some false) None) p
+plane_overlapped true true c q p from = refl
+plane_overlapped true false c q p from = refl
+plane_overlapped false named c q p from = same_overlapped c q p (ReadColumnChanged from) Unaffected refl refl
+
 command_overlapped : (g : Parts) (past : List Item) (l : Lun) (la : Latch) (c : Command) (p : Bool) → overlapped_after (command_effect g (tail_of past l) la c l.lun) (is_busy g past l || is_array_busy g past l) p ≡ unwrap_or (overlapped_cycle g past l (CommandCycle c)) p
 command_overlapped g past l la Read p = refl
 command_overlapped g past l la ReadStatus p = same_overlapped (is_shared g) _ p StatusOfSelected StatusSelected refl refl
@@ -167,7 +178,7 @@ command_overlapped g past l la Reset p = reset_overlapped (is_shared g) (l.lun =
 command_overlapped g past l la SynchronousReset p = reset_overlapped (is_shared g) (l.lun == 0) _ p
 command_overlapped g past l la ReadCacheSequential p = read_on_overlapped (wants_command (tail_of past l) ReadCacheSequential) (names_lun g (row (tail_of past l)) l.lun) (is_shared g) (is_off la) _ p (page_address g (row (tail_of past l)))
 command_overlapped g past l la ReadCacheEnd p = same_overlapped (is_off la) _ p Unaffected CacheReadEnded refl refl
-command_overlapped g past l la ChangeReadColumnConfirm p = same_overlapped (wants_command (tail_of past l) ChangeReadColumnConfirm && not (is_off la)) _ p (ReadColumnChanged (tail_of past l).column) Unaffected refl refl
+command_overlapped g past l la ChangeReadColumnConfirm p = plane_overlapped (selects_plane (tail_of past l)) (names_lun g (row (tail_of past l)) l.lun) (wants_command (tail_of past l) ChangeReadColumnConfirm && not (is_off la)) _ p (tail_of past l).column
 command_overlapped g past l la ReadConfirm p = row_overlapped (wants_command (tail_of past l) ReadConfirm) (names_lun g (row (tail_of past l)) l.lun) (is_shared g) true _ p _ refl
 command_overlapped g past l la BlockEraseConfirm p = row_overlapped (wants_command (tail_of past l) BlockEraseConfirm) (names_lun g (row (tail_of past l)) l.lun) (is_shared g) false _ p _ refl
 command_overlapped g past l la BlockErasePlane p = row_overlapped (wants_command (tail_of past l) BlockErasePlane) (names_lun g (row (tail_of past l)) l.lun) (is_shared g) false _ p _ refl

@@ -4,9 +4,9 @@ use Rattle.std.proofs.Common.{◌≡◌, ℕ, zero, suc, ◌+◌, ◌==◌, Bool
 use Rattle.std.proofs.lemmas.Bool.{and_parts, or_from, or_parts as neither}
 use Rattle.nand_geometry.specs.declared.parts.Parts.{Parts}
 use Rattle.onfi_cycle.specs.declared.command.Command.{Command}
-use Rattle.onfi_cycle.specs.declared.command.Command.TheVariants.{Read, ReadConfirm, ChangeReadColumn, ChangeReadColumnConfirm, BlockErase, BlockEraseConfirm, BlockErasePlane, ReadStatus, ReadStatusEnhanced, PageProgram, ChangeWriteColumn, ProgramConfirm, ProgramPlane, ReadId, ReadParameterPage, Reset, ReadCacheSequential, ReadCacheEnd, ReadUniqueId, GetFeatures, SetFeatures, ResetLun, SynchronousReset, Unknown}
+use Rattle.onfi_cycle.specs.declared.command.Command.TheVariants.{Read, ReadConfirm, ChangeReadColumn, ChangeReadColumnConfirm, BlockErase, BlockEraseConfirm, BlockErasePlane, ReadStatus, ReadStatusEnhanced, PageProgram, ChangeWriteColumn, ProgramConfirm, ProgramPlane, ReadId, ReadParameterPage, Reset, ReadCacheSequential, ReadCacheEnd, ReadUniqueId, GetFeatures, SetFeatures, ResetLun, SynchronousReset, Unknown, ChangeReadColumnEnhanced}
 use Rattle.onfi_cycle.specs.declared.effect.Effect.{Effect}
-use Rattle.onfi_cycle.specs.declared.effect.Effect.TheVariants.{Unaffected, DataOutputEnabled, StatusSelected, StatusRowAwaited, SelectedForStatus, Deselected, IdRead, IdentityRead, UniqueIdReadStarted, FeaturesReadStarted, FeaturesSet, ParameterPageReadStarted, CacheReadContinued, CacheReadEnded, DataOutput, ResetStarted, BecameReady, ArrayBecameReady, ReadStarted, EraseStarted, ProgramStarted, ReadColumnChanged, AnotherAddressed, StatusOfSelected, TargetResetStarted}
+use Rattle.onfi_cycle.specs.declared.effect.Effect.TheVariants.{Unaffected, DataOutputEnabled, StatusSelected, StatusRowAwaited, SelectedForStatus, Deselected, IdRead, IdentityRead, UniqueIdReadStarted, FeaturesReadStarted, FeaturesSet, ParameterPageReadStarted, CacheReadContinued, CacheReadEnded, DataOutput, ResetStarted, BecameReady, ArrayBecameReady, ReadStarted, EraseStarted, ProgramStarted, ReadColumnChanged, AnotherAddressed, StatusOfSelected, TargetResetStarted, PlaneSelected}
 use Rattle.onfi_cycle.specs.declared.item.Item.{Item}
 use Rattle.onfi_cycle.specs.declared.item.Item.TheVariants.{Cyc, Rdy, Ard}
 use Rattle.onfi_cycle.specs.declared.latch.Latch.{Latch}
@@ -16,8 +16,8 @@ use Rattle.onfi_cycle.specs.declared.tail_facts.TailFacts.{TailFacts}
 use Rattle.onfi_cycle.specs.declared.target_cycle.TargetCycle.{TargetCycle}
 use Rattle.onfi_cycle.specs.declared.target_cycle.TargetCycle.TheVariants.{CommandCycle, AddressCycle, InputCycle, OutputCycle}
 use Rattle.onfi_cycle.specs.Command.{closes_row, reads_row, reads_identity}
-use Rattle.onfi_cycle.specs.Sequence.{target_cycle, tail, facts_of, opened, takes_features, wants_command, row, row_with}
-use Rattle.onfi_cycle.specs.Effect.{is_off, is_data, is_shared, names_lun, confirm_effect, row_effect, cache_effect, command_effect, address_effect, opening_address_effect, lun_reset_effect, of_target, cycle_effect}
+use Rattle.onfi_cycle.specs.Sequence.{target_cycle, tail, facts_of, opened, takes_features, wants_command, row, row_with, selects_plane}
+use Rattle.onfi_cycle.specs.Effect.{is_off, is_data, is_shared, names_lun, confirm_effect, row_effect, cache_effect, command_effect, address_effect, opening_address_effect, lun_reset_effect, of_target, cycle_effect, plane_effect, column_effect}
 use Rattle.onfi_cycle.specs.Lun.{busy_after, closer_after, is_target_work, effect_on, effect_among, alone, latch, is_busy, closer, lun_view, views_from}
 use Rattle.onfi_cycle.specs.Rules.{works_for_target}
 use Rattle.onfi_cycle.specs.OtherLun.{serves_target, keeps_to_lun, keeps_to, is_of}
@@ -58,6 +58,7 @@ serves_no_more ParameterPageReadStarted b c h k = cc
 serves_no_more (CacheReadContinued to) b c h k = refl
 serves_no_more CacheReadEnded b c h k = refl
 serves_no_more (ReadColumnChanged column) b c h k = k
+serves_no_more (PlaneSelected column) b c h k = k
 serves_no_more DataOutput b c h k = k
 serves_no_more ResetStarted b c h k = refl
 serves_no_more (TargetResetStarted first) b c h k = refl
@@ -80,7 +81,10 @@ command_serves : (g : Parts) (t : TailFacts) (la : Latch) (c : Command) (n : ℕ
 command_serves g t la Read n = refl
 command_serves g t la ReadConfirm n = closer_serves (wants_command t ReadConfirm && names_lun g (row t) n) (closes_row ReadConfirm && (wants_command t ReadConfirm && is_shared g)) (reads_row ReadConfirm) (confirm_effect g t ReadConfirm) refl
 command_serves g t la ChangeReadColumn n = closer_serves (wants_command t ChangeReadColumn && names_lun g (row t) n) (closes_row ChangeReadColumn && (wants_command t ChangeReadColumn && is_shared g)) (reads_row ChangeReadColumn) (confirm_effect g t ChangeReadColumn) refl
-command_serves g t la ChangeReadColumnConfirm n = either (wants_command t ChangeReadColumnConfirm && not (is_off la)) (ReadColumnChanged t.column) Unaffected refl refl
+command_serves g t la ChangeReadColumnEnhanced n = closer_serves (wants_command t ChangeReadColumnEnhanced && names_lun g (row t) n) (closes_row ChangeReadColumnEnhanced && (wants_command t ChangeReadColumnEnhanced && is_shared g)) (reads_row ChangeReadColumnEnhanced) (confirm_effect g t ChangeReadColumnEnhanced) refl
+command_serves g t la ChangeReadColumnConfirm n =
+    either (selects_plane t) (plane_effect g t n) (column_effect t la) (either (names_lun g (row t) n) (PlaneSelected t.column) Deselected refl refl)
+    (either (wants_command t ChangeReadColumnConfirm && not (is_off la)) (ReadColumnChanged t.column) Unaffected refl refl)
 command_serves g t la BlockErase n = closer_serves (wants_command t BlockErase && names_lun g (row t) n) (closes_row BlockErase && (wants_command t BlockErase && is_shared g)) (reads_row BlockErase) (confirm_effect g t BlockErase) refl
 command_serves g t la BlockEraseConfirm n = closer_serves (wants_command t BlockEraseConfirm && names_lun g (row t) n) (closes_row BlockEraseConfirm && (wants_command t BlockEraseConfirm && is_shared g)) (reads_row BlockEraseConfirm) (confirm_effect g t BlockEraseConfirm) refl
 command_serves g t la BlockErasePlane n = closer_serves (wants_command t BlockErasePlane && names_lun g (row t) n) (closes_row BlockErasePlane && (wants_command t BlockErasePlane && is_shared g)) (reads_row BlockErasePlane) (confirm_effect g t BlockErasePlane) refl
@@ -109,6 +113,7 @@ address_serves : (g : Parts) (t : TailFacts) (byte : ℕ) (c : Command) (k n : �
 address_serves g t byte Read k n none = refl
 address_serves g t byte ReadConfirm k n none = refl
 address_serves g t byte ChangeReadColumn k n none = refl
+address_serves g t byte ChangeReadColumnEnhanced k n none = refl
 address_serves g t byte ChangeReadColumnConfirm k n none = refl
 address_serves g t byte BlockErase k n none = refl
 address_serves g t byte BlockEraseConfirm k n none = refl

@@ -5,7 +5,7 @@ use Rattle.std.proofs.lemmas.List.{reverse-append, reverse-reverse}
 use Rattle.std.proofs.lemmas.Bool.{or_cases, or_right, and_parts, and_from, or_left}
 use Rattle.onfi_cycle.proofs.Booleans.{clash}
 use Rattle.onfi_cycle.specs.declared.command.Command.{Command}
-use Rattle.onfi_cycle.specs.declared.command.Command.TheVariants.{Read, ReadConfirm, ChangeReadColumn, ChangeReadColumnConfirm, BlockErase, BlockEraseConfirm, BlockErasePlane, ReadStatusEnhanced, PageProgram, ChangeWriteColumn, ProgramConfirm, ProgramPlane, ReadId, ReadParameterPage, ReadUniqueId, GetFeatures, SetFeatures, ResetLun, ReadCacheSequential}
+use Rattle.onfi_cycle.specs.declared.command.Command.TheVariants.{Read, ReadConfirm, ChangeReadColumn, ChangeReadColumnConfirm, BlockErase, BlockEraseConfirm, BlockErasePlane, ReadStatusEnhanced, PageProgram, ChangeWriteColumn, ProgramConfirm, ProgramPlane, ReadId, ReadParameterPage, ReadUniqueId, GetFeatures, SetFeatures, ResetLun, ReadCacheSequential, ChangeReadColumnEnhanced}
 use Rattle.onfi_cycle.specs.declared.opening.Opening.{Opening}
 use Rattle.onfi_cycle.specs.declared.data_phase.DataPhase.{DataPhase}
 use Rattle.onfi_cycle.specs.declared.data_phase.DataPhase.TheVariants.{Outside, Inputs, FirstColumn, SecondColumn, FeatureInputs}
@@ -17,7 +17,7 @@ use Rattle.onfi_cycle.specs.Sequence.{begins_sequence, one_address_more, opening
 use Rattle.onfi_cycle.specs.Table.{IsProgramData, IsProgramCloser, IsSequence, IsBeginning, IsProperBeginning, TailsFollowTheTable}
 use Rattle.onfi_cycle.specs.Table.IsProgramData.{nothing, input, column}
 use Rattle.onfi_cycle.specs.Table.IsProgramCloser.{whole, plane}
-use Rattle.onfi_cycle.specs.Table.IsSequence.{read, read_cache_random, change_read_column, erase, erase_plane, read_status, read_status_enhanced, program, read_id, read_parameter_page, reset, read_cache_sequential, read_cache_end, read_manufacturer, read_jedec, read_unique_id, get_features, set_features, reset_lun, synchronous_reset}
+use Rattle.onfi_cycle.specs.Table.IsSequence.{read, read_cache_random, change_read_column, change_read_column_enhanced, erase, erase_plane, read_status, read_status_enhanced, program, read_id, read_parameter_page, reset, read_cache_sequential, read_cache_end, read_manufacturer, read_jedec, read_unique_id, get_features, set_features, reset_lun, synchronous_reset}
 
 -- 1. A sequence, read in the order of time, is wanted cycle by cycle.
 
@@ -64,6 +64,7 @@ sequence_scans : (s : List TargetCycle) → IsSequence s → scans s ≡ true
 sequence_scans _ (read c1 c2 r1 r2 r3) = refl
 sequence_scans _ (read_cache_random c1 c2 r1 r2 r3) = refl
 sequence_scans _ (change_read_column c1 c2) = refl
+sequence_scans _ (change_read_column_enhanced c1 c2 r1 r2 r3) = refl
 sequence_scans _ (erase r1 r2 r3) = refl
 sequence_scans _ (erase_plane r1 r2 r3) = refl
 sequence_scans _ read_status = refl
@@ -367,6 +368,15 @@ change_begins (a ∷ []) h = (AddressCycle 0 ∷ (CommandCycle ChangeReadColumnC
 change_begins (a ∷ (b ∷ [])) h = (CommandCycle ChangeReadColumnConfirm ∷ [], change_read_column a b)
 change_begins (a ∷ (b ∷ (x ∷ more))) h = absurd (omega arith)
 
+plane_begins : (bs : List ℕ) → length bs ≤ 5 → IsBeginning (CommandCycle ChangeReadColumnEnhanced ∷ addresses bs)
+plane_begins [] h = (AddressCycle 0 ∷ (AddressCycle 0 ∷ (AddressCycle 0 ∷ (AddressCycle 0 ∷ (AddressCycle 0 ∷ (CommandCycle ChangeReadColumnConfirm ∷ []))))), change_read_column_enhanced 0 0 0 0 0)
+plane_begins (a ∷ []) h = (AddressCycle 0 ∷ (AddressCycle 0 ∷ (AddressCycle 0 ∷ (AddressCycle 0 ∷ (CommandCycle ChangeReadColumnConfirm ∷ [])))), change_read_column_enhanced a 0 0 0 0)
+plane_begins (a ∷ (b ∷ [])) h = (AddressCycle 0 ∷ (AddressCycle 0 ∷ (AddressCycle 0 ∷ (CommandCycle ChangeReadColumnConfirm ∷ []))), change_read_column_enhanced a b 0 0 0)
+plane_begins (a ∷ (b ∷ (c ∷ []))) h = (AddressCycle 0 ∷ (AddressCycle 0 ∷ (CommandCycle ChangeReadColumnConfirm ∷ [])), change_read_column_enhanced a b c 0 0)
+plane_begins (a ∷ (b ∷ (c ∷ (d ∷ [])))) h = (AddressCycle 0 ∷ (CommandCycle ChangeReadColumnConfirm ∷ []), change_read_column_enhanced a b c d 0)
+plane_begins (a ∷ (b ∷ (c ∷ (d ∷ (e ∷ []))))) h = (CommandCycle ChangeReadColumnConfirm ∷ [], change_read_column_enhanced a b c d e)
+plane_begins (a ∷ (b ∷ (c ∷ (d ∷ (e ∷ (x ∷ more)))))) h = absurd (omega arith)
+
 erase_begins : (bs : List ℕ) → length bs ≤ 3 → IsBeginning (CommandCycle BlockErase ∷ addresses bs)
 erase_begins [] h = (AddressCycle 0 ∷ (AddressCycle 0 ∷ (AddressCycle 0 ∷ (CommandCycle BlockEraseConfirm ∷ []))), erase 0 0 0)
 erase_begins (a ∷ []) h = (AddressCycle 0 ∷ (AddressCycle 0 ∷ (CommandCycle BlockEraseConfirm ∷ [])), erase a 0 0)
@@ -420,6 +430,7 @@ id_begins b h = at (b == 0x20) (b == 0x00) (b == 0x40) refl refl refl h
 address_begins : (c : Command) (bs : List ℕ) (b : ℕ) → (is_opener c && ltb (length bs) (address_cycles c) && takes_address c b) ≡ true → IsBeginning (CommandCycle c ∷ addresses (bs ++ (b ∷ [])))
 address_begins Read bs b h = read_begins (bs ++ (b ∷ [])) (grind (arith, nat_tests, length_more bs b, h))
 address_begins ChangeReadColumn bs b h = change_begins (bs ++ (b ∷ [])) (grind (arith, nat_tests, length_more bs b, h))
+address_begins ChangeReadColumnEnhanced bs b h = plane_begins (bs ++ (b ∷ [])) (grind (arith, nat_tests, length_more bs b, h))
 address_begins BlockErase bs b h = erase_begins (bs ++ (b ∷ [])) (grind (arith, nat_tests, length_more bs b, h))
 address_begins ReadStatusEnhanced bs b h = status_begins (bs ++ (b ∷ [])) (grind (arith, nat_tests, length_more bs b, h))
 address_begins PageProgram bs b h = program_begins (bs ++ (b ∷ [])) (grind (arith, nat_tests, length_more bs b, h))
@@ -461,6 +472,15 @@ change_ends [] h = absurd (omega arith)
 change_ends (a ∷ []) h = absurd (omega arith)
 change_ends (a ∷ (b ∷ (x ∷ more))) h = absurd (omega arith)
 
+plane_ends : (bs : List ℕ) → length bs ≡ 5 → IsSequence (CommandCycle ChangeReadColumnEnhanced ∷ (addresses bs ++ (CommandCycle ChangeReadColumnConfirm ∷ [])))
+plane_ends (a ∷ (b ∷ (c ∷ (d ∷ (e ∷ []))))) h = change_read_column_enhanced a b c d e
+plane_ends [] h = absurd (omega arith)
+plane_ends (a ∷ []) h = absurd (omega arith)
+plane_ends (a ∷ (b ∷ [])) h = absurd (omega arith)
+plane_ends (a ∷ (b ∷ (c ∷ []))) h = absurd (omega arith)
+plane_ends (a ∷ (b ∷ (c ∷ (d ∷ [])))) h = absurd (omega arith)
+plane_ends (a ∷ (b ∷ (c ∷ (d ∷ (e ∷ (x ∷ more)))))) h = absurd (omega arith)
+
 erase_ends : (bs : List ℕ) → length bs ≡ 3 → IsSequence (CommandCycle BlockErase ∷ (addresses bs ++ (CommandCycle BlockEraseConfirm ∷ [])))
 erase_ends (a ∷ (b ∷ (c ∷ []))) h = erase a b c
 erase_ends [] h = absurd (omega arith)
@@ -479,6 +499,7 @@ closer_ends : (c d : Command) (bs : List ℕ) → (closes c d && length bs == ad
 closer_ends Read ReadConfirm bs h = read_ends bs (eqb-true (length bs) 5 h)
 closer_ends Read ReadCacheSequential bs h = cache_read_ends bs (eqb-true (length bs) 5 h)
 closer_ends ChangeReadColumn ChangeReadColumnConfirm bs h = change_ends bs (eqb-true (length bs) 2 h)
+closer_ends ChangeReadColumnEnhanced ChangeReadColumnConfirm bs h = plane_ends bs (eqb-true (length bs) 5 h)
 closer_ends BlockErase BlockEraseConfirm bs h = erase_ends bs (eqb-true (length bs) 3 h)
 closer_ends BlockErase BlockErasePlane bs h = erase_plane_ends bs (eqb-true (length bs) 3 h)
 closer_ends _ _ bs h = cc
@@ -606,6 +627,7 @@ next_or_closer c d bs b o k le ends = at (ltb (length bs) (address_cycles c)) re
 proper_next : (c : Command) (bs : List ℕ) → is_proper_beginning c (length bs) ≡ true → (next : TargetCycle) × IsBeginning (CommandCycle c ∷ (addresses bs ++ (next ∷ [])))
 proper_next Read bs h = next_or_closer Read ReadConfirm bs 0 refl refl (grind (arith, nat_tests, h)) (read_ends bs)
 proper_next ChangeReadColumn bs h = next_or_closer ChangeReadColumn ChangeReadColumnConfirm bs 0 refl refl (grind (arith, nat_tests, h)) (change_ends bs)
+proper_next ChangeReadColumnEnhanced bs h = next_or_closer ChangeReadColumnEnhanced ChangeReadColumnConfirm bs 0 refl refl (grind (arith, nat_tests, h)) (plane_ends bs)
 proper_next BlockErase bs h = next_or_closer BlockErase BlockEraseConfirm bs 0 refl refl (grind (arith, nat_tests, h)) (erase_ends bs)
 proper_next PageProgram bs h = next_or_closer PageProgram ProgramConfirm bs 0 refl refl (grind (arith, nat_tests, h)) (program_end bs)
 proper_next ReadStatusEnhanced bs h = address_next ReadStatusEnhanced bs 0 (grind (arith, nat_tests, h))
@@ -663,6 +685,7 @@ closed_is_proper : (c d : Command) (n : ℕ) → (closes c d && n == address_cyc
 closed_is_proper Read ReadConfirm n h = grind (arith, nat_tests, h)
 closed_is_proper Read ReadCacheSequential n h = grind (arith, nat_tests, h)
 closed_is_proper ChangeReadColumn ChangeReadColumnConfirm n h = grind (arith, nat_tests, h)
+closed_is_proper ChangeReadColumnEnhanced ChangeReadColumnConfirm n h = grind (arith, nat_tests, h)
 closed_is_proper BlockErase BlockEraseConfirm n h = grind (arith, nat_tests, h)
 closed_is_proper BlockErase BlockErasePlane n h = grind (arith, nat_tests, h)
 closed_is_proper _ _ n h = cc
@@ -686,6 +709,7 @@ begun_is_proper : (c : Command) (n b : ℕ) → (is_opener c && ltb n (address_c
 unfolding is_lone_read
 begun_is_proper Read n b h k = grind (arith, nat_tests, h, k)
 begun_is_proper ChangeReadColumn n b h k = grind (arith, nat_tests, h)
+begun_is_proper ChangeReadColumnEnhanced n b h k = grind (arith, nat_tests, h)
 begun_is_proper BlockErase n b h k = grind (arith, nat_tests, h)
 begun_is_proper ReadStatusEnhanced n b h k = grind (arith, nat_tests, h)
 begun_is_proper PageProgram n b h k = grind (arith, nat_tests, h)

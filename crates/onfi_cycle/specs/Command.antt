@@ -1,7 +1,7 @@
 -- The commands of the profiles: their bytes, and what each asks of its sequence.
 use Rattle.std.specs.Prelude.{◌≡◌, ◌≢◌, ℕ, ◌==◌, Bool, true, false, ◌||◌, if◌then◌else◌, Option, Some, None}
 use Rattle.onfi_cycle.specs.declared.command.Command.{Command}
-use Rattle.onfi_cycle.specs.declared.command.Command.TheVariants.{Read, ReadConfirm, ChangeReadColumn, ChangeReadColumnConfirm, BlockErase, BlockEraseConfirm, BlockErasePlane, ReadStatus, ReadStatusEnhanced, PageProgram, ChangeWriteColumn, ProgramConfirm, ProgramPlane, ReadId, ReadParameterPage, Reset, ReadCacheSequential, ReadCacheEnd, ReadUniqueId, GetFeatures, SetFeatures, ResetLun, SynchronousReset, Unknown}
+use Rattle.onfi_cycle.specs.declared.command.Command.TheVariants.{Read, ReadConfirm, ChangeReadColumn, ChangeReadColumnEnhanced, ChangeReadColumnConfirm, BlockErase, BlockEraseConfirm, BlockErasePlane, ReadStatus, ReadStatusEnhanced, PageProgram, ChangeWriteColumn, ProgramConfirm, ProgramPlane, ReadId, ReadParameterPage, Reset, ReadCacheSequential, ReadCacheEnd, ReadUniqueId, GetFeatures, SetFeatures, ResetLun, SynchronousReset, Unknown}
 
 -- the command of a byte
 unfoldable pub command : ℕ → Command
@@ -9,6 +9,7 @@ command byte =
     if byte == 0x00 then Read
     else (if byte == 0x30 then ReadConfirm
     else (if byte == 0x05 then ChangeReadColumn
+    else (if byte == 0x06 then ChangeReadColumnEnhanced
     else (if byte == 0xe0 then ChangeReadColumnConfirm
     else (if byte == 0x60 then BlockErase
     else (if byte == 0xd0 then BlockEraseConfirm
@@ -29,13 +30,14 @@ command byte =
     else (if byte == 0xef then SetFeatures
     else (if byte == 0xfa then ResetLun
     else (if byte == 0xfc then SynchronousReset
-    else Unknown))))))))))))))))))))))
+    else Unknown)))))))))))))))))))))))
 
 -- the byte of a command
 abbrev pub opcode : Command → Option ℕ
 opcode Read = Some 0x00
 opcode ReadConfirm = Some 0x30
 opcode ChangeReadColumn = Some 0x05
+opcode ChangeReadColumnEnhanced = Some 0x06
 opcode ChangeReadColumnConfirm = Some 0xe0
 opcode BlockErase = Some 0x60
 opcode BlockEraseConfirm = Some 0xd0
@@ -84,6 +86,7 @@ is_opener _ = true
 abbrev pub address_cycles : Command → ℕ
 address_cycles Read = 5
 address_cycles ChangeReadColumn = 2
+address_cycles ChangeReadColumnEnhanced = 5
 address_cycles BlockErase = 3
 address_cycles ReadStatusEnhanced = 3
 address_cycles PageProgram = 5
@@ -99,6 +102,7 @@ address_cycles _ = 0
 abbrev pub wants_closer : Command → Bool
 wants_closer Read = true
 wants_closer ChangeReadColumn = true
+wants_closer ChangeReadColumnEnhanced = true
 wants_closer BlockErase = true
 wants_closer PageProgram = true
 wants_closer _ = false
@@ -108,6 +112,7 @@ abbrev pub closes : Command → Command → Bool
 closes Read ReadConfirm = true
 closes Read ReadCacheSequential = true
 closes ChangeReadColumn ChangeReadColumnConfirm = true
+closes ChangeReadColumnEnhanced ChangeReadColumnConfirm = true
 closes BlockErase BlockEraseConfirm = true
 closes BlockErase BlockErasePlane = true
 closes _ _ = false
@@ -138,6 +143,7 @@ reads_row _ = false
 -- after this many address cycles the next one is the last of a row
 abbrev pub at_last_row : Command → ℕ → Bool
 at_last_row Read n = n == 4
+at_last_row ChangeReadColumnEnhanced n = n == 4
 at_last_row BlockErase n = n == 2
 at_last_row ReadStatusEnhanced n = n == 2
 at_last_row ResetLun n = n == 2
@@ -147,6 +153,10 @@ at_last_row _ n = false
 abbrev pub is_change_read_column : Command → Bool
 is_change_read_column ChangeReadColumn = true
 is_change_read_column _ = false
+
+abbrev pub is_enhanced_column : Command → Bool
+is_enhanced_column ChangeReadColumnEnhanced = true
+is_enhanced_column _ = false
 
 abbrev pub is_page_program : Command → Bool
 is_page_program PageProgram = true
@@ -166,9 +176,10 @@ is_reset Reset = true
 is_reset SynchronousReset = true
 is_reset _ = false
 
--- the openers whose row is of the array
+-- the openers whose row is of a LUN that has to be ready
 abbrev pub addresses_the_array : Command → Bool
 addresses_the_array Read = true
+addresses_the_array ChangeReadColumnEnhanced = true
 addresses_the_array BlockErase = true
 addresses_the_array PageProgram = true
 addresses_the_array _ = false
@@ -176,6 +187,7 @@ addresses_the_array _ = false
 -- the openers whose column is of a page
 abbrev pub addresses_a_page : Command → Bool
 addresses_a_page Read = true
+addresses_a_page ChangeReadColumnEnhanced = true
 addresses_a_page PageProgram = true
 addresses_a_page _ = false
 

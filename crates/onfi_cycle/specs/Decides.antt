@@ -18,7 +18,7 @@ use Rattle.onfi_cycle.specs.declared.register.Register.{Register}
 use Rattle.onfi_cycle.specs.declared.register.Register.TheVariants.{Empty, Page, ParameterPage, Identifier, Identity, JedecIdentity, UniqueId, Features}
 use Rattle.onfi_cycle.specs.declared.tail_facts.TailFacts.{TailFacts}
 use Rattle.onfi_cycle.specs.Command.{closes_row, reads_row, is_set_features, reads_identity}
-use Rattle.onfi_cycle.specs.Sequence.{target_cycle, tail, facts_of, row, row_with, wants_command, wants_address}
+use Rattle.onfi_cycle.specs.Sequence.{target_cycle, tail, facts_of, row, row_with, selects_plane, wants_command, wants_address}
 use Rattle.onfi_cycle.specs.Effect.{is_data, is_shared, acts_for_target, page_address, names_lun, ends_features}
 use Rattle.onfi_cycle.specs.Lun.{latch, drivers, is_only, is_selected, is_overlapped, is_busy, is_caching, closer, is_array_busy, array_page, register, read_column, queue}
 use Rattle.onfi_cycle.specs.Permitted.{is_legal}
@@ -228,10 +228,14 @@ register_decided g l past i = register_of g past l (byte_of i) (closing g l past
 
 -- 5. the read column
 
--- the one driver changes its column by a Change Read Column that the tail wants to confirm
+-- E0 gives a column to a LUN that is named by the row of a 06, or drives alone
+abbrev pub confirms_column : TailFacts → (named alone : Bool) → Bool
+confirms_column t named alone = if selects_plane t then named else wants_command t ChangeReadColumnConfirm && alone
+
+-- the one driver changes its column by a Change Read Column that the tail wants to confirm, and the LUN that a Change Read Column Enhanced names
 abbrev pub changes_column : Parts → Lun → List Item → Item → Bool
 changes_column g l past i =
-    is_cycle_of is_column_confirm l i && (wants_command (tail_of past l) ChangeReadColumnConfirm && drives_alone g past l)
+    is_cycle_of is_column_confirm l i && confirms_column (tail_of past l) (names_lun g (row (tail_of past l)) l.lun) (drives_alone g past l)
 
 abbrev pub column_of : List Item → Lun → Option Command → Option ℕ
 column_of past l None = None
@@ -329,6 +333,10 @@ abbrev pub passed_latch : Parts → List Item → Lun → Command → Option Lat
 passed_latch g past l c =
     if closes_another g past l c && (reads_row c && not (is_busy g past l || is_array_busy g past l)) then Some Off else None
 
+-- E0 behind 06 shows the data of the LUN that the row names, and turns the others off
+abbrev pub plane_latch : TailFacts → (named : Bool) → Option Latch
+plane_latch t named = if selects_plane t then Some (if named then Data else Off) else None
+
 -- what is read or set for the whole target, and its first LUN does, turns the others off
 abbrev pub turned_off : (wanted first : Bool) → Command → Option Latch
 turned_off wanted first c = if wanted && (not first && reads_identity c) then Some Off else None
@@ -340,6 +348,7 @@ left_latch g l t byte (Some o) = turned_off (wants_address t byte && not (is_set
 abbrev pub latch_cycle : Parts → List Item → Lun → TargetCycle → Option Latch
 latch_cycle g past l (CommandCycle ReadStatus) = Some (status_latch (is_shared g) (is_selected g past l))
 latch_cycle g past l (CommandCycle Read) = read_latch (latch g past l)
+latch_cycle g past l (CommandCycle ChangeReadColumnConfirm) = plane_latch (tail_of past l) (names_lun g (row (tail_of past l)) l.lun)
 latch_cycle g past l (CommandCycle c) = or_before (closed_latch (closing_command g past l c)) (passed_latch g past l c)
 latch_cycle g past l (AddressCycle byte) =
     or_before (selecting_latch g past l byte (tail_of past l).opening)
@@ -375,10 +384,11 @@ abbrev pub selected_by_opening : Parts → Lun → TailFacts → ℕ → Option 
 selected_by_opening g l t byte None = None
 selected_by_opening g l t byte (Some o) = selected_by_address g l t byte o.opener o.addresses
 
--- a LUN is selected by its work and by a 78 of it, and the first one by what is done for the whole target
+-- a LUN is selected by its work and by a 78 or 06 of it, and the first one by what is done for the whole target
 abbrev pub selected_cycle : Parts → List Item → Lun → TargetCycle → Option Bool
 selected_cycle g past l (CommandCycle Reset) = Some (acts_for_target g l.lun)
 selected_cycle g past l (CommandCycle SynchronousReset) = Some (acts_for_target g l.lun)
+selected_cycle g past l (CommandCycle ChangeReadColumnConfirm) = if selects_plane (tail_of past l) then Some (names_lun g (row (tail_of past l)) l.lun) else None
 selected_cycle g past l (CommandCycle c) = selected_by_row (begins_on_row past l c) (names_lun g (row (tail_of past l)) l.lun) (is_shared g)
 selected_cycle g past l (AddressCycle byte) = selected_by_opening g l (tail_of past l) byte (tail_of past l).opening
 selected_cycle g past l (InputCycle byte) = if ends_features (tail_of past l) then Some (acts_for_target g l.lun) else None
@@ -402,10 +412,11 @@ abbrev pub overlapped_by_opening : Parts → Lun → (works : Bool) → TailFact
 overlapped_by_opening g l works t byte None = None
 overlapped_by_opening g l works t byte (Some o) = overlapped_by_address g l works t byte o.opener o.addresses
 
--- a LUN that works is overlapped by the work of another; a 78 ends that, and so does what is done for the whole target
+-- a LUN that works is overlapped by the work of another; a 78 ends that, and so do a 06 and what is done for the whole target
 abbrev pub overlapped_cycle : Parts → List Item → Lun → TargetCycle → Option Bool
 overlapped_cycle g past l (CommandCycle Reset) = if is_shared g then Some false else None
 overlapped_cycle g past l (CommandCycle SynchronousReset) = if is_shared g then Some false else None
+overlapped_cycle g past l (CommandCycle ChangeReadColumnConfirm) = if selects_plane (tail_of past l) then Some false else None
 overlapped_cycle g past l (CommandCycle c) =
     overlapped_by_row (begins_on_row past l c) (names_lun g (row (tail_of past l)) l.lun) (is_shared g) (is_busy g past l || is_array_busy g past l)
 overlapped_cycle g past l (AddressCycle byte) =

@@ -14,11 +14,11 @@ use Rattle.onfi_cycle.specs.declared.target_cycle.TargetCycle.{TargetCycle}
 use Rattle.onfi_cycle.specs.declared.target_cycle.TargetCycle.TheVariants.{CommandCycle, AddressCycle, InputCycle, OutputCycle}
 use Rattle.onfi_cycle.specs.declared.page_address.PageAddress.{PageAddress}
 use Rattle.onfi_cycle.specs.declared.effect.Effect.{Effect}
-use Rattle.onfi_cycle.specs.declared.effect.Effect.TheVariants.{Unaffected, DataOutputEnabled, StatusSelected, StatusRowAwaited, SelectedForStatus, Deselected, IdRead, IdentityRead, UniqueIdReadStarted, FeaturesReadStarted, FeaturesSet, ParameterPageReadStarted, CacheReadContinued, CacheReadEnded, DataOutput, ResetStarted, BecameReady, ArrayBecameReady, ReadStarted, EraseStarted, ProgramStarted, ReadColumnChanged, AnotherAddressed, StatusOfSelected, TargetResetStarted}
+use Rattle.onfi_cycle.specs.declared.effect.Effect.TheVariants.{Unaffected, DataOutputEnabled, StatusSelected, StatusRowAwaited, SelectedForStatus, Deselected, PlaneSelected, IdRead, IdentityRead, UniqueIdReadStarted, FeaturesReadStarted, FeaturesSet, ParameterPageReadStarted, CacheReadContinued, CacheReadEnded, DataOutput, ResetStarted, BecameReady, ArrayBecameReady, ReadStarted, EraseStarted, ProgramStarted, ReadColumnChanged, AnotherAddressed, StatusOfSelected, TargetResetStarted}
 use Rattle.onfi_cycle.specs.declared.opening.Opening.{Opening}
 use Rattle.onfi_cycle.specs.declared.tail_facts.TailFacts.{TailFacts}
 use Rattle.onfi_cycle.specs.Command.{closes_row, reads_row}
-use Rattle.onfi_cycle.specs.Sequence.{target_cycle, tail, facts_of, takes_features, wants_command, wants_address, row, row_with}
+use Rattle.onfi_cycle.specs.Sequence.{target_cycle, tail, facts_of, takes_features, selects_plane, wants_command, wants_address, row, row_with}
 
 abbrev pub is_off : Latch → Bool
 is_off Off = true
@@ -80,6 +80,15 @@ row_effect g t c lun = if wants_command t c && names_lun g (row t) lun then conf
 abbrev pub cache_effect : Latch → Effect
 cache_effect latch_alone = if is_off latch_alone then Unaffected else CacheReadContinued None
 
+-- what E0 does behind 06: the LUN of its row gives its register, and the others of its target stop driving
+abbrev pub plane_effect : Parts → TailFacts → ℕ → Effect
+plane_effect g t lun = if names_lun g (row t) lun then PlaneSelected t.column else Deselected
+
+-- and else: the one driver gives its register from another column on
+abbrev pub column_effect : TailFacts → Latch → Effect
+column_effect t latch_alone =
+    if wants_command t ChangeReadColumnConfirm && not (is_off latch_alone) then ReadColumnChanged t.column else Unaffected
+
 -- what a command does to a LUN; latch_alone is its latch if it is the one driver of its target, and else Off
 abbrev pub command_effect : Parts → TailFacts → Latch → Command → ℕ → Effect
 command_effect g t latch_alone Read lun = DataOutputEnabled
@@ -89,7 +98,7 @@ command_effect g t latch_alone Reset lun = reset_effect g lun
 command_effect g t latch_alone SynchronousReset lun = reset_effect g lun
 command_effect g t latch_alone ReadCacheSequential lun = if wants_command t ReadCacheSequential then row_effect g t ReadCacheSequential lun else cache_effect latch_alone
 command_effect g t latch_alone ReadCacheEnd lun = if is_off latch_alone then Unaffected else CacheReadEnded
-command_effect g t latch_alone ChangeReadColumnConfirm lun = if wants_command t ChangeReadColumnConfirm && not (is_off latch_alone) then ReadColumnChanged t.column else Unaffected
+command_effect g t latch_alone ChangeReadColumnConfirm lun = if selects_plane t then plane_effect g t lun else column_effect t latch_alone
 command_effect g t latch_alone c lun = row_effect g t c lun
 
 -- what the address of a Read ID does

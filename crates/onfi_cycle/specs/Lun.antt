@@ -15,7 +15,7 @@ use Rattle.onfi_cycle.specs.declared.register.Register.TheVariants.{Empty, Page,
 use Rattle.onfi_cycle.specs.declared.read_column.ReadColumn.{ReadColumn}
 use Rattle.onfi_cycle.specs.LunView.{LunView}
 use Rattle.onfi_cycle.specs.declared.effect.Effect.{Effect}
-use Rattle.onfi_cycle.specs.declared.effect.Effect.TheVariants.{DataOutputEnabled, StatusSelected, StatusRowAwaited, SelectedForStatus, Deselected, IdRead, IdentityRead, UniqueIdReadStarted, FeaturesReadStarted, FeaturesSet, ParameterPageReadStarted, CacheReadContinued, CacheReadEnded, DataOutput, ResetStarted, BecameReady, ArrayBecameReady, ReadStarted, EraseStarted, ProgramStarted, ReadColumnChanged, AnotherAddressed, StatusOfSelected, TargetResetStarted}
+use Rattle.onfi_cycle.specs.declared.effect.Effect.TheVariants.{DataOutputEnabled, StatusSelected, StatusRowAwaited, SelectedForStatus, Deselected, PlaneSelected, IdRead, IdentityRead, UniqueIdReadStarted, FeaturesReadStarted, FeaturesSet, ParameterPageReadStarted, CacheReadContinued, CacheReadEnded, DataOutput, ResetStarted, BecameReady, ArrayBecameReady, ReadStarted, EraseStarted, ProgramStarted, ReadColumnChanged, AnotherAddressed, StatusOfSelected, TargetResetStarted}
 use Rattle.onfi_cycle.specs.Effect.{effect_given, is_off}
 
 -- of so many LUNs from number n on, those that a latch has on
@@ -45,6 +45,7 @@ latch_after DataOutputEnabled selected works latch = resumed latch
 latch_after StatusSelected selected works latch = Status
 latch_after SelectedForStatus selected works latch = Status
 latch_after Deselected selected works latch = Off
+latch_after (PlaneSelected _) selected works latch = Data
 latch_after (ReadStarted _ _) selected works latch = Data
 latch_after IdRead selected works latch = Data
 latch_after (IdentityRead _) selected works latch = Data
@@ -62,6 +63,7 @@ latch_after _ selected works latch = latch
 -- the LUN that the target's commands are for
 abbrev pub selected_after : Effect → Bool → Bool
 selected_after SelectedForStatus selected = true
+selected_after (PlaneSelected _) selected = true
 selected_after Deselected selected = false
 selected_after (ReadStarted _ _) selected = true
 selected_after (CacheReadContinued (Some _)) selected = true
@@ -81,6 +83,7 @@ selected_after _ selected = selected
 -- another LUN was given work while this one worked, and no command for the whole target came since
 abbrev pub overlapped_after : Effect → (works : Bool) → Bool → Bool
 overlapped_after SelectedForStatus works overlapped = false
+overlapped_after (PlaneSelected _) works overlapped = false
 overlapped_after Deselected works overlapped = false
 overlapped_after IdRead works overlapped = false
 overlapped_after (IdentityRead _) works overlapped = false
@@ -188,6 +191,7 @@ column_at from = record { given = Some from; outputs = 0; lost = false }
 abbrev pub read_column_after : Effect → ReadColumn → ReadColumn
 read_column_after (ReadStarted _ from) k = column_at from
 read_column_after (ReadColumnChanged from) k = column_at from
+read_column_after (PlaneSelected from) k = column_at from
 read_column_after IdRead k = column_at 0
 read_column_after (IdentityRead _) k = column_at 0
 read_column_after ParameterPageReadStarted k = column_at 0
@@ -285,12 +289,12 @@ latch_alone g past l = alone g.luns (λ m. latch g past (record { ce = l.ce; lun
 abbrev pub effect_on : Parts → List Item → Item → Lun → Effect
 effect_on g past i l = effect_among g past (λ m. latch g past (record { ce = l.ce; lun = m })) i l
 
--- the LUN whose status 70 shows, where its target has several: that of the last 78 or of the last closer of a row, and the first one where a
+-- the LUN whose status 70 shows, where its target has several: that of the last 78 or 06, or of the last closer of a row, and the first one where a
 -- command for the whole target came since
 abbrev pub is_selected : Parts → List Item → Lun → Bool
 is_selected g past l = (lun_view g past l).selected
 
--- another LUN of the target was given work while this one worked, and neither a 78 nor a command for the whole target came since
+-- another LUN of the target was given work while this one worked, and no 78 and 06 nor a command for the whole target came since
 abbrev pub is_overlapped : Parts → List Item → Lun → Bool
 is_overlapped g past l = (lun_view g past l).overlapped
 

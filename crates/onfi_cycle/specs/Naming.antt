@@ -2,7 +2,7 @@
 use Rattle.std.specs.Prelude.{◌≡◌, ℕ, ◌+◌, ◌*◌, ◌<◌, Bool, true, false, nat_lt, nat_le, if◌then◌else◌, List, [], ◌∷◌, reverse, length, Option, Some, None}
 use Rattle.nand_geometry.specs.Row.{row_of}
 use Rattle.onfi_cycle.specs.declared.command.Command.{Command}
-use Rattle.onfi_cycle.specs.declared.command.Command.TheVariants.{Read, ChangeReadColumn, BlockErase, ReadStatusEnhanced, PageProgram, ChangeWriteColumn, ResetLun}
+use Rattle.onfi_cycle.specs.declared.command.Command.TheVariants.{Read, ChangeReadColumn, ChangeReadColumnEnhanced, BlockErase, ReadStatusEnhanced, PageProgram, ChangeWriteColumn, ResetLun}
 use Rattle.onfi_cycle.specs.declared.opening.Opening.{Opening}
 use Rattle.onfi_cycle.specs.declared.target_cycle.TargetCycle.{TargetCycle}
 use Rattle.onfi_cycle.specs.declared.target_cycle.TargetCycle.TheVariants.{CommandCycle, AddressCycle, InputCycle, OutputCycle}
@@ -20,6 +20,7 @@ since_command (OutputCycle ∷ t) = since_command t
 -- after this command and so many addresses the next address is of a row
 abbrev pub is_row_place : Command → ℕ → Bool
 is_row_place Read n = nat_le 2 n
+is_row_place ChangeReadColumnEnhanced n = nat_le 2 n
 is_row_place PageProgram n = nat_le 2 n
 is_row_place BlockErase n = true
 is_row_place ReadStatusEnhanced n = true
@@ -29,6 +30,7 @@ is_row_place _ n = false
 -- and of a column
 abbrev pub is_column_place : Command → ℕ → Bool
 is_column_place Read n = nat_lt n 2
+is_column_place ChangeReadColumnEnhanced n = nat_lt n 2
 is_column_place PageProgram n = nat_lt n 2
 is_column_place ChangeReadColumn n = true
 is_column_place ChangeWriteColumn n = true

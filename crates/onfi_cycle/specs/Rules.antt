@@ -1,15 +1,15 @@
--- The rules F1 to F15: what each forbids, by the facts of the tail and of the LUNs of one target.
+-- The rules F1 to F15, and F18: what each forbids, by the facts of the tail and of the LUNs of one target.
 use Rattle.std.specs.Prelude.{ℕ, ◌+◌, ◌/◌, ◌%◌, ◌==◌, Bool, true, false, ◌||◌, ◌&&◌, not, nat_lt, nat_le, if◌then◌else◌, List, [], ◌∷◌, Option, Some, None, slice_get}
 use Rattle.std.specs.List.{list_any}
 use Rattle.nand_geometry.specs.declared.parts.Parts.{Parts}
 use Rattle.nand_geometry.specs.Limits.{page_len, planes}
 use Rattle.nand_geometry.specs.Row.{parts_of, is_inside}
 use Rattle.onfi_cycle.specs.declared.command.Command.{Command}
-use Rattle.onfi_cycle.specs.declared.command.Command.TheVariants.{Read, ReadConfirm, ChangeReadColumn, BlockErase, BlockErasePlane, ReadStatus, ReadStatusEnhanced, PageProgram, ProgramPlane, ReadCacheSequential, ReadCacheEnd, ReadUniqueId, GetFeatures, SetFeatures, ResetLun, SynchronousReset}
+use Rattle.onfi_cycle.specs.declared.command.Command.TheVariants.{Read, ReadConfirm, ChangeReadColumn, ChangeReadColumnEnhanced, BlockErase, BlockErasePlane, ReadStatus, ReadStatusEnhanced, PageProgram, ProgramPlane, ReadCacheSequential, ReadCacheEnd, ReadUniqueId, GetFeatures, SetFeatures, ResetLun, SynchronousReset}
 use Rattle.onfi_cycle.specs.declared.item.Item.{Item}
 use Rattle.onfi_cycle.specs.declared.item.Item.TheVariants.{Cyc, Rdy, Ard}
-use Rattle.nand_geometry.specs.Optional.{is_wide, has_features, has_unique_id, has_lun_reset, has_synchronous_reset}
-use Rattle.onfi_cycle.specs.Command.{is_known, is_opener, is_read_id, is_reset, at_last_row, is_change_read_column, addresses_the_array, addresses_a_page, reads_identity, wants_ready, wants_one_lun}
+use Rattle.nand_geometry.specs.Optional.{is_wide, has_features, has_unique_id, has_enhanced_column, has_lun_reset, has_synchronous_reset}
+use Rattle.onfi_cycle.specs.Command.{is_known, is_opener, is_read_id, is_reset, at_last_row, is_change_read_column, is_enhanced_column, addresses_the_array, addresses_a_page, reads_identity, wants_ready, wants_one_lun}
 use Rattle.onfi_cycle.specs.declared.target_cycle.TargetCycle.{TargetCycle}
 use Rattle.onfi_cycle.specs.declared.target_cycle.TargetCycle.TheVariants.{CommandCycle, AddressCycle, InputCycle, OutputCycle}
 use Rattle.onfi_cycle.specs.declared.page_address.PageAddress.{PageAddress}
@@ -70,6 +70,7 @@ is_undeclared g ProgramPlane = not g.multi_plane
 is_undeclared g ReadCacheSequential = not g.cache
 is_undeclared g ReadCacheEnd = not g.cache
 is_undeclared g ReadUniqueId = not (has_unique_id g.optional)
+is_undeclared g ChangeReadColumnEnhanced = not (has_enhanced_column g.optional)
 is_undeclared g GetFeatures = not (has_features g.optional)
 is_undeclared g SetFeatures = not (has_features g.optional)
 is_undeclared g ResetLun = not (has_lun_reset g.optional)
@@ -182,7 +183,7 @@ unfoldable pub breaks_row_outside : Parts → TailFacts → TargetCycle → Bool
 breaks_row_outside g t (AddressCycle byte) = ends_row (λ c. true) t && not (is_inside g (parts_of g (row_with t byte)))
 breaks_row_outside g t _ = false
 
--- F9: an opener that wants a ready LUN where there is none; the last row cycle of 00, 60 or 80 names a busy LUN.
+-- F9: an opener that wants a ready LUN where there is none; the last row cycle of 00, 06, 60 or 80 names a busy LUN.
 -- In the wider profile, on a target with several LUNs: too what reads or sets what stands beside the array, while some LUN is busy, and
 -- such a row cycle while work of the whole target goes on
 unfoldable pub breaks_lun_busy : Parts → TailFacts → List LunView → TargetCycle → Bool
@@ -236,7 +237,7 @@ is_past_register g v = is_data v.latch && is_past (output_column v.column) (regi
 abbrev pub second_column : (Command → Bool) → TailFacts → Bool
 second_column among t = opened (λ c n. among c && n == 1) t.opening
 
--- this address is the second column cycle of 00, 80 or 85
+-- this address is the second column cycle of 00, 06, 80 or 85
 abbrev pub second_of_page : TailFacts → Bool
 second_of_page t = second_column addresses_a_page t || wants_second_column t.phase
 
@@ -258,9 +259,10 @@ continues_cache g v = not v.busy && (is_page_read v.closer && nat_lt (v.array_pa
 abbrev pub ends_cache : LunView → Bool
 ends_cache v = not v.busy && caching v
 
--- the openers whose row names a LUN that does no cache read: a Read may name one in the wider profile
+-- the openers whose row names a LUN that does no cache read: 00 may name one in the wider profile, and so may 06, which is of that alone
 abbrev pub excludes_cache : Parts → Command → Bool
 excludes_cache g Read = not (is_wide g.optional)
+excludes_cache g ChangeReadColumnEnhanced = false
 excludes_cache g c = addresses_the_array c
 
 -- a 31 finds no LUN that may go on with a cache read: that of the row, where the tail wants it, or the one driver
@@ -279,3 +281,14 @@ breaks_cache_read_misplaced g t luns (CommandCycle ReadCacheEnd) = not (driver_i
 breaks_cache_read_misplaced g t luns (CommandCycle c) = reads_identity c && list_any caching luns
 breaks_cache_read_misplaced g t luns (AddressCycle byte) = ends_row (excludes_cache g) t && named_lun_is g (row_with t byte) caching luns
 breaks_cache_read_misplaced g t luns _ = false
+
+-- the register holds a page of the plane in which this one lies
+abbrev pub holds_plane_of : Parts → PageAddress → Register → Bool
+holds_plane_of g p (Page q) = q.block % planes g == p.block % planes g
+holds_plane_of g p _ = false
+
+-- F18: the last row cycle of 06, whose LUN holds no page of the plane of the row
+unfoldable pub breaks_plane_not_held : Parts → TailFacts → List LunView → TargetCycle → Bool
+breaks_plane_not_held g t luns (AddressCycle byte) =
+    ends_row is_enhanced_column t && named_lun_is g (row_with t byte) (λ v. not (holds_plane_of g (page_address g (row_with t byte)) v.register)) luns
+breaks_plane_not_held g t luns _ = false

@@ -10,12 +10,12 @@ use Rattle.onfi_cycle.specs.declared.data_phase.DataPhase.{DataPhase}
 use Rattle.onfi_cycle.specs.declared.data_phase.DataPhase.TheVariants.{Outside, Inputs, FirstColumn, SecondColumn, FeatureInputs}
 use Rattle.onfi_cycle.specs.declared.tail_facts.TailFacts.{TailFacts}
 use Rattle.onfi_cycle.specs.declared.command.Command.{Command}
-use Rattle.onfi_cycle.specs.declared.command.Command.TheVariants.{Read, ChangeWriteColumn, ProgramConfirm, ProgramPlane, ReadCacheSequential}
+use Rattle.onfi_cycle.specs.declared.command.Command.TheVariants.{Read, ChangeReadColumnConfirm, ChangeWriteColumn, ProgramConfirm, ProgramPlane, ReadCacheSequential}
 use Rattle.onfi_cycle.specs.declared.item.Kind.{Kind}
 use Rattle.onfi_cycle.specs.declared.item.Kind.TheVariants.{Cmd, Adr, Din, Dout}
 use Rattle.onfi_cycle.specs.declared.item.Item.{Item}
 use Rattle.onfi_cycle.specs.declared.item.Item.TheVariants.{Cyc, Rdy, Ard}
-use Rattle.onfi_cycle.specs.Command.{command, is_opener, address_cycles, wants_closer, closes, closes_row, takes_address, is_page_program, is_set_features}
+use Rattle.onfi_cycle.specs.Command.{command, is_opener, address_cycles, wants_closer, closes, closes_row, takes_address, is_enhanced_column, is_page_program, is_set_features}
 
 -- where an item happens
 abbrev pub target_of : Item → ℕ
@@ -186,9 +186,14 @@ wants_command t ProgramConfirm = takes_data t.phase
 wants_command t ProgramPlane = takes_data t.phase
 wants_command t d = opened (λ c n. closes c d && n == address_cycles c) t.opening
 
--- the command works on the row of its tail: the closers of a row, of which 31 is one where the tail wants it
+-- the sequence is a Change Read Column Enhanced with its row, which E0 closes
+abbrev pub selects_plane : TailFacts → Bool
+selects_plane t = opened (λ c n. is_enhanced_column c && n == 5) t.opening
+
+-- the command works on the row of its tail: the closers of a row, of which 31 is one where the tail wants it, and E0 one behind 06
 abbrev pub works_on_row : TailFacts → Command → Bool
 works_on_row t ReadCacheSequential = wants_command t ReadCacheSequential
+works_on_row t ChangeReadColumnConfirm = selects_plane t
 works_on_row t c = closes_row c
 
 -- a tail begins anew with the cycle: with an opener, but not with a 31 that it wants

@@ -21,7 +21,9 @@ pub enum Command {
     ReadConfirm,
     /// 05h, Change Read Column Definition.
     ChangeReadColumn,
-    /// E0h, Change Read Column Definition.
+    /// 06h, Change Read Column Enhanced Definition.
+    ChangeReadColumnEnhanced,
+    /// E0h, Change Read Column Definition. It closes a Change Read Column Enhanced too.
     ChangeReadColumnConfirm,
     /// 60h, Block Erase Definition.
     BlockErase,
@@ -75,6 +77,7 @@ impl Command {
             0x00 => Command::Read,
             0x30 => Command::ReadConfirm,
             0x05 => Command::ChangeReadColumn,
+            0x06 => Command::ChangeReadColumnEnhanced,
             0xe0 => Command::ChangeReadColumnConfirm,
             0x60 => Command::BlockErase,
             0xd0 => Command::BlockEraseConfirm,
@@ -107,6 +110,7 @@ impl Command {
             Command::Read => Some(0x00),
             Command::ReadConfirm => Some(0x30),
             Command::ChangeReadColumn => Some(0x05),
+            Command::ChangeReadColumnEnhanced => Some(0x06),
             Command::ChangeReadColumnConfirm => Some(0xe0),
             Command::BlockErase => Some(0x60),
             Command::BlockEraseConfirm => Some(0xd0),
@@ -144,7 +148,8 @@ impl Command {
     {
         !matches!(
             self,
-            Command::ReadUniqueId
+            Command::ChangeReadColumnEnhanced
+                | Command::ReadUniqueId
                 | Command::GetFeatures
                 | Command::SetFeatures
                 | Command::ResetLun
@@ -175,7 +180,7 @@ impl Command {
         ensures { result ≡ address_cycles self }
     {
         match self {
-            Command::Read | Command::PageProgram => 5,
+            Command::Read | Command::ChangeReadColumnEnhanced | Command::PageProgram => 5,
             Command::BlockErase | Command::ReadStatusEnhanced | Command::ResetLun => 3,
             Command::ChangeReadColumn => 2,
             Command::ReadId
@@ -195,7 +200,9 @@ impl Command {
             Command::Read => {
                 matches!(closer, Command::ReadConfirm | Command::ReadCacheSequential)
             }
-            Command::ChangeReadColumn => matches!(closer, Command::ChangeReadColumnConfirm),
+            Command::ChangeReadColumn | Command::ChangeReadColumnEnhanced => {
+                matches!(closer, Command::ChangeReadColumnConfirm)
+            }
             Command::BlockErase => {
                 matches!(
                     closer,
@@ -223,19 +230,24 @@ impl Command {
         ensures { result ≡ at_last_row self addresses }
     {
         match self {
-            Command::Read | Command::PageProgram => addresses == 4,
+            Command::Read | Command::ChangeReadColumnEnhanced | Command::PageProgram => {
+                addresses == 4
+            }
             Command::BlockErase | Command::ReadStatusEnhanced | Command::ResetLun => addresses == 2,
             _ => false,
         }
     }
 
-    /// The opener's row is of the array.
+    /// The opener's row is of a LUN that has to be ready.
     pub fn addresses_the_array(self) -> bool
         ensures { result ≡ addresses_the_array self }
     {
         matches!(
             self,
-            Command::Read | Command::BlockErase | Command::PageProgram
+            Command::Read
+                | Command::ChangeReadColumnEnhanced
+                | Command::BlockErase
+                | Command::PageProgram
         )
     }
 
@@ -323,7 +335,7 @@ impl Command {
             Command::Read => 0 < addresses && addresses <= 5,
             Command::ChangeReadColumn => addresses <= 2,
             Command::BlockErase => addresses <= 3,
-            Command::PageProgram => addresses <= 5,
+            Command::ChangeReadColumnEnhanced | Command::PageProgram => addresses <= 5,
             _ => addresses < self.address_cycles(),
         }
     }

@@ -18,7 +18,7 @@ pub enum Effect {
     StatusRowAwaited,
     /// The row of a 78h names it: it shows its status.
     SelectedForStatus,
-    /// The row of a 78h names another LUN: it stops driving.
+    /// The row of a 78h, or of a 06h, names another LUN: it stops driving.
     Deselected,
     /// 30h: it reads a page, and gives it from this column on.
     ReadStarted { page: PageAddress, column: u32 },
@@ -44,6 +44,8 @@ pub enum Effect {
     CacheReadEnded,
     /// E0h: it gives its register from this column on.
     ReadColumnChanged { column: u32 },
+    /// E0h behind the row of a 06h names it: it shows data, and gives its register from this column on.
+    PlaneSelected { column: u32 },
     /// It gives a byte of its register.
     DataOutput,
     /// FFh or FCh, or FAh for this LUN.
@@ -77,7 +79,8 @@ impl Effect {
             | Effect::TargetResetStarted { .. }
             | Effect::StatusOfSelected => Latch::Off,
             Effect::AnotherAddressed { reads: true } if !works => Latch::Off,
-            Effect::ReadStarted { .. }
+            Effect::PlaneSelected { .. }
+            | Effect::ReadStarted { .. }
             | Effect::IdRead
             | Effect::IdentityRead { .. }
             | Effect::ParameterPageReadStarted
@@ -96,6 +99,7 @@ impl Effect {
         match self {
             Effect::TargetResetStarted { first } => first,
             Effect::SelectedForStatus
+            | Effect::PlaneSelected { .. }
             | Effect::ReadStarted { .. }
             | Effect::CacheReadContinued { to: Some(_) }
             | Effect::EraseStarted { .. }
@@ -120,6 +124,7 @@ impl Effect {
             Effect::AnotherAddressed { .. } => before || works,
             Effect::SelectedForStatus
             | Effect::Deselected
+            | Effect::PlaneSelected { .. }
             | Effect::IdRead
             | Effect::IdentityRead { .. }
             | Effect::ParameterPageReadStarted
@@ -246,9 +251,9 @@ impl Effect {
         ensures small { result.outputs ≤ before.outputs + 1 }
     {
         match self {
-            Effect::ReadStarted { column, .. } | Effect::ReadColumnChanged { column } => {
-                ReadColumn::given(column)
-            }
+            Effect::ReadStarted { column, .. }
+            | Effect::ReadColumnChanged { column }
+            | Effect::PlaneSelected { column } => { ReadColumn::given(column) }
             Effect::IdRead
             | Effect::IdentityRead { .. }
             | Effect::ParameterPageReadStarted

@@ -37,10 +37,12 @@ pub enum Forbidden {
     ColumnOutside,
     #[error("the cache read doesn't stand so")]
     CacheReadMisplaced,
+    #[error("the LUN holds no page of the plane")]
+    PlaneNotHeld,
 }
 
 impl Forbidden {
-    /// Its code, `F1` to `F15`.
+    /// Its code, `F1` to `F15` or `F18`.
     pub fn code(self) -> &'static str
         ensures { result.now ≡ forbidden_code self }
     {
@@ -60,10 +62,11 @@ impl Forbidden {
             Forbidden::DataNotReady => "F13",
             Forbidden::ColumnOutside => "F14",
             Forbidden::CacheReadMisplaced => "F15",
+            Forbidden::PlaneNotHeld => "F18",
         }
     }
 
-    /// The number of its code, 1 to 15.
+    /// The number of its code, 1 to 15 or 18.
     pub fn number(self) -> u32
         ensures { result ≡ rule_number self }
     {
@@ -83,6 +86,7 @@ impl Forbidden {
             Forbidden::DataNotReady => 13,
             Forbidden::ColumnOutside => 14,
             Forbidden::CacheReadMisplaced => 15,
+            Forbidden::PlaneNotHeld => 18,
         }
     }
 
@@ -107,6 +111,7 @@ impl Forbidden {
             13 => Some(Forbidden::DataNotReady),
             14 => Some(Forbidden::ColumnOutside),
             15 => Some(Forbidden::CacheReadMisplaced),
+            18 => Some(Forbidden::PlaneNotHeld),
             _ => None,
         }
     }

@@ -1,6 +1,6 @@
 //! What an item does to a LUN, by the facts of its target's tail.
 ghost use Rattle.std.specs.Prelude.{◌≡◌};
-ghost use Rattle.onfi_cycle.specs.Effect.{names_lun, is_shared, acts_for_target, of_target, status_effect, reset_effect, other_effect, row_effect, cache_effect, lun_reset_effect, confirm_effect, command_effect, address_effect, opening_address_effect, id_effect, ends_features, input_effect, cycle_effect, item_effect, IsSmallEffect};
+ghost use Rattle.onfi_cycle.specs.Effect.{names_lun, is_shared, acts_for_target, of_target, status_effect, reset_effect, other_effect, row_effect, cache_effect, plane_effect, column_effect, lun_reset_effect, confirm_effect, command_effect, address_effect, opening_address_effect, id_effect, ends_features, input_effect, cycle_effect, item_effect, IsSmallEffect};
 
 use crate::data_phase::FEATURE_BYTES;
 use crate::{Command, Effect, Item, Latch, Lun, PageAddress, TailFacts, TargetCycle};
@@ -135,6 +135,34 @@ fn cache_effect(latch_alone: Latch) -> Effect
     }
 }
 
+/// What E0h does behind 06h: the LUN of its row gives its register, and the others of its target stop driving.
+fn plane_effect(geometry: &Geometry, tail: TailFacts, lun: u8) -> Effect
+    ensures value { result ≡ plane_effect geometry.now tail lun }
+    ensures small { IsSmallEffect result }
+{
+    if names_lun(geometry, tail.named_row(), lun) {
+        Effect::PlaneSelected {
+            column: tail.column,
+        }
+    } else {
+        Effect::Deselected
+    }
+}
+
+/// What E0h does else: the one driver gives its register from another column on.
+fn column_effect(tail: TailFacts, latch_alone: Latch) -> Effect
+    ensures value { result ≡ column_effect tail latch_alone }
+    ensures small { IsSmallEffect result }
+{
+    if tail.wants_command(Command::ChangeReadColumnConfirm) && !latch_alone.is_off() {
+        Effect::ReadColumnChanged {
+            column: tail.column,
+        }
+    } else {
+        Effect::Unaffected
+    }
+}
+
 /// What a command does to a LUN of its target, after this tail. `latch_alone` is the LUN's latch if it is
 /// the one driver of its target, and else `Off`.
 fn command_effect(
@@ -156,15 +184,10 @@ fn command_effect(
         Command::ReadCacheSequential if !tail.wants_command(command) => cache_effect(latch_alone),
         Command::ReadCacheEnd if drives => Effect::CacheReadEnded,
         Command::ReadCacheEnd => Effect::Unaffected,
-        Command::ChangeReadColumnConfirm => {
-            if tail.wants_command(Command::ChangeReadColumnConfirm) && drives {
-                Effect::ReadColumnChanged {
-                    column: tail.column,
-                }
-            } else {
-                Effect::Unaffected
-            }
+        Command::ChangeReadColumnConfirm if tail.selects_plane() => {
+            plane_effect(geometry, tail, lun)
         }
+        Command::ChangeReadColumnConfirm => column_effect(tail, latch_alone),
         _ => row_effect(geometry, tail, command, lun),
     }
 }

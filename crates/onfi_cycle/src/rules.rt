@@ -1,12 +1,12 @@
-//! The rules F1 to F15, and the judge that tries them in order, by the facts of one target.
+//! The rules F1 to F15 and F18, and the judge that tries them in order, by the facts of one target.
 ghost use Rattle.std.specs.Prelude.{◌≡◌, ◌+◌, ◌^◌, ◌<◌, ◌≤◌, length, true, false, not, slice_get};
 ghost use Rattle.std.specs.List.{list_all, list_any};
 ghost use Rattle.std.specs.Option.{option_copied};
 ghost use Rattle.nand_geometry.specs.Row.{parts_of};
 ghost use Rattle.onfi_cycle.specs.declared.target_cycle.TargetCycle.{TargetCycle};
-ghost use Rattle.onfi_cycle.specs.Effect.{is_off};
+ghost use Rattle.onfi_cycle.specs.Effect.{is_off, page_address};
 ghost use Rattle.onfi_cycle.specs.Lun.{is_page_read};
-ghost use Rattle.onfi_cycle.specs.Rules.{breaks_not_there, breaks_command_unknown, breaks_sequence_open, breaks_several_luns, breaks_no_column_to_change, breaks_command_misplaced, breaks_address_misplaced, breaks_row_outside, breaks_lun_busy, breaks_queue_clash, breaks_input_misplaced, breaks_no_sole_driver, breaks_data_not_ready, breaks_column_outside, breaks_cache_read_misplaced, driving, are_none, driver, is_undeclared, is_undeclared_address, planes_clash, queued_clashes, some_queued_clashes, refused_by, is_refused_by, caching, has_some, is_unclear, works_for_target, named_lun_is, driver_is, continues_cache, ends_row, excludes_cache, finds_no_cache_read};
+ghost use Rattle.onfi_cycle.specs.Rules.{breaks_not_there, breaks_command_unknown, breaks_sequence_open, breaks_several_luns, breaks_no_column_to_change, breaks_command_misplaced, breaks_address_misplaced, breaks_row_outside, breaks_lun_busy, breaks_queue_clash, breaks_input_misplaced, breaks_no_sole_driver, breaks_data_not_ready, breaks_column_outside, breaks_cache_read_misplaced, breaks_plane_not_held, holds_plane_of, driving, are_none, driver, is_undeclared, is_undeclared_address, planes_clash, queued_clashes, some_queued_clashes, refused_by, is_refused_by, caching, has_some, is_unclear, works_for_target, named_lun_is, driver_is, continues_cache, ends_row, excludes_cache, finds_no_cache_read};
 ghost use Rattle.onfi_cycle.specs.Permitted.{judge, judge_cycle, judge_known_cycle};
 
 use crate::{
@@ -83,6 +83,7 @@ pub fn is_undeclared(geometry: &Geometry, command: Command) -> bool
         Command::ReadStatusEnhanced => !parts.enhanced,
         Command::BlockErasePlane | Command::ProgramPlane => !parts.multi_plane,
         Command::ReadCacheSequential | Command::ReadCacheEnd => !parts.cache,
+        Command::ChangeReadColumnEnhanced => !parts.optional.has_enhanced_column(),
         Command::ReadUniqueId => !parts.optional.has_unique_id(),
         Command::GetFeatures | Command::SetFeatures => !parts.optional.has_features(),
         Command::ResetLun => !parts.optional.has_lun_reset(),
@@ -467,12 +468,14 @@ fn finds_no_cache_read<Q: WorkQueue>(
     }
 }
 
-/// The opener's row names a LUN that does no cache read: a Read may name one in the wider profile.
+/// The opener's row names a LUN that does no cache read: a Read may name one in the wider profile, and so may a Change Read Column
+/// Enhanced.
 fn excludes_cache(geometry: &Geometry, opener: Command) -> bool
     ensures { result ≡ excludes_cache geometry.now opener }
 {
     match opener {
         Command::Read => !geometry.parts().optional.is_wide(),
+        Command::ChangeReadColumnEnhanced => false,
         _ => opener.addresses_the_array(),
     }
 }
@@ -517,8 +520,38 @@ fn breaks_cache_read_misplaced<Q: WorkQueue>(
     }
 }
 
-/// The first of F3 to F15 that a command breaks. A closer can break F6 and F15 alone.
-#[tactic(auto, using(crate::proofs::Closers::closer_misplaced, crate::proofs::Closers::closer_reads, crate::proofs::Closers::closer_passes), unfolding(crate::specs::Rules::breaks_sequence_open, crate::specs::Rules::breaks_several_luns, crate::specs::Rules::breaks_no_column_to_change, crate::specs::Rules::breaks_command_misplaced, crate::specs::Rules::breaks_address_misplaced, crate::specs::Rules::breaks_row_outside, crate::specs::Rules::breaks_lun_busy, crate::specs::Rules::breaks_queue_clash, crate::specs::Rules::breaks_input_misplaced, crate::specs::Rules::breaks_no_sole_driver, crate::specs::Rules::breaks_data_not_ready, crate::specs::Rules::breaks_column_outside, crate::specs::Rules::breaks_cache_read_misplaced))]
+/// The LUN that a row names is there, and its register holds no page of the plane of that row.
+fn named_holds_no_plane<Q: WorkQueue>(geometry: &Geometry, row: u32, luns: &[LunFacts<Q>]) -> bool
+    ensures { result ≡ named_lun_is geometry.now row (λ v. not (holds_plane_of geometry.now (page_address geometry.now row) v.register)) luns.now }
+{
+    match find_named(geometry, row, luns) {
+        None => false,
+        Some(lun) => {
+            let page = PageAddress::of_row(geometry, row);
+            !lun.register.holds_plane_of(geometry, page)
+        }
+    }
+}
+
+#[tactic(auto, unfolding(crate::specs::Rules::breaks_plane_not_held))]
+fn breaks_plane_not_held<Q: WorkQueue>(
+    geometry: &Geometry,
+    tail: TailFacts,
+    luns: &[LunFacts<Q>],
+    cycle: TargetCycle,
+) -> bool
+    ensures { result ≡ breaks_plane_not_held geometry.now tail luns.now cycle }
+{
+    match cycle {
+        TargetCycle::AddressCycle(byte) => {
+            tail.ends_plane_row() && named_holds_no_plane(geometry, tail.row_with(byte), luns)
+        }
+        _ => false,
+    }
+}
+
+/// The first of F3 to F18 that a command breaks. A closer can break F6 and F15 alone.
+#[tactic(auto, using(crate::proofs::Closers::closer_misplaced, crate::proofs::Closers::closer_reads, crate::proofs::Closers::closer_passes), unfolding(crate::specs::Rules::breaks_sequence_open, crate::specs::Rules::breaks_several_luns, crate::specs::Rules::breaks_no_column_to_change, crate::specs::Rules::breaks_command_misplaced, crate::specs::Rules::breaks_address_misplaced, crate::specs::Rules::breaks_row_outside, crate::specs::Rules::breaks_lun_busy, crate::specs::Rules::breaks_queue_clash, crate::specs::Rules::breaks_input_misplaced, crate::specs::Rules::breaks_no_sole_driver, crate::specs::Rules::breaks_data_not_ready, crate::specs::Rules::breaks_column_outside, crate::specs::Rules::breaks_cache_read_misplaced, crate::specs::Rules::breaks_plane_not_held))]
 fn judge_command<Q: WorkQueue>(
     geometry: &Geometry,
     tail: TailFacts,
@@ -553,7 +586,7 @@ fn judge_command<Q: WorkQueue>(
     }
 }
 
-/// The first of F8 to F15 that the last address of a row breaks.
+/// The first of F8 to F18 that the last address of a row breaks.
 #[tactic(auto, unfolding(crate::specs::Rules::breaks_sequence_open, crate::specs::Rules::breaks_several_luns, crate::specs::Rules::breaks_no_column_to_change, crate::specs::Rules::breaks_command_misplaced, crate::specs::Rules::breaks_input_misplaced, crate::specs::Rules::breaks_no_sole_driver, crate::specs::Rules::breaks_data_not_ready))]
 fn judge_end_of_row<Q: WorkQueue>(
     geometry: &Geometry,
@@ -576,13 +609,15 @@ fn judge_end_of_row<Q: WorkQueue>(
         Some(Forbidden::ColumnOutside)
     } else if breaks_cache_read_misplaced(geometry, tail, luns, cycle) {
         Some(Forbidden::CacheReadMisplaced)
+    } else if breaks_plane_not_held(geometry, tail, luns, cycle) {
+        Some(Forbidden::PlaneNotHeld)
     } else {
         None
     }
 }
 
-/// The first of F3 to F15 that an address breaks. One that isn't the last of a row can break F7 and F14 alone.
-#[tactic(auto, unfolding(crate::specs::Rules::breaks_sequence_open, crate::specs::Rules::breaks_several_luns, crate::specs::Rules::breaks_no_column_to_change, crate::specs::Rules::breaks_command_misplaced, crate::specs::Rules::breaks_row_outside, crate::specs::Rules::breaks_lun_busy, crate::specs::Rules::breaks_queue_clash, crate::specs::Rules::breaks_input_misplaced, crate::specs::Rules::breaks_no_sole_driver, crate::specs::Rules::breaks_data_not_ready, crate::specs::Rules::breaks_cache_read_misplaced))]
+/// The first of F3 to F18 that an address breaks. One that isn't the last of a row can break F7 and F14 alone.
+#[tactic(auto, unfolding(crate::specs::Rules::breaks_sequence_open, crate::specs::Rules::breaks_several_luns, crate::specs::Rules::breaks_no_column_to_change, crate::specs::Rules::breaks_command_misplaced, crate::specs::Rules::breaks_row_outside, crate::specs::Rules::breaks_lun_busy, crate::specs::Rules::breaks_queue_clash, crate::specs::Rules::breaks_input_misplaced, crate::specs::Rules::breaks_no_sole_driver, crate::specs::Rules::breaks_data_not_ready, crate::specs::Rules::breaks_cache_read_misplaced, crate::specs::Rules::breaks_plane_not_held))]
 fn judge_address<Q: WorkQueue>(
     geometry: &Geometry,
     tail: TailFacts,
@@ -604,8 +639,8 @@ fn judge_address<Q: WorkQueue>(
     }
 }
 
-/// The first of F3 to F15 that an input breaks.
-#[tactic(auto, unfolding(crate::specs::Rules::breaks_sequence_open, crate::specs::Rules::breaks_several_luns, crate::specs::Rules::breaks_no_column_to_change, crate::specs::Rules::breaks_command_misplaced, crate::specs::Rules::breaks_address_misplaced, crate::specs::Rules::breaks_row_outside, crate::specs::Rules::breaks_lun_busy, crate::specs::Rules::breaks_queue_clash, crate::specs::Rules::breaks_no_sole_driver, crate::specs::Rules::breaks_data_not_ready, crate::specs::Rules::breaks_cache_read_misplaced))]
+/// The first of F3 to F18 that an input breaks.
+#[tactic(auto, unfolding(crate::specs::Rules::breaks_sequence_open, crate::specs::Rules::breaks_several_luns, crate::specs::Rules::breaks_no_column_to_change, crate::specs::Rules::breaks_command_misplaced, crate::specs::Rules::breaks_address_misplaced, crate::specs::Rules::breaks_row_outside, crate::specs::Rules::breaks_lun_busy, crate::specs::Rules::breaks_queue_clash, crate::specs::Rules::breaks_no_sole_driver, crate::specs::Rules::breaks_data_not_ready, crate::specs::Rules::breaks_cache_read_misplaced, crate::specs::Rules::breaks_plane_not_held))]
 fn judge_input<Q: WorkQueue>(
     geometry: &Geometry,
     tail: TailFacts,
@@ -625,8 +660,8 @@ fn judge_input<Q: WorkQueue>(
     }
 }
 
-/// The first of F3 to F15 that an output breaks.
-#[tactic(auto, unfolding(crate::specs::Rules::breaks_sequence_open, crate::specs::Rules::breaks_several_luns, crate::specs::Rules::breaks_no_column_to_change, crate::specs::Rules::breaks_command_misplaced, crate::specs::Rules::breaks_address_misplaced, crate::specs::Rules::breaks_row_outside, crate::specs::Rules::breaks_lun_busy, crate::specs::Rules::breaks_queue_clash, crate::specs::Rules::breaks_input_misplaced, crate::specs::Rules::breaks_cache_read_misplaced))]
+/// The first of F3 to F18 that an output breaks.
+#[tactic(auto, unfolding(crate::specs::Rules::breaks_sequence_open, crate::specs::Rules::breaks_several_luns, crate::specs::Rules::breaks_no_column_to_change, crate::specs::Rules::breaks_command_misplaced, crate::specs::Rules::breaks_address_misplaced, crate::specs::Rules::breaks_row_outside, crate::specs::Rules::breaks_lun_busy, crate::specs::Rules::breaks_queue_clash, crate::specs::Rules::breaks_input_misplaced, crate::specs::Rules::breaks_cache_read_misplaced, crate::specs::Rules::breaks_plane_not_held))]
 fn judge_output<Q: WorkQueue>(
     geometry: &Geometry,
     tail: TailFacts,
@@ -647,7 +682,7 @@ fn judge_output<Q: WorkQueue>(
     }
 }
 
-/// The first of F3 to F15 that a cycle breaks: what is forbidden of a cycle whose command F2 lets pass.
+/// The first of F3 to F18 that a cycle breaks: what is forbidden of a cycle whose command F2 lets pass.
 #[inline(always)]
 pub fn judge_known_cycle<Q: WorkQueue>(
     geometry: &Geometry,
@@ -666,7 +701,7 @@ pub fn judge_known_cycle<Q: WorkQueue>(
     }
 }
 
-/// The first of F2 to F15 that a cycle breaks.
+/// The first of F2 to F18 that a cycle breaks.
 #[inline(always)]
 pub fn judge_cycle<Q: WorkQueue>(
     geometry: &Geometry,

@@ -108,6 +108,10 @@ impl LunFacts<RowQueue> {
             Effect::DataOutput | Effect::ReadColumnChanged { .. } => {
                 self.column = effect.read_column_after(self.column);
             }
+            Effect::PlaneSelected { .. } => {
+                self.column = effect.read_column_after(self.column);
+                self.turn(effect);
+            }
             // an arm of its own, so that LLVM makes it for this effect alone
             Effect::EraseStarted { .. } => self.renew(effect),
             _ => self.renew(effect),

@@ -1,7 +1,7 @@
 //! The tail of a target, by its facts: one cycle at a time, with nothing kept but the facts.
 ghost use Rattle.std.specs.Prelude.{ℕ, [], ◌≡◌, ◌+◌, ◌^◌, ◌<◌, ◌≤◌, true, IfSome};
-ghost use Rattle.onfi_cycle.specs.Command.{addresses_the_array, is_change_read_column};
-ghost use Rattle.onfi_cycle.specs.Sequence.{AreSmall, target_cycle, begins_anew, works_on_row, facts_of, facts_after, extended_facts, next_address_place, column_after_address, takes_data, takes_inputs, wants_address, wants_command, wants, is_proper_beginning, is_open, row, row_with, column_with, input_column, target_of};
+ghost use Rattle.onfi_cycle.specs.Command.{addresses_the_array, is_change_read_column, is_enhanced_column};
+ghost use Rattle.onfi_cycle.specs.Sequence.{AreSmall, target_cycle, begins_anew, selects_plane, works_on_row, facts_of, facts_after, extended_facts, next_address_place, column_after_address, takes_data, takes_inputs, wants_address, wants_command, wants, is_proper_beginning, is_open, row, row_with, column_with, input_column, target_of};
 ghost use Rattle.onfi_cycle.specs.Rules.{ends_row, second_of_page, second_column};
 ghost use Rattle.onfi_cycle.specs.Inputs.{fed_tail, takes_fewer_features, has_no_room};
 
@@ -185,12 +185,26 @@ impl TailFacts {
         }
     }
 
-    /// The command works on the row of the tail: the closers of a row, of which 31h is one where the tail wants it.
+    /// The sequence is a Change Read Column Enhanced with its row, which E0h closes.
+    pub fn selects_plane(self) -> bool
+        ensures { result ≡ selects_plane self }
+    {
+        match self.opening {
+            None => false,
+            Some(opening) => {
+                opening.opener == Command::ChangeReadColumnEnhanced && opening.addresses == 5
+            }
+        }
+    }
+
+    /// The command works on the row of the tail: the closers of a row, of which 31h is one where the tail wants it, and E0h one
+    /// behind 06h.
     pub fn works_on_row(self, command: Command) -> bool
         ensures { result ≡ works_on_row self command }
     {
         match command {
             Command::ReadCacheSequential => self.wants_command(command),
+            Command::ChangeReadColumnConfirm => self.selects_plane(),
             _ => command.closes_row(),
         }
     }
@@ -229,7 +243,7 @@ impl TailFacts {
         }
     }
 
-    /// The next address is the last of a row of the array.
+    /// The next address is the last of a row of a LUN that has to be ready.
     pub(crate) fn ends_array_row(self) -> bool
         ensures { result ≡ ends_row addresses_the_array self }
     {
@@ -239,15 +253,17 @@ impl TailFacts {
         }
     }
 
-    /// The next address is the second column cycle of a Read, a Page Program or a Change Write Column.
+    /// The next address is the second column cycle of a Read, a Change Read Column Enhanced, a Page Program or a Change Write Column.
     pub(crate) fn is_at_second_column_of_page(self) -> bool
         ensures { result ≡ second_of_page self }
     {
         let opens = match self.opening {
             None => false,
             Some(opening) => {
-                matches!(opening.opener, Command::Read | Command::PageProgram)
-                    && opening.addresses == 1
+                matches!(
+                    opening.opener,
+                    Command::Read | Command::ChangeReadColumnEnhanced | Command::PageProgram
+                ) && opening.addresses == 1
             }
         };
         opens || self.phase.wants_second_column()
@@ -261,6 +277,18 @@ impl TailFacts {
             None => false,
             Some(opening) => {
                 opening.opener == Command::ChangeReadColumn && opening.addresses == 1
+            }
+        }
+    }
+
+    /// The next address is the last of the row of a Change Read Column Enhanced.
+    pub(crate) fn ends_plane_row(self) -> bool
+        ensures { result ≡ ends_row is_enhanced_column self }
+    {
+        match self.opening {
+            None => false,
+            Some(opening) => {
+                opening.opener == Command::ChangeReadColumnEnhanced && opening.is_at_last_row()
             }
         }
     }
