@@ -4,9 +4,9 @@ use Rattle.std.proofs.lemmas.Bool.{and_parts, or_parts, not-true, not-false}
 use Rattle.nand_geometry.specs.declared.parts.Parts.{Parts}
 use Rattle.nand_geometry.specs.Row.{parts_of}
 use Rattle.onfi_cycle.specs.declared.command.Command.{Command}
-use Rattle.onfi_cycle.specs.declared.command.Command.TheVariants.{Read, ReadConfirm, ChangeReadColumn, ChangeReadColumnConfirm, BlockErase, BlockEraseConfirm, BlockErasePlane, ReadStatus, ReadStatusEnhanced, PageProgram, ProgramConfirm, ProgramPlane, ReadId, ReadParameterPage, Reset, ReadCacheSequential, ReadCacheEnd, ReadUniqueId, GetFeatures, SetFeatures, ResetLun, SynchronousReset}
+use Rattle.onfi_cycle.specs.declared.command.Command.TheVariants.{Read, ReadConfirm, ChangeReadColumn, ChangeReadColumnEnhanced, ChangeReadColumnConfirm, BlockErase, BlockEraseConfirm, BlockErasePlane, ReadStatus, ReadStatusEnhanced, PageProgram, ProgramConfirm, ProgramPlane, ReadId, ReadParameterPage, Reset, ReadCacheSequential, ReadCacheEnd, ReadUniqueId, GetFeatures, SetFeatures, ResetLun, SynchronousReset}
 use Rattle.onfi_cycle.specs.declared.effect.Effect.{Effect}
-use Rattle.onfi_cycle.specs.declared.effect.Effect.TheVariants.{Unaffected, SelectedForStatus, Deselected, IdRead, IdentityRead, UniqueIdReadStarted, FeaturesReadStarted, FeaturesSet, ParameterPageReadStarted, CacheReadContinued, CacheReadEnded, ReadColumnChanged, DataOutput, ResetStarted, AnotherAddressed}
+use Rattle.onfi_cycle.specs.declared.effect.Effect.TheVariants.{Unaffected, SelectedForStatus, Deselected, IdRead, IdentityRead, UniqueIdReadStarted, FeaturesReadStarted, FeaturesSet, ParameterPageReadStarted, CacheReadContinued, CacheReadEnded, ReadColumnChanged, PlaneSelected, DataOutput, ResetStarted, AnotherAddressed}
 use Rattle.onfi_cycle.specs.declared.item.Cycle.{Cycle}
 use Rattle.onfi_cycle.specs.declared.item.Item.{Item}
 use Rattle.onfi_cycle.specs.declared.item.Item.TheVariants.{Cyc}
@@ -18,13 +18,13 @@ use Rattle.onfi_cycle.specs.declared.target_cycle.TargetCycle.{TargetCycle}
 use Rattle.onfi_cycle.specs.declared.target_cycle.TargetCycle.TheVariants.{CommandCycle, AddressCycle, InputCycle, OutputCycle}
 use Rattle.onfi_cycle.specs.Applied.{asks_driver}
 use Rattle.onfi_cycle.specs.Bounds.{is_read}
-use Rattle.onfi_cycle.specs.Command.{is_opener, closes, address_cycles, is_change_read_column}
-use Rattle.onfi_cycle.specs.Effect.{is_off, is_data, is_shared, of_target, other_effect, lun_reset_effect, confirm_effect, row_effect, cache_effect, names_lun, command_effect, id_effect, address_effect, opening_address_effect, cycle_effect, ends_features}
+use Rattle.onfi_cycle.specs.Command.{is_opener, closes, address_cycles, is_change_read_column, is_enhanced_column}
+use Rattle.onfi_cycle.specs.Effect.{is_off, is_data, is_shared, of_target, other_effect, lun_reset_effect, confirm_effect, row_effect, cache_effect, plane_effect, column_effect, names_lun, command_effect, id_effect, address_effect, opening_address_effect, cycle_effect, ends_features}
 use Rattle.onfi_cycle.specs.Look.{look_at}
-use Rattle.onfi_cycle.specs.Lun.{is_page_read, view_after}
+use Rattle.onfi_cycle.specs.Lun.{is_cache_read, is_page_read, view_after}
 use Rattle.onfi_cycle.specs.LunView.{LunView}
 use Rattle.onfi_cycle.specs.Rules.{is_some_and, driver, driver_is, named_lun_is, is_empty, continues_cache, ends_cache, breaks_no_sole_driver, breaks_cache_read_misplaced}
-use Rattle.onfi_cycle.specs.Sequence.{target_cycle, facts_of, begins_anew, opened, wants_address, wants_command, row, row_with, is_open}
+use Rattle.onfi_cycle.specs.Sequence.{target_cycle, facts_of, begins_anew, opened, selects_plane, wants_address, wants_command, row, row_with, is_open}
 use Rattle.onfi_cycle.specs.State.{effect_alone, luns_after, has_driver}
 use Rattle.onfi_cycle.proofs.Booleans.{eqb_self}
 use Rattle.onfi_cycle.proofs.Passed.{KeepsRules}
@@ -100,13 +100,23 @@ read_opened : (o : Option Opening) → opened (λ c n. closes c ReadConfirm && n
 read_opened None h = h
 read_opened (Some o) h = read_wanted o.opener o.addresses h
 
-column_wanted : (c : Command) (n : ℕ) → (closes c ChangeReadColumnConfirm && n == address_cycles c) ≡ true → is_change_read_column c ≡ true
-column_wanted ChangeReadColumn n h = refl
-column_wanted c n h = cc
+-- an E0h that no 06h opened is wanted by 05h
+column_wanted : (c : Command) (n : ℕ) → (is_enhanced_column c && n == 5) ≡ false → (closes c ChangeReadColumnConfirm && n == address_cycles c) ≡ true → is_change_read_column c ≡ true
+column_wanted ChangeReadColumn n e h = refl
+column_wanted ChangeReadColumnEnhanced n e h = cc
+column_wanted c n e h = cc
 
-column_opened : (o : Option Opening) → opened (λ c n. closes c ChangeReadColumnConfirm && n == address_cycles c) o ≡ true → opened (λ c n. is_change_read_column c) o ≡ true
-column_opened None h = h
-column_opened (Some o) h = column_wanted o.opener o.addresses h
+column_opened : (o : Option Opening) → opened (λ c n. is_enhanced_column c && n == 5) o ≡ false → opened (λ c n. closes c ChangeReadColumnConfirm && n == address_cycles c) o ≡ true → opened (λ c n. is_change_read_column c) o ≡ true
+column_opened None e h = h
+column_opened (Some o) e h = column_wanted o.opener o.addresses e h
+
+-- E0h behind a 06h asks nothing
+asks_plane : (g : Parts) (u : TailFacts) (n : ℕ) (t s : LunView) → Asks (plane_effect g u n) t s
+asks_plane g u n t s = of (names_lun g (row u) n)
+  where
+    of : (b : Bool) → Asks (cond b (PlaneSelected u.column) Deselected) t s
+    of true = tt
+    of false = tt
 
 -- a read of a page has no queue
 abbrev pub ReadsClear : Parts → TailFacts → ℕ → LunView → Type 0
@@ -158,6 +168,7 @@ opener_effect g u la lb SynchronousReset n o h = refl
 opener_effect g u la lb ReadCacheSequential n o h = cc
 opener_effect g u la lb ReadCacheEnd n o h = cc
 opener_effect g u la lb ChangeReadColumn n o h = neither (wants_command u ChangeReadColumn && names_lun g (row u) n)
+opener_effect g u la lb ChangeReadColumnEnhanced n o h = neither (wants_command u ChangeReadColumnEnhanced && names_lun g (row u) n)
 opener_effect g u la lb BlockErase n o h = neither (wants_command u BlockErase && names_lun g (row u) n)
 opener_effect g u la lb PageProgram n o h = neither (wants_command u PageProgram && names_lun g (row u) n)
 opener_effect g u la lb ReadId n o h = neither (wants_command u ReadId && names_lun g (row u) n)
@@ -293,38 +304,51 @@ module _ (g : Parts) (plain : is_shared g ≡ false) (i : Item) (k : Known) (ts 
           (on_row (cond (has_driver ts) t.latch Off) n ∙ sym (on_row (cond (has_driver ss) s.latch Off) n))
           (subst (λ (e : Effect). Asks e t s) (sym (on_row (cond (has_driver ss) s.latch Off) n)) (asks_row n t s h)) (λ r. absurd (resets r))
 
-  -- E0h, where its tail has one driver
-  go_column : (u : TailFacts) → (opened (λ c n. is_change_read_column c) u.opening ≡ true → (has_driver ts ≡ true) × (has_driver ss ≡ true)) → (is_reset i ≡ true → ⊥) →
+  -- E0h behind 05h, where its tail has one driver
+  go_driver_column : (u : TailFacts) → selects_plane u ≡ false → (opened (λ c n. is_change_read_column c) u.opening ≡ true → (has_driver ts ≡ true) × (has_driver ss ≡ true)) → (is_reset i ≡ true → ⊥) →
       GoEach i k (by_cycle g u (has_driver ts) (CommandCycle ChangeReadColumnConfirm)) (by_cycle g u (has_driver ss) (CommandCycle ChangeReadColumnConfirm)) 0 ts ss
-  go_column u d resets = of (wants_command u ChangeReadColumnConfirm) refl
+  go_driver_column u apart d resets = of (wants_command u ChangeReadColumnConfirm) refl
     where
       x : Effect
       x = ReadColumnChanged u.column
 
-      none : (la : Latch) → wants_command u ChangeReadColumnConfirm ≡ false → (n : ℕ) → command_effect g u la ChangeReadColumnConfirm n ≡ Unaffected
-      none la h n = rw h refl
+      et : ℕ → LunView → Effect
+      et = by_cycle g u (has_driver ts) (CommandCycle ChangeReadColumnConfirm)
 
-      one : wants_command u ChangeReadColumnConfirm ≡ true → (n : ℕ) (t s : LunView) → SameOff t s → Any n t → Any n s →
-          Goes i (knows k n) (by_cycle g u (has_driver ts) (CommandCycle ChangeReadColumnConfirm) n t) (by_cycle g u (has_driver ss) (CommandCycle ChangeReadColumnConfirm) n s) t s
+      es : ℕ → LunView → Effect
+      es = by_cycle g u (has_driver ss) (CommandCycle ChangeReadColumnConfirm)
+
+      on_driver : (la : Latch) (n : ℕ) → command_effect g u la ChangeReadColumnConfirm n ≡ column_effect u la
+      on_driver la n = ap (λ (b : Bool). cond b (plane_effect g u n) (column_effect u la)) apart
+
+      none : (la : Latch) → wants_command u ChangeReadColumnConfirm ≡ false → (n : ℕ) → command_effect g u la ChangeReadColumnConfirm n ≡ Unaffected
+      none la h n = on_driver la n ∙ ap (λ (b : Bool). cond (b && not (is_off la)) x Unaffected) h
+
+      asks : (n : ℕ) (t s : LunView) → Asks (es n s) t s
+      asks n t s =
+          subst (λ (e : Effect). Asks e t s) (sym (on_driver (cond (has_driver ss) s.latch Off) n))
+          (asks_if (wants_command u ChangeReadColumnConfirm && not (is_off (cond (has_driver ss) s.latch Off))) x t s (λ r. tt))
+
+      one : wants_command u ChangeReadColumnConfirm ≡ true → (n : ℕ) (t s : LunView) → SameOff t s → Any n t → Any n s → Goes i (knows k n) (et n t) (es n s) t s
       one h n t s off a b =
-          let both = d (column_opened u.opening h) in
-          go_same i (knows k n) (by_cycle g u (has_driver ts) (CommandCycle ChangeReadColumnConfirm) n t) (by_cycle g u (has_driver ss) (CommandCycle ChangeReadColumnConfirm) n s) t s
-          (ap (λ q. cond (wants_command u ChangeReadColumnConfirm && not (is_off (cond q t.latch Off))) x Unaffected) both.0
+          let both = d (column_opened u.opening apart h) in
+          go_same i (knows k n) (et n t) (es n s) t s
+          (on_driver (cond (has_driver ts) t.latch Off) n
+          ∙ ap (λ q. cond (wants_command u ChangeReadColumnConfirm && not (is_off (cond q t.latch Off))) x Unaffected) both.0
           ∙ ap (λ q. cond (wants_command u ChangeReadColumnConfirm && not q) x Unaffected) off
-          ∙ ap (λ q. cond (wants_command u ChangeReadColumnConfirm && not (is_off (cond q s.latch Off))) x Unaffected) (sym both.1))
-          (asks_if (wants_command u ChangeReadColumnConfirm && not (is_off (cond (has_driver ss) s.latch Off))) x t s (λ r. tt)) (λ r. absurd (resets r))
+          ∙ ap (λ q. cond (wants_command u ChangeReadColumnConfirm && not (is_off (cond q s.latch Off))) x Unaffected) (sym both.1)
+          ∙ sym (on_driver (cond (has_driver ss) s.latch Off) n))
+          (asks n t s) (λ r. absurd (resets r))
 
       same_off : wants_command u ChangeReadColumnConfirm ≡ true → Each SameOff ts ss
-      same_off h = let both = d (column_opened u.opening h) in same_driver ts ss each both.0 both.1
+      same_off h = let both = d (column_opened u.opening apart h) in same_driver ts ss each both.0 both.1
 
-      of : (b : Bool) → wants_command u ChangeReadColumnConfirm ≡ b → GoEach i k (by_cycle g u (has_driver ts) (CommandCycle ChangeReadColumnConfirm)) (by_cycle g u (has_driver ss) (CommandCycle ChangeReadColumnConfirm)) 0 ts ss
-      of true h =
-          go_each i k (by_cycle g u (has_driver ts) (CommandCycle ChangeReadColumnConfirm)) (by_cycle g u (has_driver ss) (CommandCycle ChangeReadColumnConfirm)) SameOff Any Any (one h) 0 ts ss (same_off h) (any_at 0 ts) (any_at 0 ss)
+      of : (b : Bool) → wants_command u ChangeReadColumnConfirm ≡ b → GoEach i k et es 0 ts ss
+      of true h = go_each i k et es SameOff Any Any (one h) 0 ts ss (same_off h) (any_at 0 ts) (any_at 0 ss)
       of false h =
-          go_each i k (by_cycle g u (has_driver ts) (CommandCycle ChangeReadColumnConfirm)) (by_cycle g u (has_driver ss) (CommandCycle ChangeReadColumnConfirm)) IsBelow Any Any
-          (λ n t s b a c. go_same i (knows k n) (by_cycle g u (has_driver ts) (CommandCycle ChangeReadColumnConfirm) n t) (by_cycle g u (has_driver ss) (CommandCycle ChangeReadColumnConfirm) n s) t s
-          (none (cond (has_driver ts) t.latch Off) h n ∙ sym (none (cond (has_driver ss) s.latch Off) h n))
-          (asks_if (wants_command u ChangeReadColumnConfirm && not (is_off (cond (has_driver ss) s.latch Off))) x t s (λ r. tt)) (λ r. absurd (resets r)))
+          go_each i k et es IsBelow Any Any
+          (λ n t s b a c. go_same i (knows k n) (et n t) (es n s) t s
+          (none (cond (has_driver ts) t.latch Off) h n ∙ sym (none (cond (has_driver ss) s.latch Off) h n)) (asks n t s) (λ r. absurd (resets r)))
           0 ts ss each (any_at 0 ts) (any_at 0 ss)
 
   -- effects that are the same on both, and ask nothing
@@ -332,6 +356,25 @@ module _ (g : Parts) (plain : is_shared g ≡ false) (i : Item) (k : Known) (ts 
       AtEach C 0 ts → GoEach i k et es 0 ts ss
   go_alike et es C same asks resets c =
       go_each i k et es IsBelow C Any (λ n t s b x y. go_same i (knows k n) (et n t) (es n s) t s (same n t s) (asks n t s x) (resets n s)) 0 ts ss each c (any_at 0 ss)
+
+  -- E0h behind 06h, which is of the LUN that the row names and turns the others off
+  go_plane_column : (u : TailFacts) → selects_plane u ≡ true → (is_reset i ≡ true → ⊥) →
+      GoEach i k (by_cycle g u (has_driver ts) (CommandCycle ChangeReadColumnConfirm)) (by_cycle g u (has_driver ss) (CommandCycle ChangeReadColumnConfirm)) 0 ts ss
+  go_plane_column u selects resets =
+      go_alike (by_cycle g u (has_driver ts) (CommandCycle ChangeReadColumnConfirm)) (by_cycle g u (has_driver ss) (CommandCycle ChangeReadColumnConfirm)) Any
+      (λ n t s. on_plane (cond (has_driver ts) t.latch Off) n ∙ sym (on_plane (cond (has_driver ss) s.latch Off) n))
+      (λ n t s x. subst (λ (e : Effect). Asks e t s) (sym (on_plane (cond (has_driver ss) s.latch Off) n)) (asks_plane g u n t s)) (λ n s y. absurd (resets y)) (any_at 0 ts)
+    where
+      on_plane : (la : Latch) (n : ℕ) → command_effect g u la ChangeReadColumnConfirm n ≡ plane_effect g u n
+      on_plane la n = ap (λ (b : Bool). cond b (plane_effect g u n) (column_effect u la)) selects
+
+  go_column : (u : TailFacts) → (opened (λ c n. is_change_read_column c) u.opening ≡ true → (has_driver ts ≡ true) × (has_driver ss ≡ true)) → (is_reset i ≡ true → ⊥) →
+      GoEach i k (by_cycle g u (has_driver ts) (CommandCycle ChangeReadColumnConfirm)) (by_cycle g u (has_driver ss) (CommandCycle ChangeReadColumnConfirm)) 0 ts ss
+  go_column u d resets = of (selects_plane u) refl
+    where
+      of : (b : Bool) → selects_plane u ≡ b → GoEach i k (by_cycle g u (has_driver ts) (CommandCycle ChangeReadColumnConfirm)) (by_cycle g u (has_driver ss) (CommandCycle ChangeReadColumnConfirm)) 0 ts ss
+      of true h = go_plane_column u h resets
+      of false h = go_driver_column u h d resets
 
   go_other : (u : TailFacts) (c : Command) → asks_driver (CommandCycle c) ≡ false → (is_reset i ≡ true → is_reset_cycle (CommandCycle c) ≡ true) → AtEach (ReadsClear g u) 0 ts →
       GoEach i k (by_cycle g u (has_driver ts) (CommandCycle c)) (by_cycle g u (has_driver ss) (CommandCycle c)) 0 ts ss
@@ -357,7 +400,7 @@ module _ (g : Parts) (plain : is_shared g ≡ false) (i : Item) (k : Known) (ts 
           (λ t s h. (and_parts (is_page_read s.closer) _ (and_parts (not s.busy) _ h).1).0) (λ h. let yes = r h in cc)
           (not-false (driver_is (continues_cache g) ts) x) (not-false (driver_is (continues_cache g) ss) y)
   go_command u ReadCacheEnd r a b d z =
-      go_cache u u ends_cache ReadCacheEnd CacheReadEnded (λ la n. refl) (λ la n. refl) (λ t s h. tt) (λ h. let yes = r h in cc) (not-false (driver_is ends_cache ts) a.f15) (not-false (driver_is ends_cache ss) b.f15)
+      go_cache u u ends_cache ReadCacheEnd CacheReadEnded (λ la n. refl) (λ la n. refl) (λ t s h. (and_parts (not s.busy) (is_cache_read s.closer) h).1) (λ h. let yes = r h in cc) (not-false (driver_is ends_cache ts) a.f15) (not-false (driver_is ends_cache ss) b.f15)
   go_command u ChangeReadColumnConfirm r a b d z = go_column u d (λ h. let yes = r h in cc)
   go_command u c r a b d z = go_other u c refl r z
 
@@ -371,7 +414,7 @@ module _ (g : Parts) (plain : is_shared g ≡ false) (i : Item) (k : Known) (ts 
       go_cache u (facts_of []) (continues_cache g) ReadCacheSequential (CacheReadContinued None) (cache_read_on g u none) (cache_read_on g (facts_of []) refl) (λ t s h. (and_parts (is_page_read s.closer) _ (and_parts (not s.busy) _ h).1).0) (λ h. let yes = r h in cc)
       (not-false (driver_is (continues_cache g) ts) driven) (not-false (driver_is (continues_cache g) ss) b.f15)
   go_opener u ReadCacheEnd o anew r a b =
-      go_cache u (facts_of []) ends_cache ReadCacheEnd CacheReadEnded (λ la n. refl) (λ la n. refl) (λ t s h. tt) (λ h. let yes = r h in cc) (not-false (driver_is ends_cache ts) a.f15) (not-false (driver_is ends_cache ss) b.f15)
+      go_cache u (facts_of []) ends_cache ReadCacheEnd CacheReadEnded (λ la n. refl) (λ la n. refl) (λ t s h. (and_parts (not s.busy) (is_cache_read s.closer) h).1) (λ h. let yes = r h in cc) (not-false (driver_is ends_cache ts) a.f15) (not-false (driver_is ends_cache ss) b.f15)
   go_opener u ChangeReadColumnConfirm o anew r a b = cc
   go_opener u c o anew r a b =
       go_alike (by_cycle g u (has_driver ts) (CommandCycle c)) (by_cycle g (facts_of []) (has_driver ss) (CommandCycle c)) Any

@@ -4,7 +4,7 @@ use Rattle.std.proofs.lemmas.Bool.{and_parts, and_from, or_left, or_parts}
 use Rattle.nand_geometry.specs.declared.parts.Parts.{Parts}
 use Rattle.nand_geometry.specs.Row.{parts_of}
 use Rattle.onfi_cycle.specs.declared.command.Command.{Command}
-use Rattle.onfi_cycle.specs.declared.command.Command.TheVariants.{Read, ReadConfirm, ChangeReadColumn, ChangeWriteColumn, BlockErase, PageProgram, ReadId, ReadParameterPage, ReadCacheSequential, ReadCacheEnd, ReadUniqueId, GetFeatures, SetFeatures}
+use Rattle.onfi_cycle.specs.declared.command.Command.TheVariants.{Read, ReadConfirm, ChangeReadColumn, ChangeReadColumnEnhanced, ChangeWriteColumn, BlockErase, PageProgram, ReadId, ReadParameterPage, ReadCacheSequential, ReadCacheEnd, ReadUniqueId, GetFeatures, SetFeatures}
 use Rattle.onfi_cycle.specs.declared.data_phase.DataPhase.{DataPhase}
 use Rattle.onfi_cycle.specs.declared.data_phase.DataPhase.TheVariants.{Outside, Inputs, FirstColumn, SecondColumn, FeatureInputs}
 use Rattle.onfi_cycle.specs.declared.effect.Effect.TheVariants.{Unaffected, CacheReadContinued, CacheReadEnded, DataOutput}
@@ -15,17 +15,17 @@ use Rattle.onfi_cycle.specs.declared.tail_facts.TailFacts.{TailFacts}
 use Rattle.onfi_cycle.specs.declared.target_cycle.TargetCycle.{TargetCycle}
 use Rattle.onfi_cycle.specs.declared.target_cycle.TargetCycle.TheVariants.{CommandCycle, AddressCycle, InputCycle, OutputCycle}
 use Rattle.nand_geometry.specs.Optional.{is_wide}
-use Rattle.onfi_cycle.specs.Command.{is_page_program, is_set_features, at_last_row, is_change_read_column, reads_identity}
+use Rattle.onfi_cycle.specs.Command.{is_page_program, is_set_features, at_last_row, is_change_read_column, is_enhanced_column, reads_identity}
 use Rattle.onfi_cycle.specs.Effect.{is_off, is_data, is_shared, names_lun, confirm_effect, other_effect, row_effect, cache_effect, command_effect, address_effect, opening_address_effect, cycle_effect}
 use Rattle.onfi_cycle.specs.Lun.{is_cache_read, is_page_read}
 use Rattle.onfi_cycle.specs.LunView.{LunView}
-use Rattle.onfi_cycle.specs.Rules.{is_some_and, named_lun_is, ends_row, excludes_cache, second_column, second_of_page, caching, breaks_no_column_to_change, breaks_no_sole_driver, breaks_data_not_ready, breaks_column_outside, breaks_cache_read_misplaced}
+use Rattle.onfi_cycle.specs.Rules.{is_some_and, named_lun_is, ends_row, excludes_cache, second_column, second_of_page, caching, breaks_no_column_to_change, breaks_no_sole_driver, breaks_data_not_ready, breaks_column_outside, breaks_cache_read_misplaced, breaks_plane_not_held}
 use Rattle.onfi_cycle.specs.Sequence.{facts_of, begins_anew, opened, phase_after_address, phase_after_last_address, phase_after_command, one_address_more, row, row_with, wants_command, extended_facts, facts_after}
 use Rattle.onfi_cycle.proofs.Passed.{KeepsRules}
-use Rattle.recording_laws.proofs.Luns.{IsBelow, IsHarmless}
+use Rattle.recording_laws.proofs.Luns.{IsBelow, IsHarmless, reads_on}
 use Rattle.recording_laws.proofs.Lists.{Each}
-use Rattle.recording_laws.proofs.Rules.{five, five_of}
-use Rattle.recording_laws.proofs.Unseen.{is_led, is_quiet_by, is_named_by, NoneQueued, MayCome, quiet, named, quiet_command, harmless_if, harmless_or, other_harmless, harmless_unless}
+use Rattle.recording_laws.proofs.Rules.{six, six_of}
+use Rattle.recording_laws.proofs.Unseen.{is_led, is_quiet_by, is_named_by, is_plane_by, NoneQueued, AllNamed, MayCome, quiet, named, selecting, quiet_command, harmless_if, harmless_or, other_harmless, harmless_unless}
 
 -- ---- 1. tails
 
@@ -86,8 +86,8 @@ grants ReadCacheSequential = true
 grants ReadCacheEnd = true
 grants c = reads_identity c
 
-none_granted : (g : Parts) (t : TailFacts) (ss : List LunView) (c : Command) → grants c ≡ false → five_of g t ss (CommandCycle c) ≡ None
-unfolding breaks_no_column_to_change breaks_no_sole_driver breaks_data_not_ready breaks_column_outside breaks_cache_read_misplaced
+none_granted : (g : Parts) (t : TailFacts) (ss : List LunView) (c : Command) → grants c ≡ false → six_of g t ss (CommandCycle c) ≡ None
+unfolding breaks_no_column_to_change breaks_no_sole_driver breaks_data_not_ready breaks_column_outside breaks_cache_read_misplaced breaks_plane_not_held
 none_granted g t ss ChangeReadColumn h = cc
 none_granted g t ss ReadConfirm h = cc
 none_granted g t ss ReadCacheSequential h = cc
@@ -99,7 +99,7 @@ none_granted g t ss GetFeatures h = cc
 none_granted g t ss SetFeatures h = cc
 none_granted g t ss c h = refl
 
-pub is_granted : (g : Parts) (t : TailFacts) (ss : List LunView) (c : Command) (rule : Forbidden) → five_of g t ss (CommandCycle c) ≡ Some rule → grants c ≡ true
+pub is_granted : (g : Parts) (t : TailFacts) (ss : List LunView) (c : Command) (rule : Forbidden) → six_of g t ss (CommandCycle c) ≡ Some rule → grants c ≡ true
 is_granted g t ss c rule h = at (grants c) refl
   where
     at : (b : Bool) → grants c ≡ b → grants c ≡ true
@@ -161,19 +161,11 @@ calm_at (t ∷ ts) (u ∷ ss) e (suc m) s found h = calm_at ts ss e.1 m s found 
 calm_at [] (s ∷ ss) e m v found h = absurd e
 calm_at (t ∷ ts) [] e m v found h = absurd e
 
-reads_on : (v : LunView) → caching v ≡ true → is_page_read v.closer ≡ true
-reads_on v h = of v.closer h
-  where
-    of : (c : Option Command) → is_cache_read c ≡ true → is_page_read c ≡ true
-    of (Some ReadCacheSequential) h = refl
-    of (Some c) h = cc
-    of None h = cc
-
 none_queued : (g : Parts) (r : ℕ) (ts ss : List LunView) → Each IsBelow ts ss → named_lun_is g r caching ss ≡ true → NoneQueued g r ss
 none_queued g r ts ss e h m s found names =
     let here : (parts_of g r).lun ≡ m = eqb-true (parts_of g r).lun m names in
     let at : slice_get ss (parts_of g r).lun ≡ Some s = ap (slice_get ss) here ∙ found in
-    calm_at ts ss e m s found (reads_on s (sym (ap (is_some_and caching) at) ∙ h))
+    calm_at ts ss e m s found (reads_on s.closer (sym (ap (is_some_and caching) at) ∙ h))
 
 -- of the address of these openers
 abbrev addresses_quietly : Command → Bool
@@ -181,6 +173,7 @@ addresses_quietly Read = true
 addresses_quietly BlockErase = true
 addresses_quietly PageProgram = true
 addresses_quietly ChangeReadColumn = true
+addresses_quietly ChangeReadColumnEnhanced = true
 addresses_quietly _ = false
 
 address_free : (g : Parts) (t : TailFacts) (byte : ℕ) (c : Command) (m n : ℕ) (s : LunView) → addresses_quietly c ≡ true → IsHarmless (address_effect g t byte c m n) s
@@ -188,6 +181,7 @@ address_free g t byte Read m n s h = tt
 address_free g t byte BlockErase m n s h = tt
 address_free g t byte PageProgram m n s h = tt
 address_free g t byte ChangeReadColumn m n s h = tt
+address_free g t byte ChangeReadColumnEnhanced m n s h = tt
 address_free g t byte c m n s h = cc
 
 -- what comes behind the last address of a row, whose LUN is seen to read on
@@ -228,6 +222,20 @@ column_quiet : (c : Command) (n : ℕ) → (is_change_read_column c && n == 1) �
 column_quiet ChangeReadColumn n h = refl
 column_quiet c n h = cc
 
+-- and what comes behind the last one of a 06h
+plane_comes : (c : Command) (n : ℕ) (p : DataPhase) → (is_enhanced_column c && at_last_row c n) ≡ true → is_sound_by (Some (record { opener = c; addresses = n })) p ≡ true →
+    is_plane_by (Some (record { opener = c; addresses = n + 1 })) (phase_after_address (Some (record { opener = c; addresses = n })) p) ≡ true
+plane_comes ChangeReadColumnEnhanced n Outside h sound = one_more n 4 h
+plane_comes ChangeReadColumnEnhanced n Inputs h sound = cc
+plane_comes ChangeReadColumnEnhanced n FirstColumn h sound = cc
+plane_comes ChangeReadColumnEnhanced n SecondColumn h sound = cc
+plane_comes ChangeReadColumnEnhanced n FeatureInputs h sound = cc
+plane_comes c n p h sound = cc
+
+plane_quiet : (c : Command) (n : ℕ) → (is_enhanced_column c && at_last_row c n) ≡ true → addresses_quietly c ≡ true
+plane_quiet ChangeReadColumnEnhanced n h = refl
+plane_quiet c n h = cc
+
 -- what such an address leaves
 pub record Comes (g : Parts) (t : TailFacts) (ss : List LunView) (cycle : TargetCycle) : Type 0 where
   pub comes : MayCome g (facts_after cycle t) ss
@@ -250,11 +258,19 @@ module _ (g : Parts) (t : TailFacts) (ss : List LunView) (byte : ℕ) (some : t.
         harmless = λ la n s. subst (λ (x : Option Opening). IsHarmless (opening_address_effect g t byte x n) s) (sym e) (address_free g t byte o.opener o.addresses n s (row_quiet g o.opener o.addresses h));
       }
 
+  after_plane : (o : Option Opening) → t.opening ≡ o → opened (λ c n. is_enhanced_column c && at_last_row c n) o ≡ true → is_sound_by o t.phase ≡ true → AllNamed g (row_with t byte) ss → Comes g t ss (AddressCycle byte)
+  after_plane None e h q named = cc
+  after_plane (Some o) e h q named =
+      record {
+        comes = rw some (selecting (rw e (plane_comes o.opener o.addresses t.phase h q)) (rw e named));
+        harmless = λ la n s. subst (λ (x : Option Opening). IsHarmless (opening_address_effect g t byte x n) s) (sym e) (address_free g t byte o.opener o.addresses n s (plane_quiet o.opener o.addresses h));
+      }
+
 pub address_granted : (g : Parts) (t : TailFacts) (ts ss : List LunView) (byte : ℕ) (rule : Forbidden) → Each IsBelow ts ss → KeepsRules g t ts (AddressCycle byte) → t.is_empty ≡ false → is_sound t ≡ true →
-    five_of g t ss (AddressCycle byte) ≡ Some rule → Comes g t ss (AddressCycle byte)
-unfolding breaks_no_column_to_change breaks_no_sole_driver breaks_data_not_ready breaks_column_outside breaks_cache_read_misplaced
-address_granted g t ts ss byte rule each k some sound h =
-    at (breaks_column_outside g t ss (AddressCycle byte)) refl (breaks_cache_read_misplaced g t ss (AddressCycle byte)) refl h
+    (ends_row is_enhanced_column t ≡ true → AllNamed g (row_with t byte) ss) → six_of g t ss (AddressCycle byte) ≡ Some rule → Comes g t ss (AddressCycle byte)
+unfolding breaks_no_column_to_change breaks_no_sole_driver breaks_data_not_ready breaks_column_outside breaks_cache_read_misplaced breaks_plane_not_held
+address_granted g t ts ss byte rule each k some sound alone h =
+    at (breaks_column_outside g t ss (AddressCycle byte)) refl (breaks_cache_read_misplaced g t ss (AddressCycle byte)) refl (breaks_plane_not_held g t ss (AddressCycle byte)) refl h
   where
     by_column : breaks_column_outside g t ss (AddressCycle byte) ≡ true → Comes g t ss (AddressCycle byte)
     by_column b =
@@ -267,16 +283,22 @@ address_granted g t ts ss byte rule each k some sound h =
         let a = and_parts (ends_row (excludes_cache g) t) (named_lun_is g (row_with t byte) caching ss) b in
         after_row g t ss byte some sound t.opening refl a.0 sound (none_queued g (row_with t byte) ts ss each a.1)
 
-    at : (b : Bool) → breaks_column_outside g t ss (AddressCycle byte) ≡ b → (c : Bool) → breaks_cache_read_misplaced g t ss (AddressCycle byte) ≡ c →
-        five (breaks_no_column_to_change ss (AddressCycle byte)) (breaks_no_sole_driver t ss (AddressCycle byte)) (breaks_data_not_ready ss (AddressCycle byte)) b c ≡ Some rule → Comes g t ss (AddressCycle byte)
-    at true x c y f = by_column x
-    at false x true y f = by_row y
-    at false x false y f = cc
+    by_plane : breaks_plane_not_held g t ss (AddressCycle byte) ≡ true → Comes g t ss (AddressCycle byte)
+    by_plane b =
+        let ends = (and_parts (ends_row is_enhanced_column t) _ b).0 in
+        after_plane g t ss byte some sound t.opening refl ends sound (alone ends)
+
+    at : (b : Bool) → breaks_column_outside g t ss (AddressCycle byte) ≡ b → (c : Bool) → breaks_cache_read_misplaced g t ss (AddressCycle byte) ≡ c → (d : Bool) → breaks_plane_not_held g t ss (AddressCycle byte) ≡ d →
+        six (breaks_no_column_to_change ss (AddressCycle byte)) (breaks_no_sole_driver t ss (AddressCycle byte)) (breaks_data_not_ready ss (AddressCycle byte)) b c d ≡ Some rule → Comes g t ss (AddressCycle byte)
+    at true x c y d z f = by_column x
+    at false x true y d z f = by_row y
+    at false x false y true z f = by_plane z
+    at false x false y false z f = cc
 
 -- ---- 4. inputs and outputs
 
-pub input_granted : (g : Parts) (t : TailFacts) (ts ss : List LunView) (byte : ℕ) (rule : Forbidden) → KeepsRules g t ts (InputCycle byte) → five_of g t ss (InputCycle byte) ≡ Some rule → ⊥
-unfolding breaks_no_column_to_change breaks_no_sole_driver breaks_data_not_ready breaks_column_outside breaks_cache_read_misplaced
+pub input_granted : (g : Parts) (t : TailFacts) (ts ss : List LunView) (byte : ℕ) (rule : Forbidden) → KeepsRules g t ts (InputCycle byte) → six_of g t ss (InputCycle byte) ≡ Some rule → ⊥
+unfolding breaks_no_column_to_change breaks_no_sole_driver breaks_data_not_ready breaks_column_outside breaks_cache_read_misplaced breaks_plane_not_held
 input_granted g t ts ss byte rule k h = let none = rw k.f14 at h in cc
 
 pub output_granted : (g : Parts) (t : TailFacts) (ss : List LunView) → t.is_empty ≡ false → Comes g t ss OutputCycle

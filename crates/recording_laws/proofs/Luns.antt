@@ -1,17 +1,17 @@
 -- A LUN as it is, and as it is seen by a check that began in the middle: what an effect leaves of both.
-use Rattle.std.proofs.Common.{◌≡◌, Bool, true, false, cond, not, ◌&&◌, ◌||◌, List, [], ◌∷◌, Some, None, refl, sym, ap, ◌∙◌, subst}
+use Rattle.std.proofs.Common.{◌≡◌, Bool, true, false, cond, not, ◌&&◌, ◌||◌, List, [], ◌∷◌, Option, Some, None, refl, sym, ap, ◌∙◌, subst}
 use Rattle.std.specs.List.{list_any}
 use Rattle.std.proofs.lemmas.Bool.{and_parts, or_parts, not-true, not-false}
-use Rattle.onfi_cycle.specs.declared.command.Command.TheVariants.{BlockEraseConfirm, BlockErasePlane, ProgramConfirm, ProgramPlane}
+use Rattle.onfi_cycle.specs.declared.command.Command.{Command}
+use Rattle.onfi_cycle.specs.declared.command.Command.TheVariants.{BlockEraseConfirm, BlockErasePlane, ProgramConfirm, ProgramPlane, ReadCacheSequential}
 use Rattle.onfi_cycle.specs.declared.effect.Effect.{Effect}
-use Rattle.onfi_cycle.specs.declared.effect.Effect.TheVariants.{Unaffected, DataOutputEnabled, StatusSelected, StatusRowAwaited, SelectedForStatus, Deselected, ReadStarted, EraseStarted, ProgramStarted, IdRead, IdentityRead, UniqueIdReadStarted, FeaturesReadStarted, FeaturesSet, ParameterPageReadStarted, CacheReadContinued, CacheReadEnded, ReadColumnChanged, DataOutput, ResetStarted, BecameReady, ArrayBecameReady, TargetResetStarted, StatusOfSelected, AnotherAddressed}
+use Rattle.onfi_cycle.specs.declared.effect.Effect.TheVariants.{Unaffected, DataOutputEnabled, StatusSelected, StatusRowAwaited, SelectedForStatus, Deselected, ReadStarted, EraseStarted, ProgramStarted, IdRead, IdentityRead, UniqueIdReadStarted, FeaturesReadStarted, FeaturesSet, ParameterPageReadStarted, CacheReadContinued, CacheReadEnded, ReadColumnChanged, PlaneSelected, DataOutput, ResetStarted, BecameReady, ArrayBecameReady, TargetResetStarted, StatusOfSelected, AnotherAddressed}
 use Rattle.onfi_cycle.specs.declared.latch.Latch.{Latch}
 use Rattle.onfi_cycle.specs.declared.latch.Latch.TheVariants.{Off, Status, Data}
 use Rattle.onfi_cycle.specs.declared.queued.Queued.{Queued}
 use Rattle.onfi_cycle.specs.declared.queued.Queued.TheVariants.{Erase, Program}
 use Rattle.onfi_cycle.specs.declared.read_column.ReadColumn.{ReadColumn}
-use Rattle.onfi_cycle.specs.declared.register.Register.{Register}
-use Rattle.onfi_cycle.specs.declared.register.Register.TheVariants.{Empty, Page, ParameterPage, Identifier, Identity, JedecIdentity, UniqueId, Features}
+use Rattle.onfi_cycle.specs.declared.register.Register.TheVariants.{Page}
 use Rattle.onfi_cycle.specs.declared.item.Item.{Item}
 use Rattle.onfi_cycle.specs.Effect.{is_off}
 use Rattle.onfi_cycle.specs.Look.{look_at}
@@ -33,17 +33,6 @@ abbrev pub Shows : (seen is : Latch) → Type 0
 Shows Off is = Unit {0}
 Shows Status is = is_off is ≡ false
 Shows Data is = is ≡ Data
-
--- what a register has for the rules: how many bytes, and whether these are a page
-abbrev pub kind_of : Register → Register
-kind_of Empty = Empty
-kind_of (Page p) = Page (record { block = 0; page = 0 })
-kind_of ParameterPage = ParameterPage
-kind_of Identifier = Identifier
-kind_of Identity = Identity
-kind_of JedecIdentity = JedecIdentity
-kind_of UniqueId = UniqueId
-kind_of (Features address) = Features 0
 
 -- no more is seen than is, as far as the rules see it that hang on nothing that was before
 pub record IsUnder (t s : LunView) : Type 0 where
@@ -67,7 +56,7 @@ pub record IsBegun (t s : LunView) : Type 0 where
   pub closer : t.closer ≡ s.closer
   pub array_busy : t.array_busy ≡ s.array_busy
   pub page : is_page_read s.closer ≡ true → t.array_page ≡ s.array_page
-  pub register : kind_of t.register ≡ kind_of s.register
+  pub register : t.register ≡ s.register
   pub column : is_empty s.register ≡ false → t.column ≡ s.column
 
 -- once it is seen to drive the bus, or was reset: what it shows
@@ -126,10 +115,12 @@ no_page_programmed false h = cc
 
 -- ---- 3. an effect on both
 
--- what an effect asks of the LUN: a read of a page has no queue, and a cache read goes on from one. Three come only where a target is shared
+-- what an effect asks of the LUN: a read of a page has no queue, a cache read goes on from one, and one that ends goes on. Three come only where a target is
+-- shared
 abbrev pub Asks : Effect → LunView → LunView → Type 0
 Asks (ReadStarted at from) t s = t.queue ≡ []
 Asks (CacheReadContinued to) t s = is_page_read s.closer ≡ true
+Asks CacheReadEnded t s = is_cache_read s.closer ≡ true
 Asks (TargetResetStarted first) t s = ⊥
 Asks StatusOfSelected t s = ⊥
 Asks (AnotherAddressed reads) t s = ⊥
@@ -154,6 +145,7 @@ below_after ParameterPageReadStarted t s b asks = record { busy = λ h. refl; qu
 below_after (CacheReadContinued to) t s b asks = record { busy = λ h. refl; queue = b.queue; latch = refl; calm = λ h. b.calm asks }
 below_after CacheReadEnded t s b asks = record { busy = λ h. refl; queue = b.queue; latch = refl; calm = λ h. cc }
 below_after (ReadColumnChanged from) t s b asks = record { busy = b.busy; queue = b.queue; latch = b.latch; calm = b.calm }
+below_after (PlaneSelected from) t s b asks = record { busy = b.busy; queue = b.queue; latch = refl; calm = b.calm }
 below_after DataOutput t s b asks = record { busy = b.busy; queue = b.queue; latch = b.latch; calm = b.calm }
 below_after ResetStarted t s b asks = record { busy = λ h. refl; queue = λ test h. h; latch = tt; calm = λ h. refl }
 below_after (BecameReady failed) t s b asks = record { busy = λ h. h; queue = b.queue; latch = b.latch; calm = b.calm }
@@ -161,6 +153,12 @@ below_after ArrayBecameReady t s b asks = record { busy = b.busy; queue = b.queu
 below_after (TargetResetStarted first) t s b asks = absurd asks
 below_after StatusOfSelected t s b asks = absurd asks
 below_after (AnotherAddressed reads) t s b asks = absurd asks
+
+-- a cache read that goes on has read a page
+pub reads_on : (c : Option Command) → is_cache_read c ≡ true → is_page_read c ≡ true
+reads_on (Some ReadCacheSequential) h = refl
+reads_on (Some c) h = cc
+reads_on None h = cc
 
 more_out : (k m : ReadColumn) → k ≡ m → read_column_after DataOutput k ≡ read_column_after DataOutput m
 more_out k m h = ap (read_column_after DataOutput) h
@@ -181,10 +179,11 @@ begun_after UniqueIdReadStarted t s g asks = record { busy = refl; closer = refl
 begun_after (FeaturesReadStarted address) t s g asks = record { busy = refl; closer = refl; array_busy = refl; page = λ h. cc; register = refl; column = λ h. refl }
 begun_after (FeaturesSet address) t s g asks = record { busy = refl; closer = refl; array_busy = refl; page = λ h. cc; register = refl; column = λ h. cc }
 begun_after ParameterPageReadStarted t s g asks = record { busy = refl; closer = refl; array_busy = refl; page = λ h. cc; register = refl; column = λ h. refl }
-begun_after (CacheReadContinued None) t s g asks = record { busy = refl; closer = refl; array_busy = refl; page = λ h. ap next_page (g.page asks); register = refl; column = λ h. refl }
-begun_after (CacheReadContinued (Some page)) t s g asks = record { busy = refl; closer = refl; array_busy = refl; page = λ h. refl; register = refl; column = λ h. refl }
-begun_after CacheReadEnded t s g asks = record { busy = refl; closer = refl; array_busy = refl; page = λ h. cc; register = refl; column = λ h. refl }
+begun_after (CacheReadContinued None) t s g asks = record { busy = refl; closer = refl; array_busy = refl; page = λ h. ap next_page (g.page asks); register = ap Page (g.page asks); column = λ h. refl }
+begun_after (CacheReadContinued (Some page)) t s g asks = record { busy = refl; closer = refl; array_busy = refl; page = λ h. refl; register = ap Page (g.page asks); column = λ h. refl }
+begun_after CacheReadEnded t s g asks = record { busy = refl; closer = refl; array_busy = refl; page = λ h. cc; register = ap Page (g.page (reads_on s.closer asks)); column = λ h. refl }
 begun_after (ReadColumnChanged from) t s g asks = record { busy = g.busy; closer = g.closer; array_busy = g.array_busy; page = g.page; register = g.register; column = λ h. refl }
+begun_after (PlaneSelected from) t s g asks = record { busy = g.busy; closer = g.closer; array_busy = g.array_busy; page = g.page; register = g.register; column = λ h. refl }
 begun_after DataOutput t s g asks = record { busy = g.busy; closer = g.closer; array_busy = g.array_busy; page = g.page; register = g.register; column = λ h. more_out t.column s.column (g.column h) }
 begun_after ResetStarted t s g asks = record { busy = refl; closer = refl; array_busy = refl; page = λ h. cc; register = refl; column = λ h. cc }
 begun_after (BecameReady failed) t s g asks =
@@ -201,33 +200,34 @@ begun_after (TargetResetStarted first) t s g asks = absurd asks
 begun_after StatusOfSelected t s g asks = absurd asks
 begun_after (AnotherAddressed reads) t s g asks = absurd asks
 
--- an effect by which the LUN begins work anew, and not by a cache read that goes on
-pub begun_by : (e : Effect) (t s : LunView) → s.busy ≡ false → (view_after e s).busy ≡ true → is_cache_read (view_after e s).closer ≡ false → IsBegun (view_after e t) (view_after e s)
-begun_by Unaffected t s idle busy new = cc
-begun_by DataOutputEnabled t s idle busy new = cc
-begun_by StatusSelected t s idle busy new = cc
-begun_by StatusRowAwaited t s idle busy new = cc
-begun_by SelectedForStatus t s idle busy new = cc
-begun_by Deselected t s idle busy new = cc
-begun_by (ReadStarted at from) t s idle busy new = record { busy = refl; closer = refl; array_busy = refl; page = λ h. refl; register = refl; column = λ h. refl }
-begun_by (EraseStarted queued at) t s idle busy new = record { busy = refl; closer = refl; array_busy = refl; page = λ h. absurd (no_page_erased queued h); register = refl; column = λ h. cc }
-begun_by (ProgramStarted queued at) t s idle busy new = record { busy = refl; closer = refl; array_busy = refl; page = λ h. absurd (no_page_programmed queued h); register = refl; column = λ h. cc }
-begun_by IdRead t s idle busy new = cc
-begun_by (IdentityRead jedec) t s idle busy new = cc
-begun_by UniqueIdReadStarted t s idle busy new = record { busy = refl; closer = refl; array_busy = refl; page = λ h. cc; register = refl; column = λ h. refl }
-begun_by (FeaturesReadStarted address) t s idle busy new = record { busy = refl; closer = refl; array_busy = refl; page = λ h. cc; register = refl; column = λ h. refl }
-begun_by (FeaturesSet address) t s idle busy new = record { busy = refl; closer = refl; array_busy = refl; page = λ h. cc; register = refl; column = λ h. cc }
-begun_by ParameterPageReadStarted t s idle busy new = record { busy = refl; closer = refl; array_busy = refl; page = λ h. cc; register = refl; column = λ h. refl }
-begun_by (CacheReadContinued to) t s idle busy new = cc
-begun_by CacheReadEnded t s idle busy new = record { busy = refl; closer = refl; array_busy = refl; page = λ h. cc; register = refl; column = λ h. refl }
-begun_by (ReadColumnChanged from) t s idle busy new = cc
-begun_by DataOutput t s idle busy new = cc
-begun_by ResetStarted t s idle busy new = record { busy = refl; closer = refl; array_busy = refl; page = λ h. cc; register = refl; column = λ h. cc }
-begun_by (BecameReady failed) t s idle busy new = cc
-begun_by ArrayBecameReady t s idle busy new = cc
-begun_by (TargetResetStarted first) t s idle busy new = record { busy = refl; closer = refl; array_busy = refl; page = λ h. cc; register = refl; column = λ h. cc }
-begun_by StatusOfSelected t s idle busy new = cc
-begun_by (AnotherAddressed reads) t s idle busy new = cc
+-- an effect by which the LUN begins work anew, and not by a cache read that goes on or ends
+pub begun_by : (e : Effect) (t s : LunView) → Asks e t s → s.busy ≡ false → (view_after e s).busy ≡ true → (is_cache_read s.closer || is_cache_read (view_after e s).closer) ≡ false → IsBegun (view_after e t) (view_after e s)
+begun_by Unaffected t s asks idle busy new = cc
+begun_by DataOutputEnabled t s asks idle busy new = cc
+begun_by StatusSelected t s asks idle busy new = cc
+begun_by StatusRowAwaited t s asks idle busy new = cc
+begun_by SelectedForStatus t s asks idle busy new = cc
+begun_by Deselected t s asks idle busy new = cc
+begun_by (ReadStarted at from) t s asks idle busy new = record { busy = refl; closer = refl; array_busy = refl; page = λ h. refl; register = refl; column = λ h. refl }
+begun_by (EraseStarted queued at) t s asks idle busy new = record { busy = refl; closer = refl; array_busy = refl; page = λ h. absurd (no_page_erased queued h); register = refl; column = λ h. cc }
+begun_by (ProgramStarted queued at) t s asks idle busy new = record { busy = refl; closer = refl; array_busy = refl; page = λ h. absurd (no_page_programmed queued h); register = refl; column = λ h. cc }
+begun_by IdRead t s asks idle busy new = cc
+begun_by (IdentityRead jedec) t s asks idle busy new = cc
+begun_by UniqueIdReadStarted t s asks idle busy new = record { busy = refl; closer = refl; array_busy = refl; page = λ h. cc; register = refl; column = λ h. refl }
+begun_by (FeaturesReadStarted address) t s asks idle busy new = record { busy = refl; closer = refl; array_busy = refl; page = λ h. cc; register = refl; column = λ h. refl }
+begun_by (FeaturesSet address) t s asks idle busy new = record { busy = refl; closer = refl; array_busy = refl; page = λ h. cc; register = refl; column = λ h. cc }
+begun_by ParameterPageReadStarted t s asks idle busy new = record { busy = refl; closer = refl; array_busy = refl; page = λ h. cc; register = refl; column = λ h. refl }
+begun_by (CacheReadContinued to) t s asks idle busy new = let reads = (or_parts (is_cache_read s.closer) true new).1 in cc
+begun_by CacheReadEnded t s asks idle busy new = let none = (or_parts (is_cache_read s.closer) false new).0 in let reads : true ≡ false = sym asks ∙ none in cc
+begun_by (ReadColumnChanged from) t s asks idle busy new = cc
+begun_by (PlaneSelected from) t s asks idle busy new = cc
+begun_by DataOutput t s asks idle busy new = cc
+begun_by ResetStarted t s asks idle busy new = record { busy = refl; closer = refl; array_busy = refl; page = λ h. cc; register = refl; column = λ h. cc }
+begun_by (BecameReady failed) t s asks idle busy new = cc
+begun_by ArrayBecameReady t s asks idle busy new = cc
+begun_by (TargetResetStarted first) t s asks idle busy new = record { busy = refl; closer = refl; array_busy = refl; page = λ h. cc; register = refl; column = λ h. cc }
+begun_by StatusOfSelected t s asks idle busy new = cc
+begun_by (AnotherAddressed reads) t s asks idle busy new = cc
 
 pub same_after : (e : Effect) (t s : LunView) → Asks e t s → IsSame t s → IsSame (view_after e t) (view_after e s)
 same_after Unaffected t s asks m = record { off = m.off; latch = m.latch }
@@ -248,6 +248,7 @@ same_after ParameterPageReadStarted t s asks m = record { off = refl; latch = λ
 same_after (CacheReadContinued to) t s asks m = record { off = refl; latch = λ h. refl }
 same_after CacheReadEnded t s asks m = record { off = refl; latch = λ h. refl }
 same_after (ReadColumnChanged from) t s asks m = record { off = m.off; latch = m.latch }
+same_after (PlaneSelected from) t s asks m = record { off = refl; latch = λ h. refl }
 same_after DataOutput t s asks m = record { off = m.off; latch = m.latch }
 same_after ResetStarted t s asks m = record { off = refl; latch = λ h. refl }
 same_after (BecameReady failed) t s asks m = record { off = m.off; latch = m.latch }
@@ -276,6 +277,7 @@ driven_by ParameterPageReadStarted t s asks off on = record { off = refl; latch 
 driven_by (CacheReadContinued to) t s asks off on = record { off = refl; latch = λ h. refl }
 driven_by CacheReadEnded t s asks off on = record { off = refl; latch = λ h. refl }
 driven_by (ReadColumnChanged from) t s asks off on = cc
+driven_by (PlaneSelected from) t s asks off on = record { off = refl; latch = λ h. refl }
 driven_by DataOutput t s asks off on = cc
 driven_by ResetStarted t s asks off on = cc
 driven_by (BecameReady failed) t s asks off on = cc
@@ -304,6 +306,7 @@ same_begun ParameterPageReadStarted t s idle busy off = record { off = off; latc
 same_begun (CacheReadContinued to) t s idle busy off = record { off = off; latch = λ h. refl }
 same_begun CacheReadEnded t s idle busy off = record { off = off; latch = λ h. refl }
 same_begun (ReadColumnChanged from) t s idle busy off = cc
+same_begun (PlaneSelected from) t s idle busy off = cc
 same_begun DataOutput t s idle busy off = cc
 same_begun ResetStarted t s idle busy off = record { off = off; latch = λ h. cc }
 same_begun (BecameReady failed) t s idle busy off = cc
@@ -315,7 +318,7 @@ same_begun (AnotherAddressed reads) t s idle busy off = cc
 -- ---- 4. what is learned
 
 abbrev begins_by : Effect → LunView → Bool
-begins_by e s = not s.busy && ((view_after e s).busy && not (is_cache_read (view_after e s).closer))
+begins_by e s = not s.busy && ((view_after e s).busy && not (is_cache_read s.closer || is_cache_read (view_after e s).closer))
 
 abbrev drives_by : Item → Effect → LunView → Bool
 drives_by i e s = not (is_off (view_after e s).latch) || (begins_by e s && is_reset i)
@@ -323,13 +326,13 @@ drives_by i e s = not (is_off (view_after e s).latch) || (begins_by e s && is_re
 record Begins (e : Effect) (s : LunView) : Type 0 where
   idle : s.busy ≡ false
   busy : (view_after e s).busy ≡ true
-  new : is_cache_read (view_after e s).closer ≡ false
+  new : (is_cache_read s.closer || is_cache_read (view_after e s).closer) ≡ false
 
 begins_of : (e : Effect) (s : LunView) → begins_by e s ≡ true → Begins e s
 begins_of e s h =
-    let a = and_parts (not s.busy) ((view_after e s).busy && not (is_cache_read (view_after e s).closer)) h in
-    let b = and_parts (view_after e s).busy (not (is_cache_read (view_after e s).closer)) a.1 in
-    record { idle = not-true s.busy a.0; busy = b.0; new = not-true (is_cache_read (view_after e s).closer) b.1 }
+    let a = and_parts (not s.busy) ((view_after e s).busy && not (is_cache_read s.closer || is_cache_read (view_after e s).closer)) h in
+    let b = and_parts (view_after e s).busy (not (is_cache_read s.closer || is_cache_read (view_after e s).closer)) a.1 in
+    record { idle = not-true s.busy a.0; busy = b.0; new = not-true (is_cache_read s.closer || is_cache_read (view_after e s).closer) b.1 }
 
 module _ (i : Item) (e : Effect) (t s : LunView) (below : IsBelow (view_after e t) (view_after e s)) (asks : Asks e t s) (resets : is_reset i ≡ true → e ≡ ResetStarted) where
   -- it begins work, and drives the bus or is reset
@@ -353,11 +356,11 @@ module _ (i : Item) (e : Effect) (t s : LunView) (below : IsBelow (view_after e 
   first_fits false d begins drives = record { below = below; begun = λ h. cc; same = λ h. cc; off = λ h g. cc }
   first_fits true true begins drives =
       let b = begins_of e s begins in
-      record { below = below; begun = λ h. begun_by e t s b.idle b.busy b.new; same = λ h. same_anew begins drives; off = λ h g. cc }
+      record { below = below; begun = λ h. begun_by e t s asks b.idle b.busy b.new; same = λ h. same_anew begins drives; off = λ h g. cc }
   first_fits true false begins drives =
       let b = begins_of e s begins in
       let o = or_parts (not (is_off (view_after e s).latch)) (begins_by e s && is_reset i) drives in
-      record { below = below; begun = λ h. begun_by e t s b.idle b.busy b.new; same = λ h. cc; off = λ h g. not-false (is_off (view_after e s).latch) o.0 }
+      record { below = below; begun = λ h. begun_by e t s asks b.idle b.busy b.new; same = λ h. cc; off = λ h g. not-false (is_off (view_after e s).latch) o.0 }
 
   work_fits : (d : Bool) → drives_by i e s ≡ d → is_off s.latch ≡ true → IsBegun (view_after e t) (view_after e s) → Fits (once_begun d) (view_after e t) (view_after e s)
   work_fits false drives was begun =
@@ -439,6 +442,7 @@ unseen_after ParameterPageReadStarted t s b h = record { busy = λ x. refl; queu
 unseen_after (CacheReadContinued to) t s b h = record { busy = λ x. refl; queue = b.queue; latch = data_shows s.latch; calm = b.calm }
 unseen_after CacheReadEnded t s b h = record { busy = λ x. refl; queue = b.queue; latch = data_shows s.latch; calm = b.calm }
 unseen_after (ReadColumnChanged from) t s b h = record { busy = b.busy; queue = b.queue; latch = b.latch; calm = b.calm }
+unseen_after (PlaneSelected from) t s b h = record { busy = b.busy; queue = b.queue; latch = data_shows s.latch; calm = b.calm }
 unseen_after DataOutput t s b h = record { busy = b.busy; queue = b.queue; latch = b.latch; calm = b.calm }
 unseen_after ResetStarted t s b h = record { busy = λ x. refl; queue = none_more s.queue [] h.0; latch = off_shows s.latch Off h.1; calm = b.calm }
 unseen_after (BecameReady failed) t s b h = record { busy = λ x. cc; queue = b.queue; latch = b.latch; calm = b.calm }
@@ -466,6 +470,7 @@ blank_harmless ParameterPageReadStarted s b = tt
 blank_harmless (CacheReadContinued to) s b = tt
 blank_harmless CacheReadEnded s b = tt
 blank_harmless (ReadColumnChanged from) s b = tt
+blank_harmless (PlaneSelected from) s b = tt
 blank_harmless DataOutput s b = tt
 blank_harmless ResetStarted s b = (b.queue, b.latch)
 blank_harmless (BecameReady failed) s b = b.busy

@@ -6,7 +6,7 @@ use Rattle.nand_geometry.specs.declared.parts.Parts.{Parts}
 use Rattle.onfi_cycle.specs.declared.command.Command.{Command}
 use Rattle.onfi_cycle.specs.declared.command.Command.TheVariants.{Read, ChangeReadColumn, BlockErase, PageProgram, ReadStatus, ReadStatusEnhanced, ReadConfirm, ReadCacheSequential, ReadCacheEnd}
 use Rattle.onfi_cycle.specs.declared.forbidden.Forbidden.{Forbidden}
-use Rattle.onfi_cycle.specs.declared.forbidden.Forbidden.TheVariants.{NoColumnToChange, NoSoleDriver, DataNotReady, ColumnOutside, CacheReadMisplaced}
+use Rattle.onfi_cycle.specs.declared.forbidden.Forbidden.TheVariants.{NoColumnToChange, NoSoleDriver, DataNotReady, ColumnOutside, CacheReadMisplaced, PlaneNotHeld}
 use Rattle.onfi_cycle.specs.declared.latch.Latch.{Latch}
 use Rattle.onfi_cycle.specs.declared.latch.Latch.TheVariants.{Off, Status, Data}
 use Rattle.onfi_cycle.specs.declared.opening.Opening.{Opening}
@@ -18,16 +18,16 @@ use Rattle.onfi_cycle.specs.declared.tail_facts.TailFacts.{TailFacts}
 use Rattle.onfi_cycle.specs.declared.target_cycle.TargetCycle.{TargetCycle}
 use Rattle.onfi_cycle.specs.declared.target_cycle.TargetCycle.TheVariants.{CommandCycle, AddressCycle, InputCycle, OutputCycle}
 use Rattle.nand_geometry.specs.Optional.{is_wide}
-use Rattle.onfi_cycle.specs.Command.{is_opener, wants_ready, reads_identity, at_last_row, addresses_the_array, is_change_read_column}
+use Rattle.onfi_cycle.specs.Command.{is_opener, wants_ready, reads_identity, at_last_row, addresses_the_array, is_change_read_column, is_enhanced_column}
 use Rattle.onfi_cycle.specs.Effect.{is_off, is_data, is_shared, page_address}
 use Rattle.onfi_cycle.specs.Lun.{is_cache_read, is_page_read, output_column}
 use Rattle.onfi_cycle.specs.LunView.{LunView}
 use Rattle.onfi_cycle.specs.Permitted.{judge_cycle}
-use Rattle.onfi_cycle.specs.Rules.{is_some_and, driver_is, named_lun_is, ends_row, excludes_cache, register_len, is_page_or_parameters, is_empty, lacks, is_past, queued_clashes, has_some, may_change_column, refused_by, is_refused_by, works_for_target, is_unclear, has_no_byte, is_past_register, second_column, second_of_page, caching, continues_cache, ends_cache, breaks_sequence_open, breaks_several_luns, breaks_no_column_to_change, breaks_command_misplaced, breaks_address_misplaced, breaks_row_outside, breaks_lun_busy, breaks_queue_clash, breaks_input_misplaced, breaks_no_sole_driver, breaks_data_not_ready, breaks_column_outside, breaks_cache_read_misplaced}
+use Rattle.onfi_cycle.specs.Rules.{is_some_and, driver_is, named_lun_is, ends_row, excludes_cache, holds_plane_of, register_len, is_page_or_parameters, is_empty, lacks, is_past, queued_clashes, has_some, may_change_column, refused_by, is_refused_by, works_for_target, is_unclear, has_no_byte, is_past_register, second_column, second_of_page, caching, continues_cache, ends_cache, breaks_sequence_open, breaks_several_luns, breaks_no_column_to_change, breaks_command_misplaced, breaks_address_misplaced, breaks_row_outside, breaks_lun_busy, breaks_queue_clash, breaks_input_misplaced, breaks_no_sole_driver, breaks_data_not_ready, breaks_column_outside, breaks_cache_read_misplaced, breaks_plane_not_held}
 use Rattle.onfi_cycle.specs.Sequence.{facts_of, begins_anew, wants_command, row, row_with, column_with, is_open}
 use Rattle.onfi_cycle.proofs.Passed.{KeepsRules}
 use Rattle.trace_faults.specs.Middle.{hangs_on_before}
-use Rattle.recording_laws.proofs.Luns.{Within, Shows, kind_of, IsUnder, IsBegun, IsSame}
+use Rattle.recording_laws.proofs.Luns.{Within, Shows, IsUnder, IsBegun, IsSame}
 use Rattle.recording_laws.proofs.Lists.{Each, each_more, either_of, any_up, any_down, lun_up, lun_down, driver_up, driver_down}
 
 -- ---- 1. Booleans
@@ -147,30 +147,31 @@ abbrev pub OnlyHangs : Option Forbidden → Type 0
 OnlyHangs None = Unit {0}
 OnlyHangs (Some rule) = hangs_on_before rule ≡ true
 
-only_five : (a b c d e : Bool) →
-    OnlyHangs (cond a (Some NoColumnToChange) (cond b (Some NoSoleDriver) (cond c (Some DataNotReady) (cond d (Some ColumnOutside) (cond e (Some CacheReadMisplaced) None)))))
-only_five true b c d e = refl
-only_five false true c d e = refl
-only_five false false true d e = refl
-only_five false false false true e = refl
-only_five false false false false true = refl
-only_five false false false false false = tt
+only_six : (a b c d e f : Bool) →
+    OnlyHangs (cond a (Some NoColumnToChange) (cond b (Some NoSoleDriver) (cond c (Some DataNotReady) (cond d (Some ColumnOutside) (cond e (Some CacheReadMisplaced) (cond f (Some PlaneNotHeld) None))))))
+only_six true b c d e f = refl
+only_six false true c d e f = refl
+only_six false false true d e f = refl
+only_six false false false true e f = refl
+only_six false false false false true f = refl
+only_six false false false false false true = refl
+only_six false false false false false false = tt
 
 -- the first of the rules that hang on what was before
-abbrev pub five : (a b c d e : Bool) → Option Forbidden
-five a b c d e = cond a (Some NoColumnToChange) (cond b (Some NoSoleDriver) (cond c (Some DataNotReady) (cond d (Some ColumnOutside) (cond e (Some CacheReadMisplaced) None))))
+abbrev pub six : (a b c d e f : Bool) → Option Forbidden
+six a b c d e f = cond a (Some NoColumnToChange) (cond b (Some NoSoleDriver) (cond c (Some DataNotReady) (cond d (Some ColumnOutside) (cond e (Some CacheReadMisplaced) (cond f (Some PlaneNotHeld) None)))))
 
-abbrev pub five_of : Parts → TailFacts → List LunView → TargetCycle → Option Forbidden
-five_of g t ss cycle = five (breaks_no_column_to_change ss cycle) (breaks_no_sole_driver t ss cycle) (breaks_data_not_ready ss cycle) (breaks_column_outside g t ss cycle) (breaks_cache_read_misplaced g t ss cycle)
+abbrev pub six_of : Parts → TailFacts → List LunView → TargetCycle → Option Forbidden
+six_of g t ss cycle = six (breaks_no_column_to_change ss cycle) (breaks_no_sole_driver t ss cycle) (breaks_data_not_ready ss cycle) (breaks_column_outside g t ss cycle) (breaks_cache_read_misplaced g t ss cycle) (breaks_plane_not_held g t ss cycle)
 
-pub judged_five : (g : Parts) (t : TailFacts) (ts ss : List LunView) (cycle : TargetCycle) → Each IsUnder ts ss → (is_shared g ≡ true → IsClear ts ss) → KeepsRules g t ts cycle → judge_cycle g t ss cycle ≡ five_of g t ss cycle
-judged_five g t ts ss cycle each clear k = rw (k.f2, k.f3, several_kept g ts ss each clear cycle k.f4, k.f6, k.f7, k.f8, busy_kept g ts ss each clear t cycle k.f9, queue_kept g ts ss each clear t cycle k.f10, k.f11) refl
+pub judged_six : (g : Parts) (t : TailFacts) (ts ss : List LunView) (cycle : TargetCycle) → Each IsUnder ts ss → (is_shared g ≡ true → IsClear ts ss) → KeepsRules g t ts cycle → judge_cycle g t ss cycle ≡ six_of g t ss cycle
+judged_six g t ts ss cycle each clear k = rw (k.f2, k.f3, several_kept g ts ss each clear cycle k.f4, k.f6, k.f7, k.f8, busy_kept g ts ss each clear t cycle k.f9, queue_kept g ts ss each clear t cycle k.f10, k.f11) refl
 
 -- the tail is the same, or an opener comes and no tail was seen
 pub only_hangs : (g : Parts) (t : TailFacts) (ts ss : List LunView) (cycle : TargetCycle) → Each IsUnder ts ss → (is_shared g ≡ true → IsClear ts ss) → KeepsRules g t ts cycle → OnlyHangs (judge_cycle g t ss cycle)
 only_hangs g t ts ss cycle each clear k =
     rw (k.f2, k.f3, several_kept g ts ss each clear cycle k.f4, k.f6, k.f7, k.f8, busy_kept g ts ss each clear t cycle k.f9, queue_kept g ts ss each clear t cycle k.f10, k.f11)
-    (only_five (breaks_no_column_to_change ss cycle) (breaks_no_sole_driver t ss cycle) (breaks_data_not_ready ss cycle) (breaks_column_outside g t ss cycle) (breaks_cache_read_misplaced g t ss cycle))
+    (only_six (breaks_no_column_to_change ss cycle) (breaks_no_sole_driver t ss cycle) (breaks_data_not_ready ss cycle) (breaks_column_outside g t ss cycle) (breaks_cache_read_misplaced g t ss cycle) (breaks_plane_not_held g t ss cycle))
 
 fresh_open : (g : Parts) (c : Command) → breaks_sequence_open g (facts_of []) (CommandCycle c) ≡ false
 unfolding breaks_sequence_open
@@ -195,10 +196,10 @@ fresh_input c = refl
 pub only_hangs_fresh : (g : Parts) (t : TailFacts) (ts ss : List LunView) (c : Command) → is_opener c ≡ true → Each IsUnder ts ss → (is_shared g ≡ true → IsClear ts ss) → KeepsRules g t ts (CommandCycle c) → OnlyHangs (judge_cycle g (facts_of []) ss (CommandCycle c))
 only_hangs_fresh g t ts ss c opener each clear k =
     rw (k.f2, fresh_open g c, several_kept g ts ss each clear (CommandCycle c) k.f4, fresh_placed c opener, fresh_address g c, fresh_row g c, busy_command g ts ss each clear t (facts_of []) c k.f9, queue_command g ts ss each clear t (facts_of []) c k.f10, fresh_input c)
-    (only_five (breaks_no_column_to_change ss (CommandCycle c)) (breaks_no_sole_driver (facts_of []) ss (CommandCycle c)) (breaks_data_not_ready ss (CommandCycle c)) (breaks_column_outside g (facts_of []) ss (CommandCycle c)) (breaks_cache_read_misplaced g (facts_of []) ss (CommandCycle c)))
+    (only_six (breaks_no_column_to_change ss (CommandCycle c)) (breaks_no_sole_driver (facts_of []) ss (CommandCycle c)) (breaks_data_not_ready ss (CommandCycle c)) (breaks_column_outside g (facts_of []) ss (CommandCycle c)) (breaks_cache_read_misplaced g (facts_of []) ss (CommandCycle c)) (breaks_plane_not_held g (facts_of []) ss (CommandCycle c)))
 
-pub judged_five_fresh : (g : Parts) (t : TailFacts) (ts ss : List LunView) (c : Command) → is_opener c ≡ true → Each IsUnder ts ss → (is_shared g ≡ true → IsClear ts ss) → KeepsRules g t ts (CommandCycle c) → judge_cycle g (facts_of []) ss (CommandCycle c) ≡ five_of g (facts_of []) ss (CommandCycle c)
-judged_five_fresh g t ts ss c opener each clear k =
+pub judged_six_fresh : (g : Parts) (t : TailFacts) (ts ss : List LunView) (c : Command) → is_opener c ≡ true → Each IsUnder ts ss → (is_shared g ≡ true → IsClear ts ss) → KeepsRules g t ts (CommandCycle c) → judge_cycle g (facts_of []) ss (CommandCycle c) ≡ six_of g (facts_of []) ss (CommandCycle c)
+judged_six_fresh g t ts ss c opener each clear k =
     rw (k.f2, fresh_open g c, several_kept g ts ss each clear (CommandCycle c) k.f4, fresh_placed c opener, fresh_address g c, fresh_row g c, busy_command g ts ss each clear t (facts_of []) c k.f9, queue_command g ts ss each clear t (facts_of []) c k.f10, fresh_input c) refl
 
 -- ---- 4. where all is known of each LUN
@@ -211,36 +212,6 @@ pub record IsKnown (t s : LunView) : Type 0 where
 known_off : (t s : LunView) → IsKnown t s → is_off t.latch ≡ is_off s.latch
 known_off t s k = k.same.off
 
-page_kind : (r : Register) → is_page_or_parameters r ≡ is_page_or_parameters (kind_of r)
-page_kind Empty = refl
-page_kind (Page p) = refl
-page_kind ParameterPage = refl
-page_kind Identifier = refl
-page_kind Identity = refl
-page_kind JedecIdentity = refl
-page_kind UniqueId = refl
-page_kind (Features address) = refl
-
-empty_kind : (r : Register) → is_empty r ≡ is_empty (kind_of r)
-empty_kind Empty = refl
-empty_kind (Page p) = refl
-empty_kind ParameterPage = refl
-empty_kind Identifier = refl
-empty_kind Identity = refl
-empty_kind JedecIdentity = refl
-empty_kind UniqueId = refl
-empty_kind (Features address) = refl
-
-len_kind : (g : Parts) (r : Register) → register_len g r ≡ register_len g (kind_of r)
-len_kind g Empty = refl
-len_kind g (Page p) = refl
-len_kind g ParameterPage = refl
-len_kind g Identifier = refl
-len_kind g Identity = refl
-len_kind g JedecIdentity = refl
-len_kind g UniqueId = refl
-len_kind g (Features address) = refl
-
 page_not_empty : (r : Register) → is_page_or_parameters r ≡ true → is_empty r ≡ false
 page_not_empty Empty h = cc
 page_not_empty (Page p) h = refl
@@ -252,13 +223,13 @@ page_not_empty UniqueId h = refl
 page_not_empty (Features address) h = refl
 
 same_page : (t s : LunView) → IsBegun t s → is_page_or_parameters t.register ≡ is_page_or_parameters s.register
-same_page t s b = page_kind t.register ∙ ap is_page_or_parameters b.register ∙ sym (page_kind s.register)
+same_page t s b = ap is_page_or_parameters b.register
 
 same_empty : (t s : LunView) → IsBegun t s → is_empty t.register ≡ is_empty s.register
-same_empty t s b = empty_kind t.register ∙ ap is_empty b.register ∙ sym (empty_kind s.register)
+same_empty t s b = ap is_empty b.register
 
 same_len : (g : Parts) (t s : LunView) → IsBegun t s → register_len g t.register ≡ register_len g s.register
-same_len g t s b = len_kind g t.register ∙ ap (register_len g) b.register ∙ sym (len_kind g s.register)
+same_len g t s b = ap (register_len g) b.register
 
 data_is : (l : Latch) → is_data l ≡ true → l ≡ Data
 data_is Off h = cc
@@ -397,15 +368,27 @@ module _ (g : Parts) (ts ss : List LunView) (each : Each IsKnown ts ss) (clear :
   cache_kept t (InputCycle byte) h = refl
   cache_kept t OutputCycle h = refl
 
+  pub plane_kept : (t : TailFacts) (c : TargetCycle) → breaks_plane_not_held g t ts c ≡ false → breaks_plane_not_held g t ss c ≡ false
+  unfolding breaks_plane_not_held
+  plane_kept t (CommandCycle c) h = refl
+  plane_kept t (AddressCycle byte) h =
+      and_less (ends_row is_enhanced_column t) (named_lun_is g (row_with t byte) holds_none ts) (named_lun_is g (row_with t byte) holds_none ss)
+      (lun_down IsKnown holds_none holds_none (λ x y k r. ap (λ (held : Register). not (holds_plane_of g (page_address g (row_with t byte)) held)) k.begun.register ∙ r) ts ss _ each) h
+    where
+      holds_none : LunView → Bool
+      holds_none v = not (holds_plane_of g (page_address g (row_with t byte)) v.register)
+  plane_kept t (InputCycle byte) h = refl
+  plane_kept t OutputCycle h = refl
+
   below_each : Each IsUnder ts ss
   below_each = each_more IsKnown IsUnder (λ t s k. k.below) ts ss each
 
   pub none_broken : (t : TailFacts) (cycle : TargetCycle) → KeepsRules g t ts cycle → judge_cycle g t ss cycle ≡ None
   none_broken t cycle k =
-      rw (k.f2, k.f3, several_kept g ts ss below_each clear cycle k.f4, column_kept cycle k.f5, k.f6, k.f7, k.f8, busy_kept g ts ss below_each clear t cycle k.f9, queue_kept g ts ss below_each clear t cycle k.f10, k.f11, driver_kept t cycle k.f12, data_kept cycle k.f13, outside_kept t cycle k.f13 k.f14, cache_kept t cycle k.f15) refl
+      rw (k.f2, k.f3, several_kept g ts ss below_each clear cycle k.f4, column_kept cycle k.f5, k.f6, k.f7, k.f8, busy_kept g ts ss below_each clear t cycle k.f9, queue_kept g ts ss below_each clear t cycle k.f10, k.f11, driver_kept t cycle k.f12, data_kept cycle k.f13, outside_kept t cycle k.f13 k.f14, cache_kept t cycle k.f15, plane_kept t cycle k.f18) refl
 
   pub none_broken_fresh : (u : TailFacts) (c : Command) → is_opener c ≡ true → begins_anew u (CommandCycle c) ≡ true → KeepsRules g u ts (CommandCycle c) → judge_cycle g (facts_of []) ss (CommandCycle c) ≡ None
-  unfolding breaks_no_sole_driver breaks_data_not_ready breaks_column_outside
+  unfolding breaks_no_sole_driver breaks_data_not_ready breaks_column_outside breaks_plane_not_held
   none_broken_fresh u c opener anew k =
-      judged_five_fresh g u ts ss c opener below_each clear k
+      judged_six_fresh g u ts ss c opener below_each clear k
       ∙ (rw (column_kept (CommandCycle c) k.f5, cache_fresh u c anew k.f15) refl)

@@ -1,4 +1,4 @@
--- A shared target as it is, and as it is seen: nothing of it is judged before a reset, and from there on both are alike.
+-- A target whose commands stop other LUNs, as it is and as it is seen: nothing of it is judged before a reset, and from there on both are alike.
 use Rattle.std.proofs.Common.{◌≡◌, ℕ, zero, suc, ◌+◌, ◌≤◌, ◌==◌, Bool, true, false, cond, not, ◌&&◌, List, [], ◌∷◌, length, Option, Some, None, refl, sym, ap, ◌∙◌, subst, slice_get, arith, eqb-true, true≢false}
 use Rattle.std.proofs.lemmas.Bool.{and_parts, not-false}
 use Rattle.std.proofs.lemmas.Option.{slice_get_within}
@@ -7,7 +7,7 @@ use Rattle.nand_geometry.specs.Row.{parts_of}
 use Rattle.onfi_cycle.specs.declared.command.Command.{Command}
 use Rattle.onfi_cycle.specs.declared.command.Command.TheVariants.{Read, ReadStatus, ReadStatusEnhanced, Reset, SynchronousReset, ReadCacheSequential, ReadCacheEnd, ChangeReadColumnConfirm, ReadConfirm, BlockEraseConfirm, BlockErasePlane, ProgramConfirm, ProgramPlane, ReadId, ReadParameterPage, ReadUniqueId, GetFeatures, ResetLun}
 use Rattle.onfi_cycle.specs.declared.effect.Effect.{Effect}
-use Rattle.onfi_cycle.specs.declared.effect.Effect.TheVariants.{Unaffected, StatusSelected, StatusOfSelected, SelectedForStatus, Deselected, IdRead, IdentityRead, UniqueIdReadStarted, FeaturesReadStarted, FeaturesSet, ParameterPageReadStarted, CacheReadContinued, CacheReadEnded, ReadColumnChanged, DataOutput, ResetStarted, TargetResetStarted, AnotherAddressed}
+use Rattle.onfi_cycle.specs.declared.effect.Effect.TheVariants.{Unaffected, StatusSelected, StatusOfSelected, SelectedForStatus, Deselected, IdRead, IdentityRead, UniqueIdReadStarted, FeaturesReadStarted, FeaturesSet, ParameterPageReadStarted, CacheReadContinued, CacheReadEnded, ReadColumnChanged, PlaneSelected, DataOutput, ResetStarted, TargetResetStarted, AnotherAddressed}
 use Rattle.onfi_cycle.specs.declared.item.Cycle.{Cycle}
 use Rattle.onfi_cycle.specs.declared.item.Item.{Item}
 use Rattle.onfi_cycle.specs.declared.item.Item.TheVariants.{Cyc}
@@ -18,16 +18,16 @@ use Rattle.onfi_cycle.specs.declared.tail_facts.TailFacts.{TailFacts}
 use Rattle.onfi_cycle.specs.declared.target_cycle.TargetCycle.{TargetCycle}
 use Rattle.onfi_cycle.specs.declared.target_cycle.TargetCycle.TheVariants.{CommandCycle, AddressCycle, InputCycle, OutputCycle}
 use Rattle.onfi_cycle.specs.Command.{closes_row, reads_row}
-use Rattle.onfi_cycle.specs.Effect.{is_off, is_data, is_shared, acts_for_target, of_target, lun_reset_effect, confirm_effect, other_effect, row_effect, cache_effect, names_lun, id_effect, command_effect, address_effect, opening_address_effect, ends_features, cycle_effect}
-use Rattle.onfi_cycle.specs.Lun.{is_page_read, view_after}
+use Rattle.onfi_cycle.specs.Effect.{is_off, is_data, is_shared, acts_for_target, of_target, lun_reset_effect, confirm_effect, other_effect, row_effect, cache_effect, plane_effect, column_effect, names_lun, id_effect, command_effect, address_effect, opening_address_effect, ends_features, cycle_effect}
+use Rattle.onfi_cycle.specs.Lun.{is_cache_read, is_page_read, view_after}
 use Rattle.onfi_cycle.specs.LunView.{LunView}
 use Rattle.onfi_cycle.specs.Permitted.{judge_cycle}
-use Rattle.onfi_cycle.specs.Rules.{is_some_and, driver_is, lun_is, named_lun_is, continues_cache, breaks_cache_read_misplaced}
-use Rattle.onfi_cycle.specs.Sequence.{target_cycle, facts_of, facts_after, wants_address, wants_command, row, row_with}
+use Rattle.onfi_cycle.specs.Rules.{is_some_and, driver_is, lun_is, named_lun_is, continues_cache, ends_cache, breaks_cache_read_misplaced}
+use Rattle.onfi_cycle.specs.Sequence.{target_cycle, facts_of, facts_after, selects_plane, wants_address, wants_command, row, row_with}
 use Rattle.onfi_cycle.specs.State.{TargetView, has_driver, target_after}
 use Rattle.onfi_cycle.proofs.Passed.{keeps_rules}
 use Rattle.trace_faults.specs.declared.known.Known.{Known}
-use Rattle.trace_faults.specs.Middle.{knows, nothing_known, has_begun}
+use Rattle.trace_faults.specs.Middle.{knows, nothing_known, has_begun, stops_others}
 use Rattle.recording_laws.proofs.Lists.{Each, each_more, driver_on}
 use Rattle.recording_laws.proofs.Changed.{changed, changed_length, AtEach, at_each, knows_nothing, IsLearned}
 use Rattle.recording_laws.proofs.Cycles.{by_cycle, luns_by_cycle, all_on_at}
@@ -55,15 +55,15 @@ pub record FitsShared (k : Known) (t s : TargetView) : Type 0 where
   pub opened : k.opened ≡ true → IsAlike t s
   pub closed : k.opened ≡ false → IsUnseen k s
 
--- a target, shared or not
+-- a target, of whose commands some stop other LUNs, or not
 pub record FitsEither (g : Parts) (k : Known) (t s : TargetView) : Type 0 where
-  pub plain : is_shared g ≡ false → FitsTarget g k t s
-  pub shared : is_shared g ≡ true → FitsShared k t s
+  pub plain : stops_others g ≡ false → FitsTarget g k t s
+  pub shared : stops_others g ≡ true → FitsShared k t s
 
-pub of_plain : (g : Parts) (k : Known) (t s : TargetView) → is_shared g ≡ false → FitsTarget g k t s → FitsEither g k t s
+pub of_plain : (g : Parts) (k : Known) (t s : TargetView) → stops_others g ≡ false → FitsTarget g k t s → FitsEither g k t s
 of_plain g k t s is f = record { plain = λ h. f; shared = λ h. absurd (true≢false (sym h ∙ is)) }
 
-pub of_shared : (g : Parts) (k : Known) (t s : TargetView) → is_shared g ≡ true → FitsShared k t s → FitsEither g k t s
+pub of_shared : (g : Parts) (k : Known) (t s : TargetView) → stops_others g ≡ true → FitsShared k t s → FitsEither g k t s
 of_shared g k t s is f = record { plain = λ h. absurd (true≢false (sym is ∙ h)); shared = λ h. f }
 
 -- ---- 2. a cache read that goes on has one driver, which reads pages
@@ -74,6 +74,7 @@ goes_either false x y s h k = k
 
 abbrev goes_on_by : Command → Bool
 goes_on_by ReadCacheSequential = true
+goes_on_by ReadCacheEnd = true
 goes_on_by _ = false
 
 confirm_goes : (g : Parts) (u : TailFacts) (c : Command) (s : LunView) → goes_on_by c ≡ false → GoesOn (confirm_effect g u c) s
@@ -98,8 +99,10 @@ command_goes g u la ReadStatusEnhanced n s h = tt
 command_goes g u la Reset n s h = goes_either (is_shared g) (TargetResetStarted (n == 0)) ResetStarted s tt tt
 command_goes g u la SynchronousReset n s h = goes_either (is_shared g) (TargetResetStarted (n == 0)) ResetStarted s tt tt
 command_goes g u la ReadCacheSequential n s h = cc
-command_goes g u la ReadCacheEnd n s h = goes_either (is_off la) Unaffected CacheReadEnded s tt tt
-command_goes g u la ChangeReadColumnConfirm n s h = goes_either (wants_command u ChangeReadColumnConfirm && not (is_off la)) (ReadColumnChanged u.column) Unaffected s tt tt
+command_goes g u la ReadCacheEnd n s h = cc
+command_goes g u la ChangeReadColumnConfirm n s h =
+    goes_either (selects_plane u) (plane_effect g u n) (column_effect u la) s (goes_either (names_lun g (row u) n) (PlaneSelected u.column) Deselected s tt tt)
+    (goes_either (wants_command u ChangeReadColumnConfirm && not (is_off la)) (ReadColumnChanged u.column) Unaffected s tt tt)
 command_goes g u la c n s h = goes_either (wants_command u c && names_lun g (row u) n) (confirm_effect g u c) (other_effect g u c) s (confirm_goes g u c s h) (other_goes g u c s)
 
 id_goes : (byte : ℕ) (s : LunView) → GoesOn (id_effect byte) s
@@ -158,6 +161,16 @@ reads_row_on g u sole vs w reads = at_each (Goes g u sole (CommandCycle ReadCach
         at true e = named (and_parts (wants_command u ReadCacheSequential) (names_lun g (row u) m) e).1
         at false e = other_goes g u ReadCacheSequential v
 
+-- a 3Fh ends one
+ends_on : (g : Parts) (u : TailFacts) (sole : Bool) (n : ℕ) (vs : List LunView) → AtEach (λ m v. is_off v.latch ≡ false → ends_cache v ≡ true) n vs → AtEach (Goes g u sole (CommandCycle ReadCacheEnd)) n vs
+ends_on g u sole n [] a = tt
+ends_on g u sole n (v ∷ vs) a = (at sole (is_off v.latch) refl, ends_on g u sole (n + 1) vs a.1)
+  where
+    at : (b o : Bool) → is_off v.latch ≡ o → GoesOn (cond (is_off (cond b v.latch Off)) Unaffected CacheReadEnded) v
+    at false o e = tt
+    at true true e = rw e tt
+    at true false e = rw e (and_parts (not v.busy) (is_cache_read v.closer) (a.0 e)).1
+
 goes_on : (g : Parts) (u : TailFacts) (sole : Bool) (d : TargetCycle) (vs : List LunView) → breaks_cache_read_misplaced g u vs d ≡ false → AtEach (Goes g u sole d) 0 vs
 unfolding breaks_cache_read_misplaced
 goes_on g u sole (CommandCycle ReadCacheSequential) vs h = at (wants_command u ReadCacheSequential) refl h
@@ -166,6 +179,7 @@ goes_on g u sole (CommandCycle ReadCacheSequential) vs h = at (wants_command u R
         AtEach (Goes g u sole (CommandCycle ReadCacheSequential)) 0 vs
     at true e x = reads_row_on g u sole vs e (not-false (named_lun_is g (row u) (λ v. is_page_read v.closer) vs) x)
     at false e x = reads_on g u sole e 0 vs (all_on_at (continues_cache g) 0 vs (driver_on (continues_cache g) vs (not-false (driver_is (continues_cache g) vs) x)))
+goes_on g u sole (CommandCycle ReadCacheEnd) vs h = ends_on g u sole 0 vs (all_on_at ends_cache 0 vs (driver_on ends_cache vs (not-false (driver_is ends_cache vs) h)))
 goes_on g u sole (CommandCycle c) vs h = each_goes g u sole (CommandCycle c) 0 vs (λ m v. command_goes g u (cond sole v.latch Off) c m v refl)
 goes_on g u sole (AddressCycle byte) vs h = each_goes g u sole (AddressCycle byte) 0 vs (λ m v. opening_goes g u byte u.opening m v)
 goes_on g u sole (InputCycle byte) vs h = each_goes g u sole (InputCycle byte) 0 vs (λ m v. goes_either (ends_features u) (of_target g m (FeaturesSet _)) Unaffected v (target_goes g m (FeaturesSet _) v tt) tt)
@@ -340,9 +354,9 @@ module _ (i : Item) (lun : ℕ) (x : Effect) (works : LunView → Bool) (is : Is
       }
 
   pub either_doubted : FitsEither g k t s → lun_is works t.luns lun ≡ true → lun_is works s.luns lun ≡ false → IsDoubted k s lun
-  either_doubted f h idle = at (is_shared g) refl
+  either_doubted f h idle = at (stops_others g) refl
     where
-      at : (b : Bool) → is_shared g ≡ b → IsDoubted k s lun
+      at : (b : Bool) → stops_others g ≡ b → IsDoubted k s lun
       at true e = shared_doubted (f.shared e) h idle
       at false e = let y = doubted i lun x works is g k later t s (f.plain e) h idle in record { lun_seen = y.lun_seen; found = y.found; none = y.none }
 

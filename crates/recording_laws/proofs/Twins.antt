@@ -3,7 +3,7 @@ use Rattle.std.proofs.Common.{◌≡◌, ℕ, ◌+◌, ◌==◌, Bool, true, ◌
 use Rattle.nand_geometry.specs.declared.parts.Parts.{Parts}
 use Rattle.onfi_cycle.specs.declared.command.Command.TheVariants.{Reset}
 use Rattle.onfi_cycle.specs.declared.effect.Effect.{Effect}
-use Rattle.onfi_cycle.specs.declared.effect.Effect.TheVariants.{ReadStarted, CacheReadContinued, TargetResetStarted, StatusOfSelected, AnotherAddressed}
+use Rattle.onfi_cycle.specs.declared.effect.Effect.TheVariants.{ReadStarted, CacheReadContinued, CacheReadEnded, TargetResetStarted, StatusOfSelected, AnotherAddressed}
 use Rattle.onfi_cycle.specs.declared.latch.Latch.{Latch}
 use Rattle.onfi_cycle.specs.declared.latch.Latch.TheVariants.{Off, Status, Data}
 use Rattle.onfi_cycle.specs.declared.queued.Queued.{Queued}
@@ -11,10 +11,10 @@ use Rattle.onfi_cycle.specs.declared.tail_facts.TailFacts.{TailFacts}
 use Rattle.onfi_cycle.specs.declared.target_cycle.TargetCycle.{TargetCycle}
 use Rattle.onfi_cycle.specs.declared.target_cycle.TargetCycle.TheVariants.{CommandCycle}
 use Rattle.onfi_cycle.specs.Effect.{is_off, is_shared}
-use Rattle.onfi_cycle.specs.Lun.{is_page_read, works, latch_after, selected_after, overlapped_after, queue_after, read_column_after, view_after}
+use Rattle.onfi_cycle.specs.Lun.{is_cache_read, is_page_read, works, latch_after, selected_after, overlapped_after, queue_after, read_column_after, view_after}
 use Rattle.onfi_cycle.specs.LunView.{LunView}
 use Rattle.onfi_cycle.specs.Permitted.{judge_cycle}
-use Rattle.onfi_cycle.specs.Rules.{is_some_and, driver, works_for_target, breaks_command_unknown, breaks_sequence_open, breaks_several_luns, breaks_no_column_to_change, breaks_command_misplaced, breaks_address_misplaced, breaks_row_outside, breaks_lun_busy, breaks_queue_clash, breaks_input_misplaced, breaks_no_sole_driver, breaks_data_not_ready, breaks_column_outside, breaks_cache_read_misplaced}
+use Rattle.onfi_cycle.specs.Rules.{is_some_and, driver, works_for_target, breaks_command_unknown, breaks_sequence_open, breaks_several_luns, breaks_no_column_to_change, breaks_command_misplaced, breaks_address_misplaced, breaks_row_outside, breaks_lun_busy, breaks_queue_clash, breaks_input_misplaced, breaks_no_sole_driver, breaks_data_not_ready, breaks_column_outside, breaks_cache_read_misplaced, breaks_plane_not_held}
 use Rattle.onfi_cycle.specs.Sequence.{facts_of}
 use Rattle.onfi_cycle.specs.State.{has_driver}
 use Rattle.onfi_cycle.proofs.Passed.{KeepsRules}
@@ -65,9 +65,10 @@ twins_judged g u ts ss cycle each k = none_broken g ts ss (each_more IsTwin IsKn
 
 -- ---- 2. an effect on both
 
--- a cache read goes on from a read of a page
+-- a cache read goes on from a read of a page, and one that ends goes on
 abbrev pub GoesOn : Effect → LunView → Type 0
 GoesOn (CacheReadContinued to) s = is_page_read s.closer ≡ true
+GoesOn CacheReadEnded s = is_cache_read s.closer ≡ true
 GoesOn _ s = Unit {0}
 
 begun_on : (e : Effect) (t s : LunView) → IsBegun t s → GoesOn e s → IsBegun (view_after e t) (view_after e s)
@@ -76,6 +77,7 @@ begun_on (TargetResetStarted first) t s b on = record { busy = refl; closer = re
 begun_on StatusOfSelected t s b on = record { busy = b.busy; closer = b.closer; array_busy = b.array_busy; page = b.page; register = b.register; column = λ h. ap (read_column_after StatusOfSelected) (b.column h) }
 begun_on (AnotherAddressed reads) t s b on = record { busy = b.busy; closer = b.closer; array_busy = b.array_busy; page = b.page; register = b.register; column = b.column }
 begun_on (CacheReadContinued to) t s b on = begun_after (CacheReadContinued to) t s b on
+begun_on CacheReadEnded t s b on = begun_after CacheReadEnded t s b on
 begun_on e t s b on = begun_after e t s b on
 
 pub twin_after : (e : Effect) (t s : LunView) → IsTwin t s → GoesOn e s → IsTwin (view_after e t) (view_after e s)
@@ -136,7 +138,7 @@ resets_twins f h a b n (t ∷ ts) [] e = e
 
 -- it is permitted whatever was
 pub reset_judged : (g : Parts) (ss : List LunView) → is_shared g ≡ true → judge_cycle g (facts_of []) ss (CommandCycle Reset) ≡ None
-unfolding breaks_command_unknown breaks_sequence_open breaks_several_luns breaks_no_column_to_change breaks_command_misplaced breaks_address_misplaced breaks_row_outside breaks_lun_busy breaks_queue_clash breaks_input_misplaced breaks_no_sole_driver breaks_data_not_ready breaks_column_outside breaks_cache_read_misplaced
+unfolding breaks_command_unknown breaks_sequence_open breaks_several_luns breaks_no_column_to_change breaks_command_misplaced breaks_address_misplaced breaks_row_outside breaks_lun_busy breaks_queue_clash breaks_input_misplaced breaks_no_sole_driver breaks_data_not_ready breaks_column_outside breaks_cache_read_misplaced breaks_plane_not_held
 reset_judged g ss shared = rw shared refl
 
 -- the same on each side

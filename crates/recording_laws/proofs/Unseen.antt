@@ -1,15 +1,16 @@
 -- What may still come of a sequence that isn't seen, and what is seen meanwhile.
-use Rattle.std.proofs.Common.{◌≡◌, ◌⊎◌, inl, inr, ℕ, ◌+◌, ◌==◌, Bool, true, false, cond, not, ◌&&◌, ◌||◌, ltb, List, [], Option, Some, None, refl, sym, ap, subst, slice_get, eqb-true, true≢false}
+use Rattle.std.proofs.Common.{◌≡◌, ◌⊎◌, inl, inr, ℕ, ◌+◌, ◌<◌, ◌==◌, Bool, true, false, cond, not, ◌&&◌, ◌||◌, ltb, List, [], length, Option, Some, None, refl, sym, ap, subst, slice_get, eqb-true, true≢false}
 use Rattle.std.proofs.lemmas.Bool.{and_parts, or_parts, not-true, not-false}
+use Rattle.std.proofs.lemmas.Option.{slice_get_within}
 use Rattle.nand_geometry.specs.declared.parts.Parts.{Parts}
 use Rattle.nand_geometry.specs.Optional.{is_wide}
 use Rattle.nand_geometry.specs.Row.{row_of}
 use Rattle.onfi_cycle.specs.declared.command.Command.{Command}
-use Rattle.onfi_cycle.specs.declared.command.Command.TheVariants.{Read, ReadConfirm, ChangeReadColumnConfirm, BlockErase, BlockEraseConfirm, BlockErasePlane, ReadStatusEnhanced, PageProgram, ChangeWriteColumn, ProgramConfirm, ProgramPlane, ReadId, ReadParameterPage, ReadUniqueId, GetFeatures, SetFeatures, ResetLun, Unknown}
+use Rattle.onfi_cycle.specs.declared.command.Command.TheVariants.{Read, ReadConfirm, ChangeReadColumnEnhanced, ChangeReadColumnConfirm, BlockErase, BlockEraseConfirm, BlockErasePlane, ReadStatusEnhanced, PageProgram, ChangeWriteColumn, ProgramConfirm, ProgramPlane, ReadId, ReadParameterPage, ReadUniqueId, GetFeatures, SetFeatures, ResetLun, Unknown}
 use Rattle.onfi_cycle.specs.declared.data_phase.DataPhase.{DataPhase}
 use Rattle.onfi_cycle.specs.declared.data_phase.DataPhase.TheVariants.{Outside, Inputs, FirstColumn, SecondColumn, FeatureInputs}
 use Rattle.onfi_cycle.specs.declared.effect.Effect.{Effect}
-use Rattle.onfi_cycle.specs.declared.effect.Effect.TheVariants.{Unaffected, IdRead, IdentityRead, UniqueIdReadStarted, FeaturesReadStarted, FeaturesSet, ParameterPageReadStarted, ReadColumnChanged, DataOutput, AnotherAddressed}
+use Rattle.onfi_cycle.specs.declared.effect.Effect.TheVariants.{Unaffected, IdRead, IdentityRead, UniqueIdReadStarted, FeaturesReadStarted, FeaturesSet, ParameterPageReadStarted, Deselected, ReadColumnChanged, PlaneSelected, DataOutput, AnotherAddressed}
 use Rattle.onfi_cycle.specs.declared.latch.Latch.{Latch}
 use Rattle.onfi_cycle.specs.declared.opening.Opening.{Opening}
 use Rattle.onfi_cycle.specs.declared.tail_facts.TailFacts.{TailFacts}
@@ -17,11 +18,11 @@ use Rattle.onfi_cycle.specs.declared.target_cycle.TargetCycle.{TargetCycle}
 use Rattle.onfi_cycle.specs.declared.target_cycle.TargetCycle.TheVariants.{CommandCycle, AddressCycle, InputCycle, OutputCycle}
 use Rattle.onfi_cycle.specs.Bounds.{is_block_erase, is_read}
 use Rattle.onfi_cycle.specs.declared.row_bytes.RowBytes.{RowBytes}
-use Rattle.onfi_cycle.specs.Command.{is_opener, closes_row, reads_row, closes, address_cycles, takes_address, is_page_program}
-use Rattle.onfi_cycle.specs.Effect.{is_off, is_data, is_shared, of_target, other_effect, confirm_effect, names_lun, command_effect, id_effect, address_effect, opening_address_effect, cycle_effect, ends_features}
+use Rattle.onfi_cycle.specs.Command.{is_opener, closes_row, reads_row, closes, address_cycles, takes_address, is_enhanced_column, is_page_program}
+use Rattle.onfi_cycle.specs.Effect.{is_off, is_data, is_shared, of_target, other_effect, confirm_effect, plane_effect, column_effect, names_lun, command_effect, id_effect, address_effect, opening_address_effect, cycle_effect, ends_features}
 use Rattle.onfi_cycle.specs.LunView.{LunView}
 use Rattle.onfi_cycle.specs.Rules.{breaks_command_misplaced, breaks_address_misplaced, is_undeclared_address}
-use Rattle.onfi_cycle.specs.Sequence.{begins_sequence, begins_anew, works_on_row, one_address_more, row_after_address, wants_column, opened, takes_data, phase_after_command, phase_after_address, phase_after_last_address, phase_after_input, wants_address, wants_command, row, extended_facts, facts_after}
+use Rattle.onfi_cycle.specs.Sequence.{begins_sequence, begins_anew, works_on_row, one_address_more, row_after_address, wants_column, opened, takes_data, phase_after_command, phase_after_address, phase_after_last_address, phase_after_input, selects_plane, wants_address, wants_command, row, extended_facts, facts_after}
 use Rattle.onfi_cycle.proofs.Passed.{KeepsRules}
 use Rattle.trace_faults.specs.declared.lun_known.LunKnown.TheVariants.{Nothing}
 use Rattle.recording_laws.proofs.Luns.{IsBelow, Fits, IsHarmless, IsBlank, blank_harmless}
@@ -35,6 +36,7 @@ is_led ResetLun = true
 is_led BlockErase = true
 is_led PageProgram = true
 is_led Read = true
+is_led ChangeReadColumnEnhanced = true
 is_led _ = false
 
 -- the sequence of the tail takes nothing from what was seen
@@ -67,6 +69,18 @@ is_named g t = is_named_by g t.opening t.phase
 abbrev pub NoneQueued : Parts → ℕ → List LunView → Type 0
 NoneQueued g r ss = (m : ℕ) (s : LunView) → slice_get ss m ≡ Some s → names_lun g r m ≡ true → s.queue ≡ []
 
+-- the tail is a Change Read Column Enhanced with its whole row
+abbrev pub is_plane_by : Option Opening → DataPhase → Bool
+is_plane_by (Some o) Outside = is_enhanced_column o.opener && o.addresses == 5
+is_plane_by _ _ = false
+
+abbrev pub is_plane : TailFacts → Bool
+is_plane t = is_plane_by t.opening t.phase
+
+-- a row names each LUN of a target, which has one then
+abbrev pub AllNamed : Parts → ℕ → List LunView → Type 0
+AllNamed g r ss = (m : ℕ) → m < length ss → names_lun g r m ≡ true
+
 abbrev pub AreBlank : List LunView → Type 0
 AreBlank ss = (m : ℕ) (s : LunView) → slice_get ss m ≡ Some s → IsBlank s
 
@@ -75,6 +89,7 @@ pub data MayCome (g : Parts) (t : TailFacts) (ss : List LunView) : Type 0 where
   blank : AreBlank ss → MayCome g t ss
   quiet : is_quiet t ≡ true → MayCome g t ss
   named : is_named g t ≡ true → NoneQueued g (row t) ss → MayCome g t ss
+  selecting : is_plane t ≡ true → AllNamed g (row t) ss → MayCome g t ss
 
 -- ---- 2. what may come goes on
 
@@ -97,6 +112,7 @@ quiet_last ResetLun n h = cc
 quiet_last BlockErase n h = cc
 quiet_last PageProgram n h = cc
 quiet_last Read n h = cc
+quiet_last ChangeReadColumnEnhanced n h = cc
 quiet_last SetFeatures n h = of (n == 0)
   where
     of : (b : Bool) → is_quiet_by (Some (record { opener = SetFeatures; addresses = n + 1 })) (cond b FeatureInputs Outside) ≡ true
@@ -111,7 +127,7 @@ feature_input false = refl
 module _ (g : Parts) (ss : List LunView) where
   -- by the parts of a tail
   abbrev Comes : Option Opening → DataPhase → ℕ → Type 0
-  Comes o p r = (is_quiet_by o p ≡ true) ⊎ ((is_named_by g o p ≡ true) × NoneQueued g r ss)
+  Comes o p r = (is_quiet_by o p ≡ true) ⊎ (((is_named_by g o p ≡ true) × NoneQueued g r ss) ⊎ ((is_plane_by o p ≡ true) × AllNamed g r ss))
 
   after_command : (c : Command) (o : Option Opening) (p : DataPhase) (r : ℕ) → Comes o p r → Comes None (phase_after_command c p) r
   after_command c None Outside r h = inl (ap (is_quiet_by None) (quiet_command c Outside refl))
@@ -124,8 +140,10 @@ module _ (g : Parts) (ss : List LunView) where
   after_command c (Some o) SecondColumn r h = inl (ap (is_quiet_by None) (quiet_command c SecondColumn refl))
   after_command c None Inputs r (inl q) = cc
   after_command c (Some o) Inputs r (inl q) = cc
-  after_command c None Inputs r (inr n) = elim (write_command g c) [ inl q ↦ inl q | inr w ↦ inr (w, n.1) ]
-  after_command c (Some o) Inputs r (inr n) = elim (write_command g c) [ inl q ↦ inl q | inr w ↦ inr (w, n.1) ]
+  after_command c None Inputs r (inr (inl n)) = elim (write_command g c) [ inl q ↦ inl q | inr w ↦ inr (inl (w, n.1)) ]
+  after_command c (Some o) Inputs r (inr (inl n)) = elim (write_command g c) [ inl q ↦ inl q | inr w ↦ inr (inl (w, n.1)) ]
+  after_command c None Inputs r (inr (inr n)) = absurd (true≢false (sym n.0))
+  after_command c (Some o) Inputs r (inr (inr n)) = absurd (true≢false (sym n.0))
 
   after_input : (k : ℕ) (o : Option Opening) (p : DataPhase) (r : ℕ) → Comes o p r → Comes None (phase_after_input k p) r
   after_input k o Outside r h = inl refl
@@ -134,8 +152,10 @@ module _ (g : Parts) (ss : List LunView) where
   after_input k o SecondColumn r h = inl refl
   after_input k None Inputs r (inl q) = cc
   after_input k (Some o) Inputs r (inl q) = cc
-  after_input k None Inputs r (inr n) = inr (refl, n.1)
-  after_input k (Some o) Inputs r (inr n) = inr (refl, n.1)
+  after_input k None Inputs r (inr (inl n)) = inr (inl (refl, n.1))
+  after_input k (Some o) Inputs r (inr (inl n)) = inr (inl (refl, n.1))
+  after_input k None Inputs r (inr (inr n)) = absurd (true≢false (sym n.0))
+  after_input k (Some o) Inputs r (inr (inr n)) = absurd (true≢false (sym n.0))
 
 -- the row of an erase is whole, and that of a program
 erase_full : (c : Command) (n byte : ℕ) → (is_block_erase c && n == 3) ≡ true → ((is_opener c && ltb n (address_cycles c) && takes_address c byte) || false) ≡ true → ⊥
@@ -145,6 +165,10 @@ erase_full c n byte e h = cc
 read_full : (c : Command) (n byte : ℕ) → (is_read c && n == 5) ≡ true → ((is_opener c && ltb n (address_cycles c) && takes_address c byte) || false) ≡ true → ⊥
 read_full Read n byte e h = let five : n ≡ 5 = eqb-true n 5 e in let full = rw five at h in cc
 read_full c n byte e h = cc
+
+plane_full : (c : Command) (n byte : ℕ) → (is_enhanced_column c && n == 5) ≡ true → ((is_opener c && ltb n (address_cycles c) && takes_address c byte) || false) ≡ true → ⊥
+plane_full ChangeReadColumnEnhanced n byte e h = let five : n ≡ 5 = eqb-true n 5 e in let full = rw five at h in cc
+plane_full c n byte e h = cc
 
 -- so is each row that is named
 row_full : (g : Parts) (o : Opening) (byte : ℕ) → is_whole_row g o ≡ true → ((is_opener o.opener && ltb o.addresses (address_cycles o.opener) && takes_address o.opener byte) || false) ≡ true → ⊥
@@ -169,19 +193,26 @@ module _ (g : Parts) (ss : List LunView) where
   after_address byte None FeatureInputs r w h = inl refl
   after_address byte None Inputs r w h = cc
   after_address byte None FirstColumn r w (inl q) = cc
-  after_address byte None FirstColumn r w (inr n) = inr (refl, n.1)
+  after_address byte None FirstColumn r w (inr (inl n)) = inr (inl (refl, n.1))
+  after_address byte None FirstColumn r w (inr (inr n)) = absurd (true≢false (sym n.0))
   after_address byte None SecondColumn r w (inl q) = cc
-  after_address byte None SecondColumn r w (inr n) = inr (refl, n.1)
+  after_address byte None SecondColumn r w (inr (inl n)) = inr (inl (refl, n.1))
+  after_address byte None SecondColumn r w (inr (inr n)) = absurd (true≢false (sym n.0))
   after_address byte (Some o) Outside r w (inl q) = inl (quiet_last o.opener o.addresses (not-true (is_led o.opener) q))
-  after_address byte (Some o) Outside r w (inr n) = absurd (row_full g o byte n.0 w)
+  after_address byte (Some o) Outside r w (inr (inl n)) = absurd (row_full g o byte n.0 w)
+  after_address byte (Some o) Outside r w (inr (inr n)) = absurd (plane_full o.opener o.addresses byte n.0 w)
   after_address byte (Some o) Inputs r w (inl q) = cc
-  after_address byte (Some o) Inputs r w (inr n) = absurd (program_full o.opener o.addresses byte n.0 w)
+  after_address byte (Some o) Inputs r w (inr (inl n)) = absurd (program_full o.opener o.addresses byte n.0 w)
+  after_address byte (Some o) Inputs r w (inr (inr n)) = absurd (true≢false (sym n.0))
   after_address byte (Some o) FirstColumn r w (inl q) = cc
-  after_address byte (Some o) FirstColumn r w (inr n) = absurd (true≢false (sym n.0))
+  after_address byte (Some o) FirstColumn r w (inr (inl n)) = absurd (true≢false (sym n.0))
+  after_address byte (Some o) FirstColumn r w (inr (inr n)) = absurd (true≢false (sym n.0))
   after_address byte (Some o) SecondColumn r w (inl q) = cc
-  after_address byte (Some o) SecondColumn r w (inr n) = absurd (true≢false (sym n.0))
+  after_address byte (Some o) SecondColumn r w (inr (inl n)) = absurd (true≢false (sym n.0))
+  after_address byte (Some o) SecondColumn r w (inr (inr n)) = absurd (true≢false (sym n.0))
   after_address byte (Some o) FeatureInputs r w (inl q) = inl q
-  after_address byte (Some o) FeatureInputs r w (inr n) = absurd (true≢false (sym n.0))
+  after_address byte (Some o) FeatureInputs r w (inr (inl n)) = absurd (true≢false (sym n.0))
+  after_address byte (Some o) FeatureInputs r w (inr (inr n)) = absurd (true≢false (sym n.0))
 
 address_wanted : (g : Parts) (t : TailFacts) (byte : ℕ) → breaks_address_misplaced g t (AddressCycle byte) ≡ false → wants_address t byte ≡ true
 unfolding breaks_address_misplaced
@@ -194,11 +225,13 @@ command_wanted t c o h = not-false (wants_command t c) (rw o at h)
 comes_of : (g : Parts) (t : TailFacts) (ss : List LunView) → MayCome g t ss → (AreBlank ss) ⊎ (Comes g ss t.opening t.phase (row t))
 comes_of g t ss (blank b) = inl b
 comes_of g t ss (quiet q) = inr (inl q)
-comes_of g t ss (named n e) = inr (inr (n, e))
+comes_of g t ss (named n e) = inr (inr (inl (n, e)))
+comes_of g t ss (selecting n e) = inr (inr (inr (n, e)))
 
 of_comes : (g : Parts) (t : TailFacts) (ss : List LunView) → Comes g ss t.opening t.phase (row t) → MayCome g t ss
 of_comes g t ss (inl q) = quiet q
-of_comes g t ss (inr n) = named n.0 n.1
+of_comes g t ss (inr (inl n)) = named n.0 n.1
+of_comes g t ss (inr (inr n)) = selecting n.0 n.1
 
 -- what is no opener begins no tail anew
 no_opener : (t : TailFacts) (cycle : TargetCycle) → begins_sequence cycle ≡ false → begins_anew t cycle ≡ false
@@ -296,6 +329,69 @@ program_loud o FeatureInputs q h = cc
 program_loud o FirstColumn q h = cc
 program_loud o SecondColumn q h = cc
 
+-- a 06h with its row is closed by none of these
+erase_column : (c : Command) (n : ℕ) → (is_enhanced_column c && n == 5) ≡ true → (closes c BlockEraseConfirm && n == address_cycles c) ≡ true → ⊥
+erase_column ChangeReadColumnEnhanced n e h = cc
+erase_column c n e h = cc
+
+erase_beside : (o : Option Opening) (p : DataPhase) → is_plane_by o p ≡ true → opened (λ c n. closes c BlockEraseConfirm && n == address_cycles c) o ≡ true → ⊥
+erase_beside None p q h = cc
+erase_beside (Some o) Outside q h = erase_column o.opener o.addresses q h
+erase_beside (Some o) p q h = cc
+
+plane_column : (c : Command) (n : ℕ) → (is_enhanced_column c && n == 5) ≡ true → (closes c BlockErasePlane && n == address_cycles c) ≡ true → ⊥
+plane_column ChangeReadColumnEnhanced n e h = cc
+plane_column c n e h = cc
+
+plane_beside : (o : Option Opening) (p : DataPhase) → is_plane_by o p ≡ true → opened (λ c n. closes c BlockErasePlane && n == address_cycles c) o ≡ true → ⊥
+plane_beside None p q h = cc
+plane_beside (Some o) Outside q h = plane_column o.opener o.addresses q h
+plane_beside (Some o) p q h = cc
+
+program_beside : (o : Option Opening) (p : DataPhase) → is_plane_by o p ≡ true → takes_data p ≡ true → ⊥
+program_beside None p q h = cc
+program_beside (Some o) Outside q h = cc
+program_beside (Some o) p q h = cc
+
+-- neither such a tail nor one that names a row of the array is a 06h with its row
+column_led : (c : Command) → is_enhanced_column c ≡ true → is_led c ≡ true
+column_led ChangeReadColumnEnhanced h = refl
+column_led c h = cc
+
+selects_loud : (o : Option Opening) (p : DataPhase) → is_quiet_by o p ≡ true → opened (λ c n. is_enhanced_column c && n == 5) o ≡ true → ⊥
+selects_loud None p q h = cc
+selects_loud (Some o) p q h =
+    let led = column_led o.opener (and_parts (is_enhanced_column o.opener) (o.addresses == 5) h).0 in
+    let quiet = not_led o p q in
+    absurd (true≢false (sym led ∙ quiet))
+
+erase_apart : (c : Command) → is_block_erase c ≡ true → is_enhanced_column c ≡ true → ⊥
+erase_apart BlockErase h e = cc
+erase_apart c h e = cc
+
+read_apart : (c : Command) → is_read c ≡ true → is_enhanced_column c ≡ true → ⊥
+read_apart Read h e = cc
+read_apart c h e = cc
+
+program_apart : (c : Command) → is_page_program c ≡ true → is_enhanced_column c ≡ true → ⊥
+program_apart PageProgram h e = cc
+program_apart c h e = cc
+
+row_apart : (g : Parts) (o : Opening) → is_whole_row g o ≡ true → is_enhanced_column o.opener ≡ true → ⊥
+row_apart g o h e = at (is_block_erase o.opener && o.addresses == 3) refl h
+  where
+    at : (b : Bool) → (is_block_erase o.opener && o.addresses == 3) ≡ b → (b || (not (is_wide g.optional) && (is_read o.opener && o.addresses == 5))) ≡ true → ⊥
+    at true x y = erase_apart o.opener (and_parts (is_block_erase o.opener) (o.addresses == 3) x).0 e
+    at false x y = read_apart o.opener (and_parts (is_read o.opener) (o.addresses == 5) (and_parts (not (is_wide g.optional)) (is_read o.opener && o.addresses == 5) y).1).0 e
+
+named_apart : (g : Parts) (o : Option Opening) (p : DataPhase) → is_named_by g o p ≡ true → opened (λ c n. is_enhanced_column c && n == 5) o ≡ true → ⊥
+named_apart g None p n h = cc
+named_apart g (Some o) Inputs n h = program_apart o.opener (and_parts (is_page_program o.opener) (o.addresses == 5) n).0 (and_parts (is_enhanced_column o.opener) (o.addresses == 5) h).0
+named_apart g (Some o) Outside n h = row_apart g o n (and_parts (is_enhanced_column o.opener) (o.addresses == 5) h).0
+named_apart g (Some o) FirstColumn n h = absurd (true≢false (sym n))
+named_apart g (Some o) SecondColumn n h = absurd (true≢false (sym n))
+named_apart g (Some o) FeatureInputs n h = absurd (true≢false (sym n))
+
 -- an address after such an opener
 module _ (g : Parts) (t : TailFacts) (byte m : ℕ) (s : LunView) (plain : is_shared g ≡ false) where
   quiet_address : (c : Command) (n : ℕ) → is_led c ≡ false → IsHarmless (address_effect g t byte c n m) s
@@ -327,32 +423,58 @@ module _ (g : Parts) (t : TailFacts) (byte m : ℕ) (s : LunView) (plain : is_sh
   program_address PageProgram n h = tt
   program_address c n h = cc
 
+  plane_address : (c : Command) (n : ℕ) → is_enhanced_column c ≡ true → IsHarmless (address_effect g t byte c n m) s
+  plane_address ChangeReadColumnEnhanced n h = tt
+  plane_address c n h = cc
+
   address_harmless : (ss : List LunView) (o : Option Opening) (p : DataPhase) (r : ℕ) → Comes g ss o p r → IsHarmless (opening_address_effect g t byte o m) s
   address_harmless ss None p r h = tt
   address_harmless ss (Some o) p r (inl q) = quiet_address o.opener o.addresses (not_led o p q)
-  address_harmless ss (Some o) Inputs r (inr n) = program_address o.opener o.addresses (and_parts (is_page_program o.opener) (o.addresses == 5) n.0).0
-  address_harmless ss (Some o) Outside r (inr n) = row_address o n.0
-  address_harmless ss (Some o) FirstColumn r (inr n) = absurd (true≢false (sym n.0))
-  address_harmless ss (Some o) SecondColumn r (inr n) = absurd (true≢false (sym n.0))
-  address_harmless ss (Some o) FeatureInputs r (inr n) = absurd (true≢false (sym n.0))
+  address_harmless ss (Some o) Inputs r (inr (inl n)) = program_address o.opener o.addresses (and_parts (is_page_program o.opener) (o.addresses == 5) n.0).0
+  address_harmless ss (Some o) Inputs r (inr (inr n)) = absurd (true≢false (sym n.0))
+  address_harmless ss (Some o) Outside r (inr (inl n)) = row_address o n.0
+  address_harmless ss (Some o) Outside r (inr (inr n)) = plane_address o.opener o.addresses (and_parts (is_enhanced_column o.opener) (o.addresses == 5) n.0).0
+  address_harmless ss (Some o) FirstColumn r (inr (inl n)) = absurd (true≢false (sym n.0))
+  address_harmless ss (Some o) FirstColumn r (inr (inr n)) = absurd (true≢false (sym n.0))
+  address_harmless ss (Some o) SecondColumn r (inr (inl n)) = absurd (true≢false (sym n.0))
+  address_harmless ss (Some o) SecondColumn r (inr (inr n)) = absurd (true≢false (sym n.0))
+  address_harmless ss (Some o) FeatureInputs r (inr (inl n)) = absurd (true≢false (sym n.0))
+  address_harmless ss (Some o) FeatureInputs r (inr (inr n)) = absurd (true≢false (sym n.0))
 
 module _ (g : Parts) (t : TailFacts) (la : Latch) (ss : List LunView) (m : ℕ) (s : LunView) (found : slice_get ss m ≡ Some s) (h : Comes g ss t.opening t.phase (row t)) (plain : is_shared g ≡ false) where
   -- a closer of an erase or a program, by the row of the tail
-  closes_nothing : (w : Bool) (x : Effect) (c : Command) → (IsHarmless x s ≡ (s.queue ≡ [])) → (is_quiet_by t.opening t.phase ≡ true → w ≡ true → ⊥) → IsHarmless (cond (w && names_lun g (row t) m) x (other_effect g t c)) s
-  closes_nothing w x c is loud = harmless_or (w && names_lun g (row t) m) x (other_effect g t c) s (λ b. at (and_parts w (names_lun g (row t) m) b).0 (and_parts w (names_lun g (row t) m) b).1 h) (other_harmless g t c s plain)
+  closes_nothing : (w : Bool) (x : Effect) (c : Command) → (IsHarmless x s ≡ (s.queue ≡ [])) → (is_quiet_by t.opening t.phase ≡ true → w ≡ true → ⊥) → (is_plane_by t.opening t.phase ≡ true → w ≡ true → ⊥) → IsHarmless (cond (w && names_lun g (row t) m) x (other_effect g t c)) s
+  closes_nothing w x c is loud apart = harmless_or (w && names_lun g (row t) m) x (other_effect g t c) s (λ b. at (and_parts w (names_lun g (row t) m) b).0 (and_parts w (names_lun g (row t) m) b).1 h) (other_harmless g t c s plain)
     where
       at : w ≡ true → names_lun g (row t) m ≡ true → Comes g ss t.opening t.phase (row t) → IsHarmless x s
       at a b (inl q) = absurd (loud q a)
-      at a b (inr n) = rw is (n.1 m s found b)
+      at a b (inr (inl n)) = rw is (n.1 m s found b)
+      at a b (inr (inr n)) = absurd (apart n.0 a)
+
+  -- E0h behind a 06h that isn't seen is of the one LUN of its target
+  selects_named : Comes g ss t.opening t.phase (row t) → selects_plane t ≡ true → names_lun g (row t) m ≡ true
+  selects_named (inl q) e = absurd (selects_loud t.opening t.phase q e)
+  selects_named (inr (inl n)) e = absurd (named_apart g t.opening t.phase n.0 e)
+  selects_named (inr (inr n)) e = n.1 m (slice_get_within ss m s found)
+
+  column_harmless : IsHarmless (command_effect g t la ChangeReadColumnConfirm m) s
+  column_harmless = at (selects_plane t) refl
+    where
+      at : (b : Bool) → selects_plane t ≡ b → IsHarmless (cond b (plane_effect g t m) (column_effect t la)) s
+      at true e = ap_harmless (selects_named h e)
+        where
+          ap_harmless : names_lun g (row t) m ≡ true → IsHarmless (plane_effect g t m) s
+          ap_harmless named = subst (λ (b : Bool). IsHarmless (cond b (PlaneSelected t.column) Deselected) s) (sym named) tt
+      at false e = harmless_if (wants_command t ChangeReadColumnConfirm && not (is_off la)) (ReadColumnChanged t.column) s (λ b. tt)
 
   command_harmless : (c : Command) → is_opener c ≡ false → wants_command t c ≡ true → IsHarmless (command_effect g t la c m) s
   command_harmless ReadConfirm o w = harmless_or (wants_command t ReadConfirm && names_lun g (row t) m) (confirm_effect g t ReadConfirm) (other_effect g t ReadConfirm) s (λ b. tt) (other_harmless g t ReadConfirm s plain)
-  command_harmless ChangeReadColumnConfirm o w = harmless_if (wants_command t ChangeReadColumnConfirm && not (is_off la)) (ReadColumnChanged t.column) s (λ b. tt)
-  command_harmless BlockEraseConfirm o w = closes_nothing (wants_command t BlockEraseConfirm) (confirm_effect g t BlockEraseConfirm) BlockEraseConfirm refl (erase_loud t.opening t.phase)
-  command_harmless BlockErasePlane o w = closes_nothing (wants_command t BlockErasePlane) (confirm_effect g t BlockErasePlane) BlockErasePlane refl (plane_loud t.opening t.phase)
+  command_harmless ChangeReadColumnConfirm o w = column_harmless
+  command_harmless BlockEraseConfirm o w = closes_nothing (wants_command t BlockEraseConfirm) (confirm_effect g t BlockEraseConfirm) BlockEraseConfirm refl (erase_loud t.opening t.phase) (erase_beside t.opening t.phase)
+  command_harmless BlockErasePlane o w = closes_nothing (wants_command t BlockErasePlane) (confirm_effect g t BlockErasePlane) BlockErasePlane refl (plane_loud t.opening t.phase) (plane_beside t.opening t.phase)
   command_harmless ChangeWriteColumn o w = harmless_if (wants_command t ChangeWriteColumn && names_lun g (row t) m) Unaffected s (λ b. tt)
-  command_harmless ProgramConfirm o w = closes_nothing (wants_command t ProgramConfirm) (confirm_effect g t ProgramConfirm) ProgramConfirm refl (program_loud t.opening t.phase)
-  command_harmless ProgramPlane o w = closes_nothing (wants_command t ProgramPlane) (confirm_effect g t ProgramPlane) ProgramPlane refl (program_loud t.opening t.phase)
+  command_harmless ProgramConfirm o w = closes_nothing (wants_command t ProgramConfirm) (confirm_effect g t ProgramConfirm) ProgramConfirm refl (program_loud t.opening t.phase) (program_beside t.opening t.phase)
+  command_harmless ProgramPlane o w = closes_nothing (wants_command t ProgramPlane) (confirm_effect g t ProgramPlane) ProgramPlane refl (program_loud t.opening t.phase) (program_beside t.opening t.phase)
   command_harmless Unknown o w = harmless_if (wants_command t Unknown && names_lun g (row t) m) Unaffected s (λ b. tt)
   command_harmless c o w = cc
 

@@ -8,7 +8,7 @@ use Rattle.onfi_cycle.specs.declared.item.Item.{Item}
 use Rattle.onfi_cycle.specs.declared.item.Item.TheVariants.{Cyc, Rdy, Ard}
 use Rattle.onfi_cycle.specs.declared.item.Cycle.{Cycle}
 use Rattle.onfi_cycle.specs.declared.forbidden.Forbidden.{Forbidden}
-use Rattle.onfi_cycle.specs.declared.forbidden.Forbidden.TheVariants.{NotThere, CommandUnknown, SequenceOpen, SeveralLuns, NoColumnToChange, CommandMisplaced, AddressMisplaced, RowOutside, LunBusy, QueueClash, InputMisplaced, NoSoleDriver, DataNotReady, ColumnOutside, CacheReadMisplaced}
+use Rattle.onfi_cycle.specs.declared.forbidden.Forbidden.TheVariants.{NotThere, CommandUnknown, SequenceOpen, SeveralLuns, NoColumnToChange, CommandMisplaced, AddressMisplaced, RowOutside, LunBusy, QueueClash, InputMisplaced, NoSoleDriver, DataNotReady, ColumnOutside, CacheReadMisplaced, PlaneNotHeld}
 use Rattle.onfi_cycle.specs.declared.lun_state.LunState.{LunState}
 use Rattle.onfi_cycle.specs.LunView.{LunView}
 use Rattle.onfi_cycle.specs.Rules.{breaks_not_there, lun_is, is_some_and}
@@ -250,6 +250,7 @@ wanted_works (Some NoSoleDriver) s c later = none_works s c.ce
 wanted_works (Some DataNotReady) s c later = driving_works s c.ce
 wanted_works (Some ColumnOutside) s c later = none_works s c.ce
 wanted_works (Some CacheReadMisplaced) s c later = where_works s c.ce (is_opening (Cyc c)) (driving_done s c.ce) (driving_works s c.ce)
+wanted_works (Some PlaneNotHeld) s c later = none_works s c.ce
 
 pub taken_at_work : TakenAtWork
 taken_at_work s (Cyc c) later ready h = at (wanted_by (judged_here s (Cyc c)) s c later) refl h

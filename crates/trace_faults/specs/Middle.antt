@@ -1,10 +1,11 @@
 -- What can be judged of a trace whose recording began in the middle: nobody knows what its LUNs did before.
 use Rattle.std.specs.Prelude.{ℕ, ◌+◌, ◌==◌, Bool, true, false, not, ◌&&◌, ◌||◌, nat_lt, List, [], ◌∷◌, ◌++◌, Option, Some, None, get_or, slice_set, if◌then◌else◌}
+use Rattle.nand_geometry.specs.Optional.{has_enhanced_column}
 use Rattle.nand_geometry.specs.declared.parts.Parts.{Parts}
 use Rattle.onfi_cycle.specs.declared.item.Item.{Item}
 use Rattle.onfi_cycle.specs.declared.item.Item.TheVariants.{Cyc, Rdy, Ard}
 use Rattle.onfi_cycle.specs.declared.forbidden.Forbidden.{Forbidden}
-use Rattle.onfi_cycle.specs.declared.forbidden.Forbidden.TheVariants.{NotThere, CommandUnknown, SequenceOpen, SeveralLuns, NoColumnToChange, CommandMisplaced, AddressMisplaced, RowOutside, LunBusy, QueueClash, InputMisplaced, NoSoleDriver, DataNotReady, ColumnOutside, CacheReadMisplaced}
+use Rattle.onfi_cycle.specs.declared.forbidden.Forbidden.TheVariants.{NotThere, CommandUnknown, SequenceOpen, SeveralLuns, NoColumnToChange, CommandMisplaced, AddressMisplaced, RowOutside, LunBusy, QueueClash, InputMisplaced, NoSoleDriver, DataNotReady, ColumnOutside, CacheReadMisplaced, PlaneNotHeld}
 use Rattle.onfi_cycle.specs.declared.lun_state.LunState.{LunState}
 use Rattle.onfi_cycle.specs.declared.command.Command.TheVariants.{Reset}
 use Rattle.onfi_cycle.specs.declared.target_cycle.TargetCycle.{TargetCycle}
@@ -99,11 +100,11 @@ is_reset (Cyc c) = is_reset_cycle (target_cycle c.kind c.byte)
 is_reset (Rdy _ _ _) = false
 is_reset (Ard _ _) = false
 
--- the LUN begins work between these looks at it, which sets what it holds and has begun; a cache read that goes on hangs on what it had begun
+-- the LUN begins work between these looks at it, which sets what it holds and has begun; a cache read that goes on or ends hangs on what it had begun
 abbrev pub begins_anew : (before after : Option LunState) → Bool
 begins_anew None after = false
 begins_anew (Some before) None = false
-begins_anew (Some before) (Some after) = not before.busy && (after.busy && not after.caching)
+begins_anew (Some before) (Some after) = not before.busy && (after.busy && not (before.caching || after.caching))
 
 -- the LUN drives the bus; before anything was seen, none does
 abbrev pub is_driving : Option LunState → Bool
@@ -131,10 +132,14 @@ looks_of state ce = record {
   third = looked state (record { ce = ce; lun = 3 });
 }
 
--- from this item on its target is judged: from an opener. Where a target has several LUNs, and commands that are of all of them, 70 shows the status of the one
--- that was selected before, and what is for all stops the others: there it is judged from a reset on, after which all is known of it
+-- a target has several LUNs, and commands of one of them stop the others: those that are of all of them, and 06
+abbrev pub stops_others : Parts → Bool
+stops_others g = is_shared g || (has_enhanced_column g.optional && nat_lt 1 g.luns)
+
+-- from this item on its target is judged: from an opener. Where commands stop other LUNs, 70 shows the status of the one that was selected before, and what
+-- is for all stops the others: there it is judged from a reset on, after which all is known of it
 abbrev pub begins_here : Parts → Item → Bool
-begins_here g i = if is_shared g then is_reset i else is_opening i
+begins_here g i = if stops_others g then is_reset i else is_opening i
 
 -- what is known of the target of an item after it
 abbrev pub learned : Parts → Item → (before after : Looks) → Known → Known
@@ -165,6 +170,7 @@ hangs_on_before NoSoleDriver = true
 hangs_on_before DataNotReady = true
 hangs_on_before ColumnOutside = true
 hangs_on_before CacheReadMisplaced = true
+hangs_on_before PlaneNotHeld = true
 
 -- a cycle, where some LUN of its target is in doubt or none
 abbrev pub of_cycle : (doubted : Bool) → Option Forbidden → Verdict

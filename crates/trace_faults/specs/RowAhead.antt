@@ -41,7 +41,7 @@ abbrev pub row_ahead : ℕ → RowComing → List Item → Option ℕ
 row_ahead ce coming [] = None
 row_ahead ce coming (i ∷ items) = row_by (step_of ce coming i) (λ coming. row_ahead ce coming items)
 
--- how many addresses follow an opener whose row is of the array; none for any other cycle
+-- how many addresses follow an opener whose row is of a LUN that has to be ready; none for any other cycle
 abbrev pub array_addresses : TargetCycle → ℕ
 array_addresses (CommandCycle c) = if addresses_the_array c then address_cycles c else 0
 array_addresses (AddressCycle byte) = 0

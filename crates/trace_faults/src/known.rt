@@ -1,6 +1,6 @@
 //! What a recording that began in the middle has shown of a target.
 ghost use Rattle.std.specs.Prelude.{◌≡◌, get_or, slice_set, nat_lt};
-ghost use Rattle.trace_faults.specs.Middle.{nothing_known, all_known, first_known, all_first_known, known_of, knows, is_doubtful, doubts_ready, doubts_lun, doubts, is_whole, begins_here, learned};
+ghost use Rattle.trace_faults.specs.Middle.{nothing_known, all_known, first_known, all_first_known, known_of, knows, is_doubtful, doubts_ready, doubts_lun, doubts, is_whole, stops_others, begins_here, learned};
 
 use crate::looks::Looks;
 use crate::lun_known::{LunKnown, is_reset};
@@ -34,12 +34,20 @@ fn is_doubtful(lun: Option<LunState>, known: bool) -> bool
     }
 }
 
-/// From this item on its target, which has this geometry, is judged: from an opener, or from a reset where it has several LUNs and commands that are of all of
-/// them.
+// Whether a target has several LUNs, and commands of one of them stop the others: those that are of all of them, and Change Read Column Enhanced.
+fn stops_others(geometry: &Geometry) -> bool
+    ensures { result ≡ stops_others geometry.now }
+{
+    let parts = geometry.parts();
+    is_shared(geometry) || (parts.optional.has_enhanced_column() && parts.luns > 1)
+}
+
+/// From this item on its target, which has this geometry, is judged: from an opener, or from a reset where it has several LUNs and commands of one stop the
+/// others.
 pub(crate) fn begins_here(geometry: &Geometry, item: Item) -> bool
     ensures { result ≡ begins_here geometry.now item }
 {
-    if is_shared(geometry) {
+    if stops_others(geometry) {
         is_reset(item)
     } else {
         is_opening(item)

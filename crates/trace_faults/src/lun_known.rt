@@ -28,12 +28,14 @@ pub(crate) fn is_reset(item: Item) -> bool
     )
 }
 
-// Whether a LUN has begun work between these looks at it, other than to go on with a cache read.
+// Whether a LUN has begun work between these looks at it, other than to go on with a cache read or to end one.
 fn begins_anew(before: Option<LunState>, after: Option<LunState>) -> bool
     ensures { result ≡ begins_anew before after }
 {
     match (before, after) {
-        (Some(before), Some(after)) => !before.busy && (after.busy && !after.caching),
+        (Some(before), Some(after)) => {
+            !before.busy && (after.busy && !(before.caching || after.caching))
+        }
         (None, _) | (Some(_), None) => false,
     }
 }

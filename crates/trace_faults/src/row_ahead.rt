@@ -105,7 +105,7 @@ fn row_ahead(ce: u8, coming: RowComing, later: &[Item]) -> Option<u32>
     None
 }
 
-// How many addresses follow an opener whose row is of the array; none for any other cycle.
+// How many addresses follow an opener whose row is of a LUN that has to be ready; none for any other cycle.
 fn array_addresses(cycle: TargetCycle) -> usize
     ensures { result ≡ array_addresses cycle }
 {

@@ -171,7 +171,8 @@ fn wanted_by(
             | Forbidden::QueueClash
             | Forbidden::InputMisplaced
             | Forbidden::NoSoleDriver
-            | Forbidden::ColumnOutside,
+            | Forbidden::ColumnOutside
+            | Forbidden::PlaneNotHeld,
         ) => None,
     }
 }

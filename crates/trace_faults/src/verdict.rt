@@ -29,7 +29,8 @@ fn hangs_on_before(rule: Forbidden) -> bool
         | Forbidden::NoSoleDriver
         | Forbidden::DataNotReady
         | Forbidden::ColumnOutside
-        | Forbidden::CacheReadMisplaced => true,
+        | Forbidden::CacheReadMisplaced
+        | Forbidden::PlaneNotHeld => true,
         Forbidden::NotThere
         | Forbidden::CommandUnknown
         | Forbidden::SequenceOpen
