@@ -3,7 +3,7 @@ use Rattle.std.proofs.Common.{◌≡◌, ℕ, zero, suc, ◌+◌, Bool, true, fa
 use Rattle.nand_geometry.specs.declared.parts.Parts.{Parts}
 use Rattle.nand_geometry.specs.Limits.{InLimits}
 use Rattle.onfi_cycle.specs.declared.effect.Effect.{Effect}
-use Rattle.onfi_cycle.specs.declared.effect.Effect.TheVariants.{StatusSelected, StatusOfSelected, StatusRowAwaited, IdRead, IdentityRead, UniqueIdReadStarted, FeaturesReadStarted, ParameterPageReadStarted, CacheReadContinued, CacheReadEnded, DataOutput, ReadStarted, ReadColumnChanged}
+use Rattle.onfi_cycle.specs.declared.effect.Effect.TheVariants.{StatusSelected, StatusOfSelected, StatusRowAwaited, IdRead, IdentityRead, UniqueIdReadStarted, FeaturesReadStarted, ParameterPageReadStarted, CacheReadContinued, CacheReadEnded, DataOutput, ReadStarted, ReadColumnChanged, PlaneSelected}
 use Rattle.onfi_cycle.specs.declared.read_column.ReadColumn.{ReadColumn}
 use Rattle.onfi_cycle.specs.declared.tail_facts.TailFacts.{TailFacts}
 use Rattle.onfi_cycle.specs.declared.item.Item.{Item}
@@ -58,6 +58,7 @@ luns_length g past ce = views_length g past ce g.luns 0
 pub column_short : (e : Effect) (k : ReadColumn) → (read_column_after e k).outputs ≤ k.outputs + 1
 column_short (ReadStarted at from) k = omega arith
 column_short (ReadColumnChanged from) k = omega arith
+column_short (PlaneSelected from) k = omega arith
 column_short IdRead k = omega arith
 column_short (IdentityRead jedec) k = omega arith
 column_short ParameterPageReadStarted k = omega arith

@@ -259,10 +259,10 @@ module _ (g : Parts) (t : TailFacts) (ss : List LunView) (byte : ℕ) (some : t.
       }
 
   after_plane : (o : Option Opening) → t.opening ≡ o → opened (λ c n. is_enhanced_column c && at_last_row c n) o ≡ true → is_sound_by o t.phase ≡ true → AllNamed g (row_with t byte) ss → Comes g t ss (AddressCycle byte)
-  after_plane None e h q named = cc
-  after_plane (Some o) e h q named =
+  after_plane None e h q all = cc
+  after_plane (Some o) e h q all =
       record {
-        comes = rw some (selecting (rw e (plane_comes o.opener o.addresses t.phase h q)) (rw e named));
+        comes = rw some (selecting (rw e (plane_comes o.opener o.addresses t.phase h q)) (rw e all));
         harmless = λ la n s. subst (λ (x : Option Opening). IsHarmless (opening_address_effect g t byte x n) s) (sym e) (address_free g t byte o.opener o.addresses n s (plane_quiet o.opener o.addresses h));
       }
 

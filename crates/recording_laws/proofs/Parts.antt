@@ -8,7 +8,6 @@ use Rattle.onfi_cycle.specs.declared.effect.Effect.TheVariants.{BecameReady, Arr
 use Rattle.onfi_cycle.specs.declared.item.Item.{Item}
 use Rattle.onfi_cycle.specs.declared.item.Item.TheVariants.{Cyc, Rdy, Ard}
 use Rattle.onfi_cycle.specs.declared.lun.Lun.{Lun}
-use Rattle.onfi_cycle.specs.Effect.{is_shared}
 use Rattle.onfi_cycle.specs.Lun.{lun_view, views_from, luns_of}
 use Rattle.onfi_cycle.specs.LunView.{LunView}
 use Rattle.onfi_cycle.specs.Permitted.{broken, is_permitted, is_legal}
@@ -19,7 +18,7 @@ use Rattle.onfi_cycle.proofs.Keeping.{views_length}
 use Rattle.trace_faults.specs.declared.broken_rule.BrokenRule.{BrokenRule}
 use Rattle.trace_faults.specs.declared.known.Known.{Known}
 use Rattle.trace_faults.specs.declared.readies.Readies.TheVariants.{Written}
-use Rattle.trace_faults.specs.Middle.{Seen, nothing_known, first_known, all_first_known, known_of, first_seen, seen_after, verdicts_from, all_broken}
+use Rattle.trace_faults.specs.Middle.{Seen, nothing_known, first_known, all_first_known, known_of, stops_others, first_seen, seen_after, verdicts_from, all_broken}
 use Rattle.trace_faults.proofs.Judged.{onto, before, nothing}
 use Rattle.recording_laws.specs.FromMiddle.{PartsHaveNoFaults}
 use Rattle.recording_laws.proofs.Luns.{IsBelow, IsBlank}
@@ -47,8 +46,8 @@ or_nothing : (b : Bool) → (b || false) ≡ b
 or_nothing true = refl
 or_nothing false = refl
 
-opens_nothing : (g : Parts) (b : Bool) → (b || cond (is_shared g) false false) ≡ b
-opens_nothing g b = ap (λ (x : Bool). b || x) (at (is_shared g)) ∙ or_nothing b
+opens_nothing : (g : Parts) (b : Bool) → (b || cond (stops_others g) false false) ≡ b
+opens_nothing g b = ap (λ (x : Bool). b || x) (at (stops_others g)) ∙ or_nothing b
   where
     at : (x : Bool) → cond x false false ≡ false
     at true = refl
@@ -89,6 +88,7 @@ first_plain g past ce few =
     let short : length (luns_of g [] ce) ≤ 4 = let len = views_length g [] ce g.luns 0 in omega (arith, len, few) in
     record {
       few = short;
+      count = let len = views_length g [] ce g.luns 0 in omega (arith, len);
       luns = all_nothing (luns_of g past ce) (luns_of g [] ce) short (first_below g past ce g.luns 0);
       opened = λ h. cc;
       closed = λ h. record { tail = refl; nothing = refl; comes = blank (λ m s found. blank_from g ce g.luns 0 m s found) };

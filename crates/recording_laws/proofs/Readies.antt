@@ -8,7 +8,7 @@ use Rattle.onfi_cycle.specs.declared.item.Item.{Item}
 use Rattle.onfi_cycle.specs.declared.item.Item.TheVariants.{Rdy, Ard}
 use Rattle.onfi_cycle.specs.declared.tail_facts.TailFacts.{TailFacts}
 use Rattle.onfi_cycle.specs.Bounds.{is_read}
-use Rattle.onfi_cycle.specs.Command.{is_change_read_column}
+use Rattle.onfi_cycle.specs.Command.{is_change_read_column, is_enhanced_column}
 use Rattle.onfi_cycle.specs.Effect.{is_off}
 use Rattle.onfi_cycle.specs.Look.{look_at, look_at_some}
 use Rattle.onfi_cycle.specs.Lun.{is_cache_read, view_after}
@@ -25,7 +25,7 @@ use Rattle.recording_laws.proofs.Luns.{IsBegun, Fits, Asks, IsHarmless, IsBlank,
 use Rattle.recording_laws.proofs.Lists.{Each, SameOff, driver_up}
 use Rattle.recording_laws.proofs.Changed.{changed, changed_found, changed_length, luns_are_changed, same_changed, AtEach, at_each, AllFit, GoEach, all_fit_on, IsLearned, learns_each}
 use Rattle.recording_laws.proofs.Cycles.{go_same}
-use Rattle.recording_laws.proofs.Unseen.{is_quiet, is_named, NoneQueued, AreBlank, MayCome, blank, quiet, named}
+use Rattle.recording_laws.proofs.Unseen.{is_quiet, is_named, is_plane, NoneQueued, AllNamed, AreBlank, MayCome, blank, quiet, named, selecting}
 use Rattle.recording_laws.proofs.Granted.{is_sound}
 use Rattle.recording_laws.proofs.Targets.{IsOpened, FitsTarget}
 use Rattle.recording_laws.proofs.Twins.{GoesOn}
@@ -132,12 +132,12 @@ module _ (i : Item) (lun : ℕ) (x : Effect) (works : LunView → Bool) (is : Is
   go_ready k n (t ∷ ts) [] = tt
 
   none_begins : (before after : LunView) → (after.busy ≡ true → before.busy ≡ true) → learned_lun i (Some (look_at before)) (Some (look_at after)) Nothing ≡ Nothing
-  none_begins before after h = at (not before.busy && (after.busy && not (is_cache_read after.closer))) refl
+  none_begins before after h = at (not before.busy && (after.busy && not (is_cache_read before.closer || is_cache_read after.closer))) refl
     where
-      at : (b : Bool) → (not before.busy && (after.busy && not (is_cache_read after.closer))) ≡ b → learned_by b (not (is_off after.latch) || (b && is_reset i)) Nothing ≡ Nothing
+      at : (b : Bool) → (not before.busy && (after.busy && not (is_cache_read before.closer || is_cache_read after.closer))) ≡ b → learned_by b (not (is_off after.latch) || (b && is_reset i)) Nothing ≡ Nothing
       at true e =
-          let a = and_parts (not before.busy) (after.busy && not (is_cache_read after.closer)) e in
-          let c = and_parts after.busy (not (is_cache_read after.closer)) a.1 in
+          let a = and_parts (not before.busy) (after.busy && not (is_cache_read before.closer || is_cache_read after.closer)) e in
+          let c = and_parts after.busy (not (is_cache_read before.closer || is_cache_read after.closer)) a.1 in
           let was_busy = h c.0 in
           let idle = not-true before.busy a.0 in
           cc
@@ -180,6 +180,7 @@ module _ (i : Item) (lun : ℕ) (x : Effect) (works : LunView → Bool) (is : Is
               subst (λ (vs : List LunView). NoneQueued g (row (target_after g i t).tail) vs) (sym (luns_ready g t.tail (has_driver t.luns) t.luns))
               (subst (λ (w : TailFacts). NoneQueued g (row w) (changed by_ready 0 t.luns)) (sym (is.tail g t))
               (still_none g (row t.tail) t.luns (o.read (sym (ap (λ (w : TailFacts). opened (λ c n. is_read c && n == 5) w.opening) (is.tail g t)) ∙ h))));
+          declared = λ h. o.declared (sym (ap (λ (w : TailFacts). opened (λ c n. is_enhanced_column c) w.opening) (is.tail g t)) ∙ h);
         }
       where
         drives : u.luns ≡ s.luns ⊎ u.luns ≡ changed by_ready 0 s.luns → has_driver s.luns ≡ true → has_driver u.luns ≡ true
@@ -202,12 +203,19 @@ module _ (i : Item) (lun : ℕ) (x : Effect) (works : LunView → Bool) (is : Is
         (subst (λ (vs : List LunView). NoneQueued g (row (target_after g i t).tail) vs) (sym (luns_ready g s.tail (has_driver s.luns) s.luns))
         (subst (λ (w : TailFacts). NoneQueued g (row w) (changed by_ready 0 s.luns)) (sym (is.tail g t)) (still_none g (row t.tail) s.luns e)))
 
+    comes_after h (selecting n e) =
+        selecting (ap is_plane (is.tail g t) ∙ n)
+        (subst (λ (vs : List LunView). AllNamed g (row (target_after g i t).tail) vs) (sym (luns_ready g s.tail (has_driver s.luns) s.luns))
+        (subst (λ (w : TailFacts). AllNamed g (row w) (changed by_ready 0 s.luns)) (sym (is.tail g t))
+        (λ m within. e m (subst (λ n. m < n) (changed_length by_ready 0 s.luns) within))))
+
     -- a ready that is seen
     pub ready_seen : lun_is works s.luns lun ≡ true → IsLearned i k later s.luns (target_after g i s).luns → later.opened ≡ k.opened → FitsTarget g later (target_after g i t) (target_after g i s)
     ready_seen h learned kept =
         let l : IsLearned i k later s.luns (changed by_ready 0 s.luns) = subst (IsLearned i k later s.luns) (luns_ready g s.tail (has_driver s.luns) s.luns) learned in
         record {
           few = subst (λ n. n ≤ 4) (sym (ap length (luns_ready g s.tail (has_driver s.luns) s.luns) ∙ changed_length by_ready 0 s.luns)) f.few;
+          count = subst (λ n. n ≤ g.luns) (sym (ap length (luns_ready g s.tail (has_driver s.luns) s.luns) ∙ changed_length by_ready 0 s.luns)) f.count;
           luns =
               rw (luns_ready g t.tail (has_driver t.luns) t.luns, luns_ready g s.tail (has_driver s.luns) s.luns)
               (all_fit_on i k later by_ready by_ready 0 t.luns s.luns f.luns (go_ready k 0 t.luns s.luns) (learns_each i k later by_ready s.luns f.few l));
@@ -241,6 +249,7 @@ module _ (i : Item) (lun : ℕ) (x : Effect) (works : LunView → Bool) (is : Is
     ready_granted idle none =
         record {
           few = f.few;
+          count = f.count;
           luns = subst (λ (vs : List LunView). AllFit k 0 vs s.luns) (sym (luns_ready g t.tail (has_driver t.luns) t.luns)) (fit_unseen 0 t.luns s.luns f.luns (at_each Rests s.luns rests));
           opened = λ y. opened_after s (inl refl) refl (f.opened y);
           closed = λ y.

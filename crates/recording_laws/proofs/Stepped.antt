@@ -1,9 +1,10 @@
 -- A permitted item breaks no rule by what is seen, and what is known afterwards fits what is.
-use Rattle.std.proofs.Common.{◌≡◌, ◌⊎◌, inl, inr, ℕ, ◌<◌, Bool, true, false, cond, not, ◌||◌, leb, List, [], length, Option, Some, None, refl, sym, ap, ◌∙◌, subst, slice_get, slice_set, get_or, arith}
-use Rattle.std.proofs.lemmas.Bool.{or_parts, not-false, not_from_true, not_from_false}
+use Rattle.std.proofs.Common.{◌≡◌, ◌⊎◌, inl, inr, ℕ, ◌<◌, Bool, true, false, cond, not, ◌||◌, ◌&&◌, leb, ltb, true≢false, List, [], length, Option, Some, None, refl, sym, ap, ◌∙◌, subst, slice_get, slice_set, get_or, arith}
+use Rattle.std.proofs.lemmas.Bool.{ltb-false, and_parts, or_parts, not-false, not_from_true, not_from_false}
 use Rattle.std.proofs.lemmas.List.{set-get_or}
 use Rattle.std.proofs.lemmas.Option.{slice_get-get_or}
 use Rattle.nand_geometry.specs.declared.parts.Parts.{Parts}
+use Rattle.nand_geometry.specs.Optional.{has_enhanced_column}
 use Rattle.onfi_cycle.specs.declared.forbidden.Forbidden.{Forbidden}
 use Rattle.onfi_cycle.specs.declared.forbidden.Forbidden.TheVariants.{NotThere}
 use Rattle.onfi_cycle.specs.declared.item.Cycle.{Cycle}
@@ -14,7 +15,7 @@ use Rattle.onfi_cycle.specs.declared.tail_facts.TailFacts.{TailFacts}
 use Rattle.onfi_cycle.specs.Effect.{is_shared}
 use Rattle.onfi_cycle.specs.LunView.{LunView}
 use Rattle.onfi_cycle.specs.Permitted.{judge_cycle, judge_item, judge}
-use Rattle.onfi_cycle.specs.Rules.{lun_is, breaks_not_there}
+use Rattle.onfi_cycle.specs.Rules.{lun_is, breaks_not_there, breaks_several_luns}
 use Rattle.onfi_cycle.specs.Sequence.{facts_of, target_of, target_cycle, begins_sequence}
 use Rattle.onfi_cycle.specs.declared.target_cycle.TargetCycle.{TargetCycle}
 use Rattle.onfi_cycle.specs.declared.target_cycle.TargetCycle.TheVariants.{CommandCycle, AddressCycle, InputCycle, OutputCycle}
@@ -29,12 +30,12 @@ use Rattle.trace_faults.specs.declared.verdict.Verdict.{Verdict}
 use Rattle.trace_faults.specs.declared.verdict.Verdict.TheVariants.{Permitted, PassedOver, Granted}
 use Rattle.trace_faults.specs.Outside.{standings_after}
 use Rattle.trace_faults.specs.Recovery.{all_inside, judged_here, gone_on, gone_on_by}
-use Rattle.trace_faults.specs.Middle.{Seen, nothing_known, known_of, knows, has_begun, is_doubtful, doubts_ready, doubts, hangs_on_before, of_cycle, of_ready, looks_of, is_reset_cycle, is_reset, begins_here, learned, verdict_on, is_passed_over, granted_to, judged_on, seen_by, verdict_here, verdict, seen_after, broken_in}
+use Rattle.trace_faults.specs.Middle.{Seen, nothing_known, known_of, knows, has_begun, is_doubtful, doubts_ready, doubts, hangs_on_before, of_cycle, of_ready, looks_of, is_reset_cycle, is_reset, stops_others, begins_here, learned, verdict_on, is_passed_over, granted_to, judged_on, seen_by, verdict_here, verdict, seen_after, broken_in}
 use Rattle.trace_faults.proofs.Judged.{standings_inside, is_inside, judged_inside}
 use Rattle.recording_laws.proofs.Changed.{under_each, below_each, known_each}
 use Rattle.recording_laws.proofs.Rules.{IsKnown, plain_clear, OnlyHangs, only_hangs, only_hangs_fresh, none_broken, none_broken_fresh}
 use Rattle.recording_laws.proofs.Lists.{Each}
-use Rattle.recording_laws.proofs.Targets.{FitsTarget, seen_opened, seen_fresh, granted_opened, granted_fresh, passed_over, known_anew}
+use Rattle.recording_laws.proofs.Targets.{FitsTarget, IsAlone, seen_opened, seen_fresh, granted_opened, granted_fresh, passed_over, known_anew}
 use Rattle.recording_laws.proofs.Readies.{IsReady}
 use Rattle.recording_laws.proofs.Twins.{reset_judged}
 use Rattle.recording_laws.proofs.Shared.{FitsShared, FitsEither, of_plain, of_shared, alike_judged, seen_alike, reset_alike, rests_unseen, either_doubted, either_seen, either_granted}
@@ -160,7 +161,17 @@ unfold_there : (n : ℕ) (luns : List LunView) (c : Cycle) → breaks_not_there 
 unfolding breaks_not_there
 unfold_there n luns c = refl
 
-module _ (g : Parts) (bus : BusView) (seen : Seen) (c : Cycle) (later : List Item) (f : FitsBus g bus seen) (x : Here g bus seen (Cyc c)) (plain : is_shared g ≡ false) where
+module _ (g : Parts) (bus : BusView) (seen : Seen) (c : Cycle) (later : List Item) (f : FitsBus g bus seen) (x : Here g bus seen (Cyc c)) (narrow : stops_others g ≡ false) where
+  plain : is_shared g ≡ false
+  plain = (or_parts (is_shared g) (has_enhanced_column g.optional && ltb 1 g.luns) narrow).0
+
+  one : IsAlone g
+  one = at (has_enhanced_column g.optional) refl (or_parts (is_shared g) (has_enhanced_column g.optional && ltb 1 g.luns) narrow).1
+    where
+      at : (b : Bool) → has_enhanced_column g.optional ≡ b → (b && ltb 1 g.luns) ≡ false → IsAlone g
+      at true e h = inr (ltb-false 1 g.luns h)
+      at false e h = inl e
+
   abbrev d : TargetCycle
   d = target_cycle c.kind c.byte
 
@@ -168,7 +179,7 @@ module _ (g : Parts) (bus : BusView) (seen : Seen) (c : Cycle) (later : List Ite
   at = known_of seen.known c.ce
 
   own : FitsTarget g at x.is x.shown
-  own = (fits_here g bus seen (Cyc c) later f x).plain plain
+  own = (fits_here g bus seen (Cyc c) later f x).plain narrow
 
   parted : (leb (length bus.targets) c.ce ≡ false) × (judge_cycle g x.is.tail x.is.luns d ≡ None)
   parted =
@@ -191,7 +202,7 @@ module _ (g : Parts) (bus : BusView) (seen : Seen) (c : Cycle) (later : List Ite
   granted_fits : FitsTarget g nothing_known (target_after g (Cyc c) x.is) (without_sequence x.shown) → FitsBus g (bus_after (Cyc c) bus) (granted_to (Cyc c) seen)
   granted_fits h =
       changed_fits g bus seen (Cyc c) later f x without_sequence nothing_known (record seen.state { bus = bus_without c.ce seen.state.bus }) f.seen_geometry f.inside refl
-      (of_plain g nothing_known (target_after g (Cyc c) x.is) (without_sequence x.shown) plain h)
+      (of_plain g nothing_known (target_after g (Cyc c) x.is) (without_sequence x.shown) narrow h)
 
   -- a rule that is seen to be broken hangs on what was before, and some LUN is in doubt
   granted_step : (rule : Forbidden) → judge_cycle g x.shown.tail x.shown.luns d ≡ Some rule → is_passed_over seen.state.bus.geometry at (Cyc c) ≡ false → hangs_on_before rule ≡ true → (doubts seen.state.bus at c.ce ≡ false → judge_cycle g x.shown.tail x.shown.luns d ≡ None) →
@@ -208,7 +219,7 @@ module _ (g : Parts) (bus : BusView) (seen : Seen) (c : Cycle) (later : List Ite
   learned_own = learned_by_it g bus seen (Cyc c) later f x (gone_on_by None (Cyc c) seen.state)
 
   begins_plain : begins_here seen.state.bus.geometry (Cyc c) ≡ begins_sequence d
-  begins_plain = ap (λ (y : Parts). begins_here y (Cyc c)) f.seen_geometry ∙ ap (λ (b : Bool). cond b (is_reset (Cyc c)) (begins_sequence d)) plain
+  begins_plain = ap (λ (y : Parts). begins_here y (Cyc c)) f.seen_geometry ∙ ap (λ (b : Bool). cond b (is_reset (Cyc c)) (begins_sequence d)) narrow
 
   open_now : at.opened ≡ true ⊎ begins_sequence d ≡ true → is_passed_over seen.state.bus.geometry at (Cyc c) ≡ false
   open_now (inl h) = rw h refl
@@ -227,7 +238,7 @@ module _ (g : Parts) (bus : BusView) (seen : Seen) (c : Cycle) (later : List Ite
       of false = refl
 
   permitted_step : at.opened ≡ true ⊎ begins_sequence d ≡ true → judge_cycle g x.shown.tail x.shown.luns d ≡ None → FitsTarget g learned_own (target_after g (Cyc c) x.is) (target_after g (Cyc c) x.shown) → Stepped g bus seen (Cyc c) later
-  permitted_step some h fits = seen_step g bus seen (Cyc c) later f x (judged_so ∙ h) (open_now some) (said_so None h) (of_plain g learned_own (target_after g (Cyc c) x.is) (target_after g (Cyc c) x.shown) plain fits)
+  permitted_step some h fits = seen_step g bus seen (Cyc c) later f x (judged_so ∙ h) (open_now some) (said_so None h) (of_plain g learned_own (target_after g (Cyc c) x.is) (target_after g (Cyc c) x.shown) narrow fits)
 
   plain_step : Stepped g bus seen (Cyc c) later
   plain_step = by_opened at.opened refl
@@ -250,7 +261,7 @@ module _ (g : Parts) (bus : BusView) (seen : Seen) (c : Cycle) (later : List Ite
           let o = own.opened e in
           granted_step rule h (open_now (inl e))
           (hangs_of rule (judge_cycle g x.is.tail x.shown.luns d) (only_hangs g x.is.tail x.is.luns x.shown.luns d (under_each x.is.luns x.shown.luns (below_each at 0 x.is.luns x.shown.luns own.luns)) (plain_clear g x.is.luns x.shown.luns plain) (keeps_rules g x.is.tail x.is.luns d kept)) (ap (λ w. judge_cycle g w x.shown.luns d) o.tail ∙ h))
-          (opened_known e) (granted_opened g plain at x.is x.shown c own rule e kept h)
+          (opened_known e) (granted_opened g plain one at x.is x.shown c own rule e kept h)
 
       fresh_hangs : (e : TargetCycle) → e ≡ d → begins_sequence e ≡ true → at.opened ≡ false → OnlyHangs (judge_cycle g x.shown.tail x.shown.luns e)
       fresh_hangs (CommandCycle y) e b h =
@@ -274,7 +285,7 @@ module _ (g : Parts) (bus : BusView) (seen : Seen) (c : Cycle) (later : List Ite
       fresh_step e b None h = permitted_step (inr b) h (seen_fresh g plain at learned_own x.is x.shown c own e (open_later (inr b)) b kept h learned_now)
       fresh_step e b (Some rule) h =
           granted_step rule h (open_now (inr b)) (hangs_of rule (judge_cycle g x.shown.tail x.shown.luns d) (fresh_hangs d refl b e) h) (fresh_known d refl b e)
-          (granted_fresh g plain at x.is x.shown c own rule e b kept h)
+          (granted_fresh g plain one at x.is x.shown c own rule e b kept h)
 
       over : at.opened ≡ false → begins_sequence d ≡ false → is_passed_over seen.state.bus.geometry at (Cyc c) ≡ true
       over e b = ap (λ (o : Bool). not (o || begins_here seen.state.bus.geometry (Cyc c))) e ∙ ap not (begins_plain ∙ b)
@@ -286,7 +297,7 @@ module _ (g : Parts) (bus : BusView) (seen : Seen) (c : Cycle) (later : List Ite
       passed_step e b =
           told g bus seen (Cyc c) later f x true PassedOver seen (over e b) refl refl (λ n. refl)
           (subst (λ (ks : List Known). FitsBus g (bus_after (Cyc c) bus) (record { state = seen.state; known = ks })) same_known
-          (changed_fits g bus seen (Cyc c) later f x (λ s. s) at seen.state f.seen_geometry f.inside (sym (put_nothing c.ce seen.state.bus.targets)) (of_plain g at (target_after g (Cyc c) x.is) x.shown plain (passed_over g plain at x.is x.shown c own e b kept))))
+          (changed_fits g bus seen (Cyc c) later f x (λ s. s) at seen.state f.seen_geometry f.inside (sym (put_nothing c.ce seen.state.bus.targets)) (of_plain g at (target_after g (Cyc c) x.is) x.shown narrow (passed_over g plain one at x.is x.shown c own e b kept))))
 
       by_begun : at.opened ≡ false → (b : Bool) → begins_sequence d ≡ b → Stepped g bus seen (Cyc c) later
       by_begun e true b = fresh_step e b (judge_cycle g x.shown.tail x.shown.luns d) refl
@@ -296,9 +307,13 @@ module _ (g : Parts) (bus : BusView) (seen : Seen) (c : Cycle) (later : List Ite
       by_opened true e = opened_step e (judge_cycle g x.shown.tail x.shown.luns d) refl
       by_opened false e = by_begun e (begins_sequence d) refl
 
--- ---- cycles of a shared target
+-- ---- cycles of a target of whose commands some stop other LUNs
 
-module _ (g : Parts) (bus : BusView) (seen : Seen) (c : Cycle) (later : List Item) (f : FitsBus g bus seen) (x : Here g bus seen (Cyc c)) (shared : is_shared g ≡ true) where
+one_alone : (g : Parts) (luns : List LunView) → is_shared g ≡ false → breaks_several_luns g luns (CommandCycle Reset) ≡ false → ltb 1 g.luns ≡ false
+unfolding breaks_several_luns
+one_alone g luns plain h = rw plain at h
+
+module _ (g : Parts) (bus : BusView) (seen : Seen) (c : Cycle) (later : List Item) (f : FitsBus g bus seen) (x : Here g bus seen (Cyc c)) (shared : stops_others g ≡ true) where
   abbrev known : Known
   known = known_of seen.known c.ce
 
@@ -335,6 +350,19 @@ module _ (g : Parts) (bus : BusView) (seen : Seen) (c : Cycle) (later : List Ite
   or_true true = refl
   or_true false = refl
 
+  -- where only some commands stop others, and none is of all LUNs, no reset is permitted
+  reset_shared : done ≡ CommandCycle Reset → is_shared g ≡ true
+  reset_shared reset = at (is_shared g) refl
+    where
+      kept : breaks_several_luns g x.is.luns (CommandCycle Reset) ≡ false
+      kept = ap (λ (d : TargetCycle). breaks_several_luns g x.is.luns d) (sym reset) ∙ (keeps_rules g x.is.tail x.is.luns done split.1).f4
+
+      at : (b : Bool) → is_shared g ≡ b → is_shared g ≡ true
+      at true e = e
+      at false e =
+          let several = (and_parts (has_enhanced_column g.optional) (ltb 1 g.luns) (sym (ap (λ (b : Bool). b || (has_enhanced_column g.optional && ltb 1 g.luns)) e) ∙ shared)).1 in
+          absurd (true≢false (sym several ∙ one_alone g x.is.luns e kept))
+
   shared_step : Stepped g bus seen (Cyc c) later
   shared_step = at known.opened refl (is_reset_cycle done) refl
     where
@@ -345,10 +373,11 @@ module _ (g : Parts) (bus : BusView) (seen : Seen) (c : Cycle) (later : List Ite
           (seen_alike g known known_later x.is x.shown c fit e (ap (λ (o : Bool). o || begins_here seen.state.bus.geometry (Cyc c)) e) split.1)
       at false e true is =
           let reset = reset_is done is in
+          let every = reset_shared reset in
           permitted
-          (ap (λ (d : TargetCycle). judge_cycle g x.shown.tail x.shown.luns d) reset ∙ ap (λ (u : TailFacts). judge_cycle g u x.shown.luns (CommandCycle Reset)) (fit.closed e).tail ∙ reset_judged g x.shown.luns shared)
+          (ap (λ (d : TargetCycle). judge_cycle g x.shown.tail x.shown.luns d) reset ∙ ap (λ (u : TailFacts). judge_cycle g u x.shown.luns (CommandCycle Reset)) (fit.closed e).tail ∙ reset_judged g x.shown.luns every)
           (ap (λ (o : Bool). not (known.opened || o)) (begins_shared ∙ is) ∙ not_from_true (known.opened || true) (or_true known.opened))
-          (reset_alike g known known_later x.is x.shown c fit shared reset (ap (λ (o : Bool). known.opened || o) (begins_shared ∙ is) ∙ or_true known.opened))
+          (reset_alike g known known_later x.is x.shown c fit every reset (ap (λ (o : Bool). known.opened || o) (begins_shared ∙ is) ∙ or_true known.opened))
       at false e false is =
           told g bus seen (Cyc c) later f x true PassedOver seen (ap (λ (o : Bool). not (o || begins_here seen.state.bus.geometry (Cyc c))) e ∙ ap not (begins_shared ∙ is)) refl refl (λ n. refl)
           (subst (λ (ks : List Known). FitsBus g (bus_after (Cyc c) bus) (record { state = seen.state; known = ks })) (set-get_or seen.known c.ce Rattle.trace_faults.specs.Middle.all_known)
@@ -356,9 +385,9 @@ module _ (g : Parts) (bus : BusView) (seen : Seen) (c : Cycle) (later : List Ite
           (of_shared g known (target_after g (Cyc c) x.is) x.shown shared (rests_unseen g known known_later x.is x.shown c fit e))))
 
 pub cycle_step : (g : Parts) (bus : BusView) (seen : Seen) (c : Cycle) (later : List Item) (f : FitsBus g bus seen) (x : Here g bus seen (Cyc c)) → Stepped g bus seen (Cyc c) later
-cycle_step g bus seen c later f x = at (is_shared g) refl
+cycle_step g bus seen c later f x = at (stops_others g) refl
   where
-    at : (b : Bool) → is_shared g ≡ b → Stepped g bus seen (Cyc c) later
+    at : (b : Bool) → stops_others g ≡ b → Stepped g bus seen (Cyc c) later
     at true e = shared_step g bus seen c later f x e
     at false e = plain_step g bus seen c later f x e
 

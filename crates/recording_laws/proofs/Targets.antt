@@ -1,10 +1,10 @@
 -- A target as it is, and as it is seen: what a permitted cycle of it leaves of both.
-use Rattle.std.proofs.Common.{◌≡◌, inl, inr, zero, suc, not, ℕ, ◌+◌, ◌≤◌, ◌==◌, Bool, true, false, cond, ◌&&◌, ◌||◌, List, [], ◌∷◌, length, Option, Some, None, refl, sym, ap, ◌∙◌, subst, slice_get, eqb-true, eq-eqb, arith}
-use Rattle.std.proofs.lemmas.Bool.{and_parts, or_left, or_right, not-false}
+use Rattle.std.proofs.Common.{◌≡◌, ◌⊎◌, inl, inr, zero, suc, not, ℕ, ◌+◌, ◌<◌, ◌≤◌, ◌==◌, Bool, true, false, cond, ◌&&◌, ◌||◌, List, [], ◌∷◌, length, Option, Some, None, refl, sym, ap, ◌∙◌, subst, slice_get, eqb-true, eq-eqb, ltb, true≢false, arith}
+use Rattle.std.proofs.lemmas.Bool.{ltb-true, and_parts, or_left, or_right, not-false}
 use Rattle.nand_geometry.specs.declared.parts.Parts.{Parts}
-use Rattle.nand_geometry.specs.Row.{parts_of}
+use Rattle.nand_geometry.specs.Row.{parts_of, is_inside}
 use Rattle.onfi_cycle.specs.declared.command.Command.{Command}
-use Rattle.onfi_cycle.specs.declared.command.Command.TheVariants.{Read, ReadConfirm, ChangeReadColumn, BlockErase, BlockEraseConfirm, BlockErasePlane, PageProgram, ProgramConfirm, ProgramPlane, ReadCacheSequential}
+use Rattle.onfi_cycle.specs.declared.command.Command.TheVariants.{Read, ReadConfirm, ChangeReadColumn, ChangeReadColumnEnhanced, BlockErase, BlockEraseConfirm, BlockErasePlane, PageProgram, ProgramConfirm, ProgramPlane, ReadCacheSequential}
 use Rattle.onfi_cycle.specs.declared.data_phase.DataPhase.{DataPhase}
 use Rattle.onfi_cycle.specs.declared.data_phase.DataPhase.TheVariants.{Outside, Inputs, FirstColumn, SecondColumn, FeatureInputs}
 use Rattle.onfi_cycle.specs.declared.effect.Effect.{Effect}
@@ -21,25 +21,26 @@ use Rattle.onfi_cycle.specs.declared.tail_facts.TailFacts.{TailFacts}
 use Rattle.onfi_cycle.specs.declared.target_cycle.TargetCycle.{TargetCycle}
 use Rattle.onfi_cycle.specs.declared.target_cycle.TargetCycle.TheVariants.{CommandCycle, AddressCycle, InputCycle, OutputCycle}
 use Rattle.onfi_cycle.specs.Bounds.{is_read, is_block_erase}
-use Rattle.nand_geometry.specs.Optional.{is_wide}
-use Rattle.onfi_cycle.specs.Command.{is_opener, closes, address_cycles, at_last_row, is_change_read_column, is_page_program}
+use Rattle.nand_geometry.specs.Optional.{is_wide, has_enhanced_column}
+use Rattle.onfi_cycle.specs.Command.{is_opener, closes, address_cycles, at_last_row, is_change_read_column, is_enhanced_column, is_page_program}
 use Rattle.onfi_cycle.specs.Effect.{is_off, is_shared, names_lun, page_address, address_effect, opening_address_effect, cycle_effect}
 use Rattle.onfi_cycle.specs.Lun.{is_page_read, view_after}
 use Rattle.onfi_cycle.specs.LunView.{LunView}
 use Rattle.onfi_cycle.specs.Permitted.{judge_cycle}
-use Rattle.onfi_cycle.specs.Rules.{is_some_and, driving, only, driver, driver_is, lun_is, named_lun_is, continues_cache, has_some, may_change_column, refused_by, is_refused_by, breaks_sequence_open, breaks_no_column_to_change, breaks_queue_clash, breaks_cache_read_misplaced}
+use Rattle.onfi_cycle.specs.Rules.{is_some_and, driving, only, driver, driver_is, lun_is, named_lun_is, continues_cache, has_some, may_change_column, refused_by, is_refused_by, ends_row, breaks_command_unknown, breaks_row_outside, breaks_sequence_open, breaks_no_column_to_change, breaks_queue_clash, breaks_cache_read_misplaced}
 use Rattle.onfi_cycle.specs.Sequence.{target_cycle, facts_of, opened, one_address_more, row, row_with, wants_command, extended_facts, facts_after, begins_sequence, begins_anew, works_on_row}
 use Rattle.onfi_cycle.specs.State.{TargetView, luns_after, has_driver, target_after, without_sequence}
+use Rattle.onfi_cycle.proofs.Booleans.{and_rest}
 use Rattle.onfi_cycle.proofs.Passed.{KeepsRules, keeps_rules}
 use Rattle.onfi_cycle.proofs.TableLemmas.{command_opens}
 use Rattle.trace_faults.specs.declared.known.Known.{Known}
 use Rattle.trace_faults.specs.Middle.{nothing_known, is_reset_cycle}
 use Rattle.recording_laws.proofs.Luns.{IsBelow, IsHarmless}
 use Rattle.recording_laws.proofs.Lists.{Each, lun_up}
-use Rattle.recording_laws.proofs.Rules.{five_of, IsKnown, IsClear, plain_clear, judged_five, judged_five_fresh}
+use Rattle.recording_laws.proofs.Rules.{six_of, IsKnown, IsClear, plain_clear, judged_six, judged_six_fresh}
 use Rattle.recording_laws.proofs.Changed.{changed, changed_length, AtEach, at_each, AllFit, under_each, below_each, GoEach, all_fit_on, IsLearned, learns_each, below_unseen, all_nothing}
 use Rattle.recording_laws.proofs.Cycles.{by_cycle, luns_by_cycle, ReadsClear, go_command, go_opener, go_address, go_input, go_output}
-use Rattle.recording_laws.proofs.Unseen.{is_led, is_quiet_by, is_quiet, is_named_by, is_named, NoneQueued, AreBlank, MayCome, blank, quiet, named, not_led, may_come_on, unseen_harmless, quiet_command}
+use Rattle.recording_laws.proofs.Unseen.{is_led, is_quiet_by, is_quiet, is_named_by, is_named, is_plane_by, is_plane, NoneQueued, AllNamed, AreBlank, MayCome, blank, quiet, named, selecting, not_led, may_come_on, unseen_harmless, quiet_command}
 use Rattle.recording_laws.proofs.Granted.{is_sound, is_sound_by, sound_after, grants, is_granted, command_granted, command_comes, Comes, address_granted, input_granted, output_granted}
 
 -- ---- 1. a target
@@ -51,6 +52,7 @@ pub record IsOpened (g : Parts) (t s : TargetView) : Type 0 where
   pub sound : is_sound t.tail ≡ true
   pub column : opened (λ c n. is_change_read_column c) t.tail.opening ≡ true → (has_driver t.luns ≡ true) × (has_driver s.luns ≡ true)
   pub read : opened (λ c n. is_read c && n == 5) t.tail.opening ≡ true → NoneQueued g (row t.tail) t.luns
+  pub declared : opened (λ c n. is_enhanced_column c) t.tail.opening ≡ true → has_enhanced_column g.optional ≡ true
 
 -- one of which none was
 pub record IsClosed (g : Parts) (k : Known) (t s : TargetView) : Type 0 where
@@ -60,6 +62,7 @@ pub record IsClosed (g : Parts) (k : Known) (t s : TargetView) : Type 0 where
 
 pub record FitsTarget (g : Parts) (k : Known) (t s : TargetView) : Type 0 where
   pub few : length s.luns ≤ 4
+  pub count : length s.luns ≤ g.luns
   pub luns : AllFit k 0 t.luns s.luns
   pub opened : k.opened ≡ true → IsOpened g t s
   pub closed : k.opened ≡ false → IsClosed g k t s
@@ -190,6 +193,47 @@ read_after g u ts (AddressCycle byte) some f h =
 read_after g u ts (InputCycle byte) some f h = let none = rw some at h in cc
 read_after g u ts OutputCycle some f h = let none = rw some at h in cc
 
+-- 06h is declared where it is permitted
+column_declared : (g : Parts) (c : Command) → breaks_command_unknown g (CommandCycle c) ≡ false → is_enhanced_column c ≡ true → has_enhanced_column g.optional ≡ true
+unfolding breaks_command_unknown
+column_declared g ChangeReadColumnEnhanced f h = not-false (has_enhanced_column g.optional) f
+column_declared g c f h = cc
+
+one_more_enhanced : (o : Option Opening) → opened (λ c n. is_enhanced_column c) (one_address_more o) ≡ true → opened (λ c n. is_enhanced_column c) o ≡ true
+one_more_enhanced None h = h
+one_more_enhanced (Some o) h = h
+
+declared_after : (g : Parts) (u : TailFacts) (cycle : TargetCycle) → u.is_empty ≡ false → (opened (λ c n. is_enhanced_column c) u.opening ≡ true → has_enhanced_column g.optional ≡ true) → breaks_command_unknown g cycle ≡ false →
+    opened (λ c n. is_enhanced_column c) (facts_after cycle u).opening ≡ true → has_enhanced_column g.optional ≡ true
+declared_after g u (CommandCycle c) some before f2 h = at (begins_anew u (CommandCycle c)) u.is_empty some h
+  where
+    at : (b e : Bool) → e ≡ false → opened (λ c n. is_enhanced_column c) (cond b (extended_facts (CommandCycle c) (facts_of [])) (cond e u (extended_facts (CommandCycle c) (record u { is_empty = e })))).opening ≡ true → has_enhanced_column g.optional ≡ true
+    at true e f x = column_declared g c f2 x
+    at false true f x = cc
+    at false false f x = cc
+declared_after g u (AddressCycle byte) some before f2 h = before (one_more_enhanced u.opening (rw some at h))
+declared_after g u (InputCycle byte) some before f2 h = let none = rw some at h in cc
+declared_after g u OutputCycle some before f2 h = let none = rw some at h in cc
+
+-- on a target with one LUN, or where no 06h is declared
+abbrev pub IsAlone : Parts → Type 0
+IsAlone g = (has_enhanced_column g.optional ≡ false) ⊎ (g.luns ≤ 1)
+
+last_enhanced : (o : Option Opening) → opened (λ c n. is_enhanced_column c && at_last_row c n) o ≡ true → (opened (λ c n. is_enhanced_column c) o ≡ true) × (opened (λ c n. true && at_last_row c n) o ≡ true)
+last_enhanced None h = cc
+last_enhanced (Some o) h = and_parts (is_enhanced_column o.opener) (at_last_row o.opener o.addresses) h
+
+-- there the row of a 06h names each LUN
+alone_named : (g : Parts) (u : TailFacts) (ss : List LunView) (byte : ℕ) → IsAlone g → length ss ≤ g.luns → (opened (λ c n. is_enhanced_column c) u.opening ≡ true → has_enhanced_column g.optional ≡ true) → breaks_row_outside g u (AddressCycle byte) ≡ false →
+    ends_row is_enhanced_column u ≡ true → AllNamed g (row_with u byte) ss
+unfolding breaks_row_outside
+alone_named g u ss byte (inl none) count declared f8 ends m within = let some = declared (last_enhanced u.opening ends).0 in absurd (true≢false (sym some ∙ none))
+alone_named g u ss byte (inr one) count declared f8 ends m within =
+    let p = parts_of g (row_with u byte) in
+    let inside : is_inside g p ≡ true = not-false (is_inside g p) (and_rest (ends_row (λ c. true) u) (not (is_inside g p)) (last_enhanced u.opening ends).1 f8) in
+    let low : p.lun < g.luns = ltb-true p.lun g.luns (and_parts (ltb p.lun g.luns) _ (and_parts (ltb p.lun g.luns && ltb p.block g.blocks) _ inside).0).0 in
+    eq-eqb p.lun m (omega (arith, low, one, count, within))
+
 reads_clear : (g : Parts) (u : TailFacts) (ts : List LunView) → (opened (λ c n. is_read c && n == 5) u.opening ≡ true → NoneQueued g (row u) ts) → AtEach (ReadsClear g u) 0 ts
 reads_clear g u ts h = at_each (ReadsClear g u) ts (λ m t found r names. h r m t found names)
 
@@ -204,6 +248,9 @@ module _ (g : Parts) (plain : is_shared g ≡ false) (k later : Known) (t s : Ta
 
   few_after : (w : TailFacts) → length (luns_after g w (has_driver s.luns) (Cyc c) 0 s.luns) ≤ 4
   few_after w = subst (λ n. n ≤ 4) (sym (ap length (luns_by_cycle g w (has_driver s.luns) c s.luns) ∙ changed_length (by_cycle g w (has_driver s.luns) cycle) 0 s.luns)) f.few
+
+  count_after : (w : TailFacts) → length (luns_after g w (has_driver s.luns) (Cyc c) 0 s.luns) ≤ g.luns
+  count_after w = subst (λ n. n ≤ g.luns) (sym (ap length (luns_by_cycle g w (has_driver s.luns) c s.luns) ∙ changed_length (by_cycle g w (has_driver s.luns) cycle) 0 s.luns)) f.count
 
   fit_after : (u w : TailFacts) → GoEach (Cyc c) k (by_cycle g u (has_driver t.luns) cycle) (by_cycle g w (has_driver s.luns) cycle) 0 t.luns s.luns → IsLearned (Cyc c) k later s.luns (luns_after g w (has_driver s.luns) (Cyc c) 0 s.luns) →
       AllFit later 0 (luns_after g u (has_driver t.luns) (Cyc c) 0 t.luns) (luns_after g w (has_driver s.luns) (Cyc c) 0 s.luns)
@@ -225,6 +272,7 @@ module _ (g : Parts) (plain : is_shared g ≡ false) (k later : Known) (t s : Ta
   seen_opened was later_open permitted seen learned =
       record {
         few = few_after s.tail;
+        count = count_after s.tail;
         luns = fit_after t.tail s.tail (subst (λ (w : TailFacts). GoEach (Cyc c) k (by_cycle g t.tail (has_driver t.luns) cycle) (by_cycle g w (has_driver s.luns) cycle) 0 t.luns s.luns) o.tail (go_cycle t.tail cycle refl a b o.column o.read)) learned;
         opened = λ h. record {
           tail = ap (facts_after cycle) o.tail;
@@ -237,6 +285,7 @@ module _ (g : Parts) (plain : is_shared g ≡ false) (k later : Known) (t s : Ta
                 ∙ driver_after g t.tail s.luns cycle o.some (λ y. (o.column y).1) b.f5 x,
           );
           read = λ x. subst (NoneQueued g (row (facts_after cycle t.tail))) (sym (luns_by_cycle g t.tail (has_driver t.luns) c t.luns)) (read_after g t.tail t.luns cycle o.some a.f10 x);
+          declared = declared_after g t.tail cycle o.some o.declared a.f2;
         };
         closed = λ h. cc;
       }
@@ -258,6 +307,7 @@ record Fresh (g : Parts) (d : TargetCycle) (u : TailFacts) : Type 0 where
   sound : is_sound (facts_after d u) ≡ true
   column : opened (λ c n. is_change_read_column c) (facts_after d u).opening ≡ true → (w : TailFacts) (vs : List LunView) → breaks_no_column_to_change vs d ≡ false → has_driver (changed (by_cycle g w (has_driver vs) d) 0 vs) ≡ true
   read : opened (λ c n. is_read c && n == 5) (facts_after d u).opening ≡ true → ⊥
+  declared : opened (λ c n. is_enhanced_column c) (facts_after d u).opening ≡ true → breaks_command_unknown g d ≡ false → has_enhanced_column g.optional ≡ true
 
 -- behind no tail an opener begins one
 opens_nothing : (c : Command) → is_opener c ≡ true → begins_anew (facts_of []) (CommandCycle c) ≡ true
@@ -330,6 +380,18 @@ named_read g t h f3 = at (is_wide g.optional) refl
     at true e = named_unread g t.opening t.phase e h
     at false e = unwanted g t e f3
 
+plane_unread : (c : Command) (n : ℕ) → is_enhanced_column c ≡ true → (closes c ReadCacheSequential && n == address_cycles c) ≡ false
+plane_unread ChangeReadColumnEnhanced n h = refl
+plane_unread c n h = cc
+
+selecting_unread : (o : Option Opening) (p : DataPhase) → is_plane_by o p ≡ true → ReadClosed o ≡ false
+selecting_unread None p h = refl
+selecting_unread (Some o) Outside h = plane_unread o.opener o.addresses (and_parts (is_enhanced_column o.opener) (o.addresses == 5) h).0
+selecting_unread (Some o) p h = cc
+
+selecting_read : (g : Parts) (t : TailFacts) → is_plane t ≡ true → wants_command t ReadCacheSequential ≡ false
+selecting_read g t h = selecting_unread t.opening t.phase h
+
 -- of LUNs of which nothing was seen none drives the bus
 blank_driving : (vs : List LunView) → AreBlank vs → driving vs ≡ []
 blank_driving [] b = refl
@@ -350,6 +412,7 @@ unfolding breaks_cache_read_misplaced
 fresh_anew g t ts ss ReadCacheSequential h a b (blank e) = absurd (blank_driver ss (continues_cache g) e (not-false (driver_is (continues_cache g) ss) b.f15))
 fresh_anew g t ts ss ReadCacheSequential h a b (quiet e) = ap not (quiet_read g t e)
 fresh_anew g t ts ss ReadCacheSequential h a b (named e n) = ap not (named_read g t e a.f3)
+fresh_anew g t ts ss ReadCacheSequential h a b (selecting e n) = ap not (selecting_read g t e)
 fresh_anew g t ts ss ReadConfirm h a b m = cc
 fresh_anew g t ts ss BlockEraseConfirm h a b m = cc
 fresh_anew g t ts ss BlockErasePlane h a b m = cc
@@ -370,6 +433,7 @@ known_anew g t ts ss ReadCacheSequential h a (blank e) each = ap not (at (wants_
         (not-false (named_lun_is g (row t) (λ v. is_page_read v.closer) ts) f)))
 known_anew g t ts ss ReadCacheSequential h a (quiet e) each = ap not (quiet_read g t e)
 known_anew g t ts ss ReadCacheSequential h a (named e n) each = ap not (named_read g t e a.f3)
+known_anew g t ts ss ReadCacheSequential h a (selecting e n) each = ap not (selecting_read g t e)
 known_anew g t ts ss ReadConfirm h a m each = cc
 known_anew g t ts ss BlockEraseConfirm h a m each = cc
 known_anew g t ts ss BlockErasePlane h a m each = cc
@@ -381,6 +445,7 @@ known_anew g t ts ss c h a m each = h
 fresh_comes_on : (g : Parts) (t : TailFacts) (ts ss : List LunView) (c : Command) → is_opener c ≡ true → grants c ≡ true → KeepsRules g t ts (CommandCycle c) → MayCome g t ss → MayCome g (facts_after (CommandCycle c) t) ss
 fresh_comes_on g t ts ss c h grant a (blank e) = blank e
 fresh_comes_on g t ts ss c h grant a (quiet e) = command_comes g t ss c (inr (anew_by t c h (λ same. quiet_read g t e))) grant
+fresh_comes_on g t ts ss c h grant a (selecting e n) = command_comes g t ss c (inr (anew_by t c h (λ same. selecting_read g t e))) grant
 fresh_comes_on g t ts ss c h grant a (named e n) =
     command_comes g t ss c (inr (anew_by t c h (λ same. named_read g t e (ap (λ (x : Command). breaks_sequence_open g t (CommandCycle x)) (sym same) ∙ a.f3)))) grant
 
@@ -392,6 +457,7 @@ fresh_of g (CommandCycle c) u h =
       sound = rw h (ap (is_sound_by (Some (record { opener = c; addresses = 0 }))) (quiet_command c Outside refl));
       column = λ x w vs f5. opened_driver g w vs c f5 (rw h at x);
       read = λ x. let five = (and_parts (is_read c) (0 == 5) (rw h at x)).1 in cc;
+      declared = λ x f2. column_declared g c f2 (rw h at x);
     }
 fresh_of g (AddressCycle byte) u h = cc
 fresh_of g (InputCycle byte) u h = cc
@@ -410,6 +476,7 @@ module _ (g : Parts) (plain : is_shared g ≡ false) (k later : Known) (t s : Ta
   seen_fresh was later_open begins permitted seen learned =
       record {
         few = few_after g plain k later t s c f s.tail;
+        count = count_after g plain k later t s c f s.tail;
         luns = fit_after g plain k later t s c f t.tail s.tail (subst (λ (w : TailFacts). GoEach (Cyc c) k (by_cycle g t.tail (has_driver t.luns) d) (by_cycle g w (has_driver s.luns) d) 0 t.luns s.luns) (sym q.tail) (go_fresh t.tail d refl begins anew a b)) learned;
         opened = λ h. record {
           tail = fresh.same ∙ ap (facts_after d) (sym q.tail);
@@ -420,6 +487,7 @@ module _ (g : Parts) (plain : is_shared g ≡ false) (k later : Known) (t s : Ta
             ap has_driver (luns_by_cycle g s.tail (has_driver s.luns) c s.luns) ∙ fresh.column x s.tail s.luns b.f5,
           );
           read = λ x. absurd (fresh.read x);
+          declared = λ x. fresh.declared x a.f2;
         };
         closed = λ h. cc;
       }
@@ -450,7 +518,7 @@ module _ (g : Parts) (plain : is_shared g ≡ false) (k later : Known) (t s : Ta
 
 -- ---- 5. a cycle that is taken for granted, or passed over
 
-module _ (g : Parts) (plain : is_shared g ≡ false) (k : Known) (t s : TargetView) (c : Cycle) (f : FitsTarget g k t s) where
+module _ (g : Parts) (plain : is_shared g ≡ false) (one : IsAlone g) (k : Known) (t s : TargetView) (c : Cycle) (f : FitsTarget g k t s) where
   abbrev clear : is_shared g ≡ true → IsClear t.luns s.luns
   clear = plain_clear g t.luns s.luns plain
 
@@ -467,20 +535,21 @@ module _ (g : Parts) (plain : is_shared g ≡ false) (k : Known) (t s : TargetVi
   by_comes x =
       record {
         few = f.few;
+        count = f.count;
         luns = left_below (λ la n v found. x.harmless la n v);
         opened = λ h. cc;
         closed = λ h. record { tail = refl; nothing = refl; comes = x.comes };
       }
 
-  by_command : (u : TailFacts) (x : Command) (rule : Forbidden) → five_of g u s.luns (CommandCycle x) ≡ Some rule → (grants x ≡ true → MayCome g (facts_after (CommandCycle x) t.tail) s.luns) → Comes g t.tail s.luns (CommandCycle x)
+  by_command : (u : TailFacts) (x : Command) (rule : Forbidden) → six_of g u s.luns (CommandCycle x) ≡ Some rule → (grants x ≡ true → MayCome g (facts_after (CommandCycle x) t.tail) s.luns) → Comes g t.tail s.luns (CommandCycle x)
   by_command u x rule h comes =
       let grant = is_granted g u s.luns x rule h in
       record { comes = comes grant; harmless = λ la n v. command_granted g plain t.tail la x n v grant }
 
   open_comes : (d : TargetCycle) (rule : Forbidden) → KeepsRules g t.tail t.luns d → IsOpened g t s → judge_cycle g t.tail s.luns d ≡ Some rule → Comes g t.tail s.luns d
-  open_comes (CommandCycle x) rule a o h = by_command t.tail x rule (sym (judged_five g t.tail t.luns s.luns (CommandCycle x) (under_each t.luns s.luns below) clear a) ∙ h) (command_comes g t.tail s.luns x (inl o.some))
-  open_comes (AddressCycle byte) rule a o h = address_granted g t.tail t.luns s.luns byte rule below a o.some o.sound (sym (judged_five g t.tail t.luns s.luns (AddressCycle byte) (under_each t.luns s.luns below) clear a) ∙ h)
-  open_comes (InputCycle byte) rule a o h = absurd (input_granted g t.tail t.luns s.luns byte rule a (sym (judged_five g t.tail t.luns s.luns (InputCycle byte) (under_each t.luns s.luns below) clear a) ∙ h))
+  open_comes (CommandCycle x) rule a o h = by_command t.tail x rule (sym (judged_six g t.tail t.luns s.luns (CommandCycle x) (under_each t.luns s.luns below) clear a) ∙ h) (command_comes g t.tail s.luns x (inl o.some))
+  open_comes (AddressCycle byte) rule a o h = address_granted g t.tail t.luns s.luns byte rule below a o.some o.sound (alone_named g t.tail s.luns byte one f.count o.declared a.f8) (sym (judged_six g t.tail t.luns s.luns (AddressCycle byte) (under_each t.luns s.luns below) clear a) ∙ h)
+  open_comes (InputCycle byte) rule a o h = absurd (input_granted g t.tail t.luns s.luns byte rule a (sym (judged_six g t.tail t.luns s.luns (InputCycle byte) (under_each t.luns s.luns below) clear a) ∙ h))
   open_comes OutputCycle rule a o h = output_granted g t.tail s.luns o.some
 
   pub granted_opened : (rule : Forbidden) → k.opened ≡ true → judge_cycle g t.tail t.luns (target_cycle c.kind c.byte) ≡ None → judge_cycle g s.tail s.luns (target_cycle c.kind c.byte) ≡ Some rule →
@@ -491,7 +560,7 @@ module _ (g : Parts) (plain : is_shared g ≡ false) (k : Known) (t s : TargetVi
 
   fresh_comes : (d : TargetCycle) (rule : Forbidden) → begins_sequence d ≡ true → KeepsRules g t.tail t.luns d → MayCome g t.tail s.luns → judge_cycle g (facts_of []) s.luns d ≡ Some rule → Comes g t.tail s.luns d
   fresh_comes (CommandCycle x) rule begins a m h =
-      by_command (facts_of []) x rule (sym (judged_five_fresh g t.tail t.luns s.luns x begins (under_each t.luns s.luns below) clear a) ∙ h) (λ grant. fresh_comes_on g t.tail t.luns s.luns x begins grant a m)
+      by_command (facts_of []) x rule (sym (judged_six_fresh g t.tail t.luns s.luns x begins (under_each t.luns s.luns below) clear a) ∙ h) (λ grant. fresh_comes_on g t.tail t.luns s.luns x begins grant a m)
   fresh_comes (AddressCycle byte) rule begins a m h = cc
   fresh_comes (InputCycle byte) rule begins a m h = cc
   fresh_comes OutputCycle rule begins a m h = cc
@@ -508,6 +577,7 @@ module _ (g : Parts) (plain : is_shared g ≡ false) (k : Known) (t s : TargetVi
       let a = keeps_rules g t.tail t.luns (target_cycle c.kind c.byte) permitted in
       record {
         few = f.few;
+        count = f.count;
         luns = subst (λ (x : Known). AllFit x 0 (target_after g (Cyc c) t).luns s.luns) (sym q.nothing) (left_below (λ la n v found. unseen_harmless g plain t.tail t.luns s.luns (target_cycle c.kind c.byte) begins a q.comes n v found la));
         opened = λ h. cc;
         closed = λ h. record { tail = q.tail; nothing = q.nothing; comes = may_come_on g t.tail t.luns s.luns (target_cycle c.kind c.byte) begins a q.comes };

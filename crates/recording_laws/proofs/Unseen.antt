@@ -1,5 +1,5 @@
 -- What may still come of a sequence that isn't seen, and what is seen meanwhile.
-use Rattle.std.proofs.Common.{◌≡◌, ◌⊎◌, inl, inr, ℕ, ◌+◌, ◌<◌, ◌==◌, Bool, true, false, cond, not, ◌&&◌, ◌||◌, ltb, List, [], length, Option, Some, None, refl, sym, ap, subst, slice_get, eqb-true, true≢false}
+use Rattle.std.proofs.Common.{◌≡◌, ◌⊎◌, inl, inr, ℕ, ◌+◌, ◌<◌, ◌==◌, Bool, true, false, cond, not, ◌&&◌, ◌||◌, ltb, List, [], length, Option, Some, None, refl, sym, ap, ◌∙◌, subst, slice_get, eqb-true, true≢false}
 use Rattle.std.proofs.lemmas.Bool.{and_parts, or_parts, not-true, not-false}
 use Rattle.std.proofs.lemmas.Option.{slice_get_within}
 use Rattle.nand_geometry.specs.declared.parts.Parts.{Parts}
@@ -461,10 +461,7 @@ module _ (g : Parts) (t : TailFacts) (la : Latch) (ss : List LunView) (m : ℕ) 
   column_harmless = at (selects_plane t) refl
     where
       at : (b : Bool) → selects_plane t ≡ b → IsHarmless (cond b (plane_effect g t m) (column_effect t la)) s
-      at true e = ap_harmless (selects_named h e)
-        where
-          ap_harmless : names_lun g (row t) m ≡ true → IsHarmless (plane_effect g t m) s
-          ap_harmless named = subst (λ (b : Bool). IsHarmless (cond b (PlaneSelected t.column) Deselected) s) (sym named) tt
+      at true e = subst (λ (b : Bool). IsHarmless (cond b (PlaneSelected t.column) Deselected) s) (sym (selects_named h e)) tt
       at false e = harmless_if (wants_command t ChangeReadColumnConfirm && not (is_off la)) (ReadColumnChanged t.column) s (λ b. tt)
 
   command_harmless : (c : Command) → is_opener c ≡ false → wants_command t c ≡ true → IsHarmless (command_effect g t la c m) s

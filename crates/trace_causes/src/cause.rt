@@ -1,6 +1,7 @@
 //! Why an item of a trace isn't permitted: one cause.
 
 use crate::open_sequence::{CommandAt, OpenSequence};
+use onfi_cycle::PageAddress;
 use std::fmt;
 
 /// Which part of a row isn't in the geometry.
@@ -103,6 +104,10 @@ pub enum Cause {
         command: u8,
         opener: u8,
     },
+    /// The same of `e0`, where two openers may come before it.
+    NoColumnOpened {
+        command: u8,
+    },
     /// The target wants nothing.
     Nothing(Unwanted),
     /// A part of the row is past the last one.
@@ -143,6 +148,13 @@ pub enum Cause {
         column: u64,
         of: Columns,
         length: u32,
+    },
+    /// The LUN holds no page of this plane, of so many, and perhaps this one of another.
+    PlaneNotHeld {
+        lun: u32,
+        plane: u32,
+        planes: u32,
+        held: Option<PageAddress>,
     },
 }
 
@@ -242,6 +254,29 @@ fn write_column<W: fmt::Write>(
     }
 }
 
+// Of a LUN that holds this page, or none, and is to give one of a plane of so many.
+fn write_plane<W: fmt::Write>(
+    f: &mut fmt::Formatter<W>,
+    lun: u32,
+    plane: u32,
+    planes: u32,
+    held: Option<PageAddress>,
+) -> fmt::Result {
+    match held {
+        Some(held) => write!(
+            f,
+            "LUN {lun} holds page {} of block {}, and none of plane {plane}",
+            held.page, held.block
+        )?,
+        None => write!(f, "LUN {lun} holds no page")?,
+    }
+    if planes == 1 {
+        f.write_str(": `00` and `30` read one first")
+    } else {
+        write!(f, ": `00` and `30` read one of plane {plane} first")
+    }
+}
+
 impl Cause {
     /// The command that its words name, if they name one.
     pub fn named_command(self) -> Option<CommandAt> {
@@ -258,6 +293,7 @@ impl Cause {
             | Cause::SeveralLuns { .. }
             | Cause::SeveralAnswer { .. }
             | Cause::Unopened { .. }
+            | Cause::NoColumnOpened { .. }
             | Cause::Nothing(_)
             | Cause::RowOutside { .. }
             | Cause::NoDriver {
@@ -265,7 +301,8 @@ impl Cause {
             }
             | Cause::Drivers { .. }
             | Cause::NoData { .. }
-            | Cause::ColumnOutside { .. } => None,
+            | Cause::ColumnOutside { .. }
+            | Cause::PlaneNotHeld { .. } => None,
         }
     }
 }
@@ -301,6 +338,10 @@ impl fmt::Display for CauseInLine {
                 f,
                 "`{command:02x}` isn't wanted: no `{opener:02x}` is open before it"
             ),
+            Cause::NoColumnOpened { command } => write!(
+                f,
+                "`{command:02x}` isn't wanted: no `05` or `06` is open before it"
+            ),
             Cause::Nothing(cycle) => write!(f, "{cycle}: no sequence is open"),
             Cause::RowOutside { part, number, last } => {
                 write!(
@@ -321,6 +362,12 @@ impl fmt::Display for CauseInLine {
             Cause::NoData { lun } => write!(f, "LUN {lun} holds no data: no page was read into it"),
             Cause::ColumnLost { lun, asked } => write_column_lost(f, lun, asked, line),
             Cause::ColumnOutside { column, of, length } => write_column(f, column, of, length),
+            Cause::PlaneNotHeld {
+                lun,
+                plane,
+                planes,
+                held,
+            } => write_plane(f, lun, plane, planes, held),
         }
     }
 }

@@ -5,7 +5,7 @@ use crate::open_sequence::{CommandAt, OpenSequence, Wanted};
 use crate::target_look::{MOST_LUNS, TargetLook};
 use crate::target_past::TargetPast;
 use nand_geometry::Geometry;
-use onfi_cycle::{Command, Cycle, Forbidden, Kind, Register, TailFacts};
+use onfi_cycle::{Command, Cycle, Forbidden, Kind, PageAddress, Register, TailFacts};
 
 /// A cycle, and the target to which it came.
 #[derive(Clone, Copy)]
@@ -53,6 +53,9 @@ impl FaultyCycle {
     fn command_misplaced(&self) -> Cause {
         let command = self.cycle.byte;
         match (self.open(), opener_of(Command::of(command))) {
+            (None, Some(0x05)) if self.geometry.parts().optional.has_enhanced_column() => {
+                Cause::NoColumnOpened { command }
+            }
             (None, Some(opener)) => Cause::Unopened { command, opener },
             (None, None) | (Some(_), _) => self.unwanted(Unwanted::Command(command)),
         }
@@ -157,6 +160,38 @@ impl FaultyCycle {
         Some(Cause::ColumnLost { lun, asked })
     }
 
+    // The page that the LUN of this number of its target holds.
+    fn held_by(&self, lun: u32) -> Option<PageAddress> {
+        let place = lun as usize;
+        if MOST_LUNS <= place {
+            return None;
+        }
+        match self.target.luns[place]?.register {
+            Register::Page(page) => Some(page),
+            Register::Empty
+            | Register::ParameterPage
+            | Register::Identifier
+            | Register::Identity
+            | Register::JedecIdentity
+            | Register::UniqueId
+            | Register::Features(_) => None,
+        }
+    }
+
+    // The LUN that the row names holds no page of its plane.
+    fn plane_not_held(&self) -> Cause {
+        let row = self
+            .geometry
+            .parts_of(self.tail().row_with(self.cycle.byte));
+        let planes = self.geometry.planes().max(1);
+        Cause::PlaneNotHeld {
+            lun: row.lun,
+            plane: row.block % planes,
+            planes,
+            held: self.held_by(row.lun),
+        }
+    }
+
     // The column past the register of the LUN that drives the bus.
     fn register_column(&self, column: Option<u32>) -> Option<Cause> {
         let (_, state) = self.target.driver()?;
@@ -207,6 +242,7 @@ impl FaultyCycle {
             Forbidden::NoSoleDriver => Some(self.no_sole_driver()),
             Forbidden::DataNotReady => self.data_not_ready(),
             Forbidden::ColumnOutside => self.column_outside(),
+            Forbidden::PlaneNotHeld => Some(self.plane_not_held()),
             Forbidden::NotThere
             | Forbidden::CommandUnknown
             | Forbidden::NoColumnToChange

@@ -29,7 +29,9 @@ fn wanted_by(opening: Opening) -> Option<Wanted> {
     }
     match opening.opener {
         Command::Read => Some(Wanted::Closer(0x30)),
-        Command::ChangeReadColumn => Some(Wanted::Closer(0xe0)),
+        Command::ChangeReadColumn | Command::ChangeReadColumnEnhanced => {
+            Some(Wanted::Closer(0xe0))
+        }
         Command::BlockErase => Some(Wanted::Closer(0xd0)),
         _ => None,
     }

@@ -110,6 +110,7 @@ impl LunWorks {
             | Effect::CacheReadContinued { .. }
             | Effect::CacheReadEnded
             | Effect::ReadColumnChanged { .. }
+            | Effect::PlaneSelected { .. }
             | Effect::DataOutput
             | Effect::ArrayBecameReady => Ok(()),
         }

@@ -6,7 +6,7 @@ use Rattle.std.proofs.Math.Bool.{and-false}
 use Rattle.nand_geometry.specs.declared.parts.Parts.{Parts}
 use Rattle.nand_geometry.specs.Row.{parts_of}
 use Rattle.onfi_cycle.specs.declared.command.Command.{Command}
-use Rattle.onfi_cycle.specs.declared.command.Command.TheVariants.{Read, ReadConfirm, BlockErase, BlockEraseConfirm, PageProgram, ChangeWriteColumn, ProgramConfirm}
+use Rattle.onfi_cycle.specs.declared.command.Command.TheVariants.{Read, ReadConfirm, ChangeReadColumnEnhanced, BlockErase, BlockEraseConfirm, PageProgram, ChangeWriteColumn, ProgramConfirm}
 use Rattle.onfi_cycle.specs.declared.data_phase.DataPhase.{DataPhase}
 use Rattle.onfi_cycle.specs.declared.data_phase.DataPhase.TheVariants.{Outside, Inputs, FirstColumn, SecondColumn, FeatureInputs}
 use Rattle.onfi_cycle.specs.declared.effect.Effect.TheVariants.{Unaffected}
@@ -96,6 +96,7 @@ one_of false false c h x y z = z h
 
 array_rests : (g : Parts) (t : TailFacts) (byte : ℕ) (c : Command) (m n : ℕ) → addresses_the_array c ≡ true → address_effect g t byte c m n ≡ Unaffected
 array_rests g t byte Read m n h = refl
+array_rests g t byte ChangeReadColumnEnhanced m n h = refl
 array_rests g t byte BlockErase m n h = refl
 array_rests g t byte PageProgram m n h = refl
 array_rests g t byte c m n h = cc

@@ -2,7 +2,7 @@
 use Rattle.std.proofs.Common.{◌≡◌, ℕ, ◌==◌, Bool, true, false, ◌&&◌, ◌||◌, not, cond, List, [], ◌∷◌, Option, Some, None, is_some, refl, sym, ap, ◌∙◌, eqb-true, ltb, if◌then◌else◌}
 use Rattle.std.proofs.lemmas.Bool.{and_parts}
 use Rattle.onfi_cycle.specs.declared.command.Command.{Command}
-use Rattle.onfi_cycle.specs.declared.command.Command.TheVariants.{Read, ReadConfirm, ChangeReadColumn, ChangeReadColumnConfirm, BlockErase, BlockEraseConfirm, BlockErasePlane, ReadStatus, ReadStatusEnhanced, PageProgram, ChangeWriteColumn, ProgramConfirm, ProgramPlane, ReadId, ReadParameterPage, Reset, ReadCacheSequential, ReadCacheEnd, ReadUniqueId, GetFeatures, SetFeatures, ResetLun, SynchronousReset, Unknown}
+use Rattle.onfi_cycle.specs.declared.command.Command.TheVariants.{Read, ReadConfirm, ChangeReadColumn, ChangeReadColumnEnhanced, ChangeReadColumnConfirm, BlockErase, BlockEraseConfirm, BlockErasePlane, ReadStatus, ReadStatusEnhanced, PageProgram, ChangeWriteColumn, ProgramConfirm, ProgramPlane, ReadId, ReadParameterPage, Reset, ReadCacheSequential, ReadCacheEnd, ReadUniqueId, GetFeatures, SetFeatures, ResetLun, SynchronousReset, Unknown}
 use Rattle.onfi_cycle.specs.declared.data_phase.DataPhase.{DataPhase}
 use Rattle.onfi_cycle.specs.declared.data_phase.DataPhase.TheVariants.{Outside, Inputs, FirstColumn, SecondColumn, FeatureInputs}
 use Rattle.onfi_cycle.specs.declared.opening.Opening.{Opening}
@@ -69,6 +69,7 @@ after_nothing : (c : Command) → in_program (phase_after_command c Outside) ≡
 after_nothing Read h = cc
 after_nothing ReadConfirm h = cc
 after_nothing ChangeReadColumn h = cc
+after_nothing ChangeReadColumnEnhanced h = cc
 after_nothing ChangeReadColumnConfirm h = cc
 after_nothing BlockErase h = cc
 after_nothing BlockEraseConfirm h = cc
@@ -107,6 +108,7 @@ column_alone ChangeWriteColumn FeatureInputs h = cc
 column_alone Read d h = cc
 column_alone ReadConfirm d h = cc
 column_alone ChangeReadColumn d h = cc
+column_alone ChangeReadColumnEnhanced d h = cc
 column_alone ChangeReadColumnConfirm d h = cc
 column_alone BlockErase d h = cc
 column_alone BlockEraseConfirm d h = cc
@@ -223,6 +225,7 @@ base_closer ProgramPlane o k = refl
 base_closer Unknown o k = cc
 base_closer Read o k = cc
 base_closer ChangeReadColumn o k = cc
+base_closer ChangeReadColumnEnhanced o k = cc
 base_closer BlockErase o k = cc
 base_closer ReadStatus o k = cc
 base_closer ReadStatusEnhanced o k = cc

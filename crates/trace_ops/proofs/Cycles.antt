@@ -33,7 +33,7 @@ use Rattle.trace_ops.specs.declared.operation.Beginning.TheVariants as begins
 use Rattle.trace_ops.specs.declared.operation.Ending.{Ending}
 use Rattle.trace_ops.specs.declared.operation.Ending.TheVariants as ends
 use Rattle.trace_ops.specs.declared.operation.Operation.{Operation}
-use Rattle.trace_ops.specs.Operation.{opener_of, is_byte, is_unknown, is_output, changed, changed_at}
+use Rattle.trace_ops.specs.Operation.{opener_of, is_byte, is_unknown, selects_column, is_output, changed, changed_at}
 use Rattle.trace_ops.specs.AtWork.{begins_work}
 use Rattle.trace_ops.specs.Listing.{Listing, found, worker, op_of, look_at, is_busy, has_failed, end_by, ended_if, ended_on, is_open_read_op, closes_read, begins_one, cycle_owner, new_by_command, new_one, number_of, with_new, is_address_kind, change_of, unfolded, begins_by, starts_on, abandoned_by, begun_on, all_begun, role_of_kind, role_by, all_selected, with_ends, owner_in, mark_in, listed}
 use Rattle.trace_ops.proofs.Quiet.{is_plain, plain_is_quiet, by_ends, by_unfold, by_begin, by_begins, by_selects}
@@ -340,7 +340,7 @@ module _ (g : Parts) (targets n : ℕ) (one_lun : Bool) (past : List Item) (mark
       Domestic (new_by_command j newest c kind) × FitsKind kind c.byte (new_by_command j newest c kind).beginning
   new_domestic Cmd kept apart newest = (
     keep (begins_one newest c.byte) _ _
-        (begun_domestic c.ce n (begins.Opener c.byte) (or_from (is_unknown c.byte) (c.byte == 0x85) (base_known Cmd kept refl) (apart refl))) (begun_domestic c.ce n begins.Cut refl),
+        (begun_domestic c.ce n (begins.Opener c.byte) (or_from (is_unknown c.byte && not (selects_column c.byte)) (c.byte == 0x85) (ap (λ b. b && not (selects_column c.byte)) (base_known Cmd kept refl)) (apart refl))) (begun_domestic c.ce n begins.Cut refl),
     base_closer c.byte (base_known Cmd kept refl),
   )
   new_domestic Adr kept apart newest = (begun_domestic c.ce n begins.Cut refl, record { identifier = λ h. cc; parameters = λ h. cc })

@@ -15,7 +15,7 @@ use Rattle.trace_ops.specs.declared.judged.Judged.{Judged}
 use Rattle.trace_ops.specs.declared.operation.Beginning.{Beginning}
 use Rattle.trace_ops.specs.declared.operation.Beginning.TheVariants as begins
 use Rattle.trace_ops.specs.declared.operation.Operation.{Operation}
-use Rattle.trace_ops.specs.Operation.{begun, opener_of, is_byte, is_unknown, closes_as_known, is_foreign_opener, is_foreign_closer, has_other_address, is_foreign, takes_address, with_byte, says_ready, changed, changed_at}
+use Rattle.trace_ops.specs.Operation.{begun, opener_of, is_byte, is_unknown, closes_as_known, selects_column, is_foreign_opener, is_foreign_closer, has_other_address, is_foreign, takes_address, with_byte, says_ready, changed, changed_at}
 use Rattle.trace_ops.specs.Listing.{Listing, found, op_of, is_foreign_op, is_foreign_at, new_one, is_new_opener, change_of, works_unknown, is_working_opener, is_working_closer, works_as_foreign, with_new, with_ends, owner_in, mark_in, listed}
 use Rattle.trace_ops.proofs.Quiet.{is_quiet, by_ends, by_unfold, by_rest}
 use Rattle.trace_ops.proofs.Pieces.{kept_beginning}
@@ -206,7 +206,12 @@ base_closer byte h = rw (not_byte 0x15 byte refl h, not_byte 0x32 byte refl h, n
 
 working_opener : (x : Option ℕ) → is_foreign_opener x ≡ false → is_working_opener x ≡ false
 working_opener None h = refl
-working_opener (Some byte) h = works_known byte ((or_parts (is_unknown byte) (byte == 0x85) h).0)
+working_opener (Some byte) h = at (selects_column byte) refl (is_unknown byte) refl (or_parts (is_unknown byte && not (selects_column byte)) (byte == 0x85) h).0
+  where
+    at : (b : Bool) → selects_column byte ≡ b → (u : Bool) → is_unknown byte ≡ u → (u && not b) ≡ false → works_unknown byte ≡ false
+    at true e u k x = ap works_unknown (eqb-true byte 0x06 e)
+    at false e true k x = cc
+    at false e false k x = works_known byte k
 
 working_closer : (x : Option ℕ) → is_foreign_closer x ≡ false → is_working_closer x ≡ false
 working_closer None h = refl

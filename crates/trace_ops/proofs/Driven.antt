@@ -5,7 +5,7 @@ use Rattle.std.proofs.lemmas.Bool.{or_parts, not-false}
 use Rattle.std.proofs.lemmas.Option.{slice_get_within}
 use Rattle.nand_geometry.specs.declared.parts.Parts.{Parts}
 use Rattle.onfi_cycle.specs.declared.command.Command.{Command}
-use Rattle.onfi_cycle.specs.declared.command.Command.TheVariants.{Read, ReadConfirm, ChangeReadColumn, ChangeReadColumnConfirm, BlockErase, BlockEraseConfirm, BlockErasePlane, ReadStatus, ReadStatusEnhanced, PageProgram, ChangeWriteColumn, ProgramConfirm, ProgramPlane, ReadId, ReadParameterPage, Reset, ReadCacheSequential, ReadCacheEnd, ReadUniqueId, GetFeatures, SetFeatures, ResetLun, SynchronousReset, Unknown}
+use Rattle.onfi_cycle.specs.declared.command.Command.TheVariants.{Read, ReadConfirm, ChangeReadColumn, ChangeReadColumnEnhanced, ChangeReadColumnConfirm, BlockErase, BlockEraseConfirm, BlockErasePlane, ReadStatus, ReadStatusEnhanced, PageProgram, ChangeWriteColumn, ProgramConfirm, ProgramPlane, ReadId, ReadParameterPage, Reset, ReadCacheSequential, ReadCacheEnd, ReadUniqueId, GetFeatures, SetFeatures, ResetLun, SynchronousReset, Unknown}
 use Rattle.onfi_cycle.specs.declared.effect.Effect.{Effect}
 use Rattle.onfi_cycle.specs.declared.effect.Effect.TheVariants.{BecameReady, ArrayBecameReady, ReadStarted, EraseStarted, ProgramStarted, IdRead, IdentityRead, UniqueIdReadStarted, FeaturesReadStarted, FeaturesSet, ParameterPageReadStarted, CacheReadContinued, CacheReadEnded, ResetStarted, TargetResetStarted}
 use Rattle.onfi_cycle.specs.declared.forbidden.Forbidden.TheVariants.{NotThere}
@@ -45,6 +45,7 @@ off_command g selected working ProgramPlane lun h = refl
 off_command g selected working Unknown lun h = refl
 off_command g selected working Read lun h = cc
 off_command g selected working ChangeReadColumn lun h = cc
+off_command g selected working ChangeReadColumnEnhanced lun h = cc
 off_command g selected working BlockErase lun h = cc
 off_command g selected working ReadStatus lun h = cc
 off_command g selected working ReadStatusEnhanced lun h = cc
@@ -78,6 +79,7 @@ command_of_nothing ProgramPlane = refl
 command_of_nothing Unknown = refl
 command_of_nothing Read = refl
 command_of_nothing ChangeReadColumn = refl
+command_of_nothing ChangeReadColumnEnhanced = refl
 command_of_nothing BlockErase = refl
 command_of_nothing ReadStatus = refl
 command_of_nothing ReadStatusEnhanced = refl

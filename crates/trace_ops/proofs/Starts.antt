@@ -4,7 +4,7 @@ use Rattle.std.proofs.lemmas.Bool.{and_parts, and_left, or_parts}
 use Rattle.std.proofs.lemmas.Bool.Decides.{nat_tests}
 use Rattle.nand_geometry.specs.declared.parts.Parts.{Parts}
 use Rattle.onfi_cycle.specs.declared.command.Command.{Command}
-use Rattle.onfi_cycle.specs.declared.command.Command.TheVariants.{Read, ReadConfirm, ChangeReadColumn, ChangeReadColumnConfirm, BlockErase, BlockEraseConfirm, BlockErasePlane, ReadStatus, ReadStatusEnhanced, PageProgram, ChangeWriteColumn, ProgramConfirm, ProgramPlane, ReadId, ReadParameterPage, Reset, ReadCacheSequential, ReadCacheEnd, ReadUniqueId, GetFeatures, ResetLun, SynchronousReset}
+use Rattle.onfi_cycle.specs.declared.command.Command.TheVariants.{Read, ReadConfirm, ChangeReadColumn, ChangeReadColumnEnhanced, ChangeReadColumnConfirm, BlockErase, BlockEraseConfirm, BlockErasePlane, ReadStatus, ReadStatusEnhanced, PageProgram, ChangeWriteColumn, ProgramConfirm, ProgramPlane, ReadId, ReadParameterPage, Reset, ReadCacheSequential, ReadCacheEnd, ReadUniqueId, GetFeatures, ResetLun, SynchronousReset}
 use Rattle.onfi_cycle.specs.declared.data_phase.DataPhase.{DataPhase}
 use Rattle.onfi_cycle.specs.declared.data_phase.DataPhase.TheVariants.{Outside, Inputs, FirstColumn, SecondColumn, FeatureInputs}
 use Rattle.onfi_cycle.specs.declared.effect.Effect.{Effect}
@@ -20,10 +20,10 @@ use Rattle.onfi_cycle.specs.declared.tail_facts.TailFacts.{TailFacts}
 use Rattle.onfi_cycle.specs.declared.target_cycle.TargetCycle.{TargetCycle}
 use Rattle.onfi_cycle.specs.declared.target_cycle.TargetCycle.TheVariants.{CommandCycle, AddressCycle, InputCycle, OutputCycle}
 use Rattle.onfi_cycle.specs.Command.{is_opener, closes_row, reads_row, address_cycles, wants_closer, closes, takes_address, at_last_row, is_page_program, is_set_features}
-use Rattle.onfi_cycle.specs.Effect.{is_off, is_data, is_shared, acts_for_target, of_target, other_effect, lun_reset_effect, names_lun, confirm_effect, row_effect, cache_effect, command_effect, address_effect, opening_address_effect, ends_features, cycle_effect}
+use Rattle.onfi_cycle.specs.Effect.{is_off, is_data, is_shared, acts_for_target, of_target, other_effect, lun_reset_effect, names_lun, confirm_effect, row_effect, cache_effect, plane_effect, column_effect, command_effect, address_effect, opening_address_effect, ends_features, cycle_effect}
 use Rattle.onfi_cycle.specs.Lun.{is_only, drivers, latch, latch_alone, effect_among, busy_after, is_busy}
 use Rattle.onfi_cycle.specs.OtherLun.{keeps_to, keeps_to_lun, serves_target}
-use Rattle.onfi_cycle.specs.Sequence.{target_cycle, continued, with_cycle, tail, opening, opened, one_address_more, inputs, data_phase, phase_after_command, phase_after_address, phase_after_last_address, phase_after_input, facts_of, wants_address, wants_command, wants_column, takes_features, wants, row, row_with}
+use Rattle.onfi_cycle.specs.Sequence.{target_cycle, continued, with_cycle, tail, opening, opened, one_address_more, inputs, data_phase, phase_after_command, phase_after_address, phase_after_last_address, phase_after_input, facts_of, selects_plane, wants_address, wants_command, wants_column, takes_features, wants, row, row_with}
 use Rattle.trace_ops.proofs.Contents.{one_less}
 
 -- ---- effects
@@ -87,7 +87,8 @@ command_ready g t s ReadCacheSequential lun =
     (either_false is_ready (wants_command t ReadCacheSequential && names_lun g (row t) lun) _ _ (confirm_ready g t ReadCacheSequential) (other_ready g t ReadCacheSequential))
     (either_false is_ready (is_off s) _ _ refl refl)
 command_ready g t s ReadCacheEnd lun = either_false is_ready (is_off s) _ _ refl refl
-command_ready g t s ChangeReadColumnConfirm lun = either_false is_ready (wants_command t ChangeReadColumnConfirm && not (is_off s)) _ _ refl refl
+command_ready g t s ChangeReadColumnConfirm lun =
+    either_false is_ready (selects_plane t) _ _ (either_false is_ready (names_lun g (row t) lun) _ _ refl refl) (either_false is_ready (wants_command t ChangeReadColumnConfirm && not (is_off s)) _ _ refl refl)
 command_ready g t s c lun = either_false is_ready (wants_command t c && names_lun g (row t) lun) _ _ (confirm_ready g t c) (other_ready g t c)
 
 address_ready : (g : Parts) (t : TailFacts) (byte : ℕ) (c : Command) (n lun : ℕ) → is_ready (address_effect g t byte c n lun) ≡ false
@@ -168,6 +169,13 @@ neither_starts : (b : Bool) (x y : Effect) → starts x ≡ false → starts y �
 neither_starts true x y h k e = (let z = sym h ∙ e in cc)
 neither_starts false x y h k e = (let z = sym k ∙ e in cc)
 
+-- nor does E0, behind 06 and behind 05
+plane_starts : (g : Parts) (t : TailFacts) (lun : ℕ) → starts (plane_effect g t lun) ≡ false
+plane_starts g t lun = either_false starts (names_lun g (row t) lun) _ _ refl refl
+
+driver_starts : (t : TailFacts) (s : Latch) → starts (column_effect t s) ≡ false
+driver_starts t s = either_false starts (wants_command t ChangeReadColumnConfirm && not (is_off s)) _ _ refl refl
+
 command_keeps : (g : Parts) (past : List Item) (l : Lun) (c : Command) → starts_by g past l (CommandCycle c) ≡ true → keeps_to_lun g past l (CommandCycle c) ≡ true
 command_keeps g past l ReadConfirm h = named_true _ _ _ _ (other_starts g (facts_of (tail past l.ce)) ReadConfirm) h
 command_keeps g past l BlockEraseConfirm h = named_true _ _ _ _ (other_starts g (facts_of (tail past l.ce)) BlockEraseConfirm) h
@@ -185,12 +193,13 @@ command_keeps g past l ReadCacheSequential h = at (wants_command (facts_of (tail
     at false h = alone_only g past l _ h
 command_keeps g past l ReadCacheEnd h = alone_only g past l _ h
 command_keeps g past l ChangeReadColumnConfirm h =
-    absurd (neither_starts (wants_command (facts_of (tail past l.ce)) ChangeReadColumnConfirm && not (is_off (latch_alone g past l))) _ _ refl refl h)
+    absurd (neither_starts (selects_plane (facts_of (tail past l.ce))) _ _ (plane_starts g (facts_of (tail past l.ce)) l.lun) (driver_starts (facts_of (tail past l.ce)) (latch_alone g past l)) h)
 command_keeps g past l c h = refl
 
 address_keeps : (g : Parts) (t : TailFacts) (byte : ℕ) (c : Command) (n lun : ℕ) → starts (address_effect g t byte c n lun) ≡ true →
     cond (at_last_row c n) (names_lun g (row_with t byte) lun) true ≡ true
 address_keeps g t byte Read n lun h = cc
+address_keeps g t byte ChangeReadColumnEnhanced n lun h = cc
 address_keeps g t byte BlockErase n lun h = cc
 address_keeps g t byte PageProgram n lun h = cc
 address_keeps g t byte ReadStatusEnhanced n lun h =
@@ -237,7 +246,8 @@ pub read_starts : (g : Parts) (past : List Item) (l : Lun) → starts_by g past 
 read_starts g past l = refl
 
 pub column_starts : (g : Parts) (past : List Item) (l : Lun) → starts_by g past l (CommandCycle ChangeReadColumnConfirm) ≡ false
-column_starts g past l = either_false starts (wants_command (facts_of (tail past l.ce)) ChangeReadColumnConfirm && not (is_off (latch_alone g past l))) _ _ refl refl
+column_starts g past l =
+    either_false starts (selects_plane (facts_of (tail past l.ce))) _ _ (plane_starts g (facts_of (tail past l.ce)) l.lun) (driver_starts (facts_of (tail past l.ce)) (latch_alone g past l))
 
 pub enhanced_starts : (g : Parts) (past : List Item) (l : Lun) (byte : ℕ) (o : Opening) → opening (tail past l.ce) ≡ Some o → o.opener ≡ ReadStatusEnhanced → starts_by g past l (AddressCycle byte) ≡ false
 enhanced_starts g past l byte o is same =
@@ -263,6 +273,7 @@ pub record IsEnded (t : TailFacts) : Type 0 where
 no_closer : (c d : Command) → wants_closer c ≡ false → closes c d ≡ false
 no_closer Read d h = cc
 no_closer ChangeReadColumn d h = cc
+no_closer ChangeReadColumnEnhanced d h = cc
 no_closer BlockErase d h = cc
 no_closer PageProgram d h = cc
 no_closer c d h = refl

@@ -77,9 +77,13 @@ is_unknown byte = not (is_of_base (command byte))
 abbrev pub closes_as_known : ℕ → Bool
 closes_as_known byte = byte == 0x15 || (byte == 0x32 || byte == 0x35)
 
+-- 06h gives a column to the LUN that it names, as 05h does to the one that drives
+abbrev pub selects_column : ℕ → Bool
+selects_column byte = byte == 0x06
+
 abbrev pub is_foreign_opener : Option ℕ → Bool
 is_foreign_opener None = false
-is_foreign_opener (Some byte) = is_unknown byte || byte == 0x85
+is_foreign_opener (Some byte) = (is_unknown byte && not (selects_column byte)) || byte == 0x85
 
 abbrev pub is_foreign_closer : Option ℕ → Bool
 is_foreign_closer None = false

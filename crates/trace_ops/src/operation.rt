@@ -1,6 +1,6 @@
 //! An operation of a trace: what its items are together.
 ghost use Rattle.std.specs.Prelude.{◌≡◌};
-ghost use Rattle.trace_ops.specs.Operation.{begun, opener_of, is_byte, is_unknown, closes_as_known, is_foreign_opener, is_foreign_closer, has_other_address, is_foreign, is_alone, is_open_program, is_open_read, one_more, closer_after, takes_address, with_address, with_byte, is_output, noted, with_end, says_ready, with_status, with_poll, is_permitted, is_clean};
+ghost use Rattle.trace_ops.specs.Operation.{begun, opener_of, is_byte, is_unknown, closes_as_known, selects_column, is_foreign_opener, is_foreign_closer, has_other_address, is_foreign, is_alone, is_open_program, is_open_read, one_more, closer_after, takes_address, with_address, with_byte, is_output, noted, with_end, says_ready, with_status, with_poll, is_permitted, is_clean};
 
 use onfi_cycle::{Command, Kind, PageAddress};
 use trace_faults::Verdict;
@@ -123,12 +123,19 @@ pub(crate) fn closes_as_known(byte: u8) -> bool
     byte == 0x15 || byte == 0x32 || byte == 0x35
 }
 
+// 06h gives a column to the LUN that it names, as 05h does to the one that drives.
+fn selects_column(byte: u8) -> bool
+    ensures { result ≡ selects_column byte }
+{
+    byte == 0x06
+}
+
 fn is_foreign_opener(opener: Option<u8>) -> bool
     ensures { result ≡ is_foreign_opener opener }
 {
     match opener {
         None => false,
-        Some(byte) => is_unknown(byte) || byte == 0x85,
+        Some(byte) => (is_unknown(byte) && !selects_column(byte)) || byte == 0x85,
     }
 }
 

@@ -63,7 +63,7 @@ pub enum Label {
 fn opener_name(opener: Command) -> &'static str {
     match opener {
         Command::Read => "read",
-        Command::ChangeReadColumn => "column",
+        Command::ChangeReadColumn | Command::ChangeReadColumnEnhanced => "column",
         Command::BlockErase => "erase",
         Command::PageProgram => "program",
         Command::ReadStatus | Command::ReadStatusEnhanced => "status",
@@ -234,6 +234,7 @@ impl Label {
             Label::Sequence { opener, .. } => match opener {
                 Command::Read
                 | Command::ChangeReadColumn
+                | Command::ChangeReadColumnEnhanced
                 | Command::ReadCacheSequential
                 | Command::ReadCacheEnd => "read",
                 Command::PageProgram => "program",

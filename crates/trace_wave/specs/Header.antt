@@ -46,7 +46,7 @@ bus_lines targets =
 -- the lines of the model, with the code of the first
 abbrev pub model_lines : (code targets luns : ℕ) → List ℕ
 model_lines code targets luns =
-    target_lines code (codes "RB") targets 0 ++ (channel_lines (code + targets) luns targets 0 ++ bit_lines (code + targets + 3 * (targets * luns)) (codes "rule") 4)
+    target_lines code (codes "RB") targets 0 ++ (channel_lines (code + targets) luns targets 0 ++ bit_lines (code + targets + 3 * (targets * luns)) (codes "rule") 5)
 
 -- the level of each line, with the codes from here on
 abbrev pub settings : (code : ℕ) → List ℕ → List ℕ

@@ -39,7 +39,7 @@ abbrev pub dq_bits : Option ℕ → List ℕ
 dq_bits dq = dq_bit dq 128 ∷ dq_bit dq 64 ∷ dq_bit dq 32 ∷ dq_bit dq 16 ∷ dq_bit dq 8 ∷ dq_bit dq 4 ∷ dq_bit dq 2 ∷ dq_bit dq 1 ∷ []
 
 abbrev pub rule_bits : ℕ → List ℕ
-rule_bits r = bit_of r 8 ∷ bit_of r 4 ∷ bit_of r 2 ∷ bit_of r 1 ∷ []
+rule_bits r = bit_of r 16 ∷ bit_of r 8 ∷ bit_of r 4 ∷ bit_of r 2 ∷ bit_of r 1 ∷ []
 
 abbrev pub is_busy : Parts → List Item → (ce lun : ℕ) → Bool
 is_busy g past ce lun = (lun_view g past (record { ce = ce; lun = lun })).busy

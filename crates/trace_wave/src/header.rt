@@ -141,14 +141,14 @@ fn push_bus_lines<A: Allocator>(out: &mut Vec<u8, A>, targets: u8)
 fn push_model_lines<A: Allocator>(out: &mut Vec<u8, A>, code: u8, targets: u8, luns: u8)
     requires few { (targets ≤ 4) × (luns ≤ 4) }
     requires codes { code ≤ 50 }
-    requires places { vec_len out.old + 1792 ≤ vec_capacity out.old }
+    requires places { vec_len out.old + 1824 ≤ vec_capacity out.old }
     ensures value { out.new.items ≡ out.old.items ++ model_lines code targets luns }
-    ensures len { vec_len out.new ≤ vec_len out.old + 1792 }
+    ensures len { vec_len out.new ≤ vec_len out.old + 1824 }
     ensures capacity { vec_capacity out.old ≤ vec_capacity out.new }
 {
     push_target_lines(out, code, b"RB", targets, 0);
     push_channel_lines(out, code + targets, luns, targets, 0);
-    push_bit_lines(out, code + targets + 3 * (targets * luns), b"rule", 4);
+    push_bit_lines(out, code + targets + 3 * (targets * luns), b"rule", 5);
 }
 
 // Adds the levels of the lines with the codes from here on.
@@ -170,9 +170,9 @@ fn push_settings<A: Allocator>(out: &mut Vec<u8, A>, code: u8, levels: &[u8])
 
 // Adds the levels of all lines of a channel to which nothing has happened.
 fn push_first_levels<A: Allocator>(out: &mut Vec<u8, A>, channel: &Channel)
-    requires places { vec_len out.old + 216 ≤ vec_capacity out.old }
+    requires places { vec_len out.old + 219 ≤ vec_capacity out.old }
     ensures value { (g : Parts) (targets : ℕ) → Stands g targets [] channel.now → out.new.items ≡ out.old.items ++ settings 33 (levels g targets [] 0 idle) }
-    ensures len { vec_len out.new ≤ vec_len out.old + 216 }
+    ensures len { vec_len out.new ≤ vec_len out.old + 219 }
     ensures capacity { vec_capacity out.old ≤ vec_capacity out.new }
 {
     let targets = channel.targets();

@@ -67,10 +67,11 @@ pub(crate) fn dq_bits(dq: Option<u8>) -> [u8; 8]
 }
 
 /// The levels of the number of a rule, the highest bit first.
-pub(crate) fn rule_bits(rule: u8) -> [u8; 4]
+pub(crate) fn rule_bits(rule: u8) -> [u8; 5]
     ensures { result ≡ rule_bits rule }
 {
     [
+        bit_of(rule, 16),
         bit_of(rule, 8),
         bit_of(rule, 4),
         bit_of(rule, 2),

@@ -15,8 +15,8 @@ use crate::told::{Told, renew_all};
 use arrayvec::ArrayVec;
 use onfi_cycle::{Forbidden, Item};
 
-/// How many lines tell of the model at most: R/B# of four targets, three lines of sixteen LUNs, and four bits of a rule.
-pub(crate) const MOST_LINES: usize = 56;
+/// How many lines tell of the model at most: R/B# of four targets, three lines of sixteen LUNs, and five bits of a rule.
+pub(crate) const MOST_LINES: usize = 57;
 
 // The number in the code of a rule.
 fn rule_number(rule: Forbidden) -> u8
@@ -39,6 +39,7 @@ fn rule_number(rule: Forbidden) -> u8
         Forbidden::DataNotReady => 13,
         Forbidden::ColumnOutside => 14,
         Forbidden::CacheReadMisplaced => 15,
+        Forbidden::PlaneNotHeld => 18,
     }
 }
 
@@ -63,7 +64,7 @@ fn push_readies(
     n: u8,
 )
     requires few { count + n ≤ 4 }
-    requires places { length levels.old.items + count ≤ 56 }
+    requires places { length levels.old.items + count ≤ 57 }
     ensures value { (g : Parts) (targets : ℕ) (past : List ItemValue) → Stands g targets past channel.now → count + n ≤ targets
         → levels.new.items ≡ levels.old.items ++ readies known g past count n }
     ensures len { length levels.new.items ≡ length levels.old.items + count }
@@ -77,7 +78,7 @@ fn push_readies(
 
 // Adds the three lines of a LUN.
 fn push_lun(levels: &mut ArrayVec<u8, MOST_LINES>, channel: &Channel, known: bool, ce: u8, lun: u8)
-    requires places { length levels.old.items + 3 ≤ 56 }
+    requires places { length levels.old.items + 3 ≤ 57 }
     ensures value { (g : Parts) (targets : ℕ) (past : List ItemValue) → Stands g targets past channel.now → ce < targets → lun < g.luns
         → levels.new.items ≡ levels.old.items ++ (shown known (is_busy g past ce lun) ∷ shown known (has_busy_array g past ce lun) ∷ shown known (tells_failure past ce lun) ∷ []) }
     ensures len { length levels.new.items ≡ length levels.old.items + 3 }
@@ -97,7 +98,7 @@ fn push_target(
     n: u8,
 )
     requires few { count + n ≤ 4 }
-    requires places { length levels.old.items + 3 * count ≤ 56 }
+    requires places { length levels.old.items + 3 * count ≤ 57 }
     ensures value { (g : Parts) (targets : ℕ) (past : List ItemValue) → Stands g targets past channel.now → ce < targets → count + n ≤ g.luns
         → levels.new.items ≡ levels.old.items ++ target_levels known g past ce count n }
     ensures len { length levels.new.items ≡ length levels.old.items + 3 * count }
@@ -118,7 +119,7 @@ fn push_targets(
     n: u8,
 )
     requires few { count + n ≤ 4 }
-    requires places { length levels.old.items + 12 * count ≤ 56 }
+    requires places { length levels.old.items + 12 * count ≤ 57 }
     ensures value { (g : Parts) (targets : ℕ) (past : List ItemValue) → Stands g targets past channel.now → count + n ≤ targets
         → levels.new.items ≡ levels.old.items ++ targets_levels known g past count n }
     ensures len { length levels.new.items ≤ length levels.old.items + 12 * count }
@@ -134,7 +135,7 @@ fn push_targets(
 pub(crate) fn model_levels(channel: &Channel, rule: u8) -> ArrayVec<u8, MOST_LINES>
     ensures value { (g : Parts) (targets : ℕ) (past : List ItemValue) → Stands g targets past channel.now
         → result.items ≡ model_levels g targets past rule }
-    ensures len { length result.items ≤ 56 }
+    ensures len { length result.items ≤ 57 }
 {
     let mut levels = ArrayVec::new();
     push_readies(&mut levels, channel, rule == 0, channel.targets(), 0);
@@ -153,12 +154,12 @@ fn write_new_levels(
     item: Item,
 ) -> usize
     requires permitted { judged channel.old.state item ≡ None }
-    requires places { place + 168 ≤ 1024 }
+    requires places { place + 171 ≤ 1024 }
     ensures value { (g : Parts) (targets : ℕ) (past : List ItemValue) → Stands g targets past channel.old → Keeps g targets past kept.old
         → take result room.new ≡ take place room.old ++ changes (45 + targets) (model_levels g targets past 0) (model_levels g targets (item ∷ past) 0) }
     ensures stands { (g : Parts) (targets : ℕ) (past : List ItemValue) → Stands g targets past channel.old → Stands g targets (item ∷ past) channel.new }
     ensures kept { (g : Parts) (targets : ℕ) (past : List ItemValue) → Stands g targets past channel.old → Keeps g targets (item ∷ past) kept.new }
-    ensures len { (place ≤ result) × (result ≤ place + 168) }
+    ensures len { (place ≤ result) × (result ≤ place + 171) }
 {
     channel.go_on(item);
     renew_all(room, place, kept, channel)
@@ -174,12 +175,12 @@ fn write_effect(
     item: Item,
 ) -> usize
     requires permitted { judged channel.old.state item ≡ None }
-    requires places { place + 168 ≤ 1024 }
+    requires places { place + 171 ≤ 1024 }
     ensures value { (g : Parts) (targets : ℕ) (past : List ItemValue) → Stands g targets past channel.old → Keeps g targets past kept.old
         → take result room.new ≡ take place room.old ++ changes (45 + targets) (model_levels g targets past 0) (model_levels g targets (item ∷ past) 0) }
     ensures stands { (g : Parts) (targets : ℕ) (past : List ItemValue) → Stands g targets past channel.old → Stands g targets (item ∷ past) channel.new }
     ensures kept { (g : Parts) (targets : ℕ) (past : List ItemValue) → Stands g targets past channel.old → Keeps g targets past kept.old → Keeps g targets (item ∷ past) kept.new }
-    ensures len { (place ≤ result) × (result ≤ place + 168) }
+    ensures len { (place ≤ result) × (result ≤ place + 171) }
 {
     if !channel.keeps_levels(item) {
         return write_new_levels(room, place, channel, kept, item);
@@ -191,10 +192,10 @@ fn write_effect(
 // Writes that a rule of this number is broken.
 #[inline(never)]
 fn write_broken(room: &mut Room, place: usize, channel: &Channel, number: u8) -> usize
-    requires places { place + 168 ≤ 1024 }
+    requires places { place + 171 ≤ 1024 }
     ensures value { (g : Parts) (targets : ℕ) (past : List ItemValue) → Stands g targets past channel.now
         → take result room.new ≡ take place room.old ++ changes (45 + targets) (model_levels g targets past 0) (model_levels g targets past number) }
-    ensures len { (place ≤ result) × (result ≤ place + 168) }
+    ensures len { (place ≤ result) × (result ≤ place + 171) }
 {
     let before = model_levels(channel, 0);
     let after = model_levels(channel, number);
@@ -211,7 +212,7 @@ pub(crate) fn write_model(
     rule: &mut u8,
     item: Item,
 ) -> usize
-    requires places { place + 168 ≤ 1024 }
+    requires places { place + 171 ≤ 1024 }
     ensures value { (g : Parts) (targets : ℕ) (past : List ItemValue) → Stands g targets past channel.old → Keeps g targets past kept.old
         → take result room.new ≡ take place room.old ++ changes (45 + targets) (model_levels g targets past rule.old) (model_levels g targets (past_next past rule.new item) rule.new) }
     ensures rule { (g : Parts) (targets : ℕ) (past : List ItemValue) → Stands g targets past channel.old → rule.new ≡ rule_next g targets past rule.old item }
@@ -219,7 +220,7 @@ pub(crate) fn write_model(
         → Stands g targets (past_next past rule.new item) channel.new }
     ensures kept { (g : Parts) (targets : ℕ) (past : List ItemValue) → Stands g targets past channel.old → Keeps g targets past kept.old
         → Keeps g targets (past_next past rule.new item) kept.new }
-    ensures len { (place ≤ result) × (result ≤ place + 168) }
+    ensures len { (place ≤ result) × (result ≤ place + 171) }
 {
     if *rule != 0 {
         return place;
