@@ -308,7 +308,7 @@ from_command g t u luns c d e f h =
 
 -- 2. addresses
 -- what is no last row cycle ends no row of any opener
-ends_none : (among : Command → Bool) (o : Option Opening) → opened (λ c n. true && at_last_row c n) o ≡ false → opened (λ c n. among c && at_last_row c n) o ≡ false
+pub ends_none : (among : Command → Bool) (o : Option Opening) → opened (λ c n. true && at_last_row c n) o ≡ false → opened (λ c n. among c && at_last_row c n) o ≡ false
 ends_none among None h = refl
 ends_none among (Some o) h = and_right (among o.opener) (at_last_row o.opener o.addresses) h
 

@@ -15,15 +15,16 @@ use Rattle.std.specs.List.{slice_get}
 use Rattle.std.proofs.Math.Bool.{or-false}
 use Rattle.onfi_cycle.specs.declared.page_address.PageAddress.{PageAddress}
 use Rattle.onfi_cycle.specs.declared.queued.Queued.{Queued}
-use Rattle.onfi_cycle.specs.Command.{addresses_the_array, is_change_read_column, is_read_id}
+use Rattle.onfi_cycle.specs.Command.{addresses_the_array, is_change_read_column, is_enhanced_column, is_read_id}
 use Rattle.onfi_cycle.specs.Sequence.{wants_address, opened, row_with, column_with}
 use Rattle.onfi_cycle.specs.LunView.{LunView}
 use Rattle.onfi_cycle.specs.Effect.{is_off, page_address}
-use Rattle.onfi_cycle.specs.Rules.{named_lun_is, ends_row, second_of_page, second_column, driver_is, is_some_and, is_refused_by, refused_by, caching, register_len, breaks_command_unknown, breaks_sequence_open, breaks_several_luns, breaks_no_column_to_change, breaks_command_misplaced, breaks_address_misplaced, breaks_row_outside, breaks_lun_busy, breaks_queue_clash, breaks_input_misplaced, breaks_no_sole_driver, breaks_data_not_ready, breaks_column_outside, breaks_cache_read_misplaced, breaks_plane_not_held}
+use Rattle.onfi_cycle.specs.Rules.{named_lun_is, ends_row, second_of_page, second_column, driver_is, is_some_and, is_refused_by, refused_by, caching, register_len, breaks_command_unknown, breaks_sequence_open, breaks_several_luns, breaks_no_column_to_change, breaks_command_misplaced, breaks_address_misplaced, breaks_row_outside, breaks_lun_busy, breaks_queue_clash, breaks_input_misplaced, breaks_no_sole_driver, breaks_data_not_ready, breaks_column_outside, breaks_cache_read_misplaced, breaks_plane_not_held, excludes_cache}
 use Rattle.micro_program.specs.Moves.{gives}
 use Rattle.micro_claims.proofs.Fits.{Address, bytes_of, opener_facts, facts_behind}
 use Rattle.micro_claims.proofs.AddressSteps.{nth, carried}
-use Rattle.micro_verify.proofs.Lone.{Lone, MovesPass, lone_after, lone_behind, judged}
+use Rattle.micro_program.proofs.Judged.{ends_none}
+use Rattle.micro_verify.proofs.Lone.{Lone, MovesPass, based, lone_after, lone_behind, judged}
 
 -- after an opener and so many of its addresses
 abbrev pub cursor : Command → Address → LunView → ℕ → Lone
@@ -38,8 +39,14 @@ named_none (Some v) test h = h v
 -- an address that is wanted and isn't the last of a row breaks F14 or no rule
 pub plain_judged : (g : Parts) (c : Lone) (byte : ℕ) → wants_address c.facts byte ≡ true → ends_row (λ d. true) c.facts ≡ false → ends_row addresses_the_array c.facts ≡ false → (opened (λ o n. is_read_id o) c.facts.opening && not (byte == 0x20)) ≡ false → ((p : PageAddress) (q : List Queued) → is_refused_by g c.facts.opening p q ≡ false) → judged g c (AddressCycle byte) ≡ cond ((second_of_page c.facts && nat_le (page_len g) (column_with c.facts byte)) || (second_column is_change_read_column c.facts && driver_is (λ v. nat_le (register_len g v.register) (column_with c.facts byte)) (c.view ∷ []))) (Some ColumnOutside) None
 unfolding breaks_command_unknown breaks_sequence_open breaks_several_luns breaks_no_column_to_change breaks_command_misplaced breaks_address_misplaced breaks_row_outside breaks_lun_busy breaks_queue_clash breaks_input_misplaced breaks_no_sole_driver breaks_data_not_ready breaks_column_outside breaks_cache_read_misplaced breaks_plane_not_held
-plain_judged g c byte wanted ends array id refuses = rw (wanted, id, ends, array, none) refl
+plain_judged g c byte wanted ends array id refuses = rw (wanted, id, ends, array, cached, planes_held, none) refl
   where
+    cached : ends_row (excludes_cache (based g)) c.facts ≡ false
+    cached = ends_none (excludes_cache (based g)) c.facts.opening ends
+
+    planes_held : ends_row is_enhanced_column c.facts ≡ false
+    planes_held = ends_none is_enhanced_column c.facts.opening ends
+
     none : named_lun_is g (row_with c.facts byte) (λ v. is_refused_by g c.facts.opening (page_address g (row_with c.facts byte)) v.queue) (c.view ∷ []) ≡ false
     none = named_none (slice_get (c.view ∷ []) (parts_of g (row_with c.facts byte)).lun) (λ v. is_refused_by g c.facts.opening (page_address g (row_with c.facts byte)) v.queue) (λ v. refuses _ _)
 

@@ -4,9 +4,9 @@ use Rattle.std.proofs.Common.{◌≡◌, ℕ, ◌+◌, ◌≤◌, ◌==◌, Bool
 use Rattle.std.proofs.Math.Bool.{or-false}
 use Rattle.std.proofs.lemmas.Bool.{not-false}
 use Rattle.nand_geometry.specs.declared.parts.Parts.{Parts}
-use Rattle.nand_geometry.specs.Optional.{is_wide, has_features, has_unique_id, has_lun_reset, has_synchronous_reset}
+use Rattle.nand_geometry.specs.Optional.{is_wide, has_features, has_unique_id, has_enhanced_column, has_lun_reset, has_synchronous_reset}
 use Rattle.onfi_cycle.specs.declared.command.Command.{Command}
-use Rattle.onfi_cycle.specs.declared.command.Command.TheVariants.{Read, ReadConfirm, ChangeReadColumn, ChangeReadColumnConfirm, BlockErase, BlockEraseConfirm, BlockErasePlane, ReadStatus, ReadStatusEnhanced, PageProgram, ChangeWriteColumn, ProgramConfirm, ProgramPlane, ReadId, ReadParameterPage, Reset, ReadCacheSequential, ReadCacheEnd, ReadUniqueId, GetFeatures, SetFeatures, ResetLun, SynchronousReset, Unknown}
+use Rattle.onfi_cycle.specs.declared.command.Command.TheVariants.{Read, ReadConfirm, ChangeReadColumn, ChangeReadColumnEnhanced, ChangeReadColumnConfirm, BlockErase, BlockEraseConfirm, BlockErasePlane, ReadStatus, ReadStatusEnhanced, PageProgram, ChangeWriteColumn, ProgramConfirm, ProgramPlane, ReadId, ReadParameterPage, Reset, ReadCacheSequential, ReadCacheEnd, ReadUniqueId, GetFeatures, SetFeatures, ResetLun, SynchronousReset, Unknown}
 use Rattle.onfi_cycle.specs.declared.data_phase.DataPhase.TheVariants.{FirstColumn, SecondColumn}
 use Rattle.onfi_cycle.specs.declared.forbidden.Forbidden.{Forbidden}
 use Rattle.onfi_cycle.specs.declared.latch.Latch.{Latch}
@@ -32,7 +32,7 @@ use Rattle.micro_claims.specs.Against.{place_wants, is_data_command, may_be_open
 use Rattle.micro_verify.specs.Cause.{is_of_cycle_forbidden}
 use Rattle.micro_claims.proofs.Fits.{Address}
 use Rattle.micro_verify.proofs.Lone.{Lone, judged}
-use Rattle.micro_verify.proofs.Mirrors.{Mirrors, PlaceMirror, begun, open_same, queue_same, shows_of, held_of, is_modelled, is_read_column, exact_test}
+use Rattle.micro_verify.proofs.Mirrors.{Mirrors, PlaceMirror, begun, open_same, queue_same, shows_of, held_of, is_modelled, is_base_place, is_read_column, exact_test}
 
 -- a test tells whether a rule of V7 is broken
 abbrev pub Told : Bool → Option Forbidden → Type 0
@@ -148,9 +148,13 @@ closes_none ChangeReadColumn ProgramPlane h = refl
 closes_none BlockErase ChangeWriteColumn h = refl
 closes_none BlockErase ProgramConfirm h = refl
 closes_none BlockErase ProgramPlane h = refl
+closes_none ChangeReadColumnEnhanced ChangeWriteColumn h = refl
+closes_none ChangeReadColumnEnhanced ProgramConfirm h = refl
+closes_none ChangeReadColumnEnhanced ProgramPlane h = refl
 closes_none Read _ h = cc
 closes_none ChangeReadColumn _ h = cc
 closes_none BlockErase _ h = cc
+closes_none ChangeReadColumnEnhanced _ h = cc
 closes_none _ d h = refl
 
 -- the closers, by what they go on with
@@ -319,16 +323,17 @@ shows_may_change v h = at v.latch h
     at Status h = cc
     at Data h = refl
 
-wants_change : (p : Place) → place_wants ChangeReadColumnConfirm p ≡ true → is_read_column p ≡ true
-wants_change Closed h = cc
-wants_change InData h = cc
-wants_change (InColumn n) h = cc
-wants_change (InFeatures n) h = cc
-wants_change UnknownPlace h = cc
-wants_change (After ChangeReadColumn n) h = refl
-wants_change (After Read n) h = cc
-wants_change (After BlockErase n) h = cc
-wants_change (After _ n) h = cc
+wants_change : (p : Place) → is_base_place p ≡ true → place_wants ChangeReadColumnConfirm p ≡ true → is_read_column p ≡ true
+wants_change Closed base h = cc
+wants_change InData base h = cc
+wants_change (InColumn n) base h = cc
+wants_change (InFeatures n) base h = cc
+wants_change UnknownPlace base h = cc
+wants_change (After ChangeReadColumn n) base h = refl
+wants_change (After ChangeReadColumnEnhanced n) base h = cc
+wants_change (After Read n) base h = cc
+wants_change (After BlockErase n) base h = cc
+wants_change (After _ n) base h = cc
 
 -- the base profile has no command of the wider one
 pub barred : (w b : Bool) → w ≡ false → (not w || b) ≡ false → ⊥
@@ -348,7 +353,7 @@ told_command g j v done c d one base low m h = by d h
     fitting d fit = ap (λ (b : Bool). cond b false (cond (is_opener d && not (reads_cache_at d v.target.tail)) ((not (may_end_sequence g d) && may_be_open v) || opener_refused g v d) (not (place_wants d v.target.tail) || closer_refused g v d))) fit
 
     drive : place_wants ChangeReadColumnConfirm v.target.tail ≡ true → drives v.target.shows ≡ true
-    drive h = ap drives m.shows ∙ shows_may_change c.view (m.tail.changes (wants_change m.tail.place (sym (ap (place_wants ChangeReadColumnConfirm) m.tail.single) ∙ h)))
+    drive h = ap drives m.shows ∙ shows_may_change c.view (m.tail.changes (wants_change m.tail.place m.tail.base (sym (ap (place_wants ChangeReadColumnConfirm) m.tail.single) ∙ h)))
 
     page_test : may_be_other v.lun.last ≡ false → not (is_at_most (bound_plus v.lun.cached.page.hi 2) g.pages) ≡ not (nat_le (c.view.array_page.page + 2) g.pages)
     page_test e = ap (λ (o : Option ℕ). not (is_at_most (bound_plus o 2) g.pages)) (m.lun.cached_page e) ∙ ap not (exact_test c.view.array_page.page 2 g.pages low)
@@ -390,6 +395,7 @@ told_command g j v done c d one base low m h = by d h
         (fitting ReadCacheEnd h ∙ (ap (λ (b : Bool). may_be_open v || b) (or_where (not (drives v.target.shows) || v.lun.busy || may_be_other v.lun.last) _ _ (λ e. m.lun.read (or_second _ _ e)))
         ∙ (λ i. shut i || (not (drives (m.shows i)) || m.lun.busy i || m.lun.other i || not (is_cache_read c.view.closer)))))
         (told_3f g c h)
+    by ChangeReadColumnEnhanced h = absurd (barred (is_wide g.optional) (not (has_enhanced_column g.optional)) base h)
     by ReadUniqueId h = absurd (barred (is_wide g.optional) (not (has_unique_id g.optional)) base h)
     by GetFeatures h = absurd (barred (is_wide g.optional) (not (has_features g.optional)) base h)
     by SetFeatures h = absurd (barred (is_wide g.optional) (not (has_features g.optional)) base h)
