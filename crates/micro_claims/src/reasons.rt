@@ -79,8 +79,8 @@ fn may_end_sequence(geometry: &Geometry, command: Command) -> bool
     command.is_reset() && is_wide(geometry)
 }
 
-// Traces know the command, and programs may not use it yet.
-fn is_for_traces(command: Command) -> bool
+/// Traces know the command, and programs may not use it yet.
+pub fn is_for_traces(command: Command) -> bool
     ensures { result ≡ is_for_traces command }
 {
     matches!(command, Command::ChangeReadColumnEnhanced)
