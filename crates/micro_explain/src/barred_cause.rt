@@ -140,7 +140,7 @@ impl fmt::Display for BarredCause {
                 "it works on a target with one LUN alone, and this one has {luns}"
             ),
             BarredCause::ForTraces { byte } => {
-                write!(f, "programs can't use {byte:02x}h yet, and traces can")
+                write!(f, "programs can't use {byte:02x}h yet; traces may")
             }
         }
     }
