@@ -5,9 +5,9 @@ use Rattle.std.proofs.lemmas.Bool.Decides.{nat_tests}
 use Rattle.nand_geometry.specs.declared.parts.Parts.{Parts}
 use Rattle.nand_geometry.specs.Row.{parts_of}
 use Rattle.onfi_cycle.specs.declared.command.Command.{Command}
-use Rattle.onfi_cycle.specs.declared.command.Command.TheVariants.{Read, ReadConfirm, ChangeReadColumn, ChangeReadColumnConfirm, BlockErase, BlockEraseConfirm, BlockErasePlane, ReadStatus, ReadStatusEnhanced, PageProgram, ChangeWriteColumn, ProgramConfirm, ProgramPlane, ReadId, ReadParameterPage, Reset, ReadCacheSequential, ReadCacheEnd, ReadUniqueId, GetFeatures, SetFeatures, ResetLun, SynchronousReset, Unknown}
+use Rattle.onfi_cycle.specs.declared.command.Command.TheVariants.{Read, ReadConfirm, ChangeReadColumn, ChangeReadColumnConfirm, BlockErase, BlockEraseConfirm, BlockErasePlane, ReadStatus, ReadStatusEnhanced, PageProgram, ChangeWriteColumn, ProgramConfirm, ProgramPlane, ReadId, ReadParameterPage, Reset, ReadCacheSequential, ReadCacheEnd, ReadUniqueId, GetFeatures, SetFeatures, ResetLun, SynchronousReset, Unknown, ChangeReadColumnEnhanced}
 use Rattle.onfi_cycle.specs.declared.effect.Effect.{Effect}
-use Rattle.onfi_cycle.specs.declared.effect.Effect.TheVariants.{Unaffected, DataOutputEnabled, StatusSelected, StatusRowAwaited, SelectedForStatus, Deselected, FeaturesReadStarted, FeaturesSet, UniqueIdReadStarted, ParameterPageReadStarted, CacheReadContinued, CacheReadEnded, ResetStarted, ReadColumnChanged, TargetResetStarted, AnotherAddressed}
+use Rattle.onfi_cycle.specs.declared.effect.Effect.TheVariants.{Unaffected, DataOutputEnabled, StatusSelected, StatusRowAwaited, SelectedForStatus, Deselected, FeaturesReadStarted, FeaturesSet, UniqueIdReadStarted, ParameterPageReadStarted, CacheReadContinued, CacheReadEnded, ResetStarted, ReadColumnChanged, TargetResetStarted, AnotherAddressed, PlaneSelected}
 use Rattle.onfi_cycle.specs.declared.latch.Latch.{Latch}
 use Rattle.onfi_cycle.specs.declared.latch.Latch.TheVariants.{Off, Status, Data}
 use Rattle.onfi_cycle.specs.declared.opening.Opening.{Opening}
@@ -16,13 +16,13 @@ use Rattle.onfi_cycle.specs.declared.target_cycle.TargetCycle.{TargetCycle}
 use Rattle.onfi_cycle.specs.declared.target_cycle.TargetCycle.TheVariants.{CommandCycle, AddressCycle, InputCycle}
 use Rattle.onfi_cycle.specs.Applied.{one_after, luns_after_cycle}
 use Rattle.onfi_cycle.specs.Command.{closes_row, reads_row}
-use Rattle.onfi_cycle.specs.Effect.{cycle_effect, address_effect, opening_address_effect, confirm_effect, other_effect, of_target, is_shared, status_effect, lun_reset_effect, reset_effect, ends_features, id_effect, is_off, names_lun, row_effect, cache_effect}
+use Rattle.onfi_cycle.specs.Effect.{cycle_effect, address_effect, opening_address_effect, confirm_effect, other_effect, of_target, is_shared, status_effect, lun_reset_effect, reset_effect, ends_features, id_effect, is_off, names_lun, row_effect, cache_effect, plane_effect, column_effect}
 use Rattle.onfi_cycle.specs.Lun.{view_after}
 use Rattle.onfi_cycle.specs.LunView.{LunView}
-use Rattle.onfi_cycle.specs.Sequence.{row, row_with, wants_address, wants_command}
+use Rattle.onfi_cycle.specs.Sequence.{row, row_with, wants_address, wants_command, selects_plane}
 use Rattle.onfi_cycle.specs.State.{has_driver}
 use Rattle.target_record.specs.Record.{HasRoom}
-use Rattle.bus_record.specs.Changing.{HaveRoom, apart_from, driven, luns_left, on_named, effect_of_reset, effect_of_target, effect_of_closer, effect_of_command, effect_of_identity, effect_after_opener, effect_of_address, effect_after_opening, effect_of_input}
+use Rattle.bus_record.specs.Changing.{HaveRoom, apart_from, driven, luns_left, on_named, effect_of_reset, effect_of_target, effect_of_closer, effect_of_command, effect_of_identity, effect_after_opener, effect_of_address, effect_after_opening, effect_of_input, effect_of_plane}
 use Rattle.bus_record.specs.declared.target_effect.TargetEffect.TheVariants.{Nothing, OnEach, OnDriver, OnOne, Selection, Apart}
 
 -- 1. what a cycle does to each of them by itself
@@ -183,11 +183,18 @@ drives Status e = refl
 drives Data e = refl
 
 column_left : (g : Parts) (t : TailFacts) (vs : List LunView) → luns_left (effect_of_command g t ChangeReadColumnConfirm) vs ≡ luns_after_cycle g t (has_driver vs) (CommandCycle ChangeReadColumnConfirm) 0 vs
-column_left g t vs = at (wants_command t ChangeReadColumnConfirm) refl
+column_left g t vs = by (selects_plane t) refl
   where
-    at : (b : Bool) → wants_command t ChangeReadColumnConfirm ≡ b → luns_left (cond b (OnDriver (ReadColumnChanged t.column)) Nothing) vs ≡ luns_after_cycle g t (has_driver vs) (CommandCycle ChangeReadColumnConfirm) 0 vs
-    at true w = driver_left g t (CommandCycle ChangeReadColumnConfirm) (ReadColumnChanged t.column) (λ s m. ap (λ (b : Bool). cond (b && not (is_off s)) (ReadColumnChanged t.column) Unaffected) w ∙ drives s (ReadColumnChanged t.column)) (has_driver vs) vs
-    at false w = nothing_left g t (CommandCycle ChangeReadColumnConfirm) (λ s m. ap (λ (b : Bool). cond (b && not (is_off s)) (ReadColumnChanged t.column) Unaffected) w) (has_driver vs) 0 vs
+    chosen : (w : Bool) → selects_plane t ≡ w → (s : Latch) (m : ℕ) → cycle_effect g t s (CommandCycle ChangeReadColumnConfirm) m ≡ cond w (plane_effect g t m) (column_effect t s)
+    chosen w e s m = ap (λ (b : Bool). cond b (plane_effect g t m) (column_effect t s)) e
+
+    at : selects_plane t ≡ false → (b : Bool) → wants_command t ChangeReadColumnConfirm ≡ b → luns_left (cond b (OnDriver (ReadColumnChanged t.column)) Nothing) vs ≡ luns_after_cycle g t (has_driver vs) (CommandCycle ChangeReadColumnConfirm) 0 vs
+    at e true w = driver_left g t (CommandCycle ChangeReadColumnConfirm) (ReadColumnChanged t.column) (λ s m. chosen false e s m ∙ (ap (λ (b : Bool). cond (b && not (is_off s)) (ReadColumnChanged t.column) Unaffected) w ∙ drives s (ReadColumnChanged t.column))) (has_driver vs) vs
+    at e false w = nothing_left g t (CommandCycle ChangeReadColumnConfirm) (λ s m. chosen false e s m ∙ ap (λ (b : Bool). cond (b && not (is_off s)) (ReadColumnChanged t.column) Unaffected) w) (has_driver vs) 0 vs
+
+    by : (w : Bool) → selects_plane t ≡ w → luns_left (cond w (effect_of_plane g t) (cond (wants_command t ChangeReadColumnConfirm) (OnDriver (ReadColumnChanged t.column)) Nothing)) vs ≡ luns_after_cycle g t (has_driver vs) (CommandCycle ChangeReadColumnConfirm) 0 vs
+    by true e = apart_left g t (CommandCycle ChangeReadColumnConfirm) (PlaneSelected t.column) Deselected (parts_of g (row t)).lun (λ s m. chosen true e s m ∙ ap (λ (b : Bool). cond b (PlaneSelected t.column) Deselected) (flipped (parts_of g (row t)).lun m)) (has_driver vs) 0 vs
+    by false e = at e (wants_command t ChangeReadColumnConfirm) refl
 
 -- a 31, which works on the row that wants it, or on the driver
 cache_read_left : (g : Parts) (t : TailFacts) (vs : List LunView) → luns_left (effect_of_command g t ReadCacheSequential) vs ≡ luns_after_cycle g t (has_driver vs) (CommandCycle ReadCacheSequential) 0 vs
@@ -215,6 +222,7 @@ command_left g t BlockErasePlane vs = closer_left g t BlockErasePlane vs refl (�
 command_left g t ProgramConfirm vs = closer_left g t ProgramConfirm vs refl (λ s m. refl)
 command_left g t ProgramPlane vs = closer_left g t ProgramPlane vs refl (λ s m. refl)
 command_left g t ChangeReadColumn vs = nothing_left g t (CommandCycle ChangeReadColumn) (λ s m. always_rests (wants_command t ChangeReadColumn && names_lun g (row t) m)) (has_driver vs) 0 vs
+command_left g t ChangeReadColumnEnhanced vs = nothing_left g t (CommandCycle ChangeReadColumnEnhanced) (λ s m. always_rests (wants_command t ChangeReadColumnEnhanced && names_lun g (row t) m)) (has_driver vs) 0 vs
 command_left g t BlockErase vs = nothing_left g t (CommandCycle BlockErase) (λ s m. always_rests (wants_command t BlockErase && names_lun g (row t) m)) (has_driver vs) 0 vs
 command_left g t PageProgram vs = nothing_left g t (CommandCycle PageProgram) (λ s m. always_rests (wants_command t PageProgram && names_lun g (row t) m)) (has_driver vs) 0 vs
 command_left g t ChangeWriteColumn vs = nothing_left g t (CommandCycle ChangeWriteColumn) (λ s m. always_rests (wants_command t ChangeWriteColumn && names_lun g (row t) m)) (has_driver vs) 0 vs
@@ -263,6 +271,7 @@ opener_left g t byte SynchronousReset k vs is = nothing_left g t (AddressCycle b
 opener_left g t byte Read k vs is = nothing_left g t (AddressCycle byte) is (has_driver vs) 0 vs
 opener_left g t byte ReadConfirm k vs is = nothing_left g t (AddressCycle byte) is (has_driver vs) 0 vs
 opener_left g t byte ChangeReadColumn k vs is = nothing_left g t (AddressCycle byte) is (has_driver vs) 0 vs
+opener_left g t byte ChangeReadColumnEnhanced k vs is = nothing_left g t (AddressCycle byte) is (has_driver vs) 0 vs
 opener_left g t byte ChangeReadColumnConfirm k vs is = nothing_left g t (AddressCycle byte) is (has_driver vs) 0 vs
 opener_left g t byte BlockErase k vs is = nothing_left g t (AddressCycle byte) is (has_driver vs) 0 vs
 opener_left g t byte BlockEraseConfirm k vs is = nothing_left g t (AddressCycle byte) is (has_driver vs) 0 vs

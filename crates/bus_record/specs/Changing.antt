@@ -5,7 +5,7 @@ use Rattle.nand_geometry.specs.Row.{parts_of}
 use Rattle.onfi_cycle.specs.declared.command.Command.{Command}
 use Rattle.onfi_cycle.specs.declared.command.Command.TheVariants.{Read, ReadConfirm, ChangeReadColumnConfirm, BlockEraseConfirm, BlockErasePlane, ReadStatus, ReadStatusEnhanced, ProgramConfirm, ProgramPlane, ReadId, ReadParameterPage, Reset, ReadCacheSequential, ReadCacheEnd, ReadUniqueId, GetFeatures, ResetLun, SynchronousReset}
 use Rattle.onfi_cycle.specs.declared.effect.Effect.{Effect}
-use Rattle.onfi_cycle.specs.declared.effect.Effect.TheVariants.{DataOutputEnabled, StatusSelected, StatusRowAwaited, SelectedForStatus, Deselected, IdRead, UniqueIdReadStarted, FeaturesReadStarted, FeaturesSet, ParameterPageReadStarted, CacheReadContinued, CacheReadEnded, ResetStarted, TargetResetStarted, AnotherAddressed, ReadColumnChanged}
+use Rattle.onfi_cycle.specs.declared.effect.Effect.TheVariants.{DataOutputEnabled, StatusSelected, StatusRowAwaited, SelectedForStatus, Deselected, IdRead, UniqueIdReadStarted, FeaturesReadStarted, FeaturesSet, ParameterPageReadStarted, CacheReadContinued, CacheReadEnded, ResetStarted, TargetResetStarted, AnotherAddressed, ReadColumnChanged, PlaneSelected}
 use Rattle.onfi_cycle.specs.declared.opening.Opening.{Opening}
 use Rattle.onfi_cycle.specs.declared.tail_facts.TailFacts.{TailFacts}
 use Rattle.onfi_cycle.specs.Command.{reads_row}
@@ -13,7 +13,7 @@ use Rattle.onfi_cycle.specs.Applied.{one_after}
 use Rattle.onfi_cycle.specs.Effect.{is_shared, status_effect, confirm_effect, id_effect, ends_features, is_off}
 use Rattle.onfi_cycle.specs.Lun.{view_after}
 use Rattle.onfi_cycle.specs.LunView.{LunView}
-use Rattle.onfi_cycle.specs.Sequence.{row, row_with, wants_address, wants_command}
+use Rattle.onfi_cycle.specs.Sequence.{row, row_with, wants_address, wants_command, selects_plane}
 use Rattle.onfi_cycle.specs.State.{has_driver}
 use Rattle.target_record.specs.Record.{HasRoom}
 use Rattle.target_record.specs.declared.record.OnfiseqLun.{OnfiseqLun}
@@ -67,8 +67,14 @@ effect_of_status g = OnEach (status_effect g)
 abbrev pub effect_of_closer : Parts → TailFacts → Command → TargetEffect
 effect_of_closer g t c = if wants_command t c then on_named g (parts_of g (row t)).lun (confirm_effect g t c) (reads_row c) else Nothing
 
-abbrev pub effect_of_column_confirm : TailFacts → TargetEffect
-effect_of_column_confirm t = if wants_command t ChangeReadColumnConfirm then OnDriver (ReadColumnChanged t.column) else Nothing
+-- E0 behind 06
+abbrev pub effect_of_plane : Parts → TailFacts → TargetEffect
+effect_of_plane g t = Apart (parts_of g (row t)).lun (PlaneSelected t.column) Deselected
+
+abbrev pub effect_of_column_confirm : Parts → TailFacts → TargetEffect
+effect_of_column_confirm g t =
+    if selects_plane t then effect_of_plane g t
+    else (if wants_command t ChangeReadColumnConfirm then OnDriver (ReadColumnChanged t.column) else Nothing)
 
 -- a 31 works on the row of the tail where that wants it, and else on the one driver
 abbrev pub effect_of_cache_read : Parts → TailFacts → TargetEffect
@@ -83,7 +89,7 @@ effect_of_command g t Reset = effect_of_reset g
 effect_of_command g t SynchronousReset = effect_of_reset g
 effect_of_command g t ReadCacheSequential = effect_of_cache_read g t
 effect_of_command g t ReadCacheEnd = OnDriver CacheReadEnded
-effect_of_command g t ChangeReadColumnConfirm = effect_of_column_confirm t
+effect_of_command g t ChangeReadColumnConfirm = effect_of_column_confirm g t
 effect_of_command g t ReadConfirm = effect_of_closer g t ReadConfirm
 effect_of_command g t BlockEraseConfirm = effect_of_closer g t BlockEraseConfirm
 effect_of_command g t BlockErasePlane = effect_of_closer g t BlockErasePlane

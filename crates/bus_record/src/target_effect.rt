@@ -2,7 +2,7 @@
 ghost use Rattle.std.specs.Prelude.{◌≡◌};
 ghost use Rattle.nand_geometry.specs.Limits.{InLimits};
 ghost use Rattle.onfi_cycle.specs.Effect.{confirm_effect, id_effect};
-ghost use Rattle.bus_record.specs.Changing.{effect_of_status, effect_of_reset, effect_of_target, on_named, effect_of_closer, effect_of_cache_read, effect_of_column_confirm, effect_of_command, selection, reset_of_lun, effect_of_input, effect_of_identity, effect_of_address};
+ghost use Rattle.bus_record.specs.Changing.{effect_of_status, effect_of_reset, effect_of_target, on_named, effect_of_closer, effect_of_cache_read, effect_of_plane, effect_of_column_confirm, effect_of_command, selection, reset_of_lun, effect_of_input, effect_of_identity, effect_of_address};
 ghost use Rattle.target_record.specs.Geometry.{parts_of};
 ghost use Rattle.target_record.specs.Record.{tail_of};
 
@@ -140,11 +140,28 @@ fn effect_of_target(geometry: &OnfiseqGeometry, effect: Effect) -> TargetEffect
     }
 }
 
-// What E0h does.
-fn effect_of_column_confirm(kept: &OnfiseqTarget) -> TargetEffect
-    ensures { result ≡ effect_of_column_confirm (tail_of kept.now) }
+// What E0h does behind 06h.
+fn effect_of_plane(geometry: &OnfiseqGeometry, kept: &OnfiseqTarget) -> TargetEffect
+    requires { InLimits (parts_of geometry.now) }
+    ensures { result ≡ effect_of_plane (parts_of geometry.now) (tail_of kept.now) }
 {
-    if wants_command(kept, Command::ChangeReadColumnConfirm) {
+    TargetEffect::Apart {
+        lun: geometry.known().parts_of(tail_of(kept).named_row()).lun,
+        effect: Effect::PlaneSelected {
+            column: kept.column,
+        },
+        others: Effect::Deselected,
+    }
+}
+
+// What E0h does.
+fn effect_of_column_confirm(geometry: &OnfiseqGeometry, kept: &OnfiseqTarget) -> TargetEffect
+    requires { InLimits (parts_of geometry.now) }
+    ensures { result ≡ effect_of_column_confirm (parts_of geometry.now) (tail_of kept.now) }
+{
+    if tail_of(kept).selects_plane() {
+        effect_of_plane(geometry, kept)
+    } else if wants_command(kept, Command::ChangeReadColumnConfirm) {
         TargetEffect::OnDriver(Effect::ReadColumnChanged {
             column: kept.column,
         })
@@ -182,13 +199,14 @@ pub(crate) fn effect_of_command(
         Command::Reset | Command::SynchronousReset => effect_of_reset(geometry),
         Command::ReadCacheSequential => effect_of_cache_read(geometry, kept),
         Command::ReadCacheEnd => TargetEffect::OnDriver(Effect::CacheReadEnded),
-        Command::ChangeReadColumnConfirm => effect_of_column_confirm(kept),
+        Command::ChangeReadColumnConfirm => effect_of_column_confirm(geometry, kept),
         Command::ReadConfirm
         | Command::BlockEraseConfirm
         | Command::BlockErasePlane
         | Command::ProgramConfirm
         | Command::ProgramPlane => effect_of_closer(geometry, kept, named),
         Command::ChangeReadColumn
+        | Command::ChangeReadColumnEnhanced
         | Command::BlockErase
         | Command::PageProgram
         | Command::ChangeWriteColumn

@@ -23,9 +23,9 @@ use Rattle.onfi_cycle.specs.declared.queued.Queued.TheVariants.{Erase, Program}
 use Rattle.onfi_cycle.specs.declared.tail_facts.TailFacts.{TailFacts}
 use Rattle.onfi_cycle.specs.declared.target_cycle.TargetCycle.{TargetCycle}
 use Rattle.onfi_cycle.specs.declared.target_cycle.TargetCycle.TheVariants.{CommandCycle, AddressCycle, InputCycle, OutputCycle}
-use Rattle.onfi_cycle.specs.Sequence.{opened, row_bytes, row_after_address, tail, with_cycle, begins_sequence, is_nil, input_column, opening, data_phase, phase_after_address, row_with, facts_of, filled, row, target_cycle, wants_command, wants_address, takes_data, wants_column}
+use Rattle.onfi_cycle.specs.Sequence.{opened, row_bytes, row_after_address, tail, with_cycle, begins_sequence, is_nil, input_column, opening, data_phase, phase_after_address, row_with, facts_of, filled, row, target_cycle, wants_command, wants_address, takes_data, wants_column, selects_plane}
 use Rattle.onfi_cycle.specs.Bounds.{names_program}
-use Rattle.onfi_cycle.specs.Effect.{is_shared, acts_for_target, of_target, other_effect, lun_reset_effect, names_lun, page_address, is_off, is_data, confirm_effect, command_effect, opening_address_effect, address_effect, cycle_effect, id_effect, ends_features, input_effect, row_effect, cache_effect}
+use Rattle.onfi_cycle.specs.Effect.{is_shared, acts_for_target, of_target, other_effect, lun_reset_effect, names_lun, page_address, is_off, is_data, confirm_effect, command_effect, opening_address_effect, address_effect, cycle_effect, id_effect, ends_features, input_effect, row_effect, cache_effect, plane_effect, column_effect}
 use Rattle.onfi_cycle.specs.Lun.{luns_of, effect_on, latch_alone, is_busy, busy_after, is_caching, is_cache_read, closer, closer_after, is_array_busy, array_busy_after, array_page, array_page_after, register, register_after, queue, queue_after, lun_view, effect_among}
 use Rattle.onfi_cycle.specs.Content.{ArrayWork, ProgramsPage, queued_work, queued_work_after, pending_work, pending_work_after, has_failed, failed_after, content, content_after}
 use Rattle.onfi_cycle.specs.Permitted.{broken}
@@ -79,7 +79,10 @@ command_programs g t latch k.ReadCacheSequential lun =
     (λ _. choice g t lun (wants_command t k.ReadCacheSequential && names_lun g (row t) lun) (confirm_effect g t k.ReadCacheSequential) (other_effect g t k.ReadCacheSequential) (λ _. tt) (passed_programs g t k.ReadCacheSequential lun))
     (choice g t lun (is_off latch) e.Unaffected (e.CacheReadContinued None) (λ _. tt) tt)
 command_programs g t latch k.ReadCacheEnd lun = choice g t lun (is_off latch) e.Unaffected e.CacheReadEnded (λ _. tt) tt
-command_programs g t latch k.ChangeReadColumnConfirm lun = choice g t lun (wants_command t k.ChangeReadColumnConfirm && not (is_off latch)) (e.ReadColumnChanged t.column) e.Unaffected (λ _. tt) tt
+command_programs g t latch k.ChangeReadColumnConfirm lun =
+    choice g t lun (selects_plane t) (plane_effect g t lun) (column_effect t latch)
+    (λ _. choice g t lun (names_lun g (row t) lun) (e.PlaneSelected t.column) e.Deselected (λ _. tt) tt)
+    (choice g t lun (wants_command t k.ChangeReadColumnConfirm && not (is_off latch)) (e.ReadColumnChanged t.column) e.Unaffected (λ _. tt) tt)
 command_programs g t latch k.ProgramConfirm lun =
     choice g t lun (wants_command t k.ProgramConfirm && names_lun g (row t) lun) (e.ProgramStarted false (page_address g (row t))) (other_effect g t k.ProgramConfirm)
     (λ h. record { named = or_left (takes_data t.phase) (wants_column t.phase) (both _ _ h).0; here = (both _ _ h).1; page = refl }) (passed_programs g t k.ProgramConfirm lun)

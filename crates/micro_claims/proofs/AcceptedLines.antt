@@ -5,7 +5,7 @@ use Rattle.std.proofs.lemmas.Bool.{and_parts, or_parts}
 use Rattle.nand_geometry.specs.declared.parts.Parts.{Parts}
 use Rattle.nand_geometry.specs.Limits.{indices}
 use Rattle.onfi_cycle.specs.declared.command.Command.{Command}
-use Rattle.onfi_cycle.specs.declared.command.Command.TheVariants.{Read, ReadConfirm, ChangeReadColumn, ChangeReadColumnConfirm, BlockErase, BlockEraseConfirm, PageProgram, ChangeWriteColumn, ProgramConfirm, BlockErasePlane, ProgramPlane, Reset, ReadId, ReadParameterPage, ReadCacheSequential, ReadCacheEnd, ReadUniqueId, GetFeatures, SetFeatures, ResetLun, SynchronousReset, ReadStatus as AskStatus, ReadStatusEnhanced}
+use Rattle.onfi_cycle.specs.declared.command.Command.TheVariants.{Read, ReadConfirm, ChangeReadColumn, ChangeReadColumnEnhanced, ChangeReadColumnConfirm, BlockErase, BlockEraseConfirm, PageProgram, ChangeWriteColumn, ProgramConfirm, BlockErasePlane, ProgramPlane, Reset, ReadId, ReadParameterPage, ReadCacheSequential, ReadCacheEnd, ReadUniqueId, GetFeatures, SetFeatures, ResetLun, SynchronousReset, ReadStatus as AskStatus, ReadStatusEnhanced}
 use Rattle.onfi_cycle.specs.declared.item.Item.{Item}
 use Rattle.onfi_cycle.specs.Command.{command, wants_one_lun}
 use Rattle.onfi_cycle.specs.Sequence.{tail, facts_of, is_open}
@@ -20,7 +20,7 @@ use Rattle.micro_program.specs.Program.{Job, Done}
 use Rattle.micro_program.specs.Step.{Stride, answered_step}
 use Rattle.micro_program.specs.Safe.{Seat, loaded, after_step, IsSafe, IsJobOf, IsFine, LineIsFine, may_step, AreTruthful}
 use Rattle.micro_claims.specs.State.{State, Closed, any_but_31, first_state, bounds_of}
-use Rattle.micro_claims.specs.Against.{command_not_for_programs, continues_unseen, is_unfit}
+use Rattle.micro_claims.specs.Against.{asks_status, is_for_traces, command_not_for_programs, continues_unseen, is_unfit}
 use Rattle.micro_claims.specs.Reasons.{breaks_command_not_allowed, reason_against}
 use Rattle.micro_claims.specs.Accepts.{state_after, goes_on, accepts}
 use Rattle.micro_program.proofs.Below.{rows}
@@ -66,9 +66,13 @@ data Taken (d : Command) : Type 0 where
   IsFA : (e : d ≡ ResetLun) → Taken d
   IsFC : (e : d ≡ SynchronousReset) → Taken d
 
-asked : (a b : Bool) → (a || true || b) ≡ false → ⊥
-asked true b h = cc
-asked false b h = cc
+traced : (a b : Bool) → (a || true || b) ≡ false → ⊥
+traced true b h = cc
+traced false b h = cc
+
+asked : (a b c : Bool) → (a || true || b || c) ≡ false → ⊥
+asked true b c h = cc
+asked false b c h = cc
 
 which : (g : Parts) (d : Command) → command_not_for_programs g d ≡ false → Taken d
 which g Read h = Is00 refl
@@ -92,8 +96,9 @@ which g GetFeatures h = IsEE refl
 which g SetFeatures h = IsEF refl
 which g ResetLun h = IsFA refl
 which g SynchronousReset h = IsFC refl
-which g AskStatus h = absurd (asked (is_unfit g AskStatus) (wants_one_lun AskStatus && ltb 1 g.luns) h)
-which g ReadStatusEnhanced h = absurd (asked (is_unfit g ReadStatusEnhanced) (wants_one_lun ReadStatusEnhanced && ltb 1 g.luns) h)
+which g AskStatus h = absurd (asked (is_unfit g AskStatus) (is_for_traces AskStatus) (wants_one_lun AskStatus && ltb 1 g.luns) h)
+which g ReadStatusEnhanced h = absurd (asked (is_unfit g ReadStatusEnhanced) (is_for_traces ReadStatusEnhanced) (wants_one_lun ReadStatusEnhanced && ltb 1 g.luns) h)
+which g ChangeReadColumnEnhanced h = absurd (traced (is_unfit g ChangeReadColumnEnhanced || asks_status ChangeReadColumnEnhanced) (wants_one_lun ChangeReadColumnEnhanced && ltb 1 g.luns) h)
 which g _ h = cc
 
 taken_command : (g : Parts) (text : Microprogram) (v : State) (byte : ℕ) → NoReasons g text v (CommandWord byte) → Taken (command byte)

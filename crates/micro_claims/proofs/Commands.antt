@@ -7,7 +7,7 @@ use Rattle.nand_geometry.specs.declared.row_parts.RowParts.{RowParts}
 use Rattle.nand_geometry.specs.Row.{row_of, parts_of}
 use Rattle.onfi_cycle.specs.declared.row_bytes.RowBytes.{RowBytes}
 use Rattle.onfi_cycle.specs.declared.command.Command.{Command}
-use Rattle.onfi_cycle.specs.declared.command.Command.TheVariants.{Read, ReadConfirm, ChangeReadColumn, ChangeReadColumnConfirm, BlockErase, BlockEraseConfirm, PageProgram, ChangeWriteColumn, ProgramConfirm, ReadCacheSequential}
+use Rattle.onfi_cycle.specs.declared.command.Command.TheVariants.{Read, ReadConfirm, ChangeReadColumn, ChangeReadColumnEnhanced, ChangeReadColumnConfirm, BlockErase, BlockEraseConfirm, PageProgram, ChangeWriteColumn, ProgramConfirm, ReadCacheSequential}
 use Rattle.onfi_cycle.specs.declared.data_phase.DataPhase.TheVariants.{Inputs}
 use Rattle.onfi_cycle.specs.declared.item.Item.{Item}
 use Rattle.onfi_cycle.specs.declared.item.Kind.TheVariants.{Cmd}
@@ -21,7 +21,7 @@ use Rattle.onfi_cycle.specs.declared.tail_facts.TailFacts.{TailFacts}
 use Rattle.onfi_cycle.specs.declared.target_cycle.TargetCycle.TheVariants.{CommandCycle}
 use Rattle.onfi_cycle.specs.LunView.{LunView}
 use Rattle.onfi_cycle.specs.Command.{command, is_opener, closes, address_cycles}
-use Rattle.onfi_cycle.specs.Sequence.{facts_after, is_open, wants_command, row, takes_data, input_column}
+use Rattle.onfi_cycle.specs.Sequence.{facts_after, is_open, selects_plane, wants_command, row, takes_data, input_column}
 use Rattle.onfi_cycle.specs.Effect.{is_off, is_data, names_lun, page_address, cycle_effect}
 use Rattle.onfi_cycle.specs.Lun.{resumed, column_at, view_after, is_cache_read}
 use Rattle.onfi_cycle.specs.Rules.{may_change_column, is_page_or_parameters}
@@ -217,6 +217,7 @@ confirms (After o n) h = let both = and_parts (closes o ProgramConfirm) (n == ad
     none : (o : Command) → closes o ProgramConfirm ≡ true → ⊥
     none Read h = cc
     none ChangeReadColumn h = cc
+    none ChangeReadColumnEnhanced h = cc
     none BlockErase h = cc
     none _ h = cc
 
@@ -306,8 +307,9 @@ sound_e0 s j k v past c done rest at byte is scene f clear acc =
     let w = whole_column g j v.target (now_of j done) c.facts (f.tail refl) want.places in
     let one = driven v.target.shows c f.shows want.not_refused in
     let wants : wants_command c.facts ChangeReadColumnConfirm ≡ true = ap (λ (t : TailFacts). wants_command t ChangeReadColumnConfirm) w.facts in
-    let effect : cycle_effect g c.facts (shown_alone c) (CommandCycle ChangeReadColumnConfirm) j.lun.lun ≡ ReadColumnChanged c.facts.column = rw (wants, one.0, one.1) refl in
-    command_sound s j k v past c done rest at byte ChangeReadColumnConfirm is scene f clear (wants, one.0) refl
+    let plain : selects_plane c.facts ≡ false = ap selects_plane w.facts in
+    let effect : cycle_effect g c.facts (shown_alone c) (CommandCycle ChangeReadColumnConfirm) j.lun.lun ≡ ReadColumnChanged c.facts.column = rw (plain, wants, one.0, one.1) refl in
+    command_sound s j k v past c done rest at byte ChangeReadColumnConfirm is scene f clear (record { wants = wants; no_plane = plain; sole = one.0 }) refl
     (closed_fits g j None None v.target.shows (now_of j done) _ (ap (λ (t : TailFacts). is_open (facts_after (CommandCycle ChangeReadColumnConfirm) t)) w.facts))
     (shows_kept v.target.shows c (scene_behind g j.lun.lun (CommandCycle ChangeReadColumnConfirm) c) (λ e. e) (ap (λ (e : Effect). (view_after e c.view).latch) effect) f.shows)
     (subst (λ (e : Effect). LunFits g j (record v.lun { column = given_at v.target.column }) (index_now j.base done) (view_after e c.view)) (sym effect)
@@ -326,6 +328,7 @@ changes_column (After o n) h = let both = and_parts (closes o ChangeWriteColumn)
     none : (o : Command) → closes o ChangeWriteColumn ≡ true → ⊥
     none Read h = cc
     none ChangeReadColumn h = cc
+    none ChangeReadColumnEnhanced h = cc
     none BlockErase h = cc
     none _ h = cc
 

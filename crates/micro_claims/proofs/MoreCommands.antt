@@ -8,7 +8,7 @@ use Rattle.nand_geometry.specs.Limits.{planes}
 use Rattle.nand_geometry.specs.Optional.{is_wide, has_lun_reset, has_synchronous_reset}
 use Rattle.nand_geometry.specs.Row.{row_of, parts_of}
 use Rattle.onfi_cycle.specs.declared.command.Command.{Command}
-use Rattle.onfi_cycle.specs.declared.command.Command.TheVariants.{Read, ChangeReadColumn, BlockErase, ReadConfirm, BlockErasePlane, ProgramPlane, Reset, ReadCacheSequential, ReadCacheEnd, ResetLun, SynchronousReset}
+use Rattle.onfi_cycle.specs.declared.command.Command.TheVariants.{Read, ChangeReadColumn, ChangeReadColumnEnhanced, BlockErase, ReadConfirm, BlockErasePlane, ProgramPlane, Reset, ReadCacheSequential, ReadCacheEnd, ResetLun, SynchronousReset}
 use Rattle.onfi_cycle.specs.declared.item.Item.{Item}
 use Rattle.onfi_cycle.specs.declared.effect.Effect.{Effect}
 use Rattle.onfi_cycle.specs.declared.effect.Effect.TheVariants.{EraseStarted, ProgramStarted, CacheReadContinued, CacheReadEnded, ResetStarted, TargetResetStarted}
@@ -28,14 +28,14 @@ use Rattle.micro_program.specs.Lines.{Line}
 use Rattle.micro_claims.specs.Spans.{bound_plus, is_at_most}
 use Rattle.micro_claims.specs.Planes.{no_planes, either_plane}
 use Rattle.micro_claims.specs.State.{State, Place, Closed, After, InData, InColumn, InFeatures, NamedRow, Drift, QueuedRows, NoRows, SomeRows, AnyRows, LastCloser, bounds_of, Unknown, may_be_30, may_be_other}
-use Rattle.micro_claims.specs.Against.{may_end_sequence, opener_refused, closer_refused, is_unfit, asks_status, command_not_for_programs, drives, may_be_open, place_wants, same_test, continues_unseen, reads_cache_at}
+use Rattle.micro_claims.specs.Against.{may_end_sequence, opener_refused, closer_refused, is_unfit, asks_status, is_for_traces, command_not_for_programs, drives, may_be_open, place_wants, same_test, continues_unseen, reads_cache_at}
 use Rattle.micro_claims.specs.Reasons.{breaks_command_not_allowed}
 use Rattle.micro_claims.specs.Leaves.{work_started, rows_at, goes_along, queued_planes, queued_more, data_shown, reset_started, command_leaves, cache_read, next_cached, cached_at, shows_after_read}
 use Rattle.micro_claims.specs.Accepts.{state_after, accepts}
 use Rattle.micro_program.specs.Program.{Job, Done, index_now}
 use Rattle.micro_claims.proofs.PlaneSets.{among_first, among_second}
 use Rattle.micro_program.proofs.Scenes.{Scene, IsScene, shown_alone, scene_behind, closed_unwanted}
-use Rattle.micro_claims.proofs.Fits.{latch_among, DriftFits, Address, NameFits, RowIs, is_of_kind, page_of, RowFits, AllFit, RowsFit, closer_among, LunFits, TailFits, Fits, Now, now_of, ShowsFit, Below}
+use Rattle.micro_claims.proofs.Fits.{latch_among, DriftFits, Address, is_place, NameFits, RowIs, is_of_kind, page_of, RowFits, AllFit, RowsFit, closer_among, LunFits, TailFits, Fits, Now, now_of, ShowsFit, Below}
 use Rattle.micro_claims.proofs.Numbers.{below_plus, in_exactly, surely}
 use Rattle.micro_claims.proofs.Tails.{closed_tail, closed_fits, whole_erase_plane, programming, whole}
 use Rattle.micro_claims.proofs.Sounding.{KnownJob, NoReasons, SoundWord}
@@ -53,9 +53,10 @@ unfolding breaks_command_not_allowed
 declared g text v byte d is clear =
     let none = subst (λ (c : Command). (command_not_for_programs g c || continues_unseen (bounds_of text) c) ≡ false) is clear.no_command_not_allowed in
     let both = or_parts (command_not_for_programs g d) (continues_unseen (bounds_of text) d) none in
-    let two = or_parts (is_unfit g d || asks_status d) (wants_one_lun d && ltb 1 g.luns) both.0 in
+    let three = or_parts (is_unfit g d || asks_status d || is_for_traces d) (wants_one_lun d && ltb 1 g.luns) both.0 in
+    let two = or_parts (is_unfit g d || asks_status d) (is_for_traces d) three.0 in
     let one = or_parts (is_unfit g d) (asks_status d) two.0 in
-    record { fit = one.0; one = two.1; cache = both.1 }
+    record { fit = one.0; one = three.1; cache = both.1 }
 
 -- 2. queued rows
 
@@ -129,6 +130,7 @@ queues (After o n) h = let both = and_parts (closes o ProgramPlane) (n == addres
     none : (o : Command) → closes o ProgramPlane ≡ true → ⊥
     none Read h = cc
     none ChangeReadColumn h = cc
+    none ChangeReadColumnEnhanced h = cc
     none BlockErase h = cc
     none _ h = cc
 
@@ -231,11 +233,12 @@ cache_only w (Some ReadConfirm) h e r = cc
 cache_only w (Some ReadCacheSequential) h e r = refl
 cache_only w (Some _) h e r = cc
 
-only_cache_read : (o : Command) → closes o ReadCacheSequential ≡ true → o ≡ Read
-only_cache_read Read h = refl
-only_cache_read ChangeReadColumn h = cc
-only_cache_read BlockErase h = cc
-only_cache_read _ h = cc
+only_cache_read : (o : Command) (n : ℕ) → is_place o n ≡ true → closes o ReadCacheSequential ≡ true → o ≡ Read
+only_cache_read Read n place h = refl
+only_cache_read ChangeReadColumn n place h = cc
+only_cache_read BlockErase n place h = cc
+only_cache_read ChangeReadColumnEnhanced n place h = cc
+only_cache_read _ n place h = cc
 
 leaves_lone : (g : Parts) (v : State) → place_wants ReadCacheSequential v.target.tail ≡ false → command_leaves g v ReadCacheSequential ≡ cache_read (record { 0 = 2 }) (next_cached v.lun.cached) data_shown v
 leaves_lone g v unplaced = rw unplaced refl

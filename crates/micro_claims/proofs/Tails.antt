@@ -4,7 +4,7 @@ use Rattle.std.proofs.lemmas.Bool.Decides.{nat_tests}
 use Rattle.std.proofs.lemmas.Bool.{and_parts}
 use Rattle.nand_geometry.specs.declared.parts.Parts.{Parts}
 use Rattle.onfi_cycle.specs.declared.command.Command.{Command}
-use Rattle.onfi_cycle.specs.declared.command.Command.TheVariants.{Read, ReadConfirm, ChangeReadColumn, ChangeReadColumnConfirm, BlockErase, BlockEraseConfirm, BlockErasePlane, PageProgram, ReadId, ReadParameterPage, ReadUniqueId, GetFeatures, SetFeatures, ResetLun}
+use Rattle.onfi_cycle.specs.declared.command.Command.TheVariants.{Read, ReadConfirm, ChangeReadColumn, ChangeReadColumnEnhanced, ChangeReadColumnConfirm, BlockErase, BlockEraseConfirm, BlockErasePlane, PageProgram, ReadId, ReadParameterPage, ReadUniqueId, GetFeatures, SetFeatures, ResetLun}
 use Rattle.onfi_cycle.specs.declared.data_phase.DataPhase.TheVariants.{Inputs}
 use Rattle.onfi_cycle.specs.declared.tail_facts.TailFacts.{TailFacts}
 use Rattle.onfi_cycle.specs.declared.target_cycle.TargetCycle.TheVariants.{CommandCycle}
@@ -132,45 +132,49 @@ pub record Whole (g : Parts) (j : Job) (v : KnownTarget) (n : Now) (o : Command)
   pub row : has_row (After o (address_cycles o)) ≡ true → RowIs g j address
   pub named : has_row (After o (address_cycles o)) ≡ true → NameFits g j address n.index v.named
 
--- of all the openers it is this one
-pub only_read : (o : Command) → closes o ReadConfirm ≡ true → o ≡ Read
-only_read Read h = refl
-only_read ChangeReadColumn h = cc
-only_read BlockErase h = cc
-only_read _ h = cc
+-- of all the openers behind which the tail may be it is this one
+pub only_read : (o : Command) (n : ℕ) → is_place o n ≡ true → closes o ReadConfirm ≡ true → o ≡ Read
+only_read Read n place h = refl
+only_read ChangeReadColumn n place h = cc
+only_read BlockErase n place h = cc
+only_read ChangeReadColumnEnhanced n place h = cc
+only_read _ n place h = cc
 
-pub only_erase : (o : Command) → closes o BlockEraseConfirm ≡ true → o ≡ BlockErase
-only_erase BlockErase h = refl
-only_erase Read h = cc
-only_erase ChangeReadColumn h = cc
-only_erase _ h = cc
+pub only_erase : (o : Command) (n : ℕ) → is_place o n ≡ true → closes o BlockEraseConfirm ≡ true → o ≡ BlockErase
+only_erase BlockErase n place h = refl
+only_erase Read n place h = cc
+only_erase ChangeReadColumn n place h = cc
+only_erase ChangeReadColumnEnhanced n place h = cc
+only_erase _ n place h = cc
 
-pub only_erase_plane : (o : Command) → closes o BlockErasePlane ≡ true → o ≡ BlockErase
-only_erase_plane BlockErase h = refl
-only_erase_plane Read h = cc
-only_erase_plane ChangeReadColumn h = cc
-only_erase_plane _ h = cc
+pub only_erase_plane : (o : Command) (n : ℕ) → is_place o n ≡ true → closes o BlockErasePlane ≡ true → o ≡ BlockErase
+only_erase_plane BlockErase n place h = refl
+only_erase_plane Read n place h = cc
+only_erase_plane ChangeReadColumn n place h = cc
+only_erase_plane ChangeReadColumnEnhanced n place h = cc
+only_erase_plane _ n place h = cc
 
-pub only_column : (o : Command) → closes o ChangeReadColumnConfirm ≡ true → o ≡ ChangeReadColumn
-only_column ChangeReadColumn h = refl
-only_column Read h = cc
-only_column BlockErase h = cc
-only_column _ h = cc
+pub only_column : (o : Command) (n : ℕ) → is_place o n ≡ true → closes o ChangeReadColumnConfirm ≡ true → o ≡ ChangeReadColumn
+only_column ChangeReadColumn n place h = refl
+only_column Read n place h = cc
+only_column BlockErase n place h = cc
+only_column ChangeReadColumnEnhanced n place h = cc
+only_column _ n place h = cc
 
 -- what a closer ends that is wanted after so many addresses: all addresses of its opener
 pub record ClosedBy (p : Command) (m : ℕ) (o : Command) (a : Address) : Type 0 where
   pub place : After p m ≡ After o (address_cycles o)
   pub facts : facts_behind (opener_facts p) (take m (bytes_of p a)) ≡ facts_behind (opener_facts o) (take (address_cycles o) (bytes_of o a))
 
-pub closed_by : (c o p : Command) (m : ℕ) (a : Address) → ((q : Command) → closes q c ≡ true → q ≡ o) → place_wants c (After p m) ≡ true → ClosedBy p m o a
-closed_by c o p m a only w =
+pub closed_by : (c o p : Command) (m : ℕ) (a : Address) → ((q : Command) (n : ℕ) → is_place q n ≡ true → closes q c ≡ true → q ≡ o) → is_place p m ≡ true → place_wants c (After p m) ≡ true → ClosedBy p m o a
+closed_by c o p m a only place w =
     let both = and_parts (closes p c) (m == address_cycles p) w in
-    let same : p ≡ o = only p both.0 in
+    let same : p ≡ o = only p m place both.0 in
     let number : m ≡ address_cycles o = eqb-true m (address_cycles p) both.1 ∙ ap address_cycles same in
     record { place = λ i. After (same i) (number i); facts = λ i. facts_behind (opener_facts (same i)) (take (number i) (bytes_of (same i) a)) }
 
 -- behind a whole address, where the tail wants this closer
-pub whole : (g : Parts) (j : Job) (v : KnownTarget) (n : Now) (t : TailFacts) (c o : Command) → ((p : Command) → closes p c ≡ true → p ≡ o) → is_data_command c ≡ false → TailFits g j v n t → place_wants c v.tail ≡ true → Whole g j v n o t
+pub whole : (g : Parts) (j : Job) (v : KnownTarget) (n : Now) (t : TailFacts) (c o : Command) → ((p : Command) (m : ℕ) → is_place p m ≡ true → closes p c ≡ true → p ≡ o) → is_data_command c ≡ false → TailFits g j v n t → place_wants c v.tail ≡ true → Whole g j v n o t
 whole g j v n t c o only plain f h = at f.place f.is f.column f.row f.named (every_place (place_wants c) v.tail f.place h f.here)
   where
     at : (p : Place) → PlaceIs p f.address t → (has_column p ≡ true → ColumnFits (input_column t) v.column) → (has_row p ≡ true → RowIs g j f.address) → (has_row p ≡ true → NameFits g j f.address n.index v.named) → place_wants c p ≡ true → Whole g j v n o t
@@ -180,7 +184,7 @@ whole g j v n t c o only plain f h = at f.place f.is f.column f.row f.named (eve
     at (InFeatures m) is column row named w = cc
     at Unknown is column row named w = cc
     at (After p m) is column row named w =
-        let by = closed_by c o p m f.address only w in
+        let by = closed_by c o p m f.address only is.place w in
         record {
           address = f.address;
           facts = is.facts ∙ by.facts;

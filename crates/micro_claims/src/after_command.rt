@@ -129,7 +129,10 @@ impl State {
             Command::ReadCacheEnd => {
                 self.read_cache(LastCloser::OTHER, self.lun.cached, DATA_SHOWN);
             }
-            Command::ReadStatus | Command::ReadStatusEnhanced | Command::Unknown => {}
+            Command::ReadStatus
+            | Command::ReadStatusEnhanced
+            | Command::ChangeReadColumnEnhanced
+            | Command::Unknown => {}
         }
     }
 }

@@ -56,7 +56,7 @@ pub use page_range::PageRange;
 pub use place::{Place, first_address};
 pub use planes::Planes;
 pub use queued_rows::QueuedRows;
-pub use reasons::cost;
+pub use reasons::{cost, is_for_traces};
 pub use refusal::{Fault, Reason};
 pub use registers::Registers;
 pub use shown::Shown;

@@ -1,6 +1,6 @@
 //! The reasons against a word, by what is known before it.
 ghost use Rattle.std.specs.Prelude.{◌≡◌, ◌^◌, ◌<◌, ◌==◌, ◌&&◌, not};
-ghost use Rattle.micro_claims.specs.Against.{next_address, is_of_profile, is_unfit, opener_refused, closer_refused, reads_cache_at, may_end_sequence, command_out_of_place, command_past_rows, command_not_for_programs, has_second_column, column_limit, takes_any_byte, takes_identity, is_identity_byte, identity_refused, row_refused, surely_past, address_out_of_place, begins_elsewhere, column_past, row_outside, output_refused, output_past, input_past, may_be_unready};
+ghost use Rattle.micro_claims.specs.Against.{next_address, is_of_profile, is_unfit, opener_refused, closer_refused, reads_cache_at, may_end_sequence, command_out_of_place, command_past_rows, is_for_traces, command_not_for_programs, has_second_column, column_limit, takes_any_byte, takes_identity, is_identity_byte, identity_refused, row_refused, surely_past, address_out_of_place, begins_elsewhere, column_past, row_outside, output_refused, output_past, input_past, may_be_unready};
 ghost use Rattle.nand_geometry.specs.Optional.{is_wide};
 ghost use Rattle.onfi_cycle.specs.Rules.{excludes_cache};
 ghost use Rattle.micro_claims.specs.Reasons.{breaks_cycle_forbidden, breaks_address_unaligned, breaks_handover_in_sequence, breaks_buffer_passed, breaks_row_or_plane_outside, breaks_column_too_large, breaks_no_status, breaks_ends_too_soon, breaks_over_budget, breaks_command_not_allowed, reason_against};
@@ -60,12 +60,14 @@ fn reads_cache_at(command: Command, tail: Place) -> bool
     command == Command::ReadCacheSequential && tail.wants(command)
 }
 
-// The opener's row names a LUN that does no cache read: a Read may name one in the wider profile.
+// The opener's row names a LUN that does no cache read: a Read may name one in the wider profile, and so may a Change Read Column
+// Enhanced.
 fn excludes_cache(geometry: &Geometry, opener: Command) -> bool
     ensures { result ≡ excludes_cache geometry.now opener }
 {
     match opener {
         Command::Read => !is_wide(geometry),
+        Command::ChangeReadColumnEnhanced => false,
         _ => opener.addresses_the_array(),
     }
 }
@@ -77,12 +79,20 @@ fn may_end_sequence(geometry: &Geometry, command: Command) -> bool
     command.is_reset() && is_wide(geometry)
 }
 
+/// Traces know the command, and programs may not use it yet.
+pub fn is_for_traces(command: Command) -> bool
+    ensures { result ≡ is_for_traces command }
+{
+    matches!(command, Command::ChangeReadColumnEnhanced)
+}
+
 // Programs may not use the command.
 fn is_not_for_programs(geometry: &Geometry, command: Command) -> bool
     ensures { result ≡ command_not_for_programs geometry.now command }
 {
     is_unfit(geometry, command)
         || matches!(command, Command::ReadStatus | Command::ReadStatusEnhanced)
+        || is_for_traces(command)
         || command.wants_one_lun() && geometry.parts().luns > 1
 }
 

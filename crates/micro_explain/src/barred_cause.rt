@@ -20,12 +20,16 @@ pub enum BarredCause {
     UniqueId,
     /// The parameter page declares no features.
     Features,
+    /// The parameter page declares no enhanced change of the read column.
+    EnhancedColumn,
     /// The parameter page declares no reset of a LUN.
     LunReset,
     /// The parameter page declares no synchronous reset.
     SynchronousReset,
     /// The command wants the only LUN of a target, and this one has so many.
     SeveralLuns { luns: u8 },
+    /// Traces know the command with this byte, and programs can't use it yet.
+    ForTraces { byte: u8 },
 }
 
 impl BarredCause {
@@ -46,6 +50,7 @@ impl BarredCause {
             Command::SynchronousReset => {
                 BarredCause::of_optional(refused, command, byte, BarredCause::SynchronousReset)
             }
+            Command::ChangeReadColumnEnhanced => Some(BarredCause::of_enhanced(refused, byte)),
             Command::ReadStatus | Command::ReadStatusEnhanced => Some(BarredCause::Poll),
             Command::BlockErasePlane | Command::ProgramPlane => {
                 told_if(!parts.multi_plane, BarredCause::SeveralPlanes)
@@ -84,6 +89,17 @@ impl BarredCause {
         }
     }
 
+    // Of a change of the read column with a row, which is for traces alone where it is declared.
+    fn of_enhanced(refused: &Refused<'_>, byte: u8) -> BarredCause {
+        if !refused.geometry.parts().optional.is_wide() {
+            BarredCause::NoCommand { byte }
+        } else if is_undeclared(refused.geometry, Command::ChangeReadColumnEnhanced) {
+            BarredCause::EnhancedColumn
+        } else {
+            BarredCause::ForTraces { byte }
+        }
+    }
+
     // Of a command that wants the only LUN of a target.
     fn of_several_luns(refused: &Refused<'_>) -> Option<BarredCause> {
         let luns = refused.geometry.parts().luns;
@@ -112,6 +128,9 @@ impl fmt::Display for BarredCause {
                 "the parameter page declares no unique identifier",
             ),
             BarredCause::Features => f.write_str("the parameter page declares no features"),
+            BarredCause::EnhancedColumn => f.write_str(
+                "the parameter page declares no enhanced change of the read column",
+            ),
             BarredCause::LunReset => f.write_str("the parameter page declares no reset of a LUN"),
             BarredCause::SynchronousReset => f.write_str(
                 "the parameter page declares no synchronous reset",
@@ -120,6 +139,9 @@ impl fmt::Display for BarredCause {
                 f,
                 "it works on a target with one LUN alone, and this one has {luns}"
             ),
+            BarredCause::ForTraces { byte } => {
+                write!(f, "programs can't use {byte:02x}h yet; traces may")
+            }
         }
     }
 }

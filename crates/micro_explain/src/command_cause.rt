@@ -37,6 +37,7 @@ fn opener_of(closer: Command) -> Option<Command> {
         }
         Command::Read
         | Command::ChangeReadColumn
+        | Command::ChangeReadColumnEnhanced
         | Command::BlockErase
         | Command::ReadStatus
         | Command::ReadStatusEnhanced
@@ -88,6 +89,7 @@ impl CommandCause {
             }
             Command::ReadCacheEnd => Some(CommandCause::Cache(CacheCause::of_end(refused)?)),
             Command::ReadConfirm
+            | Command::ChangeReadColumnEnhanced
             | Command::ChangeReadColumnConfirm
             | Command::BlockEraseConfirm
             | Command::BlockErasePlane

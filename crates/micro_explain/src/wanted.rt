@@ -20,7 +20,7 @@ impl Wanted {
         match opener {
             Command::Read if self.reads_cache_at_rows => "`cmd 30` or `cmd 31`",
             Command::Read => "`cmd 30`",
-            Command::ChangeReadColumn => "`cmd e0`",
+            Command::ChangeReadColumn | Command::ChangeReadColumnEnhanced => "`cmd e0`",
             Command::BlockErase if self.multi_plane => "`cmd d0` or `cmd d1`",
             Command::BlockErase => "`cmd d0`",
             Command::PageProgram => self.in_data(),

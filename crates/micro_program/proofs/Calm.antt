@@ -11,7 +11,7 @@ use Rattle.onfi_cycle.specs.declared.page_address.PageAddress.{PageAddress}
 use Rattle.onfi_cycle.specs.declared.register.Register.{Register}
 use Rattle.onfi_cycle.specs.declared.queued.Queued.{Queued}
 use Rattle.onfi_cycle.specs.declared.effect.Effect.{Effect}
-use Rattle.onfi_cycle.specs.declared.effect.Effect.TheVariants.{Unaffected, DataOutputEnabled, StatusSelected, StatusRowAwaited, SelectedForStatus, Deselected, DataOutput, ReadColumnChanged, StatusOfSelected, AnotherAddressed}
+use Rattle.onfi_cycle.specs.declared.effect.Effect.TheVariants.{Unaffected, DataOutputEnabled, StatusSelected, StatusRowAwaited, SelectedForStatus, Deselected, DataOutput, ReadColumnChanged, PlaneSelected, StatusOfSelected, AnotherAddressed}
 use Rattle.onfi_cycle.specs.Sequence.{target_cycle, tail, facts_of}
 use Rattle.onfi_cycle.specs.Effect.{cycle_effect}
 use Rattle.onfi_cycle.specs.Lun.{latch_alone, effect_on, is_busy, busy_after, closer, closer_after, is_cache_read, is_array_busy, array_busy_after, is_caching, array_page, array_page_after, register, register_after, queue, queue_after, effect_among}
@@ -26,6 +26,7 @@ is_calm SelectedForStatus = true
 is_calm Deselected = true
 is_calm DataOutput = true
 is_calm (ReadColumnChanged column) = true
+is_calm (PlaneSelected column) = true
 is_calm StatusOfSelected = true
 is_calm (AnotherAddressed reads) = true
 is_calm _ = false
@@ -47,6 +48,7 @@ leaves_all SelectedForStatus h = record { busy = λ b. refl; closer = λ c. refl
 leaves_all Deselected h = record { busy = λ b. refl; closer = λ c. refl; array_busy = λ b c x. refl; array_page = λ p. refl; register = λ p r. refl; queue = λ q. refl }
 leaves_all DataOutput h = record { busy = λ b. refl; closer = λ c. refl; array_busy = λ b c x. refl; array_page = λ p. refl; register = λ p r. refl; queue = λ q. refl }
 leaves_all (ReadColumnChanged column) h = record { busy = λ b. refl; closer = λ c. refl; array_busy = λ b c x. refl; array_page = λ p. refl; register = λ p r. refl; queue = λ q. refl }
+leaves_all (PlaneSelected column) h = record { busy = λ b. refl; closer = λ c. refl; array_busy = λ b c x. refl; array_page = λ p. refl; register = λ p r. refl; queue = λ q. refl }
 leaves_all StatusOfSelected h = record { busy = λ b. refl; closer = λ c. refl; array_busy = λ b c x. refl; array_page = λ p. refl; register = λ p r. refl; queue = λ q. refl }
 leaves_all (AnotherAddressed reads) h = record { busy = λ b. refl; closer = λ c. refl; array_busy = λ b c x. refl; array_page = λ p. refl; register = λ p r. refl; queue = λ q. refl }
 leaves_all _ h = cc

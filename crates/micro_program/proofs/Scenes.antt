@@ -6,7 +6,7 @@ use Rattle.nand_geometry.specs.Limits.{page_len}
 use Rattle.nand_geometry.specs.Row.{parts_of, is_inside}
 use Rattle.nand_geometry.specs.Optional.{is_wide, has_features, has_unique_id, has_lun_reset, has_synchronous_reset}
 use Rattle.onfi_cycle.specs.declared.command.Command.{Command}
-use Rattle.onfi_cycle.specs.declared.command.Command.TheVariants.{Read, ReadConfirm, ChangeReadColumn, ChangeReadColumnConfirm, BlockErase, BlockEraseConfirm, BlockErasePlane, ReadStatus, ReadStatusEnhanced, PageProgram, ChangeWriteColumn, ProgramConfirm, ProgramPlane, ReadId, ReadParameterPage, Reset, ReadCacheSequential, ReadCacheEnd, ReadUniqueId, GetFeatures, SetFeatures, ResetLun, SynchronousReset, Unknown}
+use Rattle.onfi_cycle.specs.declared.command.Command.TheVariants.{Read, ReadConfirm, ChangeReadColumn, ChangeReadColumnConfirm, BlockErase, BlockEraseConfirm, BlockErasePlane, ReadStatus, ReadStatusEnhanced, PageProgram, ChangeWriteColumn, ProgramConfirm, ProgramPlane, ReadId, ReadParameterPage, Reset, ReadCacheSequential, ReadCacheEnd, ReadUniqueId, GetFeatures, SetFeatures, ResetLun, SynchronousReset, Unknown, ChangeReadColumnEnhanced}
 use Rattle.onfi_cycle.specs.declared.lun.Lun.{Lun}
 use Rattle.onfi_cycle.specs.declared.item.Item.{Item}
 use Rattle.onfi_cycle.specs.declared.latch.Latch.{Latch}
@@ -16,11 +16,11 @@ use Rattle.onfi_cycle.specs.declared.tail_facts.TailFacts.{TailFacts}
 use Rattle.onfi_cycle.specs.declared.target_cycle.TargetCycle.{TargetCycle}
 use Rattle.onfi_cycle.specs.declared.target_cycle.TargetCycle.TheVariants.{CommandCycle, AddressCycle, InputCycle, OutputCycle}
 use Rattle.onfi_cycle.specs.LunView.{LunView}
-use Rattle.onfi_cycle.specs.Sequence.{tail, facts_of, facts_after, opened, is_open, takes_features, takes_inputs, wants_command, wants_address, row, row_with, column_with, input_column}
+use Rattle.onfi_cycle.specs.Sequence.{tail, facts_of, facts_after, opened, is_open, selects_plane, takes_features, takes_inputs, wants_command, wants_address, row, row_with, column_with, input_column}
 use Rattle.onfi_cycle.specs.Effect.{page_address, names_lun, cycle_effect}
 use Rattle.onfi_cycle.specs.Lun.{drivers, is_only, lun_view, view_after, is_page_read}
-use Rattle.onfi_cycle.specs.Rules.{ends_row, second_of_page, second_column, caching, continues_cache, ends_cache, may_change_column, has_some, is_refused_by, register_len, has_no_byte, is_past_register, is_undeclared_address, excludes_cache}
-use Rattle.onfi_cycle.specs.Command.{addresses_the_array, is_change_read_column, reads_identity}
+use Rattle.onfi_cycle.specs.Rules.{ends_row, second_of_page, second_column, caching, continues_cache, ends_cache, may_change_column, has_some, is_refused_by, register_len, has_no_byte, is_past_register, is_undeclared_address, excludes_cache, holds_plane_of}
+use Rattle.onfi_cycle.specs.Command.{addresses_the_array, is_change_read_column, is_enhanced_column, reads_identity}
 use Rattle.onfi_cycle.specs.Channel.{Channel, is_serving}
 use Rattle.onfi_cycle.proofs.TableLemmas.{command_opens}
 
@@ -70,6 +70,12 @@ pub record RowCacheAllowed (g : Parts) (lun : ℕ) (c : Scene) : Type 0 where
   pub wide : is_wide g.optional ≡ true
   pub read : is_page_read c.view.closer ≡ true
 
+-- another column of the one driver, which 05 began
+pub record ColumnAllowed (c : Scene) : Type 0 where
+  pub wants : wants_command c.facts ChangeReadColumnConfirm ≡ true
+  pub no_plane : selects_plane c.facts ≡ false
+  pub sole : c.sole ≡ true
+
 -- where nothing is open no 31 is wanted
 pub closed_unwanted : (t : TailFacts) → is_open t ≡ false → wants_command t ReadCacheSequential ≡ false
 closed_unwanted t closed = at (wants_command t ReadCacheSequential) refl
@@ -78,6 +84,7 @@ closed_unwanted t closed = at (wants_command t ReadCacheSequential) refl
     at true w = let opens : is_open t ≡ true = command_opens t ReadCacheSequential w in cc
     at false w = refl
 
+-- what 06 begins is for traces alone
 abbrev pub CommandAllowed : Parts → ℕ → Scene → Command → Type 0
 CommandAllowed g lun c Read = OpenerAllowed c
 CommandAllowed g lun c BlockErase = OpenerAllowed c
@@ -95,7 +102,7 @@ CommandAllowed g lun c BlockEraseConfirm = CloserAllowed g lun c BlockEraseConfi
 CommandAllowed g lun c BlockErasePlane = CloserAllowed g lun c BlockErasePlane × (g.multi_plane ≡ true)
 CommandAllowed g lun c ProgramConfirm = CloserAllowed g lun c ProgramConfirm
 CommandAllowed g lun c ProgramPlane = CloserAllowed g lun c ProgramPlane × (g.multi_plane ≡ true)
-CommandAllowed g lun c ChangeReadColumnConfirm = (wants_command c.facts ChangeReadColumnConfirm ≡ true) × (c.sole ≡ true)
+CommandAllowed g lun c ChangeReadColumnConfirm = ColumnAllowed c
 CommandAllowed g lun c ChangeWriteColumn = wants_command c.facts ChangeWriteColumn ≡ true
 CommandAllowed g lun c ReadUniqueId = IdentityAllowed g c × (has_unique_id g.optional ≡ true)
 CommandAllowed g lun c GetFeatures = IdentityAllowed g c × (has_features g.optional ≡ true)
@@ -103,6 +110,7 @@ CommandAllowed g lun c SetFeatures = IdentityAllowed g c × (has_features g.opti
 CommandAllowed g lun c ResetLun = (is_open c.facts ≡ false) × (has_lun_reset g.optional ≡ true)
 CommandAllowed g lun c SynchronousReset = ResetAllowed g c × (has_synchronous_reset g.optional ≡ true)
 CommandAllowed g lun c Unknown = ⊥
+CommandAllowed g lun c ChangeReadColumnEnhanced = ⊥
 
 -- the last row cycle
 pub record RowAllowed (g : Parts) (lun : ℕ) (c : Scene) (byte : ℕ) : Type 0 where
@@ -111,6 +119,7 @@ pub record RowAllowed (g : Parts) (lun : ℕ) (c : Scene) (byte : ℕ) : Type 0 
   pub ready : ends_row addresses_the_array c.facts ≡ true → c.view.busy ≡ false
   pub goes : is_refused_by g c.facts.opening (page_address g (row_with c.facts byte)) c.view.queue ≡ false
   pub no_cache : ends_row (excludes_cache g) c.facts ≡ true → caching c.view ≡ false
+  pub plane : ends_row is_enhanced_column c.facts ≡ true → holds_plane_of g (page_address g (row_with c.facts byte)) c.view.register ≡ true
 
 pub record AddressAllowed (g : Parts) (lun : ℕ) (c : Scene) (byte : ℕ) : Type 0 where
   pub wanted : wants_address c.facts byte ≡ true

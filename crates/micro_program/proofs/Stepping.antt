@@ -5,7 +5,7 @@ use Rattle.std.proofs.lemmas.Bool.Decides.{nat_tests}
 use Rattle.onfi_cycle.proofs.Booleans.{eqb_self}
 use Rattle.nand_geometry.specs.declared.parts.Parts.{Parts}
 use Rattle.onfi_cycle.specs.declared.command.Command.{Command}
-use Rattle.onfi_cycle.specs.declared.command.Command.TheVariants.{Read, ReadConfirm, ChangeReadColumnConfirm, BlockEraseConfirm, BlockErasePlane, ReadStatus, ReadStatusEnhanced, ProgramConfirm, ProgramPlane, ReadId, ReadParameterPage, Reset, ReadCacheSequential, ReadCacheEnd, ReadUniqueId, GetFeatures, SetFeatures, ResetLun, SynchronousReset}
+use Rattle.onfi_cycle.specs.declared.command.Command.TheVariants.{Read, ReadConfirm, ChangeReadColumnConfirm, BlockEraseConfirm, BlockErasePlane, ReadStatus, ReadStatusEnhanced, ProgramConfirm, ProgramPlane, ReadId, ReadParameterPage, Reset, ReadCacheSequential, ReadCacheEnd, ReadUniqueId, GetFeatures, SetFeatures, ResetLun, SynchronousReset, ChangeReadColumnEnhanced}
 use Rattle.onfi_cycle.specs.declared.lun.Lun.{Lun}
 use Rattle.onfi_cycle.specs.declared.item.Item.{Item}
 use Rattle.onfi_cycle.specs.declared.item.Kind.{Kind}
@@ -18,8 +18,8 @@ use Rattle.onfi_cycle.specs.declared.tail_facts.TailFacts.{TailFacts}
 use Rattle.onfi_cycle.specs.declared.target_cycle.TargetCycle.{TargetCycle}
 use Rattle.onfi_cycle.specs.declared.target_cycle.TargetCycle.TheVariants.{CommandCycle, AddressCycle, InputCycle, OutputCycle}
 use Rattle.onfi_cycle.specs.LunView.{LunView}
-use Rattle.onfi_cycle.specs.Sequence.{tail, facts_of, facts_after, opened, takes_features, target_cycle, wants_command, wants_address, row, row_with}
-use Rattle.onfi_cycle.specs.Effect.{is_off, is_data, is_shared, of_target, lun_reset_effect, names_lun, command_effect, address_effect, opening_address_effect, id_effect, ends_features, cycle_effect, row_effect, cache_effect}
+use Rattle.onfi_cycle.specs.Sequence.{tail, facts_of, facts_after, opened, selects_plane, takes_features, target_cycle, wants_command, wants_address, row, row_with}
+use Rattle.onfi_cycle.specs.Effect.{is_off, is_data, is_shared, of_target, lun_reset_effect, names_lun, command_effect, address_effect, opening_address_effect, id_effect, ends_features, cycle_effect, row_effect, cache_effect, plane_effect, column_effect}
 use Rattle.onfi_cycle.specs.Lun.{latch, latch_after, works, latch_alone, effect_on, drivers, drivers_from, is_only, lun_view, luns_of, view_after}
 use Rattle.nand_geometry.specs.Optional.{is_wide}
 use Rattle.onfi_cycle.specs.Command.{closes_row, reads_identity}
@@ -52,7 +52,7 @@ alone_to_target false serves keeps one keep = keep
 pub of_one : (g : Parts) (lun : ℕ) (e : Effect) → ltb 1 g.luns ≡ false → of_target g lun e ≡ e
 of_one g lun e one = ap (λ (b : Bool). cond (not b || lun == 0) e Deselected) (not_shared g one)
 
--- a 31 is of the LUN of its row, where it is wanted, and else of the driver
+-- a 31 is of the LUN of its row, where it is wanted, and else of the driver; and so is an E0, where 06 began it
 at_row : (w named only : Bool) → w ≡ true → named ≡ true → cond w named only ≡ true
 at_row true named only e h = h
 at_row false named only e h = cc
@@ -67,7 +67,9 @@ command_keeps_to s l past c k BlockEraseConfirm a = of_no_target (is_shared s.ge
 command_keeps_to s l past c k BlockErasePlane a = of_no_target (is_shared s.geometry) false _ refl (ap (λ (t : TailFacts). names_lun s.geometry (row t) l.lun) k.facts ∙ a.0.1)
 command_keeps_to s l past c k ProgramConfirm a = of_no_target (is_shared s.geometry) false _ refl (ap (λ (t : TailFacts). names_lun s.geometry (row t) l.lun) k.facts ∙ a.1)
 command_keeps_to s l past c k ProgramPlane a = of_no_target (is_shared s.geometry) false _ refl (ap (λ (t : TailFacts). names_lun s.geometry (row t) l.lun) k.facts ∙ a.0.1)
-command_keeps_to s l past c k ChangeReadColumnConfirm a = of_no_target (is_shared s.geometry) false _ refl (k.sole a.1)
+command_keeps_to s l past c k ChangeReadColumnConfirm a =
+    of_no_target (is_shared s.geometry) false _ refl
+    (at_driver (selects_plane (facts_of (tail past l.ce))) _ _ (ap selects_plane k.facts ∙ a.no_plane) (k.sole a.sole))
 command_keeps_to s l past c k ReadCacheSequential (inl a) =
     of_no_target (is_shared s.geometry) false _ refl
     (at_driver (wants_command (facts_of (tail past l.ce)) ReadCacheSequential) _ _ (ap (λ (t : TailFacts). wants_command t ReadCacheSequential) k.facts ∙ closed_unwanted c.facts a.closed) (k.sole a.sole))
@@ -121,7 +123,7 @@ own_cycle s l past c there k kind byte a =
 -- 2. what the LUN is behind it
 
 same_command_effect : (g : Parts) (x : Latch) (c : Scene) (lun : ℕ) → (c.sole ≡ true → x ≡ shown_alone c) → (d : Command) → CommandAllowed g lun c d → command_effect g c.facts x d lun ≡ command_effect g c.facts (shown_alone c) d lun
-same_command_effect g x c lun h ChangeReadColumnConfirm a = ap (λ (y : Latch). command_effect g c.facts y ChangeReadColumnConfirm lun) (h a.1)
+same_command_effect g x c lun h ChangeReadColumnConfirm a = ap (λ (y : Latch). command_effect g c.facts y ChangeReadColumnConfirm lun) (h a.sole)
 same_command_effect g x c lun h ReadCacheSequential (inl a) = ap (λ (y : Latch). command_effect g c.facts y ReadCacheSequential lun) (h a.sole)
 same_command_effect g x c lun h ReadCacheSequential (inr a) = rw a.wants refl
 same_command_effect g x c lun h ReadCacheEnd a = ap (λ (y : Latch). command_effect g c.facts y ReadCacheEnd lun) (h a.sole)
@@ -265,7 +267,9 @@ command_leaves_off g lun c ReadConfirm h a m p q x on off =
     read_leaves (wants_command c.facts ReadConfirm && names_lun g (row c.facts) m) (wants_command c.facts ReadConfirm && is_shared g) _ p q x
     (λ e. sym (on (sym (eqb-true _ m (and_parts _ _ e).1) ∙ eqb-true _ lun a.0.1)))
     (λ e. off (λ same. not_both (wants_command c.facts ReadConfirm) (names_lun g (row c.facts) m) a.0.0 (ap (names_lun g (row c.facts)) same ∙ a.0.1) e))
-command_leaves_off g lun c ChangeReadColumnConfirm h a m p q x on off = leaves_either (wants_command c.facts ChangeReadColumnConfirm && not (is_off x)) _ p q x (λ e. refl)
+command_leaves_off g lun c ChangeReadColumnConfirm h a m p q x on off =
+    ap (λ (b : Bool). is_off (latch_after (cond b (plane_effect g c.facts m) (column_effect c.facts x)) p q x)) a.no_plane
+    ∙ leaves_either (wants_command c.facts ChangeReadColumnConfirm && not (is_off x)) _ p q x (λ e. refl)
 command_leaves_off g lun c ReadCacheSequential h (inl a) m p q x on off =
     ap (λ (w : Bool). is_off (latch_after (cond w (row_effect g c.facts ReadCacheSequential m) (cache_effect x)) p q x)) (closed_unwanted c.facts a.closed)
     ∙ leaves_other (CacheReadContinued None) p q x (λ e. refl)
@@ -279,6 +283,7 @@ command_leaves_off g lun c ReadStatusEnhanced h a m p q x on off = refl
 command_leaves_off g lun c Reset h a m p q x on off = cc
 command_leaves_off g lun c SynchronousReset h a m p q x on off = cc
 command_leaves_off g lun c ReadStatus h a m p q x on off = cc
+command_leaves_off g lun c ChangeReadColumnEnhanced h a m p q x on off = absurd a
 command_leaves_off g lun c d h a m p q x on off = closer_leaves (wants_command c.facts d && names_lun g (row c.facts) m) (closes_row d && (wants_command c.facts d && is_shared g)) _ p q x refl
 
 -- the openers whose addresses leave each driver

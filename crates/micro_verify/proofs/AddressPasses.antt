@@ -22,7 +22,7 @@ use Rattle.micro_program.specs.Moves.{address, gives, and_then}
 use Rattle.micro_claims.proofs.Fits.{Address, bytes_of, takes_column, now_of}
 use Rattle.micro_claims.proofs.Addressing.{of_now, carried_is}
 use Rattle.micro_claims.proofs.SoundAddress.{resets_lun, leaves_target}
-use Rattle.micro_verify.proofs.AddressTests.{takes_first, last_of_array, few_of, second_holds, and_third, clears}
+use Rattle.micro_verify.proofs.AddressTests.{takes_first, last_of_row, few_of, second_holds, and_third, clears}
 use Rattle.micro_verify.specs.Lazy.{lone_job, Run}
 use Rattle.micro_verify.proofs.Lone.{Lone}
 use Rattle.micro_verify.proofs.Mirrors.{Mirrors, TailMirror, is_base_place, LunMirror, place_queues, place_erases, row_goes_along, shows_of}
@@ -82,7 +82,7 @@ opener_passes s text v r c from count o n w x clear =
     let last = last_is o i x.carries e in
     let begins = x.begins in
     let five : 5 ≤ from + count = omega (arith, begins, last, most) in
-    sym (row_refused_is g j v r.done c.view o n a w.fit.base (last_of_array o i x.carries e) w.mirrors.registers w.mirrors.lun (x.now.row (let y : 2 < from + count = omega (arith, five) in grind (arith, nat_tests, y))) refl refl) ∙ clear.row (grind (arith, nat_tests, five))))
+    sym (row_refused_is g j v r.done c.view o n a w.fit.base (last_of_row o i x.carries e) w.mirrors.registers w.mirrors.lun (x.now.row (let y : 2 < from + count = omega (arith, five) in grind (arith, nat_tests, y))) refl refl) ∙ clear.row (grind (arith, nat_tests, five))))
   where
     g : Parts
     g = s.geometry

@@ -7,7 +7,7 @@ use Rattle.onfi_cycle.specs.declared.command.Command.{Command}
 use Rattle.onfi_cycle.specs.declared.command.Command.TheVariants.{Read, ChangeReadColumn, BlockErase, PageProgram}
 use Rattle.onfi_cycle.specs.declared.forbidden.Forbidden.TheVariants.{AddressMisplaced}
 use Rattle.onfi_cycle.specs.declared.tail_facts.TailFacts.{TailFacts}
-use Rattle.onfi_cycle.specs.Command.{address_cycles, addresses_the_array, reads_identity}
+use Rattle.onfi_cycle.specs.Command.{address_cycles, reads_identity}
 use Rattle.onfi_cycle.specs.Sequence.{opened}
 use Rattle.onfi_cycle.specs.Rules.{may_change_column}
 use Rattle.onfi_cycle.specs.Channel.{Channel}
@@ -19,7 +19,7 @@ use Rattle.micro_claims.specs.declared.place.Place.TheVariants.{Closed, After, I
 use Rattle.micro_claims.specs.Spans.{bound_plus, is_at_most, only}
 use Rattle.micro_claims.specs.Against.{addresses_left, first_address, next_address, takes_identity_at, is_inside_address, byte_of_column, is_identity_byte, column_limit, has_second_column, surely_past, identity_refused, row_refused, begins_elsewhere, address_out_of_place, column_past}
 use Rattle.micro_program.specs.Program.{Job, column_now}
-use Rattle.micro_claims.proofs.Fits.{Address, all_bytes, takes_column, IsNow, now_of}
+use Rattle.micro_claims.proofs.Fits.{Address, all_bytes, takes_column, takes_row, IsNow, now_of}
 use Rattle.micro_claims.proofs.Addressing.{of_now, address_bytes}
 use Rattle.micro_claims.proofs.AddressSteps.{nth}
 use Rattle.micro_verify.specs.Lazy.{lone_job, Run}
@@ -34,7 +34,7 @@ use Rattle.micro_verify.proofs.AddressStops.{AtOpener, limit_of, address_stops, 
 use Rattle.micro_verify.proofs.AddressColumn.{now_column, in_column_past, in_column_more}
 use Rattle.micro_verify.proofs.AddressIdentity.{asks_there, base_takes, none_yet, asked_is, identity_stops}
 use Rattle.micro_verify.proofs.OpenerStops.{column_word, AddressAt, now_there, opener_at, limit_is, limit_small, page_small, sure_is, column_stops, row_stops, more_stops}
-use Rattle.micro_verify.proofs.AddressTests.{carries_is, takes_is, takes_first, array_cycles, more_left, second_parts, second_holds, and_third, PastTests, past_tests, begins_there, unsure, of_identity, too_many, row_tests}
+use Rattle.micro_verify.proofs.AddressTests.{carries_is, takes_is, takes_first, row_cycles, more_left, second_parts, second_holds, and_third, PastTests, past_tests, begins_there, unsure, of_identity, too_many, row_tests}
 
 -- 1. a column past its limit
 
@@ -98,7 +98,7 @@ not_elsewhere p a t from count is h = at (begins_elsewhere from p) refl
 
 -- behind an opener whose addresses carry the registers
 opener_refused : (s : Channel) (text : Microprogram) (v : State) (r : Run) (c : Lone) (from count : ℕ) (o : Command) (n : ℕ) → AddressAt s text v r c from count → AtOpener s text r c from count o n → n < address_cycles o → (is_read_column (After o n) ≡ true → may_change_column c.view ≡ true) → (from == first_address o + n) ≡ true → surely_past s.geometry v from count (After o n) ≡ false → (ltb (address_cycles o - n) count || (from == first_address o + n && nat_le 5 (from + count) && row_refused s.geometry v (After o n))) ≡ true → WordStops s (lone_job s.geometry text) r (AddressWord from count) is_of_cycle_forbidden
-opener_refused s text v r c from count o n w x inside changes same sure h = by (addresses_the_array o) refl
+opener_refused s text v r c from count o n w x inside changes same sure h = by (takes_row o) refl
   where
     g : Parts
     g = s.geometry
@@ -117,7 +117,7 @@ opener_refused s text v r c from count o n w x inside changes same sure h = by (
         sym (ap (λ (l : ℕ). nat_le l v.registers.column.lo) (limit_is s text v r c o n m x.carries changes) ∙ sure_is g v r.done (limit_of g o c.view) m.registers)
         ∙ and_third (from == first_address o + n) (has_second_column from count) (nat_le (column_limit g v (After o n)) v.registers.column.lo) same second sure
 
-    changed : (o : Command) → carries_registers o ≡ true → addresses_the_array o ≡ false → ChangeReadColumn ≡ o
+    changed : (o : Command) → carries_registers o ≡ true → takes_row o ≡ false → ChangeReadColumn ≡ o
     changed ChangeReadColumn carries other = refl
     changed Read carries other = cc
     changed PageProgram carries other = cc
@@ -137,13 +137,13 @@ opener_refused s text v r c from count o n w x inside changes same sure h = by (
         let more = too_many from count n _ _ from_is low h in
         more_stops s text v r c from count n w x low more (column refl low (omega (arith, more, from_is)))
 
-    by : (b : Bool) → addresses_the_array o ≡ b → WordStops s j r (AddressWord from count) is_of_cycle_forbidden
-    by true array =
+    by : (b : Bool) → takes_row o ≡ b → WordStops s j r (AddressWord from count) is_of_cycle_forbidden
+    by true takes_it =
         let a = of_now g j r.done from count x.now in
-        let t = row_tests from count n (first_address o) (address_cycles o) _ _ x.begins (array_cycles o array) w.few h in
+        let t = row_tests from count n (first_address o) (address_cycles o) _ _ x.begins (row_cycles o takes_it) w.few h in
         let five = t.0 in
         let row = x.now.row (let y : 2 < from + count = omega (arith, five) in grind (arith, nat_tests, y)) in
-        row_stops s text v r c from count o n w x array five (λ takes low. column takes low (omega (arith, five))) (sym (row_refused_is g j v r.done c.view o n a w.fit.base array m.registers m.lun row refl refl) ∙ t.1)
+        row_stops s text v r c from count o n w x takes_it five (λ takes low. column takes low (omega (arith, five))) (sym (row_refused_is g j v r.done c.view o n a w.fit.base takes_it m.registers m.lun row refl refl) ∙ t.1)
     by false other = subst Column (changed o x.carries other) behind_05 x inside column h
 
 pub refused_stops : (s : Channel) (text : Microprogram) (v : State) (r : Run) (c : Lone) (from count : ℕ) → AddressAt s text v r c from count → begins_wrong c.facts from count ≡ false → (wants_identity c.facts ≡ true → from ≤ 1) → address_out_of_place s.geometry v from count v.target.tail ≡ true → WordStops s (lone_job s.geometry text) r (AddressWord from count) is_of_cycle_forbidden

@@ -6,11 +6,10 @@ use Rattle.nand_geometry.specs.Limits.{planes}
 use Rattle.nand_geometry.specs.Optional.{is_wide}
 use Rattle.nand_geometry.specs.Row.{row_of}
 use Rattle.onfi_cycle.specs.declared.command.Command.{Command}
-use Rattle.onfi_cycle.specs.declared.command.Command.TheVariants.{Read}
+use Rattle.onfi_cycle.specs.declared.command.Command.TheVariants.{Read, BlockErase, PageProgram}
 use Rattle.onfi_cycle.specs.declared.forbidden.Forbidden.{Forbidden}
 use Rattle.onfi_cycle.specs.declared.forbidden.Forbidden.TheVariants.{LunBusy, QueueClash, ColumnOutside, CacheReadMisplaced}
 use Rattle.onfi_cycle.specs.LunView.{LunView}
-use Rattle.onfi_cycle.specs.Command.{addresses_the_array}
 use Rattle.onfi_cycle.specs.Effect.{page_address}
 use Rattle.onfi_cycle.specs.Rules.{caching, excludes_cache, refused_by}
 use Rattle.micro_claims.specs.declared.state.State.{State}
@@ -20,12 +19,13 @@ use Rattle.micro_claims.specs.State.{may_be_31}
 use Rattle.micro_claims.specs.Spans.{greatest_bound, bound_plus, is_at_most}
 use Rattle.micro_claims.specs.Against.{queue_refuses, row_refused}
 use Rattle.micro_program.specs.Program.{Job, Done, index_now, plane_now, column_now}
-use Rattle.micro_claims.proofs.Fits.{Address, RowIs}
+use Rattle.micro_claims.proofs.Fits.{Address, RowIs, takes_row}
 use Rattle.micro_claims.proofs.AddressSteps.{carried}
 use Rattle.micro_claims.proofs.Addressing.{carried_is}
 use Rattle.micro_verify.specs.Cause.{is_of_cycle_forbidden}
 use Rattle.micro_verify.proofs.Mirrors.{RegistersMirror, LunMirror, exact_test}
 use Rattle.micro_verify.proofs.AddressesJudged.{row_rule, column_rule}
+use Rattle.micro_verify.proofs.AddressTests.{row_is_of_array}
 use Rattle.micro_verify.proofs.AddressCauses.{index_test}
 use Rattle.micro_verify.proofs.QueueExact.{refuses_is}
 
@@ -35,20 +35,22 @@ use Rattle.micro_verify.proofs.QueueExact.{refuses_is}
 abbrev pub is_refused : Parts → Command → Address → LunView → Bool
 is_refused g o a view = view.busy || caching view || refused_by g o (page_address g (row_of a.r1 a.r2 a.r3)) view.queue
 
-pub row_refused_is : (g : Parts) (j : Job) (v : State) (done : List Done) (view : LunView) (o : Command) (n : ℕ) (a : Address) → is_wide g.optional ≡ false → addresses_the_array o ≡ true → RegistersMirror g v.registers done → LunMirror g v.lun (index_now 0 done) view → RowIs g j a → a.index ≡ index_now 0 done → a.plane ≡ plane_now done → row_refused g v (After o n) ≡ is_refused g o a view
-row_refused_is g j v done view o n a base array m lun row index plane =
+pub row_refused_is : (g : Parts) (j : Job) (v : State) (done : List Done) (view : LunView) (o : Command) (n : ℕ) (a : Address) → is_wide g.optional ≡ false → takes_row o ≡ true → RegistersMirror g v.registers done → LunMirror g v.lun (index_now 0 done) view → RowIs g j a → a.index ≡ index_now 0 done → a.plane ≡ plane_now done → row_refused g v (After o n) ≡ is_refused g o a view
+row_refused_is g j v done view o n a base takes m lun row index plane =
     let page : (page_address g (row_of a.r1 a.r2 a.r3)).page ≡ index_now 0 done % g.pages = ap (λ (p : RowParts). p.page) row.reads ∙ ap (λ (i : ℕ). i % g.pages) index in
     let block : (page_address g (row_of a.r1 a.r2 a.r3)).block ≡ index_now 0 done / g.pages * planes g + plane_now done = ap (λ (p : RowParts). p.block) row.reads ∙ (λ i. index i / g.pages * planes g + plane i) in
     let low : plane_now done < planes g = subst (λ (p : ℕ). p < planes g) plane row.low in
     let queue : queue_refuses v.lun.queue v.registers.planes o ≡ refused_by g o (page_address g (row_of a.r1 a.r2 a.r3)) view.queue =
-    ap (λ (p : Planes). queue_refuses v.lun.queue p o) m.planes ∙ refuses_is g (index_now 0 done) v.lun.queue view.queue o (page_address g (row_of a.r1 a.r2 a.r3)) (plane_now done) array lun.queue low m.plane_low page block in
-    let cached : (excludes_cache g o && may_be_31 v.lun.last) ≡ caching view = ap (λ (b : Bool). b && may_be_31 v.lun.last) (excludes g o base array) ∙ lun.caching in
-    λ i. array i && (lun.busy i || cached i || queue i)
+    ap (λ (p : Planes). queue_refuses v.lun.queue p o) m.planes ∙ refuses_is g (index_now 0 done) v.lun.queue view.queue o (page_address g (row_of a.r1 a.r2 a.r3)) (plane_now done) takes lun.queue low m.plane_low page block in
+    let cached : (excludes_cache g o && may_be_31 v.lun.last) ≡ caching view = ap (λ (b : Bool). b && may_be_31 v.lun.last) (excludes g o base takes) ∙ lun.caching in
+    λ i. row_is_of_array o takes i && (lun.busy i || cached i || queue i)
   where
     -- in the base profile no row may name a LUN that is caching
-    excludes : (g : Parts) (o : Command) → is_wide g.optional ≡ false → addresses_the_array o ≡ true → excludes_cache g o ≡ true
-    excludes g Read base array = ap not base
-    excludes g _ base array = array
+    excludes : (g : Parts) (o : Command) → is_wide g.optional ≡ false → takes_row o ≡ true → excludes_cache g o ≡ true
+    excludes g Read base takes = ap not base
+    excludes g BlockErase base takes = refl
+    excludes g PageProgram base takes = refl
+    excludes g _ base takes = cc
 
 -- a row that is refused breaks a rule of V7, another none
 pub refused_breaks : (g : Parts) (o : Command) (a : Address) (view : LunView) → is_refused g o a view ≡ true → (rule : Forbidden) × ((row_rule g o a view ≡ Some rule) × (is_of_cycle_forbidden rule ≡ true))

@@ -10,7 +10,7 @@ use Rattle.onfi_cycle.specs.declared.forbidden.Forbidden.TheVariants.{AddressMis
 use Rattle.onfi_cycle.specs.declared.item.Kind.TheVariants.{Adr}
 use Rattle.onfi_cycle.specs.declared.target_cycle.TargetCycle.TheVariants.{AddressCycle}
 use Rattle.onfi_cycle.specs.LunView.{LunView}
-use Rattle.onfi_cycle.specs.Command.{address_cycles, at_last_row, addresses_the_array}
+use Rattle.onfi_cycle.specs.Command.{address_cycles, at_last_row}
 use Rattle.onfi_cycle.specs.Sequence.{wants_address}
 use Rattle.onfi_cycle.specs.Effect.{is_off}
 use Rattle.onfi_cycle.specs.Rules.{register_len, breaks_command_unknown, breaks_sequence_open, breaks_several_luns, breaks_no_column_to_change, breaks_command_misplaced, breaks_address_misplaced}
@@ -19,7 +19,7 @@ use Rattle.micro_word.specs.declared.word.Word.TheVariants.{Address as AddressWo
 use Rattle.micro_word.specs.Text.{Microprogram}
 use Rattle.micro_claims.specs.Against.{first_address}
 use Rattle.micro_program.specs.Moves.{Move, Give, gives, address, and_then}
-use Rattle.micro_claims.proofs.Fits.{Address, all_bytes, bytes_of, takes_column}
+use Rattle.micro_claims.proofs.Fits.{Address, all_bytes, bytes_of, takes_column, takes_row}
 use Rattle.micro_claims.proofs.Addressing.{AddressNow, of_now, address_bytes}
 use Rattle.micro_claims.proofs.AddressSteps.{nth, carried}
 use Rattle.micro_verify.specs.Lazy.{lone_job, Run}
@@ -105,11 +105,11 @@ second_rule g ChangeReadColumn a view carries takes = refl
 second_rule g BlockErase a view carries takes = cc
 second_rule g _ a view carries takes = cc
 
-pub last_rule : (g : Parts) (o : Command) (a : Address) (view : LunView) (i : ℕ) → addresses_the_array o ≡ true → first_address o + i ≡ 4 → address_rule g o a view i ≡ row_rule g o a view
-last_rule g Read a view i array e = ap (address_rule g Read a view) (let x : i ≡ 4 = omega (arith, e) in x)
-last_rule g PageProgram a view i array e = ap (address_rule g PageProgram a view) (let x : i ≡ 4 = omega (arith, e) in x)
-last_rule g BlockErase a view i array e = ap (address_rule g BlockErase a view) (let x : i ≡ 2 = omega (arith, e) in x)
-last_rule g _ a view i array e = cc
+pub last_rule : (g : Parts) (o : Command) (a : Address) (view : LunView) (i : ℕ) → takes_row o ≡ true → first_address o + i ≡ 4 → address_rule g o a view i ≡ row_rule g o a view
+last_rule g Read a view i takes e = ap (address_rule g Read a view) (let x : i ≡ 4 = omega (arith, e) in x)
+last_rule g PageProgram a view i takes e = ap (address_rule g PageProgram a view) (let x : i ≡ 4 = omega (arith, e) in x)
+last_rule g BlockErase a view i takes e = ap (address_rule g BlockErase a view) (let x : i ≡ 2 = omega (arith, e) in x)
+last_rule g _ a view i takes e = cc
 
 -- the last row cycle is the fifth of C1 C2 R1 R2 R3
 pub last_is : (o : Command) (i : ℕ) → carries_registers o ≡ true → at_last_row o i ≡ true → first_address o + i ≡ 4

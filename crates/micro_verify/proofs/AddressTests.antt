@@ -6,7 +6,7 @@ use Rattle.onfi_cycle.specs.declared.command.Command.TheVariants.{Read, ChangeRe
 use Rattle.onfi_cycle.specs.Base.{is_of_base}
 use Rattle.onfi_cycle.specs.Command.{at_last_row, address_cycles, addresses_the_array, reads_identity}
 use Rattle.micro_claims.specs.Against.{first_address, has_second_column}
-use Rattle.micro_claims.proofs.Fits.{is_place, takes_column}
+use Rattle.micro_claims.proofs.Fits.{is_place, takes_column, takes_row}
 use Rattle.micro_verify.proofs.AddressesNow.{carries_registers}
 
 -- 1. openers
@@ -41,18 +41,25 @@ two_cycles PageProgram h = omega arith
 two_cycles ChangeReadColumn h = omega arith
 two_cycles _ h = cc
 
-pub array_cycles : (o : Command) → addresses_the_array o ≡ true → first_address o + address_cycles o ≡ 5
-array_cycles Read h = refl
-array_cycles PageProgram h = refl
-array_cycles BlockErase h = refl
-array_cycles _ h = cc
+pub row_cycles : (o : Command) → takes_row o ≡ true → first_address o + address_cycles o ≡ 5
+row_cycles Read h = refl
+row_cycles PageProgram h = refl
+row_cycles BlockErase h = refl
+row_cycles _ h = cc
 
-pub last_of_array : (o : Command) (i : ℕ) → carries_registers o ≡ true → at_last_row o i ≡ true → addresses_the_array o ≡ true
-last_of_array Read i carries e = refl
-last_of_array PageProgram i carries e = refl
-last_of_array BlockErase i carries e = refl
-last_of_array ChangeReadColumn i carries e = cc
-last_of_array _ i carries e = cc
+-- who takes a row addresses the array
+pub row_is_of_array : (o : Command) → takes_row o ≡ true → addresses_the_array o ≡ true
+row_is_of_array Read h = refl
+row_is_of_array BlockErase h = refl
+row_is_of_array PageProgram h = refl
+row_is_of_array _ h = cc
+
+pub last_of_row : (o : Command) (i : ℕ) → carries_registers o ≡ true → at_last_row o i ≡ true → takes_row o ≡ true
+last_of_row Read i carries e = refl
+last_of_row PageProgram i carries e = refl
+last_of_row BlockErase i carries e = refl
+last_of_row ChangeReadColumn i carries e = cc
+last_of_row _ i carries e = cc
 
 pub more_left : (c n : ℕ) → (c - n == 0) ≡ false → n < c
 more_left c n h = grind (arith, nat_tests, h)

@@ -28,7 +28,7 @@ use Rattle.micro_program.specs.Moves.{address}
 use Rattle.micro_claims.proofs.Fits.{Address, all_bytes, bytes_of, takes_row, has_column, has_row, is_place, RowIs, IsNow, ColumnBegun, now_of}
 use Rattle.micro_claims.proofs.Addressing.{of_now, carried_is}
 use Rattle.micro_claims.proofs.SoundAddress.{few_is, with_column, first_led, second_led, row_with_column}
-use Rattle.micro_verify.proofs.AddressTests.{few_of, second_holds}
+use Rattle.micro_verify.proofs.AddressTests.{few_of, second_holds, row_is_of_array}
 use Rattle.micro_verify.specs.Lazy.{lone_job, Run}
 use Rattle.micro_verify.proofs.Lone.{Lone, lone_behind}
 use Rattle.micro_verify.proofs.Mirrors.{Mirrors, TailMirror, NameIs, BoundIs, place_queues, place_erases, row_goes_along}
@@ -42,13 +42,6 @@ use Rattle.micro_verify.proofs.AddressPasses.{PlaceIsClear, opener_passes, addre
 use Rattle.micro_verify.proofs.AddressTails.{along_now, tail_after, tail_in_data}
 
 -- 1. of an opener
-
--- who takes a row addresses the array
-row_is_of_array : (o : Command) → takes_row o ≡ true → addresses_the_array o ≡ true
-row_is_of_array Read h = refl
-row_is_of_array BlockErase h = refl
-row_is_of_array PageProgram h = refl
-row_is_of_array _ h = cc
 
 -- the row that was named goes along with the queue, which didn't refuse it
 along_led : (g : Parts) (v : State) (r : Run) (c : Lone) (j : Job) (from count : ℕ) (o : Command) (n : ℕ) → Mirrors g j v r.done c → addresses_the_array o ≡ true → 5 ≤ from + count → (nat_le 5 (from + count) ≡ true → row_refused g v (After o n) ≡ false) → row_goes_along (is_erase o) (target_after_addresses g v from count).named v.lun.queue ≡ true

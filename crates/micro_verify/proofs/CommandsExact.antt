@@ -5,12 +5,12 @@ use Rattle.std.proofs.Math.Nat.{div-add-mod, mul-add-div_right}
 use Rattle.std.proofs.Common.{◌≡◌, ℕ, zero, suc, ◌+◌, ◌-◌, ◌*◌, ◌/◌, ◌%◌, ◌≤◌, ◌<◌, ◌==◌, Bool, true, false, ◌&&◌, ◌||◌, cond, not, ltb, nat_le, List, [], ◌∷◌, Option, Some, None, refl, sym, ap, ◌∙◌, subst, arith, eqb-true, take}
 use Rattle.std.proofs.lemmas.Bool.{not-true, and_parts, or_parts}
 use Rattle.nand_geometry.specs.declared.parts.Parts.{Parts}
-use Rattle.nand_geometry.specs.Optional.{is_wide, has_features, has_unique_id, has_lun_reset, has_synchronous_reset}
+use Rattle.nand_geometry.specs.Optional.{is_wide, has_features, has_unique_id, has_enhanced_column, has_lun_reset, has_synchronous_reset}
 use Rattle.nand_geometry.specs.declared.row_parts.RowParts.{RowParts}
 use Rattle.nand_geometry.specs.Limits.{planes}
 use Rattle.nand_geometry.specs.Row.{parts_of, row_of}
 use Rattle.onfi_cycle.specs.declared.command.Command.{Command}
-use Rattle.onfi_cycle.specs.declared.command.Command.TheVariants.{Read, ReadConfirm, ChangeReadColumn, ChangeReadColumnConfirm, BlockErase, BlockEraseConfirm, BlockErasePlane, ReadStatus as StatusCommand, ReadStatusEnhanced, PageProgram, ChangeWriteColumn, ProgramConfirm, ProgramPlane, ReadId, ReadParameterPage, Reset, ReadCacheSequential, ReadCacheEnd, Unknown as UnknownCommand, ReadUniqueId, GetFeatures, SetFeatures, ResetLun, SynchronousReset}
+use Rattle.onfi_cycle.specs.declared.command.Command.TheVariants.{Read, ReadConfirm, ChangeReadColumn, ChangeReadColumnEnhanced, ChangeReadColumnConfirm, BlockErase, BlockEraseConfirm, BlockErasePlane, ReadStatus as StatusCommand, ReadStatusEnhanced, PageProgram, ChangeWriteColumn, ProgramConfirm, ProgramPlane, ReadId, ReadParameterPage, Reset, ReadCacheSequential, ReadCacheEnd, Unknown as UnknownCommand, ReadUniqueId, GetFeatures, SetFeatures, ResetLun, SynchronousReset}
 use Rattle.onfi_cycle.specs.declared.data_phase.DataPhase.TheVariants.{Outside, Inputs}
 use Rattle.onfi_cycle.specs.declared.effect.Effect.{Effect}
 use Rattle.onfi_cycle.specs.declared.effect.Effect.TheVariants.{EraseStarted, ProgramStarted, ReadStarted, ReadColumnChanged, CacheReadContinued, CacheReadEnded, Unaffected}
@@ -27,7 +27,7 @@ use Rattle.onfi_cycle.specs.declared.target_cycle.TargetCycle.TheVariants.{Comma
 use Rattle.onfi_cycle.specs.LunView.{LunView}
 use Rattle.onfi_cycle.specs.Base.{is_of_base}
 use Rattle.onfi_cycle.specs.Command.{command, closes, address_cycles, takes_address, is_known, is_opener, wants_one_lun}
-use Rattle.onfi_cycle.specs.Sequence.{facts_after, is_proper_beginning, wants_command, wants_column, takes_data, takes_inputs, opened, row, input_column}
+use Rattle.onfi_cycle.specs.Sequence.{facts_after, is_proper_beginning, selects_plane, wants_command, wants_column, takes_data, takes_inputs, opened, row, input_column}
 use Rattle.onfi_cycle.specs.Effect.{names_lun, cycle_effect, page_address, is_off, is_data}
 use Rattle.onfi_cycle.specs.Lun.{view_after, resumed, column_at}
 use Rattle.onfi_cycle.specs.Rules.{breaks_command_unknown, is_undeclared, may_change_column, is_page_or_parameters}
@@ -49,7 +49,7 @@ use Rattle.micro_claims.specs.declared.place.Place.{Place}
 use Rattle.micro_claims.specs.declared.place.Place.TheVariants.{Closed, After, InData, InColumn, InFeatures, Unknown}
 use Rattle.micro_claims.specs.State.{bounds_of, may_be_other}
 use Rattle.micro_claims.specs.Spans.{greatest_bound, kept, bound_plus, is_at_most}
-use Rattle.micro_claims.specs.Against.{place_wants, closer_refused, same_test, is_of_profile, is_unfit, is_data_command, may_be_open, opener_refused, shows_only_data, has_page_or_parameters, has_register, drives, asks_status, command_out_of_place, command_past_rows, command_not_for_programs, continues_unseen}
+use Rattle.micro_claims.specs.Against.{place_wants, closer_refused, same_test, is_of_profile, is_unfit, is_data_command, may_be_open, opener_refused, shows_only_data, has_page_or_parameters, has_register, drives, asks_status, is_for_traces, command_out_of_place, command_past_rows, command_not_for_programs, continues_unseen}
 use Rattle.micro_claims.specs.Leaves.{paid, with_registers, resumed_shows, shows_after_read, data_shown, given_at, cached_at, cache_read, next_cached, command_leaves, queued_more, queued_planes, goes_along, same_drift, rows_at}
 use Rattle.micro_claims.specs.Planes.{no_planes, either_plane}
 use Rattle.micro_claims.specs.declared.planes.Planes.{Planes}
@@ -62,7 +62,7 @@ use Rattle.micro_claims.specs.Reasons.{reason_against, breaks_cycle_forbidden, b
 use Rattle.micro_claims.specs.Accepts.{state_after}
 use Rattle.micro_verify.specs.Lazy.{lone_job, Run}
 use Rattle.micro_verify.specs.Cause.{Cause, WordStops, is_of_cycle_forbidden, index_of, next_page_outside}
-use Rattle.micro_claims.proofs.Fits.{Address, bytes_of, opener_facts, facts_behind, RowIs, Now, now_of, has_row, has_column, InProgram, ColumnBegun, is_of_kind, page_of}
+use Rattle.micro_claims.proofs.Fits.{Address, is_place, bytes_of, opener_facts, facts_behind, RowIs, Now, now_of, has_row, has_column, InProgram, ColumnBegun, is_of_kind, page_of}
 use Rattle.micro_claims.proofs.Tails.{no_address, closed_by, only_read, only_erase, only_erase_plane, only_column}
 use Rattle.micro_claims.proofs.Sounding.{NoReasons, no_reasons}
 use Rattle.micro_claims.proofs.Commands.{same_either, out_of_place, wanted, row_names}
@@ -85,14 +85,20 @@ fit_or_none true x h = cc
 fit_or_none false x h = refl
 
 -- among the words of the text that a program may not use
-for_programs : (x d k a w n : Bool) → ((x || d) || a || w || n) ≡ true → n ≡ false → (a || x || (k || d) || w) ≡ true
-for_programs x d k true w n h e = refl
-for_programs true d k false w n h e = refl
-for_programs false true true false w n h e = refl
-for_programs false true false false w n h e = refl
-for_programs false false true false w n h e = refl
-for_programs false false false false true n h e = refl
-for_programs false false false false false n h e = let both : true ≡ false = sym h ∙ e in cc
+-- a command for traces alone is none of the base profile
+traced : (d : Command) → is_for_traces d ≡ true → not (is_of_base d) ≡ true
+traced ChangeReadColumnEnhanced h = refl
+traced _ h = cc
+
+for_programs : (x d k a t w n : Bool) → (t ≡ true → x ≡ true) → ((x || d) || a || t || w || n) ≡ true → n ≡ false → (a || x || (k || d) || w) ≡ true
+for_programs x d k true t w n wide h e = refl
+for_programs true d k false t w n wide h e = refl
+for_programs false d k false true w n wide h e = let both = wide refl in cc
+for_programs false true true false false w n wide h e = refl
+for_programs false true false false false w n wide h e = refl
+for_programs false false true false false w n wide h e = refl
+for_programs false false false false false true n wide h e = refl
+for_programs false false false false false false n wide h e = let both : true ≡ false = sym h ∙ e in cc
 
 next_outside : (rows n : ℕ) → not (nat_le (n + 2) rows) ≡ true → nat_le rows (n + 1) ≡ true
 next_outside rows n h = grind (arith, nat_tests, h)
@@ -136,8 +142,8 @@ command_cause s text v r c byte k is m seen reason e = by reason (reason_is s.ge
     by RowOrPlaneOutside h e = past_rows s text v r c k.rows is m.lun (command byte) h (lowest_row_or_plane_outside g text v (CommandWord byte) e)
     by OverBudget h e = cost_cause g v r (CommandWord byte) text.budget k.budget m.registers h
     by CommandNotAllowed h e =
-        for_programs (not (is_of_base (command byte))) (is_undeclared g (command byte)) (not (is_known (command byte))) (asks_status (command byte)) (wants_one_lun (command byte) && ltb 1 g.luns) (continues_unseen (bounds_of text) (command byte))
-        (sym (λ i. (not (profile_is g (command byte) k.base i) || is_undeclared g (command byte) || asks_status (command byte) || (wants_one_lun (command byte) && ltb 1 g.luns)) || continues_unseen (bounds_of text) (command byte)) ∙ h) seen
+        for_programs (not (is_of_base (command byte))) (is_undeclared g (command byte)) (not (is_known (command byte))) (asks_status (command byte)) (is_for_traces (command byte)) (wants_one_lun (command byte) && ltb 1 g.luns) (continues_unseen (bounds_of text) (command byte)) (traced (command byte))
+        (sym (λ i. (not (profile_is g (command byte) k.base i) || is_undeclared g (command byte) || asks_status (command byte) || is_for_traces (command byte) || (wants_one_lun (command byte) && ltb 1 g.luns)) || continues_unseen (bounds_of text) (command byte)) ∙ h) seen
     by _ h e = cc
 
 -- 2. what serves all that go
@@ -270,7 +276,7 @@ record Whole (g : Parts) (j : Job) (v : KnownTarget) (n : Now) (o : Command) (c 
   changes : is_read_column (After o (address_cycles o)) ≡ true → may_change_column c.view ≡ true
 
 -- where the tail wants this closer
-whole : (g : Parts) (j : Job) (v : KnownTarget) (n : Now) (c : Lone) (d o : Command) → ((p : Command) → closes p d ≡ true → p ≡ o) → is_data_command d ≡ false → TailMirror g j v n c → place_wants d v.tail ≡ true → Whole g j v n o c
+whole : (g : Parts) (j : Job) (v : KnownTarget) (n : Now) (c : Lone) (d o : Command) → ((p : Command) (m : ℕ) → is_place p m ≡ true → closes p d ≡ true → p ≡ o) → is_data_command d ≡ false → TailMirror g j v n c → place_wants d v.tail ≡ true → Whole g j v n o c
 whole g j v n c d o only plain f h = at f.place f.is f.column f.row f.named f.changes f.single (sym (ap (place_wants d) f.single) ∙ h)
   where
     at : (p : Place) → PlaceMirror p f.address c.facts → (has_column p ≡ true → BoundIs (input_column c.facts) v.column) → (has_row p ≡ true → RowIs g j f.address) → (has_row p ≡ true → NameIs g f.address n.index v.named) → (is_read_column p ≡ true → may_change_column c.view ≡ true) → v.tail ≡ p → place_wants d p ≡ true → Whole g j v n o c
@@ -280,7 +286,7 @@ whole g j v n c d o only plain f h = at f.place f.is f.column f.row f.named f.ch
     at (InFeatures m) is column row named changes single w = cc
     at Unknown is column row named changes single w = cc
     at (After p m) is column row named changes single w =
-        let by = closed_by d o p m f.address only w in
+        let by = closed_by d o p m f.address only is.place w in
         record {
           address = f.address;
           facts = is.facts ∙ by.facts;
@@ -427,7 +433,8 @@ goes_e0 s text v r c byte k is_d is m clear =
     let begun : c.facts.is_empty ≡ false = ap (λ (t : TailFacts). t.is_empty) w.facts in
     let may = w.changes refl in
     let shown = not_off c.view may in
-    let effect : cycle_effect (based g) c.facts c.view.latch (CommandCycle ChangeReadColumnConfirm) 0 ≡ ReadColumnChanged c.facts.column = rw (wants, shown) refl in
+    let plain : selects_plane c.facts ≡ false = ap selects_plane w.facts in
+    let effect : cycle_effect (based g) c.facts c.view.latch (CommandCycle ChangeReadColumnConfirm) 0 ≡ ReadColumnChanged c.facts.column = rw (plain, wants, shown) refl in
     command_goes s text v r c byte ChangeReadColumnConfirm k is_d refl is m clear refl
     (shut_tail g j (command_leaves g v ChangeReadColumnConfirm) r.done (lone_behind g (CommandCycle ChangeReadColumnConfirm) c) refl (shut_facts (facts_after (CommandCycle ChangeReadColumnConfirm) c.facts) (rw begun refl) (rw begun refl)))
     (m.shows ∙ ap (λ (e : Effect). shows_of (view_after e c.view).latch) (sym effect))
@@ -749,7 +756,9 @@ unfolding breaks_command_not_allowed
 asks_none g text v byte d is_d clear =
     let none = subst (λ (c : Command). (command_not_for_programs g c || continues_unseen (bounds_of text) c) ≡ false) is_d clear.no_command_not_allowed in
     let both = or_parts (command_not_for_programs g d) (continues_unseen (bounds_of text) d) none in
-    (or_parts (is_unfit g d) (asks_status d) (or_parts (is_unfit g d || asks_status d) (wants_one_lun d && ltb 1 g.luns) both.0).0).1
+    let three = or_parts (is_unfit g d || asks_status d || is_for_traces d) (wants_one_lun d && ltb 1 g.luns) both.0 in
+    let two = or_parts (is_unfit g d || asks_status d) (is_for_traces d) three.0 in
+    (or_parts (is_unfit g d) (asks_status d) two.0).1
 
 -- a command is exact; of 31h the text is known to have one
 pub command_exact : (s : Channel) (text : Microprogram) (v : State) (r : Run) (c : Lone) (byte : ℕ) → IsFit s text → continues_unseen (bounds_of text) (command byte) ≡ false → IsLone s r.past c → Mirrors s.geometry (lone_job s.geometry text) v r.done c → ExactWord s text v r (CommandWord byte)
@@ -775,6 +784,7 @@ command_exact s text v r c byte k seen is m =
     by Reset is_d clear = goes_ff s text v r c byte k is_d is m clear
     by ReadCacheSequential is_d clear = goes_31 s text v r c byte k is_d is m clear
     by ReadCacheEnd is_d clear = goes_3f s text v r c byte k is_d is m clear
+    by ChangeReadColumnEnhanced is_d clear = absurd (barred (is_wide s.geometry.optional) (not (has_enhanced_column s.geometry.optional)) k.base (declared s.geometry text v byte ChangeReadColumnEnhanced is_d clear).fit)
     by ReadUniqueId is_d clear = absurd (barred (is_wide s.geometry.optional) (not (has_unique_id s.geometry.optional)) k.base (declared s.geometry text v byte ReadUniqueId is_d clear).fit)
     by GetFeatures is_d clear = absurd (barred (is_wide s.geometry.optional) (not (has_features s.geometry.optional)) k.base (declared s.geometry text v byte GetFeatures is_d clear).fit)
     by SetFeatures is_d clear = absurd (barred (is_wide s.geometry.optional) (not (has_features s.geometry.optional)) k.base (declared s.geometry text v byte SetFeatures is_d clear).fit)

@@ -8,7 +8,7 @@ use Rattle.onfi_cycle.specs.declared.command.Command.TheVariants.{Read, ChangeRe
 use Rattle.onfi_cycle.specs.declared.forbidden.Forbidden.TheVariants.{AddressMisplaced, ColumnOutside}
 use Rattle.onfi_cycle.specs.declared.target_cycle.TargetCycle.TheVariants.{AddressCycle}
 use Rattle.onfi_cycle.specs.LunView.{LunView}
-use Rattle.onfi_cycle.specs.Command.{address_cycles, addresses_the_array}
+use Rattle.onfi_cycle.specs.Command.{address_cycles}
 use Rattle.onfi_cycle.specs.Effect.{is_off}
 use Rattle.onfi_cycle.specs.Rules.{may_change_column}
 use Rattle.onfi_cycle.specs.Channel.{Channel}
@@ -19,10 +19,10 @@ use Rattle.micro_claims.specs.declared.place.Place.TheVariants.{After}
 use Rattle.micro_claims.specs.Spans.{greatest_bound}
 use Rattle.micro_claims.specs.Against.{first_address, is_inside_address, drives, least_length, column_limit}
 use Rattle.micro_program.specs.Program.{Done, column_now, plane_now, index_now}
-use Rattle.micro_claims.proofs.Fits.{Address, all_bytes, bytes_of, takes_column, Opened, IsNow, now_of}
+use Rattle.micro_claims.proofs.Fits.{Address, all_bytes, bytes_of, takes_column, takes_row, Opened, IsNow, now_of}
 use Rattle.micro_claims.proofs.Addressing.{AddressNow, of_now, carried_is, address_bytes}
 use Rattle.micro_claims.proofs.AddressSteps.{nth}
-use Rattle.micro_verify.proofs.AddressTests.{takes_first, two_cycles, array_cycles}
+use Rattle.micro_verify.proofs.AddressTests.{takes_first, two_cycles, row_cycles}
 use Rattle.micro_program.specs.Moves.{address}
 use Rattle.micro_verify.specs.Lazy.{lone_job, Run}
 use Rattle.micro_verify.specs.Cause.{WordStops, is_of_cycle_forbidden, is_of_column_too_large}
@@ -142,15 +142,15 @@ column_stops s text v r c from count o n w x takes low both past = by n x low
     by (suc (suc n)) x low = absurd (omega (arith, low))
 
 -- a row that is refused, where the column is inside
-pub row_stops : (s : Channel) (text : Microprogram) (v : State) (r : Run) (c : Lone) (from count : ℕ) (o : Command) (n : ℕ) → AddressAt s text v r c from count → (x : AtOpener s text r c from count o n) → addresses_the_array o ≡ true → 5 ≤ from + count → (takes_column o ≡ true → n ≤ 1 → nat_le (limit_of s.geometry o c.view) (column_now r.done) ≡ false) → is_refused s.geometry o (of_now s.geometry (lone_job s.geometry text) r.done from count x.now) c.view ≡ true → WordStops s (lone_job s.geometry text) r (AddressWord from count) is_of_cycle_forbidden
-row_stops s text v r c from zero o n w x array five column refused = absurd (let y = w.some in omega (arith, y))
-row_stops s text v r c from (suc m) o n w x array five column refused =
+pub row_stops : (s : Channel) (text : Microprogram) (v : State) (r : Run) (c : Lone) (from count : ℕ) (o : Command) (n : ℕ) → AddressAt s text v r c from count → (x : AtOpener s text r c from count o n) → takes_row o ≡ true → 5 ≤ from + count → (takes_column o ≡ true → n ≤ 1 → nat_le (limit_of s.geometry o c.view) (column_now r.done) ≡ false) → is_refused s.geometry o (of_now s.geometry (lone_job s.geometry text) r.done from count x.now) c.view ≡ true → WordStops s (lone_job s.geometry text) r (AddressWord from count) is_of_cycle_forbidden
+row_stops s text v r c from zero o n w x takes_it five column refused = absurd (let y = w.some in omega (arith, y))
+row_stops s text v r c from (suc m) o n w x takes_it five column refused =
     let breaks = refused_breaks g o a c.view refused in
     opener_stops s text r c from (suc m) o n m is_of_cycle_forbidden x w.fit.alone w.lone (omega arith) (omega (arith, last, cycles))
     (λ i least most. rule_none g o a c.view i x.carries
     (λ t e. ap (nat_le (limit_of g o c.view)) (carried_is (column_now r.done) w.mirrors.registers.column_low) ∙ column t (omega (arith, least, e)))
     (λ e. absurd (let f = last_is o i x.carries e in omega (arith, f, most, last)))) breaks.0
-    ((cycle_goes s text r c from (suc m) o n (n + m) x (omega (arith, last, cycles)) (omega (arith, last, five))).judged_is ∙ (last_rule g o a c.view (n + m) array last ∙ breaks.1.0)) breaks.1.1
+    ((cycle_goes s text r c from (suc m) o n (n + m) x (omega (arith, last, cycles)) (omega (arith, last, five))).judged_is ∙ (last_rule g o a c.view (n + m) takes_it last ∙ breaks.1.0)) breaks.1.1
   where
     g : Parts
     g = s.geometry
@@ -159,7 +159,7 @@ row_stops s text v r c from (suc m) o n w x array five column refused =
     a = of_now s.geometry (lone_job s.geometry text) r.done from (suc m) x.now
 
     cycles : first_address o + address_cycles o ≡ 5
-    cycles = array_cycles o array
+    cycles = row_cycles o takes_it
 
     last : first_address o + (n + m) ≡ 4
     last = let e = x.begins in let y = w.few in omega (arith, e, y, five)

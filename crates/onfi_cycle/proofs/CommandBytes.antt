@@ -46,7 +46,6 @@ byte_of_command byte =
     one_test byte 0x00 Read _ refl
     (one_test byte 0x30 ReadConfirm _ refl
     (one_test byte 0x05 ChangeReadColumn _ refl
-    (one_test byte 0x06 ChangeReadColumnEnhanced _ refl
     (one_test byte 0xe0 ChangeReadColumnConfirm _ refl
     (one_test byte 0x60 BlockErase _ refl
     (one_test byte 0xd0 BlockEraseConfirm _ refl
@@ -67,6 +66,7 @@ byte_of_command byte =
     (one_test byte 0xef SetFeatures _ refl
     (one_test byte 0xfa ResetLun _ refl
     (one_test byte 0xfc SynchronousReset _ refl
+    (one_test byte 0x06 ChangeReadColumnEnhanced _ refl
     (λ known. absurd (known refl)))))))))))))))))))))))))
 
 pub commands_have_bytes : CommandsHaveBytes

@@ -12,7 +12,7 @@ use Rattle.onfi_cycle.specs.declared.register.Register.{Register}
 use Rattle.onfi_cycle.specs.declared.register.Register.TheVariants.{Empty, Page, Features}
 use Rattle.onfi_cycle.specs.declared.read_column.ReadColumn.{ReadColumn}
 use Rattle.onfi_cycle.specs.declared.effect.Effect.{Effect}
-use Rattle.onfi_cycle.specs.declared.effect.Effect.TheVariants.{StatusSelected, StatusOfSelected, StatusRowAwaited, IdRead, IdentityRead, UniqueIdReadStarted, FeaturesReadStarted, ParameterPageReadStarted, CacheReadContinued, CacheReadEnded, DataOutput, BecameReady, ReadStarted, EraseStarted, ProgramStarted, ReadColumnChanged}
+use Rattle.onfi_cycle.specs.declared.effect.Effect.TheVariants.{StatusSelected, StatusOfSelected, StatusRowAwaited, IdRead, IdentityRead, UniqueIdReadStarted, FeaturesReadStarted, ParameterPageReadStarted, CacheReadContinued, CacheReadEnded, DataOutput, BecameReady, ReadStarted, EraseStarted, ProgramStarted, ReadColumnChanged, PlaneSelected}
 use Rattle.onfi_cycle.specs.declared.tail_facts.TailFacts.{TailFacts}
 use Rattle.onfi_cycle.specs.declared.command.Command.TheVariants.{ReadCacheSequential}
 use Rattle.onfi_cycle.specs.Sequence.{row, wants_command}
@@ -161,6 +161,7 @@ column_step : (past : List Item) (l : Lun) (g : Parts) (byte : ℕ) (e : Effect)
 unfolding given_by
 column_step past l g byte (ReadStarted page column) k carries = λ i. record { given = Some (carries.1 i); outputs = 0; lost = false }
 column_step past l g byte (ReadColumnChanged column) k carries = λ i. record { given = Some (carries i); outputs = 0; lost = false }
+column_step past l g byte (PlaneSelected column) k carries = λ i. record { given = Some (carries i); outputs = 0; lost = false }
 column_step past l g byte (EraseStarted true row) k carries = λ i. record { given = k.given; outputs = k.outputs; lost = sym (or-false k.lost) i }
 column_step past l g byte (EraseStarted false row) k carries = λ i. record { given = k.given; outputs = k.outputs; lost = sym (or-false k.lost) i }
 column_step past l g byte (ProgramStarted true page) k carries = λ i. record { given = k.given; outputs = k.outputs; lost = sym (or-false k.lost) i }

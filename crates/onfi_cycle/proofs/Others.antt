@@ -20,8 +20,8 @@ use Rattle.onfi_cycle.specs.declared.effect.Effect.{Effect}
 use Rattle.onfi_cycle.specs.declared.effect.Effect.TheVariants.{Unaffected, SelectedForStatus, Deselected, StatusSelected, StatusOfSelected, AnotherAddressed, BecameReady, ArrayBecameReady, ResetStarted}
 use Rattle.onfi_cycle.specs.declared.opening.Opening.{Opening}
 use Rattle.onfi_cycle.specs.declared.tail_facts.TailFacts.{TailFacts}
-use Rattle.onfi_cycle.specs.Sequence.{takes_features, phase_after_command, phase_after_last_address, phase_after_address, phase_after_input, data_phase, inputs, continued, target_of, facts_of, row_with, target_cycle, with_cycle, one_address_more, tail, opening, opened, wants_command, works_on_row, begins_anew, row}
-use Rattle.onfi_cycle.specs.Effect.{is_shared, other_effect, row_effect, cache_effect, names_lun, command_effect, address_effect, opening_address_effect, cycle_effect, effect_given}
+use Rattle.onfi_cycle.specs.Sequence.{takes_features, phase_after_command, phase_after_last_address, phase_after_address, phase_after_input, data_phase, inputs, continued, target_of, facts_of, row_with, target_cycle, with_cycle, one_address_more, tail, opening, opened, wants_command, works_on_row, begins_anew, row, selects_plane}
+use Rattle.onfi_cycle.specs.Effect.{is_shared, other_effect, row_effect, cache_effect, names_lun, command_effect, address_effect, opening_address_effect, cycle_effect, effect_given, plane_effect, column_effect}
 use Rattle.onfi_cycle.specs.Lun.{effect_on, effect_among, latch_alone, drivers, is_only, lun_view, shown_after, read_column, read_column_after, luns_of}
 use Rattle.onfi_cycle.specs.LunView.{LunView}
 use Rattle.onfi_cycle.specs.declared.item.Cycle.{Cycle}
@@ -75,7 +75,11 @@ quiet_command g t s ReadCacheSequential l m ne one named driver = at (wants_comm
     at true named driver = quiet_named (wants_command t ReadCacheSequential) (names_lun g (row t) l) _ _ (not_both _ l m ne (named refl)) (other_is_quiet g t ReadCacheSequential)
     at false named driver = rw (driver refl refl) refl
 quiet_command g t s ReadCacheEnd l m ne one named driver = rw (driver refl refl) refl
-quiet_command g t s ChangeReadColumnConfirm l m ne one named driver = rw (driver refl refl) (quiet_named (wants_command t ChangeReadColumnConfirm) false _ _ refl refl)
+quiet_command g t s ChangeReadColumnConfirm l m ne one named driver = at (selects_plane t) named driver
+  where
+    at : (w : Bool) → (w ≡ true → names_lun g (row t) m ≡ true) → (needs_driver ChangeReadColumnConfirm ≡ true → w ≡ false → s ≡ Off) → is_quiet (cond w (plane_effect g t l) (column_effect t s)) ≡ true
+    at true named driver = rw (not_both _ l m ne (named refl)) refl
+    at false named driver = rw (driver refl refl) (quiet_named (wants_command t ChangeReadColumnConfirm) false _ _ refl refl)
 quiet_command g t s ReadConfirm l m ne one named driver = quiet_named (wants_command t ReadConfirm) (names_lun g (row t) l) _ _ (not_both _ l m ne (named refl)) (other_is_quiet g t ReadConfirm)
 quiet_command g t s BlockEraseConfirm l m ne one named driver = quiet_named (wants_command t BlockEraseConfirm) (names_lun g (row t) l) _ _ (not_both _ l m ne (named refl)) (other_is_quiet g t BlockEraseConfirm)
 quiet_command g t s BlockErasePlane l m ne one named driver = quiet_named (wants_command t BlockErasePlane) (names_lun g (row t) l) _ _ (not_both _ l m ne (named refl)) (other_is_quiet g t BlockErasePlane)

@@ -9,7 +9,7 @@ use Rattle.onfi_cycle.specs.declared.page_address.PageAddress.{PageAddress}
 use Rattle.onfi_cycle.specs.declared.item.Item.{Item}
 use Rattle.onfi_cycle.specs.declared.item.Item.TheVariants.{Cyc, Rdy, Ard}
 use Rattle.onfi_cycle.specs.declared.forbidden.Forbidden.{Forbidden}
-use Rattle.onfi_cycle.specs.declared.forbidden.Forbidden.TheVariants.{NotThere, CommandUnknown, SequenceOpen, SeveralLuns, NoColumnToChange, CommandMisplaced, AddressMisplaced, RowOutside, LunBusy, QueueClash, InputMisplaced, NoSoleDriver, DataNotReady, ColumnOutside, CacheReadMisplaced}
+use Rattle.onfi_cycle.specs.declared.forbidden.Forbidden.TheVariants.{NotThere, CommandUnknown, SequenceOpen, SeveralLuns, NoColumnToChange, CommandMisplaced, AddressMisplaced, RowOutside, LunBusy, QueueClash, InputMisplaced, NoSoleDriver, DataNotReady, ColumnOutside, CacheReadMisplaced, PlaneNotHeld}
 use Rattle.onfi_cycle.specs.Command.{command}
 use Rattle.onfi_cycle.specs.Sequence.{target_cycle, tail, facts_of}
 use Rattle.onfi_cycle.specs.Lun.{luns_of, effect_among}
@@ -32,6 +32,10 @@ with_cache = record { page_bytes = 512; spare_bytes = 16; pages = 4; blocks = 8;
 -- the same, read as one of the wider profile
 abbrev wide_cache : Parts
 wide_cache = record { page_bytes = 512; spare_bytes = 16; pages = 4; blocks = 8; luns = 1; plane_bits = 0; enhanced = false; multi_plane = false; cache = true; optional = record { 0 = 32770 } }
+
+-- two LUNs of two planes with Change Read Column Enhanced, of the wider profile
+abbrev wide_luns : Parts
+wide_luns = record { page_bytes = 512; spare_bytes = 16; pages = 4; blocks = 8; luns = 2; plane_bits = 1; enhanced = true; multi_plane = true; cache = false; optional = record { 0 = 32832 } }
 
 abbrev c : ℕ → Item
 c byte = Cyc (record { ce = 0; kind = Cmd; byte = byte })
@@ -265,6 +269,40 @@ erase_amid_a_random_cache_read = refl
 cache_read_of_the_last_page : then_breaks wide_cache (c 0x0 ∷ (a 0x0 ∷ (a 0x0 ∷ (a 0x0 ∷ (a 0x0 ∷ (a 0x0 ∷ (c 0x30 ∷ (r 0 ∷ (c 0x0 ∷ (a 0x0 ∷ (a 0x0 ∷ (a 0x3 ∷ (a 0x0 ∷ (a 0x0 ∷ (c 0x31 ∷ (r 0 ∷ [])))))))))))))))) (c 0x31) ≡ Some CacheReadMisplaced
 unfolding command width effect_among breaks_not_there breaks_command_unknown breaks_sequence_open breaks_several_luns breaks_no_column_to_change breaks_command_misplaced breaks_address_misplaced breaks_row_outside breaks_lun_busy breaks_queue_clash breaks_input_misplaced breaks_no_sole_driver breaks_data_not_ready breaks_column_outside breaks_cache_read_misplaced breaks_plane_not_held
 cache_read_of_the_last_page = refl
+
+-- 06h, which the wider profile has
+
+registers_of_two_luns : passes wide_luns (reverse (c 0x0 ∷ (a 0x0 ∷ (a 0x0 ∷ (a 0x0 ∷ (a 0x0 ∷ (a 0x0 ∷ (c 0x30 ∷ (c 0x0 ∷ (a 0x0 ∷ (a 0x0 ∷ (a 0x20 ∷ (a 0x0 ∷ (a 0x0 ∷ (c 0x30 ∷ (r 0 ∷ (r 1 ∷ (c 0x6 ∷ (a 0x0 ∷ (a 0x0 ∷ (a 0x0 ∷ (a 0x0 ∷ (a 0x0 ∷ (c 0xe0 ∷ (o 0xff ∷ (c 0x6 ∷ (a 0x0 ∷ (a 0x0 ∷ (a 0x20 ∷ (a 0x0 ∷ (a 0x0 ∷ (c 0xe0 ∷ (o 0xff ∷ []))))))))))))))))))))))))))))))))) ≡ true
+unfolding command width effect_among breaks_not_there breaks_command_unknown breaks_sequence_open breaks_several_luns breaks_no_column_to_change breaks_command_misplaced breaks_address_misplaced breaks_row_outside breaks_lun_busy breaks_queue_clash breaks_input_misplaced breaks_no_sole_driver breaks_data_not_ready breaks_column_outside breaks_cache_read_misplaced breaks_plane_not_held
+registers_of_two_luns = refl
+
+register_by_its_plane : passes wide_luns (reverse (c 0x0 ∷ (a 0x0 ∷ (a 0x0 ∷ (a 0x0 ∷ (a 0x0 ∷ (a 0x0 ∷ (c 0x30 ∷ (r 0 ∷ (c 0x6 ∷ (a 0x0 ∷ (a 0x0 ∷ (a 0x8 ∷ (a 0x0 ∷ (a 0x0 ∷ (c 0xe0 ∷ (o 0xff ∷ (c 0x5 ∷ (a 0x1 ∷ (a 0x0 ∷ (c 0xe0 ∷ (o 0xff ∷ [])))))))))))))))))))))) ≡ true
+unfolding command width effect_among breaks_not_there breaks_command_unknown breaks_sequence_open breaks_several_luns breaks_no_column_to_change breaks_command_misplaced breaks_address_misplaced breaks_row_outside breaks_lun_busy breaks_queue_clash breaks_input_misplaced breaks_no_sole_driver breaks_data_not_ready breaks_column_outside breaks_cache_read_misplaced breaks_plane_not_held
+register_by_its_plane = refl
+
+register_of_another_plane : then_breaks wide_luns (c 0x0 ∷ (a 0x0 ∷ (a 0x0 ∷ (a 0x0 ∷ (a 0x0 ∷ (a 0x0 ∷ (c 0x30 ∷ (r 0 ∷ (c 0x6 ∷ (a 0x0 ∷ (a 0x0 ∷ (a 0x4 ∷ (a 0x0 ∷ []))))))))))))) (a 0x0) ≡ Some PlaneNotHeld
+unfolding command width effect_among breaks_not_there breaks_command_unknown breaks_sequence_open breaks_several_luns breaks_no_column_to_change breaks_command_misplaced breaks_address_misplaced breaks_row_outside breaks_lun_busy breaks_queue_clash breaks_input_misplaced breaks_no_sole_driver breaks_data_not_ready breaks_column_outside breaks_cache_read_misplaced breaks_plane_not_held
+register_of_another_plane = refl
+
+register_of_another_lun : then_breaks wide_luns (c 0x0 ∷ (a 0x0 ∷ (a 0x0 ∷ (a 0x0 ∷ (a 0x0 ∷ (a 0x0 ∷ (c 0x30 ∷ (r 0 ∷ (c 0x6 ∷ (a 0x0 ∷ (a 0x0 ∷ (a 0x20 ∷ (a 0x0 ∷ []))))))))))))) (a 0x0) ≡ Some PlaneNotHeld
+unfolding command width effect_among breaks_not_there breaks_command_unknown breaks_sequence_open breaks_several_luns breaks_no_column_to_change breaks_command_misplaced breaks_address_misplaced breaks_row_outside breaks_lun_busy breaks_queue_clash breaks_input_misplaced breaks_no_sole_driver breaks_data_not_ready breaks_column_outside breaks_cache_read_misplaced breaks_plane_not_held
+register_of_another_lun = refl
+
+register_before_any_read : then_breaks wide_luns (c 0x6 ∷ (a 0x0 ∷ (a 0x0 ∷ (a 0x0 ∷ (a 0x0 ∷ []))))) (a 0x0) ≡ Some PlaneNotHeld
+unfolding command width effect_among breaks_not_there breaks_command_unknown breaks_sequence_open breaks_several_luns breaks_no_column_to_change breaks_command_misplaced breaks_address_misplaced breaks_row_outside breaks_lun_busy breaks_queue_clash breaks_input_misplaced breaks_no_sole_driver breaks_data_not_ready breaks_column_outside breaks_cache_read_misplaced breaks_plane_not_held
+register_before_any_read = refl
+
+register_of_a_busy_lun : then_breaks wide_luns (c 0x0 ∷ (a 0x0 ∷ (a 0x0 ∷ (a 0x20 ∷ (a 0x0 ∷ (a 0x0 ∷ (c 0x30 ∷ (c 0x6 ∷ (a 0x0 ∷ (a 0x0 ∷ (a 0x20 ∷ (a 0x0 ∷ [])))))))))))) (a 0x0) ≡ Some LunBusy
+unfolding command width effect_among breaks_not_there breaks_command_unknown breaks_sequence_open breaks_several_luns breaks_no_column_to_change breaks_command_misplaced breaks_address_misplaced breaks_row_outside breaks_lun_busy breaks_queue_clash breaks_input_misplaced breaks_no_sole_driver breaks_data_not_ready breaks_column_outside breaks_cache_read_misplaced breaks_plane_not_held
+register_of_a_busy_lun = refl
+
+register_past_its_page : then_breaks wide_luns (c 0x0 ∷ (a 0x0 ∷ (a 0x0 ∷ (a 0x0 ∷ (a 0x0 ∷ (a 0x0 ∷ (c 0x30 ∷ (r 0 ∷ (c 0x6 ∷ (a 0x10 ∷ [])))))))))) (a 0x2) ≡ Some ColumnOutside
+unfolding command width effect_among breaks_not_there breaks_command_unknown breaks_sequence_open breaks_several_luns breaks_no_column_to_change breaks_command_misplaced breaks_address_misplaced breaks_row_outside breaks_lun_busy breaks_queue_clash breaks_input_misplaced breaks_no_sole_driver breaks_data_not_ready breaks_column_outside breaks_cache_read_misplaced breaks_plane_not_held
+register_past_its_page = refl
+
+register_before_its_confirm : then_breaks wide_luns (c 0x0 ∷ (a 0x0 ∷ (a 0x0 ∷ (a 0x0 ∷ (a 0x0 ∷ (a 0x0 ∷ (c 0x30 ∷ (r 0 ∷ (c 0x6 ∷ (a 0x0 ∷ (a 0x0 ∷ (a 0x0 ∷ (a 0x0 ∷ (a 0x0 ∷ [])))))))))))))) (o 0xff) ≡ Some NoSoleDriver
+unfolding command width effect_among breaks_not_there breaks_command_unknown breaks_sequence_open breaks_several_luns breaks_no_column_to_change breaks_command_misplaced breaks_address_misplaced breaks_row_outside breaks_lun_busy breaks_queue_clash breaks_input_misplaced breaks_no_sole_driver breaks_data_not_ready breaks_column_outside breaks_cache_read_misplaced breaks_plane_not_held
+register_before_its_confirm = refl
 
 -- 4. what pages contain, and what a LUN shows
 

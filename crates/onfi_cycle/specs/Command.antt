@@ -9,7 +9,6 @@ command byte =
     if byte == 0x00 then Read
     else (if byte == 0x30 then ReadConfirm
     else (if byte == 0x05 then ChangeReadColumn
-    else (if byte == 0x06 then ChangeReadColumnEnhanced
     else (if byte == 0xe0 then ChangeReadColumnConfirm
     else (if byte == 0x60 then BlockErase
     else (if byte == 0xd0 then BlockEraseConfirm
@@ -30,6 +29,7 @@ command byte =
     else (if byte == 0xef then SetFeatures
     else (if byte == 0xfa then ResetLun
     else (if byte == 0xfc then SynchronousReset
+    else (if byte == 0x06 then ChangeReadColumnEnhanced
     else Unknown)))))))))))))))))))))))
 
 -- the byte of a command

@@ -77,7 +77,6 @@ impl Command {
             0x00 => Command::Read,
             0x30 => Command::ReadConfirm,
             0x05 => Command::ChangeReadColumn,
-            0x06 => Command::ChangeReadColumnEnhanced,
             0xe0 => Command::ChangeReadColumnConfirm,
             0x60 => Command::BlockErase,
             0xd0 => Command::BlockEraseConfirm,
@@ -98,6 +97,7 @@ impl Command {
             0xef => Command::SetFeatures,
             0xfa => Command::ResetLun,
             0xfc => Command::SynchronousReset,
+            0x06 => Command::ChangeReadColumnEnhanced,
             _ => Command::Unknown,
         }
     }

@@ -5,7 +5,7 @@ use Rattle.std.proofs.lemmas.Bool.{not-false, and_parts, or_parts}
 use Rattle.nand_geometry.specs.declared.parts.Parts.{Parts}
 use Rattle.nand_geometry.specs.Optional.{is_wide}
 use Rattle.onfi_cycle.specs.declared.command.Command.{Command}
-use Rattle.onfi_cycle.specs.declared.command.Command.TheVariants.{ChangeReadColumn, ChangeReadColumnConfirm, ReadCacheSequential, ReadCacheEnd}
+use Rattle.onfi_cycle.specs.declared.command.Command.TheVariants.{ChangeReadColumn, ChangeReadColumnConfirm, ReadCacheSequential, ReadCacheEnd, ChangeReadColumnEnhanced}
 use Rattle.onfi_cycle.specs.declared.effect.Effect.{Effect}
 use Rattle.onfi_cycle.specs.declared.effect.Effect.TheVariants.{Unaffected, BecameReady, ArrayBecameReady}
 use Rattle.onfi_cycle.specs.declared.item.Cycle.{Cycle}
@@ -19,6 +19,7 @@ use Rattle.onfi_cycle.specs.declared.target_cycle.TargetCycle.{TargetCycle}
 use Rattle.onfi_cycle.specs.declared.target_cycle.TargetCycle.TheVariants.{CommandCycle, AddressCycle, InputCycle, OutputCycle}
 use Rattle.onfi_cycle.specs.declared.lun.Lun.{Lun}
 use Rattle.onfi_cycle.specs.LunView.{LunView}
+use Rattle.onfi_cycle.specs.Base.{is_of_base}
 use Rattle.onfi_cycle.specs.Command.{closes, address_cycles, is_change_read_column, wants_one_lun}
 use Rattle.onfi_cycle.specs.Sequence.{opened, tail, target_cycle, facts_of, is_open, wants_command}
 use Rattle.onfi_cycle.specs.Effect.{is_shared, cycle_effect}
@@ -75,31 +76,32 @@ plain g targets past c ce shared legal h here =
           (subst (λ (x : ℕ). breaks_sequence_open (in_base g) (facts_of (tail past x)) (target_cycle c.kind c.byte) ≡ false) here (permitted_keeps (in_base g) targets past c h).f3));
     }
 
-column_wanted : (o : Option Opening) → opened (λ c n. closes c ChangeReadColumnConfirm && n == address_cycles c) o ≡ true → in_column o ≡ true
-column_wanted None h = cc
-column_wanted (Some o) h = of o.opener o.addresses h
+column_wanted : (o : Option Opening) → opened (λ c n. not (is_of_base c)) o ≡ false → opened (λ c n. closes c ChangeReadColumnConfirm && n == address_cycles c) o ≡ true → in_column o ≡ true
+column_wanted None base h = cc
+column_wanted (Some o) base h = of o.opener o.addresses base h
   where
-    of : (c : Command) (n : ℕ) → (closes c ChangeReadColumnConfirm && n == address_cycles c) ≡ true → is_change_read_column c ≡ true
-    of ChangeReadColumn n h = refl
-    of c n h = cc
+    of : (c : Command) (n : ℕ) → not (is_of_base c) ≡ false → (closes c ChangeReadColumnConfirm && n == address_cycles c) ≡ true → is_change_read_column c ≡ true
+    of ChangeReadColumn n base h = refl
+    of ChangeReadColumnEnhanced n base h = cc
+    of c n base h = cc
 
 -- a cycle whose work hangs on the one driver finds one
-sole : (g : Parts) (targets : ℕ) (past : List Item) (c : Cycle) (ce : ℕ) → is_wide g.optional ≡ false → is_legal g targets past ≡ true → broken g targets past (Cyc c) ≡ None → c.ce ≡ ce → asks_driver (target_cycle c.kind c.byte) ≡ true → IsOne (drivers g past ce)
+sole : (g : Parts) (targets : ℕ) (past : List Item) (c : Cycle) (ce : ℕ) → is_legal (in_base g) targets past ≡ true → broken (in_base g) targets past (Cyc c) ≡ None → c.ce ≡ ce → asks_driver (target_cycle c.kind c.byte) ≡ true → IsOne (drivers (in_base g) past ce)
 unfolding breaks_command_misplaced breaks_no_sole_driver breaks_cache_read_misplaced
-sole g targets past c ce narrow legal h here asks =
-    subst (λ (x : ℕ). IsOne (drivers g past x)) here
-    (of (target_cycle c.kind c.byte) asks (permitted_keeps g targets past c h))
+sole g targets past c ce legal h here asks =
+    subst (λ (x : ℕ). IsOne (drivers (in_base g) past x)) here
+    (of (target_cycle c.kind c.byte) asks (permitted_keeps (in_base g) targets past c h))
   where
-    of : (k : TargetCycle) → asks_driver k ≡ true → KeepsRules g (facts_of (tail past c.ce)) (luns_of g past c.ce) k → IsOne (drivers g past c.ce)
+    of : (k : TargetCycle) → asks_driver k ≡ true → KeepsRules (in_base g) (facts_of (tail past c.ce)) (luns_of (in_base g) past c.ce) k → IsOne (drivers (in_base g) past c.ce)
     of (CommandCycle ReadCacheSequential) asks r =
-        let f15 : not (driver_is (continues_cache g) (luns_of g past c.ce)) ≡ false = chosen_else (wants_command (facts_of (tail past c.ce)) ReadCacheSequential) _ _ r.f15 (unwanted g (facts_of (tail past c.ce)) narrow r.f3) in
-        driver_one g past c.ce (continues_cache g) (not-false (driver_is (continues_cache g) (luns_of g past c.ce)) f15)
-    of (CommandCycle ReadCacheEnd) asks r = driver_one g past c.ce ends_cache (not-false (driver_is ends_cache (luns_of g past c.ce)) r.f15)
-    of (CommandCycle ChangeReadColumnConfirm) asks r = column_driver g targets past c.ce legal (column_wanted _ (not-false (wants_command (facts_of (tail past c.ce)) ChangeReadColumnConfirm) r.f6))
+        let f15 : not (driver_is (continues_cache (in_base g)) (luns_of (in_base g) past c.ce)) ≡ false = chosen_else (wants_command (facts_of (tail past c.ce)) ReadCacheSequential) _ _ r.f15 (unwanted (in_base g) (facts_of (tail past c.ce)) refl r.f3) in
+        driver_one (in_base g) past c.ce (continues_cache (in_base g)) (not-false (driver_is (continues_cache (in_base g)) (luns_of (in_base g) past c.ce)) f15)
+    of (CommandCycle ReadCacheEnd) asks r = driver_one (in_base g) past c.ce ends_cache (not-false (driver_is ends_cache (luns_of (in_base g) past c.ce)) r.f15)
+    of (CommandCycle ChangeReadColumnConfirm) asks r = column_driver (in_base g) targets past c.ce legal (column_wanted _ (base_tail g targets past c.ce legal).opener (not-false (wants_command (facts_of (tail past c.ce)) ChangeReadColumnConfirm) r.f6))
     of (CommandCycle c) asks r = cc
     of (AddressCycle byte) asks r = cc
     of (InputCycle byte) asks r = cc
-    of OutputCycle asks r = driver_one g past c.ce (λ v. true) (not-false _ (or_parts (is_open (facts_of (tail past c.ce))) _ r.f12).1)
+    of OutputCycle asks r = driver_one (in_base g) past c.ce (λ v. true) (not-false _ (or_parts (is_open (facts_of (tail past c.ce))) _ r.f12).1)
 
 -- where one LUN alone drives, all show the same, alone too
 pub same_latches : (g : Parts) (past : List Item) (ce : ℕ) → AreAlike g past ce → IsOne (drivers (in_base g) past ce) → (m : ℕ) → m < g.luns → latch g past (lun_at ce m) ≡ latch (in_base g) past (lun_at ce m)
@@ -165,7 +167,7 @@ cycle_step g targets past c ce shared legal h before =
     }
   where
     one : (c.ce == ce) ≡ true → asks_driver (target_cycle c.kind c.byte) ≡ true → IsOne (drivers (in_base g) past ce)
-    one e asks = sole (in_base g) targets past c ce refl legal h (eqb-true c.ce ce e) asks
+    one e asks = sole g targets past c ce legal h (eqb-true c.ce ce e) asks
 
     like : (m : ℕ) → m < g.luns → Like (cond (c.ce == ce) (cycle_effect (in_base g) (facts_of (tail past ce)) (latch_alone (in_base g) past (lun_at ce m)) (target_cycle c.kind c.byte) m) Unaffected) (cond (c.ce == ce) (cycle_effect g (facts_of (tail past ce)) (latch_alone g past (lun_at ce m)) (target_cycle c.kind c.byte) m) Unaffected)
     like m low = like_or_not (c.ce == ce) _ _ (λ e. cycle_like g (facts_of (tail past ce)) (target_cycle c.kind c.byte) m (latch_alone (in_base g) past (lun_at ce m)) (latch_alone g past (lun_at ce m)) (plain g targets past c ce shared legal h (eqb-true c.ce ce e)) (λ asks. same_alone g past ce before (one e asks) m low))
@@ -186,4 +188,4 @@ effects_like g targets past (Ard a b) l shared legal h low = ready_like (a == l.
 effects_like g targets past (Cyc c) l shared legal h low =
     like_or_not (c.ce == l.ce) _ _
     (λ e. cycle_like g (facts_of (tail past l.ce)) (target_cycle c.kind c.byte) l.lun (latch_alone (in_base g) past (lun_at l.ce l.lun)) (latch_alone g past (lun_at l.ce l.lun)) (plain g targets past c l.ce shared legal h (eqb-true c.ce l.ce e))
-    (λ asks. same_alone g past l.ce (are_alike g targets past l.ce shared legal) (sole (in_base g) targets past c l.ce refl legal h (eqb-true c.ce l.ce e) asks) l.lun low))
+    (λ asks. same_alone g past l.ce (are_alike g targets past l.ce shared legal) (sole g targets past c l.ce legal h (eqb-true c.ce l.ce e) asks) l.lun low))

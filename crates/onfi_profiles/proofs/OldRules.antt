@@ -4,11 +4,11 @@ use Rattle.std.proofs.Math.Bool.{or-false}
 use Rattle.nand_geometry.specs.declared.parts.Parts.{Parts}
 use Rattle.nand_geometry.specs.Limits.{page_len}
 use Rattle.onfi_cycle.specs.declared.command.Command.{Command}
-use Rattle.onfi_cycle.specs.declared.command.Command.TheVariants.{ChangeWriteColumn, ProgramConfirm, ProgramPlane, ReadId, ReadUniqueId, GetFeatures, SetFeatures, ResetLun, SynchronousReset, Unknown, ReadCacheSequential}
+use Rattle.onfi_cycle.specs.declared.command.Command.TheVariants.{ChangeWriteColumn, ProgramConfirm, ProgramPlane, ReadId, ReadUniqueId, GetFeatures, SetFeatures, ResetLun, SynchronousReset, Unknown, ReadCacheSequential, ChangeReadColumnEnhanced}
 use Rattle.onfi_cycle.specs.declared.data_phase.DataPhase.{DataPhase}
 use Rattle.onfi_cycle.specs.declared.data_phase.DataPhase.TheVariants.{Outside, Inputs, FirstColumn, SecondColumn, FeatureInputs}
 use Rattle.onfi_cycle.specs.declared.forbidden.Forbidden.{Forbidden}
-use Rattle.onfi_cycle.specs.declared.forbidden.Forbidden.TheVariants.{NotThere, CommandUnknown, SequenceOpen, SeveralLuns, NoColumnToChange, CommandMisplaced, AddressMisplaced, RowOutside, LunBusy, QueueClash, InputMisplaced, NoSoleDriver, DataNotReady, ColumnOutside, CacheReadMisplaced}
+use Rattle.onfi_cycle.specs.declared.forbidden.Forbidden.TheVariants.{NotThere, CommandUnknown, SequenceOpen, SeveralLuns, NoColumnToChange, CommandMisplaced, AddressMisplaced, RowOutside, LunBusy, QueueClash, InputMisplaced, NoSoleDriver, DataNotReady, ColumnOutside, CacheReadMisplaced, PlaneNotHeld}
 use Rattle.onfi_cycle.specs.declared.item.Item.{Item}
 use Rattle.onfi_cycle.specs.declared.item.Item.TheVariants.{Cyc, Rdy, Ard}
 use Rattle.onfi_cycle.specs.declared.opening.Opening.{Opening}
@@ -26,7 +26,7 @@ use Rattle.onfi_profiles.specs.Widening.{in_base}
 use Rattle.onfi_profiles.specs.Tails.{base_takes_inputs, base_takes_address, base_wants_command, base_wants_address, base_is_open, base_facts}
 use Rattle.onfi_profiles.specs.Judging.{base_undeclared, base_command_unknown, base_sequence_open, base_command_misplaced, base_several_luns, base_lun_busy, base_address_misplaced, base_input_misplaced, base_no_sole_driver, base_column_outside, base_judge_cycle, base_judge_item, JudgesBase, base_cache_read_misplaced}
 use Rattle.onfi_profiles.proofs.OldTails.{AreOfBase, facts_base, tails_kept}
-use Rattle.onfi_profiles.proofs.Unwanted.{unwanted, excluded_same}
+use Rattle.onfi_profiles.proofs.Unwanted.{unwanted, excluded_same, plane_kept}
 
 -- 1. parts of rules
 
@@ -41,6 +41,7 @@ open_same : (t : TailFacts) → AreOfBase t → is_open t ≡ base_is_open t
 open_same t a = ap (λ (b : Bool). opened is_proper_beginning t.opening || b || wants_column t.phase) (inputs_same t.phase a.phase)
 
 unknown_same : (g : Parts) (c : Command) → (not (is_known c) || is_undeclared (in_base g) c) ≡ (not (is_of_base c) || base_undeclared (in_base g) c)
+unknown_same g ChangeReadColumnEnhanced = refl
 unknown_same g ReadUniqueId = refl
 unknown_same g GetFeatures = refl
 unknown_same g SetFeatures = refl
@@ -163,13 +164,13 @@ f9 g t luns (AddressCycle byte) = ap (λ (b : Bool). ends_row addresses_the_arra
 f9 g t luns (InputCycle byte) = refl
 f9 g t luns OutputCycle = refl
 
-f15 : (g : Parts) (t : TailFacts) (luns : List LunView) (k : TargetCycle) → breaks_sequence_open (in_base g) t k ≡ false → breaks_cache_read_misplaced (in_base g) t luns k ≡ base_cache_read_misplaced (in_base g) t luns k
+f15 : (g : Parts) (t : TailFacts) (luns : List LunView) (k : TargetCycle) → AreOfBase t → breaks_sequence_open (in_base g) t k ≡ false → breaks_cache_read_misplaced (in_base g) t luns k ≡ base_cache_read_misplaced (in_base g) t luns k
 unfolding breaks_cache_read_misplaced
-f15 g t luns (CommandCycle ReadCacheSequential) h = ap (λ (w : Bool). cond w (not (named_lun_is (in_base g) (row t) (λ v. is_page_read v.closer) luns)) (not (driver_is (continues_cache (in_base g)) luns))) (unwanted (in_base g) t refl h)
-f15 g t luns (CommandCycle c) h = refl
-f15 g t luns (AddressCycle byte) h = ap (λ (b : Bool). b && named_lun_is (in_base g) (row_with t byte) caching luns) (excluded_same g t)
-f15 g t luns (InputCycle byte) h = refl
-f15 g t luns OutputCycle h = refl
+f15 g t luns (CommandCycle ReadCacheSequential) a h = ap (λ (w : Bool). cond w (not (named_lun_is (in_base g) (row t) (λ v. is_page_read v.closer) luns)) (not (driver_is (continues_cache (in_base g)) luns))) (unwanted (in_base g) t refl h)
+f15 g t luns (CommandCycle c) a h = refl
+f15 g t luns (AddressCycle byte) a h = ap (λ (b : Bool). b && named_lun_is (in_base g) (row_with t byte) caching luns) (excluded_same g t a.opener)
+f15 g t luns (InputCycle byte) a h = refl
+f15 g t luns OutputCycle a h = refl
 
 -- 3. all of them
 
@@ -192,7 +193,8 @@ cycle_same g t luns k a = at (breaks_sequence_open (in_base g) t k) refl
         (cond (f12 t luns k a i) (Some NoSoleDriver)
         (cond (breaks_data_not_ready luns k) (Some DataNotReady)
         (cond (f14 g t luns k a i) (Some ColumnOutside)
-        (cond (f15 g t luns k e i) (Some CacheReadMisplaced) None)))))))))))))
+        (cond (f15 g t luns k a e i) (Some CacheReadMisplaced)
+        (cond (plane_kept (in_base g) t luns k a.opener i) (Some PlaneNotHeld) None))))))))))))))
 
 item_same : (g : Parts) (t : TailFacts) (luns : List LunView) (i : Item) → AreOfBase t → judge_item (in_base g) t luns i ≡ base_judge_item (in_base g) t luns i
 item_same g t luns (Cyc c) a = cycle_same g t luns (target_cycle c.kind c.byte) a

@@ -3,7 +3,7 @@ use Rattle.std.proofs.Common.{◌≡◌, ℕ, ◌+◌, ◌==◌, Bool, true, fal
 use Rattle.std.proofs.lemmas.Bool.{and_parts}
 use Rattle.nand_geometry.specs.declared.parts.Parts.{Parts}
 use Rattle.onfi_cycle.specs.declared.command.Command.{Command}
-use Rattle.onfi_cycle.specs.declared.command.Command.TheVariants.{ChangeWriteColumn, ReadUniqueId, GetFeatures, SetFeatures, ResetLun, SynchronousReset, Unknown}
+use Rattle.onfi_cycle.specs.declared.command.Command.TheVariants.{ChangeWriteColumn, ReadUniqueId, GetFeatures, SetFeatures, ResetLun, SynchronousReset, Unknown, ChangeReadColumnEnhanced}
 use Rattle.onfi_cycle.specs.declared.data_phase.DataPhase.{DataPhase}
 use Rattle.onfi_cycle.specs.declared.data_phase.DataPhase.TheVariants.{Outside, Inputs, FirstColumn, SecondColumn, FeatureInputs}
 use Rattle.onfi_cycle.specs.declared.item.Item.{Item}
@@ -43,6 +43,7 @@ is_base_cycle (CommandCycle c) = is_of_base c
 is_base_cycle _ = true
 
 base_command : (g : Parts) (c : Command) → (not (is_known c) || is_undeclared (in_base g) c) ≡ false → is_of_base c ≡ true
+base_command g ChangeReadColumnEnhanced h = let no : true ≡ false = h in cc
 base_command g ReadUniqueId h = let no : true ≡ false = h in cc
 base_command g GetFeatures h = let no : true ≡ false = h in cc
 base_command g SetFeatures h = let no : true ≡ false = h in cc

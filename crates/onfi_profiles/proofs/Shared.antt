@@ -15,12 +15,13 @@ use Rattle.onfi_cycle.specs.declared.target_cycle.TargetCycle.TheVariants.{Comma
 use Rattle.onfi_cycle.specs.LunView.{LunView}
 use Rattle.onfi_cycle.specs.Base.{is_of_base}
 use Rattle.onfi_cycle.specs.Command.{reads_identity, wants_one_lun}
-use Rattle.onfi_cycle.specs.Sequence.{opened, takes_features, wants_command, row, row_with}
-use Rattle.onfi_cycle.specs.Effect.{is_off, is_data, is_shared, page_address, names_lun, command_effect, address_effect, opening_address_effect, cycle_effect, row_effect, cache_effect}
+use Rattle.onfi_cycle.specs.Sequence.{opened, takes_features, wants_command, row, row_with, selects_plane}
+use Rattle.onfi_cycle.specs.Effect.{is_off, is_data, is_shared, page_address, names_lun, command_effect, address_effect, opening_address_effect, cycle_effect, row_effect, cache_effect, plane_effect, column_effect}
 use Rattle.onfi_cycle.specs.Lun.{latch_after, resumed, closer_after, is_target_work, view_after}
 use Rattle.onfi_cycle.specs.Applied.{asks_driver}
 use Rattle.onfi_cycle.proofs.Booleans.{eqb_self}
 use Rattle.onfi_profiles.specs.Widening.{in_base}
+use Rattle.onfi_profiles.proofs.Unwanted.{no_plane}
 use Rattle.onfi_profiles.proofs.Turns.{Turn, kept, chosen, reads}
 
 abbrev pub one_lun_cycle : TargetCycle → Bool
@@ -84,9 +85,12 @@ command_turn g t ReadCacheEnd shared p lb lw la law sb wb sw ww asked =
     (λ i. latch_after (cond (is_off (both.1 i)) Unaffected CacheReadEnded) (sw m) (ww m) (both.0 i))
     ∙ cached (is_off (la m)) (sw m) (ww m) (sb m) (wb m) (lb m) CacheReadEnded (λ s w. refl))
 command_turn g t ChangeReadColumnConfirm shared p lb lw la law sb wb sw ww asked =
-    kept (λ x. x) refl (λ x on. on)
+    subst (λ (s : Bool). Turn g.luns lb lw
+    (λ m. latch_after (cond s (plane_effect (in_base g) t m) (column_effect t (la m))) (sb m) (wb m) (lb m))
+    (λ m. latch_after (cond s (plane_effect g t m) (column_effect t (law m))) (sw m) (ww m) (lw m))) (sym (no_plane t p.opener))
+    (kept (λ x. x) refl (λ x on. on)
     (λ m low. still (wants_command t ChangeReadColumnConfirm && not (is_off (la m))) (ReadColumnChanged t.column) Unaffected (sb m) (wb m) (lb m) refl refl)
-    (λ m low. still (wants_command t ChangeReadColumnConfirm && not (is_off (law m))) (ReadColumnChanged t.column) Unaffected (sw m) (ww m) (lw m) refl refl)
+    (λ m low. still (wants_command t ChangeReadColumnConfirm && not (is_off (law m))) (ReadColumnChanged t.column) Unaffected (sw m) (ww m) (lw m) refl refl))
 command_turn g t ReadConfirm shared p lb lw la law sb wb sw ww asked = at (wants_command t ReadConfirm) p.inside
   where
     j : ℕ
@@ -195,25 +199,26 @@ row_like true false true x e p = passes refl refl
 row_like true false false x e p = equal refl refl
 row_like false named shared x e p = equal refl refl
 
-command_like : (g : Parts) (t : TailFacts) (c : Command) (m : ℕ) (la law : Latch) → wants_one_lun c ≡ false → (c ≡ ReadCacheSequential → wants_command t ReadCacheSequential ≡ false) → (asks_driver (CommandCycle c) ≡ true → law ≡ la) → Like (command_effect (in_base g) t la c m) (command_effect g t law c m)
-command_like g t Read m la law one alone asked = equal refl refl
-command_like g t ReadStatus m la law one alone asked = cc
-command_like g t ReadStatusEnhanced m la law one alone asked = equal refl refl
-command_like g t Reset m la law one alone asked = cc
-command_like g t SynchronousReset m la law one alone asked = cc
-command_like g t ReadCacheSequential m la law one alone asked =
+command_like : (g : Parts) (t : TailFacts) (c : Command) (m : ℕ) (la law : Latch) → wants_one_lun c ≡ false → (c ≡ ReadCacheSequential → wants_command t ReadCacheSequential ≡ false) → selects_plane t ≡ false → (asks_driver (CommandCycle c) ≡ true → law ≡ la) → Like (command_effect (in_base g) t la c m) (command_effect g t law c m)
+command_like g t Read m la law one alone plane asked = equal refl refl
+command_like g t ReadStatus m la law one alone plane asked = cc
+command_like g t ReadStatusEnhanced m la law one alone plane asked = equal refl refl
+command_like g t Reset m la law one alone plane asked = cc
+command_like g t SynchronousReset m la law one alone plane asked = cc
+command_like g t ReadCacheSequential m la law one alone plane asked =
     subst (λ (w : Bool). Like (cond w (row_effect (in_base g) t ReadCacheSequential m) (cache_effect la)) (cond w (row_effect g t ReadCacheSequential m) (cache_effect law))) (sym (alone refl))
     (equal (ap (λ (x : Latch). cond (is_off x) Unaffected (CacheReadContinued None)) (sym (asked refl))) (plain_choice (is_off la) Unaffected (CacheReadContinued None) refl refl))
-command_like g t ReadCacheEnd m la law one alone asked = equal (ap (λ (x : Latch). cond (is_off x) Unaffected CacheReadEnded) (sym (asked refl))) (plain_choice (is_off la) Unaffected CacheReadEnded refl refl)
-command_like g t ChangeReadColumnConfirm m la law one alone asked =
-    equal (ap (λ (x : Latch). cond (wants_command t ChangeReadColumnConfirm && not (is_off x)) (ReadColumnChanged t.column) Unaffected) (sym (asked refl)))
-    (plain_choice (wants_command t ChangeReadColumnConfirm && not (is_off la)) (ReadColumnChanged t.column) Unaffected refl refl)
-command_like g t ReadConfirm m la law one alone asked = row_like (wants_command t ReadConfirm) (names_lun g (row t) m) (is_shared g) true _ refl
-command_like g t BlockEraseConfirm m la law one alone asked = row_like (wants_command t BlockEraseConfirm) (names_lun g (row t) m) (is_shared g) false _ refl
-command_like g t BlockErasePlane m la law one alone asked = row_like (wants_command t BlockErasePlane) (names_lun g (row t) m) (is_shared g) false _ refl
-command_like g t ProgramConfirm m la law one alone asked = row_like (wants_command t ProgramConfirm) (names_lun g (row t) m) (is_shared g) false _ refl
-command_like g t ProgramPlane m la law one alone asked = row_like (wants_command t ProgramPlane) (names_lun g (row t) m) (is_shared g) false _ refl
-command_like g t c m la law one alone asked = equal refl (plain_choice (wants_command t c && names_lun g (row t) m) Unaffected Unaffected refl refl)
+command_like g t ReadCacheEnd m la law one alone plane asked = equal (ap (λ (x : Latch). cond (is_off x) Unaffected CacheReadEnded) (sym (asked refl))) (plain_choice (is_off la) Unaffected CacheReadEnded refl refl)
+command_like g t ChangeReadColumnConfirm m la law one alone plane asked =
+    subst (λ (s : Bool). Like (cond s (plane_effect (in_base g) t m) (column_effect t la)) (cond s (plane_effect g t m) (column_effect t law))) (sym plane)
+    (equal (ap (λ (x : Latch). cond (wants_command t ChangeReadColumnConfirm && not (is_off x)) (ReadColumnChanged t.column) Unaffected) (sym (asked refl)))
+    (plain_choice (wants_command t ChangeReadColumnConfirm && not (is_off la)) (ReadColumnChanged t.column) Unaffected refl refl))
+command_like g t ReadConfirm m la law one alone plane asked = row_like (wants_command t ReadConfirm) (names_lun g (row t) m) (is_shared g) true _ refl
+command_like g t BlockEraseConfirm m la law one alone plane asked = row_like (wants_command t BlockEraseConfirm) (names_lun g (row t) m) (is_shared g) false _ refl
+command_like g t BlockErasePlane m la law one alone plane asked = row_like (wants_command t BlockErasePlane) (names_lun g (row t) m) (is_shared g) false _ refl
+command_like g t ProgramConfirm m la law one alone plane asked = row_like (wants_command t ProgramConfirm) (names_lun g (row t) m) (is_shared g) false _ refl
+command_like g t ProgramPlane m la law one alone plane asked = row_like (wants_command t ProgramPlane) (names_lun g (row t) m) (is_shared g) false _ refl
+command_like g t c m la law one alone plane asked = equal refl (plain_choice (wants_command t c && names_lun g (row t) m) Unaffected Unaffected refl refl)
 
 address_like : (g : Parts) (t : TailFacts) (byte : ℕ) (o : Option Opening) (m : ℕ) → opened (λ c n. not (is_of_base c)) o ≡ false → not (opened (λ c n. reads_identity c) o) ≡ true → Like (opening_address_effect (in_base g) t byte o m) (opening_address_effect g t byte o m)
 address_like g t byte None m b i = equal refl refl
@@ -229,7 +234,7 @@ address_like g t byte (Some o) m b i = kind o.opener o.addresses b i
     kind c n b i = equal refl refl
 
 pub cycle_like : (g : Parts) (t : TailFacts) (k : TargetCycle) (m : ℕ) (la law : Latch) → IsPlain g t k → (asks_driver k ≡ true → law ≡ la) → Like (cycle_effect (in_base g) t la k m) (cycle_effect g t law k m)
-cycle_like g t (CommandCycle c) m la law p asked = command_like g t c m la law p.command (λ is. p.alone (ap CommandCycle is)) asked
+cycle_like g t (CommandCycle c) m la law p asked = command_like g t c m la law p.command (λ is. p.alone (ap CommandCycle is)) (no_plane t p.opener) asked
 cycle_like g t (AddressCycle byte) m la law p asked = address_like g t byte t.opening m p.opener p.identity
 cycle_like g t (InputCycle byte) m la law p asked = rw p.phase (equal refl refl)
 cycle_like g t OutputCycle m la law p asked = equal (ap (λ (x : Latch). cond (is_data x) DataOutput Unaffected) (sym (asked refl))) (plain_choice (is_data la) DataOutput Unaffected refl refl)

@@ -1,16 +1,18 @@
--- In the base profile no tail wants a 31 that is permitted.
-use Rattle.std.proofs.Common.{◌≡◌, ℕ, Bool, true, false, ◌&&◌, not, Option, Some, None, refl}
+-- In the base profile no tail wants a 31 that is permitted, and none selects a plane.
+use Rattle.std.proofs.Common.{◌≡◌, ℕ, Bool, true, false, ◌&&◌, ◌==◌, not, List, Option, Some, None, refl}
 use Rattle.nand_geometry.specs.declared.parts.Parts.{Parts}
 use Rattle.nand_geometry.specs.Optional.{is_wide}
 use Rattle.onfi_cycle.specs.declared.command.Command.{Command}
-use Rattle.onfi_cycle.specs.declared.command.Command.TheVariants.{Read, ReadCacheSequential}
+use Rattle.onfi_cycle.specs.declared.command.Command.TheVariants.{Read, ReadCacheSequential, ChangeReadColumnEnhanced}
 use Rattle.onfi_cycle.specs.declared.opening.Opening.{Opening}
 use Rattle.onfi_cycle.specs.declared.tail_facts.TailFacts.{TailFacts}
 use Rattle.onfi_cycle.specs.declared.target_cycle.TargetCycle.{TargetCycle}
 use Rattle.onfi_cycle.specs.declared.target_cycle.TargetCycle.TheVariants.{CommandCycle, AddressCycle, InputCycle, OutputCycle}
-use Rattle.onfi_cycle.specs.Command.{at_last_row, addresses_the_array}
-use Rattle.onfi_cycle.specs.Sequence.{opened, wants_command, begins_sequence, begins_anew}
-use Rattle.onfi_cycle.specs.Rules.{ends_row, excludes_cache, breaks_sequence_open}
+use Rattle.onfi_cycle.specs.LunView.{LunView}
+use Rattle.onfi_cycle.specs.Base.{is_of_base}
+use Rattle.onfi_cycle.specs.Command.{at_last_row, is_enhanced_column, addresses_the_array}
+use Rattle.onfi_cycle.specs.Sequence.{opened, wants_command, begins_sequence, begins_anew, selects_plane}
+use Rattle.onfi_cycle.specs.Rules.{ends_row, excludes_cache, breaks_sequence_open, breaks_plane_not_held}
 use Rattle.onfi_cycle.proofs.TableLemmas.{command_opens}
 use Rattle.onfi_profiles.specs.Widening.{in_base}
 
@@ -30,23 +32,36 @@ anew_same g t (AddressCycle byte) h = refl
 anew_same g t (InputCycle byte) h = refl
 anew_same g t OutputCycle h = refl
 
--- each row of the array excludes a cache read there
-pub excluded_same : (g : Parts) (t : TailFacts) → ends_row (excludes_cache (in_base g)) t ≡ ends_row addresses_the_array t
-excluded_same g t = at t.opening
+-- no sequence of the base profile is a Change Read Column Enhanced
+pub no_plane : (t : TailFacts) → opened (λ c n. not (is_of_base c)) t.opening ≡ false → selects_plane t ≡ false
+no_plane t h = at t.opening h
   where
-    of : (c : Command) (n : ℕ) → (excludes_cache (in_base g) c && at_last_row c n) ≡ (addresses_the_array c && at_last_row c n)
-    of Read n = refl
-    of c n = refl
+    of : (c : Command) (n : ℕ) → not (is_of_base c) ≡ false → (is_enhanced_column c && n == 5) ≡ false
+    of ChangeReadColumnEnhanced n h = cc
+    of c n h = refl
 
-    at : (o : Option Opening) → opened (λ c n. excludes_cache (in_base g) c && at_last_row c n) o ≡ opened (λ c n. addresses_the_array c && at_last_row c n) o
-    at None = refl
-    at (Some o) = of o.opener o.addresses
+    at : (o : Option Opening) → opened (λ c n. not (is_of_base c)) o ≡ false → opened (λ c n. is_enhanced_column c && n == 5) o ≡ false
+    at None h = refl
+    at (Some o) h = of o.opener o.addresses h
+
+-- each row of the array excludes a cache read there
+pub excluded_same : (g : Parts) (t : TailFacts) → opened (λ c n. not (is_of_base c)) t.opening ≡ false → ends_row (excludes_cache (in_base g)) t ≡ ends_row addresses_the_array t
+excluded_same g t h = at t.opening h
+  where
+    of : (c : Command) (n : ℕ) → not (is_of_base c) ≡ false → (excludes_cache (in_base g) c && at_last_row c n) ≡ (addresses_the_array c && at_last_row c n)
+    of Read n h = refl
+    of ChangeReadColumnEnhanced n h = cc
+    of c n h = refl
+
+    at : (o : Option Opening) → opened (λ c n. not (is_of_base c)) o ≡ false → opened (λ c n. excludes_cache (in_base g) c && at_last_row c n) o ≡ opened (λ c n. addresses_the_array c && at_last_row c n) o
+    at None h = refl
+    at (Some o) h = of o.opener o.addresses h
 
 -- and the wider profile lets a Read be
-pub excluded_less : (g : Parts) (t : TailFacts) (b : Bool) → (ends_row addresses_the_array t && b) ≡ false → (ends_row (excludes_cache g) t && b) ≡ false
+pub excluded_less : (g : Parts) (t : TailFacts) (b : Bool) → (ends_row (excludes_cache (in_base g)) t && b) ≡ false → (ends_row (excludes_cache g) t && b) ≡ false
 excluded_less g t b h = at t.opening h
   where
-    of : (c : Command) (n : ℕ) → ((addresses_the_array c && at_last_row c n) && b) ≡ false → ((excludes_cache g c && at_last_row c n) && b) ≡ false
+    of : (c : Command) (n : ℕ) → ((excludes_cache (in_base g) c && at_last_row c n) && b) ≡ false → ((excludes_cache g c && at_last_row c n) && b) ≡ false
     of Read n h = less (not (is_wide g.optional)) (at_last_row Read n) h
       where
         less : (w r : Bool) → ((true && r) && b) ≡ false → ((w && r) && b) ≡ false
@@ -54,6 +69,26 @@ excluded_less g t b h = at t.opening h
         less false r h = refl
     of c n h = h
 
-    at : (o : Option Opening) → (opened (λ c n. addresses_the_array c && at_last_row c n) o && b) ≡ false → (opened (λ c n. excludes_cache g c && at_last_row c n) o && b) ≡ false
+    at : (o : Option Opening) → (opened (λ c n. excludes_cache (in_base g) c && at_last_row c n) o && b) ≡ false → (opened (λ c n. excludes_cache g c && at_last_row c n) o && b) ≡ false
     at None h = refl
     at (Some o) h = of o.opener o.addresses h
+
+-- F18 is of no sequence of the base profile
+pub plane_kept : (g : Parts) (t : TailFacts) (luns : List LunView) (k : TargetCycle) → opened (λ c n. not (is_of_base c)) t.opening ≡ false → breaks_plane_not_held g t luns k ≡ false
+unfolding breaks_plane_not_held
+plane_kept g t luns (AddressCycle byte) h = none (ends_row is_enhanced_column t) _ (at t.opening h)
+  where
+    none : (a b : Bool) → a ≡ false → (a && b) ≡ false
+    none true b e = cc
+    none false b e = refl
+
+    of : (c : Command) (n : ℕ) → not (is_of_base c) ≡ false → (is_enhanced_column c && at_last_row c n) ≡ false
+    of ChangeReadColumnEnhanced n h = cc
+    of c n h = refl
+
+    at : (o : Option Opening) → opened (λ c n. not (is_of_base c)) o ≡ false → opened (λ c n. is_enhanced_column c && at_last_row c n) o ≡ false
+    at None h = refl
+    at (Some o) h = of o.opener o.addresses h
+plane_kept g t luns (CommandCycle c) h = refl
+plane_kept g t luns (InputCycle byte) h = refl
+plane_kept g t luns OutputCycle h = refl

@@ -9,7 +9,7 @@ use Rattle.nand_geometry.specs.Optional.{is_wide}
 use Rattle.nand_geometry.specs.Limits.{page_len}
 use Rattle.nand_geometry.specs.Row.{parts_of}
 use Rattle.onfi_cycle.specs.declared.command.Command.{Command}
-use Rattle.onfi_cycle.specs.declared.command.Command.TheVariants.{Read, ChangeReadColumn, ReadStatus, ReadId, ReadParameterPage, BlockErase, PageProgram, ReadStatusEnhanced, BlockErasePlane, ProgramPlane, ReadCacheSequential, ReadCacheEnd, ReadUniqueId, GetFeatures, SetFeatures, ResetLun, SynchronousReset, ReadConfirm}
+use Rattle.onfi_cycle.specs.declared.command.Command.TheVariants.{Read, ChangeReadColumn, ReadStatus, ReadId, ReadParameterPage, BlockErase, PageProgram, ReadStatusEnhanced, BlockErasePlane, ProgramPlane, ReadCacheSequential, ReadCacheEnd, ReadUniqueId, GetFeatures, SetFeatures, ResetLun, SynchronousReset, ReadConfirm, ChangeReadColumnEnhanced}
 use Rattle.onfi_cycle.specs.declared.item.Item.{Item}
 use Rattle.onfi_cycle.specs.declared.item.Item.TheVariants.{Cyc, Rdy, Ard}
 use Rattle.onfi_cycle.specs.declared.lun.Lun.{Lun}
@@ -27,12 +27,12 @@ use Rattle.onfi_cycle.specs.declared.tail_facts.TailFacts.{TailFacts}
 use Rattle.onfi_cycle.specs.declared.target_cycle.TargetCycle.{TargetCycle}
 use Rattle.onfi_cycle.specs.declared.target_cycle.TargetCycle.TheVariants.{CommandCycle, AddressCycle, InputCycle, OutputCycle}
 use Rattle.onfi_cycle.specs.LunView.{LunView}
-use Rattle.onfi_cycle.specs.Command.{is_known, is_opener, is_read_id, is_reset, at_last_row, is_change_read_column, addresses_the_array, reads_identity, wants_ready, wants_one_lun}
+use Rattle.onfi_cycle.specs.Command.{is_known, is_opener, is_read_id, is_reset, at_last_row, is_change_read_column, addresses_the_array, reads_identity, wants_ready, wants_one_lun, is_enhanced_column}
 use Rattle.onfi_cycle.specs.Sequence.{opened, opening, filled, tail, facts_of, target_of, target_cycle, is_open, wants_address, row_with, column_with, works_on_row, wants_command, row}
 use Rattle.onfi_cycle.specs.Effect.{is_off, is_data, is_shared, page_address}
 use Rattle.onfi_cycle.specs.Lun.{output_column, effect_on, drivers, drivers_from, is_only, closer, is_target_work, is_busy, lun_view, views_from, luns_of, is_page_read}
 use Rattle.onfi_cycle.specs.Content.{ArrayWork, queued_work_after, queued_work, pending_work_after, pending_work, content_after, content, failed_after, has_failed, register_bytes, byte_at, shown_by, shown}
-use Rattle.onfi_cycle.specs.Rules.{has_some, driving, only, is_some_and, lun_is, ends_row, works_for_target, is_unclear, may_change_column, has_no_byte, caching, continues_cache, ends_cache, driver_is, named_lun_is, register_len, is_past, is_past_register, queued_clashes, some_queued_clashes, refused_by, is_refused_by, is_undeclared, second_of_page, second_column, breaks_not_there, breaks_command_unknown, breaks_sequence_open, breaks_several_luns, breaks_no_column_to_change, breaks_address_misplaced, breaks_row_outside, breaks_lun_busy, breaks_queue_clash, breaks_no_sole_driver, breaks_data_not_ready, breaks_column_outside, breaks_cache_read_misplaced, excludes_cache}
+use Rattle.onfi_cycle.specs.Rules.{has_some, driving, only, is_some_and, lun_is, ends_row, works_for_target, is_unclear, may_change_column, has_no_byte, caching, continues_cache, ends_cache, driver_is, named_lun_is, register_len, is_past, is_past_register, queued_clashes, some_queued_clashes, refused_by, is_refused_by, is_undeclared, second_of_page, second_column, breaks_not_there, breaks_command_unknown, breaks_sequence_open, breaks_several_luns, breaks_no_column_to_change, breaks_address_misplaced, breaks_row_outside, breaks_lun_busy, breaks_queue_clash, breaks_no_sole_driver, breaks_data_not_ready, breaks_column_outside, breaks_cache_read_misplaced, excludes_cache, breaks_plane_not_held, holds_plane_of}
 use Rattle.onfi_cycle.specs.Permitted.{judge_cycle, judge_item, judge, broken, is_permitted, is_legal}
 use Rattle.onfi_cycle.proofs.Others.{first_passed, chosen_else}
 use Rattle.onfi_cycle.proofs.Passed.{KeepsRules, keeps_rules, permitted_keeps}
@@ -43,7 +43,7 @@ use Rattle.onfi_profiles.proofs.Same.{view_same, effect_same, luns_same}
 use Rattle.onfi_profiles.proofs.Shared.{Like, equal, passes, is_passed, core, one_lun_cycle}
 use Rattle.onfi_profiles.proofs.Pasts.{lun_at, both_legal, in_column, driver_one, column_driver, confirm_uncached}
 use Rattle.onfi_profiles.proofs.Alike.{AreAlike, plain, same_latches, same_drivers, are_alike, effects_like}
-use Rattle.onfi_profiles.proofs.Unwanted.{unwanted, excluded_same, excluded_less}
+use Rattle.onfi_profiles.proofs.Unwanted.{unwanted, excluded_less}
 
 -- 1. rules that hang on the set
 
@@ -53,6 +53,7 @@ fits g BlockErasePlane h = h
 fits g ProgramPlane h = h
 fits g ReadCacheSequential h = h
 fits g ReadCacheEnd h = h
+fits g ChangeReadColumnEnhanced h = let no : true ≡ false = h in cc
 fits g ReadUniqueId h = let no : true ≡ false = h in cc
 fits g GetFeatures h = let no : true ≡ false = h in cc
 fits g SetFeatures h = let no : true ≡ false = h in cc
@@ -158,6 +159,23 @@ column_same_too g t luns (AddressCycle byte) = λ i.
 column_same_too g t luns (InputCycle byte) = refl
 column_same_too g t luns OutputCycle = λ i. driver_is (λ v. is_data v.latch && is_past (output_column v.column) (len_same g v.register i)) luns
 
+holds_same : (g : Parts) (p : PageAddress) (r : Register) → holds_plane_of (in_base g) p r ≡ holds_plane_of g p r
+holds_same g p Empty = refl
+holds_same g p (Page q) = refl
+holds_same g p ParameterPage = refl
+holds_same g p Identifier = refl
+holds_same g p Identity = refl
+holds_same g p JedecIdentity = refl
+holds_same g p UniqueId = refl
+holds_same g p (Features a) = refl
+
+plane_same : (g : Parts) (t : TailFacts) (luns : List LunView) (k : TargetCycle) → breaks_plane_not_held (in_base g) t luns k ≡ breaks_plane_not_held g t luns k
+unfolding breaks_plane_not_held
+plane_same g t luns (AddressCycle byte) = λ i. ends_row is_enhanced_column t && named_lun_is g (row_with t byte) (λ v. not (holds_same g (page_address g (row_with t byte)) v.register i)) luns
+plane_same g t luns (CommandCycle c) = refl
+plane_same g t luns (InputCycle byte) = refl
+plane_same g t luns OutputCycle = refl
+
 -- a 30 names a LUN that does no cache read
 abbrev NamesUncached : Parts → TailFacts → List LunView → TargetCycle → Type 0
 NamesUncached g t luns k = k ≡ CommandCycle ReadConfirm → named_lun_is g (row t) caching luns ≡ false
@@ -169,14 +187,14 @@ cache_wider g t luns (CommandCycle ReadConfirm) free h = ap (λ (b : Bool). is_w
 cache_wider g t luns (CommandCycle ReadCacheEnd) free h = h
 cache_wider g t luns (CommandCycle c) free h = h
 cache_wider g t luns (AddressCycle byte) free h =
-    excluded_less g t (named_lun_is g (row_with t byte) caching luns) (ap (λ (b : Bool). b && named_lun_is g (row_with t byte) caching luns) (sym (excluded_same g t)) ∙ h)
+    excluded_less g t (named_lun_is g (row_with t byte) caching luns) h
 cache_wider g t luns (InputCycle byte) free h = refl
 cache_wider g t luns OutputCycle free h = refl
 
 -- 3. all of them
 
 kept : (g : Parts) (t : TailFacts) (luns : List LunView) (k : TargetCycle) → KeepsRules g t luns k → judge_cycle g t luns k ≡ None
-kept g t luns k r = rw (r.f2, r.f3, r.f4, r.f5, r.f6, r.f7, r.f8, r.f9, r.f10, r.f11, r.f12, r.f13, r.f14, r.f15) refl
+kept g t luns k r = rw (r.f2, r.f3, r.f4, r.f5, r.f6, r.f7, r.f8, r.f9, r.f10, r.f11, r.f12, r.f13, r.f14, r.f15, r.f18) refl
 
 wider : (g : Parts) → is_shared g ≡ false → (t : TailFacts) (luns : List LunView) (k : TargetCycle) → NamesUncached g t luns k → judge_cycle (in_base g) t luns k ≡ None → judge_cycle g t luns k ≡ None
 wider g narrow t luns k free h =
@@ -197,6 +215,7 @@ wider g narrow t luns k free h =
       f13 = r.f13;
       f14 = sym (column_same_too g t luns k) ∙ r.f14;
       f15 = cache_wider g t luns k free r.f15;
+      f18 = sym (plane_same g t luns k) ∙ r.f18;
     })
 
 -- 4. on a target with several LUNs
@@ -366,6 +385,15 @@ cache_too g t bs ws (AddressCycle byte) s h = ap (λ (b : Bool). ends_row (exclu
 cache_too g t bs ws (InputCycle byte) s h = refl
 cache_too g t bs ws OutputCycle s h = refl
 
+plane_too : (g : Parts) (t : TailFacts) (bs ws : List LunView) (k : TargetCycle) → BothSee g t k bs ws → breaks_plane_not_held g t bs k ≡ false → breaks_plane_not_held g t ws k ≡ false
+unfolding breaks_plane_not_held
+plane_too g t bs ws (AddressCycle byte) s h =
+    ap (λ (b : Bool). ends_row is_enhanced_column t && b)
+    (lun_by core (λ v. not (holds_plane_of g (page_address g (row_with t byte)) v.register)) (λ v. refl) bs ws s.cores (parts_of g (row_with t byte)).lun) ∙ h
+plane_too g t bs ws (CommandCycle c) s h = refl
+plane_too g t bs ws (InputCycle byte) s h = refl
+plane_too g t bs ws OutputCycle s h = refl
+
 wider_shared : (g : Parts) → is_shared g ≡ true → (t : TailFacts) (bs ws : List LunView) (k : TargetCycle) → KeepsRules (in_base g) t bs k → BothSee g t k bs ws → judge_cycle g t ws k ≡ None
 wider_shared g shared t bs ws k r s =
     kept g t ws k
@@ -384,6 +412,7 @@ wider_shared g shared t bs ws k r s =
       f13 = ready_too g t bs ws k s r.f13;
       f14 = column_too g t bs ws k s (sym (column_same_too g t bs k) ∙ r.f14);
       f15 = cache_too g t bs ws k s (cache_wider g t bs k s.free r.f15);
+      f18 = plane_too g t bs ws k s (sym (plane_same g t bs k) ∙ r.f18);
     })
 
 -- the LUNs of a target, from number n on

@@ -31,7 +31,7 @@ use Rattle.micro_claims.specs.declared.refusal.Reason.{Reason}
 use Rattle.micro_claims.specs.declared.refusal.Reason.TheVariants.{CycleForbidden, AddressUnaligned, HandoverInSequence, BufferPassed, RowOrPlaneOutside, ColumnTooLarge, NoStatus, EndsTooSoon, OverBudget, CommandNotAllowed}
 use Rattle.micro_word.specs.Text.{Microprogram}
 use Rattle.micro_claims.specs.State.{bounds_of}
-use Rattle.micro_claims.specs.Against.{first_address}
+use Rattle.micro_claims.specs.Against.{first_address, is_for_traces}
 use Rattle.seq_core.specs.declared.registers.Registers.{Registers}
 use Rattle.seq_core.specs.Progress.{five_bytes}
 use Rattle.refused_run.specs.declared.bench.Stop.{Stop}
@@ -214,9 +214,10 @@ asks_status StatusCommand = true
 asks_status ReadStatusEnhanced = true
 asks_status _ = false
 
-abbrev pub is_status_command : Word → Bool
-is_status_command (CommandWord byte) = asks_status (command byte)
-is_status_command _ = false
+-- a command that programs may not give, whatever the bus says of it: one that asks for the status, or one that traces alone know
+abbrev pub is_kept_back : Word → Bool
+is_kept_back (CommandWord byte) = asks_status (command byte) || is_for_traces (command byte)
+is_kept_back _ = false
 
 -- a reason that needs no cycle stands against the word, by where the program stands, the tail of its target and a look at its LUN
 abbrev pub is_wrong : Parts → Bounds → Stand → TailFacts → Option LunState → Word → Reason → Bool
@@ -227,7 +228,7 @@ is_wrong g b s t look word RowOrPlaneOutside = is_outside g b s.registers word
 is_wrong g b s t look word NoStatus = is_branch word && not s.polled
 is_wrong g b s t look word EndsTooSoon = is_end word && (is_open t || is_working look)
 is_wrong g b s t look word OverBudget = costs_too_much g b s.spent word
-is_wrong g b s t look word CommandNotAllowed = is_status_command word
+is_wrong g b s t look word CommandNotAllowed = is_kept_back word
 is_wrong g b s t look word _ = false
 
 -- the reason that a rule gives, which a cycle of a program breaks

@@ -79,7 +79,8 @@ fn reason_of(rule: Forbidden) -> Reason
         | Forbidden::InputMisplaced
         | Forbidden::NoSoleDriver
         | Forbidden::DataNotReady
-        | Forbidden::CacheReadMisplaced => Reason::CycleForbidden,
+        | Forbidden::CacheReadMisplaced
+        | Forbidden::PlaneNotHeld => Reason::CycleForbidden,
     }
 }
 

@@ -1,10 +1,10 @@
 //! What is against a word where no cycle of it is looked at.
 ghost use Rattle.std.specs.Prelude.{◌≡◌, ◌<◌, ◌^◌, true};
 ghost use Rattle.seq_core.specs.Progress.{reaches};
-ghost use Rattle.refused_run.specs.Course.{place_of_phase, place_wanted, is_identity, begins_elsewhere, is_amid, is_misplaced, hands_over, is_outside, is_working, is_end, is_branch, costs_too_much, is_status_command, is_wrong, fits_in};
+ghost use Rattle.refused_run.specs.Course.{place_of_phase, place_wanted, is_identity, begins_elsewhere, is_amid, is_misplaced, hands_over, is_outside, is_working, is_end, is_branch, costs_too_much, asks_status, is_kept_back, is_wrong, fits_in};
 
 use crate::stand::Stand;
-use micro_claims::{Bounds, Reason, cost, first_address};
+use micro_claims::{Bounds, Reason, cost, first_address, is_for_traces};
 use micro_word::Word;
 use nand_geometry::Geometry;
 use onfi_cycle::{Command, DataPhase, LunState, TailFacts};
@@ -146,15 +146,22 @@ fn costs_too_much(geometry: &Geometry, bounds: &Bounds, spent: u64, word: Word) 
     0 < more && u64::from(bounds.budget) < spent + more
 }
 
-// A status command that a program gives by itself.
-fn is_status_command(word: Word) -> bool
-    ensures { result ≡ is_status_command word }
+// The command asks for the status.
+fn asks_status(command: Command) -> bool
+    ensures { result ≡ asks_status command }
+{
+    matches!(command, Command::ReadStatus | Command::ReadStatusEnhanced)
+}
+
+// A command that programs may not give, whatever the bus says of it.
+fn is_kept_back(word: Word) -> bool
+    ensures { result ≡ is_kept_back word }
 {
     match word {
-        Word::Command { byte } => matches!(
-            Command::of(byte),
-            Command::ReadStatus | Command::ReadStatusEnhanced
-        ),
+        Word::Command { byte } => {
+            let command = Command::of(byte);
+            asks_status(command) || is_for_traces(command)
+        }
         _ => false,
     }
 }
@@ -187,7 +194,7 @@ pub(crate) fn is_wrong(
         Reason::NoStatus => is_branch(word) && !stand.polled,
         Reason::EndsTooSoon => is_end(word) && (tail.is_open() || is_working(look)),
         Reason::OverBudget => costs_too_much(geometry, bounds, stand.spent, word),
-        Reason::CommandNotAllowed => is_status_command(word),
+        Reason::CommandNotAllowed => is_kept_back(word),
         Reason::NoWords
         | Reason::LoopUnpaired
         | Reason::LoopsTooDeep

@@ -31,8 +31,8 @@ use Rattle.onfi_cycle.specs.declared.tail_facts.TailFacts.{TailFacts}
 use Rattle.onfi_cycle.specs.declared.target_cycle.TargetCycle.{TargetCycle}
 use Rattle.onfi_cycle.specs.declared.target_cycle.TargetCycle.TheVariants.{CommandCycle, AddressCycle, InputCycle, OutputCycle}
 use Rattle.onfi_cycle.specs.LunView.{LunView}
-use Rattle.onfi_cycle.specs.Sequence.{tail, facts_of, target_cycle, takes_data, takes_features, input_column, wants_command, wants_address, row, row_with}
-use Rattle.onfi_cycle.specs.Effect.{is_shared, acts_for_target, of_target, other_effect, lun_reset_effect, is_off, is_data, names_lun, confirm_effect, command_effect, address_effect, opening_address_effect, id_effect, ends_features, cycle_effect, row_effect, cache_effect}
+use Rattle.onfi_cycle.specs.Sequence.{tail, facts_of, target_cycle, takes_data, takes_features, input_column, wants_command, wants_address, row, row_with, selects_plane}
+use Rattle.onfi_cycle.specs.Effect.{is_shared, acts_for_target, of_target, other_effect, lun_reset_effect, is_off, is_data, names_lun, confirm_effect, command_effect, address_effect, opening_address_effect, id_effect, ends_features, cycle_effect, row_effect, cache_effect, plane_effect, column_effect}
 use Rattle.onfi_cycle.specs.Command.{closes_row, reads_row}
 use Rattle.onfi_cycle.specs.Filling.{filling, cycle_filling}
 use Rattle.onfi_cycle.specs.Lun.{effect_on, latch_alone, luns_of, lun_view, effect_among}
@@ -68,6 +68,7 @@ rests e.Deselected d b r = record { geometry = refl; planes = refl; pages = λ p
 rests e.StatusOfSelected d b r = record { geometry = refl; planes = refl; pages = λ p. refl; register = refl; array_page = refl; busy = refl; caching = refl; array_busy = refl; queue = refl; queued = refl; pending = refl; failed = refl }
 rests (e.AnotherAddressed reads) d b r = record { geometry = refl; planes = refl; pages = λ p. refl; register = refl; array_page = refl; busy = refl; caching = refl; array_busy = refl; queue = refl; queued = refl; pending = refl; failed = refl }
 rests (e.ReadColumnChanged column) d b r = record { geometry = refl; planes = refl; pages = λ p. refl; register = refl; array_page = refl; busy = refl; caching = refl; array_busy = refl; queue = refl; queued = refl; pending = refl; failed = refl }
+rests (e.PlaneSelected column) d b r = record { geometry = refl; planes = refl; pages = λ p. refl; register = refl; array_page = refl; busy = refl; caching = refl; array_busy = refl; queue = refl; queued = refl; pending = refl; failed = refl }
 rests e.DataOutput d b r = record { geometry = refl; planes = refl; pages = λ p. refl; register = refl; array_page = refl; busy = refl; caching = refl; array_busy = refl; queue = refl; queued = refl; pending = refl; failed = refl }
 rests x d b r = cc
 
@@ -112,7 +113,9 @@ command_no_ready g t la ReadCacheSequential n =
     (either IsNoReady (wants_command t ReadCacheSequential && names_lun g (row t) n) (confirm_effect g t ReadCacheSequential) (other_effect g t ReadCacheSequential) (confirm_no_ready g t ReadCacheSequential) (either_passed IsNoReady g t ReadCacheSequential refl refl))
     (either IsNoReady (is_off la) e.Unaffected (e.CacheReadContinued None) refl refl)
 command_no_ready g t la ReadCacheEnd n = either IsNoReady (is_off la) e.Unaffected e.CacheReadEnded refl refl
-command_no_ready g t la ChangeReadColumnConfirm n = either IsNoReady (wants_command t ChangeReadColumnConfirm && not (is_off la)) (e.ReadColumnChanged t.column) e.Unaffected refl refl
+command_no_ready g t la ChangeReadColumnConfirm n =
+    either IsNoReady (selects_plane t) (plane_effect g t n) (column_effect t la) (either IsNoReady (names_lun g (row t) n) (e.PlaneSelected t.column) e.Deselected refl refl)
+    (either IsNoReady (wants_command t ChangeReadColumnConfirm && not (is_off la)) (e.ReadColumnChanged t.column) e.Unaffected refl refl)
 command_no_ready g t la c n = either IsNoReady (wants_command t c && names_lun g (row t) n) (confirm_effect g t c) (other_effect g t c) (confirm_no_ready g t c) (either_passed IsNoReady g t c refl refl)
 
 id_no_ready : (byte : ℕ) → IsNoReady (id_effect byte)
@@ -250,7 +253,9 @@ command_programs g t la ReadCacheSequential n h =
     (either IsNoProgram (wants_command t ReadCacheSequential && names_lun g (row t) n) (confirm_effect g t ReadCacheSequential) (other_effect g t ReadCacheSequential) refl (either_passed IsNoProgram g t ReadCacheSequential refl refl))
     (either IsNoProgram (is_off la) e.Unaffected (e.CacheReadContinued None) refl refl)
 command_programs g t la ReadCacheEnd n h = either IsNoProgram (is_off la) e.Unaffected e.CacheReadEnded refl refl
-command_programs g t la ChangeReadColumnConfirm n h = either IsNoProgram (wants_command t ChangeReadColumnConfirm && not (is_off la)) (e.ReadColumnChanged t.column) e.Unaffected refl refl
+command_programs g t la ChangeReadColumnConfirm n h =
+    either IsNoProgram (selects_plane t) (plane_effect g t n) (column_effect t la) (either IsNoProgram (names_lun g (row t) n) (e.PlaneSelected t.column) e.Deselected refl refl)
+    (either IsNoProgram (wants_command t ChangeReadColumnConfirm && not (is_off la)) (e.ReadColumnChanged t.column) e.Unaffected refl refl)
 command_programs g t la c n h = either IsNoProgram (wants_command t c && names_lun g (row t) n) (confirm_effect g t c) (other_effect g t c) (confirm_programs g t c h) (either_passed IsNoProgram g t c refl refl)
 
 id_programs : (byte : ℕ) → IsNoProgram (id_effect byte)

@@ -1,22 +1,23 @@
 -- The last address of a row inside the geometry, on the LUN that the row names.
-use Rattle.std.specs.Prelude.{ℕ, Bool, ◌&&◌, ◌||◌, if◌then◌else◌, Option, Some, None}
+use Rattle.std.specs.Prelude.{ℕ, Bool, ◌&&◌, ◌||◌, not, if◌then◌else◌, Option, Some, None}
 use Rattle.nand_geometry.specs.declared.parts.Parts.{Parts}
 use Rattle.onfi_cycle.specs.declared.forbidden.Forbidden.{Forbidden}
-use Rattle.onfi_cycle.specs.declared.forbidden.Forbidden.TheVariants.{LunBusy, QueueClash, ColumnOutside, CacheReadMisplaced}
+use Rattle.onfi_cycle.specs.declared.forbidden.Forbidden.TheVariants.{LunBusy, QueueClash, ColumnOutside, CacheReadMisplaced, PlaneNotHeld}
 use Rattle.onfi_cycle.specs.declared.tail_facts.TailFacts.{TailFacts}
-use Rattle.onfi_cycle.specs.Command.{addresses_the_array}
+use Rattle.onfi_cycle.specs.Command.{addresses_the_array, is_enhanced_column}
 use Rattle.onfi_cycle.specs.Effect.{page_address}
 use Rattle.onfi_cycle.specs.LunView.{LunView}
-use Rattle.onfi_cycle.specs.Rules.{excludes_cache, caching, ends_row, is_refused_by}
+use Rattle.onfi_cycle.specs.Rules.{excludes_cache, caching, ends_row, is_refused_by, holds_plane_of}
 
--- the first of F9 to F15 that it breaks, whose column is outside or not, and while work of the whole target goes on or not
+-- the first of F9 to F18 that it breaks, whose column is outside or not, and while work of the whole target goes on or not
 abbrev pub named_rule : Parts → TailFacts → ℕ → (outside target_works : Bool) → LunView → Option Forbidden
 named_rule g t row outside target_works v =
     if ends_row addresses_the_array t && (v.busy || target_works) then Some LunBusy
     else (if is_refused_by g t.opening (page_address g row) v.queue then Some QueueClash
     else (if outside then Some ColumnOutside
     else (if ends_row (excludes_cache g) t && caching v then Some CacheReadMisplaced
-    else None)))
+    else (if ends_row is_enhanced_column t && not (holds_plane_of g (page_address g row) v.register) then Some PlaneNotHeld
+    else None))))
 
 -- the same where the row names none of them
 abbrev pub nobody_rule : TailFacts → (outside target_works : Bool) → Option Forbidden

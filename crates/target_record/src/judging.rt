@@ -1,4 +1,4 @@
-//! The rules F1 to F15 by the record of a target: of its LUNs only what a rule looks at is read, so nothing is taken out of the record.
+//! The rules F1 to F15 and F18 by the record of a target: of its LUNs only what a rule looks at is read, so nothing is taken out of the record.
 ghost use Rattle.std.specs.Prelude.{◌≡◌, ℕ, length, List, ◌^◌, ◌<◌, ◌≤◌, IfSome, true, false, not, slice_get};
 ghost use Rattle.std.specs.List.{All, list_all, list_any};
 ghost use Rattle.std.specs.Option.{option_copied, option_map};
@@ -14,7 +14,7 @@ ghost use Rattle.onfi_cycle.specs.LunView.{LunView};
 ghost use Rattle.onfi_cycle.specs.Sequence.{is_open, target_cycle, wants_command, works_on_row, row};
 ghost use Rattle.onfi_cycle.specs.Permitted.{judge, judge_cycle, judge_known_cycle};
 ghost use Rattle.onfi_cycle.specs.Rules.{are_none, is_undeclared_address, breaks_address_misplaced, breaks_cache_read_misplaced, breaks_column_outside, breaks_command_unknown, breaks_lun_busy, breaks_no_column_to_change, breaks_several_luns, is_unclear, works_for_target, caching, continues_cache, driver, driving, ends_cache, ends_row, excludes_cache, named_lun_is, has_no_byte, has_some, is_past_register, lun_is, is_refused_by, is_undeclared, may_change_column, planes_clash, queued_clashes, refused_by, register_len, second_column, second_of_page, some_queued_clashes};
-ghost use Rattle.onfi_cycle.specs.Command.{command, addresses_the_array, is_change_read_column, is_opener};
+ghost use Rattle.onfi_cycle.specs.Command.{command, addresses_the_array, is_change_read_column, is_enhanced_column, is_opener};
 ghost use Rattle.onfi_cycle.specs.Bounds.{TargetFits};
 ghost use Rattle.target_record.specs.Geometry.{parts_of};
 ghost use Rattle.target_record.specs.Record.{IsRecord, tail_of, lun_of, luns_of, queue_of, target_of};
@@ -319,6 +319,7 @@ fn is_undeclared(geometry: &OnfiseqGeometry, command: Command) -> bool
         Command::ReadStatusEnhanced => !is_set(geometry.enhanced),
         Command::BlockErasePlane | Command::ProgramPlane => !is_set(geometry.multi_plane),
         Command::ReadCacheSequential | Command::ReadCacheEnd => !is_set(geometry.cache),
+        Command::ChangeReadColumnEnhanced => { !Optional(geometry.optional).has_enhanced_column() }
         Command::ReadUniqueId => !Optional(geometry.optional).has_unique_id(),
         Command::GetFeatures | Command::SetFeatures => {
             !Optional(geometry.optional).has_features()
@@ -400,9 +401,9 @@ fn breaks_lun_busy(geometry: &OnfiseqGeometry, luns: &[OnfiseqLun], command: Com
         || is_shared(geometry) && command.reads_identity() && some_busy(luns)
 }
 
-// The first of F3 to F15 that an opener breaks which the tail doesn't want.
+// The first of F3 to F18 that an opener breaks which the tail doesn't want.
 #[inline(always)]
-#[tactic(auto, unfolding(onfi_cycle::specs::Rules::breaks_sequence_open, onfi_cycle::specs::Rules::breaks_command_misplaced, onfi_cycle::specs::Rules::breaks_address_misplaced, onfi_cycle::specs::Rules::breaks_row_outside, onfi_cycle::specs::Rules::breaks_queue_clash, onfi_cycle::specs::Rules::breaks_input_misplaced, onfi_cycle::specs::Rules::breaks_no_sole_driver, onfi_cycle::specs::Rules::breaks_data_not_ready, onfi_cycle::specs::Rules::breaks_column_outside))]
+#[tactic(auto, unfolding(onfi_cycle::specs::Rules::breaks_sequence_open, onfi_cycle::specs::Rules::breaks_command_misplaced, onfi_cycle::specs::Rules::breaks_address_misplaced, onfi_cycle::specs::Rules::breaks_row_outside, onfi_cycle::specs::Rules::breaks_queue_clash, onfi_cycle::specs::Rules::breaks_input_misplaced, onfi_cycle::specs::Rules::breaks_no_sole_driver, onfi_cycle::specs::Rules::breaks_data_not_ready, onfi_cycle::specs::Rules::breaks_column_outside, onfi_cycle::specs::Rules::breaks_plane_not_held))]
 fn judge_opener(
     geometry: &OnfiseqGeometry,
     in_sequence: bool,
@@ -458,9 +459,9 @@ fn named_has_read(geometry: &OnfiseqGeometry, kept: &OnfiseqTarget) -> bool
     }
 }
 
-// The first of F3 to F15 that a 31h breaks which the tail wants.
+// The first of F3 to F18 that a 31h breaks which the tail wants.
 #[inline(never)]
-#[tactic(auto, unfolding(onfi_cycle::specs::Rules::breaks_sequence_open, onfi_cycle::specs::Rules::breaks_several_luns, onfi_cycle::specs::Rules::breaks_no_column_to_change, onfi_cycle::specs::Rules::breaks_command_misplaced, onfi_cycle::specs::Rules::breaks_address_misplaced, onfi_cycle::specs::Rules::breaks_row_outside, onfi_cycle::specs::Rules::breaks_lun_busy, onfi_cycle::specs::Rules::breaks_queue_clash, onfi_cycle::specs::Rules::breaks_input_misplaced, onfi_cycle::specs::Rules::breaks_no_sole_driver, onfi_cycle::specs::Rules::breaks_data_not_ready, onfi_cycle::specs::Rules::breaks_column_outside, onfi_cycle::specs::Rules::breaks_cache_read_misplaced))]
+#[tactic(auto, unfolding(onfi_cycle::specs::Rules::breaks_sequence_open, onfi_cycle::specs::Rules::breaks_several_luns, onfi_cycle::specs::Rules::breaks_no_column_to_change, onfi_cycle::specs::Rules::breaks_command_misplaced, onfi_cycle::specs::Rules::breaks_address_misplaced, onfi_cycle::specs::Rules::breaks_row_outside, onfi_cycle::specs::Rules::breaks_lun_busy, onfi_cycle::specs::Rules::breaks_queue_clash, onfi_cycle::specs::Rules::breaks_input_misplaced, onfi_cycle::specs::Rules::breaks_no_sole_driver, onfi_cycle::specs::Rules::breaks_data_not_ready, onfi_cycle::specs::Rules::breaks_column_outside, onfi_cycle::specs::Rules::breaks_cache_read_misplaced, onfi_cycle::specs::Rules::breaks_plane_not_held))]
 fn judge_random_cache_read(geometry: &OnfiseqGeometry, kept: &OnfiseqTarget) -> Option<Forbidden>
     requires limits { InLimits (parts_of geometry.now) }
     requires numbers { IsTarget kept.now }
@@ -477,7 +478,7 @@ fn judge_random_cache_read(geometry: &OnfiseqGeometry, kept: &OnfiseqTarget) -> 
 }
 
 // The first of F6 to F15 that a closer breaks.
-#[tactic(auto, unfolding(onfi_cycle::specs::Rules::breaks_sequence_open, onfi_cycle::specs::Rules::breaks_several_luns, onfi_cycle::specs::Rules::breaks_no_column_to_change, onfi_cycle::specs::Rules::breaks_command_misplaced, onfi_cycle::specs::Rules::breaks_address_misplaced, onfi_cycle::specs::Rules::breaks_row_outside, onfi_cycle::specs::Rules::breaks_lun_busy, onfi_cycle::specs::Rules::breaks_queue_clash, onfi_cycle::specs::Rules::breaks_input_misplaced, onfi_cycle::specs::Rules::breaks_no_sole_driver, onfi_cycle::specs::Rules::breaks_data_not_ready, onfi_cycle::specs::Rules::breaks_column_outside, onfi_cycle::specs::Rules::breaks_cache_read_misplaced))]
+#[tactic(auto, unfolding(onfi_cycle::specs::Rules::breaks_sequence_open, onfi_cycle::specs::Rules::breaks_several_luns, onfi_cycle::specs::Rules::breaks_no_column_to_change, onfi_cycle::specs::Rules::breaks_command_misplaced, onfi_cycle::specs::Rules::breaks_address_misplaced, onfi_cycle::specs::Rules::breaks_row_outside, onfi_cycle::specs::Rules::breaks_lun_busy, onfi_cycle::specs::Rules::breaks_queue_clash, onfi_cycle::specs::Rules::breaks_input_misplaced, onfi_cycle::specs::Rules::breaks_no_sole_driver, onfi_cycle::specs::Rules::breaks_data_not_ready, onfi_cycle::specs::Rules::breaks_column_outside, onfi_cycle::specs::Rules::breaks_cache_read_misplaced, onfi_cycle::specs::Rules::breaks_plane_not_held))]
 fn judge_closer(
     geometry: &OnfiseqGeometry,
     kept: &OnfiseqTarget,
@@ -578,7 +579,7 @@ fn ends_row(tail: TailFacts) -> bool
     }
 }
 
-// The next address is the last of a row of the array.
+// The next address is the last of a row of a LUN that has to be ready.
 fn ends_array_row(tail: TailFacts) -> bool
     ensures { result ≡ ends_row addresses_the_array tail }
 {
@@ -589,12 +590,14 @@ fn ends_array_row(tail: TailFacts) -> bool
     }
 }
 
-// The opener's row names a LUN that does no cache read: a Read may name one in the wider profile.
+// The opener's row names a LUN that does no cache read: a Read may name one in the wider profile, and so may a Change Read Column
+// Enhanced.
 fn excludes_cache(geometry: &Geometry, opener: Command) -> bool
     ensures { result ≡ excludes_cache geometry.now opener }
 {
     match opener {
         Command::Read => !geometry.parts().optional.is_wide(),
+        Command::ChangeReadColumnEnhanced => false,
         _ => opener.addresses_the_array(),
     }
 }
@@ -610,14 +613,17 @@ fn ends_row_without_cache(geometry: &Geometry, tail: TailFacts) -> bool
     }
 }
 
-// The next address is the second column cycle of a Read, a Page Program or a Change Write Column.
+// The next address is the second column cycle of a Read, a Change Read Column Enhanced, a Page Program or a Change Write Column.
 fn is_at_second_column_of_page(tail: TailFacts) -> bool
     ensures { result ≡ second_of_page tail }
 {
     let opens = match tail.opening {
         None => false,
         Some(opening) => {
-            matches!(opening.opener, Command::Read | Command::PageProgram) && opening.addresses == 1
+            matches!(
+                opening.opener,
+                Command::Read | Command::ChangeReadColumnEnhanced | Command::PageProgram
+            ) && opening.addresses == 1
         }
     };
     opens || matches!(tail.phase, DataPhase::SecondColumn)
@@ -630,6 +636,28 @@ fn is_at_second_column_of_register(tail: TailFacts) -> bool
     match tail.opening {
         None => false,
         Some(opening) => opening.opener == Command::ChangeReadColumn && opening.addresses == 1,
+    }
+}
+
+// The next address is the last of the row of a Change Read Column Enhanced.
+fn ends_plane_row(tail: TailFacts) -> bool
+    ensures { result ≡ ends_row is_enhanced_column tail }
+{
+    match tail.opening {
+        None => false,
+        Some(opening) => opening.opener == Command::ChangeReadColumnEnhanced
+            && opening.opener.at_last_row(opening.addresses),
+    }
+}
+
+// The register of the LUN holds a page of the plane in which this one lies.
+fn holds_plane_of(geometry: &Geometry, page: PageAddress, lun: &OnfiseqLun) -> bool
+    ensures { result ≡ holds_plane_of geometry.now page (lun_of lun.now).register }
+{
+    let planes = geometry.planes();
+    match register(lun) {
+        Register::Page(held) => held.block % planes == page.block % planes,
+        _ => false,
     }
 }
 
@@ -654,7 +682,7 @@ fn breaks_column_outside(
     past_page || past_register
 }
 
-// The first of F9 to F15 that the last address of a row inside the geometry breaks, on the LUN that it names.
+// The first of F9 to F18 that the last address of a row inside the geometry breaks, on the LUN that it names.
 fn judge_named(
     geometry: &Geometry,
     tail: TailFacts,
@@ -667,14 +695,17 @@ fn judge_named(
     ensures { result ≡ named_rule geometry.now tail row is_outside target_works (lun_of lun.now) }
 {
     let is_of_array = ends_array_row(tail);
+    let page = PageAddress::of_row(geometry, row);
     if is_of_array && (is_set(lun.busy) || target_works) {
         Some(Forbidden::LunBusy)
-    } else if is_refused_by(geometry, tail, PageAddress::of_row(geometry, row), lun) {
+    } else if is_refused_by(geometry, tail, page, lun) {
         Some(Forbidden::QueueClash)
     } else if is_outside {
         Some(Forbidden::ColumnOutside)
     } else if ends_row_without_cache(geometry, tail) && is_caching(lun) {
         Some(Forbidden::CacheReadMisplaced)
+    } else if ends_plane_row(tail) && !holds_plane_of(geometry, page, lun) {
+        Some(Forbidden::PlaneNotHeld)
     } else {
         None
     }
@@ -693,8 +724,8 @@ fn judge_nobody(tail: TailFacts, is_outside: bool, target_works: bool) -> Option
     }
 }
 
-// The first of F8 to F15 that the last address of a row breaks.
-#[tactic(auto, unfolding(onfi_cycle::specs::Rules::breaks_sequence_open, onfi_cycle::specs::Rules::breaks_several_luns, onfi_cycle::specs::Rules::breaks_no_column_to_change, onfi_cycle::specs::Rules::breaks_command_misplaced, onfi_cycle::specs::Rules::breaks_input_misplaced, onfi_cycle::specs::Rules::breaks_no_sole_driver, onfi_cycle::specs::Rules::breaks_data_not_ready, onfi_cycle::specs::Rules::breaks_row_outside, onfi_cycle::specs::Rules::breaks_lun_busy, onfi_cycle::specs::Rules::breaks_queue_clash, onfi_cycle::specs::Rules::breaks_cache_read_misplaced))]
+// The first of F8 to F18 that the last address of a row breaks.
+#[tactic(auto, unfolding(onfi_cycle::specs::Rules::breaks_sequence_open, onfi_cycle::specs::Rules::breaks_several_luns, onfi_cycle::specs::Rules::breaks_no_column_to_change, onfi_cycle::specs::Rules::breaks_command_misplaced, onfi_cycle::specs::Rules::breaks_input_misplaced, onfi_cycle::specs::Rules::breaks_no_sole_driver, onfi_cycle::specs::Rules::breaks_data_not_ready, onfi_cycle::specs::Rules::breaks_row_outside, onfi_cycle::specs::Rules::breaks_lun_busy, onfi_cycle::specs::Rules::breaks_queue_clash, onfi_cycle::specs::Rules::breaks_cache_read_misplaced, onfi_cycle::specs::Rules::breaks_plane_not_held))]
 #[inline(never)]
 fn judge_end_of_row(
     geometry: &OnfiseqGeometry,
@@ -741,8 +772,8 @@ fn is_undeclared_address(geometry: &OnfiseqGeometry, tail: TailFacts, byte: u8) 
     !Optional(geometry.optional).is_wide() && reads_id && byte != 0x20
 }
 
-// The first of F3 to F15 that an address breaks. One that isn't the last of a row can break F7 and F14 alone.
-#[tactic(auto, unfolding(onfi_cycle::specs::Rules::breaks_sequence_open, onfi_cycle::specs::Rules::breaks_several_luns, onfi_cycle::specs::Rules::breaks_no_column_to_change, onfi_cycle::specs::Rules::breaks_command_misplaced, onfi_cycle::specs::Rules::breaks_address_misplaced, onfi_cycle::specs::Rules::breaks_row_outside, onfi_cycle::specs::Rules::breaks_lun_busy, onfi_cycle::specs::Rules::breaks_queue_clash, onfi_cycle::specs::Rules::breaks_input_misplaced, onfi_cycle::specs::Rules::breaks_no_sole_driver, onfi_cycle::specs::Rules::breaks_data_not_ready, onfi_cycle::specs::Rules::breaks_cache_read_misplaced))]
+// The first of F3 to F18 that an address breaks. One that isn't the last of a row can break F7 and F14 alone.
+#[tactic(auto, unfolding(onfi_cycle::specs::Rules::breaks_sequence_open, onfi_cycle::specs::Rules::breaks_several_luns, onfi_cycle::specs::Rules::breaks_no_column_to_change, onfi_cycle::specs::Rules::breaks_command_misplaced, onfi_cycle::specs::Rules::breaks_address_misplaced, onfi_cycle::specs::Rules::breaks_row_outside, onfi_cycle::specs::Rules::breaks_lun_busy, onfi_cycle::specs::Rules::breaks_queue_clash, onfi_cycle::specs::Rules::breaks_input_misplaced, onfi_cycle::specs::Rules::breaks_no_sole_driver, onfi_cycle::specs::Rules::breaks_data_not_ready, onfi_cycle::specs::Rules::breaks_cache_read_misplaced, onfi_cycle::specs::Rules::breaks_plane_not_held))]
 #[inline(always)]
 fn judge_address(
     geometry: &OnfiseqGeometry,
@@ -767,9 +798,9 @@ fn judge_address(
 
 // ---- data
 
-// The first of F3 to F15 that an input breaks.
+// The first of F3 to F18 that an input breaks.
 #[inline(always)]
-#[tactic(auto, unfolding(onfi_cycle::specs::Rules::breaks_sequence_open, onfi_cycle::specs::Rules::breaks_several_luns, onfi_cycle::specs::Rules::breaks_no_column_to_change, onfi_cycle::specs::Rules::breaks_command_misplaced, onfi_cycle::specs::Rules::breaks_address_misplaced, onfi_cycle::specs::Rules::breaks_row_outside, onfi_cycle::specs::Rules::breaks_lun_busy, onfi_cycle::specs::Rules::breaks_queue_clash, onfi_cycle::specs::Rules::breaks_input_misplaced, onfi_cycle::specs::Rules::breaks_no_sole_driver, onfi_cycle::specs::Rules::breaks_data_not_ready, onfi_cycle::specs::Rules::breaks_column_outside, onfi_cycle::specs::Rules::breaks_cache_read_misplaced))]
+#[tactic(auto, unfolding(onfi_cycle::specs::Rules::breaks_sequence_open, onfi_cycle::specs::Rules::breaks_several_luns, onfi_cycle::specs::Rules::breaks_no_column_to_change, onfi_cycle::specs::Rules::breaks_command_misplaced, onfi_cycle::specs::Rules::breaks_address_misplaced, onfi_cycle::specs::Rules::breaks_row_outside, onfi_cycle::specs::Rules::breaks_lun_busy, onfi_cycle::specs::Rules::breaks_queue_clash, onfi_cycle::specs::Rules::breaks_input_misplaced, onfi_cycle::specs::Rules::breaks_no_sole_driver, onfi_cycle::specs::Rules::breaks_data_not_ready, onfi_cycle::specs::Rules::breaks_column_outside, onfi_cycle::specs::Rules::breaks_cache_read_misplaced, onfi_cycle::specs::Rules::breaks_plane_not_held))]
 fn judge_input(geometry: &OnfiseqGeometry, kept: &OnfiseqTarget) -> Option<Forbidden>
     requires { (kept.now.column < 2 ^ 16) × (kept.now.inputs < 2 ^ 63) }
     ensures { (luns : List LunView) (byte : ℕ) → result ≡ judge_known_cycle (parts_of geometry.now) (tail_of kept.now) luns (TargetCycle.InputCycle byte) }
@@ -786,9 +817,9 @@ fn judge_input(geometry: &OnfiseqGeometry, kept: &OnfiseqTarget) -> Option<Forbi
     }
 }
 
-// The first of F3 to F15 that an output breaks.
+// The first of F3 to F18 that an output breaks.
 #[inline(always)]
-#[tactic(auto, unfolding(onfi_cycle::specs::Rules::breaks_sequence_open, onfi_cycle::specs::Rules::breaks_several_luns, onfi_cycle::specs::Rules::breaks_no_column_to_change, onfi_cycle::specs::Rules::breaks_command_misplaced, onfi_cycle::specs::Rules::breaks_address_misplaced, onfi_cycle::specs::Rules::breaks_row_outside, onfi_cycle::specs::Rules::breaks_lun_busy, onfi_cycle::specs::Rules::breaks_queue_clash, onfi_cycle::specs::Rules::breaks_input_misplaced, onfi_cycle::specs::Rules::breaks_no_sole_driver, onfi_cycle::specs::Rules::breaks_data_not_ready, onfi_cycle::specs::Rules::breaks_column_outside, onfi_cycle::specs::Rules::breaks_cache_read_misplaced))]
+#[tactic(auto, unfolding(onfi_cycle::specs::Rules::breaks_sequence_open, onfi_cycle::specs::Rules::breaks_several_luns, onfi_cycle::specs::Rules::breaks_no_column_to_change, onfi_cycle::specs::Rules::breaks_command_misplaced, onfi_cycle::specs::Rules::breaks_address_misplaced, onfi_cycle::specs::Rules::breaks_row_outside, onfi_cycle::specs::Rules::breaks_lun_busy, onfi_cycle::specs::Rules::breaks_queue_clash, onfi_cycle::specs::Rules::breaks_input_misplaced, onfi_cycle::specs::Rules::breaks_no_sole_driver, onfi_cycle::specs::Rules::breaks_data_not_ready, onfi_cycle::specs::Rules::breaks_column_outside, onfi_cycle::specs::Rules::breaks_cache_read_misplaced, onfi_cycle::specs::Rules::breaks_plane_not_held))]
 fn judge_output(geometry: &OnfiseqGeometry, kept: &OnfiseqTarget) -> Option<Forbidden>
     requires { IsTarget kept.now }
     ensures { result ≡ judge_known_cycle (parts_of geometry.now) (tail_of kept.now) (target_of kept.now).luns TargetCycle.OutputCycle }
@@ -834,7 +865,7 @@ fn is_array_not_busy(luns: &[OnfiseqLun], number: u8) -> bool
     }
 }
 
-// The first of F3 to F15 that a command breaks. A closer can break F6 and F15 alone.
+// The first of F3 to F18 that a command breaks. A closer can break F6 and F15 alone.
 #[inline(always)]
 fn judge_command(
     geometry: &OnfiseqGeometry,
@@ -854,7 +885,7 @@ fn judge_command(
     }
 }
 
-// The first of F2 to F15 that a command breaks.
+// The first of F2 to F18 that a command breaks.
 #[inline(always)]
 #[tactic(auto, unfolding(onfi_cycle::specs::Rules::breaks_command_unknown))]
 fn judge_command_there(
@@ -872,7 +903,7 @@ fn judge_command_there(
     judge_command(geometry, kept, command)
 }
 
-// The first of F2 to F15 that an address breaks.
+// The first of F2 to F18 that an address breaks.
 #[inline(never)]
 #[tactic(auto, unfolding(onfi_cycle::specs::Rules::breaks_command_unknown))]
 fn judge_address_there(
@@ -887,7 +918,7 @@ fn judge_address_there(
     judge_address(geometry, tail_of(kept), &kept.luns[..kept.count], byte)
 }
 
-// The first of F2 to F15 that a cycle breaks.
+// The first of F2 to F18 that a cycle breaks.
 #[inline(always)]
 #[tactic(auto, unfolding(onfi_cycle::specs::Rules::breaks_command_unknown))]
 pub(crate) fn judge_kept(

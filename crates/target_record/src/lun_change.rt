@@ -223,6 +223,17 @@ fn turn(kept: &mut OnfiseqLun, effect: Effect)
     kept.overlapped = flag(effect.overlapped_after(works, is_set(kept.overlapped)));
 }
 
+// It gives its register from this column on, behind the row of a Change Read Column Enhanced.
+#[inline(always)]
+fn select_plane(kept: &mut OnfiseqLun, column: u32)
+    requires { IsRecord kept.old }
+    ensures value { lun_of kept.new ≡ view_after (EffectValue.PlaneSelected column) (lun_of kept.old) }
+    ensures numbers { IsRecord kept.new }
+{
+    set_column(kept, column);
+    turn(kept, Effect::PlaneSelected { column });
+}
+
 // It reads its parameter page.
 #[inline(always)]
 fn read_parameter_page(kept: &mut OnfiseqLun)
@@ -321,6 +332,7 @@ pub fn change(kept: &mut OnfiseqLun, effect: Effect)
             give_cached(kept, Command::ReadCacheEnd, next);
         }
         Effect::ReadColumnChanged { column } => set_column(kept, column),
+        Effect::PlaneSelected { column } => select_plane(kept, column),
         Effect::DataOutput => kept.outputs += 1,
         Effect::ResetStarted => reset(kept),
         Effect::TargetResetStarted { first } => reset_of_target(kept, first),
