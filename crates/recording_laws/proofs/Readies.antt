@@ -202,7 +202,6 @@ module _ (i : Item) (lun : ℕ) (x : Effect) (works : LunView → Bool) (is : Is
         named (ap (is_named g) (is.tail g t) ∙ n)
         (subst (λ (vs : List LunView). NoneQueued g (row (target_after g i t).tail) vs) (sym (luns_ready g s.tail (has_driver s.luns) s.luns))
         (subst (λ (w : TailFacts). NoneQueued g (row w) (changed by_ready 0 s.luns)) (sym (is.tail g t)) (still_none g (row t.tail) s.luns e)))
-
     comes_after h (selecting n e) =
         selecting (ap is_plane (is.tail g t) ∙ n)
         (subst (λ (vs : List LunView). AllNamed g (row (target_after g i t).tail) vs) (sym (luns_ready g s.tail (has_driver s.luns) s.luns))

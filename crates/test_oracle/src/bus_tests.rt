@@ -1,4 +1,4 @@
-use crate::made::{CACHED, ELSEWHERE, Operations, PLAIN, PLANED, SHARED, WIDE, made};
+use crate::made::{CACHED, ELSEWHERE, Operations, PLAIN, PLANED, SELECTING, SHARED, WIDE, made};
 use die_model::LunDie;
 use nand_geometry::{Geometry, Optional, Parts, SMALL_CHIP};
 use onfi_cycle::{
@@ -59,7 +59,7 @@ const FOUR_LUNS: Parts = Parts {
 
 // Two LUNs in the wider profile, with all that it has beside the base.
 const WIDE_LUNS: Parts = Parts {
-    optional: Optional(0x8a24),
+    optional: Optional(0x8a64),
     ..TWO_LUNS
 };
 
@@ -72,7 +72,7 @@ const WIDE_CACHED: Parts = Parts {
 // A kind of traces: a channel of so many targets, the operations on it, and how many items a trace has at most.
 type Traces = (Parts, u8, Operations, usize);
 
-const TRACES: [Traces; 10] = [
+const TRACES: [Traces; 11] = [
     (ONE_LUN, 1, PLAIN, 26),
     (CACHED_LUN, 1, CACHED, 26),
     (TWO_PLANES, 1, PLANED, 26),
@@ -83,6 +83,7 @@ const TRACES: [Traces; 10] = [
     (FOUR_LUNS, 1, SHARED, 20),
     (WIDE_LUNS, 1, WIDE, 24),
     (WIDE_CACHED, 1, ELSEWHERE, 26),
+    (WIDE_CACHED, 1, SELECTING, 26),
 ];
 
 // The facts of the LUNs of each target, by the look back.
@@ -113,7 +114,7 @@ struct Counts {
     permitted: u32,
     bytes: u32,
     changed: u32,
-    rules: [u32; 15],
+    rules: [u32; 16],
 }
 
 // The item is an output of a byte that is no status and not FF.
@@ -412,7 +413,7 @@ impl Counts {
             permitted: 0,
             bytes: 0,
             changed: 0,
-            rules: [0; 15],
+            rules: [0; 16],
         }
     }
 

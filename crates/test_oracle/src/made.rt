@@ -205,6 +205,58 @@ const GO_ON_ELSEWHERE: [Part; 7] = [
     Output,
 ];
 
+// In the wider profile: the column of a page that is read, of one in whatever plane, and of one that a cache read holds.
+const READ_AND_SELECT: [Part; 12] = [
+    Command(0x00),
+    Column,
+    Row,
+    Command(0x30),
+    Ready,
+    Command(0x06),
+    Column,
+    Row,
+    Command(0xe0),
+    Output,
+    Output,
+    Output,
+];
+
+const SELECT_PLANE: [Part; 6] = [Command(0x06), Column, Row, Command(0xe0), Output, Output];
+
+const SELECT_IN_CACHE_READ: [Part; 14] = [
+    Command(0x00),
+    Column,
+    Row,
+    Command(0x30),
+    Ready,
+    Command(0x31),
+    Ready,
+    Command(0x06),
+    Column,
+    Row,
+    Command(0xe0),
+    Output,
+    Command(0x3f),
+    Ready,
+];
+
+// The plane of another page than the one that is read, and a reset of the sequence that stays open.
+const SELECT_OTHER_PLANE: [Part; 13] = [
+    Command(0x00),
+    Column,
+    Row,
+    Command(0x30),
+    Ready,
+    Command(0x06),
+    Column,
+    OtherPlane,
+    Command(0xe0),
+    Output,
+    Command(0xff),
+    ReadyOf(0),
+    ReadyOf(1),
+];
+
 const RESET_CACHE_READ: [Part; 9] = [
     Command(0x00),
     Column,
@@ -465,6 +517,26 @@ pub const ELSEWHERE: Operations = [
     &DATA_AGAIN,
     &ERASE_PLANES,
     &READIES,
+    &ENDING,
+];
+
+/// Those with the column of a LUN that a row names, of several LUNs in the wider profile.
+pub const SELECTING: Operations = [
+    &READ,
+    &PROGRAM_AND_READ,
+    &START_READ,
+    &READ_AND_SELECT,
+    &READ_AND_SELECT,
+    &READ_AND_SELECT,
+    &SELECT_PLANE,
+    &SELECT_PLANE,
+    &SELECT_IN_CACHE_READ,
+    &SELECT_OTHER_PLANE,
+    &SELECT_OTHER_PLANE,
+    &CHANGE_COLUMN,
+    &STATUS_OF_ROW,
+    &DATA_AGAIN,
+    &BOTH_READY,
     &ENDING,
 ];
 

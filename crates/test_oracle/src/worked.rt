@@ -1,7 +1,7 @@
-//! What the worked traces share: two geometries, a short way to write traces, and a walk that judges them.
+//! What the worked traces share: geometries, a short way to write traces, and a walk that judges them.
 ghost use Rattle.std.specs.Prelude.{◌<◌, IfOk};
 
-use nand_geometry::{Geometry, Parts, SMALL_CHIP};
+use nand_geometry::{Geometry, Optional, Parts, SMALL_CHIP};
 use onfi_cycle::{Cycle, Forbidden, Item, Kind, TargetCycle, judge, judge_known_cycle};
 use oracle_onfi::past::{luns_of, tail_facts};
 use std::alloc::{AllocError, Global};
@@ -36,6 +36,18 @@ pub const TWO_CACHED: Parts = Parts {
 pub const TWO_PLANES: Parts = Parts {
     luns: 1,
     ..TWO_LUNS
+};
+
+/// One LUN in two planes, in the wider profile with Change Read Column Enhanced.
+pub const SELECTING: Parts = Parts {
+    optional: Optional(0x8040),
+    ..TWO_PLANES
+};
+
+/// Two such LUNs.
+pub const TWO_SELECTING: Parts = Parts {
+    luns: 2,
+    ..SELECTING
 };
 
 /// Two LUNs of 6 blocks of 3 pages: fields of 3 and 2 bits have room for more.

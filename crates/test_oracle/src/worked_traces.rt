@@ -1,6 +1,7 @@
 //! Worked traces, with the first rule that each breaks.
 use crate::worked::{
-    CACHED, ONE_LUN, TWO_CACHED, TWO_LUNS, TWO_PLANES, UNEVEN, first_broken, trace,
+    CACHED, ONE_LUN, SELECTING, TWO_CACHED, TWO_LUNS, TWO_PLANES, TWO_SELECTING, UNEVEN,
+    first_broken, trace,
 };
 use nand_geometry::{Geometry, Parts};
 use onfi_cycle::{Cycle, Forbidden, Item, Kind};
@@ -140,6 +141,7 @@ const BROKEN: &[(Forbidden, &[(Parts, &str, usize)])] = &[
             (ONE_LUN, "C80 A00x3 A01 A00", 5),
             (TWO_LUNS, "C60 A40 A00x2", 3),
             (TWO_LUNS, "C78 A40 A00x2", 3),
+            (SELECTING, "C00 A00x5 C30 R0 C06 A00x2 A40 A00x2", 13),
             (UNEVEN, "C60 A03 A00x2", 3),
             (UNEVEN, "C60 A18 A00x2", 3),
             (UNEVEN, "C60 A40 A00x2", 3),
@@ -165,6 +167,11 @@ const BROKEN: &[(Forbidden, &[(Parts, &str, usize)])] = &[
             (TWO_LUNS, "C60 A00x3 Cd0 C00 A00x5", 10),
             (TWO_LUNS, "C60 A00x3 Cd0 C80 A00x5", 10),
             (TWO_LUNS, "C60 A20 A00x2 Cd0 C60 A20 A00x2", 8),
+            (
+                TWO_SELECTING,
+                "C00 A00x2 A20 A00x2 C30 C06 A00x2 A20 A00x2",
+                12,
+            ),
         ],
     ),
     // F10: what is queued goes with another block of the same work, in another plane, with the same page and the same block bits above the plane.
@@ -213,6 +220,7 @@ const BROKEN: &[(Forbidden, &[(Parts, &str, usize)])] = &[
             (ONE_LUN, "C70 C00 A00 Off", 3),
             (ONE_LUN, "Cff R0 Off", 2),
             (TWO_LUNS, "C78 A20 A00 Oe0", 3),
+            (SELECTING, "C00 A00x5 C30 R0 C06 A00x5 Off", 14),
             (TWO_LUNS, "C78 A20 A00x2 Oe0 C78 A00 Oe0", 7),
             (TWO_LUNS, "C78 A20 A00x2 Oe0 C00 A00x5 C30 R0 Off", 13),
             (ONE_LUN, "C80 A00x5 Off", 6),
@@ -243,6 +251,7 @@ const BROKEN: &[(Forbidden, &[(Parts, &str, usize)])] = &[
             (ONE_LUN, "C80 A10 A02", 2),
             (ONE_LUN, "C80 A00x5 C85 A10 A02", 8),
             (ONE_LUN, "C00 A00x5 C30 R0 C05 A10 A02", 10),
+            (SELECTING, "C00 A00x5 C30 R0 C06 A10 A02", 10),
             (ONE_LUN, "Cec A00 R0 C05 A00 A03", 5),
             (ONE_LUN, "C80 A0f A02 A00x3 Ia5 I3c", 7),
             (ONE_LUN, "C80 A00x5 C85 A0f A02 Ia5 I3c", 10),
@@ -274,6 +283,21 @@ const BROKEN: &[(Forbidden, &[(Parts, &str, usize)])] = &[
             (CACHED, "C00 A00x5 C30 R0 C31 R0 Cec", 10),
         ],
     ),
+    // F18: the row of 06 names a LUN that holds a page of its plane.
+    (
+        Forbidden::PlaneNotHeld,
+        &[
+            (SELECTING, "C06 A00x5", 5),
+            (SELECTING, "C90 A20 C06 A00x5", 7),
+            (SELECTING, "C00 A00x5 C30 R0 C06 A00x2 A04 A00x2", 13),
+            (
+                SELECTING,
+                "C00 A00x5 C30 R0 C60 A10 A00x2 Cd0 R0 C06 A00x5",
+                19,
+            ),
+            (TWO_SELECTING, "C00 A00x5 C30 R0 C06 A00x2 A20 A00x2", 13),
+        ],
+    ),
 ];
 
 #[test]
@@ -297,6 +321,16 @@ const PERMITTED: &[(Parts, &str)] = &[
     (TWO_LUNS, "C80 A00x5 C11 R0 C80 A00x2 A04 A00x2 C10"),
     (TWO_PLANES, "C60 A00x3 Cd1 R0 Cff R0 C90 A20"),
     (CACHED, "C00 A00x5 C30 R0 C31 R0 C31 R0 C31 R0 C3f R0 Off"),
+    (SELECTING, "C00 A00x5 C30 R0 C06 A05 A00x4 Ce0 Off"),
+    (SELECTING, "C00 A00x5 C30 R0 C06 A00x2 A08 A00x2 Ce0 Off"),
+    (
+        SELECTING,
+        "C00 A00x5 C30 R0 C06 A00x5 Ce0 Off C05 A01 A00 Ce0 Off",
+    ),
+    (
+        TWO_SELECTING,
+        "C00 A00x5 C30 C00 A00x2 A20 A00x2 C30 R0 R1 C06 A00x5 Ce0 Off C06 A00x2 A20 A00x2 Ce0 Off",
+    ),
     // The read of a page, a status poll between two of its bytes, and its column set again.
     (
         ONE_LUN,
