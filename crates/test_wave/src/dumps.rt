@@ -21,10 +21,11 @@ $var wire 1 . RB0_n $end\n\
 $var wire 1 / busy0_0 $end\n\
 $var wire 1 0 array0_0 $end\n\
 $var wire 1 1 fail0_0 $end\n\
-$var wire 1 2 rule[3] $end\n\
-$var wire 1 3 rule[2] $end\n\
-$var wire 1 4 rule[1] $end\n\
-$var wire 1 5 rule[0] $end\n\
+$var wire 1 2 rule[4] $end\n\
+$var wire 1 3 rule[3] $end\n\
+$var wire 1 4 rule[2] $end\n\
+$var wire 1 5 rule[1] $end\n\
+$var wire 1 6 rule[0] $end\n\
 $upscope $end\n\
 $enddefinitions $end\n\
 #0\n\
@@ -50,6 +51,7 @@ z-\n\
 03\n\
 04\n\
 05\n\
+06\n\
 $end\n\
 #0\n\
 0!\n\
@@ -155,10 +157,11 @@ $var wire 1 ) DQ[3] $end\n\
 $var wire 1 * DQ[2] $end\n\
 $var wire 1 + DQ[1] $end\n\
 $var wire 1 , DQ[0] $end\n\
-$var wire 1 - rule[3] $end\n\
-$var wire 1 . rule[2] $end\n\
-$var wire 1 / rule[1] $end\n\
-$var wire 1 0 rule[0] $end\n\
+$var wire 1 - rule[4] $end\n\
+$var wire 1 . rule[3] $end\n\
+$var wire 1 / rule[2] $end\n\
+$var wire 1 0 rule[1] $end\n\
+$var wire 1 1 rule[0] $end\n\
 $upscope $end\n\
 $enddefinitions $end\n\
 #0\n\
@@ -179,6 +182,7 @@ z,\n\
 0.\n\
 0/\n\
 00\n\
+01\n\
 $end\n\
 #0\n";
 
@@ -214,10 +218,11 @@ $var wire 1 9 fail1_0 $end\n\
 $var wire 1 : busy1_1 $end\n\
 $var wire 1 ; array1_1 $end\n\
 $var wire 1 < fail1_1 $end\n\
-$var wire 1 = rule[3] $end\n\
-$var wire 1 > rule[2] $end\n\
-$var wire 1 ? rule[1] $end\n\
-$var wire 1 @ rule[0] $end\n\
+$var wire 1 = rule[4] $end\n\
+$var wire 1 > rule[3] $end\n\
+$var wire 1 ? rule[2] $end\n\
+$var wire 1 @ rule[1] $end\n\
+$var wire 1 A rule[0] $end\n\
 $upscope $end\n\
 $enddefinitions $end\n\
 #0\n\
@@ -254,6 +259,7 @@ z.\n\
 0>\n\
 0?\n\
 0@\n\
+0A\n\
 $end\n\
 #0\n\
 0\"\n\
@@ -378,10 +384,11 @@ $var wire 1 9 fail1_0 $end\n\
 $var wire 1 : busy1_1 $end\n\
 $var wire 1 ; array1_1 $end\n\
 $var wire 1 < fail1_1 $end\n\
-$var wire 1 = rule[3] $end\n\
-$var wire 1 > rule[2] $end\n\
-$var wire 1 ? rule[1] $end\n\
-$var wire 1 @ rule[0] $end\n\
+$var wire 1 = rule[4] $end\n\
+$var wire 1 > rule[3] $end\n\
+$var wire 1 ? rule[2] $end\n\
+$var wire 1 @ rule[1] $end\n\
+$var wire 1 A rule[0] $end\n\
 $upscope $end\n\
 $enddefinitions $end\n\
 #0\n\
@@ -418,6 +425,7 @@ z.\n\
 0>\n\
 0?\n\
 0@\n\
+0A\n\
 $end\n\
 #0\n\
 0!\n\
@@ -484,8 +492,8 @@ x9\n\
 x:\n\
 x;\n\
 x<\n\
-1>\n\
 1?\n\
+1@\n\
 #70\n\
 1!\n\
 0\"\n\
@@ -519,10 +527,11 @@ $var wire 1 . RB0_n $end\n\
 $var wire 1 / busy0_0 $end\n\
 $var wire 1 0 array0_0 $end\n\
 $var wire 1 1 fail0_0 $end\n\
-$var wire 1 2 rule[3] $end\n\
-$var wire 1 3 rule[2] $end\n\
-$var wire 1 4 rule[1] $end\n\
-$var wire 1 5 rule[0] $end\n\
+$var wire 1 2 rule[4] $end\n\
+$var wire 1 3 rule[3] $end\n\
+$var wire 1 4 rule[2] $end\n\
+$var wire 1 5 rule[1] $end\n\
+$var wire 1 6 rule[0] $end\n\
 $upscope $end\n\
 $enddefinitions $end\n\
 #0\n\
@@ -548,6 +557,7 @@ z-\n\
 03\n\
 04\n\
 05\n\
+06\n\
 $end\n\
 #0\n\
 0!\n\
