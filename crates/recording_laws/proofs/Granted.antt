@@ -17,7 +17,7 @@ use Rattle.onfi_cycle.specs.declared.target_cycle.TargetCycle.TheVariants.{Comma
 use Rattle.nand_geometry.specs.Optional.{is_wide}
 use Rattle.onfi_cycle.specs.Command.{is_page_program, is_set_features, at_last_row, is_change_read_column, is_enhanced_column, reads_identity}
 use Rattle.onfi_cycle.specs.Effect.{is_off, is_data, is_shared, names_lun, confirm_effect, other_effect, row_effect, cache_effect, command_effect, address_effect, opening_address_effect, cycle_effect}
-use Rattle.onfi_cycle.specs.Lun.{is_cache_read, is_page_read}
+use Rattle.onfi_cycle.specs.Lun.{is_page_read}
 use Rattle.onfi_cycle.specs.LunView.{LunView}
 use Rattle.onfi_cycle.specs.Rules.{is_some_and, named_lun_is, ends_row, excludes_cache, second_column, second_of_page, caching, breaks_no_column_to_change, breaks_no_sole_driver, breaks_data_not_ready, breaks_column_outside, breaks_cache_read_misplaced, breaks_plane_not_held}
 use Rattle.onfi_cycle.specs.Sequence.{facts_of, begins_anew, opened, phase_after_address, phase_after_last_address, phase_after_command, one_address_more, row, row_with, wants_command, extended_facts, facts_after}

@@ -1,4 +1,4 @@
-use nand_geometry::{Geometry, Parts, RowParts, SMALL_CHIP};
+use nand_geometry::{Geometry, Optional, Parts, RowParts, SMALL_CHIP};
 use onfi_cycle::{Command, Forbidden};
 use std::alloc::Global;
 use std::test::Fail;
@@ -13,6 +13,17 @@ const TWO_LUNS: Parts = Parts {
     multi_plane: true,
     ..SMALL_CHIP
 };
+
+// One LUN in two planes, in the wider profile with Change Read Column Enhanced.
+const SELECTING: Parts = Parts {
+    plane_bits: 1,
+    optional: Optional(0x8040),
+    ..SMALL_CHIP
+};
+
+// A read of page 0 of block 0, and a byte of it behind a 06h, whose row names block 2 of the same plane.
+const SELECTED: &str =
+    "0 C 00\n0 A 00\n0 A 00\n0 A 00\n0 A 00\n0 A 00\n0 C 30\n0 R 0 0\n0 C 06\n0 A 05\n0 A 00\n0 A 08\n0 A 00\n0 A 00\n0 C e0\n0 O ff\n";
 
 // An erase of block 1, polled before and after it is ready.
 const ERASE: &str =
@@ -102,6 +113,28 @@ fn the_time_of_an_erase(rt: HostRuntime) -> Result<(), Fail> {
     assert_eq!(rt; timeline.spans.as_slice(), &[busy][..]);
     assert_eq!(rt; timeline.failures.len(), 0);
     assert_eq!(rt; timeline.broken.len(), 0);
+    Ok(())
+}
+
+// The box of a 06h has its row in place of its column.
+#[test]
+fn a_column_of_a_plane(rt: HostRuntime) -> Result<(), Fail> {
+    let timeline = timeline_of(rt.alloc(), SELECTING, 1, SELECTED)?;
+    let row = RowParts {
+        lun: 0,
+        block: 2,
+        page: 0,
+    };
+    assert_eq!(rt; timeline.broken.len(), 0);
+    assert_eq!(rt; timeline.sequences.len(), 3);
+    assert_eq!(rt;
+        timeline.sequences[1].label,
+        sequence(Command::ChangeReadColumnEnhanced, Some(row))
+    );
+    assert_eq!(rt;
+        timeline.pieces.as_slice(),
+        &[piece(0, 0, 7), piece(1, 8, 15), piece(2, 15, 16)][..]
+    );
     Ok(())
 }
 
