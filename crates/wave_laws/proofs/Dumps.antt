@@ -64,16 +64,16 @@ six a b c d e f m =
 
 -- the signals behind those of the bus
 abbrev model_signals : (targets luns : ℕ) → List Variable
-model_signals targets luns = target_signals (45 + targets) (codes "RB") targets 0 ++ (channel_signals (45 + targets + targets) luns targets 0 ++ bit_signals (45 + targets + targets + 3 * (targets * luns)) (codes "rule") 4)
+model_signals targets luns = target_signals (45 + targets) (codes "RB") targets 0 ++ (channel_signals (45 + targets + targets) luns targets 0 ++ bit_signals (45 + targets + targets + 3 * (targets * luns)) (codes "rule") 5)
 
 model_text : (targets luns : ℕ) → model_lines (45 + targets) targets luns ≡ declared_text (model_signals targets luns)
 model_text targets luns =
     let ready = target_signals (45 + targets) (codes "RB") targets 0 in
     let channel = channel_signals (45 + targets + targets) luns targets 0 in
-    let rule = bit_signals (45 + targets + targets + 3 * (targets * luns)) (codes "rule") 4 in
-    ap (λ (t : List ℕ). t ++ (channel_lines (45 + targets + targets) luns targets 0 ++ bit_lines (45 + targets + targets + 3 * (targets * luns)) (codes "rule") 4)) (target_text (45 + targets) (codes "RB") targets 0)
-    ∙ ap (λ (t : List ℕ). declared_text ready ++ (t ++ bit_lines (45 + targets + targets + 3 * (targets * luns)) (codes "rule") 4)) (channel_text (45 + targets + targets) luns targets 0)
-    ∙ ap (λ (t : List ℕ). declared_text ready ++ (declared_text channel ++ t)) (bit_text (45 + targets + targets + 3 * (targets * luns)) (codes "rule") 4)
+    let rule = bit_signals (45 + targets + targets + 3 * (targets * luns)) (codes "rule") 5 in
+    ap (λ (t : List ℕ). t ++ (channel_lines (45 + targets + targets) luns targets 0 ++ bit_lines (45 + targets + targets + 3 * (targets * luns)) (codes "rule") 5)) (target_text (45 + targets) (codes "RB") targets 0)
+    ∙ ap (λ (t : List ℕ). declared_text ready ++ (t ++ bit_lines (45 + targets + targets + 3 * (targets * luns)) (codes "rule") 5)) (channel_text (45 + targets + targets) luns targets 0)
+    ∙ ap (λ (t : List ℕ). declared_text ready ++ (declared_text channel ++ t)) (bit_text (45 + targets + targets + 3 * (targets * luns)) (codes "rule") 5)
     ∙ ap (λ (t : List ℕ). declared_text ready ++ t) (sym (text_append channel rule))
     ∙ sym (text_append ready (channel ++ rule))
 

@@ -35,14 +35,14 @@ length_all known g past (suc count) n =
 
 -- the lines of a bus of so many targets of so many LUNs, and of its model
 abbrev pub line_count : (targets luns : ℕ) → ℕ
-line_count targets luns = targets + 12 + (targets + (3 * (targets * luns) + 4))
+line_count targets luns = targets + 12 + (targets + (3 * (targets * luns) + 5))
 
-length_model : (g : Parts) (targets : ℕ) (past : List Item) (rule : ℕ) → length (model_levels g targets past rule) ≡ targets + (3 * (targets * g.luns) + 4)
+length_model : (g : Parts) (targets : ℕ) (past : List Item) (rule : ℕ) → length (model_levels g targets past rule) ≡ targets + (3 * (targets * g.luns) + 5)
 length_model g targets past rule =
     let all = targets_levels (rule == 0) g past targets 0 in
     length-append (readies (rule == 0) g past targets 0) (all ++ rule_bits rule)
     ∙ ap (λ k. k + length (all ++ rule_bits rule)) (length_readies (rule == 0) g past targets 0)
-    ∙ ap (λ k. targets + k) (length-append all (rule_bits rule) ∙ ap (λ k. k + 4) (length_all (rule == 0) g past targets 0))
+    ∙ ap (λ k. targets + k) (length-append all (rule_bits rule) ∙ ap (λ k. k + 5) (length_all (rule == 0) g past targets 0))
 
 pub length_levels : (g : Parts) (targets : ℕ) (past : List Item) (rule : ℕ) (l : Lines) → length (levels g targets past rule l) ≡ line_count targets g.luns
 length_levels g targets past rule l =
@@ -100,6 +100,9 @@ bits_two a b = bits_more (bit a) (bit b ∷ []) (bit_is a) (bits_more (bit b) []
 bits_four : (a b c d : Bool) → are_bits (bit a ∷ (bit b ∷ (bit c ∷ (bit d ∷ [])))) ≡ true
 bits_four a b c d = bits_append (bit a ∷ (bit b ∷ [])) (bit c ∷ (bit d ∷ [])) (bits_two a b) (bits_two c d)
 
+bits_five : (a b c d e : Bool) → are_bits (bit a ∷ (bit b ∷ (bit c ∷ (bit d ∷ (bit e ∷ []))))) ≡ true
+bits_five a b c d e = bits_more (bit a) (bit b ∷ (bit c ∷ (bit d ∷ (bit e ∷ [])))) (bit_is a) (bits_four b c d e)
+
 bits_dq : (dq : Option ℕ) → are_bits (dq_bits dq) ≡ true
 bits_dq None = refl
 bits_dq (Some byte) =
@@ -114,4 +117,4 @@ bits_levels g targets past rule l =
     (bits_append (bit l.cle ∷ (bit l.ale ∷ (bit l.we ∷ (bit l.re ∷ [])))) (dq_bits l.dq) (bits_four l.cle l.ale l.we l.re) (bits_dq l.dq)))
     (bits_append (readies (rule == 0) g past targets 0) (targets_levels (rule == 0) g past targets 0 ++ rule_bits rule) (bits_readies (rule == 0) g past targets 0)
     (bits_append (targets_levels (rule == 0) g past targets 0) (rule_bits rule) (bits_all (rule == 0) g past targets 0)
-    (bits_four (is_odd (rule / 8)) (is_odd (rule / 4)) (is_odd (rule / 2)) (is_odd (rule / 1)))))
+    (bits_five (is_odd (rule / 16)) (is_odd (rule / 8)) (is_odd (rule / 4)) (is_odd (rule / 2)) (is_odd (rule / 1)))))

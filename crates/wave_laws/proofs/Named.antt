@@ -141,12 +141,12 @@ alone f code = carrier f None None spot.Bare code
 abbrev all_carriers : (targets luns : ℕ) → List Carrier
 all_carriers targets luns =
     target_carriers family.Enable 33 targets 0 ++ (alone family.Cle (33 + targets) ∷ (alone family.Ale (34 + targets) ∷ (alone family.We (35 + targets) ∷ (alone family.Re (36 + targets)
-    ∷ (dq_carriers (37 + targets) 8 ++ (target_carriers family.ReadyBusy (45 + targets) targets 0 ++ (channel_carriers (45 + targets + targets) luns targets 0 ++ rule_carriers (45 + targets + targets + 3 * (targets * luns)) 4)))))))
+    ∷ (dq_carriers (37 + targets) 8 ++ (target_carriers family.ReadyBusy (45 + targets) targets 0 ++ (channel_carriers (45 + targets + targets) luns targets 0 ++ rule_carriers (45 + targets + targets + 3 * (targets * luns)) 5)))))))
 
 dq_carried : (code : ℕ) → carriers_of [] (bit_signals code (codes "DQ") 8) ≡ dq_carriers code 8
 dq_carried code = refl
 
-rule_carried : (code : ℕ) → carriers_of [] (bit_signals code (codes "rule") 4) ≡ rule_carriers code 4
+rule_carried : (code : ℕ) → carriers_of [] (bit_signals code (codes "rule") 5) ≡ rule_carriers code 5
 rule_carried code = refl
 
 single_carried : (a b c d : ℕ) (vs : List Variable) → carriers_of [] (signal a (codes "CLE") ∷ (signal b (codes "ALE") ∷ (signal c (codes "WE_n") ∷ (signal d (codes "RE_n") ∷ vs))))
@@ -154,10 +154,10 @@ single_carried : (a b c d : ℕ) (vs : List Variable) → carriers_of [] (signal
 single_carried a b c d vs = refl
 
 behind_carried : (targets luns : ℕ) → targets ≤ 4 → luns ≤ 4 →
-    carriers_of [] (bit_signals (37 + targets) (codes "DQ") 8 ++ (target_signals (45 + targets) (codes "RB") targets 0 ++ (channel_signals (45 + targets + targets) luns targets 0 ++ bit_signals (45 + targets + targets + 3 * (targets * luns)) (codes "rule") 4)))
-    ≡ dq_carriers (37 + targets) 8 ++ (target_carriers family.ReadyBusy (45 + targets) targets 0 ++ (channel_carriers (45 + targets + targets) luns targets 0 ++ rule_carriers (45 + targets + targets + 3 * (targets * luns)) 4))
+    carriers_of [] (bit_signals (37 + targets) (codes "DQ") 8 ++ (target_signals (45 + targets) (codes "RB") targets 0 ++ (channel_signals (45 + targets + targets) luns targets 0 ++ bit_signals (45 + targets + targets + 3 * (targets * luns)) (codes "rule") 5)))
+    ≡ dq_carriers (37 + targets) 8 ++ (target_carriers family.ReadyBusy (45 + targets) targets 0 ++ (channel_carriers (45 + targets + targets) luns targets 0 ++ rule_carriers (45 + targets + targets + 3 * (targets * luns)) 5))
 behind_carried targets luns few few_luns =
-    let rule = bit_signals (45 + targets + targets + 3 * (targets * luns)) (codes "rule") 4 in
+    let rule = bit_signals (45 + targets + targets + 3 * (targets * luns)) (codes "rule") 5 in
     let channel = channel_signals (45 + targets + targets) luns targets 0 in
     let ready = target_signals (45 + targets) (codes "RB") targets 0 in
     carriers_append (bit_signals (37 + targets) (codes "DQ") 8) (ready ++ (channel ++ rule))
@@ -172,7 +172,7 @@ behind_carried targets luns few few_luns =
 
 all_carried : (targets luns : ℕ) → targets ≤ 4 → luns ≤ 4 → carriers_of [] (signals_of targets luns) ≡ all_carriers targets luns
 all_carried targets luns few few_luns =
-    let behind = bit_signals (37 + targets) (codes "DQ") 8 ++ (target_signals (45 + targets) (codes "RB") targets 0 ++ (channel_signals (45 + targets + targets) luns targets 0 ++ bit_signals (45 + targets + targets + 3 * (targets * luns)) (codes "rule") 4)) in
+    let behind = bit_signals (37 + targets) (codes "DQ") 8 ++ (target_signals (45 + targets) (codes "RB") targets 0 ++ (channel_signals (45 + targets + targets) luns targets 0 ++ bit_signals (45 + targets + targets + 3 * (targets * luns)) (codes "rule") 5)) in
     let single = signal (33 + targets) (codes "CLE") ∷ (signal (34 + targets) (codes "ALE") ∷ (signal (35 + targets) (codes "WE_n") ∷ (signal (36 + targets) (codes "RE_n") ∷ behind))) in
     carriers_append (target_signals 33 (codes "CE") targets 0) single
     ∙ ap (λ (cs : List Carrier). cs ++ carriers_of [] single) (target_carried (codes "CE") family.Enable enable_tells targets 0 33 (omega (arith, few)))

@@ -16,8 +16,8 @@ use Rattle.onfi_cycle.specs.declared.opening.Opening.{Opening}
 use Rattle.onfi_cycle.specs.declared.tail_facts.TailFacts.{TailFacts}
 use Rattle.onfi_cycle.specs.declared.target_cycle.TargetCycle.{TargetCycle}
 use Rattle.onfi_cycle.specs.declared.target_cycle.TargetCycle.TheVariants.{CommandCycle, AddressCycle, InputCycle, OutputCycle}
-use Rattle.onfi_cycle.specs.Sequence.{tail, facts_of, row, row_with, target_cycle, wants_command, wants_address}
-use Rattle.onfi_cycle.specs.Effect.{is_shared, acts_for_target, of_target, other_effect, lun_reset_effect, names_lun, is_off, is_data, confirm_effect, command_effect, opening_address_effect, address_effect, cycle_effect, id_effect, ends_features, row_effect, cache_effect}
+use Rattle.onfi_cycle.specs.Sequence.{tail, facts_of, row, row_with, target_cycle, selects_plane, wants_command, wants_address}
+use Rattle.onfi_cycle.specs.Effect.{is_shared, acts_for_target, of_target, other_effect, lun_reset_effect, names_lun, is_off, is_data, confirm_effect, command_effect, opening_address_effect, address_effect, cycle_effect, id_effect, ends_features, row_effect, cache_effect, plane_effect, column_effect}
 use Rattle.onfi_cycle.specs.Command.{closes_row, reads_row}
 use Rattle.onfi_cycle.specs.Lun.{effect_on, effect_among, latch_alone, is_busy as lun_is_busy, is_caching, busy_after, array_busy_after}
 use Rattle.bus_lines.specs.declared.lines.Lines.{Lines}
@@ -58,7 +58,9 @@ command_keeps g t latch k.ReadCacheSequential lun =
     (either (wants_command t k.ReadCacheSequential && names_lun g (row t) lun) (confirm_effect g t k.ReadCacheSequential) (other_effect g t k.ReadCacheSequential) refl (other_keeps g t k.ReadCacheSequential))
     (either (is_off latch) e.Unaffected (e.CacheReadContinued None) refl refl)
 command_keeps g t latch k.ReadCacheEnd lun = either (is_off latch) e.Unaffected e.CacheReadEnded refl refl
-command_keeps g t latch k.ChangeReadColumnConfirm lun = either (wants_command t k.ChangeReadColumnConfirm && not (is_off latch)) (e.ReadColumnChanged t.column) e.Unaffected refl refl
+command_keeps g t latch k.ChangeReadColumnConfirm lun =
+    either (selects_plane t) (plane_effect g t lun) (column_effect t latch) (either (names_lun g (row t) lun) (e.PlaneSelected t.column) e.Deselected refl refl)
+    (either (wants_command t k.ChangeReadColumnConfirm && not (is_off latch)) (e.ReadColumnChanged t.column) e.Unaffected refl refl)
 command_keeps g t latch c lun = either (wants_command t c && names_lun g (row t) lun) (confirm_effect g t c) (other_effect g t c) refl (other_keeps g t c)
 
 address_keeps : (g : Parts) (t : TailFacts) (byte : ℕ) (c : Command) (n lun : ℕ) → Keeps (address_effect g t byte c n lun)

@@ -91,7 +91,7 @@ abbrev pub signals_of : (targets luns : ℕ) → List Variable
 signals_of targets luns =
     target_signals 33 (codes "CE") targets 0 ++ (signal (33 + targets) (codes "CLE") ∷ (signal (34 + targets) (codes "ALE") ∷ (signal (35 + targets) (codes "WE_n")
     ∷ (signal (36 + targets) (codes "RE_n") ∷ (bit_signals (37 + targets) (codes "DQ") 8
-    ++ (target_signals (45 + targets) (codes "RB") targets 0 ++ (channel_signals (45 + targets + targets) luns targets 0 ++ bit_signals (45 + targets + targets + 3 * (targets * luns)) (codes "rule") 4)))))))
+    ++ (target_signals (45 + targets) (codes "RB") targets 0 ++ (channel_signals (45 + targets + targets) luns targets 0 ++ bit_signals (45 + targets + targets + 3 * (targets * luns)) (codes "rule") 5)))))))
 
 -- ---- the law
 
