@@ -101,7 +101,7 @@ impl End {
 fn is_unended(operation: Operation, opener: u8) -> bool {
     match opener {
         0x00 => !operation.is_alone() && operation.closer.is_none(),
-        0x05 | 0x60 | 0x80 | 0x85 => operation.closer.is_none(),
+        0x05 | 0x06 | 0x60 | 0x80 | 0x85 => operation.closer.is_none(),
         0x78 => operation.address_count < 3,
         0x90 | 0xec => operation.address_count < 1,
         _ => false,
@@ -118,7 +118,7 @@ fn end_without_work(operation: Operation) -> Option<End> {
     }
     let works = matches!(
         opener,
-        0x00 | 0x05 | 0x60 | 0x80 | 0xec | 0xff | 0x31 | 0x3f
+        0x00 | 0x05 | 0x06 | 0x60 | 0x80 | 0xec | 0xff | 0x31 | 0x3f
     );
     (works && !operation.is_permitted).then_some(End::NotDone)
 }
