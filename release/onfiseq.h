@@ -83,6 +83,7 @@ enum onfiseq_code {
     ONFISEQ_DATA_NOT_READY = 0x460d,     /**< F13 */
     ONFISEQ_COLUMN_OUTSIDE = 0x460e,     /**< F14 */
     ONFISEQ_CACHE_READ_MISPLACED = 0x460f, /**< F15 */
+    ONFISEQ_PLANE_NOT_HELD = 0x4612,     /**< F18 */
     ONFISEQ_PAGE_FAULT = 0x5000,         /**< and n for the fault Pn of a page or a geometry */
     ONFISEQ_DAMAGED = 0x4400,            /**< the record isn't one that a channel can have */
     ONFISEQ_OTHER_VERSION = 0x4401,      /**< the record to begin has another size or version */
@@ -111,6 +112,7 @@ struct onfiseq_geometry {
 enum onfiseq_optional {
     ONFISEQ_FEATURES = 0x0004,          /**< EEh and EFh */
     ONFISEQ_UNIQUE_ID = 0x0020,         /**< EDh */
+    ONFISEQ_ENHANCED_COLUMN = 0x0040,   /**< 06h */
     ONFISEQ_RESET_LUN = 0x0200,         /**< FAh */
     ONFISEQ_SYNCHRONOUS_RESET = 0x0800, /**< FCh */
     ONFISEQ_WIDE = 0x8000               /**< 90h at 00h and 40h, and FFh in an open sequence */
