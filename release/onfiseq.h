@@ -47,7 +47,7 @@ extern "C" {
 #endif
 
 /** Counts up where a call or a record changes. The calls that begin a record compare it. */
-#define ONFISEQ_VERSION 2
+#define ONFISEQ_VERSION 3
 
 /** 64 bits at a multiple of 8 bytes: so a record has its fields at the same places everywhere. */
 #ifdef __GNUC__
@@ -114,7 +114,9 @@ enum onfiseq_optional {
     ONFISEQ_UNIQUE_ID = 0x0020,         /**< EDh */
     ONFISEQ_ENHANCED_COLUMN = 0x0040,   /**< 06h */
     ONFISEQ_RESET_LUN = 0x0200,         /**< FAh */
+    ONFISEQ_PLANE_READS = 0x0400,       /**< 32h */
     ONFISEQ_SYNCHRONOUS_RESET = 0x0800, /**< FCh */
+    ONFISEQ_FREE_BLOCKS = 0x1000,       /**< blocks of one queue may differ above the plane */
     ONFISEQ_WIDE = 0x8000               /**< 90h at 00h and 40h, and FFh in an open sequence */
 };
 
@@ -171,7 +173,7 @@ struct onfiseq_answer onfiseq_check(const struct onfiseq_geometry *geometry, uin
  * it, or throw it away as you like; onfiseq_look_at tells what stands in it.
  */
 struct onfiseq_bus {
-    onfiseq_u64 state[265];
+    onfiseq_u64 state[409];
 };
 
 /**
@@ -471,7 +473,7 @@ struct onfiseq_job {
 
 /** A channel on whose pins jobs run, opaque as struct onfiseq_bus is. */
 struct onfiseq_live {
-    onfiseq_u64 state[266];
+    onfiseq_u64 state[410];
 };
 
 /**
@@ -621,7 +623,7 @@ ONFISEQ_SIZE(geometry, 24);
 ONFISEQ_SIZE(page, 28);
 ONFISEQ_SIZE(item, 4);
 ONFISEQ_SIZE(answer, 16);
-ONFISEQ_SIZE(bus, 2120);
+ONFISEQ_SIZE(bus, 3272);
 ONFISEQ_SIZE(part, 12);
 ONFISEQ_SIZE(spot, 16);
 ONFISEQ_SIZE(look, 40);
@@ -630,7 +632,7 @@ ONFISEQ_SIZE(placed, 24);
 ONFISEQ_SIZE(loop, 4);
 ONFISEQ_SIZE(loops, 18);
 ONFISEQ_SIZE(job, 48);
-ONFISEQ_SIZE(live, 2128);
+ONFISEQ_SIZE(live, 3280);
 ONFISEQ_SIZE(burst, 24);
 ONFISEQ_SIZE(turn, 96);
 ONFISEQ_SIZE(step, 8);

@@ -1,14 +1,14 @@
 """Tries the wrong bodies of crates, and keeps a table of which clause refuses each.
 
-    python3 tools/wrong_bodies.py [--write] [NAME..]
+    python3 tools/wrong_bodies.py [--write] [NAME..] [NAME/EDIT..]
 
-at the root, once the crates below those named are proved (`rt check` in them). Without names it tries those of every crate.
+at the root, once the crates below those named are proved (`rt check` in them). Without names it tries those of every crate; `NAME/EDIT` tries one edit.
 
 A wrong body is an edit that turns the meaning of a function: `crates/NAME/must-fail/*.edit`, which the gate tries too, and `crates/NAME/wrong/*.edit`,
 which are tried here alone. Each is applied to a copy of its crate, as `rt must-fail` does, over what `rt check` keeps of it; the prover must refuse it.
 Run it for a crate whenever one of its clauses or definitions changes.
 
-`--write` brings what was seen into docs/model/WRONG_BODIES.md, the rows of the crates that were tried, with the commit that was tried; other rows stay.
+`--write` brings what was seen into docs/model/WRONG_BODIES.md, the rows of the edits that were tried, with the commit that was tried; other rows stay.
 The exit status is 0 where each edit was refused by a clause.
 """
 import glob
@@ -38,6 +38,16 @@ def edits_of(crate):
     return sorted(glob.glob(f"{crate.folder}/must-fail/*.edit") + glob.glob(f"{crate.folder}/wrong/*.edit"), key=os.path.basename)
 
 
+def name_of(edit):
+    return os.path.basename(edit).removesuffix(".edit")
+
+
+def wanted_of(crate, names):
+    """The edits of a crate that the names ask for: all where none is given, or its own."""
+    every = edits_of(crate)
+    return every if not names or crate.name in names else [edit for edit in every if f"{crate.name}/{name_of(edit)}" in names]
+
+
 def clause_of(said):
     """Where the prover refuses an edit, out of what it says: the file and the goal that is left open, and not the line, which moves."""
     found = re.search(r"refused, as it must be(?: \(.*?\))?: (?:note: )?(\S+?):\d+:\d+: (?:error: )?(.*)", said)
@@ -58,7 +68,7 @@ def try_edits(gate, crate, edits):
             os.mkdir(kept)
         for edit in edits:
             refused, said = gate.must_fail(crate, edit, ["--jobs", "1"], kept)
-            yield os.path.basename(edit).removesuffix(".edit"), refused, said
+            yield name_of(edit), refused, said
 
 
 def read_rows():
@@ -96,12 +106,13 @@ def main():
     commit = subprocess.run(["git", "rev-parse", "--short=9", "HEAD"], capture_output=True, text=True, check=True).stdout.strip()
     rows, passed = read_rows(), True
     for crate in prepare(gate, os.getcwd()):
-        edits = edits_of(crate)
-        if not edits or names and crate.name not in names:
+        edits = wanted_of(crate, names)
+        if not edits:
             continue
         if any(below.build_rlib(["--jobs", "1"], anew=False) for below in crate.below()):
             sys.exit(f"wrong_bodies: what {crate.name} stands on is not proved")
-        rows = {key: row for key, row in rows.items() if key[0] != crate.name}
+        kept = {name_of(edit) for edit in edits_of(crate)} - {name_of(edit) for edit in edits}
+        rows = {key: row for key, row in rows.items() if key[0] != crate.name or key[1] in kept}
         for edit, refused, said in try_edits(gate, crate, edits):
             clause = clause_of(said) if refused else "NOT REFUSED"
             print(f"{crate.name} {edit}: {clause if refused else said}", flush=True)

@@ -3,9 +3,10 @@ use Rattle.std.proofs.Common.{◌≡◌, ℕ, zero, suc, ◌+◌, ◌%◌, ◌<�
 use Rattle.std.proofs.lemmas.Bool.{eq-eqb}
 use Rattle.std.proofs.lemmas.Bool.Decides.{nat_tests}
 use Rattle.nand_geometry.specs.declared.parts.Parts.{Parts}
+use Rattle.nand_geometry.specs.Limits.{planes}
 use Rattle.nand_geometry.specs.Row.{parts_of}
 use Rattle.onfi_cycle.specs.declared.command.Command.{Command}
-use Rattle.onfi_cycle.specs.declared.command.Command.TheVariants.{Read, ReadConfirm, ChangeReadColumn, ChangeReadColumnConfirm, BlockErase, BlockEraseConfirm, BlockErasePlane, ReadStatus, ReadStatusEnhanced, PageProgram, ChangeWriteColumn, ProgramConfirm, ProgramPlane, ReadId, ReadParameterPage, Reset, ReadCacheSequential, ReadCacheEnd, ReadUniqueId, GetFeatures, SetFeatures, ResetLun, SynchronousReset, Unknown, ChangeReadColumnEnhanced}
+use Rattle.onfi_cycle.specs.declared.command.Command.TheVariants.{Read, ReadConfirm, ReadPlane, ChangeReadColumn, ChangeReadColumnConfirm, BlockErase, BlockEraseConfirm, BlockErasePlane, ReadStatus, ReadStatusEnhanced, PageProgram, ChangeWriteColumn, ProgramConfirm, ProgramPlane, ReadId, ReadParameterPage, Reset, ReadCacheSequential, ReadCacheEnd, ReadUniqueId, GetFeatures, SetFeatures, ResetLun, SynchronousReset, Unknown, ChangeReadColumnEnhanced}
 use Rattle.onfi_cycle.specs.declared.effect.Effect.{Effect}
 use Rattle.onfi_cycle.specs.declared.effect.Effect.TheVariants.{Unaffected, DataOutputEnabled, StatusSelected, StatusRowAwaited, SelectedForStatus, Deselected, FeaturesReadStarted, FeaturesSet, UniqueIdReadStarted, ParameterPageReadStarted, CacheReadContinued, CacheReadEnded, ResetStarted, ReadColumnChanged, TargetResetStarted, AnotherAddressed, PlaneSelected}
 use Rattle.onfi_cycle.specs.declared.latch.Latch.{Latch}
@@ -16,7 +17,7 @@ use Rattle.onfi_cycle.specs.declared.target_cycle.TargetCycle.{TargetCycle}
 use Rattle.onfi_cycle.specs.declared.target_cycle.TargetCycle.TheVariants.{CommandCycle, AddressCycle, InputCycle}
 use Rattle.onfi_cycle.specs.Applied.{one_after, luns_after_cycle}
 use Rattle.onfi_cycle.specs.Command.{closes_row, reads_row}
-use Rattle.onfi_cycle.specs.Effect.{cycle_effect, address_effect, opening_address_effect, confirm_effect, other_effect, of_target, is_shared, status_effect, lun_reset_effect, reset_effect, ends_features, id_effect, is_off, names_lun, row_effect, cache_effect, plane_effect, column_effect}
+use Rattle.onfi_cycle.specs.Effect.{cycle_effect, address_effect, opening_address_effect, confirm_effect, other_effect, of_target, is_shared, status_effect, lun_reset_effect, reset_effect, ends_features, id_effect, is_off, names_lun, row_effect, cache_effect, plane_effect, column_effect, plane_of_row}
 use Rattle.onfi_cycle.specs.Lun.{view_after}
 use Rattle.onfi_cycle.specs.LunView.{LunView}
 use Rattle.onfi_cycle.specs.Sequence.{row, row_with, wants_address, wants_command, selects_plane}
@@ -193,7 +194,7 @@ column_left g t vs = by (selects_plane t) refl
     at e false w = nothing_left g t (CommandCycle ChangeReadColumnConfirm) (λ s m. chosen false e s m ∙ ap (λ (b : Bool). cond (b && not (is_off s)) (ReadColumnChanged t.column) Unaffected) w) (has_driver vs) 0 vs
 
     by : (w : Bool) → selects_plane t ≡ w → luns_left (cond w (effect_of_plane g t) (cond (wants_command t ChangeReadColumnConfirm) (OnDriver (ReadColumnChanged t.column)) Nothing)) vs ≡ luns_after_cycle g t (has_driver vs) (CommandCycle ChangeReadColumnConfirm) 0 vs
-    by true e = apart_left g t (CommandCycle ChangeReadColumnConfirm) (PlaneSelected t.column) Deselected (parts_of g (row t)).lun (λ s m. chosen true e s m ∙ ap (λ (b : Bool). cond b (PlaneSelected t.column) Deselected) (flipped (parts_of g (row t)).lun m)) (has_driver vs) 0 vs
+    by true e = apart_left g t (CommandCycle ChangeReadColumnConfirm) (PlaneSelected (plane_of_row g (row t)) (planes g) t.column) Deselected (parts_of g (row t)).lun (λ s m. chosen true e s m ∙ ap (λ (b : Bool). cond b (PlaneSelected (plane_of_row g (row t)) (planes g) t.column) Deselected) (flipped (parts_of g (row t)).lun m)) (has_driver vs) 0 vs
     by false e = at e (wants_command t ChangeReadColumnConfirm) refl
 
 -- a 31, which works on the row that wants it, or on the driver
@@ -217,6 +218,7 @@ command_left g t ReadCacheSequential vs = cache_read_left g t vs
 command_left g t ReadCacheEnd vs = driver_left g t (CommandCycle ReadCacheEnd) CacheReadEnded (λ s m. refl) (has_driver vs) vs
 command_left g t ChangeReadColumnConfirm vs = column_left g t vs
 command_left g t ReadConfirm vs = closer_left g t ReadConfirm vs refl (λ s m. refl)
+command_left g t ReadPlane vs = closer_left g t ReadPlane vs refl (λ s m. refl)
 command_left g t BlockEraseConfirm vs = closer_left g t BlockEraseConfirm vs refl (λ s m. refl)
 command_left g t BlockErasePlane vs = closer_left g t BlockErasePlane vs refl (λ s m. refl)
 command_left g t ProgramConfirm vs = closer_left g t ProgramConfirm vs refl (λ s m. refl)
@@ -270,6 +272,7 @@ opener_left g t byte SetFeatures k vs is = nothing_left g t (AddressCycle byte) 
 opener_left g t byte SynchronousReset k vs is = nothing_left g t (AddressCycle byte) is (has_driver vs) 0 vs
 opener_left g t byte Read k vs is = nothing_left g t (AddressCycle byte) is (has_driver vs) 0 vs
 opener_left g t byte ReadConfirm k vs is = nothing_left g t (AddressCycle byte) is (has_driver vs) 0 vs
+opener_left g t byte ReadPlane k vs is = nothing_left g t (AddressCycle byte) is (has_driver vs) 0 vs
 opener_left g t byte ChangeReadColumn k vs is = nothing_left g t (AddressCycle byte) is (has_driver vs) 0 vs
 opener_left g t byte ChangeReadColumnEnhanced k vs is = nothing_left g t (AddressCycle byte) is (has_driver vs) 0 vs
 opener_left g t byte ChangeReadColumnConfirm k vs is = nothing_left g t (AddressCycle byte) is (has_driver vs) 0 vs
@@ -308,10 +311,10 @@ input_left g t byte vs = at (ends_features t) refl
 -- it takes no place in a queue
 set_keeps_room : (address : ℕ) (vs : List LunView) → HaveRoom vs → HaveRoom (map (view_after (FeaturesSet address)) vs)
 set_keeps_room address [] h = tt
-set_keeps_room address (v ∷ vs) h = (h.0, set_keeps_room address vs h.1)
+set_keeps_room address (v ∷ vs) h = ((h.0.0, omega arith), set_keeps_room address vs h.1)
 
 either_keeps : (address : ℕ) (b : Bool) (v : LunView) → HasRoom v → HasRoom (view_after (cond b (FeaturesSet address) Deselected) v)
-either_keeps address true v h = h
+either_keeps address true v h = (h.0, omega arith)
 either_keeps address false v h = h
 
 apart_keeps_room : (address n : ℕ) (vs : List LunView) → HaveRoom vs → HaveRoom (apart_from n 0 (FeaturesSet address) Deselected vs)

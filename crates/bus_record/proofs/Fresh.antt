@@ -16,7 +16,7 @@ use Rattle.target_record.specs.declared.geometry.OnfiseqGeometry.{OnfiseqGeometr
 
 pub fresh_room : (g : Parts) (ce count n : ℕ) → All HasRoom (views_from g [] ce count n)
 fresh_room g ce zero n k d h = absurd (omega arith)
-fresh_room g ce (suc count) n zero d h = omega arith
+fresh_room g ce (suc count) n zero d h = (omega arith, omega arith)
 fresh_room g ce (suc count) n (suc k) d h = let low : k < length (views_from g [] ce count (n + 1)) = omega (arith, h) in fresh_room g ce count (n + 1) k d low
 
 -- any geometry of so many LUNs will do

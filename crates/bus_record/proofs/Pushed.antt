@@ -79,7 +79,7 @@ pub have_room : (g : Parts) (t : TargetView) → TargetFits g t → All HasRoom 
 have_room g t f k d h =
     let fits : LunFits g (get_or t.luns k d) = lun_fits_at g t.tail 0 t.luns k (get_or t.luns k d) f.luns (slice_get-get_or t.luns k d h) in
     let most = fits.queue in
-    omega (arith, most)
+    (omega (arith, most), fits.held)
 
 pub small_column : (g : Parts) (t : TailFacts) (s : TargetView) → t ≡ s.tail → TargetFits g s → t.column < 65536
 small_column g t s e f = let small = f.tail.column in rw e small

@@ -1,16 +1,17 @@
 -- What a command or an address leaves of the LUNs of its target, all at once.
 use Rattle.std.specs.Prelude.{ℕ, ◌+◌, Bool, true, false, ◌%◌, ◌==◌, ◌≤◌, ◌<◌, ◌^◌, if◌then◌else◌, List, [], ◌∷◌, Option, Some, None, map}
 use Rattle.nand_geometry.specs.declared.parts.Parts.{Parts}
+use Rattle.nand_geometry.specs.Limits.{planes}
 use Rattle.nand_geometry.specs.Row.{parts_of}
 use Rattle.onfi_cycle.specs.declared.command.Command.{Command}
-use Rattle.onfi_cycle.specs.declared.command.Command.TheVariants.{Read, ReadConfirm, ChangeReadColumnConfirm, BlockEraseConfirm, BlockErasePlane, ReadStatus, ReadStatusEnhanced, ProgramConfirm, ProgramPlane, ReadId, ReadParameterPage, Reset, ReadCacheSequential, ReadCacheEnd, ReadUniqueId, GetFeatures, ResetLun, SynchronousReset}
+use Rattle.onfi_cycle.specs.declared.command.Command.TheVariants.{Read, ReadConfirm, ReadPlane, ChangeReadColumnConfirm, BlockEraseConfirm, BlockErasePlane, ReadStatus, ReadStatusEnhanced, ProgramConfirm, ProgramPlane, ReadId, ReadParameterPage, Reset, ReadCacheSequential, ReadCacheEnd, ReadUniqueId, GetFeatures, ResetLun, SynchronousReset}
 use Rattle.onfi_cycle.specs.declared.effect.Effect.{Effect}
 use Rattle.onfi_cycle.specs.declared.effect.Effect.TheVariants.{DataOutputEnabled, StatusSelected, StatusRowAwaited, SelectedForStatus, Deselected, IdRead, UniqueIdReadStarted, FeaturesReadStarted, FeaturesSet, ParameterPageReadStarted, CacheReadContinued, CacheReadEnded, ResetStarted, TargetResetStarted, AnotherAddressed, ReadColumnChanged, PlaneSelected}
 use Rattle.onfi_cycle.specs.declared.opening.Opening.{Opening}
 use Rattle.onfi_cycle.specs.declared.tail_facts.TailFacts.{TailFacts}
 use Rattle.onfi_cycle.specs.Command.{reads_row}
 use Rattle.onfi_cycle.specs.Applied.{one_after}
-use Rattle.onfi_cycle.specs.Effect.{is_shared, status_effect, confirm_effect, id_effect, ends_features, is_off}
+use Rattle.onfi_cycle.specs.Effect.{is_shared, status_effect, confirm_effect, id_effect, ends_features, is_off, plane_of_row}
 use Rattle.onfi_cycle.specs.Lun.{view_after}
 use Rattle.onfi_cycle.specs.LunView.{LunView}
 use Rattle.onfi_cycle.specs.Sequence.{row, row_with, wants_address, wants_command, selects_plane}
@@ -69,7 +70,7 @@ effect_of_closer g t c = if wants_command t c then on_named g (parts_of g (row t
 
 -- E0 behind 06
 abbrev pub effect_of_plane : Parts → TailFacts → TargetEffect
-effect_of_plane g t = Apart (parts_of g (row t)).lun (PlaneSelected t.column) Deselected
+effect_of_plane g t = Apart (parts_of g (row t)).lun (PlaneSelected (plane_of_row g (row t)) (planes g) t.column) Deselected
 
 abbrev pub effect_of_column_confirm : Parts → TailFacts → TargetEffect
 effect_of_column_confirm g t =
@@ -91,6 +92,7 @@ effect_of_command g t ReadCacheSequential = effect_of_cache_read g t
 effect_of_command g t ReadCacheEnd = OnDriver CacheReadEnded
 effect_of_command g t ChangeReadColumnConfirm = effect_of_column_confirm g t
 effect_of_command g t ReadConfirm = effect_of_closer g t ReadConfirm
+effect_of_command g t ReadPlane = effect_of_closer g t ReadPlane
 effect_of_command g t BlockEraseConfirm = effect_of_closer g t BlockEraseConfirm
 effect_of_command g t BlockErasePlane = effect_of_closer g t BlockErasePlane
 effect_of_command g t ProgramConfirm = effect_of_closer g t ProgramConfirm

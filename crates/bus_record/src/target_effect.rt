@@ -47,6 +47,7 @@ fn confirm_effect(geometry: &Geometry, kept: &OnfiseqTarget, named: Command) -> 
             page,
             column: kept.column,
         },
+        Command::ReadPlane => Effect::ReadQueued { page },
         Command::ReadCacheSequential => Effect::CacheReadContinued { to: Some(page) },
         Command::BlockEraseConfirm => Effect::EraseStarted {
             queued: false,
@@ -145,9 +146,14 @@ fn effect_of_plane(geometry: &OnfiseqGeometry, kept: &OnfiseqTarget) -> TargetEf
     requires { InLimits (parts_of geometry.now) }
     ensures { result ≡ effect_of_plane (parts_of geometry.now) (tail_of kept.now) }
 {
+    let known = geometry.known();
+    let planes = known.planes();
+    let row = tail_of(kept).named_row();
     TargetEffect::Apart {
-        lun: geometry.known().parts_of(tail_of(kept).named_row()).lun,
+        lun: known.parts_of(row).lun,
         effect: Effect::PlaneSelected {
+            plane: PageAddress::of_row(&known, row).block % planes,
+            planes,
             column: kept.column,
         },
         others: Effect::Deselected,
@@ -201,6 +207,7 @@ pub(crate) fn effect_of_command(
         Command::ReadCacheEnd => TargetEffect::OnDriver(Effect::CacheReadEnded),
         Command::ChangeReadColumnConfirm => effect_of_column_confirm(geometry, kept),
         Command::ReadConfirm
+        | Command::ReadPlane
         | Command::BlockEraseConfirm
         | Command::BlockErasePlane
         | Command::ProgramConfirm

@@ -104,6 +104,7 @@ not_both : (x : Effect) (busy caching array : Bool) → (array ≡ true → busy
 not_both (e.BecameReady fail) busy caching array h k = refl
 not_both e.ArrayBecameReady busy caching array h k = absurd (false≢true k)
 not_both (e.ReadStarted _ _) busy caching array h k = absurd (false≢true k)
+not_both (e.ReadQueued _) busy caching array h k = absurd (false≢true k)
 not_both (e.EraseStarted _ _) busy caching array h k = absurd (false≢true k)
 not_both (e.ProgramStarted _ _) busy caching array h k = absurd (false≢true k)
 not_both e.IdRead busy caching array h k = absurd (false≢true k)

@@ -7,24 +7,25 @@ use Rattle.nand_geometry.specs.declared.parts.Parts.{Parts}
 use Rattle.nand_geometry.specs.Limits.{page_len, planes}
 use Rattle.onfi_cycle.specs.declared.page_address.PageAddress.{PageAddress}
 use Rattle.onfi_cycle.specs.declared.queued.Queued.{Queued}
-use Rattle.onfi_cycle.specs.declared.queued.Queued.TheVariants.{Erase, Program}
+use Rattle.onfi_cycle.specs.declared.queued.Queued.TheVariants.{Erase, Program, Read as QueuedRead}
 use Rattle.onfi_cycle.specs.declared.effect.Effect.TheVariants.{BecameReady}
 use Rattle.onfi_cycle.specs.declared.register.Register.{Register}
 use Rattle.onfi_cycle.specs.declared.register.Register.TheVariants.{Empty, Page}
-use Rattle.onfi_cycle.specs.Lun.{busy_after, queue_after, register_after}
+use Rattle.onfi_cycle.specs.Effect.{HasPlanes}
+use Rattle.onfi_cycle.specs.Lun.{busy_after, queue_after, held_after, register_after, register_of_plane, page_in_plane}
 use Rattle.onfi_cycle.specs.Content.{ArrayWork, same_page, queued_work_after, pending_work_after, content_after, failed_after, is_some_work}
-use Rattle.onfi_cycle.specs.Rules.{has_some, some_queued_clashes}
+use Rattle.onfi_cycle.specs.Rules.{some_queued_clashes, some_read_clashes}
 use Rattle.die_model.specs.declared.work.Work.{Work}
 use Rattle.die_model.specs.declared.work.Work.TheVariants as w
 use Rattle.die_model.specs.Pages.{kept, page_in, is_given}
 use Rattle.onfi_cycle.specs.Bounds.{is_row}
 use Rattle.die_model.specs.declared.activity.Activity.{Activity}
-use Rattle.die_model.specs.Die.{Die, die_with, bytes_taken, plane_bytes, works_of, effect_of, is_row_of, row_of_work, goes_with, is_reset, queue_with, closes, page_to_keep, AreKept, are_erases, are_programs, HasRows, IsDie, ShowsPage}
+use Rattle.die_model.specs.Die.{Die, die_with, bytes_taken, plane_bytes, works_of, effect_of, is_row_of, row_of_work, goes_with, is_reset, queue_with, closes, page_to_keep, AreKept, are_erases, are_programs, has_work, HasRows, IsDie, ShowsPage}
 use Rattle.die_model.proofs.Kept.{Entries, same_parts}
 
 -- the die with an activity
 abbrev pub die_of : Parts → Entries → List (List ℕ) → Activity → Die
-die_of g pages registers a = die_with g pages registers a.register a.array_page a.busy a.caching a.array_busy a.queue.items a.closed a.failed
+die_of g pages registers a = die_with g pages registers a.register a.held.items a.array_page a.busy a.caching a.array_busy a.queue.items a.closed a.failed
 
 pub not_closed : (reset closed busy : Bool) → (closed ≡ true → busy ≡ true) → (reset || not busy) ≡ true → reset ≡ false → closed ≡ false
 not_closed reset false busy h k r = refl
@@ -40,7 +41,8 @@ queue_begun (w.Program at) closed queue h = refl
 queue_begun (w.Erase at) closed queue h = refl
 queue_begun (w.Queue (Erase at)) closed queue h = rw (h refl) refl
 queue_begun (w.Queue (Program at)) closed queue h = rw (h refl) refl
-queue_begun (w.Read at) closed queue h = rw (h refl) refl
+queue_begun (w.Queue (QueuedRead at)) closed queue h = rw (h refl) refl
+queue_begun (w.Read at) closed queue h = refl
 queue_begun w.Identifier closed queue h = rw (h refl) refl
 queue_begun (w.Identity jedec) closed queue h = rw (h refl) refl
 queue_begun w.Parameters closed queue h = rw (h refl) refl
@@ -61,7 +63,8 @@ queued_begun g registers (w.Program at) closed queue h = refl
 queued_begun g registers (w.Erase at) closed queue h = refl
 queued_begun g registers (w.Queue (Erase at)) closed queue h = rw (h refl) refl
 queued_begun g registers (w.Queue (Program at)) closed queue h = rw (h refl) refl
-queued_begun g registers (w.Read at) closed queue h = rw (h refl) refl
+queued_begun g registers (w.Queue (QueuedRead at)) closed queue h = rw (h refl) refl
+queued_begun g registers (w.Read at) closed queue h = refl
 queued_begun g registers w.Identifier closed queue h = rw (h refl) refl
 queued_begun g registers (w.Identity jedec) closed queue h = rw (h refl) refl
 queued_begun g registers w.Parameters closed queue h = rw (h refl) refl
@@ -77,6 +80,7 @@ pending_begun g registers (w.Program at) closed queue h = rw (h refl) refl
 pending_begun g registers (w.Erase at) closed queue h = rw (h refl) refl
 pending_begun g registers (w.Queue (Erase at)) closed queue h = refl
 pending_begun g registers (w.Queue (Program at)) closed queue h = refl
+pending_begun g registers (w.Queue (QueuedRead at)) closed queue h = refl
 pending_begun g registers (w.Read at) closed queue h = refl
 pending_begun g registers w.Identifier closed queue h = rw (h refl) refl
 pending_begun g registers (w.Identity jedec) closed queue h = rw (h refl) refl
@@ -92,6 +96,7 @@ pending_begun g registers w.CacheEnd closed queue h = refl
 pub content_begun : (g : Parts) (work : Work) (q : List ArrayWork) (p : PageAddress) (old : List ℕ) → content_after g (effect_of work) q p old ≡ old
 content_begun g (w.Queue (Erase at)) q p old = refl
 content_begun g (w.Queue (Program at)) q p old = refl
+content_begun g (w.Queue (QueuedRead at)) q p old = refl
 content_begun g w.Reset q p old = refl
 content_begun g (w.Program at) q p old = refl
 content_begun g (w.Erase at) q p old = refl
@@ -108,6 +113,7 @@ content_begun g w.CacheEnd q p old = refl
 pub failed_begun : (work : Work) (q : List ArrayWork) (b : Bool) → failed_after (effect_of work) q b ≡ b
 failed_begun (w.Queue (Erase at)) q b = refl
 failed_begun (w.Queue (Program at)) q b = refl
+failed_begun (w.Queue (QueuedRead at)) q b = refl
 failed_begun w.Reset q b = refl
 failed_begun (w.Program at) q b = refl
 failed_begun (w.Erase at) q b = refl
@@ -159,6 +165,7 @@ kept_rows g at registers old new row k h = record { inside = outside at row k; l
 still : (len : ℕ) (at : Option PageAddress) (old new : Entries) → Keeps len at old new → (queue : List Queued) → AreKept old queue → AreKept new queue
 still len at old new k [] h = tt
 still len at old new k (Erase q ∷ queue) h = still len at old new k queue h
+still len at old new k (QueuedRead q ∷ queue) h = still len at old new k queue h
 still len at old new k (Program q ∷ queue) h = (ap is_some (k q) ∙ of (is_given q at), still len at old new k queue h.1)
   where
     of : (b : Bool) → is_some (cond b (Some (page_in len old q)) (kept old q)) ≡ true
@@ -178,9 +185,10 @@ pub kept_begun : (len : ℕ) (work : Work) (old new : Entries) (queue : List Que
 kept_begun len (w.Program at) old new queue k h = (placed len at old new k, still len (page_to_keep (w.Program at)) old new k queue h)
 kept_begun len (w.Erase at) old new queue k h = still len (page_to_keep (w.Erase at)) old new k queue h
 kept_begun len (w.Queue (Erase at)) old new queue k h = still len (page_to_keep (w.Queue (Erase at))) old new k queue h
+kept_begun len (w.Queue (QueuedRead at)) old new queue k h = still len (page_to_keep (w.Queue (QueuedRead at))) old new k queue h
 kept_begun len (w.Queue (Program at)) old new queue k h = (placed len at old new k, still len (page_to_keep (w.Queue (Program at))) old new k queue h)
 kept_begun len w.Reset old new queue k h = tt
-kept_begun len (w.Read at) old new queue k h = still len (page_to_keep (w.Read at)) old new k queue h
+kept_begun len (w.Read at) old new queue k h = tt
 kept_begun len w.Identifier old new queue k h = still len (page_to_keep w.Identifier) old new k queue h
 kept_begun len (w.Identity jedec) old new queue k h = still len (page_to_keep (w.Identity jedec)) old new k queue h
 kept_begun len w.Parameters old new queue k h = still len (page_to_keep w.Parameters) old new k queue h
@@ -194,19 +202,28 @@ all_erases : (g : Parts) (at : PageAddress) (queue : List Queued) → some_queue
 all_erases g at [] h = refl
 all_erases g at (Erase q ∷ queue) h = all_erases g at queue (neither _ _ h).1
 all_erases g at (Program q ∷ queue) h = cc
+all_erases g at (QueuedRead q ∷ queue) h = cc
 
 all_programs : (g : Parts) (at : PageAddress) (queue : List Queued) → some_queued_clashes g false at queue ≡ false → are_programs queue ≡ true
 all_programs g at [] h = refl
 all_programs g at (Erase q ∷ queue) h = cc
+all_programs g at (QueuedRead q ∷ queue) h = cc
 all_programs g at (Program q ∷ queue) h = all_programs g at queue (neither _ _ h).1
+
+all_reads : (g : Parts) (at : PageAddress) (queue : List Queued) → some_read_clashes g at queue ≡ false → are_programs queue ≡ true
+all_reads g at [] h = refl
+all_reads g at (Erase q ∷ queue) h = cc
+all_reads g at (Program q ∷ queue) h = cc
+all_reads g at (QueuedRead q ∷ queue) h = all_reads g at queue (neither _ _ h).1
 
 pub alike_begun : (g : Parts) (work : Work) (queue : List Queued) → goes_with g work queue ≡ true → (are_erases queue || are_programs queue) ≡ true → (are_erases (queue_with work queue) || are_programs (queue_with work queue)) ≡ true
 alike_begun g (w.Program at) queue t h = all_programs g at queue (not-true _ t)
 alike_begun g (w.Erase at) queue t h = or_left _ _ (all_erases g at queue (not-true _ t))
 alike_begun g (w.Queue (Erase at)) queue t h = or_left _ _ (all_erases g at queue (not-true _ t))
 alike_begun g (w.Queue (Program at)) queue t h = all_programs g at queue (not-true _ t)
+alike_begun g (w.Queue (QueuedRead at)) queue t h = all_reads g at queue (not-true _ t)
 alike_begun g w.Reset queue t h = refl
-alike_begun g (w.Read at) queue t h = h
+alike_begun g (w.Read at) queue t h = refl
 alike_begun g w.Identifier queue t h = h
 alike_begun g (w.Identity jedec) queue t h = h
 alike_begun g w.Parameters queue t h = h
@@ -221,7 +238,7 @@ closes_busy (w.Program at) busy h = refl
 closes_busy (w.Erase at) busy h = refl
 closes_busy _ busy h = cc
 
-closes_some : (work : Work) (queue : List Queued) → closes work ≡ true → has_some (queue_with work queue) ≡ true
+closes_some : (work : Work) (queue : List Queued) → closes work ≡ true → has_work (queue_with work queue) ≡ true
 closes_some (w.Program at) queue h = refl
 closes_some (w.Erase at) queue h = refl
 closes_some _ queue h = cc
@@ -230,6 +247,7 @@ row_to_keep : (g : Parts) (work : Work) → is_row_of g (row_of_work work) ≡ t
 row_to_keep g (w.Program at) h = h
 row_to_keep g (w.Queue (Program at)) h = h
 row_to_keep g (w.Queue (Erase at)) h = refl
+row_to_keep g (w.Queue (QueuedRead at)) h = refl
 row_to_keep g (w.Erase at) h = refl
 row_to_keep g w.Reset h = refl
 row_to_keep g (w.Read at) h = refl
@@ -257,6 +275,7 @@ goes_on g (w.Program at) closed queue h t = sym (ap (λ (b : Bool). goes_with g 
 goes_on g (w.Erase at) closed queue h t = sym (ap (λ (b : Bool). goes_with g (w.Erase at) (cond b [] queue)) (h refl)) ∙ t
 goes_on g (w.Queue (Erase at)) closed queue h t = sym (ap (λ (b : Bool). goes_with g (w.Queue (Erase at)) (cond b [] queue)) (h refl)) ∙ t
 goes_on g (w.Queue (Program at)) closed queue h t = sym (ap (λ (b : Bool). goes_with g (w.Queue (Program at)) (cond b [] queue)) (h refl)) ∙ t
+goes_on g (w.Queue (QueuedRead at)) closed queue h t = sym (ap (λ (b : Bool). goes_with g (w.Queue (QueuedRead at)) (cond b [] queue)) (h refl)) ∙ t
 
 pub die_begun : (g : Parts) (work : Work) (parameters : List ℕ) (old new : Entries) (registers : List (List ℕ)) (queue after : List Queued) (closed closing busy working : Bool) → IsDie g parameters old registers queue closed busy → is_row_of g (row_of_work work) ≡ true → goes_with g work (cond closed [] queue) ≡ true → (is_reset work ≡ false → closed ≡ false) → Keeps (page_len g) (page_to_keep work) old new → after ≡ queue_with work queue → closing ≡ closes work → working ≡ busy_after (effect_of work) busy → IsDie g parameters new registers after closing working
 die_begun g work parameters old new registers queue after closed closing busy working d row together free k ea ec eb =
@@ -267,7 +286,7 @@ die_begun g work parameters old new registers queue after closed closing busy wo
       there = subst (AreKept new) (sym ea) (kept_begun (page_len g) work old new queue k d.there);
       alike = ap (λ (m : List Queued). are_erases m || are_programs m) ea ∙ alike_begun g work queue (goes_on g work closed queue free together) d.alike;
       works = λ h. eb ∙ closes_busy work busy (sym ec ∙ h);
-      some = λ h. ap has_some ea ∙ closes_some work queue (sym ec ∙ h);
+      some = λ h. ap has_work ea ∙ closes_some work queue (sym ec ∙ h);
     }
 
 -- 4. works that end
@@ -279,10 +298,15 @@ ended_pages fail closed g parts planes ps queue old new eg ep h p =
     let at_g = subst (λ (k : Parts). page_in (page_len k) new p ≡ content_after k (BecameReady fail) (works_of k ps (cond closed queue [])) p (page_in (page_len k) old p)) eg (h p) in
     subst (λ (q : List (List ℕ)). page_in (page_len g) new p ≡ content_after g (BecameReady fail) (works_of g q (cond closed queue [])) p (page_in (page_len g) old p)) ep at_g
 
-pub ended_failed : (g : Parts) (planes : List (List ℕ)) (fail closed : Bool) (queue : List Queued) → (closed ≡ true → has_some queue ≡ true) → (closed && fail) ≡ (fail && is_some_work (works_of g planes (cond closed queue [])))
+works_some : (g : Parts) (planes : List (List ℕ)) (queue : List Queued) → has_work queue ≡ true → is_some_work (works_of g planes queue) ≡ true
+works_some g planes [] h = h
+works_some g planes (Erase q ∷ queue) h = refl
+works_some g planes (Program q ∷ queue) h = refl
+works_some g planes (QueuedRead q ∷ queue) h = works_some g planes queue h
+
+pub ended_failed : (g : Parts) (planes : List (List ℕ)) (fail closed : Bool) (queue : List Queued) → (closed ≡ true → has_work queue ≡ true) → (closed && fail) ≡ (fail && is_some_work (works_of g planes (cond closed queue [])))
 ended_failed g planes false true queue h = refl
-ended_failed g planes true true [] h = let x : false ≡ true = h refl in cc
-ended_failed g planes true true (q ∷ queue) h = refl
+ended_failed g planes true true queue h = sym (works_some g planes queue (h refl))
 ended_failed g planes false false queue h = refl
 ended_failed g planes true false queue h = refl
 
@@ -327,6 +351,7 @@ taken_is d (w.Program at) = refl
 taken_is d (w.Erase at) = refl
 taken_is d (w.Queue (Erase at)) = refl
 taken_is d (w.Queue (Program at)) = refl
+taken_is d (w.Queue (QueuedRead at)) = refl
 taken_is d (w.Read at) = refl
 taken_is d w.Identifier = refl
 taken_is d (w.Identity jedec) = refl
@@ -342,27 +367,68 @@ taken_is d w.CacheEnd = refl
 pub kept_lengths : (g : Parts) (work : Work) (old new : Entries) (registers : List (List ℕ)) (len : ℕ) → HasRows g old registers → is_row_of g (row_of_work work) ≡ true → Keeps (page_len g) (page_to_keep work) old new → len ≡ page_len g → (p : PageAddress) (bytes : List ℕ) → kept new p ≡ Some bytes → length bytes ≡ len
 kept_lengths g work old new registers len rows row k same p bytes is = (kept_rows g (page_to_keep work) registers old new (row_to_keep g work row) k rows).lengths p bytes is ∙ sym same
 
-closes_empty : (work : Work) (p : PageAddress) (r : Register) → closes work ≡ true → register_after (effect_of work) p r ≡ Empty
-closes_empty (w.Program at) p r h = refl
-closes_empty (w.Erase at) p r h = refl
-closes_empty work p r h = cc
+closes_empty : (work : Work) (p : PageAddress) (q : List Queued) (held : List PageAddress) (r : Register) → closes work ≡ true → register_after (effect_of work) p q held r ≡ Empty
+closes_empty (w.Program at) p q held r h = refl
+closes_empty (w.Erase at) p q held r h = refl
+closes_empty work p q held r h = cc
 
-pub shows_begun : (g : Parts) (work : Work) (p : PageAddress) (pages : Entries) (before after : List ℕ) (r held : Register) (closing : Bool) → held ≡ register_after (effect_of work) p r → closing ≡ closes work → length before ≡ page_len g → length after ≡ length before → ((at : PageAddress) → held ≡ Page at → after ≡ page_in (length before) pages at) → ShowsPage g pages held after closing
-shows_begun g work p pages before after r held closing eh ec was same f =
+closes_frees : (work : Work) (p : PageAddress) (q : List Queued) (held : List PageAddress) → closes work ≡ true → held_after (effect_of work) p q held ≡ []
+closes_frees (w.Program at) p q held h = refl
+closes_frees (w.Erase at) p q held h = refl
+closes_frees work p q held h = cc
+
+-- the rows that wait are queued where the work is no reset, and a reset asks for none
+pub register_begun : (work : Work) (p : PageAddress) (closed : Bool) (queue : List Queued) (held : List PageAddress) (r : Register) → (is_reset work ≡ false → closed ≡ false) → register_after (effect_of work) p queue held r ≡ register_after (effect_of work) p (cond closed [] queue) held r
+register_begun w.Reset p closed queue held r h = refl
+register_begun (w.Read at) p closed queue held r h = rw (h refl) refl
+register_begun (w.Queue (Erase at)) p closed queue held r h = refl
+register_begun (w.Queue (Program at)) p closed queue held r h = refl
+register_begun (w.Queue (QueuedRead at)) p closed queue held r h = refl
+register_begun work p closed queue held r h = refl
+
+pub held_begun : (work : Work) (p : PageAddress) (closed : Bool) (queue : List Queued) (held : List PageAddress) → (is_reset work ≡ false → closed ≡ false) → held_after (effect_of work) p queue held ≡ held_after (effect_of work) p (cond closed [] queue) held
+held_begun w.Reset p closed queue held h = refl
+held_begun (w.Read at) p closed queue held h = rw (h refl) refl
+held_begun (w.Queue (Erase at)) p closed queue held h = refl
+held_begun (w.Queue (Program at)) p closed queue held h = refl
+held_begun (w.Queue (QueuedRead at)) p closed queue held h = refl
+held_begun work p closed queue held h = refl
+
+-- no work selects a plane
+pub work_has_planes : (work : Work) → HasPlanes (effect_of work)
+work_has_planes (w.Queue (Erase at)) = tt
+work_has_planes (w.Queue (Program at)) = tt
+work_has_planes (w.Queue (QueuedRead at)) = tt
+work_has_planes work = tt
+
+pub shows_begun : (g : Parts) (work : Work) (p : PageAddress) (queue : List Queued) (pages : Entries) (before after : List ℕ) (r now : Register) (held keeps : List PageAddress) (closing : Bool) → now ≡ register_after (effect_of work) p queue held r → keeps ≡ held_after (effect_of work) p queue held → closing ≡ closes work → length before ≡ page_len g → length after ≡ length before → ((at : PageAddress) → now ≡ Page at → after ≡ page_in (length before) pages at) → ShowsPage g pages now keeps after closing
+shows_begun g work p queue pages before after r now held keeps closing er eh ec was same f =
     record {
       page = λ at is. f at is ∙ ap (λ (n : ℕ). page_in n pages at) was;
       width = same ∙ was;
-      ends = λ h. eh ∙ closes_empty work p r (sym ec ∙ h);
+      ends = λ h. er ∙ closes_empty work p queue held r (sym ec ∙ h);
+      frees = λ h. eh ∙ closes_frees work p queue held (sym ec ∙ h);
     }
 
-shows_still : (g : Parts) (old new : Entries) (r : Register) (output : List ℕ) (closed : Bool) → (closed ≡ false → new ≡ old) → ShowsPage g old r output closed → (at : PageAddress) → r ≡ Page at → output ≡ page_in (page_len g) new at
-shows_still g old new r output true same h at is = let x = h.ends refl in cc
-shows_still g old new r output false same h at is = h.page at is ∙ ap (λ (e : Entries). page_in (page_len g) e at) (sym (same refl))
+shows_still : (g : Parts) (old new : Entries) (r : Register) (held : List PageAddress) (output : List ℕ) (closed : Bool) → (closed ≡ false → new ≡ old) → ShowsPage g old r held output closed → (at : PageAddress) → r ≡ Page at → output ≡ page_in (page_len g) new at
+shows_still g old new r held output true same h at is = let x = h.ends refl in cc
+shows_still g old new r held output false same h at is = h.page at is ∙ ap (λ (e : Entries). page_in (page_len g) e at) (sym (same refl))
 
-pub shows_ended : (g : Parts) (old new : Entries) (r held : Register) (output : List ℕ) (closed closing : Bool) → held ≡ r → (closed ≡ false → new ≡ old) → closing ≡ false → ShowsPage g old r output closed → ShowsPage g new held output closing
-shows_ended g old new r held output closed closing eh same over h =
+pub shows_ended : (g : Parts) (old new : Entries) (r now : Register) (held keeps : List PageAddress) (output : List ℕ) (closed closing : Bool) → now ≡ r → (closed ≡ false → new ≡ old) → closing ≡ false → ShowsPage g old r held output closed → ShowsPage g new now keeps output closing
+shows_ended g old new r now held keeps output closed closing er same over h =
     record {
-      page = λ at is. shows_still g old new r output closed same h at (sym eh ∙ is);
+      page = λ at is. shows_still g old new r held output closed same h at (sym er ∙ is);
       width = h.width;
       ends = λ c. cc;
+      frees = λ c. cc;
+    }
+
+-- the page of a plane stands ready in place of the one before
+pub shows_plane : (g : Parts) (plane planes : ℕ) (pages : Entries) (before after : List ℕ) (r now : Register) (held : List PageAddress) (closed : Bool) → now ≡ register_of_plane (page_in_plane planes plane held) → ShowsPage g pages r held before closed → length after ≡ length before → ((at : PageAddress) → now ≡ Page at → after ≡ page_in (length before) pages at) → ShowsPage g pages now held after closed
+shows_plane g plane planes pages before after r now held closed is h same f =
+    record {
+      page = λ at page. f at page ∙ ap (λ (n : ℕ). page_in n pages at) h.width;
+      width = same ∙ h.width;
+      ends = λ c. is ∙ ap (λ (l : List PageAddress). register_of_plane (page_in_plane planes plane l)) (h.frees c);
+      frees = h.frees;
     }

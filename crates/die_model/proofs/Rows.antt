@@ -6,7 +6,7 @@ use Rattle.nand_geometry.specs.declared.parts.Parts.{Parts}
 use Rattle.nand_geometry.specs.Limits.{page_len}
 use Rattle.onfi_cycle.specs.declared.page_address.PageAddress.{PageAddress}
 use Rattle.onfi_cycle.specs.declared.queued.Queued.{Queued}
-use Rattle.onfi_cycle.specs.declared.queued.Queued.TheVariants.{Erase, Program}
+use Rattle.onfi_cycle.specs.declared.queued.Queued.TheVariants.{Erase, Program, Read as QueuedRead}
 use Rattle.onfi_cycle.specs.Content.{and_bytes, same_page}
 use Rattle.die_model.specs.Pages.{kept, programmed}
 use Rattle.die_model.specs.Die.{HasRows, AreKept, are_erases, are_programs}
@@ -47,6 +47,7 @@ program_rows g pages new registers at bytes h same f =
 pub program_still : (pages new : Entries) (at : PageAddress) (bytes : List ℕ) → ((p : PageAddress) → kept new p ≡ cond (same_page p at) (programmed bytes (kept pages p)) (kept pages p)) → (queue : List Queued) → AreKept pages queue → AreKept new queue
 program_still pages new at bytes f [] h = tt
 program_still pages new at bytes f (Erase q ∷ queue) h = program_still pages new at bytes f queue h
+program_still pages new at bytes f (QueuedRead q ∷ queue) h = program_still pages new at bytes f queue h
 program_still pages new at bytes f (Program q ∷ queue) h =
     (programs_row (same_page q at) bytes (kept pages q) (kept new q) (f q) ∙ h.0, program_still pages new at bytes f queue h.1)
 
@@ -72,4 +73,5 @@ take_whole (r ∷ rows) (suc n) h = ap (λ (t : List Queued). r ∷ t) (take_who
 pub first_there : (pages new : Entries) (rows : List Queued) (d : Queued) → 1 ≤ length rows → AreKept pages rows → are_erases rows || are_programs rows ≡ true → (are_programs (take (length rows - 1) (drop 1 rows)) ≡ true → (queue : List Queued) → AreKept pages queue → AreKept new queue) → AreKept new (get_or rows 0 d ∷ [])
 first_there pages new [] d some h alike f = absurd (omega (arith, some))
 first_there pages new (Erase q ∷ rows) d some h alike f = tt
+first_there pages new (QueuedRead q ∷ rows) d some h alike f = tt
 first_there pages new (Program q ∷ rows) d some h alike f = f (ap are_programs (take_whole rows (length (Program q ∷ rows) - 1) (omega arith)) ∙ alike) (Program q ∷ []) (h.0, tt)

@@ -9,7 +9,7 @@ use Rattle.onfi_cycle.specs.declared.register.Register.TheVariants as r
 use Rattle.onfi_cycle.specs.Lun.{is_busy, is_array_busy}
 use Rattle.onfi_cycle.specs.Content.{content, register_bytes}
 use Rattle.onfi_cycle.specs.Rules.{is_empty, has_some}
-use Rattle.die_model.specs.Die.{page_of, works_of}
+use Rattle.die_model.specs.Die.{page_of, works_of, are_none}
 use Rattle.die_model.specs.Standing.{DiesShow}
 
 same_bytes : (parameters : List ℕ) (f g : PageAddress → List ℕ) (x : Register) → ((p : PageAddress) → f p ≡ g p) → register_bytes parameters f x ≡ register_bytes parameters g x
@@ -30,6 +30,10 @@ none_is : (q : List Queued) → not (has_some q) ≡ true → q ≡ []
 none_is [] h = refl
 none_is (x ∷ q) h = cc
 
+no_pages : (held : List PageAddress) → are_none held ≡ true → held ≡ []
+no_pages [] h = refl
+no_pages (p ∷ held) h = cc
+
 pub dies_show : DiesShow
 dies_show =
     record {
@@ -45,12 +49,14 @@ dies_show =
           let b = both (not d.array_busy) _ a.1 in
           let c = both (not d.caching) _ b.1 in
           let e = both (is_empty d.register) _ c.1 in
-          let f = both (not (has_some d.queued)) _ e.1 in
+          let n = both (are_none d.held) _ e.1 in
+          let f = both (not (has_some d.queued)) _ n.1 in
           let h = both (not (has_some d.pending)) (not d.failed) f.1 in
           record {
             geometry = geometry;
             pages = pages;
             register = empty_is d.register e.0;
+            held = no_pages d.held n.0;
             array_page = array_page;
             busy = not-true d.busy a.0;
             caching = not-true d.caching c.0;

@@ -19,14 +19,14 @@ use Rattle.onfi_cycle.specs.declared.latch.Latch.{Latch}
 use Rattle.onfi_cycle.specs.declared.opening.Opening.{Opening}
 use Rattle.onfi_cycle.specs.declared.page_address.PageAddress.{PageAddress}
 use Rattle.onfi_cycle.specs.declared.queued.Queued.{Queued}
-use Rattle.onfi_cycle.specs.declared.queued.Queued.TheVariants.{Erase, Program}
+use Rattle.onfi_cycle.specs.declared.queued.Queued.TheVariants.{Erase, Program, Read as QueuedRead}
 use Rattle.onfi_cycle.specs.declared.tail_facts.TailFacts.{TailFacts}
 use Rattle.onfi_cycle.specs.declared.target_cycle.TargetCycle.{TargetCycle}
 use Rattle.onfi_cycle.specs.declared.target_cycle.TargetCycle.TheVariants.{CommandCycle, AddressCycle, InputCycle, OutputCycle}
 use Rattle.onfi_cycle.specs.Sequence.{opened, row_bytes, row_after_address, tail, with_cycle, begins_sequence, is_nil, input_column, opening, data_phase, phase_after_address, row_with, facts_of, filled, row, target_cycle, wants_command, wants_address, takes_data, wants_column, selects_plane}
 use Rattle.onfi_cycle.specs.Bounds.{names_program}
-use Rattle.onfi_cycle.specs.Effect.{is_shared, acts_for_target, of_target, other_effect, lun_reset_effect, names_lun, page_address, is_off, is_data, confirm_effect, command_effect, opening_address_effect, address_effect, cycle_effect, id_effect, ends_features, input_effect, row_effect, cache_effect, plane_effect, column_effect}
-use Rattle.onfi_cycle.specs.Lun.{luns_of, effect_on, latch_alone, is_busy, busy_after, is_caching, is_cache_read, closer, closer_after, is_array_busy, array_busy_after, array_page, array_page_after, register, register_after, queue, queue_after, lun_view, effect_among}
+use Rattle.onfi_cycle.specs.Effect.{is_shared, acts_for_target, of_target, other_effect, lun_reset_effect, names_lun, page_address, is_off, is_data, confirm_effect, command_effect, opening_address_effect, address_effect, cycle_effect, id_effect, ends_features, input_effect, row_effect, cache_effect, plane_effect, column_effect, plane_of_row}
+use Rattle.onfi_cycle.specs.Lun.{luns_of, effect_on, latch_alone, is_busy, busy_after, is_caching, is_cache_read, closer, closer_after, is_array_busy, array_busy_after, array_page, array_page_after, register, register_after, held, held_after, queue, queue_after, lun_view, effect_among}
 use Rattle.onfi_cycle.specs.Content.{ArrayWork, ProgramsPage, queued_work, queued_work_after, pending_work, pending_work_after, has_failed, failed_after, content, content_after}
 use Rattle.onfi_cycle.specs.Permitted.{broken}
 use Rattle.onfi_cycle.specs.Channel.{Channel}
@@ -81,7 +81,7 @@ command_programs g t latch k.ReadCacheSequential lun =
 command_programs g t latch k.ReadCacheEnd lun = choice g t lun (is_off latch) e.Unaffected e.CacheReadEnded (λ _. tt) tt
 command_programs g t latch k.ChangeReadColumnConfirm lun =
     choice g t lun (selects_plane t) (plane_effect g t lun) (column_effect t latch)
-    (λ _. choice g t lun (names_lun g (row t) lun) (e.PlaneSelected t.column) e.Deselected (λ _. tt) tt)
+    (λ _. choice g t lun (names_lun g (row t) lun) (e.PlaneSelected (plane_of_row g (row t)) (planes g) t.column) e.Deselected (λ _. tt) tt)
     (choice g t lun (wants_command t k.ChangeReadColumnConfirm && not (is_off latch)) (e.ReadColumnChanged t.column) e.Unaffected (λ _. tt) tt)
 command_programs g t latch k.ProgramConfirm lun =
     choice g t lun (wants_command t k.ProgramConfirm && names_lun g (row t) lun) (e.ProgramStarted false (page_address g (row t))) (other_effect g t k.ProgramConfirm)
@@ -149,6 +149,7 @@ record Facts (s : Channel) (past : List Item) (l : Lun) (d : Die) : Type 0 where
   geometry : d.geometry ≡ s.geometry
   pages : (p : PageAddress) → page_of d p ≡ content s.geometry s.opening past l p
   register : d.register ≡ register s.geometry past l
+  held : d.held ≡ held s.geometry past l
   array_page : d.array_page ≡ array_page s.geometry past l
   busy : d.busy ≡ is_busy s.geometry past l
   caching : d.caching ≡ is_caching s.geometry past l
@@ -170,7 +171,8 @@ effect_goes_on s past i l old new f a =
     record {
       geometry = a.geometry ∙ f.geometry;
       pages = λ at. a.pages at ∙ same_content old.geometry g x (pending_of old) (pending_work g past l) at (page_of old at) (content g s.opening past l at) f.geometry f.pending (f.pages at);
-      register = a.register ∙ (ap (λ (q : PageAddress). register_after x q old.register) f.array_page ∙ ap (register_after x (array_page g past l)) f.register);
+      register = a.register ∙ (λ j. register_after x (f.array_page j) (f.queue j) (f.held j) (f.register j));
+      held = a.held ∙ (λ j. held_after x (f.array_page j) (f.queue j) (f.held j));
       array_page = a.array_page ∙ ap (array_page_after x) f.array_page;
       busy = a.busy ∙ ap (busy_after x) f.busy;
       caching = a.caching ∙ (ap (caching_after x) f.caching ∙ caching_is x (closer g past l));
@@ -293,6 +295,7 @@ leaves_goes_on s past i l old new leaves f a =
       geometry = x.geometry;
       pages = x.pages;
       register = x.register;
+      held = x.held;
       array_page = x.array_page;
       busy = x.busy;
       caching = x.caching;
@@ -308,10 +311,11 @@ leaves_goes_on s past i l old new leaves f a =
 -- 4. an item that works on a page register
 
 unaffected : (d : Die) → IsAfter e.Unaffected d d
-unaffected d = record { geometry = refl; planes = refl; pages = λ p. refl; register = refl; array_page = refl; busy = refl; caching = refl; array_busy = refl; queue = refl; queued = refl; pending = refl; failed = refl }
+unaffected d = record { geometry = refl; planes = refl; pages = λ p. refl; register = refl; held = refl; array_page = refl; busy = refl; caching = refl; array_busy = refl; queue = refl; queued = refl; pending = refl; failed = refl }
 
 pending_step : (x : Effect) (bytes : List ℕ) (q p : List ArrayWork) (b : Bool) → (b ≡ false → p ≡ []) → busy_after x b ≡ false → pending_work_after x bytes q p ≡ []
 pending_step (e.ReadStarted at from) bytes q p b f h = refl
+pending_step (e.ReadQueued at) bytes q p b f h = refl
 pending_step (e.EraseStarted queued at) bytes q p b f h = cc
 pending_step (e.ProgramStarted queued at) bytes q p b f h = cc
 pending_step e.ParameterPageReadStarted bytes q p b f h = refl
@@ -331,12 +335,15 @@ pending_idle g (i ∷ past) l h = pending_step (effect_on g past i l) (filled (p
 
 works_nil : (g : Parts) (r q : List (List ℕ)) (rows : List Queued) → works_of g r rows ≡ [] → works_of g q rows ≡ []
 works_nil g r q [] h = refl
-works_nil g r q (x ∷ rows) h = cc
+works_nil g r q (Erase x ∷ rows) h = cc
+works_nil g r q (Program x ∷ rows) h = cc
+works_nil g r q (QueuedRead x ∷ rows) h = works_nil g r q rows h
 
 -- a register of another plane isn't looked at
 apart_works : (g : Parts) (registers : List (List ℕ)) (at : PageAddress) (w : List ℕ) (rows : List Queued) → some_queued_clashes g false at rows ≡ false → works_of g (set registers (at.block % planes g) w) rows ≡ works_of g registers rows
 apart_works g registers at w [] h = refl
 apart_works g registers at w (Erase q ∷ rows) h = cc
+apart_works g registers at w (QueuedRead q ∷ rows) h = cc
 apart_works g registers at w (Program q ∷ rows) h =
     let parts = neither (planes_clash g at q) (some_queued_clashes g false at rows) h in
     let planes_differ = (neither (at.block % planes g == q.block % planes g) _ (neither (at.block % planes g == q.block % planes g || not (at.page == q.page)) _ parts.0).0).0 in
@@ -355,6 +362,7 @@ register_goes_on s past i l old at w is f idle apart filling =
       geometry = x.geometry;
       pages = x.pages;
       register = x.register;
+      held = x.held;
       array_page = x.array_page;
       busy = x.busy;
       caching = x.caching;

@@ -9,7 +9,7 @@ use Rattle.onfi_cycle.specs.declared.data_phase.DataPhase.TheVariants.{Outside, 
 use Rattle.onfi_cycle.specs.declared.opening.Opening.{Opening}
 use Rattle.onfi_cycle.specs.declared.target_cycle.TargetCycle.{TargetCycle}
 use Rattle.onfi_cycle.specs.declared.target_cycle.TargetCycle.TheVariants.{CommandCycle, AddressCycle, InputCycle, OutputCycle}
-use Rattle.onfi_cycle.specs.Command.{is_opener, is_page_program, at_last_row, is_set_features}
+use Rattle.onfi_cycle.specs.Command.{is_page_program, at_last_row, is_set_features}
 use Rattle.onfi_cycle.specs.Sequence.{with_cycle, continued, opening, opened, one_address_more, data_phase, takes_data, wants_column, phase_after_command, phase_after_address, phase_after_input, row_bytes, row_after_address, facts_of, filled, row, row_with, input_column, inputs, begins_anew}
 use Rattle.onfi_cycle.specs.Bounds.{names_program}
 use Rattle.onfi_cycle.specs.Effect.{names_lun, page_address}

@@ -6,26 +6,27 @@ use Rattle.nand_geometry.specs.Limits.{InLimits, page_len, planes}
 use Rattle.nand_geometry.specs.Page.{parameter_bytes}
 use Rattle.onfi_cycle.specs.declared.page_address.PageAddress.{PageAddress}
 use Rattle.onfi_cycle.specs.declared.queued.Queued.{Queued}
-use Rattle.onfi_cycle.specs.declared.queued.Queued.TheVariants.{Erase, Program}
+use Rattle.onfi_cycle.specs.declared.queued.Queued.TheVariants.{Erase, Program, Read as QueuedRead}
 use Rattle.onfi_cycle.specs.declared.register.Register.{Register}
 use Rattle.onfi_cycle.specs.declared.register.Register.TheVariants.{Empty, Page}
 use Rattle.onfi_cycle.specs.declared.effect.Effect.{Effect}
-use Rattle.onfi_cycle.specs.declared.effect.Effect.TheVariants.{ReadStarted, EraseStarted, ProgramStarted, IdRead, ParameterPageReadStarted, CacheReadContinued, CacheReadEnded, ResetStarted, TargetResetStarted, IdentityRead, UniqueIdReadStarted, FeaturesReadStarted, FeaturesSet}
-use Rattle.onfi_cycle.specs.Lun.{busy_after, array_busy_after, array_page_after, register_after, queue_after}
+use Rattle.onfi_cycle.specs.declared.effect.Effect.TheVariants.{ReadStarted, EraseStarted, ProgramStarted, IdRead, ParameterPageReadStarted, CacheReadContinued, CacheReadEnded, ResetStarted, TargetResetStarted, IdentityRead, UniqueIdReadStarted, FeaturesReadStarted, FeaturesSet, ReadQueued}
+use Rattle.onfi_cycle.specs.Lun.{busy_after, array_busy_after, array_page_after, register_after, held_after, queue_after}
 use Rattle.onfi_cycle.specs.Content.{ArrayWork, ErasesBlock, ProgramsPage, queued_work_after, pending_work_after, content_after, failed_after, register_bytes, written}
 use Rattle.onfi_cycle.specs.Bounds.{is_row}
-use Rattle.onfi_cycle.specs.Rules.{is_empty, has_some, some_queued_clashes}
+use Rattle.onfi_cycle.specs.Rules.{is_empty, has_some, some_queued_clashes, some_read_clashes}
 use Rattle.die_model.specs.declared.work.Work.{Work}
 use Rattle.die_model.specs.declared.work.Work.TheVariants as w
 use Rattle.die_model.specs.Pages.{kept, page_in}
 
--- a die: the pages that it keeps, the page register of each plane, what its register shows, the page that its array was last told to read,
--- what it is busy with, the rows that are queued (the newest first), and those that its next ready ends
+-- a die: the pages that it keeps, the page register of each plane, what its register shows, the pages that its plane registers hold, the page
+-- that its array was last told to read, what it is busy with, the rows that are queued (the newest first), and those that its next ready ends
 pub record Die : Type 0 where
   pub geometry : Parts
   pub pages : List ((ℕ × ℕ) × List ℕ)
   pub planes : List (List ℕ)
   pub register : Register
+  pub held : List PageAddress
   pub array_page : PageAddress
   pub busy : Bool
   pub caching : Bool
@@ -35,13 +36,14 @@ pub record Die : Type 0 where
   pub failed : Bool
 
 -- a die by what is kept of it: one list of rows, which are queued until they are closed
-abbrev pub die_with : Parts → List ((ℕ × ℕ) × List ℕ) → List (List ℕ) → Register → PageAddress → (busy caching array_busy : Bool) → (queue : List Queued) → (closed failed : Bool) → Die
-die_with g pages registers register array_page busy caching array_busy queue closed failed =
+abbrev pub die_with : Parts → List ((ℕ × ℕ) × List ℕ) → List (List ℕ) → Register → (held : List PageAddress) → PageAddress → (busy caching array_busy : Bool) → (queue : List Queued) → (closed failed : Bool) → Die
+die_with g pages registers register held array_page busy caching array_busy queue closed failed =
     record {
       geometry = g;
       pages = pages;
       planes = registers;
       register = register;
+      held = held;
       array_page = array_page;
       busy = busy;
       caching = caching;
@@ -63,14 +65,12 @@ plane_bytes g registers at = slice_index_or registers (at.block % planes g) []
 abbrev pub filled_with : (plane column : ℕ) → List ℕ → Die → Die
 filled_with plane column bytes d = record d { planes = slice_set d.planes plane (written bytes column (slice_index_or d.planes plane [])) }
 
--- what a row is to do: a program takes its bytes from the register of its plane
-abbrev pub work_of : Parts → List (List ℕ) → Queued → ArrayWork
-work_of g registers (Erase at) = ErasesBlock at
-work_of g registers (Program at) = ProgramsPage at (plane_bytes g registers at)
-
+-- what rows are to do: a program takes its bytes from the register of its plane, and a read changes no page
 abbrev pub works_of : Parts → List (List ℕ) → List Queued → List ArrayWork
 works_of g registers [] = []
-works_of g registers (q ∷ queue) = work_of g registers q ∷ works_of g registers queue
+works_of g registers (Erase at ∷ queue) = ErasesBlock at ∷ works_of g registers queue
+works_of g registers (Program at ∷ queue) = ProgramsPage at (plane_bytes g registers at) ∷ works_of g registers queue
+works_of g registers (QueuedRead at ∷ queue) = works_of g registers queue
 
 abbrev pub queued_of : Die → List ArrayWork
 queued_of d = works_of d.geometry d.planes d.queued
@@ -85,6 +85,7 @@ effect_of (w.Program at) = ProgramStarted false at
 effect_of (w.Erase at) = EraseStarted false at
 effect_of (w.Queue (Erase at)) = EraseStarted true at
 effect_of (w.Queue (Program at)) = ProgramStarted true at
+effect_of (w.Queue (QueuedRead at)) = ReadQueued at
 effect_of w.Identifier = IdRead
 effect_of w.Parameters = ParameterPageReadStarted
 effect_of (w.Identity jedec) = IdentityRead jedec
@@ -98,6 +99,7 @@ effect_of w.CacheEnd = CacheReadEnded
 -- the work of an effect on a LUN; None where its die stays as it is or only ends something
 abbrev pub work_begun : Effect → Option Work
 work_begun (ReadStarted at column) = Some (w.Read at)
+work_begun (ReadQueued at) = Some (w.Queue (QueuedRead at))
 work_begun (ProgramStarted queued at) = Some (if queued then w.Queue (Program at) else w.Program at)
 work_begun (EraseStarted queued at) = Some (if queued then w.Queue (Erase at) else w.Erase at)
 work_begun IdRead = Some w.Identifier
@@ -115,6 +117,7 @@ work_begun _ = None
 abbrev pub caching_after : Effect → Bool → Bool
 caching_after (CacheReadContinued _) caching = true
 caching_after (ReadStarted _ _) caching = false
+caching_after (ReadQueued _) caching = false
 caching_after (EraseStarted _ _) caching = false
 caching_after (ProgramStarted _ _) caching = false
 caching_after IdRead caching = false
@@ -138,7 +141,8 @@ pub record IsAfter (e : Effect) (old new : Die) : Type 0 where
   pub geometry : new.geometry ≡ old.geometry
   pub planes : new.planes ≡ old.planes
   pub pages : (p : PageAddress) → page_of new p ≡ content_after old.geometry e (pending_of old) p (page_of old p)
-  pub register : new.register ≡ register_after e old.array_page old.register
+  pub register : new.register ≡ register_after e old.array_page old.queued old.held old.register
+  pub held : new.held ≡ held_after e old.array_page old.queued old.held
   pub array_page : new.array_page ≡ array_page_after e old.array_page
   pub busy : new.busy ≡ busy_after e old.busy
   pub caching : new.caching ≡ caching_after e old.caching
@@ -155,10 +159,14 @@ status_of d = if d.busy then 0x80 else (if d.array_busy then 0xc0 else (if d.fai
 abbrev pub bytes_shown : Die → List ℕ
 bytes_shown d = register_bytes (parameter_bytes d.geometry) (page_of d) d.register
 
--- nothing is going on, waits or has failed
+abbrev pub are_none : List PageAddress → Bool
+are_none [] = true
+are_none (p ∷ held) = false
+
+-- nothing is going on, waits, is held or has failed
 abbrev pub is_new : Die → Bool
 is_new d =
-    not d.busy && (not d.array_busy && (not d.caching && (is_empty d.register && (not (has_some d.queued) && (not (has_some d.pending) && not d.failed)))))
+    not d.busy && (not d.array_busy && (not d.caching && (is_empty d.register && (are_none d.held && (not (has_some d.queued) && (not (has_some d.pending) && not d.failed))))))
 
 abbrev pub row_of_work : Work → Option PageAddress
 row_of_work (w.Read at) = Some at
@@ -166,6 +174,7 @@ row_of_work (w.Program at) = Some at
 row_of_work (w.Erase at) = Some at
 row_of_work (w.Queue (Erase at)) = Some at
 row_of_work (w.Queue (Program at)) = Some at
+row_of_work (w.Queue (QueuedRead at)) = Some at
 row_of_work _ = None
 
 abbrev pub is_row_of : Parts → Option PageAddress → Bool
@@ -178,6 +187,7 @@ goes_with g (w.Program at) queue = not (some_queued_clashes g false at queue)
 goes_with g (w.Erase at) queue = not (some_queued_clashes g true at queue)
 goes_with g (w.Queue (Erase at)) queue = not (some_queued_clashes g true at queue)
 goes_with g (w.Queue (Program at)) queue = not (some_queued_clashes g false at queue)
+goes_with g (w.Queue (QueuedRead at)) queue = not (some_read_clashes g at queue)
 goes_with g _ queue = true
 
 abbrev pub is_reset : Work → Bool
@@ -197,6 +207,7 @@ abbrev pub queue_with : Work → List Queued → List Queued
 queue_with (w.Program at) queue = Program at ∷ queue
 queue_with (w.Erase at) queue = Erase at ∷ queue
 queue_with (w.Queue q) queue = q ∷ queue
+queue_with (w.Read at) queue = []
 queue_with w.Reset queue = []
 queue_with _ queue = queue
 
@@ -221,10 +232,12 @@ abbrev pub AreKept : List ((ℕ × ℕ) × List ℕ) → List Queued → Type 0
 AreKept pages [] = Unit {0}
 AreKept pages (Erase at ∷ queue) = AreKept pages queue
 AreKept pages (Program at ∷ queue) = IsSome (kept pages at) × AreKept pages queue
+AreKept pages (QueuedRead at ∷ queue) = AreKept pages queue
 
 abbrev pub is_erase : Queued → Bool
 is_erase (Erase at) = true
 is_erase (Program at) = false
+is_erase (QueuedRead at) = false
 
 -- each is an erase, or none is
 abbrev pub are_erases : List Queued → Bool
@@ -234,6 +247,13 @@ are_erases (q ∷ queue) = is_erase q && are_erases queue
 abbrev pub are_programs : List Queued → Bool
 are_programs [] = true
 are_programs (q ∷ queue) = not (is_erase q) && are_programs queue
+
+-- some row changes pages
+abbrev pub has_work : List Queued → Bool
+has_work [] = false
+has_work (Erase at ∷ queue) = true
+has_work (Program at ∷ queue) = true
+has_work (QueuedRead at ∷ queue) = has_work queue
 
 -- kept pages lie inside the geometry, and have the length of a page; so has the register of each plane
 pub record HasRows (g : Parts) (pages : List ((ℕ × ℕ) × List ℕ)) (registers : List (List ℕ)) : Type 0 where
@@ -250,18 +270,19 @@ pub record IsDie (g : Parts) (parameters : List ℕ) (pages : List ((ℕ × ℕ)
   pub there : AreKept pages queue
   pub alike : are_erases queue || are_programs queue ≡ true
   pub works : closed ≡ true → busy ≡ true
-  pub some : closed ≡ true → has_some queue ≡ true
+  pub some : closed ≡ true → has_work queue ≡ true
 
--- while its register holds a page the bytes of that page stand ready, and works that wait for their end leave no page in it
-pub record ShowsPage (g : Parts) (pages : List ((ℕ × ℕ) × List ℕ)) (register : Register) (output : List ℕ) (closed : Bool) : Type 0 where
+-- while its register holds a page the bytes of that page stand ready, and works that wait for their end leave no page in it, or held
+pub record ShowsPage (g : Parts) (pages : List ((ℕ × ℕ) × List ℕ)) (register : Register) (held : List PageAddress) (output : List ℕ) (closed : Bool) : Type 0 where
   pub page : (at : PageAddress) → register ≡ Page at → output ≡ page_in (page_len g) pages at
   pub width : length output ≡ page_len g
   pub ends : closed ≡ true → register ≡ Empty
+  pub frees : closed ≡ true → held ≡ []
 
 -- what is true of every die, and of the bytes that stand ready
-pub record KeepsDie (g : Parts) (parameters : List ℕ) (pages : List ((ℕ × ℕ) × List ℕ)) (registers : List (List ℕ)) (queue : List Queued) (closed busy : Bool) (register : Register) (output : List ℕ) : Type 0 where
+pub record KeepsDie (g : Parts) (parameters : List ℕ) (pages : List ((ℕ × ℕ) × List ℕ)) (registers : List (List ℕ)) (queue : List Queued) (closed busy : Bool) (register : Register) (held : List PageAddress) (output : List ℕ) : Type 0 where
   pub die : IsDie g parameters pages registers queue closed busy
-  pub shows : ShowsPage g pages register output closed
+  pub shows : ShowsPage g pages register held output closed
 
 -- a die fresh from the factory: every byte of every page and register is FF
 abbrev pub new_die : Parts → Die
@@ -271,6 +292,7 @@ new_die g =
       pages = [];
       planes = replicate (planes g) (replicate (page_len g) 0xff);
       register = Empty;
+      held = [];
       array_page = record { block = 0; page = 0 };
       busy = false;
       caching = false;

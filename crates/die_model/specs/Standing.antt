@@ -12,8 +12,8 @@ use Rattle.onfi_cycle.specs.declared.effect.Effect.TheVariants.{BecameReady, Arr
 use Rattle.die_model.specs.declared.work.Work.{Work}
 use Rattle.onfi_cycle.specs.Sequence.{tail, facts_of, filled, row}
 use Rattle.onfi_cycle.specs.Bounds.{names_program, RowFits}
-use Rattle.onfi_cycle.specs.Effect.{names_lun, page_address}
-use Rattle.onfi_cycle.specs.Lun.{effect_on, is_busy, is_caching, is_array_busy, array_page, register, queue, lun_view}
+use Rattle.onfi_cycle.specs.Effect.{names_lun, page_address, HasPlanes}
+use Rattle.onfi_cycle.specs.Lun.{effect_on, is_busy, is_caching, is_array_busy, array_page, register, held, queue, lun_view}
 use Rattle.onfi_cycle.specs.Content.{queued_work, pending_work, has_failed, content, status, register_bytes}
 use Rattle.onfi_cycle.specs.Permitted.{broken}
 use Rattle.onfi_cycle.specs.Channel.{Channel}
@@ -35,6 +35,7 @@ pub record IsDieOf (s : Channel) (past : List Item) (l : Lun) (d : Die) : Type 0
   pub geometry : d.geometry ≡ s.geometry
   pub pages : (p : PageAddress) → page_of d p ≡ content s.geometry s.opening past l p
   pub register : d.register ≡ register s.geometry past l
+  pub held : d.held ≡ held s.geometry past l
   pub array_page : d.array_page ≡ array_page s.geometry past l
   pub busy : d.busy ≡ is_busy s.geometry past l
   pub caching : d.caching ≡ is_caching s.geometry past l
@@ -64,7 +65,7 @@ is_no_ready e = true
 
 -- what a caller of `work` sees to
 abbrev pub CanWork : Filling → Effect → Die → Type 0
-CanWork Leaves e d = CanBeginSome (work_begun e) d × (is_no_ready e ≡ true)
+CanWork Leaves e d = CanBeginSome (work_begun e) d × (is_no_ready e ≡ true) × HasPlanes e
 CanWork (Clears at) e d = Unit {0}
 CanWork (Fills at column byte) e d = column < page_len d.geometry
 

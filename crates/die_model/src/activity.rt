@@ -1,16 +1,18 @@
 //! What a LUN does, and what its register holds.
 ghost use Rattle.std.specs.Prelude.{◌≡◌, ◌^◌, ◌<◌, ◌&&◌, if◌then◌else◌, false, [], length};
 ghost use Rattle.onfi_cycle.specs.declared.effect.Effect.TheVariants.{BecameReady};
-ghost use Rattle.onfi_cycle.specs.Lun.{busy_after, array_busy_after, array_page_after, register_after};
+ghost use Rattle.onfi_cycle.specs.Lun.{busy_after, array_busy_after, array_page_after, register_after, held_after};
 ghost use Rattle.die_model.specs.Die.{effect_of, caching_after, queue_with, closes, is_reset};
 
 use crate::work::Work;
-use onfi_cycle::{Effect, PageAddress, Register, RowQueue};
+use onfi_cycle::{Effect, HeldPages, PageAddress, Register, RowQueue, apply_to_held};
 
 /// What a LUN does, and what its register holds.
 #[derive(Drop)]
 pub(crate) struct Activity {
     pub(crate) register: Register,
+    /// The pages that the plane registers hold.
+    pub(crate) held: HeldPages,
     /// The page that its array was last told to read.
     pub(crate) array_page: PageAddress,
     pub(crate) busy: bool,
@@ -31,6 +33,7 @@ fn caching_after(effect: Effect, before: bool) -> bool
     match effect {
         Effect::CacheReadContinued { .. } => true,
         Effect::ReadStarted { .. }
+        | Effect::ReadQueued { .. }
         | Effect::EraseStarted { .. }
         | Effect::ProgramStarted { .. }
         | Effect::IdRead
@@ -48,10 +51,14 @@ fn caching_after(effect: Effect, before: bool) -> bool
 
 impl Activity {
     /// What goes on once a work has begun.
+    #[tactic(auto, using(crate::proofs::Begun::work_has_planes))]
     pub(crate) fn begin(&mut self, work: Work)
         requires room { is_reset work ≡ false → length self.old.queue.items < 16 }
         requires next { self.old.array_page.page < 2 ^ 32 }
-        ensures register { self.new.register ≡ register_after (effect_of work) self.old.array_page self.old.register }
+        ensures register { self.new.register
+            ≡ register_after (effect_of work) self.old.array_page self.old.queue.items self.old.held.items self.old.register }
+        ensures held { self.new.held.items
+            ≡ held_after (effect_of work) self.old.array_page self.old.queue.items self.old.held.items }
         ensures array_page { self.new.array_page ≡ array_page_after (effect_of work) self.old.array_page }
         ensures busy { self.new.busy ≡ busy_after (effect_of work) self.old.busy }
         ensures caching { self.new.caching ≡ caching_after (effect_of work) self.old.caching }
@@ -64,7 +71,18 @@ impl Activity {
         let effect = work.effect();
         self.array_busy = effect.array_busy_after(self.busy, self.caching, self.array_busy);
         self.caching = caching_after(effect, self.caching);
-        self.register = effect.register_after(self.array_page, self.register);
+        self.register = effect.register_after(
+            self.array_page,
+            self.queue.as_slice(),
+            self.held.as_slice(),
+            self.register,
+        );
+        apply_to_held(
+            &mut self.held,
+            effect,
+            self.array_page,
+            self.queue.as_slice(),
+        );
         self.array_page = effect.array_page_after(self.array_page);
         self.busy = effect.busy_after(self.busy);
         self.closed = work.join(&mut self.queue);
@@ -73,6 +91,7 @@ impl Activity {
     /// What goes on once the LUN has become ready, with failure or without. A queue that was closed is over.
     pub(crate) fn finish(&mut self, fail: bool)
         ensures register { self.new.register ≡ self.old.register }
+        ensures held { self.new.held ≡ self.old.held }
         ensures array_page { self.new.array_page ≡ self.old.array_page }
         ensures busy { self.new.busy ≡ false }
         ensures caching { self.new.caching ≡ self.old.caching }

@@ -4,9 +4,9 @@ ghost use Rattle.nand_geometry.specs.Limits.{InLimits, page_len, planes};
 ghost use Rattle.onfi_cycle.specs.declared.page_address.PageAddress.{PageAddress as At};
 ghost use Rattle.onfi_cycle.specs.declared.queued.Queued.{Queued as Row};
 ghost use Rattle.onfi_cycle.specs.declared.effect.Effect.TheVariants.{BecameReady};
-ghost use Rattle.onfi_cycle.specs.Content.{content_after, left_by, left_by_all};
+ghost use Rattle.onfi_cycle.specs.Content.{content_after, left_by_all};
 ghost use Rattle.die_model.specs.Pages.{kept, page_in};
-ghost use Rattle.die_model.specs.Die.{work_of, works_of, AreKept, is_erase, are_erases, are_programs, HasRows};
+ghost use Rattle.die_model.specs.Die.{works_of, AreKept, is_erase, are_erases, are_programs, HasRows};
 
 use crate::activity::Activity;
 use crate::page::Page;
@@ -40,7 +40,7 @@ fn take_one<A: Allocator + Copy>(
     requires limits { InLimits parts }
     requires there { AreKept pages.old (row ∷ []) }
     ensures pages { (p : At) → page_in (page_len parts) pages.new p
-        ≡ left_by (page_len parts) (work_of parts planes.now row) p (page_in (page_len parts) pages.old p) }
+        ≡ left_by_all (page_len parts) (works_of parts planes.now (row ∷ [])) p (page_in (page_len parts) pages.old p) }
     ensures rows { HasRows parts pages.new planes.now }
     ensures still { is_erase row ≡ false → (queue : List Row) → AreKept pages.old queue → AreKept pages.new queue }
 {
@@ -50,6 +50,7 @@ fn take_one<A: Allocator + Copy>(
             let plane = plane_of(parts, at);
             pages.program(at, planes[plane].bytes());
         }
+        Queued::Read(_) => {}
     }
 }
 

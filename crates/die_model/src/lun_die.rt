@@ -1,7 +1,8 @@
 //! One LUN of a die: its pages, its registers, and what its array does.
 ghost use Rattle.std.specs.Prelude.{◌≡◌, ℕ, ◌+◌, ◌%◌, ◌<◌, ◌≤◌, true, false, List, [], ◌∷◌, Some, None, IsOk, slice_set, slice_index_or, if◌then◌else◌, IfOk, OnErr, length, take, drop, slice_get, replicate};
 ghost use Rattle.nand_geometry.specs.Limits.{page_len, planes};
-ghost use Rattle.onfi_cycle.specs.declared.effect.Effect.TheVariants.{BecameReady, ArrayBecameReady};
+ghost use Rattle.onfi_cycle.specs.declared.effect.Effect.TheVariants.{BecameReady, ArrayBecameReady, PlaneSelected};
+ghost use Rattle.onfi_cycle.specs.declared.filling.Filling.TheVariants.{Leaves};
 ghost use Rattle.die_model.specs.Standing.{WorkedBy, CanWork};
 ghost use Rattle.nand_geometry.specs.Page.{parameter_bytes};
 ghost use Rattle.onfi_cycle.specs.declared.page_address.PageAddress.{PageAddress as At};
@@ -45,9 +46,9 @@ impl<A: Allocator> Model for LunDie<A> {
 
     ghost Value = { Die };
 
-    ghost view = { λ d. die_with d.geometry d.pages d.planes.items d.activity.register d.activity.array_page d.activity.busy d.activity.caching d.activity.array_busy d.activity.queue.items d.activity.closed d.activity.failed };
+    ghost view = { λ d. die_with d.geometry d.pages d.planes.items d.activity.register d.activity.held.items d.activity.array_page d.activity.busy d.activity.caching d.activity.array_busy d.activity.queue.items d.activity.closed d.activity.failed };
 
-    ghost invariant = { λ d. KeepsDie d.geometry d.parameters.items d.pages d.planes.items d.activity.queue.items d.activity.closed d.activity.busy d.activity.register d.output };
+    ghost invariant = { λ d. KeepsDie d.geometry d.parameters.items d.pages d.planes.items d.activity.queue.items d.activity.closed d.activity.busy d.activity.register d.activity.held.items d.output };
 }
 
 /// How many copies of the parameter page its register holds.
@@ -134,6 +135,7 @@ impl<A: Allocator + Copy> LunDie<A> {
             output: Page::blank(alloc, len)?,
             activity: Activity {
                 register: Register::Empty,
+                held: ArrayVec::new(),
                 array_page: PageAddress { block: 0, page: 0 },
                 busy: false,
                 caching: false,
@@ -248,7 +250,7 @@ impl<A: Allocator + Copy> LunDie<A> {
         }
     }
 
-    /// Nothing is going on, waits or has failed.
+    /// Nothing is going on, waits, is held or has failed.
     pub fn is_new(&self) -> bool
         ensures { result ≡ is_new self.now }
     {
@@ -256,6 +258,7 @@ impl<A: Allocator + Copy> LunDie<A> {
             && !self.activity.array_busy
             && !self.activity.caching
             && self.activity.register == Register::Empty
+            && self.activity.held.is_empty()
             && self.activity.queue.is_empty()
             && !self.activity.failed
     }
@@ -288,7 +291,26 @@ impl<A: Allocator + Copy> LunDie<A> {
         Ok(())
     }
 
-    /// The rows that are queued for the next program or erase.
+    // Its register becomes the page that it holds in this plane, of so many.
+    fn select_plane(&mut self, plane: u32, planes: u32, column: u32)
+        requires { 0 < planes }
+        ensures { IsAfter (PlaneSelected plane planes column) self.old self.new }
+    {
+        let effect = Effect::PlaneSelected {
+            plane,
+            planes,
+            column,
+        };
+        self.activity.register = effect.register_after(
+            self.activity.array_page,
+            self.activity.queue.as_slice(),
+            self.activity.held.as_slice(),
+            self.activity.register,
+        );
+        fetch(&mut self.output, &self.pages, self.activity.register);
+    }
+
+    /// The rows that are queued for the next read, program or erase.
     pub fn queued(&self) -> &[Queued]
         ensures { result.now ≡ self.now.queued }
     {
@@ -370,6 +392,28 @@ impl<A: Allocator + Copy> LunDie<A> {
         register.set_all(column, bytes);
     }
 
+    // Goes on by an effect, if that is no ready.
+    fn take(&mut self, effect: Effect) -> Result<(), AllocError>
+        requires { CanWork Leaves effect self.old }
+        ensures ok { IfOk result (λ _. IsAfter effect self.old self.new) }
+        ensures err { OnErr result (self.new ≡ self.old) }
+        ensures memory { is_program effect ≡ false → IsOk result }
+    {
+        if let Effect::PlaneSelected {
+            plane,
+            planes,
+            column,
+        } = effect
+        {
+            self.select_plane(plane, planes, column);
+            return Ok(());
+        }
+        match Work::begun_by(effect) {
+            None => Ok(()),
+            Some(work) => self.begin(work),
+        }
+    }
+
     /// Works what an item does, if that is no ready. Without memory for it all stays as it was.
     pub fn work(&mut self, filling: Filling, effect: Effect) -> Result<(), AllocError>
         requires { CanWork filling effect self.old }
@@ -378,10 +422,7 @@ impl<A: Allocator + Copy> LunDie<A> {
         ensures memory { is_program effect ≡ false → IsOk result }
     {
         match filling {
-            Filling::Leaves => match Work::begun_by(effect) {
-                None => Ok(()),
-                Some(work) => self.begin(work),
-            },
+            Filling::Leaves => self.take(effect),
             Filling::Clears(at) => {
                 self.clear(plane_of(self.geometry().parts(), at));
                 Ok(())

@@ -7,7 +7,7 @@ use onfi_cycle::{Effect, PageAddress, Queued, RowQueue};
 /// What an array is told to do.
 #[derive(Clone, Copy, Debug, PartialEq, Eq)]
 pub enum Work {
-    /// A page is read into the register.
+    /// A page is read into the register, and those of the queue with it.
     Read(PageAddress),
     /// The register of its plane goes into a page, and the queue with it.
     Program(PageAddress),
@@ -42,6 +42,7 @@ impl Work {
     {
         match effect {
             Effect::ReadStarted { page, .. } => Some(Work::Read(page)),
+            Effect::ReadQueued { page } => Some(Work::Queue(Queued::Read(page))),
             Effect::ProgramStarted {
                 queued: false,
                 page,
@@ -77,6 +78,7 @@ impl Work {
             Work::Erase(row) => Effect::EraseStarted { queued: false, row },
             Work::Queue(Queued::Erase(row)) => Effect::EraseStarted { queued: true, row },
             Work::Queue(Queued::Program(page)) => Effect::ProgramStarted { queued: true, page },
+            Work::Queue(Queued::Read(page)) => Effect::ReadQueued { page },
             Work::Identifier => Effect::IdRead,
             Work::Parameters => Effect::ParameterPageReadStarted,
             Work::Identity { jedec } => Effect::IdentityRead { jedec },
@@ -118,7 +120,7 @@ impl Work {
                 queue.insert(0, row);
                 false
             }
-            Work::Reset => {
+            Work::Read(_) | Work::Reset => {
                 queue.clear();
                 false
             }

@@ -5,11 +5,11 @@ use Rattle.std.proofs.lemmas.Bool.{and_parts, or_parts}
 use Rattle.nand_geometry.specs.declared.parts.Parts.{Parts}
 use Rattle.nand_geometry.specs.Limits.{indices}
 use Rattle.onfi_cycle.specs.declared.command.Command.{Command}
-use Rattle.onfi_cycle.specs.declared.command.Command.TheVariants.{Read, ReadConfirm, ChangeReadColumn, ChangeReadColumnEnhanced, ChangeReadColumnConfirm, BlockErase, BlockEraseConfirm, PageProgram, ChangeWriteColumn, ProgramConfirm, BlockErasePlane, ProgramPlane, Reset, ReadId, ReadParameterPage, ReadCacheSequential, ReadCacheEnd, ReadUniqueId, GetFeatures, SetFeatures, ResetLun, SynchronousReset, ReadStatus as AskStatus, ReadStatusEnhanced}
+use Rattle.onfi_cycle.specs.declared.command.Command.TheVariants.{Read, ReadConfirm, ChangeReadColumn, ChangeReadColumnEnhanced, ChangeReadColumnConfirm, BlockErase, BlockEraseConfirm, PageProgram, ChangeWriteColumn, ProgramConfirm, BlockErasePlane, ProgramPlane, Reset, ReadId, ReadParameterPage, ReadCacheSequential, ReadCacheEnd, ReadUniqueId, GetFeatures, SetFeatures, ResetLun, SynchronousReset, ReadStatus as AskStatus, ReadStatusEnhanced, ReadPlane}
 use Rattle.onfi_cycle.specs.declared.item.Item.{Item}
 use Rattle.onfi_cycle.specs.Command.{command, wants_one_lun}
 use Rattle.onfi_cycle.specs.Sequence.{tail, facts_of, is_open}
-use Rattle.onfi_cycle.specs.Lun.{closer, is_cache_read, lun_view}
+use Rattle.onfi_cycle.specs.Lun.{closer, is_cache_read, has_reads, lun_view}
 use Rattle.onfi_cycle.specs.Channel.{Channel, IsIdle, is_open_on}
 use Rattle.micro_word.specs.declared.word.Word.{Word}
 use Rattle.micro_word.specs.declared.word.Word.TheVariants.{End, Command as CommandWord, Address, Get, Put, Seek, Column, RowAdd, Row, Plane, Wait, Yield, ReadStatus, BranchOnStatus, Loop, Next, Jump}
@@ -99,6 +99,7 @@ which g SynchronousReset h = IsFC refl
 which g AskStatus h = absurd (asked (is_unfit g AskStatus) (is_for_traces AskStatus) (wants_one_lun AskStatus && ltb 1 g.luns) h)
 which g ReadStatusEnhanced h = absurd (asked (is_unfit g ReadStatusEnhanced) (is_for_traces ReadStatusEnhanced) (wants_one_lun ReadStatusEnhanced && ltb 1 g.luns) h)
 which g ChangeReadColumnEnhanced h = absurd (traced (is_unfit g ChangeReadColumnEnhanced || asks_status ChangeReadColumnEnhanced) (wants_one_lun ChangeReadColumnEnhanced && ltb 1 g.luns) h)
+which g ReadPlane h = absurd (traced (is_unfit g ReadPlane || asks_status ReadPlane) (wants_one_lun ReadPlane && ltb 1 g.luns) h)
 which g _ h = cc
 
 taken_command : (g : Parts) (text : Microprogram) (v : State) (byte : ℕ) → NoReasons g text v (CommandWord byte) → Taken (command byte)
@@ -274,7 +275,7 @@ first_fits s j past idle accepted =
         tail = λ e. record { place = Closed; here = refl; address = no_address; is = open_not (ltb 1 s.geometry.luns) (is_open (facts_of (tail past j.lun.ce))) e; now = λ x. cc; column = λ x. cc; row = λ x. cc; named = λ x. cc; single = λ x. cc };
         free = λ e. record { tail = refl; shows = refl; unread = refl };
         shows = tt;
-        lun = record { ready = λ e. idle.ready; register = tt; column = tt; queue = idle.no_queue; last = other_there (closer s.geometry past j.lun) idle.no_cache; cached = λ base e. cc };
+        lun = record { ready = λ e. idle.ready; register = tt; column = tt; queue = idle.no_queue; last = other_there (closer s.geometry past j.lun) idle.no_cache; cached = λ base e. cc; no_reads = ap has_reads idle.no_queue; held = λ e. cc };
       };
       accepted = accepted;
     }

@@ -1,5 +1,5 @@
 -- Commands are sound: of each, what the claim allows, and what it leaves.
-use Rattle.std.proofs.Common.{◌≡◌, ℕ, ◌+◌, ◌%◌, ◌==◌, Bool, true, false, ◌&&◌, ◌||◌, cond, not, ltb, List, [], ◌∷◌, Option, Some, None, refl, sym, ap, ◌∙◌, subst, arith, eq-eqb}
+use Rattle.std.proofs.Common.{◌≡◌, ℕ, ◌+◌, ◌%◌, ◌==◌, Bool, true, false, ◌&&◌, ◌||◌, cond, not, ltb, nat_le, List, [], ◌∷◌, Option, Some, None, refl, sym, ap, ◌∙◌, subst, arith, eq-eqb, length, take}
 use Rattle.std.proofs.lemmas.Bool.{not-false, not-true, and_parts, or_parts}
 use Rattle.std.proofs.Math.Bool.{or-true}
 use Rattle.nand_geometry.specs.declared.parts.Parts.{Parts}
@@ -15,6 +15,9 @@ use Rattle.onfi_cycle.specs.declared.latch.Latch.{Latch}
 use Rattle.onfi_cycle.specs.declared.latch.Latch.TheVariants.{Off, Status, Data}
 use Rattle.onfi_cycle.specs.declared.effect.Effect.{Effect}
 use Rattle.onfi_cycle.specs.declared.effect.Effect.TheVariants.{Unaffected, ReadStarted, EraseStarted, ProgramStarted, ReadColumnChanged}
+use Rattle.onfi_cycle.specs.declared.page_address.PageAddress.{PageAddress}
+use Rattle.onfi_cycle.specs.declared.queued.Queued.{Queued}
+use Rattle.onfi_cycle.specs.declared.queued.Queued.TheVariants.{Erase, Program, Read as QueuedRead}
 use Rattle.onfi_cycle.specs.declared.register.Register.{Register}
 use Rattle.onfi_cycle.specs.declared.register.Register.TheVariants.{Empty, Page, ParameterPage, Identifier, Identity, JedecIdentity, UniqueId, Features}
 use Rattle.onfi_cycle.specs.declared.tail_facts.TailFacts.{TailFacts}
@@ -23,7 +26,7 @@ use Rattle.onfi_cycle.specs.LunView.{LunView}
 use Rattle.onfi_cycle.specs.Command.{command, is_opener, closes, address_cycles}
 use Rattle.onfi_cycle.specs.Sequence.{facts_after, is_open, selects_plane, wants_command, row, takes_data, input_column}
 use Rattle.onfi_cycle.specs.Effect.{is_off, is_data, names_lun, page_address, cycle_effect}
-use Rattle.onfi_cycle.specs.Lun.{resumed, column_at, view_after, is_cache_read}
+use Rattle.onfi_cycle.specs.Lun.{resumed, column_at, view_after, is_cache_read, has_reads, pages_of_reads}
 use Rattle.onfi_cycle.specs.Rules.{may_change_column, is_page_or_parameters}
 use Rattle.onfi_cycle.specs.Channel.{Channel}
 use Rattle.micro_word.specs.declared.word.Word.TheVariants.{Command as CommandWord}
@@ -68,7 +71,7 @@ command_sound s j k v past c done rest at byte d is scene f clear allowed same t
 
 -- another latch
 relatched : (g : Parts) (j : Job) (v : KnownLun) (i : ℕ) (view : LunView) (x : Latch) → LunFits g j v i view → LunFits g j v i (record view { latch = x })
-relatched g j v i view x f = record { ready = f.ready; register = f.register; column = f.column; queue = f.queue; last = f.last; cached = f.cached }
+relatched g j v i view x f = record { ready = f.ready; register = f.register; column = f.column; queue = f.queue; last = f.last; cached = f.cached; no_reads = f.no_reads; held = f.held }
 
 -- what shows is kept with the latch
 pub shows_kept : (o : Option Shown) (c d : Scene) → (c.sole ≡ true → d.sole ≡ true) → d.view.latch ≡ c.view.latch → ShowsFit o c → ShowsFit o d
@@ -189,7 +192,7 @@ wanted g text v byte d is fit closer clear =
 
 -- work that leaves no register, and an empty queue
 started_fits : (g : Parts) (j : Job) (v : State) (i : ℕ) (view : LunView) → view.queue ≡ [] → closer_among other_closer view.closer ≡ true → LunFits g j (work_started NoRows v).lun i view
-started_fits g j v i view queue last = record { ready = λ e. cc; register = tt; column = tt; queue = queue; last = last; cached = λ e f. cc }
+started_fits g j v i view queue last = record { ready = λ e. cc; register = tt; column = tt; queue = queue; last = last; cached = λ e f. cc; no_reads = ap has_reads queue; held = λ e. cc }
 
 -- D0h
 pub sound_d0 : (s : Channel) (j : Job) (k : KnownJob s j) (v : State) (past : List Item) (c : Scene) (done : List Done) (rest : List Line) (at byte : ℕ) → command byte ≡ BlockEraseConfirm → IsScene s j.lun past c → Fits s.geometry j v done c true → NoReasons s.geometry j.text v (CommandWord byte) → accepts s.geometry (bounds_of j.text) None (state_after s.geometry v (CommandWord byte)) rest ≡ true → SoundWord s j past done rest at (CommandWord byte)
@@ -266,6 +269,16 @@ reads_alone : (wide : Bool) (w : LastCloser) (o : Option Command) → closer_amo
 reads_alone true w o h e = not_caching w o h e
 reads_alone false w o h e = refl
 
+-- a 30 behind which no read was queued leaves one page
+pub one_held : (p : PageAddress) (q : List Queued) → has_reads q ≡ false → nat_le (length (take 4 (p ∷ pages_of_reads q))) 1 ≡ true
+one_held p q none = rw (no_pages q none) refl
+  where
+    no_pages : (q : List Queued) → has_reads q ≡ false → pages_of_reads q ≡ []
+    no_pages [] h = refl
+    no_pages (Erase a ∷ q) h = no_pages q h
+    no_pages (Program a ∷ q) h = no_pages q h
+    no_pages (QueuedRead a ∷ q) h = cc
+
 pub sound_30 : (s : Channel) (j : Job) (k : KnownJob s j) (v : State) (past : List Item) (c : Scene) (done : List Done) (rest : List Line) (at byte : ℕ) → command byte ≡ ReadConfirm → IsScene s j.lun past c → Fits s.geometry j v done c true → NoReasons s.geometry j.text v (CommandWord byte) → accepts s.geometry (bounds_of j.text) None (state_after s.geometry v (CommandWord byte)) rest ≡ true → SoundWord s j past done rest at (CommandWord byte)
 sound_30 s j k v past c done rest at byte is scene f clear acc =
     let g = s.geometry in
@@ -282,11 +295,13 @@ sound_30 s j k v past c done rest at byte is scene f clear acc =
     (subst (λ (e : Effect). LunFits g j (read_started g v).lun (index_now j.base done) (view_after e c.view)) (sym effect)
     (record {
       ready = λ e. cc;
-      register = refl;
+      register = rw f.lun.no_reads refl;
       column = read_column_fits v.target.column c.facts (ap (λ (t : TailFacts). t.inputs) w.facts) (w.column refl);
-      queue = f.lun.queue;
+      queue = refl;
       last = refl;
       cached = λ base e. subst (λ (n : ℕ). Below n (cached_at v.target.named).page.hi) (sym page_is) (page_below g j w.address (index_now j.base done) v.target.named (w.named refl) base);
+      no_reads = refl;
+      held = λ e. one_held (page_address g (row c.facts)) c.view.queue f.lun.no_reads;
     }))
     acc
 
@@ -313,7 +328,7 @@ sound_e0 s j k v past c done rest at byte is scene f clear acc =
     (closed_fits g j None None v.target.shows (now_of j done) _ (ap (λ (t : TailFacts). is_open (facts_after (CommandCycle ChangeReadColumnConfirm) t)) w.facts))
     (shows_kept v.target.shows c (scene_behind g j.lun.lun (CommandCycle ChangeReadColumnConfirm) c) (λ e. e) (ap (λ (e : Effect). (view_after e c.view).latch) effect) f.shows)
     (subst (λ (e : Effect). LunFits g j (record v.lun { column = given_at v.target.column }) (index_now j.base done) (view_after e c.view)) (sym effect)
-    (record { ready = f.lun.ready; register = f.lun.register; column = read_column_fits v.target.column c.facts (ap (λ (t : TailFacts). t.inputs) w.facts) (w.column refl); queue = f.lun.queue; last = f.lun.last; cached = f.lun.cached }))
+    (record { ready = f.lun.ready; register = f.lun.register; column = read_column_fits v.target.column c.facts (ap (λ (t : TailFacts). t.inputs) w.facts) (w.column refl); queue = f.lun.queue; last = f.lun.last; cached = f.lun.cached; no_reads = f.lun.no_reads; held = f.lun.held }))
     acc
 
 -- 85h

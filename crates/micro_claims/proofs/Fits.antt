@@ -1,5 +1,5 @@
 -- What a claim says of a program: of its words done, and of the scene of its LUN.
-use Rattle.std.proofs.Common.{◌≡◌, ℕ, ◌+◌, ◌/◌, ◌%◌, ◌≤◌, ◌<◌, ◌==◌, Bool, true, false, ◌&&◌, cond, not, ltb, nat_le, List, [], ◌∷◌, Option, Some, None, take, drop}
+use Rattle.std.proofs.Common.{◌≡◌, ℕ, ◌+◌, ◌/◌, ◌%◌, ◌≤◌, ◌<◌, ◌==◌, Bool, true, false, ◌&&◌, cond, not, ltb, nat_le, List, [], ◌∷◌, Option, Some, None, take, drop, length}
 use Rattle.nand_geometry.specs.declared.parts.Parts.{Parts}
 use Rattle.nand_geometry.specs.Limits.{planes}
 use Rattle.nand_geometry.specs.Row.{row_of, parts_of, indexed, row_bytes_of, is_inside}
@@ -10,7 +10,7 @@ use Rattle.onfi_cycle.specs.declared.data_phase.DataPhase.TheVariants.{Inputs, F
 use Rattle.onfi_cycle.specs.declared.latch.Latch.{Latch}
 use Rattle.onfi_cycle.specs.declared.latch.Latch.TheVariants.{Off, Status, Data}
 use Rattle.onfi_cycle.specs.declared.queued.Queued.{Queued}
-use Rattle.onfi_cycle.specs.declared.queued.Queued.TheVariants.{Erase, Program}
+use Rattle.onfi_cycle.specs.declared.queued.Queued.TheVariants.{Erase, Program, Read as QueuedRead}
 use Rattle.onfi_cycle.specs.declared.page_address.PageAddress.{PageAddress}
 use Rattle.onfi_cycle.specs.declared.read_column.ReadColumn.{ReadColumn}
 use Rattle.onfi_cycle.specs.declared.register.Register.{Register}
@@ -19,7 +19,7 @@ use Rattle.onfi_cycle.specs.declared.tail_facts.TailFacts.{TailFacts}
 use Rattle.onfi_cycle.specs.declared.target_cycle.TargetCycle.TheVariants.{CommandCycle, AddressCycle}
 use Rattle.onfi_cycle.specs.LunView.{LunView}
 use Rattle.onfi_cycle.specs.Sequence.{facts_of, facts_after, is_open, input_column}
-use Rattle.onfi_cycle.specs.Lun.{output_column}
+use Rattle.onfi_cycle.specs.Lun.{output_column, has_reads}
 use Rattle.micro_claims.specs.Spans.{Span}
 use Rattle.micro_claims.specs.Planes.{Planes, has_plane}
 use Rattle.micro_claims.specs.State.{State, Registers, KnownTarget, KnownLun, PageRange, Place, Closed, After, InData, InColumn, InFeatures, Unknown, Drift, NamedRow, Shown, Held, OutputColumn, QueuedRows, NoRows, SomeRows, AnyRows, LastCloser, shows_status, shows_register, holds_page, holds_parameters, holds_identifier, holds_identity, holds_jedec, holds_unique_id, holds_feature, may_be_30, may_be_31, may_be_other}
@@ -251,10 +251,12 @@ OutputColumnFits (Some k) c = OutputFits k c
 abbrev pub is_of_kind : Bool → Queued → Bool
 is_of_kind erase (Erase p) = erase
 is_of_kind erase (Program p) = not erase
+is_of_kind erase (QueuedRead p) = false
 
 abbrev pub page_of : Queued → PageAddress
 page_of (Erase p) = p
 page_of (Program p) = p
+page_of (QueuedRead p) = p
 
 pub record RowFits (g : Parts) (now : ℕ) (erase : Bool) (queued : Planes) (d : Drift) (q : Queued) : Type 0 where
   pub kind : is_of_kind erase q ≡ true
@@ -291,6 +293,9 @@ pub record LunFits (g : Parts) (j : Job) (v : KnownLun) (index : ℕ) (view : Lu
   pub queue : RowsFit g index v.queue view.queue
   pub last : closer_among v.last view.closer ≡ true
   pub cached : j.base % g.pages ≡ 0 → may_be_other v.last ≡ false → Below view.array_page.page v.cached.page.hi
+  -- a program queues no reads, so that its own reads leave one page
+  pub no_reads : has_reads view.queue ≡ false
+  pub held : may_be_other v.last ≡ false → nat_le (length view.held) 1 ≡ true
 
 -- 5. all of it
 

@@ -270,9 +270,9 @@ beside_fits s j v c done busy held next left is single sole shut latch lun =
 
 -- what 90h reads is what may be held
 id_lun : (g : Parts) (j : Job) (v : State) (i : ℕ) (view : LunView) (a b : Bool) → LunFits g j v.lun i view → LunFits g j (beside_read v.lun.busy (cond a (record { 0 = 4 }) (cond b (record { 0 = 16 }) (record { 0 = 8 }))) v).lun i (view_after (cond a IdRead (IdentityRead b)) view)
-id_lun g j v i view true b f = record { ready = f.ready; register = refl; column = record { at = 0; is = refl; below = (in_exactly 0).most; unread = λ e. refl }; queue = f.queue; last = refl; cached = λ e x. cc }
-id_lun g j v i view false true f = record { ready = f.ready; register = refl; column = record { at = 0; is = refl; below = (in_exactly 0).most; unread = λ e. refl }; queue = f.queue; last = refl; cached = λ e x. cc }
-id_lun g j v i view false false f = record { ready = f.ready; register = refl; column = record { at = 0; is = refl; below = (in_exactly 0).most; unread = λ e. refl }; queue = f.queue; last = refl; cached = λ e x. cc }
+id_lun g j v i view true b f = record { ready = f.ready; register = refl; column = record { at = 0; is = refl; below = (in_exactly 0).most; unread = λ e. refl }; queue = f.queue; last = refl; cached = λ e x. cc; no_reads = f.no_reads; held = λ e. cc }
+id_lun g j v i view false true f = record { ready = f.ready; register = refl; column = record { at = 0; is = refl; below = (in_exactly 0).most; unread = λ e. refl }; queue = f.queue; last = refl; cached = λ e x. cc; no_reads = f.no_reads; held = λ e. cc }
+id_lun g j v i view false false f = record { ready = f.ready; register = refl; column = record { at = 0; is = refl; below = (in_exactly 0).most; unread = λ e. refl }; queue = f.queue; last = refl; cached = λ e x. cc; no_reads = f.no_reads; held = λ e. cc }
 
 id_latch : (a b : Bool) (view : LunView) → (view_after (cond a IdRead (IdentityRead b)) view).latch ≡ Data
 id_latch true b view = refl
@@ -307,7 +307,7 @@ identity_ec s j v past c done rest at from count h =
     let next = beside_scene s.geometry ReadParameterPage ParameterPageReadStarted byte c in
     at_identity s j h.k v past c done rest at from count ReadParameterPage next h.id (ec_step s j c byte h.start h.id.single h.id.takes)
     (beside_fits s j v c done true (record { 0 = 2 }) next (identity_read v from ReadParameterPage) refl h.id.single refl refl refl
-    (record { ready = λ e. cc; register = refl; column = record { at = 0; is = refl; below = (in_exactly 0).most; unread = λ e. refl }; queue = h.f.lun.queue; last = refl; cached = λ e x. cc }))
+    (record { ready = λ e. cc; register = refl; column = record { at = 0; is = refl; below = (in_exactly 0).most; unread = λ e. refl }; queue = h.f.lun.queue; last = refl; cached = λ e x. cc; no_reads = h.f.lun.no_reads; held = λ e. cc }))
     h.left h.scene h.f h.clear h.acc
 
 identity_ed : (s : Channel) (j : Job) (v : State) (past : List Item) (c : Scene) (done : List Done) (rest : List Line) (at from count : ℕ) → AtOpener s j v past c done rest from count ReadUniqueId → SoundWord s j past done rest at (AddressWord from count)
@@ -316,7 +316,7 @@ identity_ed s j v past c done rest at from count h =
     let next = beside_scene s.geometry ReadUniqueId UniqueIdReadStarted byte c in
     at_identity s j h.k v past c done rest at from count ReadUniqueId next h.id (ed_step s j c byte h.start h.id.single h.id.takes)
     (beside_fits s j v c done true (record { 0 = 32 }) next (identity_read v from ReadUniqueId) refl h.id.single refl refl refl
-    (record { ready = λ e. cc; register = refl; column = record { at = 0; is = refl; below = (in_exactly 0).most; unread = λ e. refl }; queue = h.f.lun.queue; last = refl; cached = λ e x. cc }))
+    (record { ready = λ e. cc; register = refl; column = record { at = 0; is = refl; below = (in_exactly 0).most; unread = λ e. refl }; queue = h.f.lun.queue; last = refl; cached = λ e x. cc; no_reads = h.f.lun.no_reads; held = λ e. cc }))
     h.left h.scene h.f h.clear h.acc
 
 identity_ee : (s : Channel) (j : Job) (v : State) (past : List Item) (c : Scene) (done : List Done) (rest : List Line) (at from count : ℕ) → AtOpener s j v past c done rest from count GetFeatures → SoundWord s j past done rest at (AddressWord from count)
@@ -325,7 +325,7 @@ identity_ee s j v past c done rest at from count h =
     let next = beside_scene s.geometry GetFeatures (FeaturesReadStarted byte) byte c in
     at_identity s j h.k v past c done rest at from count GetFeatures next h.id (ee_step s j c byte h.start h.id.single)
     (beside_fits s j v c done true (record { 0 = 64 }) next (identity_read v from GetFeatures) refl h.id.single refl refl refl
-    (record { ready = λ e. cc; register = refl; column = record { at = 0; is = refl; below = (in_exactly 0).most; unread = λ e. refl }; queue = h.f.lun.queue; last = refl; cached = λ e x. cc }))
+    (record { ready = λ e. cc; register = refl; column = record { at = 0; is = refl; below = (in_exactly 0).most; unread = λ e. refl }; queue = h.f.lun.queue; last = refl; cached = λ e x. cc; no_reads = h.f.lun.no_reads; held = λ e. cc }))
     h.left h.scene h.f h.clear h.acc
 
 identity_ef : (s : Channel) (j : Job) (v : State) (past : List Item) (c : Scene) (done : List Done) (rest : List Line) (at from count : ℕ) → AtOpener s j v past c done rest from count SetFeatures → SoundWord s j past done rest at (AddressWord from count)

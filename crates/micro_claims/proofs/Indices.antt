@@ -74,7 +74,7 @@ tail_moved g j v n m move t none moves f =
 
 lun_moved : (g : Parts) (j : Job) (l : KnownLun) (old new : ℕ) (move : Drift → Option Drift) (view : LunView) → MovesDrifts old new move → LunFits g j l old view → LunFits g j (record l { queue = rows_moved move l.queue }) new view
 lun_moved g j l old new move view moves f =
-    record { ready = f.ready; register = f.register; column = f.column; queue = rows_fit g old new move l.queue view.queue moves f.queue; last = f.last; cached = f.cached }
+    record { ready = f.ready; register = f.register; column = f.column; queue = rows_fit g old new move l.queue view.queue moves f.queue; last = f.last; cached = f.cached; no_reads = f.no_reads; held = f.held }
 
 -- 2. rowadd
 

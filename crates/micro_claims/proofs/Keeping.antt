@@ -1,5 +1,5 @@
 -- What comes between the words of a program keeps what is claimed of it.
-use Rattle.std.proofs.Common.{◌≡◌, inl, inr, ℕ, ◌==◌, Bool, true, false, ◌&&◌, cond, ltb, List, ◌∷◌, Option, Some, None, refl, sym, ap, ◌∙◌, subst, arith, eqb-true, eq-eqb}
+use Rattle.std.proofs.Common.{◌≡◌, inl, inr, ℕ, ◌==◌, Bool, true, false, ◌&&◌, cond, ltb, nat_le, List, ◌∷◌, Option, Some, None, refl, sym, ap, ◌∙◌, subst, arith, eqb-true, eq-eqb, length}
 use Rattle.std.proofs.lemmas.Bool.Decides.{nat_tests}
 use Rattle.std.proofs.lemmas.Bool.{not-true, and_parts, and_from}
 use Rattle.nand_geometry.specs.declared.parts.Parts.{Parts}
@@ -18,7 +18,7 @@ use Rattle.onfi_cycle.specs.declared.page_address.PageAddress.{PageAddress}
 use Rattle.onfi_cycle.specs.Effect.{is_off}
 use Rattle.onfi_cycle.specs.LunView.{LunView}
 use Rattle.onfi_cycle.specs.Sequence.{tail, facts_of}
-use Rattle.onfi_cycle.specs.Lun.{latch, latch_after, drivers, is_only, lun_view, busy_after, is_busy, is_array_busy, closer, closer_after, array_page, array_page_after, register, register_after, read_column, read_column_after, queue, queue_after, effect_among}
+use Rattle.onfi_cycle.specs.Lun.{latch, latch_after, drivers, is_only, lun_view, busy_after, is_busy, is_array_busy, closer, closer_after, array_page, array_page_after, register, register_after, read_column, read_column_after, queue, queue_after, has_reads, held, held_after, effect_among}
 use Rattle.onfi_cycle.specs.OtherLun.{KeepsLun, KeepsTarget, IsSameOrLost}
 use Rattle.onfi_cycle.specs.Permitted.{is_legal}
 use Rattle.onfi_cycle.specs.Channel.{Channel, IsOwn, same_lun, is_there, is_cycle, is_serving}
@@ -43,6 +43,7 @@ record ReadyLeaves (g : Parts) (past : List Item) (i : Item) (l : Lun) : Type 0 
   register : register g (i ∷ past) l ≡ register g past l
   column : read_column g (i ∷ past) l ≡ read_column g past l
   queue : queue g (i ∷ past) l ≡ queue g past l
+  held : held g (i ∷ past) l ≡ held g past l
 
 leaves_latch : (b : Bool) (e : Effect) (selected works : Bool) (x : Latch) → latch_after e selected works x ≡ x → latch_after (cond b e Unaffected) selected works x ≡ x
 leaves_latch true e selected works x h = h
@@ -60,6 +61,7 @@ ready_leaves g past (Rdy ce lun fail) l h =
       register = at_register (ce == l.ce && lun == l.lun);
       column = at_column (ce == l.ce && lun == l.lun);
       queue = at_queue (ce == l.ce && lun == l.lun);
+      held = at_held (ce == l.ce && lun == l.lun);
     }
   where
     at_busy : (b : Bool) → is_busy g past l ≡ false → busy_after (cond b (BecameReady fail) Unaffected) (is_busy g past l) ≡ false
@@ -74,7 +76,7 @@ ready_leaves g past (Rdy ce lun fail) l h =
     at_page true = refl
     at_page false = refl
 
-    at_register : (b : Bool) → register_after (cond b (BecameReady fail) Unaffected) (array_page g past l) (register g past l) ≡ register g past l
+    at_register : (b : Bool) → register_after (cond b (BecameReady fail) Unaffected) (array_page g past l) (queue g past l) (held g past l) (register g past l) ≡ register g past l
     at_register true = refl
     at_register false = refl
 
@@ -85,6 +87,10 @@ ready_leaves g past (Rdy ce lun fail) l h =
     at_queue : (b : Bool) → queue_after (cond b (BecameReady fail) Unaffected) (queue g past l) ≡ queue g past l
     at_queue true = refl
     at_queue false = refl
+
+    at_held : (b : Bool) → held_after (cond b (BecameReady fail) Unaffected) (array_page g past l) (queue g past l) (held g past l) ≡ held g past l
+    at_held true = refl
+    at_held false = refl
 ready_leaves g past (Ard ce lun) l h =
     record {
       latches = λ m. leaves_latch (ce == l.ce && lun == m) ArrayBecameReady _ _ _ refl;
@@ -94,6 +100,7 @@ ready_leaves g past (Ard ce lun) l h =
       register = at_register (ce == l.ce && lun == l.lun);
       column = at_column (ce == l.ce && lun == l.lun);
       queue = at_queue (ce == l.ce && lun == l.lun);
+      held = at_held (ce == l.ce && lun == l.lun);
     }
   where
     at_busy : (b : Bool) → is_busy g past l ≡ false → busy_after (cond b ArrayBecameReady Unaffected) (is_busy g past l) ≡ false
@@ -108,7 +115,7 @@ ready_leaves g past (Ard ce lun) l h =
     at_page true = refl
     at_page false = refl
 
-    at_register : (b : Bool) → register_after (cond b ArrayBecameReady Unaffected) (array_page g past l) (register g past l) ≡ register g past l
+    at_register : (b : Bool) → register_after (cond b ArrayBecameReady Unaffected) (array_page g past l) (queue g past l) (held g past l) (register g past l) ≡ register g past l
     at_register true = refl
     at_register false = refl
 
@@ -120,9 +127,13 @@ ready_leaves g past (Ard ce lun) l h =
     at_queue true = refl
     at_queue false = refl
 
+    at_held : (b : Bool) → held_after (cond b ArrayBecameReady Unaffected) (array_page g past l) (queue g past l) (held g past l) ≡ held g past l
+    at_held true = refl
+    at_held false = refl
+
 -- what is claimed of a LUN holds of one that differs in its latch alone, and may have become ready
-moved_view : (g : Parts) (j : Job) (v : KnownLun) (i : ℕ) (old new : LunView) → (old.busy ≡ false → new.busy ≡ false) → new.closer ≡ old.closer → new.array_page ≡ old.array_page → new.register ≡ old.register → OutputColumnFits v.column new.column → new.queue ≡ old.queue → LunFits g j v i old → LunFits g j v i new
-moved_view g j v i old new busy closer page register column queue f =
+moved_view : (g : Parts) (j : Job) (v : KnownLun) (i : ℕ) (old new : LunView) → (old.busy ≡ false → new.busy ≡ false) → new.closer ≡ old.closer → new.array_page ≡ old.array_page → new.register ≡ old.register → OutputColumnFits v.column new.column → new.queue ≡ old.queue → new.held ≡ old.held → LunFits g j v i old → LunFits g j v i new
+moved_view g j v i old new busy closer page register column queue held f =
     record {
       ready = λ e. busy (f.ready e);
       register = subst (λ (r : Register). RegisterFits v.register r) (sym register) f.register;
@@ -130,6 +141,8 @@ moved_view g j v i old new busy closer page register column queue f =
       queue = subst (λ (q : List Queued). RowsFit g i v.queue q) (sym queue) f.queue;
       last = subst (λ (c : Option Command). closer_among v.last c ≡ true) (sym closer) f.last;
       cached = λ base e. subst (λ (p : PageAddress). Below p.page v.cached.page.hi) (sym page) (f.cached base e);
+      no_reads = ap has_reads queue ∙ f.no_reads;
+      held = λ e. ap (λ (pages : List PageAddress). nat_le (length pages) 1) held ∙ f.held e;
     }
 
 shows_moved : (o : Option Shown) (c d : Scene) → d.sole ≡ c.sole → d.view.latch ≡ c.view.latch → ShowsFit o c → ShowsFit o d
@@ -165,6 +178,7 @@ ready_kept s j seat i c h =
             (left.register ∙ ap (λ (v : LunView). v.register) was)
             (subst (λ (k : ReadColumn). OutputColumnFits c.claim.lun.column k) (sym (left.column ∙ ap (λ (v : LunView). v.column) was)) c.fits.lun.column)
             (left.queue ∙ ap (λ (v : LunView). v.queue) was)
+            (left.held ∙ ap (λ (v : LunView). v.held) was)
             c.fits.lun;
       };
       accepted = c.accepted;
@@ -206,6 +220,7 @@ here_kept s j k seat c kept claims free several rests =
             (kept.register ∙ ap (λ (v : LunView). v.register) was)
             (kept_column claims.claim.lun.column (read_column g seat.past l) (read_column g (Cyc c ∷ seat.past) l) is_free.unread kept.column (subst (λ (x : ReadColumn). OutputColumnFits claims.claim.lun.column x) (sym (ap (λ (v : LunView). v.column) was)) claims.fits.lun.column))
             (kept.queue ∙ ap (λ (v : LunView). v.queue) was)
+            (kept.held ∙ ap (λ (v : LunView). v.held) was)
             claims.fits.lun;
       };
       accepted = claims.accepted;

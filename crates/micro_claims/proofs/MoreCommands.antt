@@ -1,7 +1,7 @@
 -- Queued erases and programs, resets and cache reads are sound.
 use Rattle.std.proofs.Common.{◌≡◌, ℕ, ◌+◌, ◌*◌, ◌/◌, ◌%◌, ◌==◌, Bool, true, false, ◌&&◌, ◌||◌, cond, not, ltb, List, [], ◌∷◌, Option, Some, None, refl, sym, ap, ◌∙◌, subst, arith, eqb-true, inl, inr}
 use Rattle.std.proofs.lemmas.Bool.Decides.{nat_tests}
-use Rattle.std.proofs.lemmas.Bool.{not-false, and_parts, or_parts, or_left}
+use Rattle.std.proofs.lemmas.Bool.{not-false, and_parts, and_from, or_parts, or_left}
 use Rattle.nand_geometry.specs.declared.parts.Parts.{Parts}
 use Rattle.nand_geometry.specs.declared.row_parts.RowParts.{RowParts}
 use Rattle.nand_geometry.specs.Limits.{planes}
@@ -115,7 +115,7 @@ sound_d1 s j k v past c done rest at byte is scene f clear acc =
     (closed_fits g j None None v.target.shows (now_of j done) _ (ap (λ (t : TailFacts). is_open (facts_after (CommandCycle BlockErasePlane) t)) w.facts))
     (shows_kept v.target.shows c (scene_behind g j.lun.lun (CommandCycle BlockErasePlane) c) (λ e. e) (ap (λ (e : Effect). (view_after e c.view).latch) effect) f.shows)
     (subst (λ (e : Effect). LunFits g j (work_started (queued_more true v.lun.queue v.target.named) v).lun (index_now j.base done) (view_after e c.view)) (sym effect)
-    (record { ready = λ e. cc; register = tt; column = tt; queue = queued_fits g j (index_now j.base done) true v.lun.queue v.target.named w.address (Erase (page_address g (row c.facts))) c.view.queue (w.named refl) (w.row refl) refl page.0 page.1 f.lun.queue; last = refl; cached = λ e x. cc }))
+    (record { ready = λ e. cc; register = tt; column = tt; queue = queued_fits g j (index_now j.base done) true v.lun.queue v.target.named w.address (Erase (page_address g (row c.facts))) c.view.queue (w.named refl) (w.row refl) refl page.0 page.1 f.lun.queue; last = refl; cached = λ e x. cc; no_reads = f.lun.no_reads; held = λ e. cc }))
     acc
 
 -- 11h
@@ -148,7 +148,7 @@ sound_11 s j k v past c done rest at byte is scene f clear acc =
     (closed_fits g j None None v.target.shows (now_of j done) _ (rw p.program.begun refl))
     (shows_kept v.target.shows c (scene_behind g j.lun.lun (CommandCycle ProgramPlane) c) (λ e. e) (ap (λ (e : Effect). (view_after e c.view).latch) effect) f.shows)
     (subst (λ (e : Effect). LunFits g j (work_started (queued_more false v.lun.queue v.target.named) v).lun (index_now j.base done) (view_after e c.view)) (sym effect)
-    (record { ready = λ e. cc; register = tt; column = tt; queue = queued_fits g j (index_now j.base done) false v.lun.queue v.target.named p.address (Program (page_address g (row c.facts))) c.view.queue p.named p.row refl page.0 page.1 f.lun.queue; last = refl; cached = λ e x. cc }))
+    (record { ready = λ e. cc; register = tt; column = tt; queue = queued_fits g j (index_now j.base done) false v.lun.queue v.target.named p.address (Program (page_address g (row c.facts))) c.view.queue p.named p.row refl page.0 page.1 f.lun.queue; last = refl; cached = λ e x. cc; no_reads = f.lun.no_reads; held = λ e. cc }))
     acc
 
 -- 3. openers that are whole by themselves
@@ -180,7 +180,7 @@ reset_one g lun one = sym (ap (λ (b : Bool). cond (is_wide g.optional && b) (Ta
     none false = refl
 
 pub reset_fits : (g : Parts) (j : Job) (v : State) (i : ℕ) (view : LunView) → LunFits g j (reset_started v).lun i (view_after ResetStarted view)
-reset_fits g j v i view = record { ready = λ e. cc; register = tt; column = tt; queue = refl; last = refl; cached = λ e x. cc }
+reset_fits g j v i view = record { ready = λ e. cc; register = tt; column = tt; queue = refl; last = refl; cached = λ e x. cc; no_reads = refl; held = λ e. cc }
 
 resets_fit : (g : Parts) (j : Job) (v : State) (i lun : ℕ) (view : LunView) → ltb 1 g.luns ≡ false → LunFits g j (reset_started v).lun i (view_after (reset_effect g lun) view)
 resets_fit g j v i lun view one = subst (λ (e : Effect). LunFits g j (reset_started v).lun i (view_after e view)) (reset_one g lun one) (reset_fits g j v i view)
@@ -267,14 +267,14 @@ sound_lone_31 s j k v past c done rest at byte is scene f clear unplaced acc =
     let next : ltb (c.view.array_page.page + 1) g.pages ≡ true = grind (arith, nat_tests, most) in
     let effect : cycle_effect g c.facts (shown_alone c) (CommandCycle ReadCacheSequential) j.lun.lun ≡ CacheReadContinued None = rw (closed_unwanted c.facts shut, drive.0, drive.1) refl in
     let leaves : command_leaves g v ReadCacheSequential ≡ cache_read (record { 0 = 2 }) (next_cached v.lun.cached) data_shown v = leaves_lone g v unplaced in
-    command_sound s j k v past c done rest at byte ReadCacheSequential is scene f clear (inl (record { closed = shut; declared = not-false g.cache dec.fit; sole = drive.0; passes = rw (ready, read, next) refl })) (ap (λ (x : State). x.registers) leaves)
+    command_sound s j k v past c done rest at byte ReadCacheSequential is scene f clear (inl (record { closed = shut; declared = not-false g.cache dec.fit; sole = drive.0; passes = rw (ready, read, f.lun.held two.1, next) refl })) (ap (λ (x : State). x.registers) leaves)
     (subst (λ (x : State). TailFits g j x.target (now_of j done) (facts_after (CommandCycle ReadCacheSequential) c.facts)) (sym leaves)
     (closed_fits g j None None data_shown (now_of j done) _ (shut_behind c.facts (closed_unwanted c.facts shut))))
     (subst (λ (x : State). ShowsFit x.target.shows (scene_behind g j.lun.lun (CommandCycle ReadCacheSequential) c)) (sym leaves)
     (or_left c.sole (not (ltb 1 g.luns)) drive.0, ap (λ (e : Effect). latch_among (record { 0 = 2 }) (view_after e c.view).latch) effect))
     (subst (λ (x : State). LunFits g j x.lun (index_now j.base done) (view_after (cycle_effect g c.facts (shown_alone c) (CommandCycle ReadCacheSequential) j.lun.lun) c.view)) (sym leaves)
     (subst (λ (e : Effect). LunFits g j (cache_read (record { 0 = 2 }) (next_cached v.lun.cached) data_shown v).lun (index_now j.base done) (view_after e c.view)) (sym effect)
-    (record { ready = λ e. cc; register = refl; column = record { at = 0; is = refl; below = (in_exactly 0).most; unread = λ e. refl }; queue = f.lun.queue; last = refl; cached = λ e x. below_plus c.view.array_page.page v.lun.cached.page.hi 1 1 (f.lun.cached e two.1) (omega arith) })))
+    (record { ready = λ e. cc; register = refl; column = record { at = 0; is = refl; below = (in_exactly 0).most; unread = λ e. refl }; queue = f.lun.queue; last = refl; cached = λ e x. below_plus c.view.array_page.page v.lun.cached.page.hi 1 1 (f.lun.cached e two.1) (omega arith); no_reads = f.lun.no_reads; held = λ e. refl })))
     acc
 
 sound_row_31 : (s : Channel) (j : Job) (k : KnownJob s j) (v : State) (past : List Item) (c : Scene) (done : List Done) (rest : List Line) (at byte : ℕ) → command byte ≡ ReadCacheSequential → IsScene s j.lun past c → Fits s.geometry j v done c true → NoReasons s.geometry j.text v (CommandWord byte) → place_wants ReadCacheSequential v.target.tail ≡ true → accepts s.geometry (bounds_of j.text) None (state_after s.geometry v (CommandWord byte)) rest ≡ true → SoundWord s j past done rest at (CommandWord byte)
@@ -287,7 +287,7 @@ sound_row_31 s j k v past c done rest at byte is scene f clear placed acc =
     let wants : wants_command c.facts ReadCacheSequential ≡ true = ap (λ (t : TailFacts). wants_command t ReadCacheSequential) w.facts in
     let row_is : row c.facts ≡ row_of w.address.r1 w.address.r2 w.address.r3 = ap row w.facts in
     let names = row_names g j c.facts w.address row_is (w.row refl) in
-    let read = page_read v.lun.last c.view.closer f.lun.last free.1 in
+    let read = and_from _ _ (page_read v.lun.last c.view.closer f.lun.last free.1) (f.lun.held free.1) in
     let effect : cycle_effect g c.facts (shown_alone c) (CommandCycle ReadCacheSequential) j.lun.lun ≡ CacheReadContinued (Some (page_address g (row c.facts))) = rw (wants, names) refl in
     let page_is : (page_address g (row c.facts)).page ≡ w.address.index % g.pages = ap (λ (n : ℕ). (parts_of g n).page) row_is ∙ ap (λ (p : RowParts). p.page) (w.row refl).reads in
     let after : State = cache_read (record { 0 = 2 }) (cached_at v.target.named) (shows_after_read g v.target.shows) v in
@@ -308,6 +308,8 @@ sound_row_31 s j k v past c done rest at byte is scene f clear placed acc =
       queue = f.lun.queue;
       last = refl;
       cached = λ base e. subst (λ (n : ℕ). Below n (cached_at v.target.named).page.hi) (sym page_is) (page_below g j w.address (index_now j.base done) v.target.named (w.named refl) base);
+      no_reads = f.lun.no_reads;
+      held = λ e. refl;
     })))
     acc
 
@@ -335,5 +337,5 @@ sound_3f s j k v past c done rest at byte is scene f clear acc =
     (closed_fits g j None None data_shown (now_of j done) _ refl)
     (drive.0, ap (λ (e : Effect). latch_among (record { 0 = 2 }) (view_after e c.view).latch) effect)
     (subst (λ (e : Effect). LunFits g j (command_leaves g v ReadCacheEnd).lun (index_now j.base done) (view_after e c.view)) (sym effect)
-    (record { ready = λ e. cc; register = refl; column = record { at = 0; is = refl; below = (in_exactly 0).most; unread = λ e. refl }; queue = f.lun.queue; last = refl; cached = λ e x. cc }))
+    (record { ready = λ e. cc; register = refl; column = record { at = 0; is = refl; below = (in_exactly 0).most; unread = λ e. refl }; queue = f.lun.queue; last = refl; cached = λ e x. cc; no_reads = f.lun.no_reads; held = λ e. cc }))
     acc

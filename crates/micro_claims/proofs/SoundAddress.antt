@@ -6,7 +6,7 @@ use Rattle.std.proofs.lemmas.Bool.{not-false, or_from, and_from, or_parts}
 use Rattle.onfi_cycle.proofs.Booleans.{and_rest}
 use Rattle.nand_geometry.specs.declared.parts.Parts.{Parts}
 use Rattle.nand_geometry.specs.declared.row_parts.RowParts.{RowParts}
-use Rattle.nand_geometry.specs.Optional.{is_wide}
+use Rattle.nand_geometry.specs.Optional.{is_wide, has_free_blocks}
 use Rattle.nand_geometry.specs.Limits.{InLimits, planes, page_len}
 use Rattle.nand_geometry.specs.Row.{row_of, row_bytes_of}
 use Rattle.onfi_cycle.specs.declared.command.Command.{Command}
@@ -14,7 +14,7 @@ use Rattle.onfi_cycle.specs.declared.command.Command.TheVariants.{Read, ReadCach
 use Rattle.onfi_cycle.specs.declared.data_phase.DataPhase.TheVariants.{Inputs, FirstColumn}
 use Rattle.onfi_cycle.specs.declared.item.Item.{Item}
 use Rattle.onfi_cycle.specs.declared.queued.Queued.{Queued}
-use Rattle.onfi_cycle.specs.declared.queued.Queued.TheVariants.{Erase, Program}
+use Rattle.onfi_cycle.specs.declared.queued.Queued.TheVariants.{Erase, Program, Read as QueuedRead}
 use Rattle.onfi_cycle.specs.declared.page_address.PageAddress.{PageAddress}
 use Rattle.onfi_cycle.specs.declared.register.Register.{Register}
 use Rattle.onfi_cycle.specs.declared.register.Register.TheVariants.{Empty, Page, ParameterPage, Identifier, Identity, JedecIdentity, UniqueId, Features}
@@ -72,7 +72,11 @@ no_clash g p q index plane other low high apart pp pb qp qb =
     let planes_are : (p.block % planes g == q.block % planes g) ≡ false = (λ i. (pb i % planes g) == (qb i % planes g)) ∙ ((λ i. a.0 i == b.0 i) ∙ apart) in
     let pages_are : (p.page == q.page) ≡ true = (λ i. pp i == qp i) ∙ eq-eqb _ _ refl in
     let blocks_are : (p.block / planes g == q.block / planes g) ≡ true = (λ i. (pb i / planes g) == (qb i / planes g)) ∙ ((λ i. a.1 i == b.1 i) ∙ eq-eqb _ _ refl) in
-    rw (planes_are, pages_are, blocks_are) refl
+    rw (planes_are, pages_are) (ap (λ (b : Bool). not (has_free_blocks g.optional) && not b) blocks_are ∙ none (not (has_free_blocks g.optional)))
+  where
+    none : (b : Bool) → (b && false) ≡ false
+    none true = refl
+    none false = refl
 
 -- of one kind
 kind_goes : (g : Parts) (e : Bool) (p : PageAddress) (q : Queued) → is_of_kind e q ≡ true → planes_clash g p (page_of q) ≡ false → queued_clashes g e p q ≡ false
@@ -80,6 +84,7 @@ kind_goes g true p (Erase q) kind clear = clear
 kind_goes g false p (Erase q) kind clear = cc
 kind_goes g true p (Program q) kind clear = cc
 kind_goes g false p (Program q) kind clear = clear
+kind_goes g e p (QueuedRead q) kind clear = cc
 
 -- a row that goes together with each of a queue
 none_clashes : (g : Parts) (now : ℕ) (erase : Bool) (queued : Planes) (d : Drift) (p : PageAddress) (plane : ℕ) (regs : Planes) (qs : List Queued) → AllFit (RowFits g now erase queued d) qs → d.ahead ≡ d.behind → plane < planes g → has_plane plane regs ≡ true → share_a_plane regs queued ≡ false → p.page ≡ now % g.pages → p.block ≡ now / g.pages * planes g + plane → some_queued_clashes g erase p qs ≡ false

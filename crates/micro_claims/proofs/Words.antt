@@ -207,7 +207,7 @@ get_goes g j l (Some w) i n c closed shows lun free small = by c.view.latch refl
           outputs = outs.0;
           shows = (outs.0.sole, ap (λ (v : LunView). latch_among w v.latch) outs.1 ∙ shows.1);
           lun = subst (λ (v : LunView). LunFits g j (record l { column = column_read (Some w) n l.column }) i v) (sym outs.1)
-              (record { ready = lun.ready; register = lun.register; column = data_column w n l.column c.view.column e lun.column; queue = lun.queue; last = lun.last; cached = lun.cached });
+              (record { ready = lun.ready; register = lun.register; column = data_column w n l.column c.view.column e lun.column; queue = lun.queue; last = lun.last; cached = lun.cached; no_reads = lun.no_reads; held = lun.held });
         }
 
     by : (x : Latch) → c.view.latch ≡ x → latch_among w x ≡ true → GetGoes g j l (Some w) i n c
@@ -218,7 +218,7 @@ get_goes g j l (Some w) i n c closed shows lun free small = by c.view.latch refl
           outputs = outs.0;
           shows = (outs.0.sole, ap (λ (v : LunView). latch_among w v.latch) outs.1 ∙ shows.1);
           lun = subst (λ (v : LunView). LunFits g j (record l { column = column_read (Some w) n l.column }) i v) (sym outs.1)
-              (record { ready = lun.ready; register = lun.register; column = status_column w n l.column c.view.column lun.column; queue = lun.queue; last = lun.last; cached = lun.cached });
+              (record { ready = lun.ready; register = lun.register; column = status_column w n l.column c.view.column lun.column; queue = lun.queue; last = lun.last; cached = lun.cached; no_reads = lun.no_reads; held = lun.held });
         }
     by Data latch among = with_column l.column refl lun.column (free.ready among).2 (free.inside among) latch among
 
@@ -390,7 +390,7 @@ features_goes s j v c done inputs n bytes one f here begun few count = by go.led
           shows = subst (λ (x : State). ShowsFit x.target.shows go.scene) (sym left) (shows_kept v.target.shows c go.scene (λ e. sole ∙ e) (ap (λ (w : LunView). w.latch) view) f.shows);
           lun = subst (λ (x : State). LunFits g j x.lun (index_now j.base done) go.scene.view) (sym left)
               (subst (λ (w : LunView). LunFits g j (work_started v.lun.queue v).lun (index_now j.base done) w) (sym view)
-              (record { ready = λ e. cc; register = tt; column = tt; queue = f.lun.queue; last = refl; cached = λ e x. cc }));
+              (record { ready = λ e. cc; register = tt; column = tt; queue = f.lun.queue; last = refl; cached = λ e x. cc; no_reads = f.lun.no_reads; held = λ e. cc }));
         }
 
 put_goes : (s : Channel) (j : Job) (v : State) (c : Scene) (done : List Done) (n : ℕ) (bytes : List ℕ) → Fits s.geometry j v done c true → PutClear s.geometry v n j.text.buffer → length bytes ≡ n → PutGoes s j v c done n bytes

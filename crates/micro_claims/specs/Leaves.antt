@@ -169,6 +169,7 @@ abbrev pub shows_after_read : Parts → Option Shown → Option Shown
 shows_after_read g None = if nat_lt 1 g.luns then None else data_shown
 shows_after_read g (Some w) = data_shown
 
+-- a 30: the array reads the page of the row, and nothing is queued behind it
 abbrev pub read_started : Parts → State → State
 read_started g s =
     record {
@@ -178,7 +179,7 @@ read_started g s =
         busy = true;
         register = page_register;
         column = given_at s.target.column;
-        queue = s.lun.queue;
+        queue = NoRows;
         last = record { 0 = 1 };
         cached = cached_at s.target.named;
       };

@@ -32,7 +32,7 @@ impl State {
         self.lun = self.lun.at_work(queue);
     }
 
-    // After the start of a read.
+    // After the start of a read, behind which nothing is queued.
     fn start_read(&mut self, geometry: &Geometry)
         ensures { self.new ≡ read_started geometry.now self.old }
     {
@@ -40,7 +40,7 @@ impl State {
             busy: true,
             register: PAGE_HELD,
             column: OutputColumn::given(self.target.column),
-            queue: self.lun.queue,
+            queue: QueuedRows::NoRows,
             last: LastCloser::READ,
             cached: CachedPage::of(self.target.named),
         };
@@ -132,6 +132,7 @@ impl State {
             Command::ReadStatus
             | Command::ReadStatusEnhanced
             | Command::ChangeReadColumnEnhanced
+            | Command::ReadPlane
             | Command::Unknown => {}
         }
     }

@@ -83,7 +83,10 @@ fn may_end_sequence(geometry: &Geometry, command: Command) -> bool
 pub fn is_for_traces(command: Command) -> bool
     ensures { result ≡ is_for_traces command }
 {
-    matches!(command, Command::ChangeReadColumnEnhanced)
+    matches!(
+        command,
+        Command::ChangeReadColumnEnhanced | Command::ReadPlane
+    )
 }
 
 // Programs may not use the command.

@@ -22,6 +22,8 @@ pub enum BarredCause {
     Features,
     /// The parameter page declares no enhanced change of the read column.
     EnhancedColumn,
+    /// The parameter page declares no reads of several planes.
+    PlaneReads,
     /// The parameter page declares no reset of a LUN.
     LunReset,
     /// The parameter page declares no synchronous reset.
@@ -50,7 +52,18 @@ impl BarredCause {
             Command::SynchronousReset => {
                 BarredCause::of_optional(refused, command, byte, BarredCause::SynchronousReset)
             }
-            Command::ChangeReadColumnEnhanced => Some(BarredCause::of_enhanced(refused, byte)),
+            Command::ChangeReadColumnEnhanced => Some(BarredCause::of_traced(
+                refused,
+                command,
+                byte,
+                BarredCause::EnhancedColumn,
+            )),
+            Command::ReadPlane => Some(BarredCause::of_traced(
+                refused,
+                command,
+                byte,
+                BarredCause::PlaneReads,
+            )),
             Command::ReadStatus | Command::ReadStatusEnhanced => Some(BarredCause::Poll),
             Command::BlockErasePlane | Command::ProgramPlane => {
                 told_if(!parts.multi_plane, BarredCause::SeveralPlanes)
@@ -89,12 +102,17 @@ impl BarredCause {
         }
     }
 
-    // Of a change of the read column with a row, which is for traces alone where it is declared.
-    fn of_enhanced(refused: &Refused<'_>, byte: u8) -> BarredCause {
+    // Of a command of the wider profile that is for traces alone where it is declared.
+    fn of_traced(
+        refused: &Refused<'_>,
+        command: Command,
+        byte: u8,
+        undeclared: BarredCause,
+    ) -> BarredCause {
         if !refused.geometry.parts().optional.is_wide() {
             BarredCause::NoCommand { byte }
-        } else if is_undeclared(refused.geometry, Command::ChangeReadColumnEnhanced) {
-            BarredCause::EnhancedColumn
+        } else if is_undeclared(refused.geometry, command) {
+            undeclared
         } else {
             BarredCause::ForTraces { byte }
         }
@@ -130,6 +148,9 @@ impl fmt::Display for BarredCause {
             BarredCause::Features => f.write_str("the parameter page declares no features"),
             BarredCause::EnhancedColumn => f.write_str(
                 "the parameter page declares no enhanced change of the read column",
+            ),
+            BarredCause::PlaneReads => f.write_str(
+                "the parameter page declares no reads of several planes",
             ),
             BarredCause::LunReset => f.write_str("the parameter page declares no reset of a LUN"),
             BarredCause::SynchronousReset => f.write_str(

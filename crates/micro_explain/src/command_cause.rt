@@ -29,7 +29,7 @@ pub enum CommandCause {
 // The command that begins what a command goes on with.
 fn opener_of(closer: Command) -> Option<Command> {
     match closer {
-        Command::ReadConfirm => Some(Command::Read),
+        Command::ReadConfirm | Command::ReadPlane => Some(Command::Read),
         Command::ChangeReadColumnConfirm => Some(Command::ChangeReadColumn),
         Command::BlockEraseConfirm | Command::BlockErasePlane => Some(Command::BlockErase),
         Command::ChangeWriteColumn | Command::ProgramConfirm | Command::ProgramPlane => {
@@ -89,6 +89,7 @@ impl CommandCause {
             }
             Command::ReadCacheEnd => Some(CommandCause::Cache(CacheCause::of_end(refused)?)),
             Command::ReadConfirm
+            | Command::ReadPlane
             | Command::ChangeReadColumnEnhanced
             | Command::ChangeReadColumnConfirm
             | Command::BlockEraseConfirm
@@ -115,6 +116,7 @@ impl CommandCause {
                 Some(CommandCause::Cache(CacheCause::of_row(refused)?))
             }
             Command::ReadCacheSequential => Some(CommandCause::SequenceOpen(refused.open())),
+            Command::ReadPlane => None,
             _ => Some(CommandCause::ReadColumn(ReadColumnCause::of(refused)?)),
         }
     }

@@ -25,6 +25,7 @@ impl Wanted {
             Command::BlockErase => "`cmd d0`",
             Command::PageProgram => self.in_data(),
             Command::ReadConfirm
+            | Command::ReadPlane
             | Command::ChangeReadColumnConfirm
             | Command::BlockEraseConfirm
             | Command::BlockErasePlane

@@ -11,10 +11,10 @@ use Rattle.onfi_cycle.specs.declared.page_address.PageAddress.{PageAddress}
 use Rattle.onfi_cycle.specs.declared.register.Register.{Register}
 use Rattle.onfi_cycle.specs.declared.queued.Queued.{Queued}
 use Rattle.onfi_cycle.specs.declared.effect.Effect.{Effect}
-use Rattle.onfi_cycle.specs.declared.effect.Effect.TheVariants.{Unaffected, DataOutputEnabled, StatusSelected, StatusRowAwaited, SelectedForStatus, Deselected, DataOutput, ReadColumnChanged, PlaneSelected, StatusOfSelected, AnotherAddressed}
+use Rattle.onfi_cycle.specs.declared.effect.Effect.TheVariants.{Unaffected, DataOutputEnabled, StatusSelected, StatusRowAwaited, SelectedForStatus, Deselected, DataOutput, ReadColumnChanged, StatusOfSelected, AnotherAddressed}
 use Rattle.onfi_cycle.specs.Sequence.{target_cycle, tail, facts_of}
 use Rattle.onfi_cycle.specs.Effect.{cycle_effect}
-use Rattle.onfi_cycle.specs.Lun.{latch_alone, effect_on, is_busy, busy_after, closer, closer_after, is_cache_read, is_array_busy, array_busy_after, is_caching, array_page, array_page_after, register, register_after, queue, queue_after, effect_among}
+use Rattle.onfi_cycle.specs.Lun.{latch_alone, effect_on, is_busy, busy_after, closer, closer_after, is_cache_read, is_array_busy, array_busy_after, is_caching, array_page, array_page_after, register, register_after, queue, queue_after, held, held_after, effect_among}
 use Rattle.onfi_cycle.specs.Channel.{IsIdle, is_serving, cycle}
 
 abbrev pub is_calm : Effect → Bool
@@ -26,7 +26,6 @@ is_calm SelectedForStatus = true
 is_calm Deselected = true
 is_calm DataOutput = true
 is_calm (ReadColumnChanged column) = true
-is_calm (PlaneSelected column) = true
 is_calm StatusOfSelected = true
 is_calm (AnotherAddressed reads) = true
 is_calm _ = false
@@ -36,21 +35,21 @@ record LeavesAll (e : Effect) : Type 0 where
   closer : (c : Option Command) → closer_after e c ≡ c
   array_busy : (b c x : Bool) → array_busy_after e b c x ≡ x
   array_page : (p : PageAddress) → array_page_after e p ≡ p
-  register : (p : PageAddress) (r : Register) → register_after e p r ≡ r
+  register : (p : PageAddress) (q : List Queued) (h : List PageAddress) (r : Register) → register_after e p q h r ≡ r
   queue : (q : List Queued) → queue_after e q ≡ q
+  held : (p : PageAddress) (q : List Queued) (h : List PageAddress) → held_after e p q h ≡ h
 
 leaves_all : (e : Effect) → is_calm e ≡ true → LeavesAll e
-leaves_all Unaffected h = record { busy = λ b. refl; closer = λ c. refl; array_busy = λ b c x. refl; array_page = λ p. refl; register = λ p r. refl; queue = λ q. refl }
-leaves_all DataOutputEnabled h = record { busy = λ b. refl; closer = λ c. refl; array_busy = λ b c x. refl; array_page = λ p. refl; register = λ p r. refl; queue = λ q. refl }
-leaves_all StatusSelected h = record { busy = λ b. refl; closer = λ c. refl; array_busy = λ b c x. refl; array_page = λ p. refl; register = λ p r. refl; queue = λ q. refl }
-leaves_all StatusRowAwaited h = record { busy = λ b. refl; closer = λ c. refl; array_busy = λ b c x. refl; array_page = λ p. refl; register = λ p r. refl; queue = λ q. refl }
-leaves_all SelectedForStatus h = record { busy = λ b. refl; closer = λ c. refl; array_busy = λ b c x. refl; array_page = λ p. refl; register = λ p r. refl; queue = λ q. refl }
-leaves_all Deselected h = record { busy = λ b. refl; closer = λ c. refl; array_busy = λ b c x. refl; array_page = λ p. refl; register = λ p r. refl; queue = λ q. refl }
-leaves_all DataOutput h = record { busy = λ b. refl; closer = λ c. refl; array_busy = λ b c x. refl; array_page = λ p. refl; register = λ p r. refl; queue = λ q. refl }
-leaves_all (ReadColumnChanged column) h = record { busy = λ b. refl; closer = λ c. refl; array_busy = λ b c x. refl; array_page = λ p. refl; register = λ p r. refl; queue = λ q. refl }
-leaves_all (PlaneSelected column) h = record { busy = λ b. refl; closer = λ c. refl; array_busy = λ b c x. refl; array_page = λ p. refl; register = λ p r. refl; queue = λ q. refl }
-leaves_all StatusOfSelected h = record { busy = λ b. refl; closer = λ c. refl; array_busy = λ b c x. refl; array_page = λ p. refl; register = λ p r. refl; queue = λ q. refl }
-leaves_all (AnotherAddressed reads) h = record { busy = λ b. refl; closer = λ c. refl; array_busy = λ b c x. refl; array_page = λ p. refl; register = λ p r. refl; queue = λ q. refl }
+leaves_all Unaffected h = record { busy = λ b. refl; closer = λ c. refl; array_busy = λ b c x. refl; array_page = λ p. refl; register = λ p q h r. refl; queue = λ q. refl; held = λ p q h. refl }
+leaves_all DataOutputEnabled h = record { busy = λ b. refl; closer = λ c. refl; array_busy = λ b c x. refl; array_page = λ p. refl; register = λ p q h r. refl; queue = λ q. refl; held = λ p q h. refl }
+leaves_all StatusSelected h = record { busy = λ b. refl; closer = λ c. refl; array_busy = λ b c x. refl; array_page = λ p. refl; register = λ p q h r. refl; queue = λ q. refl; held = λ p q h. refl }
+leaves_all StatusRowAwaited h = record { busy = λ b. refl; closer = λ c. refl; array_busy = λ b c x. refl; array_page = λ p. refl; register = λ p q h r. refl; queue = λ q. refl; held = λ p q h. refl }
+leaves_all SelectedForStatus h = record { busy = λ b. refl; closer = λ c. refl; array_busy = λ b c x. refl; array_page = λ p. refl; register = λ p q h r. refl; queue = λ q. refl; held = λ p q h. refl }
+leaves_all Deselected h = record { busy = λ b. refl; closer = λ c. refl; array_busy = λ b c x. refl; array_page = λ p. refl; register = λ p q h r. refl; queue = λ q. refl; held = λ p q h. refl }
+leaves_all DataOutput h = record { busy = λ b. refl; closer = λ c. refl; array_busy = λ b c x. refl; array_page = λ p. refl; register = λ p q h r. refl; queue = λ q. refl; held = λ p q h. refl }
+leaves_all (ReadColumnChanged column) h = record { busy = λ b. refl; closer = λ c. refl; array_busy = λ b c x. refl; array_page = λ p. refl; register = λ p q h r. refl; queue = λ q. refl; held = λ p q h. refl }
+leaves_all StatusOfSelected h = record { busy = λ b. refl; closer = λ c. refl; array_busy = λ b c x. refl; array_page = λ p. refl; register = λ p q h r. refl; queue = λ q. refl; held = λ p q h. refl }
+leaves_all (AnotherAddressed reads) h = record { busy = λ b. refl; closer = λ c. refl; array_busy = λ b c x. refl; array_page = λ p. refl; register = λ p q h r. refl; queue = λ q. refl; held = λ p q h. refl }
 leaves_all _ h = cc
 
 -- some items more leave the work, the register and the queue of a LUN
@@ -61,6 +60,7 @@ pub record Calm (g : Parts) (before later : List Item) (l : Lun) : Type 0 where
   pub array_page : array_page g later l ≡ array_page g before l
   pub register : register g later l ≡ register g before l
   pub queue : queue g later l ≡ queue g before l
+  pub held : held g later l ≡ held g before l
 
 -- an item whose effect is calm
 pub calm : (g : Parts) (past : List Item) (i : Item) (l : Lun) → is_calm (effect_on g past i l) ≡ true → Calm g past (i ∷ past) l
@@ -71,8 +71,9 @@ calm g past i l h =
       closer = k.closer (closer g past l);
       array_busy = k.array_busy (is_busy g past l) (is_caching g past l) (is_array_busy g past l);
       array_page = k.array_page (array_page g past l);
-      register = k.register (array_page g past l) (register g past l);
+      register = k.register (array_page g past l) (queue g past l) (held g past l) (register g past l);
       queue = k.queue (queue g past l);
+      held = k.held (array_page g past l) (queue g past l) (held g past l);
     }
 
 -- first some items, then more
@@ -85,6 +86,7 @@ calmer g p q r l x y =
       array_page = y.array_page ∙ x.array_page;
       register = y.register ∙ x.register;
       queue = y.queue ∙ x.queue;
+      held = y.held ∙ x.held;
     }
 
 pub calm_idle : (g : Parts) (before later : List Item) (l : Lun) → Calm g before later l → is_serving g later l.ce ≡ false → IsIdle g before l → IsIdle g later l

@@ -7,7 +7,7 @@ use Rattle.nand_geometry.specs.Limits.{page_len}
 use Rattle.nand_geometry.specs.Row.{parts_of}
 use Rattle.nand_geometry.specs.Optional.{is_wide, has_features, has_unique_id, has_lun_reset, has_synchronous_reset}
 use Rattle.onfi_cycle.specs.declared.command.Command.{Command}
-use Rattle.onfi_cycle.specs.declared.command.Command.TheVariants.{Read, ReadConfirm, ChangeReadColumn, ChangeReadColumnConfirm, BlockErase, BlockEraseConfirm, BlockErasePlane, ReadStatus, ReadStatusEnhanced, PageProgram, ChangeWriteColumn, ProgramConfirm, ProgramPlane, ReadId, ReadParameterPage, Reset, ReadCacheSequential, ReadCacheEnd, ReadUniqueId, GetFeatures, SetFeatures, ResetLun, SynchronousReset, Unknown, ChangeReadColumnEnhanced}
+use Rattle.onfi_cycle.specs.declared.command.Command.TheVariants.{Read, ReadConfirm, ChangeReadColumn, ChangeReadColumnConfirm, BlockErase, BlockEraseConfirm, BlockErasePlane, ReadStatus, ReadStatusEnhanced, PageProgram, ChangeWriteColumn, ProgramConfirm, ProgramPlane, ReadId, ReadParameterPage, Reset, ReadCacheSequential, ReadCacheEnd, ReadUniqueId, GetFeatures, SetFeatures, ResetLun, SynchronousReset, Unknown, ChangeReadColumnEnhanced, ReadPlane}
 use Rattle.onfi_cycle.specs.declared.lun.Lun.{Lun}
 use Rattle.onfi_cycle.specs.declared.item.Item.{Item}
 use Rattle.onfi_cycle.specs.declared.opening.Opening.{Opening}
@@ -19,8 +19,8 @@ use Rattle.onfi_cycle.specs.LunView.{LunView}
 use Rattle.onfi_cycle.specs.Command.{at_last_row, addresses_the_array, is_change_read_column, is_enhanced_column}
 use Rattle.onfi_cycle.specs.Sequence.{opened, is_open, takes_inputs, takes_features, wants_command, wants_address, row_with, column_with, input_column, row}
 use Rattle.onfi_cycle.specs.Effect.{is_shared, page_address, names_lun}
-use Rattle.onfi_cycle.specs.Lun.{lun_view, luns_of, views_from, is_page_read}
-use Rattle.onfi_cycle.specs.Rules.{ends_row, named_lun_is, works_for_target, is_some_and, driver, second_of_page, second_column, caching, continues_cache, ends_cache, may_change_column, has_some, is_refused_by, register_len, has_no_byte, is_past_register, breaks_command_unknown, breaks_sequence_open, breaks_several_luns, breaks_no_column_to_change, breaks_command_misplaced, breaks_address_misplaced, breaks_row_outside, breaks_lun_busy, breaks_queue_clash, breaks_input_misplaced, breaks_no_sole_driver, breaks_data_not_ready, breaks_column_outside, breaks_cache_read_misplaced, breaks_plane_not_held, excludes_cache, holds_plane_of}
+use Rattle.onfi_cycle.specs.Lun.{lun_view, luns_of, views_from}
+use Rattle.onfi_cycle.specs.Rules.{ends_row, named_lun_is, works_for_target, is_some_and, driver, second_of_page, second_column, caching, has_read_one, continues_cache, ends_cache, may_change_column, has_some, is_refused_by, register_len, has_no_byte, is_past_register, breaks_command_unknown, breaks_sequence_open, breaks_several_luns, breaks_no_column_to_change, breaks_command_misplaced, breaks_address_misplaced, breaks_row_outside, breaks_lun_busy, breaks_queue_clash, breaks_input_misplaced, breaks_no_sole_driver, breaks_data_not_ready, breaks_column_outside, breaks_cache_read_misplaced, breaks_plane_not_held, excludes_cache, holds_plane_of}
 use Rattle.onfi_cycle.specs.Permitted.{judge_cycle}
 use Rattle.onfi_cycle.specs.Channel.{Channel, is_there}
 use Rattle.micro_program.proofs.Below.{facts}
@@ -161,7 +161,7 @@ judge_cache g t luns v closed declared one passes = at (is_wide g.optional) (ltb
     at true false e f = rw (e, f, closed, declared, closed_unwanted t closed, one, passes) refl
     at false several e f = rw (e, closed, declared, closed_unwanted t closed, one, passes) refl
 
-judge_row_cache : (g : Parts) (t : TailFacts) (luns : List LunView) → wants_command t ReadCacheSequential ≡ true → is_wide g.optional ≡ true → g.cache ≡ true → named_lun_is g (row t) (λ v. is_page_read v.closer) luns ≡ true → judge_cycle g t luns (CommandCycle ReadCacheSequential) ≡ None
+judge_row_cache : (g : Parts) (t : TailFacts) (luns : List LunView) → wants_command t ReadCacheSequential ≡ true → is_wide g.optional ≡ true → g.cache ≡ true → named_lun_is g (row t) has_read_one luns ≡ true → judge_cycle g t luns (CommandCycle ReadCacheSequential) ≡ None
 unfolding breaks_command_unknown breaks_sequence_open breaks_several_luns breaks_no_column_to_change breaks_command_misplaced breaks_address_misplaced breaks_row_outside breaks_lun_busy breaks_queue_clash breaks_input_misplaced breaks_no_sole_driver breaks_data_not_ready breaks_column_outside breaks_cache_read_misplaced breaks_plane_not_held
 judge_row_cache g t luns wants wide declared read = at (is_open t) (ltb 1 g.luns) refl refl
   where
@@ -285,7 +285,7 @@ command_judged s l past c there k d a = by d a
     by ReadParameterPage a = judge_parameters s.geometry c.facts _ a.closed a.one (some_ready a.ready) (none_of (λ v. has_some v.queue) a.one a.no_queue) (none_of caching a.one a.no_cache)
     by Reset a = judge_reset s.geometry c.facts _ a.closed a.one
     by ReadCacheSequential (inl a) = judge_cache s.geometry c.facts _ c.view a.closed a.declared (the_driver a.sole) a.passes
-    by ReadCacheSequential (inr a) = judge_row_cache s.geometry c.facts _ a.wants a.wide a.declared (named_as (λ v. is_page_read v.closer) a.names ∙ a.read)
+    by ReadCacheSequential (inr a) = judge_row_cache s.geometry c.facts _ a.wants a.wide a.declared (named_as has_read_one a.names ∙ a.read)
     by ReadCacheEnd a = judge_cache_end s.geometry c.facts _ c.view a.closed a.declared (the_driver a.sole) a.passes
     by ReadConfirm a = judge_30 s.geometry c.facts _ a.0.0 (ap (λ (b : Bool). is_wide s.geometry.optional && b) (named_as caching a.0.1) ∙ a.1)
     by BlockEraseConfirm a = judge_d0 s.geometry c.facts _ a.0
@@ -301,6 +301,7 @@ command_judged s l past c there k d a = by d a
     by SynchronousReset a = judge_synchronous s.geometry c.facts _ a.0.closed a.0.one a.1
     by Unknown a = absurd a
     by ChangeReadColumnEnhanced a = absurd a
+    by ReadPlane a = absurd a
 
 from_command : (g : Parts) (t u : TailFacts) (luns : List LunView) (c d : Command) → t ≡ u → c ≡ d → judge_cycle g u luns (CommandCycle d) ≡ None → judge_cycle g t luns (CommandCycle c) ≡ None
 from_command g t u luns c d e f h =
@@ -369,7 +370,7 @@ address_judged s l past c byte there k a = at (ends_row (λ d. true) c.facts) re
         (named (row_with c.facts byte) (λ v. is_refused_by g c.facts.opening (page_address g (row_with c.facts byte)) v.queue) is r.goes)
         f14
         (both_no (ends_row (excludes_cache g) c.facts) _ (λ x. named (row_with c.facts byte) caching is (r.no_cache x)))
-        (both_no (ends_row is_enhanced_column c.facts) _ (λ x. named (row_with c.facts byte) (λ v. not (holds_plane_of g (page_address g (row_with c.facts byte)) v.register)) is (is_not _ (r.plane x))))
+        (both_no (ends_row is_enhanced_column c.facts) _ (λ x. named (row_with c.facts byte) (λ v. not (holds_plane_of g (page_address g (row_with c.facts byte)) v)) is (is_not _ (r.plane x))))
     at false e =
         let none = ends_none addresses_the_array c.facts.opening e in
         judge_address g c.facts luns byte f7

@@ -44,7 +44,7 @@ poll_scene s j past c there is p byte left =
     asked = lun_view s.geometry p.polled j.lun
 
     view_is : lun_view s.geometry p.polled j.lun ≡ polled_view asked.selected asked.overlapped (lun_view s.geometry past j.lun)
-    view_is = λ i. record { latch = p.shows i; selected = asked.selected; overlapped = asked.overlapped; busy = p.leaves.busy i; closer = p.leaves.closer i; array_busy = p.leaves.array_busy i; array_page = p.leaves.array_page i; register = p.leaves.register i; column = p.column i; queue = p.leaves.queue i }
+    view_is = λ i. record { latch = p.shows i; selected = asked.selected; overlapped = asked.overlapped; busy = p.leaves.busy i; closer = p.leaves.closer i; array_busy = p.leaves.array_busy i; array_page = p.leaves.array_page i; register = p.leaves.register i; column = p.column i; queue = p.leaves.queue i; held = p.leaves.held i }
 
     now : Scene
     now = record { facts = facts_of (tail p.polled j.lun.ce); view = polled_view asked.selected asked.overlapped c.view; sole = true }

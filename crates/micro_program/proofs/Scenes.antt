@@ -6,7 +6,7 @@ use Rattle.nand_geometry.specs.Limits.{page_len}
 use Rattle.nand_geometry.specs.Row.{parts_of, is_inside}
 use Rattle.nand_geometry.specs.Optional.{is_wide, has_features, has_unique_id, has_lun_reset, has_synchronous_reset}
 use Rattle.onfi_cycle.specs.declared.command.Command.{Command}
-use Rattle.onfi_cycle.specs.declared.command.Command.TheVariants.{Read, ReadConfirm, ChangeReadColumn, ChangeReadColumnConfirm, BlockErase, BlockEraseConfirm, BlockErasePlane, ReadStatus, ReadStatusEnhanced, PageProgram, ChangeWriteColumn, ProgramConfirm, ProgramPlane, ReadId, ReadParameterPage, Reset, ReadCacheSequential, ReadCacheEnd, ReadUniqueId, GetFeatures, SetFeatures, ResetLun, SynchronousReset, Unknown, ChangeReadColumnEnhanced}
+use Rattle.onfi_cycle.specs.declared.command.Command.TheVariants.{Read, ReadConfirm, ChangeReadColumn, ChangeReadColumnConfirm, BlockErase, BlockEraseConfirm, BlockErasePlane, ReadStatus, ReadStatusEnhanced, PageProgram, ChangeWriteColumn, ProgramConfirm, ProgramPlane, ReadId, ReadParameterPage, Reset, ReadCacheSequential, ReadCacheEnd, ReadUniqueId, GetFeatures, SetFeatures, ResetLun, SynchronousReset, Unknown, ChangeReadColumnEnhanced, ReadPlane}
 use Rattle.onfi_cycle.specs.declared.lun.Lun.{Lun}
 use Rattle.onfi_cycle.specs.declared.item.Item.{Item}
 use Rattle.onfi_cycle.specs.declared.latch.Latch.{Latch}
@@ -18,8 +18,8 @@ use Rattle.onfi_cycle.specs.declared.target_cycle.TargetCycle.TheVariants.{Comma
 use Rattle.onfi_cycle.specs.LunView.{LunView}
 use Rattle.onfi_cycle.specs.Sequence.{tail, facts_of, facts_after, opened, is_open, selects_plane, takes_features, takes_inputs, wants_command, wants_address, row, row_with, column_with, input_column}
 use Rattle.onfi_cycle.specs.Effect.{page_address, names_lun, cycle_effect}
-use Rattle.onfi_cycle.specs.Lun.{drivers, is_only, lun_view, view_after, is_page_read}
-use Rattle.onfi_cycle.specs.Rules.{ends_row, second_of_page, second_column, caching, continues_cache, ends_cache, may_change_column, has_some, is_refused_by, register_len, has_no_byte, is_past_register, is_undeclared_address, excludes_cache, holds_plane_of}
+use Rattle.onfi_cycle.specs.Lun.{drivers, is_only, lun_view, view_after}
+use Rattle.onfi_cycle.specs.Rules.{ends_row, second_of_page, second_column, caching, has_read_one, continues_cache, ends_cache, may_change_column, has_some, is_refused_by, register_len, has_no_byte, is_past_register, is_undeclared_address, excludes_cache, holds_plane_of}
 use Rattle.onfi_cycle.specs.Command.{addresses_the_array, is_change_read_column, is_enhanced_column, reads_identity}
 use Rattle.onfi_cycle.specs.Channel.{Channel, is_serving}
 use Rattle.onfi_cycle.proofs.TableLemmas.{command_opens}
@@ -68,7 +68,7 @@ pub record RowCacheAllowed (g : Parts) (lun : ℕ) (c : Scene) : Type 0 where
   pub names : names_lun g (row c.facts) lun ≡ true
   pub declared : g.cache ≡ true
   pub wide : is_wide g.optional ≡ true
-  pub read : is_page_read c.view.closer ≡ true
+  pub read : has_read_one c.view ≡ true
 
 -- another column of the one driver, which 05 began
 pub record ColumnAllowed (c : Scene) : Type 0 where
@@ -84,7 +84,7 @@ closed_unwanted t closed = at (wants_command t ReadCacheSequential) refl
     at true w = let opens : is_open t ≡ true = command_opens t ReadCacheSequential w in cc
     at false w = refl
 
--- what 06 begins is for traces alone
+-- what 06 begins, and 32, are for traces alone
 abbrev pub CommandAllowed : Parts → ℕ → Scene → Command → Type 0
 CommandAllowed g lun c Read = OpenerAllowed c
 CommandAllowed g lun c BlockErase = OpenerAllowed c
@@ -111,6 +111,7 @@ CommandAllowed g lun c ResetLun = (is_open c.facts ≡ false) × (has_lun_reset 
 CommandAllowed g lun c SynchronousReset = ResetAllowed g c × (has_synchronous_reset g.optional ≡ true)
 CommandAllowed g lun c Unknown = ⊥
 CommandAllowed g lun c ChangeReadColumnEnhanced = ⊥
+CommandAllowed g lun c ReadPlane = ⊥
 
 -- the last row cycle
 pub record RowAllowed (g : Parts) (lun : ℕ) (c : Scene) (byte : ℕ) : Type 0 where
@@ -119,7 +120,7 @@ pub record RowAllowed (g : Parts) (lun : ℕ) (c : Scene) (byte : ℕ) : Type 0 
   pub ready : ends_row addresses_the_array c.facts ≡ true → c.view.busy ≡ false
   pub goes : is_refused_by g c.facts.opening (page_address g (row_with c.facts byte)) c.view.queue ≡ false
   pub no_cache : ends_row (excludes_cache g) c.facts ≡ true → caching c.view ≡ false
-  pub plane : ends_row is_enhanced_column c.facts ≡ true → holds_plane_of g (page_address g (row_with c.facts byte)) c.view.register ≡ true
+  pub plane : ends_row is_enhanced_column c.facts ≡ true → holds_plane_of g (page_address g (row_with c.facts byte)) c.view ≡ true
 
 pub record AddressAllowed (g : Parts) (lun : ℕ) (c : Scene) (byte : ℕ) : Type 0 where
   pub wanted : wants_address c.facts byte ≡ true

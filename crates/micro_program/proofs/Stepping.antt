@@ -5,7 +5,7 @@ use Rattle.std.proofs.lemmas.Bool.Decides.{nat_tests}
 use Rattle.onfi_cycle.proofs.Booleans.{eqb_self}
 use Rattle.nand_geometry.specs.declared.parts.Parts.{Parts}
 use Rattle.onfi_cycle.specs.declared.command.Command.{Command}
-use Rattle.onfi_cycle.specs.declared.command.Command.TheVariants.{Read, ReadConfirm, ChangeReadColumnConfirm, BlockEraseConfirm, BlockErasePlane, ReadStatus, ReadStatusEnhanced, ProgramConfirm, ProgramPlane, ReadId, ReadParameterPage, Reset, ReadCacheSequential, ReadCacheEnd, ReadUniqueId, GetFeatures, SetFeatures, ResetLun, SynchronousReset, ChangeReadColumnEnhanced}
+use Rattle.onfi_cycle.specs.declared.command.Command.TheVariants.{Read, ReadConfirm, ChangeReadColumnConfirm, BlockEraseConfirm, BlockErasePlane, ReadStatus, ReadStatusEnhanced, ProgramConfirm, ProgramPlane, ReadId, ReadParameterPage, Reset, ReadCacheSequential, ReadCacheEnd, ReadUniqueId, GetFeatures, SetFeatures, ResetLun, SynchronousReset, ChangeReadColumnEnhanced, ReadPlane}
 use Rattle.onfi_cycle.specs.declared.lun.Lun.{Lun}
 use Rattle.onfi_cycle.specs.declared.item.Item.{Item}
 use Rattle.onfi_cycle.specs.declared.item.Kind.{Kind}
@@ -84,6 +84,7 @@ command_keeps_to s l past c k GetFeatures a = alone_to_target (is_shared s.geome
 command_keeps_to s l past c k SetFeatures a = alone_to_target (is_shared s.geometry) true true (not_shared s.geometry a.0.one) refl
 command_keeps_to s l past c k Reset a = alone_to_target (is_shared s.geometry) true true (not_shared s.geometry a.one) refl
 command_keeps_to s l past c k SynchronousReset a = alone_to_target (is_shared s.geometry) true true (not_shared s.geometry a.0.one) refl
+command_keeps_to s l past c k ReadPlane a = absurd a
 command_keeps_to s l past c k _ a = of_no_target (is_shared s.geometry) false true refl refl
 
 either : (b : Bool) (x : Bool) → (b ≡ true → x ≡ true) → cond b x true ≡ true
@@ -284,6 +285,7 @@ command_leaves_off g lun c Reset h a m p q x on off = cc
 command_leaves_off g lun c SynchronousReset h a m p q x on off = cc
 command_leaves_off g lun c ReadStatus h a m p q x on off = cc
 command_leaves_off g lun c ChangeReadColumnEnhanced h a m p q x on off = absurd a
+command_leaves_off g lun c ReadPlane h a m p q x on off = absurd a
 command_leaves_off g lun c d h a m p q x on off = closer_leaves (wants_command c.facts d && names_lun g (row c.facts) m) (closes_row d && (wants_command c.facts d && is_shared g)) _ p q x refl
 
 -- the openers whose addresses leave each driver

@@ -22,7 +22,7 @@ use Rattle.micro_claims.proofs.Addressing.{carried_is}
 use Rattle.micro_claims.proofs.SoundAddress.{with_column, first_led, second_led}
 use Rattle.micro_verify.specs.Lazy.{lone_job, Run}
 use Rattle.micro_verify.specs.Cause.{WordStops, is_of_cycle_forbidden, is_of_column_too_large}
-use Rattle.micro_verify.proofs.Lone.{Lone, IsAlone, IsLone, lone_behind, judged}
+use Rattle.micro_verify.proofs.Lone.{Lone, IsAlone, IsLone, based, lone_behind, judged}
 use Rattle.micro_verify.proofs.Mirrors.{InInputs}
 use Rattle.micro_verify.proofs.InputsExact.{inputs_facts}
 use Rattle.micro_verify.proofs.AddressesJudged.{plain_judged, column_rule}
@@ -32,12 +32,12 @@ use Rattle.micro_verify.proofs.AddressStops.{address_stops, unwanted_judged}
 
 pub first_judged : (g : Parts) (c : Lone) (a : Address) (byte : ℕ) → ColumnBegun 0 a c.facts → judged g c (AddressCycle byte) ≡ None
 first_judged g c a byte b =
-    plain_judged g c byte (rw (b.alone, b.program.phase) refl) (ap (opened (λ d n. true && at_last_row d n)) b.alone) (ap (opened (λ d n. addresses_the_array d && at_last_row d n)) b.alone) (ap (λ (o : Option Opening). opened (λ d n. is_read_id d) o && not (byte == 0x20)) b.alone) (λ p q. ap (λ (o : Option Opening). is_refused_by g o p q) b.alone)
+    plain_judged g c byte (rw (b.alone, b.program.phase) refl) (ap (opened (λ d n. true && at_last_row d n)) b.alone) (ap (opened (λ d n. addresses_the_array d && at_last_row d n)) b.alone) (ap (λ (o : Option Opening). opened (λ d n. is_read_id d) o && not (byte == 0x20)) b.alone) (λ p q. ap (λ (o : Option Opening). is_refused_by (based g) o p q) b.alone)
     ∙ (rw (b.alone, b.program.phase) refl)
 
 pub second_judged : (g : Parts) (c : Lone) (a : Address) (column : ℕ) → column < 65536 → ColumnBegun 1 (with_column a column) c.facts → judged g c (AddressCycle (column / 256 % 256)) ≡ column_rule (page_len g) column
 second_judged g c a column low b =
-    plain_judged g c (column / 256 % 256) (rw (b.alone, b.program.phase) refl) (ap (opened (λ d n. true && at_last_row d n)) b.alone) (ap (opened (λ d n. addresses_the_array d && at_last_row d n)) b.alone) (ap (λ (o : Option Opening). opened (λ d n. is_read_id d) o && not (column / 256 % 256 == 0x20)) b.alone) (λ p q. ap (λ (o : Option Opening). is_refused_by g o p q) b.alone)
+    plain_judged g c (column / 256 % 256) (rw (b.alone, b.program.phase) refl) (ap (opened (λ d n. true && at_last_row d n)) b.alone) (ap (opened (λ d n. addresses_the_array d && at_last_row d n)) b.alone) (ap (λ (o : Option Opening). opened (λ d n. is_read_id d) o && not (column / 256 % 256 == 0x20)) b.alone) (λ p q. ap (λ (o : Option Opening). is_refused_by (based g) o p q) b.alone)
     ∙ (rw (b.alone, b.program.phase) (ap (λ (x : Bool). cond x (Some ColumnOutside) None) (or-false _ ∙ ap (nat_le (page_len g)) whole)))
   where
     whole : column_with c.facts (column / 256 % 256) ≡ column

@@ -110,7 +110,7 @@ goes_id s text v r c from count n k is m here single one low takes =
       registers = registers_still s.geometry v r from count answer m.registers;
       tail = shut_tail s.geometry (lone_job s.geometry text) (beside_read v.lun.busy (record { 0 = 4 }) v) r.done (read_after ReadId IdRead (byte_now r from) c.view) refl (id_shut (byte_now r from));
       shows = refl;
-      lun = record { busy = m.lun.busy; register = refl; known = refl; column = λ e. record { at = 0; is = refl; bound = refl; read = refl }; no_column = λ e. cc; queue = m.lun.queue; last = refl; caching = refl; other = refl; read = λ e. cc; cached_page = λ e. cc; cached_index = λ e. cc };
+      lun = record { busy = m.lun.busy; register = refl; known = refl; column = λ e. record { at = 0; is = refl; bound = refl; read = refl }; no_column = λ e. cc; queue = m.lun.queue; last = refl; caching = refl; other = refl; read = λ e. cc; cached_page = λ e. cc; cached_index = λ e. cc; held = λ e. cc };
       along = λ e. cc;
     })
 
@@ -121,6 +121,6 @@ goes_parameters s text v r c from count n k is m here single one low takes =
       registers = registers_still s.geometry v r from count answer m.registers;
       tail = shut_tail s.geometry (lone_job s.geometry text) (beside_read true (record { 0 = 2 }) v) r.done (read_after ReadParameterPage ParameterPageReadStarted (byte_now r from) c.view) refl (parameters_shut (byte_now r from));
       shows = refl;
-      lun = record { busy = refl; register = refl; known = refl; column = λ e. record { at = 0; is = refl; bound = refl; read = refl }; no_column = λ e. cc; queue = m.lun.queue; last = refl; caching = refl; other = refl; read = λ e. cc; cached_page = λ e. cc; cached_index = λ e. cc };
+      lun = record { busy = refl; register = refl; known = refl; column = λ e. record { at = 0; is = refl; bound = refl; read = refl }; no_column = λ e. cc; queue = m.lun.queue; last = refl; caching = refl; other = refl; read = λ e. cc; cached_page = λ e. cc; cached_index = λ e. cc; held = λ e. cc };
       along = λ e. cc;
     })

@@ -23,6 +23,7 @@ use Rattle.micro_claims.proofs.Fits.{Address, RowIs, takes_row}
 use Rattle.micro_claims.proofs.AddressSteps.{carried}
 use Rattle.micro_claims.proofs.Addressing.{carried_is}
 use Rattle.micro_verify.specs.Cause.{is_of_cycle_forbidden}
+use Rattle.micro_verify.proofs.Lone.{based}
 use Rattle.micro_verify.proofs.Mirrors.{RegistersMirror, LunMirror, exact_test}
 use Rattle.micro_verify.proofs.AddressesJudged.{row_rule, column_rule}
 use Rattle.micro_verify.proofs.AddressTests.{row_is_of_array}
@@ -33,14 +34,14 @@ use Rattle.micro_verify.proofs.QueueExact.{refuses_is}
 
 -- the row is refused by the LUN
 abbrev pub is_refused : Parts → Command → Address → LunView → Bool
-is_refused g o a view = view.busy || caching view || refused_by g o (page_address g (row_of a.r1 a.r2 a.r3)) view.queue
+is_refused g o a view = view.busy || caching view || refused_by (based g) o (page_address g (row_of a.r1 a.r2 a.r3)) view.queue
 
 pub row_refused_is : (g : Parts) (j : Job) (v : State) (done : List Done) (view : LunView) (o : Command) (n : ℕ) (a : Address) → is_wide g.optional ≡ false → takes_row o ≡ true → RegistersMirror g v.registers done → LunMirror g v.lun (index_now 0 done) view → RowIs g j a → a.index ≡ index_now 0 done → a.plane ≡ plane_now done → row_refused g v (After o n) ≡ is_refused g o a view
 row_refused_is g j v done view o n a base takes m lun row index plane =
     let page : (page_address g (row_of a.r1 a.r2 a.r3)).page ≡ index_now 0 done % g.pages = ap (λ (p : RowParts). p.page) row.reads ∙ ap (λ (i : ℕ). i % g.pages) index in
     let block : (page_address g (row_of a.r1 a.r2 a.r3)).block ≡ index_now 0 done / g.pages * planes g + plane_now done = ap (λ (p : RowParts). p.block) row.reads ∙ (λ i. index i / g.pages * planes g + plane i) in
     let low : plane_now done < planes g = subst (λ (p : ℕ). p < planes g) plane row.low in
-    let queue : queue_refuses v.lun.queue v.registers.planes o ≡ refused_by g o (page_address g (row_of a.r1 a.r2 a.r3)) view.queue =
+    let queue : queue_refuses v.lun.queue v.registers.planes o ≡ refused_by (based g) o (page_address g (row_of a.r1 a.r2 a.r3)) view.queue =
     ap (λ (p : Planes). queue_refuses v.lun.queue p o) m.planes ∙ refuses_is g (index_now 0 done) v.lun.queue view.queue o (page_address g (row_of a.r1 a.r2 a.r3)) (plane_now done) takes lun.queue low m.plane_low page block in
     let cached : (excludes_cache g o && may_be_31 v.lun.last) ≡ caching view = ap (λ (b : Bool). b && may_be_31 v.lun.last) (excludes g o base takes) ∙ lun.caching in
     λ i. row_is_of_array o takes i && (lun.busy i || cached i || queue i)
@@ -54,18 +55,18 @@ row_refused_is g j v done view o n a base takes m lun row index plane =
 
 -- a row that is refused breaks a rule of V7, another none
 pub refused_breaks : (g : Parts) (o : Command) (a : Address) (view : LunView) → is_refused g o a view ≡ true → (rule : Forbidden) × ((row_rule g o a view ≡ Some rule) × (is_of_cycle_forbidden rule ≡ true))
-refused_breaks g o a view h = at view.busy refl (refused_by g o (page_address g (row_of a.r1 a.r2 a.r3)) view.queue) refl (caching view) refl
+refused_breaks g o a view h = at view.busy refl (refused_by (based g) o (page_address g (row_of a.r1 a.r2 a.r3)) view.queue) refl (caching view) refl
   where
-    at : (b : Bool) → view.busy ≡ b → (q : Bool) → refused_by g o (page_address g (row_of a.r1 a.r2 a.r3)) view.queue ≡ q → (k : Bool) → caching view ≡ k → (rule : Forbidden) × ((row_rule g o a view ≡ Some rule) × (is_of_cycle_forbidden rule ≡ true))
+    at : (b : Bool) → view.busy ≡ b → (q : Bool) → refused_by (based g) o (page_address g (row_of a.r1 a.r2 a.r3)) view.queue ≡ q → (k : Bool) → caching view ≡ k → (rule : Forbidden) × ((row_rule g o a view ≡ Some rule) × (is_of_cycle_forbidden rule ≡ true))
     at true e q f k i = (LunBusy, (rw e refl, refl))
     at false e true f k i = (QueueClash, (rw (e, f) refl, refl))
     at false e false f true i = (CacheReadMisplaced, (rw (e, f, i) refl, refl))
     at false e false f false i = let none : is_refused g o a view ≡ false = rw (e, f, i) refl in let both : true ≡ false = sym h ∙ none in cc
 
 pub taken_breaks_none : (g : Parts) (o : Command) (a : Address) (view : LunView) → is_refused g o a view ≡ false → row_rule g o a view ≡ None
-taken_breaks_none g o a view h = at view.busy refl (caching view) refl (refused_by g o (page_address g (row_of a.r1 a.r2 a.r3)) view.queue) refl
+taken_breaks_none g o a view h = at view.busy refl (caching view) refl (refused_by (based g) o (page_address g (row_of a.r1 a.r2 a.r3)) view.queue) refl
   where
-    at : (b : Bool) → view.busy ≡ b → (k : Bool) → caching view ≡ k → (q : Bool) → refused_by g o (page_address g (row_of a.r1 a.r2 a.r3)) view.queue ≡ q → row_rule g o a view ≡ None
+    at : (b : Bool) → view.busy ≡ b → (k : Bool) → caching view ≡ k → (q : Bool) → refused_by (based g) o (page_address g (row_of a.r1 a.r2 a.r3)) view.queue ≡ q → row_rule g o a view ≡ None
     at true e k i q f = let some : is_refused g o a view ≡ true = rw e refl in let both : true ≡ false = sym some ∙ h in cc
     at false e true i q f = let some : is_refused g o a view ≡ true = rw (e, i) refl in let both : true ≡ false = sym some ∙ h in cc
     at false e false i true f = let some : is_refused g o a view ≡ true = rw (e, i, f) refl in let both : true ≡ false = sym some ∙ h in cc

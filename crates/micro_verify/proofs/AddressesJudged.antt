@@ -37,7 +37,7 @@ named_none None test h = refl
 named_none (Some v) test h = h v
 
 -- an address that is wanted and isn't the last of a row breaks F14 or no rule
-pub plain_judged : (g : Parts) (c : Lone) (byte : ℕ) → wants_address c.facts byte ≡ true → ends_row (λ d. true) c.facts ≡ false → ends_row addresses_the_array c.facts ≡ false → (opened (λ o n. is_read_id o) c.facts.opening && not (byte == 0x20)) ≡ false → ((p : PageAddress) (q : List Queued) → is_refused_by g c.facts.opening p q ≡ false) → judged g c (AddressCycle byte) ≡ cond ((second_of_page c.facts && nat_le (page_len g) (column_with c.facts byte)) || (second_column is_change_read_column c.facts && driver_is (λ v. nat_le (register_len g v.register) (column_with c.facts byte)) (c.view ∷ []))) (Some ColumnOutside) None
+pub plain_judged : (g : Parts) (c : Lone) (byte : ℕ) → wants_address c.facts byte ≡ true → ends_row (λ d. true) c.facts ≡ false → ends_row addresses_the_array c.facts ≡ false → (opened (λ o n. is_read_id o) c.facts.opening && not (byte == 0x20)) ≡ false → ((p : PageAddress) (q : List Queued) → is_refused_by (based g) c.facts.opening p q ≡ false) → judged g c (AddressCycle byte) ≡ cond ((second_of_page c.facts && nat_le (page_len g) (column_with c.facts byte)) || (second_column is_change_read_column c.facts && driver_is (λ v. nat_le (register_len g v.register) (column_with c.facts byte)) (c.view ∷ []))) (Some ColumnOutside) None
 unfolding breaks_command_unknown breaks_sequence_open breaks_several_luns breaks_no_column_to_change breaks_command_misplaced breaks_address_misplaced breaks_row_outside breaks_lun_busy breaks_queue_clash breaks_input_misplaced breaks_no_sole_driver breaks_data_not_ready breaks_column_outside breaks_cache_read_misplaced breaks_plane_not_held
 plain_judged g c byte wanted ends array id refuses = rw (wanted, id, ends, array, cached, planes_held, none) refl
   where
@@ -47,8 +47,8 @@ plain_judged g c byte wanted ends array id refuses = rw (wanted, id, ends, array
     planes_held : ends_row is_enhanced_column c.facts ≡ false
     planes_held = ends_none is_enhanced_column c.facts.opening ends
 
-    none : named_lun_is g (row_with c.facts byte) (λ v. is_refused_by g c.facts.opening (page_address g (row_with c.facts byte)) v.queue) (c.view ∷ []) ≡ false
-    none = named_none (slice_get (c.view ∷ []) (parts_of g (row_with c.facts byte)).lun) (λ v. is_refused_by g c.facts.opening (page_address g (row_with c.facts byte)) v.queue) (λ v. refuses _ _)
+    none : named_lun_is g (row_with c.facts byte) (λ v. is_refused_by (based g) c.facts.opening (page_address g (row_with c.facts byte)) v.queue) (c.view ∷ []) ≡ false
+    none = named_none (slice_get (c.view ∷ []) (parts_of g (row_with c.facts byte)).lun) (λ v. is_refused_by (based g) c.facts.opening (page_address g (row_with c.facts byte)) v.queue) (λ v. refuses _ _)
 
 -- the row is inside, and of the only LUN
 pub record RowThere (g : Parts) (a : Address) : Type 0 where
@@ -60,7 +60,7 @@ column_rule len column = cond (nat_le len column) (Some ColumnOutside) None
 
 abbrev pub row_rule : Parts → Command → Address → LunView → Option Forbidden
 row_rule g o a view =
-    cond view.busy (Some LunBusy) (cond (refused_by g o (page_address g (row_of a.r1 a.r2 a.r3)) view.queue) (Some QueueClash) (cond (caching view) (Some CacheReadMisplaced) None))
+    cond view.busy (Some LunBusy) (cond (refused_by (based g) o (page_address g (row_of a.r1 a.r2 a.r3)) view.queue) (Some QueueClash) (cond (caching view) (Some CacheReadMisplaced) None))
 
 -- the rule that the next address breaks, if any
 abbrev pub address_rule : Parts → Command → Address → LunView → ℕ → Option Forbidden
@@ -83,9 +83,9 @@ read_judged g a view (suc (suc zero)) few row = plain_judged g (cursor Read a vi
 read_judged g a view (suc (suc (suc zero))) few row = plain_judged g (cursor Read a view 3) (nth 3 (bytes_of Read a)) refl refl refl refl (λ p q. refl)
 read_judged g a view (suc (suc (suc (suc zero)))) few row =
     let r = row refl in
-    at r view.busy refl (refused_by g Read (page_address g (row_of a.r1 a.r2 a.r3)) view.queue) refl (caching view) refl
+    at r view.busy refl (refused_by (based g) Read (page_address g (row_of a.r1 a.r2 a.r3)) view.queue) refl (caching view) refl
   where
-    at : RowThere g a → (b : Bool) → view.busy ≡ b → (q : Bool) → refused_by g Read (page_address g (row_of a.r1 a.r2 a.r3)) view.queue ≡ q → (k : Bool) → caching view ≡ k → IsJudged g Read a view 4
+    at : RowThere g a → (b : Bool) → view.busy ≡ b → (q : Bool) → refused_by (based g) Read (page_address g (row_of a.r1 a.r2 a.r3)) view.queue ≡ q → (k : Bool) → caching view ≡ k → IsJudged g Read a view 4
     at r true e q f k h = rw (r.inside, r.lun, e) refl
     at r false e true f k h = rw (r.inside, r.lun, e, f) refl
     at r false e false f true h = rw (r.inside, r.lun, e, f, h) refl
@@ -100,9 +100,9 @@ program_judged g a view (suc (suc zero)) few row = plain_judged g (cursor PagePr
 program_judged g a view (suc (suc (suc zero))) few row = plain_judged g (cursor PageProgram a view 3) (nth 3 (bytes_of PageProgram a)) refl refl refl refl (λ p q. refl)
 program_judged g a view (suc (suc (suc (suc zero)))) few row =
     let r = row refl in
-    at r view.busy refl (refused_by g PageProgram (page_address g (row_of a.r1 a.r2 a.r3)) view.queue) refl (caching view) refl
+    at r view.busy refl (refused_by (based g) PageProgram (page_address g (row_of a.r1 a.r2 a.r3)) view.queue) refl (caching view) refl
   where
-    at : RowThere g a → (b : Bool) → view.busy ≡ b → (q : Bool) → refused_by g PageProgram (page_address g (row_of a.r1 a.r2 a.r3)) view.queue ≡ q → (k : Bool) → caching view ≡ k → IsJudged g PageProgram a view 4
+    at : RowThere g a → (b : Bool) → view.busy ≡ b → (q : Bool) → refused_by (based g) PageProgram (page_address g (row_of a.r1 a.r2 a.r3)) view.queue ≡ q → (k : Bool) → caching view ≡ k → IsJudged g PageProgram a view 4
     at r true e q f k h = rw (r.inside, r.lun, e) refl
     at r false e true f k h = rw (r.inside, r.lun, e, f) refl
     at r false e false f true h = rw (r.inside, r.lun, e, f, h) refl
@@ -115,9 +115,9 @@ erase_judged g a view zero few row = plain_judged g (cursor BlockErase a view 0)
 erase_judged g a view (suc zero) few row = plain_judged g (cursor BlockErase a view 1) (nth 1 (bytes_of BlockErase a)) refl refl refl refl (λ p q. refl)
 erase_judged g a view (suc (suc zero)) few row =
     let r = row refl in
-    at r view.busy refl (refused_by g BlockErase (page_address g (row_of a.r1 a.r2 a.r3)) view.queue) refl (caching view) refl
+    at r view.busy refl (refused_by (based g) BlockErase (page_address g (row_of a.r1 a.r2 a.r3)) view.queue) refl (caching view) refl
   where
-    at : RowThere g a → (b : Bool) → view.busy ≡ b → (q : Bool) → refused_by g BlockErase (page_address g (row_of a.r1 a.r2 a.r3)) view.queue ≡ q → (k : Bool) → caching view ≡ k → IsJudged g BlockErase a view 2
+    at : RowThere g a → (b : Bool) → view.busy ≡ b → (q : Bool) → refused_by (based g) BlockErase (page_address g (row_of a.r1 a.r2 a.r3)) view.queue ≡ q → (k : Bool) → caching view ≡ k → IsJudged g BlockErase a view 2
     at r true e q f k h = rw (r.inside, r.lun, e) refl
     at r false e true f k h = rw (r.inside, r.lun, e, f) refl
     at r false e false f true h = rw (r.inside, r.lun, e, f, h) refl

@@ -150,7 +150,7 @@ first_mirrors g text pages =
       tail = record { place = _; single = refl; address = no_address; is = empty_shut; now = λ e. cc; column = λ e. cc; row = λ e. cc; named = λ e. cc; base = refl; changes = λ e. cc };
       shows = refl;
       along = λ e. cc;
-      lun = record { busy = refl; register = refl; known = refl; column = λ e. cc; no_column = λ e. refl; last = refl; queue = refl; caching = refl; other = refl; read = λ e. cc; cached_page = λ e. cc; cached_index = λ e. cc };
+      lun = record { busy = refl; register = refl; known = refl; column = λ e. cc; no_column = λ e. refl; last = refl; queue = refl; caching = refl; other = refl; read = λ e. cc; cached_page = λ e. cc; cached_index = λ e. cc; held = λ e. cc };
     }
   where
     zero_is : 0 % g.pages ≡ 0

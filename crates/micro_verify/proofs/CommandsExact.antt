@@ -5,12 +5,12 @@ use Rattle.std.proofs.Math.Nat.{div-add-mod, mul-add-div_right}
 use Rattle.std.proofs.Common.{◌≡◌, ℕ, zero, suc, ◌+◌, ◌-◌, ◌*◌, ◌/◌, ◌%◌, ◌≤◌, ◌<◌, ◌==◌, Bool, true, false, ◌&&◌, ◌||◌, cond, not, ltb, nat_le, List, [], ◌∷◌, Option, Some, None, refl, sym, ap, ◌∙◌, subst, arith, eqb-true, take}
 use Rattle.std.proofs.lemmas.Bool.{not-true, and_parts, or_parts}
 use Rattle.nand_geometry.specs.declared.parts.Parts.{Parts}
-use Rattle.nand_geometry.specs.Optional.{is_wide, has_features, has_unique_id, has_enhanced_column, has_lun_reset, has_synchronous_reset}
+use Rattle.nand_geometry.specs.Optional.{is_wide, has_features, has_unique_id, has_enhanced_column, has_lun_reset, has_plane_reads, has_synchronous_reset}
 use Rattle.nand_geometry.specs.declared.row_parts.RowParts.{RowParts}
 use Rattle.nand_geometry.specs.Limits.{planes}
 use Rattle.nand_geometry.specs.Row.{parts_of, row_of}
 use Rattle.onfi_cycle.specs.declared.command.Command.{Command}
-use Rattle.onfi_cycle.specs.declared.command.Command.TheVariants.{Read, ReadConfirm, ChangeReadColumn, ChangeReadColumnEnhanced, ChangeReadColumnConfirm, BlockErase, BlockEraseConfirm, BlockErasePlane, ReadStatus as StatusCommand, ReadStatusEnhanced, PageProgram, ChangeWriteColumn, ProgramConfirm, ProgramPlane, ReadId, ReadParameterPage, Reset, ReadCacheSequential, ReadCacheEnd, Unknown as UnknownCommand, ReadUniqueId, GetFeatures, SetFeatures, ResetLun, SynchronousReset}
+use Rattle.onfi_cycle.specs.declared.command.Command.TheVariants.{Read, ReadConfirm, ReadPlane, ChangeReadColumn, ChangeReadColumnEnhanced, ChangeReadColumnConfirm, BlockErase, BlockEraseConfirm, BlockErasePlane, ReadStatus as StatusCommand, ReadStatusEnhanced, PageProgram, ChangeWriteColumn, ProgramConfirm, ProgramPlane, ReadId, ReadParameterPage, Reset, ReadCacheSequential, ReadCacheEnd, Unknown as UnknownCommand, ReadUniqueId, GetFeatures, SetFeatures, ResetLun, SynchronousReset}
 use Rattle.onfi_cycle.specs.declared.data_phase.DataPhase.TheVariants.{Outside, Inputs}
 use Rattle.onfi_cycle.specs.declared.effect.Effect.{Effect}
 use Rattle.onfi_cycle.specs.declared.effect.Effect.TheVariants.{EraseStarted, ProgramStarted, ReadStarted, ReadColumnChanged, CacheReadContinued, CacheReadEnded, Unaffected}
@@ -29,7 +29,7 @@ use Rattle.onfi_cycle.specs.Base.{is_of_base}
 use Rattle.onfi_cycle.specs.Command.{command, closes, address_cycles, takes_address, is_known, is_opener, wants_one_lun}
 use Rattle.onfi_cycle.specs.Sequence.{facts_after, is_proper_beginning, selects_plane, wants_command, wants_column, takes_data, takes_inputs, opened, row, input_column}
 use Rattle.onfi_cycle.specs.Effect.{names_lun, cycle_effect, page_address, is_off, is_data}
-use Rattle.onfi_cycle.specs.Lun.{view_after, resumed, column_at}
+use Rattle.onfi_cycle.specs.Lun.{view_after, resumed, column_at, has_reads}
 use Rattle.onfi_cycle.specs.Rules.{breaks_command_unknown, is_undeclared, may_change_column, is_page_or_parameters}
 use Rattle.onfi_cycle.specs.Channel.{Channel}
 use Rattle.micro_word.specs.declared.word.Word.TheVariants.{Command as CommandWord}
@@ -57,7 +57,7 @@ use Rattle.micro_claims.specs.declared.drift.Drift.{Drift}
 use Rattle.micro_claims.specs.declared.queued_rows.QueuedRows.{QueuedRows}
 use Rattle.micro_claims.specs.declared.queued_rows.QueuedRows.TheVariants.{NoRows, SomeRows, AnyRows}
 use Rattle.onfi_cycle.specs.declared.queued.Queued.{Queued}
-use Rattle.onfi_cycle.specs.declared.queued.Queued.TheVariants.{Erase, Program}
+use Rattle.onfi_cycle.specs.declared.queued.Queued.TheVariants.{Erase, Program, Read as QueuedRead}
 use Rattle.micro_claims.specs.Reasons.{reason_against, breaks_cycle_forbidden, breaks_address_unaligned, breaks_handover_in_sequence, breaks_buffer_passed, breaks_row_or_plane_outside, breaks_column_too_large, breaks_no_status, breaks_ends_too_soon, breaks_command_not_allowed}
 use Rattle.micro_claims.specs.Accepts.{state_after}
 use Rattle.micro_verify.specs.Lazy.{lone_job, Run}
@@ -65,7 +65,7 @@ use Rattle.micro_verify.specs.Cause.{Cause, WordStops, is_of_cycle_forbidden, in
 use Rattle.micro_claims.proofs.Fits.{Address, is_place, bytes_of, opener_facts, facts_behind, RowIs, Now, now_of, has_row, has_column, InProgram, ColumnBegun, is_of_kind, page_of}
 use Rattle.micro_claims.proofs.Tails.{no_address, closed_by, only_read, only_erase, only_erase_plane, only_column}
 use Rattle.micro_claims.proofs.Sounding.{NoReasons, no_reasons}
-use Rattle.micro_claims.proofs.Commands.{same_either, out_of_place, wanted, row_names}
+use Rattle.micro_claims.proofs.Commands.{same_either, out_of_place, wanted, row_names, one_held}
 use Rattle.micro_claims.proofs.MoreCommands.{declared, opener_free}
 use Rattle.micro_verify.proofs.Lone.{Lone, IsAlone, IsLone, lone_behind, judged, stops_there, based}
 use Rattle.micro_verify.proofs.Mirrors.{Mirrors, RegistersMirror, TailMirror, LunMirror, PlaceMirror, Shut, shows_of, held_of, is_modelled, place_queues, place_erases, row_goes_along, BoundIs, NameIs, ColumnMirror, exact_test, is_read_column, kept_plus, drift_from, RowsMirror, QueueMirror, RowMirror, AllMirror, open_same}
@@ -88,6 +88,7 @@ fit_or_none false x h = refl
 -- a command for traces alone is none of the base profile
 traced : (d : Command) → is_for_traces d ≡ true → not (is_of_base d) ≡ true
 traced ChangeReadColumnEnhanced h = refl
+traced ReadPlane h = refl
 traced _ h = cc
 
 for_programs : (x d k a t w n : Bool) → (t ≡ true → x ≡ true) → ((x || d) || a || t || w || n) ≡ true → n ≡ false → (a || x || (k || d) || w) ≡ true
@@ -249,7 +250,7 @@ goes_00 s text v r c byte k is_d is m clear =
     command_goes s text v r c byte Read k is_d refl is m clear refl
     (record { place = After Read 0; single = refl; address = no_address; is = record { place = refl; facts = refl }; now = λ e. cc; column = λ e. cc; row = λ e. cc; named = λ e. cc; base = refl; changes = λ e. cc })
     (ap resumed_shows m.shows ∙ resumed_exact c.view.latch)
-    (record { busy = m.lun.busy; register = m.lun.register; known = m.lun.known; column = m.lun.column; no_column = m.lun.no_column; last = m.lun.last; queue = m.lun.queue; caching = m.lun.caching; other = m.lun.other; read = m.lun.read; cached_page = m.lun.cached_page; cached_index = m.lun.cached_index })
+    (record { busy = m.lun.busy; register = m.lun.register; known = m.lun.known; column = m.lun.column; no_column = m.lun.no_column; last = m.lun.last; queue = m.lun.queue; caching = m.lun.caching; other = m.lun.other; read = m.lun.read; cached_page = m.lun.cached_page; cached_index = m.lun.cached_index; held = m.lun.held })
     (λ e. cc)
 
 -- 4. closers
@@ -341,7 +342,7 @@ goes_d0 s text v r c byte k is_d is m clear =
     (shut_tail g j (command_leaves g v BlockEraseConfirm) r.done (lone_behind g (CommandCycle BlockEraseConfirm) c) refl (shut_facts (facts_after (CommandCycle BlockEraseConfirm) c.facts) (rw begun refl) (rw begun refl)))
     (m.shows ∙ ap (λ (e : Effect). shows_of (view_after e c.view).latch) (sym effect))
     (subst (λ (e : Effect). LunMirror g (command_leaves g v BlockEraseConfirm).lun (index_now 0 r.done) (view_after e c.view)) (sym effect)
-    (record { busy = refl; register = refl; known = refl; column = λ e. cc; no_column = λ e. refl; last = refl; queue = refl; caching = refl; other = refl; read = λ e. cc; cached_page = λ e. cc; cached_index = λ e. cc }))
+    (record { busy = refl; register = refl; known = refl; column = λ e. cc; no_column = λ e. refl; last = refl; queue = refl; caching = refl; other = refl; read = λ e. cc; cached_page = λ e. cc; cached_index = λ e. cc; held = λ e. cc }))
     (λ e. cc)
 
 -- 10h
@@ -358,7 +359,7 @@ goes_10 s text v r c byte k is_d is m clear =
     (shut_tail g j (command_leaves g v ProgramConfirm) r.done (lone_behind g (CommandCycle ProgramConfirm) c) refl (shut_facts (facts_after (CommandCycle ProgramConfirm) c.facts) (rw begun refl) (rw begun refl)))
     (m.shows ∙ ap (λ (e : Effect). shows_of (view_after e c.view).latch) (sym effect))
     (subst (λ (e : Effect). LunMirror g (command_leaves g v ProgramConfirm).lun (index_now 0 r.done) (view_after e c.view)) (sym effect)
-    (record { busy = refl; register = refl; known = refl; column = λ e. cc; no_column = λ e. refl; last = refl; queue = refl; caching = refl; other = refl; read = λ e. cc; cached_page = λ e. cc; cached_index = λ e. cc }))
+    (record { busy = refl; register = refl; known = refl; column = λ e. cc; no_column = λ e. refl; last = refl; queue = refl; caching = refl; other = refl; read = λ e. cc; cached_page = λ e. cc; cached_index = λ e. cc; held = λ e. cc }))
     (λ e. cc)
 
 -- FFh
@@ -369,7 +370,7 @@ goes_ff s text v r c byte k is_d is m clear =
     command_goes s text v r c byte Reset k is_d refl is m clear refl
     (record { place = Closed; single = refl; address = no_address; is = reset_shut; now = λ e. cc; column = λ e. cc; row = λ e. cc; named = λ e. cc; base = refl; changes = λ e. cc })
     refl
-    (record { busy = refl; register = refl; known = refl; column = λ e. cc; no_column = λ e. refl; last = refl; queue = refl; caching = refl; other = refl; read = λ e. cc; cached_page = λ e. cc; cached_index = λ e. cc })
+    (record { busy = refl; register = refl; known = refl; column = λ e. cc; no_column = λ e. refl; last = refl; queue = refl; caching = refl; other = refl; read = λ e. cc; cached_page = λ e. cc; cached_index = λ e. cc; held = λ e. cc })
     (λ e. cc)
   where
     reset_shut : Shut (facts_after (CommandCycle Reset) c.facts)
@@ -452,6 +453,7 @@ goes_e0 s text v r c byte k is_d is m clear =
       read = m.lun.read;
       cached_page = m.lun.cached_page;
       cached_index = m.lun.cached_index;
+      held = m.lun.held;
     }))
     (λ e. cc)
 
@@ -498,6 +500,20 @@ cached_index_is : (g : Parts) (a : Address) (now : ℕ) (o : Option NamedRow) �
 cached_index_is g a now None h = absurd h
 cached_index_is g a now (Some n) h = h.index.hi
 
+-- no read is among the rows of a claim
+no_reads : (g : Parts) (now : ℕ) (rows : QueuedRows) (queue : List Queued) → RowsMirror g now rows queue → has_reads queue ≡ false
+no_reads g now NoRows queue m = ap has_reads m
+no_reads g now AnyRows queue m = absurd m
+no_reads g now (SomeRows erase planes d) queue m = all m.of_planes queue m.rows
+  where
+    all : (ps : List ℕ) (qs : List Queued) → AllMirror (RowMirror g erase m.index) ps qs → has_reads qs ≡ false
+    all [] [] a = refl
+    all [] (q ∷ qs) a = absurd a
+    all (p ∷ ps) [] a = absurd a
+    all (p ∷ ps) (Erase q ∷ qs) a = all ps qs a.1
+    all (p ∷ ps) (Program q ∷ qs) a = all ps qs a.1
+    all (p ∷ ps) (QueuedRead q ∷ qs) a = let none = a.0.kind in cc
+
 pub goes_30 : (s : Channel) (text : Microprogram) (v : State) (r : Run) (c : Lone) (byte : ℕ) → IsFit s text → command byte ≡ ReadConfirm → IsLone s r.past c → Mirrors s.geometry (lone_job s.geometry text) v r.done c → NoReasons s.geometry text v (CommandWord byte) → Goes s text (state_after s.geometry v (CommandWord byte)) r (CommandWord byte)
 goes_30 s text v r c byte k is_d is m clear =
     let g = s.geometry in
@@ -508,6 +524,7 @@ goes_30 s text v r c byte k is_d is m clear =
     let begun : c.facts.is_empty ≡ false = ap (λ (t : TailFacts). t.is_empty) w.facts in
     let page = page_of_row g j c.facts w.address (ap row w.facts) (w.row refl) in
     let some : 0 < g.pages = let least = k.alone.is_channel.limits.pages_least in omega (arith, least) in
+    let none : has_reads c.view.queue ≡ false = no_reads g (index_now 0 r.done) v.lun.queue c.view.queue m.lun.queue in
     let effect : cycle_effect (based g) c.facts c.view.latch (CommandCycle ReadConfirm) 0 ≡ ReadStarted (page_address g (row c.facts)) c.facts.column = rw (wants, names) refl in
     command_goes s text v r c byte ReadConfirm k is_d refl is m clear refl
     (shut_tail g j (command_leaves g v ReadConfirm) r.done (lone_behind g (CommandCycle ReadConfirm) c) refl (shut_facts (facts_after (CommandCycle ReadConfirm) c.facts) (rw begun refl) (rw begun refl)))
@@ -515,17 +532,18 @@ goes_30 s text v r c byte k is_d is m clear =
     (subst (λ (e : Effect). LunMirror g (command_leaves g v ReadConfirm).lun (index_now 0 r.done) (view_after e c.view)) (sym effect)
     (record {
       busy = refl;
-      register = refl;
-      known = refl;
+      register = rw none refl;
+      known = rw none refl;
       column = λ e. read_column_is v.target.column c.facts (ap (λ (t : TailFacts). t.inputs) w.facts) (w.column refl);
       no_column = λ e. cc;
       last = refl;
-      queue = m.lun.queue;
+      queue = refl;
       caching = refl;
       other = refl;
       read = λ e. refl;
       cached_page = λ e. cached_page_is g w.address (index_now 0 r.done) v.target.named some k.pages (w.named refl) ∙ ap kept (sym page.0);
       cached_index = λ e. cached_index_is g w.address (index_now 0 r.done) v.target.named (w.named refl) ∙ ap kept (sym (index_is g (page_address g (row c.facts)) w.address.index w.address.plane (w.row refl).low page.0 page.1));
+      held = λ e. one_held (page_address g (row c.facts)) c.view.queue none;
     }))
     (λ e. cc)
 
@@ -607,6 +625,7 @@ goes_d1 s text v r c byte k is_d is m clear =
       read = λ e. cc;
       cached_page = λ e. cc;
       cached_index = λ e. cc;
+      held = λ e. cc;
     }))
     (λ e. cc)
 
@@ -640,6 +659,7 @@ goes_11 s text v r c byte k is_d is m clear =
       read = λ e. cc;
       cached_page = λ e. cc;
       cached_index = λ e. cc;
+      held = λ e. cc;
     }))
     (λ e. cc)
 
@@ -717,6 +737,7 @@ goes_31 s text v r c byte k is_d is m clear =
       read = λ e. refl;
       cached_page = λ e. ap (λ (o : Option ℕ). bound_plus o 1) (m.lun.cached_page two.1) ∙ kept_plus c.view.array_page.page 1;
       cached_index = λ e. ap (λ (o : Option ℕ). bound_plus o 1) (m.lun.cached_index two.1) ∙ (kept_plus (index_of g c.view.array_page) 1 ∙ ap kept (next_index (c.view.array_page.block / planes g * g.pages) c.view.array_page.page));
+      held = λ e. refl;
     })))
     (λ e. absurd (queues_none e))
   where
@@ -745,7 +766,7 @@ goes_3f s text v r c byte k is_d is m clear =
     (shut_tail g j (command_leaves g v ReadCacheEnd) r.done (lone_behind g (CommandCycle ReadCacheEnd) c) refl end_shut)
     (ap (λ (e : Effect). shows_of (view_after e c.view).latch) (sym effect))
     (subst (λ (e : Effect). LunMirror g (command_leaves g v ReadCacheEnd).lun (index_now 0 r.done) (view_after e c.view)) (sym effect)
-    (record { busy = refl; register = refl; known = refl; column = λ e. record { at = 0; is = refl; bound = refl; read = refl }; no_column = λ e. cc; last = refl; queue = m.lun.queue; caching = refl; other = refl; read = λ e. cc; cached_page = λ e. cc; cached_index = λ e. cc }))
+    (record { busy = refl; register = refl; known = refl; column = λ e. record { at = 0; is = refl; bound = refl; read = refl }; no_column = λ e. cc; last = refl; queue = m.lun.queue; caching = refl; other = refl; read = λ e. cc; cached_page = λ e. cc; cached_index = λ e. cc; held = λ e. cc }))
     (λ e. cc)
 
 -- 7. each command
@@ -785,6 +806,7 @@ command_exact s text v r c byte k seen is m =
     by ReadCacheSequential is_d clear = goes_31 s text v r c byte k is_d is m clear
     by ReadCacheEnd is_d clear = goes_3f s text v r c byte k is_d is m clear
     by ChangeReadColumnEnhanced is_d clear = absurd (barred (is_wide s.geometry.optional) (not (has_enhanced_column s.geometry.optional)) k.base (declared s.geometry text v byte ChangeReadColumnEnhanced is_d clear).fit)
+    by ReadPlane is_d clear = absurd (barred (is_wide s.geometry.optional) (not (has_plane_reads s.geometry.optional)) k.base (declared s.geometry text v byte ReadPlane is_d clear).fit)
     by ReadUniqueId is_d clear = absurd (barred (is_wide s.geometry.optional) (not (has_unique_id s.geometry.optional)) k.base (declared s.geometry text v byte ReadUniqueId is_d clear).fit)
     by GetFeatures is_d clear = absurd (barred (is_wide s.geometry.optional) (not (has_features s.geometry.optional)) k.base (declared s.geometry text v byte GetFeatures is_d clear).fit)
     by SetFeatures is_d clear = absurd (barred (is_wide s.geometry.optional) (not (has_features s.geometry.optional)) k.base (declared s.geometry text v byte SetFeatures is_d clear).fit)

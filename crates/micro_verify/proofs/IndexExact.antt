@@ -136,6 +136,7 @@ lun_moved g l old new move view moves m =
       read = m.read;
       cached_page = m.cached_page;
       cached_index = m.cached_index;
+      held = m.held;
     }
 
 -- a row that goes along with the queue goes on doing so

@@ -228,6 +228,7 @@ pub record LunMirror (g : Parts) (v : KnownLun) (now : ℕ) (view : LunView) : T
   pub read : may_be_other v.last ≡ false → may_be_30 v.last ≡ not (is_cache_read view.closer)
   pub cached_page : may_be_other v.last ≡ false → v.cached.page.hi ≡ kept view.array_page.page
   pub cached_index : may_be_other v.last ≡ false → v.cached.index.hi ≡ kept (index_of g view.array_page)
+  pub held : may_be_other v.last ≡ false → nat_le (length view.held) 1 ≡ true
 
 -- a row that is to be queued goes along with the queue
 abbrev pub place_erases : Place → Bool

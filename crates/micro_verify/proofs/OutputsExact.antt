@@ -386,6 +386,7 @@ get_exact s text v r c n some k is m =
           read = m.lun.read;
           cached_page = m.lun.cached_page;
           cached_index = m.lun.cached_index;
+          held = m.lun.held;
         }))
       where
         some_read : (k : ℕ) → true ≡ ltb 0 (k + n)

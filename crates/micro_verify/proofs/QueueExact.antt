@@ -9,8 +9,8 @@ use Rattle.onfi_cycle.specs.declared.command.Command.{Command}
 use Rattle.onfi_cycle.specs.declared.command.Command.TheVariants.{Read, BlockErase, PageProgram}
 use Rattle.onfi_cycle.specs.declared.page_address.PageAddress.{PageAddress}
 use Rattle.onfi_cycle.specs.declared.queued.Queued.{Queued}
-use Rattle.onfi_cycle.specs.declared.queued.Queued.TheVariants.{Erase, Program}
-use Rattle.onfi_cycle.specs.Rules.{planes_clash, queued_clashes, some_queued_clashes, refused_by, has_some}
+use Rattle.onfi_cycle.specs.declared.queued.Queued.TheVariants.{Erase, Program, Read as QueuedRead}
+use Rattle.onfi_cycle.specs.Rules.{planes_clash, queued_clashes, some_queued_clashes, some_read_clashes, refused_by, has_some}
 use Rattle.micro_claims.specs.declared.planes.Planes.{Planes}
 use Rattle.micro_claims.specs.declared.queued_rows.QueuedRows.{QueuedRows}
 use Rattle.micro_claims.specs.declared.queued_rows.QueuedRows.TheVariants.{NoRows, SomeRows, AnyRows}
@@ -19,6 +19,7 @@ use Rattle.micro_claims.specs.Planes.{has_plane, just_plane, either_plane, share
 use Rattle.micro_claims.specs.Against.{same_test, queue_refuses}
 use Rattle.micro_claims.proofs.Fits.{is_of_kind, takes_row}
 use Rattle.micro_claims.proofs.PlaneSets.{either_has, none_has, share_just, just_same}
+use Rattle.micro_verify.proofs.Lone.{based}
 use Rattle.micro_verify.proofs.Mirrors.{RowsMirror, RowMirror, AllMirror, set_of}
 
 -- 1. sets of planes
@@ -52,7 +53,7 @@ index_parts p a b = at (a % p == b % p) refl (a / p == b / p) refl
     at true e false f = apart (λ s. let both : (a / p == b / p) ≡ true = eq-eqb (a / p) (b / p) (ap (λ (n : ℕ). n / p) s) in let clash : true ≡ false = sym both ∙ f in cc)
     at false e y f = apart (λ s. let both : (a % p == b % p) ≡ true = eq-eqb (a % p) (b % p) (ap (λ (n : ℕ). n % p) s) in let clash : true ≡ false = sym both ∙ e in cc)
 
-clash_is : (g : Parts) (p q : PageAddress) (now index plane other : ℕ) → plane < planes g → other < planes g → p.page ≡ now % g.pages → p.block ≡ now / g.pages * planes g + plane → q.page ≡ index % g.pages → q.block ≡ index / g.pages * planes g + other → planes_clash g p q ≡ (not (now == index) || (plane == other))
+clash_is : (g : Parts) (p q : PageAddress) (now index plane other : ℕ) → plane < planes g → other < planes g → p.page ≡ now % g.pages → p.block ≡ now / g.pages * planes g + plane → q.page ≡ index % g.pages → q.block ≡ index / g.pages * planes g + other → planes_clash (based g) p q ≡ (not (now == index) || (plane == other))
 clash_is g p q now index plane other low high pp pb qp qb =
     (λ i. (pb i % planes g == qb i % planes g) || not (pp i == qp i) || not (pb i / planes g == qb i / planes g))
     ∙ ((λ i. (mod-mul-add (now / g.pages) (planes g) plane low i == mod-mul-add (index / g.pages) (planes g) other high i) || not (now % g.pages == index % g.pages) || not (div-mul-add (now / g.pages) (planes g) plane low i == div-mul-add (index / g.pages) (planes g) other high i))
@@ -67,23 +68,32 @@ clash_is g p q now index plane other low high pp pb qp qb =
     mixed false false b = refl
 
 -- a row of the queue doesn't go together with this one
-row_clash : (g : Parts) (e erase : Bool) (p : PageAddress) (now index plane other : ℕ) (q : Queued) → plane < planes g → p.page ≡ now % g.pages → p.block ≡ now / g.pages * planes g + plane → RowMirror g erase index other q → queued_clashes g e p q ≡ (not (same_test erase e) || not (now == index) || (plane == other))
+row_clash : (g : Parts) (e erase : Bool) (p : PageAddress) (now index plane other : ℕ) (q : Queued) → plane < planes g → p.page ≡ now % g.pages → p.block ≡ now / g.pages * planes g + plane → RowMirror g erase index other q → queued_clashes (based g) e p q ≡ (not (same_test erase e) || not (now == index) || (plane == other))
 row_clash g e erase p now index plane other (Erase q) low page block m = by e erase m.kind (clash_is g p q now index plane other low m.low page block m.page m.block)
   where
-    by : (e erase : Bool) → is_of_kind erase (Erase q) ≡ true → planes_clash g p q ≡ (not (now == index) || (plane == other)) → queued_clashes g e p (Erase q) ≡ (not (same_test erase e) || not (now == index) || (plane == other))
+    by : (e erase : Bool) → is_of_kind erase (Erase q) ≡ true → planes_clash (based g) p q ≡ (not (now == index) || (plane == other)) → queued_clashes (based g) e p (Erase q) ≡ (not (same_test erase e) || not (now == index) || (plane == other))
     by true true kind c = c
     by false true kind c = refl
     by e false kind c = cc
 row_clash g e erase p now index plane other (Program q) low page block m = by e erase m.kind (clash_is g p q now index plane other low m.low page block m.page m.block)
   where
-    by : (e erase : Bool) → is_of_kind erase (Program q) ≡ true → planes_clash g p q ≡ (not (now == index) || (plane == other)) → queued_clashes g e p (Program q) ≡ (not (same_test erase e) || not (now == index) || (plane == other))
+    by : (e erase : Bool) → is_of_kind erase (Program q) ≡ true → planes_clash (based g) p q ≡ (not (now == index) || (plane == other)) → queued_clashes (based g) e p (Program q) ≡ (not (same_test erase e) || not (now == index) || (plane == other))
     by true false kind c = refl
     by false false kind c = c
     by e true kind c = cc
+row_clash g e erase p now index plane other (QueuedRead q) low page block m = let none = m.kind in cc
 
 -- 3. all of them
 
-clashes_are : (g : Parts) (e erase : Bool) (p : PageAddress) (now index plane : ℕ) (ps : List ℕ) (qs : List Queued) → plane < planes g → plane ≤ 3 → p.page ≡ now % g.pages → p.block ≡ now / g.pages * planes g + plane → has_some qs ≡ true → AllMirror (RowMirror g erase index) ps qs → some_queued_clashes g e p qs ≡ (not (same_test erase e) || not (now == index) || has_plane plane (set_of ps))
+-- a read goes together with none of them
+reads_clash : (g : Parts) (erase : Bool) (p : PageAddress) (index : ℕ) (ps : List ℕ) (qs : List Queued) → has_some qs ≡ true → AllMirror (RowMirror g erase index) ps qs → some_read_clashes (based g) p qs ≡ true
+reads_clash g erase p index ps [] some m = cc
+reads_clash g erase p index [] (q ∷ qs) some m = absurd m
+reads_clash g erase p index (x ∷ ps) (Erase q ∷ qs) some m = refl
+reads_clash g erase p index (x ∷ ps) (Program q ∷ qs) some m = refl
+reads_clash g erase p index (x ∷ ps) (QueuedRead q ∷ qs) some m = let none = m.0.kind in cc
+
+clashes_are : (g : Parts) (e erase : Bool) (p : PageAddress) (now index plane : ℕ) (ps : List ℕ) (qs : List Queued) → plane < planes g → plane ≤ 3 → p.page ≡ now % g.pages → p.block ≡ now / g.pages * planes g + plane → has_some qs ≡ true → AllMirror (RowMirror g erase index) ps qs → some_queued_clashes (based g) e p qs ≡ (not (same_test erase e) || not (now == index) || has_plane plane (set_of ps))
 clashes_are g e erase p now index plane [] [] low few page block some m = cc
 clashes_are g e erase p now index plane [] (q ∷ qs) low few page block some m = absurd m
 clashes_are g e erase p now index plane (x ∷ ps) [] low few page block some m = absurd m
@@ -109,13 +119,13 @@ clashes_are g e erase p now index plane (x ∷ (y ∷ ps)) (q ∷ (r ∷ qs)) lo
     joined false x s = refl
 
 -- the queue of the claim refuses the row of the registers exactly where that of the LUN does
-pub refuses_is : (g : Parts) (now : ℕ) (rows : QueuedRows) (queue : List Queued) (o : Command) (p : PageAddress) (plane : ℕ) → takes_row o ≡ true → RowsMirror g now rows queue → plane < planes g → plane ≤ 3 → p.page ≡ now % g.pages → p.block ≡ now / g.pages * planes g + plane → queue_refuses rows (just_plane plane) o ≡ refused_by g o p queue
+pub refuses_is : (g : Parts) (now : ℕ) (rows : QueuedRows) (queue : List Queued) (o : Command) (p : PageAddress) (plane : ℕ) → takes_row o ≡ true → RowsMirror g now rows queue → plane < planes g → plane ≤ 3 → p.page ≡ now % g.pages → p.block ≡ now / g.pages * planes g + plane → queue_refuses rows (just_plane plane) o ≡ refused_by (based g) o p queue
 refuses_is g now NoRows queue o p plane takes m low few page block = by o takes
   where
-    by : (o : Command) → takes_row o ≡ true → false ≡ refused_by g o p queue
-    by Read h = sym (ap has_some m)
-    by BlockErase h = sym (ap (some_queued_clashes g true p) m)
-    by PageProgram h = sym (ap (some_queued_clashes g false p) m)
+    by : (o : Command) → takes_row o ≡ true → false ≡ refused_by (based g) o p queue
+    by Read h = sym (ap (some_read_clashes (based g) p) m)
+    by BlockErase h = sym (ap (some_queued_clashes (based g) true p) m)
+    by PageProgram h = sym (ap (some_queued_clashes (based g) false p) m)
     by _ h = cc
 refuses_is g now AnyRows queue o p plane takes m low few page block = absurd m
 refuses_is g now (SomeRows erase queued d) queue o p plane takes m low few page block = by o takes
@@ -133,8 +143,8 @@ refuses_is g now (SomeRows erase queued d) queue o p plane takes m low few page 
     shared : share_a_plane (just_plane plane) queued ≡ has_plane plane (set_of m.of_planes)
     shared = share_one plane queued few ∙ ap (has_plane plane) m.set
 
-    by : (o : Command) → takes_row o ≡ true → queue_refuses (SomeRows erase queued d) (just_plane plane) o ≡ refused_by g o p queue
-    by Read h = sym m.some
+    by : (o : Command) → takes_row o ≡ true → queue_refuses (SomeRows erase queued d) (just_plane plane) o ≡ refused_by (based g) o p queue
+    by Read h = sym (reads_clash g erase p m.index m.of_planes queue m.some m.rows)
     by BlockErase h = (λ i. not (same_test erase true) || not (drift i) || shared i) ∙ sym (clashes_are g true erase p now m.index plane m.of_planes queue low few page block m.some m.rows)
     by PageProgram h = (λ i. not (same_test erase false) || not (drift i) || shared i) ∙ sym (clashes_are g false erase p now m.index plane m.of_planes queue low few page block m.some m.rows)
     by _ h = cc

@@ -1,12 +1,12 @@
 -- Commands on a lone LUN: what the claim says against one is what the rules say, exactly.
 use Rattle.std.proofs.lemmas.Bool.Decides.{nat_tests}
-use Rattle.std.proofs.Common.{◌≡◌, ℕ, ◌+◌, ◌≤◌, ◌==◌, Bool, true, false, ◌&&◌, ◌||◌, cond, not, ltb, nat_le, List, Option, Some, None, refl, sym, ap, ◌∙◌, subst, arith}
+use Rattle.std.proofs.Common.{◌≡◌, ℕ, ◌+◌, ◌≤◌, ◌==◌, Bool, true, false, ◌&&◌, ◌||◌, cond, not, ltb, nat_le, List, Option, Some, None, refl, sym, ap, ◌∙◌, subst, arith, length}
 use Rattle.std.proofs.Math.Bool.{or-false}
 use Rattle.std.proofs.lemmas.Bool.{not-false}
 use Rattle.nand_geometry.specs.declared.parts.Parts.{Parts}
-use Rattle.nand_geometry.specs.Optional.{is_wide, has_features, has_unique_id, has_enhanced_column, has_lun_reset, has_synchronous_reset}
+use Rattle.nand_geometry.specs.Optional.{is_wide, has_features, has_unique_id, has_enhanced_column, has_lun_reset, has_plane_reads, has_synchronous_reset}
 use Rattle.onfi_cycle.specs.declared.command.Command.{Command}
-use Rattle.onfi_cycle.specs.declared.command.Command.TheVariants.{Read, ReadConfirm, ChangeReadColumn, ChangeReadColumnEnhanced, ChangeReadColumnConfirm, BlockErase, BlockEraseConfirm, BlockErasePlane, ReadStatus, ReadStatusEnhanced, PageProgram, ChangeWriteColumn, ProgramConfirm, ProgramPlane, ReadId, ReadParameterPage, Reset, ReadCacheSequential, ReadCacheEnd, ReadUniqueId, GetFeatures, SetFeatures, ResetLun, SynchronousReset, Unknown}
+use Rattle.onfi_cycle.specs.declared.command.Command.TheVariants.{Read, ReadConfirm, ReadPlane, ChangeReadColumn, ChangeReadColumnEnhanced, ChangeReadColumnConfirm, BlockErase, BlockEraseConfirm, BlockErasePlane, ReadStatus, ReadStatusEnhanced, PageProgram, ChangeWriteColumn, ProgramConfirm, ProgramPlane, ReadId, ReadParameterPage, Reset, ReadCacheSequential, ReadCacheEnd, ReadUniqueId, GetFeatures, SetFeatures, ResetLun, SynchronousReset, Unknown}
 use Rattle.onfi_cycle.specs.declared.data_phase.DataPhase.TheVariants.{FirstColumn, SecondColumn}
 use Rattle.onfi_cycle.specs.declared.forbidden.Forbidden.{Forbidden}
 use Rattle.onfi_cycle.specs.declared.latch.Latch.{Latch}
@@ -259,9 +259,9 @@ told_row_31 g c fit wants = at (is_open c.facts) refl
     at true e = rw (fit, wants, e) refl
     at false e = let none = closed_unwanted c.facts e in let both : true ≡ false = sym wants ∙ none in cc
 
-told_31 : (g : Parts) (c : Lone) → not g.cache ≡ false → wants_command c.facts ReadCacheSequential ≡ false → Told (is_open c.facts || (not (drives (shows_of c.view.latch)) || c.view.busy || not (is_page_read c.view.closer) || not (nat_le (c.view.array_page.page + 2) g.pages))) (judged g c (CommandCycle ReadCacheSequential))
+told_31 : (g : Parts) (c : Lone) → not g.cache ≡ false → wants_command c.facts ReadCacheSequential ≡ false → (is_page_read c.view.closer ≡ true → nat_le (length c.view.held) 1 ≡ true) → Told (is_open c.facts || (not (drives (shows_of c.view.latch)) || c.view.busy || not (is_page_read c.view.closer) || not (nat_le (c.view.array_page.page + 2) g.pages))) (judged g c (CommandCycle ReadCacheSequential))
 unfolding breaks_command_unknown breaks_sequence_open breaks_several_luns breaks_no_column_to_change breaks_command_misplaced breaks_address_misplaced breaks_row_outside breaks_lun_busy breaks_queue_clash breaks_input_misplaced breaks_no_sole_driver breaks_data_not_ready breaks_column_outside breaks_cache_read_misplaced breaks_plane_not_held
-told_31 g c fit unwanted = at (is_open c.facts) refl c.view.latch refl c.view.busy refl (is_page_read c.view.closer) refl (nat_le (c.view.array_page.page + 2) g.pages) refl
+told_31 g c fit unwanted held = at (is_open c.facts) refl c.view.latch refl c.view.busy refl (is_page_read c.view.closer) refl (nat_le (c.view.array_page.page + 2) g.pages) refl
   where
     next : (b : Bool) → nat_le (c.view.array_page.page + 2) g.pages ≡ b → ltb (c.view.array_page.page + 1) g.pages ≡ b
     next true e = grind (arith, nat_tests, e)
@@ -272,12 +272,12 @@ told_31 g c fit unwanted = at (is_open c.facts) refl c.view.latch refl c.view.bu
     at false e Off k b f q h n i = rw (fit, unwanted, e, k) refl
     at false e Status k true f q h n i = rw (fit, unwanted, e, k, f) refl
     at false e Status k false f false h n i = rw (fit, unwanted, e, k, f, h) refl
-    at false e Status k false f true h true i = rw (fit, unwanted, e, k, f, h, i, next true i) tt
-    at false e Status k false f true h false i = rw (fit, unwanted, e, k, f, h, i, next false i) refl
+    at false e Status k false f true h true i = rw (fit, unwanted, e, k, f, h, held h, i, next true i) tt
+    at false e Status k false f true h false i = rw (fit, unwanted, e, k, f, h, held h, i, next false i) refl
     at false e Data k true f q h n i = rw (fit, unwanted, e, k, f) refl
     at false e Data k false f false h n i = rw (fit, unwanted, e, k, f, h) refl
-    at false e Data k false f true h true i = rw (fit, unwanted, e, k, f, h, i, next true i) tt
-    at false e Data k false f true h false i = rw (fit, unwanted, e, k, f, h, i, next false i) refl
+    at false e Data k false f true h true i = rw (fit, unwanted, e, k, f, h, held h, i, next true i) tt
+    at false e Data k false f true h false i = rw (fit, unwanted, e, k, f, h, held h, i, next false i) refl
 
 caches_a_page : (o : Option Command) → is_page_read o ≡ false → is_cache_read o ≡ false
 caches_a_page None h = refl
@@ -389,13 +389,14 @@ told_command g j v done c d one base low m h = by d h
             told_by _ _ _
             (by_place false (placed ∙ e) ∙ (ap (λ (b : Bool). may_be_open v || b) (or_where (not (drives v.target.shows) || v.lun.busy || may_be_other v.lun.last) _ _ (λ e. page_test (or_second _ _ e)))
             ∙ (λ i. shut i || (not (drives (m.shows i)) || m.lun.busy i || m.lun.other i || not (nat_le (c.view.array_page.page + 2) g.pages)))))
-            (told_31 g c h e)
+            (told_31 g c h e (λ read. m.lun.held (m.lun.other ∙ ap not read)))
     by ReadCacheEnd h =
         told_by _ _ _
         (fitting ReadCacheEnd h ∙ (ap (λ (b : Bool). may_be_open v || b) (or_where (not (drives v.target.shows) || v.lun.busy || may_be_other v.lun.last) _ _ (λ e. m.lun.read (or_second _ _ e)))
         ∙ (λ i. shut i || (not (drives (m.shows i)) || m.lun.busy i || m.lun.other i || not (is_cache_read c.view.closer)))))
         (told_3f g c h)
     by ChangeReadColumnEnhanced h = absurd (barred (is_wide g.optional) (not (has_enhanced_column g.optional)) base h)
+    by ReadPlane h = absurd (barred (is_wide g.optional) (not (has_plane_reads g.optional)) base h)
     by ReadUniqueId h = absurd (barred (is_wide g.optional) (not (has_unique_id g.optional)) base h)
     by GetFeatures h = absurd (barred (is_wide g.optional) (not (has_features g.optional)) base h)
     by SetFeatures h = absurd (barred (is_wide g.optional) (not (has_features g.optional)) base h)

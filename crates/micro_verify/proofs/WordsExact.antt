@@ -112,13 +112,14 @@ lun_polled g l now view m =
       read = m.read;
       cached_page = m.cached_page;
       cached_index = m.cached_index;
+      held = m.held;
     }
 
 lun_ready : (g : Parts) (l : KnownLun) (now : ℕ) (view : LunView) (x : Bool) → LunMirror g l now view → LunMirror g (record l { busy = false }) now (record view { busy = false; array_busy = x })
-lun_ready g l now view x m = record { busy = refl; register = m.register; known = m.known; column = m.column; no_column = m.no_column; last = m.last; queue = m.queue; caching = m.caching; other = m.other; read = m.read; cached_page = m.cached_page; cached_index = m.cached_index }
+lun_ready g l now view x m = record { busy = refl; register = m.register; known = m.known; column = m.column; no_column = m.no_column; last = m.last; queue = m.queue; caching = m.caching; other = m.other; read = m.read; cached_page = m.cached_page; cached_index = m.cached_index; held = m.held }
 
 lun_is_ready : (g : Parts) (l : KnownLun) (now : ℕ) (view : LunView) → view.busy ≡ false → LunMirror g l now view → LunMirror g (record l { busy = false }) now view
-lun_is_ready g l now view e m = record { busy = sym e; register = m.register; known = m.known; column = m.column; no_column = m.no_column; last = m.last; queue = m.queue; caching = m.caching; other = m.other; read = m.read; cached_page = m.cached_page; cached_index = m.cached_index }
+lun_is_ready g l now view e m = record { busy = sym e; register = m.register; known = m.known; column = m.column; no_column = m.no_column; last = m.last; queue = m.queue; caching = m.caching; other = m.other; read = m.read; cached_page = m.cached_page; cached_index = m.cached_index; held = m.held }
 
 pub shut_tail : (g : Parts) (j : Job) (v : State) (done : List Done) (c : Lone) → v.target.tail ≡ Closed → Shut c.facts → TailMirror g j v.target (now_of j done) c
 shut_tail g j v done c single shut = record { place = Closed; single = single; address = no_address; is = shut; now = λ e. cc; column = λ e. cc; row = λ e. cc; named = λ e. cc; base = refl; changes = λ e. cc }

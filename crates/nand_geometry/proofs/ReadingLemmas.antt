@@ -10,7 +10,7 @@ use Rattle.nand_geometry.specs.declared.optional.Profile.{Profile}
 use Rattle.nand_geometry.specs.declared.optional.Profile.TheVariants.{Base, Onfi}
 use Rattle.nand_geometry.specs.Optional.{no_optional, wide_with}
 use Rattle.nand_geometry.specs.Limits.{has_size_fault, has_lun_fault, has_plane_fault, has_status_fault, fault_of}
-use Rattle.nand_geometry.specs.Reading.{is_field, has_bit, u16_at, u32_at, FieldsDecide, whole_copies, is_signed, is_sound, is_good, optional_by, declared_by, declared_as, has_double_rate, has_wide_bus, has_address_cycles, has_lun_operations, copy_fault, or_fault, read_as}
+use Rattle.nand_geometry.specs.Reading.{is_field, has_bit, u16_at, u32_at, FieldsDecide, whole_copies, is_signed, is_sound, is_good, optional_by, declared_by, declared_as, has_wide_bus, has_address_cycles, has_lun_operations, copy_fault, or_fault, read_as}
 
 -- the first of two faults
 abbrev or_else : Option PageFault → Option PageFault → Option PageFault
@@ -202,7 +202,8 @@ same_optional copy other same =
     let more_features : slice_index copy 7 ≡ slice_index other 7 = same 7 refl in
     let commands : slice_index copy 8 ≡ slice_index other 8 = same 8 refl in
     let more_commands : slice_index copy 9 ≡ slice_index other 9 = same 9 refl in
-    λ i. wide_with (has_bit (commands i) 2) (has_bit (commands i) 5) (has_bit (commands i) 6) (has_bit (more_commands i) 1) (has_bit (features i) 5 || (has_bit (more_features i) 2 || has_bit (more_features i) 5))
+    let planes : slice_index copy 114 ≡ slice_index other 114 = same 114 refl in
+    λ i. wide_with (has_bit (commands i) 2) (has_bit (commands i) 5) (has_bit (commands i) 6) (has_bit (more_commands i) 1) (has_bit (features i) 6) (has_bit (features i) 5 || (has_bit (more_features i) 2 || has_bit (more_features i) 5)) (has_bit (planes i) 1)
 
 same_declared : (profile : Profile) (copy other : List ℕ) → declared_by copy ≡ declared_by other → optional_by copy ≡ optional_by other → declared_as profile copy ≡ declared_as profile other
 same_declared Base copy other numbers optional = numbers

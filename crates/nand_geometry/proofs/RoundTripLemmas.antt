@@ -7,7 +7,7 @@ use Rattle.nand_geometry.specs.Limits.{fault_of, InLimits}
 use Rattle.nand_geometry.specs.declared.optional.Profile.{Profile}
 use Rattle.nand_geometry.specs.declared.optional.Profile.TheVariants.{Base, Onfi}
 use Rattle.nand_geometry.specs.Flag.{flag}
-use Rattle.nand_geometry.specs.Optional.{no_optional, has_features, has_unique_id, has_enhanced_column, has_lun_reset, has_synchronous_reset, wide_with, kept_optional, as_read}
+use Rattle.nand_geometry.specs.Optional.{no_optional, has_features, has_unique_id, has_enhanced_column, has_lun_reset, has_plane_reads, has_synchronous_reset, has_free_blocks, wide_with, kept_optional, as_read}
 use Rattle.nand_geometry.specs.Page.{page_body, crc, page, parameter_bytes}
 use Rattle.nand_geometry.specs.Reading.{whole_copies, has_bit, is_signed, is_sound, optional_by, declared_by, declared_as, has_lun_operations, copy_fault, IsDamaged, PagesReadBack, ParametersReadBack}
 use Rattle.nand_geometry.proofs.ChecksumLemmas.{crc_fits}
@@ -15,21 +15,30 @@ use Rattle.nand_geometry.proofs.LimitLemmas.{faultless}
 use Rattle.nand_geometry.proofs.ReadingLemmas.{scan, read_copy, copies_of_append, no_copy_fault, scan_reads}
 
 -- the bits of the features, read again
-record FeaturesRead (several planes rate : Bool) (number : ℕ) : Type 0 where
+record FeaturesRead (several planes rate reads : Bool) (number : ℕ) : Type 0 where
   narrow : has_bit (number % 256) 0 ≡ false
   several_luns : has_bit (number % 256) 1 ≡ several
   several_planes : has_bit (number % 256) 3 ≡ planes
   double_rate : (has_bit (number % 256) 5 || (has_bit (number / 256 % 256) 2 || has_bit (number / 256 % 256) 5)) ≡ rate
+  plane_reads : has_bit (number % 256) 6 ≡ reads
 
-features_read : (several planes rate : Bool) → FeaturesRead several planes rate (flag 1 several + flag 3 planes + flag 5 rate)
-features_read true true true = record { narrow = refl; several_luns = refl; several_planes = refl; double_rate = refl }
-features_read true true false = record { narrow = refl; several_luns = refl; several_planes = refl; double_rate = refl }
-features_read true false true = record { narrow = refl; several_luns = refl; several_planes = refl; double_rate = refl }
-features_read true false false = record { narrow = refl; several_luns = refl; several_planes = refl; double_rate = refl }
-features_read false true true = record { narrow = refl; several_luns = refl; several_planes = refl; double_rate = refl }
-features_read false true false = record { narrow = refl; several_luns = refl; several_planes = refl; double_rate = refl }
-features_read false false true = record { narrow = refl; several_luns = refl; several_planes = refl; double_rate = refl }
-features_read false false false = record { narrow = refl; several_luns = refl; several_planes = refl; double_rate = refl }
+features_read : (several planes rate reads : Bool) → FeaturesRead several planes rate reads (flag 1 several + flag 3 planes + flag 5 rate + flag 6 reads)
+features_read true true true true = record { narrow = refl; several_luns = refl; several_planes = refl; double_rate = refl; plane_reads = refl }
+features_read true true true false = record { narrow = refl; several_luns = refl; several_planes = refl; double_rate = refl; plane_reads = refl }
+features_read true true false true = record { narrow = refl; several_luns = refl; several_planes = refl; double_rate = refl; plane_reads = refl }
+features_read true true false false = record { narrow = refl; several_luns = refl; several_planes = refl; double_rate = refl; plane_reads = refl }
+features_read true false true true = record { narrow = refl; several_luns = refl; several_planes = refl; double_rate = refl; plane_reads = refl }
+features_read true false true false = record { narrow = refl; several_luns = refl; several_planes = refl; double_rate = refl; plane_reads = refl }
+features_read true false false true = record { narrow = refl; several_luns = refl; several_planes = refl; double_rate = refl; plane_reads = refl }
+features_read true false false false = record { narrow = refl; several_luns = refl; several_planes = refl; double_rate = refl; plane_reads = refl }
+features_read false true true true = record { narrow = refl; several_luns = refl; several_planes = refl; double_rate = refl; plane_reads = refl }
+features_read false true true false = record { narrow = refl; several_luns = refl; several_planes = refl; double_rate = refl; plane_reads = refl }
+features_read false true false true = record { narrow = refl; several_luns = refl; several_planes = refl; double_rate = refl; plane_reads = refl }
+features_read false true false false = record { narrow = refl; several_luns = refl; several_planes = refl; double_rate = refl; plane_reads = refl }
+features_read false false true true = record { narrow = refl; several_luns = refl; several_planes = refl; double_rate = refl; plane_reads = refl }
+features_read false false true false = record { narrow = refl; several_luns = refl; several_planes = refl; double_rate = refl; plane_reads = refl }
+features_read false false false true = record { narrow = refl; several_luns = refl; several_planes = refl; double_rate = refl; plane_reads = refl }
+features_read false false false false = record { narrow = refl; several_luns = refl; several_planes = refl; double_rate = refl; plane_reads = refl }
 
 -- and those of the optional commands
 record CommandsRead (cache features enhanced unique column reset : Bool) (number : ℕ) : Type 0 where
@@ -107,6 +116,10 @@ commands_read false false false false true false = record { read_cache = refl; s
 commands_read false false false false false true = record { read_cache = refl; set_features = refl; status_enhanced = refl; unique_id = refl; enhanced_column = refl; lun_reset = refl }
 commands_read false false false false false false = record { read_cache = refl; set_features = refl; status_enhanced = refl; unique_id = refl; enhanced_column = refl; lun_reset = refl }
 
+free_read : (free : Bool) → has_bit (flag 1 free) 1 ≡ free
+free_read true = refl
+free_read false = refl
+
 -- a number in its bytes, read again
 two_bytes : (n : ℕ) → n < 65536 → n % 256 + 256 * (n / 256 % 256) ≡ n
 two_bytes n h = omega arith
@@ -129,20 +142,22 @@ page_optional : (g : Parts) → optional_by (page g) ≡ kept_optional Onfi g.op
 unfolding optional_by
 page_optional g =
     let o = g.optional in
-    let f = features_read (nat_lt 1 g.luns) g.multi_plane (has_synchronous_reset o) in
+    let f = features_read (nat_lt 1 g.luns) g.multi_plane (has_synchronous_reset o) (has_plane_reads o) in
     let k = commands_read g.cache (has_features o) g.enhanced (has_unique_id o) (has_enhanced_column o) (has_lun_reset o) in
     let set_features = k.set_features in
     let unique_id = k.unique_id in
     let enhanced_column = k.enhanced_column in
     let lun_reset = k.lun_reset in
+    let plane_reads = f.plane_reads in
     let double_rate = f.double_rate in
-    λ i. wide_with (set_features i) (unique_id i) (enhanced_column i) (lun_reset i) (double_rate i)
+    let free_blocks = free_read (has_free_blocks o) in
+    λ i. wide_with (set_features i) (unique_id i) (enhanced_column i) (lun_reset i) (plane_reads i) (double_rate i) (free_blocks i)
 
 page_numbers : (g : Parts) → InLimits g → declared_by (page g) ≡ as_read Base g
 unfolding declared_by
 page_numbers g limits =
     let o = g.optional in
-    let f = features_read (nat_lt 1 g.luns) g.multi_plane (has_synchronous_reset o) in
+    let f = features_read (nat_lt 1 g.luns) g.multi_plane (has_synchronous_reset o) (has_plane_reads o) in
     let k = commands_read g.cache (has_features o) g.enhanced (has_unique_id o) (has_enhanced_column o) (has_lun_reset o) in
     let page_bytes = four_bytes g.page_bytes (omega (arith, limits.page_bytes_most)) in
     let spare_bytes = two_bytes g.spare_bytes (omega (arith, limits.spare_bytes_most)) in
@@ -180,7 +195,7 @@ several_declared false operations h = refl
 page_faultless : (g : Parts) → InLimits g → copy_fault (page g) ≡ None
 page_faultless g limits =
     let declares = page_numbers g limits in
-    let f = features_read (nat_lt 1 g.luns) g.multi_plane (has_synchronous_reset g.optional) in
+    let f = features_read (nat_lt 1 g.luns) g.multi_plane (has_synchronous_reset g.optional) (has_plane_reads g.optional) in
     let operations : has_lun_operations (page g) ≡ nat_lt 1 (declared_by (page g)).luns = f.several_luns ∙ ap (λ (p : Parts). nat_lt 1 p.luns) (sym declares) in
     no_copy_fault Base (page g) f.narrow refl (ap fault_of declares ∙ (faultless g).1 limits) (several_declared _ _ operations)
 

@@ -1,5 +1,5 @@
 -- What a chip has beyond the base profile, as a set of bits.
-use Rattle.std.specs.Prelude.{ℕ, ◌+◌, ◌==◌, Bool, true}
+use Rattle.std.specs.Prelude.{ℕ, ◌+◌, ◌==◌, Bool}
 use Rattle.std.specs.Int.RustNames.{bit_and}
 use Rattle.nand_geometry.specs.declared.optional.Optional.{Optional}
 use Rattle.nand_geometry.specs.declared.optional.Profile.{Profile}
@@ -30,18 +30,25 @@ has_lun_reset o = has_all o 512
 abbrev pub has_synchronous_reset : Optional → Bool
 has_synchronous_reset o = has_all o 2048
 
+abbrev pub has_plane_reads : Optional → Bool
+has_plane_reads o = has_all o 1024
+
+abbrev pub has_free_blocks : Optional → Bool
+has_free_blocks o = has_all o 4096
+
 abbrev pub is_wide : Optional → Bool
 is_wide o = has_all o 32768
 
 -- the set of a chip that is read as one of the wider profile, by what it declares
-abbrev pub wide_with : (features unique_id enhanced_column lun_reset synchronous_reset : Bool) → Optional
-wide_with features unique_id enhanced_column lun_reset synchronous_reset =
-    record { 0 = 32768 + flag 2 features + flag 5 unique_id + flag 6 enhanced_column + flag 9 lun_reset + flag 11 synchronous_reset }
+abbrev pub wide_with : (features unique_id enhanced_column lun_reset plane_reads synchronous_reset free_blocks : Bool) → Optional
+wide_with features unique_id enhanced_column lun_reset plane_reads synchronous_reset free_blocks =
+    record { 0 = 32768 + flag 2 features + flag 5 unique_id + flag 6 enhanced_column + flag 9 lun_reset + flag 10 plane_reads + flag 11 synchronous_reset + flag 12 free_blocks }
 
 -- what is left of a set where a page that declares it is read for a profile
 abbrev pub kept_optional : Profile → Optional → Optional
 kept_optional Base o = no_optional
-kept_optional Onfi o = wide_with (has_features o) (has_unique_id o) (has_enhanced_column o) (has_lun_reset o) (has_synchronous_reset o)
+kept_optional Onfi o = wide_with (has_features o) (has_unique_id o) (has_enhanced_column o) (has_lun_reset o) (has_plane_reads o) (has_synchronous_reset o)
+    (has_free_blocks o)
 
 -- a geometry as its own page is read for a profile
 abbrev pub as_read : Profile → Parts → Parts

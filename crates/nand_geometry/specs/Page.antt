@@ -1,17 +1,18 @@
 -- The parameter page of a geometry (ONFI 4.x, Read Parameter Page Definition).
-use Rattle.std.specs.Prelude.{◌≡◌, ℕ, zero, suc, ◌+◌, ◌*◌, ◌/◌, ◌%◌, ◌^◌, ◌==◌, Bool, nat_lt, if◌then◌else◌, List, [], ◌∷◌, ◌++◌, replicate, bit_xor, length}
+use Rattle.std.specs.Prelude.{◌≡◌, ℕ, zero, suc, ◌+◌, ◌*◌, ◌/◌, ◌%◌, ◌^◌, ◌==◌, nat_lt, if◌then◌else◌, List, [], ◌∷◌, ◌++◌, replicate, bit_xor, length}
 use Rattle.nand_geometry.specs.declared.parts.Parts.{Parts}
 use Rattle.nand_geometry.specs.Flag.{flag}
-use Rattle.nand_geometry.specs.Optional.{has_features, has_unique_id, has_enhanced_column, has_lun_reset, has_synchronous_reset}
+use Rattle.nand_geometry.specs.Optional.{has_features, has_unique_id, has_enhanced_column, has_lun_reset, has_plane_reads, has_synchronous_reset, has_free_blocks}
 
 -- so many bytes of a number, the least significant first
 abbrev pub low_bytes : ℕ → ℕ → List ℕ
 low_bytes zero n = []
 low_bytes (suc count) n = n % 256 ∷ low_bytes count (n / 256)
 
--- bit 1: operations of several LUNs; bit 3: program and erase of several planes; bit 5: an interface of double data rate
+-- bit 1: operations of several LUNs; bit 3: program and erase of several planes; bit 5: an interface of double data rate;
+-- bit 6: reads of several planes
 abbrev pub features : Parts → ℕ
-features g = flag 1 (nat_lt 1 g.luns) + flag 3 g.multi_plane + flag 5 (has_synchronous_reset g.optional)
+features g = flag 1 (nat_lt 1 g.luns) + flag 3 g.multi_plane + flag 5 (has_synchronous_reset g.optional) + flag 6 (has_plane_reads g.optional)
 
 -- read cache is bit 1, Get and Set Features bit 2, Read Status Enhanced bit 3, Read Unique ID bit 5,
 -- Change Read Column Enhanced bit 6, and Reset LUN bit 9
@@ -27,7 +28,7 @@ abbrev pub page_body : Parts → List ℕ
 page_body g =
     (0x4f ∷ (0x4e ∷ (0x46 ∷ (0x49 ∷ [])))) ++ (zeros 2 ++ (low_bytes 2 (features g) ++ (low_bytes 2 (optional_commands g) ++ (zeros 70
     ++ (low_bytes 4 g.page_bytes ++ (low_bytes 2 g.spare_bytes ++ (zeros 6 ++ (low_bytes 4 g.pages ++ (low_bytes 4 g.blocks
-    ++ ((g.luns ∷ (0x23 ∷ [])) ++ (zeros 11 ++ ((g.plane_bits ∷ []) ++ zeros 140))))))))))))
+    ++ ((g.luns ∷ (0x23 ∷ [])) ++ (zeros 11 ++ ((g.plane_bits ∷ (flag 1 (has_free_blocks g.optional) ∷ [])) ++ zeros 139))))))))))))
 
 -- the checksum's shift register takes one bit in; 8005h is XORed in unless it equals the bit that leaves
 abbrev pub crc_bit : ℕ → ℕ → ℕ

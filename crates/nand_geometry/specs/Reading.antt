@@ -53,7 +53,8 @@ has_double_rate copy = has_bit (slice_index copy 6) 5 || (has_bit (slice_index c
 
 -- what a copy declares beyond the base profile
 unfoldable pub optional_by : List ℕ → Optional
-optional_by copy = wide_with (has_bit (slice_index copy 8) 2) (has_bit (slice_index copy 8) 5) (has_bit (slice_index copy 8) 6) (has_bit (slice_index copy 9) 1) (has_double_rate copy)
+optional_by copy = wide_with (has_bit (slice_index copy 8) 2) (has_bit (slice_index copy 8) 5) (has_bit (slice_index copy 8) 6) (has_bit (slice_index copy 9) 1) (has_bit (slice_index copy 6) 6)
+    (has_double_rate copy) (has_bit (slice_index copy 114) 1)
 
 -- the numbers that a copy declares, in the base profile
 unfoldable pub declared_by : List ℕ → Parts
@@ -126,7 +127,7 @@ read_of bytes = read_as Base bytes
 
 -- a place of a copy that has a field which is read, but for signature and checksum
 abbrev pub is_field : ℕ → Bool
-is_field place = is_within 6 9 place || is_within 80 85 place || is_within 92 101 place || place == 113
+is_field place = is_within 6 9 place || is_within 80 85 place || is_within 92 101 place || is_within 113 114 place
 
 -- the law: copies with the same bytes in those places declare the same numbers and have the same fault
 abbrev pub FieldsDecide : Type 0

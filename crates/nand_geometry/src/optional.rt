@@ -1,6 +1,6 @@
 //! The commands beyond the base profile that a chip has.
 ghost use Rattle.std.specs.Prelude.{⊤, ◌≡◌, [], ◌∷◌, codes};
-ghost use Rattle.nand_geometry.specs.Optional.{no_optional, is_wide, has_features, has_unique_id, has_enhanced_column, has_lun_reset, has_synchronous_reset};
+ghost use Rattle.nand_geometry.specs.Optional.{no_optional, is_wide, has_features, has_unique_id, has_enhanced_column, has_lun_reset, has_plane_reads, has_synchronous_reset, has_free_blocks};
 
 use bitflags::{Flag, Flags, bitflag_items};
 
@@ -27,8 +27,12 @@ bitflag_items! {
         const ENHANCED_COLUMN = 64;
         /// FAh, Reset LUN (byte 9 bit 1).
         const RESET_LUN = 512;
+        /// 32h, Read Page Multi-plane (byte 6 bit 6).
+        const PLANE_READS = 1024;
         /// FCh, Synchronous Reset (byte 6 bit 5, or byte 7 bit 2 or 5: an interface of double data rate).
         const SYNCHRONOUS_RESET = 2048;
+        /// The blocks of one group of planes may have any bits above those of the plane (byte 114 bit 1).
+        const FREE_BLOCKS = 4096;
         /// What each chip of the profile has: 90h with the addresses 00h and 40h, and FFh in an open sequence.
         const WIDE = 32_768;
     }
@@ -39,7 +43,7 @@ impl Flags for Optional {
 
     ghost exact = { ⊤ };
 
-    ghost table = { (codes "FEATURES", 4) ∷ (codes "UNIQUE_ID", 32) ∷ (codes "ENHANCED_COLUMN", 64) ∷ (codes "RESET_LUN", 512) ∷ (codes "SYNCHRONOUS_RESET", 2048) ∷ (codes "WIDE", 32768) ∷ [] };
+    ghost table = { (codes "FEATURES", 4) ∷ (codes "UNIQUE_ID", 32) ∷ (codes "ENHANCED_COLUMN", 64) ∷ (codes "RESET_LUN", 512) ∷ (codes "PLANE_READS", 1024) ∷ (codes "SYNCHRONOUS_RESET", 2048) ∷ (codes "FREE_BLOCKS", 4096) ∷ (codes "WIDE", 32768) ∷ [] };
 
     ghost set_of = { λ o. o.0 };
 
@@ -93,6 +97,20 @@ impl Optional {
         ensures { result ≡ has_lun_reset self }
     {
         self.contains(Optional::RESET_LUN)
+    }
+
+    /// The chip reads several planes at once.
+    pub fn has_plane_reads(self) -> bool
+        ensures { result ≡ has_plane_reads self }
+    {
+        self.contains(Optional::PLANE_READS)
+    }
+
+    /// The blocks of one group of planes may have any bits above those of the plane.
+    pub fn has_free_blocks(self) -> bool
+        ensures { result ≡ has_free_blocks self }
+    {
+        self.contains(Optional::FREE_BLOCKS)
     }
 
     /// The chip has Synchronous Reset.

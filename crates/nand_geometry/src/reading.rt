@@ -100,7 +100,9 @@ fn optional_by(copy: &[u8]) -> Optional
             + flag(5, has_bit(copy[8], 5))
             + flag(6, has_bit(copy[8], 6))
             + flag(9, has_bit(copy[9], 1))
-            + flag(11, has_double_rate(copy)),
+            + flag(10, has_bit(copy[6], 6))
+            + flag(11, has_double_rate(copy))
+            + flag(12, has_bit(copy[114], 1)),
     )
 }
 

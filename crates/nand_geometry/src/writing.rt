@@ -18,19 +18,23 @@ fn u32_bytes(number: u32) -> [u8; 4]
 
 /// A bit of a field, where it is set.
 pub(crate) fn flag(bit: u32, set: bool) -> u16
-    requires { bit < 12 }
+    requires { bit < 13 }
     ensures value { result ≡ flag bit set }
-    ensures small { result < 4096 }
+    ensures small { result < 8192 }
 {
     if set { 1 << bit } else { 0 }
 }
 
-/// Bit 1: operations of several LUNs; bit 3: program and erase of several planes; bit 5: an interface of double data rate.
+/// Bit 1: operations of several LUNs; bit 3: program and erase of several planes; bit 5: an interface of double data rate;
+/// bit 6: reads of several planes.
 fn features(parts: Parts) -> u16
     ensures { result ≡ features parts }
 {
     let optional = parts.optional;
-    flag(1, parts.luns > 1) + flag(3, parts.multi_plane) + flag(5, optional.has_synchronous_reset())
+    flag(1, parts.luns > 1)
+        + flag(3, parts.multi_plane)
+        + flag(5, optional.has_synchronous_reset())
+        + flag(6, optional.has_plane_reads())
 }
 
 /// Read cache is bit 1, Get and Set Features bit 2, Read Status Enhanced bit 3, Read Unique ID bit 5, Change Read Column Enhanced
@@ -70,5 +74,6 @@ pub fn organization_block(parts: Parts) -> [u8; 48]
     block[20] = parts.luns;
     block[21] = 0x23;
     block[33] = parts.plane_bits;
+    block[34] = flag(1, parts.optional.has_free_blocks()) as u8;
     block
 }

@@ -5,7 +5,7 @@ use Rattle.std.proofs.lemmas.Bool.Decides.{nat_tests}
 use Rattle.nand_geometry.specs.declared.parts.Parts.{Parts}
 use Rattle.onfi_cycle.specs.declared.command.Command.{Command}
 use Rattle.onfi_cycle.specs.declared.opening.Opening.{Opening}
-use Rattle.onfi_cycle.specs.declared.command.Command.TheVariants.{Read, ReadConfirm, ChangeReadColumn, ChangeReadColumnConfirm, BlockErase, BlockEraseConfirm, BlockErasePlane, ReadStatus, ReadStatusEnhanced, PageProgram, ChangeWriteColumn, ProgramConfirm, ProgramPlane, ReadId, ReadParameterPage, Reset, ReadCacheSequential, ReadCacheEnd, ReadUniqueId, GetFeatures, SetFeatures, ResetLun, SynchronousReset, Unknown, ChangeReadColumnEnhanced}
+use Rattle.onfi_cycle.specs.declared.command.Command.TheVariants.{Read, ReadConfirm, ChangeReadColumn, ChangeReadColumnConfirm, BlockErase, BlockEraseConfirm, BlockErasePlane, ReadStatus, ReadStatusEnhanced, PageProgram, ChangeWriteColumn, ProgramConfirm, ProgramPlane, ReadId, ReadParameterPage, Reset, ReadCacheSequential, ReadCacheEnd, ReadUniqueId, GetFeatures, SetFeatures, ResetLun, SynchronousReset, Unknown, ChangeReadColumnEnhanced, ReadPlane}
 use Rattle.onfi_cycle.specs.declared.item.Cycle.{Cycle}
 use Rattle.onfi_cycle.specs.declared.effect.Effect.{Effect}
 use Rattle.onfi_cycle.specs.declared.effect.Effect.TheVariants.{Unaffected, BecameReady, ArrayBecameReady}
@@ -37,6 +37,7 @@ cycle_on_luns g t sole c n (v ∷ vs) =
 command_rests : (g : Parts) (t : TailFacts) (s : Latch) (c : Command) (n : ℕ) → (needs_no_row c || wants_command t c) ≡ false → command_effect g t s c n ≡ Unaffected
 command_rests g t s Read n h = cc
 command_rests g t s ReadConfirm n h = rw h refl
+command_rests g t s ReadPlane n h = rw h refl
 command_rests g t s ChangeReadColumn n h = rw h refl
 command_rests g t s ChangeReadColumnEnhanced n h = rw h refl
 command_rests g t s ChangeReadColumnConfirm n h = cc
@@ -64,6 +65,7 @@ command_rests g t s Unknown n h = rw h refl
 address_rests : (g : Parts) (t : TailFacts) (byte : ℕ) (c : Command) (k n : ℕ) → acts_by_address c ≡ false → address_effect g t byte c k n ≡ Unaffected
 address_rests g t byte Read k n h = refl
 address_rests g t byte ReadConfirm k n h = refl
+address_rests g t byte ReadPlane k n h = refl
 address_rests g t byte ChangeReadColumn k n h = refl
 address_rests g t byte ChangeReadColumnEnhanced k n h = refl
 address_rests g t byte ChangeReadColumnConfirm k n h = refl

@@ -16,7 +16,7 @@ use Rattle.onfi_cycle.specs.declared.page_address.PageAddress.{PageAddress}
 use Rattle.onfi_cycle.specs.declared.register.Register.{Register}
 use Rattle.onfi_cycle.specs.declared.register.Register.TheVariants.{Empty, Page, ParameterPage, Identifier, Identity, JedecIdentity, UniqueId, Features}
 use Rattle.onfi_cycle.specs.declared.effect.Effect.{Effect}
-use Rattle.onfi_cycle.specs.declared.effect.Effect.TheVariants.{ReadStarted, EraseStarted, ProgramStarted, ResetStarted, BecameReady, ParameterPageReadStarted, UniqueIdReadStarted, FeaturesReadStarted, FeaturesSet, CacheReadContinued, CacheReadEnded, TargetResetStarted}
+use Rattle.onfi_cycle.specs.declared.effect.Effect.TheVariants.{ReadStarted, EraseStarted, ProgramStarted, ResetStarted, BecameReady, ParameterPageReadStarted, UniqueIdReadStarted, FeaturesReadStarted, FeaturesSet, CacheReadContinued, CacheReadEnded, TargetResetStarted, ReadQueued}
 use Rattle.onfi_cycle.specs.Sequence.{tail, facts_of, filled, input_column, is_open, with_cycle}
 use Rattle.onfi_cycle.specs.LunView.{LunView}
 use Rattle.onfi_cycle.specs.Effect.{is_off, is_data}
@@ -50,6 +50,7 @@ queued_after_whole len (EraseStarted true at) bytes q h w = (tt, w)
 queued_after_whole len (EraseStarted false at) bytes q h w = tt
 queued_after_whole len (ProgramStarted true at) bytes q h w = (h, w)
 queued_after_whole len (ProgramStarted false at) bytes q h w = tt
+queued_after_whole len (ReadStarted at from) bytes q h w = tt
 queued_after_whole len ResetStarted bytes q h w = tt
 queued_after_whole len (TargetResetStarted first) bytes q h w = tt
 queued_after_whole len _ bytes q h w = w
@@ -60,6 +61,7 @@ pending_after_whole len (EraseStarted false at) bytes q p h w v = (tt, w)
 pending_after_whole len (ProgramStarted true at) bytes q p h w v = tt
 pending_after_whole len (ProgramStarted false at) bytes q p h w v = (h, w)
 pending_after_whole len (ReadStarted at from) bytes q p h w v = tt
+pending_after_whole len (ReadQueued at) bytes q p h w v = tt
 pending_after_whole len ParameterPageReadStarted bytes q p h w v = tt
 pending_after_whole len UniqueIdReadStarted bytes q p h w v = tt
 pending_after_whole len (FeaturesReadStarted address) bytes q p h w v = tt

@@ -2,7 +2,7 @@
 use Rattle.std.proofs.Common.{◌≡◌, Bool, true, false, ◌&&◌, cond, List, Some, None, refl, ap, ◌∙◌, sym}
 use Rattle.nand_geometry.specs.declared.parts.Parts.{Parts}
 use Rattle.onfi_cycle.specs.declared.command.Command.{Command}
-use Rattle.onfi_cycle.specs.declared.command.Command.TheVariants.{ReadConfirm, ChangeReadColumnConfirm, BlockEraseConfirm, BlockErasePlane, ChangeWriteColumn, ProgramConfirm, ProgramPlane, Unknown}
+use Rattle.onfi_cycle.specs.declared.command.Command.TheVariants.{ReadConfirm, ChangeReadColumnConfirm, BlockEraseConfirm, BlockErasePlane, ChangeWriteColumn, ProgramConfirm, ProgramPlane, Unknown, ReadPlane}
 use Rattle.onfi_cycle.specs.declared.forbidden.Forbidden.TheVariants.{SeveralLuns, CommandMisplaced, LunBusy, CacheReadMisplaced}
 use Rattle.onfi_cycle.specs.declared.tail_facts.TailFacts.{TailFacts}
 use Rattle.onfi_cycle.specs.declared.target_cycle.TargetCycle.TheVariants.{CommandCycle}
@@ -22,6 +22,7 @@ only_misplaced false false y = refl
 closer_judged : (g : Parts) (t : TailFacts) (luns : List LunView) (c : Command) → is_opener c ≡ false → cond (breaks_command_misplaced t (CommandCycle c)) (Some CommandMisplaced) (cond (breaks_cache_read_misplaced g t luns (CommandCycle c)) (Some CacheReadMisplaced) None) ≡ judge_known_cycle g t luns (CommandCycle c)
 unfolding breaks_sequence_open breaks_several_luns breaks_no_column_to_change breaks_address_misplaced breaks_row_outside breaks_lun_busy breaks_queue_clash breaks_input_misplaced breaks_no_sole_driver breaks_data_not_ready breaks_column_outside breaks_cache_read_misplaced breaks_plane_not_held
 closer_judged g t luns ReadConfirm h = only_misplaced (is_shared g) (breaks_command_misplaced t (CommandCycle ReadConfirm)) (breaks_cache_read_misplaced g t luns (CommandCycle ReadConfirm))
+closer_judged g t luns ReadPlane h = only_misplaced (is_shared g) (breaks_command_misplaced t (CommandCycle ReadPlane)) (breaks_cache_read_misplaced g t luns (CommandCycle ReadPlane))
 closer_judged g t luns ChangeReadColumnConfirm h = only_misplaced (is_shared g) (breaks_command_misplaced t (CommandCycle ChangeReadColumnConfirm)) (breaks_cache_read_misplaced g t luns (CommandCycle ChangeReadColumnConfirm))
 closer_judged g t luns BlockEraseConfirm h = only_misplaced (is_shared g) (breaks_command_misplaced t (CommandCycle BlockEraseConfirm)) (breaks_cache_read_misplaced g t luns (CommandCycle BlockEraseConfirm))
 closer_judged g t luns BlockErasePlane h = only_misplaced (is_shared g) (breaks_command_misplaced t (CommandCycle BlockErasePlane)) (breaks_cache_read_misplaced g t luns (CommandCycle BlockErasePlane))

@@ -16,7 +16,7 @@ luns_fit : (g : Parts) (t : TailFacts) (n : ℕ) (vs : List LunView) → LunsFit
 luns_fit g t n [] f = tt
 luns_fit g t n (v ∷ vs) f = (
   f.0,
-  record { erase = λ named h. cc; program = λ named h. cc },
+  record { read = λ named h. cc; erase = λ named h. cc; program = λ named h. cc },
   record { inside = λ named h. cc; ready = λ named h. cc; identity = λ h. cc; alone = λ narrow h. cc },
   luns_fit g t (n + 1) vs f.3,
 )

@@ -5,8 +5,9 @@ use Rattle.std.proofs.lemmas.Option.{slice_get_within}
 use Rattle.std.specs.List.{slice_get}
 use Rattle.std.proofs.lemmas.Bool.{not-false, or_left, or_right, and_parts as both, or_parts as neither}
 use Rattle.nand_geometry.specs.declared.parts.Parts.{Parts}
+use Rattle.nand_geometry.specs.Limits.{planes}
 use Rattle.onfi_cycle.specs.declared.command.Command.{Command}
-use Rattle.onfi_cycle.specs.declared.command.Command.TheVariants.{Read, ChangeReadColumnConfirm, ReadStatus, ReadStatusEnhanced, ReadConfirm, BlockEraseConfirm, BlockErasePlane, ProgramConfirm, ProgramPlane, ReadId, ReadParameterPage, Reset, ReadCacheSequential, ReadCacheEnd, ReadUniqueId, GetFeatures, SetFeatures, ResetLun, SynchronousReset}
+use Rattle.onfi_cycle.specs.declared.command.Command.TheVariants.{Read, ChangeReadColumnConfirm, ReadStatus, ReadStatusEnhanced, ReadConfirm, BlockEraseConfirm, BlockErasePlane, ProgramConfirm, ProgramPlane, ReadId, ReadParameterPage, Reset, ReadCacheSequential, ReadCacheEnd, ReadUniqueId, GetFeatures, SetFeatures, ResetLun, SynchronousReset, ReadPlane}
 use Rattle.onfi_cycle.specs.declared.item.Cycle.{Cycle}
 use Rattle.onfi_cycle.specs.declared.effect.Effect.{Effect}
 use Rattle.onfi_cycle.specs.declared.effect.Effect.TheVariants.{Unaffected, StatusSelected, StatusOfSelected, AnotherAddressed, SelectedForStatus, Deselected, IdRead, ParameterPageReadStarted, ReadColumnChanged, DataOutput, BecameReady, ArrayBecameReady, IdentityRead, UniqueIdReadStarted, FeaturesReadStarted, FeaturesSet, ResetStarted, PlaneSelected}
@@ -24,7 +25,7 @@ use Rattle.onfi_cycle.specs.declared.target_cycle.TargetCycle.TheVariants.{Comma
 use Rattle.onfi_cycle.specs.LunView.{LunView}
 use Rattle.onfi_cycle.specs.Command.{closes_row, reads_row, address_cycles, is_opener, takes_address, is_set_features}
 use Rattle.onfi_cycle.specs.Sequence.{target_of, target_cycle, begins_anew, facts_of, facts_after, extended_facts, opened, one_address_more, wants_command, wants_address, wants_column, row, row_with, takes_features, phase_after_command, phase_after_address, phase_after_input, selects_plane}
-use Rattle.onfi_cycle.specs.Effect.{is_off, is_data, is_shared, acts_for_target, other_effect, names_lun, confirm_effect, command_effect, address_effect, opening_address_effect, cycle_effect, ends_features, input_effect, plane_effect, column_effect}
+use Rattle.onfi_cycle.specs.Effect.{is_off, is_data, is_shared, acts_for_target, other_effect, names_lun, confirm_effect, command_effect, address_effect, opening_address_effect, cycle_effect, ends_features, input_effect, plane_effect, column_effect, plane_of_row}
 use Rattle.onfi_cycle.specs.Lun.{busy_after, array_busy_after, closer_after, is_cache_read, view_after}
 use Rattle.onfi_cycle.specs.Applied.{one_after}
 use Rattle.onfi_cycle.specs.Rules.{lun_is, breaks_not_there}
@@ -56,6 +57,7 @@ either false x y h k = k
 
 confirm_keeps : (g : Parts) (t : TailFacts) (c : Command) → starts c ≡ false → Keeps (confirm_effect g t c)
 confirm_keeps g t ReadConfirm h = cc
+confirm_keeps g t ReadPlane h = cc
 confirm_keeps g t ReadCacheSequential h = cc
 confirm_keeps g t BlockEraseConfirm h = cc
 confirm_keeps g t BlockErasePlane h = cc
@@ -75,7 +77,7 @@ command_keeps g t la SynchronousReset n h = cc
 command_keeps g t la ReadCacheSequential n h = cc
 command_keeps g t la ReadCacheEnd n h = cc
 command_keeps g t la ChangeReadColumnConfirm n h =
-    either (selects_plane t) (plane_effect g t n) (column_effect t la) (either (names_lun g (row t) n) (PlaneSelected t.column) Deselected (record { busy = λ b. refl; array = λ b c a. refl; closer = λ c. refl }) (record { busy = λ b. refl; array = λ b c a. refl; closer = λ c. refl }))
+    either (selects_plane t) (plane_effect g t n) (column_effect t la) (either (names_lun g (row t) n) (PlaneSelected (plane_of_row g (row t)) (planes g) t.column) Deselected (record { busy = λ b. refl; array = λ b c a. refl; closer = λ c. refl }) (record { busy = λ b. refl; array = λ b c a. refl; closer = λ c. refl }))
     (either (wants_command t ChangeReadColumnConfirm && not (is_off la)) (ReadColumnChanged t.column) Unaffected (record { busy = λ b. refl; array = λ b c a. refl; closer = λ c. refl }) unaffected)
 command_keeps g t la c n h = either (wants_command t c && names_lun g (row t) n) (confirm_effect g t c) (other_effect g t c) (confirm_keeps g t c h) (other_keeps g t c)
 

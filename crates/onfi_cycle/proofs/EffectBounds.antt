@@ -7,9 +7,9 @@ use Rattle.std.specs.List.{slice_get}
 use Rattle.std.proofs.lemmas.Bool.{not-false, not-true, or_left, or_right, and_parts as both, or_parts as neither}
 use Rattle.onfi_cycle.proofs.Booleans.{and_rest}
 use Rattle.nand_geometry.specs.declared.parts.Parts.{Parts}
-use Rattle.nand_geometry.specs.Limits.{InLimits, page_bits}
+use Rattle.nand_geometry.specs.Limits.{InLimits, page_bits, planes}
 use Rattle.onfi_cycle.specs.declared.command.Command.{Command}
-use Rattle.onfi_cycle.specs.declared.command.Command.TheVariants.{Read, ReadConfirm, ChangeReadColumnConfirm, BlockErase, BlockEraseConfirm, BlockErasePlane, ReadStatus, ReadStatusEnhanced, ProgramConfirm, ProgramPlane, ReadId, ReadParameterPage, Reset, ReadCacheSequential, ReadCacheEnd, ReadUniqueId, GetFeatures, SetFeatures, ResetLun, SynchronousReset}
+use Rattle.onfi_cycle.specs.declared.command.Command.TheVariants.{Read, ReadConfirm, ChangeReadColumnConfirm, BlockErase, BlockEraseConfirm, BlockErasePlane, ReadStatus, ReadStatusEnhanced, ProgramConfirm, ProgramPlane, ReadId, ReadParameterPage, Reset, ReadCacheSequential, ReadCacheEnd, ReadUniqueId, GetFeatures, SetFeatures, ResetLun, SynchronousReset, ReadPlane}
 use Rattle.onfi_cycle.specs.declared.item.Item.{Item}
 use Rattle.onfi_cycle.specs.declared.item.Item.TheVariants.{Cyc, Rdy, Ard}
 use Rattle.onfi_cycle.specs.declared.forbidden.Forbidden.TheVariants.{NotThere}
@@ -27,9 +27,9 @@ use Rattle.onfi_cycle.specs.declared.effect.Effect.TheVariants.{Unaffected, Sele
 use Rattle.onfi_cycle.specs.LunView.{LunView}
 use Rattle.onfi_cycle.specs.Command.{closes, address_cycles, is_opener, takes_address, reads_identity, closes_row, reads_row}
 use Rattle.onfi_cycle.specs.Sequence.{target_cycle, opened, takes_data, takes_features, wants_column, wants_command, wants_address, row, row_with, selects_plane}
-use Rattle.onfi_cycle.specs.Effect.{is_off, is_data, names_lun, page_address, confirm_effect, row_effect, cache_effect, command_effect, id_effect, address_effect, opening_address_effect, ends_features, cycle_effect, is_shared, acts_for_target, of_target, other_effect, lun_reset_effect, plane_effect, column_effect}
-use Rattle.onfi_cycle.specs.Lun.{is_page_read, output_column, option_plus}
-use Rattle.onfi_cycle.specs.Rules.{driving, are_none, only, driver, is_some_and, driver_is, lacks, is_past, is_empty, register_len, has_no_byte, is_past_register, continues_cache, ends_cache, some_queued_clashes, breaks_not_there, breaks_data_not_ready, breaks_column_outside, breaks_cache_read_misplaced}
+use Rattle.onfi_cycle.specs.Effect.{is_off, is_data, names_lun, page_address, confirm_effect, row_effect, cache_effect, command_effect, id_effect, address_effect, opening_address_effect, ends_features, cycle_effect, is_shared, acts_for_target, of_target, other_effect, lun_reset_effect, plane_effect, column_effect, plane_of_row}
+use Rattle.onfi_cycle.specs.Lun.{output_column, option_plus}
+use Rattle.onfi_cycle.specs.Rules.{driving, are_none, only, driver, is_some_and, driver_is, lacks, is_past, is_empty, register_len, has_no_byte, is_past_register, continues_cache, ends_cache, some_queued_clashes, breaks_not_there, breaks_data_not_ready, breaks_column_outside, breaks_cache_read_misplaced, has_read_one}
 use Rattle.onfi_cycle.specs.Permitted.{judge, judge_cycle}
 use Rattle.onfi_cycle.specs.State.{effect_alone, has_driver}
 use Rattle.onfi_cycle.specs.Bounds.{TailFits, RowFits, RowStands, CanStart, EffectFits, is_read, is_block_erase, names_read, names_erase, names_program, names_row, names_identity}
@@ -117,6 +117,10 @@ wants_cache_read : (c : Command) (n : ℕ) → (closes c ReadCacheSequential && 
 wants_cache_read Read n h = h
 wants_cache_read c n h = cc
 
+wants_plane_read : (c : Command) (n : ℕ) → (closes c ReadPlane && n == address_cycles c) ≡ true → (is_read c && n == 5) ≡ true
+wants_plane_read Read n h = h
+wants_plane_read c n h = cc
+
 wants_erase : (c : Command) (n : ℕ) → (closes c BlockEraseConfirm && n == address_cycles c) ≡ true → (is_block_erase c && n == 3) ≡ true
 wants_erase BlockErase n h = h
 wants_erase c n h = cc
@@ -154,6 +158,10 @@ confirm_fits : (g : Parts) → InLimits g → (t : TailFacts) (n : ℕ) (v : Lun
 confirm_fits g limits t n v tf rf rs ReadConfirm h =
     let parts = both (wants_command t ReadConfirm) _ h in
     (page_is_small g limits (row t), tf.column, can_start g t n v rs parts.1 (read_named t (opened_too _ _ wants_read t.opening parts.0)))
+confirm_fits g limits t n v tf rf rs ReadPlane h =
+    let parts = both (wants_command t ReadPlane) _ h in
+    let whole = opened_too _ _ wants_plane_read t.opening parts.0 in
+    (rf.read parts.1 whole, can_start g t n v rs parts.1 (read_named t whole))
 confirm_fits g limits t n v tf rf rs ReadCacheSequential h =
     let parts = both (wants_command t ReadCacheSequential) _ h in
     (page_is_small g limits (row t), can_start g t n v rs parts.1 (read_named t (opened_too _ _ wants_cache_read t.opening parts.0)))
@@ -169,7 +177,7 @@ unfolding breaks_cache_read_misplaced
 continued_fits g limits t luns v f15 unwanted d =
     let unless : not (driver_is (continues_cache g) luns) ≡ false = chosen_else (wants_command t ReadCacheSequential) _ _ f15 unwanted in
     let passes : continues_cache g v ≡ true = sym (driver_passes (continues_cache g) luns v d) ∙ not-false _ unless in
-    let inside = (both (is_page_read v.closer) _ (both (not v.busy) _ passes).1).1 in
+    let inside = (both (has_read_one v) _ (both (not v.busy) _ passes).1).1 in
     let pages = limits.pages_most in
     let low : v.array_page.page + 1 < 2 ^ 32 = grind (arith, nat_tests) in
     (low, not-true v.busy (both (not v.busy) _ passes).0)
@@ -198,7 +206,7 @@ command_fits g limits t luns n v tf rf rs found ReadCacheSequential f15 =
 command_fits g limits t luns n v tf rf rs found ReadCacheEnd f15 = choice g v (is_off (cond (has_driver luns) v.latch Off)) Unaffected CacheReadEnded (λ e. tt) (λ e. ended_fits g t luns v f15 (alone_drives luns n v found e))
 command_fits g limits t luns n v tf rf rs found ChangeReadColumnConfirm f15 =
     choice g v (selects_plane t) (plane_effect g t n) (column_effect t (cond (has_driver luns) v.latch Off))
-    (λ e. choice g v (names_lun g (row t) n) (PlaneSelected t.column) Deselected (λ e. tf.column) (λ e. tt))
+    (λ e. choice g v (names_lun g (row t) n) (PlaneSelected (plane_of_row g (row t)) (planes g) t.column) Deselected (λ e. (tf.column, pow_pos g.plane_bits)) (λ e. tt))
     (λ e. choice g v (wants_command t ChangeReadColumnConfirm && not (is_off (cond (has_driver luns) v.latch Off))) (ReadColumnChanged t.column) Unaffected (λ e. tf.column) (λ e. tt))
 command_fits g limits t luns n v tf rf rs found c f15 = row_effect_fits g limits t n v tf rf rs c
 

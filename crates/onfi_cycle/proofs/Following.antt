@@ -353,8 +353,8 @@ more_targets g targets more k s all fresh is =
 no_luns_fit : (g : Parts) (ce count n : ℕ) → LunsFit g (facts_of []) n (views_from g [] ce count n)
 no_luns_fit g ce zero n = tt
 no_luns_fit g ce (suc count) n = (
-  record { outputs = omega arith; given = tt; array_page = omega arith; queue = omega arith },
-  record { erase = λ named h. cc; program = λ named h. cc },
+  record { outputs = omega arith; given = tt; array_page = omega arith; queue = omega arith; held = omega arith },
+  record { read = λ named h. cc; erase = λ named h. cc; program = λ named h. cc },
   record { inside = λ named h. cc; ready = λ named h. cc; identity = λ h. cc; alone = λ narrow h. cc },
   no_luns_fit g ce count (n + 1),
 )

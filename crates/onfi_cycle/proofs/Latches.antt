@@ -4,7 +4,7 @@ use Rattle.std.proofs.lemmas.Bool.Decides.{nat_tests}
 use Rattle.std.proofs.lemmas.Bool.{not-false, and_parts as both_true}
 use Rattle.nand_geometry.specs.declared.parts.Parts.{Parts}
 use Rattle.onfi_cycle.specs.declared.command.Command.{Command}
-use Rattle.onfi_cycle.specs.declared.command.Command.TheVariants.{Read, ReadConfirm, ChangeReadColumnConfirm, BlockEraseConfirm, BlockErasePlane, ReadStatus, ReadStatusEnhanced, ProgramConfirm, ProgramPlane, ReadId, ReadParameterPage, Reset, ReadCacheSequential, ReadCacheEnd, ReadUniqueId, GetFeatures, SetFeatures, ResetLun, SynchronousReset}
+use Rattle.onfi_cycle.specs.declared.command.Command.TheVariants.{Read, ReadConfirm, ChangeReadColumnConfirm, BlockEraseConfirm, BlockErasePlane, ReadStatus, ReadStatusEnhanced, ProgramConfirm, ProgramPlane, ReadId, ReadParameterPage, Reset, ReadCacheSequential, ReadCacheEnd, ReadUniqueId, GetFeatures, SetFeatures, ResetLun, SynchronousReset, ReadPlane}
 use Rattle.onfi_cycle.specs.declared.lun.Lun.{Lun}
 use Rattle.onfi_cycle.specs.declared.latch.Latch.{Latch}
 use Rattle.onfi_cycle.specs.declared.latch.Latch.TheVariants.{Off, Status, Data}
@@ -177,10 +177,10 @@ read_on_step false named true b o p q before page cache = cache_step b o p q bef
 read_on_step false named false b o p q before page cache = cache_step b o p q before (CacheReadContinued None) ReadCacheSequential refl refl (cache refl)
 
 -- E0; s: it closes a 06; c: it changes the column of the one driver
-plane_step : (s named c p q : Bool) (before : Latch) (from : ℕ) → latch_after (cond s (cond named (PlaneSelected from) Deselected) (cond c (ReadColumnChanged from) Unaffected)) p q before ≡ unwrap_or (cond s (Some (cond named Data Off)) None) before
-plane_step true true c p q before from = refl
-plane_step true false c p q before from = refl
-plane_step false named c p q before from = same_either_way c p q before (ReadColumnChanged from) refl
+plane_step : (s named c p q : Bool) (before : Latch) (plane planes from : ℕ) → latch_after (cond s (cond named (PlaneSelected plane planes from) Deselected) (cond c (ReadColumnChanged from) Unaffected)) p q before ≡ unwrap_or (cond s (Some (cond named Data Off)) None) before
+plane_step true true c p q before plane planes from = refl
+plane_step true false c p q before plane planes from = refl
+plane_step false named c p q before plane planes from = same_either_way c p q before (ReadColumnChanged from) refl
 
 -- la is what the LUN shows, or shows alone
 command_step : (g : Parts) (past : List Item) (l : Lun) (la : Latch) (c : Command) → (is_cache_cycle (tail_of past l) (CommandCycle c) ≡ true → is_off la ≡ not (drives_alone g past l)) → latch_after (command_effect g (tail_of past l) la c l.lun) (is_selected g past l) (is_busy g past l || is_array_busy g past l) (latch g past l) ≡ unwrap_or (latch_cycle g past l (CommandCycle c)) (latch g past l)
@@ -192,8 +192,9 @@ command_step g past l la SynchronousReset cache = reset_step (is_shared g) (l.lu
 command_step g past l la ReadCacheSequential cache = read_on_step (wants_command (tail_of past l) ReadCacheSequential) (names_lun g (row (tail_of past l)) l.lun) (is_shared g) (drives_alone g past l) (is_off la) (is_selected g past l) (is_busy g past l || is_array_busy g past l) (latch g past l) (page_address g (row (tail_of past l))) cache
 command_step g past l la ReadCacheEnd cache = cache_step (drives_alone g past l) (is_off la) (is_selected g past l) (is_busy g past l || is_array_busy g past l) (latch g past l) CacheReadEnded ReadCacheEnd refl refl (cache refl)
 command_step g past l la ChangeReadColumnConfirm cache =
-    plane_step (selects_plane (tail_of past l)) (names_lun g (row (tail_of past l)) l.lun) (wants_command (tail_of past l) ChangeReadColumnConfirm && not (is_off la)) (is_selected g past l) (is_busy g past l || is_array_busy g past l) (latch g past l) (tail_of past l).column
+    plane_step (selects_plane (tail_of past l)) (names_lun g (row (tail_of past l)) l.lun) (wants_command (tail_of past l) ChangeReadColumnConfirm && not (is_off la)) (is_selected g past l) (is_busy g past l || is_array_busy g past l) (latch g past l) _ _ (tail_of past l).column
 command_step g past l la ReadConfirm cache = row_step (wants_command (tail_of past l) ReadConfirm) (names_lun g (row (tail_of past l)) l.lun) (is_shared g) true (is_selected g past l) (is_busy g past l || is_array_busy g past l) (latch g past l) _ (Some ReadConfirm) refl
+command_step g past l la ReadPlane cache = row_step (wants_command (tail_of past l) ReadPlane) (names_lun g (row (tail_of past l)) l.lun) (is_shared g) true (is_selected g past l) (is_busy g past l || is_array_busy g past l) (latch g past l) _ (Some ReadPlane) refl
 command_step g past l la BlockEraseConfirm cache = row_step (wants_command (tail_of past l) BlockEraseConfirm) (names_lun g (row (tail_of past l)) l.lun) (is_shared g) false (is_selected g past l) (is_busy g past l || is_array_busy g past l) (latch g past l) _ (Some BlockEraseConfirm) refl
 command_step g past l la BlockErasePlane cache = row_step (wants_command (tail_of past l) BlockErasePlane) (names_lun g (row (tail_of past l)) l.lun) (is_shared g) false (is_selected g past l) (is_busy g past l || is_array_busy g past l) (latch g past l) _ (Some BlockErasePlane) refl
 command_step g past l la ProgramConfirm cache = row_step (wants_command (tail_of past l) ProgramConfirm) (names_lun g (row (tail_of past l)) l.lun) (is_shared g) false (is_selected g past l) (is_busy g past l || is_array_busy g past l) (latch g past l) _ (Some ProgramConfirm) refl

@@ -8,6 +8,7 @@ pub mod Dropped
 pub mod Due
 pub mod EffectBounds
 pub mod Following
+pub mod HeldPages
 pub mod Inputs
 pub mod Keeping
 pub mod Latches

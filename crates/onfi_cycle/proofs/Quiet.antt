@@ -10,7 +10,7 @@ use Rattle.onfi_cycle.specs.declared.register.Register.{Register}
 use Rattle.onfi_cycle.specs.declared.read_column.ReadColumn.{ReadColumn}
 use Rattle.onfi_cycle.specs.declared.effect.Effect.{Effect}
 use Rattle.onfi_cycle.specs.declared.effect.Effect.TheVariants.{Unaffected, DataOutputEnabled, StatusRowAwaited, Deselected, StatusOfSelected, AnotherAddressed}
-use Rattle.onfi_cycle.specs.Lun.{effect_on, read_column_after, busy_after, closer_after, array_busy_after, array_page_after, register_after, queue_after}
+use Rattle.onfi_cycle.specs.Lun.{effect_on, read_column_after, busy_after, closer_after, array_busy_after, array_page_after, register_after, queue_after, held_after}
 use Rattle.onfi_cycle.specs.declared.command.Command.{Command}
 use Rattle.onfi_cycle.specs.Content.{ArrayWork, queued_work_after, pending_work_after, failed_after, content_after}
 use Rattle.onfi_cycle.specs.OtherLun.{KeepsLun, IsSameOrLost}
@@ -31,8 +31,9 @@ pub record LeftBy (a : Effect) : Type 0 where
   pub closer : (c : Option Command) → closer_after a c ≡ c
   pub array_busy : (b c d : Bool) → array_busy_after a b c d ≡ d
   pub array_page : (p : PageAddress) → array_page_after a p ≡ p
-  pub register : (p : PageAddress) (r : Register) → register_after a p r ≡ r
+  pub register : (p : PageAddress) (q : List Queued) (h : List PageAddress) (r : Register) → register_after a p q h r ≡ r
   pub queue : (q : List Queued) → queue_after a q ≡ q
+  pub held : (p : PageAddress) (q : List Queued) (h : List PageAddress) → held_after a p q h ≡ h
   pub queued_work : (b : List ℕ) (q : List ArrayWork) → queued_work_after a b q ≡ q
   pub pending_work : (b : List ℕ) (q p : List ArrayWork) → pending_work_after a b q p ≡ p
   pub failed : (p : List ArrayWork) (b : Bool) → failed_after a p b ≡ b
@@ -44,12 +45,12 @@ lost_or_same k true e = inr (ap (λ (l : Bool). record k { lost = l }) (or-true 
 lost_or_same k false e = inl (ap (λ (l : Bool). record k { lost = l }) (or-false k.lost))
 
 pub left_by_quiet : (a : Effect) → is_quiet a ≡ true → LeftBy a
-left_by_quiet Unaffected h = record { busy = λ b. refl; closer = λ c. refl; array_busy = λ b c d. refl; array_page = λ p. refl; register = λ p r. refl; queue = λ q. refl; queued_work = λ b q. refl; pending_work = λ b q p. refl; failed = λ p b. refl; content = λ g q p old. refl; column = λ k. inl refl }
-left_by_quiet DataOutputEnabled h = record { busy = λ b. refl; closer = λ c. refl; array_busy = λ b c d. refl; array_page = λ p. refl; register = λ p r. refl; queue = λ q. refl; queued_work = λ b q. refl; pending_work = λ b q p. refl; failed = λ p b. refl; content = λ g q p old. refl; column = λ k. inl refl }
-left_by_quiet StatusRowAwaited h = record { busy = λ b. refl; closer = λ c. refl; array_busy = λ b c d. refl; array_page = λ p. refl; register = λ p r. refl; queue = λ q. refl; queued_work = λ b q. refl; pending_work = λ b q p. refl; failed = λ p b. refl; content = λ g q p old. refl; column = λ k. lost_or_same k (ltb 0 k.outputs) refl }
-left_by_quiet Deselected h = record { busy = λ b. refl; closer = λ c. refl; array_busy = λ b c d. refl; array_page = λ p. refl; register = λ p r. refl; queue = λ q. refl; queued_work = λ b q. refl; pending_work = λ b q p. refl; failed = λ p b. refl; content = λ g q p old. refl; column = λ k. inl refl }
-left_by_quiet (AnotherAddressed reads) h = record { busy = λ b. refl; closer = λ c. refl; array_busy = λ b c d. refl; array_page = λ p. refl; register = λ p r. refl; queue = λ q. refl; queued_work = λ b q. refl; pending_work = λ b q p. refl; failed = λ p b. refl; content = λ g q p old. refl; column = λ k. inl refl }
-left_by_quiet StatusOfSelected h = record { busy = λ b. refl; closer = λ c. refl; array_busy = λ b c d. refl; array_page = λ p. refl; register = λ p r. refl; queue = λ q. refl; queued_work = λ b q. refl; pending_work = λ b q p. refl; failed = λ p b. refl; content = λ g q p old. refl; column = λ k. lost_or_same k (ltb 0 k.outputs) refl }
+left_by_quiet Unaffected h = record { busy = λ b. refl; closer = λ c. refl; array_busy = λ b c d. refl; array_page = λ p. refl; register = λ p q h r. refl; queue = λ q. refl; held = λ p q h. refl; queued_work = λ b q. refl; pending_work = λ b q p. refl; failed = λ p b. refl; content = λ g q p old. refl; column = λ k. inl refl }
+left_by_quiet DataOutputEnabled h = record { busy = λ b. refl; closer = λ c. refl; array_busy = λ b c d. refl; array_page = λ p. refl; register = λ p q h r. refl; queue = λ q. refl; held = λ p q h. refl; queued_work = λ b q. refl; pending_work = λ b q p. refl; failed = λ p b. refl; content = λ g q p old. refl; column = λ k. inl refl }
+left_by_quiet StatusRowAwaited h = record { busy = λ b. refl; closer = λ c. refl; array_busy = λ b c d. refl; array_page = λ p. refl; register = λ p q h r. refl; queue = λ q. refl; held = λ p q h. refl; queued_work = λ b q. refl; pending_work = λ b q p. refl; failed = λ p b. refl; content = λ g q p old. refl; column = λ k. lost_or_same k (ltb 0 k.outputs) refl }
+left_by_quiet Deselected h = record { busy = λ b. refl; closer = λ c. refl; array_busy = λ b c d. refl; array_page = λ p. refl; register = λ p q h r. refl; queue = λ q. refl; held = λ p q h. refl; queued_work = λ b q. refl; pending_work = λ b q p. refl; failed = λ p b. refl; content = λ g q p old. refl; column = λ k. inl refl }
+left_by_quiet (AnotherAddressed reads) h = record { busy = λ b. refl; closer = λ c. refl; array_busy = λ b c d. refl; array_page = λ p. refl; register = λ p q h r. refl; queue = λ q. refl; held = λ p q h. refl; queued_work = λ b q. refl; pending_work = λ b q p. refl; failed = λ p b. refl; content = λ g q p old. refl; column = λ k. inl refl }
+left_by_quiet StatusOfSelected h = record { busy = λ b. refl; closer = λ c. refl; array_busy = λ b c d. refl; array_page = λ p. refl; register = λ p q h r. refl; queue = λ q. refl; held = λ p q h. refl; queued_work = λ b q. refl; pending_work = λ b q p. refl; failed = λ p b. refl; content = λ g q p old. refl; column = λ k. lost_or_same k (ltb 0 k.outputs) refl }
 left_by_quiet _ h = cc
 
 -- a quiet item keeps the LUN
@@ -61,8 +62,9 @@ keeps_quiet g past i l h =
       closer = left.closer _;
       array_busy = left.array_busy _ _ _;
       array_page = left.array_page _;
-      register = left.register _ _;
+      register = left.register _ _ _ _;
       queue = left.queue _;
+      held = left.held _ _ _;
       queued_work = left.queued_work _ _;
       pending_work = left.pending_work _ _ _;
       failed = left.failed _ _;

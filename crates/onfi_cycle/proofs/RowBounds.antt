@@ -6,7 +6,7 @@ use Rattle.std.proofs.Math.Bool.{and-false}
 use Rattle.nand_geometry.specs.declared.parts.Parts.{Parts}
 use Rattle.nand_geometry.specs.Row.{row_of, parts_of}
 use Rattle.onfi_cycle.specs.declared.command.Command.{Command}
-use Rattle.onfi_cycle.specs.declared.command.Command.TheVariants.{BlockErase, ReadStatusEnhanced, PageProgram, ChangeWriteColumn, ReadId, ReadParameterPage, ReadUniqueId, GetFeatures, ResetLun}
+use Rattle.onfi_cycle.specs.declared.command.Command.TheVariants.{BlockErase, ReadStatusEnhanced, PageProgram, ChangeWriteColumn, ReadId, ReadParameterPage, ReadUniqueId, GetFeatures, ResetLun, Read}
 use Rattle.onfi_cycle.specs.declared.data_phase.DataPhase.{DataPhase}
 use Rattle.onfi_cycle.specs.declared.data_phase.DataPhase.TheVariants.{Outside, Inputs, FirstColumn, SecondColumn, FeatureInputs}
 use Rattle.onfi_cycle.specs.declared.effect.Effect.{Effect}
@@ -27,22 +27,23 @@ use Rattle.onfi_cycle.specs.Command.{is_page_program, at_last_row, is_set_featur
 use Rattle.onfi_cycle.specs.Sequence.{target_cycle, begins_sequence, begins_anew, facts_of, facts_after, extended_facts, opened, one_address_more, row_after_address, takes_data, wants_column, wants_command, wants_address, phase_after_command, phase_after_address, phase_after_input, row, row_with, takes_features}
 use Rattle.onfi_cycle.specs.Effect.{names_lun, page_address, cycle_effect, address_effect, opening_address_effect, id_effect, ends_features, of_target, acts_for_target}
 use Rattle.onfi_cycle.specs.Lun.{queue_after, view_after}
-use Rattle.onfi_cycle.specs.Rules.{some_queued_clashes, is_some_and, named_lun_is, refused_by, is_refused_by, breaks_not_there, breaks_queue_clash}
+use Rattle.onfi_cycle.specs.Rules.{some_queued_clashes, some_read_clashes, is_some_and, named_lun_is, refused_by, is_refused_by, breaks_not_there, breaks_queue_clash}
 use Rattle.onfi_cycle.specs.Permitted.{judge, judge_cycle}
 use Rattle.onfi_cycle.specs.State.{tail_after, effect_alone, has_driver}
-use Rattle.onfi_cycle.specs.Bounds.{TailFits, RowFits, is_block_erase, names_erase, names_program}
+use Rattle.onfi_cycle.specs.Bounds.{TailFits, RowFits, is_read, is_block_erase, names_read, names_erase, names_program}
 use Rattle.onfi_cycle.proofs.Others.{first_passed}
 use Rattle.onfi_cycle.proofs.Passed.{KeepsRules, keeps_rules}
 use Rattle.onfi_cycle.proofs.Steps.{anew_opens}
 
 -- a tail that names no row
-unnamed : (g : Parts) (t : TailFacts) (n : ℕ) (v : LunView) → names_erase t ≡ false → names_program t ≡ false → RowFits g t n v
-unnamed g t n v erase program = record { erase = λ named h. cc; program = λ named h. cc }
+unnamed : (g : Parts) (t : TailFacts) (n : ℕ) (v : LunView) → names_read t ≡ false → names_erase t ≡ false → names_program t ≡ false → RowFits g t n v
+unnamed g t n v read erase program = record { read = λ named h. cc; erase = λ named h. cc; program = λ named h. cc }
 
 -- a queue that stays
 same_queue : (g : Parts) (t : TailFacts) (n : ℕ) (v w : LunView) → w.queue ≡ v.queue → RowFits g t n v → RowFits g t n w
 same_queue g t n v w e f =
     record {
+      read = λ named h. ap (some_read_clashes g (page_address g (row t))) e ∙ f.read named h;
       erase = λ named h. ap (some_queued_clashes g true (page_address g (row t))) e ∙ f.erase named h;
       program = λ named h. ap (some_queued_clashes g false (page_address g (row t))) e ∙ f.program named h;
     }
@@ -89,7 +90,7 @@ goes_on_inside c p h = cc
 
 begun_row : (g : Parts) (n : ℕ) (v : LunView) (cycle : TargetCycle) → begins_sequence cycle ≡ true → RowFits g (extended_facts cycle (facts_of [])) n v
 begun_row g n v (CommandCycle c) h =
-    unnamed g (extended_facts (CommandCycle c) (facts_of [])) n v (and-false (is_block_erase c)) (rw (begun_outside c) refl)
+    unnamed g (extended_facts (CommandCycle c) (facts_of [])) n v (and-false (is_read c)) (and-false (is_block_erase c)) (rw (begun_outside c) refl)
 begun_row g n v (AddressCycle byte) h = cc
 begun_row g n v (InputCycle byte) h = cc
 begun_row g n v OutputCycle h = cc
@@ -97,10 +98,15 @@ begun_row g n v OutputCycle h = cc
 command_row : (g : Parts) (t : TailFacts) (la : Latch) (n : ℕ) (v : LunView) (c : Command) → t.is_empty ≡ false → RowFits g t n v → RowFits g (extended_facts (CommandCycle c) t) n (view_after (cycle_effect g t la (CommandCycle c) n) v)
 command_row g t la n v c some f =
     record {
+      read = λ named h. no_read (t.is_empty) some h;
       erase = λ named h. none (t.is_empty) some h;
       program = λ named h. let is = goes_on_inside c t.phase h in kept c is.command named is.phase;
     }
   where
+    no_read : {A : Type 0} → (e : Bool) → e ≡ false → opened (λ c n. is_read c && n == 5) (cond e (Some (record { opener = c; addresses = 0 })) None) ≡ true → A
+    no_read true e h = cc
+    no_read false e h = cc
+
     none : {A : Type 0} → (e : Bool) → e ≡ false → opened (λ c n. is_block_erase c && n == 3) (cond e (Some (record { opener = c; addresses = 0 })) None) ≡ true → A
     none true e h = cc
     none false e h = cc
@@ -124,6 +130,15 @@ judged_row g row test luns n v passed named found = at (slice_get luns (parts_of
 
 pub next_is : (m k : ℕ) → (m + 1 == suc k) ≡ true → m ≡ k
 next_is m k h = grind (arith, nat_tests)
+
+-- the fifth address of a read
+read_judged : (g : Parts) (p : PageAddress) (q : List Queued) (c : Command) (m : ℕ) → (at_last_row c m && refused_by g c p q) ≡ false → (is_read c && m + 1 == 5) ≡ true → some_read_clashes g p q ≡ false
+read_judged g p q Read m h e = let four = next_is m 4 e in passes (m == 4) (rw four refl) h
+  where
+    passes : (b : Bool) → b ≡ true → (b && some_read_clashes g p q) ≡ false → some_read_clashes g p q ≡ false
+    passes true e h = h
+    passes false e h = cc
+read_judged g p q c m h e = cc
 
 -- the third address of an erase
 erase_judged : (g : Parts) (p : PageAddress) (q : List Queued) (c : Command) (m : ℕ) → (at_last_row c m && refused_by g c p q) ≡ false → (is_block_erase c && m + 1 == 3) ≡ true → some_queued_clashes g true p q ≡ false
@@ -169,9 +184,16 @@ no_program : (c : Command) (b : Bool) → is_reset_lun c ≡ true → (is_page_p
 no_program ResetLun b r h = h
 no_program _ b r h = r
 
+no_read : (c : Command) (b : Bool) → is_reset_lun c ≡ true → (is_read c && b) ≡ true → false ≡ true
+no_read ResetLun b r h = h
+no_read _ b r h = r
+
 no_erase : (c : Command) (b : Bool) → is_reset_lun c ≡ true → (is_block_erase c && b) ≡ true → false ≡ true
 no_erase ResetLun b r h = h
 no_erase _ b r h = r
+
+abbrev opened_by_read : Option Opening → Bool
+opened_by_read o = opened (λ c n. is_read c && n == 5) o
 
 abbrev opened_by_erase : Option Opening → Bool
 opened_by_erase o = opened (λ c n. is_block_erase c && n == 3) o
@@ -186,6 +208,9 @@ address_row g t la luns n v byte f10 found tf f = at t.opening refl f10
     first : (o : Opening) → t.opening ≡ Some o → next.opening ≡ one_address_more (Some o) → next.phase ≡ phase_after_address (Some o) t.phase → row next ≡ row_with t byte → named_lun_is g (row_with t byte) (λ v. is_refused_by g (Some o) (page_address g (row_with t byte)) v.queue) luns ≡ false → RowFits g next n v
     first o is opened phase same passed =
         record {
+          read = λ named h.
+              ap (λ r. some_read_clashes g (page_address g r) v.queue) same ∙
+              read_judged g (page_address g (row_with t byte)) v.queue o.opener o.addresses (free named) (ap (opened_by_read) (sym opened) ∙ h);
           erase = λ named h.
               ap (λ r. some_queued_clashes g true (page_address g r) v.queue) same ∙
               erase_judged g (page_address g (row_with t byte)) v.queue o.opener o.addresses (free named) (ap (opened_by_erase) (sym opened) ∙ h);
@@ -200,12 +225,17 @@ address_row g t la luns n v byte f10 found tf f = at t.opening refl f10
     later : next.opening ≡ None → next.phase ≡ phase_after_address None t.phase → row next ≡ row t → RowFits g next n v
     later opened phase same =
         record {
+          read = λ named h. none_read next.opening opened h;
           erase = λ named h. none next.opening opened h;
           program = λ named h.
               ap (λ r. some_queued_clashes g false (page_address g r) v.queue) same ∙
               f.program (ap (λ r. names_lun g r n) (sym same) ∙ named) (later_address t.phase (ap (λ p. takes_data p || wants_column p) (sym phase) ∙ h));
         }
       where
+        none_read : {A : Type 0} → (o : Option Opening) → o ≡ None → opened_by_read o ≡ true → A
+        none_read None e h = cc
+        none_read (Some o) e h = cc
+
         none : {A : Type 0} → (o : Option Opening) → o ≡ None → opened_by_erase o ≡ true → A
         none None e h = cc
         none (Some o) e h = cc
@@ -213,6 +243,7 @@ address_row g t la luns n v byte f10 found tf f = at t.opening refl f10
     resets : (o : Opening) → t.opening ≡ Some o → is_reset_lun o.opener ≡ true → (w : LunView) → next.opening ≡ one_address_more (Some o) → next.phase ≡ phase_after_address (Some o) t.phase → RowFits g next n w
     resets o is r w opened phase =
         record {
+          read = λ named h. let no = no_read o.opener (o.addresses + 1 == 5) r (ap (opened_by_read) (sym opened) ∙ h) in cc;
           erase = λ named h. let no = no_erase o.opener (o.addresses + 1 == 3) r (ap (opened_by_erase) (sym opened) ∙ h) in cc;
           program = λ named h. let no = no_program o.opener (o.addresses == 4) r (last_address o t.phase (λ e. sym is ∙ tf.in_column e) (ap (λ p. takes_data p || wants_column p) (sym phase) ∙ h)) in cc;
         }
@@ -254,12 +285,13 @@ extended_row g t la luns n v (CommandCycle c) some keeps found tf f = command_ro
 extended_row g t la luns n v (AddressCycle byte) some keeps found tf f = address_row g t la luns n v byte keeps.f10 found tf f
 extended_row g t la luns n v (InputCycle byte) some keeps found tf f =
     record {
+      read = λ named h. cc;
       erase = λ named h. cc;
       program = λ named h.
           ap (some_queued_clashes g false (page_address g (row t))) (served_keeps g n (ends_features t) (FeaturesSet (t.column % 256)) v.queue refl)
           ∙ f.program named (input_inside t.inputs t.phase h);
     }
-extended_row g t la luns n v OutputCycle some keeps found tf f = record { erase = λ named h. cc; program = λ named h. cc }
+extended_row g t la luns n v OutputCycle some keeps found tf f = record { read = λ named h. cc; erase = λ named h. cc; program = λ named h. cc }
 
 cycle_row : (g : Parts) (t : TailFacts) (la : Latch) (luns : List LunView) (n : ℕ) (v : LunView) (cycle : TargetCycle) → KeepsRules g t luns cycle → slice_get luns n ≡ Some v → TailFits g t → RowFits g t n v → RowFits g (facts_after cycle t) n (view_after (cycle_effect g t la cycle n) v)
 cycle_row g t la luns n v cycle keeps found tf f = at (begins_anew t cycle) refl
@@ -268,7 +300,7 @@ cycle_row g t la luns n v cycle keeps found tf f = at (begins_anew t cycle) refl
     w = view_after (cycle_effect g t la cycle n) v
 
     empty : t.is_empty ≡ true → RowFits g t n w
-    empty e = unnamed g t n w (rw (tf.nothing e) refl) (rw (tf.outside e) refl)
+    empty e = unnamed g t n w (rw (tf.nothing e) refl) (rw (tf.nothing e) refl) (rw (tf.outside e) refl)
 
     on : (e : Bool) → t.is_empty ≡ e → RowFits g (cond e t (extended_facts cycle t)) n w
     on true e = empty e

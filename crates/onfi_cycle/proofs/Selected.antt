@@ -3,7 +3,7 @@ use Rattle.std.proofs.Common.{◌≡◌, ℕ, ◌==◌, Bool, true, false, ◌&&
 use Rattle.std.proofs.Math.Bool.{or-false, or-true}
 use Rattle.nand_geometry.specs.declared.parts.Parts.{Parts}
 use Rattle.onfi_cycle.specs.declared.command.Command.{Command}
-use Rattle.onfi_cycle.specs.declared.command.Command.TheVariants.{Read, ReadConfirm, ChangeReadColumnConfirm, BlockEraseConfirm, BlockErasePlane, ReadStatus, ReadStatusEnhanced, ProgramConfirm, ProgramPlane, ReadId, ReadParameterPage, Reset, ReadCacheSequential, ReadCacheEnd, ReadUniqueId, GetFeatures, SetFeatures, ResetLun, SynchronousReset}
+use Rattle.onfi_cycle.specs.declared.command.Command.TheVariants.{Read, ReadConfirm, ChangeReadColumnConfirm, BlockEraseConfirm, BlockErasePlane, ReadStatus, ReadStatusEnhanced, ProgramConfirm, ProgramPlane, ReadId, ReadParameterPage, Reset, ReadCacheSequential, ReadCacheEnd, ReadUniqueId, GetFeatures, SetFeatures, ResetLun, SynchronousReset, ReadPlane}
 use Rattle.onfi_cycle.specs.declared.lun.Lun.{Lun}
 use Rattle.onfi_cycle.specs.declared.latch.Latch.{Latch}
 use Rattle.onfi_cycle.specs.declared.item.Item.{Item}
@@ -47,10 +47,10 @@ read_on_selected true named shared o p page = row_selected true named shared tru
 read_on_selected false named shared o p page = same_selected o p Unaffected (CacheReadContinued None) refl refl
 
 -- E0; s: it closes a 06; c: it changes the column of the one driver
-plane_selected : (s named c p : Bool) (from : ℕ) → selected_after (cond s (cond named (PlaneSelected from) Deselected) (cond c (ReadColumnChanged from) Unaffected)) p ≡ unwrap_or (cond s (Some named) None) p
-plane_selected true true c p from = refl
-plane_selected true false c p from = refl
-plane_selected false named c p from = same_selected c p (ReadColumnChanged from) Unaffected refl refl
+plane_selected : (s named c p : Bool) (plane planes from : ℕ) → selected_after (cond s (cond named (PlaneSelected plane planes from) Deselected) (cond c (ReadColumnChanged from) Unaffected)) p ≡ unwrap_or (cond s (Some named) None) p
+plane_selected true true c p plane planes from = refl
+plane_selected true false c p plane planes from = refl
+plane_selected false named c p plane planes from = same_selected c p (ReadColumnChanged from) Unaffected refl refl
 
 command_selected : (g : Parts) (past : List Item) (l : Lun) (la : Latch) (c : Command) (p : Bool) → selected_after (command_effect g (tail_of past l) la c l.lun) p ≡ unwrap_or (selected_cycle g past l (CommandCycle c)) p
 command_selected g past l la Read p = refl
@@ -60,8 +60,9 @@ command_selected g past l la Reset p = reset_selected (is_shared g) (l.lun == 0)
 command_selected g past l la SynchronousReset p = reset_selected (is_shared g) (l.lun == 0) p
 command_selected g past l la ReadCacheSequential p = read_on_selected (wants_command (tail_of past l) ReadCacheSequential) (names_lun g (row (tail_of past l)) l.lun) (is_shared g) (is_off la) p (page_address g (row (tail_of past l)))
 command_selected g past l la ReadCacheEnd p = same_selected (is_off la) p Unaffected CacheReadEnded refl refl
-command_selected g past l la ChangeReadColumnConfirm p = plane_selected (selects_plane (tail_of past l)) (names_lun g (row (tail_of past l)) l.lun) (wants_command (tail_of past l) ChangeReadColumnConfirm && not (is_off la)) p (tail_of past l).column
+command_selected g past l la ChangeReadColumnConfirm p = plane_selected (selects_plane (tail_of past l)) (names_lun g (row (tail_of past l)) l.lun) (wants_command (tail_of past l) ChangeReadColumnConfirm && not (is_off la)) p _ _ (tail_of past l).column
 command_selected g past l la ReadConfirm p = row_selected (wants_command (tail_of past l) ReadConfirm) (names_lun g (row (tail_of past l)) l.lun) (is_shared g) true p _ refl
+command_selected g past l la ReadPlane p = row_selected (wants_command (tail_of past l) ReadPlane) (names_lun g (row (tail_of past l)) l.lun) (is_shared g) true p _ refl
 command_selected g past l la BlockEraseConfirm p = row_selected (wants_command (tail_of past l) BlockEraseConfirm) (names_lun g (row (tail_of past l)) l.lun) (is_shared g) false p _ refl
 command_selected g past l la BlockErasePlane p = row_selected (wants_command (tail_of past l) BlockErasePlane) (names_lun g (row (tail_of past l)) l.lun) (is_shared g) false p _ refl
 command_selected g past l la ProgramConfirm p = row_selected (wants_command (tail_of past l) ProgramConfirm) (names_lun g (row (tail_of past l)) l.lun) (is_shared g) false p _ refl
@@ -165,10 +166,10 @@ read_on_overlapped : (wants named shared o q p : Bool) (page : PageAddress) → 
 read_on_overlapped true named shared o q p page = row_overlapped true named shared true q p (CacheReadContinued (Some page)) refl
 read_on_overlapped false named shared o q p page = same_overlapped o q p Unaffected (CacheReadContinued None) refl refl
 
-plane_overlapped : (s named c q p : Bool) (from : ℕ) → overlapped_after (cond s (cond named (PlaneSelected from) Deselected) (cond c (ReadColumnChanged from) Unaffected)) q p ≡ unwrap_or (cond s (Some false) None) p
-plane_overlapped true true c q p from = refl
-plane_overlapped true false c q p from = refl
-plane_overlapped false named c q p from = same_overlapped c q p (ReadColumnChanged from) Unaffected refl refl
+plane_overlapped : (s named c q p : Bool) (plane planes from : ℕ) → overlapped_after (cond s (cond named (PlaneSelected plane planes from) Deselected) (cond c (ReadColumnChanged from) Unaffected)) q p ≡ unwrap_or (cond s (Some false) None) p
+plane_overlapped true true c q p plane planes from = refl
+plane_overlapped true false c q p plane planes from = refl
+plane_overlapped false named c q p plane planes from = same_overlapped c q p (ReadColumnChanged from) Unaffected refl refl
 
 command_overlapped : (g : Parts) (past : List Item) (l : Lun) (la : Latch) (c : Command) (p : Bool) → overlapped_after (command_effect g (tail_of past l) la c l.lun) (is_busy g past l || is_array_busy g past l) p ≡ unwrap_or (overlapped_cycle g past l (CommandCycle c)) p
 command_overlapped g past l la Read p = refl
@@ -178,8 +179,9 @@ command_overlapped g past l la Reset p = reset_overlapped (is_shared g) (l.lun =
 command_overlapped g past l la SynchronousReset p = reset_overlapped (is_shared g) (l.lun == 0) _ p
 command_overlapped g past l la ReadCacheSequential p = read_on_overlapped (wants_command (tail_of past l) ReadCacheSequential) (names_lun g (row (tail_of past l)) l.lun) (is_shared g) (is_off la) _ p (page_address g (row (tail_of past l)))
 command_overlapped g past l la ReadCacheEnd p = same_overlapped (is_off la) _ p Unaffected CacheReadEnded refl refl
-command_overlapped g past l la ChangeReadColumnConfirm p = plane_overlapped (selects_plane (tail_of past l)) (names_lun g (row (tail_of past l)) l.lun) (wants_command (tail_of past l) ChangeReadColumnConfirm && not (is_off la)) _ p (tail_of past l).column
+command_overlapped g past l la ChangeReadColumnConfirm p = plane_overlapped (selects_plane (tail_of past l)) (names_lun g (row (tail_of past l)) l.lun) (wants_command (tail_of past l) ChangeReadColumnConfirm && not (is_off la)) _ p _ _ (tail_of past l).column
 command_overlapped g past l la ReadConfirm p = row_overlapped (wants_command (tail_of past l) ReadConfirm) (names_lun g (row (tail_of past l)) l.lun) (is_shared g) true _ p _ refl
+command_overlapped g past l la ReadPlane p = row_overlapped (wants_command (tail_of past l) ReadPlane) (names_lun g (row (tail_of past l)) l.lun) (is_shared g) true _ p _ refl
 command_overlapped g past l la BlockEraseConfirm p = row_overlapped (wants_command (tail_of past l) BlockEraseConfirm) (names_lun g (row (tail_of past l)) l.lun) (is_shared g) false _ p _ refl
 command_overlapped g past l la BlockErasePlane p = row_overlapped (wants_command (tail_of past l) BlockErasePlane) (names_lun g (row (tail_of past l)) l.lun) (is_shared g) false _ p _ refl
 command_overlapped g past l la ProgramConfirm p = row_overlapped (wants_command (tail_of past l) ProgramConfirm) (names_lun g (row (tail_of past l)) l.lun) (is_shared g) false _ p _ refl

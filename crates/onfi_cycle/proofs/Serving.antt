@@ -3,10 +3,11 @@ use Rattle.std.specs.List.{list_any}
 use Rattle.std.proofs.Common.{◌≡◌, ℕ, zero, suc, ◌+◌, ◌==◌, Bool, true, false, ◌&&◌, not, cond, ◌%◌, List, [], ◌∷◌, Option, Some, None, refl, sym, ap, ◌∙◌, eqb-true}
 use Rattle.std.proofs.lemmas.Bool.{and_parts, or_from, or_parts as neither}
 use Rattle.nand_geometry.specs.declared.parts.Parts.{Parts}
+use Rattle.nand_geometry.specs.Limits.{planes}
 use Rattle.onfi_cycle.specs.declared.command.Command.{Command}
-use Rattle.onfi_cycle.specs.declared.command.Command.TheVariants.{Read, ReadConfirm, ChangeReadColumn, ChangeReadColumnConfirm, BlockErase, BlockEraseConfirm, BlockErasePlane, ReadStatus, ReadStatusEnhanced, PageProgram, ChangeWriteColumn, ProgramConfirm, ProgramPlane, ReadId, ReadParameterPage, Reset, ReadCacheSequential, ReadCacheEnd, ReadUniqueId, GetFeatures, SetFeatures, ResetLun, SynchronousReset, Unknown, ChangeReadColumnEnhanced}
+use Rattle.onfi_cycle.specs.declared.command.Command.TheVariants.{Read, ReadConfirm, ChangeReadColumn, ChangeReadColumnConfirm, BlockErase, BlockEraseConfirm, BlockErasePlane, ReadStatus, ReadStatusEnhanced, PageProgram, ChangeWriteColumn, ProgramConfirm, ProgramPlane, ReadId, ReadParameterPage, Reset, ReadCacheSequential, ReadCacheEnd, ReadUniqueId, GetFeatures, SetFeatures, ResetLun, SynchronousReset, Unknown, ChangeReadColumnEnhanced, ReadPlane}
 use Rattle.onfi_cycle.specs.declared.effect.Effect.{Effect}
-use Rattle.onfi_cycle.specs.declared.effect.Effect.TheVariants.{Unaffected, DataOutputEnabled, StatusSelected, StatusRowAwaited, SelectedForStatus, Deselected, IdRead, IdentityRead, UniqueIdReadStarted, FeaturesReadStarted, FeaturesSet, ParameterPageReadStarted, CacheReadContinued, CacheReadEnded, DataOutput, ResetStarted, BecameReady, ArrayBecameReady, ReadStarted, EraseStarted, ProgramStarted, ReadColumnChanged, AnotherAddressed, StatusOfSelected, TargetResetStarted, PlaneSelected}
+use Rattle.onfi_cycle.specs.declared.effect.Effect.TheVariants.{Unaffected, DataOutputEnabled, StatusSelected, StatusRowAwaited, SelectedForStatus, Deselected, IdRead, IdentityRead, UniqueIdReadStarted, FeaturesReadStarted, FeaturesSet, ParameterPageReadStarted, CacheReadContinued, CacheReadEnded, DataOutput, ResetStarted, BecameReady, ArrayBecameReady, ReadStarted, EraseStarted, ProgramStarted, ReadColumnChanged, AnotherAddressed, StatusOfSelected, TargetResetStarted, PlaneSelected, ReadQueued}
 use Rattle.onfi_cycle.specs.declared.item.Item.{Item}
 use Rattle.onfi_cycle.specs.declared.item.Item.TheVariants.{Cyc, Rdy, Ard}
 use Rattle.onfi_cycle.specs.declared.latch.Latch.{Latch}
@@ -17,7 +18,7 @@ use Rattle.onfi_cycle.specs.declared.target_cycle.TargetCycle.{TargetCycle}
 use Rattle.onfi_cycle.specs.declared.target_cycle.TargetCycle.TheVariants.{CommandCycle, AddressCycle, InputCycle, OutputCycle}
 use Rattle.onfi_cycle.specs.Command.{closes_row, reads_row, reads_identity}
 use Rattle.onfi_cycle.specs.Sequence.{target_cycle, tail, facts_of, opened, takes_features, wants_command, row, row_with, selects_plane}
-use Rattle.onfi_cycle.specs.Effect.{is_off, is_data, is_shared, names_lun, confirm_effect, row_effect, cache_effect, command_effect, address_effect, opening_address_effect, lun_reset_effect, of_target, cycle_effect, plane_effect, column_effect}
+use Rattle.onfi_cycle.specs.Effect.{is_off, is_data, is_shared, names_lun, confirm_effect, row_effect, cache_effect, command_effect, address_effect, opening_address_effect, lun_reset_effect, of_target, cycle_effect, plane_effect, column_effect, plane_of_row}
 use Rattle.onfi_cycle.specs.Lun.{busy_after, closer_after, is_target_work, effect_on, effect_among, alone, latch, is_busy, closer, lun_view, views_from}
 use Rattle.onfi_cycle.specs.Rules.{works_for_target}
 use Rattle.onfi_cycle.specs.OtherLun.{serves_target, keeps_to_lun, keeps_to, is_of}
@@ -45,6 +46,7 @@ serves_no_more StatusRowAwaited b c h k = k
 serves_no_more SelectedForStatus b c h k = k
 serves_no_more Deselected b c h k = k
 serves_no_more (ReadStarted page column) b c h k = refl
+serves_no_more (ReadQueued page) b c h k = refl
 serves_no_more (EraseStarted true page) b c h k = refl
 serves_no_more (EraseStarted false page) b c h k = refl
 serves_no_more (ProgramStarted true page) b c h k = refl
@@ -58,7 +60,7 @@ serves_no_more ParameterPageReadStarted b c h k = cc
 serves_no_more (CacheReadContinued to) b c h k = refl
 serves_no_more CacheReadEnded b c h k = refl
 serves_no_more (ReadColumnChanged column) b c h k = k
-serves_no_more (PlaneSelected column) b c h k = k
+serves_no_more (PlaneSelected plane planes column) b c h k = k
 serves_no_more DataOutput b c h k = k
 serves_no_more ResetStarted b c h k = refl
 serves_no_more (TargetResetStarted first) b c h k = refl
@@ -80,10 +82,11 @@ closer_serves named others reads x h = either named x (cond others (AnotherAddre
 command_serves : (g : Parts) (t : TailFacts) (la : Latch) (c : Command) (n : ℕ) → begins_service (command_effect g t la c n) ≡ false
 command_serves g t la Read n = refl
 command_serves g t la ReadConfirm n = closer_serves (wants_command t ReadConfirm && names_lun g (row t) n) (closes_row ReadConfirm && (wants_command t ReadConfirm && is_shared g)) (reads_row ReadConfirm) (confirm_effect g t ReadConfirm) refl
+command_serves g t la ReadPlane n = closer_serves (wants_command t ReadPlane && names_lun g (row t) n) (closes_row ReadPlane && (wants_command t ReadPlane && is_shared g)) (reads_row ReadPlane) (confirm_effect g t ReadPlane) refl
 command_serves g t la ChangeReadColumn n = closer_serves (wants_command t ChangeReadColumn && names_lun g (row t) n) (closes_row ChangeReadColumn && (wants_command t ChangeReadColumn && is_shared g)) (reads_row ChangeReadColumn) (confirm_effect g t ChangeReadColumn) refl
 command_serves g t la ChangeReadColumnEnhanced n = closer_serves (wants_command t ChangeReadColumnEnhanced && names_lun g (row t) n) (closes_row ChangeReadColumnEnhanced && (wants_command t ChangeReadColumnEnhanced && is_shared g)) (reads_row ChangeReadColumnEnhanced) (confirm_effect g t ChangeReadColumnEnhanced) refl
 command_serves g t la ChangeReadColumnConfirm n =
-    either (selects_plane t) (plane_effect g t n) (column_effect t la) (either (names_lun g (row t) n) (PlaneSelected t.column) Deselected refl refl)
+    either (selects_plane t) (plane_effect g t n) (column_effect t la) (either (names_lun g (row t) n) (PlaneSelected (plane_of_row g (row t)) (planes g) t.column) Deselected refl refl)
     (either (wants_command t ChangeReadColumnConfirm && not (is_off la)) (ReadColumnChanged t.column) Unaffected refl refl)
 command_serves g t la BlockErase n = closer_serves (wants_command t BlockErase && names_lun g (row t) n) (closes_row BlockErase && (wants_command t BlockErase && is_shared g)) (reads_row BlockErase) (confirm_effect g t BlockErase) refl
 command_serves g t la BlockEraseConfirm n = closer_serves (wants_command t BlockEraseConfirm && names_lun g (row t) n) (closes_row BlockEraseConfirm && (wants_command t BlockEraseConfirm && is_shared g)) (reads_row BlockEraseConfirm) (confirm_effect g t BlockEraseConfirm) refl
@@ -112,6 +115,7 @@ command_serves g t la Unknown n = closer_serves (wants_command t Unknown && name
 address_serves : (g : Parts) (t : TailFacts) (byte : ℕ) (c : Command) (k n : ℕ) → reads_identity c ≡ false → begins_service (address_effect g t byte c k n) ≡ false
 address_serves g t byte Read k n none = refl
 address_serves g t byte ReadConfirm k n none = refl
+address_serves g t byte ReadPlane k n none = refl
 address_serves g t byte ChangeReadColumn k n none = refl
 address_serves g t byte ChangeReadColumnEnhanced k n none = refl
 address_serves g t byte ChangeReadColumnConfirm k n none = refl

@@ -5,7 +5,7 @@ use Rattle.std.proofs.lemmas.List.{reverse-append, reverse-reverse}
 use Rattle.std.proofs.lemmas.Bool.{or_cases, or_right, and_parts, and_from, or_left}
 use Rattle.onfi_cycle.proofs.Booleans.{clash}
 use Rattle.onfi_cycle.specs.declared.command.Command.{Command}
-use Rattle.onfi_cycle.specs.declared.command.Command.TheVariants.{Read, ReadConfirm, ChangeReadColumn, ChangeReadColumnConfirm, BlockErase, BlockEraseConfirm, BlockErasePlane, ReadStatusEnhanced, PageProgram, ChangeWriteColumn, ProgramConfirm, ProgramPlane, ReadId, ReadParameterPage, ReadUniqueId, GetFeatures, SetFeatures, ResetLun, ReadCacheSequential, ChangeReadColumnEnhanced}
+use Rattle.onfi_cycle.specs.declared.command.Command.TheVariants.{Read, ReadConfirm, ChangeReadColumn, ChangeReadColumnConfirm, BlockErase, BlockEraseConfirm, BlockErasePlane, ReadStatusEnhanced, PageProgram, ChangeWriteColumn, ProgramConfirm, ProgramPlane, ReadId, ReadParameterPage, ReadUniqueId, GetFeatures, SetFeatures, ResetLun, ReadCacheSequential, ChangeReadColumnEnhanced, ReadPlane}
 use Rattle.onfi_cycle.specs.declared.opening.Opening.{Opening}
 use Rattle.onfi_cycle.specs.declared.data_phase.DataPhase.{DataPhase}
 use Rattle.onfi_cycle.specs.declared.data_phase.DataPhase.TheVariants.{Outside, Inputs, FirstColumn, SecondColumn, FeatureInputs}
@@ -17,7 +17,7 @@ use Rattle.onfi_cycle.specs.Sequence.{begins_sequence, one_address_more, opening
 use Rattle.onfi_cycle.specs.Table.{IsProgramData, IsProgramCloser, IsSequence, IsBeginning, IsProperBeginning, TailsFollowTheTable}
 use Rattle.onfi_cycle.specs.Table.IsProgramData.{nothing, input, column}
 use Rattle.onfi_cycle.specs.Table.IsProgramCloser.{whole, plane}
-use Rattle.onfi_cycle.specs.Table.IsSequence.{read, read_cache_random, change_read_column, change_read_column_enhanced, erase, erase_plane, read_status, read_status_enhanced, program, read_id, read_parameter_page, reset, read_cache_sequential, read_cache_end, read_manufacturer, read_jedec, read_unique_id, get_features, set_features, reset_lun, synchronous_reset}
+use Rattle.onfi_cycle.specs.Table.IsSequence.{read, read_plane, read_cache_random, change_read_column, change_read_column_enhanced, erase, erase_plane, read_status, read_status_enhanced, program, read_id, read_parameter_page, reset, read_cache_sequential, read_cache_end, read_manufacturer, read_jedec, read_unique_id, get_features, set_features, reset_lun, synchronous_reset}
 
 -- 1. A sequence, read in the order of time, is wanted cycle by cycle.
 
@@ -62,6 +62,7 @@ data_scans f _ closer (column c1 c2 more rest) k h =
 -- each sequence of the table
 sequence_scans : (s : List TargetCycle) → IsSequence s → scans s ≡ true
 sequence_scans _ (read c1 c2 r1 r2 r3) = refl
+sequence_scans _ (read_plane c1 c2 r1 r2 r3) = refl
 sequence_scans _ (read_cache_random c1 c2 r1 r2 r3) = refl
 sequence_scans _ (change_read_column c1 c2) = refl
 sequence_scans _ (change_read_column_enhanced c1 c2 r1 r2 r3) = refl
@@ -457,6 +458,15 @@ cache_read_ends (a ∷ (b ∷ (c ∷ []))) h = absurd (omega arith)
 cache_read_ends (a ∷ (b ∷ (c ∷ (d ∷ [])))) h = absurd (omega arith)
 cache_read_ends (a ∷ (b ∷ (c ∷ (d ∷ (e ∷ (x ∷ more)))))) h = absurd (omega arith)
 
+plane_read_ends : (bs : List ℕ) → length bs ≡ 5 → IsSequence (CommandCycle Read ∷ (addresses bs ++ (CommandCycle ReadPlane ∷ [])))
+plane_read_ends (a ∷ (b ∷ (c ∷ (d ∷ (e ∷ []))))) h = read_plane a b c d e
+plane_read_ends [] h = absurd (omega arith)
+plane_read_ends (a ∷ []) h = absurd (omega arith)
+plane_read_ends (a ∷ (b ∷ [])) h = absurd (omega arith)
+plane_read_ends (a ∷ (b ∷ (c ∷ []))) h = absurd (omega arith)
+plane_read_ends (a ∷ (b ∷ (c ∷ (d ∷ [])))) h = absurd (omega arith)
+plane_read_ends (a ∷ (b ∷ (c ∷ (d ∷ (e ∷ (x ∷ more)))))) h = absurd (omega arith)
+
 read_ends : (bs : List ℕ) → length bs ≡ 5 → IsSequence (CommandCycle Read ∷ (addresses bs ++ (CommandCycle ReadConfirm ∷ [])))
 read_ends (a ∷ (b ∷ (c ∷ (d ∷ (e ∷ []))))) h = read a b c d e
 read_ends [] h = absurd (omega arith)
@@ -497,6 +507,7 @@ erase_plane_ends (a ∷ (b ∷ (c ∷ (x ∷ more)))) h = absurd (omega arith)
 
 closer_ends : (c d : Command) (bs : List ℕ) → (closes c d && length bs == address_cycles c) ≡ true → IsSequence (CommandCycle c ∷ (addresses bs ++ (CommandCycle d ∷ [])))
 closer_ends Read ReadConfirm bs h = read_ends bs (eqb-true (length bs) 5 h)
+closer_ends Read ReadPlane bs h = plane_read_ends bs (eqb-true (length bs) 5 h)
 closer_ends Read ReadCacheSequential bs h = cache_read_ends bs (eqb-true (length bs) 5 h)
 closer_ends ChangeReadColumn ChangeReadColumnConfirm bs h = change_ends bs (eqb-true (length bs) 2 h)
 closer_ends ChangeReadColumnEnhanced ChangeReadColumnConfirm bs h = plane_ends bs (eqb-true (length bs) 5 h)
@@ -683,6 +694,7 @@ right_true false false c h = h
 -- an opener that is closed by this, with its addresses whole
 closed_is_proper : (c d : Command) (n : ℕ) → (closes c d && n == address_cycles c) ≡ true → is_proper_beginning c n ≡ true
 closed_is_proper Read ReadConfirm n h = grind (arith, nat_tests, h)
+closed_is_proper Read ReadPlane n h = grind (arith, nat_tests, h)
 closed_is_proper Read ReadCacheSequential n h = grind (arith, nat_tests, h)
 closed_is_proper ChangeReadColumn ChangeReadColumnConfirm n h = grind (arith, nat_tests, h)
 closed_is_proper ChangeReadColumnEnhanced ChangeReadColumnConfirm n h = grind (arith, nat_tests, h)

@@ -5,7 +5,7 @@ use Rattle.std.specs.List.{slice_get, All}
 use Rattle.std.proofs.lemmas.Option.{slice_get_within, get_or_from_slice_get}
 use Rattle.std.proofs.lemmas.Bool.{or_right, and_parts as both}
 use Rattle.nand_geometry.specs.declared.parts.Parts.{Parts}
-use Rattle.nand_geometry.specs.Limits.{InLimits}
+use Rattle.nand_geometry.specs.Limits.{InLimits, planes}
 use Rattle.nand_geometry.specs.Row.{parts_of}
 use Rattle.onfi_cycle.specs.declared.command.Command.{Command}
 use Rattle.onfi_cycle.specs.declared.command.Command.TheVariants.{Read, ChangeReadColumnConfirm, ReadStatus, ReadStatusEnhanced, PageProgram, ReadId, ReadParameterPage, Reset, ReadCacheSequential, ReadCacheEnd, ReadUniqueId, GetFeatures, ResetLun, SynchronousReset}
@@ -28,7 +28,7 @@ use Rattle.onfi_cycle.specs.declared.target_cycle.TargetCycle.TheVariants.{Comma
 use Rattle.onfi_cycle.specs.LunView.{LunView}
 use Rattle.onfi_cycle.specs.Command.{closes_row, reads_row, is_page_program, at_last_row, reads_identity, is_reset, wants_one_lun}
 use Rattle.onfi_cycle.specs.Sequence.{target_of, target_cycle, tail, facts_of, opened, takes_data, wants_command, wants_address, wants_column, row, row_with, input_column, takes_features, selects_plane}
-use Rattle.onfi_cycle.specs.Effect.{is_off, is_data, is_shared, acts_for_target, of_target, other_effect, row_effect, cache_effect, names_lun, page_address, confirm_effect, command_effect, address_effect, opening_address_effect, cycle_effect, id_effect, ends_features}
+use Rattle.onfi_cycle.specs.Effect.{is_off, is_data, is_shared, acts_for_target, of_target, other_effect, row_effect, cache_effect, names_lun, page_address, confirm_effect, command_effect, address_effect, opening_address_effect, cycle_effect, id_effect, ends_features, plane_of_row, plane_effect, column_effect}
 use Rattle.onfi_cycle.specs.Filling.{cycle_filling, filling}
 use Rattle.onfi_cycle.specs.Lun.{latch, latch_alone, drivers, is_only, effect_on, effect_among, lun_view, luns_of}
 use Rattle.onfi_cycle.specs.Rules.{ends_row, breaks_several_luns}
@@ -99,13 +99,19 @@ one_of_command g t la lb ReadCacheSequential n m s a b = at (wants_command t Rea
     at true a b = same_number g (row t) n m (named n a) (named m b)
     at false a b = s.driver (unless (is_off la) (CacheReadContinued None) a) (unless (is_off lb) (CacheReadContinued None) b)
 one_of_command g t la lb ReadCacheEnd n m s a b = s.driver (unless (is_off la) CacheReadEnded a) (unless (is_off lb) CacheReadEnded b)
-one_of_command g t la lb ChangeReadColumnConfirm n m s a b = let no = nothing (selects_plane t) (names_lun g (row t) n) (wants_command t ChangeReadColumnConfirm && not (is_off la)) a in cc
+one_of_command g t la lb ChangeReadColumnConfirm n m s a b = at (selects_plane t) a b
   where
-    nothing : (s d c : Bool) → begins (cond s (cond d (PlaneSelected t.column) Deselected) (cond c (ReadColumnChanged t.column) Unaffected)) ≡ true → false ≡ true
-    nothing true true c h = h
-    nothing true false c h = h
-    nothing false d true h = h
-    nothing false d false h = h
+    named : (d : Bool) → begins (cond d (PlaneSelected (plane_of_row g (row t)) (planes g) t.column) Deselected) ≡ true → d ≡ true
+    named true h = refl
+    named false h = cc
+
+    nothing : (d : Bool) → begins (cond d (ReadColumnChanged t.column) Unaffected) ≡ true → false ≡ true
+    nothing true h = h
+    nothing false h = h
+
+    at : (w : Bool) → begins (cond w (plane_effect g t n) (column_effect t la)) ≡ true → begins (cond w (plane_effect g t m) (column_effect t lb)) ≡ true → n ≡ m
+    at true a b = same_number g (row t) n m (named (names_lun g (row t) n) a) (named (names_lun g (row t) m) b)
+    at false a b = let no = nothing (wants_command t ChangeReadColumnConfirm && not (is_off la)) a in cc
 one_of_command g t la lb c n m s a b =
     same_number g (row t) n m
     (both (wants_command t c) _ (chosen_or (wants_command t c && names_lun g (row t) n) (confirm_effect g t c) (other_effect g t c) (other_begins_none g t c) a)).1

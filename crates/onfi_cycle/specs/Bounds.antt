@@ -7,15 +7,15 @@ use Rattle.onfi_cycle.specs.declared.command.Command.TheVariants.{Read, BlockEra
 use Rattle.onfi_cycle.specs.declared.page_address.PageAddress.{PageAddress}
 use Rattle.onfi_cycle.specs.Command.{reads_identity}
 use Rattle.onfi_cycle.specs.declared.queued.Queued.{Queued}
-use Rattle.onfi_cycle.specs.declared.queued.Queued.TheVariants.{Erase, Program}
+use Rattle.onfi_cycle.specs.declared.queued.Queued.TheVariants.{Erase, Program, Read as QueuedRead}
 use Rattle.onfi_cycle.specs.declared.tail_facts.TailFacts.{TailFacts}
 use Rattle.onfi_cycle.specs.declared.data_phase.DataPhase.TheVariants.{Outside}
 use Rattle.onfi_cycle.specs.LunView.{LunView}
 use Rattle.onfi_cycle.specs.Sequence.{opened, takes_data, takes_features, wants_column, row}
 use Rattle.onfi_cycle.specs.declared.effect.Effect.{Effect}
-use Rattle.onfi_cycle.specs.declared.effect.Effect.TheVariants.{DataOutput, EraseStarted, ProgramStarted, ReadStarted, ReadColumnChanged, PlaneSelected, IdRead, IdentityRead, UniqueIdReadStarted, FeaturesReadStarted, FeaturesSet, ParameterPageReadStarted, CacheReadContinued, CacheReadEnded}
+use Rattle.onfi_cycle.specs.declared.effect.Effect.TheVariants.{DataOutput, EraseStarted, ProgramStarted, ReadStarted, ReadColumnChanged, PlaneSelected, IdRead, IdentityRead, UniqueIdReadStarted, FeaturesReadStarted, FeaturesSet, ParameterPageReadStarted, CacheReadContinued, CacheReadEnded, ReadQueued}
 use Rattle.onfi_cycle.specs.Effect.{is_shared, names_lun, page_address}
-use Rattle.onfi_cycle.specs.Rules.{some_queued_clashes}
+use Rattle.onfi_cycle.specs.Rules.{some_queued_clashes, some_read_clashes}
 use Rattle.onfi_cycle.specs.State.{TargetView, BusView}
 
 -- the counts of a tail, and how its parts stand to one another
@@ -31,6 +31,7 @@ pub record TailFits (g : Parts) (t : TailFacts) : Type 0 where
 abbrev pub plane_of : Parts → Queued → ℕ
 plane_of g (Erase p) = p.block % planes g
 plane_of g (Program p) = p.block % planes g
+plane_of g (QueuedRead p) = p.block % planes g
 
 -- some row of the queue lies in this plane
 abbrev pub is_in_use : Parts → ℕ → List Queued → Bool
@@ -50,6 +51,7 @@ pub record LunFits (g : Parts) (v : LunView) : Type 0 where
   pub given : IfSome v.column.given (λ from. from < 2 ^ 16)
   pub array_page : v.array_page.page < 2 ^ 32
   pub queue : length v.queue + rooms g v.queue ≤ 4
+  pub held : length v.held ≤ 4
 
 abbrev pub is_block_erase : Command → Bool
 is_block_erase BlockErase = true
@@ -90,6 +92,7 @@ pub record RowStands (g : Parts) (t : TailFacts) (n : ℕ) (v : LunView) : Type 
 
 -- the row that the tail names goes together with the queue of its LUN
 pub record RowFits (g : Parts) (t : TailFacts) (n : ℕ) (v : LunView) : Type 0 where
+  pub read : names_lun g (row t) n ≡ true → names_read t ≡ true → some_read_clashes g (page_address g (row t)) v.queue ≡ false
   pub erase : names_lun g (row t) n ≡ true → names_erase t ≡ true → some_queued_clashes g true (page_address g (row t)) v.queue ≡ false
   pub program : names_lun g (row t) n ≡ true → names_program t ≡ true → some_queued_clashes g false (page_address g (row t)) v.queue ≡ false
 
@@ -119,9 +122,10 @@ abbrev pub EffectFits : Parts → LunView → Effect → Type 0
 EffectFits g v DataOutput = v.column.outputs < 2 ^ 16
 EffectFits g v (EraseStarted queued at) = (some_queued_clashes g true at v.queue ≡ false) × CanStart g v at
 EffectFits g v (ProgramStarted queued at) = (some_queued_clashes g false at v.queue ≡ false) × CanStart g v at
+EffectFits g v (ReadQueued at) = (some_read_clashes g at v.queue ≡ false) × CanStart g v at
 EffectFits g v (ReadStarted page column) = (page.page < 2 ^ 32) × (column < 2 ^ 16) × CanStart g v page
 EffectFits g v (ReadColumnChanged column) = column < 2 ^ 16
-EffectFits g v (PlaneSelected column) = column < 2 ^ 16
+EffectFits g v (PlaneSelected plane planes column) = (column < 2 ^ 16) × (0 < planes)
 EffectFits g v IdRead = v.busy ≡ false
 EffectFits g v (IdentityRead jedec) = v.busy ≡ false
 EffectFits g v UniqueIdReadStarted = v.busy ≡ false

@@ -1,7 +1,7 @@
 -- The commands of the profiles: their bytes, and what each asks of its sequence.
 use Rattle.std.specs.Prelude.{◌≡◌, ◌≢◌, ℕ, ◌==◌, Bool, true, false, ◌||◌, if◌then◌else◌, Option, Some, None}
 use Rattle.onfi_cycle.specs.declared.command.Command.{Command}
-use Rattle.onfi_cycle.specs.declared.command.Command.TheVariants.{Read, ReadConfirm, ChangeReadColumn, ChangeReadColumnEnhanced, ChangeReadColumnConfirm, BlockErase, BlockEraseConfirm, BlockErasePlane, ReadStatus, ReadStatusEnhanced, PageProgram, ChangeWriteColumn, ProgramConfirm, ProgramPlane, ReadId, ReadParameterPage, Reset, ReadCacheSequential, ReadCacheEnd, ReadUniqueId, GetFeatures, SetFeatures, ResetLun, SynchronousReset, Unknown}
+use Rattle.onfi_cycle.specs.declared.command.Command.TheVariants.{Read, ReadConfirm, ChangeReadColumn, ChangeReadColumnEnhanced, ChangeReadColumnConfirm, BlockErase, BlockEraseConfirm, BlockErasePlane, ReadStatus, ReadStatusEnhanced, PageProgram, ChangeWriteColumn, ProgramConfirm, ProgramPlane, ReadId, ReadParameterPage, Reset, ReadCacheSequential, ReadCacheEnd, ReadUniqueId, GetFeatures, SetFeatures, ResetLun, SynchronousReset, Unknown, ReadPlane}
 
 -- the command of a byte
 unfoldable pub command : ℕ → Command
@@ -30,12 +30,14 @@ command byte =
     else (if byte == 0xfa then ResetLun
     else (if byte == 0xfc then SynchronousReset
     else (if byte == 0x06 then ChangeReadColumnEnhanced
-    else Unknown)))))))))))))))))))))))
+    else (if byte == 0x32 then ReadPlane
+    else Unknown))))))))))))))))))))))))
 
 -- the byte of a command
 abbrev pub opcode : Command → Option ℕ
 opcode Read = Some 0x00
 opcode ReadConfirm = Some 0x30
+opcode ReadPlane = Some 0x32
 opcode ChangeReadColumn = Some 0x05
 opcode ChangeReadColumnEnhanced = Some 0x06
 opcode ChangeReadColumnConfirm = Some 0xe0
@@ -73,6 +75,7 @@ is_known _ = true
 -- the commands that begin a sequence
 abbrev pub is_opener : Command → Bool
 is_opener ReadConfirm = false
+is_opener ReadPlane = false
 is_opener ChangeReadColumnConfirm = false
 is_opener BlockEraseConfirm = false
 is_opener BlockErasePlane = false
@@ -110,6 +113,7 @@ wants_closer _ = false
 -- the second command closes what the first opened, straight after its addresses
 abbrev pub closes : Command → Command → Bool
 closes Read ReadConfirm = true
+closes Read ReadPlane = true
 closes Read ReadCacheSequential = true
 closes ChangeReadColumn ChangeReadColumnConfirm = true
 closes ChangeReadColumnEnhanced ChangeReadColumnConfirm = true
@@ -127,6 +131,7 @@ takes_address _ byte = true
 -- the closers that work on the row of their tail; a 31 that closes nothing works on none
 abbrev pub closes_row : Command → Bool
 closes_row ReadConfirm = true
+closes_row ReadPlane = true
 closes_row ReadCacheSequential = true
 closes_row BlockEraseConfirm = true
 closes_row BlockErasePlane = true
@@ -137,6 +142,7 @@ closes_row _ = false
 -- those that read it
 abbrev pub reads_row : Command → Bool
 reads_row ReadConfirm = true
+reads_row ReadPlane = true
 reads_row ReadCacheSequential = true
 reads_row _ = false
 

@@ -10,7 +10,7 @@ use Rattle.onfi_cycle.specs.declared.page_address.PageAddress.{PageAddress}
 use Rattle.onfi_cycle.specs.declared.register.Register.{Register}
 use Rattle.onfi_cycle.specs.declared.register.Register.TheVariants.{Empty, Page, ParameterPage, Identifier, Identity, JedecIdentity, UniqueId, Features}
 use Rattle.onfi_cycle.specs.declared.effect.Effect.{Effect}
-use Rattle.onfi_cycle.specs.declared.effect.Effect.TheVariants.{ParameterPageReadStarted, UniqueIdReadStarted, FeaturesReadStarted, FeaturesSet, CacheReadContinued, CacheReadEnded, ResetStarted, TargetResetStarted, BecameReady, ReadStarted, EraseStarted, ProgramStarted}
+use Rattle.onfi_cycle.specs.declared.effect.Effect.TheVariants.{ParameterPageReadStarted, UniqueIdReadStarted, FeaturesReadStarted, FeaturesSet, CacheReadContinued, CacheReadEnded, ResetStarted, TargetResetStarted, BecameReady, ReadStarted, EraseStarted, ProgramStarted, ReadQueued}
 use Rattle.onfi_cycle.specs.Sequence.{tail, filled}
 use Rattle.onfi_cycle.specs.Lun.{effect_on, latch, is_busy, is_array_busy, read_column, output_column, register}
 
@@ -45,6 +45,7 @@ left_by_all len (work ∷ works) p old = left_by len work p (left_by_all len wor
 abbrev pub queued_work_after : Effect → List ℕ → List ArrayWork → List ArrayWork
 queued_work_after (EraseStarted queued at) bytes works = if queued then ErasesBlock at ∷ works else []
 queued_work_after (ProgramStarted queued at) bytes works = if queued then ProgramsPage at bytes ∷ works else []
+queued_work_after (ReadStarted _ _) bytes works = []
 queued_work_after ResetStarted bytes works = []
 queued_work_after (TargetResetStarted _) bytes works = []
 queued_work_after _ bytes works = works
@@ -58,6 +59,7 @@ abbrev pub pending_work_after : Effect → List ℕ → List ArrayWork → List 
 pending_work_after (EraseStarted queued at) bytes works pending = if queued then [] else ErasesBlock at ∷ works
 pending_work_after (ProgramStarted queued at) bytes works pending = if queued then [] else ProgramsPage at bytes ∷ works
 pending_work_after (ReadStarted _ _) bytes works pending = []
+pending_work_after (ReadQueued _) bytes works pending = []
 pending_work_after ParameterPageReadStarted bytes works pending = []
 pending_work_after UniqueIdReadStarted bytes works pending = []
 pending_work_after (FeaturesReadStarted _) bytes works pending = []

@@ -1,8 +1,9 @@
 -- What decides each fact of a LUN, in the words of the trace: the newest item that says something of it.
-use Rattle.std.specs.Prelude.{◌≡◌, ℕ, ◌+◌, ◌<◌, ◌==◌, Bool, true, false, ◌||◌, ◌&&◌, not, nat_lt, if◌then◌else◌, List, [], ◌∷◌, Option, Some, None, unwrap_or}
+use Rattle.std.specs.Prelude.{◌≡◌, ℕ, ◌+◌, ◌<◌, ◌==◌, Bool, true, false, ◌||◌, ◌&&◌, not, nat_lt, if◌then◌else◌, List, [], ◌∷◌, Option, Some, None, unwrap_or, take}
 use Rattle.nand_geometry.specs.declared.parts.Parts.{Parts}
+use Rattle.nand_geometry.specs.Limits.{planes}
 use Rattle.onfi_cycle.specs.declared.command.Command.{Command}
-use Rattle.onfi_cycle.specs.declared.command.Command.TheVariants.{Read, ReadConfirm, ChangeReadColumnConfirm, BlockEraseConfirm, BlockErasePlane, ReadStatus, ReadStatusEnhanced, ProgramConfirm, ProgramPlane, ReadId, ReadParameterPage, Reset, ReadCacheSequential, ReadCacheEnd, ReadUniqueId, GetFeatures, SetFeatures, ResetLun, SynchronousReset}
+use Rattle.onfi_cycle.specs.declared.command.Command.TheVariants.{Read, ReadConfirm, ChangeReadColumnConfirm, BlockEraseConfirm, BlockErasePlane, ReadStatus, ReadStatusEnhanced, ProgramConfirm, ProgramPlane, ReadId, ReadParameterPage, Reset, ReadCacheSequential, ReadCacheEnd, ReadUniqueId, GetFeatures, SetFeatures, ResetLun, SynchronousReset, ReadPlane}
 use Rattle.onfi_cycle.specs.declared.lun.Lun.{Lun}
 use Rattle.onfi_cycle.specs.declared.latch.Latch.{Latch}
 use Rattle.onfi_cycle.specs.declared.latch.Latch.TheVariants.{Off, Status, Data}
@@ -13,14 +14,14 @@ use Rattle.onfi_cycle.specs.declared.target_cycle.TargetCycle.{TargetCycle}
 use Rattle.onfi_cycle.specs.declared.target_cycle.TargetCycle.TheVariants.{CommandCycle, AddressCycle, InputCycle, OutputCycle}
 use Rattle.onfi_cycle.specs.declared.page_address.PageAddress.{PageAddress}
 use Rattle.onfi_cycle.specs.declared.queued.Queued.{Queued}
-use Rattle.onfi_cycle.specs.declared.queued.Queued.TheVariants.{Erase, Program}
+use Rattle.onfi_cycle.specs.declared.queued.Queued.TheVariants.{Erase, Program, Read as QueuedRead}
 use Rattle.onfi_cycle.specs.declared.register.Register.{Register}
 use Rattle.onfi_cycle.specs.declared.register.Register.TheVariants.{Empty, Page, ParameterPage, Identifier, Identity, JedecIdentity, UniqueId, Features}
 use Rattle.onfi_cycle.specs.declared.tail_facts.TailFacts.{TailFacts}
 use Rattle.onfi_cycle.specs.Command.{closes_row, reads_row, is_set_features, reads_identity}
 use Rattle.onfi_cycle.specs.Sequence.{target_cycle, tail, facts_of, row, row_with, selects_plane, wants_command, wants_address}
-use Rattle.onfi_cycle.specs.Effect.{is_data, is_shared, acts_for_target, page_address, names_lun, ends_features}
-use Rattle.onfi_cycle.specs.Lun.{latch, drivers, is_only, is_selected, is_overlapped, is_busy, is_caching, closer, is_array_busy, array_page, register, read_column, queue}
+use Rattle.onfi_cycle.specs.Effect.{is_data, is_shared, acts_for_target, page_address, names_lun, ends_features, plane_of_row}
+use Rattle.onfi_cycle.specs.Lun.{latch, drivers, is_only, is_selected, is_overlapped, is_busy, is_caching, closer, is_array_busy, array_page, register, read_column, queue, held, has_reads, pages_of_reads, page_in_plane, register_of_plane}
 use Rattle.onfi_cycle.specs.Permitted.{is_legal}
 
 -- 1. the newest item that decides, and what stands since
@@ -68,6 +69,7 @@ drives_alone g past l = is_only (drivers g past l.ce) l.lun
 -- the closers of a row: the tail wants them, and its row names their LUN
 abbrev pub row_closer : Bool → Command → Option Command
 row_closer named ReadConfirm = if named then Some ReadConfirm else None
+row_closer named ReadPlane = if named then Some ReadPlane else None
 row_closer named ReadCacheSequential = if named then Some ReadCacheSequential else None
 row_closer named BlockEraseConfirm = if named then Some BlockEraseConfirm else None
 row_closer named BlockErasePlane = if named then Some BlockErasePlane else None
@@ -214,7 +216,7 @@ id_register byte = if byte == 0x20 then Identifier else (if byte == 0x40 then Je
 -- what a closer leaves in the register: a page, what stands beside the array, or nothing; the byte is that of the item
 abbrev pub register_of : Parts → List Item → Lun → ℕ → Option Command → Option Register
 register_of g past l byte None = None
-register_of g past l byte (Some ReadConfirm) = Some (Page (page_address g (row (tail_of past l))))
+register_of g past l byte (Some ReadConfirm) = Some (if has_reads (queue g past l) then Empty else Page (page_address g (row (tail_of past l))))
 register_of g past l byte (Some ReadParameterPage) = Some ParameterPage
 register_of g past l byte (Some ReadId) = Some (id_register byte)
 register_of g past l byte (Some ReadUniqueId) = Some UniqueId
@@ -223,8 +225,27 @@ register_of g past l byte (Some ReadCacheSequential) = Some (Page (array_page g 
 register_of g past l byte (Some ReadCacheEnd) = Some (Page (array_page g past l))
 register_of g past l byte (Some c) = Some Empty
 
+-- E0 behind 06 names the LUN
+abbrev pub selects_here : Parts → Lun → List Item → Item → Bool
+selects_here g l past i = is_cycle_of is_column_confirm l i && (selects_plane (tail_of past l) && names_lun g (row (tail_of past l)) l.lun)
+
+-- E0 behind 06 chooses the page that is held in the plane of the row
 abbrev pub register_decided : Parts → Lun → List Item → Item → Option Register
-register_decided g l past i = register_of g past l (byte_of i) (closing g l past i)
+register_decided g l past i =
+    if selects_here g l past i then Some (register_of_plane (page_in_plane (planes g) (plane_of_row g (row (tail_of past l))) (held g past l)))
+    else register_of g past l (byte_of i) (closing g l past i)
+
+-- the pages that a closer leaves in the plane registers; an 11 leaves those that are there
+abbrev pub held_of : Parts → List Item → Lun → Option Command → Option (List PageAddress)
+held_of g past l None = None
+held_of g past l (Some ReadConfirm) = Some (take 4 (page_address g (row (tail_of past l)) ∷ pages_of_reads (queue g past l)))
+held_of g past l (Some ReadCacheSequential) = Some (array_page g past l ∷ [])
+held_of g past l (Some ReadCacheEnd) = Some (array_page g past l ∷ [])
+held_of g past l (Some ProgramPlane) = None
+held_of g past l (Some c) = Some []
+
+abbrev pub held_decided : Parts → Lun → List Item → Item → Option (List PageAddress)
+held_decided g l past i = held_of g past l (closing g l past i)
 
 -- 5. the read column
 
@@ -275,17 +296,20 @@ loses_column g l past i = is_cycle_of is_status_command l i && nat_lt 0 (outputs
 abbrev pub is_queueing : Option Command → Bool
 is_queueing (Some BlockErasePlane) = true
 is_queueing (Some ProgramPlane) = true
+is_queueing (Some ReadPlane) = true
 is_queueing _ = false
 
 abbrev pub empties_queue : Option Command → Bool
 empties_queue (Some BlockEraseConfirm) = true
 empties_queue (Some ProgramConfirm) = true
 empties_queue (Some Reset) = true
+empties_queue (Some ReadConfirm) = true
 empties_queue _ = false
 
 abbrev pub queued_row : PageAddress → Option Command → Option Queued
 queued_row p (Some BlockErasePlane) = Some (Erase p)
 queued_row p (Some ProgramPlane) = Some (Program p)
+queued_row p (Some ReadPlane) = Some (QueuedRead p)
 queued_row p _ = None
 
 -- 7. the latch
@@ -294,6 +318,7 @@ abbrev pub closed_latch : Option Command → Option Latch
 closed_latch None = None
 closed_latch (Some Reset) = Some Off
 closed_latch (Some ReadConfirm) = Some Data
+closed_latch (Some ReadPlane) = Some Data
 closed_latch (Some ReadParameterPage) = Some Data
 closed_latch (Some ReadId) = Some Data
 closed_latch (Some ReadUniqueId) = Some Data
@@ -438,6 +463,7 @@ pub record FactsAreDecided : Type 0 where
   pub register : (g : Parts) (past : List Item) (l : Lun) → register g past l ≡ unwrap_or (last_decided (register_decided g l) past) Empty
   pub column : (g : Parts) (past : List Item) (l : Lun) → read_column g past l ≡ record { given = last_decided (column_decided g l) past; outputs = outputs_since g l past; lost = some_since (gives_column g l) (loses_column g l) past }
   pub queue : (g : Parts) (past : List Item) (l : Lun) → queue g past l ≡ all_since (λ past i. empties_queue (closing g l past i)) (λ past i. queued_row (page_address g (row (tail_of past l))) (closing g l past i)) past
+  pub held : (g : Parts) (past : List Item) (l : Lun) → held g past l ≡ unwrap_or (last_decided (held_decided g l) past) []
   pub selected : (g : Parts) (past : List Item) (l : Lun) → is_selected g past l ≡ unwrap_or (last_decided (selected_decided g l) past) (l.lun == 0)
   pub overlapped : (g : Parts) (past : List Item) (l : Lun) → is_overlapped g past l ≡ unwrap_or (last_decided (overlapped_decided g l) past) false
   pub latch : (g : Parts) (targets : ℕ) (past : List Item) (l : Lun) → is_legal g targets past ≡ true → l.lun < g.luns → latch g past l ≡ unwrap_or (last_decided (latch_decided g l) past) Off

@@ -2,9 +2,10 @@
 use Rattle.std.specs.Prelude.{ℕ, ◌==◌, ◌%◌, Bool, true, false, ◌&&◌, ◌||◌, not, nat_lt, if◌then◌else◌, List, Option, Some, None, IfSome, ◌<◌, ◌^◌}
 use Rattle.nand_geometry.specs.declared.parts.Parts.{Parts}
 use Rattle.nand_geometry.specs.Optional.{is_wide}
+use Rattle.nand_geometry.specs.Limits.{planes}
 use Rattle.nand_geometry.specs.Row.{parts_of}
 use Rattle.onfi_cycle.specs.declared.command.Command.{Command}
-use Rattle.onfi_cycle.specs.declared.command.Command.TheVariants.{Read, ProgramConfirm, ProgramPlane, ReadConfirm, ReadCacheSequential, ReadCacheEnd, ReadStatus, ReadStatusEnhanced, ReadId, BlockEraseConfirm, BlockErasePlane, ChangeReadColumnConfirm, ReadParameterPage, Reset, ReadUniqueId, GetFeatures, ResetLun, SynchronousReset}
+use Rattle.onfi_cycle.specs.declared.command.Command.TheVariants.{Read, ProgramConfirm, ProgramPlane, ReadConfirm, ReadCacheSequential, ReadCacheEnd, ReadStatus, ReadStatusEnhanced, ReadId, BlockEraseConfirm, BlockErasePlane, ChangeReadColumnConfirm, ReadParameterPage, Reset, ReadUniqueId, GetFeatures, ResetLun, SynchronousReset, ReadPlane}
 use Rattle.onfi_cycle.specs.declared.lun.Lun.{Lun}
 use Rattle.onfi_cycle.specs.declared.latch.Latch.{Latch}
 use Rattle.onfi_cycle.specs.declared.latch.Latch.TheVariants.{Off, Status, Data}
@@ -14,7 +15,7 @@ use Rattle.onfi_cycle.specs.declared.target_cycle.TargetCycle.{TargetCycle}
 use Rattle.onfi_cycle.specs.declared.target_cycle.TargetCycle.TheVariants.{CommandCycle, AddressCycle, InputCycle, OutputCycle}
 use Rattle.onfi_cycle.specs.declared.page_address.PageAddress.{PageAddress}
 use Rattle.onfi_cycle.specs.declared.effect.Effect.{Effect}
-use Rattle.onfi_cycle.specs.declared.effect.Effect.TheVariants.{Unaffected, DataOutputEnabled, StatusSelected, StatusRowAwaited, SelectedForStatus, Deselected, PlaneSelected, IdRead, IdentityRead, UniqueIdReadStarted, FeaturesReadStarted, FeaturesSet, ParameterPageReadStarted, CacheReadContinued, CacheReadEnded, DataOutput, ResetStarted, BecameReady, ArrayBecameReady, ReadStarted, EraseStarted, ProgramStarted, ReadColumnChanged, AnotherAddressed, StatusOfSelected, TargetResetStarted}
+use Rattle.onfi_cycle.specs.declared.effect.Effect.TheVariants.{Unaffected, DataOutputEnabled, StatusSelected, StatusRowAwaited, SelectedForStatus, Deselected, PlaneSelected, IdRead, IdentityRead, UniqueIdReadStarted, FeaturesReadStarted, FeaturesSet, ParameterPageReadStarted, CacheReadContinued, CacheReadEnded, DataOutput, ResetStarted, BecameReady, ArrayBecameReady, ReadStarted, EraseStarted, ProgramStarted, ReadColumnChanged, AnotherAddressed, StatusOfSelected, TargetResetStarted, ReadQueued}
 use Rattle.onfi_cycle.specs.declared.opening.Opening.{Opening}
 use Rattle.onfi_cycle.specs.declared.tail_facts.TailFacts.{TailFacts}
 use Rattle.onfi_cycle.specs.Command.{closes_row, reads_row}
@@ -37,6 +38,7 @@ page_address g row = let at = parts_of g row in record { block = at.block; page 
 -- what the closer of a row does to the LUN that its tail names
 abbrev pub confirm_effect : Parts → TailFacts → Command → Effect
 confirm_effect g t ReadConfirm = ReadStarted (page_address g (row t)) t.column
+confirm_effect g t ReadPlane = ReadQueued (page_address g (row t))
 confirm_effect g t ReadCacheSequential = CacheReadContinued (Some (page_address g (row t)))
 confirm_effect g t BlockEraseConfirm = EraseStarted false (page_address g (row t))
 confirm_effect g t BlockErasePlane = EraseStarted true (page_address g (row t))
@@ -80,9 +82,13 @@ row_effect g t c lun = if wants_command t c && names_lun g (row t) lun then conf
 abbrev pub cache_effect : Latch → Effect
 cache_effect latch_alone = if is_off latch_alone then Unaffected else CacheReadContinued None
 
--- what E0 does behind 06: the LUN of its row gives its register, and the others of its target stop driving
+-- the plane in which the page of a row lies
+abbrev pub plane_of_row : Parts → ℕ → ℕ
+plane_of_row g row = (page_address g row).block % planes g
+
+-- what E0 does behind 06: the LUN of its row gives the page that it holds in the plane of the row, and the others of its target stop driving
 abbrev pub plane_effect : Parts → TailFacts → ℕ → Effect
-plane_effect g t lun = if names_lun g (row t) lun then PlaneSelected t.column else Deselected
+plane_effect g t lun = if names_lun g (row t) lun then PlaneSelected (plane_of_row g (row t)) (planes g) t.column else Deselected
 
 -- and else: the one driver gives its register from another column on
 abbrev pub column_effect : TailFacts → Latch → Effect
@@ -151,5 +157,12 @@ effect_given g past latch_alone i l = item_effect g (facts_of (tail past l.ce)) 
 -- the page of a read, for numbers of fixed width
 abbrev pub IsSmallEffect : Effect → Type 0
 IsSmallEffect (ReadStarted page column) = page.page < 2 ^ 32
+IsSmallEffect (ReadQueued page) = page.page < 2 ^ 32
+IsSmallEffect (PlaneSelected plane planes column) = 0 < planes
 IsSmallEffect (CacheReadContinued to) = IfSome to (λ page. page.page < 2 ^ 32)
 IsSmallEffect _ = Unit {0}
+
+-- the planes of a selected one are some
+abbrev pub HasPlanes : Effect → Type 0
+HasPlanes (PlaneSelected plane planes column) = 0 < planes
+HasPlanes _ = Unit {0}

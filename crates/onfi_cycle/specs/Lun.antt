@@ -1,21 +1,22 @@
 -- Of each LUN: what it shows, whether it is busy, its register, its column and its queue, each by the newest item that decides it.
-use Rattle.std.specs.Prelude.{ℕ, zero, suc, ◌+◌, ◌==◌, Bool, true, false, ◌||◌, ◌&&◌, not, nat_lt, if◌then◌else◌, List, [], ◌∷◌, Option, Some, None, unwrap_or}
+use Rattle.std.specs.Prelude.{ℕ, zero, suc, ◌+◌, ◌%◌, ◌==◌, Bool, true, false, ◌||◌, ◌&&◌, not, nat_lt, if◌then◌else◌, List, [], ◌∷◌, Option, Some, None, unwrap_or, take}
+use Rattle.std.specs.List.{list_any}
 use Rattle.nand_geometry.specs.declared.parts.Parts.{Parts}
 use Rattle.onfi_cycle.specs.declared.command.Command.{Command}
-use Rattle.onfi_cycle.specs.declared.command.Command.TheVariants.{ProgramConfirm, ProgramPlane, ReadConfirm, ReadCacheSequential, ReadCacheEnd, ReadId, BlockEraseConfirm, BlockErasePlane, ReadParameterPage, Reset, ReadUniqueId, GetFeatures, SetFeatures}
+use Rattle.onfi_cycle.specs.declared.command.Command.TheVariants.{ProgramConfirm, ProgramPlane, ReadConfirm, ReadCacheSequential, ReadCacheEnd, ReadId, BlockEraseConfirm, BlockErasePlane, ReadParameterPage, Reset, ReadUniqueId, GetFeatures, SetFeatures, ReadPlane}
 use Rattle.onfi_cycle.specs.declared.lun.Lun.{Lun}
 use Rattle.onfi_cycle.specs.declared.latch.Latch.{Latch}
 use Rattle.onfi_cycle.specs.declared.latch.Latch.TheVariants.{Off, Status, Data}
 use Rattle.onfi_cycle.specs.declared.item.Item.{Item}
 use Rattle.onfi_cycle.specs.declared.page_address.PageAddress.{PageAddress}
 use Rattle.onfi_cycle.specs.declared.queued.Queued.{Queued}
-use Rattle.onfi_cycle.specs.declared.queued.Queued.TheVariants.{Erase, Program}
+use Rattle.onfi_cycle.specs.declared.queued.Queued.TheVariants.{Erase, Program, Read}
 use Rattle.onfi_cycle.specs.declared.register.Register.{Register}
 use Rattle.onfi_cycle.specs.declared.register.Register.TheVariants.{Empty, Page, ParameterPage, Identifier, Identity, JedecIdentity, UniqueId, Features}
 use Rattle.onfi_cycle.specs.declared.read_column.ReadColumn.{ReadColumn}
 use Rattle.onfi_cycle.specs.LunView.{LunView}
 use Rattle.onfi_cycle.specs.declared.effect.Effect.{Effect}
-use Rattle.onfi_cycle.specs.declared.effect.Effect.TheVariants.{DataOutputEnabled, StatusSelected, StatusRowAwaited, SelectedForStatus, Deselected, PlaneSelected, IdRead, IdentityRead, UniqueIdReadStarted, FeaturesReadStarted, FeaturesSet, ParameterPageReadStarted, CacheReadContinued, CacheReadEnded, DataOutput, ResetStarted, BecameReady, ArrayBecameReady, ReadStarted, EraseStarted, ProgramStarted, ReadColumnChanged, AnotherAddressed, StatusOfSelected, TargetResetStarted}
+use Rattle.onfi_cycle.specs.declared.effect.Effect.TheVariants.{DataOutputEnabled, StatusSelected, StatusRowAwaited, SelectedForStatus, Deselected, PlaneSelected, IdRead, IdentityRead, UniqueIdReadStarted, FeaturesReadStarted, FeaturesSet, ParameterPageReadStarted, CacheReadContinued, CacheReadEnded, DataOutput, ResetStarted, BecameReady, ArrayBecameReady, ReadStarted, EraseStarted, ProgramStarted, ReadColumnChanged, AnotherAddressed, StatusOfSelected, TargetResetStarted, ReadQueued}
 use Rattle.onfi_cycle.specs.Effect.{effect_given, is_off}
 
 -- of so many LUNs from number n on, those that a latch has on
@@ -45,8 +46,9 @@ latch_after DataOutputEnabled selected works latch = resumed latch
 latch_after StatusSelected selected works latch = Status
 latch_after SelectedForStatus selected works latch = Status
 latch_after Deselected selected works latch = Off
-latch_after (PlaneSelected _) selected works latch = Data
+latch_after (PlaneSelected _ _ _) selected works latch = Data
 latch_after (ReadStarted _ _) selected works latch = Data
+latch_after (ReadQueued _) selected works latch = Data
 latch_after IdRead selected works latch = Data
 latch_after (IdentityRead _) selected works latch = Data
 latch_after ParameterPageReadStarted selected works latch = Data
@@ -63,9 +65,10 @@ latch_after _ selected works latch = latch
 -- the LUN that the target's commands are for
 abbrev pub selected_after : Effect → Bool → Bool
 selected_after SelectedForStatus selected = true
-selected_after (PlaneSelected _) selected = true
+selected_after (PlaneSelected _ _ _) selected = true
 selected_after Deselected selected = false
 selected_after (ReadStarted _ _) selected = true
+selected_after (ReadQueued _) selected = true
 selected_after (CacheReadContinued (Some _)) selected = true
 selected_after (EraseStarted _ _) selected = true
 selected_after (ProgramStarted _ _) selected = true
@@ -83,7 +86,7 @@ selected_after _ selected = selected
 -- another LUN was given work while this one worked, and no command for the whole target came since
 abbrev pub overlapped_after : Effect → (works : Bool) → Bool → Bool
 overlapped_after SelectedForStatus works overlapped = false
-overlapped_after (PlaneSelected _) works overlapped = false
+overlapped_after (PlaneSelected _ _ _) works overlapped = false
 overlapped_after Deselected works overlapped = false
 overlapped_after IdRead works overlapped = false
 overlapped_after (IdentityRead _) works overlapped = false
@@ -97,6 +100,7 @@ overlapped_after _ works overlapped = overlapped
 
 abbrev pub busy_after : Effect → Bool → Bool
 busy_after (ReadStarted _ _) busy = true
+busy_after (ReadQueued _) busy = true
 busy_after (EraseStarted _ _) busy = true
 busy_after (ProgramStarted _ _) busy = true
 busy_after ParameterPageReadStarted busy = true
@@ -112,6 +116,7 @@ busy_after _ busy = busy
 
 abbrev pub closer_after : Effect → Option Command → Option Command
 closer_after (ReadStarted _ _) last = Some ReadConfirm
+closer_after (ReadQueued _) last = Some ReadPlane
 closer_after (EraseStarted queued _) last = Some (if queued then BlockErasePlane else BlockEraseConfirm)
 closer_after (ProgramStarted queued _) last = Some (if queued then ProgramPlane else ProgramConfirm)
 closer_after IdRead last = Some ReadId
@@ -147,6 +152,7 @@ abbrev pub array_busy_after : Effect → (busy caching array_busy : Bool) → Bo
 array_busy_after (BecameReady _) busy caching array_busy = array_busy || (busy && caching)
 array_busy_after ArrayBecameReady busy caching array_busy = false
 array_busy_after (ReadStarted _ _) busy caching array_busy = false
+array_busy_after (ReadQueued _) busy caching array_busy = false
 array_busy_after (EraseStarted _ _) busy caching array_busy = false
 array_busy_after (ProgramStarted _ _) busy caching array_busy = false
 array_busy_after IdRead busy caching array_busy = false
@@ -169,21 +175,65 @@ array_page_after (ReadStarted at _) p = at
 array_page_after (CacheReadContinued to) p = unwrap_or to (next_page p)
 array_page_after _ p = p
 
-abbrev pub register_after : Effect → PageAddress → Register → Register
-register_after (ReadStarted at _) p r = Page at
-register_after (EraseStarted _ _) p r = Empty
-register_after (ProgramStarted _ _) p r = Empty
-register_after IdRead p r = Identifier
-register_after (IdentityRead jedec) p r = if jedec then JedecIdentity else Identity
-register_after ParameterPageReadStarted p r = ParameterPage
-register_after UniqueIdReadStarted p r = UniqueId
-register_after (FeaturesReadStarted address) p r = Features address
-register_after (FeaturesSet _) p r = Empty
-register_after (CacheReadContinued _) p r = Page p
-register_after CacheReadEnded p r = Page p
-register_after ResetStarted p r = Empty
-register_after (TargetResetStarted _) p r = Empty
-register_after _ p r = r
+-- the pages of the reads of a queue, the newest first
+abbrev pub pages_of_reads : List Queued → List PageAddress
+pages_of_reads [] = []
+pages_of_reads (Read p ∷ queue) = p ∷ pages_of_reads queue
+pages_of_reads (Erase p ∷ queue) = pages_of_reads queue
+pages_of_reads (Program p ∷ queue) = pages_of_reads queue
+
+abbrev pub is_queued_read : Queued → Bool
+is_queued_read (Read p) = true
+is_queued_read _ = false
+
+-- a read is queued
+abbrev pub has_reads : List Queued → Bool
+has_reads queue = list_any is_queued_read queue
+
+-- the page of this plane, where a LUN has so many planes
+abbrev pub page_in_plane : (planes plane : ℕ) → List PageAddress → Option PageAddress
+page_in_plane planes plane [] = None
+page_in_plane planes plane (p ∷ held) = if p.block % planes == plane then Some p else page_in_plane planes plane held
+
+abbrev pub register_of_plane : Option PageAddress → Register
+register_of_plane None = Empty
+register_of_plane (Some p) = Page p
+
+-- the pages that the plane registers hold, four at most: that of a 30 and of the reads queued before it, or the one that a cache read gives
+abbrev pub held_after : Effect → PageAddress → List Queued → List PageAddress → List PageAddress
+held_after (ReadStarted at _) p queue held = take 4 (at ∷ pages_of_reads queue)
+held_after (CacheReadContinued _) p queue held = p ∷ []
+held_after CacheReadEnded p queue held = p ∷ []
+held_after (ReadQueued _) p queue held = []
+held_after (EraseStarted _ _) p queue held = []
+held_after (ProgramStarted queued _) p queue held = if queued then held else []
+held_after IdRead p queue held = []
+held_after (IdentityRead _) p queue held = []
+held_after ParameterPageReadStarted p queue held = []
+held_after UniqueIdReadStarted p queue held = []
+held_after (FeaturesReadStarted _) p queue held = []
+held_after (FeaturesSet _) p queue held = []
+held_after ResetStarted p queue held = []
+held_after (TargetResetStarted _) p queue held = []
+held_after _ p queue held = held
+
+abbrev pub register_after : Effect → PageAddress → List Queued → List PageAddress → Register → Register
+register_after (ReadStarted at _) p queue held r = if has_reads queue then Empty else Page at
+register_after (ReadQueued _) p queue held r = Empty
+register_after (PlaneSelected plane planes _) p queue held r = register_of_plane (page_in_plane planes plane held)
+register_after (EraseStarted _ _) p queue held r = Empty
+register_after (ProgramStarted _ _) p queue held r = Empty
+register_after IdRead p queue held r = Identifier
+register_after (IdentityRead jedec) p queue held r = if jedec then JedecIdentity else Identity
+register_after ParameterPageReadStarted p queue held r = ParameterPage
+register_after UniqueIdReadStarted p queue held r = UniqueId
+register_after (FeaturesReadStarted address) p queue held r = Features address
+register_after (FeaturesSet _) p queue held r = Empty
+register_after (CacheReadContinued _) p queue held r = Page p
+register_after CacheReadEnded p queue held r = Page p
+register_after ResetStarted p queue held r = Empty
+register_after (TargetResetStarted _) p queue held r = Empty
+register_after _ p queue held r = r
 
 abbrev pub column_at : ℕ → ReadColumn
 column_at from = record { given = Some from; outputs = 0; lost = false }
@@ -191,7 +241,7 @@ column_at from = record { given = Some from; outputs = 0; lost = false }
 abbrev pub read_column_after : Effect → ReadColumn → ReadColumn
 read_column_after (ReadStarted _ from) k = column_at from
 read_column_after (ReadColumnChanged from) k = column_at from
-read_column_after (PlaneSelected from) k = column_at from
+read_column_after (PlaneSelected _ _ from) k = column_at from
 read_column_after IdRead k = column_at 0
 read_column_after (IdentityRead _) k = column_at 0
 read_column_after ParameterPageReadStarted k = column_at 0
@@ -214,6 +264,8 @@ abbrev pub output_column : ReadColumn → Option ℕ
 output_column k = if k.lost then None else option_plus k.outputs k.given
 
 abbrev pub queue_after : Effect → List Queued → List Queued
+queue_after (ReadStarted _ _) queue = []
+queue_after (ReadQueued at) queue = Read at ∷ queue
 queue_after (EraseStarted queued at) queue = if queued then Erase at ∷ queue else []
 queue_after (ProgramStarted queued at) queue = if queued then Program at ∷ queue else []
 queue_after ResetStarted queue = []
@@ -239,9 +291,10 @@ view_after a v =
       closer = closer_after a v.closer;
       array_busy = array_busy_after a v.busy (is_cache_read v.closer) v.array_busy;
       array_page = array_page_after a v.array_page;
-      register = register_after a v.array_page v.register;
+      register = register_after a v.array_page v.queue v.held v.register;
       column = read_column_after a v.column;
       queue = queue_after a v.queue;
+      held = held_after a v.array_page v.queue v.held;
     }
 
 -- the LUN of this number when nothing has happened to it: the first one is selected
@@ -258,6 +311,7 @@ first_view lun =
       register = Empty;
       column = record { given = None; outputs = 0; lost = false };
       queue = [];
+      held = [];
     }
 
 -- what an item does to a LUN, where the LUNs of its target have these latches
@@ -328,6 +382,10 @@ read_column g past l = (lun_view g past l).column
 -- the changes whose D1 or 11 stands after the last D0, 10 or reset of the LUN, the newest first
 abbrev pub queue : Parts → List Item → Lun → List Queued
 queue g past l = (lun_view g past l).queue
+
+-- the pages that the plane registers of the LUN hold, by the last closer, 11s left out
+abbrev pub held : Parts → List Item → Lun → List PageAddress
+held g past l = (lun_view g past l).held
 
 -- the LUNs of a target from number n on, so many
 abbrev pub views_from : Parts → List Item → ℕ → (count n : ℕ) → List LunView

@@ -18,3 +18,4 @@ pub record LunView : Type 0 where
   pub register : Register
   pub column : ReadColumn
   pub queue : List Queued
+  pub held : List PageAddress

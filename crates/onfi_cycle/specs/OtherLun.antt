@@ -13,7 +13,7 @@ use Rattle.onfi_cycle.specs.declared.read_column.ReadColumn.{ReadColumn}
 use Rattle.onfi_cycle.specs.Command.{reads_identity, is_of_target}
 use Rattle.onfi_cycle.specs.Sequence.{target_of, target_cycle, tail, facts_of, opened, takes_features, works_on_row, row, row_with}
 use Rattle.onfi_cycle.specs.Effect.{is_shared, names_lun}
-use Rattle.onfi_cycle.specs.Lun.{latch, drivers, is_only, is_busy, closer, is_array_busy, array_page, register, read_column, queue}
+use Rattle.onfi_cycle.specs.Lun.{latch, drivers, is_only, is_busy, closer, is_array_busy, array_page, register, read_column, queue, held}
 use Rattle.onfi_cycle.specs.Rules.{ends_row}
 use Rattle.onfi_cycle.specs.Permitted.{broken, is_legal}
 use Rattle.onfi_cycle.specs.Content.{queued_work, pending_work, has_failed, content}
@@ -64,6 +64,7 @@ pub record KeepsLun (g : Parts) (past : List Item) (i : Item) (l : Lun) : Type 0
   pub array_page : array_page g (i ∷ past) l ≡ array_page g past l
   pub register : register g (i ∷ past) l ≡ register g past l
   pub queue : queue g (i ∷ past) l ≡ queue g past l
+  pub held : held g (i ∷ past) l ≡ held g past l
   pub queued_work : queued_work g (i ∷ past) l ≡ queued_work g past l
   pub pending_work : pending_work g (i ∷ past) l ≡ pending_work g past l
   pub failed : has_failed g (i ∷ past) l ≡ has_failed g past l

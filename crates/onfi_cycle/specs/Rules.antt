@@ -1,20 +1,20 @@
 -- The rules F1 to F15, and F18: what each forbids, by the facts of the tail and of the LUNs of one target.
-use Rattle.std.specs.Prelude.{ℕ, ◌+◌, ◌/◌, ◌%◌, ◌==◌, Bool, true, false, ◌||◌, ◌&&◌, not, nat_lt, nat_le, if◌then◌else◌, List, [], ◌∷◌, Option, Some, None, slice_get}
+use Rattle.std.specs.Prelude.{ℕ, ◌+◌, ◌/◌, ◌%◌, ◌==◌, Bool, true, false, ◌||◌, ◌&&◌, not, nat_lt, nat_le, if◌then◌else◌, List, [], ◌∷◌, Option, Some, None, slice_get, length}
 use Rattle.std.specs.List.{list_any}
 use Rattle.nand_geometry.specs.declared.parts.Parts.{Parts}
 use Rattle.nand_geometry.specs.Limits.{page_len, planes}
 use Rattle.nand_geometry.specs.Row.{parts_of, is_inside}
 use Rattle.onfi_cycle.specs.declared.command.Command.{Command}
-use Rattle.onfi_cycle.specs.declared.command.Command.TheVariants.{Read, ReadConfirm, ChangeReadColumn, ChangeReadColumnEnhanced, BlockErase, BlockErasePlane, ReadStatus, ReadStatusEnhanced, PageProgram, ProgramPlane, ReadCacheSequential, ReadCacheEnd, ReadUniqueId, GetFeatures, SetFeatures, ResetLun, SynchronousReset}
+use Rattle.onfi_cycle.specs.declared.command.Command.TheVariants.{Read, ReadConfirm, ChangeReadColumn, ChangeReadColumnEnhanced, BlockErase, BlockErasePlane, ReadStatus, ReadStatusEnhanced, PageProgram, ProgramPlane, ReadCacheSequential, ReadCacheEnd, ReadUniqueId, GetFeatures, SetFeatures, ResetLun, SynchronousReset, ReadPlane}
 use Rattle.onfi_cycle.specs.declared.item.Item.{Item}
 use Rattle.onfi_cycle.specs.declared.item.Item.TheVariants.{Cyc, Rdy, Ard}
-use Rattle.nand_geometry.specs.Optional.{is_wide, has_features, has_unique_id, has_enhanced_column, has_lun_reset, has_synchronous_reset}
+use Rattle.nand_geometry.specs.Optional.{is_wide, has_features, has_unique_id, has_enhanced_column, has_lun_reset, has_plane_reads, has_free_blocks, has_synchronous_reset}
 use Rattle.onfi_cycle.specs.Command.{is_known, is_opener, is_read_id, is_reset, at_last_row, is_change_read_column, is_enhanced_column, addresses_the_array, addresses_a_page, reads_identity, wants_ready, wants_one_lun}
 use Rattle.onfi_cycle.specs.declared.target_cycle.TargetCycle.{TargetCycle}
 use Rattle.onfi_cycle.specs.declared.target_cycle.TargetCycle.TheVariants.{CommandCycle, AddressCycle, InputCycle, OutputCycle}
 use Rattle.onfi_cycle.specs.declared.page_address.PageAddress.{PageAddress}
 use Rattle.onfi_cycle.specs.declared.queued.Queued.{Queued}
-use Rattle.onfi_cycle.specs.declared.queued.Queued.TheVariants.{Erase, Program}
+use Rattle.onfi_cycle.specs.declared.queued.Queued.TheVariants.{Erase, Program, Read as QueuedRead}
 use Rattle.onfi_cycle.specs.declared.register.Register.{Register}
 use Rattle.onfi_cycle.specs.declared.register.Register.TheVariants.{Empty, Page, ParameterPage, Identifier, Identity, JedecIdentity, UniqueId, Features}
 use Rattle.onfi_cycle.specs.declared.opening.Opening.{Opening}
@@ -71,6 +71,7 @@ is_undeclared g ReadCacheSequential = not g.cache
 is_undeclared g ReadCacheEnd = not g.cache
 is_undeclared g ReadUniqueId = not (has_unique_id g.optional)
 is_undeclared g ChangeReadColumnEnhanced = not (has_enhanced_column g.optional)
+is_undeclared g ReadPlane = not (has_plane_reads g.optional)
 is_undeclared g GetFeatures = not (has_features g.optional)
 is_undeclared g SetFeatures = not (has_features g.optional)
 is_undeclared g ResetLun = not (has_lun_reset g.optional)
@@ -106,18 +107,31 @@ abbrev pub is_past : Option ℕ → ℕ → Bool
 is_past None len = false
 is_past (Some k) len = nat_le len k
 
+-- two pages of one queue have other block bits above the plane, where that matters
+abbrev pub blocks_clash : Parts → PageAddress → PageAddress → Bool
+blocks_clash g p q = not (has_free_blocks g.optional) && not (p.block / planes g == q.block / planes g)
+
 -- two pages of one queue don't go together: the same plane, another page or other block bits above the plane
 abbrev pub planes_clash : Parts → PageAddress → PageAddress → Bool
 planes_clash g p q =
-    p.block % planes g == q.block % planes g || not (p.page == q.page) || not (p.block / planes g == q.block / planes g)
+    p.block % planes g == q.block % planes g || not (p.page == q.page) || blocks_clash g p q
 
 -- a queued row doesn't go together with an erase of this page, or with a program of it
 abbrev pub queued_clashes : Parts → (erase : Bool) → PageAddress → Queued → Bool
 queued_clashes g erase p (Erase q) = not erase || planes_clash g p q
 queued_clashes g erase p (Program q) = erase || planes_clash g p q
+queued_clashes g erase p (QueuedRead q) = true
 
 abbrev pub some_queued_clashes : Parts → (erase : Bool) → PageAddress → List Queued → Bool
 some_queued_clashes g erase p queue = list_any (queued_clashes g erase p) queue
+
+-- a queued row doesn't go together with a read of this page: it is no read, or the chip doesn't read several planes at once, or the pages don't go together
+abbrev pub read_clashes : Parts → PageAddress → Queued → Bool
+read_clashes g p (QueuedRead q) = not (has_plane_reads g.optional) || planes_clash g p q
+read_clashes g p _ = true
+
+abbrev pub some_read_clashes : Parts → PageAddress → List Queued → Bool
+some_read_clashes g p queue = list_any (read_clashes g p) queue
 
 abbrev pub has_some : List Queued → Bool
 has_some [] = false
@@ -195,7 +209,7 @@ breaks_lun_busy g t luns _ = false
 
 -- a queue refuses the last row cycle of this opener, with this page
 abbrev pub refused_by : Parts → Command → PageAddress → List Queued → Bool
-refused_by g Read p q = has_some q
+refused_by g Read p q = some_read_clashes g p q
 refused_by g BlockErase p q = some_queued_clashes g true p q
 refused_by g PageProgram p q = some_queued_clashes g false p q
 refused_by g _ p q = false
@@ -203,7 +217,8 @@ refused_by g _ p q = false
 abbrev pub is_refused_by : Parts → Option Opening → PageAddress → List Queued → Bool
 is_refused_by g o p q = opened (λ c n. at_last_row c n && refused_by g c p q) o
 
--- F10: what reads or sets what stands beside the array, or the last row cycle of 00 on a LUN with a queue; the last row cycle of 60 or 80 that doesn't go together with it
+-- F10: what reads or sets what stands beside the array, while a LUN has a queue; the last row cycle of 00, 60 or 80 that doesn't go together with
+-- the queue of its LUN, as a 00 does with reads alone
 unfoldable pub breaks_queue_clash : Parts → TailFacts → List LunView → TargetCycle → Bool
 breaks_queue_clash g t luns (CommandCycle c) = reads_identity c && list_any (λ v. has_some v.queue) luns
 breaks_queue_clash g t luns (AddressCycle byte) =
@@ -249,12 +264,16 @@ breaks_column_outside g t luns (InputCycle byte) = not (takes_features t.phase) 
 breaks_column_outside g t luns OutputCycle = driver_is (is_past_register g) luns
 breaks_column_outside g t luns (CommandCycle c) = false
 
+-- a page was read, and no more than one is held, so that a cache read may go on from it
+abbrev pub has_read_one : LunView → Bool
+has_read_one v = is_page_read v.closer && nat_le (length v.held) 1
+
 -- a cache read goes on
 abbrev pub caching : LunView → Bool
 caching v = is_cache_read v.closer
 
 abbrev pub continues_cache : Parts → LunView → Bool
-continues_cache g v = not v.busy && (is_page_read v.closer && nat_lt (v.array_page.page + 1) g.pages)
+continues_cache g v = not v.busy && (has_read_one v && nat_lt (v.array_page.page + 1) g.pages)
 
 abbrev pub ends_cache : LunView → Bool
 ends_cache v = not v.busy && caching v
@@ -268,27 +287,27 @@ excludes_cache g c = addresses_the_array c
 -- a 31 finds no LUN that may go on with a cache read: that of the row, where the tail wants it, or the one driver
 abbrev pub finds_no_cache_read : Parts → TailFacts → List LunView → Bool
 finds_no_cache_read g t luns =
-    if wants_command t ReadCacheSequential then not (named_lun_is g (row t) (λ v. is_page_read v.closer) luns) else not (driver_is (continues_cache g) luns)
+    if wants_command t ReadCacheSequential then not (named_lun_is g (row t) has_read_one luns) else not (driver_is (continues_cache g) luns)
 
 -- F15: 31 or 3F without one driver that isn't busy; 31 after another closer than 30 or 31, or with no page left in the block;
 -- 3F without a cache read; the last row cycle of 00, 60 or 80, or what reads or sets what stands beside the array, while one goes on.
 -- In the wider profile a 31 that the tail wants is of the LUN that its row names, and asks for its last closer alone; the last row cycle of 00
--- may come while a cache read goes on, and its 30 may not
+-- may come while a cache read goes on, and its 30 or 32 may not; and none goes on where more than one page is held
 unfoldable pub breaks_cache_read_misplaced : Parts → TailFacts → List LunView → TargetCycle → Bool
 breaks_cache_read_misplaced g t luns (CommandCycle ReadCacheSequential) = finds_no_cache_read g t luns
 breaks_cache_read_misplaced g t luns (CommandCycle ReadConfirm) = is_wide g.optional && named_lun_is g (row t) caching luns
+breaks_cache_read_misplaced g t luns (CommandCycle ReadPlane) = named_lun_is g (row t) caching luns
 breaks_cache_read_misplaced g t luns (CommandCycle ReadCacheEnd) = not (driver_is ends_cache luns)
 breaks_cache_read_misplaced g t luns (CommandCycle c) = reads_identity c && list_any caching luns
 breaks_cache_read_misplaced g t luns (AddressCycle byte) = ends_row (excludes_cache g) t && named_lun_is g (row_with t byte) caching luns
 breaks_cache_read_misplaced g t luns _ = false
 
--- the register holds a page of the plane in which this one lies
-abbrev pub holds_plane_of : Parts → PageAddress → Register → Bool
-holds_plane_of g p (Page q) = q.block % planes g == p.block % planes g
-holds_plane_of g p _ = false
+-- the LUN holds a page of the plane in which this one lies, and nothing is queued
+abbrev pub holds_plane_of : Parts → PageAddress → LunView → Bool
+holds_plane_of g p v = not (has_some v.queue) && list_any (λ q. q.block % planes g == p.block % planes g) v.held
 
--- F18: the last row cycle of 06, whose LUN holds no page of the plane of the row
+-- F18: the last row cycle of 06, whose LUN holds no page of the plane of the row, or has a queue
 unfoldable pub breaks_plane_not_held : Parts → TailFacts → List LunView → TargetCycle → Bool
 breaks_plane_not_held g t luns (AddressCycle byte) =
-    ends_row is_enhanced_column t && named_lun_is g (row_with t byte) (λ v. not (holds_plane_of g (page_address g (row_with t byte)) v.register)) luns
+    ends_row is_enhanced_column t && named_lun_is g (row_with t byte) (λ v. not (holds_plane_of g (page_address g (row_with t byte)) v)) luns
 breaks_plane_not_held g t luns _ = false

@@ -1,7 +1,7 @@
 -- The sequences of the profiles, written out, each in the order of time; and what a tail is to them.
 use Rattle.std.specs.Prelude.{◌≡◌, ◌≢◌, ◌↔◌, ℕ, true, false, List, [], ◌∷◌, ◌++◌, reverse}
 use Rattle.onfi_cycle.specs.declared.command.Command.{Command}
-use Rattle.onfi_cycle.specs.declared.command.Command.TheVariants.{Read, ReadConfirm, ChangeReadColumn, ChangeReadColumnEnhanced, ChangeReadColumnConfirm, BlockErase, BlockEraseConfirm, BlockErasePlane, ReadStatus, ReadStatusEnhanced, PageProgram, ChangeWriteColumn, ProgramConfirm, ProgramPlane, ReadId, ReadParameterPage, Reset, ReadCacheSequential, ReadCacheEnd, ReadUniqueId, GetFeatures, SetFeatures, ResetLun, SynchronousReset}
+use Rattle.onfi_cycle.specs.declared.command.Command.TheVariants.{Read, ReadConfirm, ChangeReadColumn, ChangeReadColumnEnhanced, ChangeReadColumnConfirm, BlockErase, BlockEraseConfirm, BlockErasePlane, ReadStatus, ReadStatusEnhanced, PageProgram, ChangeWriteColumn, ProgramConfirm, ProgramPlane, ReadId, ReadParameterPage, Reset, ReadCacheSequential, ReadCacheEnd, ReadUniqueId, GetFeatures, SetFeatures, ResetLun, SynchronousReset, ReadPlane}
 use Rattle.onfi_cycle.specs.declared.target_cycle.TargetCycle.{TargetCycle}
 use Rattle.onfi_cycle.specs.declared.target_cycle.TargetCycle.TheVariants.{CommandCycle, AddressCycle, InputCycle}
 use Rattle.onfi_cycle.specs.Sequence.{begins_sequence, facts_of, wants, is_open}
@@ -20,6 +20,7 @@ pub data IsProgramCloser : Command → Type 0 where
 -- the table: an opener, its addresses, the inputs of a program, and its closer
 pub data IsSequence : List TargetCycle → Type 0 where
   read : (c1 c2 r1 r2 r3 : ℕ) → IsSequence (CommandCycle Read ∷ (AddressCycle c1 ∷ (AddressCycle c2 ∷ (AddressCycle r1 ∷ (AddressCycle r2 ∷ (AddressCycle r3 ∷ (CommandCycle ReadConfirm ∷ [])))))))
+  read_plane : (c1 c2 r1 r2 r3 : ℕ) → IsSequence (CommandCycle Read ∷ (AddressCycle c1 ∷ (AddressCycle c2 ∷ (AddressCycle r1 ∷ (AddressCycle r2 ∷ (AddressCycle r3 ∷ (CommandCycle ReadPlane ∷ [])))))))
   read_cache_random : (c1 c2 r1 r2 r3 : ℕ) → IsSequence (CommandCycle Read ∷ (AddressCycle c1 ∷ (AddressCycle c2 ∷ (AddressCycle r1 ∷ (AddressCycle r2 ∷ (AddressCycle r3 ∷ (CommandCycle ReadCacheSequential ∷ [])))))))
   change_read_column : (c1 c2 : ℕ) → IsSequence (CommandCycle ChangeReadColumn ∷ (AddressCycle c1 ∷ (AddressCycle c2 ∷ (CommandCycle ChangeReadColumnConfirm ∷ []))))
   change_read_column_enhanced : (c1 c2 r1 r2 r3 : ℕ) → IsSequence (CommandCycle ChangeReadColumnEnhanced ∷ (AddressCycle c1 ∷ (AddressCycle c2 ∷ (AddressCycle r1 ∷ (AddressCycle r2 ∷ (AddressCycle r3 ∷ (CommandCycle ChangeReadColumnConfirm ∷ [])))))))

@@ -3,7 +3,7 @@ use Rattle.std.specs.Prelude.{◌≡◌, ℕ, ◌<◌, Bool, true, false, ◌||�
 use Rattle.nand_geometry.specs.declared.parts.Parts.{Parts}
 use Rattle.nand_geometry.specs.Limits.{InLimits}
 use Rattle.onfi_cycle.specs.declared.effect.Effect.{Effect}
-use Rattle.onfi_cycle.specs.declared.effect.Effect.TheVariants.{ReadStarted, EraseStarted, ProgramStarted, IdRead, IdentityRead, UniqueIdReadStarted, FeaturesReadStarted, FeaturesSet, ParameterPageReadStarted, CacheReadContinued, CacheReadEnded, ResetStarted, TargetResetStarted}
+use Rattle.onfi_cycle.specs.declared.effect.Effect.TheVariants.{ReadStarted, EraseStarted, ProgramStarted, IdRead, IdentityRead, UniqueIdReadStarted, FeaturesReadStarted, FeaturesSet, ParameterPageReadStarted, CacheReadContinued, CacheReadEnded, ResetStarted, TargetResetStarted, ReadQueued, PlaneSelected}
 use Rattle.onfi_cycle.specs.declared.filling.Filling.{Filling}
 use Rattle.onfi_cycle.specs.declared.filling.Filling.TheVariants.{Leaves, Clears, Fills}
 use Rattle.onfi_cycle.specs.declared.item.Item.{Item}
@@ -24,9 +24,10 @@ fills Leaves = false
 fills (Clears at) = true
 fills (Fills at column byte) = true
 
--- the effect begins work
+-- the effect begins work, or puts another page into the register
 abbrev pub begins : Effect → Bool
 begins (ReadStarted _ _) = true
+begins (ReadQueued _) = true
 begins (EraseStarted _ _) = true
 begins (ProgramStarted _ _) = true
 begins IdRead = true
@@ -37,6 +38,7 @@ begins (FeaturesSet _) = true
 begins ParameterPageReadStarted = true
 begins (CacheReadContinued _) = true
 begins CacheReadEnded = true
+begins (PlaneSelected _ _ _) = true
 begins ResetStarted = true
 begins (TargetResetStarted _) = true
 begins _ = false

@@ -19,6 +19,8 @@ pub enum Command {
     Read,
     /// 30h, Read Definition.
     ReadConfirm,
+    /// 32h, Read Page Multi-plane.
+    ReadPlane,
     /// 05h, Change Read Column Definition.
     ChangeReadColumn,
     /// 06h, Change Read Column Enhanced Definition.
@@ -98,6 +100,7 @@ impl Command {
             0xfa => Command::ResetLun,
             0xfc => Command::SynchronousReset,
             0x06 => Command::ChangeReadColumnEnhanced,
+            0x32 => Command::ReadPlane,
             _ => Command::Unknown,
         }
     }
@@ -109,6 +112,7 @@ impl Command {
         match self {
             Command::Read => Some(0x00),
             Command::ReadConfirm => Some(0x30),
+            Command::ReadPlane => Some(0x32),
             Command::ChangeReadColumn => Some(0x05),
             Command::ChangeReadColumnEnhanced => Some(0x06),
             Command::ChangeReadColumnConfirm => Some(0xe0),
@@ -149,6 +153,7 @@ impl Command {
         !matches!(
             self,
             Command::ChangeReadColumnEnhanced
+                | Command::ReadPlane
                 | Command::ReadUniqueId
                 | Command::GetFeatures
                 | Command::SetFeatures
@@ -165,6 +170,7 @@ impl Command {
         !matches!(
             self,
             Command::ReadConfirm
+                | Command::ReadPlane
                 | Command::ChangeReadColumnConfirm
                 | Command::BlockEraseConfirm
                 | Command::BlockErasePlane
@@ -198,7 +204,10 @@ impl Command {
     {
         match self {
             Command::Read => {
-                matches!(closer, Command::ReadConfirm | Command::ReadCacheSequential)
+                matches!(
+                    closer,
+                    Command::ReadConfirm | Command::ReadPlane | Command::ReadCacheSequential
+                )
             }
             Command::ChangeReadColumn | Command::ChangeReadColumnEnhanced => {
                 matches!(closer, Command::ChangeReadColumnConfirm)
@@ -276,7 +285,10 @@ impl Command {
     pub fn reads_row(self) -> bool
         ensures { result ≡ reads_row self }
     {
-        matches!(self, Command::ReadConfirm | Command::ReadCacheSequential)
+        matches!(
+            self,
+            Command::ReadConfirm | Command::ReadPlane | Command::ReadCacheSequential
+        )
     }
 
     /// It closes a sequence with a row, and works on that. [`Command::ReadCacheSequential`] may come behind no row too.
@@ -286,6 +298,7 @@ impl Command {
         matches!(
             self,
             Command::ReadConfirm
+                | Command::ReadPlane
                 | Command::ReadCacheSequential
                 | Command::BlockEraseConfirm
                 | Command::BlockErasePlane

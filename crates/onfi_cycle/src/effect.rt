@@ -1,9 +1,10 @@
 //! What an item does to a LUN, and what that leaves of each fact of the LUN.
 ghost use Rattle.std.specs.Prelude.{◌≡◌, ◌+◌, ◌^◌, ◌<◌, ◌≤◌, ◌⊎◌};
-ghost use Rattle.onfi_cycle.specs.Effect.{IsSmallEffect};
+ghost use Rattle.onfi_cycle.specs.Effect.{IsSmallEffect, HasPlanes};
 ghost use Rattle.onfi_cycle.specs.Lun.{latch_after, selected_after, overlapped_after, busy_after, closer_after, array_busy_after, array_page_after, register_after, read_column_after};
 
-use crate::{Command, Latch, PageAddress, ReadColumn, Register};
+use crate::held::{has_reads, page_in_plane};
+use crate::{Command, Latch, PageAddress, Queued, ReadColumn, Register};
 
 /// What an item does to a LUN.
 #[derive(Clone, Copy, Debug, PartialEq, Eq)]
@@ -21,43 +22,76 @@ pub enum Effect {
     /// The row of a 78h, or of a 06h, names another LUN: it stops driving.
     Deselected,
     /// 30h: it reads a page, and gives it from this column on.
-    ReadStarted { page: PageAddress, column: u32 },
+    ReadStarted {
+        page: PageAddress,
+        column: u32,
+    },
+    /// 32h: it queues the read of a page.
+    ReadQueued {
+        page: PageAddress,
+    },
     /// D0h, or D1h if queued.
-    EraseStarted { queued: bool, row: PageAddress },
+    EraseStarted {
+        queued: bool,
+        row: PageAddress,
+    },
     /// 10h, or 11h if queued.
-    ProgramStarted { queued: bool, page: PageAddress },
+    ProgramStarted {
+        queued: bool,
+        page: PageAddress,
+    },
     /// The address 20h of 90h: its register is the identifier.
     IdRead,
     /// The address 00h of 90h, or 40h for what JEDEC says: its register is that.
-    IdentityRead { jedec: bool },
+    IdentityRead {
+        jedec: bool,
+    },
     /// The address of EDh: it reads its unique identifier.
     UniqueIdReadStarted,
     /// The address of EEh: it reads this feature.
-    FeaturesReadStarted { address: u8 },
+    FeaturesReadStarted {
+        address: u8,
+    },
     /// The fourth byte of EFh: it sets this feature.
-    FeaturesSet { address: u8 },
+    FeaturesSet {
+        address: u8,
+    },
     /// The address of ECh: it reads its parameter page.
     ParameterPageReadStarted,
     /// 31h: it gives the page that its array has read, and its array reads the page of the row before, or the next one.
-    CacheReadContinued { to: Option<PageAddress> },
+    CacheReadContinued {
+        to: Option<PageAddress>,
+    },
     /// 3Fh: it gives the page that its array has read.
     CacheReadEnded,
     /// E0h: it gives its register from this column on.
-    ReadColumnChanged { column: u32 },
-    /// E0h behind the row of a 06h names it: it shows data, and gives its register from this column on.
-    PlaneSelected { column: u32 },
+    ReadColumnChanged {
+        column: u32,
+    },
+    /// E0h behind the row of a 06h names it: it shows data, and gives the page that it holds in this one of so many planes, from this column on.
+    PlaneSelected {
+        plane: u32,
+        planes: u32,
+        column: u32,
+    },
     /// It gives a byte of its register.
     DataOutput,
     /// FFh or FCh, or FAh for this LUN.
     ResetStarted,
     /// FFh or FCh on a target with several LUNs, of which it is the first, or not.
-    TargetResetStarted { first: bool },
+    TargetResetStarted {
+        first: bool,
+    },
     /// 70h on a target with several LUNs: it shows its status if it is the selected one, and else stops driving.
     StatusOfSelected,
     /// A closer of a row, or FAh, gives work to another LUN of its target; 30h reads there.
-    AnotherAddressed { reads: bool },
+    AnotherAddressed {
+        reads: bool,
+    },
     /// It becomes ready, with failure or without.
-    BecameReady { failed: bool },
+    BecameReady {
+        failed: bool,
+    },
     /// Its array becomes ready.
     ArrayBecameReady,
 }
@@ -81,6 +115,7 @@ impl Effect {
             Effect::AnotherAddressed { reads: true } if !works => Latch::Off,
             Effect::PlaneSelected { .. }
             | Effect::ReadStarted { .. }
+            | Effect::ReadQueued { .. }
             | Effect::IdRead
             | Effect::IdentityRead { .. }
             | Effect::ParameterPageReadStarted
@@ -101,6 +136,7 @@ impl Effect {
             Effect::SelectedForStatus
             | Effect::PlaneSelected { .. }
             | Effect::ReadStarted { .. }
+            | Effect::ReadQueued { .. }
             | Effect::CacheReadContinued { to: Some(_) }
             | Effect::EraseStarted { .. }
             | Effect::ProgramStarted { .. }
@@ -142,6 +178,7 @@ impl Effect {
     {
         match self {
             Effect::ReadStarted { .. }
+            | Effect::ReadQueued { .. }
             | Effect::EraseStarted { .. }
             | Effect::ProgramStarted { .. }
             | Effect::ParameterPageReadStarted
@@ -163,6 +200,7 @@ impl Effect {
     {
         match self {
             Effect::ReadStarted { .. } => Some(Command::ReadConfirm),
+            Effect::ReadQueued { .. } => Some(Command::ReadPlane),
             Effect::EraseStarted { queued: true, .. } => Some(Command::BlockErasePlane),
             Effect::EraseStarted { queued: false, .. } => Some(Command::BlockEraseConfirm),
             Effect::ProgramStarted { queued: true, .. } => Some(Command::ProgramPlane),
@@ -187,6 +225,7 @@ impl Effect {
             Effect::BecameReady { .. } => before || busy && caching,
             Effect::ArrayBecameReady
             | Effect::ReadStarted { .. }
+            | Effect::ReadQueued { .. }
             | Effect::EraseStarted { .. }
             | Effect::ProgramStarted { .. }
             | Effect::IdRead
@@ -220,13 +259,29 @@ impl Effect {
         }
     }
 
-    /// What the register holds after an effect, `array_page` being the page that the array was told to read before it.
-    pub fn register_after(self, array_page: PageAddress, before: Register) -> Register
-        ensures { result ≡ register_after self array_page before }
+    /// What the register holds after an effect, `array_page` being the page that the array was told to read before it, `queue` the rows that
+    /// were queued and `held` the pages that the plane registers held.
+    pub fn register_after(
+        self,
+        array_page: PageAddress,
+        queue: &[Queued],
+        held: &[PageAddress],
+        before: Register,
+    ) -> Register
+        requires { HasPlanes self }
+        ensures { result ≡ register_after self array_page queue.now held.now before }
     {
         match self {
-            Effect::ReadStarted { page, .. } => Register::Page(page),
-            Effect::EraseStarted { .. }
+            Effect::ReadStarted { page, .. } if !has_reads(queue) => Register::Page(page),
+            Effect::PlaneSelected { plane, planes, .. } => match page_in_plane(
+                planes, plane, held,
+            ) {
+                None => Register::Empty,
+                Some(page) => Register::Page(page),
+            },
+            Effect::ReadStarted { .. }
+            | Effect::ReadQueued { .. }
+            | Effect::EraseStarted { .. }
             | Effect::ProgramStarted { .. }
             | Effect::FeaturesSet { .. }
             | Effect::ResetStarted
@@ -253,7 +308,7 @@ impl Effect {
         match self {
             Effect::ReadStarted { column, .. }
             | Effect::ReadColumnChanged { column }
-            | Effect::PlaneSelected { column } => { ReadColumn::given(column) }
+            | Effect::PlaneSelected { column, .. } => { ReadColumn::given(column) }
             Effect::IdRead
             | Effect::IdentityRead { .. }
             | Effect::ParameterPageReadStarted

@@ -37,7 +37,7 @@ pub enum Forbidden {
     ColumnOutside,
     #[error("the cache read doesn't stand so")]
     CacheReadMisplaced,
-    #[error("the LUN holds no page of the plane")]
+    #[error("the LUN holds no page of the plane, or has a queue")]
     PlaneNotHeld,
 }
 

@@ -1,6 +1,6 @@
 //! What an item does to a LUN, by the facts of its target's tail.
 ghost use Rattle.std.specs.Prelude.{◌≡◌};
-ghost use Rattle.onfi_cycle.specs.Effect.{names_lun, is_shared, acts_for_target, of_target, status_effect, reset_effect, other_effect, row_effect, cache_effect, plane_effect, column_effect, lun_reset_effect, confirm_effect, command_effect, address_effect, opening_address_effect, id_effect, ends_features, input_effect, cycle_effect, item_effect, IsSmallEffect};
+ghost use Rattle.onfi_cycle.specs.Effect.{names_lun, is_shared, acts_for_target, of_target, status_effect, reset_effect, other_effect, row_effect, cache_effect, plane_of_row, plane_effect, column_effect, lun_reset_effect, confirm_effect, command_effect, address_effect, opening_address_effect, id_effect, ends_features, input_effect, cycle_effect, item_effect, IsSmallEffect};
 
 use crate::data_phase::FEATURE_BYTES;
 use crate::{Command, Effect, Item, Latch, Lun, PageAddress, TailFacts, TargetCycle};
@@ -90,6 +90,7 @@ fn confirm_effect(geometry: &Geometry, tail: TailFacts, command: Command) -> Eff
             page: at,
             column: tail.column,
         },
+        Command::ReadPlane => Effect::ReadQueued { page: at },
         Command::ReadCacheSequential => Effect::CacheReadContinued { to: Some(at) },
         Command::BlockEraseConfirm => Effect::EraseStarted {
             queued: false,
@@ -135,13 +136,23 @@ fn cache_effect(latch_alone: Latch) -> Effect
     }
 }
 
-/// What E0h does behind 06h: the LUN of its row gives its register, and the others of its target stop driving.
+/// The plane in which the page of a row lies.
+fn plane_of_row(geometry: &Geometry, row: u32) -> u32
+    ensures { result ≡ plane_of_row geometry.now row }
+{
+    PageAddress::of_row(geometry, row).block % geometry.planes()
+}
+
+/// What E0h does behind 06h: the LUN of its row gives the page that it holds in the plane of the row, and the others of its target stop
+/// driving.
 fn plane_effect(geometry: &Geometry, tail: TailFacts, lun: u8) -> Effect
     ensures value { result ≡ plane_effect geometry.now tail lun }
     ensures small { IsSmallEffect result }
 {
     if names_lun(geometry, tail.named_row(), lun) {
         Effect::PlaneSelected {
+            plane: plane_of_row(geometry, tail.named_row()),
+            planes: geometry.planes(),
             column: tail.column,
         }
     } else {

@@ -2,9 +2,10 @@
 ghost use Rattle.std.specs.Prelude.{◌≡◌, ◌^◌, ◌<◌, ◌≤◌};
 ghost use Rattle.onfi_cycle.specs.Lun.{is_cache_read, is_page_read, is_target_work, works};
 ghost use Rattle.onfi_cycle.specs.Outputs.{has_fewer};
-ghost use Rattle.onfi_cycle.specs.Rules.{works_for_target, caching, may_change_column, has_no_byte, is_past_register, continues_cache, ends_cache};
+ghost use Rattle.onfi_cycle.specs.Rules.{works_for_target, caching, may_change_column, has_no_byte, is_past_register, continues_cache, ends_cache, has_read_one, holds_plane_of};
 
-use crate::{Command, Latch, PageAddress, ReadColumn, Register, WorkQueue};
+use crate::held::holds_plane;
+use crate::{Command, HeldPages, Latch, PageAddress, ReadColumn, Register, WorkQueue};
 use nand_geometry::Geometry;
 use std::marker::Model;
 
@@ -57,6 +58,8 @@ pub struct LunFacts<Q: WorkQueue> {
     pub register: Register,
     pub column: ReadColumn,
     pub queue: Q,
+    /// The pages that its plane registers hold.
+    pub held: HeldPages,
 }
 
 impl<Q: WorkQueue> Model for LunFacts<Q> {
@@ -64,7 +67,7 @@ impl<Q: WorkQueue> Model for LunFacts<Q> {
 
     ghost Value = { LunView };
 
-    ghost view = { λ f. record { latch = f.latch; selected = f.selected; overlapped = f.overlapped; busy = f.busy; closer = f.closer; array_busy = f.array_busy; array_page = f.array_page; register = f.register; column = f.column; queue = Q.members f.queue } };
+    ghost view = { λ f. record { latch = f.latch; selected = f.selected; overlapped = f.overlapped; busy = f.busy; closer = f.closer; array_busy = f.array_busy; array_page = f.array_page; register = f.register; column = f.column; queue = Q.members f.queue; held = f.held.items } };
 
     ghost use Rattle.std.specs.Prelude.{◌<◌, ◌^◌};
 
@@ -93,12 +96,28 @@ impl<Q: WorkQueue> LunFacts<Q> {
         is_cache_read(self.closer)
     }
 
+    /// A page was read, and no more than one is held, so that a cache read may go on from it.
+    pub(crate) fn has_read_one(&self) -> bool
+        ensures { result ≡ has_read_one self.now }
+    {
+        is_page_read(self.closer) && self.held.len() <= 1
+    }
+
+    /// It holds a page of the plane in which this one lies, and nothing is queued.
+    pub(crate) fn holds_plane_of(&self, geometry: &Geometry, page: PageAddress) -> bool
+        ensures { result ≡ holds_plane_of geometry.now page self.now }
+    {
+        let planes = geometry.planes();
+        self.queue.works().is_empty()
+            && holds_plane(planes, page.block % planes, self.held.as_slice())
+    }
+
     /// Read Cache Sequential may come: a page of the array was read, and the block has a page after it.
     pub(crate) fn continues_cache(&self, geometry: &Geometry) -> bool
         ensures { result ≡ continues_cache geometry.now self.now }
     {
         let pages = geometry.parts().pages;
-        !self.busy && is_page_read(self.closer) && self.array_page.page < u64::from(pages) - 1
+        !self.busy && self.has_read_one() && self.array_page.page < u64::from(pages) - 1
     }
 
     /// Read Cache End may come.

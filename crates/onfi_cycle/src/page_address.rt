@@ -5,7 +5,7 @@ ghost use Rattle.onfi_cycle.specs.Effect.{page_address};
 use nand_geometry::Geometry;
 
 /// A page of a LUN, by its block and its place in the block.
-#[derive(Clone, Copy, Debug, PartialEq, Eq)]
+#[derive(Clone, Copy, Debug, Default, PartialEq, Eq)]
 pub struct PageAddress {
     pub block: u32,
     pub page: u64,

@@ -9,6 +9,7 @@ use arrayvec::ArrayVec;
 pub enum Queued {
     Erase(PageAddress),
     Program(PageAddress),
+    Read(PageAddress),
 }
 
 impl Default for Queued {

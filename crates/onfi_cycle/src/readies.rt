@@ -11,6 +11,7 @@ fn starts(command: Command) -> bool
     matches!(
         command,
         Command::ReadConfirm
+            | Command::ReadPlane
             | Command::BlockEraseConfirm
             | Command::BlockErasePlane
             | Command::ProgramConfirm

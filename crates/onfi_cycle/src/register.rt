@@ -1,6 +1,6 @@
 //! What a LUN's register holds.
 ghost use Rattle.std.specs.Prelude.{◌≡◌};
-ghost use Rattle.onfi_cycle.specs.Rules.{register_len, is_empty, is_page_or_parameters, holds_plane_of};
+ghost use Rattle.onfi_cycle.specs.Rules.{register_len, is_empty, is_page_or_parameters};
 
 use crate::PageAddress;
 use nand_geometry::Geometry;
@@ -65,17 +65,6 @@ impl Register {
         ensures { result ≡ is_empty self }
     {
         matches!(self, Register::Empty)
-    }
-
-    /// It holds a page of the plane in which this one lies.
-    pub(crate) fn holds_plane_of(self, geometry: &Geometry, page: PageAddress) -> bool
-        ensures { result ≡ holds_plane_of geometry.now page self }
-    {
-        let planes = geometry.planes();
-        match self {
-            Register::Page(held) => held.block % planes == page.block % planes,
-            _ => false,
-        }
     }
 
     /// A Change Read Column may choose a byte of it.

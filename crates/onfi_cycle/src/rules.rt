@@ -5,13 +5,12 @@ ghost use Rattle.std.specs.Option.{option_copied};
 ghost use Rattle.nand_geometry.specs.Row.{parts_of};
 ghost use Rattle.onfi_cycle.specs.declared.target_cycle.TargetCycle.{TargetCycle};
 ghost use Rattle.onfi_cycle.specs.Effect.{is_off, page_address};
-ghost use Rattle.onfi_cycle.specs.Lun.{is_page_read};
-ghost use Rattle.onfi_cycle.specs.Rules.{breaks_not_there, breaks_command_unknown, breaks_sequence_open, breaks_several_luns, breaks_no_column_to_change, breaks_command_misplaced, breaks_address_misplaced, breaks_row_outside, breaks_lun_busy, breaks_queue_clash, breaks_input_misplaced, breaks_no_sole_driver, breaks_data_not_ready, breaks_column_outside, breaks_cache_read_misplaced, breaks_plane_not_held, holds_plane_of, driving, are_none, driver, is_undeclared, is_undeclared_address, planes_clash, queued_clashes, some_queued_clashes, refused_by, is_refused_by, caching, has_some, is_unclear, works_for_target, named_lun_is, driver_is, continues_cache, ends_row, excludes_cache, finds_no_cache_read};
+ghost use Rattle.onfi_cycle.specs.Rules.{breaks_not_there, breaks_command_unknown, breaks_sequence_open, breaks_several_luns, breaks_no_column_to_change, breaks_command_misplaced, breaks_address_misplaced, breaks_row_outside, breaks_lun_busy, breaks_queue_clash, breaks_input_misplaced, breaks_no_sole_driver, breaks_data_not_ready, breaks_column_outside, breaks_cache_read_misplaced, breaks_plane_not_held, holds_plane_of, blocks_clash, read_clashes, some_read_clashes, has_read_one, driving, are_none, driver, is_undeclared, is_undeclared_address, planes_clash, queued_clashes, some_queued_clashes, refused_by, is_refused_by, caching, has_some, is_unclear, works_for_target, named_lun_is, driver_is, continues_cache, ends_row, excludes_cache, finds_no_cache_read};
 ghost use Rattle.onfi_cycle.specs.Permitted.{judge, judge_cycle, judge_known_cycle};
 
 use crate::{
     Command, Forbidden, Item, LunFacts, PageAddress, Queued, TailFacts, TargetCycle, WorkQueue,
-    is_page_read, is_shared,
+    is_shared,
 };
 use nand_geometry::Geometry;
 
@@ -84,6 +83,7 @@ pub fn is_undeclared(geometry: &Geometry, command: Command) -> bool
         Command::BlockErasePlane | Command::ProgramPlane => !parts.multi_plane,
         Command::ReadCacheSequential | Command::ReadCacheEnd => !parts.cache,
         Command::ChangeReadColumnEnhanced => !parts.optional.has_enhanced_column(),
+        Command::ReadPlane => !parts.optional.has_plane_reads(),
         Command::ReadUniqueId => !parts.optional.has_unique_id(),
         Command::GetFeatures | Command::SetFeatures => !parts.optional.has_features(),
         Command::ResetLun => !parts.optional.has_lun_reset(),
@@ -265,6 +265,14 @@ fn breaks_lun_busy<Q: WorkQueue>(
     }
 }
 
+/// Two pages of one queue have other block bits above the plane, where that matters.
+fn blocks_clash(geometry: &Geometry, page: PageAddress, other: PageAddress) -> bool
+    ensures { result ≡ blocks_clash geometry.now page other }
+{
+    let planes = geometry.planes();
+    !geometry.parts().optional.has_free_blocks() && page.block / planes != other.block / planes
+}
+
 /// Two pages of one queue don't go together: the same plane, another page, or other block bits above the plane.
 fn planes_clash(geometry: &Geometry, page: PageAddress, other: PageAddress) -> bool
     ensures { result ≡ planes_clash geometry.now page other }
@@ -272,7 +280,7 @@ fn planes_clash(geometry: &Geometry, page: PageAddress, other: PageAddress) -> b
     let planes = geometry.planes();
     page.block % planes == other.block % planes
         || page.page != other.page
-        || page.block / planes != other.block / planes
+        || blocks_clash(geometry, page, other)
 }
 
 /// A queued row doesn't go together with an erase of this page, or with a program of it.
@@ -282,7 +290,28 @@ fn queued_clashes(geometry: &Geometry, is_erase: bool, page: PageAddress, queued
     match queued {
         Queued::Erase(other) => !is_erase || planes_clash(geometry, page, other),
         Queued::Program(other) => is_erase || planes_clash(geometry, page, other),
+        Queued::Read(_) => true,
     }
+}
+
+/// A queued row doesn't go together with a read of this page.
+fn read_clashes(geometry: &Geometry, page: PageAddress, queued: Queued) -> bool
+    ensures { result ≡ read_clashes geometry.now page queued }
+{
+    match queued {
+        Queued::Read(other) => {
+            !geometry.parts().optional.has_plane_reads() || planes_clash(geometry, page, other)
+        }
+        Queued::Erase(_) | Queued::Program(_) => true,
+    }
+}
+
+fn some_read_clashes(geometry: &Geometry, page: PageAddress, queue: &[Queued]) -> bool
+    ensures { result ≡ some_read_clashes geometry.now page queue.now }
+{
+    queue
+        .iter()
+        .any(|queued| read_clashes(geometry, page, *queued))
 }
 
 fn some_queued_clashes(
@@ -303,7 +332,7 @@ fn refused_by(geometry: &Geometry, opener: Command, page: PageAddress, queue: &[
     ensures { result ≡ refused_by geometry.now opener page queue.now }
 {
     match opener {
-        Command::Read => !queue.is_empty(),
+        Command::Read => some_read_clashes(geometry, page, queue),
         Command::BlockErase => some_queued_clashes(geometry, true, page, queue),
         Command::PageProgram => some_queued_clashes(geometry, false, page, queue),
         _ => false,
@@ -433,13 +462,13 @@ fn named_is_caching<Q: WorkQueue>(geometry: &Geometry, row: u32, luns: &[LunFact
     }
 }
 
-/// The LUN that a row names is there, and has read a page, so that a cache read may go on from it.
+/// The LUN that a row names is there, and has read one page, so that a cache read may go on from it.
 fn named_has_read<Q: WorkQueue>(geometry: &Geometry, row: u32, luns: &[LunFacts<Q>]) -> bool
-    ensures { result ≡ named_lun_is geometry.now row (λ v. is_page_read v.closer) luns.now }
+    ensures { result ≡ named_lun_is geometry.now row has_read_one luns.now }
 {
     match find_named(geometry, row, luns) {
         None => false,
-        Some(lun) => is_page_read(lun.closer),
+        Some(lun) => lun.has_read_one(),
     }
 }
 
@@ -507,6 +536,9 @@ fn breaks_cache_read_misplaced<Q: WorkQueue>(
             geometry.parts().optional.is_wide()
                 && named_is_caching(geometry, tail.named_row(), luns)
         }
+        TargetCycle::CommandCycle(Command::ReadPlane) => {
+            named_is_caching(geometry, tail.named_row(), luns)
+        }
         TargetCycle::CommandCycle(Command::ReadCacheEnd) => match driver(luns) {
             None => true,
             Some(lun) => !lun.ends_cache(),
@@ -520,15 +552,15 @@ fn breaks_cache_read_misplaced<Q: WorkQueue>(
     }
 }
 
-/// The LUN that a row names is there, and its register holds no page of the plane of that row.
+/// The LUN that a row names is there, and holds no page of the plane of that row, or has a queue.
 fn named_holds_no_plane<Q: WorkQueue>(geometry: &Geometry, row: u32, luns: &[LunFacts<Q>]) -> bool
-    ensures { result ≡ named_lun_is geometry.now row (λ v. not (holds_plane_of geometry.now (page_address geometry.now row) v.register)) luns.now }
+    ensures { result ≡ named_lun_is geometry.now row (λ v. not (holds_plane_of geometry.now (page_address geometry.now row) v)) luns.now }
 {
     match find_named(geometry, row, luns) {
         None => false,
         Some(lun) => {
             let page = PageAddress::of_row(geometry, row);
-            !lun.register.holds_plane_of(geometry, page)
+            !lun.holds_plane_of(geometry, page)
         }
     }
 }

@@ -3,11 +3,12 @@ ghost use Rattle.std.specs.Prelude.{◌≡◌, ◌^◌, ◌<◌, ◌≤◌, List
 ghost use Rattle.nand_geometry.specs.declared.parts.Parts.{Parts};
 ghost use Rattle.onfi_cycle.specs.declared.lun.Lun.{Lun};
 ghost use Rattle.onfi_cycle.specs.declared.latch.Latch.TheVariants.{Off};
-ghost use Rattle.onfi_cycle.specs.Effect.{cycle_effect};
+ghost use Rattle.onfi_cycle.specs.Effect.{IsSmallEffect, cycle_effect};
 ghost use Rattle.onfi_cycle.specs.Lun.{latch_after, selected_after, overlapped_after, works, view_after, first_view, queue_after};
 ghost use Rattle.onfi_cycle.specs.Bounds.{LunFits};
 ghost use Rattle.onfi_cycle.specs.Outputs.{given_on};
 
+use crate::held::apply_to_held;
 use crate::{
     Effect, Latch, LunFacts, PageAddress, Queued, ReadColumn, Register, RowQueue, TailFacts,
     TargetCycle, cycle_effect, is_cache_read,
@@ -23,7 +24,9 @@ fn apply_to_queue(queue: &mut RowQueue, effect: Effect)
     match effect {
         Effect::EraseStarted { queued: true, row } => queue.insert(0, Queued::Erase(row)),
         Effect::ProgramStarted { queued: true, page } => queue.insert(0, Queued::Program(page)),
-        Effect::EraseStarted { .. }
+        Effect::ReadQueued { page } => queue.insert(0, Queued::Read(page)),
+        Effect::ReadStarted { .. }
+        | Effect::EraseStarted { .. }
         | Effect::ProgramStarted { .. }
         | Effect::ResetStarted
         | Effect::TargetResetStarted { .. } => queue.clear(),
@@ -47,23 +50,37 @@ impl LunFacts<RowQueue> {
             register: Register::Empty,
             column: ReadColumn::none(),
             queue: ArrayVec::new(),
+            held: ArrayVec::new(),
         }
     }
 
     // Goes on by an effect that may change everything.
     #[inline(always)]
+    #[tactic(auto, using(crate::proofs::HeldPages::has_planes))]
     fn renew(&mut self, effect: Effect)
         requires outputs { self.old.column.outputs ≤ 2 ^ 16 }
         requires array_page { self.old.array_page.page < 2 ^ 32 }
         requires queue { length self.old.queue ≤ 4 }
+        requires small { IsSmallEffect effect }
         ensures { self.new ≡ view_after effect self.old }
     {
         let works = self.works();
         let latch = effect.latch_after(self.selected, works, self.latch);
         let overlapped = effect.overlapped_after(works, self.overlapped);
-        apply_to_queue(&mut self.queue, effect);
         self.column = effect.read_column_after(self.column);
-        self.register = effect.register_after(self.array_page, self.register);
+        self.register = effect.register_after(
+            self.array_page,
+            self.queue.as_slice(),
+            self.held.as_slice(),
+            self.register,
+        );
+        apply_to_held(
+            &mut self.held,
+            effect,
+            self.array_page,
+            self.queue.as_slice(),
+        );
+        apply_to_queue(&mut self.queue, effect);
         self.array_page = effect.array_page_after(self.array_page);
         let caching = is_cache_read(self.closer);
         self.array_busy = effect.array_busy_after(self.busy, caching, self.array_busy);
@@ -93,6 +110,7 @@ impl LunFacts<RowQueue> {
         requires outputs { self.old.column.outputs ≤ 2 ^ 16 }
         requires array_page { self.old.array_page.page < 2 ^ 32 }
         requires queue { length self.old.queue ≤ 4 }
+        requires small { IsSmallEffect effect }
         ensures { self.new ≡ view_after effect self.old }
     {
         match effect {
@@ -110,6 +128,12 @@ impl LunFacts<RowQueue> {
             }
             Effect::PlaneSelected { .. } => {
                 self.column = effect.read_column_after(self.column);
+                self.register = effect.register_after(
+                    self.array_page,
+                    self.queue.as_slice(),
+                    self.held.as_slice(),
+                    self.register,
+                );
                 self.turn(effect);
             }
             // an arm of its own, so that LLVM makes it for this effect alone

@@ -55,6 +55,7 @@ impl LastCycle {
             LastCycle::Command(command) => matches!(
                 command,
                 Command::ReadConfirm
+                    | Command::ReadPlane
                     | Command::BlockEraseConfirm
                     | Command::BlockErasePlane
                     | Command::ProgramConfirm

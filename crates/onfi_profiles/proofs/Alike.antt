@@ -31,7 +31,7 @@ use Rattle.onfi_cycle.proofs.Latches.{IsOne}
 use Rattle.onfi_cycle.proofs.Others.{other_openings, chosen_else}
 use Rattle.onfi_cycle.proofs.Passed.{KeepsRules, permitted_keeps}
 use Rattle.onfi_profiles.specs.Widening.{in_base}
-use Rattle.onfi_profiles.proofs.OldTails.{AreOfBase, facts_base, tails_kept}
+use Rattle.onfi_profiles.proofs.OldTails.{AreOfBase, facts_base, tails_kept, base_cycle}
 use Rattle.onfi_profiles.proofs.Turns.{Turn, kept, Shows, alike, shows_on, alike_by_sole, drivers_same}
 use Rattle.onfi_profiles.proofs.Shared.{IsPlain, Like, equal, core, one_lun_cycle, cycle_turn, cycle_like, core_on, calm_on}
 use Rattle.onfi_profiles.proofs.Pasts.{lun_at, both_legal, in_column, driver_one, column_driver, read_inside}
@@ -67,6 +67,7 @@ plain g targets past c ce shared legal h here =
     let old = base_tail g targets past ce legal in
     record {
       command = command_is_of_one g (luns_of (in_base g) past c.ce) (target_cycle c.kind c.byte) (several g shared) (permitted_keeps (in_base g) targets past c h).f4;
+      base = base_cycle g (target_cycle c.kind c.byte) (permitted_keeps (in_base g) targets past c h).f2;
       opener = old.opener;
       identity = (other_openings (in_base g) targets past ce refl (several g shared) legal).opens;
       phase = old.phase;

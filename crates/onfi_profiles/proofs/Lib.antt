@@ -1,6 +1,7 @@
 pub mod Decoded
 pub mod Unwanted
 pub mod OldRules
+pub mod Few
 pub mod OldTails
 pub mod Same
 pub mod Turns

@@ -1,10 +1,11 @@
 -- After a past that is legal in the base profile an item is judged as it was.
-use Rattle.std.proofs.Common.{◌≡◌, ℕ, ◌==◌, Bool, true, false, ◌&&◌, ◌||◌, cond, not, ltb, nat_le, List, Option, Some, None, refl, sym, ap, ◌∙◌}
+use Rattle.std.proofs.Common.{◌≡◌, ℕ, ◌==◌, Bool, true, false, ◌&&◌, ◌||◌, cond, not, ltb, nat_le, List, [], ◌∷◌, Option, Some, None, refl, sym, ap, ◌∙◌}
 use Rattle.std.proofs.Math.Bool.{or-false}
+use Rattle.std.specs.List.{list_any}
 use Rattle.nand_geometry.specs.declared.parts.Parts.{Parts}
 use Rattle.nand_geometry.specs.Limits.{page_len}
 use Rattle.onfi_cycle.specs.declared.command.Command.{Command}
-use Rattle.onfi_cycle.specs.declared.command.Command.TheVariants.{ChangeWriteColumn, ProgramConfirm, ProgramPlane, ReadId, ReadUniqueId, GetFeatures, SetFeatures, ResetLun, SynchronousReset, Unknown, ReadCacheSequential, ChangeReadColumnEnhanced}
+use Rattle.onfi_cycle.specs.declared.command.Command.TheVariants.{ChangeWriteColumn, ProgramConfirm, ProgramPlane, ReadId, ReadUniqueId, GetFeatures, SetFeatures, ResetLun, SynchronousReset, Unknown, ReadCacheSequential, ChangeReadColumnEnhanced, ReadPlane, Read, BlockErase, PageProgram}
 use Rattle.onfi_cycle.specs.declared.data_phase.DataPhase.{DataPhase}
 use Rattle.onfi_cycle.specs.declared.data_phase.DataPhase.TheVariants.{Outside, Inputs, FirstColumn, SecondColumn, FeatureInputs}
 use Rattle.onfi_cycle.specs.declared.forbidden.Forbidden.{Forbidden}
@@ -12,20 +13,25 @@ use Rattle.onfi_cycle.specs.declared.forbidden.Forbidden.TheVariants.{NotThere, 
 use Rattle.onfi_cycle.specs.declared.item.Item.{Item}
 use Rattle.onfi_cycle.specs.declared.item.Item.TheVariants.{Cyc, Rdy, Ard}
 use Rattle.onfi_cycle.specs.declared.opening.Opening.{Opening}
+use Rattle.onfi_cycle.specs.declared.page_address.PageAddress.{PageAddress}
+use Rattle.onfi_cycle.specs.declared.queued.Queued.{Queued}
+use Rattle.onfi_cycle.specs.declared.queued.Queued.TheVariants.{Erase, Program, Read as QueuedRead}
 use Rattle.onfi_cycle.specs.declared.tail_facts.TailFacts.{TailFacts}
 use Rattle.onfi_cycle.specs.declared.target_cycle.TargetCycle.{TargetCycle}
 use Rattle.onfi_cycle.specs.declared.target_cycle.TargetCycle.TheVariants.{CommandCycle, AddressCycle, InputCycle, OutputCycle}
 use Rattle.onfi_cycle.specs.LunView.{LunView}
 use Rattle.onfi_cycle.specs.Base.{is_of_base}
-use Rattle.onfi_cycle.specs.Command.{is_known, is_opener, is_read_id, is_reset, address_cycles, takes_address, addresses_the_array}
+use Rattle.onfi_cycle.specs.Command.{is_known, is_opener, at_last_row, is_read_id, is_reset, address_cycles, takes_address, addresses_the_array}
 use Rattle.onfi_cycle.specs.Sequence.{target_of, target_cycle, opened, takes_data, takes_features, takes_inputs, wants_column, wants_command, wants_address, is_open, is_proper_beginning, row_with, input_column, works_on_row, row}
-use Rattle.onfi_cycle.specs.Lun.{luns_of, is_page_read}
-use Rattle.onfi_cycle.specs.Rules.{driver_is, ends_row, named_lun_is, is_undeclared, breaks_not_there, breaks_command_unknown, breaks_sequence_open, breaks_several_luns, breaks_no_column_to_change, breaks_command_misplaced, breaks_address_misplaced, breaks_row_outside, breaks_lun_busy, breaks_queue_clash, breaks_input_misplaced, breaks_no_sole_driver, breaks_data_not_ready, breaks_column_outside, breaks_cache_read_misplaced, continues_cache, caching}
+use Rattle.onfi_cycle.specs.Effect.{page_address}
+use Rattle.onfi_cycle.specs.Lun.{luns_of}
+use Rattle.onfi_cycle.specs.Rules.{driver_is, ends_row, named_lun_is, is_undeclared, breaks_not_there, breaks_command_unknown, breaks_sequence_open, breaks_several_luns, breaks_no_column_to_change, breaks_command_misplaced, breaks_address_misplaced, breaks_row_outside, breaks_lun_busy, breaks_queue_clash, breaks_input_misplaced, breaks_no_sole_driver, breaks_data_not_ready, breaks_column_outside, breaks_cache_read_misplaced, continues_cache, caching, has_read_one, has_some, queued_clashes, refused_by, some_read_clashes}
 use Rattle.onfi_cycle.specs.Permitted.{judge_cycle, judge_item, judge}
 use Rattle.onfi_profiles.specs.Widening.{in_base}
 use Rattle.onfi_profiles.specs.Tails.{base_takes_inputs, base_takes_address, base_wants_command, base_wants_address, base_is_open, base_facts}
-use Rattle.onfi_profiles.specs.Judging.{base_undeclared, base_command_unknown, base_sequence_open, base_command_misplaced, base_several_luns, base_lun_busy, base_address_misplaced, base_input_misplaced, base_no_sole_driver, base_column_outside, base_judge_cycle, base_judge_item, JudgesBase, base_cache_read_misplaced}
-use Rattle.onfi_profiles.proofs.OldTails.{AreOfBase, facts_base, tails_kept}
+use Rattle.onfi_profiles.specs.Judging.{base_undeclared, base_command_unknown, base_sequence_open, base_command_misplaced, base_several_luns, base_lun_busy, base_address_misplaced, base_input_misplaced, base_no_sole_driver, base_column_outside, base_judge_cycle, base_judge_item, JudgesBase, base_cache_read_misplaced, base_continues_cache, base_queued_clashes, base_refused_by, base_queue_clash}
+use Rattle.onfi_profiles.proofs.OldTails.{AreOfBase, is_base_cycle, base_cycle, facts_base, tails_kept}
+use Rattle.onfi_profiles.proofs.Few.{driver_same}
 use Rattle.onfi_profiles.proofs.Unwanted.{unwanted, excluded_same, plane_kept}
 
 -- 1. parts of rules
@@ -42,6 +48,7 @@ open_same t a = ap (λ (b : Bool). opened is_proper_beginning t.opening || b || 
 
 unknown_same : (g : Parts) (c : Command) → (not (is_known c) || is_undeclared (in_base g) c) ≡ (not (is_of_base c) || base_undeclared (in_base g) c)
 unknown_same g ChangeReadColumnEnhanced = refl
+unknown_same g ReadPlane = refl
 unknown_same g ReadUniqueId = refl
 unknown_same g GetFeatures = refl
 unknown_same g SetFeatures = refl
@@ -164,22 +171,52 @@ f9 g t luns (AddressCycle byte) = ap (λ (b : Bool). ends_row addresses_the_arra
 f9 g t luns (InputCycle byte) = refl
 f9 g t luns OutputCycle = refl
 
-f15 : (g : Parts) (t : TailFacts) (luns : List LunView) (k : TargetCycle) → AreOfBase t → breaks_sequence_open (in_base g) t k ≡ false → breaks_cache_read_misplaced (in_base g) t luns k ≡ base_cache_read_misplaced (in_base g) t luns k
+-- a read finds the queue empty
+reads_same : (g : Parts) (p : PageAddress) (queue : List Queued) → some_read_clashes (in_base g) p queue ≡ has_some queue
+reads_same g p [] = refl
+reads_same g p (Erase q ∷ queue) = refl
+reads_same g p (Program q ∷ queue) = refl
+reads_same g p (QueuedRead q ∷ queue) = refl
+
+clashes_same : (g : Parts) (erase : Bool) (p : PageAddress) (q : Queued) → queued_clashes (in_base g) erase p q ≡ base_queued_clashes (in_base g) erase p q
+clashes_same g erase p (Erase q) = refl
+clashes_same g erase p (Program q) = refl
+clashes_same g erase p (QueuedRead q) = refl
+
+refused_same : (g : Parts) (c : Command) (p : PageAddress) (queue : List Queued) → refused_by (in_base g) c p queue ≡ base_refused_by (in_base g) c p queue
+refused_same g Read p queue = reads_same g p queue
+refused_same g BlockErase p queue = λ i. list_any (λ q. clashes_same g true p q i) queue
+refused_same g PageProgram p queue = λ i. list_any (λ q. clashes_same g false p q i) queue
+refused_same g c p queue = refl
+
+f10 : (g : Parts) (t : TailFacts) (luns : List LunView) (k : TargetCycle) → breaks_queue_clash (in_base g) t luns k ≡ base_queue_clash (in_base g) t luns k
+unfolding breaks_queue_clash
+f10 g t luns (AddressCycle byte) = λ i. named_lun_is g (row_with t byte) (λ v. opened (λ c n. at_last_row c n && refused_same g c (page_address g (row_with t byte)) v.queue i) t.opening) luns
+f10 g t luns (CommandCycle c) = refl
+f10 g t luns (InputCycle byte) = refl
+f10 g t luns OutputCycle = refl
+
+-- the one driver may go on with a cache read where it might
+abbrev GoesOn : Parts → List LunView → Type 0
+GoesOn g luns = driver_is (continues_cache (in_base g)) luns ≡ driver_is (base_continues_cache (in_base g)) luns
+
+f15 : (g : Parts) (t : TailFacts) (luns : List LunView) (k : TargetCycle) → AreOfBase t → is_base_cycle k ≡ true → GoesOn g luns → breaks_sequence_open (in_base g) t k ≡ false → breaks_cache_read_misplaced (in_base g) t luns k ≡ base_cache_read_misplaced (in_base g) t luns k
 unfolding breaks_cache_read_misplaced
-f15 g t luns (CommandCycle ReadCacheSequential) a h = ap (λ (w : Bool). cond w (not (named_lun_is (in_base g) (row t) (λ v. is_page_read v.closer) luns)) (not (driver_is (continues_cache (in_base g)) luns))) (unwanted (in_base g) t refl h)
-f15 g t luns (CommandCycle c) a h = refl
-f15 g t luns (AddressCycle byte) a h = ap (λ (b : Bool). b && named_lun_is (in_base g) (row_with t byte) caching luns) (excluded_same g t a.opener)
-f15 g t luns (InputCycle byte) a h = refl
-f15 g t luns OutputCycle a h = refl
+f15 g t luns (CommandCycle ReadCacheSequential) a b go h = ap (λ (w : Bool). cond w (not (named_lun_is (in_base g) (row t) has_read_one luns)) (not (driver_is (continues_cache (in_base g)) luns))) (unwanted (in_base g) t refl h) ∙ ap not go
+f15 g t luns (CommandCycle ReadPlane) a b go h = cc
+f15 g t luns (CommandCycle c) a b go h = refl
+f15 g t luns (AddressCycle byte) a b go h = ap (λ (b : Bool). b && named_lun_is (in_base g) (row_with t byte) caching luns) (excluded_same g t a.opener)
+f15 g t luns (InputCycle byte) a b go h = refl
+f15 g t luns OutputCycle a b go h = refl
 
 -- 3. all of them
 
-cycle_same : (g : Parts) (t : TailFacts) (luns : List LunView) (k : TargetCycle) → AreOfBase t → judge_cycle (in_base g) t luns k ≡ base_judge_cycle (in_base g) t luns k
-cycle_same g t luns k a = at (breaks_sequence_open (in_base g) t k) refl
+cycle_same : (g : Parts) (t : TailFacts) (luns : List LunView) (k : TargetCycle) → AreOfBase t → GoesOn g luns → judge_cycle (in_base g) t luns k ≡ base_judge_cycle (in_base g) t luns k
+cycle_same g t luns k a go = by (breaks_command_unknown (in_base g) k) refl
   where
-    at : (b : Bool) → breaks_sequence_open (in_base g) t k ≡ b → judge_cycle (in_base g) t luns k ≡ base_judge_cycle (in_base g) t luns k
-    at true e = rw (f2 g k, e, sym (f3 g t k a) ∙ e) refl
-    at false e = λ i.
+    at : is_base_cycle k ≡ true → (b : Bool) → breaks_sequence_open (in_base g) t k ≡ b → judge_cycle (in_base g) t luns k ≡ base_judge_cycle (in_base g) t luns k
+    at base true e = rw (f2 g k, e, sym (f3 g t k a) ∙ e) refl
+    at base false e = λ i.
         cond (f2 g k i) (Some CommandUnknown)
         (cond (f3 g t k a i) (Some SequenceOpen)
         (cond (f4 g luns k i) (Some SeveralLuns)
@@ -188,21 +225,25 @@ cycle_same g t luns k a = at (breaks_sequence_open (in_base g) t k) refl
         (cond (f7 g t k a i) (Some AddressMisplaced)
         (cond (breaks_row_outside (in_base g) t k) (Some RowOutside)
         (cond (f9 g t luns k i) (Some LunBusy)
-        (cond (breaks_queue_clash (in_base g) t luns k) (Some QueueClash)
+        (cond (f10 g t luns k i) (Some QueueClash)
         (cond (f11 t k a i) (Some InputMisplaced)
         (cond (f12 t luns k a i) (Some NoSoleDriver)
         (cond (breaks_data_not_ready luns k) (Some DataNotReady)
         (cond (f14 g t luns k a i) (Some ColumnOutside)
-        (cond (f15 g t luns k a e i) (Some CacheReadMisplaced)
+        (cond (f15 g t luns k a base go e i) (Some CacheReadMisplaced)
         (cond (plane_kept (in_base g) t luns k a.opener i) (Some PlaneNotHeld) None))))))))))))))
 
-item_same : (g : Parts) (t : TailFacts) (luns : List LunView) (i : Item) → AreOfBase t → judge_item (in_base g) t luns i ≡ base_judge_item (in_base g) t luns i
-item_same g t luns (Cyc c) a = cycle_same g t luns (target_cycle c.kind c.byte) a
-item_same g t luns (Rdy ce lun fail) a = refl
-item_same g t luns (Ard ce lun) a = refl
+    by : (b : Bool) → breaks_command_unknown (in_base g) k ≡ b → judge_cycle (in_base g) t luns k ≡ base_judge_cycle (in_base g) t luns k
+    by true u = rw (u, sym (f2 g k) ∙ u) refl
+    by false u = at (base_cycle g k u) (breaks_sequence_open (in_base g) t k) refl
+
+item_same : (g : Parts) (t : TailFacts) (luns : List LunView) (i : Item) → AreOfBase t → GoesOn g luns → judge_item (in_base g) t luns i ≡ base_judge_item (in_base g) t luns i
+item_same g t luns (Cyc c) a go = cycle_same g t luns (target_cycle c.kind c.byte) a go
+item_same g t luns (Rdy ce lun fail) a go = refl
+item_same g t luns (Ard ce lun) a go = refl
 
 pub judged_so : JudgesBase
 judged_so g targets past i h =
     let luns = luns_of (in_base g) past (target_of i) in
     ap (λ (t : TailFacts). judge (in_base g) targets t luns i) (tails_kept g targets past (target_of i) h)
-    ∙ ap (λ (o : Option Forbidden). cond (breaks_not_there targets luns i) (Some NotThere) o) (item_same g (base_facts past (target_of i)) luns i (facts_base g targets past (target_of i) h))
+    ∙ ap (λ (o : Option Forbidden). cond (breaks_not_there targets luns i) (Some NotThere) o) (item_same g (base_facts past (target_of i)) luns i (facts_base g targets past (target_of i) h) (driver_same g targets past (target_of i) h))

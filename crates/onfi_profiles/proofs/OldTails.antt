@@ -3,7 +3,7 @@ use Rattle.std.proofs.Common.{◌≡◌, ℕ, ◌+◌, ◌==◌, Bool, true, fal
 use Rattle.std.proofs.lemmas.Bool.{and_parts}
 use Rattle.nand_geometry.specs.declared.parts.Parts.{Parts}
 use Rattle.onfi_cycle.specs.declared.command.Command.{Command}
-use Rattle.onfi_cycle.specs.declared.command.Command.TheVariants.{ChangeWriteColumn, ReadUniqueId, GetFeatures, SetFeatures, ResetLun, SynchronousReset, Unknown, ChangeReadColumnEnhanced}
+use Rattle.onfi_cycle.specs.declared.command.Command.TheVariants.{ChangeWriteColumn, ReadUniqueId, GetFeatures, SetFeatures, ResetLun, SynchronousReset, Unknown, ChangeReadColumnEnhanced, ReadPlane}
 use Rattle.onfi_cycle.specs.declared.data_phase.DataPhase.{DataPhase}
 use Rattle.onfi_cycle.specs.declared.data_phase.DataPhase.TheVariants.{Outside, Inputs, FirstColumn, SecondColumn, FeatureInputs}
 use Rattle.onfi_cycle.specs.declared.item.Item.{Item}
@@ -44,6 +44,7 @@ is_base_cycle _ = true
 
 base_command : (g : Parts) (c : Command) → (not (is_known c) || is_undeclared (in_base g) c) ≡ false → is_of_base c ≡ true
 base_command g ChangeReadColumnEnhanced h = let no : true ≡ false = h in cc
+base_command g ReadPlane h = let no : true ≡ false = h in cc
 base_command g ReadUniqueId h = let no : true ≡ false = h in cc
 base_command g GetFeatures h = let no : true ≡ false = h in cc
 base_command g SetFeatures h = let no : true ≡ false = h in cc
@@ -52,7 +53,7 @@ base_command g SynchronousReset h = let no : true ≡ false = h in cc
 base_command g Unknown h = cc
 base_command g c h = refl
 
-base_cycle : (g : Parts) (k : TargetCycle) → breaks_command_unknown (in_base g) k ≡ false → is_base_cycle k ≡ true
+pub base_cycle : (g : Parts) (k : TargetCycle) → breaks_command_unknown (in_base g) k ≡ false → is_base_cycle k ≡ true
 unfolding breaks_command_unknown
 base_cycle g (CommandCycle c) h = base_command g c h
 base_cycle g (AddressCycle byte) h = refl

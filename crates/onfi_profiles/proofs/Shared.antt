@@ -3,7 +3,7 @@ use Rattle.std.proofs.Common.{◌≡◌, ℕ, ◌<◌, ◌==◌, ◌⊎◌, inl,
 use Rattle.nand_geometry.specs.declared.parts.Parts.{Parts}
 use Rattle.nand_geometry.specs.Row.{parts_of}
 use Rattle.onfi_cycle.specs.declared.command.Command.{Command}
-use Rattle.onfi_cycle.specs.declared.command.Command.TheVariants.{Read, ReadConfirm, ReadStatus, ReadStatusEnhanced, Reset, SynchronousReset, ReadCacheSequential, ReadCacheEnd, ChangeReadColumnConfirm, BlockEraseConfirm, BlockErasePlane, ProgramConfirm, ProgramPlane, ReadId, ReadParameterPage, ReadUniqueId, GetFeatures, ResetLun}
+use Rattle.onfi_cycle.specs.declared.command.Command.TheVariants.{Read, ReadConfirm, ReadPlane, ReadStatus, ReadStatusEnhanced, Reset, SynchronousReset, ReadCacheSequential, ReadCacheEnd, ChangeReadColumnConfirm, BlockEraseConfirm, BlockErasePlane, ProgramConfirm, ProgramPlane, ReadId, ReadParameterPage, ReadUniqueId, GetFeatures, ResetLun}
 use Rattle.onfi_cycle.specs.declared.effect.Effect.{Effect}
 use Rattle.onfi_cycle.specs.declared.effect.Effect.TheVariants.{Unaffected, DataOutputEnabled, StatusRowAwaited, SelectedForStatus, Deselected, ReadStarted, EraseStarted, ProgramStarted, CacheReadContinued, CacheReadEnded, ReadColumnChanged, DataOutput, BecameReady, ArrayBecameReady, AnotherAddressed}
 use Rattle.onfi_cycle.specs.declared.latch.Latch.{Latch}
@@ -21,6 +21,7 @@ use Rattle.onfi_cycle.specs.Lun.{latch_after, resumed, closer_after, is_target_w
 use Rattle.onfi_cycle.specs.Applied.{asks_driver}
 use Rattle.onfi_cycle.proofs.Booleans.{eqb_self}
 use Rattle.onfi_profiles.specs.Widening.{in_base}
+use Rattle.onfi_profiles.proofs.OldTails.{is_base_cycle}
 use Rattle.onfi_profiles.proofs.Unwanted.{no_plane}
 use Rattle.onfi_profiles.proofs.Turns.{Turn, kept, chosen, reads}
 
@@ -31,6 +32,7 @@ one_lun_cycle _ = false
 -- what a cycle that the base profile permits there, and the tail before it, keep to
 pub record IsPlain (g : Parts) (t : TailFacts) (k : TargetCycle) : Type 0 where
   pub command : one_lun_cycle k ≡ false
+  pub base : is_base_cycle k ≡ true
   pub opener : opened (λ c n. not (is_of_base c)) t.opening ≡ false
   pub identity : not (opened (λ c n. reads_identity c) t.opening) ≡ true
   pub phase : takes_features t.phase ≡ false
@@ -111,6 +113,7 @@ command_turn g t ReadConfirm shared p lb lw la law sb wb sw ww asked = at (wants
         (λ m less ne. rw ne refl)
         (λ m less ne. rw (ne, shared) (passed_over (sw m) (ww m) (lw m)))
     at false low = kept (λ x. x) refl (λ x on. on) (λ m less. refl) (λ m less. refl)
+command_turn g t ReadPlane shared p lb lw la law sb wb sw ww asked = let never = p.base in cc
 command_turn g t BlockEraseConfirm shared p lb lw la law sb wb sw ww asked =
     kept (λ x. x) refl (λ x on. on)
     (λ m low. still (wants_command t BlockEraseConfirm && names_lun g (row t) m) _ _ (sb m) (wb m) (lb m) refl (still (wants_command t BlockEraseConfirm && false) (AnotherAddressed false) Unaffected (sb m) (wb m) (lb m) refl refl))
@@ -199,26 +202,27 @@ row_like true false true x e p = passes refl refl
 row_like true false false x e p = equal refl refl
 row_like false named shared x e p = equal refl refl
 
-command_like : (g : Parts) (t : TailFacts) (c : Command) (m : ℕ) (la law : Latch) → wants_one_lun c ≡ false → (c ≡ ReadCacheSequential → wants_command t ReadCacheSequential ≡ false) → selects_plane t ≡ false → (asks_driver (CommandCycle c) ≡ true → law ≡ la) → Like (command_effect (in_base g) t la c m) (command_effect g t law c m)
-command_like g t Read m la law one alone plane asked = equal refl refl
-command_like g t ReadStatus m la law one alone plane asked = cc
-command_like g t ReadStatusEnhanced m la law one alone plane asked = equal refl refl
-command_like g t Reset m la law one alone plane asked = cc
-command_like g t SynchronousReset m la law one alone plane asked = cc
-command_like g t ReadCacheSequential m la law one alone plane asked =
+command_like : (g : Parts) (t : TailFacts) (c : Command) (m : ℕ) (la law : Latch) → wants_one_lun c ≡ false → is_of_base c ≡ true → (c ≡ ReadCacheSequential → wants_command t ReadCacheSequential ≡ false) → selects_plane t ≡ false → (asks_driver (CommandCycle c) ≡ true → law ≡ la) → Like (command_effect (in_base g) t la c m) (command_effect g t law c m)
+command_like g t Read m la law one base alone plane asked = equal refl refl
+command_like g t ReadStatus m la law one base alone plane asked = cc
+command_like g t ReadStatusEnhanced m la law one base alone plane asked = equal refl refl
+command_like g t Reset m la law one base alone plane asked = cc
+command_like g t SynchronousReset m la law one base alone plane asked = cc
+command_like g t ReadCacheSequential m la law one base alone plane asked =
     subst (λ (w : Bool). Like (cond w (row_effect (in_base g) t ReadCacheSequential m) (cache_effect la)) (cond w (row_effect g t ReadCacheSequential m) (cache_effect law))) (sym (alone refl))
     (equal (ap (λ (x : Latch). cond (is_off x) Unaffected (CacheReadContinued None)) (sym (asked refl))) (plain_choice (is_off la) Unaffected (CacheReadContinued None) refl refl))
-command_like g t ReadCacheEnd m la law one alone plane asked = equal (ap (λ (x : Latch). cond (is_off x) Unaffected CacheReadEnded) (sym (asked refl))) (plain_choice (is_off la) Unaffected CacheReadEnded refl refl)
-command_like g t ChangeReadColumnConfirm m la law one alone plane asked =
+command_like g t ReadCacheEnd m la law one base alone plane asked = equal (ap (λ (x : Latch). cond (is_off x) Unaffected CacheReadEnded) (sym (asked refl))) (plain_choice (is_off la) Unaffected CacheReadEnded refl refl)
+command_like g t ChangeReadColumnConfirm m la law one base alone plane asked =
     subst (λ (s : Bool). Like (cond s (plane_effect (in_base g) t m) (column_effect t la)) (cond s (plane_effect g t m) (column_effect t law))) (sym plane)
     (equal (ap (λ (x : Latch). cond (wants_command t ChangeReadColumnConfirm && not (is_off x)) (ReadColumnChanged t.column) Unaffected) (sym (asked refl)))
     (plain_choice (wants_command t ChangeReadColumnConfirm && not (is_off la)) (ReadColumnChanged t.column) Unaffected refl refl))
-command_like g t ReadConfirm m la law one alone plane asked = row_like (wants_command t ReadConfirm) (names_lun g (row t) m) (is_shared g) true _ refl
-command_like g t BlockEraseConfirm m la law one alone plane asked = row_like (wants_command t BlockEraseConfirm) (names_lun g (row t) m) (is_shared g) false _ refl
-command_like g t BlockErasePlane m la law one alone plane asked = row_like (wants_command t BlockErasePlane) (names_lun g (row t) m) (is_shared g) false _ refl
-command_like g t ProgramConfirm m la law one alone plane asked = row_like (wants_command t ProgramConfirm) (names_lun g (row t) m) (is_shared g) false _ refl
-command_like g t ProgramPlane m la law one alone plane asked = row_like (wants_command t ProgramPlane) (names_lun g (row t) m) (is_shared g) false _ refl
-command_like g t c m la law one alone plane asked = equal refl (plain_choice (wants_command t c && names_lun g (row t) m) Unaffected Unaffected refl refl)
+command_like g t ReadConfirm m la law one base alone plane asked = row_like (wants_command t ReadConfirm) (names_lun g (row t) m) (is_shared g) true _ refl
+command_like g t ReadPlane m la law one base alone plane asked = cc
+command_like g t BlockEraseConfirm m la law one base alone plane asked = row_like (wants_command t BlockEraseConfirm) (names_lun g (row t) m) (is_shared g) false _ refl
+command_like g t BlockErasePlane m la law one base alone plane asked = row_like (wants_command t BlockErasePlane) (names_lun g (row t) m) (is_shared g) false _ refl
+command_like g t ProgramConfirm m la law one base alone plane asked = row_like (wants_command t ProgramConfirm) (names_lun g (row t) m) (is_shared g) false _ refl
+command_like g t ProgramPlane m la law one base alone plane asked = row_like (wants_command t ProgramPlane) (names_lun g (row t) m) (is_shared g) false _ refl
+command_like g t c m la law one base alone plane asked = equal refl (plain_choice (wants_command t c && names_lun g (row t) m) Unaffected Unaffected refl refl)
 
 address_like : (g : Parts) (t : TailFacts) (byte : ℕ) (o : Option Opening) (m : ℕ) → opened (λ c n. not (is_of_base c)) o ≡ false → not (opened (λ c n. reads_identity c) o) ≡ true → Like (opening_address_effect (in_base g) t byte o m) (opening_address_effect g t byte o m)
 address_like g t byte None m b i = equal refl refl
@@ -234,7 +238,7 @@ address_like g t byte (Some o) m b i = kind o.opener o.addresses b i
     kind c n b i = equal refl refl
 
 pub cycle_like : (g : Parts) (t : TailFacts) (k : TargetCycle) (m : ℕ) (la law : Latch) → IsPlain g t k → (asks_driver k ≡ true → law ≡ la) → Like (cycle_effect (in_base g) t la k m) (cycle_effect g t law k m)
-cycle_like g t (CommandCycle c) m la law p asked = command_like g t c m la law p.command (λ is. p.alone (ap CommandCycle is)) (no_plane t p.opener) asked
+cycle_like g t (CommandCycle c) m la law p asked = command_like g t c m la law p.command p.base (λ is. p.alone (ap CommandCycle is)) (no_plane t p.opener) asked
 cycle_like g t (AddressCycle byte) m la law p asked = address_like g t byte t.opening m p.opener p.identity
 cycle_like g t (InputCycle byte) m la law p asked = rw p.phase (equal refl refl)
 cycle_like g t OutputCycle m la law p asked = equal (ap (λ (x : Latch). cond (is_data x) DataOutput Unaffected) (sym (asked refl))) (plain_choice (is_data la) DataOutput Unaffected refl refl)

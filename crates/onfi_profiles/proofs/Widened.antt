@@ -1,22 +1,22 @@
 -- The wider profile permits what the base profile does, and a LUN that drives alone shows the same.
-use Rattle.std.proofs.Common.{◌≡◌, ℕ, zero, suc, ◌+◌, ◌<◌, ◌==◌, Bool, true, false, ◌&&◌, ◌||◌, cond, not, nat_le, List, [], ◌∷◌, map, Option, Some, None, refl, sym, ap, subst, ◌∙◌, arith}
+use Rattle.std.proofs.Common.{◌≡◌, ℕ, zero, suc, ◌+◌, ◌/◌, ◌%◌, ◌<◌, ◌==◌, Bool, true, false, ◌&&◌, ◌||◌, cond, not, nat_le, List, [], ◌∷◌, map, Option, Some, None, refl, sym, ap, subst, ◌∙◌, arith}
 use Rattle.std.proofs.Math.Bool.{and-false}
-use Rattle.std.specs.List.{list_any}
+use Rattle.std.specs.List.{list_any, slice_get}
 use Rattle.std.specs.Option.{is_none}
 use Rattle.std.proofs.lemmas.Bool.{and_parts, and_from, or_parts, not-false}
 use Rattle.nand_geometry.specs.declared.parts.Parts.{Parts}
-use Rattle.nand_geometry.specs.Optional.{is_wide}
-use Rattle.nand_geometry.specs.Limits.{page_len}
+use Rattle.nand_geometry.specs.Optional.{is_wide, has_free_blocks}
+use Rattle.nand_geometry.specs.Limits.{page_len, planes}
 use Rattle.nand_geometry.specs.Row.{parts_of}
 use Rattle.onfi_cycle.specs.declared.command.Command.{Command}
-use Rattle.onfi_cycle.specs.declared.command.Command.TheVariants.{Read, ChangeReadColumn, ReadStatus, ReadId, ReadParameterPage, BlockErase, PageProgram, ReadStatusEnhanced, BlockErasePlane, ProgramPlane, ReadCacheSequential, ReadCacheEnd, ReadUniqueId, GetFeatures, SetFeatures, ResetLun, SynchronousReset, ReadConfirm, ChangeReadColumnEnhanced}
+use Rattle.onfi_cycle.specs.declared.command.Command.TheVariants.{Read, ChangeReadColumn, ReadStatus, ReadId, ReadParameterPage, BlockErase, PageProgram, ReadStatusEnhanced, BlockErasePlane, ProgramPlane, ReadCacheSequential, ReadCacheEnd, ReadUniqueId, GetFeatures, SetFeatures, ResetLun, SynchronousReset, ReadConfirm, ChangeReadColumnEnhanced, ReadPlane}
 use Rattle.onfi_cycle.specs.declared.item.Item.{Item}
 use Rattle.onfi_cycle.specs.declared.item.Item.TheVariants.{Cyc, Rdy, Ard}
 use Rattle.onfi_cycle.specs.declared.lun.Lun.{Lun}
 use Rattle.onfi_cycle.specs.declared.opening.Opening.{Opening}
 use Rattle.onfi_cycle.specs.declared.page_address.PageAddress.{PageAddress}
 use Rattle.onfi_cycle.specs.declared.queued.Queued.{Queued}
-use Rattle.onfi_cycle.specs.declared.queued.Queued.TheVariants.{Erase, Program}
+use Rattle.onfi_cycle.specs.declared.queued.Queued.TheVariants.{Erase, Program, Read as QueuedRead}
 use Rattle.onfi_cycle.specs.declared.register.Register.{Register}
 use Rattle.onfi_cycle.specs.declared.register.Register.TheVariants.{Empty, Page, ParameterPage, Identifier, Identity, JedecIdentity, UniqueId, Features}
 use Rattle.onfi_cycle.specs.declared.effect.Effect.{Effect}
@@ -30,9 +30,9 @@ use Rattle.onfi_cycle.specs.LunView.{LunView}
 use Rattle.onfi_cycle.specs.Command.{is_known, is_opener, is_read_id, is_reset, at_last_row, is_change_read_column, addresses_the_array, reads_identity, wants_ready, wants_one_lun, is_enhanced_column}
 use Rattle.onfi_cycle.specs.Sequence.{opened, opening, filled, tail, facts_of, target_of, target_cycle, is_open, wants_address, row_with, column_with, works_on_row, wants_command, row}
 use Rattle.onfi_cycle.specs.Effect.{is_off, is_data, is_shared, page_address}
-use Rattle.onfi_cycle.specs.Lun.{output_column, effect_on, drivers, drivers_from, is_only, closer, is_target_work, is_busy, lun_view, views_from, luns_of, is_page_read}
+use Rattle.onfi_cycle.specs.Lun.{output_column, effect_on, drivers, drivers_from, is_only, closer, is_target_work, is_busy, lun_view, views_from, luns_of}
 use Rattle.onfi_cycle.specs.Content.{ArrayWork, queued_work_after, queued_work, pending_work_after, pending_work, content_after, content, failed_after, has_failed, register_bytes, byte_at, shown_by, shown}
-use Rattle.onfi_cycle.specs.Rules.{has_some, driving, only, is_some_and, lun_is, ends_row, works_for_target, is_unclear, may_change_column, has_no_byte, caching, continues_cache, ends_cache, driver_is, named_lun_is, register_len, is_past, is_past_register, queued_clashes, some_queued_clashes, refused_by, is_refused_by, is_undeclared, second_of_page, second_column, breaks_not_there, breaks_command_unknown, breaks_sequence_open, breaks_several_luns, breaks_no_column_to_change, breaks_address_misplaced, breaks_row_outside, breaks_lun_busy, breaks_queue_clash, breaks_no_sole_driver, breaks_data_not_ready, breaks_column_outside, breaks_cache_read_misplaced, excludes_cache, breaks_plane_not_held, holds_plane_of}
+use Rattle.onfi_cycle.specs.Rules.{has_some, has_read_one, planes_clash, read_clashes, driving, only, is_some_and, lun_is, ends_row, works_for_target, is_unclear, may_change_column, has_no_byte, caching, continues_cache, ends_cache, driver_is, named_lun_is, register_len, is_past, is_past_register, queued_clashes, refused_by, is_refused_by, is_undeclared, second_of_page, second_column, breaks_not_there, breaks_command_unknown, breaks_sequence_open, breaks_several_luns, breaks_no_column_to_change, breaks_address_misplaced, breaks_row_outside, breaks_lun_busy, breaks_queue_clash, breaks_no_sole_driver, breaks_data_not_ready, breaks_column_outside, breaks_cache_read_misplaced, excludes_cache, breaks_plane_not_held, holds_plane_of}
 use Rattle.onfi_cycle.specs.Permitted.{judge_cycle, judge_item, judge, broken, is_permitted, is_legal}
 use Rattle.onfi_cycle.proofs.Others.{first_passed, chosen_else}
 use Rattle.onfi_cycle.proofs.Passed.{KeepsRules, keeps_rules, permitted_keeps}
@@ -54,6 +54,7 @@ fits g ProgramPlane h = h
 fits g ReadCacheSequential h = h
 fits g ReadCacheEnd h = h
 fits g ChangeReadColumnEnhanced h = let no : true ≡ false = h in cc
+fits g ReadPlane h = let no : true ≡ false = h in cc
 fits g ReadUniqueId h = let no : true ≡ false = h in cc
 fits g GetFeatures h = let no : true ≡ false = h in cc
 fits g SetFeatures h = let no : true ≡ false = h in cc
@@ -107,21 +108,53 @@ len_same g JedecIdentity = refl
 len_same g UniqueId = refl
 len_same g (Features a) = refl
 
-clashes_same : (g : Parts) (erase : Bool) (p : PageAddress) (q : Queued) → queued_clashes (in_base g) erase p q ≡ queued_clashes g erase p q
-clashes_same g erase p (Erase q) = refl
-clashes_same g erase p (Program q) = refl
+-- rows of one queue that go together in the base profile go together
+less_clash : (a b f x : Bool) → (a || b || x) ≡ false → (a || b || (not f && x)) ≡ false
+less_clash true b f x h = cc
+less_clash false true f x h = cc
+less_clash false false true x h = refl
+less_clash false false false x h = h
 
-some_same : (g : Parts) (erase : Bool) (p : PageAddress) (q : List Queued) → some_queued_clashes (in_base g) erase p q ≡ some_queued_clashes g erase p q
-some_same g erase p q = λ i. list_any (λ c. clashes_same g erase p c i) q
+planes_less : (g : Parts) (p q : PageAddress) → planes_clash (in_base g) p q ≡ false → planes_clash g p q ≡ false
+planes_less g p q h = less_clash (p.block % planes g == q.block % planes g) (not (p.page == q.page)) (has_free_blocks g.optional) (not (p.block / planes g == q.block / planes g)) h
 
-refused_same : (g : Parts) (c : Command) (p : PageAddress) (q : List Queued) → refused_by (in_base g) c p q ≡ refused_by g c p q
-refused_same g Read p q = refl
-refused_same g BlockErase p q = some_same g true p q
-refused_same g PageProgram p q = some_same g false p q
-refused_same g c p q = refl
+less_else : (e a b : Bool) → (a ≡ false → b ≡ false) → (e || a) ≡ false → (e || b) ≡ false
+less_else true a b f h = cc
+less_else false a b f h = f h
 
-is_refused_same : (g : Parts) (o : Option Opening) (p : PageAddress) (q : List Queued) → is_refused_by (in_base g) o p q ≡ is_refused_by g o p q
-is_refused_same g o p q = λ i. opened (λ c n. at_last_row c n && refused_same g c p q i) o
+less_too : (e a b : Bool) → (a ≡ false → b ≡ false) → (e && a) ≡ false → (e && b) ≡ false
+less_too true a b f h = f h
+less_too false a b f h = refl
+
+queued_less : (g : Parts) (erase : Bool) (p : PageAddress) (q : Queued) → queued_clashes (in_base g) erase p q ≡ false → queued_clashes g erase p q ≡ false
+queued_less g erase p (Erase q) h = less_else (not erase) (planes_clash (in_base g) p q) (planes_clash g p q) (planes_less g p q) h
+queued_less g erase p (Program q) h = less_else erase (planes_clash (in_base g) p q) (planes_clash g p q) (planes_less g p q) h
+queued_less g erase p (QueuedRead q) h = cc
+
+read_less : (g : Parts) (p : PageAddress) (q : Queued) → read_clashes (in_base g) p q ≡ false → read_clashes g p q ≡ false
+read_less g p (Erase q) h = cc
+read_less g p (Program q) h = cc
+read_less g p (QueuedRead q) h = let no : true ≡ false = h in cc
+
+any_less : (test less : Queued → Bool) → ((q : Queued) → test q ≡ false → less q ≡ false) → (queue : List Queued) → list_any test queue ≡ false → list_any less queue ≡ false
+any_less test less f [] h = refl
+any_less test less f (q ∷ queue) h =
+    let parts = or_parts (test q) (list_any test queue) h in
+    rw (f q parts.0, any_less test less f queue parts.1) refl
+
+refused_less : (g : Parts) (c : Command) (p : PageAddress) (queue : List Queued) → refused_by (in_base g) c p queue ≡ false → refused_by g c p queue ≡ false
+refused_less g Read p queue h = any_less (read_clashes (in_base g) p) (read_clashes g p) (read_less g p) queue h
+refused_less g BlockErase p queue h = any_less (queued_clashes (in_base g) true p) (queued_clashes g true p) (queued_less g true p) queue h
+refused_less g PageProgram p queue h = any_less (queued_clashes (in_base g) false p) (queued_clashes g false p) (queued_less g false p) queue h
+refused_less g c p queue h = refl
+
+is_refused_less : (g : Parts) (o : Option Opening) (p : PageAddress) (queue : List Queued) → is_refused_by (in_base g) o p queue ≡ false → is_refused_by g o p queue ≡ false
+is_refused_less g None p queue h = refl
+is_refused_less g (Some o) p queue h = less_too (at_last_row o.opener o.addresses) (refused_by (in_base g) o.opener p queue) (refused_by g o.opener p queue) (refused_less g o.opener p queue) h
+
+some_less : (test less : LunView → Bool) → ((v : LunView) → test v ≡ false → less v ≡ false) → (o : Option LunView) → is_some_and test o ≡ false → is_some_and less o ≡ false
+some_less test less f None h = refl
+some_less test less f (Some v) h = f v h
 
 several_same : (g : Parts) → is_shared g ≡ false → (luns : List LunView) (k : TargetCycle) → breaks_several_luns (in_base g) luns k ≡ breaks_several_luns g luns k
 unfolding breaks_several_luns
@@ -144,12 +177,14 @@ busy_same g narrow t luns (AddressCycle byte) = rw narrow refl
 busy_same g narrow t luns (InputCycle byte) = refl
 busy_same g narrow t luns OutputCycle = refl
 
-clash_same : (g : Parts) (t : TailFacts) (luns : List LunView) (k : TargetCycle) → breaks_queue_clash (in_base g) t luns k ≡ breaks_queue_clash g t luns k
+clash_wider : (g : Parts) (t : TailFacts) (luns : List LunView) (k : TargetCycle) → breaks_queue_clash (in_base g) t luns k ≡ false → breaks_queue_clash g t luns k ≡ false
 unfolding breaks_queue_clash
-clash_same g t luns (CommandCycle c) = refl
-clash_same g t luns (AddressCycle byte) = λ i. named_lun_is g (row_with t byte) (λ v. is_refused_same g t.opening (page_address g (row_with t byte)) v.queue i) luns
-clash_same g t luns (InputCycle byte) = refl
-clash_same g t luns OutputCycle = refl
+clash_wider g t luns (CommandCycle c) h = h
+clash_wider g t luns (AddressCycle byte) h =
+    some_less (λ v. is_refused_by (in_base g) t.opening (page_address g (row_with t byte)) v.queue) (λ v. is_refused_by g t.opening (page_address g (row_with t byte)) v.queue)
+    (λ v refused. is_refused_less g t.opening (page_address g (row_with t byte)) v.queue refused) (slice_get luns (parts_of g (row_with t byte)).lun) h
+clash_wider g t luns (InputCycle byte) h = refl
+clash_wider g t luns OutputCycle h = refl
 
 column_same_too : (g : Parts) (t : TailFacts) (luns : List LunView) (k : TargetCycle) → breaks_column_outside (in_base g) t luns k ≡ breaks_column_outside g t luns k
 unfolding breaks_column_outside
@@ -159,19 +194,9 @@ column_same_too g t luns (AddressCycle byte) = λ i.
 column_same_too g t luns (InputCycle byte) = refl
 column_same_too g t luns OutputCycle = λ i. driver_is (λ v. is_data v.latch && is_past (output_column v.column) (len_same g v.register i)) luns
 
-holds_same : (g : Parts) (p : PageAddress) (r : Register) → holds_plane_of (in_base g) p r ≡ holds_plane_of g p r
-holds_same g p Empty = refl
-holds_same g p (Page q) = refl
-holds_same g p ParameterPage = refl
-holds_same g p Identifier = refl
-holds_same g p Identity = refl
-holds_same g p JedecIdentity = refl
-holds_same g p UniqueId = refl
-holds_same g p (Features a) = refl
-
 plane_same : (g : Parts) (t : TailFacts) (luns : List LunView) (k : TargetCycle) → breaks_plane_not_held (in_base g) t luns k ≡ breaks_plane_not_held g t luns k
 unfolding breaks_plane_not_held
-plane_same g t luns (AddressCycle byte) = λ i. ends_row is_enhanced_column t && named_lun_is g (row_with t byte) (λ v. not (holds_same g (page_address g (row_with t byte)) v.register i)) luns
+plane_same g t luns (AddressCycle byte) = refl
 plane_same g t luns (CommandCycle c) = refl
 plane_same g t luns (InputCycle byte) = refl
 plane_same g t luns OutputCycle = refl
@@ -209,7 +234,7 @@ wider g narrow t luns k free h =
       f7 = address_too g t k r.f7;
       f8 = sym (row_same g t k) ∙ r.f8;
       f9 = sym (busy_same g narrow t luns k) ∙ r.f9;
-      f10 = sym (clash_same g t luns k) ∙ r.f10;
+      f10 = clash_wider g t luns k r.f10;
       f11 = r.f11;
       f12 = r.f12;
       f13 = r.f13;
@@ -375,10 +400,11 @@ cache_too : (g : Parts) (t : TailFacts) (bs ws : List LunView) (k : TargetCycle)
 unfolding breaks_cache_read_misplaced
 cache_too g t bs ws (CommandCycle ReadCacheSequential) s h =
     let unless : not (driver_is (continues_cache g) bs) ≡ false = chosen_else (wants_command t ReadCacheSequential) _ _ h (s.alone refl) in
-    ap (λ (w : Bool). cond w (not (named_lun_is g (row t) (λ v. is_page_read v.closer) ws)) (not (driver_is (continues_cache g) ws))) (s.alone refl)
+    ap (λ (w : Bool). cond w (not (named_lun_is g (row t) has_read_one ws)) (not (driver_is (continues_cache g) ws))) (s.alone refl)
     ∙ (ap not (driver_by (continues_cache g) (λ v. refl) bs ws (s.shown refl)) ∙ unless)
 cache_too g t bs ws (CommandCycle ReadConfirm) s h =
     ap (λ (b : Bool). is_wide g.optional && b) (lun_by core caching (λ v. refl) bs ws s.cores (parts_of g (row t)).lun) ∙ h
+cache_too g t bs ws (CommandCycle ReadPlane) s h = lun_by core caching (λ v. refl) bs ws s.cores (parts_of g (row t)).lun ∙ h
 cache_too g t bs ws (CommandCycle ReadCacheEnd) s h = ap not (driver_by ends_cache (λ v. refl) bs ws (s.shown refl)) ∙ h
 cache_too g t bs ws (CommandCycle c) s h = none_of (reads_identity c) (list_any caching ws) (identity_is_of_one c s.one)
 cache_too g t bs ws (AddressCycle byte) s h = ap (λ (b : Bool). ends_row (excludes_cache g) t && b) (lun_by core caching (λ v. refl) bs ws s.cores (parts_of g (row_with t byte)).lun) ∙ h
@@ -389,7 +415,7 @@ plane_too : (g : Parts) (t : TailFacts) (bs ws : List LunView) (k : TargetCycle)
 unfolding breaks_plane_not_held
 plane_too g t bs ws (AddressCycle byte) s h =
     ap (λ (b : Bool). ends_row is_enhanced_column t && b)
-    (lun_by core (λ v. not (holds_plane_of g (page_address g (row_with t byte)) v.register)) (λ v. refl) bs ws s.cores (parts_of g (row_with t byte)).lun) ∙ h
+    (lun_by core (λ v. not (holds_plane_of g (page_address g (row_with t byte)) v)) (λ v. refl) bs ws s.cores (parts_of g (row_with t byte)).lun) ∙ h
 plane_too g t bs ws (CommandCycle c) s h = refl
 plane_too g t bs ws (InputCycle byte) s h = refl
 plane_too g t bs ws OutputCycle s h = refl
@@ -406,7 +432,7 @@ wider_shared g shared t bs ws k r s =
       f7 = address_too g t k r.f7;
       f8 = sym (row_same g t k) ∙ r.f8;
       f9 = busy_too g t bs ws k s r.f9;
-      f10 = clash_too g t bs ws k s (sym (clash_same g t bs k) ∙ r.f10);
+      f10 = clash_too g t bs ws k s (clash_wider g t bs k r.f10);
       f11 = r.f11;
       f12 = sole_too g t bs ws k s r.f12;
       f13 = ready_too g t bs ws k s r.f13;

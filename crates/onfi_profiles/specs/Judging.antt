@@ -1,23 +1,27 @@
 -- How the base profile judged before there was a wider one. Rules whose definitions haven't changed since stand here by their names.
-use Rattle.std.specs.Prelude.{◌≡◌, ℕ, Bool, true, false, ◌&&◌, ◌||◌, not, nat_lt, nat_le, if◌then◌else◌, List, Option, Some, None}
+use Rattle.std.specs.Prelude.{◌≡◌, ℕ, ◌+◌, ◌/◌, ◌%◌, ◌==◌, Bool, true, false, ◌&&◌, ◌||◌, not, nat_lt, nat_le, if◌then◌else◌, List, Option, Some, None}
 use Rattle.std.specs.List.{list_any}
 use Rattle.nand_geometry.specs.declared.parts.Parts.{Parts}
-use Rattle.nand_geometry.specs.Limits.{page_len}
+use Rattle.nand_geometry.specs.Limits.{page_len, planes}
 use Rattle.onfi_cycle.specs.declared.command.Command.{Command}
-use Rattle.onfi_cycle.specs.declared.command.Command.TheVariants.{BlockErasePlane, ReadStatusEnhanced, ProgramPlane, ReadCacheSequential, ReadCacheEnd}
+use Rattle.onfi_cycle.specs.declared.command.Command.TheVariants.{Read, BlockErase, PageProgram, BlockErasePlane, ReadStatusEnhanced, ProgramPlane, ReadCacheSequential, ReadCacheEnd}
 use Rattle.onfi_cycle.specs.declared.forbidden.Forbidden.{Forbidden}
 use Rattle.onfi_cycle.specs.declared.forbidden.Forbidden.TheVariants.{NotThere, CommandUnknown, SequenceOpen, SeveralLuns, NoColumnToChange, CommandMisplaced, AddressMisplaced, RowOutside, LunBusy, QueueClash, InputMisplaced, NoSoleDriver, DataNotReady, ColumnOutside, CacheReadMisplaced}
 use Rattle.onfi_cycle.specs.declared.item.Item.{Item}
 use Rattle.onfi_cycle.specs.declared.item.Item.TheVariants.{Cyc, Rdy, Ard}
+use Rattle.onfi_cycle.specs.declared.page_address.PageAddress.{PageAddress}
+use Rattle.onfi_cycle.specs.declared.queued.Queued.{Queued}
+use Rattle.onfi_cycle.specs.declared.queued.Queued.TheVariants.{Erase, Program, Read as QueuedRead}
 use Rattle.onfi_cycle.specs.declared.tail_facts.TailFacts.{TailFacts}
 use Rattle.onfi_cycle.specs.declared.target_cycle.TargetCycle.{TargetCycle}
 use Rattle.onfi_cycle.specs.declared.target_cycle.TargetCycle.TheVariants.{CommandCycle, AddressCycle, InputCycle, OutputCycle}
+use Rattle.onfi_cycle.specs.Effect.{page_address}
 use Rattle.onfi_cycle.specs.LunView.{LunView}
 use Rattle.onfi_cycle.specs.Base.{is_of_base}
-use Rattle.onfi_cycle.specs.Command.{is_opener, is_change_read_column, addresses_the_array, reads_identity, wants_ready, wants_one_lun}
-use Rattle.onfi_cycle.specs.Sequence.{target_of, target_cycle, row_with, column_with, input_column}
-use Rattle.onfi_cycle.specs.Lun.{luns_of}
-use Rattle.onfi_cycle.specs.Rules.{driver_is, is_past_register, register_len, second_of_page, second_column, ends_row, named_lun_is, breaks_not_there, breaks_no_column_to_change, breaks_row_outside, breaks_queue_clash, breaks_data_not_ready, caching, continues_cache, ends_cache}
+use Rattle.onfi_cycle.specs.Command.{is_opener, at_last_row, is_change_read_column, addresses_the_array, reads_identity, wants_ready, wants_one_lun}
+use Rattle.onfi_cycle.specs.Sequence.{opened, target_of, target_cycle, row_with, column_with, input_column}
+use Rattle.onfi_cycle.specs.Lun.{luns_of, is_page_read}
+use Rattle.onfi_cycle.specs.Rules.{driver_is, is_past_register, register_len, second_of_page, second_column, ends_row, named_lun_is, breaks_not_there, breaks_no_column_to_change, has_some, breaks_row_outside, breaks_data_not_ready, caching, ends_cache}
 use Rattle.onfi_cycle.specs.Permitted.{is_legal, broken}
 use Rattle.onfi_profiles.specs.Tails.{base_takes_inputs, base_wants_address, base_wants_command, base_is_open, base_facts}
 use Rattle.onfi_profiles.specs.Widening.{in_base}
@@ -61,6 +65,31 @@ base_lun_busy g t luns (CommandCycle c) = wants_ready c && not (list_any (λ v. 
 base_lun_busy g t luns (AddressCycle byte) = ends_row addresses_the_array t && named_lun_is g (row_with t byte) (λ v. v.busy) luns
 base_lun_busy g t luns _ = false
 
+-- two pages of one queue don't go together: the same plane, another page or other block bits above the plane
+abbrev pub base_planes_clash : Parts → PageAddress → PageAddress → Bool
+base_planes_clash g p q =
+    p.block % planes g == q.block % planes g || not (p.page == q.page) || not (p.block / planes g == q.block / planes g)
+
+-- a queued row doesn't go together with an erase of this page, or with a program of it
+abbrev pub base_queued_clashes : Parts → (erase : Bool) → PageAddress → Queued → Bool
+base_queued_clashes g erase p (Erase q) = not erase || base_planes_clash g p q
+base_queued_clashes g erase p (Program q) = erase || base_planes_clash g p q
+base_queued_clashes g erase p (QueuedRead q) = true
+
+-- a queue refuses the last row cycle of this opener, with this page
+abbrev pub base_refused_by : Parts → Command → PageAddress → List Queued → Bool
+base_refused_by g Read p q = has_some q
+base_refused_by g BlockErase p q = list_any (base_queued_clashes g true p) q
+base_refused_by g PageProgram p q = list_any (base_queued_clashes g false p) q
+base_refused_by g _ p q = false
+
+-- F10
+abbrev pub base_queue_clash : Parts → TailFacts → List LunView → TargetCycle → Bool
+base_queue_clash g t luns (CommandCycle c) = reads_identity c && list_any (λ v. has_some v.queue) luns
+base_queue_clash g t luns (AddressCycle byte) =
+    named_lun_is g (row_with t byte) (λ v. opened (λ c n. at_last_row c n && base_refused_by g c (page_address g (row_with t byte)) v.queue) t.opening) luns
+base_queue_clash g t luns _ = false
+
 -- F11
 abbrev pub base_input_misplaced : TailFacts → TargetCycle → Bool
 base_input_misplaced t (InputCycle byte) = not (base_takes_inputs t.phase)
@@ -79,9 +108,13 @@ base_column_outside g t luns (InputCycle byte) = nat_le (page_len g) (input_colu
 base_column_outside g t luns OutputCycle = driver_is (is_past_register g) luns
 base_column_outside g t luns (CommandCycle c) = false
 
+-- a page was read, and the block has a page after it
+abbrev pub base_continues_cache : Parts → LunView → Bool
+base_continues_cache g v = not v.busy && (is_page_read v.closer && nat_lt (v.array_page.page + 1) g.pages)
+
 -- F15
 abbrev pub base_cache_read_misplaced : Parts → TailFacts → List LunView → TargetCycle → Bool
-base_cache_read_misplaced g t luns (CommandCycle ReadCacheSequential) = not (driver_is (continues_cache g) luns)
+base_cache_read_misplaced g t luns (CommandCycle ReadCacheSequential) = not (driver_is (base_continues_cache g) luns)
 base_cache_read_misplaced g t luns (CommandCycle ReadCacheEnd) = not (driver_is ends_cache luns)
 base_cache_read_misplaced g t luns (CommandCycle c) = reads_identity c && list_any caching luns
 base_cache_read_misplaced g t luns (AddressCycle byte) = ends_row addresses_the_array t && named_lun_is g (row_with t byte) caching luns
@@ -97,7 +130,7 @@ base_judge_cycle g t luns cycle =
     else (if base_address_misplaced t cycle then Some AddressMisplaced
     else (if breaks_row_outside g t cycle then Some RowOutside
     else (if base_lun_busy g t luns cycle then Some LunBusy
-    else (if breaks_queue_clash g t luns cycle then Some QueueClash
+    else (if base_queue_clash g t luns cycle then Some QueueClash
     else (if base_input_misplaced t cycle then Some InputMisplaced
     else (if base_no_sole_driver t luns cycle then Some NoSoleDriver
     else (if breaks_data_not_ready luns cycle then Some DataNotReady

@@ -38,7 +38,7 @@ pub struct OnfiseqSample {
 /// The version of these calls and records, which counts up where one changes, and their sizes.
 #[unsafe(no_mangle)]
 pub extern "C" fn onfiseq_sizes() -> OnfiseqAbi
-    ensures { result.version ≡ 2 }
+    ensures { result.version ≡ 3 }
 {
     OnfiseqAbi {
         version: VERSION,

@@ -13,9 +13,9 @@ use bus_record::{
 };
 
 // How many bytes the record of a channel has, and the version of the calls and records.
-const BUS_BYTES: usize = 2120;
+const BUS_BYTES: usize = 3272;
 
-pub(crate) const VERSION: u32 = 2;
+pub(crate) const VERSION: u32 = 3;
 
 /// Begins a channel of so many targets of this geometry, to which nothing has happened: 0, and its record is written. Else the record stays as it was, and the
 /// answer is 4401h where it has another size or version than those of this library, 5400h where the targets aren't 1 to 4, and 5000h and n for the fault Pn
@@ -28,7 +28,7 @@ pub extern "C" fn onfiseq_begin_sized(
     geometry: &OnfiseqGeometry,
     targets: u8,
 ) -> u32
-    ensures answer { result ≡ (if size == 2120 && version == 2 then begin_code (parts_of geometry.now) targets else 0x4401) }
+    ensures answer { result ≡ (if size == 3272 && version == 3 then begin_code (parts_of geometry.now) targets else 0x4401) }
     ensures begins { result ≡ 0 → Follows (parts_of geometry.now) targets (bus_view bus.new) [] }
     ensures sound { result ≡ 0 → IsSound bus.new }
     ensures magic { result ≡ 0 → is_bus bus.new ≡ true }

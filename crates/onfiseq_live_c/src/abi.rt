@@ -34,7 +34,7 @@ pub struct OnfiseqLiveSample {
 /// The version of these calls and records, which counts up where one changes, and their sizes.
 #[unsafe(no_mangle)]
 pub extern "C" fn onfiseq_live_sizes() -> OnfiseqLiveAbi
-    ensures { result.version ≡ 2 }
+    ensures { result.version ≡ 3 }
 {
     OnfiseqLiveAbi {
         version: VERSION,

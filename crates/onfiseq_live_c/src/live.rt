@@ -93,9 +93,9 @@ impl OnfiseqLive {
 }
 
 // How many bytes the record of such a channel has, and the version of the calls and records.
-const LIVE_BYTES: usize = 2128;
+const LIVE_BYTES: usize = 3280;
 
-pub(crate) const VERSION: u32 = 2;
+pub(crate) const VERSION: u32 = 3;
 
 /// Begins a channel of so many targets of this geometry, to which nothing has happened, and on which no job runs: 0, and its record is written. Else the record
 /// stays as it was, and the answer is 4401h where it has another size or version than those of this library, 5400h where the targets aren't 1 to 4, and 5000h
@@ -108,7 +108,7 @@ pub extern "C" fn onfiseq_live_begin_sized(
     geometry: &OnfiseqGeometry,
     targets: u8,
 ) -> u32
-    ensures answer { result ≡ (if size == 2128 && version == 2 then begin_code (parts_of geometry.now) targets else 0x4401) }
+    ensures answer { result ≡ (if size == 3280 && version == 3 then begin_code (parts_of geometry.now) targets else 0x4401) }
     ensures begins { result ≡ 0 → Follows (parts_of geometry.now) targets (state_of live.new) [] }
     ensures live { result ≡ 0 → is_live live.new ≡ true }
     ensures free { result ≡ 0 → holder_of live.new ≡ None }

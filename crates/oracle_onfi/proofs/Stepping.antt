@@ -58,7 +58,7 @@ luns_length g past ce = views_length g past ce g.luns 0
 pub column_short : (e : Effect) (k : ReadColumn) → (read_column_after e k).outputs ≤ k.outputs + 1
 column_short (ReadStarted at from) k = omega arith
 column_short (ReadColumnChanged from) k = omega arith
-column_short (PlaneSelected from) k = omega arith
+column_short (PlaneSelected plane planes from) k = omega arith
 column_short IdRead k = omega arith
 column_short (IdentityRead jedec) k = omega arith
 column_short ParameterPageReadStarted k = omega arith

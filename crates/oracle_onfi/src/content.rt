@@ -120,7 +120,8 @@ fn queued_work_after(
             works.insert(0, program_of(page, bytes))?;
             Ok(works)
         }
-        Effect::EraseStarted { .. }
+        Effect::ReadStarted { .. }
+        | Effect::EraseStarted { .. }
         | Effect::ProgramStarted { .. }
         | Effect::ResetStarted
         | Effect::TargetResetStarted { .. } => Ok(Vec::new(alloc)),
@@ -174,6 +175,7 @@ fn pending_work_after(
         Effect::EraseStarted { .. }
         | Effect::ProgramStarted { .. }
         | Effect::ReadStarted { .. }
+        | Effect::ReadQueued { .. }
         | Effect::ParameterPageReadStarted
         | Effect::UniqueIdReadStarted
         | Effect::FeaturesReadStarted { .. }

@@ -3,13 +3,13 @@ ghost use Rattle.std.specs.Prelude.{[], ◌≡◌, ◌+◌, ◌^◌, ◌<◌, �
 ghost use Rattle.onfi_cycle.specs.declared.lun.Lun.{Lun};
 ghost use Rattle.onfi_cycle.specs.Effect.{IsSmallEffect};
 ghost use Rattle.onfi_cycle.specs.Sequence.{AreSmall, tail, facts_of};
-ghost use Rattle.onfi_cycle.specs.Lun.{latch, drivers, is_only, latch_alone, effect_on, is_busy, closer, is_caching, is_array_busy, array_page, register, read_column, queue, queue_after, first_view, lun_view, luns_of, works};
+ghost use Rattle.onfi_cycle.specs.Lun.{latch, drivers, is_only, latch_alone, effect_on, is_busy, closer, is_caching, is_array_busy, array_page, register, read_column, queue, queue_after, held_after, first_view, lun_view, luns_of, works};
 ghost use Rattle.oracle_onfi.specs.Stepped.{IsShort, AreShort, given_alone, facts_by, stepped, stepped_from, firsts_from, numbers_from};
 
 use nand_geometry::Geometry;
 use onfi_cycle::{
-    Command, Effect, Item, Latch, Lun, LunFacts, PageAddress, Queued, ReadColumn, Register,
-    TailFacts, TargetCycle, is_cache_read, item_effect,
+    Command, Effect, HeldPages, Item, Latch, Lun, LunFacts, PageAddress, Queued, ReadColumn,
+    Register, TailFacts, TargetCycle, apply_to_held, is_cache_read, item_effect,
 };
 use std::alloc::{AllocError, Global};
 
@@ -56,6 +56,7 @@ fn first_facts(alloc: Global, number: u8) -> LunFacts<Vec<Queued>>
             lost: false,
         },
         queue: Vec::new(alloc),
+        held: HeldPages::new(),
     }
 }
 
@@ -83,7 +84,9 @@ fn queue_after(alloc: Global, effect: Effect, before: &[Queued]) -> Result<Vec<Q
     let more = match effect {
         Effect::EraseStarted { queued: true, row } => Queued::Erase(row),
         Effect::ProgramStarted { queued: true, page } => Queued::Program(page),
-        Effect::EraseStarted { .. }
+        Effect::ReadQueued { page } => Queued::Read(page),
+        Effect::ReadStarted { .. }
+        | Effect::EraseStarted { .. }
         | Effect::ProgramStarted { .. }
         | Effect::ResetStarted
         | Effect::TargetResetStarted { .. } => {
@@ -96,8 +99,21 @@ fn queue_after(alloc: Global, effect: Effect, before: &[Queued]) -> Result<Vec<Q
     Ok(queue)
 }
 
+fn held_after(effect: Effect, before: &LunFacts<Vec<Queued>>) -> Result<HeldPages, AllocError>
+    ensures { IfOk result (λ v. v.items ≡ held_after effect before.now.array_page before.now.queue before.now.held) }
+{
+    let mut held = before.held.clone()?;
+    apply_to_held(
+        &mut held,
+        effect,
+        before.array_page,
+        before.queue.as_slice(),
+    );
+    Ok(held)
+}
+
 /// What an item leaves of a LUN that showed this before it, and alone that.
-#[tactic(auto, using(crate::proofs::Stepping::column_short))]
+#[tactic(auto, using(crate::proofs::Stepping::column_short, onfi_cycle::proofs::HeldPages::has_planes))]
 fn facts_after(
     alloc: Global,
     given: Effect,
@@ -121,9 +137,15 @@ fn facts_after(
         closer: effect.closer_after(before.closer),
         array_busy: effect.array_busy_after(before.busy, caching, before.array_busy),
         array_page: effect.array_page_after(before.array_page),
-        register: effect.register_after(before.array_page, before.register),
+        register: effect.register_after(
+            before.array_page,
+            before.queue.as_slice(),
+            before.held.as_slice(),
+            before.register,
+        ),
         column: effect.read_column_after(before.column),
         queue: queue_after(alloc, effect, before.queue.as_slice())?,
+        held: held_after(effect, before)?,
     })
 }
 

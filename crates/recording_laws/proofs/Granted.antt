@@ -4,7 +4,7 @@ use Rattle.std.proofs.lemmas.Bool.{and_parts, and_from, or_left, or_parts}
 use Rattle.nand_geometry.specs.declared.parts.Parts.{Parts}
 use Rattle.nand_geometry.specs.Row.{parts_of}
 use Rattle.onfi_cycle.specs.declared.command.Command.{Command}
-use Rattle.onfi_cycle.specs.declared.command.Command.TheVariants.{Read, ReadConfirm, ChangeReadColumn, ChangeReadColumnEnhanced, ChangeWriteColumn, BlockErase, PageProgram, ReadId, ReadParameterPage, ReadCacheSequential, ReadCacheEnd, ReadUniqueId, GetFeatures, SetFeatures}
+use Rattle.onfi_cycle.specs.declared.command.Command.TheVariants.{Read, ReadConfirm, ChangeReadColumn, ChangeReadColumnEnhanced, ChangeWriteColumn, BlockErase, PageProgram, ReadId, ReadParameterPage, ReadCacheSequential, ReadCacheEnd, ReadUniqueId, GetFeatures, SetFeatures, ReadPlane}
 use Rattle.onfi_cycle.specs.declared.data_phase.DataPhase.{DataPhase}
 use Rattle.onfi_cycle.specs.declared.data_phase.DataPhase.TheVariants.{Outside, Inputs, FirstColumn, SecondColumn, FeatureInputs}
 use Rattle.onfi_cycle.specs.declared.effect.Effect.TheVariants.{Unaffected, CacheReadContinued, CacheReadEnded, DataOutput}
@@ -78,10 +78,11 @@ sound_after OutputCycle t some h = rw some refl
 
 -- ---- 2. which command may be taken for granted
 
--- 05h, 30h, 31h, 3Fh, and what reads or sets what stands beside the array
+-- 05h, 30h, 32h, 31h, 3Fh, and what reads or sets what stands beside the array
 abbrev pub grants : Command → Bool
 grants ChangeReadColumn = true
 grants ReadConfirm = true
+grants ReadPlane = true
 grants ReadCacheSequential = true
 grants ReadCacheEnd = true
 grants c = reads_identity c
@@ -90,6 +91,7 @@ none_granted : (g : Parts) (t : TailFacts) (ss : List LunView) (c : Command) →
 unfolding breaks_no_column_to_change breaks_no_sole_driver breaks_data_not_ready breaks_column_outside breaks_cache_read_misplaced breaks_plane_not_held
 none_granted g t ss ChangeReadColumn h = cc
 none_granted g t ss ReadConfirm h = cc
+none_granted g t ss ReadPlane h = cc
 none_granted g t ss ReadCacheSequential h = cc
 none_granted g t ss ReadCacheEnd h = cc
 none_granted g t ss ReadId h = cc
@@ -114,6 +116,7 @@ granted_ends c p h = refl
 granted_free : (c : Command) → grants c ≡ true → not (is_led c) ≡ true
 granted_free ChangeReadColumn h = refl
 granted_free ReadConfirm h = refl
+granted_free ReadPlane h = refl
 granted_free ReadCacheSequential h = refl
 granted_free ReadCacheEnd h = refl
 granted_free ReadId h = refl
@@ -123,20 +126,22 @@ granted_free GetFeatures h = refl
 granted_free SetFeatures h = refl
 granted_free c h = cc
 
-pub command_granted : (g : Parts) → is_shared g ≡ false → (t : TailFacts) (la : Latch) (c : Command) (n : ℕ) (s : LunView) → grants c ≡ true → IsHarmless (command_effect g t la c n) s
-command_granted g plain t la ReadConfirm n s h = harmless_or (wants_command t ReadConfirm && names_lun g (row t) n) (confirm_effect g t ReadConfirm) (other_effect g t ReadConfirm) s (λ b. tt) (other_harmless g t ReadConfirm s plain)
-command_granted g plain t la ReadCacheSequential n s h =
+pub command_granted : (g : Parts) → is_shared g ≡ false → (t : TailFacts) (la : Latch) (c : Command) (n : ℕ) (s : LunView) → grants c ≡ true → (c ≡ ReadConfirm → names_lun g (row t) n ≡ true → s.queue ≡ []) → IsHarmless (command_effect g t la c n) s
+command_granted g plain t la ReadConfirm n s h calm =
+    harmless_or (wants_command t ReadConfirm && names_lun g (row t) n) (confirm_effect g t ReadConfirm) (other_effect g t ReadConfirm) s (λ b. calm refl (and_parts (wants_command t ReadConfirm) (names_lun g (row t) n) b).1) (other_harmless g t ReadConfirm s plain)
+command_granted g plain t la ReadPlane n s h calm = harmless_or (wants_command t ReadPlane && names_lun g (row t) n) (confirm_effect g t ReadPlane) (other_effect g t ReadPlane) s (λ b. tt) (other_harmless g t ReadPlane s plain)
+command_granted g plain t la ReadCacheSequential n s h calm =
     harmless_or (wants_command t ReadCacheSequential) (row_effect g t ReadCacheSequential n) (cache_effect la) s
     (λ w. harmless_or (wants_command t ReadCacheSequential && names_lun g (row t) n) (confirm_effect g t ReadCacheSequential) (other_effect g t ReadCacheSequential) s (λ b. tt) (other_harmless g t ReadCacheSequential s plain))
     (harmless_unless (is_off la) (CacheReadContinued None) s tt)
-command_granted g plain t la ReadCacheEnd n s h = harmless_unless (is_off la) CacheReadEnded s tt
-command_granted g plain t la ChangeReadColumn n s h = harmless_if (wants_command t ChangeReadColumn && names_lun g (row t) n) Unaffected s (λ b. tt)
-command_granted g plain t la ReadId n s h = harmless_if (wants_command t ReadId && names_lun g (row t) n) Unaffected s (λ b. tt)
-command_granted g plain t la ReadParameterPage n s h = harmless_if (wants_command t ReadParameterPage && names_lun g (row t) n) Unaffected s (λ b. tt)
-command_granted g plain t la ReadUniqueId n s h = harmless_if (wants_command t ReadUniqueId && names_lun g (row t) n) Unaffected s (λ b. tt)
-command_granted g plain t la GetFeatures n s h = harmless_if (wants_command t GetFeatures && names_lun g (row t) n) Unaffected s (λ b. tt)
-command_granted g plain t la SetFeatures n s h = harmless_if (wants_command t SetFeatures && names_lun g (row t) n) Unaffected s (λ b. tt)
-command_granted g plain t la c n s h = cc
+command_granted g plain t la ReadCacheEnd n s h calm = harmless_unless (is_off la) CacheReadEnded s tt
+command_granted g plain t la ChangeReadColumn n s h calm = harmless_if (wants_command t ChangeReadColumn && names_lun g (row t) n) Unaffected s (λ b. tt)
+command_granted g plain t la ReadId n s h calm = harmless_if (wants_command t ReadId && names_lun g (row t) n) Unaffected s (λ b. tt)
+command_granted g plain t la ReadParameterPage n s h calm = harmless_if (wants_command t ReadParameterPage && names_lun g (row t) n) Unaffected s (λ b. tt)
+command_granted g plain t la ReadUniqueId n s h calm = harmless_if (wants_command t ReadUniqueId && names_lun g (row t) n) Unaffected s (λ b. tt)
+command_granted g plain t la GetFeatures n s h calm = harmless_if (wants_command t GetFeatures && names_lun g (row t) n) Unaffected s (λ b. tt)
+command_granted g plain t la SetFeatures n s h calm = harmless_if (wants_command t SetFeatures && names_lun g (row t) n) Unaffected s (λ b. tt)
+command_granted g plain t la c n s h calm = cc
 
 -- behind such a command nothing is to be seen
 pub command_comes : (g : Parts) (t : TailFacts) (ss : List LunView) (c : Command) → (t.is_empty ≡ false) ⊎ (begins_anew t (CommandCycle c) ≡ true) → grants c ≡ true → MayCome g (facts_after (CommandCycle c) t) ss
@@ -166,6 +171,15 @@ none_queued g r ts ss e h m s found names =
     let here : (parts_of g r).lun ≡ m = eqb-true (parts_of g r).lun m names in
     let at : slice_get ss (parts_of g r).lun ≡ Some s = ap (slice_get ss) here ∙ found in
     calm_at ts ss e m s found (reads_on s.closer (sym (ap (is_some_and caching) at) ∙ h))
+
+-- a 30h that is taken for granted comes to a LUN that is seen to read on
+pub granted_row : (g : Parts) (t : TailFacts) (ts ss : List LunView) (rule : Forbidden) → Each IsBelow ts ss → six_of g t ss (CommandCycle ReadConfirm) ≡ Some rule → NoneQueued g (row t) ss
+unfolding breaks_no_column_to_change breaks_no_sole_driver breaks_data_not_ready breaks_column_outside breaks_cache_read_misplaced breaks_plane_not_held
+granted_row g t ts ss rule each h = at (is_wide g.optional && named_lun_is g (row t) caching ss) refl h
+  where
+    at : (b : Bool) → (is_wide g.optional && named_lun_is g (row t) caching ss) ≡ b → six false false false false b false ≡ Some rule → NoneQueued g (row t) ss
+    at true x f = none_queued g (row t) ts ss each (and_parts (is_wide g.optional) (named_lun_is g (row t) caching ss) x).1
+    at false x f = cc
 
 -- of the address of these openers
 abbrev addresses_quietly : Command → Bool
@@ -239,7 +253,7 @@ plane_quiet c n h = cc
 -- what such an address leaves
 pub record Comes (g : Parts) (t : TailFacts) (ss : List LunView) (cycle : TargetCycle) : Type 0 where
   pub comes : MayCome g (facts_after cycle t) ss
-  pub harmless : (la : Latch) (n : ℕ) (s : LunView) → IsHarmless (cycle_effect g t la cycle n) s
+  pub harmless : (la : Latch) (n : ℕ) (s : LunView) → slice_get ss n ≡ Some s → IsHarmless (cycle_effect g t la cycle n) s
 
 module _ (g : Parts) (t : TailFacts) (ss : List LunView) (byte : ℕ) (some : t.is_empty ≡ false) (sound : is_sound t ≡ true) where
   after_column : (o : Option Opening) → t.opening ≡ o → opened (λ c n. is_change_read_column c && n == 1) o ≡ true → is_sound_by o t.phase ≡ true → Comes g t ss (AddressCycle byte)
@@ -247,7 +261,7 @@ module _ (g : Parts) (t : TailFacts) (ss : List LunView) (byte : ℕ) (some : t.
   after_column (Some o) e h q =
       record {
         comes = rw some (quiet (rw e (column_comes o.opener o.addresses t.phase h q)));
-        harmless = λ la n s. subst (λ (x : Option Opening). IsHarmless (opening_address_effect g t byte x n) s) (sym e) (address_free g t byte o.opener o.addresses n s (column_quiet o.opener o.addresses h));
+        harmless = λ la n s found. subst (λ (x : Option Opening). IsHarmless (opening_address_effect g t byte x n) s) (sym e) (address_free g t byte o.opener o.addresses n s (column_quiet o.opener o.addresses h));
       }
 
   after_row : (o : Option Opening) → t.opening ≡ o → opened (λ c n. excludes_cache g c && at_last_row c n) o ≡ true → is_sound_by o t.phase ≡ true → NoneQueued g (row_with t byte) ss → Comes g t ss (AddressCycle byte)
@@ -255,7 +269,7 @@ module _ (g : Parts) (t : TailFacts) (ss : List LunView) (byte : ℕ) (some : t.
   after_row (Some o) e h q none =
       record {
         comes = rw some (elim (row_comes g o.opener o.addresses t.phase h q) [ inl x ↦ quiet (rw e x) | inr x ↦ named (rw e x) (rw e none) ]);
-        harmless = λ la n s. subst (λ (x : Option Opening). IsHarmless (opening_address_effect g t byte x n) s) (sym e) (address_free g t byte o.opener o.addresses n s (row_quiet g o.opener o.addresses h));
+        harmless = λ la n s found. subst (λ (x : Option Opening). IsHarmless (opening_address_effect g t byte x n) s) (sym e) (address_free g t byte o.opener o.addresses n s (row_quiet g o.opener o.addresses h));
       }
 
   after_plane : (o : Option Opening) → t.opening ≡ o → opened (λ c n. is_enhanced_column c && at_last_row c n) o ≡ true → is_sound_by o t.phase ≡ true → AllNamed g (row_with t byte) ss → Comes g t ss (AddressCycle byte)
@@ -263,7 +277,7 @@ module _ (g : Parts) (t : TailFacts) (ss : List LunView) (byte : ℕ) (some : t.
   after_plane (Some o) e h q all =
       record {
         comes = rw some (selecting (rw e (plane_comes o.opener o.addresses t.phase h q)) (rw e all));
-        harmless = λ la n s. subst (λ (x : Option Opening). IsHarmless (opening_address_effect g t byte x n) s) (sym e) (address_free g t byte o.opener o.addresses n s (plane_quiet o.opener o.addresses h));
+        harmless = λ la n s found. subst (λ (x : Option Opening). IsHarmless (opening_address_effect g t byte x n) s) (sym e) (address_free g t byte o.opener o.addresses n s (plane_quiet o.opener o.addresses h));
       }
 
 pub address_granted : (g : Parts) (t : TailFacts) (ts ss : List LunView) (byte : ℕ) (rule : Forbidden) → Each IsBelow ts ss → KeepsRules g t ts (AddressCycle byte) → t.is_empty ≡ false → is_sound t ≡ true →
@@ -305,5 +319,5 @@ pub output_granted : (g : Parts) (t : TailFacts) (ss : List LunView) → t.is_em
 output_granted g t ss some =
     record {
       comes = rw some (quiet refl);
-      harmless = λ la n s. harmless_if (is_data la) DataOutput s (λ b. tt);
+      harmless = λ la n s found. harmless_if (is_data la) DataOutput s (λ b. tt);
     }

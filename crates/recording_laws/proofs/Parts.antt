@@ -4,6 +4,7 @@ use Rattle.std.proofs.lemmas.Bool.{and_parts}
 use Rattle.std.proofs.lemmas.List.{reverse-append}
 use Rattle.std.proofs.lemmas.Option.{slice_get_within}
 use Rattle.nand_geometry.specs.declared.parts.Parts.{Parts}
+use Rattle.nand_geometry.specs.Optional.{has_plane_reads}
 use Rattle.onfi_cycle.specs.declared.effect.Effect.TheVariants.{BecameReady, ArrayBecameReady}
 use Rattle.onfi_cycle.specs.declared.item.Item.{Item}
 use Rattle.onfi_cycle.specs.declared.item.Item.TheVariants.{Cyc, Rdy, Ard}
@@ -89,7 +90,7 @@ first_plain g past ce few =
     record {
       few = short;
       count = let len = views_length g [] ce g.luns 0 in omega (arith, len);
-      luns = all_nothing (luns_of g past ce) (luns_of g [] ce) short (first_below g past ce g.luns 0);
+      luns = all_nothing (has_plane_reads g.optional) (luns_of g past ce) (luns_of g [] ce) short (first_below g past ce g.luns 0);
       opened = λ h. cc;
       closed = λ h. record { tail = refl; nothing = refl; comes = blank (λ m s found. blank_from g ce g.luns 0 m s found) };
     }

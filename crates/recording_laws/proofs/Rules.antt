@@ -1,10 +1,11 @@
 -- Which rules a permitted cycle may seem to break, by what is seen: those that hang on what was before, and none where all is known.
-use Rattle.std.proofs.Common.{◌≡◌, ◌+◌, Bool, true, false, cond, not, ◌&&◌, ◌||◌, ltb, leb, List, [], ◌∷◌, Option, Some, None, refl, sym, ap, ◌∙◌, true≢false}
+use Rattle.std.proofs.Common.{◌≡◌, ◌+◌, ◌%◌, ◌==◌, Bool, true, false, cond, not, ◌&&◌, ◌||◌, ltb, leb, List, [], ◌∷◌, length, Option, Some, None, refl, sym, ap, ◌∙◌, true≢false}
 use Rattle.std.specs.List.{list_any}
 use Rattle.std.proofs.lemmas.Bool.{and_parts, and_from, and_right, or_left, or_right, or_from, or_parts, not-true, not-false, not_from_true}
 use Rattle.nand_geometry.specs.declared.parts.Parts.{Parts}
+use Rattle.nand_geometry.specs.Limits.{planes}
 use Rattle.onfi_cycle.specs.declared.command.Command.{Command}
-use Rattle.onfi_cycle.specs.declared.command.Command.TheVariants.{Read, ChangeReadColumn, BlockErase, PageProgram, ReadStatus, ReadStatusEnhanced, ReadConfirm, ReadCacheSequential, ReadCacheEnd}
+use Rattle.onfi_cycle.specs.declared.command.Command.TheVariants.{Read, ChangeReadColumn, BlockErase, PageProgram, ReadStatus, ReadStatusEnhanced, ReadConfirm, ReadPlane, ReadCacheSequential, ReadCacheEnd}
 use Rattle.onfi_cycle.specs.declared.forbidden.Forbidden.{Forbidden}
 use Rattle.onfi_cycle.specs.declared.forbidden.Forbidden.TheVariants.{NoColumnToChange, NoSoleDriver, DataNotReady, ColumnOutside, CacheReadMisplaced, PlaneNotHeld}
 use Rattle.onfi_cycle.specs.declared.latch.Latch.{Latch}
@@ -23,7 +24,7 @@ use Rattle.onfi_cycle.specs.Effect.{is_off, is_data, is_shared, page_address}
 use Rattle.onfi_cycle.specs.Lun.{is_cache_read, is_page_read, output_column}
 use Rattle.onfi_cycle.specs.LunView.{LunView}
 use Rattle.onfi_cycle.specs.Permitted.{judge_cycle}
-use Rattle.onfi_cycle.specs.Rules.{is_some_and, driver_is, named_lun_is, ends_row, excludes_cache, holds_plane_of, register_len, is_page_or_parameters, is_empty, lacks, is_past, queued_clashes, has_some, may_change_column, refused_by, is_refused_by, works_for_target, is_unclear, has_no_byte, is_past_register, second_column, second_of_page, caching, continues_cache, ends_cache, breaks_sequence_open, breaks_several_luns, breaks_no_column_to_change, breaks_command_misplaced, breaks_address_misplaced, breaks_row_outside, breaks_lun_busy, breaks_queue_clash, breaks_input_misplaced, breaks_no_sole_driver, breaks_data_not_ready, breaks_column_outside, breaks_cache_read_misplaced, breaks_plane_not_held}
+use Rattle.onfi_cycle.specs.Rules.{is_some_and, driver_is, named_lun_is, ends_row, excludes_cache, holds_plane_of, register_len, is_page_or_parameters, is_empty, lacks, is_past, queued_clashes, read_clashes, has_some, has_read_one, may_change_column, refused_by, is_refused_by, works_for_target, is_unclear, has_no_byte, is_past_register, second_column, second_of_page, caching, continues_cache, ends_cache, breaks_sequence_open, breaks_several_luns, breaks_no_column_to_change, breaks_command_misplaced, breaks_address_misplaced, breaks_row_outside, breaks_lun_busy, breaks_queue_clash, breaks_input_misplaced, breaks_no_sole_driver, breaks_data_not_ready, breaks_column_outside, breaks_cache_read_misplaced, breaks_plane_not_held}
 use Rattle.onfi_cycle.specs.Sequence.{facts_of, begins_anew, wants_command, row, row_with, column_with, is_open}
 use Rattle.onfi_cycle.proofs.Passed.{KeepsRules}
 use Rattle.trace_faults.specs.Middle.{hangs_on_before}
@@ -53,7 +54,7 @@ has_some_any [] = refl
 has_some_any (c ∷ cs) = refl
 
 refused_less : (g : Parts) (c : Command) (p : PageAddress) (seen is : List Queued) → Within seen is → refused_by g c p seen ≡ true → refused_by g c p is ≡ true
-refused_less g Read p seen is w h = has_some_any is ∙ w (λ c. true) (sym (has_some_any seen) ∙ h)
+refused_less g Read p seen is w h = w (read_clashes g p) h
 refused_less g BlockErase p seen is w h = w (queued_clashes g true p) h
 refused_less g PageProgram p seen is w h = w (queued_clashes g false p) h
 refused_less g c p seen is w h = cc
@@ -208,6 +209,7 @@ pub record IsKnown (t s : LunView) : Type 0 where
   pub below : IsUnder t s
   pub begun : IsBegun t s
   pub same : IsSame t s
+  pub held : is_page_read s.closer ≡ true → t.held ≡ s.held
 
 known_off : (t s : LunView) → IsKnown t s → is_off t.latch ≡ is_off s.latch
 known_off t s k = k.same.off
@@ -272,13 +274,31 @@ past_down g t s k h =
     at true e d x = or_right (is_past_register g t) (has_no_byte t) (and_from (is_data t.latch) (t.busy || is_empty t.register || lacks (output_column t.column)) d (or_left (t.busy || is_empty t.register) (lacks (output_column t.column)) (or_right t.busy (is_empty t.register) (same_empty t s k.begun ∙ e))))
     at false e d x = or_left (is_past_register g t) (has_no_byte t) (and_from (is_data t.latch) _ d (rw (k.begun.column e, same_len g t s k.begun) x))
 
+-- one page was read, and no more
+one_up : (t s : LunView) → IsKnown t s → has_read_one t ≡ true → has_read_one s ≡ true
+one_up t s k h =
+    let a = and_parts (is_page_read t.closer) (leb (length t.held) 1) h in
+    let reads : is_page_read s.closer ≡ true = ap is_page_read (sym k.begun.closer) ∙ a.0 in
+    and_from (is_page_read s.closer) (leb (length s.held) 1) reads (ap (λ (pages : List PageAddress). leb (length pages) 1) (sym (k.held reads)) ∙ a.1)
+
 continues_up : (g : Parts) (t s : LunView) → IsKnown t s → continues_cache g t ≡ true → continues_cache g s ≡ true
 continues_up g t s k h =
-    let a = and_parts (not t.busy) (is_page_read t.closer && ltb (t.array_page.page + 1) g.pages) h in
-    let b = and_parts (is_page_read t.closer) (ltb (t.array_page.page + 1) g.pages) a.1 in
-    let reads : is_page_read s.closer ≡ true = ap is_page_read (sym k.begun.closer) ∙ b.0 in
+    let a = and_parts (not t.busy) (has_read_one t && ltb (t.array_page.page + 1) g.pages) h in
+    let b = and_parts (has_read_one t) (ltb (t.array_page.page + 1) g.pages) a.1 in
+    let one : has_read_one s ≡ true = one_up t s k b.0 in
+    let reads : is_page_read s.closer ≡ true = (and_parts (is_page_read s.closer) (leb (length s.held) 1) one).0 in
     and_from (not s.busy) _ (ap not (sym k.begun.busy) ∙ a.0)
-    (and_from (is_page_read s.closer) _ reads (ap (λ p. ltb (p.page + 1) g.pages) (sym (k.begun.page reads)) ∙ b.1))
+    (and_from (has_read_one s) _ one (ap (λ p. ltb (p.page + 1) g.pages) (sym (k.begun.page reads)) ∙ b.1))
+
+-- a page of this plane is held, and nothing is queued
+holds_up : (g : Parts) (p : PageAddress) (t s : LunView) → IsKnown t s → holds_plane_of g p t ≡ true → holds_plane_of g p s ≡ true
+holds_up g p t s k h =
+    let a = and_parts (not (has_some t.queue)) (list_any (in_plane g p) t.held) h in
+    let none : has_some s.queue ≡ false = less (has_some t.queue) (has_some s.queue) (queue_down t s k.below) (not-true (has_some t.queue) a.0) in
+    and_from (not (has_some s.queue)) (list_any (in_plane g p) s.held) (ap not none) (ap (list_any (in_plane g p)) (sym (k.begun.held none)) ∙ a.1)
+  where
+    in_plane : Parts → PageAddress → PageAddress → Bool
+    in_plane g p q = q.block % planes g == p.block % planes g
 
 ends_up : (t s : LunView) → IsKnown t s → ends_cache t ≡ true → ends_cache s ≡ true
 ends_up t s k h =
@@ -340,12 +360,13 @@ module _ (g : Parts) (ts ss : List LunView) (each : Each IsKnown ts ss) (clear :
   pub cache_command : (t : TailFacts) (c : Command) → breaks_cache_read_misplaced g t ts (CommandCycle c) ≡ false → breaks_cache_read_misplaced g t ss (CommandCycle c) ≡ false
   unfolding breaks_cache_read_misplaced
   cache_command t ReadCacheSequential h =
-      either_kept (wants_command t ReadCacheSequential) (named_lun_is g (row t) (λ v. is_page_read v.closer) ts) (driver_is (continues_cache g) ts)
-      (named_lun_is g (row t) (λ v. is_page_read v.closer) ss) (driver_is (continues_cache g) ss)
-      (lun_up IsKnown (λ v. is_page_read v.closer) (λ v. is_page_read v.closer) (λ x y k r. ap is_page_read (sym k.begun.closer) ∙ r) ts ss _ each)
+      either_kept (wants_command t ReadCacheSequential) (named_lun_is g (row t) has_read_one ts) (driver_is (continues_cache g) ts)
+      (named_lun_is g (row t) has_read_one ss) (driver_is (continues_cache g) ss)
+      (lun_up IsKnown has_read_one has_read_one one_up ts ss _ each)
       (driver_up IsKnown (continues_cache g) (continues_cache g) known_off (continues_up g) ts ss each) h
   cache_command t ReadConfirm h =
       and_less (is_wide g.optional) (named_lun_is g (row t) caching ts) (named_lun_is g (row t) caching ss) (lun_down IsKnown caching caching caching_down ts ss _ each) h
+  cache_command t ReadPlane h = less (named_lun_is g (row t) caching ts) (named_lun_is g (row t) caching ss) (lun_down IsKnown caching caching caching_down ts ss _ each) h
   cache_command t ReadCacheEnd h = not_from_true (driver_is ends_cache ss) (driver_up IsKnown ends_cache ends_cache known_off ends_up ts ss each (not-false (driver_is ends_cache ts) h))
   cache_command t c h = and_less (reads_identity c) (list_any caching ts) (list_any caching ss) (any_down IsKnown caching caching caching_down ts ss each) h
 
@@ -356,6 +377,7 @@ module _ (g : Parts) (ts ss : List LunView) (each : Each IsKnown ts ss) (clear :
       let driven = rw (not-true (wants_command u ReadCacheSequential) anew) at h in
       not_from_true (driver_is (continues_cache g) ss) (driver_up IsKnown (continues_cache g) (continues_cache g) known_off (continues_up g) ts ss each (not-false (driver_is (continues_cache g) ts) driven))
   cache_fresh u ReadConfirm anew h = cc
+  cache_fresh u ReadPlane anew h = cc
   cache_fresh u ReadCacheEnd anew h = not_from_true (driver_is ends_cache ss) (driver_up IsKnown ends_cache ends_cache known_off ends_up ts ss each (not-false (driver_is ends_cache ts) h))
   cache_fresh u c anew h = and_less (reads_identity c) (list_any caching ts) (list_any caching ss) (any_down IsKnown caching caching caching_down ts ss each) h
 
@@ -373,10 +395,13 @@ module _ (g : Parts) (ts ss : List LunView) (each : Each IsKnown ts ss) (clear :
   plane_kept t (CommandCycle c) h = refl
   plane_kept t (AddressCycle byte) h =
       and_less (ends_row is_enhanced_column t) (named_lun_is g (row_with t byte) holds_none ts) (named_lun_is g (row_with t byte) holds_none ss)
-      (lun_down IsKnown holds_none holds_none (λ x y k r. ap (λ (held : Register). not (holds_plane_of g (page_address g (row_with t byte)) held)) k.begun.register ∙ r) ts ss _ each) h
+      (lun_down IsKnown holds_none holds_none (λ x y k r. not_less (holds_plane_of g page x) (holds_plane_of g page y) (holds_up g page x y k) r) ts ss _ each) h
     where
+      page : PageAddress
+      page = page_address g (row_with t byte)
+
       holds_none : LunView → Bool
-      holds_none v = not (holds_plane_of g (page_address g (row_with t byte)) v.register)
+      holds_none v = not (holds_plane_of g page v)
   plane_kept t (InputCycle byte) h = refl
   plane_kept t OutputCycle h = refl
 

@@ -1,11 +1,13 @@
 -- A target whose commands stop other LUNs, as it is and as it is seen: nothing of it is judged before a reset, and from there on both are alike.
-use Rattle.std.proofs.Common.{◌≡◌, ℕ, zero, suc, ◌+◌, ◌≤◌, ◌==◌, Bool, true, false, cond, not, ◌&&◌, List, [], ◌∷◌, length, Option, Some, None, refl, sym, ap, ◌∙◌, subst, slice_get, arith, eqb-true, true≢false}
+use Rattle.std.proofs.Common.{◌≡◌, ℕ, zero, suc, ◌+◌, ◌≤◌, ◌==◌, Bool, true, false, cond, not, ◌&&◌, List, [], ◌∷◌, length, Option, Some, None, refl, sym, ap, ◌∙◌, subst, slice_get, arith, eqb-true, leb, true≢false}
 use Rattle.std.proofs.lemmas.Bool.{and_parts, not-false}
 use Rattle.std.proofs.lemmas.Option.{slice_get_within}
 use Rattle.nand_geometry.specs.declared.parts.Parts.{Parts}
+use Rattle.nand_geometry.specs.Limits.{planes}
+use Rattle.nand_geometry.specs.Optional.{has_plane_reads}
 use Rattle.nand_geometry.specs.Row.{parts_of}
 use Rattle.onfi_cycle.specs.declared.command.Command.{Command}
-use Rattle.onfi_cycle.specs.declared.command.Command.TheVariants.{Read, ReadStatus, ReadStatusEnhanced, Reset, SynchronousReset, ReadCacheSequential, ReadCacheEnd, ChangeReadColumnConfirm, ReadConfirm, BlockEraseConfirm, BlockErasePlane, ProgramConfirm, ProgramPlane, ReadId, ReadParameterPage, ReadUniqueId, GetFeatures, ResetLun}
+use Rattle.onfi_cycle.specs.declared.command.Command.TheVariants.{Read, ReadStatus, ReadStatusEnhanced, Reset, SynchronousReset, ReadCacheSequential, ReadCacheEnd, ChangeReadColumnConfirm, ReadConfirm, ReadPlane, BlockEraseConfirm, BlockErasePlane, ProgramConfirm, ProgramPlane, ReadId, ReadParameterPage, ReadUniqueId, GetFeatures, ResetLun}
 use Rattle.onfi_cycle.specs.declared.effect.Effect.{Effect}
 use Rattle.onfi_cycle.specs.declared.effect.Effect.TheVariants.{Unaffected, StatusSelected, StatusOfSelected, SelectedForStatus, Deselected, IdRead, IdentityRead, UniqueIdReadStarted, FeaturesReadStarted, FeaturesSet, ParameterPageReadStarted, CacheReadContinued, CacheReadEnded, ReadColumnChanged, PlaneSelected, DataOutput, ResetStarted, TargetResetStarted, AnotherAddressed}
 use Rattle.onfi_cycle.specs.declared.item.Cycle.{Cycle}
@@ -18,11 +20,11 @@ use Rattle.onfi_cycle.specs.declared.tail_facts.TailFacts.{TailFacts}
 use Rattle.onfi_cycle.specs.declared.target_cycle.TargetCycle.{TargetCycle}
 use Rattle.onfi_cycle.specs.declared.target_cycle.TargetCycle.TheVariants.{CommandCycle, AddressCycle, InputCycle, OutputCycle}
 use Rattle.onfi_cycle.specs.Command.{closes_row, reads_row}
-use Rattle.onfi_cycle.specs.Effect.{is_off, is_data, is_shared, acts_for_target, of_target, lun_reset_effect, confirm_effect, other_effect, row_effect, cache_effect, plane_effect, column_effect, names_lun, id_effect, command_effect, address_effect, opening_address_effect, ends_features, cycle_effect}
+use Rattle.onfi_cycle.specs.Effect.{is_off, is_data, is_shared, acts_for_target, of_target, lun_reset_effect, confirm_effect, other_effect, row_effect, cache_effect, plane_of_row, plane_effect, column_effect, names_lun, id_effect, command_effect, address_effect, opening_address_effect, ends_features, cycle_effect}
 use Rattle.onfi_cycle.specs.Lun.{is_cache_read, is_page_read, view_after}
 use Rattle.onfi_cycle.specs.LunView.{LunView}
 use Rattle.onfi_cycle.specs.Permitted.{judge_cycle}
-use Rattle.onfi_cycle.specs.Rules.{is_some_and, driver_is, lun_is, named_lun_is, continues_cache, ends_cache, breaks_cache_read_misplaced}
+use Rattle.onfi_cycle.specs.Rules.{is_some_and, driver_is, lun_is, named_lun_is, has_read_one, continues_cache, ends_cache, breaks_cache_read_misplaced}
 use Rattle.onfi_cycle.specs.Sequence.{target_cycle, facts_of, facts_after, selects_plane, wants_address, wants_command, row, row_with}
 use Rattle.onfi_cycle.specs.State.{TargetView, has_driver, target_after}
 use Rattle.onfi_cycle.proofs.Passed.{keeps_rules}
@@ -80,6 +82,7 @@ goes_on_by _ = false
 confirm_goes : (g : Parts) (u : TailFacts) (c : Command) (s : LunView) → goes_on_by c ≡ false → GoesOn (confirm_effect g u c) s
 confirm_goes g u ReadCacheSequential s h = cc
 confirm_goes g u ReadConfirm s h = tt
+confirm_goes g u ReadPlane s h = tt
 confirm_goes g u BlockEraseConfirm s h = tt
 confirm_goes g u BlockErasePlane s h = tt
 confirm_goes g u ProgramConfirm s h = tt
@@ -101,7 +104,7 @@ command_goes g u la SynchronousReset n s h = goes_either (is_shared g) (TargetRe
 command_goes g u la ReadCacheSequential n s h = cc
 command_goes g u la ReadCacheEnd n s h = cc
 command_goes g u la ChangeReadColumnConfirm n s h =
-    goes_either (selects_plane u) (plane_effect g u n) (column_effect u la) s (goes_either (names_lun g (row u) n) (PlaneSelected u.column) Deselected s tt tt)
+    goes_either (selects_plane u) (plane_effect g u n) (column_effect u la) s (goes_either (names_lun g (row u) n) (PlaneSelected (plane_of_row g (row u)) (planes g) u.column) Deselected s tt tt)
     (goes_either (wants_command u ChangeReadColumnConfirm && not (is_off la)) (ReadColumnChanged u.column) Unaffected s tt tt)
 command_goes g u la c n s h = goes_either (wants_command u c && names_lun g (row u) n) (confirm_effect g u c) (other_effect g u c) s (confirm_goes g u c s h) (other_goes g u c s)
 
@@ -141,10 +144,10 @@ reads_on g u sole none n (v ∷ vs) a = (
     at : (b o : Bool) → is_off v.latch ≡ o → GoesOn (cond (is_off (cond b v.latch Off)) Unaffected (CacheReadContinued None)) v
     at false o e = tt
     at true true e = rw e tt
-    at true false e = rw e (and_parts (is_page_read v.closer) _ (and_parts (not v.busy) _ (a.0 e)).1).0
+    at true false e = rw e (and_parts (is_page_read v.closer) _ (and_parts (has_read_one v) _ (and_parts (not v.busy) _ (a.0 e)).1).0).0
 
 -- a 31h that the tail wants reads on at the LUN of its row
-reads_row_on : (g : Parts) (u : TailFacts) (sole : Bool) (vs : List LunView) → wants_command u ReadCacheSequential ≡ true → named_lun_is g (row u) (λ v. is_page_read v.closer) vs ≡ true →
+reads_row_on : (g : Parts) (u : TailFacts) (sole : Bool) (vs : List LunView) → wants_command u ReadCacheSequential ≡ true → named_lun_is g (row u) has_read_one vs ≡ true →
     AtEach (Goes g u sole (CommandCycle ReadCacheSequential)) 0 vs
 reads_row_on g u sole vs w reads = at_each (Goes g u sole (CommandCycle ReadCacheSequential)) vs one
   where
@@ -155,7 +158,7 @@ reads_row_on g u sole vs w reads = at_each (Goes g u sole (CommandCycle ReadCach
         named names =
             let here : (parts_of g (row u)).lun ≡ m = eqb-true (parts_of g (row u)).lun m names in
             let there : slice_get vs (parts_of g (row u)).lun ≡ Some v = ap (slice_get vs) here ∙ found in
-            sym (ap (is_some_and (λ v. is_page_read v.closer)) there) ∙ reads
+            (and_parts (is_page_read v.closer) (leb (length v.held) 1) (sym (ap (is_some_and has_read_one) there) ∙ reads)).0
 
         at : (b : Bool) → (wants_command u ReadCacheSequential && names_lun g (row u) m) ≡ b → GoesOn (cond b (confirm_effect g u ReadCacheSequential) (other_effect g u ReadCacheSequential)) v
         at true e = named (and_parts (wants_command u ReadCacheSequential) (names_lun g (row u) m) e).1
@@ -175,9 +178,9 @@ goes_on : (g : Parts) (u : TailFacts) (sole : Bool) (d : TargetCycle) (vs : List
 unfolding breaks_cache_read_misplaced
 goes_on g u sole (CommandCycle ReadCacheSequential) vs h = at (wants_command u ReadCacheSequential) refl h
   where
-    at : (w : Bool) → wants_command u ReadCacheSequential ≡ w → cond w (not (named_lun_is g (row u) (λ v. is_page_read v.closer) vs)) (not (driver_is (continues_cache g) vs)) ≡ false →
+    at : (w : Bool) → wants_command u ReadCacheSequential ≡ w → cond w (not (named_lun_is g (row u) has_read_one vs)) (not (driver_is (continues_cache g) vs)) ≡ false →
         AtEach (Goes g u sole (CommandCycle ReadCacheSequential)) 0 vs
-    at true e x = reads_row_on g u sole vs e (not-false (named_lun_is g (row u) (λ v. is_page_read v.closer) vs) x)
+    at true e x = reads_row_on g u sole vs e (not-false (named_lun_is g (row u) has_read_one vs) x)
     at false e x = reads_on g u sole e 0 vs (all_on_at (continues_cache g) 0 vs (driver_on (continues_cache g) vs (not-false (driver_is (continues_cache g) vs) x)))
 goes_on g u sole (CommandCycle ReadCacheEnd) vs h = ends_on g u sole 0 vs (all_on_at ends_cache 0 vs (driver_on ends_cache vs (not-false (driver_is ends_cache vs) h)))
 goes_on g u sole (CommandCycle c) vs h = each_goes g u sole (CommandCycle c) 0 vs (λ m v. command_goes g u (cond sole v.latch Off) c m v refl)
@@ -360,7 +363,7 @@ module _ (i : Item) (lun : ℕ) (x : Effect) (works : LunView → Bool) (is : Is
       at true e = shared_doubted (f.shared e) h idle
       at false e = let y = doubted i lun x works is g k later t s (f.plain e) h idle in record { lun_seen = y.lun_seen; found = y.found; none = y.none }
 
-  pub either_seen : FitsEither g k t s → lun_is works s.luns lun ≡ true → IsLearned i k later s.luns (target_after g i s).luns → later.opened ≡ k.opened → FitsEither g later (target_after g i t) (target_after g i s)
+  pub either_seen : FitsEither g k t s → lun_is works s.luns lun ≡ true → IsLearned (has_plane_reads g.optional) i k later s.luns (target_after g i s).luns → later.opened ≡ k.opened → FitsEither g later (target_after g i t) (target_after g i s)
   either_seen f h learned kept = record { plain = λ e. ready_seen i lun x works is g k later t s (f.plain e) h learned kept; shared = λ e. shared_seen (f.shared e) h kept }
 
   pub either_granted : FitsEither g k t s → lun_is works t.luns lun ≡ true → lun_is works s.luns lun ≡ false → has_begun (knows k lun) ≡ false → FitsEither g k (target_after g i t) s

@@ -4,7 +4,7 @@ use Rattle.std.proofs.lemmas.Bool.{ltb-false, and_parts, or_parts, not-false, no
 use Rattle.std.proofs.lemmas.List.{set-get_or}
 use Rattle.std.proofs.lemmas.Option.{slice_get-get_or}
 use Rattle.nand_geometry.specs.declared.parts.Parts.{Parts}
-use Rattle.nand_geometry.specs.Optional.{has_enhanced_column}
+use Rattle.nand_geometry.specs.Optional.{has_enhanced_column, has_plane_reads}
 use Rattle.onfi_cycle.specs.declared.forbidden.Forbidden.{Forbidden}
 use Rattle.onfi_cycle.specs.declared.forbidden.Forbidden.TheVariants.{NotThere}
 use Rattle.onfi_cycle.specs.declared.item.Cycle.{Cycle}
@@ -32,7 +32,7 @@ use Rattle.trace_faults.specs.Outside.{standings_after}
 use Rattle.trace_faults.specs.Recovery.{all_inside, judged_here, gone_on, gone_on_by}
 use Rattle.trace_faults.specs.Middle.{Seen, nothing_known, known_of, knows, has_begun, is_doubtful, doubts_ready, doubts, hangs_on_before, of_cycle, of_ready, looks_of, is_reset_cycle, is_reset, stops_others, begins_here, learned, verdict_on, is_passed_over, granted_to, judged_on, seen_by, verdict_here, verdict, seen_after, broken_in}
 use Rattle.trace_faults.proofs.Judged.{standings_inside, is_inside, judged_inside}
-use Rattle.recording_laws.proofs.Changed.{under_each, below_each, known_each}
+use Rattle.recording_laws.proofs.Changed.{IsLearned, under_each, below_each, known_each}
 use Rattle.recording_laws.proofs.Rules.{IsKnown, plain_clear, OnlyHangs, only_hangs, only_hangs_fresh, none_broken, none_broken_fresh}
 use Rattle.recording_laws.proofs.Lists.{Each}
 use Rattle.recording_laws.proofs.Targets.{FitsTarget, IsAlone, seen_opened, seen_fresh, granted_opened, granted_fresh, passed_over, known_anew}
@@ -197,7 +197,7 @@ module _ (g : Parts) (bus : BusView) (seen : Seen) (c : Cycle) (later : List Ite
   said_so rule h = ap (of_cycle (doubts seen.state.bus at c.ce)) (judged_so ∙ h)
 
   known_luns : doubts seen.state.bus at c.ce ≡ false → Each IsKnown x.is.luns x.shown.luns
-  known_luns h = known_each at 0 x.is.luns x.shown.luns own.luns (undoubted seen.state.bus at c.ce x.shown x.found_shown own.few h)
+  known_luns h = known_each (has_plane_reads g.optional) at 0 x.is.luns x.shown.luns own.luns (undoubted seen.state.bus at c.ce x.shown x.found_shown own.few h)
 
   granted_fits : FitsTarget g nothing_known (target_after g (Cyc c) x.is) (without_sequence x.shown) → FitsBus g (bus_after (Cyc c) bus) (granted_to (Cyc c) seen)
   granted_fits h =
@@ -247,8 +247,10 @@ module _ (g : Parts) (bus : BusView) (seen : Seen) (c : Cycle) (later : List Ite
       hangs_of rule None h e = cc
       hangs_of rule (Some other) h e = let same : other ≡ rule = cc in ap hangs_on_before (sym same) ∙ h
 
-      learned_now : Rattle.recording_laws.proofs.Changed.IsLearned (Cyc c) at learned_own x.shown.luns (target_after g (Cyc c) x.shown).luns
-      learned_now = learned_there seen.state.bus.geometry (Cyc c) seen.state.bus (bus_after (Cyc c) seen.state.bus) c.ce at x.shown (target_after g (Cyc c) x.shown) x.found_shown (shown_after g bus seen (Cyc c) later f x)
+      learned_now : IsLearned (has_plane_reads g.optional) (Cyc c) at learned_own x.shown.luns (target_after g (Cyc c) x.shown).luns
+      learned_now =
+          subst (λ (y : Parts). IsLearned (has_plane_reads y.optional) (Cyc c) at learned_own x.shown.luns (target_after g (Cyc c) x.shown).luns) f.seen_geometry
+          (learned_there seen.state.bus.geometry (Cyc c) seen.state.bus (bus_after (Cyc c) seen.state.bus) c.ce at x.shown (target_after g (Cyc c) x.shown) x.found_shown (shown_after g bus seen (Cyc c) later f x))
 
       opened_known : at.opened ≡ true → doubts seen.state.bus at c.ce ≡ false → judge_cycle g x.shown.tail x.shown.luns d ≡ None
       opened_known e h =
@@ -260,13 +262,13 @@ module _ (g : Parts) (bus : BusView) (seen : Seen) (c : Cycle) (later : List Ite
       opened_step e (Some rule) h =
           let o = own.opened e in
           granted_step rule h (open_now (inl e))
-          (hangs_of rule (judge_cycle g x.is.tail x.shown.luns d) (only_hangs g x.is.tail x.is.luns x.shown.luns d (under_each x.is.luns x.shown.luns (below_each at 0 x.is.luns x.shown.luns own.luns)) (plain_clear g x.is.luns x.shown.luns plain) (keeps_rules g x.is.tail x.is.luns d kept)) (ap (λ w. judge_cycle g w x.shown.luns d) o.tail ∙ h))
+          (hangs_of rule (judge_cycle g x.is.tail x.shown.luns d) (only_hangs g x.is.tail x.is.luns x.shown.luns d (under_each x.is.luns x.shown.luns (below_each (has_plane_reads g.optional) at 0 x.is.luns x.shown.luns own.luns)) (plain_clear g x.is.luns x.shown.luns plain) (keeps_rules g x.is.tail x.is.luns d kept)) (ap (λ w. judge_cycle g w x.shown.luns d) o.tail ∙ h))
           (opened_known e) (granted_opened g plain one at x.is x.shown c own rule e kept h)
 
       fresh_hangs : (e : TargetCycle) → e ≡ d → begins_sequence e ≡ true → at.opened ≡ false → OnlyHangs (judge_cycle g x.shown.tail x.shown.luns e)
       fresh_hangs (CommandCycle y) e b h =
           subst (λ w. OnlyHangs (judge_cycle g w x.shown.luns (CommandCycle y))) (sym (own.closed h).tail)
-          (only_hangs_fresh g x.is.tail x.is.luns x.shown.luns y b (under_each x.is.luns x.shown.luns (below_each at 0 x.is.luns x.shown.luns own.luns)) (plain_clear g x.is.luns x.shown.luns plain) (keeps_rules g x.is.tail x.is.luns (CommandCycle y) (ap (judge_cycle g x.is.tail x.is.luns) e ∙ kept)))
+          (only_hangs_fresh g x.is.tail x.is.luns x.shown.luns y b (under_each x.is.luns x.shown.luns (below_each (has_plane_reads g.optional) at 0 x.is.luns x.shown.luns own.luns)) (plain_clear g x.is.luns x.shown.luns plain) (keeps_rules g x.is.tail x.is.luns (CommandCycle y) (ap (judge_cycle g x.is.tail x.is.luns) e ∙ kept)))
       fresh_hangs (AddressCycle byte) e b h = cc
       fresh_hangs (InputCycle byte) e b h = cc
       fresh_hangs OutputCycle e b h = cc
@@ -440,7 +442,8 @@ module _ (g : Parts) (bus : BusView) (seen : Seen) (i : Item) (later : List Item
       at true h =
           seen_step g bus seen i later f x (works_there h) never (says ∙ ap (of_ready (doubts_ready seen.state.bus of_it (target_of i) lun)) (works_there h))
           (either_seen i lun e works is g of_it (learned_by_it g bus seen i later f x (gone_on_by None i seen.state)) x.is x.shown mine h
-          (learned_there seen.state.bus.geometry i seen.state.bus (bus_after i seen.state.bus) (target_of i) of_it x.shown (target_after g i x.shown) x.found_shown (shown_after g bus seen i later f x))
+          (subst (λ (y : Parts). IsLearned (has_plane_reads y.optional) i of_it (learned_by_it g bus seen i later f x (gone_on_by None i seen.state)) x.shown.luns (target_after g i x.shown).luns) f.seen_geometry
+          (learned_there seen.state.bus.geometry i seen.state.bus (bus_after i seen.state.bus) (target_of i) of_it x.shown (target_after g i x.shown) x.found_shown (shown_after g bus seen i later f x)))
           (opens_nothing seen.state.bus (bus_after i seen.state.bus)))
       at false h =
           let y = either_doubted i lun e works is g of_it of_it x.is x.shown mine split_there.1 h in

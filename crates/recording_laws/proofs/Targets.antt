@@ -1,10 +1,10 @@
 -- A target as it is, and as it is seen: what a permitted cycle of it leaves of both.
-use Rattle.std.proofs.Common.{◌≡◌, ◌⊎◌, inl, inr, zero, suc, not, ℕ, ◌+◌, ◌<◌, ◌≤◌, ◌==◌, Bool, true, false, cond, ◌&&◌, ◌||◌, List, [], ◌∷◌, length, Option, Some, None, refl, sym, ap, ◌∙◌, subst, slice_get, eqb-true, eq-eqb, ltb, true≢false, arith}
+use Rattle.std.proofs.Common.{◌≡◌, ◌⊎◌, inl, inr, zero, suc, not, ℕ, ◌+◌, ◌<◌, ◌≤◌, ◌==◌, Bool, true, false, cond, ◌&&◌, ◌||◌, List, [], ◌∷◌, length, Option, Some, None, refl, sym, ap, ◌∙◌, subst, slice_get, eqb-true, eq-eqb, ltb, leb, true≢false, arith}
 use Rattle.std.proofs.lemmas.Bool.{ltb-true, and_parts, or_left, or_right, not-false}
 use Rattle.nand_geometry.specs.declared.parts.Parts.{Parts}
 use Rattle.nand_geometry.specs.Row.{parts_of, is_inside}
 use Rattle.onfi_cycle.specs.declared.command.Command.{Command}
-use Rattle.onfi_cycle.specs.declared.command.Command.TheVariants.{Read, ReadConfirm, ChangeReadColumn, ChangeReadColumnEnhanced, BlockErase, BlockEraseConfirm, BlockErasePlane, PageProgram, ProgramConfirm, ProgramPlane, ReadCacheSequential}
+use Rattle.onfi_cycle.specs.declared.command.Command.TheVariants.{Read, ReadConfirm, ChangeReadColumn, ChangeReadColumnEnhanced, BlockErase, BlockEraseConfirm, BlockErasePlane, PageProgram, ProgramConfirm, ProgramPlane, ReadCacheSequential, ReadPlane}
 use Rattle.onfi_cycle.specs.declared.data_phase.DataPhase.{DataPhase}
 use Rattle.onfi_cycle.specs.declared.data_phase.DataPhase.TheVariants.{Outside, Inputs, FirstColumn, SecondColumn, FeatureInputs}
 use Rattle.onfi_cycle.specs.declared.effect.Effect.{Effect}
@@ -17,17 +17,18 @@ use Rattle.onfi_cycle.specs.declared.latch.Latch.TheVariants.{Off}
 use Rattle.onfi_cycle.specs.declared.opening.Opening.{Opening}
 use Rattle.onfi_cycle.specs.declared.page_address.PageAddress.{PageAddress}
 use Rattle.onfi_cycle.specs.declared.queued.Queued.{Queued}
+use Rattle.onfi_cycle.specs.declared.queued.Queued.TheVariants.{Erase, Program, Read as QueuedRead}
 use Rattle.onfi_cycle.specs.declared.tail_facts.TailFacts.{TailFacts}
 use Rattle.onfi_cycle.specs.declared.target_cycle.TargetCycle.{TargetCycle}
 use Rattle.onfi_cycle.specs.declared.target_cycle.TargetCycle.TheVariants.{CommandCycle, AddressCycle, InputCycle, OutputCycle}
 use Rattle.onfi_cycle.specs.Bounds.{is_read, is_block_erase}
-use Rattle.nand_geometry.specs.Optional.{is_wide, has_enhanced_column}
+use Rattle.nand_geometry.specs.Optional.{is_wide, has_enhanced_column, has_plane_reads}
 use Rattle.onfi_cycle.specs.Command.{is_opener, closes, address_cycles, at_last_row, is_change_read_column, is_enhanced_column, is_page_program}
 use Rattle.onfi_cycle.specs.Effect.{is_off, is_shared, names_lun, page_address, address_effect, opening_address_effect, cycle_effect}
 use Rattle.onfi_cycle.specs.Lun.{is_page_read, view_after}
 use Rattle.onfi_cycle.specs.LunView.{LunView}
 use Rattle.onfi_cycle.specs.Permitted.{judge_cycle}
-use Rattle.onfi_cycle.specs.Rules.{is_some_and, driving, only, driver, driver_is, lun_is, named_lun_is, continues_cache, has_some, may_change_column, refused_by, is_refused_by, ends_row, breaks_command_unknown, breaks_row_outside, breaks_sequence_open, breaks_no_column_to_change, breaks_queue_clash, breaks_cache_read_misplaced}
+use Rattle.onfi_cycle.specs.Rules.{is_some_and, driving, only, driver, driver_is, lun_is, named_lun_is, continues_cache, has_read_one, has_some, some_read_clashes, holds_plane_of, may_change_column, refused_by, is_refused_by, ends_row, breaks_command_unknown, breaks_row_outside, breaks_sequence_open, breaks_no_column_to_change, breaks_queue_clash, breaks_cache_read_misplaced, breaks_plane_not_held}
 use Rattle.onfi_cycle.specs.Sequence.{target_cycle, facts_of, opened, one_address_more, row, row_with, wants_command, extended_facts, facts_after, begins_sequence, begins_anew, works_on_row}
 use Rattle.onfi_cycle.specs.State.{TargetView, luns_after, has_driver, target_after, without_sequence}
 use Rattle.onfi_cycle.proofs.Booleans.{and_rest}
@@ -39,9 +40,9 @@ use Rattle.recording_laws.proofs.Luns.{IsBelow, IsHarmless}
 use Rattle.recording_laws.proofs.Lists.{Each, lun_up}
 use Rattle.recording_laws.proofs.Rules.{six_of, IsKnown, IsClear, plain_clear, judged_six, judged_six_fresh}
 use Rattle.recording_laws.proofs.Changed.{changed, changed_length, AtEach, at_each, AllFit, under_each, below_each, GoEach, all_fit_on, IsLearned, learns_each, below_unseen, all_nothing}
-use Rattle.recording_laws.proofs.Cycles.{by_cycle, luns_by_cycle, ReadsClear, go_command, go_opener, go_address, go_input, go_output}
+use Rattle.recording_laws.proofs.Cycles.{by_cycle, luns_by_cycle, ReadsClear, PlaneClear, go_command, go_opener, go_address, go_input, go_output}
 use Rattle.recording_laws.proofs.Unseen.{is_led, is_quiet_by, is_quiet, is_named_by, is_named, is_plane_by, is_plane, NoneQueued, AllNamed, AreBlank, MayCome, blank, quiet, named, selecting, not_led, may_come_on, unseen_harmless, quiet_command}
-use Rattle.recording_laws.proofs.Granted.{is_sound, is_sound_by, sound_after, grants, is_granted, command_granted, command_comes, Comes, address_granted, input_granted, output_granted}
+use Rattle.recording_laws.proofs.Granted.{is_sound, is_sound_by, sound_after, grants, is_granted, granted_row, command_granted, command_comes, Comes, address_granted, input_granted, output_granted}
 
 -- ---- 1. a target
 
@@ -51,7 +52,8 @@ pub record IsOpened (g : Parts) (t s : TargetView) : Type 0 where
   pub some : t.tail.is_empty ≡ false
   pub sound : is_sound t.tail ≡ true
   pub column : opened (λ c n. is_change_read_column c) t.tail.opening ≡ true → (has_driver t.luns ≡ true) × (has_driver s.luns ≡ true)
-  pub read : opened (λ c n. is_read c && n == 5) t.tail.opening ≡ true → NoneQueued g (row t.tail) t.luns
+  pub read : has_plane_reads g.optional ≡ false → opened (λ c n. is_read c && n == 5) t.tail.opening ≡ true → NoneQueued g (row t.tail) t.luns
+  pub plane : opened (λ c n. is_enhanced_column c && n == 5) t.tail.opening ≡ true → NoneQueued g (row t.tail) s.luns
   pub declared : opened (λ c n. is_enhanced_column c) t.tail.opening ≡ true → has_enhanced_column g.optional ≡ true
 
 -- one of which none was
@@ -63,7 +65,7 @@ pub record IsClosed (g : Parts) (k : Known) (t s : TargetView) : Type 0 where
 pub record FitsTarget (g : Parts) (k : Known) (t s : TargetView) : Type 0 where
   pub few : length s.luns ≤ 4
   pub count : length s.luns ≤ g.luns
-  pub luns : AllFit k 0 t.luns s.luns
+  pub luns : AllFit (has_plane_reads g.optional) k 0 t.luns s.luns
   pub opened : k.opened ≡ true → IsOpened g t s
   pub closed : k.opened ≡ false → IsClosed g k t s
 
@@ -89,21 +91,26 @@ neither : (b : Bool) → cond b Unaffected Unaffected ≡ Unaffected
 neither true = refl
 neither false = refl
 
+-- the openers whose addresses do nothing to a LUN: 05h, 00h and 06h
+abbrev rests : Command → Bool
+rests c = is_change_read_column c || (is_read c || is_enhanced_column c)
+
 -- the tail of 05h and its addresses, where nothing happens to a LUN
 module _ (g : Parts) (u : TailFacts) where
   column_command : (sole : Bool) (n : ℕ) (v : LunView) → by_cycle g u sole (CommandCycle ChangeReadColumn) n v ≡ Unaffected
   column_command sole n v = neither (wants_command u ChangeReadColumn && names_lun g (row u) n)
 
-  quiet_address : (c : Command) (byte m n : ℕ) → (is_change_read_column c || is_read c) ≡ true → address_effect g u byte c m n ≡ Unaffected
+  quiet_address : (c : Command) (byte m n : ℕ) → rests c ≡ true → address_effect g u byte c m n ≡ Unaffected
   quiet_address ChangeReadColumn byte m n h = refl
   quiet_address Read byte m n h = refl
+  quiet_address ChangeReadColumnEnhanced byte m n h = refl
   quiet_address c byte m n h = cc
 
-  quiet_opening : (o : Option Opening) (byte n : ℕ) → opened (λ c m. is_change_read_column c || is_read c) o ≡ true → opening_address_effect g u byte o n ≡ Unaffected
+  quiet_opening : (o : Option Opening) (byte n : ℕ) → opened (λ c m. rests c) o ≡ true → opening_address_effect g u byte o n ≡ Unaffected
   quiet_opening None byte n h = cc
   quiet_opening (Some o) byte n h = quiet_address o.opener byte o.addresses n h
 
-  address_rests : (byte : ℕ) (vs : List LunView) (sole : Bool) → opened (λ c m. is_change_read_column c || is_read c) u.opening ≡ true → changed (by_cycle g u sole (AddressCycle byte)) 0 vs ≡ vs
+  address_rests : (byte : ℕ) (vs : List LunView) (sole : Bool) → opened (λ c m. rests c) u.opening ≡ true → changed (by_cycle g u sole (AddressCycle byte)) 0 vs ≡ vs
   address_rests byte vs sole h = unaffected_from (by_cycle g u sole (AddressCycle byte)) (λ n v. quiet_opening u.opening byte n h) 0 vs
 
 some_driver : (p : LunView → Bool) (o : Option LunView) → is_some_and p o ≡ true → is_some_and (λ v. true) o ≡ true
@@ -122,9 +129,9 @@ one_more_column : (o : Option Opening) → opened (λ c n. is_change_read_column
 one_more_column None h = h
 one_more_column (Some o) h = h
 
-column_or_read : (o : Option Opening) → opened (λ c n. is_change_read_column c) o ≡ true → opened (λ c n. is_change_read_column c || is_read c) o ≡ true
+column_or_read : (o : Option Opening) → opened (λ c n. is_change_read_column c) o ≡ true → opened (λ c n. rests c) o ≡ true
 column_or_read None h = h
-column_or_read (Some o) h = or_left (is_change_read_column o.opener) (is_read o.opener) h
+column_or_read (Some o) h = or_left (is_change_read_column o.opener) (is_read o.opener || is_enhanced_column o.opener) h
 
 -- 05h has one driver, and its addresses keep it
 opened_driver : (g : Parts) (w : TailFacts) (vs : List LunView) (c : Command) → breaks_no_column_to_change vs (CommandCycle c) ≡ false → is_change_read_column c ≡ true → has_driver (changed (by_cycle g w (has_driver vs) (CommandCycle c)) 0 vs) ≡ true
@@ -149,49 +156,97 @@ driver_after g u vs (AddressCycle byte) some before f5 h =
 driver_after g u vs (InputCycle byte) some before f5 h = let none = rw some at h in cc
 driver_after g u vs OutputCycle some before f5 h = let none = rw some at h in cc
 
--- a read has no queue behind its last address
-read_queue : (g : Parts) (c : Command) (n : ℕ) (p : PageAddress) (q : List Queued) → (is_read c && n + 1 == 5) ≡ true → (at_last_row c n && refused_by g c p q) ≡ false → q ≡ []
-read_queue g Read n p q h f =
+-- a read has no queue behind its last address, where the chip reads one plane at once
+reads_none : (g : Parts) (p : PageAddress) (q : List Queued) → has_plane_reads g.optional ≡ false → some_read_clashes g p q ≡ false → q ≡ []
+reads_none g p [] single e = refl
+reads_none g p (QueuedRead x ∷ q) single e = let clash : true ≡ false = rw single at e in cc
+reads_none g p (Erase x ∷ q) single e = cc
+reads_none g p (Program x ∷ q) single e = cc
+
+read_queue : (g : Parts) (c : Command) (n : ℕ) (p : PageAddress) (q : List Queued) → has_plane_reads g.optional ≡ false → (is_read c && n + 1 == 5) ≡ true → (at_last_row c n && refused_by g c p q) ≡ false → q ≡ []
+read_queue g Read n p q single h f =
     let five : n + 1 ≡ 5 = eqb-true (n + 1) 5 h in
     let four : n ≡ 4 = omega (arith, five) in
-    nothing q (rw (eq-eqb n 4 four) at f)
-  where
-    nothing : (q : List Queued) → has_some q ≡ false → q ≡ []
-    nothing [] e = refl
-    nothing (x ∷ q) e = cc
-read_queue g c n p q h f = cc
+    reads_none g p q single (rw (eq-eqb n 4 four) at f)
+read_queue g c n p q single h f = cc
 
-read_address : (g : Parts) (u : TailFacts) (ts : List LunView) (byte : ℕ) (o : Option Opening) → u.opening ≡ o → breaks_queue_clash g u ts (AddressCycle byte) ≡ false → opened (λ c n. is_read c && n == 5) (one_address_more o) ≡ true →
+read_address : (g : Parts) (u : TailFacts) (ts : List LunView) (byte : ℕ) (o : Option Opening) → has_plane_reads g.optional ≡ false → u.opening ≡ o → breaks_queue_clash g u ts (AddressCycle byte) ≡ false → opened (λ c n. is_read c && n == 5) (one_address_more o) ≡ true →
     NoneQueued g (row (extended_facts (AddressCycle byte) u)) ts
 unfolding breaks_queue_clash
-read_address g u ts byte None e f h m t found names = cc
-read_address g u ts byte (Some o) e f h m t found names =
+read_address g u ts byte None single e f h m t found names = cc
+read_address g u ts byte (Some o) single e f h m t found names =
     let named : names_lun g (row_with u byte) m ≡ true = rw e at names in
     let here : (parts_of g (row_with u byte)).lun ≡ m = eqb-true (parts_of g (row_with u byte)).lun m named in
     let at : slice_get ts (parts_of g (row_with u byte)).lun ≡ Some t = ap (slice_get ts) here ∙ found in
     let page = page_address g (row_with u byte) in
     let free : is_refused_by g u.opening page t.queue ≡ false = sym (ap (is_some_and (λ v. is_refused_by g u.opening page v.queue)) at) ∙ f in
-    read_queue g o.opener o.addresses page t.queue h (sym (ap (λ (x : Option Opening). is_refused_by g x page t.queue) e) ∙ free)
+    read_queue g o.opener o.addresses page t.queue single h (sym (ap (λ (x : Option Opening). is_refused_by g x page t.queue) e) ∙ free)
 
-one_more_read : (o : Option Opening) → opened (λ c n. is_read c && n == 5) (one_address_more o) ≡ true → opened (λ c n. is_change_read_column c || is_read c) o ≡ true
+one_more_read : (o : Option Opening) → opened (λ c n. is_read c && n == 5) (one_address_more o) ≡ true → opened (λ c n. rests c) o ≡ true
 one_more_read None h = h
-one_more_read (Some o) h = or_right (is_change_read_column o.opener) (is_read o.opener) (and_parts (is_read o.opener) _ h).0
+one_more_read (Some o) h = or_right (is_change_read_column o.opener) (is_read o.opener || is_enhanced_column o.opener) (or_left (is_read o.opener) (is_enhanced_column o.opener) (and_parts (is_read o.opener) _ h).0)
 
-read_after : (g : Parts) (u : TailFacts) (ts : List LunView) (cycle : TargetCycle) → u.is_empty ≡ false → breaks_queue_clash g u ts cycle ≡ false → opened (λ c n. is_read c && n == 5) (facts_after cycle u).opening ≡ true →
+read_after : (g : Parts) (u : TailFacts) (ts : List LunView) (cycle : TargetCycle) → has_plane_reads g.optional ≡ false → u.is_empty ≡ false → breaks_queue_clash g u ts cycle ≡ false → opened (λ c n. is_read c && n == 5) (facts_after cycle u).opening ≡ true →
     NoneQueued g (row (facts_after cycle u)) (changed (by_cycle g u (has_driver ts) cycle) 0 ts)
-read_after g u ts (CommandCycle c) some f h = absurd (at (begins_anew u (CommandCycle c)) u.is_empty some h)
+read_after g u ts (CommandCycle c) single some f h = absurd (at (begins_anew u (CommandCycle c)) u.is_empty some h)
   where
     at : (b e : Bool) → e ≡ false → opened (λ c n. is_read c && n == 5) (cond b (extended_facts (CommandCycle c) (facts_of [])) (cond e u (extended_facts (CommandCycle c) (record u { is_empty = e })))).opening ≡ true → ⊥
     at true e f x = let five = (and_parts (is_read c) (0 == 5) x).1 in cc
     at false true f x = cc
     at false false f x = cc
-read_after g u ts (AddressCycle byte) some f h =
+read_after g u ts (AddressCycle byte) single some f h =
     let more : opened (λ c n. is_read c && n == 5) (one_address_more u.opening) ≡ true = rw some at h in
-    let none : NoneQueued g (row (extended_facts (AddressCycle byte) u)) ts = read_address g u ts byte u.opening refl f more in
+    let none : NoneQueued g (row (extended_facts (AddressCycle byte) u)) ts = read_address g u ts byte u.opening single refl f more in
     subst (λ (vs : List LunView). NoneQueued g (row (facts_after (AddressCycle byte) u)) vs) (sym (address_rests g u byte ts (has_driver ts) (one_more_read u.opening more)))
     (rw some none)
-read_after g u ts (InputCycle byte) some f h = let none = rw some at h in cc
-read_after g u ts OutputCycle some f h = let none = rw some at h in cc
+read_after g u ts (InputCycle byte) single some f h = let none = rw some at h in cc
+read_after g u ts OutputCycle single some f h = let none = rw some at h in cc
+
+-- of the LUN of a 06h nothing is queued behind its last address
+plane_queue : (g : Parts) (c : Command) (n : ℕ) (q : Bool) (p : PageAddress) (s : LunView) → (is_enhanced_column c && n + 1 == 5) ≡ true → ((is_enhanced_column c && at_last_row c n) && q) ≡ false → (q ≡ not (holds_plane_of g p s)) → s.queue ≡ []
+plane_queue g ChangeReadColumnEnhanced n q p s h f is =
+    let five : n + 1 ≡ 5 = eqb-true (n + 1) 5 h in
+    let four : n ≡ 4 = omega (arith, five) in
+    let held : not (holds_plane_of g p s) ≡ false = sym is ∙ (rw (eq-eqb n 4 four) at f) in
+    nothing s.queue (and_parts (not (has_some s.queue)) _ (not-false (holds_plane_of g p s) held)).0
+  where
+    nothing : (r : List Queued) → not (has_some r) ≡ true → r ≡ []
+    nothing [] e = refl
+    nothing (x ∷ rest) e = cc
+plane_queue g c n q p s h f is = cc
+
+plane_address : (g : Parts) (u : TailFacts) (ss : List LunView) (byte : ℕ) (o : Option Opening) → u.opening ≡ o → breaks_plane_not_held g u ss (AddressCycle byte) ≡ false → opened (λ c n. is_enhanced_column c && n == 5) (one_address_more o) ≡ true →
+    NoneQueued g (row (extended_facts (AddressCycle byte) u)) ss
+unfolding breaks_plane_not_held
+plane_address g u ss byte None e f h m s found names = cc
+plane_address g u ss byte (Some o) e f h m s found names =
+    let named : names_lun g (row_with u byte) m ≡ true = rw e at names in
+    let here : (parts_of g (row_with u byte)).lun ≡ m = eqb-true (parts_of g (row_with u byte)).lun m named in
+    let at : slice_get ss (parts_of g (row_with u byte)).lun ≡ Some s = ap (slice_get ss) here ∙ found in
+    let page = page_address g (row_with u byte) in
+    plane_queue g o.opener o.addresses (named_lun_is g (row_with u byte) (λ v. not (holds_plane_of g page v)) ss) page s h
+    (sym (ap (λ (x : Option Opening). opened (λ c n. is_enhanced_column c && at_last_row c n) x && named_lun_is g (row_with u byte) (λ v. not (holds_plane_of g page v)) ss) e) ∙ f)
+    (ap (is_some_and (λ v. not (holds_plane_of g page v))) at)
+
+one_more_plane : (o : Option Opening) → opened (λ c n. is_enhanced_column c && n == 5) (one_address_more o) ≡ true → opened (λ c n. rests c) o ≡ true
+one_more_plane None h = h
+one_more_plane (Some o) h = or_right (is_change_read_column o.opener) (is_read o.opener || is_enhanced_column o.opener) (or_right (is_read o.opener) (is_enhanced_column o.opener) (and_parts (is_enhanced_column o.opener) _ h).0)
+
+plane_after : (g : Parts) (u : TailFacts) (ss : List LunView) (cycle : TargetCycle) → u.is_empty ≡ false → breaks_plane_not_held g u ss cycle ≡ false → opened (λ c n. is_enhanced_column c && n == 5) (facts_after cycle u).opening ≡ true →
+    NoneQueued g (row (facts_after cycle u)) (changed (by_cycle g u (has_driver ss) cycle) 0 ss)
+plane_after g u ss (CommandCycle c) some f h = absurd (at (begins_anew u (CommandCycle c)) u.is_empty some h)
+  where
+    at : (b e : Bool) → e ≡ false → opened (λ c n. is_enhanced_column c && n == 5) (cond b (extended_facts (CommandCycle c) (facts_of [])) (cond e u (extended_facts (CommandCycle c) (record u { is_empty = e })))).opening ≡ true → ⊥
+    at true e f x = let five = (and_parts (is_enhanced_column c) (0 == 5) x).1 in cc
+    at false true f x = cc
+    at false false f x = cc
+plane_after g u ss (AddressCycle byte) some f h =
+    let more : opened (λ c n. is_enhanced_column c && n == 5) (one_address_more u.opening) ≡ true = rw some at h in
+    let none : NoneQueued g (row (extended_facts (AddressCycle byte) u)) ss = plane_address g u ss byte u.opening refl f more in
+    subst (λ (vs : List LunView). NoneQueued g (row (facts_after (AddressCycle byte) u)) vs) (sym (address_rests g u byte ss (has_driver ss) (one_more_plane u.opening more)))
+    (rw some none)
+plane_after g u ss (InputCycle byte) some f h = let none = rw some at h in cc
+plane_after g u ss OutputCycle some f h = let none = rw some at h in cc
 
 -- 06h is declared where it is permitted
 column_declared : (g : Parts) (c : Command) → breaks_command_unknown g (CommandCycle c) ≡ false → is_enhanced_column c ≡ true → has_enhanced_column g.optional ≡ true
@@ -234,8 +289,11 @@ alone_named g u ss byte (inr one) count declared f8 ends m within =
     let low : p.lun < g.luns = ltb-true p.lun g.luns (and_parts (ltb p.lun g.luns) _ (and_parts (ltb p.lun g.luns && ltb p.block g.blocks) _ inside).0).0 in
     eq-eqb p.lun m (omega (arith, low, one, count, within))
 
-reads_clear : (g : Parts) (u : TailFacts) (ts : List LunView) → (opened (λ c n. is_read c && n == 5) u.opening ≡ true → NoneQueued g (row u) ts) → AtEach (ReadsClear g u) 0 ts
-reads_clear g u ts h = at_each (ReadsClear g u) ts (λ m t found r names. h r m t found names)
+reads_clear : (g : Parts) (u : TailFacts) (ts : List LunView) → (has_plane_reads g.optional ≡ false → opened (λ c n. is_read c && n == 5) u.opening ≡ true → NoneQueued g (row u) ts) → AtEach (ReadsClear g u) 0 ts
+reads_clear g u ts h = at_each (ReadsClear g u) ts (λ m t found single r names. h single r m t found names)
+
+plane_clear : (g : Parts) (u : TailFacts) (ss : List LunView) → (opened (λ c n. is_enhanced_column c && n == 5) u.opening ≡ true → NoneQueued g (row u) ss) → AtEach (PlaneClear g u) 0 ss
+plane_clear g u ss h = at_each (PlaneClear g u) ss (λ m s found r names. h r m s found names)
 
 -- ---- 3. a cycle that is seen
 
@@ -244,7 +302,7 @@ module _ (g : Parts) (plain : is_shared g ≡ false) (k later : Known) (t s : Ta
   cycle = target_cycle c.kind c.byte
 
   each : Each IsBelow t.luns s.luns
-  each = below_each k 0 t.luns s.luns f.luns
+  each = below_each (has_plane_reads g.optional) k 0 t.luns s.luns f.luns
 
   few_after : (w : TailFacts) → length (luns_after g w (has_driver s.luns) (Cyc c) 0 s.luns) ≤ 4
   few_after w = subst (λ n. n ≤ 4) (sym (ap length (luns_by_cycle g w (has_driver s.luns) c s.luns) ∙ changed_length (by_cycle g w (has_driver s.luns) cycle) 0 s.luns)) f.few
@@ -252,28 +310,28 @@ module _ (g : Parts) (plain : is_shared g ≡ false) (k later : Known) (t s : Ta
   count_after : (w : TailFacts) → length (luns_after g w (has_driver s.luns) (Cyc c) 0 s.luns) ≤ g.luns
   count_after w = subst (λ n. n ≤ g.luns) (sym (ap length (luns_by_cycle g w (has_driver s.luns) c s.luns) ∙ changed_length (by_cycle g w (has_driver s.luns) cycle) 0 s.luns)) f.count
 
-  fit_after : (u w : TailFacts) → GoEach (Cyc c) k (by_cycle g u (has_driver t.luns) cycle) (by_cycle g w (has_driver s.luns) cycle) 0 t.luns s.luns → IsLearned (Cyc c) k later s.luns (luns_after g w (has_driver s.luns) (Cyc c) 0 s.luns) →
-      AllFit later 0 (luns_after g u (has_driver t.luns) (Cyc c) 0 t.luns) (luns_after g w (has_driver s.luns) (Cyc c) 0 s.luns)
+  fit_after : (u w : TailFacts) → GoEach (has_plane_reads g.optional) (Cyc c) k (by_cycle g u (has_driver t.luns) cycle) (by_cycle g w (has_driver s.luns) cycle) 0 t.luns s.luns → IsLearned (has_plane_reads g.optional) (Cyc c) k later s.luns (luns_after g w (has_driver s.luns) (Cyc c) 0 s.luns) →
+      AllFit (has_plane_reads g.optional) later 0 (luns_after g u (has_driver t.luns) (Cyc c) 0 t.luns) (luns_after g w (has_driver s.luns) (Cyc c) 0 s.luns)
   fit_after u w go learned =
       rw (luns_by_cycle g u (has_driver t.luns) c t.luns, luns_by_cycle g w (has_driver s.luns) c s.luns)
-      (all_fit_on (Cyc c) k later (by_cycle g u (has_driver t.luns) cycle) (by_cycle g w (has_driver s.luns) cycle) 0 t.luns s.luns f.luns go
-      (learns_each (Cyc c) k later (by_cycle g w (has_driver s.luns) cycle) s.luns f.few (subst (IsLearned (Cyc c) k later s.luns) (luns_by_cycle g w (has_driver s.luns) c s.luns) learned)))
+      (all_fit_on (has_plane_reads g.optional) (Cyc c) k later (by_cycle g u (has_driver t.luns) cycle) (by_cycle g w (has_driver s.luns) cycle) 0 t.luns s.luns f.luns go
+      (learns_each (has_plane_reads g.optional) (Cyc c) k later (by_cycle g w (has_driver s.luns) cycle) s.luns f.few (subst (IsLearned (has_plane_reads g.optional) (Cyc c) k later s.luns) (luns_by_cycle g w (has_driver s.luns) c s.luns) learned)))
 
   go_cycle : (u : TailFacts) (d : TargetCycle) → d ≡ cycle → KeepsRules g u t.luns d → KeepsRules g u s.luns d → (opened (λ c n. is_change_read_column c) u.opening ≡ true → (has_driver t.luns ≡ true) × (has_driver s.luns ≡ true)) →
-      (opened (λ c n. is_read c && n == 5) u.opening ≡ true → NoneQueued g (row u) t.luns) → GoEach (Cyc c) k (by_cycle g u (has_driver t.luns) d) (by_cycle g u (has_driver s.luns) d) 0 t.luns s.luns
-  go_cycle u (CommandCycle x) e a b column read = go_command g plain (Cyc c) k t.luns s.luns each u x (λ h. ap is_reset_cycle e ∙ h) a b column (reads_clear g u t.luns read)
-  go_cycle u (AddressCycle byte) e a b column read = go_address g plain (Cyc c) k t.luns s.luns each u byte (λ h. ap is_reset_cycle e ∙ h)
-  go_cycle u (InputCycle byte) e a b column read = go_input g plain (Cyc c) k t.luns s.luns each u byte (λ h. ap is_reset_cycle e ∙ h)
-  go_cycle u OutputCycle e a b column read = go_output g plain (Cyc c) k t.luns s.luns each u (λ h. ap is_reset_cycle e ∙ h) a b
+      (has_plane_reads g.optional ≡ false → opened (λ c n. is_read c && n == 5) u.opening ≡ true → NoneQueued g (row u) t.luns) → (opened (λ c n. is_enhanced_column c && n == 5) u.opening ≡ true → NoneQueued g (row u) s.luns) → GoEach (has_plane_reads g.optional) (Cyc c) k (by_cycle g u (has_driver t.luns) d) (by_cycle g u (has_driver s.luns) d) 0 t.luns s.luns
+  go_cycle u (CommandCycle x) e a b column read plane = go_command g plain (Cyc c) k t.luns s.luns each u x (λ h. ap is_reset_cycle e ∙ h) a b column (reads_clear g u t.luns read) (plane_clear g u s.luns plane)
+  go_cycle u (AddressCycle byte) e a b column read plane = go_address g plain (Cyc c) k t.luns s.luns each u byte (λ h. ap is_reset_cycle e ∙ h)
+  go_cycle u (InputCycle byte) e a b column read plane = go_input g plain (Cyc c) k t.luns s.luns each u byte (λ h. ap is_reset_cycle e ∙ h)
+  go_cycle u OutputCycle e a b column read plane = go_output g plain (Cyc c) k t.luns s.luns each u (λ h. ap is_reset_cycle e ∙ h) a b
 
   -- a cycle of a target of which an opener was seen
-  pub seen_opened : k.opened ≡ true → later.opened ≡ true → judge_cycle g t.tail t.luns cycle ≡ None → judge_cycle g s.tail s.luns cycle ≡ None → IsLearned (Cyc c) k later s.luns (target_after g (Cyc c) s).luns →
+  pub seen_opened : k.opened ≡ true → later.opened ≡ true → judge_cycle g t.tail t.luns cycle ≡ None → judge_cycle g s.tail s.luns cycle ≡ None → IsLearned (has_plane_reads g.optional) (Cyc c) k later s.luns (target_after g (Cyc c) s).luns →
       FitsTarget g later (target_after g (Cyc c) t) (target_after g (Cyc c) s)
   seen_opened was later_open permitted seen learned =
       record {
         few = few_after s.tail;
         count = count_after s.tail;
-        luns = fit_after t.tail s.tail (subst (λ (w : TailFacts). GoEach (Cyc c) k (by_cycle g t.tail (has_driver t.luns) cycle) (by_cycle g w (has_driver s.luns) cycle) 0 t.luns s.luns) o.tail (go_cycle t.tail cycle refl a b o.column o.read)) learned;
+        luns = fit_after t.tail s.tail (subst (λ (w : TailFacts). GoEach (has_plane_reads g.optional) (Cyc c) k (by_cycle g t.tail (has_driver t.luns) cycle) (by_cycle g w (has_driver s.luns) cycle) 0 t.luns s.luns) o.tail (go_cycle t.tail cycle refl a b o.column o.read o.plane)) learned;
         opened = λ h. record {
           tail = ap (facts_after cycle) o.tail;
           some = some_after cycle t.tail o.some;
@@ -284,7 +342,11 @@ module _ (g : Parts) (plain : is_shared g ≡ false) (k later : Known) (t s : Ta
                 ∙ ap (λ (w : TailFacts). has_driver (changed (by_cycle g w (has_driver s.luns) cycle) 0 s.luns)) (sym o.tail)
                 ∙ driver_after g t.tail s.luns cycle o.some (λ y. (o.column y).1) b.f5 x,
           );
-          read = λ x. subst (NoneQueued g (row (facts_after cycle t.tail))) (sym (luns_by_cycle g t.tail (has_driver t.luns) c t.luns)) (read_after g t.tail t.luns cycle o.some a.f10 x);
+          read = λ single x. subst (NoneQueued g (row (facts_after cycle t.tail))) (sym (luns_by_cycle g t.tail (has_driver t.luns) c t.luns)) (read_after g t.tail t.luns cycle single o.some a.f10 x);
+          plane = λ x.
+              subst (NoneQueued g (row (facts_after cycle t.tail)))
+              (sym (luns_by_cycle g s.tail (has_driver s.luns) c s.luns ∙ ap (λ (w : TailFacts). changed (by_cycle g w (has_driver s.luns) cycle) 0 s.luns) (sym o.tail)))
+              (plane_after g t.tail s.luns cycle o.some b.f18 x);
           declared = declared_after g t.tail cycle o.some o.declared a.f2;
         };
         closed = λ h. cc;
@@ -307,6 +369,7 @@ record Fresh (g : Parts) (d : TargetCycle) (u : TailFacts) : Type 0 where
   sound : is_sound (facts_after d u) ≡ true
   column : opened (λ c n. is_change_read_column c) (facts_after d u).opening ≡ true → (w : TailFacts) (vs : List LunView) → breaks_no_column_to_change vs d ≡ false → has_driver (changed (by_cycle g w (has_driver vs) d) 0 vs) ≡ true
   read : opened (λ c n. is_read c && n == 5) (facts_after d u).opening ≡ true → ⊥
+  plane : opened (λ c n. is_enhanced_column c && n == 5) (facts_after d u).opening ≡ true → ⊥
   declared : opened (λ c n. is_enhanced_column c) (facts_after d u).opening ≡ true → breaks_command_unknown g d ≡ false → has_enhanced_column g.optional ≡ true
 
 -- behind no tail an opener begins one
@@ -314,6 +377,7 @@ opens_nothing : (c : Command) → is_opener c ≡ true → begins_anew (facts_of
 opens_nothing ReadConfirm h = cc
 opens_nothing BlockEraseConfirm h = cc
 opens_nothing BlockErasePlane h = cc
+opens_nothing ReadPlane h = cc
 opens_nothing ProgramConfirm h = cc
 opens_nothing ProgramPlane h = cc
 opens_nothing ReadCacheSequential h = refl
@@ -324,6 +388,7 @@ anew_by : (t : TailFacts) (c : Command) → is_opener c ≡ true → (c ≡ Read
 anew_by t ReadConfirm h w = cc
 anew_by t BlockEraseConfirm h w = cc
 anew_by t BlockErasePlane h w = cc
+anew_by t ReadPlane h w = cc
 anew_by t ProgramConfirm h w = cc
 anew_by t ProgramPlane h w = cc
 anew_by t ReadCacheSequential h w = ap not (w refl)
@@ -416,6 +481,7 @@ fresh_anew g t ts ss ReadCacheSequential h a b (selecting e n) = ap not (selecti
 fresh_anew g t ts ss ReadConfirm h a b m = cc
 fresh_anew g t ts ss BlockEraseConfirm h a b m = cc
 fresh_anew g t ts ss BlockErasePlane h a b m = cc
+fresh_anew g t ts ss ReadPlane h a b m = cc
 fresh_anew g t ts ss ProgramConfirm h a b m = cc
 fresh_anew g t ts ss ProgramPlane h a b m = cc
 fresh_anew g t ts ss c h a b m = h
@@ -425,18 +491,19 @@ pub known_anew : (g : Parts) (t : TailFacts) (ts ss : List LunView) (c : Command
 unfolding breaks_cache_read_misplaced
 known_anew g t ts ss ReadCacheSequential h a (blank e) each = ap not (at (wants_command t ReadCacheSequential) refl a.f15)
   where
-    at : (w : Bool) → wants_command t ReadCacheSequential ≡ w → cond w (not (named_lun_is g (row t) (λ v. is_page_read v.closer) ts)) (not (driver_is (continues_cache g) ts)) ≡ false → w ≡ false
+    at : (w : Bool) → wants_command t ReadCacheSequential ≡ w → cond w (not (named_lun_is g (row t) has_read_one ts)) (not (driver_is (continues_cache g) ts)) ≡ false → w ≡ false
     at false x f = refl
     at true x f =
         absurd (blank_reader ss (parts_of g (row t)).lun e
-        (lun_up IsKnown (λ v. is_page_read v.closer) (λ v. is_page_read v.closer) (λ x y k r. ap is_page_read (sym k.begun.closer) ∙ r) ts ss (parts_of g (row t)).lun each
-        (not-false (named_lun_is g (row t) (λ v. is_page_read v.closer) ts) f)))
+        (lun_up IsKnown has_read_one (λ v. is_page_read v.closer) (λ x y k r. ap is_page_read (sym k.begun.closer) ∙ (and_parts (is_page_read x.closer) (leb (length x.held) 1) r).0) ts ss (parts_of g (row t)).lun each
+        (not-false (named_lun_is g (row t) has_read_one ts) f)))
 known_anew g t ts ss ReadCacheSequential h a (quiet e) each = ap not (quiet_read g t e)
 known_anew g t ts ss ReadCacheSequential h a (named e n) each = ap not (named_read g t e a.f3)
 known_anew g t ts ss ReadCacheSequential h a (selecting e n) each = ap not (selecting_read g t e)
 known_anew g t ts ss ReadConfirm h a m each = cc
 known_anew g t ts ss BlockEraseConfirm h a m each = cc
 known_anew g t ts ss BlockErasePlane h a m each = cc
+known_anew g t ts ss ReadPlane h a m each = cc
 known_anew g t ts ss ProgramConfirm h a m each = cc
 known_anew g t ts ss ProgramPlane h a m each = cc
 known_anew g t ts ss c h a m each = h
@@ -457,6 +524,7 @@ fresh_of g (CommandCycle c) u h =
       sound = rw h (ap (is_sound_by (Some (record { opener = c; addresses = 0 }))) (quiet_command c Outside refl));
       column = λ x w vs f5. opened_driver g w vs c f5 (rw h at x);
       read = λ x. let five = (and_parts (is_read c) (0 == 5) (rw h at x)).1 in cc;
+      plane = λ x. let five = (and_parts (is_enhanced_column c) (0 == 5) (rw h at x)).1 in cc;
       declared = λ x f2. column_declared g c f2 (rw h at x);
     }
 fresh_of g (AddressCycle byte) u h = cc
@@ -465,19 +533,19 @@ fresh_of g OutputCycle u h = cc
 
 module _ (g : Parts) (plain : is_shared g ≡ false) (k later : Known) (t s : TargetView) (c : Cycle) (f : FitsTarget g k t s) where
   go_fresh : (u : TailFacts) (d : TargetCycle) → d ≡ target_cycle c.kind c.byte → begins_sequence d ≡ true → begins_anew u d ≡ true → KeepsRules g u t.luns d → KeepsRules g (facts_of []) s.luns d →
-      GoEach (Cyc c) k (by_cycle g u (has_driver t.luns) d) (by_cycle g (facts_of []) (has_driver s.luns) d) 0 t.luns s.luns
+      GoEach (has_plane_reads g.optional) (Cyc c) k (by_cycle g u (has_driver t.luns) d) (by_cycle g (facts_of []) (has_driver s.luns) d) 0 t.luns s.luns
   go_fresh u (CommandCycle x) e h anew a b = go_opener g plain (Cyc c) k t.luns s.luns (each g plain k later t s c f) u x h anew (λ y. ap is_reset_cycle e ∙ y) a b
   go_fresh u (AddressCycle byte) e h anew a b = cc
   go_fresh u (InputCycle byte) e h anew a b = cc
   go_fresh u OutputCycle e h anew a b = cc
 
   pub seen_fresh : k.opened ≡ false → later.opened ≡ true → begins_sequence (target_cycle c.kind c.byte) ≡ true → judge_cycle g t.tail t.luns (target_cycle c.kind c.byte) ≡ None → judge_cycle g s.tail s.luns (target_cycle c.kind c.byte) ≡ None →
-      IsLearned (Cyc c) k later s.luns (target_after g (Cyc c) s).luns → FitsTarget g later (target_after g (Cyc c) t) (target_after g (Cyc c) s)
+      IsLearned (has_plane_reads g.optional) (Cyc c) k later s.luns (target_after g (Cyc c) s).luns → FitsTarget g later (target_after g (Cyc c) t) (target_after g (Cyc c) s)
   seen_fresh was later_open begins permitted seen learned =
       record {
         few = few_after g plain k later t s c f s.tail;
         count = count_after g plain k later t s c f s.tail;
-        luns = fit_after g plain k later t s c f t.tail s.tail (subst (λ (w : TailFacts). GoEach (Cyc c) k (by_cycle g t.tail (has_driver t.luns) d) (by_cycle g w (has_driver s.luns) d) 0 t.luns s.luns) (sym q.tail) (go_fresh t.tail d refl begins anew a b)) learned;
+        luns = fit_after g plain k later t s c f t.tail s.tail (subst (λ (w : TailFacts). GoEach (has_plane_reads g.optional) (Cyc c) k (by_cycle g t.tail (has_driver t.luns) d) (by_cycle g w (has_driver s.luns) d) 0 t.luns s.luns) (sym q.tail) (go_fresh t.tail d refl begins anew a b)) learned;
         opened = λ h. record {
           tail = fresh.same ∙ ap (facts_after d) (sym q.tail);
           some = fresh.some;
@@ -486,7 +554,8 @@ module _ (g : Parts) (plain : is_shared g ≡ false) (k later : Known) (t s : Ta
             ap has_driver (luns_by_cycle g t.tail (has_driver t.luns) c t.luns) ∙ fresh.column x t.tail t.luns a.f5,
             ap has_driver (luns_by_cycle g s.tail (has_driver s.luns) c s.luns) ∙ fresh.column x s.tail s.luns b.f5,
           );
-          read = λ x. absurd (fresh.read x);
+          read = λ single x. absurd (fresh.read x);
+          plane = λ x. absurd (fresh.plane x);
           declared = λ x. fresh.declared x a.f2;
         };
         closed = λ h. cc;
@@ -523,11 +592,11 @@ module _ (g : Parts) (plain : is_shared g ≡ false) (one : IsAlone g) (k : Know
   clear = plain_clear g t.luns s.luns plain
 
   below : Each IsBelow t.luns s.luns
-  below = below_each k 0 t.luns s.luns f.luns
+  below = below_each (has_plane_reads g.optional) k 0 t.luns s.luns f.luns
 
-  left_below : ((la : Latch) (n : ℕ) (v : LunView) → slice_get s.luns n ≡ Some v → IsHarmless (cycle_effect g t.tail la (target_cycle c.kind c.byte) n) v) → AllFit nothing_known 0 (target_after g (Cyc c) t).luns s.luns
+  left_below : ((la : Latch) (n : ℕ) (v : LunView) → slice_get s.luns n ≡ Some v → IsHarmless (cycle_effect g t.tail la (target_cycle c.kind c.byte) n) v) → AllFit (has_plane_reads g.optional) nothing_known 0 (target_after g (Cyc c) t).luns s.luns
   left_below h =
-      all_nothing (target_after g (Cyc c) t).luns s.luns f.few
+      all_nothing (has_plane_reads g.optional) (target_after g (Cyc c) t).luns s.luns f.few
       (subst (λ (vs : List LunView). Each IsBelow vs s.luns) (sym (luns_by_cycle g t.tail (has_driver t.luns) c t.luns))
       (below_unseen (by_cycle g t.tail (has_driver t.luns) (target_cycle c.kind c.byte)) t.luns s.luns below (λ m v found x. h (cond (has_driver t.luns) x.latch Off) m v found)))
 
@@ -536,18 +605,20 @@ module _ (g : Parts) (plain : is_shared g ≡ false) (one : IsAlone g) (k : Know
       record {
         few = f.few;
         count = f.count;
-        luns = left_below (λ la n v found. x.harmless la n v);
+        luns = left_below (λ la n v found. x.harmless la n v found);
         opened = λ h. cc;
         closed = λ h. record { tail = refl; nothing = refl; comes = x.comes };
       }
 
-  by_command : (u : TailFacts) (x : Command) (rule : Forbidden) → six_of g u s.luns (CommandCycle x) ≡ Some rule → (grants x ≡ true → MayCome g (facts_after (CommandCycle x) t.tail) s.luns) → Comes g t.tail s.luns (CommandCycle x)
-  by_command u x rule h comes =
+  by_command : (u : TailFacts) (x : Command) (rule : Forbidden) → (x ≡ ReadConfirm → NoneQueued g (row t.tail) s.luns) → six_of g u s.luns (CommandCycle x) ≡ Some rule → (grants x ≡ true → MayCome g (facts_after (CommandCycle x) t.tail) s.luns) → Comes g t.tail s.luns (CommandCycle x)
+  by_command u x rule calm h comes =
       let grant = is_granted g u s.luns x rule h in
-      record { comes = comes grant; harmless = λ la n v. command_granted g plain t.tail la x n v grant }
+      record { comes = comes grant; harmless = λ la n v found. command_granted g plain t.tail la x n v grant (λ same names. calm same n v found names) }
 
   open_comes : (d : TargetCycle) (rule : Forbidden) → KeepsRules g t.tail t.luns d → IsOpened g t s → judge_cycle g t.tail s.luns d ≡ Some rule → Comes g t.tail s.luns d
-  open_comes (CommandCycle x) rule a o h = by_command t.tail x rule (sym (judged_six g t.tail t.luns s.luns (CommandCycle x) (under_each t.luns s.luns below) clear a) ∙ h) (command_comes g t.tail s.luns x (inl o.some))
+  open_comes (CommandCycle x) rule a o h =
+      let six = sym (judged_six g t.tail t.luns s.luns (CommandCycle x) (under_each t.luns s.luns below) clear a) ∙ h in
+      by_command t.tail x rule (λ same. granted_row g t.tail t.luns s.luns rule below (sym (ap (λ (y : Command). six_of g t.tail s.luns (CommandCycle y)) same) ∙ six)) six (command_comes g t.tail s.luns x (inl o.some))
   open_comes (AddressCycle byte) rule a o h = address_granted g t.tail t.luns s.luns byte rule below a o.some o.sound (alone_named g t.tail s.luns byte one f.count o.declared a.f8) (sym (judged_six g t.tail t.luns s.luns (AddressCycle byte) (under_each t.luns s.luns below) clear a) ∙ h)
   open_comes (InputCycle byte) rule a o h = absurd (input_granted g t.tail t.luns s.luns byte rule a (sym (judged_six g t.tail t.luns s.luns (InputCycle byte) (under_each t.luns s.luns below) clear a) ∙ h))
   open_comes OutputCycle rule a o h = output_granted g t.tail s.luns o.some
@@ -560,7 +631,7 @@ module _ (g : Parts) (plain : is_shared g ≡ false) (one : IsAlone g) (k : Know
 
   fresh_comes : (d : TargetCycle) (rule : Forbidden) → begins_sequence d ≡ true → KeepsRules g t.tail t.luns d → MayCome g t.tail s.luns → judge_cycle g (facts_of []) s.luns d ≡ Some rule → Comes g t.tail s.luns d
   fresh_comes (CommandCycle x) rule begins a m h =
-      by_command (facts_of []) x rule (sym (judged_six_fresh g t.tail t.luns s.luns x begins (under_each t.luns s.luns below) clear a) ∙ h) (λ grant. fresh_comes_on g t.tail t.luns s.luns x begins grant a m)
+      by_command (facts_of []) x rule (λ same. let opens : false ≡ true = sym (ap is_opener same) ∙ begins in cc) (sym (judged_six_fresh g t.tail t.luns s.luns x begins (under_each t.luns s.luns below) clear a) ∙ h) (λ grant. fresh_comes_on g t.tail t.luns s.luns x begins grant a m)
   fresh_comes (AddressCycle byte) rule begins a m h = cc
   fresh_comes (InputCycle byte) rule begins a m h = cc
   fresh_comes OutputCycle rule begins a m h = cc
@@ -578,7 +649,7 @@ module _ (g : Parts) (plain : is_shared g ≡ false) (one : IsAlone g) (k : Know
       record {
         few = f.few;
         count = f.count;
-        luns = subst (λ (x : Known). AllFit x 0 (target_after g (Cyc c) t).luns s.luns) (sym q.nothing) (left_below (λ la n v found. unseen_harmless g plain t.tail t.luns s.luns (target_cycle c.kind c.byte) begins a q.comes n v found la));
+        luns = subst (λ (x : Known). AllFit (has_plane_reads g.optional) x 0 (target_after g (Cyc c) t).luns s.luns) (sym q.nothing) (left_below (λ la n v found. unseen_harmless g plain t.tail t.luns s.luns (target_cycle c.kind c.byte) begins a q.comes n v found la));
         opened = λ h. cc;
         closed = λ h. record { tail = q.tail; nothing = q.nothing; comes = may_come_on g t.tail t.luns s.luns (target_cycle c.kind c.byte) begins a q.comes };
       }

@@ -1,24 +1,26 @@
 -- A LUN of a shared target as it is, and as it is seen from a reset on: both are judged alike, and an effect leaves both alike.
-use Rattle.std.proofs.Common.{◌≡◌, ℕ, ◌+◌, ◌==◌, Bool, true, ◌||◌, List, [], ◌∷◌, Option, Some, None, refl, sym, ap, ◌∙◌, subst}
+use Rattle.std.proofs.Common.{◌≡◌, ℕ, ◌+◌, ◌==◌, Bool, true, false, cond, ◌||◌, take, List, [], ◌∷◌, Option, Some, None, refl, sym, ap, ◌∙◌, subst}
 use Rattle.nand_geometry.specs.declared.parts.Parts.{Parts}
 use Rattle.onfi_cycle.specs.declared.command.Command.TheVariants.{Reset}
 use Rattle.onfi_cycle.specs.declared.effect.Effect.{Effect}
-use Rattle.onfi_cycle.specs.declared.effect.Effect.TheVariants.{ReadStarted, CacheReadContinued, CacheReadEnded, TargetResetStarted, StatusOfSelected, AnotherAddressed}
+use Rattle.onfi_cycle.specs.declared.effect.Effect.TheVariants.{ReadStarted, ReadQueued, EraseStarted, ProgramStarted, IdRead, IdentityRead, UniqueIdReadStarted, FeaturesReadStarted, FeaturesSet, ParameterPageReadStarted, CacheReadContinued, CacheReadEnded, PlaneSelected, ResetStarted, TargetResetStarted, StatusOfSelected, AnotherAddressed}
 use Rattle.onfi_cycle.specs.declared.latch.Latch.{Latch}
 use Rattle.onfi_cycle.specs.declared.latch.Latch.TheVariants.{Off, Status, Data}
+use Rattle.onfi_cycle.specs.declared.page_address.PageAddress.{PageAddress}
 use Rattle.onfi_cycle.specs.declared.queued.Queued.{Queued}
+use Rattle.onfi_cycle.specs.declared.register.Register.TheVariants.{Empty, Page}
 use Rattle.onfi_cycle.specs.declared.tail_facts.TailFacts.{TailFacts}
 use Rattle.onfi_cycle.specs.declared.target_cycle.TargetCycle.{TargetCycle}
 use Rattle.onfi_cycle.specs.declared.target_cycle.TargetCycle.TheVariants.{CommandCycle}
 use Rattle.onfi_cycle.specs.Effect.{is_off, is_shared}
-use Rattle.onfi_cycle.specs.Lun.{is_cache_read, is_page_read, works, latch_after, selected_after, overlapped_after, queue_after, read_column_after, view_after}
+use Rattle.onfi_cycle.specs.Lun.{is_cache_read, is_page_read, pages_of_reads, has_reads, page_in_plane, register_of_plane, held_after, works, latch_after, selected_after, overlapped_after, queue_after, read_column_after, view_after}
 use Rattle.onfi_cycle.specs.LunView.{LunView}
 use Rattle.onfi_cycle.specs.Permitted.{judge_cycle}
 use Rattle.onfi_cycle.specs.Rules.{is_some_and, driver, works_for_target, breaks_command_unknown, breaks_sequence_open, breaks_several_luns, breaks_no_column_to_change, breaks_command_misplaced, breaks_address_misplaced, breaks_row_outside, breaks_lun_busy, breaks_queue_clash, breaks_input_misplaced, breaks_no_sole_driver, breaks_data_not_ready, breaks_column_outside, breaks_cache_read_misplaced, breaks_plane_not_held}
 use Rattle.onfi_cycle.specs.Sequence.{facts_of}
 use Rattle.onfi_cycle.specs.State.{has_driver}
 use Rattle.onfi_cycle.proofs.Passed.{KeepsRules}
-use Rattle.recording_laws.proofs.Luns.{Within, Shows, IsBegun, begun_after}
+use Rattle.recording_laws.proofs.Luns.{Within, Shows, IsBegun, begun_after, reads_on}
 use Rattle.recording_laws.proofs.Lists.{Each, each_more, any_down, Match, drivers_match}
 use Rattle.recording_laws.proofs.Rules.{IsClear, IsKnown, none_broken}
 use Rattle.recording_laws.proofs.Changed.{changed, AtEach}
@@ -31,6 +33,7 @@ pub record IsTwin (t s : LunView) : Type 0 where
   pub selected : t.selected ≡ s.selected
   pub overlapped : t.overlapped ≡ s.overlapped
   pub queue : t.queue ≡ s.queue
+  pub held : t.held ≡ s.held
 
 same_shows : (l : Latch) → Shows l l
 same_shows Off = tt
@@ -47,6 +50,7 @@ twin_known t s k =
       };
       begun = k.begun;
       same = record { off = ap is_off k.latch; latch = λ h. k.latch };
+      held = λ h. k.held;
     }
 
 twin_works : (t s : LunView) → IsTwin t s → works_for_target s ≡ true → works_for_target t ≡ true
@@ -71,25 +75,66 @@ GoesOn (CacheReadContinued to) s = is_page_read s.closer ≡ true
 GoesOn CacheReadEnded s = is_cache_read s.closer ≡ true
 GoesOn _ s = Unit {0}
 
-begun_on : (e : Effect) (t s : LunView) → IsBegun t s → GoesOn e s → IsBegun (view_after e t) (view_after e s)
-begun_on (ReadStarted at from) t s b on = record { busy = refl; closer = refl; array_busy = refl; page = λ h. refl; register = refl; column = λ h. refl }
-begun_on (TargetResetStarted first) t s b on = record { busy = refl; closer = refl; array_busy = refl; page = λ h. cc; register = refl; column = λ h. cc }
-begun_on StatusOfSelected t s b on = record { busy = b.busy; closer = b.closer; array_busy = b.array_busy; page = b.page; register = b.register; column = λ h. ap (read_column_after StatusOfSelected) (b.column h) }
-begun_on (AnotherAddressed reads) t s b on = record { busy = b.busy; closer = b.closer; array_busy = b.array_busy; page = b.page; register = b.register; column = b.column }
-begun_on (CacheReadContinued to) t s b on = begun_after (CacheReadContinued to) t s b on
-begun_on CacheReadEnded t s b on = begun_after CacheReadEnded t s b on
-begun_on e t s b on = begun_after e t s b on
+begun_on : (e : Effect) (t s : LunView) → IsTwin t s → GoesOn e s → IsBegun (view_after e t) (view_after e s)
+begun_on (ReadStarted at from) t s k on =
+    record {
+      busy = refl;
+      closer = refl;
+      array_busy = refl;
+      page = λ h. refl;
+      register = ap (λ (q : List Queued). cond (has_reads q) Empty (Page at)) k.queue;
+      column = λ h. refl;
+      held = λ h. ap (λ (q : List Queued). take 4 (at ∷ pages_of_reads q)) k.queue;
+    }
+begun_on (PlaneSelected plane count from) t s k on =
+    let b = k.begun in
+    record {
+      busy = b.busy;
+      closer = b.closer;
+      array_busy = b.array_busy;
+      page = b.page;
+      register = ap (λ (held : List PageAddress). register_of_plane (page_in_plane count plane held)) k.held;
+      column = λ h. refl;
+      held = λ h. k.held;
+    }
+begun_on (TargetResetStarted first) t s k on = record { busy = refl; closer = refl; array_busy = refl; page = λ h. cc; register = refl; column = λ h. cc; held = λ h. refl }
+begun_on StatusOfSelected t s k on =
+    let b = k.begun in
+    record { busy = b.busy; closer = b.closer; array_busy = b.array_busy; page = b.page; register = b.register; column = λ h. ap (read_column_after StatusOfSelected) (b.column h); held = b.held }
+begun_on (AnotherAddressed reads) t s k on = let b = k.begun in record { busy = b.busy; closer = b.closer; array_busy = b.array_busy; page = b.page; register = b.register; column = b.column; held = b.held }
+begun_on (CacheReadContinued to) t s k on = begun_after false (CacheReadContinued to) t s k.begun on tt
+begun_on CacheReadEnded t s k on = begun_after false CacheReadEnded t s k.begun on tt
+begun_on e t s k on = begun_after false e t s k.begun on tt
+
+-- the pages that are held
+held_on : (e : Effect) (t s : LunView) → IsTwin t s → GoesOn e s → held_after e t.array_page t.queue t.held ≡ held_after e s.array_page s.queue s.held
+held_on (ReadStarted at from) t s k on = ap (λ (q : List Queued). take 4 (at ∷ pages_of_reads q)) k.queue
+held_on (CacheReadContinued to) t s k on = ap (λ (p : PageAddress). p ∷ []) (k.begun.page on)
+held_on CacheReadEnded t s k on = ap (λ (p : PageAddress). p ∷ []) (k.begun.page (reads_on s.closer on))
+held_on (ProgramStarted queued at) t s k on = ap (λ (held : List PageAddress). cond queued held []) k.held
+held_on (ReadQueued at) t s k on = refl
+held_on (EraseStarted queued at) t s k on = refl
+held_on IdRead t s k on = refl
+held_on (IdentityRead jedec) t s k on = refl
+held_on ParameterPageReadStarted t s k on = refl
+held_on UniqueIdReadStarted t s k on = refl
+held_on (FeaturesReadStarted address) t s k on = refl
+held_on (FeaturesSet address) t s k on = refl
+held_on ResetStarted t s k on = refl
+held_on (TargetResetStarted first) t s k on = refl
+held_on e t s k on = k.held
 
 pub twin_after : (e : Effect) (t s : LunView) → IsTwin t s → GoesOn e s → IsTwin (view_after e t) (view_after e s)
 twin_after e t s k on =
     let busy = k.begun.busy in
     let array = k.begun.array_busy in
     record {
-      begun = begun_on e t s k.begun on;
+      begun = begun_on e t s k on;
       latch = ap (λ (b : Bool). latch_after e b (works t) t.latch) k.selected ∙ ap (λ (l : Latch). latch_after e s.selected (works t) l) k.latch ∙ ap (λ (b : Bool). latch_after e s.selected (b || t.array_busy) s.latch) busy ∙ ap (λ (b : Bool). latch_after e s.selected (s.busy || b) s.latch) array;
       selected = ap (selected_after e) k.selected;
       overlapped = ap (overlapped_after e (works t)) k.overlapped ∙ ap (λ (b : Bool). overlapped_after e (b || t.array_busy) s.overlapped) busy ∙ ap (λ (b : Bool). overlapped_after e (s.busy || b) s.overlapped) array;
       queue = ap (queue_after e) k.queue;
+      held = held_on e t s k on;
     }
 
 -- ---- 3. on each LUN
@@ -119,11 +164,12 @@ Beside t s = Unit {0}
 reset_twin : (first : Bool) (t s : LunView) → IsTwin (view_after (TargetResetStarted first) t) (view_after (TargetResetStarted first) s)
 reset_twin first t s =
     record {
-      begun = record { busy = refl; closer = refl; array_busy = refl; page = λ h. cc; register = refl; column = λ h. cc };
+      begun = record { busy = refl; closer = refl; array_busy = refl; page = λ h. cc; register = refl; column = λ h. cc; held = λ h. refl };
       latch = refl;
       selected = refl;
       overlapped = refl;
       queue = refl;
+      held = refl;
     }
 
 pub resets_twins : (f h : ℕ → LunView → Effect) → ((n : ℕ) (v : LunView) → f n v ≡ TargetResetStarted (n == 0)) → ((n : ℕ) (v : LunView) → h n v ≡ TargetResetStarted (n == 0)) →

@@ -3,10 +3,11 @@ use Rattle.std.proofs.Common.{◌≡◌, ◌⊎◌, inl, inr, ℕ, ◌+◌, ◌<
 use Rattle.std.proofs.lemmas.Bool.{and_parts, or_parts, not-true, not-false}
 use Rattle.std.proofs.lemmas.Option.{slice_get_within}
 use Rattle.nand_geometry.specs.declared.parts.Parts.{Parts}
+use Rattle.nand_geometry.specs.Limits.{planes}
 use Rattle.nand_geometry.specs.Optional.{is_wide}
 use Rattle.nand_geometry.specs.Row.{row_of}
 use Rattle.onfi_cycle.specs.declared.command.Command.{Command}
-use Rattle.onfi_cycle.specs.declared.command.Command.TheVariants.{Read, ReadConfirm, ChangeReadColumnEnhanced, ChangeReadColumnConfirm, BlockErase, BlockEraseConfirm, BlockErasePlane, ReadStatusEnhanced, PageProgram, ChangeWriteColumn, ProgramConfirm, ProgramPlane, ReadId, ReadParameterPage, ReadUniqueId, GetFeatures, SetFeatures, ResetLun, Unknown}
+use Rattle.onfi_cycle.specs.declared.command.Command.TheVariants.{Read, ReadConfirm, ChangeReadColumnEnhanced, ChangeReadColumnConfirm, BlockErase, BlockEraseConfirm, BlockErasePlane, ReadPlane, ReadStatusEnhanced, PageProgram, ChangeWriteColumn, ProgramConfirm, ProgramPlane, ReadId, ReadParameterPage, ReadUniqueId, GetFeatures, SetFeatures, ResetLun, Unknown}
 use Rattle.onfi_cycle.specs.declared.data_phase.DataPhase.{DataPhase}
 use Rattle.onfi_cycle.specs.declared.data_phase.DataPhase.TheVariants.{Outside, Inputs, FirstColumn, SecondColumn, FeatureInputs}
 use Rattle.onfi_cycle.specs.declared.effect.Effect.{Effect}
@@ -19,7 +20,7 @@ use Rattle.onfi_cycle.specs.declared.target_cycle.TargetCycle.TheVariants.{Comma
 use Rattle.onfi_cycle.specs.Bounds.{is_block_erase, is_read}
 use Rattle.onfi_cycle.specs.declared.row_bytes.RowBytes.{RowBytes}
 use Rattle.onfi_cycle.specs.Command.{is_opener, closes_row, reads_row, closes, address_cycles, takes_address, is_enhanced_column, is_page_program}
-use Rattle.onfi_cycle.specs.Effect.{is_off, is_data, is_shared, of_target, other_effect, confirm_effect, plane_effect, column_effect, names_lun, command_effect, id_effect, address_effect, opening_address_effect, cycle_effect, ends_features}
+use Rattle.onfi_cycle.specs.Effect.{is_off, is_data, is_shared, of_target, other_effect, confirm_effect, plane_of_row, plane_effect, column_effect, names_lun, command_effect, id_effect, address_effect, opening_address_effect, cycle_effect, ends_features}
 use Rattle.onfi_cycle.specs.LunView.{LunView}
 use Rattle.onfi_cycle.specs.Rules.{breaks_command_misplaced, breaks_address_misplaced, is_undeclared_address}
 use Rattle.onfi_cycle.specs.Sequence.{begins_sequence, begins_anew, works_on_row, one_address_more, row_after_address, wants_column, opened, takes_data, phase_after_command, phase_after_address, phase_after_last_address, phase_after_input, selects_plane, wants_address, wants_command, row, extended_facts, facts_after}
@@ -321,6 +322,14 @@ plane_loud : (o : Option Opening) (p : DataPhase) → is_quiet_by o p ≡ true �
 plane_loud None p q h = cc
 plane_loud (Some o) p q h = let led = plane_led o.opener o.addresses h in let quiet = not_led o p q in cc
 
+read_led : (c : Command) (n : ℕ) → (closes c ReadConfirm && n == address_cycles c) ≡ true → is_led c ≡ true
+read_led Read n h = refl
+read_led c n h = cc
+
+read_loud : (o : Option Opening) (p : DataPhase) → is_quiet_by o p ≡ true → opened (λ c n. closes c ReadConfirm && n == address_cycles c) o ≡ true → ⊥
+read_loud None p q h = cc
+read_loud (Some o) p q h = let led = read_led o.opener o.addresses h in let quiet = not_led o p q in cc
+
 program_loud : (o : Option Opening) (p : DataPhase) → is_quiet_by o p ≡ true → takes_data p ≡ true → ⊥
 program_loud None Inputs q h = cc
 program_loud (Some o) Inputs q h = cc
@@ -347,6 +356,15 @@ plane_beside : (o : Option Opening) (p : DataPhase) → is_plane_by o p ≡ true
 plane_beside None p q h = cc
 plane_beside (Some o) Outside q h = plane_column o.opener o.addresses q h
 plane_beside (Some o) p q h = cc
+
+read_column : (c : Command) (n : ℕ) → (is_enhanced_column c && n == 5) ≡ true → (closes c ReadConfirm && n == address_cycles c) ≡ true → ⊥
+read_column ChangeReadColumnEnhanced n e h = cc
+read_column c n e h = cc
+
+read_beside : (o : Option Opening) (p : DataPhase) → is_plane_by o p ≡ true → opened (λ c n. closes c ReadConfirm && n == address_cycles c) o ≡ true → ⊥
+read_beside None p q h = cc
+read_beside (Some o) Outside q h = read_column o.opener o.addresses q h
+read_beside (Some o) p q h = cc
 
 program_beside : (o : Option Opening) (p : DataPhase) → is_plane_by o p ≡ true → takes_data p ≡ true → ⊥
 program_beside None p q h = cc
@@ -442,7 +460,7 @@ module _ (g : Parts) (t : TailFacts) (byte m : ℕ) (s : LunView) (plain : is_sh
   address_harmless ss (Some o) FeatureInputs r (inr (inr n)) = absurd (true≢false (sym n.0))
 
 module _ (g : Parts) (t : TailFacts) (la : Latch) (ss : List LunView) (m : ℕ) (s : LunView) (found : slice_get ss m ≡ Some s) (h : Comes g ss t.opening t.phase (row t)) (plain : is_shared g ≡ false) where
-  -- a closer of an erase or a program, by the row of the tail
+  -- a closer of a read, an erase or a program, by the row of the tail
   closes_nothing : (w : Bool) (x : Effect) (c : Command) → (IsHarmless x s ≡ (s.queue ≡ [])) → (is_quiet_by t.opening t.phase ≡ true → w ≡ true → ⊥) → (is_plane_by t.opening t.phase ≡ true → w ≡ true → ⊥) → IsHarmless (cond (w && names_lun g (row t) m) x (other_effect g t c)) s
   closes_nothing w x c is loud apart = harmless_or (w && names_lun g (row t) m) x (other_effect g t c) s (λ b. at (and_parts w (names_lun g (row t) m) b).0 (and_parts w (names_lun g (row t) m) b).1 h) (other_harmless g t c s plain)
     where
@@ -461,11 +479,12 @@ module _ (g : Parts) (t : TailFacts) (la : Latch) (ss : List LunView) (m : ℕ) 
   column_harmless = at (selects_plane t) refl
     where
       at : (b : Bool) → selects_plane t ≡ b → IsHarmless (cond b (plane_effect g t m) (column_effect t la)) s
-      at true e = subst (λ (b : Bool). IsHarmless (cond b (PlaneSelected t.column) Deselected) s) (sym (selects_named h e)) tt
+      at true e = subst (λ (b : Bool). IsHarmless (cond b (PlaneSelected (plane_of_row g (row t)) (planes g) t.column) Deselected) s) (sym (selects_named h e)) tt
       at false e = harmless_if (wants_command t ChangeReadColumnConfirm && not (is_off la)) (ReadColumnChanged t.column) s (λ b. tt)
 
   command_harmless : (c : Command) → is_opener c ≡ false → wants_command t c ≡ true → IsHarmless (command_effect g t la c m) s
-  command_harmless ReadConfirm o w = harmless_or (wants_command t ReadConfirm && names_lun g (row t) m) (confirm_effect g t ReadConfirm) (other_effect g t ReadConfirm) s (λ b. tt) (other_harmless g t ReadConfirm s plain)
+  command_harmless ReadConfirm o w = closes_nothing (wants_command t ReadConfirm) (confirm_effect g t ReadConfirm) ReadConfirm refl (read_loud t.opening t.phase) (read_beside t.opening t.phase)
+  command_harmless ReadPlane o w = harmless_or (wants_command t ReadPlane && names_lun g (row t) m) (confirm_effect g t ReadPlane) (other_effect g t ReadPlane) s (λ b. tt) (other_harmless g t ReadPlane s plain)
   command_harmless ChangeReadColumnConfirm o w = column_harmless
   command_harmless BlockEraseConfirm o w = closes_nothing (wants_command t BlockEraseConfirm) (confirm_effect g t BlockEraseConfirm) BlockEraseConfirm refl (erase_loud t.opening t.phase) (erase_beside t.opening t.phase)
   command_harmless BlockErasePlane o w = closes_nothing (wants_command t BlockErasePlane) (confirm_effect g t BlockErasePlane) BlockErasePlane refl (plane_loud t.opening t.phase) (plane_beside t.opening t.phase)
@@ -487,5 +506,5 @@ unseen_harmless g plain t ts ss cycle begins k m n s found la = elim (comes_of g
 
 -- ---- 4. what is seen stays as it is
 
-pub nothing_fits : (t s : LunView) → IsBelow t s → Fits Nothing t s
-nothing_fits t s b = record { below = b; begun = λ h. cc; same = λ h. cc; off = λ h g. cc }
+pub nothing_fits : (p : Bool) (t s : LunView) → IsBelow t s → Fits p Nothing t s
+nothing_fits p t s b = record { below = b; queue = λ h g. cc; begun = λ h. cc; same = λ h. cc; off = λ h g. cc }

@@ -3,6 +3,7 @@ use Rattle.std.proofs.Common.{◌≡◌, ℕ, zero, suc, ◌<◌, ◌≤◌, ◌
 use Rattle.std.proofs.lemmas.Bool.{or_parts, not-false}
 use Rattle.std.proofs.lemmas.Option.{slice_get_within}
 use Rattle.nand_geometry.specs.declared.parts.Parts.{Parts}
+use Rattle.nand_geometry.specs.Optional.{has_plane_reads}
 use Rattle.onfi_cycle.specs.declared.item.Item.{Item}
 use Rattle.onfi_cycle.specs.declared.lun_state.LunState.{LunState}
 use Rattle.onfi_cycle.specs.Look.{look_at_some, look_on, looked}
@@ -117,15 +118,15 @@ look_there : (bus : BusView) (ce n : ℕ) (s : TargetView) → slice_get bus.tar
 look_there bus ce n s h = ap (λ (o : Option TargetView). look_on o n) h
 
 pub learned_there : (g : Parts) (i : Item) (before after : BusView) (ce : ℕ) (k : Known) (s u : TargetView) → slice_get before.targets ce ≡ Some s → slice_get after.targets ce ≡ Some u →
-    IsLearned i k (learned g i (looks_of before ce) (looks_of after ce) k) s.luns u.luns
+    IsLearned (has_plane_reads g.optional) i k (learned g i (looks_of before ce) (looks_of after ce) k) s.luns u.luns
 learned_there g i before after ce k s u fs fu n few = at n few
   where
-    both : (m : ℕ) (x : LunKnown) → learned_lun i (looked before (record { ce = ce; lun = m })) (looked after (record { ce = ce; lun = m })) x ≡ learned_lun i (look_at_some (slice_get s.luns m)) (look_at_some (slice_get u.luns m)) x
+    both : (m : ℕ) (x : LunKnown) → learned_lun (has_plane_reads g.optional) i (looked before (record { ce = ce; lun = m })) (looked after (record { ce = ce; lun = m })) x ≡ learned_lun (has_plane_reads g.optional) i (look_at_some (slice_get s.luns m)) (look_at_some (slice_get u.luns m)) x
     both m x =
-        ap (λ (o : Option LunState). learned_lun i o (looked after (record { ce = ce; lun = m })) x) (look_there before ce m s fs)
-        ∙ ap (λ (o : Option LunState). learned_lun i (look_at_some (slice_get s.luns m)) o x) (look_there after ce m u fu)
+        ap (λ (o : Option LunState). learned_lun (has_plane_reads g.optional) i o (looked after (record { ce = ce; lun = m })) x) (look_there before ce m s fs)
+        ∙ ap (λ (o : Option LunState). learned_lun (has_plane_reads g.optional) i (look_at_some (slice_get s.luns m)) o x) (look_there after ce m u fu)
 
-    at : (m : ℕ) → m < 4 → knows (learned g i (looks_of before ce) (looks_of after ce) k) m ≡ learned_lun i (look_at_some (slice_get s.luns m)) (look_at_some (slice_get u.luns m)) (knows k m)
+    at : (m : ℕ) → m < 4 → knows (learned g i (looks_of before ce) (looks_of after ce) k) m ≡ learned_lun (has_plane_reads g.optional) i (look_at_some (slice_get s.luns m)) (look_at_some (slice_get u.luns m)) (knows k m)
     at zero h = both 0 k.zeroth
     at (suc zero) h = both 1 k.first
     at (suc (suc zero)) h = both 2 k.second

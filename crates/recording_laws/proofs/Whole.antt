@@ -11,7 +11,7 @@ use Rattle.onfi_cycle.specs.Look.{looked}
 use Rattle.trace_faults.specs.declared.broken_rule.BrokenRule.{BrokenRule}
 use Rattle.trace_faults.specs.declared.known.Known.{Known}
 use Rattle.trace_faults.specs.declared.lun_known.LunKnown.{LunKnown}
-use Rattle.trace_faults.specs.declared.lun_known.LunKnown.TheVariants.{Nothing, Work, All}
+use Rattle.trace_faults.specs.declared.lun_known.LunKnown.TheVariants.{Nothing, Queue, Work, All}
 use Rattle.trace_faults.specs.declared.readies.Readies.{Readies}
 use Rattle.trace_faults.specs.declared.trace_state.TraceState.{TraceState}
 use Rattle.trace_faults.specs.declared.unshown.UnshownReady.{UnshownReady}
@@ -46,6 +46,7 @@ ready_plain doubted (Some rule) h = rw h refl
 
 begun : (x : LunKnown) → is_all x ≡ true → has_begun x ≡ true
 begun Nothing h = cc
+begun Queue h = cc
 begun Work h = cc
 begun All h = refl
 

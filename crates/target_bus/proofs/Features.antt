@@ -287,4 +287,4 @@ can_set s opened dies past ce count address k o d f fit some h found is place he
     let at : numbered g k ≡ lun_at ce 0 = ap (numbered g) place ∙ numbered_number g (lun_at ce 0) there.lun in
     let die : IsDieOf (channel_on g (length s.targets) opened) past (lun_at ce 0) d = subst (λ (l : Lun). IsDieOf (channel_on g (length s.targets) opened) past l d) at (f.stand k d here) in
     let same : SameDie g (lun_view g past (lun_at ce 0)) d = record { geometry = die.geometry; busy = die.busy; queue = die.queue; array_page = die.array_page } in
-    (can_begin g (lun_view g past (lun_at ce 0)) d (FeaturesSet address) same (fit.lun (lun_at ce 0) there) ((fit.stands (lun_at ce 0) there).identity (or_right _ (takes_features (facts past ce).phase) set.takes)), refl)
+    (can_begin g (lun_view g past (lun_at ce 0)) d (FeaturesSet address) same (fit.lun (lun_at ce 0) there) ((fit.stands (lun_at ce 0) there).identity (or_right _ (takes_features (facts past ce).phase) set.takes)), refl, tt)

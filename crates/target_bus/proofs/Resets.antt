@@ -147,7 +147,7 @@ all_reset state opened dies after past c f h facts several a = λ k new found. a
 pub can_reset : (state : BusView) (opened : List Entries) (dies after : List Die) (past : List Item) (ce n m : ℕ) (d : Die) → IsStanding state opened dies past → FactsFit state.geometry (length state.targets) past → ce < length state.targets → n < state.geometry.luns → m ≡ number_of state.geometry (lun_at ce n) → AreReset state.geometry ce n dies after → slice_get after m ≡ Some d → CanWork Leaves (TargetResetStarted (n == 0)) d
 can_reset state opened dies after past ce n m d f facts target low place a here =
     let die = subst (λ (l : Lun). IsDieOf (channel_on state.geometry (length state.targets) opened) past l d) is (f.stand m d (sym (a.still m not_yet) ∙ here)) in
-    (can_begin state.geometry (lun_view state.geometry past (lun_at ce n)) d (TargetResetStarted (n == 0)) (record { geometry = die.geometry; busy = die.busy; queue = die.queue; array_page = die.array_page }) (facts.lun (lun_at ce n) (record { target = target; lun = low })) tt, refl)
+    (can_begin state.geometry (lun_view state.geometry past (lun_at ce n)) d (TargetResetStarted (n == 0)) (record { geometry = die.geometry; busy = die.busy; queue = die.queue; array_page = die.array_page }) (facts.lun (lun_at ce n) (record { target = target; lun = low })) tt, refl, tt)
   where
     is : numbered state.geometry m ≡ lun_at ce n
     is = ap (numbered state.geometry) place ∙ numbered_number state.geometry (lun_at ce n) low

@@ -10,7 +10,7 @@ use Rattle.std.proofs.Math.Nat.{mul-le-mul_right}
 use Rattle.std.proofs.lemmas.Bool.{false_from_ne_true, not-false, or_parts as neither}
 use Rattle.onfi_cycle.proofs.Booleans.{clash}
 use Rattle.nand_geometry.specs.declared.parts.Parts.{Parts}
-use Rattle.nand_geometry.specs.Limits.{InLimits, page_len}
+use Rattle.nand_geometry.specs.Limits.{InLimits, page_len, planes}
 use Rattle.onfi_cycle.specs.declared.command.Command.{Command}
 use Rattle.onfi_cycle.specs.declared.command.Command.TheVariants.{Read, ReadConfirm, ChangeReadColumnConfirm, BlockEraseConfirm, BlockErasePlane, ReadStatus, ReadStatusEnhanced, ProgramConfirm, ProgramPlane, ReadId, ReadParameterPage, Reset, ReadCacheSequential, ReadCacheEnd, ReadUniqueId, GetFeatures, ResetLun, SynchronousReset}
 use Rattle.onfi_cycle.specs.declared.item.Cycle.{Cycle}
@@ -32,11 +32,11 @@ use Rattle.onfi_cycle.specs.declared.target_cycle.TargetCycle.{TargetCycle}
 use Rattle.onfi_cycle.specs.declared.target_cycle.TargetCycle.TheVariants.{CommandCycle, AddressCycle, InputCycle, OutputCycle}
 use Rattle.onfi_cycle.specs.LunView.{LunView}
 use Rattle.onfi_cycle.specs.Sequence.{tail, facts_of, target_cycle, takes_data, takes_features, input_column, wants_command, wants_address, row, row_with, selects_plane}
-use Rattle.onfi_cycle.specs.Effect.{is_shared, acts_for_target, of_target, other_effect, lun_reset_effect, is_off, is_data, names_lun, confirm_effect, command_effect, address_effect, opening_address_effect, id_effect, ends_features, cycle_effect, row_effect, cache_effect, plane_effect, column_effect}
+use Rattle.onfi_cycle.specs.Effect.{is_shared, acts_for_target, of_target, other_effect, lun_reset_effect, is_off, is_data, names_lun, confirm_effect, command_effect, address_effect, opening_address_effect, id_effect, ends_features, cycle_effect, row_effect, cache_effect, plane_effect, column_effect, plane_of_row}
 use Rattle.onfi_cycle.specs.Command.{closes_row, reads_row}
 use Rattle.onfi_cycle.specs.Filling.{filling, cycle_filling}
 use Rattle.onfi_cycle.specs.Lun.{effect_on, latch_alone, luns_of, lun_view, effect_among}
-use Rattle.onfi_cycle.specs.Rules.{breaks_not_there, breaks_column_outside, lun_is, is_some_and, some_queued_clashes}
+use Rattle.onfi_cycle.specs.Rules.{breaks_not_there, breaks_column_outside, lun_is, is_some_and, some_queued_clashes, some_read_clashes}
 use Rattle.onfi_cycle.specs.declared.item.Kind.{Kind}
 use Rattle.onfi_cycle.specs.declared.item.Kind.TheVariants.{Cmd, Adr, Din, Dout}
 use Rattle.onfi_cycle.specs.Channel.{Channel, cycle}
@@ -47,6 +47,7 @@ use Rattle.onfi_cycle.specs.Working.{fills, begins, works_on, is_reset_cycle, re
 use Rattle.onfi_cycle.specs.Readies.{starts, cycle_starts, starts_work, bus_due}
 use Rattle.onfi_cycle.proofs.Others.{first_passed}
 use Rattle.onfi_cycle.proofs.Passed.{permitted_keeps}
+use Rattle.onfi_cycle.proofs.HeldPages.{fits_planes}
 use Rattle.onfi_cycle.proofs.Keeping.{views_length}
 use Rattle.onfi_cycle.proofs.Following.{count_of}
 use Rattle.die_model.specs.Die.{Die, work_begun, is_program, IsAfter}
@@ -59,17 +60,16 @@ use Rattle.target_bus.proofs.Numbers.{target_there, lun_there, numbered_number, 
 -- 1. what leaves a die as it is
 
 pub rests : (x : Effect) (d : Die) → begins x ≡ false → is_no_ready x ≡ true → IsAfter x d d
-rests e.Unaffected d b r = record { geometry = refl; planes = refl; pages = λ p. refl; register = refl; array_page = refl; busy = refl; caching = refl; array_busy = refl; queue = refl; queued = refl; pending = refl; failed = refl }
-rests e.DataOutputEnabled d b r = record { geometry = refl; planes = refl; pages = λ p. refl; register = refl; array_page = refl; busy = refl; caching = refl; array_busy = refl; queue = refl; queued = refl; pending = refl; failed = refl }
-rests e.StatusSelected d b r = record { geometry = refl; planes = refl; pages = λ p. refl; register = refl; array_page = refl; busy = refl; caching = refl; array_busy = refl; queue = refl; queued = refl; pending = refl; failed = refl }
-rests e.StatusRowAwaited d b r = record { geometry = refl; planes = refl; pages = λ p. refl; register = refl; array_page = refl; busy = refl; caching = refl; array_busy = refl; queue = refl; queued = refl; pending = refl; failed = refl }
-rests e.SelectedForStatus d b r = record { geometry = refl; planes = refl; pages = λ p. refl; register = refl; array_page = refl; busy = refl; caching = refl; array_busy = refl; queue = refl; queued = refl; pending = refl; failed = refl }
-rests e.Deselected d b r = record { geometry = refl; planes = refl; pages = λ p. refl; register = refl; array_page = refl; busy = refl; caching = refl; array_busy = refl; queue = refl; queued = refl; pending = refl; failed = refl }
-rests e.StatusOfSelected d b r = record { geometry = refl; planes = refl; pages = λ p. refl; register = refl; array_page = refl; busy = refl; caching = refl; array_busy = refl; queue = refl; queued = refl; pending = refl; failed = refl }
-rests (e.AnotherAddressed reads) d b r = record { geometry = refl; planes = refl; pages = λ p. refl; register = refl; array_page = refl; busy = refl; caching = refl; array_busy = refl; queue = refl; queued = refl; pending = refl; failed = refl }
-rests (e.ReadColumnChanged column) d b r = record { geometry = refl; planes = refl; pages = λ p. refl; register = refl; array_page = refl; busy = refl; caching = refl; array_busy = refl; queue = refl; queued = refl; pending = refl; failed = refl }
-rests (e.PlaneSelected column) d b r = record { geometry = refl; planes = refl; pages = λ p. refl; register = refl; array_page = refl; busy = refl; caching = refl; array_busy = refl; queue = refl; queued = refl; pending = refl; failed = refl }
-rests e.DataOutput d b r = record { geometry = refl; planes = refl; pages = λ p. refl; register = refl; array_page = refl; busy = refl; caching = refl; array_busy = refl; queue = refl; queued = refl; pending = refl; failed = refl }
+rests e.Unaffected d b r = record { geometry = refl; planes = refl; pages = λ p. refl; register = refl; held = refl; array_page = refl; busy = refl; caching = refl; array_busy = refl; queue = refl; queued = refl; pending = refl; failed = refl }
+rests e.DataOutputEnabled d b r = record { geometry = refl; planes = refl; pages = λ p. refl; register = refl; held = refl; array_page = refl; busy = refl; caching = refl; array_busy = refl; queue = refl; queued = refl; pending = refl; failed = refl }
+rests e.StatusSelected d b r = record { geometry = refl; planes = refl; pages = λ p. refl; register = refl; held = refl; array_page = refl; busy = refl; caching = refl; array_busy = refl; queue = refl; queued = refl; pending = refl; failed = refl }
+rests e.StatusRowAwaited d b r = record { geometry = refl; planes = refl; pages = λ p. refl; register = refl; held = refl; array_page = refl; busy = refl; caching = refl; array_busy = refl; queue = refl; queued = refl; pending = refl; failed = refl }
+rests e.SelectedForStatus d b r = record { geometry = refl; planes = refl; pages = λ p. refl; register = refl; held = refl; array_page = refl; busy = refl; caching = refl; array_busy = refl; queue = refl; queued = refl; pending = refl; failed = refl }
+rests e.Deselected d b r = record { geometry = refl; planes = refl; pages = λ p. refl; register = refl; held = refl; array_page = refl; busy = refl; caching = refl; array_busy = refl; queue = refl; queued = refl; pending = refl; failed = refl }
+rests e.StatusOfSelected d b r = record { geometry = refl; planes = refl; pages = λ p. refl; register = refl; held = refl; array_page = refl; busy = refl; caching = refl; array_busy = refl; queue = refl; queued = refl; pending = refl; failed = refl }
+rests (e.AnotherAddressed reads) d b r = record { geometry = refl; planes = refl; pages = λ p. refl; register = refl; held = refl; array_page = refl; busy = refl; caching = refl; array_busy = refl; queue = refl; queued = refl; pending = refl; failed = refl }
+rests (e.ReadColumnChanged column) d b r = record { geometry = refl; planes = refl; pages = λ p. refl; register = refl; held = refl; array_page = refl; busy = refl; caching = refl; array_busy = refl; queue = refl; queued = refl; pending = refl; failed = refl }
+rests e.DataOutput d b r = record { geometry = refl; planes = refl; pages = λ p. refl; register = refl; held = refl; array_page = refl; busy = refl; caching = refl; array_busy = refl; queue = refl; queued = refl; pending = refl; failed = refl }
 rests x d b r = cc
 
 rests_worked : (g : Parts) (x : Filling) (k : Effect) (d : Die) → (fills x || begins k) ≡ false → is_no_ready k ≡ true → WorkedBy g x k d d
@@ -114,7 +114,7 @@ command_no_ready g t la ReadCacheSequential n =
     (either IsNoReady (is_off la) e.Unaffected (e.CacheReadContinued None) refl refl)
 command_no_ready g t la ReadCacheEnd n = either IsNoReady (is_off la) e.Unaffected e.CacheReadEnded refl refl
 command_no_ready g t la ChangeReadColumnConfirm n =
-    either IsNoReady (selects_plane t) (plane_effect g t n) (column_effect t la) (either IsNoReady (names_lun g (row t) n) (e.PlaneSelected t.column) e.Deselected refl refl)
+    either IsNoReady (selects_plane t) (plane_effect g t n) (column_effect t la) (either IsNoReady (names_lun g (row t) n) (e.PlaneSelected (plane_of_row g (row t)) (planes g) t.column) e.Deselected refl refl)
     (either IsNoReady (wants_command t ChangeReadColumnConfirm && not (is_off la)) (e.ReadColumnChanged t.column) e.Unaffected refl refl)
 command_no_ready g t la c n = either IsNoReady (wants_command t c && names_lun g (row t) n) (confirm_effect g t c) (other_effect g t c) (confirm_no_ready g t c) (either_passed IsNoReady g t c refl refl)
 
@@ -178,8 +178,12 @@ row_there g v d at s h = ap (λ (k : Parts). is_row k at) s.geometry ∙ h
 apart : (g : Parts) (v : LunView) (d : Die) (erase : Bool) (at : PageAddress) → SameDie g v d → some_queued_clashes g erase at v.queue ≡ false → not (some_queued_clashes d.geometry erase at d.queued) ≡ true
 apart g v d erase at s h = ap not (ap (λ (k : Parts). some_queued_clashes k erase at d.queued) s.geometry ∙ (ap (some_queued_clashes g erase at) s.queue ∙ h))
 
+apart_read : (g : Parts) (v : LunView) (d : Die) (at : PageAddress) → SameDie g v d → some_read_clashes g at v.queue ≡ false → not (some_read_clashes d.geometry at d.queued) ≡ true
+apart_read g v d at s h = ap not (ap (λ (k : Parts). some_read_clashes k at d.queued) s.geometry ∙ (ap (some_read_clashes g at) s.queue ∙ h))
+
 pub can_begin : (g : Parts) (v : LunView) (d : Die) (x : Effect) → SameDie g v d → LunFits g v → EffectFits g v x → CanBeginSome (work_begun x) d
 can_begin g v d (e.ReadStarted at column) s f h = record { row = row_there g v d at s h.2.inside; together = refl; ready = is_ready g v d s h.2.ready; room = small_queue g v d s f; next = small_page g v d s f }
+can_begin g v d (e.ReadQueued at) s f h = record { row = row_there g v d at s h.1.inside; together = apart_read g v d at s h.0; ready = is_ready g v d s h.1.ready; room = small_queue g v d s f; next = small_page g v d s f }
 can_begin g v d (e.EraseStarted true at) s f h = record { row = row_there g v d at s h.1.inside; together = apart g v d true at s h.0; ready = is_ready g v d s h.1.ready; room = small_queue g v d s f; next = small_page g v d s f }
 can_begin g v d (e.EraseStarted false at) s f h = record { row = row_there g v d at s h.1.inside; together = apart g v d true at s h.0; ready = is_ready g v d s h.1.ready; room = small_queue g v d s f; next = small_page g v d s f }
 can_begin g v d (e.ProgramStarted true at) s f h = record { row = row_there g v d at s h.1.inside; together = apart g v d false at s h.0; ready = is_ready g v d s h.1.ready; room = small_queue g v d s f; next = small_page g v d s f }
@@ -225,7 +229,7 @@ can_work s past c l d h there facts f = of (filling s.geometry (facts_of (tail p
     same = record { geometry = f.geometry; busy = f.busy; queue = f.queue; array_page = f.array_page }
 
     of : (x : Filling) → filling s.geometry (facts_of (tail past l.ce)) (Cyc c) l ≡ x → CanWork x (effect_on s.geometry past (Cyc c) l) d
-    of Leaves q = (can_begin s.geometry (lun_view s.geometry past l) d (effect_on s.geometry past (Cyc c) l) same (facts.lun l there) (facts.effect (Cyc c) l there h), no_ready s.geometry past c l)
+    of Leaves q = (can_begin s.geometry (lun_view s.geometry past l) d (effect_on s.geometry past (Cyc c) l) same (facts.lun l there) (facts.effect (Cyc c) l there h), no_ready s.geometry past c l, fits_planes s.geometry (lun_view s.geometry past l) (effect_on s.geometry past (Cyc c) l) (facts.effect (Cyc c) l there h))
     of (Clears at) q = tt
     of (Fills at column byte) q = subst (λ (k : Parts). column < page_len k) (sym f.geometry) (input_inside s.geometry s.targets past (Cyc c) l at column byte h q)
 
@@ -254,7 +258,7 @@ command_programs g t la ReadCacheSequential n h =
     (either IsNoProgram (is_off la) e.Unaffected (e.CacheReadContinued None) refl refl)
 command_programs g t la ReadCacheEnd n h = either IsNoProgram (is_off la) e.Unaffected e.CacheReadEnded refl refl
 command_programs g t la ChangeReadColumnConfirm n h =
-    either IsNoProgram (selects_plane t) (plane_effect g t n) (column_effect t la) (either IsNoProgram (names_lun g (row t) n) (e.PlaneSelected t.column) e.Deselected refl refl)
+    either IsNoProgram (selects_plane t) (plane_effect g t n) (column_effect t la) (either IsNoProgram (names_lun g (row t) n) (e.PlaneSelected (plane_of_row g (row t)) (planes g) t.column) e.Deselected refl refl)
     (either IsNoProgram (wants_command t ChangeReadColumnConfirm && not (is_off la)) (e.ReadColumnChanged t.column) e.Unaffected refl refl)
 command_programs g t la c n h = either IsNoProgram (wants_command t c && names_lun g (row t) n) (confirm_effect g t c) (other_effect g t c) (confirm_programs g t c h) (either_passed IsNoProgram g t c refl refl)
 

@@ -31,13 +31,15 @@ fn fills(filling: Filling) -> bool
     matches!(filling, Filling::Clears(_) | Filling::Fills(..))
 }
 
-// Work begins.
+// Work begins, or another page comes into the register.
 fn begins(effect: Effect) -> bool
     ensures { result ≡ begins effect }
 {
     matches!(
         effect,
         Effect::ReadStarted { .. }
+            | Effect::ReadQueued { .. }
+            | Effect::PlaneSelected { .. }
             | Effect::EraseStarted { .. }
             | Effect::ProgramStarted { .. }
             | Effect::IdRead

@@ -24,7 +24,7 @@ use Rattle.target_record.specs.declared.record.OnfiseqLun.{OnfiseqLun}
 use Rattle.target_record.specs.declared.record.OnfiseqTarget.{OnfiseqTarget}
 use Rattle.target_record.specs.Geometry.{parts_of}
 use Rattle.target_record.specs.Record.{IsRecord, IsTarget, target_of}
-use Rattle.target_record.specs.Whole.{IsWhole, WholeAreTaken, are_numbers, erase_goes, given_fits, identity_waits, is_outside, is_record, is_short, is_whole, lun_fits, lun_stands, luns_fit, program_goes, row_goes, row_lies, row_stands, stands_alone, tail_fits, target_fits}
+use Rattle.target_record.specs.Whole.{IsWhole, WholeAreTaken, are_numbers, erase_goes, given_fits, identity_waits, is_outside, is_record, is_short, is_whole, lun_fits, lun_stands, luns_fit, program_goes, read_goes, row_goes, row_lies, row_stands, stands_alone, tail_fits, target_fits}
 
 -- ---- tests on two or three Booleans
 
@@ -56,6 +56,10 @@ not_so false h = refl
 if_so : (x y : Bool) → (not x || y) ≡ true → x ≡ true → y ≡ true
 if_so true y h i = h
 if_so false y h i = cc
+
+first : (a b c : Bool) → a ≡ true → (a || (b || c)) ≡ true
+first true b c h = refl
+first false b c h = cc
 
 third : (a b c : Bool) → b ≡ true → (a || (b || c)) ≡ true
 third true b c h = refl
@@ -114,26 +118,33 @@ lun_is g v e =
     let b = and_parts (given_fits v.column.given) _ a.1 in
     let c = and_parts (nat_lt v.array_page.page 4294967296) _ b.1 in
     let outputs = a.0 in
+    let d = and_parts _ (nat_le (length v.held) 4) c.1 in
     let page = c.0 in
-    let queue = c.1 in
+    let queue = d.0 in
+    let held = d.1 in
     record {
       outputs = grind (arith, nat_tests, outputs);
       given = small_column v.column.given b.0;
       array_page = grind (arith, nat_tests, page);
       queue = grind (arith, nat_tests, queue);
+      held = grind (arith, nat_tests, held);
     }
 
 row_fits_there : (g : Parts) (t : TailFacts) (n : ℕ) (v : LunView) → (not (row_lies g t n) || row_goes g t v) ≡ true → RowFits g t n v
 row_fits_there g t n v e =
     record {
+      read = λ on named.
+          let goes = if_both (names_row t) (names_lun g (row t) n) (row_goes g t v) e on (first (names_read t) (names_erase t) (names_program t) named) in
+          let more = and_parts (not v.busy) _ (and_parts (is_row g (page_address g (row t))) _ goes).1 in
+          never_both (names_read t) _ (and_parts (read_goes g t (page_address g (row t)) v) _ more.1).0 named;
       erase = λ on named.
           let goes = if_both (names_row t) (names_lun g (row t) n) (row_goes g t v) e on (third (names_read t) (names_erase t) (names_program t) named) in
           let more = and_parts (not v.busy) _ (and_parts (is_row g (page_address g (row t))) _ goes).1 in
-          never_both (names_erase t) _ (and_parts (erase_goes g t (page_address g (row t)) v) _ more.1).0 named;
+          never_both (names_erase t) _ (and_parts (erase_goes g t (page_address g (row t)) v) _ (and_parts (read_goes g t (page_address g (row t)) v) _ more.1).1).0 named;
       program = λ on named.
           let goes = if_both (names_row t) (names_lun g (row t) n) (row_goes g t v) e on (last (names_read t) (names_erase t) (names_program t) named) in
           let more = and_parts (not v.busy) _ (and_parts (is_row g (page_address g (row t))) _ goes).1 in
-          never_both (names_program t) _ (and_parts (erase_goes g t (page_address g (row t)) v) _ more.1).1 named;
+          never_both (names_program t) _ (and_parts (erase_goes g t (page_address g (row t)) v) _ (and_parts (read_goes g t (page_address g (row t)) v) _ more.1).1).1 named;
     }
 
 -- of a target that isn't shared it is the other
@@ -226,14 +237,16 @@ lun_taken g v f =
     let queue = f.queue in
     let a : nat_le v.column.outputs 65536 ≡ true = grind (arith, nat_tests, outputs) in
     let b : nat_lt v.array_page.page 4294967296 ≡ true = grind (arith, nat_tests, page) in
+    let held = f.held in
     let c : nat_le (length v.queue + rooms g v.queue) 4 ≡ true = grind (arith, nat_tests, queue) in
-    and_from _ _ a (and_from _ _ (given_taken v.column.given f.given) (and_from _ _ b c))
+    let d : nat_le (length v.held) 4 ≡ true = grind (arith, nat_tests, held) in
+    and_from _ _ a (and_from _ _ (given_taken v.column.given f.given) (and_from _ _ b (and_from _ _ c d)))
 
 row_taken : (g : Parts) (t : TailFacts) (n : ℕ) (v : LunView) → RowFits g t n v → RowStands g t n v → (not (row_lies g t n) || row_goes g t v) ≡ true
 row_taken g t n v f s =
     both_taken (names_row t) (names_lun g (row t) n) (row_goes g t v) (λ on named.
     and_from _ _ (s.inside on named) (and_from _ _ (not_taken v.busy (s.ready on named))
-    (and_from _ _ (never_taken (names_erase t) _ (f.erase on)) (never_taken (names_program t) _ (f.program on)))))
+    (and_from _ _ (never_taken (names_read t) _ (f.read on)) (and_from _ _ (never_taken (names_erase t) _ (f.erase on)) (never_taken (names_program t) _ (f.program on))))))
 
 identity_taken : (g : Parts) (t : TailFacts) (n : ℕ) (v : LunView) → RowStands g t n v → identity_waits g t n v ≡ true
 identity_taken g t n v s =
@@ -261,9 +274,11 @@ records_taken (l ∷ ls) a =
     let first = a 0 l (omega arith) in
     let queued = first.queued in
     let outputs = first.outputs in
+    let holds = first.holds in
     let b : nat_le l.queued 4 ≡ true = grind (arith, nat_tests, queued) in
     let c : nat_lt l.outputs 9223372036854775808 ≡ true = grind (arith, nat_tests, outputs) in
-    and_from _ _ (and_from _ _ b c) (records_taken ls (λ k d h. a (suc k) d (omega (arith, h))))
+    let d : nat_le l.holds 4 ≡ true = grind (arith, nat_tests, holds) in
+    and_from _ _ (and_from _ _ b (and_from _ _ d c)) (records_taken ls (λ k d h. a (suc k) d (omega (arith, h))))
 
 pub numbers_taken : (t : OnfiseqTarget) → IsTarget t → are_numbers t ≡ true
 numbers_taken t n =

@@ -1,6 +1,9 @@
 -- The last address of a row inside the geometry, on the LUN that the row names.
-use Rattle.std.specs.Prelude.{ℕ, Bool, ◌&&◌, ◌||◌, not, if◌then◌else◌, Option, Some, None}
+use Rattle.std.specs.Prelude.{ℕ, Bool, true, false, ◌&&◌, ◌||◌, not, if◌then◌else◌, Option, Some, None}
 use Rattle.nand_geometry.specs.declared.parts.Parts.{Parts}
+use Rattle.nand_geometry.specs.Optional.{is_wide}
+use Rattle.onfi_cycle.specs.declared.command.Command.{Command}
+use Rattle.onfi_cycle.specs.declared.command.Command.TheVariants.{ReadConfirm, ReadPlane}
 use Rattle.onfi_cycle.specs.declared.forbidden.Forbidden.{Forbidden}
 use Rattle.onfi_cycle.specs.declared.forbidden.Forbidden.TheVariants.{LunBusy, QueueClash, ColumnOutside, CacheReadMisplaced, PlaneNotHeld}
 use Rattle.onfi_cycle.specs.declared.tail_facts.TailFacts.{TailFacts}
@@ -16,10 +19,16 @@ named_rule g t row outside target_works v =
     else (if is_refused_by g t.opening (page_address g row) v.queue then Some QueueClash
     else (if outside then Some ColumnOutside
     else (if ends_row (excludes_cache g) t && caching v then Some CacheReadMisplaced
-    else (if ends_row is_enhanced_column t && not (holds_plane_of g (page_address g row) v.register) then Some PlaneNotHeld
+    else (if ends_row is_enhanced_column t && not (holds_plane_of g (page_address g row) v) then Some PlaneNotHeld
     else None))))
 
 -- the same where the row names none of them
 abbrev pub nobody_rule : TailFacts → (outside target_works : Bool) → Option Forbidden
 nobody_rule t outside target_works =
     if ends_row addresses_the_array t && target_works then Some LunBusy else (if outside then Some ColumnOutside else None)
+
+-- the closers that may not come while a cache read goes on at the LUN of their row
+abbrev pub is_kept_from_cache : Parts → Command → Bool
+is_kept_from_cache g ReadConfirm = is_wide g.optional
+is_kept_from_cache g ReadPlane = true
+is_kept_from_cache g _ = false

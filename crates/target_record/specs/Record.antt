@@ -11,12 +11,13 @@ use Rattle.onfi_cycle.specs.declared.page_address.PageAddress.{PageAddress}
 use Rattle.onfi_cycle.specs.declared.register.Register.{Register}
 use Rattle.onfi_cycle.specs.declared.register.Register.TheVariants.{Empty, Page, ParameterPage, Identifier, Identity, JedecIdentity, UniqueId, Features}
 use Rattle.onfi_cycle.specs.declared.queued.Queued.{Queued}
-use Rattle.onfi_cycle.specs.declared.queued.Queued.TheVariants.{Erase, Program}
+use Rattle.onfi_cycle.specs.declared.queued.Queued.TheVariants.{Erase, Program, Read}
 use Rattle.onfi_cycle.specs.declared.tail_facts.TailFacts.{TailFacts}
 use Rattle.onfi_cycle.specs.Command.{command}
 use Rattle.onfi_cycle.specs.LunView.{LunView}
 use Rattle.onfi_cycle.specs.State.{TargetView}
 use Rattle.target_record.specs.declared.record.OnfiseqQueued.{OnfiseqQueued}
+use Rattle.target_record.specs.declared.record.OnfiseqHeld.{OnfiseqHeld}
 use Rattle.target_record.specs.declared.record.OnfiseqLun.{OnfiseqLun}
 use Rattle.target_record.specs.declared.record.OnfiseqTarget.{OnfiseqTarget}
 
@@ -54,10 +55,19 @@ abbrev pub given_of : Bool → ℕ → Option ℕ
 given_of has column = if has then Some column else None
 
 abbrev pub queued_of : OnfiseqQueued → Queued
-queued_of q = if is_set q.is_program then Program (page_address q.block q.page) else Erase (page_address q.block q.page)
+queued_of q =
+    if q.kind == 0 then Erase (page_address q.block q.page)
+    else (if q.kind == 1 then Program (page_address q.block q.page)
+    else Read (page_address q.block q.page))
 
 abbrev pub queue_of : List OnfiseqQueued → List Queued
 queue_of records = map queued_of records
+
+abbrev pub page_of : OnfiseqHeld → PageAddress
+page_of h = page_address h.block h.page
+
+abbrev pub pages_of : List OnfiseqHeld → List PageAddress
+pages_of records = map page_of records
 
 abbrev pub lun_of : OnfiseqLun → LunView
 lun_of l = record {
@@ -71,6 +81,7 @@ lun_of l = record {
   register = register_of l.register l.register_block l.register_page;
   column = record { given = given_of (is_set l.has_column) l.column; outputs = l.outputs; lost = is_set l.lost };
   queue = queue_of (take l.queued l.queue);
+  held = pages_of (take l.holds l.held);
 }
 
 abbrev pub luns_of : List OnfiseqLun → List LunView
@@ -89,14 +100,15 @@ tail_of t = record {
 abbrev pub target_of : OnfiseqTarget → TargetView
 target_of t = record { tail = tail_of t; luns = luns_of (take t.count t.luns) }
 
--- the numbers of a LUN's record: its queue stands in its array, and its outputs have room
+-- the numbers of a LUN's record: its queue and its pages stand in their arrays, and its outputs have room
 pub record IsRecord (l : OnfiseqLun) : Type 0 where
   pub queued : l.queued ≤ 4
+  pub holds : l.holds ≤ 4
   pub outputs : l.outputs < 2 ^ 63
 
--- a LUN has a record: its queue has four rows at most
+-- a LUN has a record: its queue has four rows at most, and it holds as many pages
 abbrev pub HasRoom : LunView → Type 0
-HasRoom v = length v.queue ≤ 4
+HasRoom v = (length v.queue ≤ 4) × (length v.held ≤ 4)
 
 -- the numbers of a target's record
 pub record IsTarget (t : OnfiseqTarget) : Type 0 where

@@ -9,10 +9,10 @@ use Rattle.onfi_cycle.specs.declared.data_phase.DataPhase.TheVariants.{Outside, 
 use Rattle.onfi_cycle.specs.declared.opening.Opening.{Opening}
 use Rattle.onfi_cycle.specs.declared.page_address.PageAddress.{PageAddress}
 use Rattle.onfi_cycle.specs.declared.tail_facts.TailFacts.{TailFacts}
-use Rattle.onfi_cycle.specs.Bounds.{TargetFits, is_row, names_erase, names_identity, names_program, names_row, rooms}
+use Rattle.onfi_cycle.specs.Bounds.{TargetFits, is_row, names_erase, names_identity, names_program, names_read, names_row, rooms}
 use Rattle.onfi_cycle.specs.Effect.{is_shared, names_lun, page_address}
 use Rattle.onfi_cycle.specs.LunView.{LunView}
-use Rattle.onfi_cycle.specs.Rules.{some_queued_clashes}
+use Rattle.onfi_cycle.specs.Rules.{some_queued_clashes, some_read_clashes}
 use Rattle.onfi_cycle.specs.Sequence.{row, takes_features, wants_column}
 use Rattle.onfi_cycle.specs.State.{TargetView}
 use Rattle.target_record.specs.declared.geometry.OnfiseqGeometry.{OnfiseqGeometry}
@@ -24,7 +24,7 @@ use Rattle.target_record.specs.Record.{IsTarget, target_of}
 -- ---- the numbers of a record
 
 abbrev pub is_record : OnfiseqLun → Bool
-is_record l = nat_le l.queued 4 && nat_lt l.outputs 9223372036854775808
+is_record l = nat_le l.queued 4 && (nat_le l.holds 4 && nat_lt l.outputs 9223372036854775808)
 
 abbrev pub are_numbers : OnfiseqTarget → Bool
 are_numbers t = nat_le t.count 4 && list_all is_record t.luns
@@ -63,13 +63,16 @@ abbrev pub queue_fits : Parts → LunView → Bool
 queue_fits g v = nat_le (length v.queue + rooms g v.queue) 4
 
 abbrev pub lun_fits : Parts → LunView → Bool
-lun_fits g v = nat_le v.column.outputs 65536 && (given_fits v.column.given && (nat_lt v.array_page.page 4294967296 && queue_fits g v))
+lun_fits g v = nat_le v.column.outputs 65536 && (given_fits v.column.given && (nat_lt v.array_page.page 4294967296 && (queue_fits g v && nat_le (length v.held) 4)))
 
 -- the row that the tail names lies on the LUN of this number
 abbrev pub row_lies : Parts → TailFacts → ℕ → Bool
 row_lies g t n = names_row t && names_lun g (row t) n
 
--- where the tail names the row of an erase, or of a program, this page goes together with the queue
+-- where the tail names the row of a read, of an erase, or of a program, this page goes together with the queue
+abbrev pub read_goes : Parts → TailFacts → PageAddress → LunView → Bool
+read_goes g t p v = not (names_read t && some_read_clashes g p v.queue)
+
 abbrev pub erase_goes : Parts → TailFacts → PageAddress → LunView → Bool
 erase_goes g t p v = not (names_erase t && some_queued_clashes g true p v.queue)
 
@@ -78,7 +81,7 @@ program_goes g t p v = not (names_program t && some_queued_clashes g false p v.q
 
 -- a page is inside the geometry, its LUN is ready, and it goes together with the queue
 abbrev pub page_goes : Parts → TailFacts → PageAddress → LunView → Bool
-page_goes g t p v = is_row g p && (not v.busy && (erase_goes g t p v && program_goes g t p v))
+page_goes g t p v = is_row g p && (not v.busy && (read_goes g t p v && (erase_goes g t p v && program_goes g t p v)))
 
 -- the row of the tail does
 abbrev pub row_goes : Parts → TailFacts → LunView → Bool

@@ -1,5 +1,5 @@
 //! The rules F1 to F15 and F18 by the record of a target: of its LUNs only what a rule looks at is read, so nothing is taken out of the record.
-ghost use Rattle.std.specs.Prelude.{◌≡◌, ℕ, length, List, ◌^◌, ◌<◌, ◌≤◌, IfSome, true, false, not, slice_get};
+ghost use Rattle.std.specs.Prelude.{◌≡◌, ℕ, ◌%◌, ◌==◌, length, List, ◌^◌, ◌<◌, ◌≤◌, IfSome, true, false, not, slice_get};
 ghost use Rattle.std.specs.List.{All, list_all, list_any};
 ghost use Rattle.std.specs.Option.{option_copied, option_map};
 ghost use Rattle.nand_geometry.specs.Limits.{InLimits};
@@ -9,22 +9,22 @@ ghost use Rattle.onfi_cycle.specs.declared.item.Kind.{Kind as KindValue};
 ghost use Rattle.onfi_cycle.specs.declared.tail_facts.TailFacts.{TailFacts as TailValue};
 ghost use Rattle.onfi_cycle.specs.declared.target_cycle.TargetCycle.{TargetCycle};
 ghost use Rattle.onfi_cycle.specs.Effect.{is_off, is_data, is_shared, page_address};
-ghost use Rattle.onfi_cycle.specs.Lun.{is_page_read, output_column};
+ghost use Rattle.onfi_cycle.specs.Lun.{output_column};
 ghost use Rattle.onfi_cycle.specs.LunView.{LunView};
 ghost use Rattle.onfi_cycle.specs.Sequence.{is_open, target_cycle, wants_command, works_on_row, row};
 ghost use Rattle.onfi_cycle.specs.Permitted.{judge, judge_cycle, judge_known_cycle};
-ghost use Rattle.onfi_cycle.specs.Rules.{are_none, is_undeclared_address, breaks_address_misplaced, breaks_cache_read_misplaced, breaks_column_outside, breaks_command_unknown, breaks_lun_busy, breaks_no_column_to_change, breaks_several_luns, is_unclear, works_for_target, caching, continues_cache, driver, driving, ends_cache, ends_row, excludes_cache, named_lun_is, has_no_byte, holds_plane_of, has_some, is_past_register, lun_is, is_refused_by, is_undeclared, may_change_column, planes_clash, queued_clashes, refused_by, register_len, second_column, second_of_page, some_queued_clashes};
+ghost use Rattle.onfi_cycle.specs.Rules.{has_read_one, blocks_clash, read_clashes, some_read_clashes, are_none, is_undeclared_address, breaks_address_misplaced, breaks_cache_read_misplaced, breaks_column_outside, breaks_command_unknown, breaks_lun_busy, breaks_no_column_to_change, breaks_several_luns, is_unclear, works_for_target, caching, continues_cache, driver, driving, ends_cache, ends_row, excludes_cache, named_lun_is, has_no_byte, holds_plane_of, has_some, is_past_register, lun_is, is_refused_by, is_undeclared, may_change_column, planes_clash, queued_clashes, refused_by, register_len, second_column, second_of_page, some_queued_clashes};
 ghost use Rattle.onfi_cycle.specs.Command.{command, addresses_the_array, is_change_read_column, is_enhanced_column, is_opener};
 ghost use Rattle.onfi_cycle.specs.Bounds.{TargetFits};
 ghost use Rattle.target_record.specs.Geometry.{parts_of};
-ghost use Rattle.target_record.specs.Record.{IsRecord, tail_of, lun_of, luns_of, queue_of, target_of};
+ghost use Rattle.target_record.specs.Record.{IsRecord, tail_of, lun_of, luns_of, queue_of, pages_of, target_of};
 ghost use Rattle.target_record.specs.Record.{IsTarget};
-ghost use Rattle.target_record.specs.Judging.{named_rule, nobody_rule};
+ghost use Rattle.target_record.specs.Judging.{named_rule, nobody_rule, is_kept_from_cache};
 
 use crate::geometry::OnfiseqGeometry;
 use crate::record::{
-    OnfiseqLun, OnfiseqQueued, OnfiseqTarget, closer_of, given_of, is_set, latch_of, opening_of,
-    phase_of, queued_of, register_of, tail_of,
+    OnfiseqHeld, OnfiseqLun, OnfiseqQueued, OnfiseqTarget, closer_of, given_of, is_set, latch_of,
+    opening_of, page_of, phase_of, queued_of, register_of, tail_of,
 };
 use nand_geometry::{Geometry, Optional};
 use onfi_cycle::{
@@ -130,20 +130,19 @@ fn is_past_register(geometry: &OnfiseqGeometry, lun: &OnfiseqLun) -> bool
 
 // Read Cache Sequential may come.
 fn continues_cache(geometry: &OnfiseqGeometry, lun: &OnfiseqLun) -> bool
+    requires { IsRecord lun.now }
     ensures { result ≡ continues_cache (parts_of geometry.now) (lun_of lun.now) }
 {
     let pages = u64::from(geometry.pages);
-    !is_set(lun.busy)
-        && is_page_read(closer(lun))
-        && lun.array_page < pages
-        && lun.array_page + 1 < pages
+    !is_set(lun.busy) && has_read_one(lun) && lun.array_page < pages && lun.array_page + 1 < pages
 }
 
-// It has read a page, so that a cache read may go on from it.
-fn has_read(lun: &OnfiseqLun) -> bool
-    ensures { result ≡ is_page_read (lun_of lun.now).closer }
+// It has read a page, and holds no more than one, so that a cache read may go on from it.
+fn has_read_one(lun: &OnfiseqLun) -> bool
+    requires { IsRecord lun.now }
+    ensures { result ≡ has_read_one (lun_of lun.now) }
 {
-    is_page_read(closer(lun))
+    is_page_read(closer(lun)) && lun.holds <= 1
 }
 
 // Read Cache End may come.
@@ -320,6 +319,7 @@ fn is_undeclared(geometry: &OnfiseqGeometry, command: Command) -> bool
         Command::BlockErasePlane | Command::ProgramPlane => !is_set(geometry.multi_plane),
         Command::ReadCacheSequential | Command::ReadCacheEnd => !is_set(geometry.cache),
         Command::ChangeReadColumnEnhanced => { !Optional(geometry.optional).has_enhanced_column() }
+        Command::ReadPlane => !Optional(geometry.optional).has_plane_reads(),
         Command::ReadUniqueId => !Optional(geometry.optional).has_unique_id(),
         Command::GetFeatures | Command::SetFeatures => {
             !Optional(geometry.optional).has_features()
@@ -446,16 +446,16 @@ fn named_is_caching(geometry: &OnfiseqGeometry, kept: &OnfiseqTarget) -> bool
     }
 }
 
-// The LUN that the row of the tail names is there, and has read a page.
-fn named_has_read(geometry: &OnfiseqGeometry, kept: &OnfiseqTarget) -> bool
+// The LUN that the row of the tail names is there, and has read a page and holds no more.
+fn named_has_read_one(geometry: &OnfiseqGeometry, kept: &OnfiseqTarget) -> bool
     requires limits { InLimits (parts_of geometry.now) }
     requires numbers { IsTarget kept.now }
-    ensures { result ≡ named_lun_is (parts_of geometry.now) (row (tail_of kept.now)) (λ v. is_page_read v.closer) (target_of kept.now).luns }
+    ensures { result ≡ named_lun_is (parts_of geometry.now) (row (tail_of kept.now)) has_read_one (target_of kept.now).luns }
 {
     let named = geometry.known().parts_of(tail_of(kept).named_row()).lun;
     match lun_at(&kept.luns[..kept.count], named as usize) {
         None => false,
-        Some(lun) => has_read(lun),
+        Some(lun) => has_read_one(lun),
     }
 }
 
@@ -470,10 +470,21 @@ fn judge_random_cache_read(geometry: &OnfiseqGeometry, kept: &OnfiseqTarget) -> 
 {
     if is_open(kept) && !Optional(geometry.optional).is_wide() {
         Some(Forbidden::SequenceOpen)
-    } else if named_has_read(geometry, kept) {
+    } else if named_has_read_one(geometry, kept) {
         None
     } else {
         Some(Forbidden::CacheReadMisplaced)
+    }
+}
+
+// The closer may not come while a cache read goes on at the LUN of its row: 32h, and in the wider profile 30h.
+fn is_kept_from_cache(geometry: &OnfiseqGeometry, command: Command) -> bool
+    ensures { result ≡ is_kept_from_cache (parts_of geometry.now) command }
+{
+    match command {
+        Command::ReadConfirm => Optional(geometry.optional).is_wide(),
+        Command::ReadPlane => true,
+        _ => false,
     }
 }
 
@@ -491,10 +502,7 @@ fn judge_closer(
 {
     if !wants_command(kept, command) {
         Some(Forbidden::CommandMisplaced)
-    } else if command == Command::ReadConfirm
-        && Optional(geometry.optional).is_wide()
-        && named_is_caching(geometry, kept)
-    {
+    } else if is_kept_from_cache(geometry, command) && named_is_caching(geometry, kept) {
         Some(Forbidden::CacheReadMisplaced)
     } else {
         None
@@ -503,6 +511,14 @@ fn judge_closer(
 
 // ---- addresses
 
+// Two pages of one queue have other block bits above the plane, where that matters.
+fn blocks_clash(geometry: &Geometry, page: PageAddress, other: PageAddress) -> bool
+    ensures { result ≡ blocks_clash geometry.now page other }
+{
+    let planes = geometry.planes();
+    !geometry.parts().optional.has_free_blocks() && page.block / planes != other.block / planes
+}
+
 // Two pages of one queue don't go together: the same plane, another page, or other block bits above the plane.
 fn planes_clash(geometry: &Geometry, page: PageAddress, other: PageAddress) -> bool
     ensures { result ≡ planes_clash geometry.now page other }
@@ -510,7 +526,7 @@ fn planes_clash(geometry: &Geometry, page: PageAddress, other: PageAddress) -> b
     let planes = geometry.planes();
     page.block % planes == other.block % planes
         || page.page != other.page
-        || page.block / planes != other.block / planes
+        || blocks_clash(geometry, page, other)
 }
 
 // A queued row doesn't go together with an erase of this page, or with a program of it.
@@ -520,6 +536,34 @@ fn queued_clashes(geometry: &Geometry, is_erase: bool, page: PageAddress, queued
     match queued {
         Queued::Erase(other) => !is_erase || planes_clash(geometry, page, other),
         Queued::Program(other) => is_erase || planes_clash(geometry, page, other),
+        Queued::Read(_) => true,
+    }
+}
+
+// A queued row doesn't go together with a read of this page.
+fn read_clashes(geometry: &Geometry, page: PageAddress, queued: Queued) -> bool
+    ensures { result ≡ read_clashes geometry.now page queued }
+{
+    match queued {
+        Queued::Read(other) => !geometry.parts().optional.has_plane_reads()
+            || planes_clash(geometry, page, other),
+        Queued::Erase(_) | Queued::Program(_) => true,
+    }
+}
+
+pub(crate) fn some_read_clashes(
+    geometry: &Geometry,
+    page: PageAddress,
+    queue: &[OnfiseqQueued],
+) -> bool
+    ensures { result ≡ some_read_clashes geometry.now page (queue_of queue.now) }
+{
+    match queue {
+        [] => false,
+        [first, rest @ ..] => {
+            read_clashes(geometry, page, queued_of(first))
+                || some_read_clashes(geometry, page, rest)
+        }
     }
 }
 
@@ -550,7 +594,7 @@ fn refused_by(
     ensures { result ≡ refused_by geometry.now opener page (queue_of queue.now) }
 {
     match opener {
-        Command::Read => !queue.is_empty(),
+        Command::Read => some_read_clashes(geometry, page, queue),
         Command::BlockErase => some_queued_clashes(geometry, true, page, queue),
         Command::PageProgram => some_queued_clashes(geometry, false, page, queue),
         _ => false,
@@ -650,15 +694,26 @@ fn ends_plane_row(tail: TailFacts) -> bool
     }
 }
 
-// The register of the LUN holds a page of the plane in which this one lies.
+// Some page of these lies in this plane, where a LUN has so many planes.
+fn holds_plane(planes: u32, plane: u32, held: &[OnfiseqHeld]) -> bool
+    requires { 0 < planes }
+    ensures { result ≡ list_any (λ page. page.block % planes == plane) (pages_of held.now) }
+{
+    match held {
+        [] => false,
+        [first, rest @ ..] => {
+            page_of(first).block % planes == plane || holds_plane(planes, plane, rest)
+        }
+    }
+}
+
+// The LUN holds a page of the plane in which this one lies, and nothing is queued.
 fn holds_plane_of(geometry: &Geometry, page: PageAddress, lun: &OnfiseqLun) -> bool
-    ensures { result ≡ holds_plane_of geometry.now page (lun_of lun.now).register }
+    requires { IsRecord lun.now }
+    ensures { result ≡ holds_plane_of geometry.now page (lun_of lun.now) }
 {
     let planes = geometry.planes();
-    match register(lun) {
-        Register::Page(held) => held.block % planes == page.block % planes,
-        _ => false,
-    }
+    !has_queue(lun) && holds_plane(planes, page.block % planes, &lun.held[..lun.holds])
 }
 
 // The column is outside the page, or outside the register of the LUN that drives.

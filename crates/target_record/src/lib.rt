@@ -17,7 +17,7 @@ pub use judging::{
 };
 pub use lun_change::{become_array_ready, become_ready, change};
 pub use record::{
-    NO_TARGET, OnfiseqLun, OnfiseqQueued, OnfiseqTarget, closer_of, flag, is_set, latch_code,
-    latch_of, opening_of, record_of, register_of, tail_of,
+    NO_TARGET, OnfiseqHeld, OnfiseqLun, OnfiseqQueued, OnfiseqTarget, closer_of, flag, is_set,
+    latch_code, latch_of, opening_of, record_of, register_of, tail_of,
 };
 pub use whole::{are_numbers, is_whole, whole_records_are_taken};

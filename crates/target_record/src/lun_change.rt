@@ -1,18 +1,21 @@
 //! What an effect leaves of the record of a LUN, written where it stands.
-ghost use Rattle.std.specs.Prelude.{◌≡◌, ◌+◌, ◌^◌, ◌<◌, ◌≤◌, true, false, Some, [], ◌∷◌, length};
+ghost use Rattle.std.specs.Prelude.{◌≡◌, ◌+◌, ◌%◌, ◌^◌, ◌<◌, ◌≤◌, true, false, Some, [], ◌∷◌, length};
 ghost use Rattle.onfi_cycle.specs.declared.command.Command.{Command as CommandValue};
 ghost use Rattle.onfi_cycle.specs.declared.effect.Effect.{Effect as EffectValue};
 ghost use Rattle.onfi_cycle.specs.declared.latch.Latch.{Latch as LatchValue};
 ghost use Rattle.onfi_cycle.specs.declared.register.Register.{Register as RegisterValue};
-ghost use Rattle.onfi_cycle.specs.Lun.{column_at, latch_after, selected_after, overlapped_after, works, queue_after, view_after};
-ghost use Rattle.target_record.specs.Record.{IsRecord, lun_of};
+ghost use Rattle.onfi_cycle.specs.Lun.{column_at, latch_after, selected_after, overlapped_after, works, queue_after, view_after, page_in_plane, register_of_plane};
+ghost use Rattle.target_record.specs.Record.{IsRecord, lun_of, pages_of, queue_of};
 
 use crate::judging::is_caching;
 use crate::record::{
-    NO_ROW, OnfiseqLun, closer_byte, flag, is_set, latch_code, latch_of, queued_record,
-    register_record,
+    NO_PAGE, NO_ROW, OnfiseqHeld, OnfiseqLun, OnfiseqQueued, closer_byte, flag, held_record,
+    held_records, is_set, latch_code, latch_of, page_of, queued_of, queued_record, register_record,
 };
-use onfi_cycle::{Command, Effect, Latch, PageAddress, Queued, Register};
+use onfi_cycle::{
+    Command, Effect, HeldPages, Latch, PageAddress, Queued, Register, RowQueue, apply_to_held,
+    has_reads,
+};
 
 // Its next output gives this column of its register.
 #[inline(always)]
@@ -42,6 +45,51 @@ fn set_register(kept: &mut OnfiseqLun, closer: Command, register: Register)
     kept.register = register.code;
     kept.register_block = register.block;
     kept.register_page = register.page;
+}
+
+// Its plane registers hold no page.
+#[inline(always)]
+fn hold_none(kept: &mut OnfiseqLun)
+    requires { IsRecord kept.old }
+    ensures value { lun_of kept.new ≡ record (lun_of kept.old) { held = [] } }
+    ensures queue { (kept.new.queued ≡ kept.old.queued) × (kept.new.queue ≡ kept.old.queue) }
+    ensures numbers { IsRecord kept.new }
+{
+    kept.holds = 0;
+    kept.held = [NO_PAGE; 4];
+}
+
+// They hold this page alone.
+#[inline(always)]
+fn hold_one(kept: &mut OnfiseqLun, page: PageAddress)
+    requires { IsRecord kept.old }
+    ensures value { lun_of kept.new ≡ record (lun_of kept.old) { held = page ∷ [] } }
+    ensures numbers { IsRecord kept.new }
+{
+    kept.holds = 1;
+    kept.held = [held_record(page), NO_PAGE, NO_PAGE, NO_PAGE];
+}
+
+// They hold these pages.
+fn hold_all(kept: &mut OnfiseqLun, pages: &[PageAddress])
+    requires numbers { IsRecord kept.old }
+    requires few { length pages.now ≤ 4 }
+    ensures value { lun_of kept.new ≡ record (lun_of kept.old) { held = pages.now } }
+    ensures numbers { IsRecord kept.new }
+{
+    kept.holds = pages.len();
+    kept.held = held_records(pages);
+}
+
+// Its queue is empty.
+#[inline(always)]
+fn queue_none(kept: &mut OnfiseqLun)
+    requires { IsRecord kept.old }
+    ensures value { lun_of kept.new ≡ record (lun_of kept.old) { queue = [] } }
+    ensures numbers { IsRecord kept.new }
+{
+    kept.queue = [NO_ROW; 4];
+    kept.queued = 0;
 }
 
 // It gives what its register holds, from this column on.
@@ -78,25 +126,78 @@ fn act_for_target(kept: &mut OnfiseqLun)
     kept.overlapped = 0;
 }
 
-// It reads a page, and gives it from this column on.
+// It reads a page, this being what its register is to hold, and gives it from this column on.
 #[inline(always)]
-fn start_read(kept: &mut OnfiseqLun, page: PageAddress, column: u32)
+fn begin_read(kept: &mut OnfiseqLun, page: PageAddress, register: Register, column: u32)
     requires { IsRecord kept.old }
-    ensures value { lun_of kept.new ≡ view_after (EffectValue.ReadStarted page column) (lun_of kept.old) }
+    ensures value { lun_of kept.new ≡ record (lun_of kept.old) { latch = LatchValue.Data; selected = true; busy = true; closer = Some CommandValue.ReadConfirm; array_busy = false; array_page = page; register = register; column = column_at column } }
     ensures numbers { IsRecord kept.new }
 {
-    give_register(kept, Command::ReadConfirm, Register::Page(page), column);
+    give_register(kept, Command::ReadConfirm, register, column);
     be_selected(kept);
     kept.busy = 1;
     kept.array_block = page.block;
     kept.array_page = page.page;
 }
 
+// It reads a page, and those of the reads that it has queued.
+fn start_reads(kept: &mut OnfiseqLun, page: PageAddress, column: u32)
+    requires { IsRecord kept.old }
+    ensures value { lun_of kept.new ≡ view_after (EffectValue.ReadStarted page column) (lun_of kept.old) }
+    ensures numbers { IsRecord kept.new }
+{
+    let rows = queue_rows(&kept.queue[..kept.queued]);
+    let mut held = HeldPages::new();
+    apply_to_held(
+        &mut held,
+        Effect::ReadStarted { page, column },
+        page,
+        rows.as_slice(),
+    );
+    let register = if has_reads(rows.as_slice()) {
+        Register::Empty
+    } else {
+        Register::Page(page)
+    };
+    begin_read(kept, page, register, column);
+    queue_none(kept);
+    hold_all(kept, held.as_slice());
+}
+
+// It reads a page, and those of the reads that it has queued, and gives it from this column on.
+#[inline(always)]
+fn start_read(kept: &mut OnfiseqLun, page: PageAddress, column: u32)
+    requires { IsRecord kept.old }
+    ensures value { lun_of kept.new ≡ view_after (EffectValue.ReadStarted page column) (lun_of kept.old) }
+    ensures numbers { IsRecord kept.new }
+{
+    if kept.queued == 0 {
+        begin_read(kept, page, Register::Page(page), column);
+        queue_none(kept);
+        hold_one(kept, page);
+    } else {
+        start_reads(kept, page, column);
+    }
+}
+
+// It queues the read of a page, and shows data.
+#[inline(always)]
+fn queue_read(kept: &mut OnfiseqLun, page: PageAddress)
+    requires numbers { IsRecord kept.old }
+    requires room { kept.old.queued ≤ 3 }
+    ensures value { lun_of kept.new ≡ view_after (EffectValue.ReadQueued page) (lun_of kept.old) }
+    ensures numbers { IsRecord kept.new }
+{
+    queue_work(kept, Command::ReadPlane, Queued::Read(page));
+    hold_none(kept);
+    kept.latch = latch_code(Latch::Data);
+}
+
 // It gives the page that its array has read, after this closer, and its array is at this page then.
 #[inline(always)]
 fn give_cached(kept: &mut OnfiseqLun, closer: Command, next: u64)
     requires { IsRecord kept.old }
-    ensures value { lun_of kept.new ≡ record (lun_of kept.old) { latch = LatchValue.Data; busy = true; closer = Some closer; array_busy = false; array_page = record { block = kept.old.array_block; page = next }; register = RegisterValue.Page (lun_of kept.old).array_page; column = column_at 0 } }
+    ensures value { lun_of kept.new ≡ record (lun_of kept.old) { latch = LatchValue.Data; busy = true; closer = Some closer; array_busy = false; array_page = record { block = kept.old.array_block; page = next }; register = RegisterValue.Page (lun_of kept.old).array_page; held = (lun_of kept.old).array_page ∷ []; column = column_at 0 } }
     ensures numbers { IsRecord kept.new }
 {
     let page = PageAddress {
@@ -104,6 +205,7 @@ fn give_cached(kept: &mut OnfiseqLun, closer: Command, next: u64)
         page: kept.array_page,
     };
     give_register(kept, closer, Register::Page(page), 0);
+    hold_one(kept, page);
     kept.busy = 1;
     kept.array_page = next;
 }
@@ -145,6 +247,21 @@ fn begin_work(kept: &mut OnfiseqLun, closer: Command)
     kept.busy = 1;
 }
 
+// The rows of a queue.
+fn queue_rows(queue: &[OnfiseqQueued]) -> RowQueue
+    requires { length queue.now ≤ 4 }
+    ensures { result.items ≡ queue_of queue.now }
+{
+    match queue {
+        [] => RowQueue::new(),
+        [first, rest @ ..] => {
+            let mut rows = queue_rows(rest);
+            rows.insert(0, queued_of(first));
+            rows
+        }
+    }
+}
+
 // It has one row more in its queue.
 #[inline(always)]
 fn queue_row(kept: &mut OnfiseqLun, row: Queued)
@@ -174,12 +291,12 @@ fn queue_work(kept: &mut OnfiseqLun, closer: Command, row: Queued)
 #[inline(always)]
 fn start_work(kept: &mut OnfiseqLun, closer: Command)
     requires { IsRecord kept.old }
-    ensures value { lun_of kept.new ≡ record (lun_of kept.old) { selected = true; busy = true; closer = Some closer; array_busy = false; register = RegisterValue.Empty; queue = [] } }
+    ensures value { lun_of kept.new ≡ record (lun_of kept.old) { selected = true; busy = true; closer = Some closer; array_busy = false; register = RegisterValue.Empty; queue = []; held = [] } }
     ensures numbers { IsRecord kept.new }
 {
     begin_work(kept, closer);
-    kept.queue = [NO_ROW; 4];
-    kept.queued = 0;
+    queue_none(kept);
+    hold_none(kept);
 }
 
 // It is reset.
@@ -223,15 +340,61 @@ fn turn(kept: &mut OnfiseqLun, effect: Effect)
     kept.overlapped = flag(effect.overlapped_after(works, is_set(kept.overlapped)));
 }
 
-// It gives its register from this column on, behind the row of a Change Read Column Enhanced.
+// The plane in which a block lies. Any number of planes may be handed in.
+#[tactic(auto, using(crate::proofs::Planes::mod_zero))]
+fn plane_of(block: u32, planes: u32) -> u32
+    ensures { result ≡ block % planes }
+{
+    if planes == 0 { block } else { block % planes }
+}
+
+// The page of this plane among these, where a LUN has so many planes.
+fn page_in_plane(planes: u32, plane: u32, held: &[OnfiseqHeld]) -> Option<PageAddress>
+    ensures { result ≡ page_in_plane planes plane (pages_of held.now) }
+{
+    match held {
+        [] => None,
+        [first, rest @ ..] => {
+            if plane_of(first.block, planes) == plane {
+                Some(page_of(first))
+            } else {
+                page_in_plane(planes, plane, rest)
+            }
+        }
+    }
+}
+
+// The register of a page, or of none.
+fn register_of_plane(page: Option<PageAddress>) -> Register
+    ensures { result ≡ register_of_plane page }
+{
+    match page {
+        None => Register::Empty,
+        Some(page) => Register::Page(page),
+    }
+}
+
+// It gives the page that it holds in this plane of so many, from this column on.
 #[inline(always)]
-fn select_plane(kept: &mut OnfiseqLun, column: u32)
+fn select_plane(kept: &mut OnfiseqLun, plane: u32, planes: u32, column: u32)
     requires { IsRecord kept.old }
-    ensures value { lun_of kept.new ≡ view_after (EffectValue.PlaneSelected column) (lun_of kept.old) }
+    ensures value { lun_of kept.new ≡ view_after (EffectValue.PlaneSelected plane planes column) (lun_of kept.old) }
     ensures numbers { IsRecord kept.new }
 {
+    let page = page_in_plane(planes, plane, &kept.held[..kept.holds]);
+    let register = register_record(register_of_plane(page));
+    kept.register = register.code;
+    kept.register_block = register.block;
+    kept.register_page = register.page;
     set_column(kept, column);
-    turn(kept, Effect::PlaneSelected { column });
+    turn(
+        kept,
+        Effect::PlaneSelected {
+            plane,
+            planes,
+            column,
+        },
+    );
 }
 
 // It reads its parameter page.
@@ -242,6 +405,7 @@ fn read_parameter_page(kept: &mut OnfiseqLun)
     ensures numbers { IsRecord kept.new }
 {
     give_register(kept, Command::ReadParameterPage, Register::ParameterPage, 0);
+    hold_none(kept);
     act_for_target(kept);
     kept.busy = 1;
 }
@@ -250,10 +414,11 @@ fn read_parameter_page(kept: &mut OnfiseqLun)
 #[inline(always)]
 fn give_identity(kept: &mut OnfiseqLun, register: Register)
     requires { IsRecord kept.old }
-    ensures value { lun_of kept.new ≡ record (lun_of kept.old) { latch = LatchValue.Data; selected = true; overlapped = false; closer = Some CommandValue.ReadId; array_busy = false; register = register; column = column_at 0 } }
+    ensures value { lun_of kept.new ≡ record (lun_of kept.old) { latch = LatchValue.Data; selected = true; overlapped = false; closer = Some CommandValue.ReadId; array_busy = false; register = register; held = []; column = column_at 0 } }
     ensures numbers { IsRecord kept.new }
 {
     give_register(kept, Command::ReadId, register, 0);
+    hold_none(kept);
     act_for_target(kept);
 }
 
@@ -261,10 +426,11 @@ fn give_identity(kept: &mut OnfiseqLun, register: Register)
 #[inline(always)]
 fn read_beside(kept: &mut OnfiseqLun, closer: Command, register: Register)
     requires { IsRecord kept.old }
-    ensures value { lun_of kept.new ≡ record (lun_of kept.old) { latch = LatchValue.Data; selected = true; overlapped = false; busy = true; closer = Some closer; array_busy = false; register = register; column = column_at 0 } }
+    ensures value { lun_of kept.new ≡ record (lun_of kept.old) { latch = LatchValue.Data; selected = true; overlapped = false; busy = true; closer = Some closer; array_busy = false; register = register; held = []; column = column_at 0 } }
     ensures numbers { IsRecord kept.new }
 {
     give_register(kept, closer, register, 0);
+    hold_none(kept);
     act_for_target(kept);
     kept.busy = 1;
 }
@@ -278,6 +444,7 @@ fn set_features(kept: &mut OnfiseqLun, address: u8)
 {
     let _address = address;
     set_register(kept, Command::SetFeatures, Register::Empty);
+    hold_none(kept);
     act_for_target(kept);
     kept.busy = 1;
 }
@@ -302,8 +469,10 @@ pub fn change(kept: &mut OnfiseqLun, effect: Effect)
             turn(kept, effect);
         }
         Effect::ReadStarted { page, column } => start_read(kept, page, column),
+        Effect::ReadQueued { page } => queue_read(kept, page),
         Effect::EraseStarted { queued: true, row } => {
             queue_work(kept, Command::BlockErasePlane, Queued::Erase(row));
+            hold_none(kept);
         }
         Effect::EraseStarted { queued: false, .. } => {
             start_work(kept, Command::BlockEraseConfirm);
@@ -332,7 +501,11 @@ pub fn change(kept: &mut OnfiseqLun, effect: Effect)
             give_cached(kept, Command::ReadCacheEnd, next);
         }
         Effect::ReadColumnChanged { column } => set_column(kept, column),
-        Effect::PlaneSelected { column } => select_plane(kept, column),
+        Effect::PlaneSelected {
+            plane,
+            planes,
+            column,
+        } => select_plane(kept, plane, planes, column),
         Effect::DataOutput => kept.outputs += 1,
         Effect::ResetStarted => reset(kept),
         Effect::TargetResetStarted { first } => reset_of_target(kept, first),

@@ -2,20 +2,28 @@
 ghost use Rattle.std.specs.Prelude.{◌≡◌, ◌≤◌, ◌<◌, ◌^◌, length, take, IfSome};
 ghost use Rattle.std.specs.List.{All};
 ghost use Rattle.onfi_cycle.specs.Command.{command};
-ghost use Rattle.target_record.specs.Record.{is_set, latch_of, phase_of, closer_of, opening_of, register_of, given_of, queued_of, queue_of, lun_of, luns_of, tail_of, target_of, page_address, IsRecord, HasRoom};
+ghost use Rattle.target_record.specs.Record.{is_set, latch_of, phase_of, closer_of, opening_of, register_of, given_of, queued_of, queue_of, page_of, pages_of, lun_of, luns_of, tail_of, target_of, page_address, IsRecord, HasRoom};
 
 use onfi_cycle::{
     Command, DataPhase, Latch, LunFacts, Opening, PageAddress, Queued, Register, RowBytes,
     RowQueue, TailFacts, TargetState,
 };
 
-/// A row in the queue of a LUN: an erase's, or a program's.
+/// A row in the queue of a LUN. `kind`: 0 an erase's, 1 a program's, 2 a read's.
 #[repr(C)]
 #[derive(Clone, Copy)]
 pub struct OnfiseqQueued {
     pub page: u64,
     pub block: u32,
-    pub is_program: u8,
+    pub kind: u8,
+}
+
+/// A page that a plane register of a LUN holds.
+#[repr(C)]
+#[derive(Clone, Copy)]
+pub struct OnfiseqHeld {
+    pub page: u64,
+    pub block: u32,
 }
 
 /// What is kept of a LUN.
@@ -40,6 +48,8 @@ pub struct OnfiseqLun {
     pub outputs: usize,
     pub queued: usize,
     pub queue: [OnfiseqQueued; 4],
+    pub holds: usize,
+    pub held: [OnfiseqHeld; 4],
 }
 
 /// What is kept of a target.
@@ -144,10 +154,10 @@ pub(crate) fn queued_of(kept: &OnfiseqQueued) -> Queued
         block: kept.block,
         page: kept.page,
     };
-    if is_set(kept.is_program) {
-        Queued::Program(at)
-    } else {
-        Queued::Erase(at)
+    match kept.kind {
+        0 => Queued::Erase(at),
+        1 => Queued::Program(at),
+        _ => Queued::Read(at),
     }
 }
 
@@ -159,12 +169,17 @@ pub(crate) fn queued_record(queued: Queued) -> OnfiseqQueued
         Queued::Erase(at) => OnfiseqQueued {
             page: at.page,
             block: at.block,
-            is_program: 0,
+            kind: 0,
         },
         Queued::Program(at) => OnfiseqQueued {
             page: at.page,
             block: at.block,
-            is_program: 1,
+            kind: 1,
+        },
+        Queued::Read(at) => OnfiseqQueued {
+            page: at.page,
+            block: at.block,
+            kind: 2,
         },
     }
 }
@@ -173,8 +188,45 @@ pub(crate) fn queued_record(queued: Queued) -> OnfiseqQueued
 pub(crate) const NO_ROW: OnfiseqQueued = OnfiseqQueued {
     page: 0,
     block: 0,
-    is_program: 0,
+    kind: 0,
 };
+
+/// What stands in the free places of the pages that are held.
+pub(crate) const NO_PAGE: OnfiseqHeld = OnfiseqHeld { page: 0, block: 0 };
+
+/// The page of a record.
+#[inline(always)]
+pub(crate) fn page_of(kept: &OnfiseqHeld) -> PageAddress
+    ensures { result ≡ page_of kept.now }
+{
+    PageAddress {
+        block: kept.block,
+        page: kept.page,
+    }
+}
+
+/// The record of a page.
+#[inline(always)]
+pub(crate) fn held_record(page: PageAddress) -> OnfiseqHeld
+    ensures { page_of result ≡ page }
+{
+    OnfiseqHeld {
+        page: page.page,
+        block: page.block,
+    }
+}
+
+/// The records of the pages that are held, at the front of the array.
+pub(crate) fn held_records(held: &[PageAddress]) -> [OnfiseqHeld; 4]
+    requires { length held.now ≤ 4 }
+    ensures { pages_of (take (length held.now) result) ≡ held.now }
+{
+    let mut records = [NO_PAGE; 4];
+    for (place, page) in held.iter().enumerate() {
+        records[place] = held_record(*page);
+    }
+    records
+}
 
 // The records of a queue, at the front of the array.
 fn queue_records(queue: &[Queued]) -> [OnfiseqQueued; 4]
@@ -293,6 +345,7 @@ fn lun_record(lun: &LunFacts<RowQueue>) -> OnfiseqLun
 {
     let register = register_record(lun.register);
     let queue = queue_records(lun.queue.as_slice());
+    let held = held_records(lun.held.as_slice());
     OnfiseqLun {
         latch: latch_code(lun.latch),
         busy: flag(lun.busy),
@@ -312,6 +365,8 @@ fn lun_record(lun: &LunFacts<RowQueue>) -> OnfiseqLun
         outputs: lun.column.outputs,
         queued: lun.queue.len(),
         queue,
+        holds: lun.held.len(),
+        held,
     }
 }
 
@@ -335,6 +390,8 @@ const NO_LUN: OnfiseqLun = OnfiseqLun {
     outputs: 0,
     queued: 0,
     queue: [NO_ROW; 4],
+    holds: 0,
+    held: [NO_PAGE; 4],
 };
 
 /// What stands in the free places of a channel.

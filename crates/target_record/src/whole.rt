@@ -7,10 +7,10 @@ ghost use Rattle.nand_geometry.specs.Limits.{InLimits, fault_of};
 ghost use Rattle.std.specs.Option.{is_none};
 ghost use Rattle.target_record.specs.Geometry.{parts_of};
 ghost use Rattle.target_record.specs.Record.{IsRecord, IsTarget, lun_of, luns_of, queue_of, queued_of, tail_of, target_of};
-ghost use Rattle.target_record.specs.Whole.{IsWhole, WholeAreTaken, are_numbers, erase_goes, given_fits, identity_waits, is_record, is_short, is_whole, lun_fits, lun_stands, luns_fit, page_goes, program_goes, queue_fits, row_goes, row_lies, row_stands, stands_alone, tail_fits, target_fits};
+ghost use Rattle.target_record.specs.Whole.{IsWhole, WholeAreTaken, are_numbers, erase_goes, given_fits, identity_waits, is_record, is_short, is_whole, lun_fits, lun_stands, luns_fit, page_goes, program_goes, queue_fits, read_goes, row_goes, row_lies, row_stands, stands_alone, tail_fits, target_fits};
 
 use crate::geometry::OnfiseqGeometry;
-use crate::judging::{is_shared, some_queued_clashes};
+use crate::judging::{is_shared, some_queued_clashes, some_read_clashes};
 use crate::record::{
     OnfiseqLun, OnfiseqQueued, OnfiseqTarget, given_of, is_set, queued_of, tail_of,
 };
@@ -23,7 +23,7 @@ fn is_record(lun: &OnfiseqLun) -> bool
     ensures value { result ≡ is_record lun.now }
     ensures numbers { result ≡ true → IsRecord lun.now }
 {
-    lun.queued <= 4 && lun.outputs < 1 << 63
+    lun.queued <= 4 && lun.holds <= 4 && lun.outputs < 1 << 63
 }
 
 fn are_records(luns: &[OnfiseqLun; 4]) -> bool
@@ -121,7 +121,7 @@ fn plane_of(geometry: &Geometry, queued: &OnfiseqQueued) -> u32
     ensures { result ≡ plane_of geometry.now (queued_of queued.now) }
 {
     match queued_of(queued) {
-        Queued::Erase(at) | Queued::Program(at) => at.block % geometry.planes(),
+        Queued::Erase(at) | Queued::Program(at) | Queued::Read(at) => at.block % geometry.planes(),
     }
 }
 
@@ -189,6 +189,7 @@ fn lun_fits(geometry: &OnfiseqGeometry, lun: &OnfiseqLun) -> bool
         && given_fits(given_of(is_set(lun.has_column), lun.column))
         && lun.array_page < 1 << 32
         && queue_fits(geometry, lun)
+        && lun.holds <= 4
 }
 
 fn is_row(geometry: &Geometry, page: PageAddress) -> bool
@@ -205,7 +206,15 @@ fn row_lies(geometry: &Geometry, tail: TailFacts, number: usize) -> bool
     names_row(tail) && geometry.parts_of(tail.named_row()).lun as usize == number
 }
 
-// Where the tail names the row of an erase, this page goes together with the queue.
+// Where the tail names the row of a read, this page goes together with the queue.
+fn read_goes(geometry: &Geometry, tail: TailFacts, page: PageAddress, lun: &OnfiseqLun) -> bool
+    requires { IsRecord lun.now }
+    ensures { result ≡ read_goes geometry.now tail page (lun_of lun.now) }
+{
+    !(names_read(tail) && some_read_clashes(geometry, page, &lun.queue[..lun.queued]))
+}
+
+// The same of an erase.
 fn erase_goes(geometry: &Geometry, tail: TailFacts, page: PageAddress, lun: &OnfiseqLun) -> bool
     requires { IsRecord lun.now }
     ensures { result ≡ erase_goes geometry.now tail page (lun_of lun.now) }
@@ -228,6 +237,7 @@ fn page_goes(geometry: &Geometry, tail: TailFacts, page: PageAddress, lun: &Onfi
 {
     is_row(geometry, page)
         && !is_set(lun.busy)
+        && read_goes(geometry, tail, page, lun)
         && erase_goes(geometry, tail, page, lun)
         && program_goes(geometry, tail, page, lun)
 }

@@ -43,7 +43,8 @@ fn row_of(work: Work) -> Option<PageAddress>
         | Work::Program(at)
         | Work::Erase(at)
         | Work::Queue(Queued::Erase(at))
-        | Work::Queue(Queued::Program(at)) => Some(at),
+        | Work::Queue(Queued::Program(at))
+        | Work::Queue(Queued::Read(at)) => Some(at),
         _ => None,
     }
 }
@@ -63,7 +64,9 @@ fn planes_clash(geometry: &Geometry, p: PageAddress, q: PageAddress) -> bool
     ensures { result ≡ planes_clash geometry.now p q }
 {
     let planes = geometry.planes();
-    p.block % planes == q.block % planes || p.page != q.page || p.block / planes != q.block / planes
+    let blocks_clash = !geometry.parts().optional.has_free_blocks()
+        && p.block / planes != q.block / planes;
+    p.block % planes == q.block % planes || p.page != q.page || blocks_clash
 }
 
 // The work goes together with a queue of one program at most.

@@ -1,4 +1,6 @@
-use crate::made::{CACHED, ELSEWHERE, Operations, PLAIN, PLANED, SELECTING, SHARED, WIDE, made};
+use crate::made::{
+    CACHED, ELSEWHERE, Operations, PLAIN, PLANED, READING, SELECTING, SHARED, WIDE, made,
+};
 use die_model::LunDie;
 use nand_geometry::{Geometry, Optional, Parts, SMALL_CHIP};
 use onfi_cycle::{
@@ -69,10 +71,16 @@ const WIDE_CACHED: Parts = Parts {
     ..WIDE_LUNS
 };
 
+// The same with reads of several planes.
+const WIDE_READING: Parts = Parts {
+    optional: Optional(0x8e64),
+    ..WIDE_CACHED
+};
+
 // A kind of traces: a channel of so many targets, the operations on it, and how many items a trace has at most.
 type Traces = (Parts, u8, Operations, usize);
 
-const TRACES: [Traces; 11] = [
+const TRACES: [Traces; 12] = [
     (ONE_LUN, 1, PLAIN, 26),
     (CACHED_LUN, 1, CACHED, 26),
     (TWO_PLANES, 1, PLANED, 26),
@@ -84,6 +92,7 @@ const TRACES: [Traces; 11] = [
     (WIDE_LUNS, 1, WIDE, 24),
     (WIDE_CACHED, 1, ELSEWHERE, 26),
     (WIDE_CACHED, 1, SELECTING, 26),
+    (WIDE_READING, 1, READING, 26),
 ];
 
 // The facts of the LUNs of each target, by the look back.

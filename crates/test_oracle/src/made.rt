@@ -257,6 +257,42 @@ const SELECT_OTHER_PLANE: [Part; 13] = [
     ReadyOf(1),
 ];
 
+// Reads of two planes, and the page of each.
+const READ_PLANES: [Part; 20] = [
+    Command(0x00),
+    Column,
+    Row,
+    Command(0x32),
+    Ready,
+    Command(0x00),
+    Column,
+    OtherPlane,
+    Command(0x30),
+    Ready,
+    Command(0x06),
+    Column,
+    Row,
+    Command(0xe0),
+    Output,
+    Command(0x06),
+    Column,
+    OtherPlane,
+    Command(0xe0),
+    Output,
+];
+
+// A queued read, and one of whatever page behind it.
+const QUEUE_READ: [Part; 5] = [Command(0x00), Column, Row, Command(0x32), Ready];
+
+const READ_BEHIND: [Part; 6] = [
+    Command(0x00),
+    Column,
+    OtherPlane,
+    Command(0x30),
+    Ready,
+    Output,
+];
+
 const RESET_CACHE_READ: [Part; 9] = [
     Command(0x00),
     Column,
@@ -536,6 +572,26 @@ pub const SELECTING: Operations = [
     &CHANGE_COLUMN,
     &STATUS_OF_ROW,
     &DATA_AGAIN,
+    &BOTH_READY,
+    &ENDING,
+];
+
+/// Those with reads of several planes.
+pub const READING: Operations = [
+    &PROGRAM_AND_READ,
+    &PROGRAM_AND_READ,
+    &READ_PLANES,
+    &READ_PLANES,
+    &READ_PLANES,
+    &READ_PLANES,
+    &QUEUE_READ,
+    &QUEUE_READ,
+    &READ_BEHIND,
+    &READ_BEHIND,
+    &READ_AND_SELECT,
+    &SELECT_PLANE,
+    &SELECT_IN_CACHE_READ,
+    &PROGRAM_PLANES,
     &BOTH_READY,
     &ENDING,
 ];

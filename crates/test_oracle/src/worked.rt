@@ -44,7 +44,20 @@ pub const SELECTING: Parts = Parts {
     ..TWO_PLANES
 };
 
-/// Two such LUNs.
+/// One that reads several planes besides, and caches.
+pub const READING: Parts = Parts {
+    optional: Optional(0x8440),
+    cache: true,
+    ..TWO_PLANES
+};
+
+/// One whose blocks are free of each other in a queue.
+pub const FREE_READING: Parts = Parts {
+    optional: Optional(0x9440),
+    ..READING
+};
+
+/// Two LUNs in two planes, with Change Read Column Enhanced.
 pub const TWO_SELECTING: Parts = Parts {
     luns: 2,
     ..SELECTING

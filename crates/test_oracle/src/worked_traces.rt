@@ -1,7 +1,7 @@
 //! Worked traces, with the first rule that each breaks.
 use crate::worked::{
-    CACHED, ONE_LUN, SELECTING, TWO_CACHED, TWO_LUNS, TWO_PLANES, TWO_SELECTING, UNEVEN,
-    first_broken, trace,
+    CACHED, FREE_READING, ONE_LUN, READING, SELECTING, TWO_CACHED, TWO_LUNS, TWO_PLANES,
+    TWO_SELECTING, UNEVEN, first_broken, trace,
 };
 use nand_geometry::{Geometry, Parts};
 use onfi_cycle::{Cycle, Forbidden, Item, Kind};
@@ -156,6 +156,7 @@ const BROKEN: &[(Forbidden, &[(Parts, &str, usize)])] = &[
         Forbidden::LunBusy,
         &[
             (ONE_LUN, "C60 A00x3 Cd0 C60", 5),
+            (READING, "C00 A00x5 C32 C06", 7),
             (ONE_LUN, "C60 A00x3 Cd0 C00", 5),
             (ONE_LUN, "C60 A00x3 Cd0 C80", 5),
             (ONE_LUN, "C60 A00x3 Cd0 C90", 5),
@@ -191,6 +192,14 @@ const BROKEN: &[(Forbidden, &[(Parts, &str, usize)])] = &[
             (TWO_LUNS, "C80 A00x5 C11 R0 C80 A00x2 A05 A00x2", 13),
             (TWO_LUNS, "C80 A00x5 C11 R0 C80 A00x2 A0c A00x2", 13),
             (TWO_LUNS, "C80 A00x5 C11 R0 C00 A00x5", 13),
+            (READING, "C00 A00x5 C32 R0 C00 A00x5", 13),
+            (READING, "C00 A00x5 C32 R0 C00 A00x2 A05 A00x2", 13),
+            (READING, "C00 A00x5 C32 R0 C00 A00x2 A0c A00x2", 13),
+            (FREE_READING, "C00 A00x5 C32 R0 C00 A00x2 A0d A00x2", 13),
+            (READING, "C00 A00x5 C32 R0 C60 A04 A00x2", 11),
+            (READING, "C00 A00x5 C32 R0 C80 A00x2 A04 A00x2", 13),
+            (READING, "C80 A00x5 C11 R0 C00 A00x2 A04 A00x2", 13),
+            (READING, "C00 A00x5 C32 R0 C90", 8),
             // Behind an erase of the same plane.
             (
                 TWO_LUNS,
@@ -230,6 +239,11 @@ const BROKEN: &[(Forbidden, &[(Parts, &str, usize)])] = &[
     (
         Forbidden::DataNotReady,
         &[
+            (
+                READING,
+                "C00 A00x5 C32 R0 C00 A00x2 A04 A00x2 C30 R0 Off",
+                16,
+            ),
             (ONE_LUN, "C00 A00x5 C30 Off", 7),
             (ONE_LUN, "C70 C00 Off", 2),
             (ONE_LUN, "C00 A00x5 C30 R0 C60 A00x3 Cd0 R0 Off", 14),
@@ -281,6 +295,17 @@ const BROKEN: &[(Forbidden, &[(Parts, &str, usize)])] = &[
             (CACHED, "C00 A00x5 C30 R0 C31 R0 C80 A00x5", 15),
             (CACHED, "C00 A00x5 C30 R0 C31 R0 C90", 10),
             (CACHED, "C00 A00x5 C30 R0 C31 R0 Cec", 10),
+            (READING, "C00 A00x5 C32 R0 C31", 8),
+            (
+                READING,
+                "C00 A00x5 C32 R0 C00 A00x2 A04 A00x2 C30 R0 C31",
+                16,
+            ),
+            (
+                READING,
+                "C00 A00x5 C30 R0 C31 R0 C00 A00x2 A04 A00x2 C32",
+                16,
+            ),
         ],
     ),
     // F18: the row of 06 names a LUN that holds a page of its plane.
@@ -296,6 +321,7 @@ const BROKEN: &[(Forbidden, &[(Parts, &str, usize)])] = &[
                 19,
             ),
             (TWO_SELECTING, "C00 A00x5 C30 R0 C06 A00x2 A20 A00x2", 13),
+            (READING, "C00 A00x5 C32 R0 C06 A00x5", 13),
         ],
     ),
 ];
@@ -322,6 +348,15 @@ const PERMITTED: &[(Parts, &str)] = &[
     (TWO_PLANES, "C60 A00x3 Cd1 R0 Cff R0 C90 A20"),
     (CACHED, "C00 A00x5 C30 R0 C31 R0 C31 R0 C31 R0 C3f R0 Off"),
     (SELECTING, "C00 A00x5 C30 R0 C06 A05 A00x4 Ce0 Off"),
+    (
+        READING,
+        "C00 A00x5 C32 R0 C00 A00x2 A04 A00x2 C30 R0 C06 A00x5 Ce0 Off C06 A00x2 A04 A00x2 Ce0 Off",
+    ),
+    (
+        FREE_READING,
+        "C00 A00x5 C32 R0 C00 A00x2 A0c A00x2 C30 R0 C06 A00x2 A0c A00x2 Ce0 Off",
+    ),
+    (READING, "C00 A00x5 C32 R0 Cff R0 C00 A00x5 C30 R0 Off"),
     (SELECTING, "C00 A00x5 C30 R0 C06 A00x2 A08 A00x2 Ce0 Off"),
     (
         SELECTING,
@@ -400,6 +435,11 @@ const ERASES: &[(Parts, &str, Option<(usize, Forbidden)>)] = &[
     ),
     (ONE_LUN, "C70 Oe0 C78", Some((2, Forbidden::CommandUnknown))),
     (ONE_LUN, "C31", Some((0, Forbidden::CommandUnknown))),
+    (
+        SELECTING,
+        "C00 A00x5 C32",
+        Some((6, Forbidden::CommandUnknown)),
+    ),
     (ONE_LUN, "C70 C60 C60", Some((2, Forbidden::SequenceOpen))),
     (ONE_LUN, "C70 R0 C60", Some((1, Forbidden::NotThere))),
 ];

@@ -134,9 +134,10 @@ pub enum Cause {
     Drivers {
         count: usize,
     },
-    /// The LUN holds nothing that can be read.
+    /// The LUN holds nothing that can be read, or, where its chip reads several planes, none of them is chosen.
     NoData {
         lun: u8,
+        reads_planes: bool,
     },
     /// The column was lost when the status was asked for.
     ColumnLost {
@@ -149,12 +150,28 @@ pub enum Cause {
         of: Columns,
         length: u32,
     },
-    /// The LUN holds no page of this plane, of so many, and perhaps this one of another.
+    /// The LUN holds no page of this plane, of so many, and perhaps this one of another; its chip reads several planes at once, or one.
     PlaneNotHeld {
         lun: u32,
         plane: u32,
         planes: u32,
+        reads_planes: bool,
         held: Option<PageAddress>,
+    },
+    /// The LUN has so many rows in its queue, with which this page doesn't go together, if one was named; its chip queues reads too, or not.
+    QueueStands {
+        lun: u32,
+        rows: usize,
+        page: Option<PageAddress>,
+        reads_planes: bool,
+    },
+    /// The LUN reads a cache.
+    CacheGoesOn {
+        lun: u32,
+    },
+    /// The LUN has read no page from which a cache read goes on, or several at once.
+    NoPageAlone {
+        lun: u32,
     },
 }
 
@@ -260,6 +277,7 @@ fn write_plane<W: fmt::Write>(
     lun: u32,
     plane: u32,
     planes: u32,
+    reads_planes: bool,
     held: Option<PageAddress>,
 ) -> fmt::Result {
     match held {
@@ -268,12 +286,52 @@ fn write_plane<W: fmt::Write>(
             "LUN {lun} holds page {} of block {}, and none of plane {plane}",
             held.page, held.block
         )?,
+        None if reads_planes => write!(f, "LUN {lun} holds no page of plane {plane}")?,
         None => write!(f, "LUN {lun} holds no page")?,
     }
     if planes == 1 {
         f.write_str(": `00` and `30` read one first")
     } else {
         write!(f, ": `00` and `30` read one of plane {plane} first")
+    }
+}
+
+// Of a LUN that gives no data, on a chip that reads several planes or one.
+fn write_no_data<W: fmt::Write>(
+    f: &mut fmt::Formatter<W>,
+    lun: u8,
+    reads_planes: bool,
+) -> fmt::Result {
+    write!(f, "LUN {lun} holds no data: no page was read into it")?;
+    if reads_planes {
+        f.write_str(", or several were, of which `06` chooses one")?;
+    }
+    Ok(())
+}
+
+// Of a LUN with so many rows in its queue, with which this page doesn't go together, if one was named.
+fn write_queue<W: fmt::Write>(
+    f: &mut fmt::Formatter<W>,
+    lun: u32,
+    rows: usize,
+    page: Option<PageAddress>,
+    reads_planes: bool,
+) -> fmt::Result {
+    match rows {
+        1 => write!(f, "LUN {lun} has 1 row in its queue")?,
+        _ => write!(f, "LUN {lun} has {rows} rows in its queue")?,
+    }
+    if let Some(page) = page {
+        write!(
+            f,
+            ", and page {} of block {} doesn't go together with that",
+            page.page, page.block
+        )?;
+    }
+    if reads_planes {
+        f.write_str(": `30`, `10` or `d0` ends the queue first")
+    } else {
+        f.write_str(": `10` or `d0` ends the queue first")
     }
 }
 
@@ -302,7 +360,10 @@ impl Cause {
             | Cause::Drivers { .. }
             | Cause::NoData { .. }
             | Cause::ColumnOutside { .. }
-            | Cause::PlaneNotHeld { .. } => None,
+            | Cause::PlaneNotHeld { .. }
+            | Cause::QueueStands { .. }
+            | Cause::CacheGoesOn { .. }
+            | Cause::NoPageAlone { .. } => None,
         }
     }
 }
@@ -359,15 +420,29 @@ impl fmt::Display for CauseInLine {
             }
             Cause::NoDriver { since } => write_no_driver(f, since, line),
             Cause::Drivers { count } => write!(f, "{count} LUNs drive the bus at once"),
-            Cause::NoData { lun } => write!(f, "LUN {lun} holds no data: no page was read into it"),
+            Cause::NoData { lun, reads_planes } => write_no_data(f, lun, reads_planes),
             Cause::ColumnLost { lun, asked } => write_column_lost(f, lun, asked, line),
             Cause::ColumnOutside { column, of, length } => write_column(f, column, of, length),
             Cause::PlaneNotHeld {
                 lun,
                 plane,
                 planes,
+                reads_planes,
                 held,
-            } => write_plane(f, lun, plane, planes, held),
+            } => write_plane(f, lun, plane, planes, reads_planes, held),
+            Cause::QueueStands {
+                lun,
+                rows,
+                page,
+                reads_planes,
+            } => write_queue(f, lun, rows, page, reads_planes),
+            Cause::CacheGoesOn { lun } => {
+                write!(f, "LUN {lun} reads a cache: `3f` ends that first")
+            }
+            Cause::NoPageAlone { lun } => write!(
+                f,
+                "LUN {lun} has read no single page from which `31` goes on: `00` and `30` read one first"
+            ),
         }
     }
 }

@@ -4,8 +4,8 @@ use crate::cause::{Cause, Columns, RowPart, Unwanted};
 use crate::open_sequence::{CommandAt, OpenSequence, Wanted};
 use crate::target_look::{MOST_LUNS, TargetLook};
 use crate::target_past::TargetPast;
-use nand_geometry::Geometry;
-use onfi_cycle::{Command, Cycle, Forbidden, Kind, PageAddress, Register, TailFacts};
+use nand_geometry::{Geometry, RowParts};
+use onfi_cycle::{Command, Cycle, Forbidden, Kind, LunState, PageAddress, Register, TailFacts};
 
 /// A cycle, and the target to which it came.
 #[derive(Clone, Copy)]
@@ -20,11 +20,25 @@ pub struct FaultyCycle {
 // The opener of the sequences that a command ends or goes on with.
 fn opener_of(command: Command) -> Option<u8> {
     match command {
-        Command::ReadConfirm => Some(0x00),
+        Command::ReadConfirm | Command::ReadPlane => Some(0x00),
         Command::ChangeReadColumnConfirm => Some(0x05),
         Command::BlockEraseConfirm | Command::BlockErasePlane => Some(0x60),
         Command::ChangeWriteColumn | Command::ProgramConfirm | Command::ProgramPlane => Some(0x80),
         _ => None,
+    }
+}
+
+// The page that a LUN's register holds.
+fn page_of(lun: LunState) -> Option<PageAddress> {
+    match lun.register {
+        Register::Page(page) => Some(page),
+        Register::Empty
+        | Register::ParameterPage
+        | Register::Identifier
+        | Register::Identity
+        | Register::JedecIdentity
+        | Register::UniqueId
+        | Register::Features(_) => None,
     }
 }
 
@@ -154,41 +168,128 @@ impl FaultyCycle {
             return self.works(u32::from(lun));
         }
         if state.register == Register::Empty {
-            return Some(Cause::NoData { lun });
+            let reads_planes = self.reads_planes();
+            return Some(Cause::NoData { lun, reads_planes });
         }
         let asked = self.past.asked;
         Some(Cause::ColumnLost { lun, asked })
     }
 
-    // The page that the LUN of this number of its target holds.
-    fn held_by(&self, lun: u32) -> Option<PageAddress> {
+    // The row that the cycle closes, or ends by its address.
+    fn named_row(&self) -> RowParts {
+        match self.cycle.kind {
+            Kind::Adr => self
+                .geometry
+                .parts_of(self.tail().row_with(self.cycle.byte)),
+            Kind::Cmd | Kind::Din | Kind::Dout => self.geometry.parts_of(self.tail().named_row()),
+        }
+    }
+
+    // A look at the LUN of this number of its target.
+    fn lun(&self, lun: u32) -> Option<LunState> {
         let place = lun as usize;
         if MOST_LUNS <= place {
             return None;
         }
-        match self.target.luns[place]?.register {
-            Register::Page(page) => Some(page),
-            Register::Empty
-            | Register::ParameterPage
-            | Register::Identifier
-            | Register::Identity
-            | Register::JedecIdentity
-            | Register::UniqueId
-            | Register::Features(_) => None,
+        self.target.luns[place]
+    }
+
+    fn reads_planes(&self) -> bool {
+        self.geometry.parts().optional.has_plane_reads()
+    }
+
+    // The LUN has rows in its queue, with which this page doesn't go together, if it is one of a row.
+    fn queue_of(&self, lun: u32, page: Option<PageAddress>) -> Option<Cause> {
+        let rows = self.lun(lun)?.queued;
+        if rows == 0 {
+            return None;
+        }
+        Some(Cause::QueueStands {
+            lun,
+            rows,
+            page,
+            reads_planes: self.reads_planes(),
+        })
+    }
+
+    // A command for the whole target comes while a LUN has a queue, or a row that doesn't go together with the queue of its LUN.
+    fn queue_clash(&self) -> Option<Cause> {
+        match self.cycle.kind {
+            Kind::Adr => {
+                let row = self.tail().row_with(self.cycle.byte);
+                let page = PageAddress::of_row(&self.geometry, row);
+                self.queue_of(self.named_row().lun, Some(page))
+            }
+            Kind::Cmd | Kind::Din | Kind::Dout => self
+                .queue_of(0, None)
+                .or(self.queue_of(1, None))
+                .or(self.queue_of(2, None))
+                .or(self.queue_of(3, None)),
         }
     }
 
-    // The LUN that the row names holds no page of its plane.
+    // The LUN holds no page of the plane of the row, or has a queue.
     fn plane_not_held(&self) -> Cause {
-        let row = self
-            .geometry
-            .parts_of(self.tail().row_with(self.cycle.byte));
+        let row = self.named_row();
+        if let Some(cause) = self.queue_of(row.lun, None) {
+            return cause;
+        }
         let planes = self.geometry.planes().max(1);
         Cause::PlaneNotHeld {
             lun: row.lun,
             plane: row.block % planes,
             planes,
-            held: self.held_by(row.lun),
+            reads_planes: self.reads_planes(),
+            held: self.lun(row.lun).and_then(page_of),
+        }
+    }
+
+    // The LUN of this number reads a cache.
+    fn caching(&self, lun: u32) -> Option<Cause> {
+        if self.lun(lun)?.caching {
+            Some(Cause::CacheGoesOn { lun })
+        } else {
+            None
+        }
+    }
+
+    // The LUN to which a 31 is: that of its row, or the one that drives the bus.
+    fn cached_lun(&self) -> Option<u32> {
+        if self.tail().wants_command(Command::ReadCacheSequential) {
+            return Some(self.named_row().lun);
+        }
+        let (lun, _) = self.target.driver()?;
+        Some(u32::from(lun))
+    }
+
+    // A 31 comes to a LUN that has read no page, or several at once; not where its page is the last of a block, or a cache read goes on.
+    fn no_page_alone(&self) -> Option<Cause> {
+        let lun = self.cached_lun()?;
+        let state = self.lun(lun)?;
+        let pages = u64::from(self.geometry.parts().pages);
+        let is_last = match page_of(state) {
+            Some(page) => pages <= page.page.saturating_add(1),
+            None => false,
+        };
+        if state.busy || state.caching || is_last {
+            return None;
+        }
+        Some(Cause::NoPageAlone { lun })
+    }
+
+    fn cache_read_misplaced(&self) -> Option<Cause> {
+        match self.cycle.kind {
+            Kind::Adr => self.caching(self.named_row().lun),
+            Kind::Cmd | Kind::Din | Kind::Dout => match Command::of(self.cycle.byte) {
+                Command::ReadCacheSequential => self.no_page_alone(),
+                Command::ReadConfirm | Command::ReadPlane => self.caching(self.named_row().lun),
+                Command::ReadCacheEnd => None,
+                _ => self
+                    .caching(0)
+                    .or(self.caching(1))
+                    .or(self.caching(2))
+                    .or(self.caching(3)),
+            },
         }
     }
 
@@ -243,11 +344,9 @@ impl FaultyCycle {
             Forbidden::DataNotReady => self.data_not_ready(),
             Forbidden::ColumnOutside => self.column_outside(),
             Forbidden::PlaneNotHeld => Some(self.plane_not_held()),
-            Forbidden::NotThere
-            | Forbidden::CommandUnknown
-            | Forbidden::NoColumnToChange
-            | Forbidden::QueueClash
-            | Forbidden::CacheReadMisplaced => None,
+            Forbidden::QueueClash => self.queue_clash(),
+            Forbidden::CacheReadMisplaced => self.cache_read_misplaced(),
+            Forbidden::NotThere | Forbidden::CommandUnknown | Forbidden::NoColumnToChange => None,
         }
     }
 

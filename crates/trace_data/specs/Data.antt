@@ -13,7 +13,7 @@ use Rattle.onfi_cycle.specs.declared.item.Kind.{Kind}
 use Rattle.onfi_cycle.specs.declared.item.Kind.TheVariants.{Cmd, Adr, Din, Dout}
 use Rattle.onfi_cycle.specs.declared.page_address.PageAddress.{PageAddress}
 use Rattle.onfi_cycle.specs.declared.queued.Queued.{Queued}
-use Rattle.onfi_cycle.specs.declared.queued.Queued.TheVariants.{Erase, Program}
+use Rattle.onfi_cycle.specs.declared.queued.Queued.TheVariants.{Erase, Program, Read}
 use Rattle.onfi_cycle.specs.declared.effect.Effect.{Effect}
 use Rattle.onfi_cycle.specs.declared.effect.Effect.TheVariants.{EraseStarted, ProgramStarted, ResetStarted, TargetResetStarted, BecameReady}
 use Rattle.onfi_cycle.specs.declared.forbidden.Forbidden.{Forbidden as Rule}
@@ -49,15 +49,17 @@ programmed_at n Beginning = Programmed n
 programmed_at n (Erased m) = Programmed n
 programmed_at n (Programmed m) = Programmed n
 
--- a work touches a page: the erase of its block, or its program
+-- a work touches a page: the erase of its block, or its program; a read touches none
 abbrev pub touches : Queued → PageAddress → Bool
 touches (Erase at) p = p.block == at.block
 touches (Program at) p = same_page p at
+touches (Read at) p = false
 
 -- where a page that a work touches has its bytes from, if that went well
 abbrev pub left_well : Queued → ℕ → Origin → Origin
 left_well (Erase at) n before = Erased n
 left_well (Program at) n before = programmed_at n before
+left_well (Read at) n before = before
 
 -- after a work that is over: of a page that it touched and failed at nobody knows what it holds
 abbrev pub left_of : EndedWork → PageAddress → Origin → Origin

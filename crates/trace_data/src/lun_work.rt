@@ -45,6 +45,7 @@ impl EndedWork {
         let (is_touched, left) = match self.work {
             Queued::Erase(at) => (page.block == at.block, Origin::Erased { item }),
             Queued::Program(at) => (page == at, before.programmed_at(item)),
+            Queued::Read(_) => (false, before),
         };
         match (is_touched, self.failed) {
             (false, _) => before,

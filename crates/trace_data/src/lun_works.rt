@@ -101,6 +101,7 @@ impl LunWorks {
             | Effect::SelectedForStatus
             | Effect::Deselected
             | Effect::ReadStarted { .. }
+            | Effect::ReadQueued { .. }
             | Effect::IdRead
             | Effect::IdentityRead { .. }
             | Effect::UniqueIdReadStarted

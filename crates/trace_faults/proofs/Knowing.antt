@@ -2,6 +2,7 @@
 use Rattle.std.proofs.Common.{◌≡◌, ℕ, Bool, true, false, ◌||◌, List, Option, Some, None, refl, sym, ap, ◌∙◌, slice_set}
 use Rattle.std.proofs.lemmas.Bool.{and_parts}
 use Rattle.std.proofs.lemmas.List.{set-get_or}
+use Rattle.nand_geometry.specs.Optional.{has_plane_reads}
 use Rattle.nand_geometry.specs.declared.parts.Parts.{Parts}
 use Rattle.onfi_cycle.specs.declared.item.Item.{Item}
 use Rattle.onfi_cycle.specs.declared.lun_state.LunState.{LunState}
@@ -10,13 +11,14 @@ use Rattle.onfi_cycle.specs.Look.{looked}
 use Rattle.trace_faults.specs.declared.known.Known.{Known}
 use Rattle.trace_faults.specs.declared.looks.Looks.{Looks}
 use Rattle.trace_faults.specs.declared.lun_known.LunKnown.{LunKnown}
-use Rattle.trace_faults.specs.declared.lun_known.LunKnown.TheVariants.{Nothing, Work, All}
+use Rattle.trace_faults.specs.declared.lun_known.LunKnown.TheVariants.{Nothing, Queue, Work, All}
 use Rattle.trace_faults.specs.Middle.{all_known, known_of, is_all, is_doubtful, doubts, is_whole, learned_lun, begins_here, learned}
 
-kept : (i : Item) (before after : Option LunState) (k : LunKnown) → is_all k ≡ true → learned_lun i before after k ≡ k
-kept i before after Nothing h = cc
-kept i before after Work h = cc
-kept i before after All h = refl
+kept : (planes : Bool) (i : Item) (before after : Option LunState) (k : LunKnown) → is_all k ≡ true → learned_lun planes i before after k ≡ k
+kept planes i before after Nothing h = cc
+kept planes i before after Queue h = cc
+kept planes i before after Work h = cc
+kept planes i before after All h = refl
 
 opened : (o x : Bool) → o ≡ true → (o || x) ≡ o
 opened true x h = refl
@@ -29,10 +31,10 @@ learned_whole g i before after k h =
     let a2 = and_parts (is_all k.first) _ a1.1 in
     let a3 = and_parts (is_all k.second) (is_all k.third) a2.1 in
     let e0 = opened k.opened (begins_here g i) a0.0 in
-    let e1 = kept i before.zeroth after.zeroth k.zeroth a1.0 in
-    let e2 = kept i before.first after.first k.first a2.0 in
-    let e3 = kept i before.second after.second k.second a3.0 in
-    let e4 = kept i before.third after.third k.third a3.1 in
+    let e1 = kept (has_plane_reads g.optional) i before.zeroth after.zeroth k.zeroth a1.0 in
+    let e2 = kept (has_plane_reads g.optional) i before.first after.first k.first a2.0 in
+    let e3 = kept (has_plane_reads g.optional) i before.second after.second k.second a3.0 in
+    let e4 = kept (has_plane_reads g.optional) i before.third after.third k.third a3.1 in
     λ j. record { opened = e0 j; zeroth = e1 j; first = e2 j; second = e3 j; third = e4 j }
 
 -- what is known stays as it is

@@ -1,12 +1,14 @@
 -- What can be judged of a trace whose recording began in the middle: nobody knows what its LUNs did before.
 use Rattle.std.specs.Prelude.{ℕ, ◌+◌, ◌==◌, Bool, true, false, not, ◌&&◌, ◌||◌, nat_lt, List, [], ◌∷◌, ◌++◌, Option, Some, None, get_or, slice_set, if◌then◌else◌}
-use Rattle.nand_geometry.specs.Optional.{has_enhanced_column}
+use Rattle.nand_geometry.specs.Optional.{has_enhanced_column, has_plane_reads}
 use Rattle.nand_geometry.specs.declared.parts.Parts.{Parts}
 use Rattle.onfi_cycle.specs.declared.item.Item.{Item}
 use Rattle.onfi_cycle.specs.declared.item.Item.TheVariants.{Cyc, Rdy, Ard}
 use Rattle.onfi_cycle.specs.declared.forbidden.Forbidden.{Forbidden}
 use Rattle.onfi_cycle.specs.declared.forbidden.Forbidden.TheVariants.{NotThere, CommandUnknown, SequenceOpen, SeveralLuns, NoColumnToChange, CommandMisplaced, AddressMisplaced, RowOutside, LunBusy, QueueClash, InputMisplaced, NoSoleDriver, DataNotReady, ColumnOutside, CacheReadMisplaced, PlaneNotHeld}
 use Rattle.onfi_cycle.specs.declared.lun_state.LunState.{LunState}
+use Rattle.onfi_cycle.specs.declared.register.Register.{Register}
+use Rattle.onfi_cycle.specs.declared.register.Register.TheVariants.{Page}
 use Rattle.onfi_cycle.specs.declared.command.Command.TheVariants.{Reset}
 use Rattle.onfi_cycle.specs.declared.target_cycle.TargetCycle.{TargetCycle}
 use Rattle.onfi_cycle.specs.declared.target_cycle.TargetCycle.TheVariants.{CommandCycle}
@@ -19,7 +21,7 @@ use Rattle.trace_faults.specs.declared.beginning.Beginning.TheVariants.{Start, M
 use Rattle.trace_faults.specs.declared.known.Known.{Known}
 use Rattle.trace_faults.specs.declared.looks.Looks.{Looks}
 use Rattle.trace_faults.specs.declared.lun_known.LunKnown.{LunKnown}
-use Rattle.trace_faults.specs.declared.lun_known.LunKnown.TheVariants.{Nothing, Work, All}
+use Rattle.trace_faults.specs.declared.lun_known.LunKnown.TheVariants.{Nothing, Queue, Work, All}
 use Rattle.trace_faults.specs.declared.verdict.Verdict.{Verdict}
 use Rattle.trace_faults.specs.declared.verdict.Verdict.TheVariants.{Permitted, PassedOver, Granted, Broken, NotShown as WithoutReady}
 use Rattle.trace_faults.specs.declared.broken_rule.BrokenRule.{BrokenRule}
@@ -59,12 +61,14 @@ knows k number =
 -- it has begun work since the recording began
 abbrev pub has_begun : LunKnown → Bool
 has_begun Nothing = false
+has_begun Queue = false
 has_begun Work = true
 has_begun All = true
 
 -- and whether it drives the bus is known
 abbrev pub is_all : LunKnown → Bool
 is_all Nothing = false
+is_all Queue = false
 is_all Work = false
 is_all All = true
 
@@ -111,18 +115,34 @@ abbrev pub is_driving : Option LunState → Bool
 is_driving None = false
 is_driving (Some lun) = not (is_off lun.latch)
 
+-- a page is in its register
+abbrev pub is_page : Register → Bool
+is_page (Page p) = true
+is_page _ = false
+
+abbrev pub holds_page : Option LunState → Bool
+holds_page None = false
+holds_page (Some lun) = is_page lun.register
+
 abbrev pub once_begun : (drives : Bool) → LunKnown
 once_begun drives = if drives then All else Work
 
-abbrev pub learned_by : (begins drives : Bool) → LunKnown → LunKnown
-learned_by begins drives Nothing = if begins then once_begun drives else Nothing
-learned_by begins drives Work = once_begun drives
-learned_by begins drives All = All
+-- the first work of a LUN that is seen. Where a chip reads several planes, reads may be queued that nobody saw, and which pages a 30h leaves hangs on them:
+-- there a reset alone tells all, and a 30h that nothing is queued any longer
+abbrev pub first_begun : (planes resets pages drives : Bool) → LunKnown
+first_begun planes resets pages drives = if planes && not resets then (if pages then Queue else Nothing) else once_begun drives
+
+abbrev pub learned_by : (planes begins resets pages drives : Bool) → LunKnown → LunKnown
+learned_by planes begins resets pages drives Nothing = if begins then first_begun planes resets pages drives else Nothing
+learned_by planes begins resets pages drives Queue = if begins then once_begun drives else Queue
+learned_by planes begins resets pages drives Work = once_begun drives
+learned_by planes begins resets pages drives All = All
 
 -- what is known of a LUN after an item: an erase and a program leave what it drives as that was, so they tell nothing of it; a reset and a read do, and
 -- once it is seen to drive the bus all that stops it is seen
-abbrev pub learned_lun : Item → (before after : Option LunState) → LunKnown → LunKnown
-learned_lun i before after k = learned_by (begins_anew before after) (is_driving after || (begins_anew before after && is_reset i)) k
+abbrev pub learned_lun : (planes : Bool) → Item → (before after : Option LunState) → LunKnown → LunKnown
+learned_lun planes i before after k =
+    learned_by planes (begins_anew before after) (is_reset i) (holds_page after) (is_driving after || (begins_anew before after && is_reset i)) k
 
 abbrev pub looks_of : BusView → ℕ → Looks
 looks_of state ce = record {
@@ -145,10 +165,10 @@ begins_here g i = if stops_others g then is_reset i else is_opening i
 abbrev pub learned : Parts → Item → (before after : Looks) → Known → Known
 learned g i before after k = record {
   opened = k.opened || begins_here g i;
-  zeroth = learned_lun i before.zeroth after.zeroth k.zeroth;
-  first = learned_lun i before.first after.first k.first;
-  second = learned_lun i before.second after.second k.second;
-  third = learned_lun i before.third after.third k.third;
+  zeroth = learned_lun (has_plane_reads g.optional) i before.zeroth after.zeroth k.zeroth;
+  first = learned_lun (has_plane_reads g.optional) i before.first after.first k.first;
+  second = learned_lun (has_plane_reads g.optional) i before.second after.second k.second;
+  third = learned_lun (has_plane_reads g.optional) i before.third after.third k.third;
 }
 
 -- ---- what is said of an item

@@ -157,12 +157,17 @@ impl Known {
     ) -> Known
         ensures { result ≡ learned geometry.now item before after self }
     {
+        let planes = geometry.parts().optional.has_plane_reads();
         Known {
             opened: self.opened || begins_here(geometry, item),
-            zeroth: self.zeroth.learned(item, before.zeroth, after.zeroth),
-            first: self.first.learned(item, before.first, after.first),
-            second: self.second.learned(item, before.second, after.second),
-            third: self.third.learned(item, before.third, after.third),
+            zeroth: self
+                .zeroth
+                .learned(planes, item, before.zeroth, after.zeroth),
+            first: self.first.learned(planes, item, before.first, after.first),
+            second: self
+                .second
+                .learned(planes, item, before.second, after.second),
+            third: self.third.learned(planes, item, before.third, after.third),
         }
     }
 }

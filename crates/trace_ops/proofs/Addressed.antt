@@ -3,9 +3,9 @@ use Rattle.std.proofs.Common.{◌≡◌, ◌⊎◌, inl, inr, ℕ, ◌==◌, Boo
 use Rattle.std.proofs.lemmas.Bool.{and_parts, or_parts}
 use Rattle.nand_geometry.specs.declared.parts.Parts.{Parts}
 use Rattle.nand_geometry.specs.declared.optional.Optional.{Optional}
-use Rattle.nand_geometry.specs.Optional.{no_optional, is_wide, has_features, has_unique_id, has_enhanced_column, has_lun_reset, has_synchronous_reset}
+use Rattle.nand_geometry.specs.Optional.{no_optional, is_wide, has_features, has_unique_id, has_enhanced_column, has_plane_reads, has_lun_reset, has_synchronous_reset}
 use Rattle.onfi_cycle.specs.declared.command.Command.{Command}
-use Rattle.onfi_cycle.specs.declared.command.Command.TheVariants.{Read, ChangeReadColumnEnhanced, ChangeReadColumnConfirm, ReadStatus, ReadStatusEnhanced, ReadId, ReadParameterPage, ReadUniqueId, GetFeatures, SetFeatures, ResetLun, SynchronousReset, Unknown}
+use Rattle.onfi_cycle.specs.declared.command.Command.TheVariants.{Read, ChangeReadColumnEnhanced, ChangeReadColumnConfirm, ReadStatus, ReadStatusEnhanced, ReadId, ReadParameterPage, ReadUniqueId, GetFeatures, SetFeatures, ResetLun, SynchronousReset, Unknown, ReadPlane}
 use Rattle.onfi_cycle.specs.declared.data_phase.DataPhase.{DataPhase}
 use Rattle.onfi_cycle.specs.declared.data_phase.DataPhase.TheVariants.{Outside, FirstColumn, SecondColumn}
 use Rattle.onfi_cycle.specs.declared.item.Item.{Item}
@@ -36,6 +36,7 @@ use Rattle.trace_ops.proofs.Starts.{starts_by, outside_opening, status_starts, r
 record HasNone (o : Optional) : Type 0 where
   unique_id : has_unique_id o ≡ false
   enhanced_column : has_enhanced_column o ≡ false
+  plane_reads : has_plane_reads o ≡ false
   features : has_features o ≡ false
   lun_reset : has_lun_reset o ≡ false
   synchronous_reset : has_synchronous_reset o ≡ false
@@ -45,6 +46,7 @@ has_none : (o : Optional) → o ≡ no_optional → HasNone o
 has_none o h = record {
   unique_id = ap has_unique_id h;
   enhanced_column = ap has_enhanced_column h;
+  plane_reads = ap has_plane_reads h;
   features = ap has_features h;
   lun_reset = ap has_lun_reset h;
   synchronous_reset = ap has_synchronous_reset h;
@@ -59,6 +61,7 @@ denied false h e = cc
 pub base_command : (g : Parts) (c : Command) → g.optional ≡ no_optional → breaks_command_unknown g (CommandCycle c) ≡ false → is_of_base c ≡ true
 unfolding breaks_command_unknown
 base_command g ChangeReadColumnEnhanced base h = absurd (denied (has_enhanced_column g.optional) (has_none g.optional base).enhanced_column h)
+base_command g ReadPlane base h = absurd (denied (has_plane_reads g.optional) (has_none g.optional base).plane_reads h)
 base_command g ReadUniqueId base h = absurd (denied (has_unique_id g.optional) (has_none g.optional base).unique_id h)
 base_command g GetFeatures base h = absurd (denied (has_features g.optional) (has_none g.optional base).features h)
 base_command g SetFeatures base h = absurd (denied (has_features g.optional) (has_none g.optional base).features h)

@@ -1,8 +1,9 @@
 -- What an operation keeps of the tail of its target: who opened it, and whether a command has closed it.
-use Rattle.std.proofs.Common.{◌≡◌, ℕ, ◌==◌, Bool, true, false, ◌&&◌, ◌||◌, not, cond, List, [], ◌∷◌, Option, Some, None, is_some, refl, sym, ap, ◌∙◌, eqb-true, ltb, if◌then◌else◌}
+use Rattle.std.proofs.Common.{◌≡◌, ◌⊎◌, inl, inr, ℕ, ◌==◌, Bool, true, false, ◌&&◌, ◌||◌, not, cond, List, [], ◌∷◌, Option, Some, None, is_some, refl, sym, ap, ◌∙◌, eqb-true, ltb, if◌then◌else◌}
+use Rattle.std.proofs.Math.Bool.{and-false}
 use Rattle.std.proofs.lemmas.Bool.{and_parts}
 use Rattle.onfi_cycle.specs.declared.command.Command.{Command}
-use Rattle.onfi_cycle.specs.declared.command.Command.TheVariants.{Read, ReadConfirm, ChangeReadColumn, ChangeReadColumnEnhanced, ChangeReadColumnConfirm, BlockErase, BlockEraseConfirm, BlockErasePlane, ReadStatus, ReadStatusEnhanced, PageProgram, ChangeWriteColumn, ProgramConfirm, ProgramPlane, ReadId, ReadParameterPage, Reset, ReadCacheSequential, ReadCacheEnd, ReadUniqueId, GetFeatures, SetFeatures, ResetLun, SynchronousReset, Unknown}
+use Rattle.onfi_cycle.specs.declared.command.Command.TheVariants.{Read, ReadConfirm, ChangeReadColumn, ChangeReadColumnEnhanced, ChangeReadColumnConfirm, BlockErase, BlockEraseConfirm, BlockErasePlane, ReadStatus, ReadStatusEnhanced, PageProgram, ChangeWriteColumn, ProgramConfirm, ProgramPlane, ReadId, ReadParameterPage, Reset, ReadCacheSequential, ReadCacheEnd, ReadUniqueId, GetFeatures, SetFeatures, ResetLun, SynchronousReset, Unknown, ReadPlane}
 use Rattle.onfi_cycle.specs.declared.data_phase.DataPhase.{DataPhase}
 use Rattle.onfi_cycle.specs.declared.data_phase.DataPhase.TheVariants.{Outside, Inputs, FirstColumn, SecondColumn, FeatureInputs}
 use Rattle.onfi_cycle.specs.declared.opening.Opening.{Opening}
@@ -74,6 +75,7 @@ after_nothing ChangeReadColumnConfirm h = cc
 after_nothing BlockErase h = cc
 after_nothing BlockEraseConfirm h = cc
 after_nothing BlockErasePlane h = cc
+after_nothing ReadPlane h = cc
 after_nothing ReadStatus h = cc
 after_nothing ReadStatusEnhanced h = cc
 after_nothing PageProgram h = cc
@@ -113,6 +115,7 @@ column_alone ChangeReadColumnConfirm d h = cc
 column_alone BlockErase d h = cc
 column_alone BlockEraseConfirm d h = cc
 column_alone BlockErasePlane d h = cc
+column_alone ReadPlane d h = cc
 column_alone ReadStatus d h = cc
 column_alone ReadStatusEnhanced d h = cc
 column_alone PageProgram d h = cc
@@ -213,15 +216,16 @@ content_input b closer byte t was = record { opens = λ o h. none o h; program =
 
 -- ---- which command begins one
 
--- a command that closes a sequence is one of the base profile
-base_closer : (c : Command) → is_opener c ≡ false → is_known c ≡ true → is_of_base c ≡ true
-base_closer ReadConfirm o k = refl
-base_closer ChangeReadColumnConfirm o k = refl
-base_closer BlockEraseConfirm o k = refl
-base_closer BlockErasePlane o k = refl
-base_closer ChangeWriteColumn o k = refl
-base_closer ProgramConfirm o k = refl
-base_closer ProgramPlane o k = refl
+-- a command that closes a sequence is one of the base profile, or 32h
+base_closer : (c : Command) → is_opener c ≡ false → is_known c ≡ true → (is_of_base c ≡ true) ⊎ (c ≡ ReadPlane)
+base_closer ReadConfirm o k = inl refl
+base_closer ChangeReadColumnConfirm o k = inl refl
+base_closer BlockEraseConfirm o k = inl refl
+base_closer BlockErasePlane o k = inl refl
+base_closer ReadPlane o k = inr refl
+base_closer ChangeWriteColumn o k = inl refl
+base_closer ProgramConfirm o k = inl refl
+base_closer ProgramPlane o k = inl refl
 base_closer Unknown o k = cc
 base_closer Read o k = cc
 base_closer ChangeReadColumn o k = cc
@@ -240,6 +244,16 @@ base_closer GetFeatures o k = cc
 base_closer SetFeatures o k = cc
 base_closer ResetLun o k = cc
 base_closer SynchronousReset o k = cc
+
+-- so it doesn't begin an operation as one that isn't known
+no_unknown : (byte : ℕ) → is_opener (command byte) ≡ false → is_known (command byte) ≡ true → (is_unknown byte && not (closes_as_known byte)) ≡ false
+no_unknown byte o k = at (base_closer (command byte) o k)
+  where
+    at : ((is_of_base (command byte) ≡ true) ⊎ (command byte ≡ ReadPlane)) → (is_unknown byte && not (closes_as_known byte)) ≡ false
+    at (inl base) = ap (λ x. not x && not (closes_as_known byte)) base
+    at (inr plane) =
+        let is : byte ≡ 0x32 = same_some (sym (commands_have_bytes.byte_of_command byte (λ unknown. let clash = sym plane ∙ unknown in cc)) ∙ ap opcode plane) in
+        ap (λ n. is_unknown byte && not (closes_as_known n)) is ∙ and-false (is_unknown byte)
 
 -- an opener begins an operation, if it isn't a 31h that closes a read
 pub opener_begins : (newest : Option Operation) (byte : ℕ) → is_opener (command byte) ≡ true → closes_read newest byte ≡ false → begins_one newest byte ≡ true
@@ -268,9 +282,8 @@ in_data d h = cc
 pub wanted_begins_none : (o : Operation) (t : List TargetCycle) (byte : ℕ) → Content o.beginning o.closer t → is_known (command byte) ≡ true → is_opener (command byte) ≡ false →
     wants_command (facts_of t) (command byte) ≡ true → begins_one (Some o) byte ≡ false
 wanted_begins_none o t byte content known no_opener wanted =
-    let base : is_of_base (command byte) ≡ true = base_closer (command byte) no_opener known in
     ap (λ x. (x && not (closes_read (Some o) byte)) || ((is_unknown byte && not (closes_as_known byte)) || (byte == 0x85 && not (is_open_program o)))) no_opener
-    ∙ ap (λ x. (not x && not (closes_as_known byte)) || (byte == 0x85 && not (is_open_program o))) base
+    ∙ ap (λ x. x || (byte == 0x85 && not (is_open_program o))) (no_unknown byte no_opener known)
     ∙ at (byte == 0x85) refl
   where
     at : (x : Bool) → (byte == 0x85) ≡ x → (x && not (is_open_program o)) ≡ false

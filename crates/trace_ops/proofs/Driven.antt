@@ -5,9 +5,9 @@ use Rattle.std.proofs.lemmas.Bool.{or_parts, not-false}
 use Rattle.std.proofs.lemmas.Option.{slice_get_within}
 use Rattle.nand_geometry.specs.declared.parts.Parts.{Parts}
 use Rattle.onfi_cycle.specs.declared.command.Command.{Command}
-use Rattle.onfi_cycle.specs.declared.command.Command.TheVariants.{Read, ReadConfirm, ChangeReadColumn, ChangeReadColumnEnhanced, ChangeReadColumnConfirm, BlockErase, BlockEraseConfirm, BlockErasePlane, ReadStatus, ReadStatusEnhanced, PageProgram, ChangeWriteColumn, ProgramConfirm, ProgramPlane, ReadId, ReadParameterPage, Reset, ReadCacheSequential, ReadCacheEnd, ReadUniqueId, GetFeatures, SetFeatures, ResetLun, SynchronousReset, Unknown}
+use Rattle.onfi_cycle.specs.declared.command.Command.TheVariants.{Read, ReadConfirm, ChangeReadColumn, ChangeReadColumnEnhanced, ChangeReadColumnConfirm, BlockErase, BlockEraseConfirm, BlockErasePlane, ReadStatus, ReadStatusEnhanced, PageProgram, ChangeWriteColumn, ProgramConfirm, ProgramPlane, ReadId, ReadParameterPage, Reset, ReadCacheSequential, ReadCacheEnd, ReadUniqueId, GetFeatures, SetFeatures, ResetLun, SynchronousReset, Unknown, ReadPlane}
 use Rattle.onfi_cycle.specs.declared.effect.Effect.{Effect}
-use Rattle.onfi_cycle.specs.declared.effect.Effect.TheVariants.{BecameReady, ArrayBecameReady, ReadStarted, EraseStarted, ProgramStarted, IdRead, IdentityRead, UniqueIdReadStarted, FeaturesReadStarted, FeaturesSet, ParameterPageReadStarted, CacheReadContinued, CacheReadEnded, ResetStarted, TargetResetStarted}
+use Rattle.onfi_cycle.specs.declared.effect.Effect.TheVariants.{BecameReady, ArrayBecameReady, ReadStarted, ReadQueued, EraseStarted, ProgramStarted, IdRead, IdentityRead, UniqueIdReadStarted, FeaturesReadStarted, FeaturesSet, ParameterPageReadStarted, CacheReadContinued, CacheReadEnded, ResetStarted, TargetResetStarted}
 use Rattle.onfi_cycle.specs.declared.forbidden.Forbidden.TheVariants.{NotThere}
 use Rattle.onfi_cycle.specs.declared.item.Cycle.{Cycle}
 use Rattle.onfi_cycle.specs.declared.item.Item.{Item}
@@ -39,6 +39,7 @@ off_command g selected working ReadConfirm lun h = refl
 off_command g selected working ChangeReadColumnConfirm lun h = refl
 off_command g selected working BlockEraseConfirm lun h = refl
 off_command g selected working BlockErasePlane lun h = refl
+off_command g selected working ReadPlane lun h = refl
 off_command g selected working ChangeWriteColumn lun h = refl
 off_command g selected working ProgramConfirm lun h = refl
 off_command g selected working ProgramPlane lun h = refl
@@ -73,6 +74,7 @@ command_of_nothing ReadConfirm = refl
 command_of_nothing ChangeReadColumnConfirm = refl
 command_of_nothing BlockEraseConfirm = refl
 command_of_nothing BlockErasePlane = refl
+command_of_nothing ReadPlane = refl
 command_of_nothing ChangeWriteColumn = refl
 command_of_nothing ProgramConfirm = refl
 command_of_nothing ProgramPlane = refl
@@ -220,6 +222,7 @@ array_after : (e : Effect) (busy caching array : Bool) → array_busy_after e bu
 array_after (BecameReady fail) busy caching array h = two_true array busy caching h
 array_after ArrayBecameReady busy caching array h = cc
 array_after (ReadStarted at from) busy caching array h = cc
+array_after (ReadQueued at) busy caching array h = cc
 array_after (EraseStarted queued at) busy caching array h = cc
 array_after (ProgramStarted queued at) busy caching array h = cc
 array_after IdRead busy caching array h = cc

@@ -16,7 +16,7 @@ use Rattle.onfi_cycle.specs.declared.item.Kind.TheVariants.{Cmd, Adr, Din, Dout}
 use Rattle.onfi_cycle.specs.declared.target_cycle.TargetCycle.{TargetCycle}
 use Rattle.onfi_cycle.specs.declared.target_cycle.TargetCycle.TheVariants.{CommandCycle, OutputCycle}
 use Rattle.onfi_cycle.specs.declared.command.Command.{Command}
-use Rattle.onfi_cycle.specs.declared.command.Command.TheVariants.{ReadConfirm, BlockEraseConfirm, BlockErasePlane, ProgramConfirm, ProgramPlane, ReadCacheSequential}
+use Rattle.onfi_cycle.specs.declared.command.Command.TheVariants.{ReadConfirm, BlockEraseConfirm, BlockErasePlane, ProgramConfirm, ProgramPlane, ReadCacheSequential, ReadPlane}
 use Rattle.onfi_cycle.specs.declared.tail_facts.TailFacts.{TailFacts}
 use Rattle.onfi_cycle.specs.LunView.{LunView}
 use Rattle.onfi_cycle.specs.Lun.{luns_of}
@@ -777,6 +777,7 @@ module _ (readies : Readies) (one_lun : Bool) (g : Parts) (targets : ℕ) (few :
                 of ReadConfirm code h = cc
                 of BlockEraseConfirm code h = cc
                 of BlockErasePlane code h = cc
+                of ReadPlane code h = cc
                 of ProgramConfirm code h = cc
                 of ProgramPlane code h = cc
                 of y code h = h

@@ -78,6 +78,7 @@ fn opener_name(opener: Command) -> &'static str {
         Command::ReadCacheSequential => "next page",
         Command::ReadCacheEnd => "last page",
         Command::ReadConfirm
+        | Command::ReadPlane
         | Command::ChangeReadColumnConfirm
         | Command::BlockEraseConfirm
         | Command::BlockErasePlane

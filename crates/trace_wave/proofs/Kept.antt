@@ -4,8 +4,9 @@ use Rattle.std.proofs.lemmas.Bool.{not-true, eqb-true}
 use Rattle.std.proofs.lemmas.Option.{slice_get_within}
 use Rattle.std.specs.List.{slice_get}
 use Rattle.nand_geometry.specs.declared.parts.Parts.{Parts}
+use Rattle.nand_geometry.specs.Limits.{planes}
 use Rattle.onfi_cycle.specs.declared.command.Command.{Command}
-use Rattle.onfi_cycle.specs.declared.command.Command.TheVariants.{Read, ChangeReadColumnConfirm, ReadStatus, ReadStatusEnhanced, ReadConfirm, BlockEraseConfirm, BlockErasePlane, ProgramConfirm, ProgramPlane, ReadId, ReadParameterPage, Reset, ReadCacheSequential, ReadCacheEnd, ReadUniqueId, GetFeatures, ResetLun, SynchronousReset}
+use Rattle.onfi_cycle.specs.declared.command.Command.TheVariants.{Read, ChangeReadColumnConfirm, ReadStatus, ReadStatusEnhanced, ReadConfirm, ReadPlane, BlockEraseConfirm, BlockErasePlane, ProgramConfirm, ProgramPlane, ReadId, ReadParameterPage, Reset, ReadCacheSequential, ReadCacheEnd, ReadUniqueId, GetFeatures, ResetLun, SynchronousReset}
 use Rattle.onfi_cycle.specs.declared.effect.Effect.{Effect}
 use Rattle.onfi_cycle.specs.declared.effect.Effect.TheVariants.{Unaffected, FeaturesSet, SelectedForStatus, Deselected, ReadColumnChanged, PlaneSelected, DataOutput, StatusSelected, StatusOfSelected, AnotherAddressed}
 use Rattle.onfi_cycle.specs.declared.item.Kind.{Kind}
@@ -18,7 +19,7 @@ use Rattle.onfi_cycle.specs.declared.opening.Opening.{Opening}
 use Rattle.onfi_cycle.specs.declared.tail_facts.TailFacts.{TailFacts}
 use Rattle.onfi_cycle.specs.Command.{command, reads_identity, closes_row, reads_row}
 use Rattle.onfi_cycle.specs.Sequence.{target_of, target_cycle, opened, selects_plane, wants_command, row, row_with, takes_features, tail, facts_of}
-use Rattle.onfi_cycle.specs.Effect.{is_off, is_data, is_shared, of_target, other_effect, plane_effect, column_effect, names_lun, confirm_effect, command_effect, address_effect, opening_address_effect, ends_features, cycle_effect, item_effect}
+use Rattle.onfi_cycle.specs.Effect.{is_off, is_data, is_shared, of_target, other_effect, plane_of_row, plane_effect, column_effect, names_lun, confirm_effect, command_effect, address_effect, opening_address_effect, ends_features, cycle_effect, item_effect}
 use Rattle.onfi_cycle.specs.Lun.{busy_after, array_busy_after, effect_on, latch_alone, effect_among}
 use Rattle.onfi_cycle.specs.Readies.{starts}
 use Rattle.onfi_cycle.specs.State.{TargetView, BusView, Follows, judged, judged_on}
@@ -41,6 +42,7 @@ either false x y h k = k
 
 confirm_keeps : (g : Parts) (t : TailFacts) (c : Command) → starts c ≡ false → Keeps (confirm_effect g t c)
 confirm_keeps g t ReadConfirm h = cc
+confirm_keeps g t ReadPlane h = cc
 confirm_keeps g t ReadCacheSequential h = cc
 confirm_keeps g t BlockEraseConfirm h = cc
 confirm_keeps g t BlockErasePlane h = cc
@@ -61,7 +63,7 @@ command_keeps g t la ReadCacheSequential n h = cc
 command_keeps g t la ReadCacheEnd n h = cc
 command_keeps g t la ChangeReadColumnConfirm n h =
     either (selects_plane t) (plane_effect g t n) (column_effect t la)
-    (either (names_lun g (row t) n) (PlaneSelected t.column) Deselected (record { busy = λ b. refl; array = λ b c a. refl }) (record { busy = λ b. refl; array = λ b c a. refl }))
+    (either (names_lun g (row t) n) (PlaneSelected (plane_of_row g (row t)) (planes g) t.column) Deselected (record { busy = λ b. refl; array = λ b c a. refl }) (record { busy = λ b. refl; array = λ b c a. refl }))
     (either (wants_command t ChangeReadColumnConfirm && not (is_off la)) (ReadColumnChanged t.column) Unaffected (record { busy = λ b. refl; array = λ b c a. refl }) unaffected)
 command_keeps g t la c n h = either (wants_command t c && names_lun g (row t) n) (confirm_effect g t c) (other_effect g t c) (confirm_keeps g t c h) (other_keeps g t c)
 

@@ -4,6 +4,7 @@ use Rattle.std.proofs.lemmas.Bool.{eqb-true, eq-eqb, false≢true}
 use Rattle.std.proofs.lemmas.List.{get_or-append-add}
 use Rattle.std.proofs.Math.Nat.{suc-mul}
 use Rattle.nand_geometry.specs.declared.parts.Parts.{Parts}
+use Rattle.nand_geometry.specs.Limits.{planes}
 use Rattle.onfi_cycle.specs.declared.command.Command.{Command}
 use Rattle.onfi_cycle.specs.declared.command.Command.TheVariants as k
 use Rattle.onfi_cycle.specs.declared.effect.Effect.{Effect}
@@ -17,7 +18,7 @@ use Rattle.onfi_cycle.specs.declared.tail_facts.TailFacts.{TailFacts}
 use Rattle.onfi_cycle.specs.declared.target_cycle.TargetCycle.{TargetCycle}
 use Rattle.onfi_cycle.specs.declared.target_cycle.TargetCycle.TheVariants.{CommandCycle, AddressCycle, InputCycle, OutputCycle}
 use Rattle.onfi_cycle.specs.Sequence.{tail, facts_of, row, row_with, target_cycle, selects_plane, wants_command, wants_address}
-use Rattle.onfi_cycle.specs.Effect.{is_shared, acts_for_target, of_target, other_effect, lun_reset_effect, names_lun, is_off, is_data, confirm_effect, command_effect, opening_address_effect, address_effect, cycle_effect, id_effect, ends_features, row_effect, cache_effect, plane_effect, column_effect}
+use Rattle.onfi_cycle.specs.Effect.{is_shared, plane_of_row, acts_for_target, of_target, other_effect, lun_reset_effect, names_lun, is_off, is_data, confirm_effect, command_effect, opening_address_effect, address_effect, cycle_effect, id_effect, ends_features, row_effect, cache_effect, plane_effect, column_effect}
 use Rattle.onfi_cycle.specs.Command.{closes_row, reads_row}
 use Rattle.onfi_cycle.specs.Lun.{effect_on, effect_among, latch_alone, is_busy as lun_is_busy, is_caching, busy_after, array_busy_after}
 use Rattle.bus_lines.specs.declared.lines.Lines.{Lines}
@@ -59,7 +60,7 @@ command_keeps g t latch k.ReadCacheSequential lun =
     (either (is_off latch) e.Unaffected (e.CacheReadContinued None) refl refl)
 command_keeps g t latch k.ReadCacheEnd lun = either (is_off latch) e.Unaffected e.CacheReadEnded refl refl
 command_keeps g t latch k.ChangeReadColumnConfirm lun =
-    either (selects_plane t) (plane_effect g t lun) (column_effect t latch) (either (names_lun g (row t) lun) (e.PlaneSelected t.column) e.Deselected refl refl)
+    either (selects_plane t) (plane_effect g t lun) (column_effect t latch) (either (names_lun g (row t) lun) (e.PlaneSelected (plane_of_row g (row t)) (planes g) t.column) e.Deselected refl refl)
     (either (wants_command t k.ChangeReadColumnConfirm && not (is_off latch)) (e.ReadColumnChanged t.column) e.Unaffected refl refl)
 command_keeps g t latch c lun = either (wants_command t c && names_lun g (row t) lun) (confirm_effect g t c) (other_effect g t c) refl (other_keeps g t c)
 

@@ -9,7 +9,7 @@ from typing import Any, Dict, List, Optional, Tuple, Union
 from . import records
 from .records import Abi, Answer, Bus, Geometry, Item, Job, Live, LiveAbi, Look, Page, Part, Placed, Run, Spot, Step, Turn, flag, size, u8, u32, u64
 
-VERSION = 2
+VERSION = 3
 
 NAME = "libonfiseq.so"
 

@@ -45,7 +45,7 @@ class Answer(ctypes.Structure):
 class Bus(ctypes.Structure):
     """The state of a channel."""
 
-    _fields_ = [("state", u64 * 265)]
+    _fields_ = [("state", u64 * 409)]
 
 
 class Part(ctypes.Structure):
@@ -102,7 +102,7 @@ Abi = record("Abi", version=u32, geometry=u64, page=u64, item=u64, answer=u64, b
 Loop = record("Loop", start=u16, left=u16)
 Loops = record("Loops", depth=u8, around=Loop * 4)
 Job = record("Job", magic=u32, ce=u8, lun=u8, has_ended=u8, code=u8, base=u32, buffer=u32, index=u32, place=u32, column=u16, at=u16, plane=u8, status=u8, loops=Loops)
-Live = record("Live", state=u64 * 266)
+Live = record("Live", state=u64 * 410)
 Burst = record("Burst", kind=u8, ce=u8, bytes=u8 * 5, place=u64, len=u64)
 Turn = record("Turn", letter=u8, number=u32, count=u64, taken=u64, bursts=Burst * 3)
 Step = record("Step", letter=u8, number=u32)

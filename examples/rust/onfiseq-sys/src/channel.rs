@@ -92,7 +92,7 @@ impl Channel {
 
     /// A channel of so many targets, 1 to 4, of a chip.
     pub fn new(geometry: &Geometry, targets: u8) -> Result<Channel, Fault> {
-        let mut bus = Bus { state: [U64(0); 265] };
+        let mut bus = Bus { state: [U64(0); 409] };
         // SAFETY: both records are there, and `bus` is this function's alone.
         told(unsafe { sys::onfiseq_begin_sized(&mut bus, size_of::<Bus>(), sys::VERSION, geometry, targets) })?;
         Ok(Channel(bus))

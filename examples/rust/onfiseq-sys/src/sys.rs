@@ -48,7 +48,7 @@ pub struct Answer {
 #[repr(C)]
 #[derive(Clone, Debug)]
 pub struct Bus {
-    pub state: [U64; 265],
+    pub state: [U64; 409],
 }
 
 #[repr(C)]
@@ -82,7 +82,7 @@ pub struct Look {
     pub queued: U64,
 }
 
-pub const VERSION: u32 = 2;
+pub const VERSION: u32 = 3;
 
 // The sizes that the header has: a compiler that lays a record out otherwise stops here.
 const _: () = {
@@ -90,7 +90,7 @@ const _: () = {
     assert!(size_of::<Page>() == 28);
     assert!(size_of::<Item>() == 4);
     assert!(size_of::<Answer>() == 16);
-    assert!(size_of::<Bus>() == 2120);
+    assert!(size_of::<Bus>() == 3272);
     assert!(size_of::<Part>() == 12);
     assert!(size_of::<Spot>() == 16);
     assert!(size_of::<Look>() == 40);

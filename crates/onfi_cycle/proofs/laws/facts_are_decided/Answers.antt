@@ -1,4 +1,4 @@
-use Rattle.onfi_cycle.proofs.Decided.{busy_is_decided, closer_decided, array_busy_is_decided, array_page_is_decided, register_is_decided, column_is_decided, queue_is_decided}
+use Rattle.onfi_cycle.proofs.Decided.{busy_is_decided, closer_decided, array_busy_is_decided, array_page_is_decided, register_is_decided, column_is_decided, queue_is_decided, held_is_decided}
 use Rattle.onfi_cycle.proofs.Latches.{latch_is_decided}
 use Rattle.onfi_cycle.proofs.Selected.{selected_is_decided, overlapped_is_decided}
 use Rattle.onfi_cycle.proofs.laws.facts_are_decided.Goals as goal
@@ -13,6 +13,7 @@ returns c =
       register = register_is_decided;
       column = column_is_decided;
       queue = queue_is_decided;
+      held = held_is_decided;
       selected = selected_is_decided;
       overlapped = overlapped_is_decided;
       latch = latch_is_decided;

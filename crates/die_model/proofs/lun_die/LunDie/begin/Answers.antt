@@ -2,7 +2,7 @@ use Rattle.std.proofs.Common.{ℕ, List, [], cond, sym, ap, subst, ◌∙◌, re
 use Rattle.nand_geometry.specs.Limits.{page_len}
 use Rattle.onfi_cycle.specs.Content.{queued_work_after, pending_work_after}
 use Rattle.die_model.specs.Die.{Die, CanBegin, IsAfter, effect_of, is_reset, page_to_keep, works_of}
-use Rattle.die_model.proofs.Begun.{die_of, die_begun, not_closed, queue_begun, queued_begun, pending_begun, content_begun, failed_begun, page_kept, fewer, kept_so, waits, ends, taken_is, kept_lengths, shows_begun}
+use Rattle.die_model.proofs.Begun.{die_of, die_begun, not_closed, queue_begun, queued_begun, pending_begun, content_begun, failed_begun, page_kept, fewer, kept_so, waits, ends, taken_is, kept_lengths, shows_begun, register_begun, held_begun}
 use Rattle.die_model.proofs.lun_die.LunDie.begin.Goals as goal
 
 pub begin-requires-clause-room : goal.begin-requires-clause-room
@@ -36,8 +36,8 @@ invariant_of-self-2 g c =
     record {
       die = die_begun i.geometry c.args.work i.parameters.items i.pages c.keep_some.new.self i.planes.items old.queue.items new.queue.items old.closed new.closed old.busy new.busy
           c.self.invariant.die r.row r.together plain keeps begun.queue begun.closed begun.busy;
-      shows = shows_begun i.geometry c.args.work old.array_page c.keep_some.new.self i.output c.fetch.new.output old.register new.register new.closed
-          begun.register begun.closed c.self.invariant.shows.width c.fetch.ensures.width c.fetch.ensures.page;
+      shows = shows_begun i.geometry c.args.work old.array_page old.queue.items c.keep_some.new.self i.output c.fetch.new.output old.register new.register old.held.items new.held.items new.closed
+          begun.register begun.held begun.closed c.self.invariant.shows.width c.fetch.ensures.width c.fetch.ensures.page;
     }
 
 pub returns-clause-ok : goal.returns-clause-ok
@@ -54,7 +54,8 @@ returns-clause-ok g c =
       geometry = refl;
       planes = refl;
       pages = λ p. page_kept (page_len i.geometry) (page_to_keep c.args.work) i.pages c.keep_some.new.self keeps p ∙ sym (content_begun i.geometry c.args.work _ p _);
-      register = begun.register;
+      register = begun.register ∙ register_begun c.args.work old.array_page old.closed old.queue.items old.held.items old.register plain;
+      held = begun.held ∙ held_begun c.args.work old.array_page old.closed old.queue.items old.held.items plain;
       array_page = begun.array_page;
       busy = begun.busy;
       caching = begun.caching;

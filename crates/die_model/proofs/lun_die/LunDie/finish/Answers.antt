@@ -14,7 +14,7 @@ invariant_of-self g c =
     record {
       die = die_ended i.geometry c.parts.result i.parameters.items i.pages c.end_works.new.pages i.planes.items c.as_slice.result.now old.queue.items new.queue.items old.closed new.closed old.busy new.busy
           c.self.invariant.die c.parts.ensures.value c.as_slice.ensures.value ended.rows ended.while_open over.queue over.closed;
-      shows = shows_ended i.geometry i.pages c.end_works.new.pages old.register new.register i.output old.closed new.closed over.register ended.while_open over.closed c.self.invariant.shows;
+      shows = shows_ended i.geometry i.pages c.end_works.new.pages old.register new.register old.held.items new.held.items i.output old.closed new.closed over.register ended.while_open over.closed c.self.invariant.shows;
     }
 
 pub returns : goal.returns
@@ -29,6 +29,7 @@ returns g c =
       planes = refl;
       pages = ended_pages c.args.fail old.closed i.geometry c.parts.result i.planes.items c.as_slice.result.now old.queue.items i.pages c.end_works.new.pages c.parts.ensures.value c.as_slice.ensures.value c.end_works.ensures.pages;
       register = over.register;
+      held = ap (λ h. h.items) over.held;
       array_page = over.array_page;
       busy = over.busy;
       caching = over.caching;

@@ -1,0 +1,176 @@
+-- After a past that is legal in the base profile no read is queued, and a LUN holds one page at most.
+use Rattle.std.proofs.Common.{◌≡◌, ℕ, zero, suc, ◌+◌, ◌≤◌, ◌==◌, Bool, true, false, ◌&&◌, cond, not, ltb, nat_le, List, [], ◌∷◌, length, take, Option, Some, None, refl, ap, arith}
+use Rattle.nand_geometry.specs.declared.parts.Parts.{Parts}
+use Rattle.onfi_cycle.specs.declared.command.Command.{Command}
+use Rattle.onfi_cycle.specs.declared.command.Command.TheVariants.{Read, ReadConfirm, ReadPlane, ReadStatus, ReadStatusEnhanced, Reset, SynchronousReset, ReadCacheSequential, ReadCacheEnd, ChangeReadColumnConfirm, BlockEraseConfirm, BlockErasePlane, ProgramConfirm, ProgramPlane, ReadId, ReadParameterPage, ReadUniqueId, GetFeatures, ResetLun}
+use Rattle.onfi_cycle.specs.declared.effect.Effect.{Effect}
+use Rattle.onfi_cycle.specs.declared.effect.Effect.TheVariants.{Unaffected, StatusSelected, StatusOfSelected, SelectedForStatus, Deselected, ReadStarted, ReadQueued, EraseStarted, ProgramStarted, IdRead, IdentityRead, UniqueIdReadStarted, FeaturesReadStarted, FeaturesSet, ParameterPageReadStarted, CacheReadContinued, CacheReadEnded, ReadColumnChanged, PlaneSelected, DataOutput, ResetStarted, TargetResetStarted, BecameReady, ArrayBecameReady, AnotherAddressed}
+use Rattle.onfi_cycle.specs.declared.item.Item.{Item}
+use Rattle.onfi_cycle.specs.declared.item.Item.TheVariants.{Cyc, Rdy, Ard}
+use Rattle.onfi_cycle.specs.declared.latch.Latch.{Latch}
+use Rattle.onfi_cycle.specs.declared.lun.Lun.{Lun}
+use Rattle.onfi_cycle.specs.declared.opening.Opening.{Opening}
+use Rattle.onfi_cycle.specs.declared.page_address.PageAddress.{PageAddress}
+use Rattle.onfi_cycle.specs.declared.queued.Queued.{Queued}
+use Rattle.onfi_cycle.specs.declared.tail_facts.TailFacts.{TailFacts}
+use Rattle.onfi_cycle.specs.declared.target_cycle.TargetCycle.{TargetCycle}
+use Rattle.onfi_cycle.specs.declared.target_cycle.TargetCycle.TheVariants.{CommandCycle, AddressCycle, InputCycle, OutputCycle}
+use Rattle.onfi_cycle.specs.LunView.{LunView}
+use Rattle.onfi_cycle.specs.Base.{is_of_base}
+use Rattle.onfi_cycle.specs.Command.{closes_row, reads_row}
+use Rattle.onfi_cycle.specs.Sequence.{target_cycle, tail, facts_of, wants_command, wants_address, row, row_with, selects_plane}
+use Rattle.onfi_cycle.specs.Effect.{is_off, is_data, is_shared, acts_for_target, of_target, id_effect, lun_reset_effect, names_lun, ends_features, plane_of_row, plane_effect, column_effect, cache_effect, confirm_effect, other_effect, row_effect, command_effect, address_effect, opening_address_effect, cycle_effect}
+use Rattle.onfi_cycle.specs.Lun.{is_page_read, pages_of_reads, queue_after, held_after, queue, held, array_page, latch_alone, effect_on, effect_among, views_from, luns_of}
+use Rattle.onfi_cycle.specs.Rules.{driving, only, driver_is, is_some_and, continues_cache}
+use Rattle.onfi_cycle.specs.Permitted.{broken, is_legal}
+use Rattle.onfi_cycle.proofs.Passed.{permitted_keeps}
+use Rattle.onfi_profiles.specs.Widening.{in_base}
+use Rattle.onfi_profiles.specs.Judging.{base_continues_cache}
+use Rattle.onfi_profiles.proofs.OldTails.{is_base_cycle, base_cycle}
+use Rattle.onfi_profiles.proofs.Pasts.{lun_at, both_legal}
+
+-- 1. what an item does
+
+abbrev queues_read : Effect → Bool
+queues_read (ReadQueued page) = true
+queues_read _ = false
+
+neither : (b : Bool) (x y : Effect) → queues_read x ≡ false → queues_read y ≡ false → queues_read (cond b x y) ≡ false
+neither true x y hx hy = hx
+neither false x y hx hy = hy
+
+row_queues : (g : Parts) (t : TailFacts) (c : Command) (lun : ℕ) → queues_read (confirm_effect g t c) ≡ false → queues_read (row_effect g t c lun) ≡ false
+row_queues g t c lun h =
+    neither (wants_command t c && names_lun g (row t) lun) (confirm_effect g t c) (other_effect g t c) h
+    (neither (closes_row c && (wants_command t c && is_shared g)) (AnotherAddressed (reads_row c)) Unaffected refl refl)
+
+command_queues : (g : Parts) (t : TailFacts) (la : Latch) (c : Command) (lun : ℕ) → is_of_base c ≡ true → queues_read (command_effect g t la c lun) ≡ false
+command_queues g t la Read lun b = refl
+command_queues g t la ReadStatus lun b = neither (is_shared g) StatusOfSelected StatusSelected refl refl
+command_queues g t la ReadStatusEnhanced lun b = refl
+command_queues g t la Reset lun b = neither (is_shared g) (TargetResetStarted (lun == 0)) ResetStarted refl refl
+command_queues g t la SynchronousReset lun b = neither (is_shared g) (TargetResetStarted (lun == 0)) ResetStarted refl refl
+command_queues g t la ReadCacheSequential lun b =
+    neither (wants_command t ReadCacheSequential) (row_effect g t ReadCacheSequential lun) (cache_effect la)
+    (row_queues g t ReadCacheSequential lun refl) (neither (is_off la) Unaffected (CacheReadContinued None) refl refl)
+command_queues g t la ReadCacheEnd lun b = neither (is_off la) Unaffected CacheReadEnded refl refl
+command_queues g t la ChangeReadColumnConfirm lun b =
+    neither (selects_plane t) (plane_effect g t lun) (column_effect t la)
+    (neither (names_lun g (row t) lun) (PlaneSelected (plane_of_row g (row t)) _ t.column) Deselected refl refl)
+    (neither (wants_command t ChangeReadColumnConfirm && not (is_off la)) (ReadColumnChanged t.column) Unaffected refl refl)
+command_queues g t la ReadConfirm lun b = row_queues g t ReadConfirm lun refl
+command_queues g t la ReadPlane lun b = cc
+command_queues g t la BlockEraseConfirm lun b = row_queues g t BlockEraseConfirm lun refl
+command_queues g t la BlockErasePlane lun b = row_queues g t BlockErasePlane lun refl
+command_queues g t la ProgramConfirm lun b = row_queues g t ProgramConfirm lun refl
+command_queues g t la ProgramPlane lun b = row_queues g t ProgramPlane lun refl
+command_queues g t la c lun b = row_queues g t c lun refl
+
+of_target_queues : (g : Parts) (lun : ℕ) (e : Effect) → queues_read e ≡ false → queues_read (of_target g lun e) ≡ false
+of_target_queues g lun e h = neither (acts_for_target g lun) e Deselected h refl
+
+address_queues : (g : Parts) (t : TailFacts) (byte : ℕ) (c : Command) (n lun : ℕ) → queues_read (address_effect g t byte c n lun) ≡ false
+address_queues g t byte ReadStatusEnhanced n lun =
+    neither (n == 2) (cond (names_lun g (row_with t byte) lun) SelectedForStatus Deselected) Unaffected
+    (neither (names_lun g (row_with t byte) lun) SelectedForStatus Deselected refl refl) refl
+address_queues g t byte ReadId n lun =
+    neither (wants_address t byte) (of_target g lun (id_effect byte)) Unaffected
+    (of_target_queues g lun (id_effect byte) (neither (byte == 0x20) IdRead (IdentityRead (byte == 0x40)) refl refl)) refl
+address_queues g t byte ReadParameterPage n lun = neither (wants_address t byte) (of_target g lun ParameterPageReadStarted) Unaffected (of_target_queues g lun ParameterPageReadStarted refl) refl
+address_queues g t byte ReadUniqueId n lun = neither (wants_address t byte) (of_target g lun UniqueIdReadStarted) Unaffected (of_target_queues g lun UniqueIdReadStarted refl) refl
+address_queues g t byte GetFeatures n lun = neither (wants_address t byte) (of_target g lun (FeaturesReadStarted byte)) Unaffected (of_target_queues g lun (FeaturesReadStarted byte) refl) refl
+address_queues g t byte ResetLun n lun =
+    neither (n == 2) (lun_reset_effect g (names_lun g (row_with t byte) lun)) Unaffected
+    (neither (names_lun g (row_with t byte) lun) ResetStarted (cond (is_shared g) (AnotherAddressed false) Unaffected) refl (neither (is_shared g) (AnotherAddressed false) Unaffected refl refl)) refl
+address_queues g t byte c n lun = refl
+
+cycle_queues : (g : Parts) (t : TailFacts) (la : Latch) (k : TargetCycle) (lun : ℕ) → is_base_cycle k ≡ true → queues_read (cycle_effect g t la k lun) ≡ false
+cycle_queues g t la (CommandCycle c) lun b = command_queues g t la c lun b
+cycle_queues g t la (AddressCycle byte) lun b = at t.opening
+  where
+    at : (o : Option Opening) → queues_read (opening_address_effect g t byte o lun) ≡ false
+    at None = refl
+    at (Some o) = address_queues g t byte o.opener o.addresses lun
+cycle_queues g t la (InputCycle byte) lun b = neither (ends_features t) (of_target g lun (FeaturesSet _)) Unaffected (of_target_queues g lun (FeaturesSet _) refl) refl
+cycle_queues g t la OutputCycle lun b = neither (is_data la) DataOutput Unaffected refl refl
+
+item_queues : (g : Parts) (targets : ℕ) (past : List Item) (i : Item) (l : Lun) → broken (in_base g) targets past i ≡ None → queues_read (effect_on (in_base g) past i l) ≡ false
+unfolding effect_among
+item_queues g targets past (Cyc c) l h =
+    neither (c.ce == l.ce) (cycle_effect (in_base g) (facts_of (tail past l.ce)) (latch_alone (in_base g) past l) (target_cycle c.kind c.byte) l.lun) Unaffected
+    (cycle_queues (in_base g) (facts_of (tail past l.ce)) (latch_alone (in_base g) past l) (target_cycle c.kind c.byte) l.lun (base_cycle g (target_cycle c.kind c.byte) (permitted_keeps (in_base g) targets past c h).f2))
+    refl
+item_queues g targets past (Rdy a b f) l h = neither (a == l.ce && b == l.lun) (BecameReady f) Unaffected refl refl
+item_queues g targets past (Ard a b) l h = neither (a == l.ce && b == l.lun) ArrayBecameReady Unaffected refl refl
+
+-- 2. the queue and the pages
+
+abbrev pub IsFew : List Queued → List PageAddress → Type 0
+IsFew queue held = (pages_of_reads queue ≡ []) × (length held ≤ 1)
+
+few_after : (e : Effect) (p : PageAddress) (queue : List Queued) (held : List PageAddress) → queues_read e ≡ false → IsFew queue held → IsFew (queue_after e queue) (held_after e p queue held)
+few_after (ReadStarted page column) p queue held r h =
+    let one : length (take 4 (page ∷ pages_of_reads queue)) ≡ 1 = ap (λ (q : List PageAddress). length (take 4 (page ∷ q))) h.0 in
+    (refl, omega (arith, one))
+few_after (ReadQueued page) p queue held r h = cc
+few_after (EraseStarted true at) p queue held r h = (h.0, omega arith)
+few_after (EraseStarted false at) p queue held r h = (refl, omega arith)
+few_after (ProgramStarted true page) p queue held r h = (h.0, h.1)
+few_after (ProgramStarted false page) p queue held r h = (refl, omega arith)
+few_after IdRead p queue held r h = (h.0, omega arith)
+few_after (IdentityRead jedec) p queue held r h = (h.0, omega arith)
+few_after UniqueIdReadStarted p queue held r h = (h.0, omega arith)
+few_after (FeaturesReadStarted address) p queue held r h = (h.0, omega arith)
+few_after (FeaturesSet feature) p queue held r h = (h.0, omega arith)
+few_after ParameterPageReadStarted p queue held r h = (h.0, omega arith)
+few_after (CacheReadContinued to) p queue held r h = (h.0, omega arith)
+few_after CacheReadEnded p queue held r h = (h.0, omega arith)
+few_after ResetStarted p queue held r h = (refl, omega arith)
+few_after (TargetResetStarted first) p queue held r h = (refl, omega arith)
+few_after e p queue held r h = h
+
+few : (g : Parts) (targets : ℕ) (past : List Item) (l : Lun) → is_legal (in_base g) targets past ≡ true → IsFew (queue (in_base g) past l) (held (in_base g) past l)
+few g targets [] l legal = (refl, omega arith)
+few g targets (i ∷ past) l legal =
+    let parts = both_legal (in_base g) targets past i legal in
+    few_after (effect_on (in_base g) past i l) (array_page (in_base g) past l) (queue (in_base g) past l) (held (in_base g) past l) (item_queues g targets past i l parts.0) (few g targets past l parts.1)
+
+-- 3. a cache read may go on where it might before more than one page could be held
+
+abbrev FewHeld : List LunView → Type 0
+FewHeld [] = Unit {0}
+FewHeld (v ∷ vs) = (length v.held ≤ 1) × FewHeld vs
+
+few_views : (g : Parts) (targets : ℕ) (past : List Item) (ce count n : ℕ) → is_legal (in_base g) targets past ≡ true → FewHeld (views_from (in_base g) past ce count n)
+few_views g targets past ce zero n legal = tt
+few_views g targets past ce (suc count) n legal = ((few g targets past (lun_at ce n) legal).1, few_views g targets past ce count (n + 1) legal)
+
+few_driving : (vs : List LunView) → FewHeld vs → FewHeld (driving vs)
+few_driving [] h = tt
+few_driving (v ∷ vs) h = at (is_off v.latch) (few_driving vs h.1)
+  where
+    at : (b : Bool) → FewHeld (driving vs) → FewHeld (cond b (driving vs) (v ∷ driving vs))
+    at true rest = rest
+    at false rest = (h.0, rest)
+
+one_at_most : (held : List PageAddress) → length held ≤ 1 → nat_le (length held) 1 ≡ true
+one_at_most [] h = refl
+one_at_most (p ∷ []) h = refl
+one_at_most (p ∷ (q ∷ held)) h = absurd (omega (arith, h))
+
+and_true : (a b : Bool) → b ≡ true → (a && b) ≡ a
+and_true true b h = h
+and_true false b h = refl
+
+continues_same : (g : Parts) (v : LunView) → length v.held ≤ 1 → continues_cache g v ≡ base_continues_cache g v
+continues_same g v h =
+    ap (λ (b : Bool). not v.busy && (b && ltb (v.array_page.page + 1) g.pages)) (and_true (is_page_read v.closer) (nat_le (length v.held) 1) (one_at_most v.held h))
+
+only_same : (g : Parts) (vs : List LunView) → FewHeld vs → is_some_and (continues_cache g) (only vs) ≡ is_some_and (base_continues_cache g) (only vs)
+only_same g [] h = refl
+only_same g (v ∷ []) h = continues_same g v h.0
+only_same g (v ∷ (w ∷ vs)) h = refl
+
+pub driver_same : (g : Parts) (targets : ℕ) (past : List Item) (ce : ℕ) → is_legal (in_base g) targets past ≡ true → driver_is (continues_cache (in_base g)) (luns_of (in_base g) past ce) ≡ driver_is (base_continues_cache (in_base g)) (luns_of (in_base g) past ce)
+driver_same g targets past ce legal =
+    only_same (in_base g) (driving (luns_of (in_base g) past ce)) (few_driving (luns_of (in_base g) past ce) (few_views g targets past ce g.luns 0 legal))
