@@ -414,6 +414,7 @@ fn breaks_data_not_ready<Q: WorkQueue>(luns: &[LunFacts<Q>], cycle: TargetCycle)
     }
 }
 
+#[inline(always)]
 #[tactic(auto, unfolding(crate::specs::Rules::breaks_column_outside))]
 fn breaks_column_outside<Q: WorkQueue>(
     geometry: &Geometry,
@@ -483,6 +484,7 @@ fn driver_continues_cache<Q: WorkQueue>(geometry: &Geometry, luns: &[LunFacts<Q>
 }
 
 /// A 31h finds no LUN that may go on with a cache read: that of the row, where the tail wants it, or the one driver.
+#[inline(always)]
 fn finds_no_cache_read<Q: WorkQueue>(
     geometry: &Geometry,
     tail: TailFacts,
@@ -519,6 +521,7 @@ fn ends_row_without_cache(geometry: &Geometry, tail: TailFacts) -> bool
     }
 }
 
+#[inline(always)]
 #[tactic(auto, unfolding(crate::specs::Rules::breaks_cache_read_misplaced))]
 fn breaks_cache_read_misplaced<Q: WorkQueue>(
     geometry: &Geometry,

@@ -92,6 +92,7 @@ impl LunFacts<RowQueue> {
     }
 
     // Goes on by an effect that changes at most what it shows, and whether it is selected or overlapped.
+    #[inline(always)]
     fn turn(&mut self, effect: Effect)
         ensures latch { self.new ≡ record self.old {
           latch = latch_after effect self.old.selected (works self.old) self.old.latch;
