@@ -74,6 +74,7 @@ fn hold_reads(held: &mut HeldPages, queue: &[Queued])
 }
 
 /// What an effect leaves of them, `array_page` being the page that the array was told to read before it and `queue` the rows that were queued.
+#[inline(always)]
 pub fn apply_to_held(
     held: &mut HeldPages,
     effect: Effect,

@@ -17,6 +17,7 @@ use arrayvec::ArrayVec;
 use nand_geometry::Geometry;
 
 // What an effect leaves of a queue.
+#[inline(always)]
 fn apply_to_queue(queue: &mut RowQueue, effect: Effect)
     requires { length queue.old.items < 16 }
     ensures { queue.new.items ≡ queue_after effect queue.old.items }
