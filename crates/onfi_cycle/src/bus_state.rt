@@ -264,8 +264,7 @@ impl BusState {
             → Follows g n self.new (with_outputs ce bytes past) }
     {
         if count > 0 {
-            let geometry = self.geometry;
-            apply_outputs_on(&geometry, self.targets.as_mut_slice(), ce, count);
+            apply_outputs_on(&self.geometry, self.targets.as_mut_slice(), ce, count);
         }
     }
 
@@ -291,8 +290,7 @@ impl BusState {
             → Follows g n self.new (with_inputs ce bytes past) }
     {
         if count > 0 {
-            let geometry = self.geometry;
-            apply_inputs_on(&geometry, self.targets.as_mut_slice(), ce, count);
+            apply_inputs_on(&self.geometry, self.targets.as_mut_slice(), ce, count);
         }
     }
 
