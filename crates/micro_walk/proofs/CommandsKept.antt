@@ -380,23 +380,23 @@ command_at g l v s a d ChangeReadColumnConfirm same plane = at (selects_plane_at
       registers = d.registers;
       target = one_place g v.target Closed data_shown data_shown data_is;
       lun = (
-        let f = d.lun in
-        let k = given_is v.lun.column (column_number v.target.column) s.target.column a.target.column d.target.has_column d.target.column in
-        record {
-          busy = f.busy;
-          register = selected_is g s.target.named a.target.named s.lun.held a.lun.held d.target.named d.target.fine f.held;
-          has_column = k.has;
-          column = k.at;
-          queue = f.queue;
-          last_read = f.last_read;
-          last_cache = f.last_cache;
-          last_other = f.last_other;
-          cached_index = f.cached_index;
-          cached_page = f.cached_page;
-          held = f.held;
-          array = f.array;
-        }
-      );
+          let f = d.lun in
+          let k = given_is v.lun.column (column_number v.target.column) s.target.column a.target.column d.target.has_column d.target.column in
+          record {
+            busy = f.busy;
+            register = selected_is g s.target.named a.target.named s.lun.held a.lun.held d.target.named d.target.fine f.held;
+            has_column = k.has;
+            column = k.at;
+            queue = f.queue;
+            last_read = f.last_read;
+            last_cache = f.last_cache;
+            last_other = f.last_other;
+            cached_index = f.cached_index;
+            cached_page = f.cached_page;
+            held = f.held;
+            array = f.array;
+          }
+          );
     }
     at true false e = absurd cc
     at false true e = absurd cc
