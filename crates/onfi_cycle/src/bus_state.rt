@@ -229,8 +229,7 @@ impl BusState {
         ensures state { self.new ≡ bus_after item self.old }
         ensures past { (g : Parts) (n : ℕ) (past : List Item) → Follows g n self.old past → Follows g n self.new (item ∷ past) }
     {
-        let geometry = self.geometry;
-        apply_on(&geometry, self.targets.as_mut_slice(), item);
+        apply_on(&self.geometry, self.targets.as_mut_slice(), item);
     }
 
     /// Drops the sequence that a target is in, as if the cycles of that hadn't been: the next opener is none too early then. The LUNs stay
@@ -265,8 +264,7 @@ impl BusState {
             → Follows g n self.new (with_outputs ce bytes past) }
     {
         if count > 0 {
-            let geometry = self.geometry;
-            apply_outputs_on(&geometry, self.targets.as_mut_slice(), ce, count);
+            apply_outputs_on(&self.geometry, self.targets.as_mut_slice(), ce, count);
         }
     }
 
@@ -292,8 +290,7 @@ impl BusState {
             → Follows g n self.new (with_inputs ce bytes past) }
     {
         if count > 0 {
-            let geometry = self.geometry;
-            apply_inputs_on(&geometry, self.targets.as_mut_slice(), ce, count);
+            apply_inputs_on(&self.geometry, self.targets.as_mut_slice(), ce, count);
         }
     }
 

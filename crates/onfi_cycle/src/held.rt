@@ -128,6 +128,7 @@ fn held_for_copyback(
 
 /// What an effect leaves of them, behind a Copyback Read or not, `array_page` being the page that the array was told to read before it and
 /// `queue` the rows that were queued.
+#[inline(always)]
 pub fn apply_to_held(
     held: &mut HeldPages,
     effect: Effect,

@@ -255,6 +255,7 @@ fn named_is_busy<Q: WorkQueue>(geometry: &Geometry, row: u32, luns: &[LunFacts<Q
 }
 
 /// The command begins a sequence and wants a ready LUN for it.
+#[inline(always)]
 fn begins_on_ready(tail: TailFacts, command: Command) -> bool
     ensures { result ≡ begins_on_ready tail command }
 {
@@ -435,6 +436,7 @@ fn breaks_data_not_ready<Q: WorkQueue>(luns: &[LunFacts<Q>], cycle: TargetCycle)
     }
 }
 
+#[inline(always)]
 #[tactic(auto, unfolding(crate::specs::Rules::breaks_column_outside))]
 fn breaks_column_outside<Q: WorkQueue>(
     geometry: &Geometry,
@@ -504,6 +506,7 @@ fn driver_continues_cache<Q: WorkQueue>(geometry: &Geometry, luns: &[LunFacts<Q>
 }
 
 /// A 31h finds no LUN that may go on with a cache read: that of the row, where the tail wants it, or the one driver.
+#[inline(always)]
 fn finds_no_cache_read<Q: WorkQueue>(
     geometry: &Geometry,
     tail: TailFacts,
@@ -540,6 +543,7 @@ fn ends_row_without_cache(geometry: &Geometry, tail: TailFacts) -> bool
     }
 }
 
+#[inline(always)]
 #[tactic(auto, unfolding(crate::specs::Rules::breaks_cache_read_misplaced))]
 fn breaks_cache_read_misplaced<Q: WorkQueue>(
     geometry: &Geometry,
@@ -596,6 +600,7 @@ fn named_is_copying<Q: WorkQueue>(geometry: &Geometry, row: u32, luns: &[LunFact
     }
 }
 
+#[inline(always)]
 #[tactic(auto, unfolding(crate::specs::Rules::breaks_copyback_misplaced))]
 fn breaks_copyback_misplaced<Q: WorkQueue>(
     geometry: &Geometry,

@@ -17,6 +17,7 @@ use arrayvec::ArrayVec;
 use nand_geometry::Geometry;
 
 // What an effect leaves of a queue.
+#[inline(always)]
 fn apply_to_queue(queue: &mut RowQueue, effect: Effect)
     requires { length queue.old.items < 16 }
     ensures { queue.new.items ≡ queue_after effect queue.old.items }
@@ -94,6 +95,7 @@ impl LunFacts<RowQueue> {
     }
 
     // Goes on by an effect that changes at most what it shows, and whether it is selected or overlapped.
+    #[inline(always)]
     fn turn(&mut self, effect: Effect)
         ensures latch { self.new ≡ record self.old {
           latch = latch_after effect self.old.selected (works self.old) self.old.latch;

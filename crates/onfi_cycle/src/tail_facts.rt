@@ -183,6 +183,7 @@ impl TailFacts {
     }
 
     /// The tail goes on with this command, which closes its sequence or is amid its data.
+    #[inline(always)]
     pub fn wants_command(self, command: Command) -> bool
         ensures { result ≡ wants_command self command }
     {
