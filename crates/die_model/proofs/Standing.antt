@@ -598,7 +598,15 @@ is_last_address g past (Cyc c) l x h w = subst (IsLastAddress g past (Cyc c) l) 
             → IsLastAddress g past (Cyc c) l (cond (opened (λ c n. is_page_program c && at_last_row c n) o) (Clears (page_address g at)) (cond (opened (λ c n. is_write_column c && at_last_row c n) o) (copied (page_address g at) (page_in_plane (planes g) (plane_of_row g at) (held g past l))) Leaves))
         by None op here h = cc
         by (Some o) op here h =
-            record { c = c; byte = y; o = o; is = refl; ce = e; cycle = q; opens = op; here = here;
+            record {
+              c = c;
+              byte = y;
+              o = o;
+              is = refl;
+              ce = e;
+              cycle = q;
+              opens = op;
+              here = here;
               kind = row_kind g (held g past l) o at (is_page_program o.opener && at_last_row o.opener o.addresses) (is_write_column o.opener && at_last_row o.opener o.addresses) (page_in_plane (planes g) (plane_of_row g at) (held g past l)) refl refl refl h;
             }
 

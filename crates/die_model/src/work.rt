@@ -45,7 +45,10 @@ impl Work {
         match effect {
             Effect::ReadStarted { page, .. } => Some(Work::Read(page)),
             Effect::ReadQueued { page } => Some(Work::Queue(Queued::Read(page))),
-            Effect::CopybackReadStarted { page, planes, .. } => Some(Work::Copyback { page, planes }),
+            Effect::CopybackReadStarted { page, planes, .. } => Some(Work::Copyback {
+                page,
+                planes,
+            }),
             Effect::ProgramStarted {
                 queued: false,
                 page,

@@ -49,8 +49,10 @@ has_odd_even o = is_wide o && has_all o 8192
 -- the set of a chip that is read as one of the wider profile, by what it declares
 abbrev pub wide_with : (features copyback unique_id enhanced_column lun_reset plane_reads synchronous_reset free_blocks odd_even : Bool) → Optional
 wide_with features copyback unique_id enhanced_column lun_reset plane_reads synchronous_reset free_blocks odd_even =
-    record { 0 = 32768 + flag 2 features + flag 4 copyback + flag 5 unique_id + flag 6 enhanced_column + flag 9 lun_reset + flag 10 plane_reads
-        + flag 11 synchronous_reset + flag 12 free_blocks + flag 13 odd_even }
+    record {
+      0 = 32768 + flag 2 features + flag 4 copyback + flag 5 unique_id + flag 6 enhanced_column + flag 9 lun_reset + flag 10 plane_reads
+          + flag 11 synchronous_reset + flag 12 free_blocks + flag 13 odd_even;
+    }
 
 -- what is left of a set where a page that declares it is read for a profile
 abbrev pub kept_optional : Profile → Optional → Optional

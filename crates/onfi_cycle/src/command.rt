@@ -372,9 +372,8 @@ impl Command {
             Command::Read => 0 < addresses && addresses <= 5,
             Command::ChangeReadColumn => addresses <= 2,
             Command::BlockErase => addresses <= 3,
-            Command::ChangeReadColumnEnhanced
-            | Command::PageProgram
-            | Command::ChangeWriteColumn => addresses <= 5,
+            Command::ChangeReadColumnEnhanced | Command::PageProgram | Command::ChangeWriteColumn =>
+                addresses <= 5,
             _ => addresses < self.address_cycles(),
         }
     }

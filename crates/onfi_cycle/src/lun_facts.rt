@@ -61,9 +61,7 @@ fn may_copy_to(geometry: &Geometry, page: PageAddress, held: Option<PageAddress>
 {
     match held {
         None => false,
-        Some(from) => {
-            geometry.parts().optional.has_odd_even() || page.page % 2 == from.page % 2
-        }
+        Some(from) => { geometry.parts().optional.has_odd_even() || page.page % 2 == from.page % 2 }
     }
 }
 

@@ -116,9 +116,7 @@ fn may_act(tail: &TailFacts, luns: &[LunFacts<RowQueue>], cycle: TargetCycle) ->
         }
         TargetCycle::AddressCycle(_) => match tail.opening {
             None => false,
-            Some(opening) => {
-                acts_by_address(opening.opener) || opening.ends_program_row()
-            }
+            Some(opening) => { acts_by_address(opening.opener) || opening.ends_program_row() }
         },
         TargetCycle::InputCycle(_) => ends_features(*tail),
         TargetCycle::OutputCycle => some_shows_data(luns),
