@@ -171,10 +171,14 @@ is_open_read_op (Some o) = is_open_read o
 abbrev pub closes_read : Option Operation → ℕ → Bool
 closes_read newest byte = byte == 0x31 && is_open_read_op newest
 
+-- the command begins a sequence whatever was before: an 85h may go on with the data of a program
+abbrev pub opens_alone : ℕ → Bool
+opens_alone byte = is_opener (command byte) && not (byte == 0x85)
+
 -- a command begins an operation: an opener but a 31h that closes a read, one that isn't known but 15h, 32h and 35h, and 85h outside of a program
 abbrev pub begins_one : Option Operation → ℕ → Bool
 begins_one newest byte =
-    (is_opener (command byte) && not (closes_read newest byte)) || ((is_unknown byte && not (closes_as_known byte)) || (byte == 0x85 && not (is_open_program_op newest)))
+    (opens_alone byte && not (closes_read newest byte)) || ((is_unknown byte && not (closes_as_known byte)) || (byte == 0x85 && not (is_open_program_op newest)))
 
 -- a 00h alone that goes back to what a foreign one gives
 abbrev pub returns_to_foreign : List Operation → Option Operation → Bool
