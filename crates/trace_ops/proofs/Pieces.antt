@@ -16,7 +16,7 @@ use Rattle.onfi_cycle.specs.declared.item.Kind.TheVariants.{Cmd, Adr, Din, Dout}
 use Rattle.onfi_cycle.specs.declared.target_cycle.TargetCycle.{TargetCycle}
 use Rattle.onfi_cycle.specs.declared.target_cycle.TargetCycle.TheVariants.{CommandCycle, OutputCycle}
 use Rattle.onfi_cycle.specs.declared.command.Command.{Command}
-use Rattle.onfi_cycle.specs.declared.command.Command.TheVariants.{ReadConfirm, BlockEraseConfirm, BlockErasePlane, ProgramConfirm, ProgramPlane, ReadCacheSequential, ReadPlane}
+use Rattle.onfi_cycle.specs.declared.command.Command.TheVariants.{ReadConfirm, BlockEraseConfirm, BlockErasePlane, ProgramConfirm, ProgramPlane, ReadCacheSequential, ReadPlane, CopybackRead}
 use Rattle.onfi_cycle.specs.declared.tail_facts.TailFacts.{TailFacts}
 use Rattle.onfi_cycle.specs.LunView.{LunView}
 use Rattle.onfi_cycle.specs.Lun.{luns_of}
@@ -29,6 +29,7 @@ use Rattle.onfi_cycle.proofs.CommandBytes.{commands_have_bytes}
 use Rattle.onfi_cycle.proofs.Passed.{KeepsRules, permitted_keeps}
 use Rattle.trace_faults.specs.declared.readies.Readies.{Readies}
 use Rattle.trace_faults.specs.Middle.{Seen, seen_after}
+use Rattle.trace_faults.specs.Outside.{begins_alone}
 use Rattle.trace_ops.specs.declared.change.Change.{Change}
 use Rattle.trace_ops.specs.declared.change.Change.TheVariants.{Opened, Cycle as CycleOf, LoneReady, End, Begin, Poll, Show, Hold, SetLun, Fold, Unfold}
 use Rattle.trace_ops.specs.declared.judged.Judged.{Judged}
@@ -38,7 +39,7 @@ use Rattle.trace_ops.specs.declared.operation.Operation.{Operation}
 use Rattle.trace_ops.specs.declared.role.Role.{Role}
 use Rattle.trace_ops.specs.declared.role.Role.TheVariants as role
 use Rattle.trace_ops.specs.Operation.{begun, is_open_read, is_output, takes_address, with_byte, says_ready, changed, changed_by, changed_at}
-use Rattle.trace_ops.specs.Listing.{Listing, found, op_of, is_open_read_op, closes_read, begins_one, either_of, cycle_owner, new_one, newest_with, number_of, with_new, is_new_opener, change_of, unfolded, starts_on, begun_on, all_begun, role_by, selected_by, selected_on, all_selected, with_ends, owner_in, mark_in, listed, judged_as, marks_from, nothing_listed}
+use Rattle.trace_ops.specs.Listing.{Listing, found, op_of, is_open_read_op, closes_read, begins_one, either_of, cycle_owner, new_one, newest_with, number_of, with_new, is_new_opener, change_of, unfolded, starts_on, begun_on, all_begun, role_by, selected_by, selected_on, all_selected, with_ends, owner_in, mark_in, listed, judged_as, marks_from, nothing_listed, opens_alone}
 use Rattle.trace_ops.specs.Laws.{with_part, piece_on, without_outputs}
 use Rattle.trace_ops.proofs.Quiet.{is_quiet, by_ends, by_unfold, by_rest}
 use Rattle.trace_ops.proofs.Changed.{by, put, there}
@@ -680,7 +681,7 @@ module _ (readies : Readies) (one_lun : Bool) (seen : Seen) (n : ℕ) (later pas
 module _ (readies : Readies) (one_lun : Bool) (g : Parts) (targets : ℕ) (few : targets ≤ 4) where
   module _ (seen : Seen) (n : ℕ) (later past : List Item) (l : Listing) (pieces : ℕ → List TargetCycle) (stands : Stands past l pieces) (w : AreWithin (length l.ops) l.places) where
     -- the newest operation of a target goes on with what its tail wants
-    goes_on_with : (ce byte k : ℕ) → found l.places.newest ce ≡ Some k → is_known (command byte) ≡ true → is_opener (command byte) ≡ false → wants_command (facts_of (tail past ce)) (command byte) ≡ true →
+    goes_on_with : (ce byte k : ℕ) → found l.places.newest ce ≡ Some k → is_known (command byte) ≡ true → opens_alone byte ≡ false → wants_command (facts_of (tail past ce)) (command byte) ≡ true →
         owner_in (JudgedAs readies one_lun seen n (Cyc (record { ce = ce; kind = Cmd; byte = byte })) later)
         (with_ends (JudgedAs readies one_lun seen n (Cyc (record { ce = ce; kind = Cmd; byte = byte })) later) l) ≡ Some k
     goes_on_with ce byte k h known no_opener wanted =
@@ -695,7 +696,7 @@ module _ (readies : Readies) (one_lun : Bool) (g : Parts) (targets : ℕ) (few :
 
     stands_cycle : (ce byte : ℕ) (kind : Kind) → broken g targets past (Cyc (record { ce = ce; kind = kind; byte = byte })) ≡ None →
         StandsAfter readies one_lun seen n later past l pieces (Cyc (record { ce = ce; kind = kind; byte = byte }))
-    stands_cycle ce byte Cmd h = at (closes_read newest byte) refl (is_opener (command byte)) refl
+    stands_cycle ce byte Cmd h = at (closes_read newest byte) refl (opens_alone byte) refl
       where
         c : Cycle
         c = record { ce = ce; kind = Cmd; byte = byte }
@@ -745,7 +746,7 @@ module _ (readies : Readies) (one_lun : Bool) (g : Parts) (targets : ℕ) (few :
             goes = ap (λ x. begins_anew (facts_of (tail past ce)) (CommandCycle x)) code ∙ ap not (whole_wants (tail past ce) whole)
 
         -- an opener that closes none
-        opening_so : closes_read newest byte ≡ false → is_opener (command byte) ≡ true → StandsAfter readies one_lun seen n later past l pieces (Cyc c)
+        opening_so : closes_read newest byte ≡ false → opens_alone byte ≡ true → StandsAfter readies one_lun seen n later past l pieces (Cyc c)
         opening_so e opens = stands_opener readies one_lun seen n later past l pieces stands w ce byte lt (anew (command byte) refl opens) (opener_begins newest byte opens e)
           where
             unread : command byte ≡ ReadCacheSequential → wants_command (facts_of (tail past ce)) ReadCacheSequential ≡ true → ⊥
@@ -769,8 +770,8 @@ module _ (readies : Readies) (one_lun : Bool) (g : Parts) (targets : ℕ) (few :
             off true q code = absurd (unread code q)
             off false q code = refl
 
-            anew : (x : Command) → command byte ≡ x → is_opener (command byte) ≡ true → begins_anew (facts_of (tail past ce)) (CommandCycle (command byte)) ≡ true
-            anew x code h = ap (λ y. begins_anew (facts_of (tail past ce)) (CommandCycle y)) code ∙ of x code (ap is_opener (sym code) ∙ h)
+            anew : (x : Command) → command byte ≡ x → opens_alone byte ≡ true → begins_anew (facts_of (tail past ce)) (CommandCycle (command byte)) ≡ true
+            anew x code h = ap (λ y. begins_anew (facts_of (tail past ce)) (CommandCycle y)) code ∙ of x code (ap (λ (x : Command). begins_alone (CommandCycle x)) (sym code) ∙ h)
               where
                 of : (y : Command) → command byte ≡ y → is_opener y ≡ true → begins_anew (facts_of (tail past ce)) (CommandCycle y) ≡ true
                 of ReadCacheSequential code h = ap not (off (wants_command (facts_of (tail past ce)) ReadCacheSequential) refl code)
@@ -778,11 +779,12 @@ module _ (readies : Readies) (one_lun : Bool) (g : Parts) (targets : ℕ) (few :
                 of BlockEraseConfirm code h = cc
                 of BlockErasePlane code h = cc
                 of ReadPlane code h = cc
+                of CopybackRead code h = cc
                 of ProgramConfirm code h = cc
                 of ProgramPlane code h = cc
                 of y code h = h
 
-        at : (r : Bool) → closes_read newest byte ≡ r → (x : Bool) → is_opener (command byte) ≡ x → StandsAfter readies one_lun seen n later past l pieces (Cyc c)
+        at : (r : Bool) → closes_read newest byte ≡ r → (x : Bool) → opens_alone byte ≡ x → StandsAfter readies one_lun seen n later past l pieces (Cyc c)
         at true e x opens = closing e
         at false e true opens = opening_so e opens
         at false e false opens =

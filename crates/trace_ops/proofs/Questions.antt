@@ -32,6 +32,7 @@ use Rattle.onfi_cycle.proofs.Others.{permitted_none, keeps_several_luns}
 use Rattle.trace_faults.specs.declared.beginning.Beginning.TheVariants.{Start}
 use Rattle.trace_faults.specs.declared.readies.Readies.TheVariants.{Written}
 use Rattle.trace_faults.specs.Middle.{Seen, seen_after, first_seen_as}
+use Rattle.trace_faults.specs.Outside.{begins_alone}
 use Rattle.trace_ops.specs.declared.change.Change.{Change}
 use Rattle.trace_ops.specs.declared.change.Change.TheVariants.{SetLun, Fold}
 use Rattle.trace_ops.specs.declared.judged.Judged.{Judged}
@@ -139,7 +140,7 @@ module _ (g : Parts) (targets n : ℕ) (seen : Seen) (past : List Item) (marks :
   -- ---- the operation is a new one
 
   opens' : opens (Cyc c) ≡ true
-  opens' = ap is_opener status_command
+  opens' = ap (λ (x : Command). begins_alone (CommandCycle x)) status_command
 
   pub is_new : owner_in j (with_ends j l) ≡ None
   is_new = (new g targets n one_lun past marks c before after l pieces here opens').0

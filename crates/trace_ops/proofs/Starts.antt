@@ -4,7 +4,7 @@ use Rattle.std.proofs.lemmas.Bool.{and_parts, and_left, or_parts}
 use Rattle.std.proofs.lemmas.Bool.Decides.{nat_tests}
 use Rattle.nand_geometry.specs.declared.parts.Parts.{Parts}
 use Rattle.onfi_cycle.specs.declared.command.Command.{Command}
-use Rattle.onfi_cycle.specs.declared.command.Command.TheVariants.{Read, ReadConfirm, ChangeReadColumn, ChangeReadColumnEnhanced, ChangeReadColumnConfirm, BlockErase, BlockEraseConfirm, BlockErasePlane, ReadStatus, ReadStatusEnhanced, PageProgram, ChangeWriteColumn, ProgramConfirm, ProgramPlane, ReadId, ReadParameterPage, Reset, ReadCacheSequential, ReadCacheEnd, ReadUniqueId, GetFeatures, ResetLun, SynchronousReset, ReadPlane}
+use Rattle.onfi_cycle.specs.declared.command.Command.TheVariants.{Read, ReadConfirm, ChangeReadColumn, ChangeReadColumnEnhanced, ChangeReadColumnConfirm, BlockErase, BlockEraseConfirm, BlockErasePlane, ReadStatus, ReadStatusEnhanced, PageProgram, ChangeWriteColumn, ProgramConfirm, ProgramPlane, ReadId, ReadParameterPage, Reset, ReadCacheSequential, ReadCacheEnd, ReadUniqueId, GetFeatures, ResetLun, SynchronousReset, ReadPlane, CopybackRead}
 use Rattle.onfi_cycle.specs.declared.data_phase.DataPhase.{DataPhase}
 use Rattle.onfi_cycle.specs.declared.data_phase.DataPhase.TheVariants.{Outside, Inputs, FirstColumn, SecondColumn, FeatureInputs}
 use Rattle.onfi_cycle.specs.declared.effect.Effect.{Effect}
@@ -52,6 +52,7 @@ confirm_ready g t ReadCacheSequential = refl
 confirm_ready g t BlockEraseConfirm = refl
 confirm_ready g t BlockErasePlane = refl
 confirm_ready g t ReadPlane = refl
+confirm_ready g t CopybackRead = refl
 confirm_ready g t ProgramConfirm = refl
 confirm_ready g t ProgramPlane = refl
 confirm_ready g t c = refl
@@ -182,6 +183,7 @@ command_keeps g past l ReadConfirm h = named_true _ _ _ _ (other_starts g (facts
 command_keeps g past l BlockEraseConfirm h = named_true _ _ _ _ (other_starts g (facts_of (tail past l.ce)) BlockEraseConfirm) h
 command_keeps g past l BlockErasePlane h = named_true _ _ _ _ (other_starts g (facts_of (tail past l.ce)) BlockErasePlane) h
 command_keeps g past l ReadPlane h = named_true _ _ _ _ (other_starts g (facts_of (tail past l.ce)) ReadPlane) h
+command_keeps g past l CopybackRead h = named_true _ _ _ _ (other_starts g (facts_of (tail past l.ce)) CopybackRead) h
 command_keeps g past l ProgramConfirm h = named_true _ _ _ _ (other_starts g (facts_of (tail past l.ce)) ProgramConfirm) h
 command_keeps g past l ProgramPlane h = named_true _ _ _ _ (other_starts g (facts_of (tail past l.ce)) ProgramPlane) h
 command_keeps g past l ReadCacheSequential h = at (wants_command (facts_of (tail past l.ce)) ReadCacheSequential) h
@@ -357,6 +359,7 @@ command_ended g past l ReadConfirm t h = closer_ended ReadConfirm t (λ d. refl)
 command_ended g past l BlockEraseConfirm t h = closer_ended BlockEraseConfirm t (λ d. refl)
 command_ended g past l BlockErasePlane t h = closer_ended BlockErasePlane t (λ d. refl)
 command_ended g past l ReadPlane t h = closer_ended ReadPlane t (λ d. refl)
+command_ended g past l CopybackRead t h = closer_ended CopybackRead t (λ d. refl)
 command_ended g past l ProgramConfirm t h = closer_ended ProgramConfirm t (λ d. refl)
 command_ended g past l ProgramPlane t h = closer_ended ProgramPlane t (λ d. refl)
 command_ended g past l ChangeReadColumnConfirm t h = closer_ended ChangeReadColumnConfirm t (λ d. refl)

@@ -74,7 +74,10 @@ fn closes_read(newest: Option<Operation>, byte: u8) -> bool
 fn opens_alone(byte: u8) -> bool
     ensures { result ≡ opens_alone byte }
 {
-    Command::of(byte).is_opener() && byte != 0x85
+    match Command::of(byte) {
+        Command::ChangeWriteColumn => false,
+        command => command.is_opener(),
+    }
 }
 
 // A command begins an operation: an opener but a 31h that closes a read, one that isn't known but 15h, 32h and 35h, and 85h outside of a program.
