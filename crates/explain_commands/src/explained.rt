@@ -2,7 +2,7 @@
 
 use micro_asm::disassemble;
 use micro_claims::Fault;
-use micro_known::{Aspect, InWords, KnownWords, Ways, push_brought};
+use micro_known::{InWords, KnownWords, Ways, push_brought};
 use micro_walk::examine;
 use micro_word::Text;
 use nand_geometry::Geometry;
@@ -45,7 +45,8 @@ impl<A: Allocator + Clone> Explained<A> {
             return Ok(None);
         };
         let mut facts = Vec::new(alloc.clone()?);
-        for aspect in Aspect::ALL {
+        for aspect in self.known.aspects().iter() {
+            let aspect = *aspect;
             facts.push(format!(in alloc.clone()?; "{}", InWords { aspect, state })?)?;
         }
         Ok(Some(facts))

@@ -1,15 +1,16 @@
 -- Plain operations in a loop: where the first turn begins, where a later one may, and why no walk after the second is needed.
-use Rattle.std.proofs.Common.{◌≡◌, ℕ, ◌+◌, ◌-◌, ◌*◌, ◌≤◌, Bool, true, false, ◌||◌, cond, nat_le, min, max, List, [], ◌∷◌, Option, Some, None, refl, sym, ap, ap₂, ◌∙◌, subst, arith}
+use Rattle.std.proofs.Common.{◌≡◌, ℕ, ◌+◌, ◌-◌, ◌*◌, ◌≤◌, Bool, true, false, ◌||◌, cond, nat_le, min, max, List, [], ◌∷◌, Option, Some, None, refl, sym, ap, ap₂, ◌∙◌, subst, arith, eq-eqb}
 use Rattle.std.specs.Prelude.{bit_or}
 use Rattle.std.proofs.lemmas.Bool.{and_from}
 use Rattle.std.proofs.lemmas.Bool.Decides.{nat_tests}
+use Rattle.std.proofs.lemmas.Nat.{and_comm}
 use Rattle.nand_geometry.specs.declared.parts.Parts.{Parts}
 use Rattle.micro_claims.specs.Spans.{Span, greatest_bound, kept, saturated, exactly}
 use Rattle.micro_claims.specs.declared.growth.Growth.{Growth}
 use Rattle.micro_claims.specs.declared.planes.Planes.{Planes}
 use Rattle.micro_claims.specs.declared.state.State.{State}
 use Rattle.micro_claims.specs.State.{first_state, any_number}
-use Rattle.micro_claims.specs.Planes.{just_plane, either_plane}
+use Rattle.micro_claims.specs.Planes.{just_plane, either_plane, no_planes, are_planes_within}
 use Rattle.micro_claims.specs.Sets.{has}
 use Rattle.micro_claims.proofs.Sets.{has_second}
 use Rattle.micro_claims.specs.Order.{no_growth, bound_sum, span_at_head, span_heads_by, span_at_heads, output_by, is_bound_within, is_growth_within, is_span_within, is_state_within, state_at_head, state_at_heads}
@@ -34,7 +35,7 @@ head_is = record { hi = refl; grown = refl }
 pub first_rests : Rests 0 first_way (state_at_head first_state)
 unfolding state_at_head
 first_rests =
-    rests_at first_way (span_at_head (exactly 0)) (span_at_head (exactly 0)) (record { lo = 0; hi = 0 }) (span_at_head (exactly 0)) 0 0 false None None None true true (record { index = span_at_head any_number; page = span_at_head any_number }) 0 0
+    rests_at first_way (span_at_head (exactly 0)) (span_at_head (exactly 0)) (record { lo = 0; hi = 0 }) (span_at_head (exactly 0)) 0 0 false None None None true true (record { index = span_at_head any_number; page = span_at_head any_number }) no_planes no_planes 0 0
     refl head_is head_is head_is refl
 
 -- a number that a turn has set is there at most what it was set to, and another one what it was at first
@@ -61,7 +62,7 @@ heads_rest turns total v r d few =
     let plus : 0 + n ≡ n = omega arith in
     let cost : bound_sum (Some 0) (kept n) ≡ Some n = rw (kept1, plus, kept1) refl in
     let made = rests_at (way_at_heads v) (span_at_heads (exactly 0) d.column turns) (span_at_heads (exactly 0) d.index turns) d.page (span_at_heads (exactly 0) d.place turns) (saturated (0 + d.growth)) 0 d.polled d.shows d.register
-    (output_by (λ x y. span_at_heads x y turns) None d.output) d.read d.other (record { index = span_at_heads any_number d.cached.index turns; page = span_at_heads any_number d.cached.page turns }) n n
+    (output_by (λ x y. span_at_heads x y turns) None d.output) d.read d.other (record { index = span_at_heads any_number d.cached.index turns; page = span_at_heads any_number d.cached.page turns }) d.held d.array n n
     refl (heads_is d.column v.column turns d.column_is) (heads_is d.index v.index turns d.index_is) (heads_is d.place v.place turns d.place_is) d.page_is in
     subst (λ (x : State). Rests n (way_at_heads v) x) (sym (ap (λ (x : State). state_at_heads first_state x turns) d.is ∙ rw (cost) refl)) made
 
@@ -214,6 +215,9 @@ closer_within false false true false = refl
 closer_within false false false true = refl
 closer_within false false false false = refl
 
+none_within : (p : Planes) → are_planes_within no_planes p ≡ true
+none_within p = eq-eqb _ _ (and_comm p.0 0)
+
 -- what is set or was at first, in the second walk and in the first
 follows_at_heads : (m n : Number) → Follows (max 0 (number_at_heads m).most) m n → (number_at_heads n).most ≤ max 0 (number_at_heads m).most
 follows_at_heads m n f = at m.set n.set f.set f.most
@@ -243,4 +247,6 @@ stays_within turns t u v w r q a b d =
     (and_from _ _ (cost_within (record { lo = saturated (0 + b.growth); hi = bound_sum (Some 0) (kept ((turns - 1) * w.paid)); grown = Some no_growth }) (record { lo = saturated (0 + a.growth); hi = bound_sum (Some 0) (kept ((turns - 1) * v.paid)); grown = Some no_growth }) paid refl refl) refl)))))))
     (and_from _ _ refl (and_from _ _ refl (and_from _ _ refl (and_from _ _ refl (and_from _ _ refl
     (and_from _ _ (closer_within b.read b.other a.read a.other)
-    (and_from _ _ (free_within (span_at_heads any_number b.cached.index turns) (span_at_heads any_number a.cached.index turns) (heads_grown any_number b.cached.index turns) (heads_grown any_number a.cached.index turns)) (free_within (span_at_heads any_number b.cached.page turns) (span_at_heads any_number a.cached.page turns) (heads_grown any_number b.cached.page turns) (heads_grown any_number a.cached.page turns))))))))))
+    (and_from _ _ (free_within (span_at_heads any_number b.cached.index turns) (span_at_heads any_number a.cached.index turns) (heads_grown any_number b.cached.index turns) (heads_grown any_number a.cached.index turns))
+    (and_from _ _ (free_within (span_at_heads any_number b.cached.page turns) (span_at_heads any_number a.cached.page turns) (heads_grown any_number b.cached.page turns) (heads_grown any_number a.cached.page turns))
+    (and_from _ _ (none_within b.held) (none_within b.array)))))))))))

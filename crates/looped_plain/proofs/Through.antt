@@ -18,7 +18,7 @@ use Rattle.micro_claims.specs.declared.shown.Shown.{Shown}
 use Rattle.micro_claims.specs.declared.held.Held.{Held}
 use Rattle.micro_claims.specs.declared.output_column.OutputColumn.{OutputColumn}
 use Rattle.micro_claims.specs.declared.queued_rows.QueuedRows.{QueuedRows}
-use Rattle.micro_claims.specs.declared.queued_rows.QueuedRows.TheVariants.{NoRows, SomeRows, AnyRows}
+use Rattle.micro_claims.specs.declared.queued_rows.QueuedRows.TheVariants.{NoRows, SomeRows, SomeReads, AnyRows}
 use Rattle.micro_claims.specs.Against.{same_test, is_open_place}
 use Rattle.micro_claims.specs.Order.{is_bound_within, is_growth_within, is_span_within, may_within, same_place, is_place_within, same_drift_as, is_drift_within, are_registers_within, is_column_within, is_name_within, is_named_within, is_shows_within, is_target_within, is_register_within, is_output_within, are_rows_within, is_lun_within, is_state_within}
 use Rattle.micro_claims.specs.Joins.{joined}
@@ -166,19 +166,48 @@ rows : (a b c : QueuedRows) → Through (are_rows_within a b) (are_rows_within b
 rows a b AnyRows h k = refl
 rows NoRows b NoRows h k = refl
 rows NoRows b (SomeRows kind ps e) h k = refl
+rows NoRows NoRows (SomeReads qs some f) h k = k
+rows NoRows (SomeRows kind ps e) (SomeReads qs some f) h k = absurd cc
+rows NoRows (SomeReads ps surely e) (SomeReads qs some f) h k = sets some.0 surely.0 0 (and_parts _ _ k).0 h
+rows NoRows AnyRows (SomeReads qs some f) h k = absurd cc
+rows (SomeRows erase planes d) NoRows NoRows h k = absurd cc
+rows (SomeRows erase planes d) (SomeRows kind ps e) NoRows h k = absurd cc
+rows (SomeRows erase planes d) (SomeReads ps sure e) NoRows h k = absurd cc
+rows (SomeRows erase planes d) AnyRows NoRows h k = absurd cc
+rows (SomeRows erase planes d) NoRows (SomeRows last qs f) h k = absurd cc
 rows (SomeRows erase planes d) (SomeRows kind ps e) (SomeRows last qs f) h k =
     pair _ _ _ _ _ _ (tests erase kind last) (pair _ _ _ _ _ _ (sets planes.0 ps.0 qs.0) (drift_through d e f)) h k
-rows (SomeRows erase planes d) NoRows (SomeRows last qs f) h k = absurd cc
+rows (SomeRows erase planes d) (SomeReads ps sure e) (SomeRows last qs f) h k = absurd cc
 rows (SomeRows erase planes d) AnyRows (SomeRows last qs f) h k = absurd cc
-rows (SomeRows erase planes d) (SomeRows kind ps e) NoRows h k = absurd cc
-rows (SomeRows erase planes d) NoRows NoRows h k = absurd cc
-rows (SomeRows erase planes d) AnyRows NoRows h k = absurd cc
-rows AnyRows (SomeRows kind ps e) (SomeRows last qs f) h k = absurd cc
-rows AnyRows NoRows (SomeRows last qs f) h k = absurd cc
-rows AnyRows AnyRows (SomeRows last qs f) h k = absurd cc
-rows AnyRows (SomeRows kind ps e) NoRows h k = absurd cc
+rows (SomeRows erase planes d) NoRows (SomeReads qs some f) h k = absurd cc
+rows (SomeRows erase planes d) (SomeRows kind ps e) (SomeReads qs some f) h k = absurd cc
+rows (SomeRows erase planes d) (SomeReads ps sure e) (SomeReads qs some f) h k = absurd cc
+rows (SomeRows erase planes d) AnyRows (SomeReads qs some f) h k = absurd cc
+rows (SomeReads planes surely d) NoRows NoRows h k = absurd cc
+rows (SomeReads planes surely d) (SomeRows kind ps e) NoRows h k = absurd cc
+rows (SomeReads planes surely d) (SomeReads ps sure e) NoRows h k = absurd cc
+rows (SomeReads planes surely d) AnyRows NoRows h k = absurd cc
+rows (SomeReads planes surely d) NoRows (SomeRows last qs f) h k = absurd cc
+rows (SomeReads planes surely d) (SomeRows kind ps e) (SomeRows last qs f) h k = absurd cc
+rows (SomeReads planes surely d) (SomeReads ps sure e) (SomeRows last qs f) h k = absurd cc
+rows (SomeReads planes surely d) AnyRows (SomeRows last qs f) h k = absurd cc
+rows (SomeReads planes surely d) NoRows (SomeReads qs some f) h k = absurd cc
+rows (SomeReads planes surely d) (SomeRows kind ps e) (SomeReads qs some f) h k = absurd cc
+rows (SomeReads planes surely d) (SomeReads ps sure e) (SomeReads qs some f) h k =
+    pair _ _ _ _ _ _ (λ more less. sets some.0 sure.0 surely.0 less more) (pair _ _ _ _ _ _ (sets planes.0 ps.0 qs.0) (drift_through d e f)) h k
+rows (SomeReads planes surely d) AnyRows (SomeReads qs some f) h k = absurd cc
 rows AnyRows NoRows NoRows h k = absurd cc
+rows AnyRows (SomeRows kind ps e) NoRows h k = absurd cc
+rows AnyRows (SomeReads ps sure e) NoRows h k = absurd cc
 rows AnyRows AnyRows NoRows h k = absurd cc
+rows AnyRows NoRows (SomeRows last qs f) h k = absurd cc
+rows AnyRows (SomeRows kind ps e) (SomeRows last qs f) h k = absurd cc
+rows AnyRows (SomeReads ps sure e) (SomeRows last qs f) h k = absurd cc
+rows AnyRows AnyRows (SomeRows last qs f) h k = absurd cc
+rows AnyRows NoRows (SomeReads qs some f) h k = absurd cc
+rows AnyRows (SomeRows kind ps e) (SomeReads qs some f) h k = absurd cc
+rows AnyRows (SomeReads ps sure e) (SomeReads qs some f) h k = absurd cc
+rows AnyRows AnyRows (SomeReads qs some f) h k = absurd cc
 
 luns : (s t u : KnownLun) → Through (is_lun_within s t) (is_lun_within t u) (is_lun_within s u)
 luns s t u h k =
@@ -187,7 +216,9 @@ luns s t u h k =
     (pair _ _ _ _ _ _ (outputs s.column t.column u.column)
     (pair _ _ _ _ _ _ (rows s.queue t.queue u.queue)
     (pair _ _ _ _ _ _ (sets s.last.0 t.last.0 u.last.0)
-    (pair _ _ _ _ _ _ (spans s.cached.index t.cached.index u.cached.index) (spans s.cached.page t.cached.page u.cached.page)))))) h k
+    (pair _ _ _ _ _ _ (spans s.cached.index t.cached.index u.cached.index)
+    (pair _ _ _ _ _ _ (spans s.cached.page t.cached.page u.cached.page)
+    (pair _ _ _ _ _ _ (λ a b. sets u.held.0 t.held.0 s.held.0 b a) (λ a b. sets u.array.0 t.array.0 s.array.0 b a)))))))) h k
 
 pub within_through : (s t u : State) → is_state_within s t ≡ true → is_state_within t u ≡ true → is_state_within s u ≡ true
 unfolding is_state_within
@@ -262,11 +293,12 @@ rows_self : (a : QueuedRows) → are_rows_within a a ≡ true
 rows_self NoRows = refl
 rows_self AnyRows = refl
 rows_self (SomeRows erase planes d) = and_from _ _ (test_self erase) (and_from _ _ (has_self planes.0) (drift_self d))
+rows_self (SomeReads planes surely d) = and_from _ _ (has_self surely.0) (and_from _ _ (has_self planes.0) (drift_self d))
 
 lun_self : (s : KnownLun) → is_lun_within s s ≡ true
 lun_self s =
     and_from _ _ (may_self s.busy) (and_from _ _ (held_self s.register) (and_from _ _ (output_self s.column) (and_from _ _ (rows_self s.queue)
-    (and_from _ _ (has_self s.last.0) (and_from _ _ (span_self s.cached.index) (span_self s.cached.page))))))
+    (and_from _ _ (has_self s.last.0) (and_from _ _ (span_self s.cached.index) (and_from _ _ (span_self s.cached.page) (and_from _ _ (has_self s.held.0) (has_self s.array.0))))))))
 
 -- where its place is a known one
 pub within_itself : (s : State) → is_place_within s.target.tail s.target.tail ≡ true → is_state_within s s ≡ true

@@ -9,7 +9,7 @@ use Rattle.onfi_cycle.specs.declared.command.Command.TheVariants.{Read, ReadConf
 use Rattle.onfi_cycle.specs.declared.item.Item.{Item}
 use Rattle.onfi_cycle.specs.Command.{command, wants_one_lun}
 use Rattle.onfi_cycle.specs.Sequence.{tail, facts_of, is_open}
-use Rattle.onfi_cycle.specs.Lun.{closer, is_cache_read, has_reads, lun_view}
+use Rattle.onfi_cycle.specs.Lun.{closer, is_cache_read, lun_view}
 use Rattle.onfi_cycle.specs.Channel.{Channel, IsIdle, is_open_on}
 use Rattle.micro_word.specs.declared.word.Word.{Word}
 use Rattle.micro_word.specs.declared.word.Word.TheVariants.{End, Command as CommandWord, Address, Get, Put, Seek, Column, RowAdd, Row, Plane, Wait, Yield, ReadStatus, BranchOnStatus, Loop, Next, Jump}
@@ -20,7 +20,7 @@ use Rattle.micro_program.specs.Program.{Job, Done}
 use Rattle.micro_program.specs.Step.{Stride, answered_step}
 use Rattle.micro_program.specs.Safe.{Seat, loaded, after_step, IsSafe, IsJobOf, IsFine, LineIsFine, may_step, AreTruthful}
 use Rattle.micro_claims.specs.State.{State, Closed, any_but_31, first_state, bounds_of}
-use Rattle.micro_claims.specs.Against.{asks_status, is_for_traces, command_not_for_programs, continues_unseen, is_unfit}
+use Rattle.micro_claims.specs.Against.{is_for_traces, command_not_for_programs, continues_unseen, is_unfit}
 use Rattle.micro_claims.specs.Reasons.{breaks_command_not_allowed, reason_against}
 use Rattle.micro_claims.specs.Accepts.{state_after, goes_on, accepts}
 use Rattle.micro_program.proofs.Below.{rows}
@@ -28,11 +28,13 @@ use Rattle.micro_program.proofs.Basics.{there_lun}
 use Rattle.micro_program.proofs.Claiming.{stays_fine}
 use Rattle.micro_program.proofs.Scenes.{Scene, IsScene}
 use Rattle.micro_claims.proofs.Fits.{closer_among, Fits}
+use Rattle.micro_claims.proofs.HeldPlanes.{no_pages}
 use Rattle.micro_claims.proofs.Numbers.{in_exactly}
 use Rattle.micro_claims.proofs.Tails.{no_address}
 use Rattle.micro_claims.proofs.Sounding.{KnownJob, Claims, knows_tail, NoReasons, no_reasons, SoundWord}
 use Rattle.micro_claims.proofs.Commands.{sound_00, sound_30, sound_05, sound_e0, sound_60, sound_d0, sound_80, sound_85, sound_10}
 use Rattle.micro_claims.proofs.Identities.{sound_90, sound_ec, sound_ed, sound_ee, sound_ef, sound_any_address}
+use Rattle.micro_claims.proofs.PlaneCommands.{sound_06, sound_32}
 use Rattle.micro_claims.proofs.MoreCommands.{sound_d1, sound_11, sound_ff, sound_fa, sound_fc, sound_31, sound_3f}
 use Rattle.micro_claims.proofs.Words.{sound_get, sound_put}
 use Rattle.micro_claims.proofs.Controls.{sound_stat, sound_wait, sound_yield, sound_end, sound_jump, sound_branch}
@@ -65,10 +67,8 @@ data Taken (d : Command) : Type 0 where
   IsEF : (e : d ≡ SetFeatures) → Taken d
   IsFA : (e : d ≡ ResetLun) → Taken d
   IsFC : (e : d ≡ SynchronousReset) → Taken d
-
-traced : (a b : Bool) → (a || true || b) ≡ false → ⊥
-traced true b h = cc
-traced false b h = cc
+  Is06 : (e : d ≡ ChangeReadColumnEnhanced) → Taken d
+  Is32 : (e : d ≡ ReadPlane) → Taken d
 
 asked : (a b c : Bool) → (a || true || b || c) ≡ false → ⊥
 asked true b c h = cc
@@ -98,8 +98,8 @@ which g ResetLun h = IsFA refl
 which g SynchronousReset h = IsFC refl
 which g AskStatus h = absurd (asked (is_unfit g AskStatus) (is_for_traces AskStatus) (wants_one_lun AskStatus && ltb 1 g.luns) h)
 which g ReadStatusEnhanced h = absurd (asked (is_unfit g ReadStatusEnhanced) (is_for_traces ReadStatusEnhanced) (wants_one_lun ReadStatusEnhanced && ltb 1 g.luns) h)
-which g ChangeReadColumnEnhanced h = absurd (traced (is_unfit g ChangeReadColumnEnhanced || asks_status ChangeReadColumnEnhanced) (wants_one_lun ChangeReadColumnEnhanced && ltb 1 g.luns) h)
-which g ReadPlane h = absurd (traced (is_unfit g ReadPlane || asks_status ReadPlane) (wants_one_lun ReadPlane && ltb 1 g.luns) h)
+which g ChangeReadColumnEnhanced h = Is06 refl
+which g ReadPlane h = Is32 refl
 which g _ h = cc
 
 taken_command : (g : Parts) (text : Microprogram) (v : State) (byte : ℕ) → NoReasons g text v (CommandWord byte) → Taken (command byte)
@@ -131,6 +131,8 @@ command_sound s j k v past c done rest at byte scene f clear acc = by (taken_com
     by (IsEF e) = sound_ef s j k v past c done rest at byte e scene f clear acc
     by (IsFA e) = sound_fa s j k v past c done rest at byte e scene f clear acc
     by (IsFC e) = sound_fc s j k v past c done rest at byte e scene f clear acc
+    by (Is06 e) = sound_06 s j k v past c done rest at byte e scene f clear acc
+    by (Is32 e) = sound_32 s j k v past c done rest at byte e scene f clear acc
 
 branch_sound : (s : Channel) (j : Job) (k : KnownJob s j) (v : State) (past : List Item) (c : Scene) (done : List Done) (rest : List Line) (at mask target : ℕ) → IsScene s j.lun past c → Fits s.geometry j v done c true → NoReasons s.geometry j.text v (BranchOnStatus mask target) → goes_on (BranchOnStatus mask target) (λ t. accepts s.geometry (bounds_of j.text) t (state_after s.geometry v (BranchOnStatus mask target)) rest) ≡ true → SoundWord s j past done rest at (BranchOnStatus mask target)
 branch_sound s j k v past c done rest at mask target scene f clear acc =
@@ -275,7 +277,7 @@ first_fits s j past idle accepted =
         tail = λ e. record { place = Closed; here = refl; address = no_address; is = open_not (ltb 1 s.geometry.luns) (is_open (facts_of (tail past j.lun.ce))) e; now = λ x. cc; column = λ x. cc; row = λ x. cc; named = λ x. cc; single = λ x. cc };
         free = λ e. record { tail = refl; shows = refl; unread = refl };
         shows = tt;
-        lun = record { ready = λ e. idle.ready; register = tt; column = tt; queue = idle.no_queue; last = other_there (closer s.geometry past j.lun) idle.no_cache; cached = λ base e. cc; no_reads = ap has_reads idle.no_queue; held = λ e. cc };
+        lun = record { ready = λ e. idle.ready; register = tt; column = tt; queue = idle.no_queue; last = other_there (closer s.geometry past j.lun) idle.no_cache; cached = λ base e. cc; held = λ e. cc; planes = no_pages s.geometry scene.view.held; array = no_pages s.geometry (scene.view.array_page ∷ []) };
       };
       accepted = accepted;
     }

@@ -5,12 +5,12 @@ use Rattle.nand_geometry.specs.Limits.{page_len}
 use Rattle.nand_geometry.specs.Optional.{is_wide}
 use Rattle.nand_geometry.specs.Row.{row_of, parts_of, is_inside}
 use Rattle.onfi_cycle.specs.declared.command.Command.{Command}
-use Rattle.onfi_cycle.specs.declared.command.Command.TheVariants.{Read, ChangeReadColumn, BlockErase, PageProgram}
+use Rattle.onfi_cycle.specs.declared.command.Command.TheVariants.{Read, ChangeReadColumn, ChangeReadColumnEnhanced, BlockErase, PageProgram}
 use Rattle.onfi_cycle.specs.declared.item.Kind.TheVariants.{Adr}
 use Rattle.onfi_cycle.specs.declared.target_cycle.TargetCycle.TheVariants.{AddressCycle}
 use Rattle.onfi_cycle.specs.LunView.{LunView}
 use Rattle.onfi_cycle.specs.Effect.{names_lun, page_address}
-use Rattle.onfi_cycle.specs.Rules.{caching, refused_by, register_len, excludes_cache}
+use Rattle.onfi_cycle.specs.Rules.{caching, refused_by, register_len, excludes_cache, holds_plane_of}
 use Rattle.micro_program.specs.Moves.{gives}
 use Rattle.micro_program.proofs.Scenes.{Scene, AddressAllowed, scene_behind}
 use Rattle.micro_program.proofs.SceneMoves.{MovesAllowed, scene_after}
@@ -82,6 +82,17 @@ read_steps g lun a view sole (suc (suc (suc (suc zero)))) few column row =
     let r = row refl in
     record { allowed = record { wanted = refl; profile = never (not (is_wide g.optional)); alone = λ e. cc; row = λ e. record { inside = r.inside; names = r.names; ready = λ x. r.ready; goes = r.goes; no_cache = λ x. r.no_cache (and_parts (excludes_cache g Read) true x).0; plane = λ x. cc }; column = λ e. cc; read_column = λ e. cc }; leads = refl }
 read_steps g lun a view sole (suc (suc (suc (suc (suc n))))) few column row = absurd (omega (arith, few))
+
+pub enhanced_steps : (g : Parts) (lun : ℕ) (a : Address) (view : LunView) (sole : Bool) (n : ℕ) → n ≤ 4 → (n ≡ 1 → nat_le (page_len g) (carried a) ≡ false) → (n ≡ 4 → RowGoes g lun a view ChangeReadColumnEnhanced × (holds_plane_of g (page_address g (row_of a.r1 a.r2 a.r3)) view ≡ true)) → OneStep g lun (scene_at ChangeReadColumnEnhanced a view sole) (bytes_of ChangeReadColumnEnhanced a) n
+enhanced_steps g lun a view sole zero few column row = record { allowed = record { wanted = refl; profile = never (not (is_wide g.optional)); alone = λ e. cc; row = λ e. cc; column = λ e. cc; read_column = λ e. cc }; leads = refl }
+enhanced_steps g lun a view sole (suc zero) few column row = record { allowed = record { wanted = refl; profile = never (not (is_wide g.optional)); alone = λ e. cc; row = λ e. cc; column = λ e. column refl; read_column = λ e. cc }; leads = refl }
+enhanced_steps g lun a view sole (suc (suc zero)) few column row = record { allowed = record { wanted = refl; profile = never (not (is_wide g.optional)); alone = λ e. cc; row = λ e. cc; column = λ e. cc; read_column = λ e. cc }; leads = refl }
+enhanced_steps g lun a view sole (suc (suc (suc zero))) few column row = record { allowed = record { wanted = refl; profile = never (not (is_wide g.optional)); alone = λ e. cc; row = λ e. cc; column = λ e. cc; read_column = λ e. cc }; leads = refl }
+enhanced_steps g lun a view sole (suc (suc (suc (suc zero)))) few column row =
+    let r = (row refl).0 in
+    let held = (row refl).1 in
+    record { allowed = record { wanted = refl; profile = never (not (is_wide g.optional)); alone = λ e. cc; row = λ e. record { inside = r.inside; names = r.names; ready = λ x. r.ready; goes = r.goes; no_cache = λ x. cc; plane = λ x. held }; column = λ e. cc; read_column = λ e. cc }; leads = refl }
+enhanced_steps g lun a view sole (suc (suc (suc (suc (suc n))))) few column row = absurd (omega (arith, few))
 
 pub program_steps : (g : Parts) (lun : ℕ) (a : Address) (view : LunView) (sole : Bool) (n : ℕ) → n ≤ 4 → (n ≡ 1 → nat_le (page_len g) (carried a) ≡ false) → (n ≡ 4 → RowGoes g lun a view PageProgram) → OneStep g lun (scene_at PageProgram a view sole) (bytes_of PageProgram a) n
 program_steps g lun a view sole zero few column row = record { allowed = record { wanted = refl; profile = never (not (is_wide g.optional)); alone = λ e. cc; row = λ e. cc; column = λ e. cc; read_column = λ e. cc }; leads = refl }

@@ -1,9 +1,10 @@
 -- Commands are sound: of each, what the claim allows, and what it leaves.
-use Rattle.std.proofs.Common.{◌≡◌, ℕ, ◌+◌, ◌%◌, ◌==◌, Bool, true, false, ◌&&◌, ◌||◌, cond, not, ltb, nat_le, List, [], ◌∷◌, Option, Some, None, refl, sym, ap, ◌∙◌, subst, arith, eq-eqb, length, take}
-use Rattle.std.proofs.lemmas.Bool.{not-false, not-true, and_parts, or_parts}
+use Rattle.std.proofs.Common.{◌≡◌, ℕ, ◌+◌, ◌*◌, ◌/◌, ◌%◌, ◌^◌, ◌==◌, Bool, true, false, ◌&&◌, ◌||◌, cond, not, ltb, List, [], ◌∷◌, Option, Some, None, refl, sym, ap, ◌∙◌, subst, arith, eq-eqb, inl, inr}
+use Rattle.std.proofs.lemmas.Bool.{not-false, not-true, and_parts, or_parts, or_left, or_right}
 use Rattle.std.proofs.Math.Bool.{or-true}
 use Rattle.nand_geometry.specs.declared.parts.Parts.{Parts}
 use Rattle.nand_geometry.specs.declared.row_parts.RowParts.{RowParts}
+use Rattle.nand_geometry.specs.Limits.{planes}
 use Rattle.nand_geometry.specs.Row.{row_of, parts_of}
 use Rattle.onfi_cycle.specs.declared.row_bytes.RowBytes.{RowBytes}
 use Rattle.onfi_cycle.specs.declared.command.Command.{Command}
@@ -14,10 +15,8 @@ use Rattle.onfi_cycle.specs.declared.item.Kind.TheVariants.{Cmd}
 use Rattle.onfi_cycle.specs.declared.latch.Latch.{Latch}
 use Rattle.onfi_cycle.specs.declared.latch.Latch.TheVariants.{Off, Status, Data}
 use Rattle.onfi_cycle.specs.declared.effect.Effect.{Effect}
-use Rattle.onfi_cycle.specs.declared.effect.Effect.TheVariants.{Unaffected, ReadStarted, EraseStarted, ProgramStarted, ReadColumnChanged}
+use Rattle.onfi_cycle.specs.declared.effect.Effect.TheVariants.{Unaffected, ReadStarted, EraseStarted, ProgramStarted, ReadColumnChanged, PlaneSelected}
 use Rattle.onfi_cycle.specs.declared.page_address.PageAddress.{PageAddress}
-use Rattle.onfi_cycle.specs.declared.queued.Queued.{Queued}
-use Rattle.onfi_cycle.specs.declared.queued.Queued.TheVariants.{Erase, Program, Read as QueuedRead}
 use Rattle.onfi_cycle.specs.declared.register.Register.{Register}
 use Rattle.onfi_cycle.specs.declared.register.Register.TheVariants.{Empty, Page, ParameterPage, Identifier, Identity, JedecIdentity, UniqueId, Features}
 use Rattle.onfi_cycle.specs.declared.tail_facts.TailFacts.{TailFacts}
@@ -25,24 +24,28 @@ use Rattle.onfi_cycle.specs.declared.target_cycle.TargetCycle.TheVariants.{Comma
 use Rattle.onfi_cycle.specs.LunView.{LunView}
 use Rattle.onfi_cycle.specs.Command.{command, is_opener, closes, address_cycles}
 use Rattle.onfi_cycle.specs.Sequence.{facts_after, is_open, selects_plane, wants_command, row, takes_data, input_column}
-use Rattle.onfi_cycle.specs.Effect.{is_off, is_data, names_lun, page_address, cycle_effect}
-use Rattle.onfi_cycle.specs.Lun.{resumed, column_at, view_after, is_cache_read, has_reads, pages_of_reads}
+use Rattle.onfi_cycle.specs.Effect.{is_off, is_data, names_lun, page_address, plane_of_row, cycle_effect}
+use Rattle.onfi_cycle.specs.Lun.{resumed, column_at, view_after, is_cache_read, page_in_plane, register_of_plane}
 use Rattle.onfi_cycle.specs.Rules.{may_change_column, is_page_or_parameters}
 use Rattle.onfi_cycle.specs.Channel.{Channel}
 use Rattle.micro_word.specs.declared.word.Word.TheVariants.{Command as CommandWord}
 use Rattle.micro_word.specs.Text.{Microprogram}
 use Rattle.micro_program.specs.Lines.{Line}
 use Rattle.micro_program.specs.Program.{Job, Done, index_now}
+use Rattle.onfi_cycle.proofs.Booleans.{and_rest}
 use Rattle.micro_claims.specs.Spans.{Span}
-use Rattle.micro_claims.specs.State.{NoRows, other_closer, State, Registers, KnownTarget, KnownLun, NamedRow, Place, Closed, After, InData, InColumn, InFeatures, Shown, Held, bounds_of, Unknown, shows_status, holds_identifier, holds_identity, holds_jedec, holds_feature, LastCloser, may_be_31}
-use Rattle.micro_claims.specs.Against.{holds_short, is_unfit, may_end_sequence, closer_refused, drives, may_be_open, command_out_of_place, opener_refused, place_wants, shows_only_data, has_page_or_parameters, reads_cache_at}
+use Rattle.micro_claims.specs.Planes.{Planes, has_plane, are_planes_within}
+use Rattle.micro_claims.specs.State.{NoRows, other_closer, closed, State, Registers, KnownTarget, KnownLun, NamedRow, Place, Closed, After, InData, InColumn, InFeatures, Shown, Held, bounds_of, Unknown, shows_status, holds_identifier, holds_identity, holds_jedec, holds_feature, LastCloser, may_be_31}
+use Rattle.micro_claims.specs.Against.{holds_short, is_unfit, may_end_sequence, closer_refused, drives, may_be_open, command_out_of_place, opener_refused, place_wants, selects_plane_at, shows_only_data, has_page_or_parameters, reads_cache_at}
 use Rattle.micro_claims.specs.Reasons.{breaks_cycle_forbidden}
-use Rattle.micro_claims.specs.Leaves.{paid, with_registers, resumed_shows, data_shown, opened_by, work_started, given_at, cached_at, shows_after_read, read_started, command_leaves}
+use Rattle.micro_claims.specs.Leaves.{paid, with_registers, resumed_shows, data_shown, opened_by, work_started, given_at, may_be_reads, page_register, cached_at, shows_after_read, read_started, register_selected, column_changed, command_leaves}
 use Rattle.micro_claims.specs.Accepts.{state_after, accepts}
 use Rattle.micro_program.proofs.Scenes.{Scene, IsScene, CommandAllowed, shown_alone, sole_behind, scene_behind}
 use Rattle.micro_program.specs.Moves.{Give}
-use Rattle.micro_claims.proofs.Fits.{ColumnBegun, closer_among, Address, is_place, RegistersFit, TailFits, ColumnFits, RowIs, NameFits, ShowsFit, LunFits, OutputColumnFits, RegisterFits, Below, latch_among, register_among, Fits, Now, now_of}
-use Rattle.micro_claims.proofs.Tails.{closed_tail, closed_fits, opener_fits, whole_read, whole_erase, whole_column, Programming, programming}
+use Rattle.micro_claims.proofs.Fits.{ColumnBegun, closer_among, Address, is_place, RegistersFit, TailFits, ColumnFits, RowIs, NameFits, ShowsFit, HavePages, LunFits, OutputColumnFits, RegisterFits, Below, latch_among, register_among, Fits, Now, now_of}
+use Rattle.micro_claims.proofs.Sets.{has_more}
+use Rattle.micro_claims.proofs.HeldPlanes.{no_pages, plane_is, found_page, read_register, read_closer, read_held, read_planes, read_array}
+use Rattle.micro_claims.proofs.Tails.{closed_tail, closed_fits, opener_fits, whole_read, whole_erase, whole_column, whole_plane, Programming, programming}
 use Rattle.micro_claims.proofs.Sounding.{KnownJob, NoReasons, unmoved, SoundWord, plain_sound}
 use Rattle.nand_geometry.specs.Optional.{is_wide}
 
@@ -71,7 +74,7 @@ command_sound s j k v past c done rest at byte d is scene f clear allowed same t
 
 -- another latch
 relatched : (g : Parts) (j : Job) (v : KnownLun) (i : ℕ) (view : LunView) (x : Latch) → LunFits g j v i view → LunFits g j v i (record view { latch = x })
-relatched g j v i view x f = record { ready = f.ready; register = f.register; column = f.column; queue = f.queue; last = f.last; cached = f.cached; no_reads = f.no_reads; held = f.held }
+relatched g j v i view x f = record { ready = f.ready; register = f.register; column = f.column; queue = f.queue; last = f.last; cached = f.cached; held = f.held; planes = f.planes; array = f.array }
 
 -- what shows is kept with the latch
 pub shows_kept : (o : Option Shown) (c d : Scene) → (c.sole ≡ true → d.sole ≡ true) → d.view.latch ≡ c.view.latch → ShowsFit o c → ShowsFit o d
@@ -84,11 +87,11 @@ same_either false = refl
 
 -- what an opener needs
 
-record Opening (v : State) (c : Scene) : Type 0 where
-  closed : is_open c.facts ≡ false
-  ready : c.view.busy ≡ false
+pub record Opening (v : State) (c : Scene) : Type 0 where
+  pub closed : is_open c.facts ≡ false
+  pub ready : c.view.busy ≡ false
 
-opening : (g : Parts) (j : Job) (v : State) (done : List Done) (c : Scene) → Fits g j v done c true → may_be_open v ≡ false → v.lun.busy ≡ false → Opening v c
+pub opening : (g : Parts) (j : Job) (v : State) (done : List Done) (c : Scene) → Fits g j v done c true → may_be_open v ≡ false → v.lun.busy ≡ false → Opening v c
 opening g j v done c f closed ready = record { closed = closed_tail g j v.target (now_of j done) c.facts (f.tail refl) closed; ready = f.lun.ready ready }
 
 -- 2. openers
@@ -192,7 +195,7 @@ wanted g text v byte d is fit closer clear =
 
 -- work that leaves no register, and an empty queue
 started_fits : (g : Parts) (j : Job) (v : State) (i : ℕ) (view : LunView) → view.queue ≡ [] → closer_among other_closer view.closer ≡ true → LunFits g j (work_started NoRows v).lun i view
-started_fits g j v i view queue last = record { ready = λ e. cc; register = tt; column = tt; queue = queue; last = last; cached = λ e f. cc; no_reads = ap has_reads queue; held = λ e. cc }
+started_fits g j v i view queue last = record { ready = λ e. cc; register = tt; column = tt; queue = queue; last = last; cached = λ e f. cc; held = λ e. cc; planes = no_pages g view.held; array = no_pages g (view.array_page ∷ []) }
 
 -- D0h
 pub sound_d0 : (s : Channel) (j : Job) (k : KnownJob s j) (v : State) (past : List Item) (c : Scene) (done : List Done) (rest : List Line) (at byte : ℕ) → command byte ≡ BlockEraseConfirm → IsScene s j.lun past c → Fits s.geometry j v done c true → NoReasons s.geometry j.text v (CommandWord byte) → accepts s.geometry (bounds_of j.text) None (state_after s.geometry v (CommandWord byte)) rest ≡ true → SoundWord s j past done rest at (CommandWord byte)
@@ -269,15 +272,10 @@ reads_alone : (wide : Bool) (w : LastCloser) (o : Option Command) → closer_amo
 reads_alone true w o h e = not_caching w o h e
 reads_alone false w o h e = refl
 
--- a 30 behind which no read was queued leaves one page
-pub one_held : (p : PageAddress) (q : List Queued) → has_reads q ≡ false → nat_le (length (take 4 (p ∷ pages_of_reads q))) 1 ≡ true
-one_held p q none = rw (no_pages q none) refl
-  where
-    no_pages : (q : List Queued) → has_reads q ≡ false → pages_of_reads q ≡ []
-    no_pages [] h = refl
-    no_pages (Erase a ∷ q) h = no_pages q h
-    no_pages (Program a ∷ q) h = no_pages q h
-    no_pages (QueuedRead a ∷ q) h = cc
+-- the page of the row of the tail
+pub page_of_row : (g : Parts) (j : Job) (t : TailFacts) (a : Address) → row t ≡ row_of a.r1 a.r2 a.r3 → RowIs g j a → ((page_address g (row t)).page ≡ a.index % g.pages) × ((page_address g (row t)).block ≡ a.index / g.pages * planes g + a.plane)
+page_of_row g j t a e r =
+    (ap (λ (n : ℕ). (parts_of g n).page) e ∙ ap (λ (p : RowParts). p.page) r.reads, ap (λ (n : ℕ). (parts_of g n).block) e ∙ ap (λ (p : RowParts). p.block) r.reads)
 
 pub sound_30 : (s : Channel) (j : Job) (k : KnownJob s j) (v : State) (past : List Item) (c : Scene) (done : List Done) (rest : List Line) (at byte : ℕ) → command byte ≡ ReadConfirm → IsScene s j.lun past c → Fits s.geometry j v done c true → NoReasons s.geometry j.text v (CommandWord byte) → accepts s.geometry (bounds_of j.text) None (state_after s.geometry v (CommandWord byte)) rest ≡ true → SoundWord s j past done rest at (CommandWord byte)
 sound_30 s j k v past c done rest at byte is scene f clear acc =
@@ -288,20 +286,22 @@ sound_30 s j k v past c done rest at byte is scene f clear acc =
     let row_is : row c.facts ≡ row_of w.address.r1 w.address.r2 w.address.r3 = ap row w.facts in
     let names = row_names g j c.facts w.address row_is (w.row refl) in
     let effect : cycle_effect g c.facts (shown_alone c) (CommandCycle ReadConfirm) j.lun.lun ≡ ReadStarted (page_address g (row c.facts)) c.facts.column = rw (wants, names) refl in
-    let page_is : (page_address g (row c.facts)).page ≡ w.address.index % g.pages = ap (λ (n : ℕ). (parts_of g n).page) row_is ∙ ap (λ (p : RowParts). p.page) (w.row refl).reads in
+    let page = page_of_row g j c.facts w.address row_is (w.row refl) in
+    let at_row = page_address g (row c.facts) in
     command_sound s j k v past c done rest at byte ReadConfirm is scene f clear ((wants, names), reads_alone (is_wide g.optional) v.lun.last c.view.closer f.lun.last want.not_refused) refl
     (closed_fits g j None None (shows_after_read g v.target.shows) (now_of j done) _ (ap (λ (t : TailFacts). is_open (facts_after (CommandCycle ReadConfirm) t)) w.facts))
     (read_shown g v.target.shows c (scene_behind g j.lun.lun (CommandCycle ReadConfirm) c) refl (ap (λ (e : Effect). (view_after e c.view).latch) effect) f.shows)
     (subst (λ (e : Effect). LunFits g j (read_started g v).lun (index_now j.base done) (view_after e c.view)) (sym effect)
     (record {
       ready = λ e. cc;
-      register = rw f.lun.no_reads refl;
+      register = read_register g (index_now j.base done) v.lun.queue c.view.queue at_row f.lun.queue;
       column = read_column_fits v.target.column c.facts (ap (λ (t : TailFacts). t.inputs) w.facts) (w.column refl);
       queue = refl;
-      last = refl;
-      cached = λ base e. subst (λ (n : ℕ). Below n (cached_at v.target.named).page.hi) (sym page_is) (page_below g j w.address (index_now j.base done) v.target.named (w.named refl) base);
-      no_reads = refl;
-      held = λ e. one_held (page_address g (row c.facts)) c.view.queue f.lun.no_reads;
+      last = read_closer (may_be_reads v.lun.queue);
+      cached = λ base e. subst (λ (n : ℕ). Below n (cached_at v.target.named).page.hi) (sym page.0) (page_below g j w.address (index_now j.base done) v.target.named (w.named refl) base);
+      held = λ e. read_held g (index_now j.base done) v.lun.queue c.view.queue at_row f.lun.queue e;
+      planes = read_planes g k.limits j (index_now j.base done) v.lun.queue c.view.queue v.target.named w.address at_row (w.named refl) (w.row refl) page.1 f.lun.queue;
+      array = read_array g j (index_now j.base done) v.target.named w.address at_row (w.named refl) (w.row refl) page.1;
     }))
     acc
 
@@ -315,21 +315,82 @@ driven (Some w) c f h = (f.0, on c.view.latch f.1)
     on Status h = refl
     on Data h = refl
 
-pub sound_e0 : (s : Channel) (j : Job) (k : KnownJob s j) (v : State) (past : List Item) (c : Scene) (done : List Done) (rest : List Line) (at byte : ℕ) → command byte ≡ ChangeReadColumnConfirm → IsScene s j.lun past c → Fits s.geometry j v done c true → NoReasons s.geometry j.text v (CommandWord byte) → accepts s.geometry (bounds_of j.text) None (state_after s.geometry v (CommandWord byte)) rest ≡ true → SoundWord s j past done rest at (CommandWord byte)
-sound_e0 s j k v past c done rest at byte is scene f clear acc =
+-- behind 05h
+pub column_leaves : (v : State) → selects_plane_at v.target.tail ≡ false → column_changed v ≡ record { registers = v.registers; target = closed v.target.shows; lun = record v.lun { column = given_at v.target.column } }
+column_leaves v plain = rw plain refl
+
+sound_column_e0 : (s : Channel) (j : Job) (k : KnownJob s j) (v : State) (past : List Item) (c : Scene) (done : List Done) (rest : List Line) (at byte : ℕ) → command byte ≡ ChangeReadColumnConfirm → IsScene s j.lun past c → Fits s.geometry j v done c true → NoReasons s.geometry j.text v (CommandWord byte) → selects_plane_at v.target.tail ≡ false → accepts s.geometry (bounds_of j.text) None (state_after s.geometry v (CommandWord byte)) rest ≡ true → SoundWord s j past done rest at (CommandWord byte)
+sound_column_e0 s j k v past c done rest at byte is scene f clear plainly acc =
     let g = s.geometry in
     let want = wanted g j.text v byte ChangeReadColumnConfirm is refl refl clear in
-    let w = whole_column g j v.target (now_of j done) c.facts (f.tail refl) want.places in
-    let one = driven v.target.shows c f.shows want.not_refused in
+    let w = whole_column g j v.target (now_of j done) c.facts (f.tail refl) (ap not plainly) want.places in
+    let one = driven v.target.shows c f.shows (and_rest (not (selects_plane_at v.target.tail)) _ (ap not plainly) want.not_refused) in
+    let leaves = column_leaves v plainly in
     let wants : wants_command c.facts ChangeReadColumnConfirm ≡ true = ap (λ (t : TailFacts). wants_command t ChangeReadColumnConfirm) w.facts in
     let plain : selects_plane c.facts ≡ false = ap selects_plane w.facts in
     let effect : cycle_effect g c.facts (shown_alone c) (CommandCycle ChangeReadColumnConfirm) j.lun.lun ≡ ReadColumnChanged c.facts.column = rw (plain, wants, one.0, one.1) refl in
-    command_sound s j k v past c done rest at byte ChangeReadColumnConfirm is scene f clear (record { wants = wants; no_plane = plain; sole = one.0 }) refl
-    (closed_fits g j None None v.target.shows (now_of j done) _ (ap (λ (t : TailFacts). is_open (facts_after (CommandCycle ChangeReadColumnConfirm) t)) w.facts))
-    (shows_kept v.target.shows c (scene_behind g j.lun.lun (CommandCycle ChangeReadColumnConfirm) c) (λ e. e) (ap (λ (e : Effect). (view_after e c.view).latch) effect) f.shows)
+    command_sound s j k v past c done rest at byte ChangeReadColumnConfirm is scene f clear (inl (record { wants = wants; no_plane = plain; sole = one.0 })) (ap (λ (x : State). x.registers) leaves)
+    (subst (λ (x : State). TailFits g j x.target (now_of j done) (facts_after (CommandCycle ChangeReadColumnConfirm) c.facts)) (sym leaves)
+    (closed_fits g j None None v.target.shows (now_of j done) _ (ap (λ (t : TailFacts). is_open (facts_after (CommandCycle ChangeReadColumnConfirm) t)) w.facts)))
+    (subst (λ (x : State). ShowsFit x.target.shows (scene_behind g j.lun.lun (CommandCycle ChangeReadColumnConfirm) c)) (sym leaves)
+    (shows_kept v.target.shows c (scene_behind g j.lun.lun (CommandCycle ChangeReadColumnConfirm) c) (λ e. or_right (selects_plane c.facts) c.sole e) (ap (λ (e : Effect). (view_after e c.view).latch) effect) f.shows))
+    (subst (λ (x : State). LunFits g j x.lun (index_now j.base done) (view_after (cycle_effect g c.facts (shown_alone c) (CommandCycle ChangeReadColumnConfirm) j.lun.lun) c.view)) (sym leaves)
     (subst (λ (e : Effect). LunFits g j (record v.lun { column = given_at v.target.column }) (index_now j.base done) (view_after e c.view)) (sym effect)
-    (record { ready = f.lun.ready; register = f.lun.register; column = read_column_fits v.target.column c.facts (ap (λ (t : TailFacts). t.inputs) w.facts) (w.column refl); queue = f.lun.queue; last = f.lun.last; cached = f.lun.cached; no_reads = f.lun.no_reads; held = f.lun.held }))
+    (record { ready = f.lun.ready; register = f.lun.register; column = read_column_fits v.target.column c.facts (ap (λ (t : TailFacts). t.inputs) w.facts) (w.column refl); queue = f.lun.queue; last = f.lun.last; cached = f.lun.cached; held = f.lun.held; planes = f.lun.planes; array = f.lun.array })))
     acc
+
+-- behind 06h
+plane_leaves : (v : State) → selects_plane_at v.target.tail ≡ true → column_changed v ≡ record { registers = v.registers; target = closed data_shown; lun = record v.lun { register = register_selected v.target.named v.lun.held; column = given_at v.target.column } }
+plane_leaves v selects = rw selects refl
+
+-- the register is the page of the plane, where that surely holds one
+selected_fits : (g : Parts) (j : Job) (a : Address) (now plane : ℕ) (o : Option NamedRow) (held : Planes) (pages : List PageAddress) → NameFits g j a now o → plane ≡ a.plane → HavePages g held pages → RegisterFits (register_selected o held) (register_of_plane (page_in_plane (planes g) plane pages))
+selected_fits g j a now plane None held pages name is f = tt
+selected_fits g j a now plane (Some n) held pages name is f = at (are_planes_within n.planes held) refl
+  where
+    at : (b : Bool) → are_planes_within n.planes held ≡ b → RegisterFits (cond b page_register None) (register_of_plane (page_in_plane (planes g) plane pages))
+    at true e = found_page (planes g) plane pages (f plane (subst (λ (m : ℕ). has_plane m held ≡ true) (sym is) (has_more (2 ^ a.plane) n.planes.0 held.0 e name.plane)))
+    at false e = tt
+
+sound_plane_e0 : (s : Channel) (j : Job) (k : KnownJob s j) (v : State) (past : List Item) (c : Scene) (done : List Done) (rest : List Line) (at byte : ℕ) → command byte ≡ ChangeReadColumnConfirm → IsScene s j.lun past c → Fits s.geometry j v done c true → NoReasons s.geometry j.text v (CommandWord byte) → selects_plane_at v.target.tail ≡ true → accepts s.geometry (bounds_of j.text) None (state_after s.geometry v (CommandWord byte)) rest ≡ true → SoundWord s j past done rest at (CommandWord byte)
+sound_plane_e0 s j k v past c done rest at byte is scene f clear selects acc =
+    let g = s.geometry in
+    let want = wanted g j.text v byte ChangeReadColumnConfirm is refl refl clear in
+    let w = whole_plane g j v.target (now_of j done) c.facts (f.tail refl) selects want.places in
+    let leaves = plane_leaves v selects in
+    let wants : wants_command c.facts ChangeReadColumnConfirm ≡ true = ap (λ (t : TailFacts). wants_command t ChangeReadColumnConfirm) w.facts in
+    let plane : selects_plane c.facts ≡ true = ap selects_plane w.facts in
+    let row_is : row c.facts ≡ row_of w.address.r1 w.address.r2 w.address.r3 = ap row w.facts in
+    let names = row_names g j c.facts w.address row_is (w.row refl) in
+    let page = page_of_row g j c.facts w.address row_is (w.row refl) in
+    let lies : plane_of_row g (row c.facts) ≡ w.address.plane = plane_is g (page_address g (row c.facts)).block (w.address.index / g.pages) w.address.plane page.1 (w.row refl).low in
+    let effect : cycle_effect g c.facts (shown_alone c) (CommandCycle ChangeReadColumnConfirm) j.lun.lun ≡ PlaneSelected (plane_of_row g (row c.facts)) (planes g) c.facts.column = rw (plane, names) refl in
+    command_sound s j k v past c done rest at byte ChangeReadColumnConfirm is scene f clear (inr (record { wants = wants; plane = plane; names = names })) (ap (λ (x : State). x.registers) leaves)
+    (subst (λ (x : State). TailFits g j x.target (now_of j done) (facts_after (CommandCycle ChangeReadColumnConfirm) c.facts)) (sym leaves)
+    (closed_fits g j None None data_shown (now_of j done) _ (ap (λ (t : TailFacts). is_open (facts_after (CommandCycle ChangeReadColumnConfirm) t)) w.facts)))
+    (subst (λ (x : State). ShowsFit x.target.shows (scene_behind g j.lun.lun (CommandCycle ChangeReadColumnConfirm) c)) (sym leaves)
+    (or_left (selects_plane c.facts) c.sole plane, ap (λ (e : Effect). latch_among (record { 0 = 2 }) (view_after e c.view).latch) effect))
+    (subst (λ (x : State). LunFits g j x.lun (index_now j.base done) (view_after (cycle_effect g c.facts (shown_alone c) (CommandCycle ChangeReadColumnConfirm) j.lun.lun) c.view)) (sym leaves)
+    (subst (λ (e : Effect). LunFits g j (record v.lun { register = register_selected v.target.named v.lun.held; column = given_at v.target.column }) (index_now j.base done) (view_after e c.view)) (sym effect)
+    (record {
+      ready = f.lun.ready;
+      register = selected_fits g j w.address (index_now j.base done) (plane_of_row g (row c.facts)) v.target.named v.lun.held c.view.held (w.named refl) lies f.lun.planes;
+      column = read_column_fits v.target.column c.facts (ap (λ (t : TailFacts). t.inputs) w.facts) (w.column refl);
+      queue = f.lun.queue;
+      last = f.lun.last;
+      cached = f.lun.cached;
+      held = f.lun.held;
+      planes = f.lun.planes;
+      array = f.lun.array;
+    })))
+    acc
+
+pub sound_e0 : (s : Channel) (j : Job) (k : KnownJob s j) (v : State) (past : List Item) (c : Scene) (done : List Done) (rest : List Line) (at byte : ℕ) → command byte ≡ ChangeReadColumnConfirm → IsScene s j.lun past c → Fits s.geometry j v done c true → NoReasons s.geometry j.text v (CommandWord byte) → accepts s.geometry (bounds_of j.text) None (state_after s.geometry v (CommandWord byte)) rest ≡ true → SoundWord s j past done rest at (CommandWord byte)
+sound_e0 s j k v past c done rest at byte is scene f clear acc = by_place (selects_plane_at v.target.tail) refl
+  where
+    by_place : (b : Bool) → selects_plane_at v.target.tail ≡ b → SoundWord s j past done rest at (CommandWord byte)
+    by_place true e = sound_plane_e0 s j k v past c done rest at byte is scene f clear e acc
+    by_place false e = sound_column_e0 s j k v past c done rest at byte is scene f clear e acc
 
 -- 85h
 changes_column : (p : Place) → place_wants ChangeWriteColumn p ≡ true → p ≡ InData

@@ -18,7 +18,7 @@ use Rattle.micro_program.specs.Moves.{Move, Take, moves}
 use Rattle.micro_program.specs.Played.{Played, answered}
 use Rattle.micro_program.specs.Step.{Stride, answered_step, stride, first_byte}
 use Rattle.micro_program.specs.Safe.{after_step}
-use Rattle.micro_claims.specs.State.{State, Registers, KnownLun, OutputColumn, QueuedRows, NoRows, SomeRows, AnyRows, closed, bounds_of, may_be_31}
+use Rattle.micro_claims.specs.State.{State, Registers, KnownLun, OutputColumn, QueuedRows, NoRows, SomeRows, SomeReads, AnyRows, closed, bounds_of, may_be_31}
 use Rattle.micro_claims.specs.Against.{may_be_open, may_be_queued}
 use Rattle.micro_claims.specs.Reasons.{breaks_cycle_forbidden, breaks_address_unaligned, breaks_handover_in_sequence, breaks_buffer_passed, breaks_row_or_plane_outside, breaks_column_too_large, breaks_no_status, breaks_ends_too_soon, breaks_over_budget, breaks_command_not_allowed, reason_against}
 use Rattle.micro_claims.specs.Leaves.{with_registers, paid, status_shown, unread}
@@ -51,7 +51,7 @@ unread_kept (Some c) k f = at c.read refl
         kept false h = h
 
 poll_lun : (g : Parts) (j : Job) (l : KnownLun) (i : ℕ) (view : LunView) (selected overlapped : Bool) → LunFits g j l i view → LunFits g j (record l { column = unread l.column }) i (polled_view selected overlapped view)
-poll_lun g j l i view selected overlapped f = record { ready = f.ready; register = f.register; column = unread_kept l.column view.column f.column; queue = f.queue; last = f.last; cached = f.cached; no_reads = f.no_reads; held = f.held }
+poll_lun g j l i view selected overlapped f = record { ready = f.ready; register = f.register; column = unread_kept l.column view.column f.column; queue = f.queue; last = f.last; cached = f.cached; held = f.held; planes = f.planes; array = f.array }
 
 -- behind a poll the claim fits; `busy` may be claimed not to be where the poll said so
 poll_fits : (s : Channel) (j : Job) (v : State) (done new : List Done) (later : List Item) (c : Scene) (p : PolledScene s j.lun later c) (l : KnownLun) (r : Registers) → RegistersFit s.geometry j r new → LunFits s.geometry j l (index_now j.base new) (polled_view p.selected p.overlapped c.view) → Fits s.geometry j (record { registers = r; target = closed status_shown; lun = l }) new p.now true
@@ -65,10 +65,10 @@ poll_fits s j v done new later c p l r registers lun =
     }
 
 found_ready_lun : (g : Parts) (j : Job) (l : KnownLun) (i : ℕ) (view : LunView) → LunFits g j l i view → view.busy ≡ false → LunFits g j (record l { busy = false }) i view
-found_ready_lun g j l i view f ready = record { ready = λ e. ready; register = f.register; column = f.column; queue = f.queue; last = f.last; cached = f.cached; no_reads = f.no_reads; held = f.held }
+found_ready_lun g j l i view f ready = record { ready = λ e. ready; register = f.register; column = f.column; queue = f.queue; last = f.last; cached = f.cached; held = f.held; planes = f.planes; array = f.array }
 
 found_busy_lun : (g : Parts) (j : Job) (l : KnownLun) (i : ℕ) (view : LunView) → LunFits g j l i view → LunFits g j (record l { busy = true }) i view
-found_busy_lun g j l i view f = record { ready = λ e. cc; register = f.register; column = f.column; queue = f.queue; last = f.last; cached = f.cached; no_reads = f.no_reads; held = f.held }
+found_busy_lun g j l i view f = record { ready = λ e. cc; register = f.register; column = f.column; queue = f.queue; last = f.last; cached = f.cached; held = f.held; planes = f.planes; array = f.array }
 
 -- nothing is open on the target, as the scene says
 open_on : (s : Channel) (j : Job) (past : List Item) (c : Scene) → IsScene s j.lun past c → is_open c.facts ≡ false → is_open_on past j.lun.ce ≡ false
@@ -176,7 +176,7 @@ waiting_fits s j v done later c p f true e =
       lun =
           let polled_lun = poll_lun s.geometry j v.lun (index_now j.base done) c.view p.selected p.overlapped f.lun in
           subst (λ (w : LunView). LunFits s.geometry j (record v.lun { busy = true; column = unread (unread v.lun.column) }) (index_now j.base done) w) (sym p.view)
-          (record { ready = λ x. cc; register = f.lun.register; column = subst (λ (k : Option OutputColumn). OutputColumnFits k (lost c.view.column)) (sym (unread_twice v.lun.column)) polled_lun.column; queue = f.lun.queue; last = f.lun.last; cached = f.lun.cached; no_reads = f.lun.no_reads; held = f.lun.held });
+          (record { ready = λ x. cc; register = f.lun.register; column = subst (λ (k : Option OutputColumn). OutputColumnFits k (lost c.view.column)) (sym (unread_twice v.lun.column)) polled_lun.column; queue = f.lun.queue; last = f.lun.last; cached = f.lun.cached; held = f.lun.held; planes = f.lun.planes; array = f.lun.array });
     }
 waiting_fits s j v done later c p f false e =
     poll_fits s j v done done later c p (record v.lun { busy = true; column = unread v.lun.column }) v.registers f.registers
@@ -262,7 +262,7 @@ yield_fits s j v done answer c f clear true =
       tail = λ x. cc;
       free = λ x. record { tail = refl; shows = refl; unread = unread_is v.lun.column };
       shows = tt;
-      lun = record { ready = f.lun.ready; register = f.lun.register; column = yield_column v.lun.column c.view.column f.lun.column; queue = f.lun.queue; last = f.lun.last; cached = f.lun.cached; no_reads = f.lun.no_reads; held = f.lun.held };
+      lun = record { ready = f.lun.ready; register = f.lun.register; column = yield_column v.lun.column c.view.column f.lun.column; queue = f.lun.queue; last = f.lun.last; cached = f.lun.cached; held = f.lun.held; planes = f.lun.planes; array = f.lun.array };
     }
 yield_fits s j v done answer c f clear false =
     record {
@@ -304,6 +304,7 @@ sound_yield s j k v past c done rest at scene f clear acc =
 no_rows : (g : Parts) (now : ℕ) (q : QueuedRows) (view : LunView) → may_be_queued q ≡ false → RowsFit g now q view.queue → view.queue ≡ []
 no_rows g now NoRows view h f = f
 no_rows g now (SomeRows e p d) view h f = cc
+no_rows g now (SomeReads p surely d) view h f = cc
 no_rows g now AnyRows view h f = cc
 
 pub sound_end : (s : Channel) (j : Job) (k : KnownJob s j) (v : State) (past : List Item) (c : Scene) (done : List Done) (rest : List Line) (at code : ℕ) → IsScene s j.lun past c → Fits s.geometry j v done c true → NoReasons s.geometry j.text v (End code) → SoundWord s j past done rest at (End code)

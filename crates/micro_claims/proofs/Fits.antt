@@ -1,10 +1,12 @@
 -- What a claim says of a program: of its words done, and of the scene of its LUN.
+use Rattle.std.specs.List.{list_any}
 use Rattle.std.proofs.Common.{◌≡◌, ℕ, ◌+◌, ◌/◌, ◌%◌, ◌≤◌, ◌<◌, ◌==◌, Bool, true, false, ◌&&◌, cond, not, ltb, nat_le, List, [], ◌∷◌, Option, Some, None, take, drop, length}
 use Rattle.nand_geometry.specs.declared.parts.Parts.{Parts}
 use Rattle.nand_geometry.specs.Limits.{planes}
+use Rattle.nand_geometry.specs.Optional.{has_plane_reads}
 use Rattle.nand_geometry.specs.Row.{row_of, parts_of, indexed, row_bytes_of, is_inside}
 use Rattle.onfi_cycle.specs.declared.command.Command.{Command}
-use Rattle.onfi_cycle.specs.declared.command.Command.TheVariants.{Read, ReadConfirm, ReadCacheSequential, ChangeReadColumn, BlockErase, PageProgram, ReadId, ReadParameterPage, ReadUniqueId, GetFeatures, SetFeatures, ResetLun}
+use Rattle.onfi_cycle.specs.declared.command.Command.TheVariants.{Read, ReadConfirm, ReadCacheSequential, ChangeReadColumn, ChangeReadColumnEnhanced, BlockErase, PageProgram, ReadId, ReadParameterPage, ReadUniqueId, GetFeatures, SetFeatures, ResetLun}
 use Rattle.onfi_cycle.specs.declared.data_phase.DataPhase.{DataPhase}
 use Rattle.onfi_cycle.specs.declared.data_phase.DataPhase.TheVariants.{Inputs, FirstColumn, SecondColumn, FeatureInputs}
 use Rattle.onfi_cycle.specs.declared.latch.Latch.{Latch}
@@ -19,10 +21,10 @@ use Rattle.onfi_cycle.specs.declared.tail_facts.TailFacts.{TailFacts}
 use Rattle.onfi_cycle.specs.declared.target_cycle.TargetCycle.TheVariants.{CommandCycle, AddressCycle}
 use Rattle.onfi_cycle.specs.LunView.{LunView}
 use Rattle.onfi_cycle.specs.Sequence.{facts_of, facts_after, is_open, input_column}
-use Rattle.onfi_cycle.specs.Lun.{output_column, has_reads}
+use Rattle.onfi_cycle.specs.Lun.{output_column, is_queued_read, pages_of_reads}
 use Rattle.micro_claims.specs.Spans.{Span}
 use Rattle.micro_claims.specs.Planes.{Planes, has_plane}
-use Rattle.micro_claims.specs.State.{State, Registers, KnownTarget, KnownLun, PageRange, Place, Closed, After, InData, InColumn, InFeatures, Unknown, Drift, NamedRow, Shown, Held, OutputColumn, QueuedRows, NoRows, SomeRows, AnyRows, LastCloser, shows_status, shows_register, holds_page, holds_parameters, holds_identifier, holds_identity, holds_jedec, holds_unique_id, holds_feature, may_be_30, may_be_31, may_be_other}
+use Rattle.micro_claims.specs.State.{State, Registers, KnownTarget, KnownLun, PageRange, Place, Closed, After, InData, InColumn, InFeatures, Unknown, Drift, NamedRow, Shown, Held, OutputColumn, QueuedRows, NoRows, SomeRows, SomeReads, AnyRows, LastCloser, shows_status, shows_register, holds_page, holds_parameters, holds_identifier, holds_identity, holds_jedec, holds_unique_id, holds_feature, may_be_30, may_be_31, may_be_other}
 use Rattle.micro_claims.specs.Against.{is_inside_address, next_address, first_address, is_in_features}
 use Rattle.micro_program.specs.Program.{Job, Done, column_now, plane_now, index_now, place_now, cost_now}
 use Rattle.micro_program.proofs.Scenes.{Scene}
@@ -84,6 +86,7 @@ facts_behind t (b ∷ bs) = facts_behind (facts_after (AddressCycle b) t) bs
 abbrev pub is_place : Command → ℕ → Bool
 is_place Read n = nat_le n 5
 is_place ChangeReadColumn n = nat_le n 2
+is_place ChangeReadColumnEnhanced n = nat_le n 5
 is_place BlockErase n = nat_le n 3
 is_place PageProgram n = nat_le n 4
 is_place ReadId n = n == 0
@@ -132,11 +135,13 @@ PlaceIs Unknown a t = Unit {0}
 abbrev pub takes_column : Command → Bool
 takes_column Read = true
 takes_column ChangeReadColumn = true
+takes_column ChangeReadColumnEnhanced = true
 takes_column PageProgram = true
 takes_column _ = false
 
 abbrev pub takes_row : Command → Bool
 takes_row Read = true
+takes_row ChangeReadColumnEnhanced = true
 takes_row BlockErase = true
 takes_row PageProgram = true
 takes_row _ = false
@@ -258,8 +263,8 @@ page_of (Erase p) = p
 page_of (Program p) = p
 page_of (QueuedRead p) = p
 
-pub record RowFits (g : Parts) (now : ℕ) (erase : Bool) (queued : Planes) (d : Drift) (q : Queued) : Type 0 where
-  pub kind : is_of_kind erase q ≡ true
+pub record RowFits (g : Parts) (now : ℕ) (is_one : Queued → Bool) (queued : Planes) (d : Drift) (q : Queued) : Type 0 where
+  pub kind : is_one q ≡ true
   pub index : ℕ
   pub plane : ℕ
   pub low : plane < planes g
@@ -272,9 +277,28 @@ abbrev pub AllFit : (Queued → Type 0) → List Queued → Type 0
 AllFit fits [] = Unit {0}
 AllFit fits (q ∷ qs) = fits q × AllFit fits qs
 
+-- in each of these planes one of the pages lies
+abbrev pub HavePages : Parts → Planes → List PageAddress → Type 0
+HavePages g sure pages = (n : ℕ) → has_plane n sure ≡ true → list_any (λ q. q.block % planes g == n) pages ≡ true
+
+-- how many planes these are
+abbrev pub one_if : Bool → ℕ
+one_if b = cond b 1 0
+
+abbrev pub count_of : Planes → ℕ
+count_of p = one_if (has_plane 0 p) + one_if (has_plane 1 p) + one_if (has_plane 2 p) + one_if (has_plane 3 p)
+
+-- reads of planes that differ, so that there are no more than planes
+pub record ReadsFit (g : Parts) (now : ℕ) (queued surely : Planes) (d : Drift) (qs : List Queued) : Type 0 where
+  pub declared : has_plane_reads g.optional ≡ true
+  pub all : AllFit (RowFits g now is_queued_read queued d) qs
+  pub few : length qs ≤ count_of queued
+  pub pages : HavePages g surely (pages_of_reads qs)
+
 abbrev pub RowsFit : Parts → ℕ → QueuedRows → List Queued → Type 0
 RowsFit g now NoRows qs = qs ≡ []
-RowsFit g now (SomeRows erase planes d) qs = AllFit (RowFits g now erase planes d) qs
+RowsFit g now (SomeRows erase planes d) qs = AllFit (RowFits g now (is_of_kind erase) planes d) qs
+RowsFit g now (SomeReads planes surely d) qs = ReadsFit g now planes surely d qs
 RowsFit g now AnyRows qs = Unit {0}
 
 abbrev pub command_among : LastCloser → Command → Bool
@@ -293,9 +317,9 @@ pub record LunFits (g : Parts) (j : Job) (v : KnownLun) (index : ℕ) (view : Lu
   pub queue : RowsFit g index v.queue view.queue
   pub last : closer_among v.last view.closer ≡ true
   pub cached : j.base % g.pages ≡ 0 → may_be_other v.last ≡ false → Below view.array_page.page v.cached.page.hi
-  -- a program queues no reads, so that its own reads leave one page
-  pub no_reads : has_reads view.queue ≡ false
   pub held : may_be_other v.last ≡ false → nat_le (length view.held) 1 ≡ true
+  pub planes : HavePages g v.held view.held
+  pub array : HavePages g v.array (view.array_page ∷ [])
 
 -- 5. all of it
 

@@ -8,7 +8,6 @@ use Rattle.onfi_cycle.specs.declared.command.Command.{Command}
 use Rattle.onfi_cycle.specs.declared.command.Command.TheVariants.{ReadId, ReadParameterPage, ReadUniqueId, GetFeatures, SetFeatures}
 use Rattle.onfi_cycle.specs.declared.item.Item.{Item}
 use Rattle.onfi_cycle.specs.declared.item.Kind.TheVariants.{Adr}
-use Rattle.onfi_cycle.specs.declared.queued.Queued.{Queued}
 use Rattle.onfi_cycle.specs.declared.target_cycle.TargetCycle.TheVariants.{AddressCycle}
 use Rattle.onfi_cycle.specs.declared.tail_facts.TailFacts.{TailFacts}
 use Rattle.onfi_cycle.specs.LunView.{LunView}
@@ -19,21 +18,21 @@ use Rattle.onfi_cycle.specs.Lun.{view_after}
 use Rattle.onfi_cycle.specs.declared.effect.Effect.{Effect}
 use Rattle.onfi_cycle.specs.declared.effect.Effect.TheVariants.{Unaffected, IdRead, IdentityRead, ParameterPageReadStarted, UniqueIdReadStarted, FeaturesReadStarted}
 use Rattle.onfi_cycle.specs.declared.latch.Latch.TheVariants.{Data}
-use Rattle.onfi_cycle.specs.Rules.{has_some}
 use Rattle.onfi_cycle.specs.Channel.{Channel}
 use Rattle.micro_word.specs.declared.word.Word.TheVariants.{Command as CommandWord, Address as AddressWord}
 use Rattle.micro_program.specs.Lines.{Line}
 use Rattle.micro_program.specs.Program.{Job, Done, column_now, index_now}
 use Rattle.micro_program.specs.Moves.{address, gives, and_then}
 use Rattle.micro_claims.specs.Spans.{only, only_of}
-use Rattle.micro_claims.specs.State.{Registers, State, Held, Place, Closed, After, InData, InColumn, InFeatures, QueuedRows, NoRows, SomeRows, AnyRows, bounds_of, Unknown, may_be_31}
+use Rattle.micro_claims.specs.State.{Registers, State, Held, Place, Closed, After, InData, InColumn, InFeatures, bounds_of, Unknown, may_be_31}
 use Rattle.micro_claims.specs.Against.{may_be_open, may_be_queued, identity_opener_refused, takes_identity_at, takes_any_byte, takes_identity, is_identity_byte, byte_of_column, address_out_of_place}
 use Rattle.micro_claims.specs.Reasons.{breaks_cycle_forbidden}
 use Rattle.micro_claims.specs.Leaves.{id_held, beside_read, identity_read, address_leaves_at, with_registers, paid, data_shown}
 use Rattle.micro_claims.specs.Accepts.{state_after, accepts}
 use Rattle.micro_program.proofs.Stepping.{of_one}
 use Rattle.micro_program.proofs.Scenes.{Scene, IsScene, IdentityAllowed, AddressAllowed, scene_behind}
-use Rattle.micro_claims.proofs.Fits.{Address, is_place, ShowsFit, TailFits, latch_among, facts_behind, bytes_of, RegistersFit, Opened, opener_facts, PlaceIs, RowsFit, LunFits, Fits, now_of}
+use Rattle.micro_claims.proofs.HeldPlanes.{no_pages, none_queued}
+use Rattle.micro_claims.proofs.Fits.{Address, is_place, ShowsFit, TailFits, latch_among, facts_behind, bytes_of, RegistersFit, Opened, opener_facts, PlaceIs, LunFits, Fits, now_of}
 use Rattle.micro_claims.proofs.Numbers.{in_exactly}
 use Rattle.micro_claims.proofs.Tails.{no_address, every_place, no_place, closed_tail, closed_fits}
 use Rattle.micro_claims.proofs.Sounding.{KnownJob, NoReasons, unmoved, SoundWord, plain_sound}
@@ -45,11 +44,6 @@ use Rattle.micro_claims.proofs.LunResets.{sound_lun_reset}
 use Rattle.micro_claims.proofs.Indices.{only_is}
 
 -- 1. the commands
-
-none_queued : (g : Parts) (now : ℕ) (q : QueuedRows) (queue : List Queued) → may_be_queued q ≡ false → RowsFit g now q queue → has_some queue ≡ false
-none_queued g now NoRows queue h f = ap has_some f
-none_queued g now (SomeRows e p d) queue h f = cc
-none_queued g now AnyRows queue h f = cc
 
 -- the LUN is ready, has no queue and reads no cache where nothing is against such an opener
 identity_allowed : (s : Channel) (j : Job) (v : State) (c : Scene) (done : List Done) → Fits s.geometry j v done c true → ltb 1 s.geometry.luns ≡ false → (may_be_open v || identity_opener_refused s.geometry v) ≡ false → IdentityAllowed s.geometry c
@@ -270,9 +264,9 @@ beside_fits s j v c done busy held next left is single sole shut latch lun =
 
 -- what 90h reads is what may be held
 id_lun : (g : Parts) (j : Job) (v : State) (i : ℕ) (view : LunView) (a b : Bool) → LunFits g j v.lun i view → LunFits g j (beside_read v.lun.busy (cond a (record { 0 = 4 }) (cond b (record { 0 = 16 }) (record { 0 = 8 }))) v).lun i (view_after (cond a IdRead (IdentityRead b)) view)
-id_lun g j v i view true b f = record { ready = f.ready; register = refl; column = record { at = 0; is = refl; below = (in_exactly 0).most; unread = λ e. refl }; queue = f.queue; last = refl; cached = λ e x. cc; no_reads = f.no_reads; held = λ e. cc }
-id_lun g j v i view false true f = record { ready = f.ready; register = refl; column = record { at = 0; is = refl; below = (in_exactly 0).most; unread = λ e. refl }; queue = f.queue; last = refl; cached = λ e x. cc; no_reads = f.no_reads; held = λ e. cc }
-id_lun g j v i view false false f = record { ready = f.ready; register = refl; column = record { at = 0; is = refl; below = (in_exactly 0).most; unread = λ e. refl }; queue = f.queue; last = refl; cached = λ e x. cc; no_reads = f.no_reads; held = λ e. cc }
+id_lun g j v i view true b f = record { ready = f.ready; register = refl; column = record { at = 0; is = refl; below = (in_exactly 0).most; unread = λ e. refl }; queue = f.queue; last = refl; cached = λ e x. cc; held = λ e. cc; planes = no_pages g []; array = no_pages g (view.array_page ∷ []) }
+id_lun g j v i view false true f = record { ready = f.ready; register = refl; column = record { at = 0; is = refl; below = (in_exactly 0).most; unread = λ e. refl }; queue = f.queue; last = refl; cached = λ e x. cc; held = λ e. cc; planes = no_pages g []; array = no_pages g (view.array_page ∷ []) }
+id_lun g j v i view false false f = record { ready = f.ready; register = refl; column = record { at = 0; is = refl; below = (in_exactly 0).most; unread = λ e. refl }; queue = f.queue; last = refl; cached = λ e x. cc; held = λ e. cc; planes = no_pages g []; array = no_pages g (view.array_page ∷ []) }
 
 id_latch : (a b : Bool) (view : LunView) → (view_after (cond a IdRead (IdentityRead b)) view).latch ≡ Data
 id_latch true b view = refl
@@ -307,7 +301,7 @@ identity_ec s j v past c done rest at from count h =
     let next = beside_scene s.geometry ReadParameterPage ParameterPageReadStarted byte c in
     at_identity s j h.k v past c done rest at from count ReadParameterPage next h.id (ec_step s j c byte h.start h.id.single h.id.takes)
     (beside_fits s j v c done true (record { 0 = 2 }) next (identity_read v from ReadParameterPage) refl h.id.single refl refl refl
-    (record { ready = λ e. cc; register = refl; column = record { at = 0; is = refl; below = (in_exactly 0).most; unread = λ e. refl }; queue = h.f.lun.queue; last = refl; cached = λ e x. cc; no_reads = h.f.lun.no_reads; held = λ e. cc }))
+    (record { ready = λ e. cc; register = refl; column = record { at = 0; is = refl; below = (in_exactly 0).most; unread = λ e. refl }; queue = h.f.lun.queue; last = refl; cached = λ e x. cc; held = λ e. cc; planes = no_pages s.geometry []; array = no_pages s.geometry (c.view.array_page ∷ []) }))
     h.left h.scene h.f h.clear h.acc
 
 identity_ed : (s : Channel) (j : Job) (v : State) (past : List Item) (c : Scene) (done : List Done) (rest : List Line) (at from count : ℕ) → AtOpener s j v past c done rest from count ReadUniqueId → SoundWord s j past done rest at (AddressWord from count)
@@ -316,7 +310,7 @@ identity_ed s j v past c done rest at from count h =
     let next = beside_scene s.geometry ReadUniqueId UniqueIdReadStarted byte c in
     at_identity s j h.k v past c done rest at from count ReadUniqueId next h.id (ed_step s j c byte h.start h.id.single h.id.takes)
     (beside_fits s j v c done true (record { 0 = 32 }) next (identity_read v from ReadUniqueId) refl h.id.single refl refl refl
-    (record { ready = λ e. cc; register = refl; column = record { at = 0; is = refl; below = (in_exactly 0).most; unread = λ e. refl }; queue = h.f.lun.queue; last = refl; cached = λ e x. cc; no_reads = h.f.lun.no_reads; held = λ e. cc }))
+    (record { ready = λ e. cc; register = refl; column = record { at = 0; is = refl; below = (in_exactly 0).most; unread = λ e. refl }; queue = h.f.lun.queue; last = refl; cached = λ e x. cc; held = λ e. cc; planes = no_pages s.geometry []; array = no_pages s.geometry (c.view.array_page ∷ []) }))
     h.left h.scene h.f h.clear h.acc
 
 identity_ee : (s : Channel) (j : Job) (v : State) (past : List Item) (c : Scene) (done : List Done) (rest : List Line) (at from count : ℕ) → AtOpener s j v past c done rest from count GetFeatures → SoundWord s j past done rest at (AddressWord from count)
@@ -325,7 +319,7 @@ identity_ee s j v past c done rest at from count h =
     let next = beside_scene s.geometry GetFeatures (FeaturesReadStarted byte) byte c in
     at_identity s j h.k v past c done rest at from count GetFeatures next h.id (ee_step s j c byte h.start h.id.single)
     (beside_fits s j v c done true (record { 0 = 64 }) next (identity_read v from GetFeatures) refl h.id.single refl refl refl
-    (record { ready = λ e. cc; register = refl; column = record { at = 0; is = refl; below = (in_exactly 0).most; unread = λ e. refl }; queue = h.f.lun.queue; last = refl; cached = λ e x. cc; no_reads = h.f.lun.no_reads; held = λ e. cc }))
+    (record { ready = λ e. cc; register = refl; column = record { at = 0; is = refl; below = (in_exactly 0).most; unread = λ e. refl }; queue = h.f.lun.queue; last = refl; cached = λ e x. cc; held = λ e. cc; planes = no_pages s.geometry []; array = no_pages s.geometry (c.view.array_page ∷ []) }))
     h.left h.scene h.f h.clear h.acc
 
 identity_ef : (s : Channel) (j : Job) (v : State) (past : List Item) (c : Scene) (done : List Done) (rest : List Line) (at from count : ℕ) → AtOpener s j v past c done rest from count SetFeatures → SoundWord s j past done rest at (AddressWord from count)

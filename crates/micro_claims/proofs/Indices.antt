@@ -9,19 +9,21 @@ use Rattle.nand_geometry.specs.declared.parts.Parts.{Parts}
 use Rattle.onfi_cycle.specs.declared.item.Item.{Item}
 use Rattle.onfi_cycle.specs.declared.queued.Queued.{Queued}
 use Rattle.onfi_cycle.specs.declared.tail_facts.TailFacts.{TailFacts}
+use Rattle.onfi_cycle.specs.Lun.{is_queued_read}
 use Rattle.onfi_cycle.specs.LunView.{LunView}
 use Rattle.onfi_cycle.specs.Channel.{Channel}
 use Rattle.micro_word.specs.declared.word.Word.TheVariants.{RowAdd, Row}
 use Rattle.micro_program.specs.Lines.{Line}
 use Rattle.micro_program.specs.Program.{Job, Done, index_now, cost_now}
 use Rattle.micro_claims.specs.Spans.{only, only_of, greatest_bound}
-use Rattle.micro_claims.specs.State.{State, KnownTarget, KnownLun, PageRange, NamedRow, Drift, QueuedRows, NoRows, SomeRows, AnyRows, bounds_of}
+use Rattle.micro_claims.specs.Planes.{Planes}
+use Rattle.micro_claims.specs.State.{State, KnownTarget, KnownLun, PageRange, NamedRow, Drift, QueuedRows, NoRows, SomeRows, SomeReads, AnyRows, bounds_of}
 use Rattle.micro_claims.specs.Against.{is_inside_address}
 use Rattle.micro_claims.specs.Reasons.{breaks_address_unaligned}
-use Rattle.micro_claims.specs.Leaves.{drift_more, drift_set, and_drift, rows_at, named_moved, rows_moved, page_plus, drift_of}
+use Rattle.micro_claims.specs.Leaves.{drift_more, drift_set, and_drift, rows_at, reads_at, named_moved, rows_moved, page_plus, drift_of}
 use Rattle.micro_claims.specs.Accepts.{state_after, accepts}
 use Rattle.micro_program.proofs.Scenes.{Scene, IsScene}
-use Rattle.micro_claims.proofs.Fits.{Below, InRange, Address, Now, now_of, DriftFits, NameFits, TailFits, RowFits, AllFit, RowsFit, LunFits, Fits}
+use Rattle.micro_claims.proofs.Fits.{Below, InRange, Address, Now, now_of, DriftFits, NameFits, TailFits, is_of_kind, RowFits, AllFit, RowsFit, LunFits, Fits}
 use Rattle.micro_claims.proofs.Numbers.{below_cost, in_exactly, in_plus}
 use Rattle.micro_claims.proofs.Tails.{no_place, none_held}
 use Rattle.micro_claims.proofs.Sounding.{KnownJob, NoReasons, within_budget, SoundWord}
@@ -43,6 +45,11 @@ name_fits g j a old new move None moves f = tt
 name_fits g j a old new move (Some n) moves f =
     record { over = f.over; over_is = f.over_is; index = f.index; plane = f.plane; page = f.page; drift = drift_fits old new move a.index n.drift moves f.drift }
 
+-- of each row of a kind the distance moves
+each_fits : (g : Parts) (old new : ℕ) (kind : Queued → Bool) (planes : Planes) (d e : Drift) → ((i : ℕ) → old + d.behind ≡ i + d.ahead → DriftFits new i (Some e)) → (qs : List Queued) → AllFit (RowFits g old kind planes d) qs → AllFit (RowFits g new kind planes e) qs
+each_fits g old new kind planes d e m [] f = tt
+each_fits g old new kind planes d e m (q ∷ qs) f = (record { kind = f.0.kind; index = f.0.index; plane = f.0.plane; low = f.0.low; page = f.0.page; block = f.0.block; among = f.0.among; drift = m f.0.index f.0.drift }, each_fits g old new kind planes d e m qs f.1)
+
 rows_fit : (g : Parts) (old new : ℕ) (move : Drift → Option Drift) (q : QueuedRows) (queue : List Queued) → MovesDrifts old new move → RowsFit g old q queue → RowsFit g new (rows_moved move q) queue
 rows_fit g old new move NoRows queue moves f = f
 rows_fit g old new move AnyRows queue moves f = tt
@@ -50,11 +57,12 @@ rows_fit g old new move (SomeRows erase planes d) queue moves f = at (move d) (�
   where
     at : (o : Option Drift) → ((i : ℕ) → old + d.behind ≡ i + d.ahead → DriftFits new i o) → RowsFit g new (rows_at erase planes o) queue
     at None m = tt
-    at (Some e) m = each queue f
-      where
-        each : (qs : List Queued) → AllFit (RowFits g old erase planes d) qs → AllFit (RowFits g new erase planes e) qs
-        each [] f = tt
-        each (q ∷ qs) f = (record { kind = f.0.kind; index = f.0.index; plane = f.0.plane; low = f.0.low; page = f.0.page; block = f.0.block; among = f.0.among; drift = m f.0.index f.0.drift }, each qs f.1)
+    at (Some e) m = each_fits g old new (is_of_kind erase) planes d e m queue f
+rows_fit g old new move (SomeReads planes surely d) queue moves f = at (move d) (λ i e. moves d i e)
+  where
+    at : (o : Option Drift) → ((i : ℕ) → old + d.behind ≡ i + d.ahead → DriftFits new i o) → RowsFit g new (reads_at planes surely o) queue
+    at None m = tt
+    at (Some e) m = record { declared = f.declared; all = each_fits g old new is_queued_read planes d e m queue f.all; few = f.few; pages = f.pages }
 
 -- the rest of a claim where the index register moves
 tail_moved : (g : Parts) (j : Job) (v : KnownTarget) (n m : Now) (move : Drift → Option Drift) (t : TailFacts) → is_inside_address v.tail ≡ false → MovesDrifts n.index m.index move → TailFits g j v n t → TailFits g j (record v { named = named_moved move v.named }) m t
@@ -74,7 +82,7 @@ tail_moved g j v n m move t none moves f =
 
 lun_moved : (g : Parts) (j : Job) (l : KnownLun) (old new : ℕ) (move : Drift → Option Drift) (view : LunView) → MovesDrifts old new move → LunFits g j l old view → LunFits g j (record l { queue = rows_moved move l.queue }) new view
 lun_moved g j l old new move view moves f =
-    record { ready = f.ready; register = f.register; column = f.column; queue = rows_fit g old new move l.queue view.queue moves f.queue; last = f.last; cached = f.cached; no_reads = f.no_reads; held = f.held }
+    record { ready = f.ready; register = f.register; column = f.column; queue = rows_fit g old new move l.queue view.queue moves f.queue; last = f.last; cached = f.cached; held = f.held; planes = f.planes; array = f.array }
 
 -- 2. rowadd
 

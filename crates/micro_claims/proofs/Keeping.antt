@@ -1,5 +1,5 @@
 -- What comes between the words of a program keeps what is claimed of it.
-use Rattle.std.proofs.Common.{◌≡◌, inl, inr, ℕ, ◌==◌, Bool, true, false, ◌&&◌, cond, ltb, nat_le, List, ◌∷◌, Option, Some, None, refl, sym, ap, ◌∙◌, subst, arith, eqb-true, eq-eqb, length}
+use Rattle.std.proofs.Common.{◌≡◌, inl, inr, ℕ, ◌==◌, Bool, true, false, ◌&&◌, cond, ltb, nat_le, List, [], ◌∷◌, Option, Some, None, refl, sym, ap, ◌∙◌, subst, arith, eqb-true, eq-eqb, length}
 use Rattle.std.proofs.lemmas.Bool.Decides.{nat_tests}
 use Rattle.std.proofs.lemmas.Bool.{not-true, and_parts, and_from}
 use Rattle.nand_geometry.specs.declared.parts.Parts.{Parts}
@@ -18,7 +18,7 @@ use Rattle.onfi_cycle.specs.declared.page_address.PageAddress.{PageAddress}
 use Rattle.onfi_cycle.specs.Effect.{is_off}
 use Rattle.onfi_cycle.specs.LunView.{LunView}
 use Rattle.onfi_cycle.specs.Sequence.{tail, facts_of}
-use Rattle.onfi_cycle.specs.Lun.{latch, latch_after, drivers, is_only, lun_view, busy_after, is_busy, is_array_busy, closer, closer_after, array_page, array_page_after, register, register_after, read_column, read_column_after, queue, queue_after, has_reads, held, held_after, effect_among}
+use Rattle.onfi_cycle.specs.Lun.{latch, latch_after, drivers, is_only, lun_view, busy_after, is_busy, is_array_busy, closer, closer_after, array_page, array_page_after, register, register_after, read_column, read_column_after, queue, queue_after, held, held_after, effect_among}
 use Rattle.onfi_cycle.specs.OtherLun.{KeepsLun, KeepsTarget, IsSameOrLost}
 use Rattle.onfi_cycle.specs.Permitted.{is_legal}
 use Rattle.onfi_cycle.specs.Channel.{Channel, IsOwn, same_lun, is_there, is_cycle, is_serving}
@@ -29,7 +29,7 @@ use Rattle.micro_program.proofs.Below.{readies, own_cycles, targets, service}
 use Rattle.micro_program.proofs.Basics.{there_lun}
 use Rattle.micro_program.proofs.Scenes.{Scene}
 use Rattle.micro_program.proofs.Stepping.{drivers_same}
-use Rattle.micro_claims.proofs.Fits.{RegisterFits, RowsFit, closer_among, latch_among, Below, ShowsFit, OutputFits, OutputColumnFits, LunFits, is_unread}
+use Rattle.micro_claims.proofs.Fits.{RegisterFits, RowsFit, closer_among, latch_among, Below, ShowsFit, OutputFits, OutputColumnFits, HavePages, LunFits, is_unread}
 use Rattle.micro_claims.proofs.Sounding.{KnownJob, Claims, knows_tail}
 
 -- 1. readies
@@ -141,8 +141,9 @@ moved_view g j v i old new busy closer page register column queue held f =
       queue = subst (λ (q : List Queued). RowsFit g i v.queue q) (sym queue) f.queue;
       last = subst (λ (c : Option Command). closer_among v.last c ≡ true) (sym closer) f.last;
       cached = λ base e. subst (λ (p : PageAddress). Below p.page v.cached.page.hi) (sym page) (f.cached base e);
-      no_reads = ap has_reads queue ∙ f.no_reads;
       held = λ e. ap (λ (pages : List PageAddress). nat_le (length pages) 1) held ∙ f.held e;
+      planes = subst (λ (pages : List PageAddress). HavePages g v.held pages) (sym held) f.planes;
+      array = subst (λ (p : PageAddress). HavePages g v.array (p ∷ [])) (sym page) f.array;
     }
 
 shows_moved : (o : Option Shown) (c d : Scene) → d.sole ≡ c.sole → d.view.latch ≡ c.view.latch → ShowsFit o c → ShowsFit o d

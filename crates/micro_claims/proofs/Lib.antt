@@ -4,6 +4,7 @@ pub mod Addressing
 pub mod Commands
 pub mod Controls
 pub mod Fits
+pub mod HeldPlanes
 pub mod Identities
 pub mod Indices
 pub mod Keeping
@@ -12,6 +13,7 @@ pub mod MoreCommands
 pub mod NamesNow
 pub mod Numbered
 pub mod Numbers
+pub mod PlaneCommands
 pub mod PlaneSets
 pub mod SafePrograms
 pub mod Sets

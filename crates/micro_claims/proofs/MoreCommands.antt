@@ -27,19 +27,20 @@ use Rattle.micro_word.specs.declared.word.Word.TheVariants.{Command as CommandWo
 use Rattle.micro_program.specs.Lines.{Line}
 use Rattle.micro_claims.specs.Spans.{bound_plus, is_at_most}
 use Rattle.micro_claims.specs.Planes.{no_planes, either_plane}
-use Rattle.micro_claims.specs.State.{State, Place, Closed, After, InData, InColumn, InFeatures, NamedRow, Drift, QueuedRows, NoRows, SomeRows, AnyRows, LastCloser, bounds_of, Unknown, may_be_30, may_be_other}
+use Rattle.micro_claims.specs.State.{State, Place, Closed, After, InData, InColumn, InFeatures, NamedRow, Drift, QueuedRows, NoRows, SomeRows, SomeReads, AnyRows, LastCloser, bounds_of, Unknown, may_be_30, may_be_other}
 use Rattle.micro_claims.specs.Against.{may_end_sequence, opener_refused, closer_refused, is_unfit, asks_status, is_for_traces, command_not_for_programs, drives, may_be_open, place_wants, same_test, continues_unseen, reads_cache_at}
 use Rattle.micro_claims.specs.Reasons.{breaks_command_not_allowed}
-use Rattle.micro_claims.specs.Leaves.{work_started, rows_at, goes_along, queued_planes, queued_more, data_shown, reset_started, command_leaves, cache_read, next_cached, cached_at, shows_after_read}
+use Rattle.micro_claims.specs.Leaves.{work_started, rows_at, goes_along, queued_planes, queued_more, data_shown, reset_started, command_leaves, cache_read, next_cached, named_plane, cached_at, shows_after_read}
 use Rattle.micro_claims.specs.Accepts.{state_after, accepts}
 use Rattle.micro_program.specs.Program.{Job, Done, index_now}
 use Rattle.micro_claims.proofs.PlaneSets.{among_first, among_second}
 use Rattle.micro_program.proofs.Scenes.{Scene, IsScene, shown_alone, scene_behind, closed_unwanted}
 use Rattle.micro_claims.proofs.Fits.{latch_among, DriftFits, Address, is_place, NameFits, RowIs, is_of_kind, page_of, RowFits, AllFit, RowsFit, closer_among, LunFits, TailFits, Fits, Now, now_of, ShowsFit, Below}
+use Rattle.micro_claims.proofs.HeldPlanes.{no_pages, read_array}
 use Rattle.micro_claims.proofs.Numbers.{below_plus, in_exactly, surely}
 use Rattle.micro_claims.proofs.Tails.{closed_tail, closed_fits, whole_erase_plane, programming, whole}
 use Rattle.micro_claims.proofs.Sounding.{KnownJob, NoReasons, SoundWord}
-use Rattle.micro_claims.proofs.Commands.{command_sound, plain_opener, same_either, shows_kept, wanted, row_names, program_row, driven, out_of_place, page_below, read_shown}
+use Rattle.micro_claims.proofs.Commands.{command_sound, plain_opener, same_either, shows_kept, wanted, row_names, program_row, driven, out_of_place, page_of_row, page_below, read_shown}
 
 -- 1. what is declared
 
@@ -74,15 +75,16 @@ queued_fits g j now erase claimed (Some n) a q queue name row kind page block f 
     with_drift None is along = tt
     with_drift (Some d) is along = (record { kind = kind; index = a.index; plane = a.plane; low = row.low; page = page; block = block; among = among_first a.plane n.planes (queued_planes claimed) name.plane; drift = subst (λ (x : Option Drift). DriftFits now a.index x) is name.drift }, rest claimed along f)
       where
-        rest : (c : QueuedRows) → goes_along erase (Some d) c ≡ true → RowsFit g now c queue → AllFit (RowFits g now erase (either_plane n.planes (queued_planes c)) d) queue
-        rest NoRows along f = subst (λ (qs : List Queued). AllFit (RowFits g now erase (either_plane n.planes no_planes) d) qs) (sym f) tt
+        rest : (c : QueuedRows) → goes_along erase (Some d) c ≡ true → RowsFit g now c queue → AllFit (RowFits g now (is_of_kind erase) (either_plane n.planes (queued_planes c)) d) queue
+        rest NoRows along f = subst (λ (qs : List Queued). AllFit (RowFits g now (is_of_kind erase) (either_plane n.planes no_planes) d) qs) (sym f) tt
         rest AnyRows along f = cc
+        rest (SomeReads ps surely e) along f = cc
         rest (SomeRows k ps e) along f = each queue f
           where
             both : (same_test erase k ≡ true) × ((d.ahead == e.ahead && d.behind == e.behind) ≡ true)
             both = and_parts (same_test erase k) (d.ahead == e.ahead && d.behind == e.behind) along
 
-            each : (qs : List Queued) → AllFit (RowFits g now k ps e) qs → AllFit (RowFits g now erase (either_plane n.planes ps) d) qs
+            each : (qs : List Queued) → AllFit (RowFits g now (is_of_kind k) ps e) qs → AllFit (RowFits g now (is_of_kind erase) (either_plane n.planes ps) d) qs
             each [] f = tt
             each (x ∷ qs) f =
                 let parts = and_parts (d.ahead == e.ahead) (d.behind == e.behind) both.1 in
@@ -94,11 +96,6 @@ queued_fits g j now erase claimed (Some n) a q queue name row kind page block f 
     at : (b : Bool) → goes_along erase n.drift claimed ≡ b → RowsFit g now (cond b (rows_at erase (either_plane n.planes (queued_planes claimed)) n.drift) AnyRows) (q ∷ queue)
     at true e = with_drift n.drift refl e
     at false e = tt
-
--- the page of the row of the tail
-page_of_row : (g : Parts) (j : Job) (t : TailFacts) (a : Address) → row t ≡ row_of a.r1 a.r2 a.r3 → RowIs g j a → ((page_address g (row t)).page ≡ a.index % g.pages) × ((page_address g (row t)).block ≡ a.index / g.pages * planes g + a.plane)
-page_of_row g j t a e r =
-    (ap (λ (n : ℕ). (parts_of g n).page) e ∙ ap (λ (p : RowParts). p.page) r.reads, ap (λ (n : ℕ). (parts_of g n).block) e ∙ ap (λ (p : RowParts). p.block) r.reads)
 
 -- D1h
 pub sound_d1 : (s : Channel) (j : Job) (k : KnownJob s j) (v : State) (past : List Item) (c : Scene) (done : List Done) (rest : List Line) (at byte : ℕ) → command byte ≡ BlockErasePlane → IsScene s j.lun past c → Fits s.geometry j v done c true → NoReasons s.geometry j.text v (CommandWord byte) → accepts s.geometry (bounds_of j.text) None (state_after s.geometry v (CommandWord byte)) rest ≡ true → SoundWord s j past done rest at (CommandWord byte)
@@ -115,7 +112,7 @@ sound_d1 s j k v past c done rest at byte is scene f clear acc =
     (closed_fits g j None None v.target.shows (now_of j done) _ (ap (λ (t : TailFacts). is_open (facts_after (CommandCycle BlockErasePlane) t)) w.facts))
     (shows_kept v.target.shows c (scene_behind g j.lun.lun (CommandCycle BlockErasePlane) c) (λ e. e) (ap (λ (e : Effect). (view_after e c.view).latch) effect) f.shows)
     (subst (λ (e : Effect). LunFits g j (work_started (queued_more true v.lun.queue v.target.named) v).lun (index_now j.base done) (view_after e c.view)) (sym effect)
-    (record { ready = λ e. cc; register = tt; column = tt; queue = queued_fits g j (index_now j.base done) true v.lun.queue v.target.named w.address (Erase (page_address g (row c.facts))) c.view.queue (w.named refl) (w.row refl) refl page.0 page.1 f.lun.queue; last = refl; cached = λ e x. cc; no_reads = f.lun.no_reads; held = λ e. cc }))
+    (record { ready = λ e. cc; register = tt; column = tt; queue = queued_fits g j (index_now j.base done) true v.lun.queue v.target.named w.address (Erase (page_address g (row c.facts))) c.view.queue (w.named refl) (w.row refl) refl page.0 page.1 f.lun.queue; last = refl; cached = λ e x. cc; held = λ e. cc; planes = no_pages g []; array = no_pages g (c.view.array_page ∷ []) }))
     acc
 
 -- 11h
@@ -148,7 +145,7 @@ sound_11 s j k v past c done rest at byte is scene f clear acc =
     (closed_fits g j None None v.target.shows (now_of j done) _ (rw p.program.begun refl))
     (shows_kept v.target.shows c (scene_behind g j.lun.lun (CommandCycle ProgramPlane) c) (λ e. e) (ap (λ (e : Effect). (view_after e c.view).latch) effect) f.shows)
     (subst (λ (e : Effect). LunFits g j (work_started (queued_more false v.lun.queue v.target.named) v).lun (index_now j.base done) (view_after e c.view)) (sym effect)
-    (record { ready = λ e. cc; register = tt; column = tt; queue = queued_fits g j (index_now j.base done) false v.lun.queue v.target.named p.address (Program (page_address g (row c.facts))) c.view.queue p.named p.row refl page.0 page.1 f.lun.queue; last = refl; cached = λ e x. cc; no_reads = f.lun.no_reads; held = λ e. cc }))
+    (record { ready = λ e. cc; register = tt; column = tt; queue = queued_fits g j (index_now j.base done) false v.lun.queue v.target.named p.address (Program (page_address g (row c.facts))) c.view.queue p.named p.row refl page.0 page.1 f.lun.queue; last = refl; cached = λ e x. cc; held = λ e. cc; planes = no_pages g c.view.held; array = no_pages g (c.view.array_page ∷ []) }))
     acc
 
 -- 3. openers that are whole by themselves
@@ -180,7 +177,7 @@ reset_one g lun one = sym (ap (λ (b : Bool). cond (is_wide g.optional && b) (Ta
     none false = refl
 
 pub reset_fits : (g : Parts) (j : Job) (v : State) (i : ℕ) (view : LunView) → LunFits g j (reset_started v).lun i (view_after ResetStarted view)
-reset_fits g j v i view = record { ready = λ e. cc; register = tt; column = tt; queue = refl; last = refl; cached = λ e x. cc; no_reads = refl; held = λ e. cc }
+reset_fits g j v i view = record { ready = λ e. cc; register = tt; column = tt; queue = refl; last = refl; cached = λ e x. cc; held = λ e. cc; planes = no_pages g []; array = no_pages g (view.array_page ∷ []) }
 
 resets_fit : (g : Parts) (j : Job) (v : State) (i lun : ℕ) (view : LunView) → ltb 1 g.luns ≡ false → LunFits g j (reset_started v).lun i (view_after (reset_effect g lun) view)
 resets_fit g j v i lun view one = subst (λ (e : Effect). LunFits g j (reset_started v).lun i (view_after e view)) (reset_one g lun one) (reset_fits g j v i view)
@@ -240,10 +237,10 @@ only_cache_read BlockErase n place h = cc
 only_cache_read ChangeReadColumnEnhanced n place h = cc
 only_cache_read _ n place h = cc
 
-leaves_lone : (g : Parts) (v : State) → place_wants ReadCacheSequential v.target.tail ≡ false → command_leaves g v ReadCacheSequential ≡ cache_read (record { 0 = 2 }) (next_cached v.lun.cached) data_shown v
+leaves_lone : (g : Parts) (v : State) → place_wants ReadCacheSequential v.target.tail ≡ false → command_leaves g v ReadCacheSequential ≡ cache_read (record { 0 = 2 }) (next_cached v.lun.cached) v.lun.array data_shown v
 leaves_lone g v unplaced = rw unplaced refl
 
-leaves_row : (g : Parts) (v : State) → place_wants ReadCacheSequential v.target.tail ≡ true → command_leaves g v ReadCacheSequential ≡ cache_read (record { 0 = 2 }) (cached_at v.target.named) (shows_after_read g v.target.shows) v
+leaves_row : (g : Parts) (v : State) → place_wants ReadCacheSequential v.target.tail ≡ true → command_leaves g v ReadCacheSequential ≡ cache_read (record { 0 = 2 }) (cached_at v.target.named) (named_plane v.target.named) (shows_after_read g v.target.shows) v
 leaves_row g v placed = rw placed refl
 
 -- a 31 that begins a tail leaves nothing open
@@ -266,15 +263,15 @@ sound_lone_31 s j k v past c done rest at byte is scene f clear unplaced acc =
     let most = surely c.view.array_page.page v.lun.cached.page.hi 2 g.pages (f.lun.cached base two.1) (not-false _ three.1) in
     let next : ltb (c.view.array_page.page + 1) g.pages ≡ true = grind (arith, nat_tests, most) in
     let effect : cycle_effect g c.facts (shown_alone c) (CommandCycle ReadCacheSequential) j.lun.lun ≡ CacheReadContinued None = rw (closed_unwanted c.facts shut, drive.0, drive.1) refl in
-    let leaves : command_leaves g v ReadCacheSequential ≡ cache_read (record { 0 = 2 }) (next_cached v.lun.cached) data_shown v = leaves_lone g v unplaced in
+    let leaves : command_leaves g v ReadCacheSequential ≡ cache_read (record { 0 = 2 }) (next_cached v.lun.cached) v.lun.array data_shown v = leaves_lone g v unplaced in
     command_sound s j k v past c done rest at byte ReadCacheSequential is scene f clear (inl (record { closed = shut; declared = not-false g.cache dec.fit; sole = drive.0; passes = rw (ready, read, f.lun.held two.1, next) refl })) (ap (λ (x : State). x.registers) leaves)
     (subst (λ (x : State). TailFits g j x.target (now_of j done) (facts_after (CommandCycle ReadCacheSequential) c.facts)) (sym leaves)
     (closed_fits g j None None data_shown (now_of j done) _ (shut_behind c.facts (closed_unwanted c.facts shut))))
     (subst (λ (x : State). ShowsFit x.target.shows (scene_behind g j.lun.lun (CommandCycle ReadCacheSequential) c)) (sym leaves)
     (or_left c.sole (not (ltb 1 g.luns)) drive.0, ap (λ (e : Effect). latch_among (record { 0 = 2 }) (view_after e c.view).latch) effect))
     (subst (λ (x : State). LunFits g j x.lun (index_now j.base done) (view_after (cycle_effect g c.facts (shown_alone c) (CommandCycle ReadCacheSequential) j.lun.lun) c.view)) (sym leaves)
-    (subst (λ (e : Effect). LunFits g j (cache_read (record { 0 = 2 }) (next_cached v.lun.cached) data_shown v).lun (index_now j.base done) (view_after e c.view)) (sym effect)
-    (record { ready = λ e. cc; register = refl; column = record { at = 0; is = refl; below = (in_exactly 0).most; unread = λ e. refl }; queue = f.lun.queue; last = refl; cached = λ e x. below_plus c.view.array_page.page v.lun.cached.page.hi 1 1 (f.lun.cached e two.1) (omega arith); no_reads = f.lun.no_reads; held = λ e. refl })))
+    (subst (λ (e : Effect). LunFits g j (cache_read (record { 0 = 2 }) (next_cached v.lun.cached) v.lun.array data_shown v).lun (index_now j.base done) (view_after e c.view)) (sym effect)
+    (record { ready = λ e. cc; register = refl; column = record { at = 0; is = refl; below = (in_exactly 0).most; unread = λ e. refl }; queue = f.lun.queue; last = refl; cached = λ e x. below_plus c.view.array_page.page v.lun.cached.page.hi 1 1 (f.lun.cached e two.1) (omega arith); held = λ e. refl; planes = f.lun.array; array = f.lun.array })))
     acc
 
 sound_row_31 : (s : Channel) (j : Job) (k : KnownJob s j) (v : State) (past : List Item) (c : Scene) (done : List Done) (rest : List Line) (at byte : ℕ) → command byte ≡ ReadCacheSequential → IsScene s j.lun past c → Fits s.geometry j v done c true → NoReasons s.geometry j.text v (CommandWord byte) → place_wants ReadCacheSequential v.target.tail ≡ true → accepts s.geometry (bounds_of j.text) None (state_after s.geometry v (CommandWord byte)) rest ≡ true → SoundWord s j past done rest at (CommandWord byte)
@@ -290,7 +287,7 @@ sound_row_31 s j k v past c done rest at byte is scene f clear placed acc =
     let read = and_from _ _ (page_read v.lun.last c.view.closer f.lun.last free.1) (f.lun.held free.1) in
     let effect : cycle_effect g c.facts (shown_alone c) (CommandCycle ReadCacheSequential) j.lun.lun ≡ CacheReadContinued (Some (page_address g (row c.facts))) = rw (wants, names) refl in
     let page_is : (page_address g (row c.facts)).page ≡ w.address.index % g.pages = ap (λ (n : ℕ). (parts_of g n).page) row_is ∙ ap (λ (p : RowParts). p.page) (w.row refl).reads in
-    let after : State = cache_read (record { 0 = 2 }) (cached_at v.target.named) (shows_after_read g v.target.shows) v in
+    let after : State = cache_read (record { 0 = 2 }) (cached_at v.target.named) (named_plane v.target.named) (shows_after_read g v.target.shows) v in
     let leaves : command_leaves g v ReadCacheSequential ≡ after = leaves_row g v placed in
     command_sound s j k v past c done rest at byte ReadCacheSequential is scene f clear
     (inr (record { wants = wants; names = names; declared = not-false g.cache dec.fit; wide = not-false (is_wide g.optional) free.0; read = read }))
@@ -308,8 +305,9 @@ sound_row_31 s j k v past c done rest at byte is scene f clear placed acc =
       queue = f.lun.queue;
       last = refl;
       cached = λ base e. subst (λ (n : ℕ). Below n (cached_at v.target.named).page.hi) (sym page_is) (page_below g j w.address (index_now j.base done) v.target.named (w.named refl) base);
-      no_reads = f.lun.no_reads;
       held = λ e. refl;
+      planes = f.lun.array;
+      array = read_array g j (index_now j.base done) v.target.named w.address (page_address g (row c.facts)) (w.named refl) (w.row refl) (page_of_row g j c.facts w.address row_is (w.row refl)).1;
     })))
     acc
 
@@ -337,5 +335,5 @@ sound_3f s j k v past c done rest at byte is scene f clear acc =
     (closed_fits g j None None data_shown (now_of j done) _ refl)
     (drive.0, ap (λ (e : Effect). latch_among (record { 0 = 2 }) (view_after e c.view).latch) effect)
     (subst (λ (e : Effect). LunFits g j (command_leaves g v ReadCacheEnd).lun (index_now j.base done) (view_after e c.view)) (sym effect)
-    (record { ready = λ e. cc; register = refl; column = record { at = 0; is = refl; below = (in_exactly 0).most; unread = λ e. refl }; queue = f.lun.queue; last = refl; cached = λ e x. cc; no_reads = f.lun.no_reads; held = λ e. cc }))
+    (record { ready = λ e. cc; register = refl; column = record { at = 0; is = refl; below = (in_exactly 0).most; unread = λ e. refl }; queue = f.lun.queue; last = refl; cached = λ e x. cc; held = λ e. cc; planes = f.lun.array; array = f.lun.array }))
     acc

@@ -1,14 +1,14 @@
 -- Programs that are accepted, computed by the definitions; so they are safe. And some that aren't accepted.
 use Rattle.std.proofs.Common.{◌≡◌, true, false, refl, List, [], ◌∷◌, None, arith}
 use Rattle.micro_word.specs.declared.word.Word.{Word}
-use Rattle.micro_word.specs.declared.word.Word.TheVariants.{End, Command, Address, Get, Put, Wait, Yield}
+use Rattle.micro_word.specs.declared.word.Word.TheVariants.{End, Command, Address, Get, Put, Plane, Wait, Yield}
 use Rattle.onfi_cycle.specs.Command.{command}
 use Rattle.micro_program.specs.Unsafe.{one_lun}
 use Rattle.micro_program.specs.Lines.{unrolled}
 use Rattle.micro_claims.specs.State.{first_state, bounds_of}
 use Rattle.micro_claims.specs.Reasons.{reason_against, breaks_cycle_forbidden, breaks_address_unaligned, breaks_handover_in_sequence, breaks_buffer_passed, breaks_row_or_plane_outside, breaks_column_too_large, breaks_no_status, breaks_ends_too_soon, breaks_over_budget, breaks_command_not_allowed}
 use Rattle.micro_claims.specs.Accepts.{accepts, state_after}
-use Rattle.micro_claims.specs.SafePrograms.{two_luns, some_text, read_words, handing_words, program_words, column_words, checked_words, parts_words, planes_words, blocks_words, cache_words, identity_words, identities_words, features_words, lun_reset_words, resets_words, one_wide_lun, two_wide_luns, one_lun_with_cache, with_rows, SomeAreSafe}
+use Rattle.micro_claims.specs.SafePrograms.{two_luns, some_text, read_words, handing_words, program_words, column_words, checked_words, parts_words, planes_words, blocks_words, cache_words, identity_words, identities_words, features_words, lun_reset_words, resets_words, plane_read_words, selecting_words, one_wide_lun, two_wide_luns, two_wide_planes, one_lun_with_cache, with_rows, SomeAreSafe}
 use Rattle.micro_claims.proofs.AcceptedLines.{accepted_is_safe}
 
 read_is : accepts one_lun (bounds_of (some_text 528 536 read_words)) None first_state (unrolled read_words) ≡ true
@@ -87,6 +87,40 @@ resets_is : accepts one_wide_lun (bounds_of (some_text 4 12 resets_words)) None 
 unfolding command unrolled state_after reason_against breaks_cycle_forbidden breaks_address_unaligned breaks_handover_in_sequence breaks_buffer_passed breaks_row_or_plane_outside breaks_column_too_large breaks_no_status breaks_ends_too_soon breaks_over_budget breaks_command_not_allowed
 resets_is = refl
 
+plane_read_is : accepts two_wide_planes (bounds_of (some_text 8 36 plane_read_words)) None first_state (unrolled plane_read_words) ≡ true
+unfolding command unrolled state_after reason_against breaks_cycle_forbidden breaks_address_unaligned breaks_handover_in_sequence breaks_buffer_passed breaks_row_or_plane_outside breaks_column_too_large breaks_no_status breaks_ends_too_soon breaks_over_budget breaks_command_not_allowed
+plane_read_is = refl
+
+selecting_is : accepts one_wide_lun (bounds_of (some_text 4 18 selecting_words)) None first_state (unrolled selecting_words) ≡ true
+unfolding command unrolled state_after reason_against breaks_cycle_forbidden breaks_address_unaligned breaks_handover_in_sequence breaks_buffer_passed breaks_row_or_plane_outside breaks_column_too_large breaks_no_status breaks_ends_too_soon breaks_over_budget breaks_command_not_allowed
+selecting_is = refl
+
+selecting_among_others_is : accepts two_wide_luns (bounds_of (some_text 4 18 selecting_words)) None first_state (unrolled selecting_words) ≡ true
+unfolding command unrolled state_after reason_against breaks_cycle_forbidden breaks_address_unaligned breaks_handover_in_sequence breaks_buffer_passed breaks_row_or_plane_outside breaks_column_too_large breaks_no_status breaks_ends_too_soon breaks_over_budget breaks_command_not_allowed
+selecting_among_others_is = refl
+
+-- of two planes none is selected behind the 30, two reads of one plane don't go together, and a read without a 30 stays queued
+unselected : List Word
+unselected = Command 0x00 ∷ (Address 0 5 ∷ (Command 0x32 ∷ (Wait ∷ (Plane 1 ∷ (Command 0x00 ∷ (Address 0 5 ∷ (Command 0x30 ∷ (Wait ∷ (Command 0x00 ∷ (Get 4 ∷ (End 0 ∷ [])))))))))))
+
+none_selected : accepts two_wide_planes (bounds_of (some_text 4 19 unselected)) None first_state (unrolled unselected) ≡ false
+unfolding command unrolled state_after reason_against breaks_cycle_forbidden breaks_address_unaligned breaks_handover_in_sequence breaks_buffer_passed breaks_row_or_plane_outside breaks_column_too_large breaks_no_status breaks_ends_too_soon breaks_over_budget breaks_command_not_allowed unselected
+none_selected = refl
+
+twice : List Word
+twice = Command 0x00 ∷ (Address 0 5 ∷ (Command 0x32 ∷ (Wait ∷ (Command 0x00 ∷ (Address 0 5 ∷ (Command 0x30 ∷ (Wait ∷ (End 0 ∷ []))))))))
+
+one_plane_twice : accepts two_wide_planes (bounds_of (some_text 0 14 twice)) None first_state (unrolled twice) ≡ false
+unfolding command unrolled state_after reason_against breaks_cycle_forbidden breaks_address_unaligned breaks_handover_in_sequence breaks_buffer_passed breaks_row_or_plane_outside breaks_column_too_large breaks_no_status breaks_ends_too_soon breaks_over_budget breaks_command_not_allowed twice
+one_plane_twice = refl
+
+waiting : List Word
+waiting = Command 0x00 ∷ (Address 0 5 ∷ (Command 0x32 ∷ (Wait ∷ (End 0 ∷ []))))
+
+still_queued : accepts two_wide_planes (bounds_of (some_text 0 7 waiting)) None first_state (unrolled waiting) ≡ false
+unfolding command unrolled state_after reason_against breaks_cycle_forbidden breaks_address_unaligned breaks_handover_in_sequence breaks_buffer_passed breaks_row_or_plane_outside breaks_column_too_large breaks_no_status breaks_ends_too_soon breaks_over_budget breaks_command_not_allowed waiting
+still_queued = refl
+
 -- the base profile has none of it, and a fifth byte of a feature is too many
 features_of_base : accepts one_lun (bounds_of (some_text 8 13 features_words)) None first_state (unrolled features_words) ≡ false
 unfolding command unrolled state_after reason_against breaks_cycle_forbidden breaks_address_unaligned breaks_handover_in_sequence breaks_buffer_passed breaks_row_or_plane_outside breaks_column_too_large breaks_no_status breaks_ends_too_soon breaks_over_budget breaks_command_not_allowed
@@ -141,4 +175,7 @@ some_are_safe =
       lun_reset = accepted_is_safe (some_text 0 9 lun_reset_words) one_wide_lun (omega arith) lun_reset_is;
       lun_reset_among_others = accepted_is_safe (some_text 0 9 lun_reset_words) two_wide_luns (omega arith) lun_reset_among_others_is;
       resets = accepted_is_safe (some_text 4 12 resets_words) one_wide_lun (omega arith) resets_is;
+      plane_read = accepted_is_safe (some_text 8 36 plane_read_words) two_wide_planes (omega arith) plane_read_is;
+      selecting = accepted_is_safe (some_text 4 18 selecting_words) one_wide_lun (omega arith) selecting_is;
+      selecting_among_others = accepted_is_safe (some_text 4 18 selecting_words) two_wide_luns (omega arith) selecting_among_others_is;
     }

@@ -1,16 +1,17 @@
 -- An address word is sound.
-use Rattle.std.proofs.Common.{◌≡◌, ℕ, zero, suc, ◌+◌, ◌-◌, ◌*◌, ◌/◌, ◌%◌, ◌≤◌, ◌<◌, ◌==◌, Bool, true, false, ◌&&◌, ◌||◌, cond, not, ltb, nat_le, List, [], ◌∷◌, Option, Some, None, refl, sym, ap, ◌∙◌, subst, arith, eq-eqb, eqb-true, take, drop}
+use Rattle.std.specs.List.{list_any}
+use Rattle.std.proofs.Common.{◌≡◌, ℕ, zero, suc, ◌+◌, ◌-◌, ◌*◌, ◌/◌, ◌%◌, ◌^◌, ◌≤◌, ◌<◌, ◌==◌, Bool, true, false, ◌&&◌, ◌||◌, cond, not, ltb, nat_le, List, [], ◌∷◌, Option, Some, None, refl, sym, ap, ◌∙◌, subst, arith, eq-eqb, eqb-true, take, drop}
 use Rattle.std.proofs.lemmas.Bool.Decides.{nat_tests}
 use Rattle.std.proofs.lemmas.Nat.{div-mul-add, mod-mul-add}
 use Rattle.std.proofs.lemmas.Bool.{not-false, or_from, and_from, or_parts}
 use Rattle.onfi_cycle.proofs.Booleans.{and_rest}
 use Rattle.nand_geometry.specs.declared.parts.Parts.{Parts}
 use Rattle.nand_geometry.specs.declared.row_parts.RowParts.{RowParts}
-use Rattle.nand_geometry.specs.Optional.{is_wide, has_free_blocks}
+use Rattle.nand_geometry.specs.Optional.{is_wide, has_plane_reads, has_free_blocks}
 use Rattle.nand_geometry.specs.Limits.{InLimits, planes, page_len}
 use Rattle.nand_geometry.specs.Row.{row_of, row_bytes_of}
 use Rattle.onfi_cycle.specs.declared.command.Command.{Command}
-use Rattle.onfi_cycle.specs.declared.command.Command.TheVariants.{Read, ReadCacheSequential, ChangeReadColumn, BlockErase, PageProgram, ReadId, ReadParameterPage, ReadUniqueId, GetFeatures, SetFeatures, ResetLun}
+use Rattle.onfi_cycle.specs.declared.command.Command.TheVariants.{Read, ChangeReadColumn, ChangeReadColumnEnhanced, BlockErase, PageProgram, ReadId, ReadParameterPage, ReadUniqueId, GetFeatures, SetFeatures, ResetLun}
 use Rattle.onfi_cycle.specs.declared.data_phase.DataPhase.TheVariants.{Inputs, FirstColumn}
 use Rattle.onfi_cycle.specs.declared.item.Item.{Item}
 use Rattle.onfi_cycle.specs.declared.queued.Queued.{Queued}
@@ -25,14 +26,16 @@ use Rattle.onfi_cycle.specs.LunView.{LunView}
 use Rattle.onfi_cycle.specs.Command.{at_last_row, addresses_the_array, is_change_read_column, reads_identity}
 use Rattle.onfi_cycle.specs.Sequence.{opened, facts_after, column_with, input_column}
 use Rattle.onfi_cycle.specs.Effect.{page_address}
-use Rattle.onfi_cycle.specs.Lun.{is_cache_read}
-use Rattle.onfi_cycle.specs.Rules.{planes_clash, queued_clashes, some_queued_clashes, ends_row, second_of_page, second_column, refused_by, register_len, excludes_cache}
+use Rattle.onfi_cycle.specs.Lun.{is_queued_read}
+use Rattle.onfi_cycle.specs.Rules.{planes_clash, queued_clashes, some_queued_clashes, read_clashes, some_read_clashes, has_some, holds_plane_of, ends_row, second_of_page, second_column, refused_by, register_len, excludes_cache}
 use Rattle.onfi_cycle.specs.Channel.{Channel}
 use Rattle.micro_claims.specs.Spans.{bound_plus, is_at_most, copied}
-use Rattle.micro_claims.specs.Planes.{Planes, has_plane, share_a_plane}
+use Rattle.micro_claims.specs.Planes.{Planes, has_plane, share_a_plane, are_planes_within}
+use Rattle.micro_claims.proofs.Sets.{has_more}
+use Rattle.micro_claims.proofs.HeldPlanes.{plane_is, none_queued}
 use Rattle.micro_claims.proofs.PlaneSets.{none_common}
-use Rattle.micro_claims.specs.State.{Drift, NamedRow, Shown, Held, State, LastCloser, Place, Closed, After, InData, InColumn, InFeatures, QueuedRows, NoRows, SomeRows, AnyRows, bounds_of, Unknown, may_be_31}
-use Rattle.micro_claims.specs.Against.{is_read, is_erase, same_test, drives, least_length, takes_identity_at, address_out_of_place, begins_elsewhere, column_past, queue_refuses, row_refused, has_second_column, column_limit, is_inside_address}
+use Rattle.micro_claims.specs.State.{Drift, NamedRow, Shown, Held, State, Place, Closed, After, InData, InColumn, InFeatures, QueuedRows, NoRows, SomeRows, SomeReads, AnyRows, bounds_of, Unknown, may_be_31}
+use Rattle.micro_claims.specs.Against.{may_be_queued, plane_refused, is_read, is_erase, same_test, drives, least_length, takes_identity_at, address_out_of_place, begins_elsewhere, column_past, queue_refuses, row_refused, has_second_column, column_limit, is_inside_address}
 use Rattle.micro_claims.specs.Reasons.{breaks_cycle_forbidden, breaks_address_unaligned, breaks_row_or_plane_outside, breaks_column_too_large}
 use Rattle.micro_claims.specs.Leaves.{paid, with_registers, with_target, address_leads_to, target_after_addresses, name_now, address_leaves_at, after_few, column_leads_to}
 use Rattle.micro_claims.specs.Accepts.{state_after, accepts}
@@ -42,13 +45,13 @@ use Rattle.micro_program.specs.Moves.{gives, and_then}
 use Rattle.micro_word.specs.declared.word.Word.TheVariants.{Address as AddressWord}
 use Rattle.micro_program.proofs.Scenes.{Scene, IsScene, AddressAllowed, scene_behind}
 use Rattle.micro_program.proofs.SceneMoves.{MovesAllowed}
-use Rattle.micro_claims.proofs.Fits.{holds_address, is_of_kind, page_of, RowFits, AllFit, ColumnBegun, Fits, RegisterFits, Below, RegistersFit, Address, all_bytes, bytes_of, opener_facts, facts_behind, InProgram, Opened, PlaceIs, has_column, has_row, now_of, IsNow, ColumnFits, NameFits, RowIs, TailFits, ShowsFit, RowsFit, closer_among, LunFits}
+use Rattle.micro_claims.proofs.Fits.{holds_address, is_of_kind, page_of, RowFits, AllFit, ColumnBegun, Fits, RegisterFits, Below, RegistersFit, Address, all_bytes, bytes_of, opener_facts, facts_behind, InProgram, Opened, PlaceIs, has_column, has_row, now_of, IsNow, ColumnFits, NameFits, RowIs, TailFits, ShowsFit, RowsFit, LunFits}
 use Rattle.micro_claims.proofs.Numbers.{surely}
 use Rattle.micro_claims.proofs.Commands.{shows_kept, not_caching}
 use Rattle.micro_claims.proofs.Tails.{no_place}
 use Rattle.micro_claims.proofs.Words.{least_register}
 use Rattle.micro_claims.proofs.Sounding.{KnownJob, NoReasons, unmoved, SoundWord, plain_sound}
-use Rattle.micro_claims.proofs.AddressSteps.{Steps, many, carried, RowGoes, scene_at, read_steps, program_steps, erase_steps, column_steps, never}
+use Rattle.micro_claims.proofs.AddressSteps.{Steps, many, carried, RowGoes, scene_at, read_steps, enhanced_steps, program_steps, erase_steps, column_steps, never}
 use Rattle.micro_claims.proofs.Addressing.{PlaceClear, place_clear, address_now, address_bytes, AddressNow, of_now, same_facts, same_bytes, carried_is}
 use Rattle.micro_claims.proofs.NamesNow.{named_now}
 
@@ -86,22 +89,43 @@ kind_goes g true p (Program q) kind clear = cc
 kind_goes g false p (Program q) kind clear = clear
 kind_goes g e p (QueuedRead q) kind clear = cc
 
+-- a row goes together with one of a queue, of another plane
+row_clear : (g : Parts) (now : ℕ) (kind : Queued → Bool) (queued : Planes) (d : Drift) (p : PageAddress) (plane : ℕ) (regs : Planes) (q : Queued) → RowFits g now kind queued d q → d.ahead ≡ d.behind → plane < planes g → has_plane plane regs ≡ true → share_a_plane regs queued ≡ false → p.page ≡ now % g.pages → p.block ≡ now / g.pages * planes g + plane → planes_clash g p (page_of q) ≡ false
+row_clear g now kind queued d p plane regs q f same low among apart page block =
+    no_clash g p (page_of q) now plane f.plane low f.low (none_common regs queued plane f.plane apart among f.among) page block (f.page ∙ ap (λ (n : ℕ). n % g.pages) (sym index_is)) (f.block ∙ ap (λ (n : ℕ). n / g.pages * planes g + f.plane) (sym index_is))
+  where
+    index_is : now ≡ f.index
+    index_is = let e = f.drift in omega (arith, e, same)
+
 -- a row that goes together with each of a queue
-none_clashes : (g : Parts) (now : ℕ) (erase : Bool) (queued : Planes) (d : Drift) (p : PageAddress) (plane : ℕ) (regs : Planes) (qs : List Queued) → AllFit (RowFits g now erase queued d) qs → d.ahead ≡ d.behind → plane < planes g → has_plane plane regs ≡ true → share_a_plane regs queued ≡ false → p.page ≡ now % g.pages → p.block ≡ now / g.pages * planes g + plane → some_queued_clashes g erase p qs ≡ false
+none_clashes : (g : Parts) (now : ℕ) (erase : Bool) (queued : Planes) (d : Drift) (p : PageAddress) (plane : ℕ) (regs : Planes) (qs : List Queued) → AllFit (RowFits g now (is_of_kind erase) queued d) qs → d.ahead ≡ d.behind → plane < planes g → has_plane plane regs ≡ true → share_a_plane regs queued ≡ false → p.page ≡ now % g.pages → p.block ≡ now / g.pages * planes g + plane → some_queued_clashes g erase p qs ≡ false
 none_clashes g now erase queued d p plane regs [] f same low among apart page block = refl
 none_clashes g now erase queued d p plane regs (q ∷ qs) f same low among apart page block =
-    or_from (queued_clashes g erase p q) (some_queued_clashes g erase p qs) (kind_goes g erase p q f.0.kind clear) (none_clashes g now erase queued d p plane regs qs f.1 same low among apart page block)
-  where
-    index_is : now ≡ f.0.index
-    index_is = let e = f.0.drift in omega (arith, e, same)
+    or_from (queued_clashes g erase p q) (some_queued_clashes g erase p qs) (kind_goes g erase p q f.0.kind (row_clear g now (is_of_kind erase) queued d p plane regs q f.0 same low among apart page block)) (none_clashes g now erase queued d p plane regs qs f.1 same low among apart page block)
 
-    clear : planes_clash g p (page_of q) ≡ false
-    clear = no_clash g p (page_of q) now plane f.0.plane low f.0.low (none_common regs queued plane f.0.plane apart among f.0.among) page block (f.0.page ∙ ap (λ (n : ℕ). n % g.pages) (sym index_is)) (f.0.block ∙ ap (λ (n : ℕ). n / g.pages * planes g + f.0.plane) (sym index_is))
+-- the same of a read
+read_goes : (g : Parts) (p : PageAddress) (q : Queued) → has_plane_reads g.optional ≡ true → is_queued_read q ≡ true → planes_clash g p (page_of q) ≡ false → read_clashes g p q ≡ false
+read_goes g p (Erase q) declared kind clear = cc
+read_goes g p (Program q) declared kind clear = cc
+read_goes g p (QueuedRead q) declared kind clear = rw declared clear
+
+none_read_clashes : (g : Parts) (now : ℕ) (queued : Planes) (d : Drift) (p : PageAddress) (plane : ℕ) (regs : Planes) (qs : List Queued) → has_plane_reads g.optional ≡ true → AllFit (RowFits g now is_queued_read queued d) qs → d.ahead ≡ d.behind → plane < planes g → has_plane plane regs ≡ true → share_a_plane regs queued ≡ false → p.page ≡ now % g.pages → p.block ≡ now / g.pages * planes g + plane → some_read_clashes g p qs ≡ false
+none_read_clashes g now queued d p plane regs [] declared f same low among apart page block = refl
+none_read_clashes g now queued d p plane regs (q ∷ qs) declared f same low among apart page block =
+    or_from (read_clashes g p q) (some_read_clashes g p qs) (read_goes g p q declared f.0.kind (row_clear g now is_queued_read queued d p plane regs q f.0 same low among apart page block)) (none_read_clashes g now queued d p plane regs qs declared f.1 same low among apart page block)
 
 -- the queue of the claim goes together with the row of the registers
 queue_goes : (g : Parts) (now : ℕ) (q : QueuedRows) (queue : List Queued) (regs : Planes) (o : Command) (p : PageAddress) (plane : ℕ) → RowsFit g now q queue → queue_refuses q regs o ≡ false → plane < planes g → has_plane plane regs ≡ true → p.page ≡ now % g.pages → p.block ≡ now / g.pages * planes g + plane → refused_by g o p queue ≡ false
 queue_goes g now NoRows queue regs o p plane f clear low among page block = none_refuses g o p queue f
 queue_goes g now AnyRows queue regs o p plane f clear low among page block = cc
+queue_goes g now (SomeReads queued surely d) queue regs o p plane f clear low among page block =
+    let two = or_parts (not (is_read o) || not (d.ahead == d.behind)) (share_a_plane regs queued) clear in
+    let one = or_parts (not (is_read o)) (not (d.ahead == d.behind)) two.0 in
+    reads_go o (not-false (is_read o) one.0) (none_read_clashes g now queued d p plane regs queue f.declared f.all (eqb-true d.ahead d.behind (not-false _ one.1)) low among two.1 page block)
+  where
+    reads_go : (o : Command) → is_read o ≡ true → some_read_clashes g p queue ≡ false → refused_by g o p queue ≡ false
+    reads_go Read read clear = clear
+    reads_go _ read clear = cc
 queue_goes g now (SomeRows erase queued d) queue regs o p plane f clear low among page block =
     let three = or_parts (is_read o || not (same_test erase (is_erase o)) || not (d.ahead == d.behind)) (share_a_plane regs queued) clear in
     let two = or_parts (is_read o || not (same_test erase (is_erase o))) (not (d.ahead == d.behind)) three.0 in
@@ -118,8 +142,9 @@ queue_goes g now (SomeRows erase queued d) queue regs o p plane f clear low amon
 
 row_goes : (g : Parts) (j : Job) (v : State) (done : List Done) (view : LunView) (a : Address) (o : Command) (n : ℕ) → RegistersFit g j v.registers done → a.index ≡ index_now j.base done → a.plane ≡ plane_now done → LunFits g j v.lun (index_now j.base done) view → RowIs g j a → addresses_the_array o ≡ true → row_refused g v (After o n) ≡ false → RowGoes g j.lun.lun a view o
 row_goes g j v done view a o n registers index plane f row array refused =
-    let clear = and_rest (addresses_the_array o) (v.lun.busy || (excludes_cache g o && may_be_31 v.lun.last) || queue_refuses v.lun.queue v.registers.planes o) array refused in
-    let two = or_parts (v.lun.busy || (excludes_cache g o && may_be_31 v.lun.last)) (queue_refuses v.lun.queue v.registers.planes o) clear in
+    let clear = and_rest (addresses_the_array o) (v.lun.busy || (excludes_cache g o && may_be_31 v.lun.last) || queue_refuses v.lun.queue v.registers.planes o || plane_refused v o) array refused in
+    let three = or_parts (v.lun.busy || (excludes_cache g o && may_be_31 v.lun.last) || queue_refuses v.lun.queue v.registers.planes o) (plane_refused v o) clear in
+    let two = or_parts (v.lun.busy || (excludes_cache g o && may_be_31 v.lun.last)) (queue_refuses v.lun.queue v.registers.planes o) three.0 in
     let one = or_parts v.lun.busy (excludes_cache g o && may_be_31 v.lun.last) two.0 in
     record {
       inside = row.inside;
@@ -128,6 +153,18 @@ row_goes g j v done view a o n registers index plane f row array refused =
       goes = queue_goes g (index_now j.base done) v.lun.queue view.queue v.registers.planes o (page_address g (row_of a.r1 a.r2 a.r3)) a.plane f.queue two.1 row.low (ap (λ (p : ℕ). has_plane p v.registers.planes) plane ∙ registers.plane) (ap (λ (p : RowParts). p.page) row.reads ∙ ap (λ (i : ℕ). i % g.pages) index) (ap (λ (p : RowParts). p.block) row.reads ∙ ap (λ (i : ℕ). i / g.pages * planes g + a.plane) index);
       no_cache = λ e. not_caching v.lun.last view.closer f.last (and_rest (excludes_cache g o) (may_be_31 v.lun.last) e one.1);
     }
+
+-- the row of 06h is of a plane that holds a page, and nothing is queued
+plane_held : (g : Parts) (j : Job) (v : State) (done : List Done) (view : LunView) (a : Address) (n : ℕ) → RegistersFit g j v.registers done → a.index ≡ index_now j.base done → a.plane ≡ plane_now done → LunFits g j v.lun (index_now j.base done) view → RowIs g j a → row_refused g v (After ChangeReadColumnEnhanced n) ≡ false → holds_plane_of g (page_address g (row_of a.r1 a.r2 a.r3)) view ≡ true
+plane_held g j v done view a n registers index plane f row refused =
+    let three = or_parts (v.lun.busy || false || queue_refuses v.lun.queue v.registers.planes ChangeReadColumnEnhanced) (plane_refused v ChangeReadColumnEnhanced) refused in
+    let both = or_parts (may_be_queued v.lun.queue) (not (are_planes_within v.registers.planes v.lun.held)) three.1 in
+    let within = not-false (are_planes_within v.registers.planes v.lun.held) both.1 in
+    let lies : (page_address g (row_of a.r1 a.r2 a.r3)).block % planes g ≡ a.plane = plane_is g _ (a.index / g.pages) a.plane (ap (λ (p : RowParts). p.block) row.reads) row.low in
+    let among : has_plane a.plane v.registers.planes ≡ true = ap (λ (p : ℕ). has_plane p v.registers.planes) plane ∙ registers.plane in
+    let held = f.planes a.plane (has_more (2 ^ a.plane) v.registers.planes.0 v.lun.held.0 within among) in
+    and_from (not (has_some view.queue)) _ (ap not (none_queued g (index_now j.base done) v.lun.queue view.queue both.0 f.queue))
+    (subst (λ (m : ℕ). list_any (λ q. q.block % planes g == m) view.held ≡ true) (sym lies) held)
 
 -- 2. what an address word makes of a place
 
@@ -206,6 +243,15 @@ program_column a (suc (suc (suc (suc zero)))) low high = refl
 program_column a (suc (suc (suc (suc (suc zero))))) low high = refl
 program_column a (suc (suc (suc (suc (suc (suc n)))))) low high = absurd (omega (arith, high))
 
+pub enhanced_column : (a : Address) (m : ℕ) → 2 ≤ m → m ≤ 5 → input_column (facts_behind (opener_facts ChangeReadColumnEnhanced) (take m (all_bytes a))) ≡ carried a + 0
+enhanced_column a zero low high = absurd (omega (arith, low))
+enhanced_column a (suc zero) low high = absurd (omega (arith, low))
+enhanced_column a (suc (suc zero)) low high = refl
+enhanced_column a (suc (suc (suc zero))) low high = refl
+enhanced_column a (suc (suc (suc (suc zero)))) low high = refl
+enhanced_column a (suc (suc (suc (suc (suc zero))))) low high = refl
+enhanced_column a (suc (suc (suc (suc (suc (suc n)))))) low high = absurd (omega (arith, high))
+
 -- what is known of the job, the claim and the word
 pub record AtWord (s : Channel) (j : Job) (v : State) (c : Scene) (done : List Done) (from count : ℕ) : Type 0 where
   pub limits : InLimits s.geometry
@@ -268,6 +314,65 @@ goes_read s j v c done from count n old w clear here is now column =
         inside x = and_from (ltb 0 n) (ltb n 5) x (let y : (5 - n == 0) ≡ false = clear.left in grind (arith, nat_tests, y))
 
     scene_is : c ≡ scene_at Read a c.view c.sole n
+    scene_is = λ i. record { facts = facts_are i; view = c.view; sole = c.sole }
+
+goes_enhanced : (s : Channel) (j : Job) (v : State) (c : Scene) (done : List Done) (from count n : ℕ) (old : Address) (w : AtWord s j v c done from count) → PlaceClear s.geometry v from count (After ChangeReadColumnEnhanced n) → v.target.tail ≡ After ChangeReadColumnEnhanced n → Opened ChangeReadColumnEnhanced n old c.facts → (is_inside_address (After ChangeReadColumnEnhanced n) ≡ true → IsNow s.geometry j old (now_of j done) (After ChangeReadColumnEnhanced n)) → (has_column (After ChangeReadColumnEnhanced n) ≡ true → ColumnFits (input_column c.facts) v.target.column) → Goes s j v c done from count (take count (drop from (all_bytes (of_now s.geometry j done from count w.address))))
+goes_enhanced s j v c done from count n old w clear here is now column =
+    record {
+      facts = facts_behind (opener_facts ChangeReadColumnEnhanced) (take (n + count) (all_bytes a));
+      steps =
+          subst (λ (m : ℕ). Steps g j.lun.lun (take count (drop m (all_bytes a))) c (scene_at ChangeReadColumnEnhanced a c.view c.sole (n + count))) (sym begins)
+          (subst (λ (x : Scene). Steps g j.lun.lun (take count (drop n (all_bytes a))) x (scene_at ChangeReadColumnEnhanced a c.view c.sole (n + count))) (sym scene_is)
+          (many g j.lun.lun (scene_at ChangeReadColumnEnhanced a c.view c.sole) (all_bytes a) count n few
+          (λ i low high. enhanced_steps g j.lun.lun a c.view c.sole i (omega (arith, high, few))
+          (λ e. (carried_now (column_now done) (page_len g) (page_small g w.limits) (column_small g j v done from count (After ChangeReadColumnEnhanced n) (page_len g) (page_small g w.limits) refl w.registers clear (second_of from count n begins (omega (arith, low, e)) (omega (arith, high, e))))).1)
+          (λ e.
+          let row = w.address.row (let x : ltb 2 (from + count) ≡ true = grind (arith, nat_tests, high, begins, e) in x) in
+          let refused = clear.row (let x : nat_le 5 (from + count) ≡ true = grind (arith, nat_tests, high, begins, e) in x) in
+          (row_goes g j v done c.view a ChangeReadColumnEnhanced n w.registers refl refl w.lun row refl refused, plane_held g j v done c.view a n w.registers refl refl w.lun row refused)))));
+      tail = record {
+        place = After ChangeReadColumnEnhanced (n + count);
+        here = ap (address_leads_to count) here ∙ few_is ChangeReadColumnEnhanced (n + count) (omega (arith, few));
+        address = a;
+        is = record { place = grind (arith, nat_tests, few); facts = refl };
+        now = λ e. record { column = refl; bytes = λ x. w.address.bytes (let y : ltb 2 (from + count) ≡ true = grind (arith, nat_tests, begins, x) in y) };
+        column = λ e.
+            let both : 2 ≤ n + count = grind (arith, nat_tests, e) in
+            subst (λ (m : ℕ). ColumnFits m (target_after_addresses g v from count).column) (sym (enhanced_column a (n + count) both few))
+            (column_led g j v done from count n (carried a + 0) begins both w.registers
+            (λ x. let r : carried a ≡ column_now done = (carried_now (column_now done) (page_len g) (page_small g w.limits) (column_small g j v done from count (After ChangeReadColumnEnhanced n) (page_len g) (page_small g w.limits) refl w.registers clear x)).0 in omega (arith, r))
+            (λ x. subst (λ (m : ℕ). ColumnFits m v.target.column) (ap input_column facts_are ∙ enhanced_column a n x (omega (arith, few))) (column (let y : nat_le 2 n ≡ true = grind (arith, nat_tests, x) in y))));
+        row = λ e. w.address.row (let y : ltb 2 (from + count) ≡ true = grind (arith, nat_tests, begins, e) in y);
+        named = λ e. name_led g j v done from count w.address pages w.registers (let y : nat_le 5 (from + count) ≡ true = grind (arith, nat_tests, begins, e) in y);
+        single = λ e. cc;
+      };
+    }
+  where
+    g : Parts
+    g = s.geometry
+
+    a : Address
+    a = of_now s.geometry j done from count w.address
+
+    pages : 0 < s.geometry.pages
+    pages = let x = w.limits.pages_least in omega (arith, x)
+
+    begins : from ≡ n
+    begins = let x = clear.begins in omega (arith, x)
+
+    few : n + count ≤ 5
+    few = let x = clear.few in let y : (5 - n == 0) ≡ false = clear.left in let z : n < 5 = grind (arith, nat_tests, y) in omega (arith, x, z)
+
+    facts_are : c.facts ≡ facts_behind (opener_facts ChangeReadColumnEnhanced) (take n (all_bytes a))
+    facts_are =
+        facts_now s.geometry j done from count n c.facts (opener_facts ChangeReadColumnEnhanced) old w.address begins is.facts
+        (λ x. (now (inside x)).column)
+        (λ x y. (now (inside x)).bytes (let z : ltb 2 (0 + n) ≡ true = grind (arith, nat_tests, y) in z))
+      where
+        inside : ltb 0 n ≡ true → (ltb 0 n && ltb n 5) ≡ true
+        inside x = and_from (ltb 0 n) (ltb n 5) x (let y : (5 - n == 0) ≡ false = clear.left in grind (arith, nat_tests, y))
+
+    scene_is : c ≡ scene_at ChangeReadColumnEnhanced a c.view c.sole n
     scene_is = λ i. record { facts = facts_are i; view = c.view; sole = c.sole }
 
 goes_program : (s : Channel) (j : Job) (v : State) (c : Scene) (done : List Done) (from count n : ℕ) (old : Address) (w : AtWord s j v c done from count) → PlaceClear s.geometry v from count (After PageProgram n) → v.target.tail ≡ After PageProgram n → Opened PageProgram n old c.facts → (is_inside_address (After PageProgram n) ≡ true → IsNow s.geometry j old (now_of j done) (After PageProgram n)) → (has_column (After PageProgram n) ≡ true → ColumnFits (input_column c.facts) v.target.column) → Goes s j v c done from count (take count (drop from (all_bytes (of_now s.geometry j done from count w.address))))
@@ -725,6 +830,7 @@ goes s j k v c done from count f clear plainly apart w =
       where
         by : (o : Command) → v.target.tail ≡ After o n → Opened o n (f.tail refl).address c.facts → (is_inside_address (After o n) ≡ true → IsNow s.geometry j (f.tail refl).address (now_of j done) (After o n)) → (has_column (After o n) ≡ true → ColumnFits (input_column c.facts) v.target.column) → PlaceClear s.geometry v from count (After o n) → takes_identity_at (After o n) ≡ false → resets_lun (After o n) ≡ false → Goes s j v c done from count (take count (drop from (all_bytes (of_now s.geometry j done from count w.address))))
         by Read here is now column clear idn apart = goes_read s j v c done from count n (f.tail refl).address w clear here is now column
+        by ChangeReadColumnEnhanced here is now column clear idn apart = goes_enhanced s j v c done from count n (f.tail refl).address w clear here is now column
         by PageProgram here is now column clear idn apart = goes_program s j v c done from count n (f.tail refl).address w clear here is now column
         by BlockErase here is now column clear idn apart = goes_erase s j v c done from count n (f.tail refl).address w clear here is now
         by ChangeReadColumn here is now column clear idn apart = goes_column s j v c done from count n (f.tail refl).address w clear here is now

@@ -1,7 +1,7 @@
 -- Places of the tail: what the facts of the tail are there.
-use Rattle.std.proofs.Common.{◌≡◌, ℕ, zero, suc, ◌==◌, Bool, true, false, ◌&&◌, ◌||◌, ltb, nat_le, Option, None, refl, sym, ap, ◌∙◌, subst, arith, eqb-true, take}
+use Rattle.std.proofs.Common.{◌≡◌, ℕ, zero, suc, ◌==◌, Bool, true, false, ◌&&◌, ◌||◌, not, ltb, nat_le, Option, None, refl, sym, ap, ◌∙◌, subst, arith, eqb-true, take}
 use Rattle.std.proofs.lemmas.Bool.Decides.{nat_tests}
-use Rattle.std.proofs.lemmas.Bool.{and_parts}
+use Rattle.std.proofs.lemmas.Bool.{and_parts, and_from}
 use Rattle.nand_geometry.specs.declared.parts.Parts.{Parts}
 use Rattle.onfi_cycle.specs.declared.command.Command.{Command}
 use Rattle.onfi_cycle.specs.declared.command.Command.TheVariants.{Read, ReadConfirm, ChangeReadColumn, ChangeReadColumnEnhanced, ChangeReadColumnConfirm, BlockErase, BlockEraseConfirm, BlockErasePlane, PageProgram, ReadId, ReadParameterPage, ReadUniqueId, GetFeatures, SetFeatures, ResetLun}
@@ -13,7 +13,7 @@ use Rattle.onfi_cycle.specs.Sequence.{facts_after, is_open, is_proper_beginning,
 use Rattle.micro_program.specs.Program.{Job}
 use Rattle.micro_claims.specs.Spans.{Span}
 use Rattle.micro_claims.specs.State.{KnownTarget, Place, Closed, After, InData, InColumn, InFeatures, Unknown, Shown, NamedRow}
-use Rattle.micro_claims.specs.Against.{is_open_place, place_wants, is_data_command, is_inside_address}
+use Rattle.micro_claims.specs.Against.{is_open_place, place_wants, selects_plane_at, is_data_command, is_inside_address}
 use Rattle.micro_claims.proofs.Fits.{holds_address, Address, bytes_of, opener_facts, facts_behind, is_place, InProgram, Opened, PlaceIs, has_column, has_row, Now, ColumnFits, NameFits, RowIs, TailFits}
 
 -- 1. what is tested of the place that is claimed is so of the place
@@ -53,6 +53,17 @@ open_behind ChangeReadColumn (suc (suc (suc n))) a t h proper = let most = h.pla
   where
     too_many : (n : ℕ) → nat_le (suc (suc (suc n))) 2 ≡ true → ⊥
     too_many n h = grind (arith, nat_tests)
+open_behind ChangeReadColumnEnhanced n a t h proper = absurd (few n h.place proper)
+  where
+    few : (n : ℕ) → nat_le n 5 ≡ true → (ltb n 5 || (n == 5 && true)) ≡ false → ⊥
+    few n h k = at (ltb n 5) refl k
+      where
+        at : (b : Bool) → ltb n 5 ≡ b → (b || (n == 5 && true)) ≡ false → ⊥
+        at true e k = cc
+        at false e k =
+            let five : (n == 5) ≡ true = grind (arith, nat_tests, h, e) in
+            let clash : true ≡ false = sym (ap (λ (b : Bool). b && true) five) ∙ k in
+            cc
 open_behind BlockErase zero a t h proper = cc
 open_behind BlockErase (suc zero) a t h proper = cc
 open_behind BlockErase (suc (suc zero)) a t h proper = cc
@@ -112,6 +123,7 @@ closed_fits g j column named shows n t h =
 pub opener_fits : (g : Parts) (j : Job) (shows : Option Shown) (n : Now) (t : TailFacts) (o : Command) → is_place o 0 ≡ true → TailFits g j (record { tail = After o 0; column = None; named = None; shows = shows }) n (facts_after (CommandCycle o) t)
 opener_fits g j shows n t Read h = record { place = After Read 0; here = refl; address = no_address; is = record { place = refl; facts = refl }; now = λ e. cc; column = λ e. cc; row = λ e. cc; named = λ e. cc; single = λ e. cc }
 opener_fits g j shows n t ChangeReadColumn h = record { place = After ChangeReadColumn 0; here = refl; address = no_address; is = record { place = refl; facts = refl }; now = λ e. cc; column = λ e. cc; row = λ e. cc; named = λ e. cc; single = λ e. cc }
+opener_fits g j shows n t ChangeReadColumnEnhanced h = record { place = After ChangeReadColumnEnhanced 0; here = refl; address = no_address; is = record { place = refl; facts = refl }; now = λ e. cc; column = λ e. cc; row = λ e. cc; named = λ e. cc; single = λ e. cc }
 opener_fits g j shows n t BlockErase h = record { place = After BlockErase 0; here = refl; address = no_address; is = record { place = refl; facts = refl }; now = λ e. cc; column = λ e. cc; row = λ e. cc; named = λ e. cc; single = λ e. cc }
 opener_fits g j shows n t PageProgram h = record { place = After PageProgram 0; here = refl; address = no_address; is = record { place = refl; facts = refl }; now = λ e. cc; column = λ e. cc; row = λ e. cc; named = λ e. cc; single = λ e. cc }
 opener_fits g j shows n t ReadId h = record { place = After ReadId 0; here = refl; address = no_address; is = record { place = refl; facts = refl }; now = λ e. cc; column = λ e. cc; row = λ e. cc; named = λ e. cc; single = λ e. cc }
@@ -154,37 +166,44 @@ only_erase_plane ChangeReadColumn n place h = cc
 only_erase_plane ChangeReadColumnEnhanced n place h = cc
 only_erase_plane _ n place h = cc
 
-pub only_column : (o : Command) (n : ℕ) → is_place o n ≡ true → closes o ChangeReadColumnConfirm ≡ true → o ≡ ChangeReadColumn
+pub only_column : (o : Command) (n : ℕ) → is_place o n ≡ true → (not (selects_plane_at (After o n)) && closes o ChangeReadColumnConfirm) ≡ true → o ≡ ChangeReadColumn
 only_column ChangeReadColumn n place h = refl
 only_column Read n place h = cc
 only_column BlockErase n place h = cc
 only_column ChangeReadColumnEnhanced n place h = cc
 only_column _ n place h = cc
 
+pub only_plane : (o : Command) (n : ℕ) → is_place o n ≡ true → (selects_plane_at (After o n) && closes o ChangeReadColumnConfirm) ≡ true → o ≡ ChangeReadColumnEnhanced
+only_plane ChangeReadColumnEnhanced n place h = refl
+only_plane Read n place h = cc
+only_plane ChangeReadColumn n place h = cc
+only_plane BlockErase n place h = cc
+only_plane _ n place h = cc
+
 -- what a closer ends that is wanted after so many addresses: all addresses of its opener
 pub record ClosedBy (p : Command) (m : ℕ) (o : Command) (a : Address) : Type 0 where
   pub place : After p m ≡ After o (address_cycles o)
   pub facts : facts_behind (opener_facts p) (take m (bytes_of p a)) ≡ facts_behind (opener_facts o) (take (address_cycles o) (bytes_of o a))
 
-pub closed_by : (c o p : Command) (m : ℕ) (a : Address) → ((q : Command) (n : ℕ) → is_place q n ≡ true → closes q c ≡ true → q ≡ o) → is_place p m ≡ true → place_wants c (After p m) ≡ true → ClosedBy p m o a
-closed_by c o p m a only place w =
+pub closed_by : (c o p : Command) (m : ℕ) (a : Address) (test : Place → Bool) → ((q : Command) (n : ℕ) → is_place q n ≡ true → (test (After q n) && closes q c) ≡ true → q ≡ o) → is_place p m ≡ true → test (After p m) ≡ true → place_wants c (After p m) ≡ true → ClosedBy p m o a
+closed_by c o p m a test only place tested w =
     let both = and_parts (closes p c) (m == address_cycles p) w in
-    let same : p ≡ o = only p m place both.0 in
+    let same : p ≡ o = only p m place (and_from (test (After p m)) (closes p c) tested both.0) in
     let number : m ≡ address_cycles o = eqb-true m (address_cycles p) both.1 ∙ ap address_cycles same in
     record { place = λ i. After (same i) (number i); facts = λ i. facts_behind (opener_facts (same i)) (take (number i) (bytes_of (same i) a)) }
 
--- behind a whole address, where the tail wants this closer
-pub whole : (g : Parts) (j : Job) (v : KnownTarget) (n : Now) (t : TailFacts) (c o : Command) → ((p : Command) (m : ℕ) → is_place p m ≡ true → closes p c ≡ true → p ≡ o) → is_data_command c ≡ false → TailFits g j v n t → place_wants c v.tail ≡ true → Whole g j v n o t
-whole g j v n t c o only plain f h = at f.place f.is f.column f.row f.named (every_place (place_wants c) v.tail f.place h f.here)
+-- behind a whole address, where the tail is at a place that passes, and wants this closer
+pub whole_at : (g : Parts) (j : Job) (v : KnownTarget) (n : Now) (t : TailFacts) (c o : Command) (test : Place → Bool) → ((p : Command) (m : ℕ) → is_place p m ≡ true → (test (After p m) && closes p c) ≡ true → p ≡ o) → is_data_command c ≡ false → TailFits g j v n t → test v.tail ≡ true → place_wants c v.tail ≡ true → Whole g j v n o t
+whole_at g j v n t c o test only plain f tested h = at f.place f.is f.column f.row f.named (every_place test v.tail f.place tested f.here) (every_place (place_wants c) v.tail f.place h f.here)
   where
-    at : (p : Place) → PlaceIs p f.address t → (has_column p ≡ true → ColumnFits (input_column t) v.column) → (has_row p ≡ true → RowIs g j f.address) → (has_row p ≡ true → NameFits g j f.address n.index v.named) → place_wants c p ≡ true → Whole g j v n o t
-    at Closed is column row named w = cc
-    at InData is column row named w = cc
-    at (InColumn m) is column row named w = cc
-    at (InFeatures m) is column row named w = cc
-    at Unknown is column row named w = cc
-    at (After p m) is column row named w =
-        let by = closed_by c o p m f.address only is.place w in
+    at : (p : Place) → PlaceIs p f.address t → (has_column p ≡ true → ColumnFits (input_column t) v.column) → (has_row p ≡ true → RowIs g j f.address) → (has_row p ≡ true → NameFits g j f.address n.index v.named) → test p ≡ true → place_wants c p ≡ true → Whole g j v n o t
+    at Closed is column row named passes w = cc
+    at InData is column row named passes w = cc
+    at (InColumn m) is column row named passes w = cc
+    at (InFeatures m) is column row named passes w = cc
+    at Unknown is column row named passes w = cc
+    at (After p m) is column row named passes w =
+        let by = closed_by c o p m f.address test only is.place passes w in
         record {
           address = f.address;
           facts = is.facts ∙ by.facts;
@@ -192,6 +211,10 @@ whole g j v n t c o only plain f h = at f.place f.is f.column f.row f.named (eve
           row = λ e. row (ap has_row by.place ∙ e);
           named = λ e. named (ap has_row by.place ∙ e);
         }
+
+-- the same at any place
+pub whole : (g : Parts) (j : Job) (v : KnownTarget) (n : Now) (t : TailFacts) (c o : Command) → ((p : Command) (m : ℕ) → is_place p m ≡ true → closes p c ≡ true → p ≡ o) → is_data_command c ≡ false → TailFits g j v n t → place_wants c v.tail ≡ true → Whole g j v n o t
+whole g j v n t c o only plain f h = whole_at g j v n t c o (λ p. true) (λ p m place w. only p m place (and_parts true (closes p c) w).1) plain f refl h
 
 pub whole_read : (g : Parts) (j : Job) (v : KnownTarget) (n : Now) (t : TailFacts) → TailFits g j v n t → place_wants ReadConfirm v.tail ≡ true → Whole g j v n Read t
 whole_read g j v n t f h = whole g j v n t ReadConfirm Read only_read refl f h
@@ -202,8 +225,11 @@ whole_erase g j v n t f h = whole g j v n t BlockEraseConfirm BlockErase only_er
 pub whole_erase_plane : (g : Parts) (j : Job) (v : KnownTarget) (n : Now) (t : TailFacts) → TailFits g j v n t → place_wants BlockErasePlane v.tail ≡ true → Whole g j v n BlockErase t
 whole_erase_plane g j v n t f h = whole g j v n t BlockErasePlane BlockErase only_erase_plane refl f h
 
-pub whole_column : (g : Parts) (j : Job) (v : KnownTarget) (n : Now) (t : TailFacts) → TailFits g j v n t → place_wants ChangeReadColumnConfirm v.tail ≡ true → Whole g j v n ChangeReadColumn t
-whole_column g j v n t f h = whole g j v n t ChangeReadColumnConfirm ChangeReadColumn only_column refl f h
+pub whole_column : (g : Parts) (j : Job) (v : KnownTarget) (n : Now) (t : TailFacts) → TailFits g j v n t → not (selects_plane_at v.tail) ≡ true → place_wants ChangeReadColumnConfirm v.tail ≡ true → Whole g j v n ChangeReadColumn t
+whole_column g j v n t f plain h = whole_at g j v n t ChangeReadColumnConfirm ChangeReadColumn (λ p. not (selects_plane_at p)) only_column refl f plain h
+
+pub whole_plane : (g : Parts) (j : Job) (v : KnownTarget) (n : Now) (t : TailFacts) → TailFits g j v n t → selects_plane_at v.tail ≡ true → place_wants ChangeReadColumnConfirm v.tail ≡ true → Whole g j v n ChangeReadColumnEnhanced t
+whole_plane g j v n t f selects h = whole_at g j v n t ChangeReadColumnConfirm ChangeReadColumnEnhanced selects_plane_at only_plane refl f selects h
 
 -- in the data of a program
 pub record Programming (g : Parts) (j : Job) (v : KnownTarget) (n : Now) (t : TailFacts) : Type 0 where

@@ -13,7 +13,7 @@ use Rattle.onfi_cycle.specs.declared.tail_facts.TailFacts.{TailFacts}
 use Rattle.onfi_cycle.specs.declared.target_cycle.TargetCycle.TheVariants.{InputCycle, OutputCycle}
 use Rattle.onfi_cycle.specs.LunView.{LunView}
 use Rattle.onfi_cycle.specs.Sequence.{facts_after, extended_facts, phase_after_input, is_open, input_column, takes_features, takes_inputs}
-use Rattle.onfi_cycle.specs.Effect.{input_effect, of_target}
+use Rattle.onfi_cycle.specs.Effect.{input_effect}
 use Rattle.onfi_cycle.specs.Lun.{output_column, option_plus, view_after}
 use Rattle.onfi_cycle.specs.Rules.{register_len, is_empty}
 use Rattle.micro_program.specs.Moves.{Take, gives}

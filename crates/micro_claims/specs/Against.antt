@@ -10,8 +10,8 @@ use Rattle.onfi_cycle.specs.Command.{is_known, is_opener, is_reset, address_cycl
 use Rattle.onfi_cycle.specs.Sequence.{is_proper_beginning}
 use Rattle.onfi_cycle.specs.Rules.{is_undeclared, excludes_cache}
 use Rattle.micro_claims.specs.Spans.{bound_plus, is_at_most, only}
-use Rattle.micro_claims.specs.Planes.{share_a_plane, are_below}
-use Rattle.micro_claims.specs.State.{State, Span, Planes, Place, Closed, After, InData, InColumn, InFeatures, Unknown, Shown, Held, OutputColumn, QueuedRows, NoRows, SomeRows, AnyRows, Bounds, shows_status, shows_register, holds_page, holds_parameters, holds_identifier, holds_identity, holds_jedec, holds_unique_id, holds_feature, may_be_30, may_be_31, may_be_other}
+use Rattle.micro_claims.specs.Planes.{share_a_plane, are_planes_within, are_below}
+use Rattle.micro_claims.specs.State.{State, Span, Planes, Place, Closed, After, InData, InColumn, InFeatures, Unknown, Shown, Held, OutputColumn, QueuedRows, NoRows, SomeRows, SomeReads, AnyRows, Bounds, shows_status, shows_register, holds_page, holds_parameters, holds_identifier, holds_identity, holds_jedec, holds_unique_id, holds_feature, may_be_30, may_be_31, may_be_other}
 
 -- ---- places of the tail
 
@@ -81,6 +81,11 @@ next_address Unknown = 0
 abbrev pub takes_identity_at : Place → Bool
 takes_identity_at (After opener n) = reads_identity opener
 takes_identity_at _ = false
+
+-- 06h began the sequence, and E0h selects the plane of its row
+abbrev pub selects_plane_at : Place → Bool
+selects_plane_at (After ChangeReadColumnEnhanced n) = true
+selects_plane_at _ = false
 
 -- some of its addresses have come, but not all
 abbrev pub is_inside_address : Place → Bool
@@ -159,6 +164,8 @@ queue_refuses NoRows planes opener = false
 queue_refuses AnyRows planes opener = true
 queue_refuses (SomeRows erase queued drift) planes opener =
     is_read opener || not (same_test erase (is_erase opener)) || not (drift.ahead == drift.behind) || share_a_plane planes queued
+queue_refuses (SomeReads queued surely drift) planes opener =
+    not (is_read opener) || not (drift.ahead == drift.behind) || share_a_plane planes queued
 
 -- ---- commands
 
@@ -179,6 +186,7 @@ identity_opener_refused g s = not (nat_lt 1 g.luns) && (s.lun.busy || may_be_que
 abbrev pub opener_refused : Parts → State → Command → Bool
 opener_refused g s ChangeReadColumn = not (shows_only_data s.target.shows) || s.lun.busy || not (has_page_or_parameters s.lun.register)
 opener_refused g s Read = s.lun.busy
+opener_refused g s ChangeReadColumnEnhanced = s.lun.busy
 opener_refused g s BlockErase = s.lun.busy
 opener_refused g s PageProgram = s.lun.busy
 opener_refused g s ReadId = identity_opener_refused g s
@@ -191,11 +199,12 @@ opener_refused g s ReadCacheSequential =
 opener_refused g s ReadCacheEnd = not (drives s.target.shows) || s.lun.busy || may_be_other s.lun.last || may_be_30 s.lun.last
 opener_refused g s _ = false
 
--- a command that the tail wants may be refused: it works on the one driver, and there may be none; it reads, and a cache read may go on; or it
--- goes on with a cache read, and in the base profile none may there, and nothing may have been read
+-- a command that the tail wants may be refused: it works on the one driver, and there may be none, where no plane is selected; it reads, and a
+-- cache read may go on; or it goes on with a cache read, and in the base profile none may there, and nothing may have been read
 abbrev pub closer_refused : Parts → State → Command → Bool
-closer_refused g s ChangeReadColumnConfirm = not (drives s.target.shows)
+closer_refused g s ChangeReadColumnConfirm = not (selects_plane_at s.target.tail) && not (drives s.target.shows)
 closer_refused g s ReadConfirm = is_wide g.optional && may_be_31 s.lun.last
+closer_refused g s ReadPlane = may_be_31 s.lun.last
 closer_refused g s ReadCacheSequential = not (is_wide g.optional) || may_be_other s.lun.last
 closer_refused g s _ = false
 
@@ -225,10 +234,8 @@ asks_status ReadStatus = true
 asks_status ReadStatusEnhanced = true
 asks_status _ = false
 
--- traces know the command, and programs may not use it yet
+-- traces know the command, and programs may not use it yet: there is none
 abbrev pub is_for_traces : Command → Bool
-is_for_traces ChangeReadColumnEnhanced = true
-is_for_traces ReadPlane = true
 is_for_traces _ = false
 
 -- programs may not use the command
@@ -277,10 +284,16 @@ abbrev pub identity_refused : Parts → State → (from count : ℕ) → Place �
 identity_refused g s from count (After opener n) = nat_lt 1 g.luns || not (count == 1) || not (is_identity_byte g opener from (only s.registers.column))
 identity_refused g s from count _ = false
 
+-- the row of 06h may be of a plane that holds no page, or something may be queued
+abbrev pub plane_refused : State → Command → Bool
+plane_refused s ChangeReadColumnEnhanced = may_be_queued s.lun.queue || not (are_planes_within s.registers.planes s.lun.held)
+plane_refused s _ = false
+
 -- the last row cycle may be refused; that of FAh is fine whatever the LUN does
 abbrev pub row_refused : Parts → State → Place → Bool
 row_refused g s (After opener n) =
-    addresses_the_array opener && (s.lun.busy || (excludes_cache g opener && may_be_31 s.lun.last) || queue_refuses s.lun.queue s.registers.planes opener)
+    addresses_the_array opener
+    && (s.lun.busy || (excludes_cache g opener && may_be_31 s.lun.last) || queue_refuses s.lun.queue s.registers.planes opener || plane_refused s opener)
 row_refused g s _ = false
 
 -- the column is surely past its limit, so that nothing is asked of the cycles after it

@@ -1,8 +1,8 @@
 -- What two states both claim.
 use Rattle.std.specs.Prelude.{◌≡◌, ℕ, min, max, true, ◌&&◌, ◌||◌, if◌then◌else◌, Option, Some, None, bit_or}
 use Rattle.micro_claims.specs.Spans.{Span, Growth}
-use Rattle.micro_claims.specs.Planes.{either_plane}
-use Rattle.micro_claims.specs.State.{State, Registers, KnownTarget, KnownLun, PageRange, Place, Closed, Unknown, Drift, NamedRow, Shown, Held, OutputColumn, QueuedRows, NoRows, SomeRows, AnyRows, LastCloser, CachedPage}
+use Rattle.micro_claims.specs.Planes.{no_planes, either_plane, common_planes}
+use Rattle.micro_claims.specs.State.{State, Registers, KnownTarget, KnownLun, PageRange, Place, Closed, Unknown, Drift, NamedRow, Shown, Held, OutputColumn, QueuedRows, NoRows, SomeRows, SomeReads, AnyRows, LastCloser, CachedPage}
 use Rattle.micro_claims.specs.Against.{same_test, is_open_place}
 use Rattle.micro_claims.specs.Order.{same_place, same_drift_as, is_state_within}
 
@@ -77,9 +77,13 @@ abbrev pub joined_output : OutputColumn → OutputColumn → OutputColumn
 joined_output k m = record { at = joined_span k.at m.at; read = k.read || m.read }
 
 abbrev pub joined_rows : QueuedRows → QueuedRows → QueuedRows
-joined_rows NoRows rows = rows
+joined_rows NoRows NoRows = NoRows
+joined_rows NoRows (SomeRows kind ps e) = SomeRows kind ps e
+joined_rows NoRows (SomeReads qs some e) = SomeReads qs no_planes e
 joined_rows (SomeRows erase planes d) NoRows = SomeRows erase planes d
+joined_rows (SomeReads planes surely d) NoRows = SomeReads planes no_planes d
 joined_rows (SomeRows erase planes d) (SomeRows kind ps e) = if same_test erase kind && same_drift_as d e then SomeRows erase (either_plane planes ps) d else AnyRows
+joined_rows (SomeReads planes surely d) (SomeReads qs some e) = if same_drift_as d e then SomeReads (either_plane planes qs) (common_planes surely some) d else AnyRows
 joined_rows _ _ = AnyRows
 
 abbrev pub joined_closer : LastCloser → LastCloser → LastCloser
@@ -97,6 +101,8 @@ joined_lun s t =
       queue = joined_rows s.queue t.queue;
       last = joined_closer s.last t.last;
       cached = joined_cached s.cached t.cached;
+      held = common_planes s.held t.held;
+      array = common_planes s.array t.array;
     }
 
 -- what both claim

@@ -1,12 +1,12 @@
 -- What a word leaves of what is known before it.
-use Rattle.std.specs.Prelude.{ℕ, ◌+◌, ◌-◌, ◌/◌, ◌%◌, ◌==◌, Bool, true, false, ◌&&◌, nat_lt, nat_le, min, if◌then◌else◌, Option, Some, None}
+use Rattle.std.specs.Prelude.{ℕ, ◌+◌, ◌-◌, ◌/◌, ◌%◌, ◌==◌, Bool, true, false, ◌&&◌, not, nat_lt, nat_le, min, if◌then◌else◌, Option, Some, None}
 use Rattle.nand_geometry.specs.declared.parts.Parts.{Parts}
 use Rattle.onfi_cycle.specs.declared.command.Command.{Command}
-use Rattle.onfi_cycle.specs.declared.command.Command.TheVariants.{Read, ReadConfirm, ChangeReadColumn, ChangeReadColumnConfirm, BlockErase, BlockEraseConfirm, BlockErasePlane, PageProgram, ChangeWriteColumn, ProgramConfirm, ProgramPlane, ReadId, ReadParameterPage, Reset, ReadCacheSequential, ReadCacheEnd, ReadUniqueId, GetFeatures, SetFeatures, ResetLun, SynchronousReset}
+use Rattle.onfi_cycle.specs.declared.command.Command.TheVariants.{Read, ReadConfirm, ChangeReadColumn, ChangeReadColumnEnhanced, ChangeReadColumnConfirm, BlockErase, BlockEraseConfirm, BlockErasePlane, PageProgram, ChangeWriteColumn, ProgramConfirm, ProgramPlane, ReadId, ReadParameterPage, Reset, ReadCacheSequential, ReadCacheEnd, ReadUniqueId, GetFeatures, SetFeatures, ResetLun, SynchronousReset, ReadPlane}
 use Rattle.micro_claims.specs.Spans.{copied, plus, plus_between, greatest_bound}
-use Rattle.micro_claims.specs.Planes.{no_planes, either_plane}
-use Rattle.micro_claims.specs.State.{State, Registers, KnownTarget, KnownLun, Span, PageRange, Place, Closed, After, InData, InColumn, InFeatures, Unknown, Drift, IndexMove, On, To, NamedRow, Shown, Held, OutputColumn, QueuedRows, NoRows, SomeRows, AnyRows, LastCloser, CachedPage, Planes, exactly, not_cached, other_closer, closed, shows_status, shows_register}
-use Rattle.micro_claims.specs.Against.{same_test, place_wants, byte_of_column}
+use Rattle.micro_claims.specs.Planes.{no_planes, either_plane, share_a_plane, sure_plane, are_planes_within}
+use Rattle.micro_claims.specs.State.{State, Registers, KnownTarget, KnownLun, Span, PageRange, Place, Closed, After, InData, InColumn, InFeatures, Unknown, Drift, IndexMove, On, To, NamedRow, Shown, Held, OutputColumn, QueuedRows, NoRows, SomeRows, SomeReads, AnyRows, LastCloser, CachedPage, Planes, exactly, not_cached, any_but_31, other_closer, closed, shows_status, shows_register}
+use Rattle.micro_claims.specs.Against.{same_test, place_wants, selects_plane_at, byte_of_column}
 
 -- ---- parts of a state
 
@@ -93,6 +93,10 @@ abbrev pub rows_at : Bool → Planes → Option Drift → QueuedRows
 rows_at erase planes None = AnyRows
 rows_at erase planes (Some d) = SomeRows erase planes d
 
+abbrev pub reads_at : (planes surely : Planes) → Option Drift → QueuedRows
+reads_at planes surely None = AnyRows
+reads_at planes surely (Some d) = SomeReads planes surely d
+
 abbrev pub named_moved : (Drift → Option Drift) → Option NamedRow → Option NamedRow
 named_moved move None = None
 named_moved move (Some n) = Some (record n { drift = and_drift n.drift move })
@@ -101,6 +105,7 @@ abbrev pub rows_moved : (Drift → Option Drift) → QueuedRows → QueuedRows
 rows_moved move NoRows = NoRows
 rows_moved move AnyRows = AnyRows
 rows_moved move (SomeRows erase planes d) = rows_at erase planes (move d)
+rows_moved move (SomeReads planes surely d) = reads_at planes surely (move d)
 
 -- the index register moves: what is said of rows by their distance from it moves too
 abbrev pub index_moved : (Drift → Option Drift) → Span → PageRange → State → State
@@ -132,13 +137,13 @@ page_plus pages n r =
 abbrev pub opened_by : Command → State → State
 opened_by c s = with_target s (record { tail = After c 0; column = None; named = None; shows = s.target.shows })
 
--- work on the LUN that leaves it without a register
+-- work on the LUN that leaves it without a register and without a page
 abbrev pub work_started : QueuedRows → State → State
 work_started queue s =
     record {
       registers = s.registers;
       target = closed s.target.shows;
-      lun = record { busy = true; register = None; column = None; queue = queue; last = other_closer; cached = s.lun.cached };
+      lun = record { busy = true; register = None; column = None; queue = queue; last = other_closer; cached = s.lun.cached; held = no_planes; array = no_planes };
     }
 
 -- the row of the tail joins the queue
@@ -146,6 +151,7 @@ abbrev pub queued_planes : QueuedRows → Planes
 queued_planes NoRows = no_planes
 queued_planes AnyRows = no_planes
 queued_planes (SomeRows erase planes d) = planes
+queued_planes (SomeReads planes surely d) = no_planes
 
 -- the queued rows are of this kind, and as far from the index register
 abbrev pub same_drift : Option Drift → Drift → Bool
@@ -156,10 +162,43 @@ abbrev pub goes_along : Bool → Option Drift → QueuedRows → Bool
 goes_along erase drift NoRows = true
 goes_along erase drift AnyRows = false
 goes_along erase drift (SomeRows kind planes d) = same_test erase kind && same_drift drift d
+goes_along erase drift (SomeReads planes surely d) = false
 
 abbrev pub queued_more : Bool → QueuedRows → Option NamedRow → QueuedRows
 queued_more erase queue None = AnyRows
 queued_more erase queue (Some n) = if goes_along erase n.drift queue then rows_at erase (either_plane n.planes (queued_planes queue)) n.drift else AnyRows
+
+-- the row of the tail is read later; it goes beside reads of other planes alone, as far from the index register
+abbrev pub reads_beside : NamedRow → QueuedRows → QueuedRows
+reads_beside n NoRows = reads_at n.planes (sure_plane n.planes) n.drift
+reads_beside n (SomeReads planes surely d) =
+    if same_drift n.drift d && not (share_a_plane n.planes planes) then SomeReads (either_plane n.planes planes) (either_plane (sure_plane n.planes) surely) d else AnyRows
+reads_beside n _ = AnyRows
+
+abbrev pub reads_more : QueuedRows → Option NamedRow → QueuedRows
+reads_more queue None = AnyRows
+reads_more queue (Some n) = reads_beside n queue
+
+-- reads may be queued
+abbrev pub may_be_reads : QueuedRows → Bool
+may_be_reads NoRows = false
+may_be_reads (SomeRows erase planes d) = false
+may_be_reads (SomeReads planes surely d) = true
+may_be_reads AnyRows = true
+
+-- the plane of the row of the tail, where it is sure
+abbrev pub named_plane : Option NamedRow → Planes
+named_plane None = no_planes
+named_plane (Some n) = sure_plane n.planes
+
+-- the planes that surely hold a page behind a read of the row of the tail: that of the row, and those of the reads before it
+abbrev pub held_beside : NamedRow → QueuedRows → Planes
+held_beside n (SomeReads planes surely d) = if share_a_plane n.planes planes then sure_plane n.planes else either_plane (sure_plane n.planes) surely
+held_beside n _ = sure_plane n.planes
+
+abbrev pub held_by_read : QueuedRows → Option NamedRow → Planes
+held_by_read queue None = no_planes
+held_by_read queue (Some n) = held_beside n queue
 
 abbrev pub cached_at : Option NamedRow → CachedPage
 cached_at None = not_cached
@@ -169,7 +208,25 @@ abbrev pub shows_after_read : Parts → Option Shown → Option Shown
 shows_after_read g None = if nat_lt 1 g.luns then None else data_shown
 shows_after_read g (Some w) = data_shown
 
--- a 30: the array reads the page of the row, and nothing is queued behind it
+-- a 32: the row is read later, and no page is held any more
+abbrev pub read_queued : Parts → State → State
+read_queued g s =
+    record {
+      registers = s.registers;
+      target = closed (shows_after_read g s.target.shows);
+      lun = record {
+        busy = true;
+        register = None;
+        column = None;
+        queue = reads_more s.lun.queue s.target.named;
+        last = other_closer;
+        cached = s.lun.cached;
+        held = no_planes;
+        array = no_planes;
+      };
+    }
+
+-- a 30: the array reads the page of the row, and nothing is queued behind it; where reads were queued no page is selected, and no 31 may follow
 abbrev pub read_started : Parts → State → State
 read_started g s =
     record {
@@ -177,20 +234,32 @@ read_started g s =
       target = closed (shows_after_read g s.target.shows);
       lun = record {
         busy = true;
-        register = page_register;
+        register = if may_be_reads s.lun.queue then None else page_register;
         column = given_at s.target.column;
         queue = NoRows;
-        last = record { 0 = 1 };
+        last = if may_be_reads s.lun.queue then any_but_31 else record { 0 = 1 };
         cached = cached_at s.target.named;
+        held = held_by_read s.lun.queue s.target.named;
+        array = named_plane s.target.named;
       };
     }
 
-abbrev pub cache_read : LastCloser → CachedPage → Option Shown → State → State
-cache_read last cached shows s =
+-- the register takes the page that the array read, and the array reads one of this plane
+abbrev pub cache_read : LastCloser → CachedPage → (array : Planes) → Option Shown → State → State
+cache_read last cached array shows s =
     record {
       registers = s.registers;
       target = closed shows;
-      lun = record { busy = true; register = page_register; column = Some (record { at = exactly 0; read = false }); queue = s.lun.queue; last = last; cached = cached };
+      lun = record {
+        busy = true;
+        register = page_register;
+        column = Some (record { at = exactly 0; read = false });
+        queue = s.lun.queue;
+        last = last;
+        cached = cached;
+        held = s.lun.array;
+        array = array;
+      };
     }
 
 abbrev pub next_cached : CachedPage → CachedPage
@@ -199,17 +268,35 @@ next_cached cached = record { index = plus cached.index 1; page = plus cached.pa
 -- a 31: the array reads the page of the row, where the tail wants it, and else the next one
 abbrev pub cache_read_on : Parts → State → State
 cache_read_on g s =
-    if place_wants ReadCacheSequential s.target.tail then cache_read (record { 0 = 2 }) (cached_at s.target.named) (shows_after_read g s.target.shows) s
-    else cache_read (record { 0 = 2 }) (next_cached s.lun.cached) data_shown s
+    if place_wants ReadCacheSequential s.target.tail
+    then cache_read (record { 0 = 2 }) (cached_at s.target.named) (named_plane s.target.named) (shows_after_read g s.target.shows) s
+    else cache_read (record { 0 = 2 }) (next_cached s.lun.cached) s.lun.array data_shown s
 
 -- a reset: whatever the LUN did ends, and nothing is held or queued
 abbrev pub reset_started : State → State
 reset_started s =
-    record { registers = s.registers; target = closed None; lun = record { busy = true; register = None; column = None; queue = NoRows; last = other_closer; cached = s.lun.cached } }
+    record {
+      registers = s.registers;
+      target = closed None;
+      lun = record { busy = true; register = None; column = None; queue = NoRows; last = other_closer; cached = s.lun.cached; held = no_planes; array = no_planes };
+    }
+
+-- the register is the page that the plane of the row holds
+abbrev pub register_selected : Option NamedRow → (held : Planes) → Option Held
+register_selected None held = None
+register_selected (Some n) held = if are_planes_within n.planes held then page_register else None
+
+-- an E0: the column that 05h gave; behind 06h the LUN alone shows data, from the page of the plane
+abbrev pub column_changed : State → State
+column_changed s =
+    if selects_plane_at s.target.tail
+    then record { registers = s.registers; target = closed data_shown; lun = record s.lun { register = register_selected s.target.named s.lun.held; column = given_at s.target.column } }
+    else record { registers = s.registers; target = closed s.target.shows; lun = record s.lun { column = given_at s.target.column } }
 
 abbrev pub command_leaves : Parts → State → Command → State
 command_leaves g s Read = with_target s (record { tail = After Read 0; column = None; named = None; shows = resumed_shows s.target.shows })
 command_leaves g s ChangeReadColumn = opened_by ChangeReadColumn s
+command_leaves g s ChangeReadColumnEnhanced = opened_by ChangeReadColumnEnhanced s
 command_leaves g s BlockErase = opened_by BlockErase s
 command_leaves g s PageProgram = opened_by PageProgram s
 command_leaves g s ReadId = opened_by ReadId s
@@ -220,8 +307,8 @@ command_leaves g s SetFeatures = opened_by SetFeatures s
 command_leaves g s ResetLun = opened_by ResetLun s
 command_leaves g s ChangeWriteColumn = with_target s (record s.target { tail = InColumn 0 })
 command_leaves g s ReadConfirm = read_started g s
-command_leaves g s ChangeReadColumnConfirm =
-    record { registers = s.registers; target = closed s.target.shows; lun = record s.lun { column = given_at s.target.column } }
+command_leaves g s ReadPlane = read_queued g s
+command_leaves g s ChangeReadColumnConfirm = column_changed s
 command_leaves g s BlockEraseConfirm = work_started NoRows s
 command_leaves g s ProgramConfirm = work_started NoRows s
 command_leaves g s BlockErasePlane = work_started (queued_more true s.lun.queue s.target.named) s
@@ -229,7 +316,7 @@ command_leaves g s ProgramPlane = work_started (queued_more false s.lun.queue s.
 command_leaves g s Reset = reset_started s
 command_leaves g s SynchronousReset = reset_started s
 command_leaves g s ReadCacheSequential = cache_read_on g s
-command_leaves g s ReadCacheEnd = cache_read other_closer s.lun.cached data_shown s
+command_leaves g s ReadCacheEnd = cache_read other_closer s.lun.cached s.lun.array data_shown s
 command_leaves g s _ = s
 
 -- ---- addresses
@@ -284,13 +371,13 @@ target_after_addresses g s from count =
 abbrev pub id_held : ℕ → Held
 id_held byte = if byte == 0x20 then record { 0 = 4 } else (if byte == 0x40 then record { 0 = 16 } else record { 0 = 8 })
 
--- what stands beside the array is in the register; all but 90h begin work for it
+-- what stands beside the array is in the register, and no page is held; all but 90h begin work for it
 abbrev pub beside_read : (busy : Bool) → Held → State → State
 beside_read busy held s =
     record {
       registers = s.registers;
       target = closed data_shown;
-      lun = record s.lun { busy = busy; register = Some held; column = Some (record { at = exactly 0; read = false }); last = other_closer };
+      lun = record s.lun { busy = busy; register = Some held; column = Some (record { at = exactly 0; read = false }); last = other_closer; held = no_planes; array = no_planes };
     }
 
 -- behind the address of EFh its four bytes come

@@ -5,8 +5,9 @@ use Rattle.onfi_cycle.specs.Command.{opcode}
 use Rattle.micro_word.specs.declared.word.Word.{Word}
 use Rattle.micro_claims.specs.Spans.{greatest_bound, kept, saturated, bound_plus}
 use Rattle.micro_claims.specs.Sets.{has}
-use Rattle.micro_claims.specs.Planes.{Planes, has_plane}
-use Rattle.micro_claims.specs.State.{State, Registers, KnownTarget, KnownLun, Span, Growth, Place, Closed, After, InData, InColumn, InFeatures, Unknown, Drift, NamedRow, Shown, Held, OutputColumn, QueuedRows, NoRows, SomeRows, AnyRows, LoopPlace, Head, Heads, AfterTurns, Bounds, any_number, first_state, shows_status, shows_register, holds_page, holds_parameters, holds_identifier, holds_identity, holds_jedec, holds_unique_id, holds_feature, may_be_30, may_be_31, may_be_other}
+use Rattle.micro_claims.specs.Planes.{has_plane, no_planes, is_one_plane}
+pub use Rattle.micro_claims.specs.Planes.{Planes, are_planes_within}
+use Rattle.micro_claims.specs.State.{State, Registers, KnownTarget, KnownLun, Span, Growth, Place, Closed, After, InData, InColumn, InFeatures, Unknown, Drift, NamedRow, Shown, Held, OutputColumn, QueuedRows, NoRows, SomeRows, SomeReads, AnyRows, LoopPlace, Head, Heads, AfterTurns, Bounds, any_number, first_state, shows_status, shows_register, holds_page, holds_parameters, holds_identifier, holds_identity, holds_jedec, holds_unique_id, holds_feature, may_be_30, may_be_31, may_be_other}
 use Rattle.micro_claims.specs.Against.{same_test, is_open_place}
 use Rattle.micro_claims.specs.Reasons.{reason_against}
 use Rattle.micro_claims.specs.Accepts.{state_after}
@@ -115,9 +116,6 @@ AllAmong p q = (n : ℕ) → has_plane n p ≡ true → has_plane n q ≡ true
 abbrev pub may_within : Bool → Bool → Bool
 may_within b c = not b || c
 
-abbrev pub are_planes_within : Planes → Planes → Bool
-are_planes_within p q = has p.0 q.0
-
 abbrev pub same_code : Option ℕ → Option ℕ → Bool
 same_code (Some n) (Some m) = n == m
 same_code _ _ = false
@@ -156,6 +154,7 @@ DriftIs (Some d) e = e ≡ Some d
 pub record RegistersAt (g : Parts) (v s a : Registers) : Type 0 where
   pub column : SpanAt v.column s.column a.column
   pub planes : AllAmong a.planes s.planes
+  pub one_plane : is_one_plane a.planes ≡ true
   pub index : SpanAt v.index s.index a.index
   pub page_low : s.page.lo ≤ a.page.lo
   pub page_high : a.page.hi ≤ s.page.hi
@@ -193,6 +192,7 @@ pub record IsFineName (g : Parts) (a : NamedRow) : Type 0 where
   pub low_small : a.index.lo ≤ greatest_bound
   pub small : top a.index.hi ≤ greatest_bound + 1
   pub page_inside : a.page < g.pages
+  pub one_plane : is_one_plane a.planes ≡ true
 
 abbrev pub IsFineNamed : Parts → Option NamedRow → Type 0
 IsFineNamed g None = Unit {0}
@@ -237,7 +237,12 @@ RowsAre AnyRows a = Unit {0}
 RowsAre NoRows a = a ≡ NoRows
 RowsAre (SomeRows erase planes d) NoRows = Unit {0}
 RowsAre (SomeRows erase planes d) AnyRows = ⊥
+RowsAre (SomeRows erase planes d) (SomeReads qs some e) = ⊥
 RowsAre (SomeRows erase planes d) (SomeRows kind ps e) = (kind ≡ erase) × (AllAmong ps planes × (e ≡ d))
+RowsAre (SomeReads planes surely d) NoRows = AllAmong surely no_planes
+RowsAre (SomeReads planes surely d) AnyRows = ⊥
+RowsAre (SomeReads planes surely d) (SomeRows kind ps e) = ⊥
+RowsAre (SomeReads planes surely d) (SomeReads qs some e) = AllAmong surely some × (AllAmong qs planes × (e ≡ d))
 
 pub record LunAt (v s a : KnownLun) : Type 0 where
   pub busy : May a.busy s.busy
@@ -250,6 +255,8 @@ pub record LunAt (v s a : KnownLun) : Type 0 where
   pub last_other : May (may_be_other a.last) (may_be_other s.last)
   pub cached_index : SpanAt v.cached.index s.cached.index a.cached.index
   pub cached_page : SpanAt v.cached.page s.cached.page a.cached.page
+  pub held : AllAmong s.held a.held
+  pub array : AllAmong s.array a.array
 
 -- `s` is claimed of the actual state `a`, in a turn that began with the actual state `v`
 pub record At (g : Parts) (v s a : State) : Type 0 where
@@ -298,14 +305,18 @@ is_output_within (Some k) (Some m) = is_span_within k.at m.at && may_within k.re
 
 abbrev pub are_rows_within : QueuedRows → QueuedRows → Bool
 are_rows_within s AnyRows = true
-are_rows_within NoRows _ = true
+are_rows_within NoRows NoRows = true
+are_rows_within NoRows (SomeRows kind ps e) = true
+are_rows_within NoRows (SomeReads qs some e) = are_planes_within some no_planes
 are_rows_within (SomeRows erase planes d) (SomeRows kind ps e) = same_test erase kind && (are_planes_within planes ps && same_drift_as d e)
+are_rows_within (SomeReads planes surely d) (SomeReads qs some e) = are_planes_within some surely && (are_planes_within planes qs && same_drift_as d e)
 are_rows_within _ _ = false
 
 abbrev pub is_lun_within : KnownLun → KnownLun → Bool
 is_lun_within s t =
     may_within s.busy t.busy && (is_register_within s.register t.register && (is_output_within s.column t.column && (are_rows_within s.queue t.queue
-    && (has s.last.0 t.last.0 && (is_span_within s.cached.index t.cached.index && is_span_within s.cached.page t.cached.page)))))
+    && (has s.last.0 t.last.0 && (is_span_within s.cached.index t.cached.index && (is_span_within s.cached.page t.cached.page
+    && (are_planes_within t.held s.held && are_planes_within t.array s.array)))))))
 
 -- the first claims at least what the second claims
 unfoldable pub is_state_within : State → State → Bool
@@ -354,6 +365,8 @@ state_by f s r =
         queue = r.lun.queue;
         last = r.lun.last;
         cached = record { index = f s.lun.cached.index r.lun.cached.index; page = f s.lun.cached.page r.lun.cached.page };
+        held = r.lun.held;
+        array = r.lun.array;
       };
     }
 

@@ -78,12 +78,27 @@ lun_reset_words = Command 0x60 ∷ (Address 2 3 ∷ (Command 0xd0 ∷ (Command 0
 abbrev pub resets_words : List Word
 resets_words = Command 0x80 ∷ (Address 0 5 ∷ (Put 4 ∷ (Command 0xff ∷ (Wait ∷ (Command 0xfc ∷ (Wait ∷ (End 0 ∷ [])))))))
 
+-- a read of a page in each of two planes, and four bytes of both
+abbrev pub plane_read_words : List Word
+plane_read_words =
+    Command 0x00 ∷ (Address 0 5 ∷ (Command 0x32 ∷ (Wait ∷ (Plane 1 ∷ (Command 0x00 ∷ (Address 0 5 ∷ (Command 0x30 ∷ (Wait ∷ (
+    Plane 0 ∷ (Command 0x06 ∷ (Address 0 5 ∷ (Command 0xe0 ∷ (Get 4 ∷ (
+    Plane 1 ∷ (Command 0x06 ∷ (Address 0 5 ∷ (Command 0xe0 ∷ (Get 4 ∷ (End 0 ∷ [])))))))))))))))))))
+
+-- a read that lets others have the bus, and selects its LUN again
+abbrev pub selecting_words : List Word
+selecting_words = Command 0x00 ∷ (Address 0 5 ∷ (Command 0x30 ∷ (Wait ∷ (Yield ∷ (Command 0x06 ∷ (Address 0 5 ∷ (Command 0xe0 ∷ (Get 4 ∷ (End 0 ∷ [])))))))))
+
 -- one LUN, or two, with all that the wider profile has
 abbrev pub one_wide_lun : Parts
 one_wide_lun = record { page_bytes = 512; spare_bytes = 16; pages = 4; blocks = 8; luns = 1; plane_bits = 0; enhanced = false; multi_plane = false; cache = false; optional = wide_with true true true true true true true }
 
 abbrev pub two_wide_luns : Parts
 two_wide_luns = record { page_bytes = 512; spare_bytes = 16; pages = 4; blocks = 8; luns = 2; plane_bits = 0; enhanced = true; multi_plane = false; cache = false; optional = wide_with true true true true true true true }
+
+-- one LUN of two planes
+abbrev pub two_wide_planes : Parts
+two_wide_planes = record { page_bytes = 512; spare_bytes = 16; pages = 4; blocks = 8; luns = 1; plane_bits = 1; enhanced = false; multi_plane = false; cache = false; optional = wide_with true true true true true true true }
 
 abbrev pub one_lun_with_cache : Parts
 one_lun_with_cache = record { page_bytes = 512; spare_bytes = 16; pages = 4; blocks = 8; luns = 1; plane_bits = 0; enhanced = false; multi_plane = false; cache = true; optional = no_optional }
@@ -111,3 +126,6 @@ pub record SomeAreSafe : Type 0 where
   pub lun_reset : IsSafe (some_text 0 9 lun_reset_words) one_wide_lun
   pub lun_reset_among_others : IsSafe (some_text 0 9 lun_reset_words) two_wide_luns
   pub resets : IsSafe (some_text 4 12 resets_words) one_wide_lun
+  pub plane_read : IsSafe (some_text 8 36 plane_read_words) two_wide_planes
+  pub selecting : IsSafe (some_text 4 18 selecting_words) one_wide_lun
+  pub selecting_among_others : IsSafe (some_text 4 18 selecting_words) two_wide_luns

@@ -1,10 +1,10 @@
 -- What is known of a program before its first word, and where something is open.
-use Rattle.std.specs.Prelude.{Bool, true, false, Option, None}
+use Rattle.std.specs.Prelude.{Bool, false, Option, None}
 use Rattle.micro_word.specs.Text.{Microprogram}
 use Rattle.micro_program.specs.Lines.{continues_cache_read}
 pub use Rattle.micro_claims.specs.Spans.{Span, Growth, exactly}
 use Rattle.micro_claims.specs.Sets.{has}
-pub use Rattle.micro_claims.specs.Planes.{Planes, just_plane}
+pub use Rattle.micro_claims.specs.Planes.{Planes, just_plane, no_planes}
 pub use Rattle.micro_claims.specs.declared.page_range.PageRange.{PageRange}
 pub use Rattle.micro_claims.specs.declared.registers.Registers.{Registers}
 pub use Rattle.micro_claims.specs.declared.place.Place.{Place}
@@ -20,7 +20,7 @@ pub use Rattle.micro_claims.specs.declared.known_target.KnownTarget.{KnownTarget
 pub use Rattle.micro_claims.specs.declared.held.Held.{Held}
 pub use Rattle.micro_claims.specs.declared.output_column.OutputColumn.{OutputColumn}
 pub use Rattle.micro_claims.specs.declared.queued_rows.QueuedRows.{QueuedRows}
-pub use Rattle.micro_claims.specs.declared.queued_rows.QueuedRows.TheVariants.{NoRows, SomeRows, AnyRows}
+pub use Rattle.micro_claims.specs.declared.queued_rows.QueuedRows.TheVariants.{NoRows, SomeRows, SomeReads, AnyRows}
 pub use Rattle.micro_claims.specs.declared.last_closer.LastCloser.{LastCloser}
 pub use Rattle.micro_claims.specs.declared.cached_page.CachedPage.{CachedPage}
 pub use Rattle.micro_claims.specs.declared.known_lun.KnownLun.{KnownLun}
@@ -99,5 +99,5 @@ first_state =
     record {
       registers = first_registers;
       target = closed None;
-      lun = record { busy = false; register = None; column = None; queue = NoRows; last = any_but_31; cached = not_cached };
+      lun = record { busy = false; register = None; column = None; queue = NoRows; last = any_but_31; cached = not_cached; held = no_planes; array = no_planes };
     }

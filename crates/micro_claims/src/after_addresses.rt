@@ -10,6 +10,7 @@ use crate::last_closer::LastCloser;
 use crate::named_row::NamedRow;
 use crate::output_column::OutputColumn;
 use crate::place::Place;
+use crate::planes::Planes;
 use crate::shown::DATA_SHOWN;
 use crate::span::Span;
 use crate::state::State;
@@ -71,7 +72,7 @@ impl State {
         }
     }
 
-    // After the address of an opener that reads what stands beside the array.
+    // After the address of an opener that reads what stands beside the array: no page is held.
     fn read_beside(&mut self, busy: bool, held: Held)
         ensures { self.new ≡ beside_read busy held self.old }
     {
@@ -80,6 +81,8 @@ impl State {
         self.lun.register = Some(held);
         self.lun.column = Some(OutputColumn::first());
         self.lun.last = LastCloser::OTHER;
+        self.lun.held = Planes::none();
+        self.lun.array = Planes::none();
     }
 
     // After the address of Read ID, which is a byte of the column.

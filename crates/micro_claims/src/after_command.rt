@@ -1,20 +1,46 @@
 //! What a command leaves of what is known before it.
 ghost use Rattle.std.specs.Prelude.{◌≡◌};
-ghost use Rattle.micro_claims.specs.Leaves.{given_at, opened_by, work_started, queued_more, read_started, cache_read, cache_read_on, reset_started, command_leaves, with_target};
-ghost use Rattle.micro_claims.specs.State.{InColumn, closed};
+ghost use Rattle.std.specs.Prelude.{if◌then◌else◌, None};
+ghost use Rattle.micro_claims.specs.Against.{selects_plane_at};
+ghost use Rattle.micro_claims.specs.Leaves.{may_be_reads, page_register, opened_by, work_started, queued_more, read_queued, read_started, cache_read, cache_read_on, column_changed, reset_started, command_leaves, with_target};
+ghost use Rattle.micro_claims.specs.State.{InColumn, any_but_31};
 
 use crate::cached_page::CachedPage;
-use crate::held::PAGE_HELD;
+use crate::held::{Held, PAGE_HELD};
 use crate::known_lun::KnownLun;
 use crate::known_target::KnownTarget;
 use crate::last_closer::LastCloser;
+use crate::named_row::{named_plane, register_selected};
 use crate::output_column::OutputColumn;
 use crate::place::Place;
+use crate::planes::Planes;
 use crate::queued_rows::QueuedRows;
 use crate::shown::{DATA_SHOWN, Shown};
 use crate::state::State;
 use nand_geometry::Geometry;
 use onfi_cycle::Command;
+
+// The register behind a read, with these rows queued before it: where reads were, no page is selected.
+fn register_read(queue: QueuedRows) -> Option<Held>
+    ensures { result ≡ if may_be_reads queue then None else page_register }
+{
+    if queue.may_be_reads() {
+        None
+    } else {
+        PAGE_HELD
+    }
+}
+
+// The last closer then: where reads were queued, no 31h may follow.
+fn last_read(queue: QueuedRows) -> LastCloser
+    ensures { result ≡ if may_be_reads queue then any_but_31 else record { 0 = 1 } }
+{
+    if queue.may_be_reads() {
+        LastCloser::ANY_BUT_CACHE
+    } else {
+        LastCloser::READ
+    }
+}
 
 impl State {
     // After an opener that only begins.
@@ -38,21 +64,39 @@ impl State {
     {
         self.lun = KnownLun {
             busy: true,
-            register: PAGE_HELD,
+            register: register_read(self.lun.queue),
             column: OutputColumn::given(self.target.column),
             queue: QueuedRows::NoRows,
-            last: LastCloser::READ,
+            last: last_read(self.lun.queue),
             cached: CachedPage::of(self.target.named),
+            held: self.lun.queue.held_by_read(self.target.named),
+            array: named_plane(self.target.named),
         };
         self.target = KnownTarget::closed(self.target.shows_after_read(geometry));
     }
 
+    // After a read of a plane, which comes with the next 30h.
+    fn queue_read(&mut self, geometry: &Geometry)
+        ensures { self.new ≡ read_queued geometry.now self.old }
+    {
+        self.lun = self
+            .lun
+            .at_work(self.lun.queue.with_read(self.target.named));
+        self.target = KnownTarget::closed(self.target.shows_after_read(geometry));
+    }
+
     // After a command that goes on with a cache read, or ends it.
-    fn read_cache(&mut self, last: LastCloser, cached: CachedPage, shows: Option<Shown>)
-        ensures { self.new ≡ cache_read last cached shows self.old }
+    fn read_cache(
+        &mut self,
+        last: LastCloser,
+        cached: CachedPage,
+        array: Planes,
+        shows: Option<Shown>,
+    )
+        ensures { self.new ≡ cache_read last cached array shows self.old }
     {
         self.target = KnownTarget::closed(shows);
-        self.lun = self.lun.caching(last, cached);
+        self.lun = self.lun.caching(last, cached, array);
     }
 
     // After a 31h: the array reads the page of the row, where the tail wants it, and else the next one.
@@ -61,9 +105,19 @@ impl State {
     {
         if self.target.tail.wants(Command::ReadCacheSequential) {
             let shows = self.target.shows_after_read(geometry);
-            self.read_cache(LastCloser::CACHE, CachedPage::of(self.target.named), shows);
+            self.read_cache(
+                LastCloser::CACHE,
+                CachedPage::of(self.target.named),
+                named_plane(self.target.named),
+                shows,
+            );
         } else {
-            self.read_cache(LastCloser::CACHE, self.lun.cached.next(), DATA_SHOWN);
+            self.read_cache(
+                LastCloser::CACHE,
+                self.lun.cached.next(),
+                self.lun.array,
+                DATA_SHOWN,
+            );
         }
     }
 
@@ -75,16 +129,17 @@ impl State {
         self.lun = self.lun.at_work(QueuedRows::NoRows);
     }
 
-    // After the column that 05h gave.
+    // After the column that 05h or 06h gave; behind 06h the LUN alone shows data, from the page that the plane holds.
     fn give_column(&mut self)
-        ensures { self.new ≡ record {
-          registers = self.old.registers;
-          target = closed self.old.target.shows;
-          lun = record self.old.lun { column = given_at self.old.target.column };
-        } }
+        ensures { self.new ≡ column_changed self.old }
     {
         self.lun.column = OutputColumn::given(self.target.column);
-        self.target = KnownTarget::closed(self.target.shows);
+        if self.target.tail.selects_plane() {
+            self.lun.register = register_selected(self.target.named, self.lun.held);
+            self.target = KnownTarget::closed(DATA_SHOWN);
+        } else {
+            self.target = KnownTarget::closed(self.target.shows);
+        }
     }
 
     // After a change of the write column.
@@ -108,6 +163,7 @@ impl State {
         match command {
             Command::Read => self.target = KnownTarget::opened(command, self.target.resumed()),
             Command::ChangeReadColumn
+            | Command::ChangeReadColumnEnhanced
             | Command::BlockErase
             | Command::PageProgram
             | Command::ReadId
@@ -118,6 +174,7 @@ impl State {
             | Command::ResetLun => self.open(command),
             Command::ChangeWriteColumn => self.change_column(),
             Command::ReadConfirm => self.start_read(geometry),
+            Command::ReadPlane => self.queue_read(geometry),
             Command::ChangeReadColumnConfirm => self.give_column(),
             Command::BlockEraseConfirm | Command::ProgramConfirm => {
                 self.start_work(QueuedRows::NoRows)
@@ -127,13 +184,14 @@ impl State {
             Command::Reset | Command::SynchronousReset => self.reset(),
             Command::ReadCacheSequential => self.go_on_with_cache_read(geometry),
             Command::ReadCacheEnd => {
-                self.read_cache(LastCloser::OTHER, self.lun.cached, DATA_SHOWN);
+                self.read_cache(
+                    LastCloser::OTHER,
+                    self.lun.cached,
+                    self.lun.array,
+                    DATA_SHOWN,
+                );
             }
-            Command::ReadStatus
-            | Command::ReadStatusEnhanced
-            | Command::ChangeReadColumnEnhanced
-            | Command::ReadPlane
-            | Command::Unknown => {}
+            Command::ReadStatus | Command::ReadStatusEnhanced | Command::Unknown => {}
         }
     }
 }

@@ -4,6 +4,7 @@ ghost use Rattle.micro_claims.specs.Against.{has_page_or_parameters, least_lengt
 ghost use Rattle.micro_claims.specs.Joins.{joined_lun};
 ghost use Rattle.micro_claims.specs.Leaves.{unread, page_register, column_read};
 ghost use Rattle.micro_claims.specs.Order.{is_lun_within};
+ghost use Rattle.micro_claims.specs.Planes.{no_planes};
 ghost use Rattle.micro_claims.specs.Spans.{exactly};
 ghost use Rattle.micro_claims.specs.State.{other_closer, may_be_31};
 
@@ -12,6 +13,7 @@ use crate::flags::may_within;
 use crate::held::{Held, PAGE_HELD, is_register_within, joined_registered};
 use crate::last_closer::LastCloser;
 use crate::output_column::{OutputColumn, is_output_within, joined_outputs, widened_output};
+use crate::planes::Planes;
 use crate::queued_rows::QueuedRows;
 use crate::shown::Shown;
 use bitflags::Flags;
@@ -29,6 +31,10 @@ pub struct KnownLun {
     pub column: Option<OutputColumn>,
     pub queue: QueuedRows,
     pub cached: CachedPage,
+    /// The planes that surely hold a page.
+    pub held: Planes,
+    /// The plane of the page that the array reads, where it is sure.
+    pub array: Planes,
 }
 
 impl KnownLun {
@@ -68,7 +74,7 @@ impl KnownLun {
         })
     }
 
-    // At work that leaves no register.
+    // At work that leaves no register, and no page.
     pub(crate) fn at_work(&self, queue: QueuedRows) -> KnownLun
         ensures { result ≡ record {
           busy = true;
@@ -77,6 +83,8 @@ impl KnownLun {
           queue = queue;
           last = other_closer;
           cached = self.now.cached;
+          held = no_planes;
+          array = no_planes;
         } }
     {
         KnownLun {
@@ -86,11 +94,13 @@ impl KnownLun {
             queue,
             last: LastCloser::OTHER,
             cached: self.cached,
+            held: Planes::none(),
+            array: Planes::none(),
         }
     }
 
-    // At a cache read.
-    pub(crate) fn caching(&self, last: LastCloser, cached: CachedPage) -> KnownLun
+    // At a cache read, whose array reads a page of this plane.
+    pub(crate) fn caching(&self, last: LastCloser, cached: CachedPage, array: Planes) -> KnownLun
         ensures { result ≡ record {
           busy = true;
           register = page_register;
@@ -98,6 +108,8 @@ impl KnownLun {
           queue = self.now.queue;
           last = last;
           cached = cached;
+          held = self.now.array;
+          array = array;
         } }
     {
         KnownLun {
@@ -107,6 +119,8 @@ impl KnownLun {
             queue: self.queue,
             last,
             cached,
+            held: self.array,
+            array,
         }
     }
 
@@ -145,6 +159,8 @@ impl KnownLun {
             && other.last.contains(self.last)
             && self.cached.index.is_within(other.cached.index)
             && self.cached.page.is_within(other.cached.page)
+            && other.held.are_within(self.held)
+            && other.array.are_within(self.array)
     }
 
     pub(crate) fn join(&self, other: &KnownLun) -> KnownLun
@@ -157,6 +173,8 @@ impl KnownLun {
             queue: self.queue.join(other.queue),
             last: self.last.join(other.last),
             cached: self.cached.join(other.cached),
+            held: self.held.and(other.held),
+            array: self.array.and(other.array),
         }
     }
 

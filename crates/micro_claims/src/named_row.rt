@@ -1,10 +1,11 @@
 //! The row that the tail names.
 ghost use Rattle.std.specs.Prelude.{◌≡◌, Some};
 ghost use Rattle.micro_claims.specs.Joins.{both_know, joined_name};
-ghost use Rattle.micro_claims.specs.Leaves.{moved_by, named_moved};
+ghost use Rattle.micro_claims.specs.Leaves.{moved_by, named_moved, named_plane, register_selected};
 ghost use Rattle.micro_claims.specs.Order.{is_name_within, is_named_within};
 
 use crate::drift::{Drift, IndexMove, is_drift_within, joined_drift};
+use crate::held::{Held, PAGE_HELD};
 use crate::planes::Planes;
 use crate::span::Span;
 
@@ -52,6 +53,26 @@ impl NamedRow {
             },
             drift: joined_drift(self.drift, other.drift),
         }
+    }
+}
+
+// The plane of the row of the tail, where it is sure.
+pub(crate) fn named_plane(named: Option<NamedRow>) -> Planes
+    ensures { result ≡ named_plane named }
+{
+    match named {
+        None => Planes::none(),
+        Some(row) => row.planes.sure(),
+    }
+}
+
+// The register that is the page which the plane of the row holds.
+pub(crate) fn register_selected(named: Option<NamedRow>, held: Planes) -> Option<Held>
+    ensures { result ≡ register_selected named held }
+{
+    match named {
+        Some(row) if row.planes.are_within(held) => PAGE_HELD,
+        _ => None,
     }
 }
 

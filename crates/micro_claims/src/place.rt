@@ -1,6 +1,6 @@
 //! Where the tail of the target is, and what may come there.
 ghost use Rattle.std.specs.Prelude.{◌≡◌};
-ghost use Rattle.micro_claims.specs.Against.{is_open_place, is_in_data, is_in_features, takes_inputs_at, is_data_command, place_wants, addresses_left, first_address, next_address, takes_identity_at, is_inside_address};
+ghost use Rattle.micro_claims.specs.Against.{is_open_place, is_in_data, is_in_features, takes_inputs_at, is_data_command, place_wants, selects_plane_at, addresses_left, first_address, next_address, takes_identity_at, is_inside_address};
 ghost use Rattle.micro_claims.specs.Joins.{joined_place};
 ghost use Rattle.micro_claims.specs.Leaves.{after_few, opener_leads_to, column_leads_to, address_leads_to};
 ghost use Rattle.micro_claims.specs.Order.{same_place, is_place_within};
@@ -124,6 +124,19 @@ impl Place {
             }
             _ => false,
         }
+    }
+
+    /// A Change Read Column Enhanced began the sequence, which selects the plane of its row.
+    pub fn selects_plane(self) -> bool
+        ensures { result ≡ selects_plane_at self }
+    {
+        matches!(
+            self,
+            Place::After {
+                opener: Command::ChangeReadColumnEnhanced,
+                ..
+            }
+        )
     }
 
     /// A command that is no opener surely goes on with the sequence.

@@ -1,7 +1,6 @@
 //! Sets of planes.
-ghost use Rattle.std.specs.Prelude.{⊤, ◌≡◌, [], ◌∷◌, codes};
-ghost use Rattle.micro_claims.specs.Order.{are_planes_within};
-ghost use Rattle.micro_claims.specs.Planes.{greatest_plane, no_planes, just_plane, either_plane, share_a_plane, are_below};
+ghost use Rattle.std.specs.Prelude.{⊤, ◌≡◌, ◌==◌, ◌&&◌, not, [], ◌∷◌, codes};
+ghost use Rattle.micro_claims.specs.Planes.{greatest_plane, no_planes, just_plane, either_plane, common_planes, is_one_plane, sure_plane, are_planes_within, share_a_plane, are_below};
 
 use bitflags::{Flag, Flags, bitflag_items};
 
@@ -69,6 +68,34 @@ impl Planes {
         self.union(other)
     }
 
+    /// The planes that are in both.
+    pub fn and(self, other: Planes) -> Planes
+        ensures { result ≡ common_planes self other }
+    {
+        self.intersection(other)
+    }
+
+    /// It is one plane.
+    pub fn is_one(self) -> bool
+        ensures { result ≡ is_one_plane self }
+    {
+        self.0 == 1 || self.0 == 2 || self.0 == 4 || self.0 == 8
+    }
+
+    // The plane of which it is sure that it is meant, where one of these is.
+    pub(crate) fn sure(self) -> Planes
+        ensures { result ≡ sure_plane self }
+    {
+        if self.is_one() { self } else { Planes::none() }
+    }
+
+    /// There are several.
+    pub fn are_several(self) -> bool
+        ensures { result ≡ (not (self.0 == 0) && not (is_one_plane self)) }
+    {
+        self.0 != 0 && !self.is_one()
+    }
+
     /// The greatest of them; 0 where none is greater.
     pub fn greatest(self) -> u8
         ensures { result ≡ greatest_plane self }
@@ -98,7 +125,8 @@ impl Planes {
         count >= 8 || self.0 >> count == 0
     }
 
-    pub(crate) fn are_within(self, other: Planes) -> bool
+    /// Each of them is one of the others.
+    pub fn are_within(self, other: Planes) -> bool
         ensures { result ≡ are_planes_within self other }
     {
         other.contains(self)

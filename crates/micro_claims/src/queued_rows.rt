@@ -2,7 +2,7 @@
 ghost use Rattle.std.specs.Prelude.{◌≡◌};
 ghost use Rattle.micro_claims.specs.Against.{may_be_queued, queue_refuses};
 ghost use Rattle.micro_claims.specs.Joins.{joined_rows};
-ghost use Rattle.micro_claims.specs.Leaves.{moved_by, rows_at, rows_moved, queued_planes, goes_along, queued_more};
+ghost use Rattle.micro_claims.specs.Leaves.{moved_by, rows_at, reads_at, rows_moved, queued_planes, goes_along, queued_more, reads_beside, reads_more, may_be_reads, held_beside, held_by_read};
 ghost use Rattle.micro_claims.specs.Order.{are_rows_within};
 
 use crate::drift::{Drift, IndexMove};
@@ -18,6 +18,12 @@ pub enum QueuedRows {
     SomeRows {
         erase: bool,
         planes: Planes,
+        drift: Drift,
+    },
+    /// Rows to read, of these planes, some of which are surely queued, and so far from the index register.
+    SomeReads {
+        planes: Planes,
+        surely: Planes,
         drift: Drift,
     },
     AnyRows,
@@ -37,6 +43,19 @@ impl QueuedRows {
         }
     }
 
+    fn reads_at(planes: Planes, surely: Planes, drift: Option<Drift>) -> QueuedRows
+        ensures { result ≡ reads_at planes surely drift }
+    {
+        match drift {
+            None => QueuedRows::AnyRows,
+            Some(drift) => QueuedRows::SomeReads {
+                planes,
+                surely,
+                drift,
+            },
+        }
+    }
+
     pub(crate) fn after(self, by: IndexMove) -> QueuedRows
         ensures { result ≡ rows_moved (moved_by by) self }
     {
@@ -46,7 +65,12 @@ impl QueuedRows {
                 planes,
                 drift,
             } => QueuedRows::at(erase, planes, drift.after(by)),
-            _ => self,
+            QueuedRows::SomeReads {
+                planes,
+                surely,
+                drift,
+            } => QueuedRows::reads_at(planes, surely, drift.after(by)),
+            QueuedRows::NoRows | QueuedRows::AnyRows => self,
         }
     }
 
@@ -55,7 +79,9 @@ impl QueuedRows {
     {
         match self {
             QueuedRows::SomeRows { planes, .. } => planes,
-            _ => Planes::none(),
+            QueuedRows::NoRows | QueuedRows::SomeReads { .. } | QueuedRows::AnyRows => {
+                Planes::none()
+            }
         }
     }
 
@@ -65,7 +91,7 @@ impl QueuedRows {
     {
         match self {
             QueuedRows::NoRows => true,
-            QueuedRows::AnyRows => false,
+            QueuedRows::SomeReads { .. } | QueuedRows::AnyRows => false,
             QueuedRows::SomeRows {
                 erase: kind,
                 drift: far,
@@ -83,6 +109,74 @@ impl QueuedRows {
                 QueuedRows::at(erase, row.planes.or(self.planes()), row.drift)
             }
             _ => QueuedRows::AnyRows,
+        }
+    }
+
+    // With a row to read, which goes beside reads of other planes alone.
+    fn reads_beside(self, row: NamedRow) -> QueuedRows
+        ensures { result ≡ reads_beside row self }
+    {
+        match self {
+            QueuedRows::NoRows => QueuedRows::reads_at(row.planes, row.planes.sure(), row.drift),
+            QueuedRows::SomeReads {
+                planes,
+                surely,
+                drift,
+            } if row.drift == Some(drift) && !row.planes.meet(planes) => QueuedRows::SomeReads {
+                planes: row.planes.or(planes),
+                surely: row.planes.sure().or(surely),
+                drift,
+            },
+            QueuedRows::SomeReads { .. } | QueuedRows::SomeRows { .. } | QueuedRows::AnyRows => {
+                QueuedRows::AnyRows
+            }
+        }
+    }
+
+    // With the row of the tail, to be read.
+    pub(crate) fn with_read(self, named: Option<NamedRow>) -> QueuedRows
+        ensures { result ≡ reads_more self named }
+    {
+        match named {
+            None => QueuedRows::AnyRows,
+            Some(row) => self.reads_beside(row),
+        }
+    }
+
+    // Reads may be queued.
+    pub(crate) fn may_be_reads(self) -> bool
+        ensures { result ≡ may_be_reads self }
+    {
+        match self {
+            QueuedRows::NoRows | QueuedRows::SomeRows { .. } => false,
+            QueuedRows::SomeReads { .. } | QueuedRows::AnyRows => true,
+        }
+    }
+
+    // The planes that surely hold a page behind a read of this row.
+    fn held_beside(self, row: NamedRow) -> Planes
+        ensures { result ≡ held_beside row self }
+    {
+        let own = row.planes.sure();
+        match self {
+            QueuedRows::SomeReads { planes, surely, .. } => {
+                if row.planes.meet(planes) {
+                    own
+                } else {
+                    own.or(surely)
+                }
+            }
+            QueuedRows::NoRows | QueuedRows::SomeRows { .. } | QueuedRows::AnyRows => own,
+        }
+    }
+
+    // The planes that surely hold a page behind a read of the row of the tail.
+    pub(crate) fn held_by_read(self, named: Option<NamedRow>) -> Planes
+        ensures { result ≡ held_by_read self named }
+    {
+        match named {
+            None => Planes::none(),
+            Some(row) => self.held_beside(row),
         }
     }
 
@@ -109,6 +203,11 @@ impl QueuedRows {
                     || drift.ahead != drift.behind
                     || planes.meet(queued)
             }
+            QueuedRows::SomeReads {
+                planes: queued,
+                drift,
+                ..
+            } => { opener != Command::Read || drift.ahead != drift.behind || planes.meet(queued) }
         }
     }
 
@@ -116,7 +215,11 @@ impl QueuedRows {
         ensures { result ≡ are_rows_within self other }
     {
         match (self, other) {
-            (_, QueuedRows::AnyRows) | (QueuedRows::NoRows, _) => true,
+            (_, QueuedRows::AnyRows)
+            | (QueuedRows::NoRows, QueuedRows::NoRows | QueuedRows::SomeRows { .. }) => true,
+            (QueuedRows::NoRows, QueuedRows::SomeReads { surely, .. }) => {
+                surely.are_within(Planes::none())
+            }
             (
                 QueuedRows::SomeRows {
                     erase,
@@ -129,6 +232,18 @@ impl QueuedRows {
                     drift: far,
                 },
             ) => erase == kind && planes.are_within(others) && drift == far,
+            (
+                QueuedRows::SomeReads {
+                    planes,
+                    surely,
+                    drift,
+                },
+                QueuedRows::SomeReads {
+                    planes: others,
+                    surely: some,
+                    drift: far,
+                },
+            ) => some.are_within(surely) && planes.are_within(others) && drift == far,
             _ => false,
         }
     }
@@ -137,8 +252,32 @@ impl QueuedRows {
         ensures { result ≡ joined_rows self other }
     {
         match (self, other) {
-            (QueuedRows::NoRows, rows) => rows,
+            (QueuedRows::NoRows, QueuedRows::NoRows | QueuedRows::SomeRows { .. }) => other,
             (QueuedRows::SomeRows { .. }, QueuedRows::NoRows) => self,
+            (QueuedRows::NoRows, QueuedRows::SomeReads { planes, drift, .. })
+            | (QueuedRows::SomeReads { planes, drift, .. }, QueuedRows::NoRows) => {
+                QueuedRows::SomeReads {
+                    planes,
+                    surely: Planes::none(),
+                    drift,
+                }
+            }
+            (
+                QueuedRows::SomeReads {
+                    planes,
+                    surely,
+                    drift,
+                },
+                QueuedRows::SomeReads {
+                    planes: others,
+                    surely: some,
+                    drift: far,
+                },
+            ) if drift == far => QueuedRows::SomeReads {
+                planes: planes.or(others),
+                surely: surely.and(some),
+                drift,
+            },
             (
                 QueuedRows::SomeRows {
                     erase,

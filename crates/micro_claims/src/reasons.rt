@@ -1,6 +1,6 @@
 //! The reasons against a word, by what is known before it.
 ghost use Rattle.std.specs.Prelude.{◌≡◌, ◌^◌, ◌<◌, ◌==◌, ◌&&◌, not};
-ghost use Rattle.micro_claims.specs.Against.{next_address, is_of_profile, is_unfit, opener_refused, closer_refused, reads_cache_at, may_end_sequence, command_out_of_place, command_past_rows, is_for_traces, command_not_for_programs, has_second_column, column_limit, takes_any_byte, takes_identity, is_identity_byte, identity_refused, row_refused, surely_past, address_out_of_place, begins_elsewhere, column_past, row_outside, output_refused, output_past, input_past, may_be_unready};
+ghost use Rattle.micro_claims.specs.Against.{next_address, is_of_profile, is_unfit, opener_refused, closer_refused, reads_cache_at, may_end_sequence, command_out_of_place, command_past_rows, is_for_traces, command_not_for_programs, has_second_column, column_limit, takes_any_byte, takes_identity, is_identity_byte, identity_refused, plane_refused, row_refused, surely_past, address_out_of_place, begins_elsewhere, column_past, row_outside, output_refused, output_past, input_past, may_be_unready};
 ghost use Rattle.nand_geometry.specs.Optional.{is_wide};
 ghost use Rattle.onfi_cycle.specs.Rules.{excludes_cache};
 ghost use Rattle.micro_claims.specs.Reasons.{breaks_cycle_forbidden, breaks_address_unaligned, breaks_handover_in_sequence, breaks_buffer_passed, breaks_row_or_plane_outside, breaks_column_too_large, breaks_no_status, breaks_ends_too_soon, breaks_over_budget, breaks_command_not_allowed, reason_against};
@@ -79,14 +79,11 @@ fn may_end_sequence(geometry: &Geometry, command: Command) -> bool
     command.is_reset() && is_wide(geometry)
 }
 
-/// Traces know the command, and programs may not use it yet.
-pub fn is_for_traces(command: Command) -> bool
-    ensures { result ≡ is_for_traces command }
+/// Traces know the command, and programs may not use it yet: there is none.
+pub fn is_for_traces(_command: Command) -> bool
+    ensures { result ≡ is_for_traces _command }
 {
-    matches!(
-        command,
-        Command::ChangeReadColumnEnhanced | Command::ReadPlane
-    )
+    false
 }
 
 // Programs may not use the command.
@@ -175,7 +172,10 @@ impl State {
                     || self.lun.busy
                     || !self.lun.has_page_or_parameters()
             }
-            Command::Read | Command::BlockErase | Command::PageProgram => self.lun.busy,
+            Command::Read
+            | Command::ChangeReadColumnEnhanced
+            | Command::BlockErase
+            | Command::PageProgram => self.lun.busy,
             Command::ReadId
             | Command::ReadParameterPage
             | Command::ReadUniqueId
@@ -202,8 +202,11 @@ impl State {
         ensures { result ≡ closer_refused geometry.now self.now closer }
     {
         match closer {
-            Command::ChangeReadColumnConfirm => !self.target.drives(),
+            Command::ChangeReadColumnConfirm => {
+                !self.target.tail.selects_plane() && !self.target.drives()
+            }
             Command::ReadConfirm => is_wide(geometry) && self.lun.last.may_be_31(),
+            Command::ReadPlane => self.lun.last.may_be_31(),
             Command::ReadCacheSequential => !is_wide(geometry) || self.lun.last.may_be_other(),
             _ => false,
         }
@@ -265,6 +268,14 @@ impl State {
         }
     }
 
+    // The row of 06h may be of a plane that holds no page, or something may be queued.
+    fn refuses_plane(&self, opener: Command) -> bool
+        ensures { result ≡ plane_refused self.now opener }
+    {
+        opener == Command::ChangeReadColumnEnhanced
+            && (self.lun.queue.may_be_some() || !self.registers.planes.are_within(self.lun.held))
+    }
+
     // The last row cycle may be refused; that of Reset LUN is fine whatever the LUN does.
     fn refuses_row(&self, geometry: &Geometry) -> bool
         ensures { result ≡ row_refused geometry.now self.now self.now.target.tail }
@@ -274,7 +285,8 @@ impl State {
                 opener.addresses_the_array()
                     && (self.lun.busy
                         || excludes_cache(geometry, opener) && self.lun.last.may_be_31()
-                        || self.lun.queue.refuses(self.registers.planes, opener))
+                        || self.lun.queue.refuses(self.registers.planes, opener)
+                        || self.refuses_plane(opener))
             }
             _ => false,
         }

@@ -50,6 +50,8 @@ impl State {
                 queue: QueuedRows::NoRows,
                 last: LastCloser::ANY_BUT_CACHE,
                 cached: not_cached(),
+                held: Planes::none(),
+                array: Planes::none(),
             },
         }
     }
@@ -79,6 +81,8 @@ impl State {
                 queue: QueuedRows::AnyRows,
                 last: LastCloser::ANY,
                 cached: not_cached(),
+                held: Planes::none(),
+                array: Planes::none(),
             },
         }
     }

@@ -2,6 +2,7 @@
 
 use crate::outside::name_outside;
 use crate::refused::Refused;
+use micro_claims::is_for_traces;
 use onfi_cycle::{Command, is_undeclared};
 use std::fmt;
 
@@ -52,18 +53,12 @@ impl BarredCause {
             Command::SynchronousReset => {
                 BarredCause::of_optional(refused, command, byte, BarredCause::SynchronousReset)
             }
-            Command::ChangeReadColumnEnhanced => Some(BarredCause::of_traced(
-                refused,
-                command,
-                byte,
-                BarredCause::EnhancedColumn,
-            )),
-            Command::ReadPlane => Some(BarredCause::of_traced(
-                refused,
-                command,
-                byte,
-                BarredCause::PlaneReads,
-            )),
+            Command::ChangeReadColumnEnhanced => {
+                BarredCause::of_optional(refused, command, byte, BarredCause::EnhancedColumn)
+            }
+            Command::ReadPlane => {
+                BarredCause::of_optional(refused, command, byte, BarredCause::PlaneReads)
+            }
             Command::ReadStatus | Command::ReadStatusEnhanced => Some(BarredCause::Poll),
             Command::BlockErasePlane | Command::ProgramPlane => {
                 told_if(!parts.multi_plane, BarredCause::SeveralPlanes)
@@ -97,24 +92,10 @@ impl BarredCause {
             Some(BarredCause::NoCommand { byte })
         } else if is_undeclared(refused.geometry, command) {
             Some(undeclared)
+        } else if is_for_traces(command) {
+            Some(BarredCause::ForTraces { byte })
         } else {
             BarredCause::of_several_luns(refused)
-        }
-    }
-
-    // Of a command of the wider profile that is for traces alone where it is declared.
-    fn of_traced(
-        refused: &Refused<'_>,
-        command: Command,
-        byte: u8,
-        undeclared: BarredCause,
-    ) -> BarredCause {
-        if !refused.geometry.parts().optional.is_wide() {
-            BarredCause::NoCommand { byte }
-        } else if is_undeclared(refused.geometry, command) {
-            undeclared
-        } else {
-            BarredCause::ForTraces { byte }
         }
     }
 

@@ -4,11 +4,11 @@ use crate::busy::Busy;
 use crate::command_at::CommandAt;
 use crate::no_driver::NoDriver;
 use crate::refused::Refused;
-use micro_claims::{bound_plus, is_at_most};
+use micro_claims::{KnownLun, bound_plus, is_at_most};
 use onfi_cycle::Command;
 use std::fmt;
 
-/// Why `cmd 31` or `cmd 3f` may come at a wrong time, or `cmd 30` amid a cache read.
+/// Why `cmd 31` or `cmd 3f` may come at a wrong time, or `cmd 30` or `cmd 32` amid a cache read.
 #[derive(Clone, Copy, Debug, PartialEq, Eq)]
 pub enum CacheCause {
     NoDriver(NoDriver),
@@ -17,13 +17,15 @@ pub enum CacheCause {
     NothingToContinue,
     /// The same at a row.
     NothingBeforeRow,
+    /// `cmd 31` where the LUN holds the pages of several planes.
+    SeveralPages,
     /// `cmd 31` where the page that it reads may be past its block, of so many pages.
     PastBlock {
         pages: u32,
     },
     /// `cmd 3f` where the last work may be another than `cmd 31`.
     NothingToEnd,
-    /// `cmd 30` where a cache read may go on since this command.
+    /// `cmd 30` or `cmd 32` where a cache read may go on since this command.
     NotEnded {
         since: CommandAt,
         /// It surely goes on.
@@ -41,7 +43,7 @@ impl CacheCause {
         if let Some(cause) = CacheCause::of_lun(refused) {
             Some(cause)
         } else if lun.last.may_be_other() {
-            Some(CacheCause::NothingToContinue)
+            Some(CacheCause::of_last(lun, CacheCause::NothingToContinue))
         } else if !is_at_most(bound_plus(lun.cached.page.hi(), 2), u64::from(pages)) {
             Some(CacheCause::PastBlock { pages })
         } else {
@@ -63,14 +65,24 @@ impl CacheCause {
 
     /// Against `cmd 31` at a row.
     pub(crate) fn of_row(refused: &Refused<'_>) -> Option<CacheCause> {
-        if refused.state.lun.last.may_be_other() {
-            Some(CacheCause::NothingBeforeRow)
+        let lun = &refused.state.lun;
+        if lun.last.may_be_other() {
+            Some(CacheCause::of_last(lun, CacheCause::NothingBeforeRow))
         } else {
             None
         }
     }
 
-    /// Against `cmd 30`.
+    // Against `cmd 31` behind another closer, or behind a read of several planes.
+    fn of_last(lun: &KnownLun, another: CacheCause) -> CacheCause {
+        if lun.held.are_several() {
+            CacheCause::SeveralPages
+        } else {
+            another
+        }
+    }
+
+    /// Against `cmd 30` or `cmd 32`.
     pub(crate) fn of_page_read(refused: &Refused<'_>) -> Option<CacheCause> {
         let last = refused.state.lun.last;
         if last.may_be_31() {
@@ -111,6 +123,9 @@ impl fmt::Display for CacheCause {
             CacheCause::NothingToEnd => {
                 f.write_str("the last work of the LUN must be `cmd 31`, and it may be another")
             }
+            CacheCause::SeveralPages => f.write_str(
+                "the LUN holds pages of several planes: a cache read begins with a `cmd 30` behind no `cmd 32`",
+            ),
             CacheCause::NothingBeforeRow => f.write_str(
                 "the last work of the LUN must be `cmd 30` or `cmd 31`, and it may be another: a cache read begins with `cmd 30`",
             ),

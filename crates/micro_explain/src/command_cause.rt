@@ -76,9 +76,10 @@ impl CommandCause {
             Command::ChangeReadColumn => {
                 Some(CommandCause::ReadColumn(ReadColumnCause::of(refused)?))
             }
-            Command::Read | Command::BlockErase | Command::PageProgram => {
-                Some(CommandCause::Lun(LunCause::of_busy(refused)?))
-            }
+            Command::Read
+            | Command::ChangeReadColumnEnhanced
+            | Command::BlockErase
+            | Command::PageProgram => Some(CommandCause::Lun(LunCause::of_busy(refused)?)),
             Command::ReadId
             | Command::ReadParameterPage
             | Command::ReadUniqueId
@@ -90,7 +91,6 @@ impl CommandCause {
             Command::ReadCacheEnd => Some(CommandCause::Cache(CacheCause::of_end(refused)?)),
             Command::ReadConfirm
             | Command::ReadPlane
-            | Command::ChangeReadColumnEnhanced
             | Command::ChangeReadColumnConfirm
             | Command::BlockEraseConfirm
             | Command::BlockErasePlane
@@ -109,14 +109,13 @@ impl CommandCause {
     // Against a command that the sequence wants.
     fn of_wanted(refused: &Refused<'_>, closer: Command) -> Option<CommandCause> {
         match closer {
-            Command::ReadConfirm => {
+            Command::ReadConfirm | Command::ReadPlane => {
                 Some(CommandCause::Cache(CacheCause::of_page_read(refused)?))
             }
             Command::ReadCacheSequential if refused.is_wide() => {
                 Some(CommandCause::Cache(CacheCause::of_row(refused)?))
             }
             Command::ReadCacheSequential => Some(CommandCause::SequenceOpen(refused.open())),
-            Command::ReadPlane => None,
             _ => Some(CommandCause::ReadColumn(ReadColumnCause::of(refused)?)),
         }
     }

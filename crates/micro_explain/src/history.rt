@@ -23,6 +23,8 @@ pub(crate) struct History {
     pub work: Option<usize>,
     /// The last command that leaves the register empty, where nothing has filled it since.
     pub emptied: Option<CommandAt>,
+    /// Reads of planes are queued.
+    reads_queued: bool,
     /// The last word that asks for the status, where the LUN shows it since.
     pub status: Option<PollAt>,
     /// Data was read since the column was given.
@@ -54,6 +56,7 @@ fn leaves_no_register(command: Command) -> bool {
             | Command::BlockErasePlane
             | Command::ProgramConfirm
             | Command::ProgramPlane
+            | Command::ReadPlane
             | Command::Reset
             | Command::SynchronousReset
     )
@@ -68,6 +71,7 @@ impl History {
             started: None,
             work: None,
             emptied: None,
+            reads_queued: false,
             status: None,
             read: false,
             lost: None,
@@ -210,21 +214,40 @@ impl History {
         let Some(command) = command_of(word) else {
             return;
         };
+        let selects_plane = self.command == Some(Command::ChangeReadColumnEnhanced);
         self.command = Some(command);
         if starts_work(command) {
             self.start(place);
         }
         if fills_register(command) {
             self.fill();
-        } else if leaves_no_register(command) {
+        }
+        if self.leaves_empty(command) {
             self.emptied = Some(CommandAt {
                 command,
                 word: Some(place),
             });
         } else if command == Command::Read {
             self.status = None;
+        } else if command == Command::ChangeReadColumnConfirm && selects_plane {
+            self.fill();
         } else if command == Command::ChangeReadColumnConfirm {
             self.give_column();
+        }
+        self.queue_reads(command);
+    }
+
+    // The command leaves the register empty: its work does, or it reads several planes, of which none is selected.
+    fn leaves_empty(&self, command: Command) -> bool {
+        leaves_no_register(command) || command == Command::ReadConfirm && self.reads_queued
+    }
+
+    // A read of a plane is queued, up to the next work.
+    fn queue_reads(&mut self, command: Command) {
+        if command == Command::ReadPlane {
+            self.reads_queued = true;
+        } else if starts_work(command) {
+            self.reads_queued = false;
         }
     }
 

@@ -2,6 +2,7 @@
 
 use crate::busy::Busy;
 use crate::command_at::CommandAt;
+use crate::plane_cause::PlaneCause;
 use crate::queue_cause::QueueCause;
 use crate::refused::Refused;
 use onfi_cycle::{Command, Forbidden};
@@ -16,6 +17,8 @@ pub enum LunCause {
     Queue(QueueCause),
     /// It reads a cache since this command.
     CacheRead(CommandAt),
+    /// The plane of the row can't be selected.
+    Plane(PlaneCause),
 }
 
 // The row of the opener may name a LUN whose cache read goes on: that of a Read in the wider profile.
@@ -57,6 +60,8 @@ impl LunCause {
     pub(crate) fn of_row(refused: &Refused<'_>, opener: Command) -> Option<LunCause> {
         if let Some(busy) = LunCause::of_busy(refused) {
             Some(busy)
+        } else if opener == Command::ChangeReadColumnEnhanced {
+            Some(LunCause::Plane(PlaneCause::of(refused)?))
         } else if let Some(queue) = QueueCause::of_row(refused, opener) {
             Some(LunCause::Queue(queue))
         } else if may_name_caching(refused, opener) {
@@ -72,6 +77,7 @@ impl LunCause {
             LunCause::Busy(_) => Forbidden::LunBusy,
             LunCause::Queue(_) => Forbidden::QueueClash,
             LunCause::CacheRead(_) => Forbidden::CacheReadMisplaced,
+            LunCause::Plane(_) => Forbidden::PlaneNotHeld,
         }
     }
 }
@@ -81,6 +87,7 @@ impl fmt::Display for LunCause {
         match self {
             LunCause::Busy(busy) => write!(f, "{busy}"),
             LunCause::Queue(queue) => write!(f, "{queue}"),
+            LunCause::Plane(plane) => write!(f, "{plane}"),
             LunCause::CacheRead(command) => write!(
                 f,
                 "the cache read of {command} goes on: `cmd 3f` and a `wait` must end it"

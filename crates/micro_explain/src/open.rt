@@ -15,6 +15,8 @@ pub struct Open {
     pub multi_plane: bool,
     /// A cache read may go on at any row.
     pub reads_cache_at_rows: bool,
+    /// Reads of several planes are declared.
+    pub reads_planes: bool,
 }
 
 impl fmt::Display for Open {
@@ -23,6 +25,7 @@ impl fmt::Display for Open {
             place: self.place,
             multi_plane: self.multi_plane,
             reads_cache_at_rows: self.reads_cache_at_rows,
+            reads_planes: self.reads_planes,
         };
         match (self.place, self.command) {
             (Place::Closed, _) => f.write_str("no sequence is open"),

@@ -22,6 +22,7 @@ fn queued_by(refused: &Refused<'_>) -> CommandAt {
     match refused.state.lun.queue {
         QueuedRows::SomeRows { erase: true, .. } => refused.last(Command::BlockErasePlane),
         QueuedRows::SomeRows { erase: false, .. } => refused.last(Command::ProgramPlane),
+        QueuedRows::SomeReads { .. } => refused.last(Command::ReadPlane),
         QueuedRows::NoRows | QueuedRows::AnyRows => last_queueing(refused),
     }
 }
@@ -47,7 +48,10 @@ fn last_queueing(refused: &Refused<'_>) -> CommandAt {
 
 // The command queues a row.
 fn is_queueing(command: Command) -> bool {
-    matches!(command, Command::BlockErasePlane | Command::ProgramPlane)
+    matches!(
+        command,
+        Command::BlockErasePlane | Command::ProgramPlane | Command::ReadPlane
+    )
 }
 
 impl QueueCause {
@@ -55,7 +59,7 @@ impl QueueCause {
     pub(crate) fn of_lone_work(refused: &Refused<'_>) -> Option<QueueCause> {
         match refused.state.lun.queue {
             QueuedRows::NoRows => None,
-            QueuedRows::SomeRows { .. } | QueuedRows::AnyRows => {
+            QueuedRows::SomeRows { .. } | QueuedRows::SomeReads { .. } | QueuedRows::AnyRows => {
                 Some(QueueCause::Unfinished(queued_by(refused)))
             }
         }
@@ -77,6 +81,13 @@ impl QueueCause {
                     QueueCause::of_planes(refused, planes, drift)
                 }
             }
+            QueuedRows::SomeReads { planes, drift, .. } => {
+                if opener == Command::Read {
+                    QueueCause::of_planes(refused, planes, drift)
+                } else {
+                    Some(QueueCause::Unfinished(queued_by(refused)))
+                }
+            }
         }
     }
 
@@ -92,12 +103,12 @@ impl QueueCause {
     }
 }
 
-// What works a queue off: the erase or the program of one more row.
+// What works a queue off: the erase, the program or the read of one more row.
 fn last_of_queue(command: Command) -> &'static str {
-    if command == Command::ProgramPlane {
-        "`cmd 80` to `cmd 10`, on another plane, must come next"
-    } else {
-        "`cmd 60` to `cmd d0`, on another plane, must come next"
+    match command {
+        Command::ProgramPlane => "`cmd 80` to `cmd 10`, on another plane, must come next",
+        Command::ReadPlane => "`cmd 00` to `cmd 30`, on another plane, must come next",
+        _ => "`cmd 60` to `cmd d0`, on another plane, must come next",
     }
 }
 

@@ -6,7 +6,7 @@ use crate::open::Open;
 use micro_claims::{Bounds, Place, State};
 use micro_word::Word;
 use nand_geometry::Geometry;
-use onfi_cycle::Command;
+use onfi_cycle::{Command, is_undeclared};
 
 /// A refused word, with what is known before it.
 #[derive(Clone, Copy)]
@@ -60,6 +60,7 @@ impl Refused<'_> {
             },
             multi_plane: self.geometry.parts().multi_plane,
             reads_cache_at_rows: self.is_wide() && self.geometry.parts().cache,
+            reads_planes: !is_undeclared(self.geometry, Command::ReadPlane),
         }
     }
 

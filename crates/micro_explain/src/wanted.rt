@@ -12,14 +12,15 @@ pub(crate) struct Wanted {
     pub multi_plane: bool,
     /// A cache read may go on at any row.
     pub reads_cache_at_rows: bool,
+    /// Reads of several planes are declared.
+    pub reads_planes: bool,
 }
 
 impl Wanted {
     // What ends the sequence of an opener whose addresses have come.
     fn closer(self, opener: Command) -> &'static str {
         match opener {
-            Command::Read if self.reads_cache_at_rows => "`cmd 30` or `cmd 31`",
-            Command::Read => "`cmd 30`",
+            Command::Read => self.read_closer(),
             Command::ChangeReadColumn | Command::ChangeReadColumnEnhanced => "`cmd e0`",
             Command::BlockErase if self.multi_plane => "`cmd d0` or `cmd d1`",
             Command::BlockErase => "`cmd d0`",
@@ -45,6 +46,16 @@ impl Wanted {
             | Command::ResetLun
             | Command::SynchronousReset
             | Command::Unknown => "nothing",
+        }
+    }
+
+    // What ends the sequence of a read.
+    fn read_closer(self) -> &'static str {
+        match (self.reads_cache_at_rows, self.reads_planes) {
+            (true, true) => "`cmd 30`, `cmd 31` or `cmd 32`",
+            (true, false) => "`cmd 30` or `cmd 31`",
+            (false, true) => "`cmd 30` or `cmd 32`",
+            (false, false) => "`cmd 30`",
         }
     }
 

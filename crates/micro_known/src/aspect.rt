@@ -1,7 +1,8 @@
 //! One thing that is known before a word.
 
 use crate::lun_words::{
-    write_cache, write_output_column, write_queue, write_register, write_shown, write_work,
+    write_cache, write_held, write_output_column, write_queue, write_register, write_shown,
+    write_work,
 };
 use crate::span_words::write_span;
 use crate::tail_words::write_tail;
@@ -35,6 +36,8 @@ pub enum Aspect {
     Queue,
     /// Whether a cache read goes on.
     Cache,
+    /// The planes that hold a page.
+    Held,
 }
 
 /// An aspect of a state, in words.
@@ -45,8 +48,8 @@ pub struct InWords<'s> {
 }
 
 impl Aspect {
-    /// All of them, in the order in which they are told.
-    pub const ALL: [Aspect; 12] = [
+    /// What is told of each chip, in this order.
+    pub const BASE: &'static [Aspect] = &[
         Aspect::Row,
         Aspect::Planes,
         Aspect::Column,
@@ -59,6 +62,23 @@ impl Aspect {
         Aspect::OutputColumn,
         Aspect::Queue,
         Aspect::Cache,
+    ];
+
+    /// What is told of a chip whose programs may select a plane that holds a page.
+    pub const ALL: &'static [Aspect] = &[
+        Aspect::Row,
+        Aspect::Planes,
+        Aspect::Column,
+        Aspect::Place,
+        Aspect::Cost,
+        Aspect::Tail,
+        Aspect::Work,
+        Aspect::Shown,
+        Aspect::Register,
+        Aspect::OutputColumn,
+        Aspect::Queue,
+        Aspect::Cache,
+        Aspect::Held,
     ];
 
     /// Its name in JSON.
@@ -76,6 +96,7 @@ impl Aspect {
             Aspect::OutputColumn => "output_column",
             Aspect::Queue => "queue",
             Aspect::Cache => "cache",
+            Aspect::Held => "held",
         }
     }
 }
@@ -124,6 +145,7 @@ impl fmt::Display for InWords<'_> {
             Aspect::OutputColumn => write_output_column(f, &lun.column),
             Aspect::Queue => write_queue(f, &lun.queue),
             Aspect::Cache => write_cache(f, lun.last),
+            Aspect::Held => write_held(f, lun.held),
         }
     }
 }

@@ -1,9 +1,11 @@
 //! What is known before each word of a text.
 
+use crate::aspect::Aspect;
 use micro_claims::State;
 use micro_walk::fill_known;
 use micro_word::{Text, Word};
 use nand_geometry::Geometry;
+use onfi_cycle::{Command, is_undeclared};
 use std::alloc::{AllocError, Allocator};
 
 /// What is known before each word of a text: the states of the verifier's search.
@@ -22,6 +24,15 @@ impl<A: Allocator> KnownWords<A> {
         }
         fill_known(text, &geometry, states.as_mut_slice());
         Ok(KnownWords { geometry, states })
+    }
+
+    /// What is told before each word: which planes hold a page of a chip alone whose programs may select one.
+    pub fn aspects(&self) -> &'static [Aspect] {
+        if is_undeclared(&self.geometry, Command::ChangeReadColumnEnhanced) {
+            Aspect::BASE
+        } else {
+            Aspect::ALL
+        }
     }
 
     /// What is known before the word of this number; None where no way leads to it, or the search stops before it.

@@ -1,7 +1,8 @@
 //! What is known of a LUN, in words.
 
 use crate::span_words::write_span;
-use micro_claims::{Held, KnownLun, LastCloser, OutputColumn, QueuedRows, Shown};
+use bitflags::Flags;
+use micro_claims::{Held, KnownLun, LastCloser, OutputColumn, Planes, QueuedRows, Shown};
 use std::fmt;
 
 /// Writes what the LUN may show on the bus.
@@ -77,6 +78,7 @@ pub(crate) fn write_queue<W: fmt::Write>(
         QueuedRows::NoRows => "no row is queued",
         QueuedRows::SomeRows { erase: true, .. } => "rows to erase are queued",
         QueuedRows::SomeRows { erase: false, .. } => "rows to program are queued",
+        QueuedRows::SomeReads { .. } => "rows to read are queued",
         QueuedRows::AnyRows => "any rows may be queued",
     })
 }
@@ -92,6 +94,38 @@ pub(crate) fn write_cache<W: fmt::Write>(
         (true, true) => "a cache read may go on",
         (false, _) => "no cache read goes on",
     })
+}
+
+// The numbers of planes, of which there are some.
+fn write_numbers<W: fmt::Write>(f: &mut fmt::Formatter<W>, planes: Planes) -> fmt::Result {
+    let mut is_first = true;
+    for plane in 0..4_u8 {
+        if planes.contains(Planes::just(plane)) {
+            if !is_first {
+                f.write_str(if plane == planes.greatest() {
+                    " and "
+                } else {
+                    ", "
+                })?;
+            }
+            write!(f, "{plane}")?;
+            is_first = false;
+        }
+    }
+    Ok(())
+}
+
+/// Writes which planes surely hold a page.
+pub(crate) fn write_held<W: fmt::Write>(f: &mut fmt::Formatter<W>, held: Planes) -> fmt::Result {
+    if held.is_one() {
+        write!(f, "plane {} holds a page", held.greatest())
+    } else if held.are_several() {
+        f.write_str("planes ")?;
+        write_numbers(f, held)?;
+        f.write_str(" hold a page")
+    } else {
+        f.write_str("no plane surely holds a page")
+    }
 }
 
 /// Writes whether the LUN works.

@@ -9,7 +9,7 @@ use std::fmt;
 fn closer_of(opener: Command) -> &'static str {
     match opener {
         Command::Read => "`30`",
-        Command::ChangeReadColumn => "`e0`",
+        Command::ChangeReadColumn | Command::ChangeReadColumnEnhanced => "`e0`",
         Command::BlockErase => "`d0` or `d1`",
         _ => "its closer",
     }

@@ -70,15 +70,17 @@ impl<A: Allocator> Ways<A> {
     }
 }
 
-// Adds what a way brings that isn't known where the ways have met.
+// Adds what a way brings of these aspects that isn't known where the ways have met.
 fn push_way<A: Allocator + Clone>(
     lines: &mut String<A>,
     alloc: A,
+    aspects: &[Aspect],
     brought: &State,
     met: &State,
 ) -> Result<bool, AllocError> {
     let mut is_said = false;
-    for aspect in Aspect::ALL {
+    for aspect in aspects.iter() {
+        let aspect = *aspect;
         let one = format!(in alloc.clone()?;
             "{}",
             InWords {
@@ -115,7 +117,7 @@ pub fn push_brought<A: Allocator + Clone>(
         };
         if let Some(brought) = known.behind(*place, *word) {
             let mut way = String::new(alloc.clone()?);
-            if push_way(&mut way, alloc.clone()?, &brought, met)? {
+            if push_way(&mut way, alloc.clone()?, known.aspects(), &brought, met)? {
                 let between = if is_said { "; " } else { "" };
                 write!(lines, "{between}word {place}{way}")?;
                 is_said = true;

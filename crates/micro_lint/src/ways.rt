@@ -96,6 +96,7 @@ fn fate_of_data_shown(words: &[Word], at: usize, word: Word) -> Fate {
         Word::Command { .. } => match command_of(word) {
             Some(Command::Read) if is_lone_read(words, at) => Fate::Found,
             Some(Command::Read) => Fate::Ends,
+            Some(Command::ChangeReadColumnEnhanced) => Fate::Found,
             _ => Fate::GoesOn,
         },
         Word::End { .. } | Word::Wait | Word::ReadStatus => Fate::Ends,

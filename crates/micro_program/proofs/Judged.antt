@@ -5,7 +5,7 @@ use Rattle.std.proofs.lemmas.Bool.{and_right, or_from}
 use Rattle.nand_geometry.specs.declared.parts.Parts.{Parts}
 use Rattle.nand_geometry.specs.Limits.{page_len}
 use Rattle.nand_geometry.specs.Row.{parts_of}
-use Rattle.nand_geometry.specs.Optional.{is_wide, has_features, has_unique_id, has_lun_reset, has_synchronous_reset}
+use Rattle.nand_geometry.specs.Optional.{is_wide, has_features, has_unique_id, has_enhanced_column, has_lun_reset, has_plane_reads, has_synchronous_reset}
 use Rattle.onfi_cycle.specs.declared.command.Command.{Command}
 use Rattle.onfi_cycle.specs.declared.command.Command.TheVariants.{Read, ReadConfirm, ChangeReadColumn, ChangeReadColumnConfirm, BlockErase, BlockEraseConfirm, BlockErasePlane, ReadStatus, ReadStatusEnhanced, PageProgram, ChangeWriteColumn, ProgramConfirm, ProgramPlane, ReadId, ReadParameterPage, Reset, ReadCacheSequential, ReadCacheEnd, ReadUniqueId, GetFeatures, SetFeatures, ResetLun, SynchronousReset, Unknown, ChangeReadColumnEnhanced, ReadPlane}
 use Rattle.onfi_cycle.specs.declared.lun.Lun.{Lun}
@@ -42,6 +42,15 @@ judge_read g t luns closed ready = at (is_wide g.optional) (ltb 1 g.luns) refl r
     at true true e f = rw (e, f, closed, ready) refl
     at true false e f = rw (e, f, closed, ready) refl
     at false several e f = rw (e, closed, ready) refl
+
+judge_06 : (g : Parts) (t : TailFacts) (luns : List LunView) → is_open t ≡ false → list_any (λ v. not v.busy) luns ≡ true → has_enhanced_column g.optional ≡ true → judge_cycle g t luns (CommandCycle ChangeReadColumnEnhanced) ≡ None
+unfolding breaks_command_unknown breaks_sequence_open breaks_several_luns breaks_no_column_to_change breaks_command_misplaced breaks_address_misplaced breaks_row_outside breaks_lun_busy breaks_queue_clash breaks_input_misplaced breaks_no_sole_driver breaks_data_not_ready breaks_column_outside breaks_cache_read_misplaced breaks_plane_not_held
+judge_06 g t luns closed ready declared = at (is_wide g.optional) (ltb 1 g.luns) refl refl
+  where
+    at : (w several : Bool) → is_wide g.optional ≡ w → ltb 1 g.luns ≡ several → judge_cycle g t luns (CommandCycle ChangeReadColumnEnhanced) ≡ None
+    at true true e f = rw (e, f, closed, ready, declared) refl
+    at true false e f = rw (e, f, closed, ready, declared) refl
+    at false several e f = rw (e, closed, ready, declared) refl
 
 judge_erase : (g : Parts) (t : TailFacts) (luns : List LunView) → is_open t ≡ false → list_any (λ v. not v.busy) luns ≡ true → judge_cycle g t luns (CommandCycle BlockErase) ≡ None
 unfolding breaks_command_unknown breaks_sequence_open breaks_several_luns breaks_no_column_to_change breaks_command_misplaced breaks_address_misplaced breaks_row_outside breaks_lun_busy breaks_queue_clash breaks_input_misplaced breaks_no_sole_driver breaks_data_not_ready breaks_column_outside breaks_cache_read_misplaced breaks_plane_not_held
@@ -189,6 +198,15 @@ judge_30 g t luns wants free = at (is_wide g.optional) (ltb 1 g.luns) refl refl
     at true false e f = let none : named_lun_is g (row t) caching luns ≡ false = ap (λ (b : Bool). b && named_lun_is g (row t) caching luns) (sym e) ∙ free in rw (e, f, wants, none) refl
     at false several e f = rw (e, wants) refl
 
+judge_32 : (g : Parts) (t : TailFacts) (luns : List LunView) → wants_command t ReadPlane ≡ true → named_lun_is g (row t) caching luns ≡ false → has_plane_reads g.optional ≡ true → judge_cycle g t luns (CommandCycle ReadPlane) ≡ None
+unfolding breaks_command_unknown breaks_sequence_open breaks_several_luns breaks_no_column_to_change breaks_command_misplaced breaks_address_misplaced breaks_row_outside breaks_lun_busy breaks_queue_clash breaks_input_misplaced breaks_no_sole_driver breaks_data_not_ready breaks_column_outside breaks_cache_read_misplaced breaks_plane_not_held
+judge_32 g t luns wants free declared = at (is_wide g.optional) (ltb 1 g.luns) refl refl
+  where
+    at : (w several : Bool) → is_wide g.optional ≡ w → ltb 1 g.luns ≡ several → judge_cycle g t luns (CommandCycle ReadPlane) ≡ None
+    at true true e f = rw (e, f, wants, free, declared) refl
+    at true false e f = rw (e, f, wants, free, declared) refl
+    at false several e f = rw (e, wants, free, declared) refl
+
 judge_d0 : (g : Parts) (t : TailFacts) (luns : List LunView) → wants_command t BlockEraseConfirm ≡ true → judge_cycle g t luns (CommandCycle BlockEraseConfirm) ≡ None
 unfolding breaks_command_unknown breaks_sequence_open breaks_several_luns breaks_no_column_to_change breaks_command_misplaced breaks_address_misplaced breaks_row_outside breaks_lun_busy breaks_queue_clash breaks_input_misplaced breaks_no_sole_driver breaks_data_not_ready breaks_column_outside breaks_cache_read_misplaced breaks_plane_not_held
 judge_d0 g t luns wants = at (is_wide g.optional) (ltb 1 g.luns) refl refl
@@ -292,7 +310,8 @@ command_judged s l past c there k d a = by d a
     by BlockErasePlane a = judge_d1 s.geometry c.facts _ a.0.0 a.1
     by ProgramConfirm a = judge_10 s.geometry c.facts _ a.0
     by ProgramPlane a = judge_11 s.geometry c.facts _ a.0.0 a.1
-    by ChangeReadColumnConfirm a = judge_e0 s.geometry c.facts _ a.wants
+    by ChangeReadColumnConfirm (inl a) = judge_e0 s.geometry c.facts _ a.wants
+    by ChangeReadColumnConfirm (inr a) = judge_e0 s.geometry c.facts _ a.wants
     by ChangeWriteColumn a = judge_85 s.geometry c.facts _ a
     by ReadUniqueId a = judge_unique_id s.geometry c.facts _ a.0.closed a.0.one (some_ready a.0.ready) (none_of (λ v. has_some v.queue) a.0.one a.0.no_queue) (none_of caching a.0.one a.0.no_cache) a.1
     by GetFeatures a = judge_features s.geometry c.facts _ a.0.closed a.0.one (some_ready a.0.ready) (none_of (λ v. has_some v.queue) a.0.one a.0.no_queue) (none_of caching a.0.one a.0.no_cache) a.1
@@ -300,8 +319,8 @@ command_judged s l past c there k d a = by d a
     by ResetLun a = judge_lun_reset s.geometry c.facts _ a.0 a.1
     by SynchronousReset a = judge_synchronous s.geometry c.facts _ a.0.closed a.0.one a.1
     by Unknown a = absurd a
-    by ChangeReadColumnEnhanced a = absurd a
-    by ReadPlane a = absurd a
+    by ChangeReadColumnEnhanced a = judge_06 s.geometry c.facts _ a.0.0 (some_ready a.0.1) a.1
+    by ReadPlane a = judge_32 s.geometry c.facts _ a.0.0 (named_as caching a.0.1 ∙ a.1) a.2
 
 from_command : (g : Parts) (t u : TailFacts) (luns : List LunView) (c d : Command) → t ≡ u → c ≡ d → judge_cycle g u luns (CommandCycle d) ≡ None → judge_cycle g t luns (CommandCycle c) ≡ None
 from_command g t u luns c d e f h =

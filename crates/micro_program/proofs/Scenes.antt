@@ -4,7 +4,7 @@ use Rattle.std.proofs.Common.{◌≡◌, ℕ, ◌==◌, Bool, true, false, ◌&&
 use Rattle.nand_geometry.specs.declared.parts.Parts.{Parts}
 use Rattle.nand_geometry.specs.Limits.{page_len}
 use Rattle.nand_geometry.specs.Row.{parts_of, is_inside}
-use Rattle.nand_geometry.specs.Optional.{is_wide, has_features, has_unique_id, has_lun_reset, has_synchronous_reset}
+use Rattle.nand_geometry.specs.Optional.{is_wide, has_features, has_unique_id, has_enhanced_column, has_lun_reset, has_plane_reads, has_synchronous_reset}
 use Rattle.onfi_cycle.specs.declared.command.Command.{Command}
 use Rattle.onfi_cycle.specs.declared.command.Command.TheVariants.{Read, ReadConfirm, ChangeReadColumn, ChangeReadColumnConfirm, BlockErase, BlockEraseConfirm, BlockErasePlane, ReadStatus, ReadStatusEnhanced, PageProgram, ChangeWriteColumn, ProgramConfirm, ProgramPlane, ReadId, ReadParameterPage, Reset, ReadCacheSequential, ReadCacheEnd, ReadUniqueId, GetFeatures, SetFeatures, ResetLun, SynchronousReset, Unknown, ChangeReadColumnEnhanced, ReadPlane}
 use Rattle.onfi_cycle.specs.declared.lun.Lun.{Lun}
@@ -76,6 +76,12 @@ pub record ColumnAllowed (c : Scene) : Type 0 where
   pub no_plane : selects_plane c.facts ≡ false
   pub sole : c.sole ≡ true
 
+-- a column of the page that the plane of the row holds, which 06 began
+pub record PlaneAllowed (g : Parts) (lun : ℕ) (c : Scene) : Type 0 where
+  pub wants : wants_command c.facts ChangeReadColumnConfirm ≡ true
+  pub plane : selects_plane c.facts ≡ true
+  pub names : names_lun g (row c.facts) lun ≡ true
+
 -- where nothing is open no 31 is wanted
 pub closed_unwanted : (t : TailFacts) → is_open t ≡ false → wants_command t ReadCacheSequential ≡ false
 closed_unwanted t closed = at (wants_command t ReadCacheSequential) refl
@@ -84,7 +90,6 @@ closed_unwanted t closed = at (wants_command t ReadCacheSequential) refl
     at true w = let opens : is_open t ≡ true = command_opens t ReadCacheSequential w in cc
     at false w = refl
 
--- what 06 begins, and 32, are for traces alone
 abbrev pub CommandAllowed : Parts → ℕ → Scene → Command → Type 0
 CommandAllowed g lun c Read = OpenerAllowed c
 CommandAllowed g lun c BlockErase = OpenerAllowed c
@@ -102,7 +107,7 @@ CommandAllowed g lun c BlockEraseConfirm = CloserAllowed g lun c BlockEraseConfi
 CommandAllowed g lun c BlockErasePlane = CloserAllowed g lun c BlockErasePlane × (g.multi_plane ≡ true)
 CommandAllowed g lun c ProgramConfirm = CloserAllowed g lun c ProgramConfirm
 CommandAllowed g lun c ProgramPlane = CloserAllowed g lun c ProgramPlane × (g.multi_plane ≡ true)
-CommandAllowed g lun c ChangeReadColumnConfirm = ColumnAllowed c
+CommandAllowed g lun c ChangeReadColumnConfirm = ColumnAllowed c ⊎ PlaneAllowed g lun c
 CommandAllowed g lun c ChangeWriteColumn = wants_command c.facts ChangeWriteColumn ≡ true
 CommandAllowed g lun c ReadUniqueId = IdentityAllowed g c × (has_unique_id g.optional ≡ true)
 CommandAllowed g lun c GetFeatures = IdentityAllowed g c × (has_features g.optional ≡ true)
@@ -110,8 +115,8 @@ CommandAllowed g lun c SetFeatures = IdentityAllowed g c × (has_features g.opti
 CommandAllowed g lun c ResetLun = (is_open c.facts ≡ false) × (has_lun_reset g.optional ≡ true)
 CommandAllowed g lun c SynchronousReset = ResetAllowed g c × (has_synchronous_reset g.optional ≡ true)
 CommandAllowed g lun c Unknown = ⊥
-CommandAllowed g lun c ChangeReadColumnEnhanced = ⊥
-CommandAllowed g lun c ReadPlane = ⊥
+CommandAllowed g lun c ChangeReadColumnEnhanced = OpenerAllowed c × (has_enhanced_column g.optional ≡ true)
+CommandAllowed g lun c ReadPlane = CloserAllowed g lun c ReadPlane × (caching c.view ≡ false) × (has_plane_reads g.optional ≡ true)
 
 -- the last row cycle
 pub record RowAllowed (g : Parts) (lun : ℕ) (c : Scene) (byte : ℕ) : Type 0 where
@@ -154,13 +159,15 @@ Allowed g lun c OutputCycle = OutputAllowed g c
 abbrev pub shown_alone : Scene → Latch
 shown_alone c = cond c.sole c.view.latch Off
 
-abbrev pub command_sole : Parts → Bool → Command → Bool
-command_sole g sole Reset = false
-command_sole g sole SynchronousReset = false
-command_sole g sole ReadStatus = false
-command_sole g sole ReadConfirm = sole || not (ltb 1 g.luns)
-command_sole g sole ReadCacheSequential = sole || not (ltb 1 g.luns)
-command_sole g sole _ = sole
+abbrev pub command_sole : Parts → TailFacts → Bool → Command → Bool
+command_sole g t sole Reset = false
+command_sole g t sole SynchronousReset = false
+command_sole g t sole ReadStatus = false
+command_sole g t sole ReadConfirm = sole || not (ltb 1 g.luns)
+command_sole g t sole ReadPlane = sole || not (ltb 1 g.luns)
+command_sole g t sole ReadCacheSequential = sole || not (ltb 1 g.luns)
+command_sole g t sole ChangeReadColumnConfirm = selects_plane t || sole
+command_sole g t sole _ = sole
 
 -- behind an address that comes after so many others
 abbrev pub opener_sole : Parts → Bool → Command → ℕ → Bool
@@ -177,7 +184,7 @@ address_sole g sole None = sole
 address_sole g sole (Some o) = opener_sole g sole o.opener o.addresses
 
 abbrev pub sole_behind : Parts → Scene → TargetCycle → Bool
-sole_behind g c (CommandCycle d) = command_sole g c.sole d
+sole_behind g c (CommandCycle d) = command_sole g c.facts c.sole d
 sole_behind g c (AddressCycle byte) = address_sole g c.sole c.facts.opening
 sole_behind g c (InputCycle byte) = c.sole
 sole_behind g c OutputCycle = c.sole

@@ -4,8 +4,9 @@ use Rattle.std.proofs.lemmas.Bool.{not-true, or_cases, and_parts, and_from}
 use Rattle.std.proofs.lemmas.Bool.Decides.{nat_tests}
 use Rattle.onfi_cycle.proofs.Booleans.{eqb_self}
 use Rattle.nand_geometry.specs.declared.parts.Parts.{Parts}
+use Rattle.nand_geometry.specs.Limits.{planes}
 use Rattle.onfi_cycle.specs.declared.command.Command.{Command}
-use Rattle.onfi_cycle.specs.declared.command.Command.TheVariants.{Read, ReadConfirm, ChangeReadColumnConfirm, BlockEraseConfirm, BlockErasePlane, ReadStatus, ReadStatusEnhanced, ProgramConfirm, ProgramPlane, ReadId, ReadParameterPage, Reset, ReadCacheSequential, ReadCacheEnd, ReadUniqueId, GetFeatures, SetFeatures, ResetLun, SynchronousReset, ChangeReadColumnEnhanced, ReadPlane}
+use Rattle.onfi_cycle.specs.declared.command.Command.TheVariants.{Read, ReadConfirm, ChangeReadColumnConfirm, BlockEraseConfirm, BlockErasePlane, ReadStatus, ReadStatusEnhanced, ProgramConfirm, ProgramPlane, ReadId, ReadParameterPage, Reset, ReadCacheSequential, ReadCacheEnd, ReadUniqueId, GetFeatures, SetFeatures, ResetLun, SynchronousReset, ReadPlane}
 use Rattle.onfi_cycle.specs.declared.lun.Lun.{Lun}
 use Rattle.onfi_cycle.specs.declared.item.Item.{Item}
 use Rattle.onfi_cycle.specs.declared.item.Kind.{Kind}
@@ -13,13 +14,13 @@ use Rattle.onfi_cycle.specs.declared.latch.Latch.{Latch}
 use Rattle.onfi_cycle.specs.declared.latch.Latch.TheVariants.{Off, Status, Data}
 use Rattle.onfi_cycle.specs.declared.opening.Opening.{Opening}
 use Rattle.onfi_cycle.specs.declared.effect.Effect.{Effect}
-use Rattle.onfi_cycle.specs.declared.effect.Effect.TheVariants.{Unaffected, Deselected, AnotherAddressed, DataOutput, CacheReadContinued, CacheReadEnded, IdRead, IdentityRead, ParameterPageReadStarted, UniqueIdReadStarted, FeaturesReadStarted, FeaturesSet}
+use Rattle.onfi_cycle.specs.declared.effect.Effect.TheVariants.{Unaffected, Deselected, PlaneSelected, AnotherAddressed, DataOutput, CacheReadContinued, CacheReadEnded, IdRead, IdentityRead, ParameterPageReadStarted, UniqueIdReadStarted, FeaturesReadStarted, FeaturesSet}
 use Rattle.onfi_cycle.specs.declared.tail_facts.TailFacts.{TailFacts}
 use Rattle.onfi_cycle.specs.declared.target_cycle.TargetCycle.{TargetCycle}
 use Rattle.onfi_cycle.specs.declared.target_cycle.TargetCycle.TheVariants.{CommandCycle, AddressCycle, InputCycle, OutputCycle}
 use Rattle.onfi_cycle.specs.LunView.{LunView}
 use Rattle.onfi_cycle.specs.Sequence.{tail, facts_of, facts_after, opened, selects_plane, takes_features, target_cycle, wants_command, wants_address, row, row_with}
-use Rattle.onfi_cycle.specs.Effect.{is_off, is_data, is_shared, of_target, lun_reset_effect, names_lun, command_effect, address_effect, opening_address_effect, id_effect, ends_features, cycle_effect, row_effect, cache_effect, plane_effect, column_effect}
+use Rattle.onfi_cycle.specs.Effect.{is_off, is_data, is_shared, of_target, lun_reset_effect, names_lun, command_effect, address_effect, opening_address_effect, id_effect, ends_features, cycle_effect, row_effect, cache_effect, plane_of_row, plane_effect, column_effect}
 use Rattle.onfi_cycle.specs.Lun.{latch, latch_after, works, latch_alone, effect_on, drivers, drivers_from, is_only, lun_view, luns_of, view_after}
 use Rattle.nand_geometry.specs.Optional.{is_wide}
 use Rattle.onfi_cycle.specs.Command.{closes_row, reads_identity}
@@ -31,7 +32,7 @@ use Rattle.micro_program.proofs.Below.{facts, service, driver_on}
 use Rattle.micro_program.proofs.Basics.{there_lun}
 use Rattle.micro_program.proofs.Calm.{own_effect}
 use Rattle.micro_program.proofs.Cycles.{of_no_target, permitted_cycle}
-use Rattle.micro_program.proofs.Scenes.{Scene, IsScene, CommandAllowed, AddressAllowed, Allowed, shown_alone, command_sole, opener_sole, address_sole, sole_behind, scene_behind, closed_unwanted}
+use Rattle.micro_program.proofs.Scenes.{Scene, IsScene, PlaneAllowed, CommandAllowed, AddressAllowed, Allowed, shown_alone, command_sole, opener_sole, address_sole, sole_behind, scene_behind, closed_unwanted}
 use Rattle.micro_program.proofs.Judged.{one_lun, command_judged, address_judged, input_judged, output_judged}
 
 -- 1. permitted, and the LUN's own
@@ -67,9 +68,12 @@ command_keeps_to s l past c k BlockEraseConfirm a = of_no_target (is_shared s.ge
 command_keeps_to s l past c k BlockErasePlane a = of_no_target (is_shared s.geometry) false _ refl (ap (λ (t : TailFacts). names_lun s.geometry (row t) l.lun) k.facts ∙ a.0.1)
 command_keeps_to s l past c k ProgramConfirm a = of_no_target (is_shared s.geometry) false _ refl (ap (λ (t : TailFacts). names_lun s.geometry (row t) l.lun) k.facts ∙ a.1)
 command_keeps_to s l past c k ProgramPlane a = of_no_target (is_shared s.geometry) false _ refl (ap (λ (t : TailFacts). names_lun s.geometry (row t) l.lun) k.facts ∙ a.0.1)
-command_keeps_to s l past c k ChangeReadColumnConfirm a =
+command_keeps_to s l past c k ChangeReadColumnConfirm (inl a) =
     of_no_target (is_shared s.geometry) false _ refl
     (at_driver (selects_plane (facts_of (tail past l.ce))) _ _ (ap selects_plane k.facts ∙ a.no_plane) (k.sole a.sole))
+command_keeps_to s l past c k ChangeReadColumnConfirm (inr a) =
+    of_no_target (is_shared s.geometry) false _ refl
+    (at_row (selects_plane (facts_of (tail past l.ce))) _ _ (ap selects_plane k.facts ∙ a.plane) (ap (λ (t : TailFacts). names_lun s.geometry (row t) l.lun) k.facts ∙ a.names))
 command_keeps_to s l past c k ReadCacheSequential (inl a) =
     of_no_target (is_shared s.geometry) false _ refl
     (at_driver (wants_command (facts_of (tail past l.ce)) ReadCacheSequential) _ _ (ap (λ (t : TailFacts). wants_command t ReadCacheSequential) k.facts ∙ closed_unwanted c.facts a.closed) (k.sole a.sole))
@@ -84,7 +88,7 @@ command_keeps_to s l past c k GetFeatures a = alone_to_target (is_shared s.geome
 command_keeps_to s l past c k SetFeatures a = alone_to_target (is_shared s.geometry) true true (not_shared s.geometry a.0.one) refl
 command_keeps_to s l past c k Reset a = alone_to_target (is_shared s.geometry) true true (not_shared s.geometry a.one) refl
 command_keeps_to s l past c k SynchronousReset a = alone_to_target (is_shared s.geometry) true true (not_shared s.geometry a.0.one) refl
-command_keeps_to s l past c k ReadPlane a = absurd a
+command_keeps_to s l past c k ReadPlane a = of_no_target (is_shared s.geometry) false _ refl (ap (λ (t : TailFacts). names_lun s.geometry (row t) l.lun) k.facts ∙ a.0.1)
 command_keeps_to s l past c k _ a = of_no_target (is_shared s.geometry) false true refl refl
 
 either : (b : Bool) (x : Bool) → (b ≡ true → x ≡ true) → cond b x true ≡ true
@@ -124,7 +128,8 @@ own_cycle s l past c there k kind byte a =
 -- 2. what the LUN is behind it
 
 same_command_effect : (g : Parts) (x : Latch) (c : Scene) (lun : ℕ) → (c.sole ≡ true → x ≡ shown_alone c) → (d : Command) → CommandAllowed g lun c d → command_effect g c.facts x d lun ≡ command_effect g c.facts (shown_alone c) d lun
-same_command_effect g x c lun h ChangeReadColumnConfirm a = ap (λ (y : Latch). command_effect g c.facts y ChangeReadColumnConfirm lun) (h a.sole)
+same_command_effect g x c lun h ChangeReadColumnConfirm (inl a) = ap (λ (y : Latch). command_effect g c.facts y ChangeReadColumnConfirm lun) (h a.sole)
+same_command_effect g x c lun h ChangeReadColumnConfirm (inr a) = rw a.plane refl
 same_command_effect g x c lun h ReadCacheSequential (inl a) = ap (λ (y : Latch). command_effect g c.facts y ReadCacheSequential lun) (h a.sole)
 same_command_effect g x c lun h ReadCacheSequential (inr a) = rw a.wants refl
 same_command_effect g x c lun h ReadCacheEnd a = ap (λ (y : Latch). command_effect g c.facts y ReadCacheEnd lun) (h a.sole)
@@ -190,6 +195,25 @@ others_off latches (suc count) n k m only low high other =
     at true off rest false e more none = more rest (grind (arith, nat_tests, low, e))
     at false off rest true e more none = absurd (other (eqb-true m n e ∙ eqb-true n k (first (drivers_from latches count (n + 1)) rest).1))
     at false off rest false e more none = none (first (drivers_from latches count (n + 1)) rest).0 (grind (arith, nat_tests, low, e))
+
+-- where each is off, none drives
+all_off : (latches : ℕ → Latch) (count n : ℕ) → ((m : ℕ) → n ≤ m → is_off (latches m) ≡ true) → drivers_from latches count n ≡ []
+all_off latches zero n off = refl
+all_off latches (suc count) n off = rw (off n (omega arith)) (all_off latches count (n + 1) (λ m low. off m (omega (arith, low))))
+
+-- where each other is off, the one that is on drives alone
+drives_alone : (latches : ℕ → Latch) (count n k : ℕ) → n ≤ k → k < n + count → is_off (latches k) ≡ false → ((m : ℕ) → m ≢ k → is_off (latches m) ≡ true) → is_only (drivers_from latches count n) k ≡ true
+drives_alone latches zero n k low high on off = absurd (omega (arith, low, high))
+drives_alone latches (suc count) n k low high on off = at (n == k) refl (λ more. drives_alone latches count (n + 1) k more (omega (arith, high)) on off)
+  where
+    at : (b : Bool) → (n == k) ≡ b → (n + 1 ≤ k → is_only (drivers_from latches count (n + 1)) k ≡ true) → is_only (cond (is_off (latches n)) (drivers_from latches count (n + 1)) (n ∷ drivers_from latches count (n + 1))) k ≡ true
+    at true e rest =
+        let here : is_off (latches n) ≡ false = ap (λ (m : ℕ). is_off (latches m)) (eqb-true n k e) ∙ on in
+        let none : drivers_from latches count (n + 1) ≡ [] = all_off latches count (n + 1) (λ m more. off m (λ same. let is = eqb-true n k e in absurd (omega (arith, more, same, is)))) in
+        rw (here, none) e
+    at false e rest =
+        let there : is_off (latches n) ≡ true = off n (λ same. let is : (n == k) ≡ true = eq-eqb n k same in let clash : true ≡ false = sym is ∙ e in cc) in
+        rw there (rest (grind (arith, nat_tests, low, e)))
 
 -- a cycle leaves each latch off or on, where that of this LUN alone is on
 abbrev LeavesOff : Parts → ℕ → TailFacts → TargetCycle → Type 0
@@ -268,7 +292,17 @@ command_leaves_off g lun c ReadConfirm h a m p q x on off =
     read_leaves (wants_command c.facts ReadConfirm && names_lun g (row c.facts) m) (wants_command c.facts ReadConfirm && is_shared g) _ p q x
     (λ e. sym (on (sym (eqb-true _ m (and_parts _ _ e).1) ∙ eqb-true _ lun a.0.1)))
     (λ e. off (λ same. not_both (wants_command c.facts ReadConfirm) (names_lun g (row c.facts) m) a.0.0 (ap (names_lun g (row c.facts)) same ∙ a.0.1) e))
-command_leaves_off g lun c ChangeReadColumnConfirm h a m p q x on off =
+command_leaves_off g lun c ReadPlane h a m p q x on off =
+    read_leaves (wants_command c.facts ReadPlane && names_lun g (row c.facts) m) (wants_command c.facts ReadPlane && is_shared g) _ p q x
+    (λ e. sym (on (sym (eqb-true _ m (and_parts _ _ e).1) ∙ eqb-true _ lun a.0.1)))
+    (λ e. off (λ same. not_both (wants_command c.facts ReadPlane) (names_lun g (row c.facts) m) a.0.0 (ap (names_lun g (row c.facts)) same ∙ a.0.1) e))
+command_leaves_off g lun c ChangeReadColumnConfirm h (inr a) m p q x on off =
+    ap (λ (b : Bool). is_off (latch_after (cond b (plane_effect g c.facts m) (column_effect c.facts x)) p q x)) a.plane ∙ at (names_lun g (row c.facts) m) refl
+  where
+    at : (b : Bool) → names_lun g (row c.facts) m ≡ b → is_off (latch_after (cond b (PlaneSelected (plane_of_row g (row c.facts)) (planes g) c.facts.column) Deselected) p q x) ≡ is_off x
+    at true e = sym (on (sym (eqb-true _ m e) ∙ eqb-true _ lun a.names))
+    at false e = sym (off (λ same. let is : names_lun g (row c.facts) m ≡ true = ap (names_lun g (row c.facts)) same ∙ a.names in let clash : true ≡ false = sym is ∙ e in cc))
+command_leaves_off g lun c ChangeReadColumnConfirm h (inl a) m p q x on off =
     ap (λ (b : Bool). is_off (latch_after (cond b (plane_effect g c.facts m) (column_effect c.facts x)) p q x)) a.no_plane
     ∙ leaves_either (wants_command c.facts ChangeReadColumnConfirm && not (is_off x)) _ p q x (λ e. refl)
 command_leaves_off g lun c ReadCacheSequential h (inl a) m p q x on off =
@@ -284,8 +318,6 @@ command_leaves_off g lun c ReadStatusEnhanced h a m p q x on off = refl
 command_leaves_off g lun c Reset h a m p q x on off = cc
 command_leaves_off g lun c SynchronousReset h a m p q x on off = cc
 command_leaves_off g lun c ReadStatus h a m p q x on off = cc
-command_leaves_off g lun c ChangeReadColumnEnhanced h a m p q x on off = absurd a
-command_leaves_off g lun c ReadPlane h a m p q x on off = absurd a
 command_leaves_off g lun c d h a m p q x on off = closer_leaves (wants_command c.facts d && names_lun g (row c.facts) m) (closes_row d && (wants_command c.facts d && is_shared g)) _ p q x refl
 
 -- the openers whose addresses leave each driver
@@ -319,6 +351,39 @@ reset_leaves_off g t byte lun o e is early m p q x on off =
 
 read_lights : (g : Parts) (t : TailFacts) (x : Latch) (p q : Bool) (y : Latch) (lun : ℕ) → wants_command t ReadConfirm ≡ true → names_lun g (row t) lun ≡ true → latch_after (command_effect g t x ReadConfirm lun) p q y ≡ Data
 read_lights g t x p q y lun wants names = rw (wants, names) refl
+
+plane_read_lights : (g : Parts) (t : TailFacts) (x : Latch) (p q : Bool) (y : Latch) (lun : ℕ) → wants_command t ReadPlane ≡ true → names_lun g (row t) lun ≡ true → latch_after (command_effect g t x ReadPlane lun) p q y ≡ Data
+plane_read_lights g t x p q y lun wants names = rw (wants, names) refl
+
+-- what shows behind an E0 that 06 began: the LUN of the row shows data, and no other shows anything
+plane_latch : (g : Parts) (lun : ℕ) (c : Scene) → PlaneAllowed g lun c → (m : ℕ) (p q : Bool) (x : Latch) → is_off (latch_after (command_effect g c.facts x ChangeReadColumnConfirm m) p q x) ≡ not (names_lun g (row c.facts) m)
+plane_latch g lun c a m p q x =
+    ap (λ (b : Bool). is_off (latch_after (cond b (plane_effect g c.facts m) (column_effect c.facts x)) p q x)) a.plane ∙ at (names_lun g (row c.facts) m)
+  where
+    at : (b : Bool) → is_off (latch_after (cond b (PlaneSelected (plane_of_row g (row c.facts)) (planes g) c.facts.column) Deselected) p q x) ≡ not b
+    at true = refl
+    at false = refl
+
+plane_alone : (s : Channel) (l : Lun) (past : List Item) (c : Scene) → is_there s l ≡ true → IsScene s l past c → (kind : Kind) (byte : ℕ) → target_cycle kind byte ≡ CommandCycle ChangeReadColumnConfirm → PlaneAllowed s.geometry l.lun c → is_only (drivers s.geometry (cycle l.ce kind byte ∷ past) l.ce) l.lun ≡ true
+plane_alone s l past c there k kind byte is a =
+    drives_alone (λ m. latch g (cycle l.ce kind byte ∷ past) (record { ce = l.ce; lun = m })) g.luns 0 l.lun (omega arith) (let low = there_lun s l there in omega (arith, low))
+    (each l.lun ∙ ap not a.names)
+    (λ m other. each m ∙ ap not (unnamed m other (names_lun g (row c.facts) m) refl))
+  where
+    g : Parts
+    g = s.geometry
+
+    each : (m : ℕ) → is_off (latch g (cycle l.ce kind byte ∷ past) (record { ce = l.ce; lun = m })) ≡ not (names_lun g (row c.facts) m)
+    each m =
+        let x = latch g past (record { ce = l.ce; lun = m }) in
+        let v = lun_view g past (record { ce = l.ce; lun = m }) in
+        rw (eqb_self l.ce)
+        (ap (λ (t : TailFacts). is_off (latch_after (cycle_effect g t x (target_cycle kind byte) m) v.selected (works v) x)) k.facts
+        ∙ (ap (λ (d : TargetCycle). is_off (latch_after (cycle_effect g c.facts x d m) v.selected (works v) x)) is ∙ plane_latch g l.lun c a m v.selected (works v) x))
+
+    unnamed : (m : ℕ) → m ≢ l.lun → (b : Bool) → names_lun g (row c.facts) m ≡ b → names_lun g (row c.facts) m ≡ false
+    unnamed m other true e = absurd (other (sym (eqb-true _ m e) ∙ eqb-true _ l.lun a.names))
+    unnamed m other false e = e
 
 cache_read_lights : (g : Parts) (t : TailFacts) (x : Latch) (p q : Bool) (y : Latch) (lun : ℕ) → wants_command t ReadCacheSequential ≡ true → names_lun g (row t) lun ≡ true → latch_after (command_effect g t x ReadCacheSequential lun) p q y ≡ Data
 cache_read_lights g t x p q y lun wants names = rw (wants, names) refl
@@ -360,7 +425,7 @@ sole_next s l past c there k kind byte d is a view h = by d is a view h
     latch_is : (d : TargetCycle) → lun_view g (cycle l.ce kind byte ∷ past) l ≡ view_after (cycle_effect g c.facts (shown_alone c) d l.lun) c.view → latch g (cycle l.ce kind byte ∷ past) l ≡ latch_after (cycle_effect g c.facts (shown_alone c) d l.lun) c.view.selected (works c.view) c.view.latch
     latch_is d view = ap (λ (v : LunView). v.latch) view
 
-    by_command : (d : Command) → target_cycle kind byte ≡ CommandCycle d → CommandAllowed g l.lun c d → lun_view g (cycle l.ce kind byte ∷ past) l ≡ view_after (cycle_effect g c.facts (shown_alone c) (CommandCycle d) l.lun) c.view → command_sole g c.sole d ≡ true → is_only (drivers g (cycle l.ce kind byte ∷ past) l.ce) l.lun ≡ true
+    by_command : (d : Command) → target_cycle kind byte ≡ CommandCycle d → CommandAllowed g l.lun c d → lun_view g (cycle l.ce kind byte ∷ past) l ≡ view_after (cycle_effect g c.facts (shown_alone c) (CommandCycle d) l.lun) c.view → command_sole g c.facts c.sole d ≡ true → is_only (drivers g (cycle l.ce kind byte ∷ past) l.ce) l.lun ≡ true
     by_command Reset is a view h = cc
     by_command ReadStatus is a view h = cc
     by_command SynchronousReset is a view h = cc
@@ -368,6 +433,12 @@ sole_next s l past c there k kind byte d is a view h = by d is a view h
       | inl e ↦ still (CommandCycle ReadConfirm) is (command_leaves_off g l.lun c ReadConfirm refl a) e
       | inr e ↦ sole_of_one s l (cycle l.ce kind byte ∷ past) there (not-true (ltb 1 g.luns) e) (off_by _ Data (latch_is (CommandCycle ReadConfirm) view ∙ read_lights g c.facts (shown_alone c) c.view.selected (works c.view) c.view.latch l.lun a.0.0 a.0.1) refl)
     ]
+    by_command ReadPlane is a view h = elim (or_cases c.sole (not (ltb 1 g.luns)) h) [
+      | inl e ↦ still (CommandCycle ReadPlane) is (command_leaves_off g l.lun c ReadPlane refl a) e
+      | inr e ↦ sole_of_one s l (cycle l.ce kind byte ∷ past) there (not-true (ltb 1 g.luns) e) (off_by _ Data (latch_is (CommandCycle ReadPlane) view ∙ plane_read_lights g c.facts (shown_alone c) c.view.selected (works c.view) c.view.latch l.lun a.0.0 a.0.1) refl)
+    ]
+    by_command ChangeReadColumnConfirm is (inl a) view h = still (CommandCycle ChangeReadColumnConfirm) is (command_leaves_off g l.lun c ChangeReadColumnConfirm refl (inl a)) a.sole
+    by_command ChangeReadColumnConfirm is (inr a) view h = plane_alone s l past c there k kind byte is a
     by_command ReadCacheSequential is (inl a) view h = still (CommandCycle ReadCacheSequential) is (command_leaves_off g l.lun c ReadCacheSequential refl (inl a)) a.sole
     by_command ReadCacheSequential is (inr a) view h = elim (or_cases c.sole (not (ltb 1 g.luns)) h) [
       | inl e ↦ still (CommandCycle ReadCacheSequential) is (command_leaves_off g l.lun c ReadCacheSequential refl (inr a)) e

@@ -143,7 +143,7 @@ opener_refused s text v r c from count o n w x inside changes same sure h = by (
         let t = row_tests from count n (first_address o) (address_cycles o) _ _ x.begins (row_cycles o takes_it) w.few h in
         let five = t.0 in
         let row = x.now.row (let y : 2 < from + count = omega (arith, five) in grind (arith, nat_tests, y)) in
-        row_stops s text v r c from count o n w x takes_it five (λ takes low. column takes low (omega (arith, five))) (sym (row_refused_is g j v r.done c.view o n a w.fit.base takes_it m.registers m.lun row refl refl) ∙ t.1)
+        row_stops s text v r c from count o n w x takes_it five (λ takes low. column takes low (omega (arith, five))) (sym (row_refused_is g j v r.done c.view o n a w.fit.base x.carries takes_it m.registers m.lun row refl refl) ∙ t.1)
     by false other = subst Column (changed o x.carries other) behind_05 x inside column h
 
 pub refused_stops : (s : Channel) (text : Microprogram) (v : State) (r : Run) (c : Lone) (from count : ℕ) → AddressAt s text v r c from count → begins_wrong c.facts from count ≡ false → (wants_identity c.facts ≡ true → from ≤ 1) → address_out_of_place s.geometry v from count v.target.tail ≡ true → WordStops s (lone_job s.geometry text) r (AddressWord from count) is_of_cycle_forbidden

@@ -1,4 +1,5 @@
 -- What the claim says against the second column cycle and the last row cycle of an address is what the rules say.
+use Rattle.std.proofs.Math.Bool.{or-false}
 use Rattle.std.proofs.Common.{◌≡◌, ℕ, ◌+◌, ◌*◌, ◌/◌, ◌%◌, ◌≤◌, ◌<◌, Bool, true, false, ◌||◌, cond, not, nat_le, List, Option, Some, None, refl, sym, ap, ◌∙◌, subst, ◌&&◌}
 use Rattle.nand_geometry.specs.declared.parts.Parts.{Parts}
 use Rattle.nand_geometry.specs.declared.row_parts.RowParts.{RowParts}
@@ -6,7 +7,7 @@ use Rattle.nand_geometry.specs.Limits.{planes}
 use Rattle.nand_geometry.specs.Optional.{is_wide}
 use Rattle.nand_geometry.specs.Row.{row_of}
 use Rattle.onfi_cycle.specs.declared.command.Command.{Command}
-use Rattle.onfi_cycle.specs.declared.command.Command.TheVariants.{Read, BlockErase, PageProgram}
+use Rattle.onfi_cycle.specs.declared.command.Command.TheVariants.{Read, ChangeReadColumn, BlockErase, PageProgram}
 use Rattle.onfi_cycle.specs.declared.forbidden.Forbidden.{Forbidden}
 use Rattle.onfi_cycle.specs.declared.forbidden.Forbidden.TheVariants.{LunBusy, QueueClash, ColumnOutside, CacheReadMisplaced}
 use Rattle.onfi_cycle.specs.LunView.{LunView}
@@ -17,7 +18,7 @@ use Rattle.micro_claims.specs.declared.place.Place.TheVariants.{After}
 use Rattle.micro_claims.specs.declared.planes.Planes.{Planes}
 use Rattle.micro_claims.specs.State.{may_be_31}
 use Rattle.micro_claims.specs.Spans.{greatest_bound, bound_plus, is_at_most}
-use Rattle.micro_claims.specs.Against.{queue_refuses, row_refused}
+use Rattle.micro_claims.specs.Against.{queue_refuses, plane_refused, row_refused}
 use Rattle.micro_program.specs.Program.{Job, Done, index_now, plane_now, column_now}
 use Rattle.micro_claims.proofs.Fits.{Address, RowIs, takes_row}
 use Rattle.micro_claims.proofs.AddressSteps.{carried}
@@ -28,6 +29,7 @@ use Rattle.micro_verify.proofs.Mirrors.{RegistersMirror, LunMirror, exact_test}
 use Rattle.micro_verify.proofs.AddressesJudged.{row_rule, column_rule}
 use Rattle.micro_verify.proofs.AddressTests.{row_is_of_array}
 use Rattle.micro_verify.proofs.AddressCauses.{index_test}
+use Rattle.micro_verify.proofs.AddressesNow.{carries_registers}
 use Rattle.micro_verify.proofs.QueueExact.{refuses_is}
 
 -- 1. the last row cycle
@@ -36,22 +38,31 @@ use Rattle.micro_verify.proofs.QueueExact.{refuses_is}
 abbrev pub is_refused : Parts → Command → Address → LunView → Bool
 is_refused g o a view = view.busy || caching view || refused_by (based g) o (page_address g (row_of a.r1 a.r2 a.r3)) view.queue
 
-pub row_refused_is : (g : Parts) (j : Job) (v : State) (done : List Done) (view : LunView) (o : Command) (n : ℕ) (a : Address) → is_wide g.optional ≡ false → takes_row o ≡ true → RegistersMirror g v.registers done → LunMirror g v.lun (index_now 0 done) view → RowIs g j a → a.index ≡ index_now 0 done → a.plane ≡ plane_now done → row_refused g v (After o n) ≡ is_refused g o a view
-row_refused_is g j v done view o n a base takes m lun row index plane =
+pub row_refused_is : (g : Parts) (j : Job) (v : State) (done : List Done) (view : LunView) (o : Command) (n : ℕ) (a : Address) → is_wide g.optional ≡ false → carries_registers o ≡ true → takes_row o ≡ true → RegistersMirror g v.registers done → LunMirror g v.lun (index_now 0 done) view → RowIs g j a → a.index ≡ index_now 0 done → a.plane ≡ plane_now done → row_refused g v (After o n) ≡ is_refused g o a view
+row_refused_is g j v done view o n a base carries takes m lun row index plane =
     let page : (page_address g (row_of a.r1 a.r2 a.r3)).page ≡ index_now 0 done % g.pages = ap (λ (p : RowParts). p.page) row.reads ∙ ap (λ (i : ℕ). i % g.pages) index in
     let block : (page_address g (row_of a.r1 a.r2 a.r3)).block ≡ index_now 0 done / g.pages * planes g + plane_now done = ap (λ (p : RowParts). p.block) row.reads ∙ (λ i. index i / g.pages * planes g + plane i) in
     let low : plane_now done < planes g = subst (λ (p : ℕ). p < planes g) plane row.low in
     let queue : queue_refuses v.lun.queue v.registers.planes o ≡ refused_by (based g) o (page_address g (row_of a.r1 a.r2 a.r3)) view.queue =
-    ap (λ (p : Planes). queue_refuses v.lun.queue p o) m.planes ∙ refuses_is g (index_now 0 done) v.lun.queue view.queue o (page_address g (row_of a.r1 a.r2 a.r3)) (plane_now done) takes lun.queue low m.plane_low page block in
-    let cached : (excludes_cache g o && may_be_31 v.lun.last) ≡ caching view = ap (λ (b : Bool). b && may_be_31 v.lun.last) (excludes g o base takes) ∙ lun.caching in
-    λ i. row_is_of_array o takes i && (lun.busy i || cached i || queue i)
+    ap (λ (p : Planes). queue_refuses v.lun.queue p o) m.planes ∙ refuses_is g (index_now 0 done) v.lun.queue view.queue o (page_address g (row_of a.r1 a.r2 a.r3)) (plane_now done) carries takes lun.queue low m.plane_low page block in
+    let cached : (excludes_cache g o && may_be_31 v.lun.last) ≡ caching view = ap (λ (b : Bool). b && may_be_31 v.lun.last) (excludes g o base carries takes) ∙ lun.caching in
+    (λ i. row_is_of_array o takes i && (lun.busy i || cached i || queue i || selects o carries i)) ∙ or-false (view.busy || caching view || refused_by (based g) o (page_address g (row_of a.r1 a.r2 a.r3)) view.queue)
   where
     -- in the base profile no row may name a LUN that is caching
-    excludes : (g : Parts) (o : Command) → is_wide g.optional ≡ false → takes_row o ≡ true → excludes_cache g o ≡ true
-    excludes g Read base takes = ap not base
-    excludes g BlockErase base takes = refl
-    excludes g PageProgram base takes = refl
-    excludes g _ base takes = cc
+    excludes : (g : Parts) (o : Command) → is_wide g.optional ≡ false → carries_registers o ≡ true → takes_row o ≡ true → excludes_cache g o ≡ true
+    excludes g Read base carries takes = ap not base
+    excludes g BlockErase base carries takes = refl
+    excludes g PageProgram base carries takes = refl
+    excludes g ChangeReadColumn base carries takes = cc
+    excludes g _ base carries takes = cc
+
+    -- and none selects a plane
+    selects : (o : Command) → carries_registers o ≡ true → plane_refused v o ≡ false
+    selects Read carries = refl
+    selects BlockErase carries = refl
+    selects PageProgram carries = refl
+    selects ChangeReadColumn carries = refl
+    selects _ carries = cc
 
 -- a row that is refused breaks a rule of V7, another none
 pub refused_breaks : (g : Parts) (o : Command) (a : Address) (view : LunView) → is_refused g o a view ≡ true → (rule : Forbidden) × ((row_rule g o a view ≡ Some rule) × (is_of_cycle_forbidden rule ≡ true))

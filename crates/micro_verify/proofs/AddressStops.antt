@@ -105,11 +105,12 @@ second_rule g ChangeReadColumn a view carries takes = refl
 second_rule g BlockErase a view carries takes = cc
 second_rule g _ a view carries takes = cc
 
-pub last_rule : (g : Parts) (o : Command) (a : Address) (view : LunView) (i : ℕ) → takes_row o ≡ true → first_address o + i ≡ 4 → address_rule g o a view i ≡ row_rule g o a view
-last_rule g Read a view i takes e = ap (address_rule g Read a view) (let x : i ≡ 4 = omega (arith, e) in x)
-last_rule g PageProgram a view i takes e = ap (address_rule g PageProgram a view) (let x : i ≡ 4 = omega (arith, e) in x)
-last_rule g BlockErase a view i takes e = ap (address_rule g BlockErase a view) (let x : i ≡ 2 = omega (arith, e) in x)
-last_rule g _ a view i takes e = cc
+pub last_rule : (g : Parts) (o : Command) (a : Address) (view : LunView) (i : ℕ) → carries_registers o ≡ true → takes_row o ≡ true → first_address o + i ≡ 4 → address_rule g o a view i ≡ row_rule g o a view
+last_rule g Read a view i carries takes e = ap (address_rule g Read a view) (let x : i ≡ 4 = omega (arith, e) in x)
+last_rule g PageProgram a view i carries takes e = ap (address_rule g PageProgram a view) (let x : i ≡ 4 = omega (arith, e) in x)
+last_rule g BlockErase a view i carries takes e = ap (address_rule g BlockErase a view) (let x : i ≡ 2 = omega (arith, e) in x)
+last_rule g ChangeReadColumn a view i carries takes e = cc
+last_rule g _ a view i carries takes e = cc
 
 -- the last row cycle is the fifth of C1 C2 R1 R2 R3
 pub last_is : (o : Command) (i : ℕ) → carries_registers o ≡ true → at_last_row o i ≡ true → first_address o + i ≡ 4

@@ -4,7 +4,7 @@ use Rattle.std.proofs.Common.{◌≡◌, ℕ, ◌+◌, ◌-◌, ◌/◌, ◌%◌
 use Rattle.std.proofs.lemmas.Bool.{not-false, and_parts, and_from, or_parts}
 use Rattle.nand_geometry.specs.declared.parts.Parts.{Parts}
 use Rattle.onfi_cycle.specs.declared.command.Command.{Command}
-use Rattle.onfi_cycle.specs.declared.command.Command.TheVariants.{Read, ChangeReadColumn, BlockErase, PageProgram}
+use Rattle.onfi_cycle.specs.declared.command.Command.TheVariants.{Read, ChangeReadColumn, ChangeReadColumnEnhanced, BlockErase, PageProgram}
 use Rattle.onfi_cycle.specs.declared.queued.Queued.{Queued}
 use Rattle.onfi_cycle.specs.Base.{is_of_base}
 use Rattle.onfi_cycle.specs.Command.{address_cycles}
@@ -17,7 +17,7 @@ use Rattle.micro_claims.specs.declared.drift.Drift.{Drift}
 use Rattle.micro_claims.specs.declared.page_range.PageRange.{PageRange}
 use Rattle.micro_claims.specs.declared.place.Place.TheVariants.{After, InData}
 use Rattle.micro_claims.specs.declared.queued_rows.QueuedRows.{QueuedRows}
-use Rattle.micro_claims.specs.declared.queued_rows.QueuedRows.TheVariants.{NoRows, SomeRows, AnyRows}
+use Rattle.micro_claims.specs.declared.queued_rows.QueuedRows.TheVariants.{NoRows, SomeRows, SomeReads, AnyRows}
 use Rattle.micro_claims.specs.Spans.{greatest_bound, kept, copied}
 use Rattle.micro_claims.specs.Against.{first_address, same_test, is_read, is_erase, queue_refuses}
 use Rattle.micro_claims.specs.Planes.{share_a_plane}
@@ -26,7 +26,7 @@ use Rattle.micro_program.specs.Program.{Job, Done, column_now, index_now}
 use Rattle.micro_claims.proofs.Fits.{Address, bytes_of, opener_facts, facts_behind, takes_column, takes_row, has_column, has_row, is_place, now_of}
 use Rattle.micro_claims.proofs.Addressing.{AddressNow, of_now, carried_is}
 use Rattle.micro_claims.proofs.AddressSteps.{carried}
-use Rattle.micro_claims.proofs.SoundAddress.{read_column, program_column, column_column}
+use Rattle.micro_claims.proofs.SoundAddress.{read_column, program_column, column_column, enhanced_column}
 use Rattle.micro_verify.proofs.AddressesNow.{carries_registers}
 use Rattle.micro_verify.proofs.AddressTests.{takes_first}
 use Rattle.micro_verify.specs.Lazy.{lone_job, Run}
@@ -70,6 +70,7 @@ named_exact g j v done from count a base many m =
 pub along_now : (g : Parts) (now : ℕ) (q : QueuedRows) (queue : List Queued) (planes : Planes) (o : Command) → RowsMirror g now q queue → queue_refuses q planes o ≡ false → goes_along (is_erase o) (Some (record { ahead = 0; behind = 0 })) q ≡ true
 along_now g now NoRows queue planes o m clear = refl
 along_now g now AnyRows queue planes o m clear = cc
+along_now g now (SomeReads queued surely d) queue planes o m clear = absurd m
 along_now g now (SomeRows kind queued d) queue planes o m clear =
     let three = or_parts (is_read o || not (same_test kind (is_erase o)) || not (d.ahead == d.behind)) (share_a_plane planes queued) clear in
     let two = or_parts (is_read o || not (same_test kind (is_erase o))) (not (d.ahead == d.behind)) three.0 in
@@ -92,6 +93,7 @@ input_is : (o : Command) (a : Address) (m : ℕ) → takes_column o ≡ true →
 input_is Read a m takes low high = read_column a m low high
 input_is PageProgram a m takes low high = program_column a m low high
 input_is ChangeReadColumn a m takes low high = column_column a m low high
+input_is ChangeReadColumnEnhanced a m takes low high = enhanced_column a m low high
 input_is _ a m takes low high = cc
 
 pub column_led : (s : Channel) (text : Microprogram) (v : State) (r : Run) (c : Lone) (from count : ℕ) (o : Command) (n : ℕ) → AddressAt s text v r c from count → (x : AtOpener s text r c from count o n) → takes_column o ≡ true → 2 ≤ n + count → n + count ≤ address_cycles o → (has_column (After o n) ≡ true → BoundIs (input_column c.facts) v.target.column) → BoundIs (input_column (facts_behind (opener_facts o) (take (n + count) (bytes_of o (of_now s.geometry (lone_job s.geometry text) r.done from count x.now))))) (target_after_addresses s.geometry v from count).column

@@ -2,7 +2,7 @@
 use Rattle.std.proofs.lemmas.Bool.Decides.{nat_tests}
 use Rattle.std.proofs.Common.{◌≡◌, ℕ, ◌+◌, ◌-◌, ◌≤◌, ◌<◌, ◌==◌, Bool, true, false, ◌&&◌, ◌||◌, cond, not, ltb, nat_le, refl, arith}
 use Rattle.onfi_cycle.specs.declared.command.Command.{Command}
-use Rattle.onfi_cycle.specs.declared.command.Command.TheVariants.{Read, ChangeReadColumn, BlockErase, PageProgram, ReadId, ReadParameterPage, ResetLun}
+use Rattle.onfi_cycle.specs.declared.command.Command.TheVariants.{Read, ChangeReadColumn, ChangeReadColumnEnhanced, BlockErase, PageProgram, ReadId, ReadParameterPage, ResetLun}
 use Rattle.onfi_cycle.specs.Base.{is_of_base}
 use Rattle.onfi_cycle.specs.Command.{at_last_row, address_cycles, addresses_the_array, reads_identity}
 use Rattle.micro_claims.specs.Against.{first_address, has_second_column}
@@ -20,6 +20,7 @@ carries_is PageProgram n place base other = refl
 carries_is ReadId n place base other = cc
 carries_is ReadParameterPage n place base other = cc
 carries_is ResetLun n place base other = cc
+carries_is ChangeReadColumnEnhanced n place base other = cc
 carries_is _ n place base other = cc
 
 pub takes_is : (o : Command) (n : ℕ) → carries_registers o ≡ true → first_address o + n ≤ 1 → takes_column o ≡ true
@@ -33,18 +34,21 @@ pub takes_first : (o : Command) → takes_column o ≡ true → first_address o 
 takes_first Read h = refl
 takes_first PageProgram h = refl
 takes_first ChangeReadColumn h = refl
+takes_first ChangeReadColumnEnhanced h = refl
 takes_first _ h = cc
 
 pub two_cycles : (o : Command) → takes_column o ≡ true → 2 ≤ address_cycles o
 two_cycles Read h = omega arith
 two_cycles PageProgram h = omega arith
 two_cycles ChangeReadColumn h = omega arith
+two_cycles ChangeReadColumnEnhanced h = omega arith
 two_cycles _ h = cc
 
 pub row_cycles : (o : Command) → takes_row o ≡ true → first_address o + address_cycles o ≡ 5
 row_cycles Read h = refl
 row_cycles PageProgram h = refl
 row_cycles BlockErase h = refl
+row_cycles ChangeReadColumnEnhanced h = refl
 row_cycles _ h = cc
 
 -- who takes a row addresses the array
@@ -52,6 +56,7 @@ pub row_is_of_array : (o : Command) → takes_row o ≡ true → addresses_the_a
 row_is_of_array Read h = refl
 row_is_of_array BlockErase h = refl
 row_is_of_array PageProgram h = refl
+row_is_of_array ChangeReadColumnEnhanced h = refl
 row_is_of_array _ h = cc
 
 pub last_of_row : (o : Command) (i : ℕ) → carries_registers o ≡ true → at_last_row o i ≡ true → takes_row o ≡ true

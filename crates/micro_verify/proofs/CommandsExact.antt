@@ -47,29 +47,30 @@ use Rattle.micro_claims.specs.declared.shown.Shown.{Shown}
 use Rattle.micro_claims.specs.Spans.{Span}
 use Rattle.micro_claims.specs.declared.place.Place.{Place}
 use Rattle.micro_claims.specs.declared.place.Place.TheVariants.{Closed, After, InData, InColumn, InFeatures, Unknown}
-use Rattle.micro_claims.specs.State.{bounds_of, may_be_other}
+use Rattle.micro_claims.specs.State.{bounds_of, closed, any_but_31, may_be_30, may_be_31, may_be_other}
 use Rattle.micro_claims.specs.Spans.{greatest_bound, kept, bound_plus, is_at_most}
-use Rattle.micro_claims.specs.Against.{place_wants, closer_refused, same_test, is_of_profile, is_unfit, is_data_command, may_be_open, opener_refused, shows_only_data, has_page_or_parameters, has_register, drives, asks_status, is_for_traces, command_out_of_place, command_past_rows, command_not_for_programs, continues_unseen}
-use Rattle.micro_claims.specs.Leaves.{paid, with_registers, resumed_shows, shows_after_read, data_shown, given_at, cached_at, cache_read, next_cached, command_leaves, queued_more, queued_planes, goes_along, same_drift, rows_at}
+use Rattle.micro_claims.specs.Against.{place_wants, selects_plane_at, closer_refused, same_test, is_of_profile, is_unfit, is_data_command, may_be_open, opener_refused, shows_only_data, has_page_or_parameters, has_register, drives, asks_status, is_for_traces, command_out_of_place, command_past_rows, command_not_for_programs, continues_unseen}
+use Rattle.micro_claims.specs.Leaves.{paid, with_registers, resumed_shows, shows_after_read, data_shown, given_at, may_be_reads, page_register, named_plane, cached_at, cache_read, next_cached, command_leaves, queued_more, queued_planes, goes_along, same_drift, rows_at}
 use Rattle.micro_claims.specs.Planes.{no_planes, either_plane}
 use Rattle.micro_claims.specs.declared.planes.Planes.{Planes}
 use Rattle.micro_claims.specs.declared.drift.Drift.{Drift}
 use Rattle.micro_claims.specs.declared.queued_rows.QueuedRows.{QueuedRows}
-use Rattle.micro_claims.specs.declared.queued_rows.QueuedRows.TheVariants.{NoRows, SomeRows, AnyRows}
+use Rattle.micro_claims.specs.declared.queued_rows.QueuedRows.TheVariants.{NoRows, SomeRows, SomeReads, AnyRows}
 use Rattle.onfi_cycle.specs.declared.queued.Queued.{Queued}
 use Rattle.onfi_cycle.specs.declared.queued.Queued.TheVariants.{Erase, Program, Read as QueuedRead}
 use Rattle.micro_claims.specs.Reasons.{reason_against, breaks_cycle_forbidden, breaks_address_unaligned, breaks_handover_in_sequence, breaks_buffer_passed, breaks_row_or_plane_outside, breaks_column_too_large, breaks_no_status, breaks_ends_too_soon, breaks_command_not_allowed}
 use Rattle.micro_claims.specs.Accepts.{state_after}
 use Rattle.micro_verify.specs.Lazy.{lone_job, Run}
 use Rattle.micro_verify.specs.Cause.{Cause, WordStops, is_of_cycle_forbidden, index_of, next_page_outside}
-use Rattle.micro_claims.proofs.Fits.{Address, is_place, bytes_of, opener_facts, facts_behind, RowIs, Now, now_of, has_row, has_column, InProgram, ColumnBegun, is_of_kind, page_of}
+use Rattle.micro_claims.proofs.Fits.{Address, is_place, bytes_of, opener_facts, facts_behind, RowIs, Now, now_of, has_row, has_column, InProgram, ColumnBegun, is_of_kind, page_of, closer_among}
 use Rattle.micro_claims.proofs.Tails.{no_address, closed_by, only_read, only_erase, only_erase_plane, only_column}
 use Rattle.micro_claims.proofs.Sounding.{NoReasons, no_reasons}
-use Rattle.micro_claims.proofs.Commands.{same_either, out_of_place, wanted, row_names, one_held}
+use Rattle.micro_claims.proofs.Commands.{same_either, out_of_place, wanted, row_names, column_leaves}
+use Rattle.micro_claims.proofs.HeldPlanes.{one_page}
 use Rattle.micro_claims.proofs.MoreCommands.{declared, opener_free}
 use Rattle.micro_verify.proofs.Lone.{Lone, IsAlone, IsLone, lone_behind, judged, stops_there, based}
 use Rattle.micro_verify.proofs.Mirrors.{Mirrors, RegistersMirror, TailMirror, LunMirror, PlaceMirror, Shut, shows_of, held_of, is_modelled, place_queues, place_erases, row_goes_along, BoundIs, NameIs, ColumnMirror, exact_test, is_read_column, kept_plus, drift_from, RowsMirror, QueueMirror, RowMirror, AllMirror, open_same}
-use Rattle.micro_verify.proofs.Told.{told_command, barred, wants_by, closes_none}
+use Rattle.micro_verify.proofs.Told.{told_command, barred, wants_by, closes_none, selects_none}
 use Rattle.micro_verify.proofs.Causes.{Goes, ExactWord, IsFit, reason_holds, reason_is, cost_cause, lowest_row_or_plane_outside}
 use Rattle.micro_verify.proofs.WordsExact.{goes_by, registers_exact, shut_tail, told_breaks, told_none}
 
@@ -87,8 +88,6 @@ fit_or_none false x h = refl
 -- among the words of the text that a program may not use
 -- a command for traces alone is none of the base profile
 traced : (d : Command) → is_for_traces d ≡ true → not (is_of_base d) ≡ true
-traced ChangeReadColumnEnhanced h = refl
-traced ReadPlane h = refl
 traced _ h = cc
 
 for_programs : (x d k a t w n : Bool) → (t ≡ true → x ≡ true) → ((x || d) || a || t || w || n) ≡ true → n ≡ false → (a || x || (k || d) || w) ≡ true
@@ -277,17 +276,17 @@ record Whole (g : Parts) (j : Job) (v : KnownTarget) (n : Now) (o : Command) (c 
   changes : is_read_column (After o (address_cycles o)) ≡ true → may_change_column c.view ≡ true
 
 -- where the tail wants this closer
-whole : (g : Parts) (j : Job) (v : KnownTarget) (n : Now) (c : Lone) (d o : Command) → ((p : Command) (m : ℕ) → is_place p m ≡ true → closes p d ≡ true → p ≡ o) → is_data_command d ≡ false → TailMirror g j v n c → place_wants d v.tail ≡ true → Whole g j v n o c
-whole g j v n c d o only plain f h = at f.place f.is f.column f.row f.named f.changes f.single (sym (ap (place_wants d) f.single) ∙ h)
+whole_at : (g : Parts) (j : Job) (v : KnownTarget) (n : Now) (c : Lone) (d o : Command) (test : Place → Bool) → ((p : Command) (m : ℕ) → is_place p m ≡ true → (test (After p m) && closes p d) ≡ true → p ≡ o) → is_data_command d ≡ false → TailMirror g j v n c → test v.tail ≡ true → place_wants d v.tail ≡ true → Whole g j v n o c
+whole_at g j v n c d o test only plain f tested h = at f.place f.is f.column f.row f.named f.changes f.single (sym (ap test f.single) ∙ tested) (sym (ap (place_wants d) f.single) ∙ h)
   where
-    at : (p : Place) → PlaceMirror p f.address c.facts → (has_column p ≡ true → BoundIs (input_column c.facts) v.column) → (has_row p ≡ true → RowIs g j f.address) → (has_row p ≡ true → NameIs g f.address n.index v.named) → (is_read_column p ≡ true → may_change_column c.view ≡ true) → v.tail ≡ p → place_wants d p ≡ true → Whole g j v n o c
-    at Closed is column row named changes single w = cc
-    at InData is column row named changes single w = let both : true ≡ false = sym w ∙ plain in cc
-    at (InColumn m) is column row named changes single w = cc
-    at (InFeatures m) is column row named changes single w = cc
-    at Unknown is column row named changes single w = cc
-    at (After p m) is column row named changes single w =
-        let by = closed_by d o p m f.address only is.place w in
+    at : (p : Place) → PlaceMirror p f.address c.facts → (has_column p ≡ true → BoundIs (input_column c.facts) v.column) → (has_row p ≡ true → RowIs g j f.address) → (has_row p ≡ true → NameIs g f.address n.index v.named) → (is_read_column p ≡ true → may_change_column c.view ≡ true) → v.tail ≡ p → test p ≡ true → place_wants d p ≡ true → Whole g j v n o c
+    at Closed is column row named changes single passes w = cc
+    at InData is column row named changes single passes w = let both : true ≡ false = sym w ∙ plain in cc
+    at (InColumn m) is column row named changes single passes w = cc
+    at (InFeatures m) is column row named changes single passes w = cc
+    at Unknown is column row named changes single passes w = cc
+    at (After p m) is column row named changes single passes w =
+        let by = closed_by d o p m f.address test only is.place passes w in
         record {
           address = f.address;
           facts = is.facts ∙ by.facts;
@@ -297,6 +296,9 @@ whole g j v n c d o only plain f h = at f.place f.is f.column f.row f.named f.ch
           tail = single ∙ by.place;
           changes = λ e. changes (ap is_read_column by.place ∙ e);
         }
+
+whole : (g : Parts) (j : Job) (v : KnownTarget) (n : Now) (c : Lone) (d o : Command) → ((p : Command) (m : ℕ) → is_place p m ≡ true → closes p d ≡ true → p ≡ o) → is_data_command d ≡ false → TailMirror g j v n c → place_wants d v.tail ≡ true → Whole g j v n o c
+whole g j v n c d o only plain f h = whole_at g j v n c d o (λ p. true) (λ p m place w. only p m place (and_parts true (closes p d) w).1) plain f refl h
 
 -- in the data of a program
 record Programming (g : Parts) (j : Job) (v : KnownTarget) (n : Now) (c : Lone) : Type 0 where
@@ -429,17 +431,22 @@ pub goes_e0 : (s : Channel) (text : Microprogram) (v : State) (r : Run) (c : Lon
 goes_e0 s text v r c byte k is_d is m clear =
     let g = s.geometry in
     let j = lone_job s.geometry text in
-    let w = whole g j v.target (now_of j r.done) c ChangeReadColumnConfirm ChangeReadColumn only_column refl m.tail (wanted g text v byte ChangeReadColumnConfirm is_d refl refl clear).places in
+    let unselected : selects_plane_at v.target.tail ≡ false = ap selects_plane_at m.tail.single ∙ selects_none m.tail.place m.tail.base in
+    let w = whole_at g j v.target (now_of j r.done) c ChangeReadColumnConfirm ChangeReadColumn (λ p. not (selects_plane_at p)) only_column refl m.tail (ap not unselected) (wanted g text v byte ChangeReadColumnConfirm is_d refl refl clear).places in
+    let leaves = column_leaves v unselected in
     let wants : wants_command c.facts ChangeReadColumnConfirm ≡ true = ap (λ (t : TailFacts). wants_command t ChangeReadColumnConfirm) w.facts in
     let begun : c.facts.is_empty ≡ false = ap (λ (t : TailFacts). t.is_empty) w.facts in
     let may = w.changes refl in
     let shown = not_off c.view may in
     let plain : selects_plane c.facts ≡ false = ap selects_plane w.facts in
     let effect : cycle_effect (based g) c.facts c.view.latch (CommandCycle ChangeReadColumnConfirm) 0 ≡ ReadColumnChanged c.facts.column = rw (plain, wants, shown) refl in
-    command_goes s text v r c byte ChangeReadColumnConfirm k is_d refl is m clear refl
-    (shut_tail g j (command_leaves g v ChangeReadColumnConfirm) r.done (lone_behind g (CommandCycle ChangeReadColumnConfirm) c) refl (shut_facts (facts_after (CommandCycle ChangeReadColumnConfirm) c.facts) (rw begun refl) (rw begun refl)))
-    (m.shows ∙ ap (λ (e : Effect). shows_of (view_after e c.view).latch) (sym effect))
-    (subst (λ (e : Effect). LunMirror g (command_leaves g v ChangeReadColumnConfirm).lun (index_now 0 r.done) (view_after e c.view)) (sym effect)
+    let after : State = record { registers = v.registers; target = closed v.target.shows; lun = record v.lun { column = given_at v.target.column } } in
+    command_goes s text v r c byte ChangeReadColumnConfirm k is_d refl is m clear (ap (λ (x : State). x.registers) leaves)
+    (subst (λ (x : State). TailMirror g j x.target (now_of j r.done) (lone_behind g (CommandCycle ChangeReadColumnConfirm) c)) (sym leaves)
+    (shut_tail g j after r.done (lone_behind g (CommandCycle ChangeReadColumnConfirm) c) refl (shut_facts (facts_after (CommandCycle ChangeReadColumnConfirm) c.facts) (rw begun refl) (rw begun refl))))
+    (ap (λ (x : State). x.target.shows) leaves ∙ (m.shows ∙ ap (λ (e : Effect). shows_of (view_after e c.view).latch) (sym effect)))
+    (subst (λ (x : State). LunMirror g x.lun (index_now 0 r.done) (lone_behind g (CommandCycle ChangeReadColumnConfirm) c).view) (sym leaves)
+    (subst (λ (e : Effect). LunMirror g after.lun (index_now 0 r.done) (view_after e c.view)) (sym effect)
     (record {
       busy = m.lun.busy;
       register = m.lun.register;
@@ -454,8 +461,8 @@ goes_e0 s text v r c byte k is_d is m clear =
       cached_page = m.lun.cached_page;
       cached_index = m.lun.cached_index;
       held = m.lun.held;
-    }))
-    (λ e. cc)
+    })))
+    (λ e. let none : place_queues (command_leaves g v ChangeReadColumnConfirm).target.tail ≡ false = ap (λ (x : State). place_queues x.target.tail) leaves in let both : true ≡ false = sym e ∙ none in cc)
 
 -- 30h
 shows_read : (g : Parts) (o : Option Shown) → ltb 1 g.luns ≡ false → shows_after_read g o ≡ data_shown
@@ -504,6 +511,7 @@ cached_index_is g a now (Some n) h = h.index.hi
 no_reads : (g : Parts) (now : ℕ) (rows : QueuedRows) (queue : List Queued) → RowsMirror g now rows queue → has_reads queue ≡ false
 no_reads g now NoRows queue m = ap has_reads m
 no_reads g now AnyRows queue m = absurd m
+no_reads g now (SomeReads planes surely d) queue m = absurd m
 no_reads g now (SomeRows erase planes d) queue m = all m.of_planes queue m.rows
   where
     all : (ps : List ℕ) (qs : List Queued) → AllMirror (RowMirror g erase m.index) ps qs → has_reads qs ≡ false
@@ -513,6 +521,12 @@ no_reads g now (SomeRows erase planes d) queue m = all m.of_planes queue m.rows
     all (p ∷ ps) (Erase q ∷ qs) a = all ps qs a.1
     all (p ∷ ps) (Program q ∷ qs) a = all ps qs a.1
     all (p ∷ ps) (QueuedRead q ∷ qs) a = let none = a.0.kind in cc
+
+none_claimed : (g : Parts) (now : ℕ) (rows : QueuedRows) (queue : List Queued) → RowsMirror g now rows queue → may_be_reads rows ≡ false
+none_claimed g now NoRows queue m = refl
+none_claimed g now (SomeRows erase planes d) queue m = refl
+none_claimed g now (SomeReads planes surely d) queue m = absurd m
+none_claimed g now AnyRows queue m = absurd m
 
 pub goes_30 : (s : Channel) (text : Microprogram) (v : State) (r : Run) (c : Lone) (byte : ℕ) → IsFit s text → command byte ≡ ReadConfirm → IsLone s r.past c → Mirrors s.geometry (lone_job s.geometry text) v r.done c → NoReasons s.geometry text v (CommandWord byte) → Goes s text (state_after s.geometry v (CommandWord byte)) r (CommandWord byte)
 goes_30 s text v r c byte k is_d is m clear =
@@ -525,6 +539,7 @@ goes_30 s text v r c byte k is_d is m clear =
     let page = page_of_row g j c.facts w.address (ap row w.facts) (w.row refl) in
     let some : 0 < g.pages = let least = k.alone.is_channel.limits.pages_least in omega (arith, least) in
     let none : has_reads c.view.queue ≡ false = no_reads g (index_now 0 r.done) v.lun.queue c.view.queue m.lun.queue in
+    let unread : may_be_reads v.lun.queue ≡ false = none_claimed g (index_now 0 r.done) v.lun.queue c.view.queue m.lun.queue in
     let effect : cycle_effect (based g) c.facts c.view.latch (CommandCycle ReadConfirm) 0 ≡ ReadStarted (page_address g (row c.facts)) c.facts.column = rw (wants, names) refl in
     command_goes s text v r c byte ReadConfirm k is_d refl is m clear refl
     (shut_tail g j (command_leaves g v ReadConfirm) r.done (lone_behind g (CommandCycle ReadConfirm) c) refl (shut_facts (facts_after (CommandCycle ReadConfirm) c.facts) (rw begun refl) (rw begun refl)))
@@ -532,18 +547,18 @@ goes_30 s text v r c byte k is_d is m clear =
     (subst (λ (e : Effect). LunMirror g (command_leaves g v ReadConfirm).lun (index_now 0 r.done) (view_after e c.view)) (sym effect)
     (record {
       busy = refl;
-      register = rw none refl;
+      register = rw (unread, none) refl;
       known = rw none refl;
       column = λ e. read_column_is v.target.column c.facts (ap (λ (t : TailFacts). t.inputs) w.facts) (w.column refl);
-      no_column = λ e. cc;
-      last = refl;
+      no_column = λ e. let held : has_register (cond (may_be_reads v.lun.queue) None page_register) ≡ true = ap (λ (b : Bool). has_register (cond b None page_register)) unread in let both : true ≡ false = sym held ∙ e in cc;
+      last = ap (λ (b : Bool). closer_among (cond b any_but_31 (record { 0 = 1 })) (Some ReadConfirm)) unread;
       queue = refl;
-      caching = refl;
-      other = refl;
-      read = λ e. refl;
+      caching = ap (λ (b : Bool). may_be_31 (cond b any_but_31 (record { 0 = 1 }))) unread;
+      other = ap (λ (b : Bool). may_be_other (cond b any_but_31 (record { 0 = 1 }))) unread;
+      read = λ e. ap (λ (b : Bool). may_be_30 (cond b any_but_31 (record { 0 = 1 }))) unread;
       cached_page = λ e. cached_page_is g w.address (index_now 0 r.done) v.target.named some k.pages (w.named refl) ∙ ap kept (sym page.0);
       cached_index = λ e. cached_index_is g w.address (index_now 0 r.done) v.target.named (w.named refl) ∙ ap kept (sym (index_is g (page_address g (row c.facts)) w.address.index w.address.plane (w.row refl).low page.0 page.1));
-      held = λ e. one_held (page_address g (row c.facts)) c.view.queue none;
+      held = λ e. one_page (page_address g (row c.facts)) c.view.queue none;
     }))
     (λ e. cc)
 
@@ -568,6 +583,7 @@ queued_exact g now erase claimed (Some n) a q queue name low kind page block m a
   where
     rest : (c : QueuedRows) → RowsMirror g now c queue → goes_along erase (Some (drift_from now a.index)) c ≡ true → QueueMirror g now erase (either_plane n.planes (queued_planes c)) (drift_from now a.index) (q ∷ queue)
     rest AnyRows m along = absurd m
+    rest (SomeReads planes surely d) m along = absurd m
     rest NoRows m along =
         record {
           some = refl;
@@ -716,7 +732,7 @@ goes_31 s text v r c byte k is_d is m clear =
     let shown : is_off c.view.latch ≡ false = drives_on c.view.latch (sym (ap (λ (o : Option Shown). not (drives o)) m.shows) ∙ one.0) in
     let unwanted = closed_unwanted c.facts (sym (open_same g j v r.done c m) ∙ free.0) in
     let effect : cycle_effect (based g) c.facts c.view.latch (CommandCycle ReadCacheSequential) 0 ≡ CacheReadContinued None = rw (unwanted, shown) refl in
-    let after : State = cache_read (record { 0 = 2 }) (next_cached v.lun.cached) data_shown v in
+    let after : State = cache_read (record { 0 = 2 }) (next_cached v.lun.cached) v.lun.array data_shown v in
     let leaves : command_leaves g v ReadCacheSequential ≡ after = rw unplaced refl in
     command_goes s text v r c byte ReadCacheSequential k is_d dec.fit is m clear (ap (λ (x : State). x.registers) leaves)
     (subst (λ (x : State). TailMirror g j x.target (now_of j r.done) (lone_behind g (CommandCycle ReadCacheSequential) c)) (sym leaves)
@@ -744,7 +760,7 @@ goes_31 s text v r c byte k is_d is m clear =
     queues_none : place_queues (command_leaves s.geometry v ReadCacheSequential).target.tail ≡ true → ⊥
     queues_none e = at (place_wants ReadCacheSequential v.target.tail) e
       where
-        at : (b : Bool) → place_queues (cond b (cache_read (record { 0 = 2 }) (cached_at v.target.named) (shows_after_read s.geometry v.target.shows) v) (cache_read (record { 0 = 2 }) (next_cached v.lun.cached) data_shown v)).target.tail ≡ true → ⊥
+        at : (b : Bool) → place_queues (cond b (cache_read (record { 0 = 2 }) (cached_at v.target.named) (named_plane v.target.named) (shows_after_read s.geometry v.target.shows) v) (cache_read (record { 0 = 2 }) (next_cached v.lun.cached) v.lun.array data_shown v)).target.tail ≡ true → ⊥
         at true e = cc
         at false e = cc
 

@@ -22,7 +22,7 @@ use Rattle.micro_claims.specs.declared.page_range.PageRange.{PageRange}
 use Rattle.micro_claims.specs.declared.known_target.KnownTarget.{KnownTarget}
 use Rattle.micro_claims.specs.declared.known_lun.KnownLun.{KnownLun}
 use Rattle.micro_claims.specs.declared.queued_rows.QueuedRows.{QueuedRows}
-use Rattle.micro_claims.specs.declared.queued_rows.QueuedRows.TheVariants.{NoRows, SomeRows, AnyRows}
+use Rattle.micro_claims.specs.declared.queued_rows.QueuedRows.TheVariants.{NoRows, SomeRows, SomeReads, AnyRows}
 use Rattle.micro_claims.specs.Against.{is_inside_address, same_test}
 use Rattle.micro_claims.specs.Leaves.{drift_of, drift_more, drift_moved, drift_set, and_drift, named_moved, rows_moved, rows_at, page_plus, goes_along}
 use Rattle.micro_claims.specs.Reasons.{breaks_cycle_forbidden, breaks_address_unaligned, breaks_handover_in_sequence, breaks_buffer_passed, breaks_row_or_plane_outside, breaks_column_too_large, breaks_no_status, breaks_ends_too_soon, breaks_over_budget, breaks_command_not_allowed}
@@ -101,6 +101,7 @@ name_moved g a old new move (Some n) moves m =
 rows_go : (g : Parts) (old new : ℕ) (move : Drift → Option Drift) (q : QueuedRows) (queue : List Queued) → MovesExactly old new move → RowsMirror g old q queue → RowsMirror g new (rows_moved move q) queue
 rows_go g old new move NoRows queue moves m = m
 rows_go g old new move AnyRows queue moves m = m
+rows_go g old new move (SomeReads planes surely d) queue moves m = absurd m
 rows_go g old new move (SomeRows erase planes d) queue moves m =
     let moved : move d ≡ Some (drift_from new m.index) = ap move m.drift ∙ moves m.index m.index_low in
     subst (λ (o : Option Drift). RowsMirror g new (rows_at erase planes o) queue) (sym moved)
@@ -144,6 +145,7 @@ goes_on : (g : Parts) (old new : ℕ) (move : Drift → Option Drift) (erase : B
 goes_on g old new move erase None q queue moves m h = cc
 goes_on g old new move erase (Some n) NoRows queue moves m h = refl
 goes_on g old new move erase (Some n) AnyRows queue moves m h = absurd m
+goes_on g old new move erase (Some n) (SomeReads planes surely d) queue moves m h = absurd m
 goes_on g old new move erase (Some n) (SomeRows kind planes d) queue moves m h =
     let moved : move d ≡ Some (drift_from new m.index) = ap move m.drift ∙ moves m.index m.index_low in
     subst (λ (o : Option Drift). goes_along erase (and_drift n.drift move) (rows_at kind planes o) ≡ true) (sym moved)

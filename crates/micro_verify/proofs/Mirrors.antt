@@ -5,7 +5,7 @@ use Rattle.nand_geometry.specs.declared.parts.Parts.{Parts}
 use Rattle.nand_geometry.specs.Limits.{planes}
 use Rattle.nand_geometry.specs.Row.{indexed}
 use Rattle.onfi_cycle.specs.declared.command.Command.{Command}
-use Rattle.onfi_cycle.specs.declared.command.Command.TheVariants.{Read, ChangeReadColumn, BlockErase, PageProgram, ReadId, ReadParameterPage, ReadUniqueId, GetFeatures, SetFeatures, ResetLun}
+use Rattle.onfi_cycle.specs.declared.command.Command.TheVariants.{Read, ChangeReadColumn, ChangeReadColumnEnhanced, BlockErase, PageProgram, ReadId, ReadParameterPage, ReadUniqueId, GetFeatures, SetFeatures, ResetLun}
 use Rattle.onfi_cycle.specs.declared.data_phase.DataPhase.{DataPhase}
 use Rattle.onfi_cycle.specs.declared.data_phase.DataPhase.TheVariants.{Outside, Inputs, FirstColumn, SecondColumn}
 use Rattle.onfi_cycle.specs.declared.latch.Latch.{Latch}
@@ -38,7 +38,7 @@ use Rattle.micro_claims.specs.declared.shown.Shown.{Shown}
 use Rattle.micro_claims.specs.declared.held.Held.{Held}
 use Rattle.micro_claims.specs.declared.output_column.OutputColumn.{OutputColumn}
 use Rattle.micro_claims.specs.declared.queued_rows.QueuedRows.{QueuedRows}
-use Rattle.micro_claims.specs.declared.queued_rows.QueuedRows.TheVariants.{NoRows, SomeRows, AnyRows}
+use Rattle.micro_claims.specs.declared.queued_rows.QueuedRows.TheVariants.{NoRows, SomeRows, SomeReads, AnyRows}
 use Rattle.micro_claims.specs.Against.{is_open_place, is_inside_address, is_data_command, has_register, may_be_open, may_be_queued}
 use Rattle.micro_claims.specs.State.{may_be_30, may_be_31, may_be_other}
 use Rattle.micro_claims.specs.Leaves.{status_shown, data_shown, goes_along}
@@ -212,6 +212,7 @@ pub record QueueMirror (g : Parts) (now : ℕ) (erase : Bool) (planes : Planes) 
 abbrev pub RowsMirror : Parts → ℕ → QueuedRows → List Queued → Type 0
 RowsMirror g now NoRows qs = qs ≡ []
 RowsMirror g now (SomeRows erase planes d) qs = QueueMirror g now erase planes d qs
+RowsMirror g now (SomeReads planes surely d) qs = ⊥
 RowsMirror g now AnyRows qs = ⊥
 
 pub record LunMirror (g : Parts) (v : KnownLun) (now : ℕ) (view : LunView) : Type 0 where
@@ -271,6 +272,13 @@ begun Read (suc (suc (suc zero))) a t h = record { opening = ap (λ (t : TailFac
 begun Read (suc (suc (suc (suc zero)))) a t h = record { opening = ap (λ (t : TailFacts). t.opening) h.facts; phase = ap (λ (t : TailFacts). t.phase) h.facts }
 begun Read (suc (suc (suc (suc (suc zero))))) a t h = record { opening = ap (λ (t : TailFacts). t.opening) h.facts; phase = ap (λ (t : TailFacts). t.phase) h.facts }
 begun Read (suc (suc (suc (suc (suc (suc n)))))) a t h = absurd (let e = h.place in let x : ⊥ = grind (arith, nat_tests) in x)
+begun ChangeReadColumnEnhanced zero a t h = record { opening = ap (λ (t : TailFacts). t.opening) h.facts; phase = ap (λ (t : TailFacts). t.phase) h.facts }
+begun ChangeReadColumnEnhanced (suc zero) a t h = record { opening = ap (λ (t : TailFacts). t.opening) h.facts; phase = ap (λ (t : TailFacts). t.phase) h.facts }
+begun ChangeReadColumnEnhanced (suc (suc zero)) a t h = record { opening = ap (λ (t : TailFacts). t.opening) h.facts; phase = ap (λ (t : TailFacts). t.phase) h.facts }
+begun ChangeReadColumnEnhanced (suc (suc (suc zero))) a t h = record { opening = ap (λ (t : TailFacts). t.opening) h.facts; phase = ap (λ (t : TailFacts). t.phase) h.facts }
+begun ChangeReadColumnEnhanced (suc (suc (suc (suc zero)))) a t h = record { opening = ap (λ (t : TailFacts). t.opening) h.facts; phase = ap (λ (t : TailFacts). t.phase) h.facts }
+begun ChangeReadColumnEnhanced (suc (suc (suc (suc (suc zero))))) a t h = record { opening = ap (λ (t : TailFacts). t.opening) h.facts; phase = ap (λ (t : TailFacts). t.phase) h.facts }
+begun ChangeReadColumnEnhanced (suc (suc (suc (suc (suc (suc n)))))) a t h = absurd (let e = h.place in let x : ⊥ = grind (arith, nat_tests) in x)
 begun ChangeReadColumn zero a t h = record { opening = ap (λ (t : TailFacts). t.opening) h.facts; phase = ap (λ (t : TailFacts). t.phase) h.facts }
 begun ChangeReadColumn (suc zero) a t h = record { opening = ap (λ (t : TailFacts). t.opening) h.facts; phase = ap (λ (t : TailFacts). t.phase) h.facts }
 begun ChangeReadColumn (suc (suc zero)) a t h = record { opening = ap (λ (t : TailFacts). t.opening) h.facts; phase = ap (λ (t : TailFacts). t.phase) h.facts }
@@ -338,4 +346,5 @@ open_same g j v done c m = ap is_open_place m.tail.single ∙ open_there m.tail.
 pub queue_same : (g : Parts) (now : ℕ) (rows : QueuedRows) (qs : List Queued) → RowsMirror g now rows qs → may_be_queued rows ≡ has_some qs
 queue_same g now NoRows qs h = sym (ap has_some h)
 queue_same g now (SomeRows erase planes d) qs h = sym h.some
+queue_same g now (SomeReads planes surely d) qs h = absurd h
 queue_same g now AnyRows qs h = absurd h

@@ -150,7 +150,7 @@ row_stops s text v r c from (suc m) o n w x takes_it five column refused =
     (λ i least most. rule_none g o a c.view i x.carries
     (λ t e. ap (nat_le (limit_of g o c.view)) (carried_is (column_now r.done) w.mirrors.registers.column_low) ∙ column t (omega (arith, least, e)))
     (λ e. absurd (let f = last_is o i x.carries e in omega (arith, f, most, last)))) breaks.0
-    ((cycle_goes s text r c from (suc m) o n (n + m) x (omega (arith, last, cycles)) (omega (arith, last, five))).judged_is ∙ (last_rule g o a c.view (n + m) takes_it last ∙ breaks.1.0)) breaks.1.1
+    ((cycle_goes s text r c from (suc m) o n (n + m) x (omega (arith, last, cycles)) (omega (arith, last, five))).judged_is ∙ (last_rule g o a c.view (n + m) x.carries takes_it last ∙ breaks.1.0)) breaks.1.1
   where
     g : Parts
     g = s.geometry

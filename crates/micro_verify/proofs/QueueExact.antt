@@ -6,18 +6,19 @@ use Rattle.std.proofs.Common.{◌≡◌, ℕ, ◌+◌, ◌-◌, ◌*◌, ◌/◌
 use Rattle.nand_geometry.specs.declared.parts.Parts.{Parts}
 use Rattle.nand_geometry.specs.Limits.{planes}
 use Rattle.onfi_cycle.specs.declared.command.Command.{Command}
-use Rattle.onfi_cycle.specs.declared.command.Command.TheVariants.{Read, BlockErase, PageProgram}
+use Rattle.onfi_cycle.specs.declared.command.Command.TheVariants.{Read, ChangeReadColumn, BlockErase, PageProgram}
 use Rattle.onfi_cycle.specs.declared.page_address.PageAddress.{PageAddress}
 use Rattle.onfi_cycle.specs.declared.queued.Queued.{Queued}
 use Rattle.onfi_cycle.specs.declared.queued.Queued.TheVariants.{Erase, Program, Read as QueuedRead}
 use Rattle.onfi_cycle.specs.Rules.{planes_clash, queued_clashes, some_queued_clashes, some_read_clashes, refused_by, has_some}
 use Rattle.micro_claims.specs.declared.planes.Planes.{Planes}
 use Rattle.micro_claims.specs.declared.queued_rows.QueuedRows.{QueuedRows}
-use Rattle.micro_claims.specs.declared.queued_rows.QueuedRows.TheVariants.{NoRows, SomeRows, AnyRows}
+use Rattle.micro_claims.specs.declared.queued_rows.QueuedRows.TheVariants.{NoRows, SomeRows, SomeReads, AnyRows}
 use Rattle.micro_claims.specs.declared.drift.Drift.{Drift}
 use Rattle.micro_claims.specs.Planes.{has_plane, just_plane, either_plane, share_a_plane}
 use Rattle.micro_claims.specs.Against.{same_test, queue_refuses}
 use Rattle.micro_claims.proofs.Fits.{is_of_kind, takes_row}
+use Rattle.micro_verify.proofs.AddressesNow.{carries_registers}
 use Rattle.micro_claims.proofs.PlaneSets.{either_has, none_has, share_just, just_same}
 use Rattle.micro_verify.proofs.Lone.{based}
 use Rattle.micro_verify.proofs.Mirrors.{RowsMirror, RowMirror, AllMirror, set_of}
@@ -119,16 +120,18 @@ clashes_are g e erase p now index plane (x ∷ (y ∷ ps)) (q ∷ (r ∷ qs)) lo
     joined false x s = refl
 
 -- the queue of the claim refuses the row of the registers exactly where that of the LUN does
-pub refuses_is : (g : Parts) (now : ℕ) (rows : QueuedRows) (queue : List Queued) (o : Command) (p : PageAddress) (plane : ℕ) → takes_row o ≡ true → RowsMirror g now rows queue → plane < planes g → plane ≤ 3 → p.page ≡ now % g.pages → p.block ≡ now / g.pages * planes g + plane → queue_refuses rows (just_plane plane) o ≡ refused_by (based g) o p queue
-refuses_is g now NoRows queue o p plane takes m low few page block = by o takes
+pub refuses_is : (g : Parts) (now : ℕ) (rows : QueuedRows) (queue : List Queued) (o : Command) (p : PageAddress) (plane : ℕ) → carries_registers o ≡ true → takes_row o ≡ true → RowsMirror g now rows queue → plane < planes g → plane ≤ 3 → p.page ≡ now % g.pages → p.block ≡ now / g.pages * planes g + plane → queue_refuses rows (just_plane plane) o ≡ refused_by (based g) o p queue
+refuses_is g now NoRows queue o p plane carries takes m low few page block = by o carries takes
   where
-    by : (o : Command) → takes_row o ≡ true → false ≡ refused_by (based g) o p queue
-    by Read h = sym (ap (some_read_clashes (based g) p) m)
-    by BlockErase h = sym (ap (some_queued_clashes (based g) true p) m)
-    by PageProgram h = sym (ap (some_queued_clashes (based g) false p) m)
-    by _ h = cc
-refuses_is g now AnyRows queue o p plane takes m low few page block = absurd m
-refuses_is g now (SomeRows erase queued d) queue o p plane takes m low few page block = by o takes
+    by : (o : Command) → carries_registers o ≡ true → takes_row o ≡ true → false ≡ refused_by (based g) o p queue
+    by Read c h = sym (ap (some_read_clashes (based g) p) m)
+    by BlockErase c h = sym (ap (some_queued_clashes (based g) true p) m)
+    by PageProgram c h = sym (ap (some_queued_clashes (based g) false p) m)
+    by ChangeReadColumn c h = cc
+    by _ c h = cc
+refuses_is g now AnyRows queue o p plane carries takes m low few page block = absurd m
+refuses_is g now (SomeReads queued surely d) queue o p plane carries takes m low few page block = absurd m
+refuses_is g now (SomeRows erase queued d) queue o p plane carries takes m low few page block = by o carries takes
   where
     far : (a b : ℕ) → (a - b == b - a) ≡ (a == b)
     far a b = at (a == b) refl
@@ -143,8 +146,9 @@ refuses_is g now (SomeRows erase queued d) queue o p plane takes m low few page 
     shared : share_a_plane (just_plane plane) queued ≡ has_plane plane (set_of m.of_planes)
     shared = share_one plane queued few ∙ ap (has_plane plane) m.set
 
-    by : (o : Command) → takes_row o ≡ true → queue_refuses (SomeRows erase queued d) (just_plane plane) o ≡ refused_by (based g) o p queue
-    by Read h = sym (reads_clash g erase p m.index m.of_planes queue m.some m.rows)
-    by BlockErase h = (λ i. not (same_test erase true) || not (drift i) || shared i) ∙ sym (clashes_are g true erase p now m.index plane m.of_planes queue low few page block m.some m.rows)
-    by PageProgram h = (λ i. not (same_test erase false) || not (drift i) || shared i) ∙ sym (clashes_are g false erase p now m.index plane m.of_planes queue low few page block m.some m.rows)
-    by _ h = cc
+    by : (o : Command) → carries_registers o ≡ true → takes_row o ≡ true → queue_refuses (SomeRows erase queued d) (just_plane plane) o ≡ refused_by (based g) o p queue
+    by Read c h = sym (reads_clash g erase p m.index m.of_planes queue m.some m.rows)
+    by BlockErase c h = (λ i. not (same_test erase true) || not (drift i) || shared i) ∙ sym (clashes_are g true erase p now m.index plane m.of_planes queue low few page block m.some m.rows)
+    by PageProgram c h = (λ i. not (same_test erase false) || not (drift i) || shared i) ∙ sym (clashes_are g false erase p now m.index plane m.of_planes queue low few page block m.some m.rows)
+    by ChangeReadColumn c h = cc
+    by _ c h = cc

@@ -28,7 +28,7 @@ use Rattle.micro_program.proofs.Scenes.{closed_unwanted}
 use Rattle.micro_claims.specs.declared.state.State.{State}
 use Rattle.micro_claims.specs.declared.place.Place.{Place}
 use Rattle.micro_claims.specs.declared.place.Place.TheVariants.{Closed, After, InData, InColumn, InFeatures, Unknown as UnknownPlace}
-use Rattle.micro_claims.specs.Against.{place_wants, is_data_command, may_be_open, shows_only_data, has_page_or_parameters, drives, is_unfit, may_end_sequence, opener_refused, closer_refused, reads_cache_at, command_out_of_place}
+use Rattle.micro_claims.specs.Against.{place_wants, is_data_command, may_be_open, shows_only_data, has_page_or_parameters, drives, is_unfit, may_end_sequence, opener_refused, closer_refused, reads_cache_at, selects_plane_at, command_out_of_place}
 use Rattle.micro_verify.specs.Cause.{is_of_cycle_forbidden}
 use Rattle.micro_claims.proofs.Fits.{Address}
 use Rattle.micro_verify.proofs.Lone.{Lone, judged}
@@ -335,6 +335,16 @@ wants_change (After Read n) base h = cc
 wants_change (After BlockErase n) base h = cc
 wants_change (After _ n) base h = cc
 
+-- no plane is selected in the base profile
+pub selects_none : (p : Place) → is_base_place p ≡ true → selects_plane_at p ≡ false
+selects_none Closed base = refl
+selects_none InData base = refl
+selects_none (InColumn n) base = refl
+selects_none (InFeatures n) base = refl
+selects_none UnknownPlace base = refl
+selects_none (After ChangeReadColumnEnhanced n) base = cc
+selects_none (After _ n) base = refl
+
 -- the base profile has no command of the wider one
 pub barred : (w b : Bool) → w ≡ false → (not w || b) ≡ false → ⊥
 barred true b e h = cc
@@ -372,7 +382,10 @@ told_command g j v done c d one base low m h = by d h
     by ProgramConfirm h = told_by _ _ _ (or-false _ ∙ wanted ProgramConfirm) (told_10 g c)
     by ChangeWriteColumn h = told_by _ _ _ (or-false _ ∙ wanted ChangeWriteColumn) (told_85 g c)
     by ReadStatusEnhanced h = told_by _ _ _ (fitting ReadStatusEnhanced h ∙ (λ i. shut i || false)) (told_enhanced g c (not-false g.enhanced h))
-    by ChangeReadColumnConfirm h = told_by _ _ _ (not_where _ _ drive ∙ wanted ChangeReadColumnConfirm) (told_e0 g c)
+    by ChangeReadColumnConfirm h =
+        told_by _ _ _
+        (ap (λ (b : Bool). not (place_wants ChangeReadColumnConfirm v.target.tail) || (not b && not (drives v.target.shows))) (ap selects_plane_at m.tail.single ∙ selects_none m.tail.place m.tail.base)
+        ∙ (not_where _ _ drive ∙ wanted ChangeReadColumnConfirm)) (told_e0 g c)
     by BlockErasePlane h = told_by _ _ _ (fitting BlockErasePlane h ∙ (or-false _ ∙ wanted BlockErasePlane)) (told_d1 g c h)
     by ProgramPlane h = told_by _ _ _ (fitting ProgramPlane h ∙ (or-false _ ∙ wanted ProgramPlane)) (told_11 g c h)
     by ReadCacheSequential h = at (wants_command c.facts ReadCacheSequential) refl

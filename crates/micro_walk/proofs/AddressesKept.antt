@@ -23,6 +23,8 @@ use Rattle.micro_walk.proofs.SpanLaws as numbers
 use Rattle.micro_walk.proofs.SpanLaws.{le_of}
 use Rattle.micro_claims.proofs.NamesNow.{same_block, page_in_block}
 use Rattle.micro_claims.proofs.Indices.{mod_both, mod_small}
+use Rattle.micro_claims.specs.Planes.{no_planes}
+use Rattle.micro_walk.proofs.Shapes.{among_self}
 use Rattle.micro_walk.proofs.LeavesKept.{RangeIs, one_place, data_is, first_output, held_is}
 use Rattle.micro_walk.proofs.CommandsKept.{reset_at}
 
@@ -168,7 +170,7 @@ pub name_fine : (g : Parts) (v s a : Registers) → RegistersAt g v s a → IsFi
 name_fine g v s a f =
     let x = most_page g.pages a.page a.index.lo a.index.hi in
     let y = f.page_inside in
-    record { order = f.index.order; low_small = f.index.low_small; small = f.index.small; page_inside = omega (arith, x, y) }
+    record { order = f.index.order; low_small = f.index.low_small; small = f.index.small; page_inside = omega (arith, x, y); one_plane = f.one_plane }
 
 -- 3. addresses
 
@@ -211,7 +213,7 @@ beside_at g v s a b c held busy is d =
     record {
       registers = d.registers;
       target = one_place g v.target Closed data_shown data_shown data_is;
-      lun = record { busy = busy; register = is; has_column = k.has; column = k.at; queue = f.queue; last_read = λ h. h; last_cache = λ h. h; last_other = λ h. h; cached_index = f.cached_index; cached_page = f.cached_page };
+      lun = record { busy = busy; register = is; has_column = k.has; column = k.at; queue = f.queue; last_read = λ h. h; last_cache = λ h. h; last_other = λ h. h; cached_index = f.cached_index; cached_page = f.cached_page; held = among_self no_planes; array = among_self no_planes };
     }
 
 -- what 90h reads is one of three

@@ -18,6 +18,7 @@ use Rattle.micro_claims.specs.declared.cached_page.CachedPage.{CachedPage}
 use Rattle.micro_claims.specs.declared.queued_rows.QueuedRows.TheVariants.{NoRows}
 use Rattle.micro_claims.specs.declared.last_closer.LastCloser.{LastCloser}
 use Rattle.micro_claims.specs.State.{bounds_of, first_registers, first_state, not_cached, closed, any_but_31, other_closer, may_be_31}
+use Rattle.micro_claims.specs.Planes.{no_planes}
 use Rattle.micro_claims.specs.Leaves.{status_shown}
 use Rattle.micro_claims.specs.Reasons.{reason_against, breaks_cycle_forbidden, breaks_address_unaligned, breaks_handover_in_sequence, breaks_buffer_passed, breaks_row_or_plane_outside, breaks_column_too_large, breaks_no_status, breaks_ends_too_soon, breaks_over_budget, breaks_command_not_allowed}
 use Rattle.micro_claims.specs.Accepts.{state_after}
@@ -33,7 +34,7 @@ at_rest polled last shows cached n =
     record {
       registers = record first_registers { cost = record { lo = n; hi = Some n; grown = None }; polled = polled };
       target = closed shows;
-      lun = record { busy = false; register = None; column = None; queue = NoRows; last = last; cached = cached };
+      lun = record { busy = false; register = None; column = None; queue = NoRows; last = last; cached = cached; held = no_planes; array = no_planes };
     }
 
 -- each erase leaves all as it found it, but for five cycles that are paid, and a status that was asked for

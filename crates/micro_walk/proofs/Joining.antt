@@ -1,13 +1,15 @@
 -- What two states both claim is claimed by either.
-use Rattle.std.proofs.Common.{◌≡◌, ℕ, Bool, true, false, ◌&&◌, ◌||◌, not, cond, Option, Some, None, refl, ap, ◌∙◌, subst, arith}
-use Rattle.std.specs.Prelude.{nat_le, min, max, bit_or}
+use Rattle.std.proofs.Common.{◌≡◌, ℕ, Bool, true, false, ◌&&◌, ◌||◌, not, cond, Option, Some, None, refl, sym, ap, ◌∙◌, subst, arith, eq-eqb}
+use Rattle.std.specs.Prelude.{nat_le, min, max, bit_and, bit_or}
+use Rattle.std.specs.Int.Bits.{and_self}
+use Rattle.std.proofs.lemmas.Nat.{and_assoc, and_comm}
 use Rattle.std.proofs.lemmas.Bool.Decides.{nat_tests}
 use Rattle.std.proofs.lemmas.Bool.{and_from}
 use Rattle.onfi_cycle.proofs.Booleans.{eqb_self}
 use Rattle.micro_claims.specs.Spans.{Span}
 use Rattle.micro_claims.specs.declared.growth.Growth.{Growth}
 use Rattle.micro_claims.specs.declared.planes.Planes.{Planes}
-use Rattle.micro_claims.specs.Planes.{either_plane}
+use Rattle.micro_claims.specs.Planes.{no_planes, either_plane, common_planes}
 use Rattle.micro_claims.specs.declared.state.State.{State}
 use Rattle.micro_claims.specs.declared.registers.Registers.{Registers}
 use Rattle.micro_claims.specs.declared.known_target.KnownTarget.{KnownTarget}
@@ -20,7 +22,7 @@ use Rattle.micro_claims.specs.declared.shown.Shown.{Shown}
 use Rattle.micro_claims.specs.declared.held.Held.{Held}
 use Rattle.micro_claims.specs.declared.output_column.OutputColumn.{OutputColumn}
 use Rattle.micro_claims.specs.declared.queued_rows.QueuedRows.{QueuedRows}
-use Rattle.micro_claims.specs.declared.queued_rows.QueuedRows.TheVariants.{NoRows, SomeRows, AnyRows}
+use Rattle.micro_claims.specs.declared.queued_rows.QueuedRows.TheVariants.{NoRows, SomeRows, SomeReads, AnyRows}
 use Rattle.micro_claims.specs.Against.{same_test, is_open_place}
 use Rattle.micro_claims.specs.Order.{is_bound_within, is_growth_within, is_span_within, may_within, are_planes_within, same_place, is_place_within, same_drift_as, is_drift_within, are_registers_within, is_column_within, is_name_within, is_named_within, is_shows_within, is_target_within, is_register_within, is_output_within, are_rows_within, is_lun_within, is_state_within}
 use Rattle.micro_claims.specs.Joins.{greater_bound, joined_growth, joined_span, joined_registers, joined_place, both_know, joined_drift, joined_name, joined_shown, joined_target, joined_held, joined_output, joined_rows, joined_lun, joined, JoinsClaimLess}
@@ -75,6 +77,13 @@ sets_join a b = record { one = has_first a b; other = has_second a b }
 
 planes_join : (p q : Planes) → Both (are_planes_within p (either_plane p q)) (are_planes_within q (either_plane p q))
 planes_join p q = sets_join p.0 q.0
+
+-- what is in both is in either
+common_join : (p q : Planes) → Both (are_planes_within (common_planes p q) p) (are_planes_within (common_planes p q) q)
+common_join p q = record { one = eq-eqb _ _ (ap (bit_and p.0) (and_comm p.0 q.0) ∙ (in_right q.0 p.0 ∙ and_comm q.0 p.0)); other = eq-eqb _ _ (in_right p.0 q.0) }
+  where
+    in_right : (a b : ℕ) → bit_and b (bit_and a b) ≡ bit_and a b
+    in_right a b = ap (bit_and b) (and_comm a b) ∙ (sym (and_assoc a b b) ∙ (ap (λ (n : ℕ). bit_and n a) (and_self b) ∙ and_comm b a))
 
 -- 3. the registers
 
@@ -180,10 +189,33 @@ rows_itself erase planes d = and_from _ _ (test erase) (and_from _ _ (has_self p
     drift : (e : Drift) → same_drift_as e e ≡ true
     drift e = and_from _ _ (eqb_self e.ahead) (eqb_self e.behind)
 
+-- reads of which none is sure any more
+reads_itself : (planes surely : Planes) (d : Drift) → are_rows_within (SomeReads planes surely d) (SomeReads planes no_planes d) ≡ true
+reads_itself planes surely d = and_from _ _ (none_within surely) (and_from _ _ (has_self planes.0) (drift d))
+  where
+    none_within : (p : Planes) → are_planes_within no_planes p ≡ true
+    none_within p = eq-eqb _ _ (and_comm p.0 0)
+
+    drift : (e : Drift) → same_drift_as e e ≡ true
+    drift e = and_from _ _ (eqb_self e.ahead) (eqb_self e.behind)
+
 queues_join : (a b : QueuedRows) → Both (are_rows_within a (joined_rows a b)) (are_rows_within b (joined_rows a b))
 queues_join NoRows NoRows = record { one = refl; other = refl }
 queues_join NoRows (SomeRows kind ps e) = record { one = refl; other = rows_itself kind ps e }
+queues_join NoRows (SomeReads qs some e) = record { one = has_self 0; other = reads_itself qs some e }
 queues_join NoRows AnyRows = record { one = refl; other = refl }
+queues_join (SomeReads planes surely d) NoRows = record { one = reads_itself planes surely d; other = has_self 0 }
+queues_join (SomeReads planes surely d) (SomeRows kind ps e) = record { one = refl; other = refl }
+queues_join (SomeReads planes surely d) AnyRows = record { one = refl; other = refl }
+queues_join (SomeReads planes surely d) (SomeReads qs some e) = at (same_drift_as d e) refl
+  where
+    joins : Bool → QueuedRows
+    joins b = cond b (SomeReads (either_plane planes qs) (common_planes surely some) d) AnyRows
+
+    at : (b : Bool) → same_drift_as d e ≡ b → Both (are_rows_within (SomeReads planes surely d) (joins b)) (are_rows_within (SomeReads qs some e) (joins b))
+    at true h = both_and _ _ _ _ (common_join surely some) (both_and _ _ _ _ (planes_join planes qs) (drift_itself d e h))
+    at false h = record { one = refl; other = refl }
+queues_join (SomeRows erase planes d) (SomeReads qs some e) = record { one = refl; other = refl }
 queues_join (SomeRows erase planes d) NoRows = record { one = rows_itself erase planes d; other = refl }
 queues_join (SomeRows erase planes d) (SomeRows kind ps e) = at (same_test erase kind) refl (same_drift_as d e) refl
   where
@@ -204,7 +236,8 @@ luns_join s t =
     (both_and _ _ _ _ (outputs_join s.column t.column)
     (both_and _ _ _ _ (queues_join s.queue t.queue)
     (both_and _ _ _ _ (sets_join s.last.0 t.last.0)
-    (both_and _ _ _ _ (spans_join s.cached.index t.cached.index) (spans_join s.cached.page t.cached.page))))))
+    (both_and _ _ _ _ (spans_join s.cached.index t.cached.index)
+    (both_and _ _ _ _ (spans_join s.cached.page t.cached.page) (both_and _ _ _ _ (common_join s.held t.held) (common_join s.array t.array))))))))
 
 -- 6. states
 

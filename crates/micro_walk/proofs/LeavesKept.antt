@@ -4,7 +4,7 @@ use Rattle.std.specs.Prelude.{nat_lt}
 use Rattle.nand_geometry.specs.declared.parts.Parts.{Parts}
 use Rattle.nand_geometry.specs.Limits.{InLimits}
 use Rattle.micro_claims.specs.declared.planes.Planes.{Planes}
-use Rattle.micro_claims.specs.Planes.{just_plane}
+use Rattle.micro_claims.specs.Planes.{just_plane, no_planes, is_one_plane}
 use Rattle.micro_claims.specs.Spans.{Span}
 use Rattle.micro_claims.specs.Spans.{exactly, plus, only, copied}
 use Rattle.micro_claims.specs.declared.state.State.{State}
@@ -19,10 +19,10 @@ use Rattle.micro_claims.specs.declared.named_row.NamedRow.{NamedRow}
 use Rattle.micro_claims.specs.declared.shown.Shown.{Shown}
 use Rattle.micro_claims.specs.declared.output_column.OutputColumn.{OutputColumn}
 use Rattle.micro_claims.specs.declared.queued_rows.QueuedRows.{QueuedRows}
-use Rattle.micro_claims.specs.declared.queued_rows.QueuedRows.TheVariants.{NoRows, SomeRows, AnyRows}
+use Rattle.micro_claims.specs.declared.queued_rows.QueuedRows.TheVariants.{NoRows, SomeRows, SomeReads, AnyRows}
 use Rattle.micro_claims.specs.declared.held.Held.{Held}
 use Rattle.micro_claims.specs.State.{closed, any_number, holds_page, holds_parameters, holds_identifier, holds_identity, holds_jedec, holds_unique_id, holds_feature}
-use Rattle.micro_claims.specs.Leaves.{with_registers, status_shown, data_shown, resumed_shows, unread, given_at, cost_plus, paid, polled, found_ready, handed_over, drift_moved, and_drift, rows_at, named_moved, rows_moved, index_moved, drift_set, cached_at, shows_after_read}
+use Rattle.micro_claims.specs.Leaves.{with_registers, status_shown, data_shown, resumed_shows, unread, given_at, cost_plus, paid, polled, found_ready, handed_over, drift_moved, and_drift, rows_at, reads_at, named_moved, rows_moved, index_moved, drift_set, cached_at, shows_after_read}
 use Rattle.micro_claims.specs.Order.{SpanAt, SpanIs, AllAmong, May, DriftIs, RegistersAt, HasColumn, NamedIs, IsFineNamed, ShowsIs, TargetAt, RegisterIs, HasOutput, RowsAre, LunAt, At, column_number, output_number, Exactly}
 use Rattle.micro_walk.proofs.SpanLaws as numbers
 use Rattle.micro_walk.proofs.SpanLaws.{only_too}
@@ -38,19 +38,19 @@ paid_number v s a n f = at (n == 0)
     at false = numbers.grown v s a n f
 
 pub with_column : (g : Parts) (v s a : Registers) (n : ℕ) → RegistersAt g v s a → RegistersAt g v (record s { column = exactly n }) (record a { column = exactly n })
-with_column g v s a n f = record { column = numbers.set v.column n; planes = f.planes; index = f.index; page_low = f.page_low; page_high = f.page_high; page_order = f.page_order; page_inside = f.page_inside; place = f.place; cost = f.cost; polled = f.polled }
+with_column g v s a n f = record { column = numbers.set v.column n; planes = f.planes; one_plane = f.one_plane; index = f.index; page_low = f.page_low; page_high = f.page_high; page_order = f.page_order; page_inside = f.page_inside; place = f.place; cost = f.cost; polled = f.polled }
 
-pub with_plane : (g : Parts) (v s a : Registers) (n : ℕ) → RegistersAt g v s a → RegistersAt g v (record s { planes = just_plane n }) (record a { planes = just_plane n })
-with_plane g v s a n f = record { column = f.column; planes = among_self (just_plane n); index = f.index; page_low = f.page_low; page_high = f.page_high; page_order = f.page_order; page_inside = f.page_inside; place = f.place; cost = f.cost; polled = f.polled }
+pub with_plane : (g : Parts) (v s a : Registers) (n : ℕ) → is_one_plane (just_plane n) ≡ true → RegistersAt g v s a → RegistersAt g v (record s { planes = just_plane n }) (record a { planes = just_plane n })
+with_plane g v s a n one f = record { column = f.column; planes = among_self (just_plane n); one_plane = one; index = f.index; page_low = f.page_low; page_high = f.page_high; page_order = f.page_order; page_inside = f.page_inside; place = f.place; cost = f.cost; polled = f.polled }
 
 pub with_place : (g : Parts) (v s a : Registers) (x y : Span) → SpanAt v.place x y → RegistersAt g v s a → RegistersAt g v (record s { place = x }) (record a { place = y })
-with_place g v s a x y h f = record { column = f.column; planes = f.planes; index = f.index; page_low = f.page_low; page_high = f.page_high; page_order = f.page_order; page_inside = f.page_inside; place = h; cost = f.cost; polled = f.polled }
+with_place g v s a x y h f = record { column = f.column; planes = f.planes; one_plane = f.one_plane; index = f.index; page_low = f.page_low; page_high = f.page_high; page_order = f.page_order; page_inside = f.page_inside; place = h; cost = f.cost; polled = f.polled }
 
 pub with_paid : (g : Parts) (v s a : Registers) (n : ℕ) → RegistersAt g v s a → RegistersAt g v (record s { cost = cost_plus n s.cost }) (record a { cost = cost_plus n a.cost })
-with_paid g v s a n f = record { column = f.column; planes = f.planes; index = f.index; page_low = f.page_low; page_high = f.page_high; page_order = f.page_order; page_inside = f.page_inside; place = f.place; cost = paid_number v.cost s.cost a.cost n f.cost; polled = f.polled }
+with_paid g v s a n f = record { column = f.column; planes = f.planes; one_plane = f.one_plane; index = f.index; page_low = f.page_low; page_high = f.page_high; page_order = f.page_order; page_inside = f.page_inside; place = f.place; cost = paid_number v.cost s.cost a.cost n f.cost; polled = f.polled }
 
 pub with_polled : (g : Parts) (v s a : Registers) → RegistersAt g v s a → RegistersAt g v (record s { polled = true }) (record a { polled = true })
-with_polled g v s a f = record { column = f.column; planes = f.planes; index = f.index; page_low = f.page_low; page_high = f.page_high; page_order = f.page_order; page_inside = f.page_inside; place = f.place; cost = f.cost; polled = λ h. h }
+with_polled g v s a f = record { column = f.column; planes = f.planes; one_plane = f.one_plane; index = f.index; page_low = f.page_low; page_high = f.page_high; page_order = f.page_order; page_inside = f.page_inside; place = f.place; cost = f.cost; polled = λ h. h }
 
 -- a range of pages inside the block
 pub record RangeIs (pages : ℕ) (s a : PageRange) : Type 0 where
@@ -60,7 +60,7 @@ pub record RangeIs (pages : ℕ) (s a : PageRange) : Type 0 where
   pub inside : a.hi < pages
 
 pub with_index : (g : Parts) (v s a : Registers) (x y : Span) (p q : PageRange) → SpanAt v.index x y → RangeIs g.pages p q → RegistersAt g v s a → RegistersAt g v (record s { index = x; page = p }) (record a { index = y; page = q })
-with_index g v s a x y p q h k f = record { column = f.column; planes = f.planes; index = h; page_low = k.low; page_high = k.high; page_order = k.order; page_inside = k.inside; place = f.place; cost = f.cost; polled = f.polled }
+with_index g v s a x y p q h k f = record { column = f.column; planes = f.planes; one_plane = f.one_plane; index = h; page_low = k.low; page_high = k.high; page_order = k.order; page_inside = k.inside; place = f.place; cost = f.cost; polled = f.polled }
 
 pub paid_at : (g : Parts) (v s a : State) (n : ℕ) → At g v s a → At g v (with_registers s (paid n s.registers)) (with_registers a (paid n a.registers))
 paid_at g v s a n d = record { registers = with_paid g v.registers s.registers a.registers n d.registers; target = d.target; lun = d.lun }
@@ -173,7 +173,7 @@ named_alike g f h (Some n) (Some k) m e = record { index = e.index; planes = e.p
 
 pub fine_moved : (g : Parts) (h : Drift → Option Drift) (a : Option NamedRow) → IsFineNamed g a → IsFineNamed g (named_moved h a)
 fine_moved g h None f = tt
-fine_moved g h (Some k) f = record { order = f.order; low_small = f.low_small; small = f.small; page_inside = f.page_inside }
+fine_moved g h (Some k) f = record { order = f.order; low_small = f.low_small; small = f.small; page_inside = f.page_inside; one_plane = f.one_plane }
 
 pub rows_placed : (erase : Bool) (ps ms : Planes) (s a : Option Drift) → AllAmong ms ps → DriftIs s a → RowsAre (rows_at erase ps s) (rows_at erase ms a)
 rows_placed erase ps ms None a f e = tt
@@ -183,11 +183,24 @@ pub no_rows_placed : (erase : Bool) (ps : Planes) (s : Option Drift) → RowsAre
 no_rows_placed erase ps None = tt
 no_rows_placed erase ps (Some d) = tt
 
+pub reads_placed : (ps ms surely some : Planes) (s a : Option Drift) → AllAmong surely some → AllAmong ms ps → DriftIs s a → RowsAre (reads_at ps surely s) (reads_at ms some a)
+reads_placed ps ms surely some None a x f e = tt
+reads_placed ps ms surely some (Some d) a x f e = subst (λ (o : Option Drift). RowsAre (SomeReads ps surely d) (reads_at ms some o)) (sym e) (x, (f, refl))
+
+no_reads_placed : (ps surely : Planes) (s : Option Drift) → AllAmong surely no_planes → RowsAre (reads_at ps surely s) NoRows
+no_reads_placed ps surely None x = tt
+no_reads_placed ps surely (Some d) x = x
+
 pub rows_alike : (f h : Drift → Option Drift) (s a : QueuedRows) → MovesAlike f h → RowsAre s a → RowsAre (rows_moved f s) (rows_moved h a)
 rows_alike f h NoRows a m e = ap (rows_moved h) e
 rows_alike f h AnyRows a m e = tt
 rows_alike f h (SomeRows erase ps d) NoRows m e = no_rows_placed erase ps (f d)
 rows_alike f h (SomeRows erase ps d) AnyRows m e = absurd e
+rows_alike f h (SomeRows erase ps d) (SomeReads ms some c) m e = absurd e
+rows_alike f h (SomeReads ps surely d) NoRows m e = no_reads_placed ps surely (f d) e
+rows_alike f h (SomeReads ps surely d) AnyRows m e = absurd e
+rows_alike f h (SomeReads ps surely d) (SomeRows kind ms c) m e = absurd e
+rows_alike f h (SomeReads ps surely d) (SomeReads ms some c) m e = reads_placed ps ms surely some (f d) (h c) e.0 e.1.0 (subst (λ (x : Drift). DriftIs (f d) (h x)) (sym e.1.1) (m d))
 rows_alike f h (SomeRows erase ps d) (SomeRows kind ms c) m e =
     subst (λ (k : Bool). RowsAre (rows_at erase ps (f d)) (rows_at k ms (h c))) (sym e.0) (rows_placed erase ps ms (f d) (h c) e.1.0 (subst (λ (x : Drift). DriftIs (f d) (h x)) (sym e.1.1) (m d)))
 
@@ -210,7 +223,7 @@ cached_page_is g l v (Some n) (Some m) e f =
 -- 5. polls and hand-overs
 
 pub lun_with_output : (v s a : KnownLun) (k m : Option OutputColumn) → OutputAt v.column k m → LunAt v s a → LunAt v (record s { column = k }) (record a { column = m })
-lun_with_output v s a k m h f = record { busy = f.busy; register = f.register; has_column = h.has; column = h.at; queue = f.queue; last_read = f.last_read; last_cache = f.last_cache; last_other = f.last_other; cached_index = f.cached_index; cached_page = f.cached_page }
+lun_with_output v s a k m h f = record { busy = f.busy; register = f.register; has_column = h.has; column = h.at; queue = f.queue; last_read = f.last_read; last_cache = f.last_cache; last_other = f.last_other; cached_index = f.cached_index; cached_page = f.cached_page; held = f.held; array = f.array }
 
 pub output_of : (v s a : KnownLun) → LunAt v s a → OutputAt v.column s.column a.column
 output_of v s a f = record { has = f.has_column; at = f.column }
@@ -226,7 +239,7 @@ pub ready_at : (g : Parts) (v s a : State) → At g v s a → At g v (found_read
 ready_at g v s a d = record {
   registers = d.registers;
   target = d.target;
-  lun = (let f = d.lun in record { busy = λ h. h; register = f.register; has_column = f.has_column; column = f.column; queue = f.queue; last_read = f.last_read; last_cache = f.last_cache; last_other = f.last_other; cached_index = f.cached_index; cached_page = f.cached_page });
+  lun = (let f = d.lun in record { busy = λ h. h; register = f.register; has_column = f.has_column; column = f.column; queue = f.queue; last_read = f.last_read; last_cache = f.last_cache; last_other = f.last_other; cached_index = f.cached_index; cached_page = f.cached_page; held = f.held; array = f.array });
 }
 
 pub handed_at : (g : Parts) (v s a : State) → At g v s a → At g v (handed_over g s) (handed_over g a)
@@ -244,5 +257,5 @@ pub moved_at : (g : Parts) (v s a : State) (f h : Drift → Option Drift) (x y :
 moved_at g v s a f h x y p q d alike i r = record {
   registers = with_index g v.registers s.registers a.registers x y p q i r d.registers;
   target = (let t = d.target in record { tail = t.tail; has_column = t.has_column; column = t.column; named = named_alike g f h s.target.named a.target.named alike t.named; fine = fine_moved g h a.target.named t.fine; shows = t.shows });
-  lun = (let t = d.lun in record { busy = t.busy; register = t.register; has_column = t.has_column; column = t.column; queue = rows_alike f h s.lun.queue a.lun.queue alike t.queue; last_read = t.last_read; last_cache = t.last_cache; last_other = t.last_other; cached_index = t.cached_index; cached_page = t.cached_page });
+  lun = (let t = d.lun in record { busy = t.busy; register = t.register; has_column = t.has_column; column = t.column; queue = rows_alike f h s.lun.queue a.lun.queue alike t.queue; last_read = t.last_read; last_cache = t.last_cache; last_other = t.last_other; cached_index = t.cached_index; cached_page = t.cached_page; held = t.held; array = t.array });
 }

@@ -5,7 +5,7 @@ use Rattle.std.proofs.lemmas.Bool.Decides.{nat_tests}
 use Rattle.nand_geometry.specs.declared.parts.Parts.{Parts}
 use Rattle.nand_geometry.specs.Limits.{InLimits, planes}
 use Rattle.onfi_cycle.specs.declared.command.Command.{Command}
-use Rattle.onfi_cycle.specs.declared.command.Command.TheVariants.{Read, ChangeReadColumn, ChangeReadColumnConfirm, BlockErase, PageProgram, ReadId, ReadParameterPage, ReadUniqueId, GetFeatures, SetFeatures, ReadCacheSequential, ReadCacheEnd, ReadConfirm}
+use Rattle.onfi_cycle.specs.declared.command.Command.TheVariants.{Read, ReadPlane, ChangeReadColumn, ChangeReadColumnEnhanced, ChangeReadColumnConfirm, BlockErase, PageProgram, ReadId, ReadParameterPage, ReadUniqueId, GetFeatures, SetFeatures, ReadCacheSequential, ReadCacheEnd, ReadConfirm}
 use Rattle.onfi_cycle.specs.Command.{command, is_opener, addresses_the_array}
 use Rattle.micro_word.specs.declared.word.Word.{Word}
 use Rattle.micro_word.specs.declared.word.Word.TheVariants.{End, Address, Get, Put, Column, RowAdd, Row, Plane, Wait, Yield, ReadStatus, BranchOnStatus}
@@ -18,11 +18,11 @@ use Rattle.micro_claims.specs.declared.place.Place.{Place}
 use Rattle.micro_claims.specs.declared.place.Place.TheVariants.{Closed, After, InData, InColumn, InFeatures, Unknown}
 use Rattle.micro_claims.specs.declared.output_column.OutputColumn.{OutputColumn}
 use Rattle.micro_claims.specs.declared.bounds.Bounds.{Bounds}
-use Rattle.micro_claims.specs.Against.{may_end_sequence, may_be_open, is_in_features, addresses_left, next_address, takes_identity_at, is_inside_address, drives, least_length, is_unfit, identity_opener_refused, opener_refused, closer_refused, command_out_of_place, command_past_rows, has_second_column, column_limit, identity_refused, row_refused, surely_past, address_out_of_place, begins_elsewhere, column_past, row_outside, output_refused, column_bound, output_past, span_bound, input_past, place_wants, is_open_place}
+use Rattle.micro_claims.specs.Against.{may_end_sequence, may_be_open, addresses_left, next_address, takes_identity_at, is_inside_address, drives, least_length, is_unfit, identity_opener_refused, opener_refused, closer_refused, command_out_of_place, command_past_rows, has_second_column, column_limit, identity_refused, plane_refused, row_refused, surely_past, address_out_of_place, begins_elsewhere, column_past, row_outside, output_refused, column_bound, output_past, span_bound, input_past, place_wants, is_open_place}
 use Rattle.micro_claims.specs.Reasons.{breaks_cycle_forbidden, breaks_address_unaligned, breaks_handover_in_sequence, breaks_buffer_passed, breaks_row_or_plane_outside, breaks_column_too_large, breaks_no_status, breaks_ends_too_soon, breaks_over_budget, breaks_command_not_allowed}
 use Rattle.micro_claims.specs.Order.{top, May, column_number, output_number, At, PlaceIs, Anywhere, NothingOpen, Exactly}
-use Rattle.micro_walk.proofs.Shapes.{and_on, or_on, not_on, same_on, no_too}
-use Rattle.micro_walk.proofs.TestsKept.{Clear, cond_on, most_on, only_data_on, drives_on, show_on, has_register_on, has_page_on, has_column_on, queued_on, length_on, queue_on, identity_byte_on, span_is, open_too, wants_too, inputs_too, features_too, inside_too, known_place, planes_on, closed_unwanted}
+use Rattle.micro_walk.proofs.Shapes.{and_on, or_on, not_on, same_on, no_too, one_within}
+use Rattle.micro_walk.proofs.TestsKept.{Clear, cond_on, most_on, only_data_on, drives_on, show_on, has_register_on, has_page_on, has_column_on, queued_on, length_on, queue_on, identity_byte_on, span_is, open_too, wants_too, selects_too, inputs_too, features_too, inside_too, known_place, planes_on, closed_unwanted}
 use Rattle.nand_geometry.specs.Optional.{is_wide}
 use Rattle.onfi_cycle.specs.Rules.{excludes_cache}
 
@@ -41,6 +41,7 @@ opener_on : (g : Parts) (v s a : State) → At g v s a → (c : Command) → May
 opener_on g v s a d ChangeReadColumn =
     or_on _ _ _ _ (or_on _ _ _ _ (not_on _ _ (only_data_on s.target.shows a.target.shows d.target.shows)) d.lun.busy) (not_on _ _ (has_page_on s.lun.register a.lun.register d.lun.register))
 opener_on g v s a d Read = d.lun.busy
+opener_on g v s a d ChangeReadColumnEnhanced = d.lun.busy
 opener_on g v s a d BlockErase = d.lun.busy
 opener_on g v s a d PageProgram = d.lun.busy
 opener_on g v s a d ReadId = identity_opener_on g v s a d
@@ -55,7 +56,8 @@ opener_on g v s a d ReadCacheEnd = or_on _ _ _ _ (or_on _ _ _ _ (or_on _ _ _ _ (
 opener_on g v s a d _ = same_on _
 
 closer_on : (g : Parts) (v s a : State) → At g v s a → (c : Command) → May (closer_refused g a c) (closer_refused g s c)
-closer_on g v s a d ChangeReadColumnConfirm = not_drives_on g v s a d
+closer_on g v s a d ChangeReadColumnConfirm = and_on _ _ _ _ (not_on _ _ (selects_too s.target.tail a.target.tail d.target.tail)) (not_drives_on g v s a d)
+closer_on g v s a d ReadPlane = d.lun.last_cache
 closer_on g v s a d ReadConfirm = and_on _ _ _ _ (same_on (is_wide g.optional)) d.lun.last_cache
 closer_on g v s a d ReadCacheSequential = or_on _ _ _ _ (same_on (not (is_wide g.optional))) d.lun.last_other
 closer_on g v s a d _ = same_on _
@@ -153,6 +155,13 @@ outside_on g rows v s a from count d =
     (or_on _ _ _ _ (not_on _ _ (most_on s.registers.index.hi a.registers.index.hi 1 rows rows d.registers.index.high (omega arith)))
     (not_on _ _ (planes_on (planes g) s.registers.planes a.registers.planes d.registers.planes)))
 
+-- the plane of a row behind 06h
+plane_on : (g : Parts) (v s a : State) → At g v s a → (opener : Command) → May (plane_refused a opener) (plane_refused s opener)
+plane_on g v s a d ChangeReadColumnEnhanced =
+    or_on _ _ _ _ (queued_on s.lun.queue a.lun.queue d.lun.queue)
+    (not_on _ _ (one_within s.registers.planes s.lun.held a.registers.planes a.lun.held d.registers.one_plane d.registers.planes d.lun.held))
+plane_on g v s a d _ = same_on _
+
 row_on : (g : Parts) (v s a : State) → At g v s a → (p : Place) → May (row_refused g a p) (row_refused g s p)
 row_on g v s a d Closed = same_on _
 row_on g v s a d InData = same_on _
@@ -160,7 +169,8 @@ row_on g v s a d (InColumn n) = same_on _
 row_on g v s a d (InFeatures n) = same_on _
 row_on g v s a d Unknown = same_on _
 row_on g v s a d (After opener n) =
-    and_on _ _ _ _ (same_on (addresses_the_array opener)) (or_on _ _ _ _ (or_on _ _ _ _ d.lun.busy (and_on _ _ _ _ (same_on (excludes_cache g opener)) d.lun.last_cache)) (queue_on s.lun.queue a.lun.queue s.registers.planes a.registers.planes opener d.lun.queue d.registers.planes))
+    and_on _ _ _ _ (same_on (addresses_the_array opener))
+    (or_on _ _ _ _ (or_on _ _ _ _ (or_on _ _ _ _ d.lun.busy (and_on _ _ _ _ (same_on (excludes_cache g opener)) d.lun.last_cache)) (queue_on s.lun.queue a.lun.queue s.registers.planes a.registers.planes opener d.lun.queue d.registers.planes)) (plane_on g v s a d opener))
 
 identity_on : (g : Parts) (v s a : State) (from count : ℕ) → At g v s a → (p : Place) → May (identity_refused g a from count p) (identity_refused g s from count p)
 identity_on g v s a from count d Closed = same_on _

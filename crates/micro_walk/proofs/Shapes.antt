@@ -1,5 +1,7 @@
 -- Planes, places, flags and drifts: who claims less.
-use Rattle.std.proofs.Common.{◌≡◌, ℕ, zero, suc, ◌==◌, ◌^◌, Bool, true, false, ◌&&◌, ◌||◌, not, Option, Some, None, refl, sym, ap, ◌∙◌, eqb-true}
+use Rattle.std.proofs.Common.{◌≡◌, ℕ, zero, suc, ◌==◌, ◌^◌, Bool, true, false, ◌&&◌, ◌||◌, cond, not, Option, Some, None, refl, sym, ap, ◌∙◌, eqb-true, arith}
+use Rattle.std.specs.Prelude.{nat_lt}
+use Rattle.std.proofs.lemmas.Bool.Decides.{nat_tests}
 use Rattle.std.proofs.lemmas.Bool.{or_left, or_right, and_parts, and_from}
 use Rattle.onfi_cycle.specs.declared.command.Command.{Command}
 use Rattle.onfi_cycle.specs.Command.{command, opcode}
@@ -8,9 +10,10 @@ use Rattle.micro_claims.specs.declared.place.Place.{Place}
 use Rattle.micro_claims.specs.declared.place.Place.TheVariants.{Closed, After, InData, InColumn, InFeatures, Unknown}
 use Rattle.micro_claims.specs.declared.drift.Drift.{Drift}
 use Rattle.micro_claims.specs.declared.planes.Planes.{Planes}
-use Rattle.micro_claims.specs.Planes.{has_plane, either_plane}
-use Rattle.micro_claims.proofs.Sets.{has_more}
-use Rattle.micro_claims.proofs.PlaneSets.{either_has}
+use Rattle.micro_claims.specs.Planes.{has_plane, no_planes, just_plane, either_plane, is_one_plane, sure_plane}
+use Rattle.micro_claims.proofs.Sets.{has_self, has_more}
+use Rattle.micro_claims.proofs.PlaneSets.{either_has, none_has}
+use Rattle.micro_claims.proofs.HeldPlanes.{OnePlane, one_plane, same_plane}
 use Rattle.micro_claims.specs.Order.{are_planes_within, AllAmong, same_code, same_place, may_within, May, same_drift_as, is_drift_within, DriftIs}
 
 -- 2. planes
@@ -27,6 +30,44 @@ both_among p q r t f h n here = either_has n r t ∙ by (has_plane n p) (has_pla
     by : (a b c d : Bool) → (a ≡ true → c ≡ true) → (b ≡ true → d ≡ true) → (a || b) ≡ true → (c || d) ≡ true
     by true b c d f h e = or_left c d (f refl)
     by false b c d f h e = or_right c d (h e)
+
+pub none_there : {X : Type 0} → (n : ℕ) → has_plane n no_planes ≡ true → X
+none_there n h = absurd (let clash : true ≡ false = sym h ∙ none_has n in cc)
+
+-- what is within is among
+pub within_among : (p q : Planes) → are_planes_within p q ≡ true → AllAmong p q
+within_among p q h n here = has_more (2 ^ n) p.0 q.0 h here
+
+-- one plane has the plane that it is
+own_plane : (p : Planes) (o : OnePlane p) → has_plane o.plane p ≡ true
+own_plane p o = ap (has_plane o.plane) o.is ∙ has_self (2 ^ o.plane)
+
+-- of which plane it is sure that it is meant, that it is
+pub sure_among : (s a : Planes) → is_one_plane a ≡ true → AllAmong a s → AllAmong (sure_plane s) (sure_plane a)
+sure_among s a one f n here = at (is_one_plane s) refl here
+  where
+    o : OnePlane a
+    o = one_plane a one
+
+    at : (b : Bool) → is_one_plane s ≡ b → has_plane n (cond b s no_planes) ≡ true → has_plane n (sure_plane a) ≡ true
+    at true e h =
+        let same : n ≡ o.plane = same_plane n o.plane s e h (f o.plane (own_plane a o)) in
+        ap (λ (b : Bool). has_plane n (cond b a no_planes)) one ∙ (ap (λ (m : ℕ). has_plane m a) same ∙ own_plane a o)
+    at false e h = none_there n h
+
+-- one plane that is among planes within others is within those
+pub one_within : (rs hs ra ha : Planes) → is_one_plane ra ≡ true → AllAmong ra rs → AllAmong hs ha → May (are_planes_within rs hs) (are_planes_within ra ha)
+one_within rs hs ra ha one f h e =
+    let o = one_plane ra one in
+    ap (λ (p : Planes). are_planes_within p ha) o.is ∙ h o.plane (within_among rs hs e o.plane (f o.plane (own_plane ra o)))
+
+-- a plane that there may be is one plane
+pub one_just : (n : ℕ) → nat_lt 3 n ≡ false → is_one_plane (just_plane n) ≡ true
+one_just zero h = refl
+one_just (suc zero) h = refl
+one_just (suc (suc zero)) h = refl
+one_just (suc (suc (suc zero))) h = refl
+one_just (suc (suc (suc (suc n)))) h = absurd (let more : nat_lt 3 (suc (suc (suc (suc n)))) ≡ true = grind (arith, nat_tests) in let clash : true ≡ false = sym more ∙ h in cc)
 
 same_codes : (c d : Command) (o p : Option ℕ) → opcode c ≡ o → opcode d ≡ p → same_code o p ≡ true → c ≡ d
 same_codes c d None p e f h = absurd cc

@@ -15,13 +15,14 @@ use Rattle.micro_claims.specs.declared.state.State.{State}
 use Rattle.micro_claims.specs.declared.bounds.Bounds.{Bounds}
 use Rattle.micro_claims.specs.declared.place.Place.{Place}
 use Rattle.micro_claims.specs.Against.{address_out_of_place, command_out_of_place, command_not_for_programs, is_unfit, asks_status, is_for_traces}
-use Rattle.micro_claims.specs.Reasons.{reason_against, breaks_cycle_forbidden, breaks_command_not_allowed}
+use Rattle.micro_claims.specs.Reasons.{reason_against, breaks_cycle_forbidden, breaks_row_or_plane_outside, breaks_command_not_allowed}
 use Rattle.micro_claims.specs.Leaves.{drift_more}
 use Rattle.micro_claims.specs.Accepts.{word_leaves, state_after}
 use Rattle.micro_claims.specs.Order.{At, machine, state_step}
 use Rattle.micro_claims.specs.Certificate.{Laws}
 use Rattle.micro_walk.proofs.SpanLaws as numbers
-use Rattle.micro_walk.proofs.TestsKept.{Clear, clear_of, none_of, known_cache_read, known_place, known_inputs, known_column}
+use Rattle.micro_walk.proofs.TestsKept.{Clear, clear_of, none_of, known_cache_read, known_selects, known_place, known_inputs, known_column}
+use Rattle.micro_walk.proofs.Shapes.{one_just}
 use Rattle.micro_walk.proofs.ReasonsKept.{clear_too}
 use Rattle.micro_walk.proofs.LeavesKept.{with_column, with_plane, with_place, paid_at, registers_at, drift_same, set_alike, polled_at, ready_at, handed_at, moved_at}
 use Rattle.micro_walk.proofs.CommandsKept.{command_at, get_at, put_at}
@@ -30,7 +31,7 @@ use Rattle.micro_walk.proofs.StateOrder.{begins, eases, enters, again, leaves}
 
 -- what a word leaves
 word_at : (g : Parts) → InLimits g → (text : Bounds) (v s a : State) → At g v s a → (word : Word) → Clear g text s word → At g v (word_leaves g s word) (word_leaves g a word)
-unfolding breaks_cycle_forbidden breaks_command_not_allowed
+unfolding breaks_cycle_forbidden breaks_row_or_plane_outside breaks_command_not_allowed
 word_at g l text v s a d (Command byte) c =
     let used = or_parts (command_not_for_programs g (command byte)) _ c.no_command_not_allowed in
     let three = or_parts (is_unfit g (command byte) || asks_status (command byte) || is_for_traces (command byte)) _ used.0 in
@@ -40,6 +41,7 @@ word_at g l text v s a d (Command byte) c =
     known_cache_read g s s.target.tail a.target.tail d.target.tail refl
     (subst (λ (x : Commands). is_unfit g x ≡ false) is one.0)
     (subst (λ (x : Commands). command_out_of_place g s x ≡ false) is c.no_cycle_forbidden))
+    (λ is. known_selects g s s.target.tail a.target.tail d.target.tail refl (subst (λ (x : Commands). command_out_of_place g s x ≡ false) is c.no_cycle_forbidden))
 word_at g l text v s a d (Address from count) c =
     address_at g l v s a from count d (known_place g s from count s.target.tail a.target.tail d.target.tail c.no_cycle_forbidden)
     (λ n e. known_column g s a from count n (numbers.is_of v.registers.column s.registers.column a.registers.column d.registers.column) (subst (λ (p : Place). address_out_of_place g s from count p ≡ false) e c.no_cycle_forbidden))
@@ -56,7 +58,7 @@ word_at g l text v s a d (Row n) c =
     let some = l.pages_least in
     moved_at g v s a _ _ _ _ _ _ d (set_alike s.registers.index a.registers.index n (numbers.is_of v.registers.index s.registers.index a.registers.index d.registers.index)) (numbers.set v.registers.index n)
     (record { low = omega arith; high = omega arith; order = omega arith; inside = mod_below n g.pages (omega (arith, some)) })
-word_at g l text v s a d (Plane n) c = registers_at g v s a _ _ d (with_plane g v.registers s.registers a.registers n d.registers)
+word_at g l text v s a d (Plane n) c = registers_at g v s a _ _ d (with_plane g v.registers s.registers a.registers n (one_just n c.no_row_or_plane_outside) d.registers)
 word_at g l text v s a d Wait c = ready_at g v _ _ (polled_at g v s a d)
 word_at g l text v s a d Yield c = handed_at g v s a d
 word_at g l text v s a d ReadStatus c = polled_at g v s a d

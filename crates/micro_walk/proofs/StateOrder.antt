@@ -3,7 +3,7 @@ use Rattle.std.proofs.Common.{◌≡◌, ℕ, ◌<◌, ◌≤◌, Bool, true, fa
 use Rattle.std.proofs.lemmas.Bool.{not-true, and_parts}
 use Rattle.nand_geometry.specs.declared.parts.Parts.{Parts}
 use Rattle.nand_geometry.specs.Limits.{InLimits}
-use Rattle.micro_claims.specs.Planes.{just_plane}
+use Rattle.micro_claims.specs.Planes.{just_plane, no_planes, is_one_plane}
 use Rattle.micro_claims.specs.Spans.{Span}
 use Rattle.micro_claims.specs.declared.state.State.{State}
 use Rattle.micro_claims.specs.declared.registers.Registers.{Registers}
@@ -15,7 +15,7 @@ use Rattle.micro_claims.specs.declared.shown.Shown.{Shown}
 use Rattle.micro_claims.specs.declared.held.Held.{Held}
 use Rattle.micro_claims.specs.declared.output_column.OutputColumn.{OutputColumn}
 use Rattle.micro_claims.specs.declared.queued_rows.QueuedRows.{QueuedRows}
-use Rattle.micro_claims.specs.declared.queued_rows.QueuedRows.TheVariants.{NoRows, SomeRows, AnyRows}
+use Rattle.micro_claims.specs.declared.queued_rows.QueuedRows.TheVariants.{NoRows, SomeRows, SomeReads, AnyRows}
 use Rattle.micro_claims.specs.State.{first_state, any_number, may_be_30, may_be_31, may_be_other}
 use Rattle.micro_claims.specs.declared.place.Place.{Place}
 use Rattle.micro_claims.specs.declared.bounds.Bounds.{Bounds}
@@ -25,7 +25,7 @@ use Rattle.micro_claims.specs.Certificate.{Turned}
 use Rattle.micro_claims.proofs.Sets.{has_more}
 use Rattle.micro_walk.proofs.SpanLaws as numbers
 use Rattle.micro_walk.proofs.SpanLaws.{le_of, Ran}
-use Rattle.micro_walk.proofs.Shapes.{planes_too, among_self, same_is, may_too, must_too, drift_is, drift_too}
+use Rattle.micro_walk.proofs.Shapes.{planes_too, among_self, within_among, same_is, may_too, must_too, drift_is, drift_too}
 use Rattle.micro_walk.proofs.Turns.{ran_of, last_turn}
 
 -- 1. before the first word
@@ -40,6 +40,7 @@ begins g l =
       registers = record {
         column = numbers.set _ 0;
         planes = among_self (just_plane 0);
+        one_plane = refl;
         index = numbers.set _ 0;
         page_low = omega arith;
         page_high = omega arith;
@@ -61,6 +62,8 @@ begins g l =
         last_other = λ h. h;
         cached_index = any_free _;
         cached_page = any_free _;
+        held = among_self no_planes;
+        array = among_self no_planes;
       };
     }
 
@@ -82,6 +85,7 @@ registers_eased g v s t a h f =
     record {
       column = numbers.eased v.column s.column t.column a.column p1.0 f.column;
       planes = planes_too s.planes t.planes a.planes p2.0 f.planes;
+      one_plane = f.one_plane;
       index = numbers.eased v.index s.index t.index a.index p3.0 f.index;
       page_low = omega (arith, low, less);
       page_high = omega (arith, high, more);
@@ -195,9 +199,24 @@ rows_eased : (s t a : QueuedRows) → are_rows_within s t ≡ true → RowsAre s
 rows_eased s AnyRows a h f = tt
 rows_eased NoRows NoRows a h f = f
 rows_eased NoRows (SomeRows kind ps e) a h f = subst (λ (x : QueuedRows). RowsAre (SomeRows kind ps e) x) (sym f) tt
+rows_eased NoRows (SomeReads qs some e) a h f = subst (λ (x : QueuedRows). RowsAre (SomeReads qs some e) x) (sym f) (within_among some no_planes h)
 rows_eased (SomeRows erase planes d) NoRows a h f = absurd cc
+rows_eased (SomeRows erase planes d) (SomeReads qs some e) a h f = absurd cc
+rows_eased (SomeReads planes surely d) NoRows a h f = absurd cc
+rows_eased (SomeReads planes surely d) (SomeRows kind ps e) a h f = absurd cc
 rows_eased AnyRows NoRows a h f = absurd cc
 rows_eased AnyRows (SomeRows kind ps e) a h f = absurd cc
+rows_eased AnyRows (SomeReads qs some e) a h f = absurd cc
+rows_eased (SomeReads planes surely d) (SomeReads qs some e) NoRows h f =
+    let p = and_parts (are_planes_within some surely) _ h in
+    λ n here. f n (within_among some surely p.0 n here)
+rows_eased (SomeReads planes surely d) (SomeReads qs some e) AnyRows h f = f
+rows_eased (SomeReads planes surely d) (SomeReads qs some e) (SomeRows kind ps c) h f = f
+rows_eased (SomeReads planes surely d) (SomeReads qs some e) (SomeReads ms known c) h f =
+    let p = and_parts (are_planes_within some surely) _ h in
+    let q = and_parts (are_planes_within planes qs) (same_drift_as d e) p.1 in
+    (λ n here. f.0 n (within_among some surely p.0 n here), (planes_too planes qs ms q.0 f.1.0, f.1.1 ∙ drift_is d e q.1))
+rows_eased (SomeRows erase planes d) (SomeRows kind ps e) (SomeReads qs some c) h f = f
 rows_eased (SomeRows erase planes d) (SomeRows kind ps e) NoRows h f = tt
 rows_eased (SomeRows erase planes d) (SomeRows kind ps e) AnyRows h f = f
 rows_eased (SomeRows erase planes d) (SomeRows kind ps e) (SomeRows k qs c) h f =
@@ -213,6 +232,8 @@ lun_eased v s t a h f =
     let p4 = and_parts _ _ p3.1 in
     let p5 = and_parts _ _ p4.1 in
     let p6 = and_parts _ _ p5.1 in
+    let p7 = and_parts _ _ p6.1 in
+    let p8 = and_parts _ _ p7.1 in
     record {
       busy = may_too s.busy t.busy a.busy p1.0 f.busy;
       register = register_eased s.register t.register a.register p2.0 f.register;
@@ -223,7 +244,9 @@ lun_eased v s t a h f =
       last_cache = λ e. has_more 2 s.last.0 t.last.0 p5.0 (f.last_cache e);
       last_other = λ e. has_more 4 s.last.0 t.last.0 p5.0 (f.last_other e);
       cached_index = numbers.eased v.cached.index s.cached.index t.cached.index a.cached.index p6.0 f.cached_index;
-      cached_page = numbers.eased v.cached.page s.cached.page t.cached.page a.cached.page p6.1 f.cached_page;
+      cached_page = numbers.eased v.cached.page s.cached.page t.cached.page a.cached.page p7.0 f.cached_page;
+      held = λ n here. f.held n (within_among t.held s.held p8.0 n here);
+      array = λ n here. f.array n (within_among t.array s.array p8.1 n here);
     }
 
 pub eases : (g : Parts) (v s t a : State) → is_state_within s t ≡ true → At g v s a → At g v t a
@@ -242,6 +265,7 @@ eases g v s t a h f =
 -- what is claimed beside the numbers
 pub record Stands (g : Parts) (r a : State) : Type 0 where
   pub planes : AllAmong a.registers.planes r.registers.planes
+  pub one_plane : is_one_plane a.registers.planes ≡ true
   pub page_low : r.registers.page.lo ≤ a.registers.page.lo
   pub page_high : a.registers.page.hi ≤ r.registers.page.hi
   pub page_order : a.registers.page.lo ≤ a.registers.page.hi
@@ -259,10 +283,13 @@ pub record Stands (g : Parts) (r a : State) : Type 0 where
   pub last_read : May (may_be_30 a.lun.last) (may_be_30 r.lun.last)
   pub last_cache : May (may_be_31 a.lun.last) (may_be_31 r.lun.last)
   pub last_other : May (may_be_other a.lun.last) (may_be_other r.lun.last)
+  pub held : AllAmong r.lun.held a.lun.held
+  pub array : AllAmong r.lun.array a.lun.array
 
 pub stands : (g : Parts) (v s a : State) → At g v s a → Stands g s a
 stands g v s a d = record {
   planes = d.registers.planes;
+  one_plane = d.registers.one_plane;
   page_low = d.registers.page_low;
   page_high = d.registers.page_high;
   page_order = d.registers.page_order;
@@ -280,6 +307,8 @@ stands g v s a d = record {
   last_read = d.lun.last_read;
   last_cache = d.lun.last_cache;
   last_other = d.lun.last_other;
+  held = d.lun.held;
+  array = d.lun.array;
 }
 
 -- the numbers of a claim
@@ -329,6 +358,7 @@ made g f v s r a n x = record {
   registers = record {
     column = n Column;
     planes = x.planes;
+    one_plane = x.one_plane;
     index = n Index;
     page_low = x.page_low;
     page_high = x.page_high;
@@ -357,6 +387,8 @@ made g f v s r a n x = record {
     last_other = x.last_other;
     cached_index = n CachedIndex;
     cached_page = n CachedPage;
+    held = x.held;
+    array = x.array;
   };
 }
 

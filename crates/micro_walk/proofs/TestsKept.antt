@@ -6,7 +6,7 @@ use Rattle.std.proofs.lemmas.Bool.{not-false, or_left, or_parts, and_parts, and_
 use Rattle.nand_geometry.specs.declared.parts.Parts.{Parts}
 use Rattle.nand_geometry.specs.Limits.{InLimits, page_len}
 use Rattle.onfi_cycle.specs.declared.command.Command.{Command}
-use Rattle.onfi_cycle.specs.declared.command.Command.TheVariants.{Read, ReadId, ReadCacheSequential}
+use Rattle.onfi_cycle.specs.declared.command.Command.TheVariants.{Read, ReadId, ReadCacheSequential, ChangeReadColumnConfirm}
 use Rattle.onfi_cycle.specs.declared.register.Register.{Register}
 use Rattle.onfi_cycle.specs.declared.register.Register.TheVariants.{Empty, Page, ParameterPage, Identifier, Identity, JedecIdentity, UniqueId, Features}
 use Rattle.onfi_cycle.specs.Rules.{register_len}
@@ -21,12 +21,12 @@ use Rattle.micro_claims.specs.declared.shown.Shown.{Shown}
 use Rattle.micro_claims.specs.declared.held.Held.{Held}
 use Rattle.micro_claims.specs.declared.output_column.OutputColumn.{OutputColumn}
 use Rattle.micro_claims.specs.declared.queued_rows.QueuedRows.{QueuedRows}
-use Rattle.micro_claims.specs.declared.queued_rows.QueuedRows.TheVariants.{NoRows, SomeRows, AnyRows}
+use Rattle.micro_claims.specs.declared.queued_rows.QueuedRows.TheVariants.{NoRows, SomeRows, SomeReads, AnyRows}
 use Rattle.micro_claims.specs.declared.drift.Drift.{Drift}
 use Rattle.micro_claims.specs.declared.bounds.Bounds.{Bounds}
 use Rattle.micro_claims.specs.declared.place.Place.TheVariants.{Unknown, Closed, After, InData, InColumn, InFeatures}
 use Rattle.micro_claims.specs.declared.planes.Planes.{Planes}
-use Rattle.micro_claims.specs.Against.{shows_only_data, drives, may_show_data, has_register, holds_short, has_page_or_parameters, has_column, length_of, least_length, may_be_queued, is_read, is_erase, same_test, queue_refuses, byte_of_column, takes_any_byte, takes_identity, is_identity_byte, is_open_place, place_wants, is_in_features, takes_inputs_at, is_inside_address, address_out_of_place, is_unfit, command_out_of_place}
+use Rattle.micro_claims.specs.Against.{shows_only_data, drives, may_show_data, has_register, holds_short, has_page_or_parameters, has_column, length_of, least_length, may_be_queued, is_read, is_erase, same_test, queue_refuses, byte_of_column, takes_any_byte, takes_identity, is_identity_byte, is_open_place, place_wants, selects_plane_at, is_in_features, takes_inputs_at, is_inside_address, address_out_of_place, is_unfit, command_out_of_place}
 use Rattle.micro_claims.specs.Reasons.{breaks_cycle_forbidden, breaks_address_unaligned, breaks_handover_in_sequence, breaks_buffer_passed, breaks_row_or_plane_outside, breaks_column_too_large, breaks_no_status, breaks_ends_too_soon, breaks_over_budget, breaks_command_not_allowed, reason_against}
 use Rattle.micro_claims.specs.declared.planes.Planes.{Planes}
 use Rattle.micro_claims.specs.Planes.{has_plane, share_a_plane, are_below}
@@ -100,6 +100,18 @@ pub wants_too : (c : Command) (s a : Place) → PlaceIs s a → May (place_wants
 wants_too c _ _ (Anywhere p) h = absurd cc
 wants_too c _ _ (NothingOpen p e) h = absurd cc
 wants_too c _ _ (Exactly p) h = h
+
+-- where a plane is selected it is so
+pub selects_too : (s a : Place) → PlaceIs s a → May (selects_plane_at s) (selects_plane_at a)
+selects_too _ _ (Anywhere p) h = absurd cc
+selects_too _ _ (NothingOpen p e) h = absurd cc
+selects_too _ _ (Exactly p) h = h
+
+-- where an E0 isn't refused it is known whether a plane is selected
+pub known_selects : (g : Parts) (s : State) (p q : Place) → PlaceIs p q → s.target.tail ≡ p → command_out_of_place g s ChangeReadColumnConfirm ≡ false → selects_plane_at p ≡ selects_plane_at q
+known_selects g s _ _ (Anywhere q) is h = absurd (let no : true ≡ false = rw is at h in cc)
+known_selects g s _ _ (NothingOpen q e) is h = absurd (let no : true ≡ false = rw is at h in cc)
+known_selects g s _ _ (Exactly q) is h = refl
 
 -- a 31 that is wanted closes what is open
 cache_read_open : (p : Place) → place_wants ReadCacheSequential p ≡ true → is_open_place p ≡ true
@@ -227,6 +239,7 @@ pub queued_on : (s a : QueuedRows) → RowsAre s a → May (may_be_queued a) (ma
 queued_on NoRows a f h = sym (ap may_be_queued f) ∙ h
 queued_on AnyRows a f h = refl
 queued_on (SomeRows erase ps d) a f h = refl
+queued_on (SomeReads ps surely d) a f h = refl
 
 -- what is held is held where it is claimed
 among_too : (r q : Held) → RegisterIs r q → (x : Register) → register_among q x ≡ true → register_among r x ≡ true
@@ -288,6 +301,12 @@ queue_on NoRows a ps ns opener f h e = absurd (let x = sym (ap (λ (r : QueuedRo
 queue_on AnyRows a ps ns opener f h e = refl
 queue_on (SomeRows erase qs d) NoRows ps ns opener f h e = absurd cc
 queue_on (SomeRows erase qs d) AnyRows ps ns opener f h e = absurd f
+queue_on (SomeRows erase qs d) (SomeReads ms some c) ps ns opener f h e = absurd f
+queue_on (SomeReads qs surely d) NoRows ps ns opener f h e = absurd cc
+queue_on (SomeReads qs surely d) AnyRows ps ns opener f h e = absurd f
+queue_on (SomeReads qs surely d) (SomeRows kind ms c) ps ns opener f h e = absurd f
+queue_on (SomeReads qs surely d) (SomeReads ms some c) ps ns opener f h e =
+    or_on _ _ _ _ (subst (λ (x : Drift). May (not (is_read opener) || not (c.ahead == c.behind)) (not (is_read opener) || not (x.ahead == x.behind))) f.1.1 (same_on _)) (common_on ps ns qs ms h f.1.0) e
 queue_on (SomeRows erase qs d) (SomeRows kind ms c) ps ns opener f h e =
     subst (λ (k : Bool). (is_read opener || not (same_test k (is_erase opener)) || not (d.ahead == d.behind) || share_a_plane ps qs) ≡ true) f.0
     (or_on _ _ _ _ (subst (λ (x : Drift). May (is_read opener || not (same_test kind (is_erase opener)) || not (c.ahead == c.behind)) (is_read opener || not (same_test kind (is_erase opener)) || not (x.ahead == x.behind))) f.1.1 (same_on _)) (common_on ps ns qs ms h f.1.0) e)

@@ -19,7 +19,7 @@ use std::alloc::Global;
 pub use verdict::OnfiseqVerdict;
 
 /// Verifies the microprogram of a word file for the geometry of a parameter page: whether it is safe there, and else why not. It takes memory for the words
-/// of the file, 8 bytes each, and for a table where there are branches or loops, 256 bytes for each word.
+/// of the file, 8 bytes each, and for a table where there are branches or loops, 260 bytes for each word.
 #[unsafe(no_mangle)]
 pub extern "C" fn onfiseq_verify(alloc: Global, page: &[u8], file: &[u8]) -> OnfiseqVerdict
     ensures { Says page.now file.now result }

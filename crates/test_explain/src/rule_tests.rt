@@ -1,4 +1,4 @@
-use crate::table::{TWO_LUNS, TWO_PLANES};
+use crate::table::{PLANE_READS, TWO_LUNS, TWO_PLANES};
 use micro_asm::assemble;
 use micro_claims::{Fault, Reason};
 use micro_explain::explain;
@@ -30,6 +30,16 @@ const PROGRAMS: &[&str] = &[
     "cmd 60\naddr 2 3\ncmd d0\nwait\ncmd 00\naddr 0 5\ncmd 30\nwait\ncmd 31\nwait\ncmd 3f\nwait\ncol 32\ncmd 90\naddr 0 1\nget 4\nend 0",
     // Addresses in parts, and queued programs between reads.
     "cmd 00\naddr 0 2\naddr 2 3\ncmd 30\nwait\ncmd 80\naddr 0 5\nput 1\ncmd 11\nwait\nplane 1\ncmd 80\naddr 0 5\nput 1\ncmd 10\nwait\ncmd 00\naddr 0 5\ncmd 30\nwait\nend 0",
+];
+
+// Programs for a LUN whose planes are read at once, which the verifier takes.
+const PLANE_PROGRAMS: &[&str] = &[
+    // A read of two planes at once, and both pages.
+    "cmd 00\naddr 0 5\ncmd 32\nwait\nplane 1\ncmd 00\naddr 0 5\ncmd 30\nwait\nplane 0\ncmd 06\naddr 0 5\ncmd e0\nget 4\nplane 1\ncmd 06\naddr 0 5\ncmd e0\nget 4\nend 0",
+    // A page selected amid a cache read, and behind it.
+    "cmd 00\naddr 0 5\ncmd 30\nwait\ncmd 31\nwait\ncmd 06\naddr 0 5\ncmd e0\nget 1\ncmd 3f\nwait\ncmd 06\naddr 0 5\ncmd e0\nget 1\nend 0",
+    // A read of two planes between erases.
+    "cmd 60\naddr 2 3\ncmd d0\nwait\ncmd 00\naddr 0 5\ncmd 32\nwait\nplane 1\ncmd 00\naddr 0 5\ncmd 30\nwait\ncmd 06\naddr 0 5\ncmd e0\nget 2\ncmd 60\naddr 2 3\ncmd d0\nwait\nend 0",
 ];
 
 // How many programs were refused by V7, and of how many the rule was compared.
@@ -150,12 +160,17 @@ fn compare_elsewhere(alloc: Global, program: &str, counted: &mut Counted) -> Res
 }
 
 // Compares a program without any one and any two of its words.
-fn compare_all(alloc: Global, program: &str, counted: &mut Counted) -> Result<(), Fail> {
+fn compare_all(
+    alloc: Global,
+    parts: Parts,
+    program: &str,
+    counted: &mut Counted,
+) -> Result<(), Fail> {
     let words = words_of(alloc, program)?;
     for one in 0..words.len() {
         for other in one..words.len() {
             let left = without(alloc, words.as_slice(), one, other)?;
-            compare(alloc, TWO_PLANES, left, counted)?;
+            compare(alloc, parts, left, counted)?;
         }
     }
     Ok(())
@@ -168,9 +183,22 @@ fn rules_are_those_of_the_model(rt: HostRuntime) -> Result<(), Fail> {
         compared: 0,
     };
     for program in PROGRAMS {
-        compare_all(rt.alloc(), program, &mut counted)?;
+        compare_all(rt.alloc(), TWO_PLANES, program, &mut counted)?;
     }
     assert!(rt; counted.compared >= 400);
+    Ok(())
+}
+
+#[test]
+fn rules_of_plane_reads_are_those_of_the_model(rt: HostRuntime) -> Result<(), Fail> {
+    let mut counted = Counted {
+        refused: 0,
+        compared: 0,
+    };
+    for program in PLANE_PROGRAMS {
+        compare_all(rt.alloc(), PLANE_READS, program, &mut counted)?;
+    }
+    assert!(rt; counted.compared >= 100);
     Ok(())
 }
 

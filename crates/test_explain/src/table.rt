@@ -1,6 +1,6 @@
 //! A table of programs that are refused, each with what is told of it.
 
-use nand_geometry::{Parts, SMALL_CHIP};
+use nand_geometry::{Optional, Parts, SMALL_CHIP};
 
 /// One LUN of 8 blocks of 4 pages of 512 + 16 bytes, in one plane.
 pub(crate) const ONE_LUN: Parts = SMALL_CHIP;
@@ -17,5 +17,11 @@ pub(crate) const TWO_PLANES: Parts = Parts {
 pub(crate) const TWO_LUNS: Parts = Parts {
     luns: 2,
     enhanced: true,
+    ..TWO_PLANES
+};
+
+/// Two planes of the wider profile, which are read at once, and whose pages are selected.
+pub(crate) const PLANE_READS: Parts = Parts {
+    optional: Optional(0x8e64),
     ..TWO_PLANES
 };
