@@ -71,10 +71,10 @@ driver_at (x ∷ vs) (suc n) v w found on h = at (is_off x.latch) (driver_at vs 
     at false ih h = more (are_none (driving vs)) (on_drives vs n v found on) h
 
 -- a LUN that shows something alone is the one driver, and what a test says of the driver it says of this LUN
-record IsDriver (luns : List LunView) (v : LunView) : Type 0 where
-  is : driver luns ≡ Some v
+pub record IsDriver (luns : List LunView) (v : LunView) : Type 0 where
+  pub is : driver luns ≡ Some v
 
-alone_drives : (luns : List LunView) (n : ℕ) (v : LunView) → slice_get luns n ≡ Some v → is_off (cond (has_driver luns) v.latch Off) ≡ false → IsDriver luns v
+pub alone_drives : (luns : List LunView) (n : ℕ) (v : LunView) → slice_get luns n ≡ Some v → is_off (cond (has_driver luns) v.latch Off) ≡ false → IsDriver luns v
 alone_drives luns n v found on = at (driver luns) refl on
   where
     at : (d : Option LunView) → driver luns ≡ d → is_off (cond (is_some_and (λ v. true) d) v.latch Off) ≡ false → IsDriver luns v
@@ -93,7 +93,7 @@ data_is_on Off h = cc
 data_is_on Status h = cc
 data_is_on Data h = refl
 
-driver_passes : (test : LunView → Bool) (luns : List LunView) (v : LunView) → IsDriver luns v → driver_is test luns ≡ test v
+pub driver_passes : (test : LunView → Bool) (luns : List LunView) (v : LunView) → IsDriver luns v → driver_is test luns ≡ test v
 driver_passes test luns v d = rw d.is refl
 
 -- an effect that comes or not

@@ -32,7 +32,7 @@ use Rattle.onfi_profiles.proofs.Pasts.{lun_at, both_legal}
 -- 1. what an item does
 
 -- a read is queued, or pages are read for a copyback
-abbrev brings_pages : Effect → Bool
+abbrev pub brings_pages : Effect → Bool
 brings_pages (ReadQueued page) = true
 brings_pages (CopybackReadStarted page column planes) = true
 brings_pages _ = false
@@ -99,7 +99,7 @@ cycle_queues g t la (AddressCycle byte) lun b = at t.opening
 cycle_queues g t la (InputCycle byte) lun b = neither (ends_features t) (of_target g lun (FeaturesSet _)) Unaffected (of_target_queues g lun (FeaturesSet _) refl) refl
 cycle_queues g t la OutputCycle lun b = neither (is_data la) DataOutput Unaffected refl refl
 
-item_queues : (g : Parts) (targets : ℕ) (past : List Item) (i : Item) (l : Lun) → broken (in_base g) targets past i ≡ None → brings_pages (effect_on (in_base g) past i l) ≡ false
+pub item_queues : (g : Parts) (targets : ℕ) (past : List Item) (i : Item) (l : Lun) → broken (in_base g) targets past i ≡ None → brings_pages (effect_on (in_base g) past i l) ≡ false
 unfolding effect_among
 item_queues g targets past (Cyc c) l h =
     neither (c.ce == l.ce) (cycle_effect (in_base g) (facts_of (tail past l.ce)) (latch_alone (in_base g) past l) (target_cycle c.kind c.byte) l.lun) Unaffected
