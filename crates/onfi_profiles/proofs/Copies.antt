@@ -4,7 +4,7 @@ use Rattle.std.proofs.lemmas.Bool.{and_parts, not-false, or_left}
 use Rattle.std.proofs.lemmas.Bool.Decides.{nat_tests}
 use Rattle.std.specs.List.{slice_get}
 use Rattle.nand_geometry.specs.declared.parts.Parts.{Parts}
-use Rattle.nand_geometry.specs.Row.{parts_of}
+use Rattle.nand_geometry.specs.Row.{parts_of, row_of}
 use Rattle.onfi_cycle.specs.declared.command.Command.{Command}
 use Rattle.onfi_cycle.specs.declared.command.Command.TheVariants.{Read, ReadConfirm, ReadPlane, CopybackRead, PageProgram, ChangeWriteColumn, ReadStatus, ReadStatusEnhanced, Reset, SynchronousReset, ReadCacheSequential, ReadCacheEnd, ChangeReadColumnConfirm, BlockEraseConfirm, BlockErasePlane, ProgramConfirm, ProgramPlane, ReadId, ReadParameterPage, ReadUniqueId, GetFeatures, ResetLun}
 use Rattle.onfi_cycle.specs.declared.data_phase.DataPhase.{DataPhase}
@@ -27,7 +27,7 @@ use Rattle.onfi_cycle.specs.LunView.{LunView}
 use Rattle.onfi_cycle.specs.Base.{is_of_base}
 use Rattle.onfi_cycle.specs.Bounds.{names_program}
 use Rattle.onfi_cycle.specs.Command.{closes_row, reads_row, is_page_program, is_write_column}
-use Rattle.onfi_cycle.specs.Sequence.{target_cycle, tail, facts_of, opened, takes_data, takes_features, wants_column, wants_command, wants_address, row, row_of, row_with, row_after_address, selects_plane, phase_after_command}
+use Rattle.onfi_cycle.specs.Sequence.{target_cycle, tail, facts_of, opened, takes_data, takes_features, wants_column, wants_command, wants_address, row, row_with, row_after_address, selects_plane, phase_after_command}
 use Rattle.onfi_cycle.specs.Effect.{program_row_effect, is_off, is_data, is_shared, acts_for_target, of_target, id_effect, lun_reset_effect, names_lun, ends_features, plane_of_row, plane_effect, column_effect, cache_effect, confirm_effect, other_effect, row_effect, command_effect, input_effect, address_effect, opening_address_effect, cycle_effect}
 use Rattle.onfi_cycle.specs.Lun.{is_page_read, is_copyback_read, is_cache_read, closer, closer_after, queue_after, held_after, queue, held, latch, latch_alone, effect_on, effect_among, lun_view, luns_of}
 use Rattle.onfi_cycle.specs.Rules.{named_lun_is, driver_is, is_some_and, continues_cache, ends_cache, has_some, has_read_one, caching, is_copying, holds_none, breaks_cache_read_misplaced, breaks_sequence_open}
@@ -295,7 +295,7 @@ step_holds g t n la k copyback p q h a before = at (base_begins_sequence k) t.is
 
 record IsCalm (g : Parts) (past : List Item) (l : Lun) : Type 0 where
   apart : IsApart (lun_view (in_base g) past l)
-  open : HoldsNone (in_base g) (base_facts past l.ce) l.lun (held (in_base g) past l)
+  program : HoldsNone (in_base g) (base_facts past l.ce) l.lun (held (in_base g) past l)
 
 item_may : (g : Parts) (targets : ℕ) (past : List Item) (i : Item) (l : Lun) → broken (in_base g) targets past i ≡ None → l.lun < g.luns → May (in_base g) (facts_of (tail past l.ce)) l.lun (lun_view (in_base g) past l) (effect_on (in_base g) past i l)
 unfolding effect_among
@@ -347,7 +347,7 @@ item_holds g targets past (Cyc c) l legal before = at (c.ce == l.ce)
     at false = before
 
 calm : (g : Parts) (targets : ℕ) (past : List Item) (l : Lun) → is_legal (in_base g) targets past ≡ true → l.lun < g.luns → IsCalm g past l
-calm g targets [] l legal low = record { apart = record { read = λ h. refl; none = λ h. refl }; open = λ named here. refl }
+calm g targets [] l legal low = record { apart = record { read = λ h. refl; none = λ h. refl }; program = λ named here. refl }
 calm g targets (i ∷ past) l legal low =
     let parts = both_legal (in_base g) targets past i legal in
     let before = calm g targets past l parts.1 low in
@@ -355,8 +355,8 @@ calm g targets (i ∷ past) l legal low =
     let may = item_may g targets past i l parts.0 low in
     let same = tails_kept g targets past l.ce parts.1 in
     let left = left_by (effect_on (in_base g) past i l) (is_copyback_read v.closer) v (item_queues g targets past i l parts.0) (λ h. before.apart.read (may.reads h))
-    (λ h. before.open (ap names_program (sym same) ∙ (may.named h).0) (ap (λ (t : TailFacts). names_lun (in_base g) (row t) l.lun) (sym same) ∙ (may.named h).1)) before.apart in
-    record { apart = record { read = left.0; none = left.1 }; open = item_holds g targets past i l parts.1 before.open }
+    (λ h. before.program (ap names_program (sym same) ∙ (may.named h).0) (ap (λ (t : TailFacts). names_lun (in_base g) (row t) l.lun) (sym same) ∙ (may.named h).1)) before.apart in
+    record { apart = record { read = left.0; none = left.1 }; program = item_holds g targets past i l parts.1 before.program }
 
 -- no group of copybacks has begun
 pub no_copies : (g : Parts) (targets : ℕ) (past : List Item) (l : Lun) → is_legal (in_base g) targets past ≡ true → l.lun < g.luns → is_copying (lun_view (in_base g) past l) ≡ false

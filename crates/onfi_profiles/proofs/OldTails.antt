@@ -197,7 +197,7 @@ step k t a h anew =
     by : (b e : Bool) → base_begins_sequence k ≡ b → t.is_empty ≡ e → IsStep (cond b (extended_facts k (facts_of [])) (cond e t (extended_facts k t))) (cond b (base_extended_facts k (facts_of [])) (cond e t (base_extended_facts k t)))
     by true e begins empty = extended k (facts_of []) nothing_yet h (λ first. begins_new k begins)
     by false true begins empty = record { same = refl; base = a }
-    by false false begins empty = extended k t a h (λ first. clash t.is_empty first empty)
+    by false false begins empty = extended k t a h (λ first. absurd (clash t.is_empty first empty))
 
 -- 5. a past
 

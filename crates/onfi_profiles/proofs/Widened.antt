@@ -595,9 +595,10 @@ judged_wider g narrow targets t luns i free h =
     rw first.0 (item_wider g narrow t luns i free first.1)
 
 item_uncached : (g : Parts) → is_shared g ≡ false → (targets : ℕ) (past : List Item) (i : Item) → is_legal (in_base g) targets past ≡ true → broken (in_base g) targets past i ≡ None → ItemUncached g (facts_of (tail past (target_of i))) (luns_of g past (target_of i)) i
-item_uncached g narrow targets past (Cyc c) legal h =
-    (subst (λ (luns : List LunView). NamesUncached g (facts_of (tail past c.ce)) luns (target_cycle c.kind c.byte)) (luns_same g narrow past c.ce) (confirm_uncached (in_base g) targets past c refl legal h),
-    subst (OfBase g (facts_of (tail past c.ce))) (luns_same g narrow past c.ce) (of_base g targets past c.ce legal))
+item_uncached g narrow targets past (Cyc c) legal h = (
+  subst (λ (luns : List LunView). NamesUncached g (facts_of (tail past c.ce)) luns (target_cycle c.kind c.byte)) (luns_same g narrow past c.ce) (confirm_uncached (in_base g) targets past c refl legal h),
+  subst (OfBase g (facts_of (tail past c.ce))) (luns_same g narrow past c.ce) (of_base g targets past c.ce legal),
+)
 item_uncached g narrow targets past (Rdy ce lun fail) legal h = tt
 item_uncached g narrow targets past (Ard ce lun) legal h = tt
 
