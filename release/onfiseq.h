@@ -324,7 +324,7 @@ struct onfiseq_verdict {
 
 /**
  * Verifies a word file for the chip of a parameter page. It asks for 8 bytes for each word of the
- * file, and where the program has a branch or a loop for 256 more: 264 KB at most.
+ * file, and where the program has a branch or a loop for 260 more: 268 KB at most.
  */
 struct onfiseq_verdict onfiseq_verify(const uint8_t *page, size_t page_length, const uint8_t *file,
                                       size_t file_length);
