@@ -83,6 +83,7 @@ enum onfiseq_code {
     ONFISEQ_DATA_NOT_READY = 0x460d,     /**< F13 */
     ONFISEQ_COLUMN_OUTSIDE = 0x460e,     /**< F14 */
     ONFISEQ_CACHE_READ_MISPLACED = 0x460f, /**< F15 */
+    ONFISEQ_COPYBACK_MISPLACED = 0x4611, /**< F17 */
     ONFISEQ_PLANE_NOT_HELD = 0x4612,     /**< F18 */
     ONFISEQ_PAGE_FAULT = 0x5000,         /**< and n for the fault Pn of a page or a geometry */
     ONFISEQ_DAMAGED = 0x4400,            /**< the record isn't one that a channel can have */
@@ -111,12 +112,14 @@ struct onfiseq_geometry {
 /** What a chip may have beside the base profile. */
 enum onfiseq_optional {
     ONFISEQ_FEATURES = 0x0004,          /**< EEh and EFh */
+    ONFISEQ_COPYBACK = 0x0010,          /**< 35h, and 85h with a row */
     ONFISEQ_UNIQUE_ID = 0x0020,         /**< EDh */
     ONFISEQ_ENHANCED_COLUMN = 0x0040,   /**< 06h */
     ONFISEQ_RESET_LUN = 0x0200,         /**< FAh */
     ONFISEQ_PLANE_READS = 0x0400,       /**< 32h */
     ONFISEQ_SYNCHRONOUS_RESET = 0x0800, /**< FCh */
     ONFISEQ_FREE_BLOCKS = 0x1000,       /**< blocks of one queue may differ above the plane */
+    ONFISEQ_ODD_EVEN = 0x2000,          /**< copies between odd and even pages */
     ONFISEQ_WIDE = 0x8000               /**< 90h at 00h and 40h, and FFh in an open sequence */
 };
 

@@ -6,9 +6,9 @@ use Rattle.nand_geometry.specs.declared.parts.Parts.{Parts}
 use Rattle.nand_geometry.specs.Limits.{planes}
 use Rattle.nand_geometry.specs.Row.{parts_of}
 use Rattle.onfi_cycle.specs.declared.command.Command.{Command}
-use Rattle.onfi_cycle.specs.declared.command.Command.TheVariants.{Read, ReadConfirm, ReadPlane, ChangeReadColumn, ChangeReadColumnConfirm, BlockErase, BlockEraseConfirm, BlockErasePlane, ReadStatus, ReadStatusEnhanced, PageProgram, ChangeWriteColumn, ProgramConfirm, ProgramPlane, ReadId, ReadParameterPage, Reset, ReadCacheSequential, ReadCacheEnd, ReadUniqueId, GetFeatures, SetFeatures, ResetLun, SynchronousReset, Unknown, ChangeReadColumnEnhanced}
+use Rattle.onfi_cycle.specs.declared.command.Command.TheVariants.{Read, ReadConfirm, ReadPlane, CopybackRead, ChangeReadColumn, ChangeReadColumnConfirm, BlockErase, BlockEraseConfirm, BlockErasePlane, ReadStatus, ReadStatusEnhanced, PageProgram, ChangeWriteColumn, ProgramConfirm, ProgramPlane, ReadId, ReadParameterPage, Reset, ReadCacheSequential, ReadCacheEnd, ReadUniqueId, GetFeatures, SetFeatures, ResetLun, SynchronousReset, Unknown, ChangeReadColumnEnhanced}
 use Rattle.onfi_cycle.specs.declared.effect.Effect.{Effect}
-use Rattle.onfi_cycle.specs.declared.effect.Effect.TheVariants.{Unaffected, DataOutputEnabled, StatusSelected, StatusRowAwaited, SelectedForStatus, Deselected, FeaturesReadStarted, FeaturesSet, UniqueIdReadStarted, ParameterPageReadStarted, CacheReadContinued, CacheReadEnded, ResetStarted, ReadColumnChanged, TargetResetStarted, AnotherAddressed, PlaneSelected}
+use Rattle.onfi_cycle.specs.declared.effect.Effect.TheVariants.{ProgramAddressed, Unaffected, DataOutputEnabled, StatusSelected, StatusRowAwaited, SelectedForStatus, Deselected, FeaturesReadStarted, FeaturesSet, UniqueIdReadStarted, ParameterPageReadStarted, CacheReadContinued, CacheReadEnded, ResetStarted, ReadColumnChanged, TargetResetStarted, AnotherAddressed, PlaneSelected}
 use Rattle.onfi_cycle.specs.declared.latch.Latch.{Latch}
 use Rattle.onfi_cycle.specs.declared.latch.Latch.TheVariants.{Off, Status, Data}
 use Rattle.onfi_cycle.specs.declared.opening.Opening.{Opening}
@@ -17,7 +17,7 @@ use Rattle.onfi_cycle.specs.declared.target_cycle.TargetCycle.{TargetCycle}
 use Rattle.onfi_cycle.specs.declared.target_cycle.TargetCycle.TheVariants.{CommandCycle, AddressCycle, InputCycle}
 use Rattle.onfi_cycle.specs.Applied.{one_after, luns_after_cycle}
 use Rattle.onfi_cycle.specs.Command.{closes_row, reads_row}
-use Rattle.onfi_cycle.specs.Effect.{cycle_effect, address_effect, opening_address_effect, confirm_effect, other_effect, of_target, is_shared, status_effect, lun_reset_effect, reset_effect, ends_features, id_effect, is_off, names_lun, row_effect, cache_effect, plane_effect, column_effect, plane_of_row}
+use Rattle.onfi_cycle.specs.Effect.{cycle_effect, address_effect, opening_address_effect, confirm_effect, other_effect, of_target, is_shared, status_effect, lun_reset_effect, program_row_effect, reset_effect, ends_features, id_effect, is_off, names_lun, row_effect, cache_effect, plane_effect, column_effect, plane_of_row}
 use Rattle.onfi_cycle.specs.Lun.{view_after}
 use Rattle.onfi_cycle.specs.LunView.{LunView}
 use Rattle.onfi_cycle.specs.Sequence.{row, row_with, wants_address, wants_command, selects_plane}
@@ -219,6 +219,7 @@ command_left g t ReadCacheEnd vs = driver_left g t (CommandCycle ReadCacheEnd) C
 command_left g t ChangeReadColumnConfirm vs = column_left g t vs
 command_left g t ReadConfirm vs = closer_left g t ReadConfirm vs refl (λ s m. refl)
 command_left g t ReadPlane vs = closer_left g t ReadPlane vs refl (λ s m. refl)
+command_left g t CopybackRead vs = closer_left g t CopybackRead vs refl (λ s m. refl)
 command_left g t BlockEraseConfirm vs = closer_left g t BlockEraseConfirm vs refl (λ s m. refl)
 command_left g t BlockErasePlane vs = closer_left g t BlockErasePlane vs refl (λ s m. refl)
 command_left g t ProgramConfirm vs = closer_left g t ProgramConfirm vs refl (λ s m. refl)
@@ -272,6 +273,7 @@ opener_left g t byte SetFeatures k vs is = nothing_left g t (AddressCycle byte) 
 opener_left g t byte SynchronousReset k vs is = nothing_left g t (AddressCycle byte) is (has_driver vs) 0 vs
 opener_left g t byte Read k vs is = nothing_left g t (AddressCycle byte) is (has_driver vs) 0 vs
 opener_left g t byte ReadConfirm k vs is = nothing_left g t (AddressCycle byte) is (has_driver vs) 0 vs
+opener_left g t byte CopybackRead k vs is = nothing_left g t (AddressCycle byte) is (has_driver vs) 0 vs
 opener_left g t byte ReadPlane k vs is = nothing_left g t (AddressCycle byte) is (has_driver vs) 0 vs
 opener_left g t byte ChangeReadColumn k vs is = nothing_left g t (AddressCycle byte) is (has_driver vs) 0 vs
 opener_left g t byte ChangeReadColumnEnhanced k vs is = nothing_left g t (AddressCycle byte) is (has_driver vs) 0 vs
@@ -280,7 +282,17 @@ opener_left g t byte BlockErase k vs is = nothing_left g t (AddressCycle byte) i
 opener_left g t byte BlockEraseConfirm k vs is = nothing_left g t (AddressCycle byte) is (has_driver vs) 0 vs
 opener_left g t byte BlockErasePlane k vs is = nothing_left g t (AddressCycle byte) is (has_driver vs) 0 vs
 opener_left g t byte ReadStatus k vs is = nothing_left g t (AddressCycle byte) is (has_driver vs) 0 vs
-opener_left g t byte PageProgram k vs is = nothing_left g t (AddressCycle byte) is (has_driver vs) 0 vs
+opener_left g t byte PageProgram k vs is = at (k == 4) refl
+  where
+    lun : ℕ
+    lun = (parts_of g (row_with t byte)).lun
+
+    left : Bool → ℕ → Effect
+    left b m = cond b (program_row_effect (names_lun g (row_with t byte) m)) Unaffected
+
+    at : (b : Bool) → (k == 4) ≡ b → luns_left (cond b (OnOne lun ProgramAddressed) Nothing) vs ≡ luns_after_cycle g t (has_driver vs) (AddressCycle byte) 0 vs
+    at true w = named_left g t (AddressCycle byte) ProgramAddressed lun (λ s m. is s m ∙ ap (λ (b : Bool). left b m) w) (has_driver vs) vs
+    at false w = nothing_left g t (AddressCycle byte) (λ s m. is s m ∙ ap (λ (b : Bool). left b m) w) (has_driver vs) 0 vs
 opener_left g t byte ChangeWriteColumn k vs is = nothing_left g t (AddressCycle byte) is (has_driver vs) 0 vs
 opener_left g t byte ProgramConfirm k vs is = nothing_left g t (AddressCycle byte) is (has_driver vs) 0 vs
 opener_left g t byte ProgramPlane k vs is = nothing_left g t (AddressCycle byte) is (has_driver vs) 0 vs

@@ -4,9 +4,9 @@ use Rattle.nand_geometry.specs.declared.parts.Parts.{Parts}
 use Rattle.nand_geometry.specs.Limits.{planes}
 use Rattle.nand_geometry.specs.Row.{parts_of}
 use Rattle.onfi_cycle.specs.declared.command.Command.{Command}
-use Rattle.onfi_cycle.specs.declared.command.Command.TheVariants.{Read, ReadConfirm, ReadPlane, ChangeReadColumnConfirm, BlockEraseConfirm, BlockErasePlane, ReadStatus, ReadStatusEnhanced, ProgramConfirm, ProgramPlane, ReadId, ReadParameterPage, Reset, ReadCacheSequential, ReadCacheEnd, ReadUniqueId, GetFeatures, ResetLun, SynchronousReset}
+use Rattle.onfi_cycle.specs.declared.command.Command.TheVariants.{Read, ReadConfirm, ReadPlane, ChangeReadColumnConfirm, BlockEraseConfirm, BlockErasePlane, ReadStatus, ReadStatusEnhanced, ProgramConfirm, ProgramPlane, ReadId, ReadParameterPage, Reset, ReadCacheSequential, ReadCacheEnd, ReadUniqueId, GetFeatures, ResetLun, SynchronousReset, CopybackRead, PageProgram}
 use Rattle.onfi_cycle.specs.declared.effect.Effect.{Effect}
-use Rattle.onfi_cycle.specs.declared.effect.Effect.TheVariants.{DataOutputEnabled, StatusSelected, StatusRowAwaited, SelectedForStatus, Deselected, IdRead, UniqueIdReadStarted, FeaturesReadStarted, FeaturesSet, ParameterPageReadStarted, CacheReadContinued, CacheReadEnded, ResetStarted, TargetResetStarted, AnotherAddressed, ReadColumnChanged, PlaneSelected}
+use Rattle.onfi_cycle.specs.declared.effect.Effect.TheVariants.{DataOutputEnabled, StatusSelected, StatusRowAwaited, SelectedForStatus, Deselected, IdRead, UniqueIdReadStarted, FeaturesReadStarted, FeaturesSet, ParameterPageReadStarted, CacheReadContinued, CacheReadEnded, ResetStarted, TargetResetStarted, AnotherAddressed, ReadColumnChanged, PlaneSelected, ProgramAddressed}
 use Rattle.onfi_cycle.specs.declared.opening.Opening.{Opening}
 use Rattle.onfi_cycle.specs.declared.tail_facts.TailFacts.{TailFacts}
 use Rattle.onfi_cycle.specs.Command.{reads_row}
@@ -93,6 +93,7 @@ effect_of_command g t ReadCacheEnd = OnDriver CacheReadEnded
 effect_of_command g t ChangeReadColumnConfirm = effect_of_column_confirm g t
 effect_of_command g t ReadConfirm = effect_of_closer g t ReadConfirm
 effect_of_command g t ReadPlane = effect_of_closer g t ReadPlane
+effect_of_command g t CopybackRead = effect_of_closer g t CopybackRead
 effect_of_command g t BlockEraseConfirm = effect_of_closer g t BlockEraseConfirm
 effect_of_command g t BlockErasePlane = effect_of_closer g t BlockErasePlane
 effect_of_command g t ProgramConfirm = effect_of_closer g t ProgramConfirm
@@ -107,6 +108,10 @@ selection g t byte = Selection (parts_of g (row_with t byte)).lun
 abbrev pub reset_of_lun : Parts → TailFacts → ℕ → TargetEffect
 reset_of_lun g t byte = on_named g (parts_of g (row_with t byte)).lun ResetStarted false
 
+-- the whole row of 80
+abbrev pub program_row : Parts → TailFacts → ℕ → TargetEffect
+program_row g t byte = OnOne (parts_of g (row_with t byte)).lun ProgramAddressed
+
 abbrev pub effect_of_identity : Parts → TailFacts → ℕ → Effect → TargetEffect
 effect_of_identity g t byte e = if wants_address t byte then effect_of_target g e else Nothing
 
@@ -118,6 +123,7 @@ effect_after_opener g t byte ReadId n = effect_of_identity g t byte (id_effect b
 effect_after_opener g t byte ReadParameterPage n = effect_of_identity g t byte ParameterPageReadStarted
 effect_after_opener g t byte ReadUniqueId n = effect_of_identity g t byte UniqueIdReadStarted
 effect_after_opener g t byte GetFeatures n = effect_of_identity g t byte (FeaturesReadStarted byte)
+effect_after_opener g t byte PageProgram n = if n == 4 then program_row g t byte else Nothing
 effect_after_opener g t byte _ n = Nothing
 
 abbrev pub effect_after_opening : Parts → TailFacts → ℕ → Option Opening → TargetEffect

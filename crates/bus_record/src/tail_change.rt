@@ -1,18 +1,22 @@
 //! The facts of a target's tail after a cycle, written where they stand.
 ghost use Rattle.std.specs.Prelude.{◌≡◌, ◌==◌, ◌&&◌, true, false, IfSome, ℕ, ◌^◌, ◌<◌, ◌≤◌};
 ghost use Rattle.onfi_cycle.specs.declared.target_cycle.TargetCycle.{TargetCycle as TargetCycleValue};
-ghost use Rattle.onfi_cycle.specs.Command.{command, is_page_program, is_set_features};
+ghost use Rattle.onfi_cycle.specs.Command.{command, begins_data, is_set_features};
 ghost use Rattle.onfi_cycle.specs.Sequence.{begins_anew, column_after_address, facts_after, next_column_place, opened, phase_after_address, phase_after_input};
 ghost use Rattle.target_record.specs.Record.{is_set, phase_of, tail_of};
 
 use onfi_cycle::{Command, FEATURE_BYTES};
 use target_record::{OnfiseqTarget, is_set, opening_of, wants_command};
 
-// A tail begins anew with this command: with an opener, but not with a 31h that it wants.
+// A tail begins anew with this command: with an opener, but neither with a 31h that it wants nor with an 85h in the data of a program.
 fn begins_anew(kept: &OnfiseqTarget, named: Command) -> bool
     ensures { result ≡ begins_anew (tail_of kept.now) (TargetCycleValue.CommandCycle named) }
 {
-    named.is_opener() && !(named == Command::ReadCacheSequential && wants_command(kept, named))
+    let goes_on = match named {
+        Command::ReadCacheSequential | Command::ChangeWriteColumn => wants_command(kept, named),
+        _ => false,
+    };
+    named.is_opener() && !goes_on
 }
 
 /// The facts of its tail after the command of a byte.
@@ -62,13 +66,16 @@ fn column_after_address(place: usize, byte: u8, column: u32) -> u32
     }
 }
 
-// The next address is the last of a Page Program.
-fn ends_program_row(kept: &OnfiseqTarget) -> bool
-    ensures { result ≡ opened (λ c n. is_page_program c && n == 4) (tail_of kept.now).opening }
+// The next address is the last of a Page Program, or of a Copyback Program.
+fn begins_data(kept: &OnfiseqTarget) -> bool
+    ensures { result ≡ opened (λ c n. begins_data c && n == 4) (tail_of kept.now).opening }
 {
     match opening_of(is_set(kept.is_open), kept.opener, kept.addresses) {
         None => false,
-        Some(opening) => opening.opener == Command::PageProgram && opening.addresses == 4,
+        Some(opening) => matches!(
+            opening.opener,
+            Command::PageProgram | Command::ChangeWriteColumn
+        ) && opening.addresses == 4,
     }
 }
 
@@ -99,7 +106,7 @@ fn phase_after_address(kept: &OnfiseqTarget) -> u8
     ensures { phase_of result ≡ phase_after_address (tail_of kept.now).opening (tail_of kept.now).phase }
 {
     match kept.phase {
-        0 if ends_program_row(kept) => 1,
+        0 if begins_data(kept) => 1,
         0 if names_feature(kept) => 4,
         0 => 0,
         1 => 0,

@@ -2,7 +2,7 @@
 ghost use Rattle.std.specs.Prelude.{◌≡◌};
 ghost use Rattle.nand_geometry.specs.Limits.{InLimits};
 ghost use Rattle.onfi_cycle.specs.Effect.{confirm_effect, id_effect};
-ghost use Rattle.bus_record.specs.Changing.{effect_of_status, effect_of_reset, effect_of_target, on_named, effect_of_closer, effect_of_cache_read, effect_of_plane, effect_of_column_confirm, effect_of_command, selection, reset_of_lun, effect_of_input, effect_of_identity, effect_of_address};
+ghost use Rattle.bus_record.specs.Changing.{effect_of_status, effect_of_reset, effect_of_target, on_named, effect_of_closer, effect_of_cache_read, effect_of_plane, effect_of_column_confirm, effect_of_command, selection, reset_of_lun, program_row, effect_of_input, effect_of_identity, effect_of_address};
 ghost use Rattle.target_record.specs.Geometry.{parts_of};
 ghost use Rattle.target_record.specs.Record.{tail_of};
 
@@ -48,6 +48,11 @@ fn confirm_effect(geometry: &Geometry, kept: &OnfiseqTarget, named: Command) -> 
             column: kept.column,
         },
         Command::ReadPlane => Effect::ReadQueued { page },
+        Command::CopybackRead => Effect::CopybackReadStarted {
+            page,
+            column: kept.column,
+            planes: geometry.planes(),
+        },
         Command::ReadCacheSequential => Effect::CacheReadContinued { to: Some(page) },
         Command::BlockEraseConfirm => Effect::EraseStarted {
             queued: false,
@@ -208,6 +213,7 @@ pub(crate) fn effect_of_command(
         Command::ChangeReadColumnConfirm => effect_of_column_confirm(geometry, kept),
         Command::ReadConfirm
         | Command::ReadPlane
+        | Command::CopybackRead
         | Command::BlockEraseConfirm
         | Command::BlockErasePlane
         | Command::ProgramConfirm
@@ -248,6 +254,19 @@ fn reset_of_lun(geometry: &OnfiseqGeometry, kept: &OnfiseqTarget, byte: u8) -> T
     let row = tail_of(kept).row_with(byte);
     let lun = geometry.known().parts_of(row).lun;
     on_named(geometry, lun, Effect::ResetStarted, false)
+}
+
+// What the last address of an 80h does.
+#[inline(never)]
+fn program_row(geometry: &OnfiseqGeometry, kept: &OnfiseqTarget, byte: u8) -> TargetEffect
+    requires { InLimits (parts_of geometry.now) }
+    ensures { result ≡ program_row (parts_of geometry.now) (tail_of kept.now) byte }
+{
+    let row = tail_of(kept).row_with(byte);
+    TargetEffect::OnOne {
+        lun: geometry.known().parts_of(row).lun,
+        effect: Effect::ProgramAddressed,
+    }
 }
 
 // What the address of a 90h does.
@@ -308,6 +327,7 @@ pub(crate) fn effect_of_address(
     match opening.opener {
         Command::ReadStatusEnhanced if opening.addresses == 2 => selection(geometry, kept, byte),
         Command::ResetLun if opening.addresses == 2 => reset_of_lun(geometry, kept, byte),
+        Command::PageProgram if opening.addresses == 4 => program_row(geometry, kept, byte),
         Command::ReadId => effect_of_identity(geometry, kept, byte, id_effect(byte)),
         Command::ReadParameterPage => {
             effect_of_identity(geometry, kept, byte, Effect::ParameterPageReadStarted)

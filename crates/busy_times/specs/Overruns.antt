@@ -26,12 +26,16 @@ abbrev pub is_closer : Option ℕ → ℕ → Bool
 is_closer None byte = false
 is_closer (Some other) byte = other == byte
 
+-- the closer of a 00 reads a page: 30, 31 or 35
+abbrev pub reads_page : Option ℕ → Bool
+reads_page closer = is_closer closer 0x30 || (is_closer closer 0x31 || is_closer closer 0x35)
+
 -- a read, a cache read and the parameter page tR, a program tPROG, an erase tBERS, a reset tRST, a feature tFEAT
 abbrev pub bound_by : (opener : ℕ) → (closer : Option ℕ) → Option BusyTime
 bound_by opener closer =
     if opener == 0x31 || (opener == 0x3f || opener == 0xec) then Some busy.Read
-    else (if opener == 0x00 && (is_closer closer 0x30 || is_closer closer 0x31) then Some busy.Read
-    else (if opener == 0x80 && is_closer closer 0x10 then Some busy.Program
+    else (if opener == 0x00 && reads_page closer then Some busy.Read
+    else (if (opener == 0x80 || opener == 0x85) && is_closer closer 0x10 then Some busy.Program
     else (if opener == 0x60 && is_closer closer 0xd0 then Some busy.Erase
     else (if opener == 0xff then Some busy.Reset
     else (if opener == 0xee || opener == 0xef then Some busy.Features else None)))))

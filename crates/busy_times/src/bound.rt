@@ -1,6 +1,6 @@
 //! Which time bounds the work of an operation.
 ghost use Rattle.std.specs.Prelude.{◌≡◌};
-ghost use Rattle.busy_times.specs.Overruns.{is_closer, bound_by, bound_of};
+ghost use Rattle.busy_times.specs.Overruns.{is_closer, reads_page, bound_by, bound_of};
 
 use trace_ops::{Beginning, Operation};
 use trace_timing::BusyTime;
@@ -15,15 +15,22 @@ fn is_closer(closer: Option<u8>, byte: u8) -> bool
     }
 }
 
+// The command that closes a 00h reads a page: 30h, 31h or 35h.
+fn reads_page(closer: Option<u8>) -> bool
+    ensures { result ≡ reads_page closer }
+{
+    is_closer(closer, 0x30) || is_closer(closer, 0x31) || is_closer(closer, 0x35)
+}
+
 // The time that bounds the work of a sequence with this opener and this closer.
 fn bound_by(opener: u8, closer: Option<u8>) -> Option<BusyTime>
     ensures { result ≡ bound_by opener closer }
 {
     if opener == 0x31 || opener == 0x3f || opener == 0xec {
         Some(BusyTime::Read)
-    } else if opener == 0x00 && (is_closer(closer, 0x30) || is_closer(closer, 0x31)) {
+    } else if opener == 0x00 && reads_page(closer) {
         Some(BusyTime::Read)
-    } else if opener == 0x80 && is_closer(closer, 0x10) {
+    } else if (opener == 0x80 || opener == 0x85) && is_closer(closer, 0x10) {
         Some(BusyTime::Program)
     } else if opener == 0x60 && is_closer(closer, 0xd0) {
         Some(BusyTime::Erase)

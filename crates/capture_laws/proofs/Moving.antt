@@ -105,6 +105,7 @@ not_both (e.BecameReady fail) busy caching array h k = refl
 not_both e.ArrayBecameReady busy caching array h k = absurd (false≢true k)
 not_both (e.ReadStarted _ _) busy caching array h k = absurd (false≢true k)
 not_both (e.ReadQueued _) busy caching array h k = absurd (false≢true k)
+not_both (e.CopybackReadStarted _ _ _) busy caching array h k = absurd (false≢true k)
 not_both (e.EraseStarted _ _) busy caching array h k = absurd (false≢true k)
 not_both (e.ProgramStarted _ _) busy caching array h k = absurd (false≢true k)
 not_both e.IdRead busy caching array h k = absurd (false≢true k)

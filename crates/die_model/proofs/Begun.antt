@@ -11,7 +11,6 @@ use Rattle.onfi_cycle.specs.declared.queued.Queued.TheVariants.{Erase, Program, 
 use Rattle.onfi_cycle.specs.declared.effect.Effect.TheVariants.{BecameReady}
 use Rattle.onfi_cycle.specs.declared.register.Register.{Register}
 use Rattle.onfi_cycle.specs.declared.register.Register.TheVariants.{Empty, Page}
-use Rattle.onfi_cycle.specs.Effect.{HasPlanes}
 use Rattle.onfi_cycle.specs.Lun.{busy_after, queue_after, held_after, register_after, register_of_plane, page_in_plane}
 use Rattle.onfi_cycle.specs.Content.{ArrayWork, same_page, queued_work_after, pending_work_after, content_after, failed_after, is_some_work}
 use Rattle.onfi_cycle.specs.Rules.{some_queued_clashes, some_read_clashes}
@@ -25,7 +24,7 @@ use Rattle.die_model.proofs.Kept.{Entries, same_parts}
 
 -- the die with an activity
 abbrev pub die_of : Parts → Entries → List (List ℕ) → Activity → Die
-die_of g pages registers a = die_with g pages registers a.register a.held.items a.array_page a.busy a.caching a.array_busy a.queue.items a.closed a.failed
+die_of g pages registers a = die_with g pages registers a.register a.held.items a.array_page a.busy a.caching a.copying a.array_busy a.queue.items a.closed a.failed
 
 pub not_closed : (reset closed busy : Bool) → (closed ≡ true → busy ≡ true) → (reset || not busy) ≡ true → reset ≡ false → closed ≡ false
 not_closed reset false busy h k r = refl
@@ -43,6 +42,7 @@ queue_begun (w.Queue (Erase at)) closed queue h = rw (h refl) refl
 queue_begun (w.Queue (Program at)) closed queue h = rw (h refl) refl
 queue_begun (w.Queue (QueuedRead at)) closed queue h = rw (h refl) refl
 queue_begun (w.Read at) closed queue h = refl
+queue_begun (w.Copyback at count) closed queue h = refl
 queue_begun w.Identifier closed queue h = rw (h refl) refl
 queue_begun (w.Identity jedec) closed queue h = rw (h refl) refl
 queue_begun w.Parameters closed queue h = rw (h refl) refl
@@ -65,6 +65,7 @@ queued_begun g registers (w.Queue (Erase at)) closed queue h = rw (h refl) refl
 queued_begun g registers (w.Queue (Program at)) closed queue h = rw (h refl) refl
 queued_begun g registers (w.Queue (QueuedRead at)) closed queue h = rw (h refl) refl
 queued_begun g registers (w.Read at) closed queue h = refl
+queued_begun g registers (w.Copyback at count) closed queue h = refl
 queued_begun g registers w.Identifier closed queue h = rw (h refl) refl
 queued_begun g registers (w.Identity jedec) closed queue h = rw (h refl) refl
 queued_begun g registers w.Parameters closed queue h = rw (h refl) refl
@@ -82,6 +83,7 @@ pending_begun g registers (w.Queue (Erase at)) closed queue h = refl
 pending_begun g registers (w.Queue (Program at)) closed queue h = refl
 pending_begun g registers (w.Queue (QueuedRead at)) closed queue h = refl
 pending_begun g registers (w.Read at) closed queue h = refl
+pending_begun g registers (w.Copyback at count) closed queue h = refl
 pending_begun g registers w.Identifier closed queue h = rw (h refl) refl
 pending_begun g registers (w.Identity jedec) closed queue h = rw (h refl) refl
 pending_begun g registers w.Parameters closed queue h = refl
@@ -101,6 +103,7 @@ content_begun g w.Reset q p old = refl
 content_begun g (w.Program at) q p old = refl
 content_begun g (w.Erase at) q p old = refl
 content_begun g (w.Read at) q p old = refl
+content_begun g (w.Copyback at count) q p old = refl
 content_begun g w.Identifier q p old = refl
 content_begun g (w.Identity jedec) q p old = refl
 content_begun g w.Parameters q p old = refl
@@ -110,7 +113,7 @@ content_begun g (w.SetFeatures address) q p old = refl
 content_begun g (w.Cache to) q p old = refl
 content_begun g w.CacheEnd q p old = refl
 
-pub failed_begun : (work : Work) (q : List ArrayWork) (b : Bool) → failed_after (effect_of work) q b ≡ b
+pub failed_begun : (work : Work) (q b : Bool) → failed_after (effect_of work) q b ≡ b
 failed_begun (w.Queue (Erase at)) q b = refl
 failed_begun (w.Queue (Program at)) q b = refl
 failed_begun (w.Queue (QueuedRead at)) q b = refl
@@ -118,6 +121,7 @@ failed_begun w.Reset q b = refl
 failed_begun (w.Program at) q b = refl
 failed_begun (w.Erase at) q b = refl
 failed_begun (w.Read at) q b = refl
+failed_begun (w.Copyback at count) q b = refl
 failed_begun w.Identifier q b = refl
 failed_begun (w.Identity jedec) q b = refl
 failed_begun w.Parameters q b = refl
@@ -189,6 +193,7 @@ kept_begun len (w.Queue (QueuedRead at)) old new queue k h = still len (page_to_
 kept_begun len (w.Queue (Program at)) old new queue k h = (placed len at old new k, still len (page_to_keep (w.Queue (Program at))) old new k queue h)
 kept_begun len w.Reset old new queue k h = tt
 kept_begun len (w.Read at) old new queue k h = tt
+kept_begun len (w.Copyback at count) old new queue k h = tt
 kept_begun len w.Identifier old new queue k h = still len (page_to_keep w.Identifier) old new k queue h
 kept_begun len (w.Identity jedec) old new queue k h = still len (page_to_keep (w.Identity jedec)) old new k queue h
 kept_begun len w.Parameters old new queue k h = still len (page_to_keep w.Parameters) old new k queue h
@@ -224,6 +229,7 @@ alike_begun g (w.Queue (Program at)) queue t h = all_programs g at queue (not-tr
 alike_begun g (w.Queue (QueuedRead at)) queue t h = all_reads g at queue (not-true _ t)
 alike_begun g w.Reset queue t h = refl
 alike_begun g (w.Read at) queue t h = refl
+alike_begun g (w.Copyback at count) queue t h = refl
 alike_begun g w.Identifier queue t h = h
 alike_begun g (w.Identity jedec) queue t h = h
 alike_begun g w.Parameters queue t h = h
@@ -251,6 +257,7 @@ row_to_keep g (w.Queue (QueuedRead at)) h = refl
 row_to_keep g (w.Erase at) h = refl
 row_to_keep g w.Reset h = refl
 row_to_keep g (w.Read at) h = refl
+row_to_keep g (w.Copyback at count) h = refl
 row_to_keep g w.Identifier h = refl
 row_to_keep g (w.Identity jedec) h = refl
 row_to_keep g w.Parameters h = refl
@@ -263,6 +270,7 @@ row_to_keep g w.CacheEnd h = refl
 goes_on : (g : Parts) (work : Work) (closed : Bool) (queue : List Queued) → (is_reset work ≡ false → closed ≡ false) → goes_with g work (cond closed [] queue) ≡ true → goes_with g work queue ≡ true
 goes_on g w.Reset closed queue h t = refl
 goes_on g (w.Read at) closed queue h t = refl
+goes_on g (w.Copyback at count) closed queue h t = refl
 goes_on g w.Identifier closed queue h t = refl
 goes_on g (w.Identity jedec) closed queue h t = refl
 goes_on g w.Parameters closed queue h t = refl
@@ -353,6 +361,7 @@ taken_is d (w.Queue (Erase at)) = refl
 taken_is d (w.Queue (Program at)) = refl
 taken_is d (w.Queue (QueuedRead at)) = refl
 taken_is d (w.Read at) = refl
+taken_is d (w.Copyback at count) = refl
 taken_is d w.Identifier = refl
 taken_is d (w.Identity jedec) = refl
 taken_is d w.Parameters = refl
@@ -372,42 +381,37 @@ closes_empty (w.Program at) p q held r h = refl
 closes_empty (w.Erase at) p q held r h = refl
 closes_empty work p q held r h = cc
 
-closes_frees : (work : Work) (p : PageAddress) (q : List Queued) (held : List PageAddress) → closes work ≡ true → held_after (effect_of work) p q held ≡ []
-closes_frees (w.Program at) p q held h = refl
-closes_frees (w.Erase at) p q held h = refl
-closes_frees work p q held h = cc
+closes_frees : (work : Work) (c : Bool) (p : PageAddress) (q : List Queued) (held : List PageAddress) → closes work ≡ true → held_after (effect_of work) c p q held ≡ []
+closes_frees (w.Program at) c p q held h = refl
+closes_frees (w.Erase at) c p q held h = refl
+closes_frees work c p q held h = cc
 
 -- the rows that wait are queued where the work is no reset, and a reset asks for none
 pub register_begun : (work : Work) (p : PageAddress) (closed : Bool) (queue : List Queued) (held : List PageAddress) (r : Register) → (is_reset work ≡ false → closed ≡ false) → register_after (effect_of work) p queue held r ≡ register_after (effect_of work) p (cond closed [] queue) held r
 register_begun w.Reset p closed queue held r h = refl
 register_begun (w.Read at) p closed queue held r h = rw (h refl) refl
+register_begun (w.Copyback at count) p closed queue held r h = rw (h refl) refl
 register_begun (w.Queue (Erase at)) p closed queue held r h = refl
 register_begun (w.Queue (Program at)) p closed queue held r h = refl
 register_begun (w.Queue (QueuedRead at)) p closed queue held r h = refl
 register_begun work p closed queue held r h = refl
 
-pub held_begun : (work : Work) (p : PageAddress) (closed : Bool) (queue : List Queued) (held : List PageAddress) → (is_reset work ≡ false → closed ≡ false) → held_after (effect_of work) p queue held ≡ held_after (effect_of work) p (cond closed [] queue) held
-held_begun w.Reset p closed queue held h = refl
-held_begun (w.Read at) p closed queue held h = rw (h refl) refl
-held_begun (w.Queue (Erase at)) p closed queue held h = refl
-held_begun (w.Queue (Program at)) p closed queue held h = refl
-held_begun (w.Queue (QueuedRead at)) p closed queue held h = refl
-held_begun work p closed queue held h = refl
+pub held_begun : (work : Work) (c : Bool) (p : PageAddress) (closed : Bool) (queue : List Queued) (held : List PageAddress) → (is_reset work ≡ false → closed ≡ false) → held_after (effect_of work) c p queue held ≡ held_after (effect_of work) c p (cond closed [] queue) held
+held_begun w.Reset c p closed queue held h = refl
+held_begun (w.Read at) c p closed queue held h = rw (h refl) refl
+held_begun (w.Copyback at count) c p closed queue held h = rw (h refl) refl
+held_begun (w.Queue (Erase at)) c p closed queue held h = refl
+held_begun (w.Queue (Program at)) c p closed queue held h = refl
+held_begun (w.Queue (QueuedRead at)) c p closed queue held h = refl
+held_begun work c p closed queue held h = refl
 
--- no work selects a plane
-pub work_has_planes : (work : Work) → HasPlanes (effect_of work)
-work_has_planes (w.Queue (Erase at)) = tt
-work_has_planes (w.Queue (Program at)) = tt
-work_has_planes (w.Queue (QueuedRead at)) = tt
-work_has_planes work = tt
-
-pub shows_begun : (g : Parts) (work : Work) (p : PageAddress) (queue : List Queued) (pages : Entries) (before after : List ℕ) (r now : Register) (held keeps : List PageAddress) (closing : Bool) → now ≡ register_after (effect_of work) p queue held r → keeps ≡ held_after (effect_of work) p queue held → closing ≡ closes work → length before ≡ page_len g → length after ≡ length before → ((at : PageAddress) → now ≡ Page at → after ≡ page_in (length before) pages at) → ShowsPage g pages now keeps after closing
-shows_begun g work p queue pages before after r now held keeps closing er eh ec was same f =
+pub shows_begun : (g : Parts) (work : Work) (c : Bool) (p : PageAddress) (queue : List Queued) (pages : Entries) (before after : List ℕ) (r now : Register) (held keeps : List PageAddress) (closing : Bool) → now ≡ register_after (effect_of work) p queue held r → keeps ≡ held_after (effect_of work) c p queue held → closing ≡ closes work → length before ≡ page_len g → length after ≡ length before → ((at : PageAddress) → now ≡ Page at → after ≡ page_in (length before) pages at) → ShowsPage g pages now keeps after closing
+shows_begun g work c p queue pages before after r now held keeps closing er eh ec was same f =
     record {
       page = λ at is. f at is ∙ ap (λ (n : ℕ). page_in n pages at) was;
       width = same ∙ was;
       ends = λ h. er ∙ closes_empty work p queue held r (sym ec ∙ h);
-      frees = λ h. eh ∙ closes_frees work p queue held (sym ec ∙ h);
+      frees = λ h. eh ∙ closes_frees work c p queue held (sym ec ∙ h);
     }
 
 shows_still : (g : Parts) (old new : Entries) (r : Register) (held : List PageAddress) (output : List ℕ) (closed : Bool) → (closed ≡ false → new ≡ old) → ShowsPage g old r held output closed → (at : PageAddress) → r ≡ Page at → output ≡ page_in (page_len g) new at

@@ -238,16 +238,17 @@ faultless g bytes h = of (ltb (length bytes) 24) (starts_with eqb bytes magic) (
     of false true true true o h = h
 
 -- nothing waits on a new die
-pub none_waits : (a b c d e failed closed : Bool) (queue : List Queued) → (a && (b && (c && (d && (e && (not (has_some (cond closed [] queue)) && (not (has_some (cond closed queue [])) && failed))))))) ≡ true → (new : Entries) → AreKept new queue
-none_waits true true true true true failed true [] h new = tt
-none_waits true true true true true failed true (q ∷ queue) h new = cc
-none_waits true true true true true failed false [] h new = tt
-none_waits true true true true true failed false (q ∷ queue) h new = cc
-none_waits true true true true false failed closed queue h new = cc
-none_waits true true true false e failed closed queue h new = cc
-none_waits true true false d e failed closed queue h new = cc
-none_waits true false c d e failed closed queue h new = cc
-none_waits false b c d e failed closed queue h new = cc
+pub none_waits : (a b c k d e failed closed : Bool) (queue : List Queued) → (a && (b && (c && (k && (d && (e && (not (has_some (cond closed [] queue)) && (not (has_some (cond closed queue [])) && failed)))))))) ≡ true → (new : Entries) → AreKept new queue
+none_waits true true true true true true failed true [] h new = tt
+none_waits true true true true true true failed true (q ∷ queue) h new = cc
+none_waits true true true true true true failed false [] h new = tt
+none_waits true true true true true true failed false (q ∷ queue) h new = cc
+none_waits true true true true true false failed closed queue h new = cc
+none_waits true true true true false e failed closed queue h new = cc
+none_waits true true true false d e failed closed queue h new = cc
+none_waits true true false k d e failed closed queue h new = cc
+none_waits true false c k d e failed closed queue h new = cc
+none_waits false b c k d e failed closed queue h new = cc
 
 -- the die with other pages, where nothing waits
 pub loaded_is_die : (g : Parts) (parameters : List ℕ) (old new : Entries) (registers : List (List ℕ)) (queue : List Queued) (closed busy : Bool) → AreKept new queue → ArePages g new → IsDie g parameters old registers queue closed busy → IsDie g parameters new registers queue closed busy
@@ -263,15 +264,16 @@ loaded_is_die g parameters old new registers queue closed busy there are die =
     }
 
 -- a new die shows no page
-pub shows_none : (a b c d failed closed : Bool) (r : Register) (queue : List Queued) → (a && (b && (c && (is_empty r && (d && (not (has_some (cond closed [] queue)) && (not (has_some (cond closed queue [])) && failed))))))) ≡ true → (at : PageAddress) → r ≡ Page at → ⊥
-shows_none true true true d failed closed Empty queue h at e = cc
-shows_none true true true d failed closed (Page p) queue h at e = cc
-shows_none true true true d failed closed ParameterPage queue h at e = cc
-shows_none true true true d failed closed Identifier queue h at e = cc
-shows_none true true true d failed closed Identity queue h at e = cc
-shows_none true true true d failed closed JedecIdentity queue h at e = cc
-shows_none true true true d failed closed UniqueId queue h at e = cc
-shows_none true true true d failed closed (Features address) queue h at e = cc
-shows_none true true false d failed closed r queue h at e = cc
-shows_none true false c d failed closed r queue h at e = cc
-shows_none false b c d failed closed r queue h at e = cc
+pub shows_none : (a b c k d failed closed : Bool) (r : Register) (queue : List Queued) → (a && (b && (c && (k && (is_empty r && (d && (not (has_some (cond closed [] queue)) && (not (has_some (cond closed queue [])) && failed)))))))) ≡ true → (at : PageAddress) → r ≡ Page at → ⊥
+shows_none true true true true d failed closed Empty queue h at e = cc
+shows_none true true true true d failed closed (Page p) queue h at e = cc
+shows_none true true true true d failed closed ParameterPage queue h at e = cc
+shows_none true true true true d failed closed Identifier queue h at e = cc
+shows_none true true true true d failed closed Identity queue h at e = cc
+shows_none true true true true d failed closed JedecIdentity queue h at e = cc
+shows_none true true true true d failed closed UniqueId queue h at e = cc
+shows_none true true true true d failed closed (Features address) queue h at e = cc
+shows_none true true true false d failed closed r queue h at e = cc
+shows_none true true false k d failed closed r queue h at e = cc
+shows_none true false c k d failed closed r queue h at e = cc
+shows_none false b c k d failed closed r queue h at e = cc

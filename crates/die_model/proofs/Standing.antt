@@ -25,19 +25,20 @@ use Rattle.onfi_cycle.specs.declared.target_cycle.TargetCycle.{TargetCycle}
 use Rattle.onfi_cycle.specs.declared.target_cycle.TargetCycle.TheVariants.{CommandCycle, AddressCycle, InputCycle, OutputCycle}
 use Rattle.onfi_cycle.specs.Sequence.{opened, row_bytes, row_after_address, tail, with_cycle, begins_sequence, is_nil, input_column, opening, data_phase, phase_after_address, row_with, facts_of, filled, row, target_cycle, wants_command, wants_address, takes_data, wants_column, selects_plane}
 use Rattle.onfi_cycle.specs.Bounds.{names_program}
-use Rattle.onfi_cycle.specs.Effect.{is_shared, acts_for_target, of_target, other_effect, lun_reset_effect, names_lun, page_address, is_off, is_data, confirm_effect, command_effect, opening_address_effect, address_effect, cycle_effect, id_effect, ends_features, input_effect, row_effect, cache_effect, plane_effect, column_effect, plane_of_row}
-use Rattle.onfi_cycle.specs.Lun.{luns_of, effect_on, latch_alone, is_busy, busy_after, is_caching, is_cache_read, closer, closer_after, is_array_busy, array_busy_after, array_page, array_page_after, register, register_after, held, held_after, queue, queue_after, lun_view, effect_among}
-use Rattle.onfi_cycle.specs.Content.{ArrayWork, ProgramsPage, queued_work, queued_work_after, pending_work, pending_work_after, has_failed, failed_after, content, content_after}
+use Rattle.onfi_cycle.specs.Effect.{is_shared, acts_for_target, of_target, other_effect, lun_reset_effect, names_lun, page_address, is_off, is_data, confirm_effect, command_effect, opening_address_effect, program_row_effect, address_effect, cycle_effect, id_effect, ends_features, input_effect, row_effect, cache_effect, plane_effect, column_effect, plane_of_row}
+use Rattle.onfi_cycle.specs.Lun.{luns_of, effect_on, latch_alone, is_busy, busy_after, is_caching, is_cache_read, closer, closer_after, is_array_busy, array_busy_after, array_page, array_page_after, register, register_after, held, held_after, queue, queue_after, lun_view, effect_among, page_in_plane, is_copyback_read}
+use Rattle.onfi_cycle.specs.Content.{ArrayWork, ProgramsPage, queued_work, queued_work_after, pending_work, pending_work_after, has_failed, failed_after, content, content_after, bytes_held, begun_with, changes_pages, is_some_work}
+use Rattle.onfi_cycle.proofs.Bytes.{work_changes_pages}
 use Rattle.onfi_cycle.specs.Permitted.{broken}
 use Rattle.onfi_cycle.specs.Channel.{Channel}
-use Rattle.die_model.specs.Die.{Die, IsAfter, page_of, plane_bytes, bytes_taken, caching_after, queued_of, pending_of, works_of}
+use Rattle.die_model.specs.Die.{Die, IsAfter, page_of, plane_bytes, bytes_taken, caching_after, copying_after, queued_of, pending_of, works_of}
 use Rattle.onfi_cycle.specs.declared.filling.Filling.{Filling}
-use Rattle.onfi_cycle.specs.declared.filling.Filling.TheVariants.{Leaves, Clears, Fills}
-use Rattle.onfi_cycle.specs.Filling.{cycle_filling, filling, filled_by}
-use Rattle.die_model.specs.Standing.{HasBytes, IsFilling, IsDieOf, WorkedBy, RowsFit, DiesGoOn}
+use Rattle.onfi_cycle.specs.declared.filling.Filling.TheVariants.{Leaves, Clears, Copies, Fills}
+use Rattle.onfi_cycle.specs.Filling.{cycle_filling, filling, row_filling, copied, filled_by}
+use Rattle.die_model.specs.Standing.{kept_held, HasBytes, IsFilling, IsDieOf, WorkedBy, RowsFit, DiesGoOn}
 use Rattle.onfi_cycle.specs.declared.data_phase.DataPhase.{DataPhase}
 use Rattle.onfi_cycle.specs.declared.data_phase.DataPhase.TheVariants.{Outside, Inputs, FirstColumn, SecondColumn, FeatureInputs}
-use Rattle.onfi_cycle.specs.Command.{closes_row, reads_row, is_page_program, at_last_row, addresses_the_array, is_set_features}
+use Rattle.onfi_cycle.specs.Command.{closes_row, reads_row, begins_data, is_page_program, is_write_column, at_last_row, addresses_the_array, is_set_features}
 use Rattle.onfi_cycle.specs.LunView.{LunView}
 use Rattle.std.specs.List.{slice_get}
 use Rattle.std.proofs.lemmas.Bool.Decides.{nat_tests}
@@ -47,7 +48,7 @@ use Rattle.nand_geometry.specs.Row.{parts_of}
 use Rattle.onfi_cycle.proofs.Passed.{permitted_keeps}
 use Rattle.onfi_cycle.proofs.RowBounds.{input_inside, no_features_inside}
 use Rattle.onfi_cycle.proofs.Keeping.{view_at}
-use Rattle.die_model.proofs.Tails.{stays, no_opening, blank}
+use Rattle.die_model.proofs.Tails.{stays, no_opening, blank, row_fills}
 use Rattle.onfi_cycle.proofs.Steps.{goes_on as not_anew}
 
 -- 1. the bytes of a program that starts are those of its tail
@@ -107,6 +108,7 @@ address_programs g t byte k.ResetLun n lun = choice g t lun (n == 2) (lun_reset_
     resets true = tt
     resets false = choice g t lun (is_shared g) (e.AnotherAddressed false) e.Unaffected (λ _. tt) tt
 address_programs g t byte k.ReadParameterPage n lun = choice g t lun (wants_address t byte) (of_target g lun e.ParameterPageReadStarted) e.Unaffected (λ _. target_programs g t lun e.ParameterPageReadStarted tt) tt
+address_programs g t byte k.PageProgram n lun = choice g t lun (n == 4) (program_row_effect (names_lun g (row_with t byte) lun)) e.Unaffected (λ _. choice g t lun (names_lun g (row_with t byte) lun) e.ProgramAddressed e.Unaffected (λ _. tt) tt) tt
 address_programs g t byte _ n lun = tt
 
 opening_programs : (g : Parts) (t : TailFacts) (byte : ℕ) (o : Option Opening) (lun : ℕ) → Programs g t lun (opening_address_effect g t byte o lun)
@@ -126,15 +128,15 @@ effect_programs g past (Rdy ce lun fail) l = choice g (facts_of (tail past l.ce)
 effect_programs g past (Ard ce lun) l = choice g (facts_of (tail past l.ce)) l.lun (ce == l.ce && lun == l.lun) e.ArrayBecameReady e.Unaffected (λ _. tt) tt
 
 -- so the register has the bytes that the effect takes
-queued_same : (g : Parts) (t : List TargetCycle) (lun : ℕ) (d : Die) (x : Effect) (q : List ArrayWork) → d.geometry ≡ g → Programs g (facts_of t) lun x → IsFilling g t lun d → queued_work_after x (bytes_taken d x) q ≡ queued_work_after x (filled (page_len g) t) q
-queued_same g t lun d (e.ProgramStarted queued at) q eg p f = ap (λ (b : List ℕ). queued_work_after (e.ProgramStarted queued at) b q) (ap (λ (h : Parts). plane_bytes h d.planes at) eg ∙ (ap (plane_bytes g d.planes) p.page ∙ (f p.named p.here).bytes))
-queued_same g t lun d (e.EraseStarted queued at) q eg p f = refl
-queued_same g t lun d _ q eg p f = refl
+queued_same : (g : Parts) (begun : List ℕ) (t : List TargetCycle) (lun : ℕ) (d : Die) (x : Effect) (q : List ArrayWork) → d.geometry ≡ g → Programs g (facts_of t) lun x → IsFilling g begun t lun d → queued_work_after x (bytes_taken d x) q ≡ queued_work_after x (filled begun t) q
+queued_same g begun t lun d (e.ProgramStarted queued at) q eg p f = ap (λ (b : List ℕ). queued_work_after (e.ProgramStarted queued at) b q) (ap (λ (h : Parts). plane_bytes h d.planes at) eg ∙ (ap (plane_bytes g d.planes) p.page ∙ (f p.named p.here).bytes))
+queued_same g begun t lun d (e.EraseStarted queued at) q eg p f = refl
+queued_same g begun t lun d _ q eg p f = refl
 
-pending_same : (g : Parts) (t : List TargetCycle) (lun : ℕ) (d : Die) (x : Effect) (q r : List ArrayWork) → d.geometry ≡ g → Programs g (facts_of t) lun x → IsFilling g t lun d → pending_work_after x (bytes_taken d x) q r ≡ pending_work_after x (filled (page_len g) t) q r
-pending_same g t lun d (e.ProgramStarted queued at) q r eg p f = ap (λ (b : List ℕ). pending_work_after (e.ProgramStarted queued at) b q r) (ap (λ (h : Parts). plane_bytes h d.planes at) eg ∙ (ap (plane_bytes g d.planes) p.page ∙ (f p.named p.here).bytes))
-pending_same g t lun d (e.EraseStarted queued at) q r eg p f = refl
-pending_same g t lun d _ q r eg p f = refl
+pending_same : (g : Parts) (begun : List ℕ) (t : List TargetCycle) (lun : ℕ) (d : Die) (x : Effect) (q r : List ArrayWork) → d.geometry ≡ g → Programs g (facts_of t) lun x → IsFilling g begun t lun d → pending_work_after x (bytes_taken d x) q r ≡ pending_work_after x (filled begun t) q r
+pending_same g begun t lun d (e.ProgramStarted queued at) q r eg p f = ap (λ (b : List ℕ). pending_work_after (e.ProgramStarted queued at) b q r) (ap (λ (h : Parts). plane_bytes h d.planes at) eg ∙ (ap (plane_bytes g d.planes) p.page ∙ (f p.named p.here).bytes))
+pending_same g begun t lun d (e.EraseStarted queued at) q r eg p f = refl
+pending_same g begun t lun d _ q r eg p f = refl
 
 caching_is : (x : Effect) (c : Option Command) → caching_after x (is_cache_read c) ≡ is_cache_read (closer_after x c)
 caching_is (e.EraseStarted true at) c = refl
@@ -142,6 +144,13 @@ caching_is (e.EraseStarted false at) c = refl
 caching_is (e.ProgramStarted true at) c = refl
 caching_is (e.ProgramStarted false at) c = refl
 caching_is _ c = refl
+
+copying_is : (x : Effect) (c : Option Command) → copying_after x (is_copyback_read c) ≡ is_copyback_read (closer_after x c)
+copying_is (e.EraseStarted true at) c = refl
+copying_is (e.EraseStarted false at) c = refl
+copying_is (e.ProgramStarted true at) c = refl
+copying_is (e.ProgramStarted false at) c = refl
+copying_is _ c = refl
 
 -- 2. an effect
 
@@ -153,10 +162,11 @@ record Facts (s : Channel) (past : List Item) (l : Lun) (d : Die) : Type 0 where
   array_page : d.array_page ≡ array_page s.geometry past l
   busy : d.busy ≡ is_busy s.geometry past l
   caching : d.caching ≡ is_caching s.geometry past l
+  copying : d.copying ≡ is_copyback_read (closer s.geometry past l)
   array_busy : d.array_busy ≡ is_array_busy s.geometry past l
   queue : d.queued ≡ queue s.geometry past l
-  queued : queued_of d ≡ queued_work s.geometry past l
-  pending : pending_of d ≡ pending_work s.geometry past l
+  queued : queued_of d ≡ queued_work s.geometry s.opening past l
+  pending : pending_of d ≡ pending_work s.geometry s.opening past l
   failed : d.failed ≡ has_failed s.geometry past l
 
 same_content : (g h : Parts) (x : Effect) (a b : List ArrayWork) (p : PageAddress) (m n : List ℕ) → g ≡ h → a ≡ b → m ≡ n → content_after g x a p m ≡ content_after h x b p n
@@ -167,62 +177,67 @@ effect_goes_on s past i l old new f a =
     let g = s.geometry in
     let x = effect_on g past i l in
     let t = tail past l.ce in
+    let o = s.opening in
+    let begun = begun_with g (content g o past l) past l in
     let p = effect_programs g past i l in
     record {
       geometry = a.geometry ∙ f.geometry;
-      pages = λ at. a.pages at ∙ same_content old.geometry g x (pending_of old) (pending_work g past l) at (page_of old at) (content g s.opening past l at) f.geometry f.pending (f.pages at);
+      pages = λ at. a.pages at ∙ same_content old.geometry g x (pending_of old) (pending_work g o past l) at (page_of old at) (content g o past l at) f.geometry f.pending (f.pages at);
       register = a.register ∙ (λ j. register_after x (f.array_page j) (f.queue j) (f.held j) (f.register j));
-      held = a.held ∙ (λ j. held_after x (f.array_page j) (f.queue j) (f.held j));
+      held = a.held ∙ (λ j. held_after x (f.copying j) (f.array_page j) (f.queue j) (f.held j));
       array_page = a.array_page ∙ ap (array_page_after x) f.array_page;
       busy = a.busy ∙ ap (busy_after x) f.busy;
       caching = a.caching ∙ (ap (caching_after x) f.caching ∙ caching_is x (closer g past l));
+      copying = a.copying ∙ (ap (copying_after x) f.copying ∙ copying_is x (closer g past l));
       array_busy = a.array_busy ∙ (ap (λ (b : Bool). array_busy_after x b old.caching old.array_busy) f.busy ∙ (ap (λ (b : Bool). array_busy_after x (is_busy g past l) b old.array_busy) f.caching ∙ ap (array_busy_after x (is_busy g past l) (is_caching g past l)) f.array_busy));
       queue = a.queue ∙ ap (queue_after x) f.queue;
-      queued = a.queued ∙ (ap (queued_work_after x (bytes_taken old x)) f.queued ∙ queued_same g t l.lun old x (queued_work g past l) f.geometry p f.open_program);
-      pending = a.pending ∙ (ap (λ (q : List ArrayWork). pending_work_after x (bytes_taken old x) q (pending_of old)) f.queued ∙ (ap (pending_work_after x (bytes_taken old x) (queued_work g past l)) f.pending ∙ pending_same g t l.lun old x (queued_work g past l) (pending_work g past l) f.geometry p f.open_program));
-      failed = a.failed ∙ (ap (λ (q : List ArrayWork). failed_after x q old.failed) f.pending ∙ ap (failed_after x (pending_work g past l)) f.failed);
+      queued = a.queued ∙ (ap (queued_work_after x (bytes_taken old x)) f.queued ∙ queued_same g begun t l.lun old x (queued_work g o past l) f.geometry p f.open_program);
+      pending = a.pending ∙ (ap (λ (q : List ArrayWork). pending_work_after x (bytes_taken old x) q (pending_of old)) f.queued ∙ (ap (pending_work_after x (bytes_taken old x) (queued_work g o past l)) f.pending ∙ pending_same g begun t l.lun old x (queued_work g o past l) (pending_work g o past l) f.geometry p f.open_program));
+      failed =
+          a.failed ∙ (ap (λ (q : List ArrayWork). failed_after x (is_some_work q) old.failed) f.pending
+          ∙ (ap (λ (c : Bool). failed_after x c old.failed) (work_changes_pages g o past l) ∙ ap (failed_after x (changes_pages g past l)) f.failed));
     }
 
 -- 3. a program stays open
 
+-- the effect begins no work, and leaves what is held
+record Calm (x : Effect) : Type 0 where
+  busy : busy_after x false ≡ false
+  held : (c : Bool) (p : PageAddress) (q : List Queued) (h : List PageAddress) → held_after x c p q h ≡ h
+
+rests : Calm e.Unaffected
+rests = record { busy = refl; held = λ c p q h. refl }
+
+calm_choice : (b : Bool) (x : Effect) → Calm x → Calm (cond b x e.Unaffected)
+calm_choice true x h = h
+calm_choice false x h = rests
+
 -- no work starts where a program is open after the cycle
-calm_command : (g : Parts) (t : List TargetCycle) (latch : Latch) (c : Command) (lun : ℕ) → names_program (facts_of (with_cycle (CommandCycle c) t)) ≡ true → busy_after (command_effect g (facts_of t) latch c lun) false ≡ false
-calm_command g t latch k.ChangeWriteColumn lun h = of (wants_command (facts_of t) k.ChangeWriteColumn && names_lun g (row (facts_of t)) lun)
-  where
-    of : (b : Bool) → busy_after (cond b e.Unaffected e.Unaffected) false ≡ false
-    of true = refl
-    of false = refl
+calm_command : (g : Parts) (t : List TargetCycle) (latch : Latch) (c : Command) (lun : ℕ) → names_program (facts_of (with_cycle (CommandCycle c) t)) ≡ true → Calm (command_effect g (facts_of t) latch c lun)
+calm_command g t latch k.ChangeWriteColumn lun h = calm_choice (wants_command (facts_of t) k.ChangeWriteColumn && names_lun g (row (facts_of t)) lun) e.Unaffected rests
 calm_command g (d ∷ t) latch k.ReadCacheSequential lun h = at (wants_command (facts_of (d ∷ t)) k.ReadCacheSequential) h
   where
-    at : (w : Bool) → names_program (facts_of (cond (not w) (CommandCycle k.ReadCacheSequential ∷ []) (CommandCycle k.ReadCacheSequential ∷ (d ∷ t)))) ≡ true → busy_after (command_effect g (facts_of (d ∷ t)) latch k.ReadCacheSequential lun) false ≡ false
+    at : (w : Bool) → names_program (facts_of (cond (not w) (CommandCycle k.ReadCacheSequential ∷ []) (CommandCycle k.ReadCacheSequential ∷ (d ∷ t)))) ≡ true → Calm (command_effect g (facts_of (d ∷ t)) latch k.ReadCacheSequential lun)
     at true h = cc
     at false h = cc
 calm_command g [] latch c lun h = cc
 calm_command g (d ∷ t) latch c lun h = cc
 
-calm_status : (a b : Bool) → busy_after (cond a (cond b e.SelectedForStatus e.Deselected) e.Unaffected) false ≡ false
-calm_status true true = refl
-calm_status true false = refl
-calm_status false b = refl
+calm_status : (a b : Bool) → Calm (cond a (cond b e.SelectedForStatus e.Deselected) e.Unaffected)
+calm_status true true = record { busy = refl; held = λ c p q h. refl }
+calm_status true false = record { busy = refl; held = λ c p q h. refl }
+calm_status false b = rests
 
-calm_choice : (b : Bool) (x : Effect) → busy_after x false ≡ false → busy_after (cond b x e.Unaffected) false ≡ false
-calm_choice true x h = h
-calm_choice false x h = refl
-
-calm_target : (b : Bool) (x : Effect) → busy_after x false ≡ false → busy_after (cond b x e.Deselected) false ≡ false
-calm_target true x h = h
-calm_target false x h = refl
-
-calm_address : (g : Parts) (t : List TargetCycle) (byte lun : ℕ) (o : Option Opening) → opening t ≡ o → names_program (facts_of (AddressCycle byte ∷ t)) ≡ true → busy_after (opening_address_effect g (facts_of t) byte o lun) false ≡ false
-calm_address g t byte lun None h n = refl
-calm_address g t byte lun (Some o) h n = at o.opener refl
+calm_address : (g : Parts) (t : List TargetCycle) (byte lun : ℕ) (pages : List PageAddress) (o : Option Opening) → opening t ≡ o → cycle_filling g (facts_of t) (AddressCycle byte) lun pages ≡ Leaves → names_program (facts_of (AddressCycle byte ∷ t)) ≡ true → Calm (opening_address_effect g (facts_of t) byte o lun)
+calm_address g t byte lun pages None h leaves n = rests
+calm_address g t byte lun pages (Some o) h leaves n = at o.opener refl
   where
-    none_is : (p : DataPhase) → data_phase t ≡ p → (takes_data (phase_after_address (Some o) p) || wants_column (phase_after_address (Some o) p)) ≡ true → is_page_program o.opener ≡ false → false ≡ true
+    none_is : (p : DataPhase) → data_phase t ≡ p → (takes_data (phase_after_address (Some o) p) || wants_column (phase_after_address (Some o) p)) ≡ true → begins_data o.opener ≡ false → false ≡ true
     none_is Inputs e n q = n
     none_is FeatureInputs e n q = n
     none_is FirstColumn e n q = let x = sym h ∙ no_opening t (ap wants_column e) in cc
     none_is SecondColumn e n q = let x = sym h ∙ no_opening t (ap wants_column e) in cc
-    none_is Outside e n q = outside (is_page_program o.opener) (o.addresses == 4) (is_set_features o.opener && o.addresses == 0) q n
+    none_is Outside e n q = outside (begins_data o.opener) (o.addresses == 4) (is_set_features o.opener && o.addresses == 0) q n
       where
         outside : (a b c : Bool) → a ≡ false → (takes_data (cond (a && b) Inputs (cond c FeatureInputs Outside)) || wants_column (cond (a && b) Inputs (cond c FeatureInputs Outside))) ≡ true → false ≡ true
         outside true b c q n = cc
@@ -232,90 +247,43 @@ calm_address g t byte lun (Some o) h n = at o.opener refl
     named : (takes_data (phase_after_address (Some o) (data_phase t)) || wants_column (phase_after_address (Some o) (data_phase t))) ≡ true
     named = sym (ap (λ (q : Option Opening). takes_data (phase_after_address q (data_phase t)) || wants_column (phase_after_address q (data_phase t))) h) ∙ n
 
-    at : (c : Command) → o.opener ≡ c → busy_after (address_effect g (facts_of t) byte c o.addresses lun) false ≡ false
+    programs : o.opener ≡ k.PageProgram → (four : Bool) → (o.addresses == 4) ≡ four → (here : Bool) → names_lun g (row_with (facts_of t) byte) lun ≡ here → Calm (cond four (program_row_effect here) e.Unaffected)
+    programs q true e true m =
+        absurd (row_fills g t o (row_with (facts_of t) byte) pages h (rw (q, e) refl) (sym (ap (λ (b : Bool). cond b (row_filling g (facts_of t) (row_with (facts_of t) byte) pages) Leaves) m) ∙ leaves))
+    programs q true e false m = rests
+    programs q false e here m = rests
+
+    at : (c : Command) → o.opener ≡ c → Calm (address_effect g (facts_of t) byte c o.addresses lun)
     at k.ReadStatusEnhanced q = calm_status (o.addresses == 2) (names_lun g (row_with (facts_of t) byte) lun)
-    at k.ReadId q = calm_choice (wants_address (facts_of t) byte) (of_target g lun (id_effect byte)) (calm_target (acts_for_target g lun) (id_effect byte) (calm_id (byte == 0x20)))
-      where
-        calm_id : (b : Bool) → busy_after (cond b e.IdRead (e.IdentityRead (byte == 0x40))) false ≡ false
-        calm_id true = refl
-        calm_id false = refl
-    at k.ReadParameterPage q = let x = none_is (data_phase t) refl named (ap is_page_program q) in cc
-    at k.ReadUniqueId q = let x = none_is (data_phase t) refl named (ap is_page_program q) in cc
-    at k.GetFeatures q = let x = none_is (data_phase t) refl named (ap is_page_program q) in cc
-    at k.ResetLun q = let x = none_is (data_phase t) refl named (ap is_page_program q) in cc
-    at _ q = refl
+    at k.PageProgram q = programs q (o.addresses == 4) refl (names_lun g (row_with (facts_of t) byte) lun) refl
+    at k.ReadId q = let x = none_is (data_phase t) refl named (ap begins_data q) in cc
+    at k.ReadParameterPage q = let x = none_is (data_phase t) refl named (ap begins_data q) in cc
+    at k.ReadUniqueId q = let x = none_is (data_phase t) refl named (ap begins_data q) in cc
+    at k.GetFeatures q = let x = none_is (data_phase t) refl named (ap begins_data q) in cc
+    at k.ResetLun q = let x = none_is (data_phase t) refl named (ap begins_data q) in cc
+    at _ q = rests
 
 -- in the data of a program an input starts nothing
 no_end : (t : TailFacts) → (takes_data t.phase || wants_column t.phase) ≡ true → ends_features t ≡ false
 no_end t h = ap (λ (b : Bool). b && t.inputs == 3) (no_features_inside t.phase h)
 
-calm_input : (g : Parts) (t : TailFacts) (lun : ℕ) → (takes_data t.phase || wants_column t.phase) ≡ true → busy_after (input_effect g t lun) false ≡ false
-calm_input g t lun h = ap (λ (b : Bool). busy_after (cond b (of_target g lun (e.FeaturesSet (t.column % 256))) e.Unaffected) false) (no_end t h)
+calm_input : (g : Parts) (t : TailFacts) (lun : ℕ) → (takes_data t.phase || wants_column t.phase) ≡ true → Calm (input_effect g t lun)
+calm_input g t lun h = subst (λ (b : Bool). Calm (cond b (of_target g lun (e.FeaturesSet (t.column % 256))) e.Unaffected)) (sym (no_end t h)) rests
 
-calm : (g : Parts) (t : List TargetCycle) (latch : Latch) (cycle : TargetCycle) (lun : ℕ) → names_program (facts_of (with_cycle cycle t)) ≡ true → busy_after (cycle_effect g (facts_of t) latch cycle lun) false ≡ false
-calm g t latch (CommandCycle c) lun h = calm_command g t latch c lun h
-calm g [] latch (AddressCycle byte) lun h = refl
-calm g (d ∷ t) latch (AddressCycle byte) lun h = calm_address g (d ∷ t) byte lun (opening (d ∷ t)) refl h
-calm g [] latch (InputCycle byte) lun h = refl
-calm g (d ∷ t) latch (InputCycle byte) lun h = calm_input g (facts_of (d ∷ t)) lun (input_inside (facts_of (d ∷ t)).inputs (facts_of (d ∷ t)).phase h)
-calm g t latch OutputCycle lun h = calm_choice (is_data latch) e.DataOutput refl
+calm : (g : Parts) (t : List TargetCycle) (latch : Latch) (cycle : TargetCycle) (lun : ℕ) (pages : List PageAddress) → cycle_filling g (facts_of t) cycle lun pages ≡ Leaves → names_program (facts_of (with_cycle cycle t)) ≡ true → Calm (cycle_effect g (facts_of t) latch cycle lun)
+calm g t latch (CommandCycle c) lun pages leaves h = calm_command g t latch c lun h
+calm g [] latch (AddressCycle byte) lun pages leaves h = rests
+calm g (d ∷ t) latch (AddressCycle byte) lun pages leaves h = calm_address g (d ∷ t) byte lun pages (opening (d ∷ t)) refl leaves h
+calm g [] latch (InputCycle byte) lun pages leaves h = rests
+calm g (d ∷ t) latch (InputCycle byte) lun pages leaves h = calm_input g (facts_of (d ∷ t)) lun (input_inside (facts_of (d ∷ t)).inputs (facts_of (d ∷ t)).phase h)
+calm g t latch OutputCycle lun pages leaves h = calm_choice (is_data latch) e.DataOutput (record { busy = refl; held = λ c p q h. refl })
 
-carry : (g : Parts) (t u : List TargetCycle) (x : Effect) (old new : Die) → IsAfter x old new → busy_after x false ≡ false → row (facts_of u) ≡ row (facts_of t) → filled (page_len g) u ≡ filled (page_len g) t → HasBytes g t old → HasBytes g u new
-carry g t u x old new a idle same bytes h =
-    record {
-      ready = a.busy ∙ (ap (busy_after x) h.ready ∙ idle);
-      bytes = ap (λ (r : List (List ℕ)). plane_bytes g r (page_address g (row (facts_of u)))) a.planes ∙ (ap (λ (r : ℕ). plane_bytes g old.planes (page_address g r)) same ∙ (h.bytes ∙ sym bytes));
-    }
-
-ready_idle : (b : Bool) (x : Effect) → busy_after x false ≡ false → busy_after (cond b x e.Unaffected) false ≡ false
-ready_idle true x h = h
-ready_idle false x h = refl
-
-open_leaves : (s : Channel) (past : List Item) (i : Item) (l : Lun) (old new : Die) → filling s.geometry (facts_of (tail past l.ce)) i l ≡ Leaves → IsFilling s.geometry (tail past l.ce) l.lun old → IsAfter (effect_on s.geometry past i l) old new → IsFilling s.geometry (tail (i ∷ past) l.ce) l.lun new
-unfolding effect_among
-open_leaves s past (Rdy ce lun fail) l old new leaves f a = λ named here. carry s.geometry (tail past l.ce) (tail past l.ce) (effect_on s.geometry past (Rdy ce lun fail) l) old new a (ready_idle (ce == l.ce && lun == l.lun) (e.BecameReady fail) refl) refl refl (f named here)
-open_leaves s past (Ard ce lun) l old new leaves f a = λ named here. carry s.geometry (tail past l.ce) (tail past l.ce) (effect_on s.geometry past (Ard ce lun) l) old new a (ready_idle (ce == l.ce && lun == l.lun) e.ArrayBecameReady refl) refl refl (f named here)
-open_leaves s past (Cyc c) l old new leaves f a = of (c.ce == l.ce) refl leaves
-  where
-    of : (b : Bool) → (c.ce == l.ce) ≡ b → cond b (cycle_filling s.geometry (facts_of (tail past l.ce)) (target_cycle c.kind c.byte) l.lun) Leaves ≡ Leaves → names_program (facts_of (cond b (with_cycle (target_cycle c.kind c.byte) (tail past l.ce)) (tail past l.ce))) ≡ true → names_lun s.geometry (row (facts_of (cond b (with_cycle (target_cycle c.kind c.byte) (tail past l.ce)) (tail past l.ce)))) l.lun ≡ true → HasBytes s.geometry (cond b (with_cycle (target_cycle c.kind c.byte) (tail past l.ce)) (tail past l.ce)) new
-    of true same leaves named here =
-        let st = stays s.geometry (page_len s.geometry) (tail past l.ce) (target_cycle c.kind c.byte) l.lun leaves named here in
-        let before = f st.named (sym (ap (λ (r : ℕ). names_lun s.geometry r l.lun) st.same_row) ∙ here) in
-        carry s.geometry (tail past l.ce) (with_cycle (target_cycle c.kind c.byte) (tail past l.ce)) (effect_on s.geometry past (Cyc c) l) old new a
-        (ready_idle (c.ce == l.ce) (cycle_effect s.geometry (facts_of (tail past l.ce)) (latch_alone s.geometry past l) (target_cycle c.kind c.byte) l.lun) (calm s.geometry (tail past l.ce) (latch_alone s.geometry past l) (target_cycle c.kind c.byte) l.lun named))
-        st.same_row st.bytes before
-    of false other leaves named here =
-        carry s.geometry (tail past l.ce) (tail past l.ce) (effect_on s.geometry past (Cyc c) l) old new a
-        (ap (λ (b : Bool). busy_after (cond b (cycle_effect s.geometry (facts_of (tail past l.ce)) (latch_alone s.geometry past l) (target_cycle c.kind c.byte) l.lun) e.Unaffected) false) other) refl refl (f named here)
-
-leaves_goes_on : (s : Channel) (past : List Item) (i : Item) (l : Lun) (old new : Die) → filling s.geometry (facts_of (tail past l.ce)) i l ≡ Leaves → IsDieOf s past l old → IsAfter (effect_on s.geometry past i l) old new → IsDieOf s (i ∷ past) l new
-leaves_goes_on s past i l old new leaves f a =
-    let x = effect_goes_on s past i l old new f a in
-    record {
-      geometry = x.geometry;
-      pages = x.pages;
-      register = x.register;
-      held = x.held;
-      array_page = x.array_page;
-      busy = x.busy;
-      caching = x.caching;
-      array_busy = x.array_busy;
-      queue = x.queue;
-      queued = x.queued;
-      pending = x.pending;
-      failed = x.failed;
-      count = ap (λ (r : List (List ℕ)). length r) a.planes ∙ f.count;
-      open_program = open_leaves s past i l old new leaves f.open_program a;
-    }
-
--- 4. an item that works on a page register
-
-unaffected : (d : Die) → IsAfter e.Unaffected d d
-unaffected d = record { geometry = refl; planes = refl; pages = λ p. refl; register = refl; held = refl; array_page = refl; busy = refl; caching = refl; array_busy = refl; queue = refl; queued = refl; pending = refl; failed = refl }
+-- what the program began with stays
 
 pending_step : (x : Effect) (bytes : List ℕ) (q p : List ArrayWork) (b : Bool) → (b ≡ false → p ≡ []) → busy_after x b ≡ false → pending_work_after x bytes q p ≡ []
 pending_step (e.ReadStarted at from) bytes q p b f h = refl
 pending_step (e.ReadQueued at) bytes q p b f h = refl
+pending_step (e.CopybackReadStarted at from count) bytes q p b f h = refl
 pending_step (e.EraseStarted queued at) bytes q p b f h = cc
 pending_step (e.ProgramStarted queued at) bytes q p b f h = cc
 pending_step e.ParameterPageReadStarted bytes q p b f h = refl
@@ -329,9 +297,113 @@ pending_step (e.TargetResetStarted first) bytes q p b f h = refl
 pending_step (e.BecameReady fail) bytes q p b f h = refl
 pending_step _ bytes q p b f h = f h
 
-pending_idle : (g : Parts) (past : List Item) (l : Lun) → is_busy g past l ≡ false → pending_work g past l ≡ []
-pending_idle g [] l h = refl
-pending_idle g (i ∷ past) l h = pending_step (effect_on g past i l) (filled (page_len g) (tail past l.ce)) (queued_work g past l) (pending_work g past l) (is_busy g past l) (pending_idle g past l) h
+pending_idle : (g : Parts) (o : Lun → PageAddress → List ℕ) (past : List Item) (l : Lun) → is_busy g past l ≡ false → pending_work g o past l ≡ []
+pending_idle g o [] l h = refl
+pending_idle g o (i ∷ past) l h = pending_step (effect_on g past i l) _ (queued_work g o past l) (pending_work g o past l) (is_busy g past l) (pending_idle g o past l) h
+
+content_rests : (g : Parts) (x : Effect) (p : PageAddress) (old : List ℕ) → content_after g x [] p old ≡ old
+content_rests g (e.BecameReady true) p old = refl
+content_rests g (e.BecameReady false) p old = refl
+content_rests g _ p old = refl
+
+content_idle : (g : Parts) (o : Lun → PageAddress → List ℕ) (past : List Item) (i : Item) (l : Lun) → is_busy g past l ≡ false → (p : PageAddress) → content g o (i ∷ past) l p ≡ content g o past l p
+content_idle g o past i l idle p =
+    ap (λ (w : List ArrayWork). content_after g (effect_on g past i l) w p (content g o past l p)) (pending_idle g o past l idle) ∙ content_rests g (effect_on g past i l) p (content g o past l p)
+
+same_held_bytes : (g : Parts) (f h : PageAddress → List ℕ) (there : Option PageAddress) → ((p : PageAddress) → f p ≡ h p) → bytes_held g f there ≡ bytes_held g h there
+same_held_bytes g f h None same = refl
+same_held_bytes g f h (Some p) same = same p
+
+-- the bytes that the program of a LUN began with, after a past
+abbrev begun_at : Channel → List Item → Lun → List ℕ
+begun_at s past l = begun_with s.geometry (content s.geometry s.opening past l) past l
+
+begun_kept : (s : Channel) (past : List Item) (i : Item) (l : Lun) → Calm (effect_on s.geometry past i l) → is_busy s.geometry past l ≡ false → row (facts_of (tail (i ∷ past) l.ce)) ≡ row (facts_of (tail past l.ce)) → begun_at s (i ∷ past) l ≡ begun_at s past l
+begun_kept s past i l c idle same_row =
+    let g = s.geometry in
+    let o = s.opening in
+    let same_held : held g (i ∷ past) l ≡ held g past l = c.held _ _ _ _ in
+    same_held_bytes g (content g o (i ∷ past) l) (content g o past l) _ (content_idle g o past i l idle)
+    ∙ (λ j. bytes_held g (content g o past l) (page_in_plane (planes g) (plane_of_row g (same_row j)) (same_held j)))
+
+carry : (g : Parts) (begun later : List ℕ) (t u : List TargetCycle) (x : Effect) (old new : Die) → IsAfter x old new → busy_after x false ≡ false → row (facts_of u) ≡ row (facts_of t) → filled later u ≡ filled begun t → HasBytes g begun t old → HasBytes g later u new
+carry g begun later t u x old new a idle same bytes h =
+    record {
+      ready = a.busy ∙ (ap (busy_after x) h.ready ∙ idle);
+      bytes = ap (λ (r : List (List ℕ)). plane_bytes g r (page_address g (row (facts_of u)))) a.planes ∙ (ap (λ (r : ℕ). plane_bytes g old.planes (page_address g r)) same ∙ (h.bytes ∙ sym bytes));
+    }
+
+-- a ready keeps an open program
+open_ready : (s : Channel) (past : List Item) (i : Item) (l : Lun) (old new : Die) → tail (i ∷ past) l.ce ≡ tail past l.ce → Calm (effect_on s.geometry past i l) → IsDieOf s past l old → IsAfter (effect_on s.geometry past i l) old new → IsFilling s.geometry (begun_at s (i ∷ past) l) (tail (i ∷ past) l.ce) l.lun new
+open_ready s past i l old new same c f a named here =
+    let t = tail past l.ce in
+    let before = f.open_program (ap (λ (u : List TargetCycle). names_program (facts_of u)) (sym same) ∙ named) (ap (λ (u : List TargetCycle). names_lun s.geometry (row (facts_of u)) l.lun) (sym same) ∙ here) in
+    let same_row = ap (λ (u : List TargetCycle). row (facts_of u)) same in
+    carry s.geometry (begun_at s past l) (begun_at s (i ∷ past) l) t (tail (i ∷ past) l.ce) (effect_on s.geometry past i l) old new a c.busy same_row
+    (ap (filled (begun_at s (i ∷ past) l)) same ∙ ap (λ (b : List ℕ). filled b t) (begun_kept s past i l c (sym f.busy ∙ before.ready) same_row)) before
+
+open_leaves : (s : Channel) (past : List Item) (i : Item) (l : Lun) (old new : Die) → filling s.geometry (facts_of (tail past l.ce)) i l (held s.geometry past l) ≡ Leaves → IsDieOf s past l old → IsAfter (effect_on s.geometry past i l) old new → IsFilling s.geometry (begun_at s (i ∷ past) l) (tail (i ∷ past) l.ce) l.lun new
+unfolding effect_among
+open_leaves s past (Rdy ce lun fail) l old new leaves f a = open_ready s past (Rdy ce lun fail) l old new refl (calm_choice (ce == l.ce && lun == l.lun) (e.BecameReady fail) (record { busy = refl; held = λ c p q h. refl })) f a
+open_leaves s past (Ard ce lun) l old new leaves f a = open_ready s past (Ard ce lun) l old new refl (calm_choice (ce == l.ce && lun == l.lun) e.ArrayBecameReady (record { busy = refl; held = λ c p q h. refl })) f a
+open_leaves s past (Cyc c) l old new leaves f a = of (c.ce == l.ce) refl leaves
+  where
+    t : List TargetCycle
+    t = tail past l.ce
+
+    u : Bool → List TargetCycle
+    u b = cond b (with_cycle (target_cycle c.kind c.byte) (tail past l.ce)) (tail past l.ce)
+
+    x : Effect
+    x = cycle_effect s.geometry (facts_of (tail past l.ce)) (latch_alone s.geometry past l) (target_cycle c.kind c.byte) l.lun
+
+    of : (b : Bool) → (c.ce == l.ce) ≡ b → cond b (cycle_filling s.geometry (facts_of (tail past l.ce)) (target_cycle c.kind c.byte) l.lun (held s.geometry past l)) Leaves ≡ Leaves → names_program (facts_of (tail (Cyc c ∷ past) l.ce)) ≡ true → names_lun s.geometry (row (facts_of (tail (Cyc c ∷ past) l.ce))) l.lun ≡ true → HasBytes s.geometry (begun_at s (Cyc c ∷ past) l) (tail (Cyc c ∷ past) l.ce) new
+    of true same leaves named here =
+        let is : tail (Cyc c ∷ past) l.ce ≡ with_cycle (target_cycle c.kind c.byte) (tail past l.ce) = ap u same in
+        let named_on = ap (λ (v : List TargetCycle). names_program (facts_of v)) (sym is) ∙ named in
+        let st = stays s.geometry (tail past l.ce) (target_cycle c.kind c.byte) l.lun (held s.geometry past l) leaves named_on (ap (λ (v : List TargetCycle). names_lun s.geometry (row (facts_of v)) l.lun) (sym is) ∙ here) in
+        let same_row : row (facts_of (tail (Cyc c ∷ past) l.ce)) ≡ row (facts_of (tail past l.ce)) = ap (λ (v : List TargetCycle). row (facts_of v)) is ∙ st.same_row in
+        let before = f.open_program st.named (sym (ap (λ (r : ℕ). names_lun s.geometry r l.lun) same_row) ∙ here) in
+        let quiet : Calm (effect_on s.geometry past (Cyc c) l) = calm_choice (c.ce == l.ce) x (calm s.geometry (tail past l.ce) (latch_alone s.geometry past l) (target_cycle c.kind c.byte) l.lun (held s.geometry past l) leaves named_on) in
+        carry s.geometry (begun_at s past l) (begun_at s (Cyc c ∷ past) l) (tail past l.ce) (tail (Cyc c ∷ past) l.ce) (effect_on s.geometry past (Cyc c) l) old new a quiet.busy same_row
+        (ap (filled (begun_at s (Cyc c ∷ past) l)) is ∙ (st.bytes (begun_at s (Cyc c ∷ past) l) ∙ ap (λ (b : List ℕ). filled b (tail past l.ce)) (begun_kept s past (Cyc c) l quiet (sym f.busy ∙ before.ready) same_row))) before
+    of false other leaves named here =
+        open_ready s past (Cyc c) l old new (ap u other) (subst (λ (b : Bool). Calm (cond b x e.Unaffected)) (sym other) rests) f a named here
+
+leaves_goes_on : (s : Channel) (past : List Item) (i : Item) (l : Lun) (old new : Die) → filling s.geometry (facts_of (tail past l.ce)) i l (held s.geometry past l) ≡ Leaves → IsDieOf s past l old → IsAfter (effect_on s.geometry past i l) old new → IsDieOf s (i ∷ past) l new
+leaves_goes_on s past i l old new leaves f a =
+    let x = effect_goes_on s past i l old new f a in
+    record {
+      geometry = x.geometry;
+      pages = x.pages;
+      register = x.register;
+      held = x.held;
+      array_page = x.array_page;
+      busy = x.busy;
+      caching = x.caching;
+      copying = x.copying;
+      array_busy = x.array_busy;
+      queue = x.queue;
+      queued = x.queued;
+      pending = x.pending;
+      failed = x.failed;
+      count = ap (λ (r : List (List ℕ)). length r) a.planes ∙ f.count;
+      open_program = open_leaves s past i l old new leaves f a;
+    }
+
+-- 4. an item that works on a page register
+
+-- the last row cycle of 80 frees what is held, and else nothing happens
+data RowEffect : Effect → Type 0 where
+  nothing : RowEffect e.Unaffected
+  addressed : RowEffect e.ProgramAddressed
+
+abbrev released : Effect → Die → Die
+released x d = record d { held = kept_held x d.held }
+
+release : (x : Effect) (d : Die) → RowEffect x → IsAfter x d (released x d)
+release _ d nothing = record { geometry = refl; planes = refl; pages = λ p. refl; register = refl; held = refl; array_page = refl; busy = refl; caching = refl; copying = refl; array_busy = refl; queue = refl; queued = refl; pending = refl; failed = refl }
+release _ d addressed = record { geometry = refl; planes = refl; pages = λ p. refl; register = refl; held = refl; array_page = refl; busy = refl; caching = refl; copying = refl; array_busy = refl; queue = refl; queued = refl; pending = refl; failed = refl }
 
 works_nil : (g : Parts) (r q : List (List ℕ)) (rows : List Queued) → works_of g r rows ≡ [] → works_of g q rows ≡ []
 works_nil g r q [] h = refl
@@ -354,10 +426,12 @@ apart_works g registers at w (Program q ∷ rows) h =
 abbrev with_planes : Die → List (List ℕ) → Die
 with_planes d r = record d { planes = r }
 
-register_goes_on : (s : Channel) (past : List Item) (i : Item) (l : Lun) (old : Die) (at : PageAddress) (w : List ℕ) → effect_on s.geometry past i l ≡ e.Unaffected → IsDieOf s past l old → old.busy ≡ false → some_queued_clashes s.geometry false at (queue s.geometry past l) ≡ false → IsFilling s.geometry (tail (i ∷ past) l.ce) l.lun (with_planes old (set old.planes (at.block % planes s.geometry) w)) → IsDieOf s (i ∷ past) l (with_planes old (set old.planes (at.block % planes s.geometry) w))
+register_goes_on : (s : Channel) (past : List Item) (i : Item) (l : Lun) (old : Die) (at : PageAddress) (w : List ℕ) → RowEffect (effect_on s.geometry past i l) → IsDieOf s past l old → old.busy ≡ false → some_queued_clashes s.geometry false at (queue s.geometry past l) ≡ false
+    → IsFilling s.geometry (begun_at s (i ∷ past) l) (tail (i ∷ past) l.ce) l.lun (with_planes (released (effect_on s.geometry past i l) old) (set old.planes (at.block % planes s.geometry) w))
+    → IsDieOf s (i ∷ past) l (with_planes (released (effect_on s.geometry past i l) old) (set old.planes (at.block % planes s.geometry) w))
 register_goes_on s past i l old at w is f idle apart filling =
-    let x = effect_goes_on s past i l old old f (subst (λ (z : Effect). IsAfter z old old) (sym is) (unaffected old)) in
-    let none : pending_of old ≡ [] = f.pending ∙ pending_idle s.geometry past l (sym f.busy ∙ idle) in
+    let x = effect_goes_on s past i l old (released (effect_on s.geometry past i l) old) f (release (effect_on s.geometry past i l) old is) in
+    let none : pending_of old ≡ [] = f.pending ∙ pending_idle s.geometry s.opening past l (sym f.busy ∙ idle) in
     record {
       geometry = x.geometry;
       pages = x.pages;
@@ -366,6 +440,7 @@ register_goes_on s past i l old at w is f idle apart filling =
       array_page = x.array_page;
       busy = x.busy;
       caching = x.caching;
+      copying = x.copying;
       array_busy = x.array_busy;
       queue = x.queue;
       queued =
@@ -392,20 +467,24 @@ pub record IsInput (g : Parts) (past : List Item) (i : Item) (l : Lun) (at : Pag
   pub page : at ≡ page_address g (row (facts_of (tail past l.ce)))
   pub place : column ≡ input_column (facts_of (tail past l.ce))
 
-pub is_input : (g : Parts) (past : List Item) (i : Item) (l : Lun) (at : PageAddress) (column byte : ℕ) → filling g (facts_of (tail past l.ce)) i l ≡ Fills at column byte → IsInput g past i l at column byte
+-- an address fills no byte
+no_fills : (n p c : Bool) (row : PageAddress) (there : Option PageAddress) (at : PageAddress) (column byte : ℕ) → cond n (cond p (Clears row) (cond c (copied row there) Leaves)) Leaves ≡ Fills at column byte → ⊥
+no_fills false p c row there at column byte h = cc
+no_fills true true c row there at column byte h = cc
+no_fills true false true row None at column byte h = cc
+no_fills true false true row (Some from) at column byte h = cc
+no_fills true false false row there at column byte h = cc
+
+pub is_input : (g : Parts) (past : List Item) (i : Item) (l : Lun) (at : PageAddress) (column byte : ℕ) → filling g (facts_of (tail past l.ce)) i l (held g past l) ≡ Fills at column byte → IsInput g past i l at column byte
 is_input g past (Rdy ce lun fail) l at column byte h = cc
 is_input g past (Ard ce lun) l at column byte h = cc
 is_input g past (Cyc c) l at column byte h = of (c.ce == l.ce) refl (target_cycle c.kind c.byte) refl h
   where
-    of : (b : Bool) → (c.ce == l.ce) ≡ b → (k : TargetCycle) → target_cycle c.kind c.byte ≡ k → cond b (cycle_filling g (facts_of (tail past l.ce)) k l.lun) Leaves ≡ Fills at column byte → IsInput g past (Cyc c) l at column byte
+    of : (b : Bool) → (c.ce == l.ce) ≡ b → (k : TargetCycle) → target_cycle c.kind c.byte ≡ k → cond b (cycle_filling g (facts_of (tail past l.ce)) k l.lun (held g past l)) Leaves ≡ Fills at column byte → IsInput g past (Cyc c) l at column byte
     of false e k q h = cc
     of true e (CommandCycle x) q h = cc
     of true e OutputCycle q h = cc
-    of true e (AddressCycle x) q h = by (ends_row is_page_program (facts_of (tail past l.ce)) && names_lun g (row_with (facts_of (tail past l.ce)) x) l.lun) h
-      where
-        by : (b : Bool) → cond b (Clears (page_address g (row_with (facts_of (tail past l.ce)) x))) Leaves ≡ Fills at column byte → IsInput g past (Cyc c) l at column byte
-        by true h = cc
-        by false h = cc
+    of true e (AddressCycle x) q h = absurd (no_fills (names_lun g (row_with (facts_of (tail past l.ce)) x) l.lun) (ends_row is_page_program (facts_of (tail past l.ce))) (ends_row is_write_column (facts_of (tail past l.ce))) _ _ _ _ _ h)
     of true e (InputCycle x) q h = by (takes_data (data_phase (tail past l.ce)) && names_lun g (row (facts_of (tail past l.ce))) l.lun) refl h
       where
         by : (b : Bool) → (takes_data (data_phase (tail past l.ce)) && names_lun g (row (facts_of (tail past l.ce))) l.lun) ≡ b → cond b (Fills (page_address g (row (facts_of (tail past l.ce)))) (input_column (facts_of (tail past l.ce))) x) Leaves ≡ Fills at column byte → IsInput g past (Cyc c) l at column byte
@@ -434,7 +513,7 @@ inputs_there : (t : List TargetCycle) → takes_data (data_phase t) ≡ true →
 inputs_there [] h = cc
 inputs_there (d ∷ t) h = refl
 
-input_goes_on : (s : Channel) (past : List Item) (i : Item) (l : Lun) (old new : Die) (at : PageAddress) (column byte : ℕ) → IsInput s.geometry past i l at column byte → RowsFit s.geometry past l → IsDieOf s past l old → new ≡ record old { planes = filled_by s.geometry (Fills at column byte) old.planes } → IsDieOf s (i ∷ past) l new
+input_goes_on : (s : Channel) (past : List Item) (i : Item) (l : Lun) (old new : Die) (at : PageAddress) (column byte : ℕ) → IsInput s.geometry past i l at column byte → RowsFit s.geometry past l → IsDieOf s past l old → new ≡ record old { planes = filled_by s.geometry (page_of old) (Fills at column byte) old.planes } → IsDieOf s (i ∷ past) l new
 input_goes_on s past i l old new at column byte j fits f w =
     let g = s.geometry in
     let t = tail past l.ce in
@@ -442,25 +521,46 @@ input_goes_on s past i l old new at column byte j fits f w =
     let before = f.open_program named j.here in
     let bytes = set (plane_bytes g old.planes at) column byte in
     let registers = set old.planes (at.block % planes g) bytes in
-    let same_tail = tail_on past j.c l.ce (InputCycle byte) j.ce j.cycle refl (inputs_there t j.takes) in
-    let open_one : HasBytes g (InputCycle byte ∷ t) (with_planes old registers) =
+    let same_tail : tail (i ∷ past) l.ce ≡ InputCycle byte ∷ t = ap (λ (z : Item). tail (z ∷ past) l.ce) j.is ∙ tail_on past j.c l.ce (InputCycle byte) j.ce j.cycle refl (inputs_there t j.takes) in
+    let is : effect_on g past i l ≡ e.Unaffected =
+    ap (λ (z : Item). effect_on g past z l) j.is ∙ (effect_at g past j.c l (InputCycle byte) j.ce j.cycle
+    ∙ ap (λ (b : Bool). cond b (of_target g l.lun (e.FeaturesSet ((facts_of t).column % 256))) e.Unaffected) (no_end (facts_of t) named)) in
+    let same_begun = begun_kept s past i l (subst Calm (sym is) rests) (sym f.busy ∙ before.ready) (ap (λ (v : List TargetCycle). row (facts_of v)) same_tail) in
+    let later = begun_at s (i ∷ past) l in
+    let open_one : HasBytes g later (InputCycle byte ∷ t) (with_planes (released (effect_on g past i l) old) registers) =
     record {
       ready = before.ready;
       bytes =
           ap (plane_bytes g registers) (sym j.page)
           ∙ (get_or-set_same old.planes (at.block % planes g) bytes [] (plane_there s past l old at f)
-          ∙ (ap (λ (x : List ℕ). set x column byte) (ap (plane_bytes g old.planes) j.page ∙ before.bytes) ∙ ap (λ (n : ℕ). set (filled (page_len g) t) n byte) j.place));
+          ∙ (ap (λ (x : List ℕ). set x column byte) (ap (plane_bytes g old.planes) j.page ∙ (before.bytes ∙ ap (λ (b : List ℕ). filled b t) (sym same_begun))) ∙ ap (λ (n : ℕ). set (filled later t) n byte) j.place));
     } in
-    subst (IsDieOf s (i ∷ past) l) (sym w)
-    (register_goes_on s past i l old at bytes
-    (ap (λ (z : Item). effect_on g past z l) j.is ∙ (effect_at g past j.c l (InputCycle byte) j.ce j.cycle
-    ∙ ap (λ (b : Bool). cond b (of_target g l.lun (e.FeaturesSet ((facts_of t).column % 256))) e.Unaffected) (no_end (facts_of t) named)))
-    f before.ready
+    let whole : with_planes (released (effect_on g past i l) old) registers ≡ with_planes old registers = ap (λ (x : Effect). with_planes (released x old) registers) is in
+    subst (IsDieOf s (i ∷ past) l) (whole ∙ sym w)
+    (register_goes_on s past i l old at bytes (subst RowEffect (sym is) nothing) f before.ready
     (ap (λ (p : PageAddress). some_queued_clashes g false p (queue g past l)) j.page ∙ fits.program j.here named)
-    (λ n h. subst (λ (u : List TargetCycle). HasBytes g u (with_planes old registers)) (sym (ap (λ (z : Item). tail (z ∷ past) l.ce) j.is ∙ same_tail)) open_one))
+    (λ n h. subst (λ (v : List TargetCycle). HasBytes g later v (with_planes (released (effect_on g past i l) old) registers)) (sym same_tail) open_one))
 
--- the last row cycle of a program clears a register
-record IsLastAddress (g : Parts) (past : List Item) (i : Item) (l : Lun) (at : PageAddress) : Type 0 where
+-- what the last address of the row of a program does to the register of its plane
+data RowKind (g : Parts) (pages : List PageAddress) (o : Opening) (row : ℕ) : Filling → Type 0 where
+  program : (is_page_program o.opener && at_last_row o.opener o.addresses) ≡ true → RowKind g pages o row (Clears (page_address g row))
+  blank_copy : (is_write_column o.opener && at_last_row o.opener o.addresses) ≡ true → page_in_plane (planes g) (plane_of_row g row) pages ≡ None → RowKind g pages o row (Clears (page_address g row))
+  copy : (from : PageAddress) → (is_write_column o.opener && at_last_row o.opener o.addresses) ≡ true → page_in_plane (planes g) (plane_of_row g row) pages ≡ Some from → RowKind g pages o row (Copies (page_address g row) from)
+
+abbrev changes_row : Filling → Bool
+changes_row (Clears at) = true
+changes_row (Copies at from) = true
+changes_row _ = false
+
+row_kind : (g : Parts) (pages : List PageAddress) (o : Opening) (row : ℕ) (p c : Bool) (there : Option PageAddress) → (is_page_program o.opener && at_last_row o.opener o.addresses) ≡ p → (is_write_column o.opener && at_last_row o.opener o.addresses) ≡ c → page_in_plane (planes g) (plane_of_row g row) pages ≡ there
+    → changes_row (cond p (Clears (page_address g row)) (cond c (copied (page_address g row) there) Leaves)) ≡ true → RowKind g pages o row (cond p (Clears (page_address g row)) (cond c (copied (page_address g row) there) Leaves))
+row_kind g pages o row true c there ep ec et h = program ep
+row_kind g pages o row false true None ep ec et h = blank_copy ec et
+row_kind g pages o row false true (Some from) ep ec et h = copy from ec et
+row_kind g pages o row false false there ep ec et h = cc
+
+-- the last row cycle of a program changes a register
+record IsLastAddress (g : Parts) (past : List Item) (i : Item) (l : Lun) (x : Filling) : Type 0 where
   c : Cycle
   byte : ℕ
   o : Opening
@@ -468,49 +568,88 @@ record IsLastAddress (g : Parts) (past : List Item) (i : Item) (l : Lun) (at : P
   ce : (c.ce == l.ce) ≡ true
   cycle : target_cycle c.kind c.byte ≡ AddressCycle byte
   opens : opening (tail past l.ce) ≡ Some o
-  ends : (is_page_program o.opener && at_last_row o.opener o.addresses) ≡ true
   here : names_lun g (row_with (facts_of (tail past l.ce)) byte) l.lun ≡ true
-  page : at ≡ page_address g (row_with (facts_of (tail past l.ce)) byte)
+  kind : RowKind g (held g past l) o (row_with (facts_of (tail past l.ce)) byte) x
 
-is_last_address : (g : Parts) (past : List Item) (i : Item) (l : Lun) (at : PageAddress) → filling g (facts_of (tail past l.ce)) i l ≡ Clears at → IsLastAddress g past i l at
-is_last_address g past (Rdy ce lun fail) l at h = cc
-is_last_address g past (Ard ce lun) l at h = cc
-is_last_address g past (Cyc c) l at h = of (c.ce == l.ce) refl (target_cycle c.kind c.byte) refl h
+is_last_address : (g : Parts) (past : List Item) (i : Item) (l : Lun) (x : Filling) → filling g (facts_of (tail past l.ce)) i l (held g past l) ≡ x → changes_row x ≡ true → IsLastAddress g past i l x
+is_last_address g past (Rdy ce lun fail) l x h w = let no = ap changes_row h ∙ w in cc
+is_last_address g past (Ard ce lun) l x h w = let no = ap changes_row h ∙ w in cc
+is_last_address g past (Cyc c) l x h w = subst (IsLastAddress g past (Cyc c) l) h (of (c.ce == l.ce) refl (target_cycle c.kind c.byte) refl (ap changes_row h ∙ w))
   where
-    of : (b : Bool) → (c.ce == l.ce) ≡ b → (k : TargetCycle) → target_cycle c.kind c.byte ≡ k → cond b (cycle_filling g (facts_of (tail past l.ce)) k l.lun) Leaves ≡ Clears at → IsLastAddress g past (Cyc c) l at
-    of false e k q h = cc
-    of true e (CommandCycle x) q h = cc
-    of true e OutputCycle q h = cc
-    of true e (InputCycle x) q h = by (takes_data (data_phase (tail past l.ce)) && names_lun g (row (facts_of (tail past l.ce))) l.lun) h
-      where
-        by : (b : Bool) → cond b (Fills (page_address g (row (facts_of (tail past l.ce)))) (input_column (facts_of (tail past l.ce))) x) Leaves ≡ Clears at → IsLastAddress g past (Cyc c) l at
-        by true h = cc
-        by false h = cc
-    of true e (AddressCycle x) q h = by (opening (tail past l.ce)) refl (names_lun g (row_with (facts_of (tail past l.ce)) x) l.lun) refl h
-      where
-        by : (o : Option Opening) → opening (tail past l.ce) ≡ o → (n : Bool) → names_lun g (row_with (facts_of (tail past l.ce)) x) l.lun ≡ n → cond (opened (λ c n. is_page_program c && at_last_row c n) o && n) (Clears (page_address g (row_with (facts_of (tail past l.ce)) x))) Leaves ≡ Clears at → IsLastAddress g past (Cyc c) l at
-        by None o n t h = cc
-        by (Some o) op n t h = last (is_page_program o.opener && at_last_row o.opener o.addresses) refl n t h
-          where
-            last : (a : Bool) → (is_page_program o.opener && at_last_row o.opener o.addresses) ≡ a → (n : Bool) → names_lun g (row_with (facts_of (tail past l.ce)) x) l.lun ≡ n → cond (a && n) (Clears (page_address g (row_with (facts_of (tail past l.ce)) x))) Leaves ≡ Clears at → IsLastAddress g past (Cyc c) l at
-            last true ends true here h = record { c = c; byte = x; o = o; is = refl; ce = e; cycle = q; opens = op; ends = ends; here = here; page = cc }
-            last true ends false here h = cc
-            last false ends n here h = cc
+    t : TailFacts
+    t = facts_of (tail past l.ce)
 
-program_address : (g : Parts) (t : TailFacts) (byte n lun : ℕ) (c : Command) → is_page_program c ≡ true → address_effect g t byte c n lun ≡ e.Unaffected
-program_address g t byte n lun k.PageProgram h = refl
-program_address g t byte n lun c h = cc
+    no_rest : (b : Bool) (at : PageAddress) (column byte : ℕ) → changes_row (cond b (Fills at column byte) Leaves) ≡ true → false ≡ true
+    no_rest true at column byte h = h
+    no_rest false at column byte h = h
+
+    of : (b : Bool) → (c.ce == l.ce) ≡ b → (k : TargetCycle) → target_cycle c.kind c.byte ≡ k → changes_row (cond b (cycle_filling g (facts_of (tail past l.ce)) k l.lun (held g past l)) Leaves) ≡ true → IsLastAddress g past (Cyc c) l (cond b (cycle_filling g (facts_of (tail past l.ce)) k l.lun (held g past l)) Leaves)
+    of false e k q h = cc
+    of true e (CommandCycle y) q h = cc
+    of true e OutputCycle q h = cc
+    of true e (InputCycle y) q h = let no = no_rest (takes_data (data_phase (tail past l.ce)) && names_lun g (row (facts_of (tail past l.ce))) l.lun) _ _ _ h in cc
+    of true e (AddressCycle y) q h = named (names_lun g (row_with (facts_of (tail past l.ce)) y) l.lun) refl h
+      where
+        at : ℕ
+        at = row_with (facts_of (tail past l.ce)) y
+
+        by : (o : Option Opening) → opening (tail past l.ce) ≡ o → names_lun g (row_with (facts_of (tail past l.ce)) y) l.lun ≡ true
+            → changes_row (cond (opened (λ c n. is_page_program c && at_last_row c n) o) (Clears (page_address g at)) (cond (opened (λ c n. is_write_column c && at_last_row c n) o) (copied (page_address g at) (page_in_plane (planes g) (plane_of_row g at) (held g past l))) Leaves)) ≡ true
+            → IsLastAddress g past (Cyc c) l (cond (opened (λ c n. is_page_program c && at_last_row c n) o) (Clears (page_address g at)) (cond (opened (λ c n. is_write_column c && at_last_row c n) o) (copied (page_address g at) (page_in_plane (planes g) (plane_of_row g at) (held g past l))) Leaves))
+        by None op here h = cc
+        by (Some o) op here h =
+            record {
+              c = c;
+              byte = y;
+              o = o;
+              is = refl;
+              ce = e;
+              cycle = q;
+              opens = op;
+              here = here;
+              kind = row_kind g (held g past l) o at (is_page_program o.opener && at_last_row o.opener o.addresses) (is_write_column o.opener && at_last_row o.opener o.addresses) (page_in_plane (planes g) (plane_of_row g at) (held g past l)) refl refl refl h;
+            }
+
+        named : (n : Bool) → names_lun g (row_with (facts_of (tail past l.ce)) y) l.lun ≡ n → changes_row (cond n (row_filling g (facts_of (tail past l.ce)) at (held g past l)) Leaves) ≡ true → IsLastAddress g past (Cyc c) l (cond n (row_filling g (facts_of (tail past l.ce)) at (held g past l)) Leaves)
+        named true m h = by (opening (tail past l.ce)) refl m h
+        named false m h = cc
+
+-- the page of the row, and that the row is one of a program
+abbrev page_changed : Filling → Option PageAddress
+page_changed (Clears at) = Some at
+page_changed (Copies at from) = Some at
+page_changed _ = None
+
+kind_page : (g : Parts) (pages : List PageAddress) (o : Opening) (row : ℕ) (x : Filling) (at : PageAddress) → RowKind g pages o row x → page_changed x ≡ Some at → at ≡ page_address g row
+kind_page g pages o row _ at (program e) h = cc
+kind_page g pages o row _ at (blank_copy e n) h = cc
+kind_page g pages o row _ at (copy from e n) h = cc
+
+data_program : (c : Command) (b : Bool) → (is_page_program c && b) ≡ true → (begins_data c && b) ≡ true
+data_program k.PageProgram b h = h
+data_program c b h = cc
+
+data_copyback : (c : Command) (b : Bool) → (is_write_column c && b) ≡ true → (begins_data c && b) ≡ true
+data_copyback k.ChangeWriteColumn b h = h
+data_copyback c b h = cc
+
+kind_ends : (g : Parts) (pages : List PageAddress) (o : Opening) (row : ℕ) (x : Filling) → RowKind g pages o row x → (begins_data o.opener && at_last_row o.opener o.addresses) ≡ true
+kind_ends g pages o row _ (program e) = data_program o.opener _ e
+kind_ends g pages o row _ (blank_copy e n) = data_copyback o.opener _ e
+kind_ends g pages o row _ (copy from e n) = data_copyback o.opener _ e
 
 opening_there : (t : List TargetCycle) (o : Opening) → opening t ≡ Some o → is_nil t ≡ false
 opening_there [] o h = cc
 opening_there (d ∷ t) o h = refl
 
-program_addresses_array : (c : Command) (n : ℕ) → (is_page_program c && at_last_row c n) ≡ true → (addresses_the_array c && at_last_row c n) ≡ true
+program_addresses_array : (c : Command) (n : ℕ) → (begins_data c && at_last_row c n) ≡ true → (addresses_the_array c && at_last_row c n) ≡ true
 program_addresses_array k.PageProgram n h = h
+program_addresses_array k.ChangeWriteColumn n h = h
 program_addresses_array c n h = cc
 
-program_refuses : (g : Parts) (c : Command) (n : ℕ) (p : PageAddress) (rows : List Queued) → (is_page_program c && at_last_row c n) ≡ true → (at_last_row c n && refused_by g c p rows) ≡ false → some_queued_clashes g false p rows ≡ false
+program_refuses : (g : Parts) (c : Command) (n : ℕ) (p : PageAddress) (rows : List Queued) → (begins_data c && at_last_row c n) ≡ true → (at_last_row c n && refused_by g c p rows) ≡ false → some_queued_clashes g false p rows ≡ false
 program_refuses g k.PageProgram n p rows h r = and_rest (at_last_row k.PageProgram n) _ h r
+program_refuses g k.ChangeWriteColumn n p rows h r = and_rest (at_last_row k.ChangeWriteColumn n) _ h r
 program_refuses g c n p rows h r = cc
 
 -- what a test says of the named LUN where it isn't broken
@@ -527,57 +666,117 @@ record Passed (g : Parts) (past : List Item) (l : Lun) (at : PageAddress) : Type
   ready : is_busy g past l ≡ false
   apart : some_queued_clashes g false at (queue g past l) ≡ false
 
-passed : (g : Parts) (n : ℕ) (past : List Item) (i : Item) (l : Lun) (at : PageAddress) → broken g n past i ≡ None → l.lun < g.luns → IsLastAddress g past i l at → Passed g past l at
+passed : (g : Parts) (n : ℕ) (past : List Item) (i : Item) (l : Lun) (x : Filling) (at : PageAddress) → page_changed x ≡ Some at → broken g n past i ≡ None → l.lun < g.luns → IsLastAddress g past i l x → Passed g past l at
 unfolding breaks_lun_busy breaks_queue_clash
-passed g n past i l at h low j =
+passed g n past i l x at changed h low j =
     let t = facts_of (tail past l.ce) in
+    let ended = kind_ends g (held g past l) j.o (row_with t j.byte) x j.kind in
     let rules = permitted_keeps g n past j.c (sym (ap (broken g n past) j.is) ∙ h) in
     let same : j.c.ce ≡ l.ce = eqb_is j.c.ce l.ce j.ce in
     let f9 : breaks_lun_busy g t (luns_of g past l.ce) (AddressCycle j.byte) ≡ false = subst (λ (k : TargetCycle). breaks_lun_busy g t (luns_of g past l.ce) k ≡ false) j.cycle (subst (λ (ce : ℕ). breaks_lun_busy g (facts_of (tail past ce)) (luns_of g past ce) (target_cycle j.c.kind j.c.byte) ≡ false) same rules.f9) in
     let f10 : breaks_queue_clash g t (luns_of g past l.ce) (AddressCycle j.byte) ≡ false = subst (λ (k : TargetCycle). breaks_queue_clash g t (luns_of g past l.ce) k ≡ false) j.cycle (subst (λ (ce : ℕ). breaks_queue_clash g (facts_of (tail past ce)) (luns_of g past ce) (target_cycle j.c.kind j.c.byte) ≡ false) same rules.f10) in
-    let ends : ends_row addresses_the_array t ≡ true = ap (opened (λ c n. addresses_the_array c && at_last_row c n)) j.opens ∙ program_addresses_array j.o.opener j.o.addresses j.ends in
+    let ends : ends_row addresses_the_array t ≡ true = ap (opened (λ c n. addresses_the_array c && at_last_row c n)) j.opens ∙ program_addresses_array j.o.opener j.o.addresses ended in
     record {
       ready = sym (named_test g past l (row_with t j.byte) (λ v. v.busy) low j.here) ∙ (neither (named_lun_is g (row_with t j.byte) (λ v. v.busy) (luns_of g past l.ce)) _ (and_rest _ _ ends f9)).0;
       apart =
-          ap (λ (p : PageAddress). some_queued_clashes g false p (queue g past l)) j.page
-          ∙ program_refuses g j.o.opener j.o.addresses (page_address g (row_with t j.byte)) (queue g past l) j.ends
+          ap (λ (p : PageAddress). some_queued_clashes g false p (queue g past l)) (kind_page g (held g past l) j.o (row_with t j.byte) x at j.kind changed)
+          ∙ program_refuses g j.o.opener j.o.addresses (page_address g (row_with t j.byte)) (queue g past l) ended
           (sym (ap (λ (o : Option Opening). is_refused_by g o (page_address g (row_with t j.byte)) (queue g past l)) j.opens) ∙ (sym (named_test g past l (row_with t j.byte) (λ v. is_refused_by g t.opening (page_address g (row_with t j.byte)) v.queue) low j.here) ∙ f10));
     }
   where
     eqb_is : (a b : ℕ) → (a == b) ≡ true → a ≡ b
     eqb_is a b h = grind (arith, nat_tests)
 
-address_goes_on : (s : Channel) (past : List Item) (i : Item) (l : Lun) (old new : Die) (at : PageAddress) → IsLastAddress s.geometry past i l at → Passed s.geometry past l at → IsDieOf s past l old → new ≡ record old { planes = filled_by s.geometry (Clears at) old.planes } → IsDieOf s (i ∷ past) l new
-address_goes_on s past i l old new at j ok f w =
+-- the register of the plane gets what the program begins with
+address_goes_on : (s : Channel) (past : List Item) (i : Item) (l : Lun) (old : Die) (x : Filling) (at : PageAddress) (bytes : List ℕ) → page_changed x ≡ Some at → IsLastAddress s.geometry past i l x → Passed s.geometry past l at → RowEffect (effect_on s.geometry past i l) → IsDieOf s past l old → begun_at s (i ∷ past) l ≡ bytes
+    → IsDieOf s (i ∷ past) l (with_planes (released (effect_on s.geometry past i l) old) (set old.planes (at.block % planes s.geometry) bytes))
+address_goes_on s past i l old x at bytes changed j ok re f begun =
     let g = s.geometry in
     let t = tail past l.ce in
-    let bytes = replicate (page_len g) 0xff in
     let registers = set old.planes (at.block % planes g) bytes in
-    let same_tail = tail_on past j.c l.ce (AddressCycle j.byte) j.ce j.cycle refl (opening_there t j.o j.opens) in
+    let later = begun_at s (i ∷ past) l in
+    let same_tail : tail (i ∷ past) l.ce ≡ AddressCycle j.byte ∷ t = tail_with s.geometry past i l x j in
     let same_row : row (facts_of (AddressCycle j.byte ∷ t)) ≡ row_with (facts_of t) j.byte = ap (λ (o : Option Opening). row (record (facts_of t) { row = row_after_address o j.byte (row_bytes t) })) j.opens in
     let idle : old.busy ≡ false = f.busy ∙ ok.ready in
-    let open_one : HasBytes g (AddressCycle j.byte ∷ t) (with_planes old registers) =
+    let open_one : HasBytes g later (AddressCycle j.byte ∷ t) (with_planes (released (effect_on g past i l) old) registers) =
     record {
       ready = idle;
       bytes =
           ap (λ (r : ℕ). plane_bytes g registers (page_address g r)) same_row
-          ∙ (ap (plane_bytes g registers) (sym j.page)
+          ∙ (ap (plane_bytes g registers) (sym (kind_page g (held g past l) j.o (row_with (facts_of t) j.byte) x at j.kind changed))
           ∙ (get_or-set_same old.planes (at.block % planes g) bytes [] (plane_there s past l old at f)
-          ∙ sym (blank (page_len g) t j.o j.opens)));
+          ∙ (sym begun ∙ sym (blank later t j.o j.opens))));
     } in
-    subst (IsDieOf s (i ∷ past) l) (sym w)
-    (register_goes_on s past i l old at bytes
-    (ap (λ (z : Item). effect_on g past z l) j.is ∙ (effect_at g past j.c l (AddressCycle j.byte) j.ce j.cycle
-    ∙ (ap (λ (o : Option Opening). opening_address_effect g (facts_of t) j.byte o l.lun) j.opens ∙ program_address g (facts_of t) j.byte j.o.addresses l.lun j.o.opener (both _ _ j.ends).0)))
-    f idle ok.apart
-    (λ n h. subst (λ (u : List TargetCycle). HasBytes g u (with_planes old registers)) (sym (ap (λ (z : Item). tail (z ∷ past) l.ce) j.is ∙ same_tail)) open_one))
+    register_goes_on s past i l old at bytes re f idle ok.apart
+    (λ n h. subst (λ (v : List TargetCycle). HasBytes g later v (with_planes (released (effect_on g past i l) old) registers)) (sym same_tail) open_one)
+  where
+    tail_with : (g : Parts) (past : List Item) (i : Item) (l : Lun) (x : Filling) (j : IsLastAddress g past i l x) → tail (i ∷ past) l.ce ≡ AddressCycle j.byte ∷ tail past l.ce
+    tail_with g past i l x j = ap (λ (z : Item). tail (z ∷ past) l.ce) j.is ∙ tail_on past j.c l.ce (AddressCycle j.byte) j.ce j.cycle refl (opening_there (tail past l.ce) j.o j.opens)
+
+-- the effect of it, and what the program begins with
+
+row_effect_is : (g : Parts) (past : List Item) (i : Item) (l : Lun) (x : Filling) (j : IsLastAddress g past i l x) → effect_on g past i l ≡ address_effect g (facts_of (tail past l.ce)) j.byte j.o.opener j.o.addresses l.lun
+row_effect_is g past i l x j =
+    ap (λ (z : Item). effect_on g past z l) j.is ∙ (effect_at g past j.c l (AddressCycle j.byte) j.ce j.cycle
+    ∙ ap (λ (o : Option Opening). opening_address_effect g (facts_of (tail past l.ce)) j.byte o l.lun) j.opens)
+
+program_row_is : (g : Parts) (t : TailFacts) (byte n lun : ℕ) (c : Command) → (is_page_program c && at_last_row c n) ≡ true → names_lun g (row_with t byte) lun ≡ true → address_effect g t byte c n lun ≡ e.ProgramAddressed
+program_row_is g t byte n lun k.PageProgram ends here = rw (ends, here) refl
+program_row_is g t byte n lun c ends here = cc
+
+copyback_row_is : (g : Parts) (t : TailFacts) (byte n lun : ℕ) (c : Command) (b : Bool) → (is_write_column c && b) ≡ true → address_effect g t byte c n lun ≡ e.Unaffected
+copyback_row_is g t byte n lun k.ChangeWriteColumn b h = refl
+copyback_row_is g t byte n lun c b h = cc
+
+-- what is held in the plane of the row once it has come
+begun_is : (s : Channel) (past : List Item) (i : Item) (l : Lun) (x : Filling) (j : IsLastAddress s.geometry past i l x) (e : Effect) (there : Option PageAddress) → is_busy s.geometry past l ≡ false → effect_on s.geometry past i l ≡ e
+    → page_in_plane (planes s.geometry) (plane_of_row s.geometry (row_with (facts_of (tail past l.ce)) j.byte)) (held_after e (is_copyback_read (closer s.geometry past l)) (array_page s.geometry past l) (queue s.geometry past l) (held s.geometry past l)) ≡ there
+    → begun_at s (i ∷ past) l ≡ bytes_held s.geometry (content s.geometry s.opening past l) there
+begun_is s past i l x j e there idle is held_there =
+    let g = s.geometry in
+    let t = tail past l.ce in
+    let same_tail : tail (i ∷ past) l.ce ≡ AddressCycle j.byte ∷ t = ap (λ (z : Item). tail (z ∷ past) l.ce) j.is ∙ tail_on past j.c l.ce (AddressCycle j.byte) j.ce j.cycle refl (opening_there t j.o j.opens) in
+    let same_row : row (facts_of (tail (i ∷ past) l.ce)) ≡ row_with (facts_of t) j.byte = ap (λ (v : List TargetCycle). row (facts_of v)) same_tail ∙ ap (λ (o : Option Opening). row (record (facts_of t) { row = row_after_address o j.byte (row_bytes t) })) j.opens in
+    let same_held : held g (i ∷ past) l ≡ held_after e (is_copyback_read (closer g past l)) (array_page g past l) (queue g past l) (held g past l) = ap (λ (z : Effect). held_after z (is_copyback_read (closer g past l)) (array_page g past l) (queue g past l) (held g past l)) is in
+    same_held_bytes g (content g s.opening (i ∷ past) l) (content g s.opening past l) _ (content_idle g s.opening past i l idle)
+    ∙ ((λ q. bytes_held g (content g s.opening past l) (page_in_plane (planes g) (plane_of_row g (same_row q)) (same_held q)))
+    ∙ ap (bytes_held g (content g s.opening past l)) held_there)
+
+-- the bytes that a filling puts into the register
+abbrev bytes_put : Parts → Die → Filling → List ℕ
+bytes_put g d (Copies at from) = page_of d from
+bytes_put g d _ = replicate (page_len g) 0xff
+
+row_goes_on : (s : Channel) (past : List Item) (i : Item) (l : Lun) (old : Die) (x : Filling) (at : PageAddress) → page_changed x ≡ Some at → (j : IsLastAddress s.geometry past i l x) → Passed s.geometry past l at → IsDieOf s past l old
+    → IsDieOf s (i ∷ past) l (with_planes (released (effect_on s.geometry past i l) old) (set old.planes (at.block % planes s.geometry) (bytes_put s.geometry old x)))
+row_goes_on s past i l old x at changed j ok f = of x j.kind refl
+  where
+    g : Parts
+    g = s.geometry
+
+    of : (z : Filling) → RowKind s.geometry (held s.geometry past l) j.o (row_with (facts_of (tail past l.ce)) j.byte) z → z ≡ x → IsDieOf s (i ∷ past) l (with_planes (released (effect_on s.geometry past i l) old) (set old.planes (at.block % planes s.geometry) (bytes_put s.geometry old x)))
+    of _ (program ends) same =
+        let is = row_effect_is s.geometry past i l x j ∙ program_row_is s.geometry (facts_of (tail past l.ce)) j.byte j.o.addresses l.lun j.o.opener ends j.here in
+        address_goes_on s past i l old x at (bytes_put s.geometry old x) changed j ok (subst RowEffect (sym is) addressed) f
+        (begun_is s past i l x j e.ProgramAddressed None ok.ready is refl ∙ ap (bytes_put s.geometry old) same)
+    of _ (blank_copy ends none) same =
+        let is = row_effect_is s.geometry past i l x j ∙ copyback_row_is s.geometry (facts_of (tail past l.ce)) j.byte j.o.addresses l.lun j.o.opener _ ends in
+        address_goes_on s past i l old x at (bytes_put s.geometry old x) changed j ok (subst RowEffect (sym is) nothing) f
+        (begun_is s past i l x j e.Unaffected None ok.ready is none ∙ ap (bytes_put s.geometry old) same)
+    of _ (copy from ends there) same =
+        let is = row_effect_is s.geometry past i l x j ∙ copyback_row_is s.geometry (facts_of (tail past l.ce)) j.byte j.o.addresses l.lun j.o.opener _ ends in
+        address_goes_on s past i l old x at (bytes_put s.geometry old x) changed j ok (subst RowEffect (sym is) nothing) f
+        (begun_is s past i l x j e.Unaffected (Some from) ok.ready is there ∙ (sym (f.pages from) ∙ ap (bytes_put s.geometry old) same))
 
 pub dies_go_on : DiesGoOn
-dies_go_on s past i l old new h low fits f w = by (filling s.geometry (facts_of (tail past l.ce)) i l) refl w
+dies_go_on s past i l old new h low fits f w = by (filling s.geometry (facts_of (tail past l.ce)) i l (held s.geometry past l)) refl w
   where
-    by : (x : Filling) → filling s.geometry (facts_of (tail past l.ce)) i l ≡ x → WorkedBy s.geometry x (effect_on s.geometry past i l) old new → IsDieOf s (i ∷ past) l new
+    by : (x : Filling) → filling s.geometry (facts_of (tail past l.ce)) i l (held s.geometry past l) ≡ x → WorkedBy s.geometry x (effect_on s.geometry past i l) old new → IsDieOf s (i ∷ past) l new
     by Leaves e w = leaves_goes_on s past i l old new e f w
     by (Clears at) e w =
-        let j = is_last_address s.geometry past i l at e in
-        address_goes_on s past i l old new at j (passed s.geometry s.targets past i l at h low j) f w
+        let j = is_last_address s.geometry past i l (Clears at) e refl in
+        subst (IsDieOf s (i ∷ past) l) (sym w) (row_goes_on s past i l old (Clears at) at refl j (passed s.geometry s.targets past i l (Clears at) at refl h low j) f)
+    by (Copies at from) e w =
+        let j = is_last_address s.geometry past i l (Copies at from) e refl in
+        subst (IsDieOf s (i ∷ past) l) (sym w) (row_goes_on s past i l old (Copies at from) at refl j (passed s.geometry s.targets past i l (Copies at from) at refl h low j) f)
     by (Fills at column byte) e w = input_goes_on s past i l old new at column byte (is_input s.geometry past i l at column byte e) fits f w

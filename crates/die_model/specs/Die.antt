@@ -10,9 +10,10 @@ use Rattle.onfi_cycle.specs.declared.queued.Queued.TheVariants.{Erase, Program, 
 use Rattle.onfi_cycle.specs.declared.register.Register.{Register}
 use Rattle.onfi_cycle.specs.declared.register.Register.TheVariants.{Empty, Page}
 use Rattle.onfi_cycle.specs.declared.effect.Effect.{Effect}
-use Rattle.onfi_cycle.specs.declared.effect.Effect.TheVariants.{ReadStarted, EraseStarted, ProgramStarted, IdRead, ParameterPageReadStarted, CacheReadContinued, CacheReadEnded, ResetStarted, TargetResetStarted, IdentityRead, UniqueIdReadStarted, FeaturesReadStarted, FeaturesSet, ReadQueued}
+use Rattle.onfi_cycle.specs.declared.effect.Effect.TheVariants.{ReadStarted, EraseStarted, ProgramStarted, IdRead, ParameterPageReadStarted, CacheReadContinued, CacheReadEnded, ResetStarted, TargetResetStarted, IdentityRead, UniqueIdReadStarted, FeaturesReadStarted, FeaturesSet, ReadQueued, CopybackReadStarted}
+use Rattle.onfi_cycle.specs.Effect.{HasPlanes}
 use Rattle.onfi_cycle.specs.Lun.{busy_after, array_busy_after, array_page_after, register_after, held_after, queue_after}
-use Rattle.onfi_cycle.specs.Content.{ArrayWork, ErasesBlock, ProgramsPage, queued_work_after, pending_work_after, content_after, failed_after, register_bytes, written}
+use Rattle.onfi_cycle.specs.Content.{ArrayWork, ErasesBlock, ProgramsPage, queued_work_after, pending_work_after, content_after, failed_after, is_some_work, register_bytes, written}
 use Rattle.onfi_cycle.specs.Bounds.{is_row}
 use Rattle.onfi_cycle.specs.Rules.{is_empty, has_some, some_queued_clashes, some_read_clashes}
 use Rattle.die_model.specs.declared.work.Work.{Work}
@@ -20,7 +21,7 @@ use Rattle.die_model.specs.declared.work.Work.TheVariants as w
 use Rattle.die_model.specs.Pages.{kept, page_in}
 
 -- a die: the pages that it keeps, the page register of each plane, what its register shows, the pages that its plane registers hold, the page
--- that its array was last told to read, what it is busy with, the rows that are queued (the newest first), and those that its next ready ends
+-- that its array was last told to read, what it is busy with, whether that reads a cache or was a read for a copyback, the rows that are queued (the newest first), and those that its next ready ends
 pub record Die : Type 0 where
   pub geometry : Parts
   pub pages : List ((ℕ × ℕ) × List ℕ)
@@ -30,14 +31,15 @@ pub record Die : Type 0 where
   pub array_page : PageAddress
   pub busy : Bool
   pub caching : Bool
+  pub copying : Bool
   pub array_busy : Bool
   pub queued : List Queued
   pub pending : List Queued
   pub failed : Bool
 
 -- a die by what is kept of it: one list of rows, which are queued until they are closed
-abbrev pub die_with : Parts → List ((ℕ × ℕ) × List ℕ) → List (List ℕ) → Register → (held : List PageAddress) → PageAddress → (busy caching array_busy : Bool) → (queue : List Queued) → (closed failed : Bool) → Die
-die_with g pages registers register held array_page busy caching array_busy queue closed failed =
+abbrev pub die_with : Parts → List ((ℕ × ℕ) × List ℕ) → List (List ℕ) → Register → (held : List PageAddress) → PageAddress → (busy caching copying array_busy : Bool) → (queue : List Queued) → (closed failed : Bool) → Die
+die_with g pages registers register held array_page busy caching copying array_busy queue closed failed =
     record {
       geometry = g;
       pages = pages;
@@ -47,6 +49,7 @@ die_with g pages registers register held array_page busy caching array_busy queu
       array_page = array_page;
       busy = busy;
       caching = caching;
+      copying = copying;
       array_busy = array_busy;
       queued = if closed then [] else queue;
       pending = if closed then queue else [];
@@ -81,6 +84,7 @@ pending_of d = works_of d.geometry d.planes d.pending
 -- the effect that a work stands for
 abbrev pub effect_of : Work → Effect
 effect_of (w.Read at) = ReadStarted at 0
+effect_of (w.Copyback at planes) = CopybackReadStarted at 0 planes
 effect_of (w.Program at) = ProgramStarted false at
 effect_of (w.Erase at) = EraseStarted false at
 effect_of (w.Queue (Erase at)) = EraseStarted true at
@@ -100,6 +104,7 @@ effect_of w.CacheEnd = CacheReadEnded
 abbrev pub work_begun : Effect → Option Work
 work_begun (ReadStarted at column) = Some (w.Read at)
 work_begun (ReadQueued at) = Some (w.Queue (QueuedRead at))
+work_begun (CopybackReadStarted at column planes) = Some (w.Copyback at planes)
 work_begun (ProgramStarted queued at) = Some (if queued then w.Queue (Program at) else w.Program at)
 work_begun (EraseStarted queued at) = Some (if queued then w.Queue (Erase at) else w.Erase at)
 work_begun IdRead = Some w.Identifier
@@ -118,6 +123,7 @@ abbrev pub caching_after : Effect → Bool → Bool
 caching_after (CacheReadContinued _) caching = true
 caching_after (ReadStarted _ _) caching = false
 caching_after (ReadQueued _) caching = false
+caching_after (CopybackReadStarted _ _ _) caching = false
 caching_after (EraseStarted _ _) caching = false
 caching_after (ProgramStarted _ _) caching = false
 caching_after IdRead caching = false
@@ -131,6 +137,25 @@ caching_after ResetStarted caching = false
 caching_after (TargetResetStarted _) caching = false
 caching_after _ caching = caching
 
+-- the last work has read a page for a copyback
+abbrev pub copying_after : Effect → Bool → Bool
+copying_after (CopybackReadStarted _ _ _) copying = true
+copying_after (ReadStarted _ _) copying = false
+copying_after (ReadQueued _) copying = false
+copying_after (EraseStarted _ _) copying = false
+copying_after (ProgramStarted _ _) copying = false
+copying_after IdRead copying = false
+copying_after ParameterPageReadStarted copying = false
+copying_after (IdentityRead _) copying = false
+copying_after UniqueIdReadStarted copying = false
+copying_after (FeaturesReadStarted _) copying = false
+copying_after (FeaturesSet _) copying = false
+copying_after (CacheReadContinued _) copying = false
+copying_after CacheReadEnded copying = false
+copying_after ResetStarted copying = false
+copying_after (TargetResetStarted _) copying = false
+copying_after _ copying = copying
+
 -- the bytes that a program takes
 abbrev pub bytes_taken : Die → Effect → List ℕ
 bytes_taken d (ProgramStarted queued at) = plane_bytes d.geometry d.planes at
@@ -142,15 +167,16 @@ pub record IsAfter (e : Effect) (old new : Die) : Type 0 where
   pub planes : new.planes ≡ old.planes
   pub pages : (p : PageAddress) → page_of new p ≡ content_after old.geometry e (pending_of old) p (page_of old p)
   pub register : new.register ≡ register_after e old.array_page old.queued old.held old.register
-  pub held : new.held ≡ held_after e old.array_page old.queued old.held
+  pub held : new.held ≡ held_after e old.copying old.array_page old.queued old.held
   pub array_page : new.array_page ≡ array_page_after e old.array_page
   pub busy : new.busy ≡ busy_after e old.busy
   pub caching : new.caching ≡ caching_after e old.caching
+  pub copying : new.copying ≡ copying_after e old.copying
   pub array_busy : new.array_busy ≡ array_busy_after e old.busy old.caching old.array_busy
   pub queue : new.queued ≡ queue_after e old.queued
   pub queued : queued_of new ≡ queued_work_after e (bytes_taken old e) (queued_of old)
   pub pending : pending_of new ≡ pending_work_after e (bytes_taken old e) (queued_of old) (pending_of old)
-  pub failed : new.failed ≡ failed_after e (pending_of old) old.failed
+  pub failed : new.failed ≡ failed_after e (is_some_work (pending_of old)) old.failed
 
 abbrev pub status_of : Die → ℕ
 status_of d = if d.busy then 0x80 else (if d.array_busy then 0xc0 else (if d.failed then 0xe1 else 0xe0))
@@ -166,10 +192,11 @@ are_none (p ∷ held) = false
 -- nothing is going on, waits, is held or has failed
 abbrev pub is_new : Die → Bool
 is_new d =
-    not d.busy && (not d.array_busy && (not d.caching && (is_empty d.register && (are_none d.held && (not (has_some d.queued) && (not (has_some d.pending) && not d.failed))))))
+    not d.busy && (not d.array_busy && (not d.caching && (not d.copying && (is_empty d.register && (are_none d.held && (not (has_some d.queued) && (not (has_some d.pending) && not d.failed)))))))
 
 abbrev pub row_of_work : Work → Option PageAddress
 row_of_work (w.Read at) = Some at
+row_of_work (w.Copyback at planes) = Some at
 row_of_work (w.Program at) = Some at
 row_of_work (w.Erase at) = Some at
 row_of_work (w.Queue (Erase at)) = Some at
@@ -201,6 +228,7 @@ pub record CanBegin (work : Work) (d : Die) : Type 0 where
   pub ready : is_reset work || not d.busy ≡ true
   pub room : length d.queued < 16
   pub next : d.array_page.page < 2 ^ 32
+  pub planes : HasPlanes (effect_of work)
 
 -- what a work makes of the rows that wait
 abbrev pub queue_with : Work → List Queued → List Queued
@@ -208,6 +236,7 @@ queue_with (w.Program at) queue = Program at ∷ queue
 queue_with (w.Erase at) queue = Erase at ∷ queue
 queue_with (w.Queue q) queue = q ∷ queue
 queue_with (w.Read at) queue = []
+queue_with (w.Copyback at planes) queue = []
 queue_with w.Reset queue = []
 queue_with _ queue = queue
 
@@ -296,6 +325,7 @@ new_die g =
       array_page = record { block = 0; page = 0 };
       busy = false;
       caching = false;
+      copying = false;
       array_busy = false;
       queued = [];
       pending = [];

@@ -1,8 +1,9 @@
 //! What a LUN does, and what its register holds.
 ghost use Rattle.std.specs.Prelude.{◌≡◌, ◌^◌, ◌<◌, ◌&&◌, if◌then◌else◌, false, [], length};
 ghost use Rattle.onfi_cycle.specs.declared.effect.Effect.TheVariants.{BecameReady};
+ghost use Rattle.onfi_cycle.specs.Effect.{HasPlanes};
 ghost use Rattle.onfi_cycle.specs.Lun.{busy_after, array_busy_after, array_page_after, register_after, held_after};
-ghost use Rattle.die_model.specs.Die.{effect_of, caching_after, queue_with, closes, is_reset};
+ghost use Rattle.die_model.specs.Die.{effect_of, caching_after, copying_after, queue_with, closes, is_reset};
 
 use crate::work::Work;
 use onfi_cycle::{Effect, HeldPages, PageAddress, Register, RowQueue, apply_to_held};
@@ -17,6 +18,8 @@ pub(crate) struct Activity {
     pub(crate) array_page: PageAddress,
     pub(crate) busy: bool,
     pub(crate) caching: bool,
+    /// The last work has read a page for a copyback.
+    pub(crate) copying: bool,
     pub(crate) array_busy: bool,
     /// The rows that are queued, the newest first.
     pub(crate) queue: RowQueue,
@@ -34,6 +37,7 @@ fn caching_after(effect: Effect, before: bool) -> bool
         Effect::CacheReadContinued { .. } => true,
         Effect::ReadStarted { .. }
         | Effect::ReadQueued { .. }
+        | Effect::CopybackReadStarted { .. }
         | Effect::EraseStarted { .. }
         | Effect::ProgramStarted { .. }
         | Effect::IdRead
@@ -49,19 +53,44 @@ fn caching_after(effect: Effect, before: bool) -> bool
     }
 }
 
+// The last work has read a page for a copyback, after an effect.
+fn copying_after(effect: Effect, before: bool) -> bool
+    ensures { result ≡ copying_after effect before }
+{
+    match effect {
+        Effect::CopybackReadStarted { .. } => true,
+        Effect::ReadStarted { .. }
+        | Effect::ReadQueued { .. }
+        | Effect::EraseStarted { .. }
+        | Effect::ProgramStarted { .. }
+        | Effect::IdRead
+        | Effect::ParameterPageReadStarted
+        | Effect::IdentityRead { .. }
+        | Effect::UniqueIdReadStarted
+        | Effect::FeaturesReadStarted { .. }
+        | Effect::FeaturesSet { .. }
+        | Effect::CacheReadContinued { .. }
+        | Effect::CacheReadEnded
+        | Effect::ResetStarted
+        | Effect::TargetResetStarted { .. } => false,
+        _ => before,
+    }
+}
+
 impl Activity {
     /// What goes on once a work has begun.
-    #[tactic(auto, using(crate::proofs::Begun::work_has_planes))]
     pub(crate) fn begin(&mut self, work: Work)
         requires room { is_reset work ≡ false → length self.old.queue.items < 16 }
         requires next { self.old.array_page.page < 2 ^ 32 }
+        requires planes { HasPlanes (effect_of work) }
         ensures register { self.new.register
             ≡ register_after (effect_of work) self.old.array_page self.old.queue.items self.old.held.items self.old.register }
         ensures held { self.new.held.items
-            ≡ held_after (effect_of work) self.old.array_page self.old.queue.items self.old.held.items }
+            ≡ held_after (effect_of work) self.old.copying self.old.array_page self.old.queue.items self.old.held.items }
         ensures array_page { self.new.array_page ≡ array_page_after (effect_of work) self.old.array_page }
         ensures busy { self.new.busy ≡ busy_after (effect_of work) self.old.busy }
         ensures caching { self.new.caching ≡ caching_after (effect_of work) self.old.caching }
+        ensures copying { self.new.copying ≡ copying_after (effect_of work) self.old.copying }
         ensures array_busy { self.new.array_busy
             ≡ array_busy_after (effect_of work) self.old.busy self.old.caching self.old.array_busy }
         ensures queue { self.new.queue.items ≡ queue_with work self.old.queue.items }
@@ -80,9 +109,11 @@ impl Activity {
         apply_to_held(
             &mut self.held,
             effect,
+            self.copying,
             self.array_page,
             self.queue.as_slice(),
         );
+        self.copying = copying_after(effect, self.copying);
         self.array_page = effect.array_page_after(self.array_page);
         self.busy = effect.busy_after(self.busy);
         self.closed = work.join(&mut self.queue);
@@ -95,6 +126,7 @@ impl Activity {
         ensures array_page { self.new.array_page ≡ self.old.array_page }
         ensures busy { self.new.busy ≡ false }
         ensures caching { self.new.caching ≡ self.old.caching }
+        ensures copying { self.new.copying ≡ self.old.copying }
         ensures array_busy { self.new.array_busy
             ≡ array_busy_after (BecameReady fail) self.old.busy self.old.caching self.old.array_busy }
         ensures queue { self.new.queue.items ≡ (if self.old.closed then [] else self.old.queue.items) }

@@ -3,7 +3,7 @@ ghost use Rattle.std.specs.Prelude.{◌≡◌, ℕ, ◌+◌, ◌%◌, ◌<◌, �
 ghost use Rattle.nand_geometry.specs.Limits.{page_len, planes};
 ghost use Rattle.onfi_cycle.specs.declared.effect.Effect.TheVariants.{BecameReady, ArrayBecameReady, PlaneSelected};
 ghost use Rattle.onfi_cycle.specs.declared.filling.Filling.TheVariants.{Leaves};
-ghost use Rattle.die_model.specs.Standing.{WorkedBy, CanWork};
+ghost use Rattle.die_model.specs.Standing.{WorkedBy, CanWork, kept_held};
 ghost use Rattle.nand_geometry.specs.Page.{parameter_bytes};
 ghost use Rattle.onfi_cycle.specs.declared.page_address.PageAddress.{PageAddress as At};
 ghost use Rattle.die_model.specs.Die.{page_to_keep, is_program};
@@ -46,7 +46,7 @@ impl<A: Allocator> Model for LunDie<A> {
 
     ghost Value = { Die };
 
-    ghost view = { λ d. die_with d.geometry d.pages d.planes.items d.activity.register d.activity.held.items d.activity.array_page d.activity.busy d.activity.caching d.activity.array_busy d.activity.queue.items d.activity.closed d.activity.failed };
+    ghost view = { λ d. die_with d.geometry d.pages d.planes.items d.activity.register d.activity.held.items d.activity.array_page d.activity.busy d.activity.caching d.activity.copying d.activity.array_busy d.activity.queue.items d.activity.closed d.activity.failed };
 
     ghost invariant = { λ d. KeepsDie d.geometry d.parameters.items d.pages d.planes.items d.activity.queue.items d.activity.closed d.activity.busy d.activity.register d.activity.held.items d.output };
 }
@@ -93,6 +93,18 @@ fn registers<A: Allocator + Copy>(
     Ok(all)
 }
 
+// The bytes of a page.
+fn fetch_page<A: Allocator + Copy>(into: &mut Page<A>, pages: &Pages<A>, at: PageAddress)
+    requires { (at : At) (bytes : List ℕ) → kept pages.now at ≡ Some bytes → length bytes ≡ length into.old }
+    ensures page { into.new ≡ page_in (length into.old) pages.now at }
+    ensures width { length into.new ≡ length into.old }
+{
+    match pages.get(at) {
+        Some(page) => into.copy_from(page.bytes()),
+        None => into.clear(),
+    }
+}
+
 // The bytes of the page that a register holds, if it holds one.
 fn fetch<A: Allocator + Copy>(output: &mut Page<A>, pages: &Pages<A>, register: Register)
     requires { (at : At) (bytes : List ℕ) → kept pages.now at ≡ Some bytes → length bytes ≡ length output.old }
@@ -100,10 +112,7 @@ fn fetch<A: Allocator + Copy>(output: &mut Page<A>, pages: &Pages<A>, register: 
     ensures width { length output.new ≡ length output.old }
 {
     if let Register::Page(at) = register {
-        match pages.get(at) {
-            Some(page) => output.copy_from(page.bytes()),
-            None => output.clear(),
-        }
+        fetch_page(output, pages, at);
     }
 }
 
@@ -139,6 +148,7 @@ impl<A: Allocator + Copy> LunDie<A> {
                 array_page: PageAddress { block: 0, page: 0 },
                 busy: false,
                 caching: false,
+                copying: false,
                 array_busy: false,
                 queue: ArrayVec::new(),
                 closed: false,
@@ -257,6 +267,7 @@ impl<A: Allocator + Copy> LunDie<A> {
         !self.activity.busy
             && !self.activity.array_busy
             && !self.activity.caching
+            && !self.activity.copying
             && self.activity.register == Register::Empty
             && self.activity.held.is_empty()
             && self.activity.queue.is_empty()
@@ -369,6 +380,23 @@ impl<A: Allocator + Copy> LunDie<A> {
         register.clear();
     }
 
+    // Fills the register of a plane with the bytes of a page.
+    fn copy_page(&mut self, plane: usize, from: PageAddress)
+        requires { plane < planes self.old.geometry }
+        ensures { self.new ≡ record self.old { planes = slice_set self.old.planes plane (page_of self.old from) } }
+    {
+        fetch_page(&mut self.planes[plane], &self.pages, from);
+    }
+
+    // The last row cycle of a Page Program has come: its plane registers hold no page.
+    fn release(&mut self, effect: Effect)
+        ensures { self.new ≡ record self.old { held = kept_held effect self.old.held } }
+    {
+        if matches!(effect, Effect::ProgramAddressed) {
+            self.activity.held.clear();
+        }
+    }
+
     /// Sets one byte of the register of a plane.
     pub fn fill(&mut self, plane: usize, column: usize, byte: u8)
         requires plane { plane < planes self.old.geometry }
@@ -409,7 +437,10 @@ impl<A: Allocator + Copy> LunDie<A> {
             return Ok(());
         }
         match Work::begun_by(effect) {
-            None => Ok(()),
+            None => {
+                self.release(effect);
+                Ok(())
+            }
             Some(work) => self.begin(work),
         }
     }
@@ -425,6 +456,12 @@ impl<A: Allocator + Copy> LunDie<A> {
             Filling::Leaves => self.take(effect),
             Filling::Clears(at) => {
                 self.clear(plane_of(self.geometry().parts(), at));
+                self.release(effect);
+                Ok(())
+            }
+            Filling::Copies(at, from) => {
+                self.copy_page(plane_of(self.geometry().parts(), at), from);
+                self.release(effect);
                 Ok(())
             }
             Filling::Fills(at, column, byte) => {

@@ -9,6 +9,8 @@ use onfi_cycle::{Effect, PageAddress, Queued, RowQueue};
 pub enum Work {
     /// A page is read into the register, and those of the queue with it.
     Read(PageAddress),
+    /// A page is read for a copyback, and those of the queue with it, by a LUN of so many planes.
+    Copyback { page: PageAddress, planes: u32 },
     /// The register of its plane goes into a page, and the queue with it.
     Program(PageAddress),
     /// The block of this row is erased, and the queue goes with it.
@@ -43,6 +45,10 @@ impl Work {
         match effect {
             Effect::ReadStarted { page, .. } => Some(Work::Read(page)),
             Effect::ReadQueued { page } => Some(Work::Queue(Queued::Read(page))),
+            Effect::CopybackReadStarted { page, planes, .. } => Some(Work::Copyback {
+                page,
+                planes,
+            }),
             Effect::ProgramStarted {
                 queued: false,
                 page,
@@ -71,6 +77,11 @@ impl Work {
     {
         match self {
             Work::Read(page) => Effect::ReadStarted { page, column: 0 },
+            Work::Copyback { page, planes } => Effect::CopybackReadStarted {
+                page,
+                column: 0,
+                planes,
+            },
             Work::Program(page) => Effect::ProgramStarted {
                 queued: false,
                 page,
@@ -120,7 +131,7 @@ impl Work {
                 queue.insert(0, row);
                 false
             }
-            Work::Read(_) | Work::Reset => {
+            Work::Read(_) | Work::Copyback { .. } | Work::Reset => {
                 queue.clear();
                 false
             }

@@ -24,10 +24,15 @@ fn row_of(bytes: [u8; 3]) -> u32 {
     u32::from(low) + 256 * u32::from(middle) + 65_536 * u32::from(high)
 }
 
+// An operation of which the model knows nothing. A copyback is one where it isn't permitted.
+fn is_outside(operation: Operation) -> bool {
+    operation.is_foreign() && operation.opener() != Some(0x85)
+}
+
 impl ArrayWork {
     /// That of an operation of the profile whose work has begun, if it has one.
     pub(crate) fn of(geometry: &Geometry, operation: Operation) -> Option<ArrayWork> {
-        if operation.is_foreign() || !operation.is_permitted {
+        if is_outside(operation) || !operation.is_permitted {
             return None;
         }
         let [first, second, third, fourth, fifth] = operation.addresses;
@@ -41,7 +46,7 @@ impl ArrayWork {
                 let (block, _) = place_of(operation.ce, row);
                 Some(ArrayWork::Erase(block))
             }
-            (Some(0x80), Some(_), 5) => {
+            (Some(0x80 | 0x85), Some(_), 5) => {
                 let row = geometry.parts_of(row_of([third, fourth, fifth]));
                 let (block, page) = place_of(operation.ce, row);
                 Some(ArrayWork::Program { block, page })

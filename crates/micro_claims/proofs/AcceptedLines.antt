@@ -5,7 +5,7 @@ use Rattle.std.proofs.lemmas.Bool.{and_parts, or_parts}
 use Rattle.nand_geometry.specs.declared.parts.Parts.{Parts}
 use Rattle.nand_geometry.specs.Limits.{indices}
 use Rattle.onfi_cycle.specs.declared.command.Command.{Command}
-use Rattle.onfi_cycle.specs.declared.command.Command.TheVariants.{Read, ReadConfirm, ChangeReadColumn, ChangeReadColumnEnhanced, ChangeReadColumnConfirm, BlockErase, BlockEraseConfirm, PageProgram, ChangeWriteColumn, ProgramConfirm, BlockErasePlane, ProgramPlane, Reset, ReadId, ReadParameterPage, ReadCacheSequential, ReadCacheEnd, ReadUniqueId, GetFeatures, SetFeatures, ResetLun, SynchronousReset, ReadStatus as AskStatus, ReadStatusEnhanced, ReadPlane}
+use Rattle.onfi_cycle.specs.declared.command.Command.TheVariants.{Read, ReadConfirm, ChangeReadColumn, ChangeReadColumnEnhanced, ChangeReadColumnConfirm, BlockErase, BlockEraseConfirm, PageProgram, ChangeWriteColumn, ProgramConfirm, BlockErasePlane, ProgramPlane, Reset, ReadId, ReadParameterPage, ReadCacheSequential, ReadCacheEnd, ReadUniqueId, GetFeatures, SetFeatures, ResetLun, SynchronousReset, ReadStatus as AskStatus, ReadStatusEnhanced, ReadPlane, CopybackRead}
 use Rattle.onfi_cycle.specs.declared.item.Item.{Item}
 use Rattle.onfi_cycle.specs.Command.{command, wants_one_lun}
 use Rattle.onfi_cycle.specs.Sequence.{tail, facts_of, is_open}
@@ -20,13 +20,16 @@ use Rattle.micro_program.specs.Program.{Job, Done}
 use Rattle.micro_program.specs.Step.{Stride, answered_step}
 use Rattle.micro_program.specs.Safe.{Seat, loaded, after_step, IsSafe, IsJobOf, IsFine, LineIsFine, may_step, AreTruthful}
 use Rattle.micro_claims.specs.State.{State, Closed, any_but_31, first_state, bounds_of}
-use Rattle.micro_claims.specs.Against.{is_for_traces, command_not_for_programs, continues_unseen, is_unfit}
+use Rattle.micro_claims.specs.Against.{asks_status, is_for_traces, command_not_for_programs, continues_unseen, is_unfit}
 use Rattle.micro_claims.specs.Reasons.{breaks_command_not_allowed, reason_against}
 use Rattle.micro_claims.specs.Accepts.{state_after, goes_on, accepts}
 use Rattle.micro_program.proofs.Below.{rows}
 use Rattle.micro_program.proofs.Basics.{there_lun}
 use Rattle.micro_program.proofs.Claiming.{stays_fine}
-use Rattle.micro_program.proofs.Scenes.{Scene, IsScene}
+use Rattle.onfi_cycle.specs.Bounds.{names_program}
+use Rattle.onfi_cycle.proofs.Booleans.{clash}
+use Rattle.micro_program.proofs.Scenes.{Scene, SceneIs, IsScene}
+use Rattle.micro_program.proofs.NoCopies.{names_none, copies_first}
 use Rattle.micro_claims.proofs.Fits.{closer_among, Fits}
 use Rattle.micro_claims.proofs.HeldPlanes.{no_pages}
 use Rattle.micro_claims.proofs.Numbers.{in_exactly}
@@ -74,6 +77,12 @@ asked : (a b c : Bool) → (a || true || b || c) ≡ false → ⊥
 asked true b c h = cc
 asked false b c h = cc
 
+-- a command for traces isn't for programs
+traced : (a b c : Bool) → (a || b || true || c) ≡ false → ⊥
+traced true b c h = cc
+traced false true c h = cc
+traced false false c h = cc
+
 which : (g : Parts) (d : Command) → command_not_for_programs g d ≡ false → Taken d
 which g Read h = Is00 refl
 which g ReadConfirm h = Is30 refl
@@ -100,6 +109,7 @@ which g AskStatus h = absurd (asked (is_unfit g AskStatus) (is_for_traces AskSta
 which g ReadStatusEnhanced h = absurd (asked (is_unfit g ReadStatusEnhanced) (is_for_traces ReadStatusEnhanced) (wants_one_lun ReadStatusEnhanced && ltb 1 g.luns) h)
 which g ChangeReadColumnEnhanced h = Is06 refl
 which g ReadPlane h = Is32 refl
+which g CopybackRead h = absurd (traced (is_unfit g CopybackRead) (asks_status CopybackRead) (wants_one_lun CopybackRead && ltb 1 g.luns) h)
 which g _ h = cc
 
 taken_command : (g : Parts) (text : Microprogram) (v : State) (byte : ℕ) → NoReasons g text v (CommandWord byte) → Taken (command byte)
@@ -169,28 +179,32 @@ word_sound s j v past done rest at (Jump target) h = sound_jump s j h.k v past h
 
 -- 2. at a seat
 
--- where the next word may be stepped, what is claimed of the tail is claimed
-settled : (s : Channel) (j : Job) (seat : Seat) (c : Claims s j seat) → may_step j seat ≡ true → Fits s.geometry j c.claim seat.done c.scene true
-settled s j seat c may = at (knows_tail s seat c.scene) refl
+-- where another LUN may have the bus and the next word may be stepped, nothing is open
+shut_there : (s : Channel) (j : Job) (seat : Seat) (c : Claims s j seat) → may_step j seat ≡ true → knows_tail s seat c.scene ≡ false → is_open c.scene.facts ≡ false
+shut_there s j seat c may e =
+    let open_is : is_open_on seat.past j.lun.ce ≡ is_open c.scene.facts = ap is_open c.is.facts in
+    shut seat.holding (not (ltb 1 s.geometry.luns)) (is_open c.scene.facts) e (ap (λ (b : Bool). seat.holding || not b) (sym open_is) ∙ may)
   where
     shut : (h n o : Bool) → (h || (n && not o)) ≡ false → (h || not o) ≡ true → o ≡ false
     shut true n o e m = cc
     shut false n true e m = cc
     shut false n false e m = refl
 
+-- where the next word may be stepped, what is claimed of the tail is claimed
+settled : (s : Channel) (j : Job) (seat : Seat) (c : Claims s j seat) → may_step j seat ≡ true → Fits s.geometry j c.claim seat.done c.scene true
+settled s j seat c may = at (knows_tail s seat c.scene) refl
+  where
     at : (b : Bool) → knows_tail s seat c.scene ≡ b → Fits s.geometry j c.claim seat.done c.scene true
     at true e = subst (λ (b : Bool). Fits s.geometry j c.claim seat.done c.scene b) e c.fits
     at false e =
         let free = c.fits.free e in
-        let open_is : is_open_on seat.past j.lun.ce ≡ is_open c.scene.facts = ap is_open c.is.facts in
-        let closed : is_open c.scene.facts ≡ false = shut seat.holding (not (ltb 1 s.geometry.luns)) (is_open c.scene.facts) e (ap (λ (b : Bool). seat.holding || not b) (sym open_is) ∙ may) in
         record {
           registers = c.fits.registers;
           tail = λ x. record {
             place = Closed;
             here = free.tail;
             address = no_address;
-            is = closed;
+            is = shut_there s j seat c may e;
             now = λ y. cc;
             column = λ y. cc;
             row = λ y. cc;
@@ -200,6 +214,25 @@ settled s j seat c may = at (knows_tail s seat c.scene) refl
           free = λ x. cc;
           shows = c.fits.shows;
           lun = c.fits.lun;
+        }
+
+-- and so is the scene
+settled_scene : (s : Channel) (j : Job) (seat : Seat) (c : Claims s j seat) → may_step j seat ≡ true → IsScene s j.lun seat.past c.scene
+settled_scene s j seat c may = at (knows_tail s seat c.scene) refl
+  where
+    at : (b : Bool) → knows_tail s seat c.scene ≡ b → IsScene s j.lun seat.past c.scene
+    at true e = subst (λ (b : Bool). SceneIs s j.lun seat.past c.scene b) e c.is
+    at false e =
+        record {
+          facts = c.is.facts;
+          view = c.is.view;
+          sole = c.is.sole;
+          free = c.is.free;
+          copies = record {
+            read = c.is.copies.read;
+            queued = c.is.copies.queued;
+            program = λ x named. absurd (clash (names_program c.scene.facts) named (names_none c.scene.facts (shut_there s j seat c may e)));
+          };
         }
 
 -- an accepted line
@@ -225,7 +258,7 @@ fine_lines s j k v past c done [] scene f h = cc
 fine_lines s j k v past c done (line ∷ rest) scene f h = (line_sound s j k v past c done line rest scene f h).fine
 
 fine_here : (s : Channel) (j : Job) (k : KnownJob s j) (seat : Seat) → Claims s j seat → may_step j seat ≡ true → IsFine s j seat
-fine_here s j k seat c may = fine_lines s j k c.claim seat.past c.scene seat.done seat.ahead c.is (settled s j seat c may) c.accepted
+fine_here s j k seat c may = fine_lines s j k c.claim seat.past c.scene seat.done seat.ahead (settled_scene s j seat c may) (settled s j seat c may) c.accepted
 
 -- what the step of a sound word leaves is claimed
 Keeps : (s : Channel) (j : Job) (past : List Item) (done : List Done) (ahead : List Line) → Type 0
@@ -245,7 +278,7 @@ lines_keep s j k v past c done (line ∷ rest) scene f h = line_keeps s j past d
 
 step_keeps : (s : Channel) (j : Job) (k : KnownJob s j) (seat : Seat) (bytes : List ℕ) (r : Stride) → Claims s j seat → may_step j seat ≡ true → answered_step s.geometry j bytes seat.past seat.ahead seat.done ≡ Some r → AreTruthful s.geometry j.lun seat.past seat.ahead bytes → r.code ≡ None → Claims s j (after_step r)
 unfolding Keeps
-step_keeps s j k seat bytes r c may e true_bytes code = lines_keep s j k c.claim seat.past c.scene seat.done seat.ahead c.is (settled s j seat c may) c.accepted bytes r e true_bytes code
+step_keeps s j k seat bytes r c may e true_bytes code = lines_keep s j k c.claim seat.past c.scene seat.done seat.ahead (settled_scene s j seat c may) (settled s j seat c may) c.accepted bytes r e true_bytes code
 
 -- 3. at first
 
@@ -261,7 +294,13 @@ first_fits s j past idle accepted =
     record {
       claim = first_state;
       scene = scene;
-      is = record { facts = refl; view = refl; sole = λ e. cc; free = idle.free };
+      is = record {
+        facts = refl;
+        view = refl;
+        sole = λ e. cc;
+        free = idle.free;
+        copies = copies_first scene.facts scene.view _ idle.no_queue (open_not (ltb 1 s.geometry.luns) (is_open (facts_of (tail past j.lun.ce))));
+      };
       fits = record {
         registers = record {
           column = in_exactly 0;

@@ -36,7 +36,7 @@ use Rattle.onfi_cycle.proofs.Booleans.{and_rest}
 use Rattle.micro_claims.specs.Spans.{Span}
 use Rattle.micro_claims.specs.Planes.{Planes, has_plane, are_planes_within}
 use Rattle.micro_claims.specs.State.{NoRows, other_closer, closed, State, Registers, KnownTarget, KnownLun, NamedRow, Place, Closed, After, InData, InColumn, InFeatures, Shown, Held, bounds_of, Unknown, shows_status, holds_identifier, holds_identity, holds_jedec, holds_feature, LastCloser, may_be_31}
-use Rattle.micro_claims.specs.Against.{holds_short, is_unfit, may_end_sequence, closer_refused, drives, may_be_open, command_out_of_place, opener_refused, place_wants, selects_plane_at, shows_only_data, has_page_or_parameters, reads_cache_at}
+use Rattle.micro_claims.specs.Against.{holds_short, is_unfit, may_end_sequence, closer_refused, drives, may_be_open, command_out_of_place, opener_refused, place_wants, selects_plane_at, shows_only_data, has_page_or_parameters, goes_on_at}
 use Rattle.micro_claims.specs.Reasons.{breaks_cycle_forbidden}
 use Rattle.micro_claims.specs.Leaves.{paid, with_registers, resumed_shows, data_shown, opened_by, work_started, given_at, may_be_reads, page_register, cached_at, shows_after_read, read_started, register_selected, column_changed, command_leaves}
 use Rattle.micro_claims.specs.Accepts.{state_after, accepts}
@@ -184,11 +184,11 @@ pub record Wanted (g : Parts) (v : State) (d : Command) : Type 0 where
   pub places : place_wants d v.target.tail ≡ true
   pub not_refused : closer_refused g v d ≡ false
 
-pub wanted : (g : Parts) (text : Microprogram) (v : State) (byte : ℕ) (d : Command) → command byte ≡ d → is_unfit g d ≡ false → (is_opener d && not (reads_cache_at d v.target.tail)) ≡ false → NoReasons g text v (CommandWord byte) → Wanted g v d
+pub wanted : (g : Parts) (text : Microprogram) (v : State) (byte : ℕ) (d : Command) → command byte ≡ d → is_unfit g d ≡ false → (is_opener d && not (goes_on_at d v.target.tail)) ≡ false → NoReasons g text v (CommandWord byte) → Wanted g v d
 wanted g text v byte d is fit closer clear =
     let free = (not (may_end_sequence g d) && may_be_open v) || opener_refused g v d in
     let all = not (place_wants d v.target.tail) || closer_refused g v d in
-    let fitting = subst (λ (b : Bool). cond b false (cond (is_opener d && not (reads_cache_at d v.target.tail)) free all) ≡ false) fit (out_of_place g text v byte d is clear) in
+    let fitting = subst (λ (b : Bool). cond b false (cond (is_opener d && not (goes_on_at d v.target.tail)) free all) ≡ false) fit (out_of_place g text v byte d is clear) in
     let closing = subst (λ (b : Bool). cond b free all ≡ false) closer fitting in
     let both = or_parts (not (place_wants d v.target.tail)) (closer_refused g v d) closing in
     record { places = not-false _ both.0; not_refused = both.1 }
@@ -410,7 +410,7 @@ changes_column (After o n) h = let both = and_parts (closes o ChangeWriteColumn)
 
 behind_85 : (t : TailFacts) (a : Address) → t.phase ≡ Inputs → t.row ≡ record { r1 = a.r1; r2 = a.r2; r3 = a.r3 } → t.is_empty ≡ false → ColumnBegun 0 a (facts_after (CommandCycle ChangeWriteColumn) t)
 behind_85 t a phase row begun =
-    record { few = omega arith; alone = rw begun refl; program = record { phase = rw (begun, phase) refl; row = rw begun row; begun = rw begun refl }; column = λ e. absurd (omega (arith, e)) }
+    record { few = omega arith; alone = rw (begun, phase) refl; program = record { phase = rw (begun, phase) refl; row = rw (begun, phase) row; begun = rw (begun, phase) refl }; column = λ e. absurd (omega (arith, e)) }
 
 pub sound_85 : (s : Channel) (j : Job) (k : KnownJob s j) (v : State) (past : List Item) (c : Scene) (done : List Done) (rest : List Line) (at byte : ℕ) → command byte ≡ ChangeWriteColumn → IsScene s j.lun past c → Fits s.geometry j v done c true → NoReasons s.geometry j.text v (CommandWord byte) → accepts s.geometry (bounds_of j.text) None (state_after s.geometry v (CommandWord byte)) rest ≡ true → SoundWord s j past done rest at (CommandWord byte)
 sound_85 s j k v past c done rest at byte is scene f clear acc =

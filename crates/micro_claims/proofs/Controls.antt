@@ -25,7 +25,7 @@ use Rattle.micro_claims.specs.Leaves.{with_registers, paid, status_shown, unread
 use Rattle.micro_claims.specs.Accepts.{state_after, accepts}
 use Rattle.micro_program.proofs.Polls.{Polling, polling, own_poll, poll_leaves, one_answer, after_output, lost}
 use Rattle.micro_program.proofs.Tracking.{answered_parts, quiet_step}
-use Rattle.micro_program.proofs.Scenes.{Scene, IsScene}
+use Rattle.micro_program.proofs.Scenes.{Scene, IsScene, scene_is}
 use Rattle.micro_program.proofs.PollScenes.{polled_view, PolledScene, poll_scene}
 use Rattle.micro_claims.proofs.Fits.{RowsFit, latch_among, Below, RegistersFit, TailFits, LunFits, OutputColumnFits, Fits, is_unread, Now, now_of}
 use Rattle.micro_claims.proofs.Tails.{closed_tail, closed_fits}
@@ -113,7 +113,7 @@ sound_stat s j k v past c done rest at scene f clear acc =
           (record {
             claim = state_after s.geometry v ReadStatus;
             scene = behind.now;
-            is = behind.is;
+            is = scene_is s j.lun _ behind.now _ behind.is;
             fits = poll_fits s j v done (record { word = ReadStatus; answer = Polled one.byte } ∷ done) _ c behind (record v.lun { column = unread v.lun.column }) _
                 (unmoved s.geometry j v v.registers.place true done ReadStatus (Polled one.byte) f.registers clear (record { column = λ n. refl; plane = λ n. refl; index = λ b n. refl }) f.registers.place)
                 (poll_lun s.geometry j v.lun (index_now j.base done) c.view behind.selected behind.overlapped f.lun);
@@ -217,7 +217,7 @@ sound_wait s j k v past c done rest at scene f clear acc =
         (record {
           claim = state_after s.geometry v Wait;
           scene = (behind byte).now;
-          is = (behind byte).is;
+          is = scene_is s j.lun _ (behind byte).now _ (behind byte).is;
           fits = poll_fits s j v done (record { word = Wait; answer = Polled byte } ∷ done) _ c (behind byte) (record v.lun { busy = false; column = unread v.lun.column }) _
               (unmoved s.geometry j v v.registers.place true done Wait (Polled byte) f.registers clear (record { column = λ n. refl; plane = λ n. refl; index = λ b n. refl }) f.registers.place)
               (found_ready_lun s.geometry j (record v.lun { column = unread v.lun.column }) (index_now j.base done) (polled_view (behind byte).selected (behind byte).overlapped c.view) (poll_lun s.geometry j v.lun (index_now j.base done) c.view (behind byte).selected (behind byte).overlapped f.lun) ready);
@@ -228,7 +228,7 @@ sound_wait s j k v past c done rest at scene f clear acc =
         (record {
           claim = waiting_where (ltb 1 s.geometry.luns) v;
           scene = (behind byte).now;
-          is = (behind byte).is;
+          is = scene_is s j.lun _ (behind byte).now _ (behind byte).is;
           fits = subst (λ (x : Bool). Fits s.geometry j (waiting_where (ltb 1 s.geometry.luns) v) done (behind byte).now x) (sym (closed_knows (ltb 1 s.geometry.luns) (behind byte).now (behind byte).closed)) (waiting_fits s j v done _ c (behind byte) f (ltb 1 s.geometry.luns) refl);
           accepted = waiting_accepted s.geometry j.text v (ltb 1 s.geometry.luns) rest at acc;
         })
@@ -293,7 +293,7 @@ sound_yield s j k v past c done rest at scene f clear acc =
           (record {
             claim = yielded several v;
             scene = c;
-            is = scene;
+            is = scene_is s j.lun past c _ scene;
             fits = subst (λ (x : Bool). Fits s.geometry j (yielded several v) (record { word = Yield; answer = Nothing } ∷ done) c x) (sym (closed_knows several c shut)) (yield_fits s j v done Nothing c f clear several);
             accepted = ap (λ (x : State). accepts s.geometry (bounds_of j.text) None x rest) (sym leaves) ∙ acc;
           });
@@ -367,7 +367,7 @@ sound_jump s j k v past c done rest at target scene f clear acc =
           (record {
             claim = state_after s.geometry v (Jump target);
             scene = c;
-            is = scene;
+            is = scene_is s j.lun past c _ scene;
             fits = branch_fits s j v done (Jump target) Nothing c f clear (record { column = λ n. refl; plane = λ n. refl; index = λ b n. refl }) refl refl;
             accepted = sym (left_out s.geometry j.text target (state_after s.geometry v (Jump target)) rest) ∙ acc;
           });
@@ -382,7 +382,7 @@ sound_branch s j k v past c done rest at mask target scene f clear acc taken =
           (record {
             claim = state_after s.geometry v (BranchOnStatus mask target);
             scene = c;
-            is = scene;
+            is = scene_is s j.lun past c _ scene;
             fits = branch_fits s j v done (BranchOnStatus mask target) Nothing c f clear (record { column = λ n. refl; plane = λ n. refl; index = λ b n. refl }) refl refl;
             accepted = either (meets mask (status_now done));
           });

@@ -18,7 +18,7 @@ use Rattle.onfi_cycle.specs.declared.page_address.PageAddress.{PageAddress}
 use Rattle.onfi_cycle.specs.Effect.{is_off}
 use Rattle.onfi_cycle.specs.LunView.{LunView}
 use Rattle.onfi_cycle.specs.Sequence.{tail, facts_of}
-use Rattle.onfi_cycle.specs.Lun.{latch, latch_after, drivers, is_only, lun_view, busy_after, is_busy, is_array_busy, closer, closer_after, array_page, array_page_after, register, register_after, read_column, read_column_after, queue, queue_after, held, held_after, effect_among}
+use Rattle.onfi_cycle.specs.Lun.{latch, latch_after, drivers, is_only, lun_view, busy_after, is_busy, is_array_busy, closer, closer_after, array_page, array_page_after, register, register_after, read_column, read_column_after, queue, queue_after, held, held_after, is_copyback_read, effect_among}
 use Rattle.onfi_cycle.specs.OtherLun.{KeepsLun, KeepsTarget, IsSameOrLost}
 use Rattle.onfi_cycle.specs.Permitted.{is_legal}
 use Rattle.onfi_cycle.specs.Channel.{Channel, IsOwn, same_lun, is_there, is_cycle, is_serving}
@@ -27,7 +27,8 @@ use Rattle.micro_program.specs.Safe.{Seat, after_item}
 use Rattle.micro_claims.specs.State.{KnownLun, OutputColumn, Shown}
 use Rattle.micro_program.proofs.Below.{readies, own_cycles, targets, service}
 use Rattle.micro_program.proofs.Basics.{there_lun}
-use Rattle.micro_program.proofs.Scenes.{Scene}
+use Rattle.micro_program.proofs.Scenes.{Scene, SceneIs}
+use Rattle.micro_program.proofs.NoCopies.{copies_moved, copies_beside}
 use Rattle.micro_program.proofs.Stepping.{drivers_same}
 use Rattle.micro_claims.proofs.Fits.{RegisterFits, RowsFit, closer_among, latch_among, Below, ShowsFit, OutputFits, OutputColumnFits, HavePages, LunFits, is_unread}
 use Rattle.micro_claims.proofs.Sounding.{KnownJob, Claims, knows_tail}
@@ -88,7 +89,7 @@ ready_leaves g past (Rdy ce lun fail) l h =
     at_queue true = refl
     at_queue false = refl
 
-    at_held : (b : Bool) → held_after (cond b (BecameReady fail) Unaffected) (array_page g past l) (queue g past l) (held g past l) ≡ held g past l
+    at_held : (b : Bool) → held_after (cond b (BecameReady fail) Unaffected) (is_copyback_read (closer g past l)) (array_page g past l) (queue g past l) (held g past l) ≡ held g past l
     at_held true = refl
     at_held false = refl
 ready_leaves g past (Ard ce lun) l h =
@@ -127,7 +128,7 @@ ready_leaves g past (Ard ce lun) l h =
     at_queue true = refl
     at_queue false = refl
 
-    at_held : (b : Bool) → held_after (cond b ArrayBecameReady Unaffected) (array_page g past l) (queue g past l) (held g past l) ≡ held g past l
+    at_held : (b : Bool) → held_after (cond b ArrayBecameReady Unaffected) (is_copyback_read (closer g past l)) (array_page g past l) (queue g past l) (held g past l) ≡ held g past l
     at_held true = refl
     at_held false = refl
 
@@ -166,6 +167,11 @@ ready_kept s j seat i c h =
         view = refl;
         sole = λ e. ap (λ (ds : List ℕ). is_only ds l.lun) same ∙ c.is.sole e;
         free = service.readies g seat.past i l.ce h c.is.free;
+        copies = copies_moved c.scene.facts c.scene.view (lun_view g (i ∷ seat.past) l) (knows_tail s seat c.scene)
+            (left.closer ∙ ap (λ (v : LunView). v.closer) was)
+            (left.queue ∙ ap (λ (v : LunView). v.queue) was)
+            (left.held ∙ ap (λ (v : LunView). v.held) was)
+            c.is.copies;
       };
       fits = record {
         registers = c.fits.registers;
@@ -208,10 +214,21 @@ here_kept s j k seat c kept claims free several rests =
     record {
       claim = claims.claim;
       scene = now;
-      is = record { facts = refl; view = refl; sole = λ e. cc; free = rests };
+      is = subst (λ (b : Bool). SceneIs s l (Cyc c ∷ seat.past) now b) (sym (unknown_behind now))
+          (record {
+            facts = refl;
+            view = refl;
+            sole = λ e. cc;
+            free = rests;
+            copies = copies_beside now.facts claims.scene.view now.view (knows_tail s seat claims.scene)
+                (kept.closer ∙ ap (λ (v : LunView). v.closer) was)
+                (kept.queue ∙ ap (λ (v : LunView). v.queue) was)
+                (kept.held ∙ ap (λ (v : LunView). v.held) was)
+                claims.is.copies;
+          });
       fits = record {
         registers = claims.fits.registers;
-        tail = λ e. let none : knows_tail s (after_item (Cyc c) seat) now ≡ false = rw (free, several) refl in cc;
+        tail = λ e. let none = unknown_behind now in cc;
         free = λ e. is_free;
         shows = subst (λ (o : Option Shown). ShowsFit o now) (sym is_free.shows) tt;
         lun = moved_view g j claims.claim.lun (index_now j.base seat.done) claims.scene.view (lun_view g (Cyc c ∷ seat.past) l)
@@ -226,6 +243,9 @@ here_kept s j k seat c kept claims free several rests =
       };
       accepted = claims.accepted;
     }
+  where
+    unknown_behind : (now : Scene) → knows_tail s (after_item (Cyc c) seat) now ≡ false
+    unknown_behind now = rw (free, several) refl
 
 -- a LUN of another target
 -- a cycle of another target leaves all of a LUN
@@ -248,6 +268,7 @@ there_kept s j seat c apart rests kept array claims =
         view = view ∙ claims.is.view;
         sole = λ e. ap (λ (ds : List ℕ). is_only ds l.lun) same ∙ claims.is.sole e;
         free = rests;
+        copies = claims.is.copies;
       };
       fits = claims.fits;
       accepted = claims.accepted;

@@ -28,7 +28,7 @@ use Rattle.micro_program.specs.Lines.{Line}
 use Rattle.micro_claims.specs.Spans.{bound_plus, is_at_most}
 use Rattle.micro_claims.specs.Planes.{no_planes, either_plane}
 use Rattle.micro_claims.specs.State.{State, Place, Closed, After, InData, InColumn, InFeatures, NamedRow, Drift, QueuedRows, NoRows, SomeRows, SomeReads, AnyRows, LastCloser, bounds_of, Unknown, may_be_30, may_be_other}
-use Rattle.micro_claims.specs.Against.{may_end_sequence, opener_refused, closer_refused, is_unfit, asks_status, is_for_traces, command_not_for_programs, drives, may_be_open, place_wants, same_test, continues_unseen, reads_cache_at}
+use Rattle.micro_claims.specs.Against.{may_end_sequence, opener_refused, closer_refused, is_unfit, asks_status, is_for_traces, command_not_for_programs, drives, may_be_open, place_wants, same_test, continues_unseen, goes_on_at}
 use Rattle.micro_claims.specs.Reasons.{breaks_command_not_allowed}
 use Rattle.micro_claims.specs.Leaves.{work_started, rows_at, goes_along, queued_planes, queued_more, data_shown, reset_started, command_leaves, cache_read, next_cached, named_plane, cached_at, shows_after_read}
 use Rattle.micro_claims.specs.Accepts.{state_after, accepts}
@@ -150,11 +150,11 @@ sound_11 s j k v past c done rest at byte is scene f clear acc =
 
 -- 3. openers that are whole by themselves
 
-pub opener_free : (g : Parts) (text : Microprogram) (v : State) (byte : ℕ) (d : Command) → command byte ≡ d → is_unfit g d ≡ false → (is_opener d && not (reads_cache_at d v.target.tail)) ≡ true → NoReasons g text v (CommandWord byte) → ((not (may_end_sequence g d) && may_be_open v) || opener_refused g v d) ≡ false
+pub opener_free : (g : Parts) (text : Microprogram) (v : State) (byte : ℕ) (d : Command) → command byte ≡ d → is_unfit g d ≡ false → (is_opener d && not (goes_on_at d v.target.tail)) ≡ true → NoReasons g text v (CommandWord byte) → ((not (may_end_sequence g d) && may_be_open v) || opener_refused g v d) ≡ false
 opener_free g text v byte d is fit opener clear =
     let free = (not (may_end_sequence g d) && may_be_open v) || opener_refused g v d in
     let all = not (place_wants d v.target.tail) || closer_refused g v d in
-    let fitting = subst (λ (b : Bool). cond b false (cond (is_opener d && not (reads_cache_at d v.target.tail)) free all) ≡ false) fit (out_of_place g text v byte d is clear) in
+    let fitting = subst (λ (b : Bool). cond b false (cond (is_opener d && not (goes_on_at d v.target.tail)) free all) ≡ false) fit (out_of_place g text v byte d is clear) in
     subst (λ (b : Bool). cond b free all ≡ false) opener fitting
 
 -- a reset comes where nothing is open, or anywhere in the wider profile

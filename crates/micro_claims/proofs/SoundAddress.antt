@@ -11,7 +11,7 @@ use Rattle.nand_geometry.specs.Optional.{is_wide, has_plane_reads, has_free_bloc
 use Rattle.nand_geometry.specs.Limits.{InLimits, planes, page_len}
 use Rattle.nand_geometry.specs.Row.{row_of, row_bytes_of}
 use Rattle.onfi_cycle.specs.declared.command.Command.{Command}
-use Rattle.onfi_cycle.specs.declared.command.Command.TheVariants.{Read, ChangeReadColumn, ChangeReadColumnEnhanced, BlockErase, PageProgram, ReadId, ReadParameterPage, ReadUniqueId, GetFeatures, SetFeatures, ResetLun}
+use Rattle.onfi_cycle.specs.declared.command.Command.TheVariants.{Read, ChangeReadColumn, ChangeReadColumnEnhanced, BlockErase, PageProgram, ChangeWriteColumn, ReadId, ReadParameterPage, ReadUniqueId, GetFeatures, SetFeatures, ResetLun}
 use Rattle.onfi_cycle.specs.declared.data_phase.DataPhase.TheVariants.{Inputs, FirstColumn}
 use Rattle.onfi_cycle.specs.declared.item.Item.{Item}
 use Rattle.onfi_cycle.specs.declared.queued.Queued.{Queued}
@@ -26,18 +26,19 @@ use Rattle.onfi_cycle.specs.LunView.{LunView}
 use Rattle.onfi_cycle.specs.Command.{at_last_row, addresses_the_array, is_change_read_column, reads_identity}
 use Rattle.onfi_cycle.specs.Sequence.{opened, facts_after, column_with, input_column}
 use Rattle.onfi_cycle.specs.Effect.{page_address}
-use Rattle.onfi_cycle.specs.Lun.{is_queued_read}
+use Rattle.onfi_cycle.specs.declared.effect.Effect.TheVariants.{ProgramAddressed}
+use Rattle.onfi_cycle.specs.Lun.{is_queued_read, view_after}
 use Rattle.onfi_cycle.specs.Rules.{planes_clash, queued_clashes, some_queued_clashes, read_clashes, some_read_clashes, has_some, holds_plane_of, ends_row, second_of_page, second_column, refused_by, register_len, excludes_cache}
 use Rattle.onfi_cycle.specs.Channel.{Channel}
 use Rattle.micro_claims.specs.Spans.{bound_plus, is_at_most, copied}
 use Rattle.micro_claims.specs.Planes.{Planes, has_plane, share_a_plane, are_planes_within}
 use Rattle.micro_claims.proofs.Sets.{has_more}
-use Rattle.micro_claims.proofs.HeldPlanes.{plane_is, none_queued}
+use Rattle.micro_claims.proofs.HeldPlanes.{no_pages, plane_is, none_queued}
 use Rattle.micro_claims.proofs.PlaneSets.{none_common}
-use Rattle.micro_claims.specs.State.{Drift, NamedRow, Shown, Held, State, Place, Closed, After, InData, InColumn, InFeatures, QueuedRows, NoRows, SomeRows, SomeReads, AnyRows, bounds_of, Unknown, may_be_31}
+use Rattle.micro_claims.specs.State.{Drift, NamedRow, Shown, Held, State, KnownLun, Place, Closed, After, InData, InColumn, InFeatures, QueuedRows, NoRows, SomeRows, SomeReads, AnyRows, bounds_of, Unknown, may_be_31}
 use Rattle.micro_claims.specs.Against.{may_be_queued, plane_refused, is_read, is_erase, same_test, drives, least_length, takes_identity_at, address_out_of_place, begins_elsewhere, column_past, queue_refuses, row_refused, has_second_column, column_limit, is_inside_address}
 use Rattle.micro_claims.specs.Reasons.{breaks_cycle_forbidden, breaks_address_unaligned, breaks_row_or_plane_outside, breaks_column_too_large}
-use Rattle.micro_claims.specs.Leaves.{paid, with_registers, with_target, address_leads_to, target_after_addresses, name_now, address_leaves_at, after_few, column_leads_to}
+use Rattle.micro_claims.specs.Leaves.{paid, with_registers, without_pages, address_leads_to, target_after_addresses, name_now, address_leaves_at, after_few, column_leads_to}
 use Rattle.micro_claims.specs.Accepts.{state_after, accepts}
 use Rattle.micro_program.specs.Program.{Job, Done, column_now, plane_now, index_now}
 use Rattle.micro_program.specs.Lines.{Line}
@@ -51,7 +52,7 @@ use Rattle.micro_claims.proofs.Commands.{shows_kept, not_caching}
 use Rattle.micro_claims.proofs.Tails.{no_place}
 use Rattle.micro_claims.proofs.Words.{least_register}
 use Rattle.micro_claims.proofs.Sounding.{KnownJob, NoReasons, unmoved, SoundWord, plain_sound}
-use Rattle.micro_claims.proofs.AddressSteps.{Steps, many, carried, RowGoes, scene_at, read_steps, enhanced_steps, program_steps, erase_steps, column_steps, never}
+use Rattle.micro_claims.proofs.AddressSteps.{Steps, many, carried, RowGoes, scene_at, addressed_view, program_scene, read_steps, enhanced_steps, program_steps, erase_steps, column_steps, never}
 use Rattle.micro_claims.proofs.Addressing.{PlaceClear, place_clear, address_now, address_bytes, AddressNow, of_now, same_facts, same_bytes, carried_is}
 use Rattle.micro_claims.proofs.NamesNow.{named_now}
 
@@ -61,6 +62,7 @@ none_refuses : (g : Parts) (o : Command) (p : PageAddress) (queue : List Queued)
 none_refuses g Read p queue e = rw e refl
 none_refuses g BlockErase p queue e = rw e refl
 none_refuses g PageProgram p queue e = rw e refl
+none_refuses g ChangeWriteColumn p queue e = rw e refl
 none_refuses g _ p queue e = refl
 
 -- numbers of two parts
@@ -138,6 +140,8 @@ queue_goes g now (SomeRows erase queued d) queue regs o p plane f clear low amon
     by BlockErase false read kind clear = cc
     by PageProgram true read kind clear = cc
     by PageProgram false read kind clear = clear
+    by ChangeWriteColumn true read kind clear = cc
+    by ChangeWriteColumn false read kind clear = clear
     by _ e read kind clear = refl
 
 row_goes : (g : Parts) (j : Job) (v : State) (done : List Done) (view : LunView) (a : Address) (o : Command) (n : ℕ) → RegistersFit g j v.registers done → a.index ≡ index_now j.base done → a.plane ≡ plane_now done → LunFits g j v.lun (index_now j.base done) view → RowIs g j a → addresses_the_array o ≡ true → row_refused g v (After o n) ≡ false → RowGoes g j.lun.lun a view o
@@ -168,11 +172,27 @@ plane_held g j v done view a n registers index plane f row refused =
 
 -- 2. what an address word makes of a place
 
--- the word leads from the scene to one with these facts of the tail, where the claim behind it fits
+-- the word ends the row of an 80
+abbrev pub ends_program : ℕ → Place → Bool
+ends_program count (After PageProgram n) = n + count == 5
+ends_program count _ = false
+
+-- the LUN behind it
+abbrev pub lun_addressed : State → ℕ → KnownLun
+lun_addressed v count = cond (ends_program count v.target.tail) (without_pages v.lun) v.lun
+
+-- the word leads from the scene to one with these facts of the tail and this LUN, where the claim behind it fits
 pub record Goes (s : Channel) (j : Job) (v : State) (c : Scene) (done : List Done) (from count : ℕ) (bytes : List ℕ) : Type 0 where
   pub facts : TailFacts
-  pub steps : Steps s.geometry j.lun.lun bytes c (record { facts = facts; view = c.view; sole = c.sole })
+  pub view : LunView
+  pub latch : view.latch ≡ c.view.latch
+  pub steps : Steps s.geometry j.lun.lun bytes c (record { facts = facts; view = view; sole = c.sole })
   pub tail : TailFits s.geometry j (target_after_addresses s.geometry v from count) (now_of j done) facts
+  pub lun : LunFits s.geometry j (lun_addressed v count) (index_now j.base done) view
+
+-- the LUN is as it was, where the word doesn't end the row of an 80
+kept_lun : (s : Channel) (j : Job) (v : State) (done : List Done) (view : LunView) (count : ℕ) (p : Place) → v.target.tail ≡ p → ends_program count p ≡ false → LunFits s.geometry j v.lun (index_now j.base done) view → LunFits s.geometry j (lun_addressed v count) (index_now j.base done) view
+kept_lun s j v done view count p here other f = subst (λ (b : Bool). LunFits s.geometry j (cond b (without_pages v.lun) v.lun) (index_now j.base done) view) (sym (ap (ends_program count) here ∙ other)) f
 
 -- where five addresses aren't passed
 pub few_is : (o : Command) (n : ℕ) → n ≤ 5 → after_few o n ≡ After o n
@@ -264,6 +284,9 @@ goes_read : (s : Channel) (j : Job) (v : State) (c : Scene) (done : List Done) (
 goes_read s j v c done from count n old w clear here is now column =
     record {
       facts = facts_behind (opener_facts Read) (take (n + count) (all_bytes a));
+      view = c.view;
+      latch = refl;
+      lun = kept_lun s j v done c.view count (After Read n) here refl w.lun;
       steps =
           subst (λ (m : ℕ). Steps g j.lun.lun (take count (drop m (all_bytes a))) c (scene_at Read a c.view c.sole (n + count))) (sym begins)
           (subst (λ (x : Scene). Steps g j.lun.lun (take count (drop n (all_bytes a))) x (scene_at Read a c.view c.sole (n + count))) (sym scene_is)
@@ -320,6 +343,9 @@ goes_enhanced : (s : Channel) (j : Job) (v : State) (c : Scene) (done : List Don
 goes_enhanced s j v c done from count n old w clear here is now column =
     record {
       facts = facts_behind (opener_facts ChangeReadColumnEnhanced) (take (n + count) (all_bytes a));
+      view = c.view;
+      latch = refl;
+      lun = kept_lun s j v done c.view count (After ChangeReadColumnEnhanced n) here refl w.lun;
       steps =
           subst (λ (m : ℕ). Steps g j.lun.lun (take count (drop m (all_bytes a))) c (scene_at ChangeReadColumnEnhanced a c.view c.sole (n + count))) (sym begins)
           (subst (λ (x : Scene). Steps g j.lun.lun (take count (drop n (all_bytes a))) x (scene_at ChangeReadColumnEnhanced a c.view c.sole (n + count))) (sym scene_is)
@@ -379,10 +405,13 @@ goes_program : (s : Channel) (j : Job) (v : State) (c : Scene) (done : List Done
 goes_program s j v c done from count n old w clear here is now column =
     record {
       facts = facts_behind (opener_facts PageProgram) (take (n + count) (all_bytes a));
+      view = addressed_view (n + count) c.view;
+      latch = addressed_latch (nat_le 5 (n + count));
+      lun = lun_at (n + count == 5) refl;
       steps =
-          subst (λ (m : ℕ). Steps g j.lun.lun (take count (drop m (all_bytes a))) c (scene_at PageProgram a c.view c.sole (n + count))) (sym begins)
-          (subst (λ (x : Scene). Steps g j.lun.lun (take count (drop n (all_bytes a))) x (scene_at PageProgram a c.view c.sole (n + count))) (sym scene_is)
-          (many g j.lun.lun (scene_at PageProgram a c.view c.sole) (all_bytes a) count n few
+          subst (λ (m : ℕ). Steps g j.lun.lun (take count (drop m (all_bytes a))) c (program_scene a c.view c.sole (n + count))) (sym begins)
+          (subst (λ (x : Scene). Steps g j.lun.lun (take count (drop n (all_bytes a))) x (program_scene a c.view c.sole (n + count))) (sym scene_is)
+          (many g j.lun.lun (program_scene a c.view c.sole) (all_bytes a) count n few
           (λ i low high. program_steps g j.lun.lun a c.view c.sole i (omega (arith, high, few))
           (λ e. (carried_now (column_now done) (page_len g) (page_small g w.limits) (column_small g j v done from count (After PageProgram n) (page_len g) (page_small g w.limits) refl w.registers clear (second_of from count n begins (omega (arith, low, e)) (omega (arith, high, e))))).1)
           (λ e. row_goes g j v done c.view a PageProgram n w.registers refl refl w.lun (w.address.row (let x : ltb 2 (from + count) ≡ true = grind (arith, nat_tests, high, begins, e) in x)) refl (clear.row (let x : nat_le 5 (from + count) ≡ true = grind (arith, nat_tests, high, begins, e) in x))))));
@@ -413,8 +442,26 @@ goes_program s j v c done from count n old w clear here is now column =
         inside : ltb 0 n ≡ true → (ltb 0 n && ltb n 5) ≡ true
         inside x = and_from (ltb 0 n) (ltb n 5) x (let y : (5 - n == 0) ≡ false = clear.left in grind (arith, nat_tests, y))
 
-    scene_is : c ≡ scene_at PageProgram a c.view c.sole n
-    scene_is = λ i. record { facts = facts_are i; view = c.view; sole = c.sole }
+    early : (m : ℕ) → m ≤ 4 → addressed_view m c.view ≡ c.view
+    early m low = let late : nat_le 5 m ≡ false = grind (arith, nat_tests, low) in ap (λ (b : Bool). cond b (view_after ProgramAddressed c.view) c.view) late
+
+    scene_is : c ≡ program_scene a c.view c.sole n
+    scene_is = let view_is = early n (let x = is.place in grind (arith, nat_tests, x)) in λ i. record { facts = facts_are i; view = sym view_is i; sole = c.sole }
+
+    addressed_latch : (b : Bool) → (cond b (view_after ProgramAddressed c.view) c.view).latch ≡ c.view.latch
+    addressed_latch true = refl
+    addressed_latch false = refl
+
+    lun_at : (b : Bool) → (n + count == 5) ≡ b → LunFits g j (lun_addressed v count) (index_now j.base done) (addressed_view (n + count) c.view)
+    lun_at true e =
+        let five : n + count ≡ 5 = eqb-true (n + count) 5 e in
+        let f = w.lun in
+        subst (λ (b : Bool). LunFits g j (cond b (without_pages v.lun) v.lun) (index_now j.base done) (addressed_view (n + count) c.view)) (sym (ap (ends_program count) here ∙ e))
+        (subst (λ (m : ℕ). LunFits g j (without_pages v.lun) (index_now j.base done) (addressed_view m c.view)) (sym five)
+        (record { ready = f.ready; register = f.register; column = f.column; queue = f.queue; last = f.last; cached = f.cached; held = λ x. refl; planes = no_pages g []; array = f.array }))
+    lun_at false e =
+        let four : n + count ≤ 4 = let f = few in grind (arith, nat_tests, e, f) in
+        subst (λ (x : LunView). LunFits g j (lun_addressed v count) (index_now j.base done) x) (sym (early (n + count) four)) (kept_lun s j v done c.view count (After PageProgram n) here e w.lun)
 
     here_led : (target_after_addresses g v from count).tail ≡ cond (n + count == 5) InData (after_few PageProgram (n + count))
     here_led = ap (address_leads_to count) here
@@ -469,6 +516,9 @@ goes_erase : (s : Channel) (j : Job) (v : State) (c : Scene) (done : List Done) 
 goes_erase s j v c done from count n old w clear here is now =
     record {
       facts = facts_behind (opener_facts BlockErase) (take (n + count) (bytes_of BlockErase a));
+      view = c.view;
+      latch = refl;
+      lun = kept_lun s j v done c.view count (After BlockErase n) here refl w.lun;
       steps =
           subst (λ (m : ℕ). Steps g j.lun.lun (take count (drop m (all_bytes a))) c (scene_at BlockErase a c.view c.sole (n + count))) (sym begins)
           (subst (λ (x : Scene). Steps g j.lun.lun (take count (drop n (bytes_of BlockErase a))) x (scene_at BlockErase a c.view c.sole (n + count))) (sym scene_is)
@@ -563,6 +613,9 @@ goes_column : (s : Channel) (j : Job) (v : State) (c : Scene) (done : List Done)
 goes_column s j v c done from count n old w clear here is now =
     record {
       facts = facts_behind (opener_facts ChangeReadColumn) (take (n + count) (all_bytes a));
+      view = c.view;
+      latch = refl;
+      lun = kept_lun s j v done c.view count (After ChangeReadColumn n) here refl w.lun;
       steps =
           subst (λ (m : ℕ). Steps g j.lun.lun (take count (drop m (all_bytes a))) c (scene_at ChangeReadColumn a c.view c.sole (n + count))) (sym begins)
           (subst (λ (x : Scene). Steps g j.lun.lun (take count (drop n (all_bytes a))) x (scene_at ChangeReadColumn a c.view c.sole (n + count))) (sym scene_is)
@@ -731,10 +784,16 @@ goes_in_column s j v c done from count n old k b now rest =
     xs : List ℕ
     xs = column_now done % 256 ∷ (column_now done / 256 % 256 ∷ rest)
 
+    unmoved_lun : {n count : ℕ} → AtColumn s j v c done from count n old → LunFits s.geometry j (lun_addressed v count) (index_now j.base done) c.view
+    unmoved_lun {n} {count} k = kept_lun s j v done c.view count (InColumn n) k.here refl k.w.lun
+
     by : (n count : ℕ) → AtColumn s j v c done from count n old → ColumnBegun n old c.facts → (is_inside_address (InColumn n) ≡ true → IsNow s.geometry j old (now_of j done) (InColumn n)) → count ≤ 2 - n → Goes s j v c done from count (take count (drop n xs))
     by zero zero k b now few =
         record {
           facts = c.facts;
+          view = c.view;
+          latch = refl;
+          lun = unmoved_lun k;
           steps = record { allowed = tt; leads = refl };
           tail = record {
             place = InColumn 0;
@@ -751,7 +810,7 @@ goes_in_column s j v c done from count n old k b now rest =
     by zero (suc zero) k b now few =
         let one = begun_column s.geometry j.lun.lun old c.facts c.view c.sole (column_now done % 256) b in
         let next = first_led old c.facts (column_now done) b in
-        record { facts = facts_after (AddressCycle (column_now done % 256)) c.facts; steps = record { allowed = (one.0, tt); leads = one.1 }; tail = column_tail s j v c done from 1 0 old _ refl k next }
+        record { facts = facts_after (AddressCycle (column_now done % 256)) c.facts; view = c.view; latch = refl; lun = unmoved_lun k; steps = record { allowed = (one.0, tt); leads = one.1 }; tail = column_tail s j v c done from 1 0 old _ refl k next }
     by zero (suc (suc zero)) k b now few =
         let one = begun_column s.geometry j.lun.lun old c.facts c.view c.sole (column_now done % 256) b in
         let next = first_led old c.facts (column_now done) b in
@@ -759,6 +818,9 @@ goes_in_column s j v c done from count n old k b now rest =
         let end = second_led (with_column old (column_now done)) (facts_after (AddressCycle (column_now done % 256)) c.facts) (column_now done / 256 % 256) next in
         record {
           facts = facts_after (AddressCycle (column_now done / 256 % 256)) (facts_after (AddressCycle (column_now done % 256)) c.facts);
+          view = c.view;
+          latch = refl;
+          lun = unmoved_lun k;
           steps = record {
             allowed = (one.0, subst (λ (x : Scene). MovesAllowed s.geometry j.lun.lun (gives Adr (column_now done / 256 % 256 ∷ [])) x) (sym one.1) (two.0, tt));
             leads = ap (scene_behind s.geometry j.lun.lun (AddressCycle (column_now done / 256 % 256))) one.1 ∙ two.1;
@@ -768,6 +830,9 @@ goes_in_column s j v c done from count n old k b now rest =
     by (suc zero) zero k b now few =
         record {
           facts = c.facts;
+          view = c.view;
+          latch = refl;
+          lun = unmoved_lun k;
           steps = record { allowed = tt; leads = refl };
           tail = column_tail s j v c done from 0 1 old c.facts refl k (renewed b (now refl).column);
         }
@@ -778,7 +843,7 @@ goes_in_column s j v c done from count n old k b now rest =
         let again : ColumnBegun 1 (with_column old (column_now done)) c.facts = let e = (now refl).column in record { few = b.few; alone = b.alone; program = record { phase = b.program.phase; row = b.program.row; begun = b.program.begun }; column = λ x. b.column x ∙ ap (λ (m : ℕ). m % 256) e } in
         let two = last_byte s j c.view c.sole old c.facts (column_now done) again (column_inside s j v c done from 1 1 old (omega arith) refl k) in
         let end = second_led (with_column old (column_now done)) c.facts (column_now done / 256 % 256) again in
-        record { facts = facts_after (AddressCycle (column_now done / 256 % 256)) c.facts; steps = record { allowed = (two.0, tt); leads = two.1 }; tail = data_tail s j v c done from 1 1 old _ refl (omega arith) k end.0 end.1 }
+        record { facts = facts_after (AddressCycle (column_now done / 256 % 256)) c.facts; view = c.view; latch = refl; lun = unmoved_lun k; steps = record { allowed = (two.0, tt); leads = two.1 }; tail = data_tail s j v c done from 1 1 old _ refl (omega arith) k end.0 end.1 }
     by zero (suc (suc (suc m))) k b now few = absurd (omega (arith, few))
     by (suc zero) (suc (suc m)) k b now few = absurd (omega (arith, few))
     by (suc (suc m)) count k b now few = let low = b.few in absurd (omega (arith, low))
@@ -791,7 +856,7 @@ resets_lun (After ResetLun n) = true
 resets_lun _ = false
 
 -- what is known behind an address that isn't the one of an opener beside the array, or of FAh
-pub leaves_target : (g : Parts) (v : State) (from count : ℕ) (p : Place) → takes_identity_at p ≡ false → resets_lun p ≡ false → address_leaves_at g v from count p ≡ with_target v (target_after_addresses g v from count)
+pub leaves_target : (g : Parts) (v : State) (from count : ℕ) (p : Place) → takes_identity_at p ≡ false → resets_lun p ≡ false → address_leaves_at g v from count p ≡ record { registers = v.registers; target = target_after_addresses g v from count; lun = cond (ends_program count p) (without_pages v.lun) v.lun }
 leaves_target g v from count Closed h r = refl
 leaves_target g v from count InData h r = refl
 leaves_target g v from count (InColumn n) h r = refl
@@ -799,13 +864,14 @@ leaves_target g v from count (InFeatures n) h r = refl
 leaves_target g v from count Unknown h r = refl
 leaves_target g v from count (After o n) h r = by o h r
   where
-    by : (o : Command) → takes_identity_at (After o n) ≡ false → resets_lun (After o n) ≡ false → address_leaves_at g v from count (After o n) ≡ with_target v (target_after_addresses g v from count)
+    by : (o : Command) → takes_identity_at (After o n) ≡ false → resets_lun (After o n) ≡ false → address_leaves_at g v from count (After o n) ≡ record { registers = v.registers; target = target_after_addresses g v from count; lun = cond (ends_program count (After o n)) (without_pages v.lun) v.lun }
     by ReadId h r = cc
     by ReadParameterPage h r = cc
     by ReadUniqueId h r = cc
     by GetFeatures h r = cc
     by SetFeatures h r = cc
     by ResetLun h r = cc
+    by PageProgram h r = refl
     by _ h r = refl
 
 goes : (s : Channel) (j : Job) (k : KnownJob s j) (v : State) (c : Scene) (done : List Done) (from count : ℕ) → Fits s.geometry j v done c true → NoReasons s.geometry j.text v (AddressWord from count) → takes_identity_at v.target.tail ≡ false → resets_lun v.target.tail ≡ false → (w : AtWord s j v c done from count) → Goes s j v c done from count (take count (drop from (all_bytes (of_now s.geometry j done from count w.address))))
@@ -854,12 +920,12 @@ sound_address s j k v past c done rest at from count scene f clear plainly apart
     plain_sound s j k v past c done rest at (AddressWord from count) (gives Adr bytes) refl scene f.registers clear (ap (λ (o : Option (List ℕ)). and_then o (λ xs. Some (gives Adr xs))) (address_bytes g j done from count a)) go.steps.allowed refl
     (λ answer.
     subst (λ (x : Scene). Fits g j (state_after g v (AddressWord from count)) (record { word = AddressWord from count; answer = answer } ∷ done) x true) (sym go.steps.leads)
-    (subst (λ (x : State). Fits g j (with_registers x (paid count x.registers)) (record { word = AddressWord from count; answer = answer } ∷ done) (record { facts = go.facts; view = c.view; sole = c.sole }) true) (sym left)
+    (subst (λ (x : State). Fits g j (with_registers x (paid count x.registers)) (record { word = AddressWord from count; answer = answer } ∷ done) (record { facts = go.facts; view = go.view; sole = c.sole }) true) (sym left)
     (record {
       registers = unmoved g j v v.registers.place v.registers.polled done (AddressWord from count) answer f.registers clear (record { column = λ n. refl; plane = λ n. refl; index = λ b n. refl }) f.registers.place;
       tail = λ e. go.tail;
       free = λ e. cc;
-      shows = shows_kept v.target.shows c (record { facts = go.facts; view = c.view; sole = c.sole }) (λ e. e) refl f.shows;
-      lun = f.lun;
+      shows = shows_kept v.target.shows c (record { facts = go.facts; view = go.view; sole = c.sole }) (λ e. e) go.latch f.shows;
+      lun = go.lun;
     })))
     acc

@@ -4,7 +4,7 @@ use Rattle.nand_geometry.specs.declared.parts.Parts.{Parts}
 use Rattle.nand_geometry.specs.Limits.{page_len, planes}
 use Rattle.nand_geometry.specs.Optional.{is_wide}
 use Rattle.onfi_cycle.specs.declared.command.Command.{Command}
-use Rattle.onfi_cycle.specs.declared.command.Command.TheVariants.{Read, ReadConfirm, ChangeReadColumn, ChangeReadColumnEnhanced, ChangeReadColumnConfirm, BlockErase, ReadStatus, ReadStatusEnhanced, PageProgram, ChangeWriteColumn, ProgramConfirm, ProgramPlane, ReadId, ReadParameterPage, ReadCacheSequential, ReadCacheEnd, ReadUniqueId, GetFeatures, SetFeatures, ResetLun, ReadPlane}
+use Rattle.onfi_cycle.specs.declared.command.Command.TheVariants.{Read, ReadConfirm, ChangeReadColumn, ChangeReadColumnEnhanced, ChangeReadColumnConfirm, BlockErase, ReadStatus, ReadStatusEnhanced, PageProgram, ChangeWriteColumn, ProgramConfirm, ProgramPlane, ReadId, ReadParameterPage, ReadCacheSequential, ReadCacheEnd, ReadUniqueId, GetFeatures, SetFeatures, ResetLun, ReadPlane, CopybackRead}
 use Rattle.onfi_cycle.specs.Base.{is_of_base}
 use Rattle.onfi_cycle.specs.Command.{is_known, is_opener, is_reset, address_cycles, closes, addresses_the_array, reads_identity, wants_one_lun}
 use Rattle.onfi_cycle.specs.Sequence.{is_proper_beginning}
@@ -208,10 +208,11 @@ closer_refused g s ReadPlane = may_be_31 s.lun.last
 closer_refused g s ReadCacheSequential = not (is_wide g.optional) || may_be_other s.lun.last
 closer_refused g s _ = false
 
--- a 31 that the tail wants
-abbrev pub reads_cache_at : Command → Place → Bool
-reads_cache_at ReadCacheSequential p = place_wants ReadCacheSequential p
-reads_cache_at c p = false
+-- an opener goes on with the sequence: a 31 that the tail wants, and an 85, as none begins a sequence in programs
+abbrev pub goes_on_at : Command → Place → Bool
+goes_on_at ReadCacheSequential p = place_wants ReadCacheSequential p
+goes_on_at ChangeWriteColumn p = true
+goes_on_at c p = false
 
 -- a reset ends an open sequence in the wider profile
 abbrev pub may_end_sequence : Parts → Command → Bool
@@ -220,7 +221,7 @@ may_end_sequence g c = is_reset c && is_wide g.optional
 abbrev pub command_out_of_place : Parts → State → Command → Bool
 command_out_of_place g s c =
     if is_unfit g c then false
-    else (if is_opener c && not (reads_cache_at c s.target.tail) then (not (may_end_sequence g c) && may_be_open s) || opener_refused g s c
+    else (if is_opener c && not (goes_on_at c s.target.tail) then (not (may_end_sequence g c) && may_be_open s) || opener_refused g s c
     else not (place_wants c s.target.tail) || closer_refused g s c)
 
 -- 31h may go past the rows of the text, where it goes to the next one
@@ -234,8 +235,9 @@ asks_status ReadStatus = true
 asks_status ReadStatusEnhanced = true
 asks_status _ = false
 
--- traces know the command, and programs may not use it yet: there is none
+-- traces know the command, and programs may not use it yet
 abbrev pub is_for_traces : Command → Bool
+is_for_traces CopybackRead = true
 is_for_traces _ = false
 
 -- programs may not use the command

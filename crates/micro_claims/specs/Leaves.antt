@@ -396,6 +396,15 @@ identity_read s from _ = s
 abbrev pub lun_reset : Parts → State → (from count n : ℕ) → State
 lun_reset g s from count n = if n + count == 3 then reset_started s else with_target s (target_after_addresses g s from count)
 
+-- no page is held any more
+abbrev pub without_pages : KnownLun → KnownLun
+without_pages l = record l { held = no_planes }
+
+-- the last row cycle of 80h clears the page register
+abbrev pub program_addressed : Parts → State → (from count n : ℕ) → State
+program_addressed g s from count n =
+    record { registers = s.registers; target = target_after_addresses g s from count; lun = if n + count == 5 then without_pages s.lun else s.lun }
+
 -- the one address of 90h, ECh, EDh, EEh or EFh shows what it reads, or what comes; others are an address of the sequence
 abbrev pub address_leaves_at : Parts → State → (from count : ℕ) → Place → State
 address_leaves_at g s from count (After ReadId n) = identity_read s from ReadId
@@ -404,6 +413,7 @@ address_leaves_at g s from count (After ReadUniqueId n) = identity_read s from R
 address_leaves_at g s from count (After GetFeatures n) = identity_read s from GetFeatures
 address_leaves_at g s from count (After SetFeatures n) = identity_read s from SetFeatures
 address_leaves_at g s from count (After ResetLun n) = lun_reset g s from count n
+address_leaves_at g s from count (After PageProgram n) = program_addressed g s from count n
 address_leaves_at g s from count _ = with_target s (target_after_addresses g s from count)
 
 abbrev pub address_leaves : Parts → State → (from count : ℕ) → State

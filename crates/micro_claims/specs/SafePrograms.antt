@@ -91,14 +91,14 @@ selecting_words = Command 0x00 ∷ (Address 0 5 ∷ (Command 0x30 ∷ (Wait ∷ 
 
 -- one LUN, or two, with all that the wider profile has
 abbrev pub one_wide_lun : Parts
-one_wide_lun = record { page_bytes = 512; spare_bytes = 16; pages = 4; blocks = 8; luns = 1; plane_bits = 0; enhanced = false; multi_plane = false; cache = false; optional = wide_with true true true true true true true }
+one_wide_lun = record { page_bytes = 512; spare_bytes = 16; pages = 4; blocks = 8; luns = 1; plane_bits = 0; enhanced = false; multi_plane = false; cache = false; optional = wide_with true false true true true true true true false }
 
 abbrev pub two_wide_luns : Parts
-two_wide_luns = record { page_bytes = 512; spare_bytes = 16; pages = 4; blocks = 8; luns = 2; plane_bits = 0; enhanced = true; multi_plane = false; cache = false; optional = wide_with true true true true true true true }
+two_wide_luns = record { page_bytes = 512; spare_bytes = 16; pages = 4; blocks = 8; luns = 2; plane_bits = 0; enhanced = true; multi_plane = false; cache = false; optional = wide_with true false true true true true true true false }
 
 -- one LUN of two planes
 abbrev pub two_wide_planes : Parts
-two_wide_planes = record { page_bytes = 512; spare_bytes = 16; pages = 4; blocks = 8; luns = 1; plane_bits = 1; enhanced = false; multi_plane = false; cache = false; optional = wide_with true true true true true true true }
+two_wide_planes = record { page_bytes = 512; spare_bytes = 16; pages = 4; blocks = 8; luns = 1; plane_bits = 1; enhanced = false; multi_plane = false; cache = false; optional = wide_with true false true true true true true true false }
 
 abbrev pub one_lun_with_cache : Parts
 one_lun_with_cache = record { page_bytes = 512; spare_bytes = 16; pages = 4; blocks = 8; luns = 1; plane_bits = 0; enhanced = false; multi_plane = false; cache = true; optional = no_optional }

@@ -2,7 +2,7 @@
 ghost use Rattle.std.specs.Prelude.{◌≡◌, if◌then◌else◌, Some};
 ghost use Rattle.onfi_cycle.specs.declared.command.Command.TheVariants.{ReadId};
 ghost use Rattle.micro_claims.specs.Against.{byte_of_column};
-ghost use Rattle.micro_claims.specs.Leaves.{target_after_addresses, id_held, beside_read, features_opened, with_target, identity_read, lun_reset, address_leaves};
+ghost use Rattle.micro_claims.specs.Leaves.{target_after_addresses, id_held, beside_read, features_opened, with_target, identity_read, lun_reset, program_addressed, address_leaves};
 
 use crate::held::Held;
 use crate::known_target::KnownTarget;
@@ -123,6 +123,18 @@ impl State {
         }
     }
 
+    // After so many addresses of Page Program, behind so many others: the last of its row leaves no page.
+    fn address_program(&mut self, geometry: &Geometry, from: u8, count: u8, before: u8)
+        ensures { self.new ≡ program_addressed geometry.now self.old from count before }
+    {
+        if usize::from(before) + usize::from(count) == Command::PageProgram.address_cycles() {
+            self.lun.held = Planes::none();
+            self.go_on(geometry, from, count);
+        } else {
+            self.go_on(geometry, from, count);
+        }
+    }
+
     // After so many addresses.
     pub(crate) fn take_addresses(&mut self, geometry: &Geometry, from: u8, count: u8)
         ensures { self.new ≡ address_leaves geometry.now self.old from count }
@@ -135,6 +147,7 @@ impl State {
                 Command::GetFeatures => self.read_beside(true, Held::FEATURE),
                 Command::SetFeatures => self.open_features(),
                 Command::ResetLun => self.reset_lun(geometry, from, count, addresses),
+                Command::PageProgram => self.address_program(geometry, from, count, addresses),
                 _ => self.go_on(geometry, from, count),
             },
             _ => self.go_on(geometry, from, count),

@@ -191,7 +191,10 @@ impl State {
                     DATA_SHOWN,
                 );
             }
-            Command::ReadStatus | Command::ReadStatusEnhanced | Command::Unknown => {}
+            Command::ReadStatus
+            | Command::ReadStatusEnhanced
+            | Command::CopybackRead
+            | Command::Unknown => {}
         }
     }
 }

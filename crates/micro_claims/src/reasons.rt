@@ -1,6 +1,6 @@
 //! The reasons against a word, by what is known before it.
 ghost use Rattle.std.specs.Prelude.{◌≡◌, ◌^◌, ◌<◌, ◌==◌, ◌&&◌, not};
-ghost use Rattle.micro_claims.specs.Against.{next_address, is_of_profile, is_unfit, opener_refused, closer_refused, reads_cache_at, may_end_sequence, command_out_of_place, command_past_rows, is_for_traces, command_not_for_programs, has_second_column, column_limit, takes_any_byte, takes_identity, is_identity_byte, identity_refused, plane_refused, row_refused, surely_past, address_out_of_place, begins_elsewhere, column_past, row_outside, output_refused, output_past, input_past, may_be_unready};
+ghost use Rattle.micro_claims.specs.Against.{next_address, is_of_profile, is_unfit, opener_refused, closer_refused, goes_on_at, may_end_sequence, command_out_of_place, command_past_rows, is_for_traces, command_not_for_programs, has_second_column, column_limit, takes_any_byte, takes_identity, is_identity_byte, identity_refused, plane_refused, row_refused, surely_past, address_out_of_place, begins_elsewhere, column_past, row_outside, output_refused, output_past, input_past, may_be_unready};
 ghost use Rattle.nand_geometry.specs.Optional.{is_wide};
 ghost use Rattle.onfi_cycle.specs.Rules.{excludes_cache};
 ghost use Rattle.micro_claims.specs.Reasons.{breaks_cycle_forbidden, breaks_address_unaligned, breaks_handover_in_sequence, breaks_buffer_passed, breaks_row_or_plane_outside, breaks_column_too_large, breaks_no_status, breaks_ends_too_soon, breaks_over_budget, breaks_command_not_allowed, reason_against};
@@ -53,11 +53,16 @@ fn is_unfit(geometry: &Geometry, command: Command) -> bool
     !is_of_profile(geometry, command) || is_undeclared(geometry, command)
 }
 
-// A 31h that the tail wants.
-fn reads_cache_at(command: Command, tail: Place) -> bool
-    ensures { result ≡ reads_cache_at command tail }
+// An opener goes on with the sequence: a Read Cache Sequential that the tail wants, and a Change Write Column, as none begins a sequence in
+// programs.
+fn goes_on_at(command: Command, tail: Place) -> bool
+    ensures { result ≡ goes_on_at command tail }
 {
-    command == Command::ReadCacheSequential && tail.wants(command)
+    match command {
+        Command::ReadCacheSequential => tail.wants(command),
+        Command::ChangeWriteColumn => true,
+        _ => false,
+    }
 }
 
 // The opener's row names a LUN that does no cache read: a Read may name one in the wider profile, and so may a Change Read Column
@@ -79,11 +84,11 @@ fn may_end_sequence(geometry: &Geometry, command: Command) -> bool
     command.is_reset() && is_wide(geometry)
 }
 
-/// Traces know the command, and programs may not use it yet: there is none.
-pub fn is_for_traces(_command: Command) -> bool
-    ensures { result ≡ is_for_traces _command }
+/// Traces know the command, and programs may not use it yet.
+pub fn is_for_traces(command: Command) -> bool
+    ensures { result ≡ is_for_traces command }
 {
-    false
+    matches!(command, Command::CopybackRead)
 }
 
 // Programs may not use the command.
@@ -217,7 +222,7 @@ impl State {
     {
         if is_unfit(geometry, command) {
             false
-        } else if command.is_opener() && !reads_cache_at(command, self.target.tail) {
+        } else if command.is_opener() && !goes_on_at(command, self.target.tail) {
             !may_end_sequence(geometry, command) && self.may_be_open()
                 || self.refuses_opener(geometry, command)
         } else {

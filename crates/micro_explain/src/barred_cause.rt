@@ -25,6 +25,8 @@ pub enum BarredCause {
     EnhancedColumn,
     /// The parameter page declares no reads of several planes.
     PlaneReads,
+    /// The parameter page declares no copyback.
+    Copyback,
     /// The parameter page declares no reset of a LUN.
     LunReset,
     /// The parameter page declares no synchronous reset.
@@ -58,6 +60,9 @@ impl BarredCause {
             }
             Command::ReadPlane => {
                 BarredCause::of_optional(refused, command, byte, BarredCause::PlaneReads)
+            }
+            Command::CopybackRead => {
+                BarredCause::of_optional(refused, command, byte, BarredCause::Copyback)
             }
             Command::ReadStatus | Command::ReadStatusEnhanced => Some(BarredCause::Poll),
             Command::BlockErasePlane | Command::ProgramPlane => {
@@ -133,6 +138,7 @@ impl fmt::Display for BarredCause {
             BarredCause::PlaneReads => f.write_str(
                 "the parameter page declares no reads of several planes",
             ),
+            BarredCause::Copyback => f.write_str("the parameter page declares no copyback"),
             BarredCause::LunReset => f.write_str("the parameter page declares no reset of a LUN"),
             BarredCause::SynchronousReset => f.write_str(
                 "the parameter page declares no synchronous reset",

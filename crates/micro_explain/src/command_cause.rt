@@ -29,7 +29,7 @@ pub enum CommandCause {
 // The command that begins what a command goes on with.
 fn opener_of(closer: Command) -> Option<Command> {
     match closer {
-        Command::ReadConfirm | Command::ReadPlane => Some(Command::Read),
+        Command::ReadConfirm | Command::ReadPlane | Command::CopybackRead => Some(Command::Read),
         Command::ChangeReadColumnConfirm => Some(Command::ChangeReadColumn),
         Command::BlockEraseConfirm | Command::BlockErasePlane => Some(Command::BlockErase),
         Command::ChangeWriteColumn | Command::ProgramConfirm | Command::ProgramPlane => {
@@ -56,12 +56,17 @@ fn opener_of(closer: Command) -> Option<Command> {
     }
 }
 
+// The command only goes on with a sequence: it is no opener, or a Change Write Column, with which programs begin none.
+fn only_goes_on(command: Command) -> bool {
+    !command.is_opener() || command == Command::ChangeWriteColumn
+}
+
 impl CommandCause {
     pub(crate) fn of(refused: &Refused<'_>, command: Command) -> Option<CommandCause> {
         if refused.state.target.tail.wants(command) {
             return CommandCause::of_wanted(refused, command);
         }
-        if !command.is_opener() {
+        if only_goes_on(command) {
             return CommandCause::of_closer(refused, command);
         }
         if refused.state.may_be_open() {
@@ -91,6 +96,7 @@ impl CommandCause {
             Command::ReadCacheEnd => Some(CommandCause::Cache(CacheCause::of_end(refused)?)),
             Command::ReadConfirm
             | Command::ReadPlane
+            | Command::CopybackRead
             | Command::ChangeReadColumnConfirm
             | Command::BlockEraseConfirm
             | Command::BlockErasePlane
@@ -109,7 +115,7 @@ impl CommandCause {
     // Against a command that the sequence wants.
     fn of_wanted(refused: &Refused<'_>, closer: Command) -> Option<CommandCause> {
         match closer {
-            Command::ReadConfirm | Command::ReadPlane => {
+            Command::ReadConfirm | Command::ReadPlane | Command::CopybackRead => {
                 Some(CommandCause::Cache(CacheCause::of_page_read(refused)?))
             }
             Command::ReadCacheSequential if refused.is_wide() => {
@@ -120,7 +126,7 @@ impl CommandCause {
         }
     }
 
-    // Against a command that is no opener, and that the sequence doesn't want.
+    // Against a command that only goes on with a sequence, and that this one doesn't want.
     fn of_closer(refused: &Refused<'_>, closer: Command) -> Option<CommandCause> {
         let open = refused.open();
         match open.command {

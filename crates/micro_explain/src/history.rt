@@ -44,7 +44,10 @@ fn starts_work(command: Command) -> bool {
 fn fills_register(command: Command) -> bool {
     matches!(
         command,
-        Command::ReadConfirm | Command::ReadCacheSequential | Command::ReadCacheEnd
+        Command::ReadConfirm
+            | Command::CopybackRead
+            | Command::ReadCacheSequential
+            | Command::ReadCacheEnd
     )
 }
 
@@ -239,7 +242,8 @@ impl History {
 
     // The command leaves the register empty: its work does, or it reads several planes, of which none is selected.
     fn leaves_empty(&self, command: Command) -> bool {
-        leaves_no_register(command) || command == Command::ReadConfirm && self.reads_queued
+        leaves_no_register(command)
+            || matches!(command, Command::ReadConfirm | Command::CopybackRead) && self.reads_queued
     }
 
     // A read of a plane is queued, up to the next work.

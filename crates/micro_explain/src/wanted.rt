@@ -27,6 +27,7 @@ impl Wanted {
             Command::PageProgram => self.in_data(),
             Command::ReadConfirm
             | Command::ReadPlane
+            | Command::CopybackRead
             | Command::ChangeReadColumnConfirm
             | Command::BlockEraseConfirm
             | Command::BlockErasePlane

@@ -14,7 +14,7 @@ use Rattle.onfi_cycle.specs.declared.effect.Effect.{Effect}
 use Rattle.onfi_cycle.specs.declared.effect.Effect.TheVariants.{Unaffected, DataOutputEnabled, StatusSelected, StatusRowAwaited, SelectedForStatus, Deselected, DataOutput, ReadColumnChanged, StatusOfSelected, AnotherAddressed}
 use Rattle.onfi_cycle.specs.Sequence.{target_cycle, tail, facts_of}
 use Rattle.onfi_cycle.specs.Effect.{cycle_effect}
-use Rattle.onfi_cycle.specs.Lun.{latch_alone, effect_on, is_busy, busy_after, closer, closer_after, is_cache_read, is_array_busy, array_busy_after, is_caching, array_page, array_page_after, register, register_after, queue, queue_after, held, held_after, effect_among}
+use Rattle.onfi_cycle.specs.Lun.{latch_alone, effect_on, is_busy, busy_after, closer, closer_after, is_cache_read, is_array_busy, array_busy_after, is_caching, array_page, array_page_after, register, register_after, queue, queue_after, held, held_after, is_copyback_read, effect_among}
 use Rattle.onfi_cycle.specs.Channel.{IsIdle, is_serving, cycle}
 
 abbrev pub is_calm : Effect → Bool
@@ -37,19 +37,19 @@ record LeavesAll (e : Effect) : Type 0 where
   array_page : (p : PageAddress) → array_page_after e p ≡ p
   register : (p : PageAddress) (q : List Queued) (h : List PageAddress) (r : Register) → register_after e p q h r ≡ r
   queue : (q : List Queued) → queue_after e q ≡ q
-  held : (p : PageAddress) (q : List Queued) (h : List PageAddress) → held_after e p q h ≡ h
+  held : (copyback : Bool) (p : PageAddress) (q : List Queued) (h : List PageAddress) → held_after e copyback p q h ≡ h
 
 leaves_all : (e : Effect) → is_calm e ≡ true → LeavesAll e
-leaves_all Unaffected h = record { busy = λ b. refl; closer = λ c. refl; array_busy = λ b c x. refl; array_page = λ p. refl; register = λ p q h r. refl; queue = λ q. refl; held = λ p q h. refl }
-leaves_all DataOutputEnabled h = record { busy = λ b. refl; closer = λ c. refl; array_busy = λ b c x. refl; array_page = λ p. refl; register = λ p q h r. refl; queue = λ q. refl; held = λ p q h. refl }
-leaves_all StatusSelected h = record { busy = λ b. refl; closer = λ c. refl; array_busy = λ b c x. refl; array_page = λ p. refl; register = λ p q h r. refl; queue = λ q. refl; held = λ p q h. refl }
-leaves_all StatusRowAwaited h = record { busy = λ b. refl; closer = λ c. refl; array_busy = λ b c x. refl; array_page = λ p. refl; register = λ p q h r. refl; queue = λ q. refl; held = λ p q h. refl }
-leaves_all SelectedForStatus h = record { busy = λ b. refl; closer = λ c. refl; array_busy = λ b c x. refl; array_page = λ p. refl; register = λ p q h r. refl; queue = λ q. refl; held = λ p q h. refl }
-leaves_all Deselected h = record { busy = λ b. refl; closer = λ c. refl; array_busy = λ b c x. refl; array_page = λ p. refl; register = λ p q h r. refl; queue = λ q. refl; held = λ p q h. refl }
-leaves_all DataOutput h = record { busy = λ b. refl; closer = λ c. refl; array_busy = λ b c x. refl; array_page = λ p. refl; register = λ p q h r. refl; queue = λ q. refl; held = λ p q h. refl }
-leaves_all (ReadColumnChanged column) h = record { busy = λ b. refl; closer = λ c. refl; array_busy = λ b c x. refl; array_page = λ p. refl; register = λ p q h r. refl; queue = λ q. refl; held = λ p q h. refl }
-leaves_all StatusOfSelected h = record { busy = λ b. refl; closer = λ c. refl; array_busy = λ b c x. refl; array_page = λ p. refl; register = λ p q h r. refl; queue = λ q. refl; held = λ p q h. refl }
-leaves_all (AnotherAddressed reads) h = record { busy = λ b. refl; closer = λ c. refl; array_busy = λ b c x. refl; array_page = λ p. refl; register = λ p q h r. refl; queue = λ q. refl; held = λ p q h. refl }
+leaves_all Unaffected h = record { busy = λ b. refl; closer = λ c. refl; array_busy = λ b c x. refl; array_page = λ p. refl; register = λ p q h r. refl; queue = λ q. refl; held = λ b p q h. refl }
+leaves_all DataOutputEnabled h = record { busy = λ b. refl; closer = λ c. refl; array_busy = λ b c x. refl; array_page = λ p. refl; register = λ p q h r. refl; queue = λ q. refl; held = λ b p q h. refl }
+leaves_all StatusSelected h = record { busy = λ b. refl; closer = λ c. refl; array_busy = λ b c x. refl; array_page = λ p. refl; register = λ p q h r. refl; queue = λ q. refl; held = λ b p q h. refl }
+leaves_all StatusRowAwaited h = record { busy = λ b. refl; closer = λ c. refl; array_busy = λ b c x. refl; array_page = λ p. refl; register = λ p q h r. refl; queue = λ q. refl; held = λ b p q h. refl }
+leaves_all SelectedForStatus h = record { busy = λ b. refl; closer = λ c. refl; array_busy = λ b c x. refl; array_page = λ p. refl; register = λ p q h r. refl; queue = λ q. refl; held = λ b p q h. refl }
+leaves_all Deselected h = record { busy = λ b. refl; closer = λ c. refl; array_busy = λ b c x. refl; array_page = λ p. refl; register = λ p q h r. refl; queue = λ q. refl; held = λ b p q h. refl }
+leaves_all DataOutput h = record { busy = λ b. refl; closer = λ c. refl; array_busy = λ b c x. refl; array_page = λ p. refl; register = λ p q h r. refl; queue = λ q. refl; held = λ b p q h. refl }
+leaves_all (ReadColumnChanged column) h = record { busy = λ b. refl; closer = λ c. refl; array_busy = λ b c x. refl; array_page = λ p. refl; register = λ p q h r. refl; queue = λ q. refl; held = λ b p q h. refl }
+leaves_all StatusOfSelected h = record { busy = λ b. refl; closer = λ c. refl; array_busy = λ b c x. refl; array_page = λ p. refl; register = λ p q h r. refl; queue = λ q. refl; held = λ b p q h. refl }
+leaves_all (AnotherAddressed reads) h = record { busy = λ b. refl; closer = λ c. refl; array_busy = λ b c x. refl; array_page = λ p. refl; register = λ p q h r. refl; queue = λ q. refl; held = λ b p q h. refl }
 leaves_all _ h = cc
 
 -- some items more leave the work, the register and the queue of a LUN
@@ -73,7 +73,7 @@ calm g past i l h =
       array_page = k.array_page (array_page g past l);
       register = k.register (array_page g past l) (queue g past l) (held g past l) (register g past l);
       queue = k.queue (queue g past l);
-      held = k.held (array_page g past l) (queue g past l) (held g past l);
+      held = k.held (is_copyback_read (closer g past l)) (array_page g past l) (queue g past l) (held g past l);
     }
 
 -- first some items, then more

@@ -1,13 +1,14 @@
 -- What a scene allows is permitted and the LUN's own.
 use Rattle.std.specs.List.{list_any}
 use Rattle.std.proofs.Common.{◌≡◌, ℕ, ◌<◌, Bool, true, false, ◌&&◌, ◌||◌, not, ltb, nat_le, Option, Some, None, List, refl, sym, ap, ◌∙◌, subst, arith, ltb-false, eqb-true, inl, inr}
-use Rattle.std.proofs.lemmas.Bool.{and_right, or_from}
+use Rattle.std.proofs.lemmas.Bool.{and_right, or_from, and_parts}
+use Rattle.std.proofs.Math.Bool.{and-false}
 use Rattle.nand_geometry.specs.declared.parts.Parts.{Parts}
 use Rattle.nand_geometry.specs.Limits.{page_len}
 use Rattle.nand_geometry.specs.Row.{parts_of}
-use Rattle.nand_geometry.specs.Optional.{is_wide, has_features, has_unique_id, has_enhanced_column, has_lun_reset, has_plane_reads, has_synchronous_reset}
+use Rattle.nand_geometry.specs.Optional.{has_all, is_wide, has_features, has_unique_id, has_enhanced_column, has_lun_reset, has_plane_reads, has_synchronous_reset, has_copyback}
 use Rattle.onfi_cycle.specs.declared.command.Command.{Command}
-use Rattle.onfi_cycle.specs.declared.command.Command.TheVariants.{Read, ReadConfirm, ChangeReadColumn, ChangeReadColumnConfirm, BlockErase, BlockEraseConfirm, BlockErasePlane, ReadStatus, ReadStatusEnhanced, PageProgram, ChangeWriteColumn, ProgramConfirm, ProgramPlane, ReadId, ReadParameterPage, Reset, ReadCacheSequential, ReadCacheEnd, ReadUniqueId, GetFeatures, SetFeatures, ResetLun, SynchronousReset, Unknown, ChangeReadColumnEnhanced, ReadPlane}
+use Rattle.onfi_cycle.specs.declared.command.Command.TheVariants.{Read, ReadConfirm, ChangeReadColumn, ChangeReadColumnConfirm, BlockErase, BlockEraseConfirm, BlockErasePlane, ReadStatus, ReadStatusEnhanced, PageProgram, ChangeWriteColumn, ProgramConfirm, ProgramPlane, ReadId, ReadParameterPage, Reset, ReadCacheSequential, ReadCacheEnd, ReadUniqueId, GetFeatures, SetFeatures, ResetLun, SynchronousReset, Unknown, ChangeReadColumnEnhanced, ReadPlane, CopybackRead}
 use Rattle.onfi_cycle.specs.declared.lun.Lun.{Lun}
 use Rattle.onfi_cycle.specs.declared.item.Item.{Item}
 use Rattle.onfi_cycle.specs.declared.opening.Opening.{Opening}
@@ -16,17 +17,17 @@ use Rattle.onfi_cycle.specs.declared.queued.Queued.{Queued}
 use Rattle.onfi_cycle.specs.declared.tail_facts.TailFacts.{TailFacts}
 use Rattle.onfi_cycle.specs.declared.target_cycle.TargetCycle.TheVariants.{CommandCycle, AddressCycle, InputCycle, OutputCycle}
 use Rattle.onfi_cycle.specs.LunView.{LunView}
-use Rattle.onfi_cycle.specs.Command.{at_last_row, addresses_the_array, is_change_read_column, is_enhanced_column}
+use Rattle.onfi_cycle.specs.Command.{at_last_row, addresses_the_array, is_change_read_column, is_enhanced_column, is_page_program, is_write_column}
 use Rattle.onfi_cycle.specs.Sequence.{opened, is_open, takes_inputs, takes_features, wants_command, wants_address, row_with, column_with, input_column, row}
 use Rattle.onfi_cycle.specs.Effect.{is_shared, page_address, names_lun}
 use Rattle.onfi_cycle.specs.Lun.{lun_view, luns_of, views_from}
-use Rattle.onfi_cycle.specs.Rules.{ends_row, named_lun_is, works_for_target, is_some_and, driver, second_of_page, second_column, caching, has_read_one, continues_cache, ends_cache, may_change_column, has_some, is_refused_by, register_len, has_no_byte, is_past_register, breaks_command_unknown, breaks_sequence_open, breaks_several_luns, breaks_no_column_to_change, breaks_command_misplaced, breaks_address_misplaced, breaks_row_outside, breaks_lun_busy, breaks_queue_clash, breaks_input_misplaced, breaks_no_sole_driver, breaks_data_not_ready, breaks_column_outside, breaks_cache_read_misplaced, breaks_plane_not_held, excludes_cache, holds_plane_of}
+use Rattle.onfi_cycle.specs.Rules.{ends_row, named_lun_is, works_for_target, is_some_and, driver, second_of_page, second_column, caching, has_read_one, continues_cache, ends_cache, may_change_column, has_some, is_refused_by, register_len, has_no_byte, is_past_register, breaks_command_unknown, breaks_sequence_open, breaks_several_luns, breaks_no_column_to_change, breaks_command_misplaced, breaks_address_misplaced, breaks_row_outside, breaks_lun_busy, breaks_queue_clash, breaks_input_misplaced, breaks_no_sole_driver, breaks_data_not_ready, breaks_column_outside, breaks_cache_read_misplaced, breaks_copyback_misplaced, breaks_plane_not_held, excludes_cache, holds_none, is_copying, holds_plane_of}
 use Rattle.onfi_cycle.specs.Permitted.{judge_cycle}
 use Rattle.onfi_cycle.specs.Channel.{Channel, is_there}
 use Rattle.micro_program.proofs.Below.{facts}
 use Rattle.micro_program.proofs.Basics.{there_lun}
 use Rattle.micro_program.proofs.Views.{some_at, passes_at}
-use Rattle.micro_program.proofs.Scenes.{Scene, IsScene, CommandAllowed, AddressAllowed, closed_unwanted}
+use Rattle.micro_program.proofs.Scenes.{Scene, CopiesNone, IsScene, CommandAllowed, AddressAllowed, closed_unwanted}
 
 -- 1. commands
 
@@ -35,7 +36,7 @@ shared_by : (g : Parts) → is_wide g.optional ≡ true → ltb 1 g.luns ≡ tru
 shared_by g e f = rw (e, f) refl
 
 judge_read : (g : Parts) (t : TailFacts) (luns : List LunView) → is_open t ≡ false → list_any (λ v. not v.busy) luns ≡ true → judge_cycle g t luns (CommandCycle Read) ≡ None
-unfolding breaks_command_unknown breaks_sequence_open breaks_several_luns breaks_no_column_to_change breaks_command_misplaced breaks_address_misplaced breaks_row_outside breaks_lun_busy breaks_queue_clash breaks_input_misplaced breaks_no_sole_driver breaks_data_not_ready breaks_column_outside breaks_cache_read_misplaced breaks_plane_not_held
+unfolding breaks_command_unknown breaks_sequence_open breaks_several_luns breaks_no_column_to_change breaks_command_misplaced breaks_address_misplaced breaks_row_outside breaks_lun_busy breaks_queue_clash breaks_input_misplaced breaks_no_sole_driver breaks_data_not_ready breaks_column_outside breaks_cache_read_misplaced breaks_copyback_misplaced breaks_plane_not_held
 judge_read g t luns closed ready = at (is_wide g.optional) (ltb 1 g.luns) refl refl
   where
     at : (w several : Bool) → is_wide g.optional ≡ w → ltb 1 g.luns ≡ several → judge_cycle g t luns (CommandCycle Read) ≡ None
@@ -44,7 +45,7 @@ judge_read g t luns closed ready = at (is_wide g.optional) (ltb 1 g.luns) refl r
     at false several e f = rw (e, closed, ready) refl
 
 judge_06 : (g : Parts) (t : TailFacts) (luns : List LunView) → is_open t ≡ false → list_any (λ v. not v.busy) luns ≡ true → has_enhanced_column g.optional ≡ true → judge_cycle g t luns (CommandCycle ChangeReadColumnEnhanced) ≡ None
-unfolding breaks_command_unknown breaks_sequence_open breaks_several_luns breaks_no_column_to_change breaks_command_misplaced breaks_address_misplaced breaks_row_outside breaks_lun_busy breaks_queue_clash breaks_input_misplaced breaks_no_sole_driver breaks_data_not_ready breaks_column_outside breaks_cache_read_misplaced breaks_plane_not_held
+unfolding breaks_command_unknown breaks_sequence_open breaks_several_luns breaks_no_column_to_change breaks_command_misplaced breaks_address_misplaced breaks_row_outside breaks_lun_busy breaks_queue_clash breaks_input_misplaced breaks_no_sole_driver breaks_data_not_ready breaks_column_outside breaks_cache_read_misplaced breaks_copyback_misplaced breaks_plane_not_held
 judge_06 g t luns closed ready declared = at (is_wide g.optional) (ltb 1 g.luns) refl refl
   where
     at : (w several : Bool) → is_wide g.optional ≡ w → ltb 1 g.luns ≡ several → judge_cycle g t luns (CommandCycle ChangeReadColumnEnhanced) ≡ None
@@ -53,7 +54,7 @@ judge_06 g t luns closed ready declared = at (is_wide g.optional) (ltb 1 g.luns)
     at false several e f = rw (e, closed, ready, declared) refl
 
 judge_erase : (g : Parts) (t : TailFacts) (luns : List LunView) → is_open t ≡ false → list_any (λ v. not v.busy) luns ≡ true → judge_cycle g t luns (CommandCycle BlockErase) ≡ None
-unfolding breaks_command_unknown breaks_sequence_open breaks_several_luns breaks_no_column_to_change breaks_command_misplaced breaks_address_misplaced breaks_row_outside breaks_lun_busy breaks_queue_clash breaks_input_misplaced breaks_no_sole_driver breaks_data_not_ready breaks_column_outside breaks_cache_read_misplaced breaks_plane_not_held
+unfolding breaks_command_unknown breaks_sequence_open breaks_several_luns breaks_no_column_to_change breaks_command_misplaced breaks_address_misplaced breaks_row_outside breaks_lun_busy breaks_queue_clash breaks_input_misplaced breaks_no_sole_driver breaks_data_not_ready breaks_column_outside breaks_cache_read_misplaced breaks_copyback_misplaced breaks_plane_not_held
 judge_erase g t luns closed ready = at (is_wide g.optional) (ltb 1 g.luns) refl refl
   where
     at : (w several : Bool) → is_wide g.optional ≡ w → ltb 1 g.luns ≡ several → judge_cycle g t luns (CommandCycle BlockErase) ≡ None
@@ -62,7 +63,7 @@ judge_erase g t luns closed ready = at (is_wide g.optional) (ltb 1 g.luns) refl 
     at false several e f = rw (e, closed, ready) refl
 
 judge_program : (g : Parts) (t : TailFacts) (luns : List LunView) → is_open t ≡ false → list_any (λ v. not v.busy) luns ≡ true → judge_cycle g t luns (CommandCycle PageProgram) ≡ None
-unfolding breaks_command_unknown breaks_sequence_open breaks_several_luns breaks_no_column_to_change breaks_command_misplaced breaks_address_misplaced breaks_row_outside breaks_lun_busy breaks_queue_clash breaks_input_misplaced breaks_no_sole_driver breaks_data_not_ready breaks_column_outside breaks_cache_read_misplaced breaks_plane_not_held
+unfolding breaks_command_unknown breaks_sequence_open breaks_several_luns breaks_no_column_to_change breaks_command_misplaced breaks_address_misplaced breaks_row_outside breaks_lun_busy breaks_queue_clash breaks_input_misplaced breaks_no_sole_driver breaks_data_not_ready breaks_column_outside breaks_cache_read_misplaced breaks_copyback_misplaced breaks_plane_not_held
 judge_program g t luns closed ready = at (is_wide g.optional) (ltb 1 g.luns) refl refl
   where
     at : (w several : Bool) → is_wide g.optional ≡ w → ltb 1 g.luns ≡ several → judge_cycle g t luns (CommandCycle PageProgram) ≡ None
@@ -71,7 +72,7 @@ judge_program g t luns closed ready = at (is_wide g.optional) (ltb 1 g.luns) ref
     at false several e f = rw (e, closed, ready) refl
 
 judge_read_column : (g : Parts) (t : TailFacts) (luns : List LunView) (v : LunView) → is_open t ≡ false → list_any (λ w. not w.busy) luns ≡ true → driver luns ≡ Some v → may_change_column v ≡ true → judge_cycle g t luns (CommandCycle ChangeReadColumn) ≡ None
-unfolding breaks_command_unknown breaks_sequence_open breaks_several_luns breaks_no_column_to_change breaks_command_misplaced breaks_address_misplaced breaks_row_outside breaks_lun_busy breaks_queue_clash breaks_input_misplaced breaks_no_sole_driver breaks_data_not_ready breaks_column_outside breaks_cache_read_misplaced breaks_plane_not_held
+unfolding breaks_command_unknown breaks_sequence_open breaks_several_luns breaks_no_column_to_change breaks_command_misplaced breaks_address_misplaced breaks_row_outside breaks_lun_busy breaks_queue_clash breaks_input_misplaced breaks_no_sole_driver breaks_data_not_ready breaks_column_outside breaks_cache_read_misplaced breaks_copyback_misplaced breaks_plane_not_held
 judge_read_column g t luns v closed ready one may = at (is_wide g.optional) (ltb 1 g.luns) refl refl
   where
     at : (w several : Bool) → is_wide g.optional ≡ w → ltb 1 g.luns ≡ several → judge_cycle g t luns (CommandCycle ChangeReadColumn) ≡ None
@@ -80,7 +81,7 @@ judge_read_column g t luns v closed ready one may = at (is_wide g.optional) (ltb
     at false several e f = rw (e, closed, ready, one, may) refl
 
 judge_status : (g : Parts) (t : TailFacts) (luns : List LunView) → is_open t ≡ false → ltb 1 g.luns ≡ false → judge_cycle g t luns (CommandCycle ReadStatus) ≡ None
-unfolding breaks_command_unknown breaks_sequence_open breaks_several_luns breaks_no_column_to_change breaks_command_misplaced breaks_address_misplaced breaks_row_outside breaks_lun_busy breaks_queue_clash breaks_input_misplaced breaks_no_sole_driver breaks_data_not_ready breaks_column_outside breaks_cache_read_misplaced breaks_plane_not_held
+unfolding breaks_command_unknown breaks_sequence_open breaks_several_luns breaks_no_column_to_change breaks_command_misplaced breaks_address_misplaced breaks_row_outside breaks_lun_busy breaks_queue_clash breaks_input_misplaced breaks_no_sole_driver breaks_data_not_ready breaks_column_outside breaks_cache_read_misplaced breaks_copyback_misplaced breaks_plane_not_held
 judge_status g t luns closed one = at (is_wide g.optional) refl
   where
     at : (w : Bool) → is_wide g.optional ≡ w → judge_cycle g t luns (CommandCycle ReadStatus) ≡ None
@@ -88,7 +89,7 @@ judge_status g t luns closed one = at (is_wide g.optional) refl
     at false e = rw (e, closed, one) refl
 
 judge_enhanced : (g : Parts) (t : TailFacts) (luns : List LunView) → is_open t ≡ false → g.enhanced ≡ true → (is_shared g && list_any works_for_target luns) ≡ false → judge_cycle g t luns (CommandCycle ReadStatusEnhanced) ≡ None
-unfolding breaks_command_unknown breaks_sequence_open breaks_several_luns breaks_no_column_to_change breaks_command_misplaced breaks_address_misplaced breaks_row_outside breaks_lun_busy breaks_queue_clash breaks_input_misplaced breaks_no_sole_driver breaks_data_not_ready breaks_column_outside breaks_cache_read_misplaced breaks_plane_not_held
+unfolding breaks_command_unknown breaks_sequence_open breaks_several_luns breaks_no_column_to_change breaks_command_misplaced breaks_address_misplaced breaks_row_outside breaks_lun_busy breaks_queue_clash breaks_input_misplaced breaks_no_sole_driver breaks_data_not_ready breaks_column_outside breaks_cache_read_misplaced breaks_copyback_misplaced breaks_plane_not_held
 judge_enhanced g t luns closed enhanced free = at (is_wide g.optional) (ltb 1 g.luns) refl refl
   where
     at : (w several : Bool) → is_wide g.optional ≡ w → ltb 1 g.luns ≡ several → judge_cycle g t luns (CommandCycle ReadStatusEnhanced) ≡ None
@@ -97,7 +98,7 @@ judge_enhanced g t luns closed enhanced free = at (is_wide g.optional) (ltb 1 g.
     at false several e f = rw (e, closed, enhanced) refl
 
 judge_reset : (g : Parts) (t : TailFacts) (luns : List LunView) → (is_open t && not (is_wide g.optional)) ≡ false → ltb 1 g.luns ≡ false → judge_cycle g t luns (CommandCycle Reset) ≡ None
-unfolding breaks_command_unknown breaks_sequence_open breaks_several_luns breaks_no_column_to_change breaks_command_misplaced breaks_address_misplaced breaks_row_outside breaks_lun_busy breaks_queue_clash breaks_input_misplaced breaks_no_sole_driver breaks_data_not_ready breaks_column_outside breaks_cache_read_misplaced breaks_plane_not_held
+unfolding breaks_command_unknown breaks_sequence_open breaks_several_luns breaks_no_column_to_change breaks_command_misplaced breaks_address_misplaced breaks_row_outside breaks_lun_busy breaks_queue_clash breaks_input_misplaced breaks_no_sole_driver breaks_data_not_ready breaks_column_outside breaks_cache_read_misplaced breaks_copyback_misplaced breaks_plane_not_held
 judge_reset g t luns closed one = at (is_wide g.optional) refl
   where
     at : (w : Bool) → is_wide g.optional ≡ w → judge_cycle g t luns (CommandCycle Reset) ≡ None
@@ -105,7 +106,7 @@ judge_reset g t luns closed one = at (is_wide g.optional) refl
     at false e = rw (closed, e, one) refl
 
 judge_synchronous : (g : Parts) (t : TailFacts) (luns : List LunView) → (is_open t && not (is_wide g.optional)) ≡ false → ltb 1 g.luns ≡ false → has_synchronous_reset g.optional ≡ true → judge_cycle g t luns (CommandCycle SynchronousReset) ≡ None
-unfolding breaks_command_unknown breaks_sequence_open breaks_several_luns breaks_no_column_to_change breaks_command_misplaced breaks_address_misplaced breaks_row_outside breaks_lun_busy breaks_queue_clash breaks_input_misplaced breaks_no_sole_driver breaks_data_not_ready breaks_column_outside breaks_cache_read_misplaced breaks_plane_not_held
+unfolding breaks_command_unknown breaks_sequence_open breaks_several_luns breaks_no_column_to_change breaks_command_misplaced breaks_address_misplaced breaks_row_outside breaks_lun_busy breaks_queue_clash breaks_input_misplaced breaks_no_sole_driver breaks_data_not_ready breaks_column_outside breaks_cache_read_misplaced breaks_copyback_misplaced breaks_plane_not_held
 judge_synchronous g t luns closed one declared = at (is_wide g.optional) refl
   where
     at : (w : Bool) → is_wide g.optional ≡ w → judge_cycle g t luns (CommandCycle SynchronousReset) ≡ None
@@ -113,7 +114,7 @@ judge_synchronous g t luns closed one declared = at (is_wide g.optional) refl
     at false e = rw (closed, e, one, declared) refl
 
 judge_lun_reset : (g : Parts) (t : TailFacts) (luns : List LunView) → is_open t ≡ false → has_lun_reset g.optional ≡ true → judge_cycle g t luns (CommandCycle ResetLun) ≡ None
-unfolding breaks_command_unknown breaks_sequence_open breaks_several_luns breaks_no_column_to_change breaks_command_misplaced breaks_address_misplaced breaks_row_outside breaks_lun_busy breaks_queue_clash breaks_input_misplaced breaks_no_sole_driver breaks_data_not_ready breaks_column_outside breaks_cache_read_misplaced breaks_plane_not_held
+unfolding breaks_command_unknown breaks_sequence_open breaks_several_luns breaks_no_column_to_change breaks_command_misplaced breaks_address_misplaced breaks_row_outside breaks_lun_busy breaks_queue_clash breaks_input_misplaced breaks_no_sole_driver breaks_data_not_ready breaks_column_outside breaks_cache_read_misplaced breaks_copyback_misplaced breaks_plane_not_held
 judge_lun_reset g t luns closed declared = at (is_wide g.optional) (ltb 1 g.luns) refl refl
   where
     at : (w several : Bool) → is_wide g.optional ≡ w → ltb 1 g.luns ≡ several → judge_cycle g t luns (CommandCycle ResetLun) ≡ None
@@ -122,7 +123,7 @@ judge_lun_reset g t luns closed declared = at (is_wide g.optional) (ltb 1 g.luns
     at false several e f = rw (e, closed, declared) refl
 
 judge_id : (g : Parts) (t : TailFacts) (luns : List LunView) → is_open t ≡ false → ltb 1 g.luns ≡ false → list_any (λ v. not v.busy) luns ≡ true → list_any (λ v. has_some v.queue) luns ≡ false → list_any caching luns ≡ false → judge_cycle g t luns (CommandCycle ReadId) ≡ None
-unfolding breaks_command_unknown breaks_sequence_open breaks_several_luns breaks_no_column_to_change breaks_command_misplaced breaks_address_misplaced breaks_row_outside breaks_lun_busy breaks_queue_clash breaks_input_misplaced breaks_no_sole_driver breaks_data_not_ready breaks_column_outside breaks_cache_read_misplaced breaks_plane_not_held
+unfolding breaks_command_unknown breaks_sequence_open breaks_several_luns breaks_no_column_to_change breaks_command_misplaced breaks_address_misplaced breaks_row_outside breaks_lun_busy breaks_queue_clash breaks_input_misplaced breaks_no_sole_driver breaks_data_not_ready breaks_column_outside breaks_cache_read_misplaced breaks_copyback_misplaced breaks_plane_not_held
 judge_id g t luns closed one ready queue cache = at (is_wide g.optional) refl
   where
     at : (w : Bool) → is_wide g.optional ≡ w → judge_cycle g t luns (CommandCycle ReadId) ≡ None
@@ -130,7 +131,7 @@ judge_id g t luns closed one ready queue cache = at (is_wide g.optional) refl
     at false e = rw (e, closed, one, ready, queue, cache) refl
 
 judge_parameters : (g : Parts) (t : TailFacts) (luns : List LunView) → is_open t ≡ false → ltb 1 g.luns ≡ false → list_any (λ v. not v.busy) luns ≡ true → list_any (λ v. has_some v.queue) luns ≡ false → list_any caching luns ≡ false → judge_cycle g t luns (CommandCycle ReadParameterPage) ≡ None
-unfolding breaks_command_unknown breaks_sequence_open breaks_several_luns breaks_no_column_to_change breaks_command_misplaced breaks_address_misplaced breaks_row_outside breaks_lun_busy breaks_queue_clash breaks_input_misplaced breaks_no_sole_driver breaks_data_not_ready breaks_column_outside breaks_cache_read_misplaced breaks_plane_not_held
+unfolding breaks_command_unknown breaks_sequence_open breaks_several_luns breaks_no_column_to_change breaks_command_misplaced breaks_address_misplaced breaks_row_outside breaks_lun_busy breaks_queue_clash breaks_input_misplaced breaks_no_sole_driver breaks_data_not_ready breaks_column_outside breaks_cache_read_misplaced breaks_copyback_misplaced breaks_plane_not_held
 judge_parameters g t luns closed one ready queue cache = at (is_wide g.optional) refl
   where
     at : (w : Bool) → is_wide g.optional ≡ w → judge_cycle g t luns (CommandCycle ReadParameterPage) ≡ None
@@ -138,7 +139,7 @@ judge_parameters g t luns closed one ready queue cache = at (is_wide g.optional)
     at false e = rw (e, closed, one, ready, queue, cache) refl
 
 judge_unique_id : (g : Parts) (t : TailFacts) (luns : List LunView) → is_open t ≡ false → ltb 1 g.luns ≡ false → list_any (λ v. not v.busy) luns ≡ true → list_any (λ v. has_some v.queue) luns ≡ false → list_any caching luns ≡ false → has_unique_id g.optional ≡ true → judge_cycle g t luns (CommandCycle ReadUniqueId) ≡ None
-unfolding breaks_command_unknown breaks_sequence_open breaks_several_luns breaks_no_column_to_change breaks_command_misplaced breaks_address_misplaced breaks_row_outside breaks_lun_busy breaks_queue_clash breaks_input_misplaced breaks_no_sole_driver breaks_data_not_ready breaks_column_outside breaks_cache_read_misplaced breaks_plane_not_held
+unfolding breaks_command_unknown breaks_sequence_open breaks_several_luns breaks_no_column_to_change breaks_command_misplaced breaks_address_misplaced breaks_row_outside breaks_lun_busy breaks_queue_clash breaks_input_misplaced breaks_no_sole_driver breaks_data_not_ready breaks_column_outside breaks_cache_read_misplaced breaks_copyback_misplaced breaks_plane_not_held
 judge_unique_id g t luns closed one ready queue cache declared = at (is_wide g.optional) refl
   where
     at : (w : Bool) → is_wide g.optional ≡ w → judge_cycle g t luns (CommandCycle ReadUniqueId) ≡ None
@@ -146,7 +147,7 @@ judge_unique_id g t luns closed one ready queue cache declared = at (is_wide g.o
     at false e = rw (e, closed, one, ready, queue, cache, declared) refl
 
 judge_features : (g : Parts) (t : TailFacts) (luns : List LunView) → is_open t ≡ false → ltb 1 g.luns ≡ false → list_any (λ v. not v.busy) luns ≡ true → list_any (λ v. has_some v.queue) luns ≡ false → list_any caching luns ≡ false → has_features g.optional ≡ true → judge_cycle g t luns (CommandCycle GetFeatures) ≡ None
-unfolding breaks_command_unknown breaks_sequence_open breaks_several_luns breaks_no_column_to_change breaks_command_misplaced breaks_address_misplaced breaks_row_outside breaks_lun_busy breaks_queue_clash breaks_input_misplaced breaks_no_sole_driver breaks_data_not_ready breaks_column_outside breaks_cache_read_misplaced breaks_plane_not_held
+unfolding breaks_command_unknown breaks_sequence_open breaks_several_luns breaks_no_column_to_change breaks_command_misplaced breaks_address_misplaced breaks_row_outside breaks_lun_busy breaks_queue_clash breaks_input_misplaced breaks_no_sole_driver breaks_data_not_ready breaks_column_outside breaks_cache_read_misplaced breaks_copyback_misplaced breaks_plane_not_held
 judge_features g t luns closed one ready queue cache declared = at (is_wide g.optional) refl
   where
     at : (w : Bool) → is_wide g.optional ≡ w → judge_cycle g t luns (CommandCycle GetFeatures) ≡ None
@@ -154,7 +155,7 @@ judge_features g t luns closed one ready queue cache declared = at (is_wide g.op
     at false e = rw (e, closed, one, ready, queue, cache, declared) refl
 
 judge_set_features : (g : Parts) (t : TailFacts) (luns : List LunView) → is_open t ≡ false → ltb 1 g.luns ≡ false → list_any (λ v. not v.busy) luns ≡ true → list_any (λ v. has_some v.queue) luns ≡ false → list_any caching luns ≡ false → has_features g.optional ≡ true → judge_cycle g t luns (CommandCycle SetFeatures) ≡ None
-unfolding breaks_command_unknown breaks_sequence_open breaks_several_luns breaks_no_column_to_change breaks_command_misplaced breaks_address_misplaced breaks_row_outside breaks_lun_busy breaks_queue_clash breaks_input_misplaced breaks_no_sole_driver breaks_data_not_ready breaks_column_outside breaks_cache_read_misplaced breaks_plane_not_held
+unfolding breaks_command_unknown breaks_sequence_open breaks_several_luns breaks_no_column_to_change breaks_command_misplaced breaks_address_misplaced breaks_row_outside breaks_lun_busy breaks_queue_clash breaks_input_misplaced breaks_no_sole_driver breaks_data_not_ready breaks_column_outside breaks_cache_read_misplaced breaks_copyback_misplaced breaks_plane_not_held
 judge_set_features g t luns closed one ready queue cache declared = at (is_wide g.optional) refl
   where
     at : (w : Bool) → is_wide g.optional ≡ w → judge_cycle g t luns (CommandCycle SetFeatures) ≡ None
@@ -162,7 +163,7 @@ judge_set_features g t luns closed one ready queue cache declared = at (is_wide 
     at false e = rw (e, closed, one, ready, queue, cache, declared) refl
 
 judge_cache : (g : Parts) (t : TailFacts) (luns : List LunView) (v : LunView) → is_open t ≡ false → g.cache ≡ true → driver luns ≡ Some v → continues_cache g v ≡ true → judge_cycle g t luns (CommandCycle ReadCacheSequential) ≡ None
-unfolding breaks_command_unknown breaks_sequence_open breaks_several_luns breaks_no_column_to_change breaks_command_misplaced breaks_address_misplaced breaks_row_outside breaks_lun_busy breaks_queue_clash breaks_input_misplaced breaks_no_sole_driver breaks_data_not_ready breaks_column_outside breaks_cache_read_misplaced breaks_plane_not_held
+unfolding breaks_command_unknown breaks_sequence_open breaks_several_luns breaks_no_column_to_change breaks_command_misplaced breaks_address_misplaced breaks_row_outside breaks_lun_busy breaks_queue_clash breaks_input_misplaced breaks_no_sole_driver breaks_data_not_ready breaks_column_outside breaks_cache_read_misplaced breaks_copyback_misplaced breaks_plane_not_held
 judge_cache g t luns v closed declared one passes = at (is_wide g.optional) (ltb 1 g.luns) refl refl
   where
     at : (w several : Bool) → is_wide g.optional ≡ w → ltb 1 g.luns ≡ several → judge_cycle g t luns (CommandCycle ReadCacheSequential) ≡ None
@@ -171,7 +172,7 @@ judge_cache g t luns v closed declared one passes = at (is_wide g.optional) (ltb
     at false several e f = rw (e, closed, declared, closed_unwanted t closed, one, passes) refl
 
 judge_row_cache : (g : Parts) (t : TailFacts) (luns : List LunView) → wants_command t ReadCacheSequential ≡ true → is_wide g.optional ≡ true → g.cache ≡ true → named_lun_is g (row t) has_read_one luns ≡ true → judge_cycle g t luns (CommandCycle ReadCacheSequential) ≡ None
-unfolding breaks_command_unknown breaks_sequence_open breaks_several_luns breaks_no_column_to_change breaks_command_misplaced breaks_address_misplaced breaks_row_outside breaks_lun_busy breaks_queue_clash breaks_input_misplaced breaks_no_sole_driver breaks_data_not_ready breaks_column_outside breaks_cache_read_misplaced breaks_plane_not_held
+unfolding breaks_command_unknown breaks_sequence_open breaks_several_luns breaks_no_column_to_change breaks_command_misplaced breaks_address_misplaced breaks_row_outside breaks_lun_busy breaks_queue_clash breaks_input_misplaced breaks_no_sole_driver breaks_data_not_ready breaks_column_outside breaks_cache_read_misplaced breaks_copyback_misplaced breaks_plane_not_held
 judge_row_cache g t luns wants wide declared read = at (is_open t) (ltb 1 g.luns) refl refl
   where
     at : (opens several : Bool) → is_open t ≡ opens → ltb 1 g.luns ≡ several → judge_cycle g t luns (CommandCycle ReadCacheSequential) ≡ None
@@ -181,7 +182,7 @@ judge_row_cache g t luns wants wide declared read = at (is_open t) (ltb 1 g.luns
     at false false e f = rw (e, f, wide, declared, wants, read) refl
 
 judge_cache_end : (g : Parts) (t : TailFacts) (luns : List LunView) (v : LunView) → is_open t ≡ false → g.cache ≡ true → driver luns ≡ Some v → ends_cache v ≡ true → judge_cycle g t luns (CommandCycle ReadCacheEnd) ≡ None
-unfolding breaks_command_unknown breaks_sequence_open breaks_several_luns breaks_no_column_to_change breaks_command_misplaced breaks_address_misplaced breaks_row_outside breaks_lun_busy breaks_queue_clash breaks_input_misplaced breaks_no_sole_driver breaks_data_not_ready breaks_column_outside breaks_cache_read_misplaced breaks_plane_not_held
+unfolding breaks_command_unknown breaks_sequence_open breaks_several_luns breaks_no_column_to_change breaks_command_misplaced breaks_address_misplaced breaks_row_outside breaks_lun_busy breaks_queue_clash breaks_input_misplaced breaks_no_sole_driver breaks_data_not_ready breaks_column_outside breaks_cache_read_misplaced breaks_copyback_misplaced breaks_plane_not_held
 judge_cache_end g t luns v closed declared one passes = at (is_wide g.optional) (ltb 1 g.luns) refl refl
   where
     at : (w several : Bool) → is_wide g.optional ≡ w → ltb 1 g.luns ≡ several → judge_cycle g t luns (CommandCycle ReadCacheEnd) ≡ None
@@ -190,7 +191,7 @@ judge_cache_end g t luns v closed declared one passes = at (is_wide g.optional) 
     at false several e f = rw (e, closed, declared, one, passes) refl
 
 judge_30 : (g : Parts) (t : TailFacts) (luns : List LunView) → wants_command t ReadConfirm ≡ true → (is_wide g.optional && named_lun_is g (row t) caching luns) ≡ false → judge_cycle g t luns (CommandCycle ReadConfirm) ≡ None
-unfolding breaks_command_unknown breaks_sequence_open breaks_several_luns breaks_no_column_to_change breaks_command_misplaced breaks_address_misplaced breaks_row_outside breaks_lun_busy breaks_queue_clash breaks_input_misplaced breaks_no_sole_driver breaks_data_not_ready breaks_column_outside breaks_cache_read_misplaced breaks_plane_not_held
+unfolding breaks_command_unknown breaks_sequence_open breaks_several_luns breaks_no_column_to_change breaks_command_misplaced breaks_address_misplaced breaks_row_outside breaks_lun_busy breaks_queue_clash breaks_input_misplaced breaks_no_sole_driver breaks_data_not_ready breaks_column_outside breaks_cache_read_misplaced breaks_copyback_misplaced breaks_plane_not_held
 judge_30 g t luns wants free = at (is_wide g.optional) (ltb 1 g.luns) refl refl
   where
     at : (w several : Bool) → is_wide g.optional ≡ w → ltb 1 g.luns ≡ several → judge_cycle g t luns (CommandCycle ReadConfirm) ≡ None
@@ -199,16 +200,19 @@ judge_30 g t luns wants free = at (is_wide g.optional) (ltb 1 g.luns) refl refl
     at false several e f = rw (e, wants) refl
 
 judge_32 : (g : Parts) (t : TailFacts) (luns : List LunView) → wants_command t ReadPlane ≡ true → named_lun_is g (row t) caching luns ≡ false → has_plane_reads g.optional ≡ true → judge_cycle g t luns (CommandCycle ReadPlane) ≡ None
-unfolding breaks_command_unknown breaks_sequence_open breaks_several_luns breaks_no_column_to_change breaks_command_misplaced breaks_address_misplaced breaks_row_outside breaks_lun_busy breaks_queue_clash breaks_input_misplaced breaks_no_sole_driver breaks_data_not_ready breaks_column_outside breaks_cache_read_misplaced breaks_plane_not_held
+unfolding breaks_command_unknown breaks_sequence_open breaks_several_luns breaks_no_column_to_change breaks_command_misplaced breaks_address_misplaced breaks_row_outside breaks_lun_busy breaks_queue_clash breaks_input_misplaced breaks_no_sole_driver breaks_data_not_ready breaks_column_outside breaks_cache_read_misplaced breaks_copyback_misplaced breaks_plane_not_held
 judge_32 g t luns wants free declared = at (is_wide g.optional) (ltb 1 g.luns) refl refl
   where
+    reads : has_all g.optional 1024 ≡ true
+    reads = (and_parts (is_wide g.optional) (has_all g.optional 1024) declared).1
+
     at : (w several : Bool) → is_wide g.optional ≡ w → ltb 1 g.luns ≡ several → judge_cycle g t luns (CommandCycle ReadPlane) ≡ None
-    at true true e f = rw (e, f, wants, free, declared) refl
-    at true false e f = rw (e, f, wants, free, declared) refl
-    at false several e f = rw (e, wants, free, declared) refl
+    at true true e f = rw (e, f, wants, free, reads) refl
+    at true false e f = rw (e, f, wants, free, reads) refl
+    at false several e f = let wide : true ≡ false = sym (and_parts (is_wide g.optional) _ declared).0 ∙ e in cc
 
 judge_d0 : (g : Parts) (t : TailFacts) (luns : List LunView) → wants_command t BlockEraseConfirm ≡ true → judge_cycle g t luns (CommandCycle BlockEraseConfirm) ≡ None
-unfolding breaks_command_unknown breaks_sequence_open breaks_several_luns breaks_no_column_to_change breaks_command_misplaced breaks_address_misplaced breaks_row_outside breaks_lun_busy breaks_queue_clash breaks_input_misplaced breaks_no_sole_driver breaks_data_not_ready breaks_column_outside breaks_cache_read_misplaced breaks_plane_not_held
+unfolding breaks_command_unknown breaks_sequence_open breaks_several_luns breaks_no_column_to_change breaks_command_misplaced breaks_address_misplaced breaks_row_outside breaks_lun_busy breaks_queue_clash breaks_input_misplaced breaks_no_sole_driver breaks_data_not_ready breaks_column_outside breaks_cache_read_misplaced breaks_copyback_misplaced breaks_plane_not_held
 judge_d0 g t luns wants = at (is_wide g.optional) (ltb 1 g.luns) refl refl
   where
     at : (w several : Bool) → is_wide g.optional ≡ w → ltb 1 g.luns ≡ several → judge_cycle g t luns (CommandCycle BlockEraseConfirm) ≡ None
@@ -217,7 +221,7 @@ judge_d0 g t luns wants = at (is_wide g.optional) (ltb 1 g.luns) refl refl
     at false several e f = rw (e, wants) refl
 
 judge_d1 : (g : Parts) (t : TailFacts) (luns : List LunView) → wants_command t BlockErasePlane ≡ true → g.multi_plane ≡ true → judge_cycle g t luns (CommandCycle BlockErasePlane) ≡ None
-unfolding breaks_command_unknown breaks_sequence_open breaks_several_luns breaks_no_column_to_change breaks_command_misplaced breaks_address_misplaced breaks_row_outside breaks_lun_busy breaks_queue_clash breaks_input_misplaced breaks_no_sole_driver breaks_data_not_ready breaks_column_outside breaks_cache_read_misplaced breaks_plane_not_held
+unfolding breaks_command_unknown breaks_sequence_open breaks_several_luns breaks_no_column_to_change breaks_command_misplaced breaks_address_misplaced breaks_row_outside breaks_lun_busy breaks_queue_clash breaks_input_misplaced breaks_no_sole_driver breaks_data_not_ready breaks_column_outside breaks_cache_read_misplaced breaks_copyback_misplaced breaks_plane_not_held
 judge_d1 g t luns wants declared = at (is_wide g.optional) (ltb 1 g.luns) refl refl
   where
     at : (w several : Bool) → is_wide g.optional ≡ w → ltb 1 g.luns ≡ several → judge_cycle g t luns (CommandCycle BlockErasePlane) ≡ None
@@ -226,7 +230,7 @@ judge_d1 g t luns wants declared = at (is_wide g.optional) (ltb 1 g.luns) refl r
     at false several e f = rw (e, wants, declared) refl
 
 judge_10 : (g : Parts) (t : TailFacts) (luns : List LunView) → wants_command t ProgramConfirm ≡ true → judge_cycle g t luns (CommandCycle ProgramConfirm) ≡ None
-unfolding breaks_command_unknown breaks_sequence_open breaks_several_luns breaks_no_column_to_change breaks_command_misplaced breaks_address_misplaced breaks_row_outside breaks_lun_busy breaks_queue_clash breaks_input_misplaced breaks_no_sole_driver breaks_data_not_ready breaks_column_outside breaks_cache_read_misplaced breaks_plane_not_held
+unfolding breaks_command_unknown breaks_sequence_open breaks_several_luns breaks_no_column_to_change breaks_command_misplaced breaks_address_misplaced breaks_row_outside breaks_lun_busy breaks_queue_clash breaks_input_misplaced breaks_no_sole_driver breaks_data_not_ready breaks_column_outside breaks_cache_read_misplaced breaks_copyback_misplaced breaks_plane_not_held
 judge_10 g t luns wants = at (is_wide g.optional) (ltb 1 g.luns) refl refl
   where
     at : (w several : Bool) → is_wide g.optional ≡ w → ltb 1 g.luns ≡ several → judge_cycle g t luns (CommandCycle ProgramConfirm) ≡ None
@@ -235,7 +239,7 @@ judge_10 g t luns wants = at (is_wide g.optional) (ltb 1 g.luns) refl refl
     at false several e f = rw (e, wants) refl
 
 judge_11 : (g : Parts) (t : TailFacts) (luns : List LunView) → wants_command t ProgramPlane ≡ true → g.multi_plane ≡ true → judge_cycle g t luns (CommandCycle ProgramPlane) ≡ None
-unfolding breaks_command_unknown breaks_sequence_open breaks_several_luns breaks_no_column_to_change breaks_command_misplaced breaks_address_misplaced breaks_row_outside breaks_lun_busy breaks_queue_clash breaks_input_misplaced breaks_no_sole_driver breaks_data_not_ready breaks_column_outside breaks_cache_read_misplaced breaks_plane_not_held
+unfolding breaks_command_unknown breaks_sequence_open breaks_several_luns breaks_no_column_to_change breaks_command_misplaced breaks_address_misplaced breaks_row_outside breaks_lun_busy breaks_queue_clash breaks_input_misplaced breaks_no_sole_driver breaks_data_not_ready breaks_column_outside breaks_cache_read_misplaced breaks_copyback_misplaced breaks_plane_not_held
 judge_11 g t luns wants declared = at (is_wide g.optional) (ltb 1 g.luns) refl refl
   where
     at : (w several : Bool) → is_wide g.optional ≡ w → ltb 1 g.luns ≡ several → judge_cycle g t luns (CommandCycle ProgramPlane) ≡ None
@@ -244,7 +248,7 @@ judge_11 g t luns wants declared = at (is_wide g.optional) (ltb 1 g.luns) refl r
     at false several e f = rw (e, wants, declared) refl
 
 judge_e0 : (g : Parts) (t : TailFacts) (luns : List LunView) → wants_command t ChangeReadColumnConfirm ≡ true → judge_cycle g t luns (CommandCycle ChangeReadColumnConfirm) ≡ None
-unfolding breaks_command_unknown breaks_sequence_open breaks_several_luns breaks_no_column_to_change breaks_command_misplaced breaks_address_misplaced breaks_row_outside breaks_lun_busy breaks_queue_clash breaks_input_misplaced breaks_no_sole_driver breaks_data_not_ready breaks_column_outside breaks_cache_read_misplaced breaks_plane_not_held
+unfolding breaks_command_unknown breaks_sequence_open breaks_several_luns breaks_no_column_to_change breaks_command_misplaced breaks_address_misplaced breaks_row_outside breaks_lun_busy breaks_queue_clash breaks_input_misplaced breaks_no_sole_driver breaks_data_not_ready breaks_column_outside breaks_cache_read_misplaced breaks_copyback_misplaced breaks_plane_not_held
 judge_e0 g t luns wants = at (is_wide g.optional) (ltb 1 g.luns) refl refl
   where
     at : (w several : Bool) → is_wide g.optional ≡ w → ltb 1 g.luns ≡ several → judge_cycle g t luns (CommandCycle ChangeReadColumnConfirm) ≡ None
@@ -252,14 +256,35 @@ judge_e0 g t luns wants = at (is_wide g.optional) (ltb 1 g.luns) refl refl
     at true false e f = rw (e, f, wants) refl
     at false several e f = rw (e, wants) refl
 
+-- 85 goes on with the data where it is, and a chip with copybacks is one of the wider profile
+goes_on_open : (copies opens wants wide : Bool) → (copies ≡ true → wide ≡ true) → wants ≡ true → (copies && (opens && not ((false || wants) && wide))) ≡ false
+goes_on_open true opens true true h w = and-false opens
+goes_on_open true opens true false h w = let no = h refl in cc
+goes_on_open true opens false wide h w = cc
+goes_on_open false opens wants wide h w = refl
+
+open_85 : (g : Parts) (t : TailFacts) → wants_command t ChangeWriteColumn ≡ true → breaks_sequence_open g t (CommandCycle ChangeWriteColumn) ≡ false
+unfolding breaks_sequence_open
+open_85 g t wants = goes_on_open (has_copyback g.optional) (is_open t) (wants_command t ChangeWriteColumn) (is_wide g.optional) (λ e. (and_parts (is_wide g.optional) _ e).0) wants
+
+placed_85 : (g : Parts) (t : TailFacts) → wants_command t ChangeWriteColumn ≡ true → breaks_command_misplaced g t (CommandCycle ChangeWriteColumn) ≡ false
+unfolding breaks_command_misplaced
+placed_85 g t wants = ap (λ (b : Bool). not (has_copyback g.optional) && not b) wants ∙ and-false (not (has_copyback g.optional))
+
 judge_85 : (g : Parts) (t : TailFacts) (luns : List LunView) → wants_command t ChangeWriteColumn ≡ true → judge_cycle g t luns (CommandCycle ChangeWriteColumn) ≡ None
-unfolding breaks_command_unknown breaks_sequence_open breaks_several_luns breaks_no_column_to_change breaks_command_misplaced breaks_address_misplaced breaks_row_outside breaks_lun_busy breaks_queue_clash breaks_input_misplaced breaks_no_sole_driver breaks_data_not_ready breaks_column_outside breaks_cache_read_misplaced breaks_plane_not_held
+unfolding breaks_command_unknown breaks_several_luns breaks_no_column_to_change breaks_address_misplaced breaks_row_outside breaks_lun_busy breaks_queue_clash breaks_input_misplaced breaks_no_sole_driver breaks_data_not_ready breaks_column_outside breaks_cache_read_misplaced breaks_copyback_misplaced breaks_plane_not_held
 judge_85 g t luns wants = at (is_wide g.optional) (ltb 1 g.luns) refl refl
   where
+    open_is : breaks_sequence_open g t (CommandCycle ChangeWriteColumn) ≡ false
+    open_is = open_85 g t wants
+
+    placed : breaks_command_misplaced g t (CommandCycle ChangeWriteColumn) ≡ false
+    placed = placed_85 g t wants
+
     at : (w several : Bool) → is_wide g.optional ≡ w → ltb 1 g.luns ≡ several → judge_cycle g t luns (CommandCycle ChangeWriteColumn) ≡ None
-    at true true e f = rw (e, f, wants) refl
-    at true false e f = rw (e, f, wants) refl
-    at false several e f = rw (e, wants) refl
+    at true true e f = rw (open_is, placed, e, f, wants) refl
+    at true false e f = rw (open_is, placed, e, f, wants) refl
+    at false several e f = rw (open_is, placed, e, wants) refl
 
 -- the only LUN of its target
 some_of_one : (g : Parts) (past : List Item) (l : Lun) (test : LunView → Bool) → g.luns ≡ 1 → l.lun ≡ 0 → list_any test (luns_of g past l.ce) ≡ (test (lun_view g past l) || false)
@@ -321,6 +346,7 @@ command_judged s l past c there k d a = by d a
     by Unknown a = absurd a
     by ChangeReadColumnEnhanced a = judge_06 s.geometry c.facts _ a.0.0 (some_ready a.0.1) a.1
     by ReadPlane a = judge_32 s.geometry c.facts _ a.0.0 (named_as caching a.0.1 ∙ a.1) a.2
+    by CopybackRead a = absurd a
 
 from_command : (g : Parts) (t u : TailFacts) (luns : List LunView) (c d : Command) → t ≡ u → c ≡ d → judge_cycle g u luns (CommandCycle d) ≡ None → judge_cycle g t luns (CommandCycle c) ≡ None
 from_command g t u luns c d e f h =
@@ -340,9 +366,9 @@ no_lun : (test : LunView → Bool) (o : Option LunView) → ((v : LunView) → t
 no_lun test None h = refl
 no_lun test (Some v) h = h v
 
-judge_address : (g : Parts) (t : TailFacts) (luns : List LunView) (b : ℕ) → breaks_address_misplaced g t (AddressCycle b) ≡ false → breaks_row_outside g t (AddressCycle b) ≡ false → breaks_lun_busy g t luns (AddressCycle b) ≡ false → breaks_queue_clash g t luns (AddressCycle b) ≡ false → breaks_column_outside g t luns (AddressCycle b) ≡ false → breaks_cache_read_misplaced g t luns (AddressCycle b) ≡ false → breaks_plane_not_held g t luns (AddressCycle b) ≡ false → judge_cycle g t luns (AddressCycle b) ≡ None
+judge_address : (g : Parts) (t : TailFacts) (luns : List LunView) (b : ℕ) → breaks_address_misplaced g t (AddressCycle b) ≡ false → breaks_row_outside g t (AddressCycle b) ≡ false → breaks_lun_busy g t luns (AddressCycle b) ≡ false → breaks_queue_clash g t luns (AddressCycle b) ≡ false → breaks_column_outside g t luns (AddressCycle b) ≡ false → breaks_cache_read_misplaced g t luns (AddressCycle b) ≡ false → breaks_copyback_misplaced g t luns (AddressCycle b) ≡ false → breaks_plane_not_held g t luns (AddressCycle b) ≡ false → judge_cycle g t luns (AddressCycle b) ≡ None
 unfolding breaks_command_unknown breaks_sequence_open breaks_several_luns breaks_no_column_to_change breaks_command_misplaced breaks_input_misplaced breaks_no_sole_driver breaks_data_not_ready
-judge_address g t luns b f7 f8 f9 f10 f14 f15 f18 = rw (f7, f8, f9, f10, f14, f15, f18) refl
+judge_address g t luns b f7 f8 f9 f10 f14 f15 f17 f18 = rw (f7, f8, f9, f10, f14, f15, f17, f18) refl
 
 -- both fail, or the first fails
 both_no : (a b : Bool) → (a ≡ true → b ≡ false) → (a && b) ≡ false
@@ -353,9 +379,23 @@ is_not : (b : Bool) → b ≡ true → not b ≡ false
 is_not true h = refl
 is_not false h = cc
 
+-- neither of two
+neither : (copies a b : Bool) → a ≡ false → b ≡ false → (copies && (a || b)) ≡ false
+neither copies true b h k = cc
+neither copies false true h k = cc
+neither copies false false h k = and-false copies
+
+-- no group of copybacks has begun
+not_copying : (t : TailFacts) (v : LunView) → CopiesNone t v true → is_copying v ≡ false
+not_copying t v k = at (has_some v.queue) refl
+  where
+    at : (b : Bool) → has_some v.queue ≡ b → (b && not (holds_none v.held)) ≡ false
+    at true e = ap (λ (pages : List PageAddress). not (holds_none pages)) (k.queued e)
+    at false e = refl
+
 -- an address that a scene allows
 pub address_judged : (s : Channel) (l : Lun) (past : List Item) (c : Scene) (byte : ℕ) → is_there s l ≡ true → IsScene s l past c → AddressAllowed s.geometry l.lun c byte → judge_cycle s.geometry c.facts (luns_of s.geometry past l.ce) (AddressCycle byte) ≡ None
-unfolding breaks_address_misplaced breaks_row_outside breaks_lun_busy breaks_queue_clash breaks_column_outside breaks_cache_read_misplaced breaks_plane_not_held
+unfolding breaks_address_misplaced breaks_row_outside breaks_lun_busy breaks_queue_clash breaks_column_outside breaks_cache_read_misplaced breaks_copyback_misplaced breaks_plane_not_held
 address_judged s l past c byte there k a = at (ends_row (λ d. true) c.facts) refl
   where
     g : Parts
@@ -379,6 +419,9 @@ address_judged s l past c byte there k a = at (ends_row (λ d. true) c.facts) re
     named : (n : ℕ) (test : LunView → Bool) → (parts_of g n).lun ≡ l.lun → test c.view ≡ false → named_lun_is g n test luns ≡ false
     named n test e h = passes_at g past l _ test here e ∙ (ap test k.view ∙ h)
 
+    clash : {x y : Bool} → x ≡ true → x ≡ false → y ≡ false
+    clash h k = cc
+
     at : (b : Bool) → ends_row (λ d. true) c.facts ≡ b → judge_cycle g c.facts luns (AddressCycle byte) ≡ None
     at true e =
         let r = a.row e in
@@ -389,6 +432,8 @@ address_judged s l past c byte there k a = at (ends_row (λ d. true) c.facts) re
         (named (row_with c.facts byte) (λ v. is_refused_by g c.facts.opening (page_address g (row_with c.facts byte)) v.queue) is r.goes)
         f14
         (both_no (ends_row (excludes_cache g) c.facts) _ (λ x. named (row_with c.facts byte) caching is (r.no_cache x)))
+        (neither (has_copyback g.optional) _ _ (both_no (ends_row is_write_column c.facts) _ (λ x. clash x r.no_copy))
+        (both_no (ends_row is_page_program c.facts) _ (λ x. named (row_with c.facts byte) is_copying is (not_copying c.facts c.view k.copies))))
         (both_no (ends_row is_enhanced_column c.facts) _ (λ x. named (row_with c.facts byte) (λ v. not (holds_plane_of g (page_address g (row_with c.facts byte)) v)) is (is_not _ (r.plane x))))
     at false e =
         let none = ends_none addresses_the_array c.facts.opening e in
@@ -398,17 +443,16 @@ address_judged s l past c byte there k a = at (ends_row (λ d. true) c.facts) re
         (no_lun (λ v. is_refused_by g c.facts.opening (page_address g (row_with c.facts byte)) v.queue) _ (λ v. refused_none g (page_address g (row_with c.facts byte)) v.queue c.facts.opening e))
         f14
         (both_no (ends_row (excludes_cache g) c.facts) _ (λ x. clash x (ends_none (excludes_cache g) c.facts.opening e)))
+        (neither (has_copyback g.optional) _ _ (both_no (ends_row is_write_column c.facts) _ (λ x. clash x (ends_none is_write_column c.facts.opening e)))
+        (both_no (ends_row is_page_program c.facts) _ (λ x. clash x (ends_none is_page_program c.facts.opening e))))
         (both_no (ends_row is_enhanced_column c.facts) _ (λ x. clash x (ends_none is_enhanced_column c.facts.opening e)))
-      where
-        clash : {x y : Bool} → x ≡ true → x ≡ false → y ≡ false
-        clash h k = cc
 
 -- 3. inputs and outputs
 
 pub input_judged : (g : Parts) (t : TailFacts) (luns : List LunView) (b : ℕ) → takes_inputs t.phase ≡ true → (not (takes_features t.phase) && nat_le (page_len g) (input_column t)) ≡ false → judge_cycle g t luns (InputCycle b) ≡ None
-unfolding breaks_command_unknown breaks_sequence_open breaks_several_luns breaks_no_column_to_change breaks_command_misplaced breaks_address_misplaced breaks_row_outside breaks_lun_busy breaks_queue_clash breaks_input_misplaced breaks_no_sole_driver breaks_data_not_ready breaks_column_outside breaks_cache_read_misplaced breaks_plane_not_held
+unfolding breaks_command_unknown breaks_sequence_open breaks_several_luns breaks_no_column_to_change breaks_command_misplaced breaks_address_misplaced breaks_row_outside breaks_lun_busy breaks_queue_clash breaks_input_misplaced breaks_no_sole_driver breaks_data_not_ready breaks_column_outside breaks_cache_read_misplaced breaks_copyback_misplaced breaks_plane_not_held
 input_judged g t luns b takes inside = rw (takes, inside) refl
 
 pub output_judged : (g : Parts) (t : TailFacts) (luns : List LunView) (v : LunView) → is_open t ≡ false → driver luns ≡ Some v → has_no_byte v ≡ false → is_past_register g v ≡ false → judge_cycle g t luns OutputCycle ≡ None
-unfolding breaks_command_unknown breaks_sequence_open breaks_several_luns breaks_no_column_to_change breaks_command_misplaced breaks_address_misplaced breaks_row_outside breaks_lun_busy breaks_queue_clash breaks_input_misplaced breaks_no_sole_driver breaks_data_not_ready breaks_column_outside breaks_cache_read_misplaced breaks_plane_not_held
+unfolding breaks_command_unknown breaks_sequence_open breaks_several_luns breaks_no_column_to_change breaks_command_misplaced breaks_address_misplaced breaks_row_outside breaks_lun_busy breaks_queue_clash breaks_input_misplaced breaks_no_sole_driver breaks_data_not_ready breaks_column_outside breaks_cache_read_misplaced breaks_copyback_misplaced breaks_plane_not_held
 output_judged g t luns v closed one byte inside = rw (closed, one, byte, inside) refl

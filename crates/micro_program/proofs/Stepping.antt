@@ -6,7 +6,7 @@ use Rattle.onfi_cycle.proofs.Booleans.{eqb_self}
 use Rattle.nand_geometry.specs.declared.parts.Parts.{Parts}
 use Rattle.nand_geometry.specs.Limits.{planes}
 use Rattle.onfi_cycle.specs.declared.command.Command.{Command}
-use Rattle.onfi_cycle.specs.declared.command.Command.TheVariants.{Read, ReadConfirm, ChangeReadColumnConfirm, BlockEraseConfirm, BlockErasePlane, ReadStatus, ReadStatusEnhanced, ProgramConfirm, ProgramPlane, ReadId, ReadParameterPage, Reset, ReadCacheSequential, ReadCacheEnd, ReadUniqueId, GetFeatures, SetFeatures, ResetLun, SynchronousReset, ReadPlane}
+use Rattle.onfi_cycle.specs.declared.command.Command.TheVariants.{Read, ReadConfirm, ChangeReadColumnConfirm, BlockEraseConfirm, BlockErasePlane, ReadStatus, ReadStatusEnhanced, ProgramConfirm, ProgramPlane, ReadId, ReadParameterPage, Reset, ReadCacheSequential, ReadCacheEnd, ReadUniqueId, GetFeatures, SetFeatures, ResetLun, SynchronousReset, ReadPlane, CopybackRead, PageProgram}
 use Rattle.onfi_cycle.specs.declared.lun.Lun.{Lun}
 use Rattle.onfi_cycle.specs.declared.item.Item.{Item}
 use Rattle.onfi_cycle.specs.declared.item.Kind.{Kind}
@@ -20,7 +20,7 @@ use Rattle.onfi_cycle.specs.declared.target_cycle.TargetCycle.{TargetCycle}
 use Rattle.onfi_cycle.specs.declared.target_cycle.TargetCycle.TheVariants.{CommandCycle, AddressCycle, InputCycle, OutputCycle}
 use Rattle.onfi_cycle.specs.LunView.{LunView}
 use Rattle.onfi_cycle.specs.Sequence.{tail, facts_of, facts_after, opened, selects_plane, takes_features, target_cycle, wants_command, wants_address, row, row_with}
-use Rattle.onfi_cycle.specs.Effect.{is_off, is_data, is_shared, of_target, lun_reset_effect, names_lun, command_effect, address_effect, opening_address_effect, id_effect, ends_features, cycle_effect, row_effect, cache_effect, plane_of_row, plane_effect, column_effect}
+use Rattle.onfi_cycle.specs.Effect.{is_off, is_data, is_shared, of_target, lun_reset_effect, program_row_effect, names_lun, command_effect, address_effect, opening_address_effect, id_effect, ends_features, cycle_effect, row_effect, cache_effect, plane_of_row, plane_effect, column_effect}
 use Rattle.onfi_cycle.specs.Lun.{latch, latch_after, works, latch_alone, effect_on, drivers, drivers_from, is_only, lun_view, luns_of, view_after}
 use Rattle.nand_geometry.specs.Optional.{is_wide}
 use Rattle.onfi_cycle.specs.Command.{closes_row, reads_identity}
@@ -34,6 +34,7 @@ use Rattle.micro_program.proofs.Calm.{own_effect}
 use Rattle.micro_program.proofs.Cycles.{of_no_target, permitted_cycle}
 use Rattle.micro_program.proofs.Scenes.{Scene, IsScene, PlaneAllowed, CommandAllowed, AddressAllowed, Allowed, shown_alone, command_sole, opener_sole, address_sole, sole_behind, scene_behind, closed_unwanted}
 use Rattle.micro_program.proofs.Judged.{one_lun, command_judged, address_judged, input_judged, output_judged}
+use Rattle.micro_program.proofs.NoCopies.{IsTail, tail_is, copies_behind}
 
 -- 1. permitted, and the LUN's own
 
@@ -89,6 +90,7 @@ command_keeps_to s l past c k SetFeatures a = alone_to_target (is_shared s.geome
 command_keeps_to s l past c k Reset a = alone_to_target (is_shared s.geometry) true true (not_shared s.geometry a.one) refl
 command_keeps_to s l past c k SynchronousReset a = alone_to_target (is_shared s.geometry) true true (not_shared s.geometry a.0.one) refl
 command_keeps_to s l past c k ReadPlane a = of_no_target (is_shared s.geometry) false _ refl (ap (λ (t : TailFacts). names_lun s.geometry (row t) l.lun) k.facts ∙ a.0.1)
+command_keeps_to s l past c k CopybackRead a = absurd a
 command_keeps_to s l past c k _ a = of_no_target (is_shared s.geometry) false true refl refl
 
 either : (b : Bool) (x : Bool) → (b ≡ true → x ≡ true) → cond b x true ≡ true
@@ -317,6 +319,7 @@ command_leaves_off g lun c ReadCacheEnd h a m p q x on off = leaves_other CacheR
 command_leaves_off g lun c ReadStatusEnhanced h a m p q x on off = refl
 command_leaves_off g lun c Reset h a m p q x on off = cc
 command_leaves_off g lun c SynchronousReset h a m p q x on off = cc
+command_leaves_off g lun c CopybackRead h a m p q x on off = absurd a
 command_leaves_off g lun c ReadStatus h a m p q x on off = cc
 command_leaves_off g lun c d h a m p q x on off = closer_leaves (wants_command c.facts d && names_lun g (row c.facts) m) (closes_row d && (wants_command c.facts d && is_shared g)) _ p q x refl
 
@@ -340,6 +343,12 @@ address_leaves_off g t byte lun o e quietly m p q x on off = ap (λ (y : Option 
     by ReadUniqueId h = cc
     by GetFeatures h = cc
     by ResetLun h = cc
+    by PageProgram h = addressed (o.addresses == 4) (names_lun g (row_with t byte) m)
+      where
+        addressed : (four here : Bool) → is_off (latch_after (cond four (program_row_effect here) Unaffected) p q x) ≡ is_off x
+        addressed true true = refl
+        addressed true false = refl
+        addressed false here = refl
     by _ h = refl
 
 -- an address of FAh that isn't its last
@@ -487,4 +496,5 @@ scene_next s l past c there k kind byte a =
       view = view;
       sole = sole_next s l past c there k kind byte (target_cycle kind byte) refl a view;
       free = service.own s.geometry past (cycle l.ce kind byte) l l.ce own.own k.free;
+      copies = copies_behind s.geometry l.lun c (shown_alone c) (target_cycle kind byte) (subst IsTail k.facts (tail_is (tail past l.ce))) a k.copies;
     }

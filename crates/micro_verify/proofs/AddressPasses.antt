@@ -11,17 +11,19 @@ use Rattle.onfi_cycle.specs.Channel.{Channel}
 use Rattle.micro_word.specs.declared.word.Word.TheVariants.{Address as AddressWord}
 use Rattle.micro_word.specs.Text.{Microprogram}
 use Rattle.micro_claims.specs.declared.state.State.{State}
+use Rattle.micro_claims.specs.declared.known_target.KnownTarget.{KnownTarget}
+use Rattle.micro_claims.specs.declared.queued_rows.QueuedRows.{QueuedRows}
 use Rattle.micro_claims.specs.declared.place.Place.{Place}
 use Rattle.micro_claims.specs.declared.place.Place.TheVariants.{Closed, After, InData, InColumn, InFeatures, Unknown}
 use Rattle.micro_claims.specs.Spans.{greatest_bound, bound_plus, is_at_most}
 use Rattle.micro_claims.specs.Against.{addresses_left, next_address, takes_identity_at, column_limit, has_second_column, identity_refused, row_refused, begins_elsewhere, address_out_of_place, column_past}
-use Rattle.micro_claims.specs.Leaves.{with_target, with_registers, paid, target_after_addresses, address_leaves}
+use Rattle.micro_claims.specs.Leaves.{with_registers, without_pages, paid, target_after_addresses, address_leaves}
 use Rattle.micro_claims.specs.Accepts.{state_after}
 use Rattle.micro_program.specs.Program.{Job, column_now, index_now}
 use Rattle.micro_program.specs.Moves.{address, gives, and_then}
 use Rattle.micro_claims.proofs.Fits.{Address, bytes_of, takes_column, now_of}
 use Rattle.micro_claims.proofs.Addressing.{of_now, carried_is}
-use Rattle.micro_claims.proofs.SoundAddress.{resets_lun, leaves_target}
+use Rattle.micro_claims.proofs.SoundAddress.{resets_lun, ends_program, lun_addressed, leaves_target}
 use Rattle.micro_verify.proofs.AddressTests.{takes_first, last_of_row, few_of, second_holds, and_third, clears}
 use Rattle.micro_verify.specs.Lazy.{lone_job, Run}
 use Rattle.micro_verify.proofs.Lone.{Lone}
@@ -112,18 +114,18 @@ not_reset (InFeatures n) h = refl
 not_reset Unknown h = refl
 
 -- what an address leaves, beside what it makes of the tail
-pub address_left : (s : Channel) (text : Microprogram) (v : State) (r : Run) (c after : Lone) (from count : ℕ) (bytes : List ℕ) → AddressAt s text v r c from count → address s.geometry (lone_job s.geometry text) r.done from count ≡ Some bytes → Passed s.geometry bytes c after → takes_identity_at v.target.tail ≡ false → after.view ≡ c.view → TailMirror s.geometry (lone_job s.geometry text) (target_after_addresses s.geometry v from count) (now_of (lone_job s.geometry text) r.done) after → (place_queues (target_after_addresses s.geometry v from count).tail ≡ true → row_goes_along (place_erases (target_after_addresses s.geometry v from count).tail) (target_after_addresses s.geometry v from count).named v.lun.queue ≡ true) → Goes s text (state_after s.geometry v (AddressWord from count)) r (AddressWord from count)
+pub address_left : (s : Channel) (text : Microprogram) (v : State) (r : Run) (c after : Lone) (from count : ℕ) (bytes : List ℕ) → AddressAt s text v r c from count → address s.geometry (lone_job s.geometry text) r.done from count ≡ Some bytes → Passed s.geometry bytes c after → takes_identity_at v.target.tail ≡ false → after.view.latch ≡ c.view.latch → LunMirror s.geometry (lun_addressed v count) (index_now 0 r.done) after.view → TailMirror s.geometry (lone_job s.geometry text) (target_after_addresses s.geometry v from count) (now_of (lone_job s.geometry text) r.done) after → (place_queues (target_after_addresses s.geometry v from count).tail ≡ true → row_goes_along (place_erases (target_after_addresses s.geometry v from count).tail) (target_after_addresses s.geometry v from count).named v.lun.queue ≡ true) → Goes s text (state_after s.geometry v (AddressWord from count)) r (AddressWord from count)
 unfolding state_after
-address_left s text v r c after from count bytes w is_bytes q plain same tail along =
+address_left s text v r c after from count bytes w is_bytes q plain latch lun tail along =
     goes_by s text (state_after g v (AddressWord from count)) r (AddressWord from count) (gives Adr bytes) r.past c w.fit.alone (ap (λ (o : Option (List ℕ)). and_then o (λ xs. Some (gives Adr xs))) is_bytes) refl w.lone q.pass
     (λ answer. subst (λ (x : Lone). Mirrors g j (state_after g v (AddressWord from count)) (record { word = AddressWord from count; answer = answer } ∷ r.done) x) (sym q.leads)
     (subst (λ (x : State). Mirrors g j (with_registers x (paid count x.registers)) (record { word = AddressWord from count; answer = answer } ∷ r.done) after) (sym left)
     (record {
       registers = registers_exact g v.registers v.registers.polled r.done (AddressWord from count) answer (record { column = λ n. refl; plane = λ n. refl; index = λ b n. refl }) (λ n. refl) w.mirrors.registers;
       tail = tail;
-      shows = w.mirrors.shows ∙ ap (λ (y : LunView). shows_of y.latch) (sym same);
-      lun = subst (λ (y : LunView). LunMirror g v.lun (index_now 0 r.done) y) (sym same) w.mirrors.lun;
-      along = along;
+      shows = w.mirrors.shows ∙ ap shows_of (sym latch);
+      lun = lun;
+      along = λ e. subst (λ (rows : QueuedRows). row_goes_along (place_erases t.tail) t.named rows ≡ true) (sym (queued (ends_program count v.target.tail))) (along e);
     })))
   where
     g : Parts
@@ -132,5 +134,12 @@ address_left s text v r c after from count bytes w is_bytes q plain same tail al
     j : Job
     j = lone_job g text
 
-    left : address_leaves g v from count ≡ with_target v (target_after_addresses g v from count)
+    t : KnownTarget
+    t = target_after_addresses g v from count
+
+    queued : (b : Bool) → (cond b (without_pages v.lun) v.lun).queue ≡ v.lun.queue
+    queued true = refl
+    queued false = refl
+
+    left : address_leaves g v from count ≡ record { registers = v.registers; target = target_after_addresses g v from count; lun = lun_addressed v count }
     left = leaves_target g v from count v.target.tail plain (ap resets_lun w.mirrors.tail.single ∙ not_reset w.mirrors.tail.place w.mirrors.tail.base)

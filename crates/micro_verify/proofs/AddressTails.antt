@@ -21,6 +21,8 @@ use Rattle.micro_claims.specs.declared.queued_rows.QueuedRows.TheVariants.{NoRow
 use Rattle.micro_claims.specs.Spans.{greatest_bound, kept, copied}
 use Rattle.micro_claims.specs.Against.{first_address, same_test, is_read, is_erase, queue_refuses}
 use Rattle.micro_claims.specs.Planes.{share_a_plane}
+use Rattle.onfi_cycle.specs.LunView.{LunView}
+use Rattle.onfi_cycle.specs.Rules.{may_change_column}
 use Rattle.micro_claims.specs.Leaves.{greatest_page_of, name_now, goes_along, opener_leads_to, address_leads_to, target_after_addresses}
 use Rattle.micro_program.specs.Program.{Job, Done, column_now, index_now}
 use Rattle.micro_claims.proofs.Fits.{Address, bytes_of, opener_facts, facts_behind, takes_column, takes_row, has_column, has_row, is_place, now_of}
@@ -33,7 +35,7 @@ use Rattle.micro_verify.specs.Lazy.{lone_job, Run}
 use Rattle.micro_verify.proofs.Lone.{Lone}
 use Rattle.micro_verify.proofs.Mirrors.{RegistersMirror, TailMirror, NameMirror, NameIs, BoundIs, RowsMirror, InInputs, greatest_index, is_read_column}
 use Rattle.micro_verify.proofs.Told.{wants_by}
-use Rattle.micro_verify.proofs.AddressesJudged.{cursor}
+use Rattle.micro_verify.proofs.AddressesJudged.{view_at, cursor}
 use Rattle.micro_verify.proofs.AddressStops.{AtOpener}
 use Rattle.micro_verify.proofs.OpenerStops.{AddressAt, Behind}
 
@@ -132,6 +134,11 @@ same_read ChangeReadColumn n m = refl
 same_read Read n m = refl
 same_read _ n m = refl
 
+-- and leave the LUN of 05h as it was
+kept_view : (o : Command) (m : ℕ) (view : LunView) → is_read_column (After o m) ≡ true → view_at o view m ≡ view
+kept_view ChangeReadColumn m view h = refl
+kept_view o m view h = cc
+
 -- they are of the base profile
 carries_base : (o : Command) → carries_registers o ≡ true → is_of_base o ≡ true
 carries_base Read h = refl
@@ -161,7 +168,7 @@ tail_after s text v r c from count o n w x many here leads place most b old =
       row = λ e. let five = reaches e in x.now.row (let z : ltb 2 (from + count) ≡ true = grind (arith, nat_tests, five) in z);
       named = λ e. named_led s text v r c from count o n w x many (reaches e);
       base = carries_base o x.carries;
-      changes = λ e. b.changes (same_read o n (n + count) ∙ e);
+      changes = λ e. ap may_change_column (kept_view o (n + count) c.view e) ∙ b.changes (same_read o n (n + count) ∙ e);
     }
   where
     begins : from ≡ first_address o + n

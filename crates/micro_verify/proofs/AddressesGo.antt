@@ -9,7 +9,7 @@ use Rattle.onfi_cycle.specs.declared.command.Command.TheVariants.{Read, ChangeRe
 use Rattle.onfi_cycle.specs.declared.forbidden.Forbidden.TheVariants.{ColumnOutside}
 use Rattle.onfi_cycle.specs.declared.tail_facts.TailFacts.{TailFacts}
 use Rattle.onfi_cycle.specs.declared.target_cycle.TargetCycle.TheVariants.{AddressCycle}
-use Rattle.onfi_cycle.specs.Command.{addresses_the_array, reads_identity}
+use Rattle.onfi_cycle.specs.Command.{address_cycles, addresses_the_array, reads_identity}
 use Rattle.onfi_cycle.specs.Sequence.{facts_after, input_column}
 use Rattle.onfi_cycle.specs.Rules.{excludes_cache}
 use Rattle.onfi_cycle.specs.Channel.{Channel}
@@ -22,19 +22,23 @@ use Rattle.micro_claims.specs.declared.place.Place.{Place}
 use Rattle.micro_claims.specs.declared.place.Place.TheVariants.{After, InData, InColumn}
 use Rattle.micro_claims.specs.Spans.{kept, copied}
 use Rattle.micro_claims.specs.Against.{first_address, takes_identity_at, is_inside_address, is_erase, queue_refuses, plane_refused, row_refused}
-use Rattle.micro_claims.specs.Leaves.{name_now, after_few, opener_leads_to, address_leads_to, target_after_addresses}
+use Rattle.micro_claims.specs.Leaves.{name_now, without_pages, after_few, opener_leads_to, address_leads_to, target_after_addresses}
 use Rattle.micro_program.specs.Program.{Job, column_now, index_now}
 use Rattle.micro_program.specs.Moves.{address}
 use Rattle.micro_claims.proofs.Fits.{Address, all_bytes, bytes_of, takes_row, has_column, has_row, is_place, RowIs, IsNow, ColumnBegun, now_of}
 use Rattle.micro_claims.proofs.Addressing.{of_now, carried_is}
-use Rattle.micro_claims.proofs.SoundAddress.{few_is, with_column, first_led, second_led, row_with_column}
+use Rattle.onfi_cycle.specs.LunView.{LunView}
+use Rattle.onfi_cycle.specs.Lun.{view_after}
+use Rattle.onfi_cycle.specs.declared.effect.Effect.TheVariants.{ProgramAddressed}
+use Rattle.micro_claims.proofs.AddressSteps.{addressed_view}
+use Rattle.micro_claims.proofs.SoundAddress.{few_is, ends_program, lun_addressed, with_column, first_led, second_led, row_with_column}
 use Rattle.micro_verify.proofs.AddressTests.{few_of, second_holds, row_is_of_array}
 use Rattle.micro_verify.specs.Lazy.{lone_job, Run}
 use Rattle.micro_verify.proofs.Lone.{Lone, lone_behind}
-use Rattle.micro_verify.proofs.Mirrors.{Mirrors, TailMirror, NameIs, BoundIs, place_queues, place_erases, row_goes_along}
+use Rattle.micro_verify.proofs.Mirrors.{Mirrors, TailMirror, LunMirror, NameIs, BoundIs, place_queues, place_erases, row_goes_along}
 use Rattle.micro_verify.proofs.Causes.{Goes}
 use Rattle.micro_claims.specs.Accepts.{state_after}
-use Rattle.micro_verify.proofs.AddressesJudged.{cursor, Passed}
+use Rattle.micro_verify.proofs.AddressesJudged.{view_at, cursor, Passed}
 use Rattle.micro_verify.proofs.AddressStops.{AtOpener, limit_of, bytes_there}
 use Rattle.micro_verify.proofs.AddressColumn.{now_column, first_judged, second_judged, behind_is, renewed, in_data_again}
 use Rattle.micro_verify.proofs.OpenerStops.{column_word, AddressAt, Behind, now_there}
@@ -51,6 +55,45 @@ along_led g v r c j from count o n m array five clear =
     let queue = (or_parts (v.lun.busy || (excludes_cache g o && may_be_31 v.lun.last)) (queue_refuses v.lun.queue v.registers.planes o) all.0).1 in
     subst (λ (b : Bool). row_goes_along (is_erase o) (cond b (Some (name_now g v.registers)) v.target.named) v.lun.queue ≡ true) (sym last) (along_now g (index_now 0 r.done) v.lun.queue c.view.queue v.registers.planes o m.lun.queue queue)
 
+-- the LUN shows what it showed
+latch_at : (o : Command) (view : LunView) (m : ℕ) → (view_at o view m).latch ≡ view.latch
+latch_at PageProgram view m = at (nat_le 5 m)
+  where
+    at : (b : Bool) → (cond b (view_after ProgramAddressed view) view).latch ≡ view.latch
+    at true = refl
+    at false = refl
+latch_at o view m = refl
+
+-- and is mirrored, also where it holds no page any more
+lun_at : (g : Parts) (v : State) (now : ℕ) (view : LunView) (o : Command) (n count : ℕ) → v.target.tail ≡ After o n → LunMirror g v.lun now view → n + count ≤ address_cycles o → LunMirror g (lun_addressed v count) now (view_at o view (n + count))
+lun_at g v now view PageProgram n count here m few = at (n + count == 5) refl
+  where
+    at : (b : Bool) → (n + count == 5) ≡ b → LunMirror g (lun_addressed v count) now (addressed_view (n + count) view)
+    at true e =
+        let five : n + count ≡ 5 = eqb-true (n + count) 5 e in
+        subst (λ (b : Bool). LunMirror g (cond b (without_pages v.lun) v.lun) now (addressed_view (n + count) view)) (sym (ap (ends_program count) here ∙ e))
+        (subst (λ (k : ℕ). LunMirror g (without_pages v.lun) now (addressed_view k view)) (sym five)
+        (record {
+          busy = m.busy;
+          register = m.register;
+          known = m.known;
+          column = m.column;
+          no_column = m.no_column;
+          queue = m.queue;
+          last = m.last;
+          caching = m.caching;
+          other = m.other;
+          read = m.read;
+          cached_page = m.cached_page;
+          cached_index = m.cached_index;
+          held = λ x. refl;
+        }))
+    at false e =
+        let early : nat_le 5 (n + count) ≡ false = let f = few in grind (arith, nat_tests, e, f) in
+        subst (λ (b : Bool). LunMirror g (cond b (without_pages v.lun) v.lun) now (addressed_view (n + count) view)) (sym (ap (ends_program count) here ∙ e))
+        (subst (λ (b : Bool). LunMirror g v.lun now (cond b (view_after ProgramAddressed view) view)) (sym early) m)
+lun_at g v now view o n count here m few = subst (λ (b : Bool). LunMirror g (cond b (without_pages v.lun) v.lun) now view) (sym (ap (ends_program count) here)) m
+
 -- the word leads to these facts, and the tail is mirrored there
 opener_left : (s : Channel) (text : Microprogram) (v : State) (r : Run) (c : Lone) (from count : ℕ) (o : Command) (n : ℕ) → AddressAt s text v r c from count → (x : AtOpener s text r c from count o n) → PlaceIsClear s v from count (limit_of s.geometry o c.view) (column_now r.done) (After o n) → v.target.tail ≡ After o n → reads_identity o ≡ false → TailMirror s.geometry (lone_job s.geometry text) (target_after_addresses s.geometry v from count) (now_of (lone_job s.geometry text) r.done) (cursor o (of_now s.geometry (lone_job s.geometry text) r.done from count x.now) c.view (n + count)) → (place_queues (target_after_addresses s.geometry v from count).tail ≡ true → row_goes_along (place_erases (target_after_addresses s.geometry v from count).tail) (target_after_addresses s.geometry v from count).named v.lun.queue ≡ true) → Goes s text (state_after s.geometry v (AddressWord from count)) r (AddressWord from count)
 opener_left s text v r c from count o n w x clear here other tail along =
@@ -58,7 +101,7 @@ opener_left s text v r c from count o n w x clear here other tail along =
     let bytes = take count (drop n (bytes_of o a)) in
     address_left s text v r c (cursor o a c.view (n + count)) from count bytes w (bytes_there s text r c from count o n x)
     (subst (λ (y : Lone). Passed s.geometry bytes y (cursor o a c.view (n + count))) (sym x.here) (opener_passes s text v r c from count o n w x clear))
-    (ap takes_identity_at here ∙ other) refl tail along
+    (ap takes_identity_at here ∙ other) (latch_at o c.view (n + count)) (lun_at s.geometry v (index_now 0 r.done) c.view o n count here w.mirrors.lun (few_of o n count clear.left clear.few)) tail along
 
 -- where the tail is still after the opener
 stays : (s : Channel) (text : Microprogram) (v : State) (r : Run) (c : Lone) (from count : ℕ) (o : Command) (n : ℕ) → AddressAt s text v r c from count → AtOpener s text r c from count o n → length r.done ≤ 32768 → PlaceIsClear s v from count (limit_of s.geometry o c.view) (column_now r.done) (After o n) → v.target.tail ≡ After o n → reads_identity o ≡ false → Behind s text r c o n → (has_column (After o n) ≡ true → BoundIs (input_column c.facts) v.target.column) → opener_leads_to o (n + count) ≡ After o (n + count) → is_place o (n + count) ≡ true → (place_queues (After o (n + count)) ≡ true → (has_row (After o (n + count)) ≡ true) × (place_erases (After o (n + count)) ≡ is_erase o)) → Goes s text (state_after s.geometry v (AddressWord from count)) r (AddressWord from count)
@@ -133,7 +176,10 @@ named_still s text v r c from count n b few =
 -- the word leads to these facts
 column_left : (s : Channel) (text : Microprogram) (v : State) (r : Run) (c after : Lone) (from count n : ℕ) (bytes : List ℕ) (p : Place) → AddressAt s text v r c from count → (b : BehindColumn s text v r c n) → from + count ≤ 2 → v.target.tail ≡ InColumn n → address_leads_to count (InColumn n) ≡ p → place_erases p ≡ false → address s.geometry (lone_job s.geometry text) r.done from count ≡ Some bytes → Passed s.geometry bytes c after → after.view ≡ c.view → TailMirror s.geometry (lone_job s.geometry text) (target_after_addresses s.geometry v from count) (now_of (lone_job s.geometry text) r.done) after → Goes s text (state_after s.geometry v (AddressWord from count)) r (AddressWord from count)
 column_left s text v r c after from count n bytes p w b few here leads erases is_bytes q same tail =
-    address_left s text v r c after from count bytes w is_bytes q (ap takes_identity_at here) same tail
+    address_left s text v r c after from count bytes w is_bytes q (ap takes_identity_at here) (ap (λ (y : LunView). y.latch) same)
+    (subst (λ (y : LunView). LunMirror s.geometry (lun_addressed v count) (index_now 0 r.done) y) (sym same)
+    (subst (λ (b : Bool). LunMirror s.geometry (cond b (without_pages v.lun) v.lun) (index_now 0 r.done) c.view) (sym (ap (ends_program count) here)) w.mirrors.lun))
+    tail
     (λ e.
     (λ i. row_goes_along (erased i) (named_still s text v r c from count n b few i) v.lun.queue)
     ∙ (sym (ap (λ (x : Place). row_goes_along (place_erases x) v.target.named v.lun.queue) here) ∙ w.mirrors.along (ap place_queues here)))

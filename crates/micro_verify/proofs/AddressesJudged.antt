@@ -18,17 +18,23 @@ use Rattle.onfi_cycle.specs.declared.queued.Queued.{Queued}
 use Rattle.onfi_cycle.specs.Command.{addresses_the_array, is_change_read_column, is_enhanced_column, is_read_id}
 use Rattle.onfi_cycle.specs.Sequence.{wants_address, opened, row_with, column_with}
 use Rattle.onfi_cycle.specs.LunView.{LunView}
-use Rattle.onfi_cycle.specs.Effect.{is_off, page_address}
-use Rattle.onfi_cycle.specs.Rules.{named_lun_is, ends_row, second_of_page, second_column, driver_is, is_some_and, is_refused_by, refused_by, caching, register_len, breaks_command_unknown, breaks_sequence_open, breaks_several_luns, breaks_no_column_to_change, breaks_command_misplaced, breaks_address_misplaced, breaks_row_outside, breaks_lun_busy, breaks_queue_clash, breaks_input_misplaced, breaks_no_sole_driver, breaks_data_not_ready, breaks_column_outside, breaks_cache_read_misplaced, breaks_plane_not_held, excludes_cache}
+use Rattle.onfi_cycle.specs.Lun.{view_after}
+use Rattle.onfi_cycle.specs.Effect.{is_off, page_address, program_row_effect}
+use Rattle.onfi_cycle.specs.Rules.{named_lun_is, ends_row, second_of_page, second_column, driver_is, is_some_and, is_refused_by, refused_by, caching, register_len, breaks_command_unknown, breaks_sequence_open, breaks_several_luns, breaks_no_column_to_change, breaks_command_misplaced, breaks_address_misplaced, breaks_row_outside, breaks_lun_busy, breaks_queue_clash, breaks_input_misplaced, breaks_no_sole_driver, breaks_data_not_ready, breaks_column_outside, breaks_cache_read_misplaced, breaks_copyback_misplaced, breaks_plane_not_held, excludes_cache}
 use Rattle.micro_program.specs.Moves.{gives}
 use Rattle.micro_claims.proofs.Fits.{Address, bytes_of, opener_facts, facts_behind}
-use Rattle.micro_claims.proofs.AddressSteps.{nth, carried}
+use Rattle.micro_claims.proofs.AddressSteps.{nth, carried, addressed_view}
 use Rattle.micro_program.proofs.Judged.{ends_none}
 use Rattle.micro_verify.proofs.Lone.{Lone, MovesPass, based, lone_after, lone_behind, judged}
 
+-- the last row cycle of 80h lets the LUN hold no page
+abbrev pub view_at : Command → LunView → ℕ → LunView
+view_at PageProgram view i = addressed_view i view
+view_at o view i = view
+
 -- after an opener and so many of its addresses
 abbrev pub cursor : Command → Address → LunView → ℕ → Lone
-cursor o a view i = record { facts = facts_behind (opener_facts o) (take i (bytes_of o a)); view = view }
+cursor o a view i = record { facts = facts_behind (opener_facts o) (take i (bytes_of o a)); view = view_at o view i }
 
 -- 1. what each is judged
 
@@ -38,7 +44,7 @@ named_none (Some v) test h = h v
 
 -- an address that is wanted and isn't the last of a row breaks F14 or no rule
 pub plain_judged : (g : Parts) (c : Lone) (byte : ℕ) → wants_address c.facts byte ≡ true → ends_row (λ d. true) c.facts ≡ false → ends_row addresses_the_array c.facts ≡ false → (opened (λ o n. is_read_id o) c.facts.opening && not (byte == 0x20)) ≡ false → ((p : PageAddress) (q : List Queued) → is_refused_by (based g) c.facts.opening p q ≡ false) → judged g c (AddressCycle byte) ≡ cond ((second_of_page c.facts && nat_le (page_len g) (column_with c.facts byte)) || (second_column is_change_read_column c.facts && driver_is (λ v. nat_le (register_len g v.register) (column_with c.facts byte)) (c.view ∷ []))) (Some ColumnOutside) None
-unfolding breaks_command_unknown breaks_sequence_open breaks_several_luns breaks_no_column_to_change breaks_command_misplaced breaks_address_misplaced breaks_row_outside breaks_lun_busy breaks_queue_clash breaks_input_misplaced breaks_no_sole_driver breaks_data_not_ready breaks_column_outside breaks_cache_read_misplaced breaks_plane_not_held
+unfolding breaks_command_unknown breaks_sequence_open breaks_several_luns breaks_no_column_to_change breaks_command_misplaced breaks_address_misplaced breaks_row_outside breaks_lun_busy breaks_queue_clash breaks_input_misplaced breaks_no_sole_driver breaks_data_not_ready breaks_column_outside breaks_cache_read_misplaced breaks_copyback_misplaced breaks_plane_not_held
 plain_judged g c byte wanted ends array id refuses = rw (wanted, id, ends, array, cached, planes_held, none) refl
   where
     cached : ends_row (excludes_cache (based g)) c.facts ≡ false
@@ -76,7 +82,7 @@ abbrev pub IsJudged : Parts → Command → Address → LunView → ℕ → Type
 IsJudged g o a view i = judged g (cursor o a view i) (AddressCycle (nth i (bytes_of o a))) ≡ address_rule g o a view i
 
 pub read_judged : (g : Parts) (a : Address) (view : LunView) (i : ℕ) → i ≤ 4 → (i ≡ 4 → RowThere g a) → IsJudged g Read a view i
-unfolding breaks_command_unknown breaks_sequence_open breaks_several_luns breaks_no_column_to_change breaks_command_misplaced breaks_address_misplaced breaks_row_outside breaks_lun_busy breaks_queue_clash breaks_input_misplaced breaks_no_sole_driver breaks_data_not_ready breaks_column_outside breaks_cache_read_misplaced breaks_plane_not_held
+unfolding breaks_command_unknown breaks_sequence_open breaks_several_luns breaks_no_column_to_change breaks_command_misplaced breaks_address_misplaced breaks_row_outside breaks_lun_busy breaks_queue_clash breaks_input_misplaced breaks_no_sole_driver breaks_data_not_ready breaks_column_outside breaks_cache_read_misplaced breaks_copyback_misplaced breaks_plane_not_held
 read_judged g a view zero few row = plain_judged g (cursor Read a view 0) (nth 0 (bytes_of Read a)) refl refl refl refl (λ p q. refl)
 read_judged g a view (suc zero) few row = plain_judged g (cursor Read a view 1) (nth 1 (bytes_of Read a)) refl refl refl refl (λ p q. refl) ∙ ap (λ (b : Bool). cond b (Some ColumnOutside) None) (or-false (nat_le (page_len g) (carried a)))
 read_judged g a view (suc (suc zero)) few row = plain_judged g (cursor Read a view 2) (nth 2 (bytes_of Read a)) refl refl refl refl (λ p q. refl)
@@ -93,7 +99,7 @@ read_judged g a view (suc (suc (suc (suc zero)))) few row =
 read_judged g a view (suc (suc (suc (suc (suc i))))) few row = absurd (omega (arith, few))
 
 pub program_judged : (g : Parts) (a : Address) (view : LunView) (i : ℕ) → i ≤ 4 → (i ≡ 4 → RowThere g a) → IsJudged g PageProgram a view i
-unfolding breaks_command_unknown breaks_sequence_open breaks_several_luns breaks_no_column_to_change breaks_command_misplaced breaks_address_misplaced breaks_row_outside breaks_lun_busy breaks_queue_clash breaks_input_misplaced breaks_no_sole_driver breaks_data_not_ready breaks_column_outside breaks_cache_read_misplaced breaks_plane_not_held
+unfolding breaks_command_unknown breaks_sequence_open breaks_several_luns breaks_no_column_to_change breaks_command_misplaced breaks_address_misplaced breaks_row_outside breaks_lun_busy breaks_queue_clash breaks_input_misplaced breaks_no_sole_driver breaks_data_not_ready breaks_column_outside breaks_cache_read_misplaced breaks_copyback_misplaced breaks_plane_not_held
 program_judged g a view zero few row = plain_judged g (cursor PageProgram a view 0) (nth 0 (bytes_of PageProgram a)) refl refl refl refl (λ p q. refl)
 program_judged g a view (suc zero) few row = plain_judged g (cursor PageProgram a view 1) (nth 1 (bytes_of PageProgram a)) refl refl refl refl (λ p q. refl) ∙ ap (λ (b : Bool). cond b (Some ColumnOutside) None) (or-false (nat_le (page_len g) (carried a)))
 program_judged g a view (suc (suc zero)) few row = plain_judged g (cursor PageProgram a view 2) (nth 2 (bytes_of PageProgram a)) refl refl refl refl (λ p q. refl)
@@ -110,7 +116,7 @@ program_judged g a view (suc (suc (suc (suc zero)))) few row =
 program_judged g a view (suc (suc (suc (suc (suc i))))) few row = absurd (omega (arith, few))
 
 pub erase_judged : (g : Parts) (a : Address) (view : LunView) (i : ℕ) → i ≤ 2 → (i ≡ 2 → RowThere g a) → IsJudged g BlockErase a view i
-unfolding breaks_command_unknown breaks_sequence_open breaks_several_luns breaks_no_column_to_change breaks_command_misplaced breaks_address_misplaced breaks_row_outside breaks_lun_busy breaks_queue_clash breaks_input_misplaced breaks_no_sole_driver breaks_data_not_ready breaks_column_outside breaks_cache_read_misplaced breaks_plane_not_held
+unfolding breaks_command_unknown breaks_sequence_open breaks_several_luns breaks_no_column_to_change breaks_command_misplaced breaks_address_misplaced breaks_row_outside breaks_lun_busy breaks_queue_clash breaks_input_misplaced breaks_no_sole_driver breaks_data_not_ready breaks_column_outside breaks_cache_read_misplaced breaks_copyback_misplaced breaks_plane_not_held
 erase_judged g a view zero few row = plain_judged g (cursor BlockErase a view 0) (nth 0 (bytes_of BlockErase a)) refl refl refl refl (λ p q. refl)
 erase_judged g a view (suc zero) few row = plain_judged g (cursor BlockErase a view 1) (nth 1 (bytes_of BlockErase a)) refl refl refl refl (λ p q. refl)
 erase_judged g a view (suc (suc zero)) few row =
@@ -125,7 +131,7 @@ erase_judged g a view (suc (suc zero)) few row =
 erase_judged g a view (suc (suc (suc i))) few row = absurd (omega (arith, few))
 
 pub change_judged : (g : Parts) (a : Address) (view : LunView) (i : ℕ) → i ≤ 1 → is_off view.latch ≡ false → IsJudged g ChangeReadColumn a view i
-unfolding breaks_command_unknown breaks_sequence_open breaks_several_luns breaks_no_column_to_change breaks_command_misplaced breaks_address_misplaced breaks_row_outside breaks_lun_busy breaks_queue_clash breaks_input_misplaced breaks_no_sole_driver breaks_data_not_ready breaks_column_outside breaks_cache_read_misplaced breaks_plane_not_held
+unfolding breaks_command_unknown breaks_sequence_open breaks_several_luns breaks_no_column_to_change breaks_command_misplaced breaks_address_misplaced breaks_row_outside breaks_lun_busy breaks_queue_clash breaks_input_misplaced breaks_no_sole_driver breaks_data_not_ready breaks_column_outside breaks_cache_read_misplaced breaks_copyback_misplaced breaks_plane_not_held
 change_judged g a view zero few shown = plain_judged g (cursor ChangeReadColumn a view 0) (nth 0 (bytes_of ChangeReadColumn a)) refl refl refl refl (λ p q. refl)
 change_judged g a view (suc zero) few shown = plain_judged g (cursor ChangeReadColumn a view 1) (nth 1 (bytes_of ChangeReadColumn a)) refl refl refl refl (λ p q. refl) ∙ ap (λ (b : Bool). cond b (Some ColumnOutside) None) (shown_alone view.latch shown)
   where
@@ -171,13 +177,13 @@ read_leads g a view (suc (suc (suc zero))) few = refl
 read_leads g a view (suc (suc (suc (suc zero)))) few = refl
 read_leads g a view (suc (suc (suc (suc (suc i))))) few = absurd (omega (arith, few))
 
-pub program_leads : (g : Parts) (a : Address) (view : LunView) (i : ℕ) → i ≤ 4 → lone_behind g (AddressCycle (nth i (bytes_of PageProgram a))) (cursor PageProgram a view i) ≡ cursor PageProgram a view (suc i)
-program_leads g a view zero few = refl
-program_leads g a view (suc zero) few = refl
-program_leads g a view (suc (suc zero)) few = refl
-program_leads g a view (suc (suc (suc zero))) few = refl
-program_leads g a view (suc (suc (suc (suc zero)))) few = refl
-program_leads g a view (suc (suc (suc (suc (suc i))))) few = absurd (omega (arith, few))
+pub program_leads : (g : Parts) (a : Address) (view : LunView) (i : ℕ) → i ≤ 4 → (i ≡ 4 → RowThere g a) → lone_behind g (AddressCycle (nth i (bytes_of PageProgram a))) (cursor PageProgram a view i) ≡ cursor PageProgram a view (suc i)
+program_leads g a view zero few row = refl
+program_leads g a view (suc zero) few row = refl
+program_leads g a view (suc (suc zero)) few row = refl
+program_leads g a view (suc (suc (suc zero))) few row = refl
+program_leads g a view (suc (suc (suc (suc zero)))) few row = ap (λ (n : ℕ). record { facts = (cursor PageProgram a view 5).facts; view = view_after (program_row_effect (n == 0)) view }) (row refl).lun
+program_leads g a view (suc (suc (suc (suc (suc i))))) few row = absurd (omega (arith, few))
 
 pub erase_leads : (g : Parts) (a : Address) (view : LunView) (i : ℕ) → i ≤ 2 → lone_behind g (AddressCycle (nth i (bytes_of BlockErase a))) (cursor BlockErase a view i) ≡ cursor BlockErase a view (suc i)
 erase_leads g a view zero few = refl

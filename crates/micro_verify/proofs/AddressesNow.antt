@@ -2,7 +2,7 @@
 use Rattle.std.proofs.lemmas.Bool.Decides.{nat_tests}
 use Rattle.micro_claims.specs.declared.place.Place.TheVariants.{After}
 use Rattle.micro_claims.specs.Against.{first_address}
-use Rattle.std.proofs.Common.{◌≡◌, ℕ, zero, suc, ◌+◌, ◌≤◌, ◌<◌, Bool, true, false, ◌&&◌, ltb, List, [], ◌∷◌, refl, sym, ap, ◌∙◌, arith, take, eq-eqb}
+use Rattle.std.proofs.Common.{◌≡◌, ℕ, zero, suc, ◌+◌, ◌≤◌, ◌<◌, Bool, true, false, ◌&&◌, cond, ltb, nat_le, List, [], ◌∷◌, refl, sym, ap, ◌∙◌, arith, take, eq-eqb}
 use Rattle.std.proofs.lemmas.Bool.{and_from}
 use Rattle.nand_geometry.specs.declared.parts.Parts.{Parts}
 use Rattle.nand_geometry.specs.declared.row_parts.RowParts.{RowParts}
@@ -11,6 +11,8 @@ use Rattle.onfi_cycle.specs.declared.command.Command.{Command}
 use Rattle.onfi_cycle.specs.declared.command.Command.TheVariants.{Read, ChangeReadColumn, BlockErase, PageProgram}
 use Rattle.onfi_cycle.specs.declared.tail_facts.TailFacts.{TailFacts}
 use Rattle.onfi_cycle.specs.LunView.{LunView}
+use Rattle.onfi_cycle.specs.Lun.{view_after}
+use Rattle.onfi_cycle.specs.declared.effect.Effect.TheVariants.{ProgramAddressed}
 use Rattle.onfi_cycle.specs.Command.{address_cycles, at_last_row}
 use Rattle.onfi_cycle.specs.Effect.{is_off}
 use Rattle.micro_program.specs.Program.{Job, Done, column_now, index_now, plane_now}
@@ -20,7 +22,7 @@ use Rattle.micro_claims.proofs.Addressing.{AddressNow, of_now, same_facts, same_
 use Rattle.micro_claims.proofs.AddressSteps.{nth}
 use Rattle.micro_verify.proofs.Lone.{lone_behind}
 use Rattle.onfi_cycle.specs.declared.target_cycle.TargetCycle.TheVariants.{AddressCycle}
-use Rattle.micro_verify.proofs.AddressesJudged.{cursor, RowThere, IsJudged, read_judged, program_judged, erase_judged, change_judged, read_leads, program_leads, erase_leads, change_leads}
+use Rattle.micro_verify.proofs.AddressesJudged.{view_at, cursor, RowThere, IsJudged, read_judged, program_judged, erase_judged, change_judged, read_leads, program_leads, erase_leads, change_leads}
 
 -- 1. the address of the registers
 
@@ -53,6 +55,14 @@ abbrev pub changes_column : Command → Bool
 changes_column ChangeReadColumn = true
 changes_column _ = false
 
+-- before its last row cycle the LUN is as it was
+pub view_early : (o : Command) (view : LunView) (i : ℕ) → carries_registers o ≡ true → i < address_cycles o → view_at o view i ≡ view
+view_early Read view i carries few = refl
+view_early ChangeReadColumn view i carries few = refl
+view_early BlockErase view i carries few = refl
+view_early PageProgram view i carries few = let early : nat_le 5 i ≡ false = grind (arith, nat_tests, few) in ap (λ (b : Bool). cond b (view_after ProgramAddressed view) view) early
+view_early _ view i carries few = cc
+
 -- each of its cycles is judged by its rule, and leads to the next
 pub record Goes (g : Parts) (o : Command) (a : Address) (view : LunView) (i : ℕ) : Type 0 where
   pub judged_is : IsJudged g o a view i
@@ -60,7 +70,7 @@ pub record Goes (g : Parts) (o : Command) (a : Address) (view : LunView) (i : �
 
 pub address_goes : (g : Parts) (o : Command) (a : Address) (view : LunView) (i : ℕ) → carries_registers o ≡ true → i < address_cycles o → (at_last_row o i ≡ true → RowThere g a) → (changes_column o ≡ true → is_off view.latch ≡ false) → Goes g o a view i
 address_goes g Read a view i carries few row shown = record { judged_is = read_judged g a view i (omega (arith, few)) (λ e. row (eq-eqb i 4 e)); leads = read_leads g a view i (omega (arith, few)) }
-address_goes g PageProgram a view i carries few row shown = record { judged_is = program_judged g a view i (omega (arith, few)) (λ e. row (eq-eqb i 4 e)); leads = program_leads g a view i (omega (arith, few)) }
+address_goes g PageProgram a view i carries few row shown = record { judged_is = program_judged g a view i (omega (arith, few)) (λ e. row (eq-eqb i 4 e)); leads = program_leads g a view i (omega (arith, few)) (λ e. row (eq-eqb i 4 e)) }
 address_goes g BlockErase a view i carries few row shown = record { judged_is = erase_judged g a view i (omega (arith, few)) (λ e. row (eq-eqb i 2 e)); leads = erase_leads g a view i (omega (arith, few)) }
 address_goes g ChangeReadColumn a view i carries few row shown = record { judged_is = change_judged g a view i (omega (arith, few)) (shown refl); leads = change_leads g a view i (omega (arith, few)) }
 address_goes g _ a view i carries few row shown = cc

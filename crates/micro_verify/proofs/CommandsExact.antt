@@ -5,12 +5,12 @@ use Rattle.std.proofs.Math.Nat.{div-add-mod, mul-add-div_right}
 use Rattle.std.proofs.Common.{◌≡◌, ℕ, zero, suc, ◌+◌, ◌-◌, ◌*◌, ◌/◌, ◌%◌, ◌≤◌, ◌<◌, ◌==◌, Bool, true, false, ◌&&◌, ◌||◌, cond, not, ltb, nat_le, List, [], ◌∷◌, Option, Some, None, refl, sym, ap, ◌∙◌, subst, arith, eqb-true, take}
 use Rattle.std.proofs.lemmas.Bool.{not-true, and_parts, or_parts}
 use Rattle.nand_geometry.specs.declared.parts.Parts.{Parts}
-use Rattle.nand_geometry.specs.Optional.{is_wide, has_features, has_unique_id, has_enhanced_column, has_lun_reset, has_plane_reads, has_synchronous_reset}
+use Rattle.nand_geometry.specs.Optional.{is_wide, has_features, has_unique_id, has_enhanced_column, has_lun_reset, has_plane_reads, has_copyback, has_synchronous_reset}
 use Rattle.nand_geometry.specs.declared.row_parts.RowParts.{RowParts}
 use Rattle.nand_geometry.specs.Limits.{planes}
 use Rattle.nand_geometry.specs.Row.{parts_of, row_of}
 use Rattle.onfi_cycle.specs.declared.command.Command.{Command}
-use Rattle.onfi_cycle.specs.declared.command.Command.TheVariants.{Read, ReadConfirm, ReadPlane, ChangeReadColumn, ChangeReadColumnEnhanced, ChangeReadColumnConfirm, BlockErase, BlockEraseConfirm, BlockErasePlane, ReadStatus as StatusCommand, ReadStatusEnhanced, PageProgram, ChangeWriteColumn, ProgramConfirm, ProgramPlane, ReadId, ReadParameterPage, Reset, ReadCacheSequential, ReadCacheEnd, Unknown as UnknownCommand, ReadUniqueId, GetFeatures, SetFeatures, ResetLun, SynchronousReset}
+use Rattle.onfi_cycle.specs.declared.command.Command.TheVariants.{Read, ReadConfirm, ReadPlane, ChangeReadColumn, ChangeReadColumnEnhanced, ChangeReadColumnConfirm, BlockErase, BlockEraseConfirm, BlockErasePlane, ReadStatus as StatusCommand, ReadStatusEnhanced, PageProgram, ChangeWriteColumn, ProgramConfirm, ProgramPlane, ReadId, ReadParameterPage, Reset, ReadCacheSequential, ReadCacheEnd, Unknown as UnknownCommand, ReadUniqueId, GetFeatures, SetFeatures, ResetLun, SynchronousReset, CopybackRead}
 use Rattle.onfi_cycle.specs.declared.data_phase.DataPhase.TheVariants.{Outside, Inputs}
 use Rattle.onfi_cycle.specs.declared.effect.Effect.{Effect}
 use Rattle.onfi_cycle.specs.declared.effect.Effect.TheVariants.{EraseStarted, ProgramStarted, ReadStarted, ReadColumnChanged, CacheReadContinued, CacheReadEnded, Unaffected}
@@ -88,6 +88,7 @@ fit_or_none false x h = refl
 -- among the words of the text that a program may not use
 -- a command for traces alone is none of the base profile
 traced : (d : Command) → is_for_traces d ≡ true → not (is_of_base d) ≡ true
+traced CopybackRead h = refl
 traced _ h = cc
 
 for_programs : (x d k a t w n : Bool) → (t ≡ true → x ≡ true) → ((x || d) || a || t || w || n) ≡ true → n ≡ false → (a || x || (k || d) || w) ≡ true
@@ -387,7 +388,7 @@ goes_ff s text v r c byte k is_d is m clear =
 -- 85h
 begins_85 : (t : TailFacts) (a : Address) → InProgram a Inputs t → ColumnBegun 0 a (facts_after (CommandCycle ChangeWriteColumn) t)
 begins_85 t a p =
-    record { few = omega arith; alone = rw p.begun refl; program = record { phase = rw (p.begun, p.phase) refl; row = rw p.begun p.row; begun = rw p.begun refl }; column = λ e. absurd (omega (arith, e)) }
+    record { few = omega arith; alone = rw (p.begun, p.phase) refl; program = record { phase = rw (p.begun, p.phase) refl; row = rw (p.begun, p.phase) p.row; begun = rw (p.begun, p.phase) refl }; column = λ e. absurd (omega (arith, e)) }
 
 pub goes_85 : (s : Channel) (text : Microprogram) (v : State) (r : Run) (c : Lone) (byte : ℕ) → IsFit s text → command byte ≡ ChangeWriteColumn → IsLone s r.past c → Mirrors s.geometry (lone_job s.geometry text) v r.done c → NoReasons s.geometry text v (CommandWord byte) → Goes s text (state_after s.geometry v (CommandWord byte)) r (CommandWord byte)
 goes_85 s text v r c byte k is_d is m clear =
@@ -823,6 +824,7 @@ command_exact s text v r c byte k seen is m =
     by ReadCacheEnd is_d clear = goes_3f s text v r c byte k is_d is m clear
     by ChangeReadColumnEnhanced is_d clear = absurd (barred (is_wide s.geometry.optional) (not (has_enhanced_column s.geometry.optional)) k.base (declared s.geometry text v byte ChangeReadColumnEnhanced is_d clear).fit)
     by ReadPlane is_d clear = absurd (barred (is_wide s.geometry.optional) (not (has_plane_reads s.geometry.optional)) k.base (declared s.geometry text v byte ReadPlane is_d clear).fit)
+    by CopybackRead is_d clear = absurd (barred (is_wide s.geometry.optional) (not (has_copyback s.geometry.optional)) k.base (declared s.geometry text v byte CopybackRead is_d clear).fit)
     by ReadUniqueId is_d clear = absurd (barred (is_wide s.geometry.optional) (not (has_unique_id s.geometry.optional)) k.base (declared s.geometry text v byte ReadUniqueId is_d clear).fit)
     by GetFeatures is_d clear = absurd (barred (is_wide s.geometry.optional) (not (has_features s.geometry.optional)) k.base (declared s.geometry text v byte GetFeatures is_d clear).fit)
     by SetFeatures is_d clear = absurd (barred (is_wide s.geometry.optional) (not (has_features s.geometry.optional)) k.base (declared s.geometry text v byte SetFeatures is_d clear).fit)

@@ -3,10 +3,10 @@
 use Rattle.std.proofs.Common.{◌≡◌, ℕ, Bool, true, false, ◌||◌, ◌&&◌, cond, not, Option, Some, None, List, [], ◌∷◌, ◌++◌, refl, sym, ap, ◌∙◌, subst, arith}
 use Rattle.std.proofs.Math.Bool.{or-true}
 use Rattle.nand_geometry.specs.declared.parts.Parts.{Parts}
-use Rattle.nand_geometry.specs.Optional.{is_wide, has_plane_reads, has_free_blocks, no_optional}
+use Rattle.nand_geometry.specs.Optional.{is_wide, no_optional}
 use Rattle.nand_geometry.specs.Row.{parts_of}
 use Rattle.onfi_cycle.specs.declared.command.Command.{Command}
-use Rattle.onfi_cycle.specs.declared.command.Command.TheVariants.{Read, ReadConfirm, ReadStatus, ReadStatusEnhanced, Reset, SynchronousReset, ReadCacheSequential, ReadCacheEnd, ChangeReadColumnConfirm, BlockEraseConfirm, BlockErasePlane, ProgramConfirm, ProgramPlane, ReadId, ReadParameterPage, ReadUniqueId, GetFeatures, ResetLun, ChangeReadColumnEnhanced, BlockErase, PageProgram, ReadPlane}
+use Rattle.onfi_cycle.specs.declared.command.Command.TheVariants.{Read, ReadConfirm, ReadStatus, ReadStatusEnhanced, Reset, SynchronousReset, ReadCacheSequential, ReadCacheEnd, ChangeReadColumnConfirm, BlockEraseConfirm, BlockErasePlane, ProgramConfirm, ProgramPlane, ReadId, ReadParameterPage, ReadUniqueId, GetFeatures, ResetLun, ChangeReadColumnEnhanced, BlockErase, PageProgram, ChangeWriteColumn, ReadPlane, CopybackRead}
 use Rattle.onfi_cycle.specs.declared.forbidden.Forbidden.{Forbidden}
 use Rattle.onfi_cycle.specs.declared.forbidden.Forbidden.TheVariants.{CommandUnknown, NoSoleDriver}
 use Rattle.onfi_cycle.specs.declared.item.Item.{Item}
@@ -28,7 +28,7 @@ use Rattle.std.specs.List.{list_any, slice_get}
 use Rattle.onfi_cycle.specs.Effect.{page_address, cycle_effect, command_effect, address_effect, opening_address_effect}
 use Rattle.onfi_cycle.specs.Lun.{latch, latch_alone, alone, drivers_from, drivers, is_only, lun_view, luns_of, views_from, view_after, effect_on, is_cache_read}
 use Rattle.onfi_cycle.specs.Command.{at_last_row}
-use Rattle.onfi_cycle.specs.Rules.{ends_row, excludes_cache, planes_clash, queued_clashes, read_clashes, refused_by, is_refused_by, breaks_not_there, breaks_command_unknown, breaks_sequence_open, breaks_several_luns, breaks_no_column_to_change, breaks_command_misplaced, breaks_address_misplaced, breaks_row_outside, breaks_lun_busy, breaks_queue_clash, breaks_input_misplaced, breaks_no_sole_driver, breaks_data_not_ready, breaks_column_outside, breaks_cache_read_misplaced, breaks_plane_not_held}
+use Rattle.onfi_cycle.specs.Rules.{ends_row, excludes_cache, planes_clash, queued_clashes, read_clashes, refused_by, is_refused_by, breaks_not_there, breaks_command_unknown, breaks_sequence_open, breaks_several_luns, breaks_no_column_to_change, breaks_command_misplaced, breaks_address_misplaced, breaks_row_outside, breaks_lun_busy, breaks_queue_clash, breaks_input_misplaced, breaks_no_sole_driver, breaks_data_not_ready, breaks_column_outside, breaks_cache_read_misplaced, breaks_copyback_misplaced, breaks_plane_not_held}
 use Rattle.onfi_cycle.specs.Permitted.{broken, judge_cycle, judge_known_cycle, is_legal}
 use Rattle.onfi_cycle.specs.Channel.{Channel, IsChannel, cycle}
 use Rattle.micro_program.specs.Moves.{Move, Give, Take, and_then}
@@ -43,16 +43,11 @@ pub record Lone : Type 0 where
   pub facts : TailFacts
   pub view : LunView
 
--- its chip has no reads of several planes, and the blocks of a queue are bound
-abbrev pub NoPlanes : Parts → Type 0
-NoPlanes g = (has_plane_reads g.optional ≡ false) × (has_free_blocks g.optional ≡ false)
-
 -- a channel with one LUN
 pub record IsAlone (s : Channel) : Type 0 where
   pub is_channel : IsChannel s
   pub one : s.geometry.luns ≡ 1
   pub base : is_wide s.geometry.optional ≡ false
-  pub planes : NoPlanes s.geometry
   pub target : s.targets ≡ 1
 
 -- a legal past, and what it leaves
@@ -86,17 +81,17 @@ ends_same g t base = at t.opening
     at (Some o) = ap (λ (b : Bool). b && at_last_row o.opener o.addresses) (same o.opener)
 
 -- a queue refuses the same rows
-refused_same : (g : Parts) → NoPlanes g → (o : Option Opening) (p : PageAddress) (queue : List Queued) → is_refused_by g o p queue ≡ is_refused_by (based g) o p queue
-refused_same g none None p queue = refl
-refused_same g none (Some o) p queue = ap (λ (b : Bool). at_last_row o.opener o.addresses && b) (same o.opener)
+refused_same : (g : Parts) → is_wide g.optional ≡ false → (o : Option Opening) (p : PageAddress) (queue : List Queued) → is_refused_by g o p queue ≡ is_refused_by (based g) o p queue
+refused_same g base None p queue = refl
+refused_same g base (Some o) p queue = ap (λ (b : Bool). at_last_row o.opener o.addresses && b) (same o.opener)
   where
     bound : (q : PageAddress) → planes_clash g p q ≡ planes_clash (based g) p q
-    bound q = rw none.1 refl
+    bound q = rw base refl
 
     read : (q : Queued) → read_clashes g p q ≡ read_clashes (based g) p q
     read (Erase q) = refl
     read (Program q) = refl
-    read (QueuedRead q) = rw none.0 refl
+    read (QueuedRead q) = rw base refl
 
     row : (e : Bool) (q : Queued) → queued_clashes g e p q ≡ queued_clashes (based g) e p q
     row e (Erase q) = ap (λ (b : Bool). not e || b) (bound q)
@@ -107,25 +102,26 @@ refused_same g none (Some o) p queue = ap (λ (b : Bool). at_last_row o.opener o
     same Read = λ i. list_any (λ q. read q i) queue
     same BlockErase = λ i. list_any (λ q. row true q i) queue
     same PageProgram = λ i. list_any (λ q. row false q i) queue
+    same ChangeWriteColumn = λ i. list_any (λ q. row false q i) queue
     same _ = refl
 
 -- and nothing else is asked
-known_same : (g : Parts) (t : TailFacts) (vs : List LunView) (d : TargetCycle) → is_wide g.optional ≡ false → NoPlanes g → judge_known_cycle g t vs d ≡ judge_known_cycle (based g) t vs d
-unfolding breaks_sequence_open breaks_several_luns breaks_no_column_to_change breaks_command_misplaced breaks_address_misplaced breaks_row_outside breaks_lun_busy breaks_queue_clash breaks_input_misplaced breaks_no_sole_driver breaks_data_not_ready breaks_column_outside breaks_cache_read_misplaced breaks_plane_not_held
-known_same g t vs (CommandCycle ReadConfirm) base none = rw base refl
-known_same g t vs (CommandCycle ReadCacheSequential) base none = rw base refl
-known_same g t vs (CommandCycle ReadCacheEnd) base none = rw base refl
-known_same g t vs (CommandCycle c) base none = rw base refl
-known_same g t vs (AddressCycle byte) base none = at (slice_get vs (parts_of g (row_with t byte)).lun) refl
+known_same : (g : Parts) (t : TailFacts) (vs : List LunView) (d : TargetCycle) → is_wide g.optional ≡ false → judge_known_cycle g t vs d ≡ judge_known_cycle (based g) t vs d
+unfolding breaks_sequence_open breaks_several_luns breaks_no_column_to_change breaks_command_misplaced breaks_address_misplaced breaks_row_outside breaks_lun_busy breaks_queue_clash breaks_input_misplaced breaks_no_sole_driver breaks_data_not_ready breaks_column_outside breaks_cache_read_misplaced breaks_copyback_misplaced breaks_plane_not_held
+known_same g t vs (CommandCycle ReadConfirm) base = rw base refl
+known_same g t vs (CommandCycle ReadCacheSequential) base = rw base refl
+known_same g t vs (CommandCycle ReadCacheEnd) base = rw base refl
+known_same g t vs (CommandCycle c) base = rw base refl
+known_same g t vs (AddressCycle byte) base = at (slice_get vs (parts_of g (row_with t byte)).lun) refl
   where
     ends : ends_row (excludes_cache g) t ≡ ends_row (excludes_cache (based g)) t
     ends = ends_same g t base
 
     at : (o : Option LunView) → slice_get vs (parts_of g (row_with t byte)).lun ≡ o → judge_known_cycle g t vs (AddressCycle byte) ≡ judge_known_cycle (based g) t vs (AddressCycle byte)
     at None e = rw (base, ends, e) refl
-    at (Some v) e = let rows = refused_same g none t.opening (page_address g (row_with t byte)) v.queue in rw (base, ends, e, rows) refl
-known_same g t vs (InputCycle byte) base none = refl
-known_same g t vs OutputCycle base none = refl
+    at (Some v) e = let rows = refused_same g base t.opening (page_address g (row_with t byte)) v.queue in rw (base, ends, e, rows) refl
+known_same g t vs (InputCycle byte) base = refl
+known_same g t vs OutputCycle base = refl
 
 command_same : (g : Parts) (t : TailFacts) (la : Latch) (c : Command) (lun : ℕ) → is_wide g.optional ≡ false → command_effect g t la c lun ≡ command_effect (based g) t la c lun
 command_same g t la Read lun base = refl
@@ -142,6 +138,7 @@ command_same g t la BlockErasePlane lun base = rw base refl
 command_same g t la ProgramConfirm lun base = rw base refl
 command_same g t la ProgramPlane lun base = rw base refl
 command_same g t la ReadPlane lun base = rw base refl
+command_same g t la CopybackRead lun base = rw base refl
 command_same g t la c lun base = refl
 
 address_same : (g : Parts) (t : TailFacts) (byte : ℕ) (c : Command) (n lun : ℕ) → is_wide g.optional ≡ false → address_effect g t byte c n lun ≡ address_effect (based g) t byte c n lun
@@ -174,7 +171,7 @@ unfolding breaks_not_there
 broken_is s past c k is kind byte =
     subst (λ (n : ℕ). broken s.geometry n past (cycle 0 kind byte) ≡ judged s.geometry c (target_cycle kind byte)) (sym k.target)
     (ap (λ (t : TailFacts). judge_cycle s.geometry t (luns_of s.geometry past 0) (target_cycle kind byte)) is.facts ∙ ap (λ (vs : List LunView). judge_cycle s.geometry c.facts vs (target_cycle kind byte)) (luns_are s past c k is)
-    ∙ ap (λ (o : Option Forbidden). cond (breaks_command_unknown s.geometry (target_cycle kind byte)) (Some CommandUnknown) o) (known_same s.geometry c.facts (c.view ∷ []) (target_cycle kind byte) k.base k.planes))
+    ∙ ap (λ (o : Option Forbidden). cond (breaks_command_unknown s.geometry (target_cycle kind byte)) (Some CommandUnknown) o) (known_same s.geometry c.facts (c.view ∷ []) (target_cycle kind byte) k.base))
 
 alone_is : (g : Parts) (past : List Item) → g.luns ≡ 1 → latch_alone g past the_lun ≡ latch g past the_lun
 alone_is g past one = subst (λ (n : ℕ). alone n (λ m. latch g past (record { ce = 0; lun = m })) 0 ≡ latch g past the_lun) (sym one) (at (latch g past the_lun) refl)

@@ -1,6 +1,6 @@
 -- Where the address of an opener stops: at its second column cycle, at its last row cycle, at one more than it takes.
 use Rattle.std.proofs.lemmas.Bool.Decides.{nat_tests}
-use Rattle.std.proofs.Common.{◌≡◌, ℕ, zero, suc, ◌+◌, ◌≤◌, ◌<◌, Bool, true, false, cond, ltb, nat_le, List, Some, None, refl, ap, ◌∙◌, arith, take, drop}
+use Rattle.std.proofs.Common.{◌≡◌, ℕ, zero, suc, ◌+◌, ◌≤◌, ◌<◌, Bool, true, false, cond, ltb, nat_le, List, Some, None, refl, sym, ap, ◌∙◌, arith, take, drop}
 use Rattle.nand_geometry.specs.declared.parts.Parts.{Parts}
 use Rattle.nand_geometry.specs.Limits.{InLimits, indices, planes, page_len}
 use Rattle.onfi_cycle.specs.declared.command.Command.{Command}
@@ -33,7 +33,7 @@ use Rattle.micro_verify.proofs.Causes.{IsFit}
 use Rattle.micro_verify.proofs.CommandsExact.{not_off}
 use Rattle.micro_verify.proofs.OutputsExact.{length_is, register_small}
 use Rattle.micro_verify.proofs.AddressesJudged.{cursor, address_rule}
-use Rattle.micro_verify.proofs.AddressesNow.{carries_registers, changes_column, address_there, facts_now}
+use Rattle.micro_verify.proofs.AddressesNow.{carries_registers, changes_column, view_early, address_there, facts_now}
 use Rattle.micro_verify.proofs.AddressRules.{is_refused, refused_breaks, column_rule_is}
 use Rattle.micro_verify.proofs.AddressStops.{AtOpener, limit_of, rule_none, second_rule, last_rule, last_is, opener_stops, cycle_goes, unwanted_judged}
 
@@ -72,7 +72,7 @@ opener_at s text v r c from count o n w b carries inside begins =
       carries = carries;
       begins = begins;
       few = w.few;
-      here = λ i. record { facts = facts_now s.geometry (lone_job s.geometry text) r.done from count n o b.old c.facts now carries inside begins w.some b.opened b.now i; view = c.view };
+      here = λ i. record { facts = facts_now s.geometry (lone_job s.geometry text) r.done from count n o b.old c.facts now carries inside begins w.some b.opened b.now i; view = sym (view_early o c.view n carries inside) i };
       shown = shown o b.changes;
     }
   where

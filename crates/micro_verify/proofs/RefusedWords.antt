@@ -122,7 +122,7 @@ few_rows g k rows h =
 pub refusals_have_causes : RefusalsHaveCauses
 refusals_have_causes g parameters text format fault whole straight h of_word =
     let s = lone_channel g parameters in
-    let alone : IsAlone s = record { is_channel = record { limits = straight.limits; parameters = whole; pages = λ l p. length_replicate _ 0xff }; one = straight.one; base = straight.base; planes = (straight.plane_reads, straight.free_blocks); target = refl } in
+    let alone : IsAlone s = record { is_channel = record { limits = straight.limits; parameters = whole; pages = λ l p. length_replicate _ 0xff }; one = straight.one; base = straight.base; target = refl } in
     let one : ltb 1 g.luns ≡ false = rw straight.one refl in
     let limits = straight.limits in
     let fit : IsFit s text =

@@ -4,9 +4,9 @@ use Rattle.std.proofs.Common.{◌≡◌, ℕ, ◌+◌, ◌≤◌, ◌==◌, Bool
 use Rattle.std.proofs.Math.Bool.{or-false}
 use Rattle.std.proofs.lemmas.Bool.{not-false}
 use Rattle.nand_geometry.specs.declared.parts.Parts.{Parts}
-use Rattle.nand_geometry.specs.Optional.{is_wide, has_features, has_unique_id, has_enhanced_column, has_lun_reset, has_plane_reads, has_synchronous_reset}
+use Rattle.nand_geometry.specs.Optional.{is_wide, has_features, has_unique_id, has_enhanced_column, has_lun_reset, has_plane_reads, has_copyback, has_synchronous_reset}
 use Rattle.onfi_cycle.specs.declared.command.Command.{Command}
-use Rattle.onfi_cycle.specs.declared.command.Command.TheVariants.{Read, ReadConfirm, ReadPlane, ChangeReadColumn, ChangeReadColumnEnhanced, ChangeReadColumnConfirm, BlockErase, BlockEraseConfirm, BlockErasePlane, ReadStatus, ReadStatusEnhanced, PageProgram, ChangeWriteColumn, ProgramConfirm, ProgramPlane, ReadId, ReadParameterPage, Reset, ReadCacheSequential, ReadCacheEnd, ReadUniqueId, GetFeatures, SetFeatures, ResetLun, SynchronousReset, Unknown}
+use Rattle.onfi_cycle.specs.declared.command.Command.TheVariants.{Read, ReadConfirm, ReadPlane, ChangeReadColumn, ChangeReadColumnEnhanced, ChangeReadColumnConfirm, BlockErase, BlockEraseConfirm, BlockErasePlane, ReadStatus, ReadStatusEnhanced, PageProgram, ChangeWriteColumn, ProgramConfirm, ProgramPlane, ReadId, ReadParameterPage, Reset, ReadCacheSequential, ReadCacheEnd, ReadUniqueId, GetFeatures, SetFeatures, ResetLun, SynchronousReset, Unknown, CopybackRead}
 use Rattle.onfi_cycle.specs.declared.data_phase.DataPhase.TheVariants.{FirstColumn, SecondColumn}
 use Rattle.onfi_cycle.specs.declared.forbidden.Forbidden.{Forbidden}
 use Rattle.onfi_cycle.specs.declared.latch.Latch.{Latch}
@@ -22,13 +22,13 @@ use Rattle.onfi_cycle.specs.LunView.{LunView}
 use Rattle.onfi_cycle.specs.Effect.{is_data}
 use Rattle.micro_claims.specs.State.{may_be_31, may_be_other}
 use Rattle.micro_claims.specs.Spans.{greatest_bound, bound_plus, is_at_most}
-use Rattle.onfi_cycle.specs.Rules.{has_some, may_change_column, is_page_or_parameters, breaks_command_unknown, breaks_sequence_open, breaks_several_luns, breaks_no_column_to_change, breaks_command_misplaced, breaks_address_misplaced, breaks_row_outside, breaks_lun_busy, breaks_queue_clash, breaks_input_misplaced, breaks_no_sole_driver, breaks_data_not_ready, breaks_column_outside, breaks_cache_read_misplaced, breaks_plane_not_held}
+use Rattle.onfi_cycle.specs.Rules.{has_some, may_change_column, is_page_or_parameters, breaks_command_unknown, breaks_sequence_open, breaks_several_luns, breaks_no_column_to_change, breaks_command_misplaced, breaks_address_misplaced, breaks_row_outside, breaks_lun_busy, breaks_queue_clash, breaks_input_misplaced, breaks_no_sole_driver, breaks_data_not_ready, breaks_column_outside, breaks_cache_read_misplaced, breaks_copyback_misplaced, breaks_plane_not_held}
 use Rattle.micro_program.specs.Program.{Job, Done}
 use Rattle.micro_program.proofs.Scenes.{closed_unwanted}
 use Rattle.micro_claims.specs.declared.state.State.{State}
 use Rattle.micro_claims.specs.declared.place.Place.{Place}
 use Rattle.micro_claims.specs.declared.place.Place.TheVariants.{Closed, After, InData, InColumn, InFeatures, Unknown as UnknownPlace}
-use Rattle.micro_claims.specs.Against.{place_wants, is_data_command, may_be_open, shows_only_data, has_page_or_parameters, drives, is_unfit, may_end_sequence, opener_refused, closer_refused, reads_cache_at, selects_plane_at, command_out_of_place}
+use Rattle.micro_claims.specs.Against.{place_wants, is_data_command, may_be_open, shows_only_data, has_page_or_parameters, drives, is_unfit, may_end_sequence, opener_refused, closer_refused, goes_on_at, selects_plane_at, command_out_of_place}
 use Rattle.micro_verify.specs.Cause.{is_of_cycle_forbidden}
 use Rattle.micro_claims.proofs.Fits.{Address}
 use Rattle.micro_verify.proofs.Lone.{Lone, judged}
@@ -47,7 +47,7 @@ told_by x y o e h = subst (λ (b : Bool). Told b o) (sym e) h
 -- 1. openers
 
 told_read : (g : Parts) (c : Lone) → Told (is_open c.facts || c.view.busy) (judged g c (CommandCycle Read))
-unfolding breaks_command_unknown breaks_sequence_open breaks_several_luns breaks_no_column_to_change breaks_command_misplaced breaks_address_misplaced breaks_row_outside breaks_lun_busy breaks_queue_clash breaks_input_misplaced breaks_no_sole_driver breaks_data_not_ready breaks_column_outside breaks_cache_read_misplaced breaks_plane_not_held
+unfolding breaks_command_unknown breaks_sequence_open breaks_several_luns breaks_no_column_to_change breaks_command_misplaced breaks_address_misplaced breaks_row_outside breaks_lun_busy breaks_queue_clash breaks_input_misplaced breaks_no_sole_driver breaks_data_not_ready breaks_column_outside breaks_cache_read_misplaced breaks_copyback_misplaced breaks_plane_not_held
 told_read g c = at (is_open c.facts) refl c.view.busy refl
   where
     at : (o : Bool) → is_open c.facts ≡ o → (b : Bool) → c.view.busy ≡ b → Told (is_open c.facts || c.view.busy) (judged g c (CommandCycle Read))
@@ -56,7 +56,7 @@ told_read g c = at (is_open c.facts) refl c.view.busy refl
     at false e false f = rw (e, f) tt
 
 told_erase : (g : Parts) (c : Lone) → Told (is_open c.facts || c.view.busy) (judged g c (CommandCycle BlockErase))
-unfolding breaks_command_unknown breaks_sequence_open breaks_several_luns breaks_no_column_to_change breaks_command_misplaced breaks_address_misplaced breaks_row_outside breaks_lun_busy breaks_queue_clash breaks_input_misplaced breaks_no_sole_driver breaks_data_not_ready breaks_column_outside breaks_cache_read_misplaced breaks_plane_not_held
+unfolding breaks_command_unknown breaks_sequence_open breaks_several_luns breaks_no_column_to_change breaks_command_misplaced breaks_address_misplaced breaks_row_outside breaks_lun_busy breaks_queue_clash breaks_input_misplaced breaks_no_sole_driver breaks_data_not_ready breaks_column_outside breaks_cache_read_misplaced breaks_copyback_misplaced breaks_plane_not_held
 told_erase g c = at (is_open c.facts) refl c.view.busy refl
   where
     at : (o : Bool) → is_open c.facts ≡ o → (b : Bool) → c.view.busy ≡ b → Told (is_open c.facts || c.view.busy) (judged g c (CommandCycle BlockErase))
@@ -65,7 +65,7 @@ told_erase g c = at (is_open c.facts) refl c.view.busy refl
     at false e false f = rw (e, f) tt
 
 told_program : (g : Parts) (c : Lone) → Told (is_open c.facts || c.view.busy) (judged g c (CommandCycle PageProgram))
-unfolding breaks_command_unknown breaks_sequence_open breaks_several_luns breaks_no_column_to_change breaks_command_misplaced breaks_address_misplaced breaks_row_outside breaks_lun_busy breaks_queue_clash breaks_input_misplaced breaks_no_sole_driver breaks_data_not_ready breaks_column_outside breaks_cache_read_misplaced breaks_plane_not_held
+unfolding breaks_command_unknown breaks_sequence_open breaks_several_luns breaks_no_column_to_change breaks_command_misplaced breaks_address_misplaced breaks_row_outside breaks_lun_busy breaks_queue_clash breaks_input_misplaced breaks_no_sole_driver breaks_data_not_ready breaks_column_outside breaks_cache_read_misplaced breaks_copyback_misplaced breaks_plane_not_held
 told_program g c = at (is_open c.facts) refl c.view.busy refl
   where
     at : (o : Bool) → is_open c.facts ≡ o → (b : Bool) → c.view.busy ≡ b → Told (is_open c.facts || c.view.busy) (judged g c (CommandCycle PageProgram))
@@ -74,7 +74,7 @@ told_program g c = at (is_open c.facts) refl c.view.busy refl
     at false e false f = rw (e, f) tt
 
 pub told_status : (g : Parts) (c : Lone) → ltb 1 g.luns ≡ false → Told (is_open c.facts || false) (judged g c (CommandCycle ReadStatus))
-unfolding breaks_command_unknown breaks_sequence_open breaks_several_luns breaks_no_column_to_change breaks_command_misplaced breaks_address_misplaced breaks_row_outside breaks_lun_busy breaks_queue_clash breaks_input_misplaced breaks_no_sole_driver breaks_data_not_ready breaks_column_outside breaks_cache_read_misplaced breaks_plane_not_held
+unfolding breaks_command_unknown breaks_sequence_open breaks_several_luns breaks_no_column_to_change breaks_command_misplaced breaks_address_misplaced breaks_row_outside breaks_lun_busy breaks_queue_clash breaks_input_misplaced breaks_no_sole_driver breaks_data_not_ready breaks_column_outside breaks_cache_read_misplaced breaks_copyback_misplaced breaks_plane_not_held
 told_status g c one = at (is_open c.facts) refl
   where
     at : (o : Bool) → is_open c.facts ≡ o → Told (is_open c.facts || false) (judged g c (CommandCycle ReadStatus))
@@ -82,7 +82,7 @@ told_status g c one = at (is_open c.facts) refl
     at false e = rw (e, one) tt
 
 told_reset : (g : Parts) (c : Lone) → ltb 1 g.luns ≡ false → is_wide g.optional ≡ false → Told (is_open c.facts || false) (judged g c (CommandCycle Reset))
-unfolding breaks_command_unknown breaks_sequence_open breaks_several_luns breaks_no_column_to_change breaks_command_misplaced breaks_address_misplaced breaks_row_outside breaks_lun_busy breaks_queue_clash breaks_input_misplaced breaks_no_sole_driver breaks_data_not_ready breaks_column_outside breaks_cache_read_misplaced breaks_plane_not_held
+unfolding breaks_command_unknown breaks_sequence_open breaks_several_luns breaks_no_column_to_change breaks_command_misplaced breaks_address_misplaced breaks_row_outside breaks_lun_busy breaks_queue_clash breaks_input_misplaced breaks_no_sole_driver breaks_data_not_ready breaks_column_outside breaks_cache_read_misplaced breaks_copyback_misplaced breaks_plane_not_held
 told_reset g c one base = at (is_open c.facts) refl
   where
     at : (o : Bool) → is_open c.facts ≡ o → Told (is_open c.facts || false) (judged g c (CommandCycle Reset))
@@ -90,7 +90,7 @@ told_reset g c one base = at (is_open c.facts) refl
     at false e = rw (e, one) tt
 
 told_enhanced : (g : Parts) (c : Lone) → g.enhanced ≡ true → Told (is_open c.facts || false) (judged g c (CommandCycle ReadStatusEnhanced))
-unfolding breaks_command_unknown breaks_sequence_open breaks_several_luns breaks_no_column_to_change breaks_command_misplaced breaks_address_misplaced breaks_row_outside breaks_lun_busy breaks_queue_clash breaks_input_misplaced breaks_no_sole_driver breaks_data_not_ready breaks_column_outside breaks_cache_read_misplaced breaks_plane_not_held
+unfolding breaks_command_unknown breaks_sequence_open breaks_several_luns breaks_no_column_to_change breaks_command_misplaced breaks_address_misplaced breaks_row_outside breaks_lun_busy breaks_queue_clash breaks_input_misplaced breaks_no_sole_driver breaks_data_not_ready breaks_column_outside breaks_cache_read_misplaced breaks_copyback_misplaced breaks_plane_not_held
 told_enhanced g c enhanced = at (is_open c.facts) refl
   where
     at : (o : Bool) → is_open c.facts ≡ o → Told (is_open c.facts || false) (judged g c (CommandCycle ReadStatusEnhanced))
@@ -99,7 +99,7 @@ told_enhanced g c enhanced = at (is_open c.facts) refl
 
 -- 05h
 told_change : (g : Parts) (c : Lone) → is_modelled c.view.register ≡ true → Told (is_open c.facts || (not (shows_only_data (shows_of c.view.latch)) || c.view.busy || not (has_page_or_parameters (held_of c.view.register)))) (judged g c (CommandCycle ChangeReadColumn))
-unfolding breaks_command_unknown breaks_sequence_open breaks_several_luns breaks_no_column_to_change breaks_command_misplaced breaks_address_misplaced breaks_row_outside breaks_lun_busy breaks_queue_clash breaks_input_misplaced breaks_no_sole_driver breaks_data_not_ready breaks_column_outside breaks_cache_read_misplaced breaks_plane_not_held
+unfolding breaks_command_unknown breaks_sequence_open breaks_several_luns breaks_no_column_to_change breaks_command_misplaced breaks_address_misplaced breaks_row_outside breaks_lun_busy breaks_queue_clash breaks_input_misplaced breaks_no_sole_driver breaks_data_not_ready breaks_column_outside breaks_cache_read_misplaced breaks_copyback_misplaced breaks_plane_not_held
 told_change g c known = at (is_open c.facts) refl c.view.latch refl c.view.busy refl c.view.register refl known
   where
     at : (o : Bool) → is_open c.facts ≡ o → (x : Latch) → c.view.latch ≡ x → (b : Bool) → c.view.busy ≡ b → (r : Register) → c.view.register ≡ r → is_modelled c.view.register ≡ true → Told (is_open c.facts || (not (shows_only_data (shows_of c.view.latch)) || c.view.busy || not (has_page_or_parameters (held_of c.view.register)))) (judged g c (CommandCycle ChangeReadColumn))
@@ -115,7 +115,7 @@ told_change g c known = at (is_open c.facts) refl c.view.latch refl c.view.busy 
 
 -- 90h and ECh
 told_identity : (g : Parts) (c : Lone) → ltb 1 g.luns ≡ false → Told (is_open c.facts || (c.view.busy || has_some c.view.queue || is_cache_read c.view.closer)) (judged g c (CommandCycle ReadId))
-unfolding breaks_command_unknown breaks_sequence_open breaks_several_luns breaks_no_column_to_change breaks_command_misplaced breaks_address_misplaced breaks_row_outside breaks_lun_busy breaks_queue_clash breaks_input_misplaced breaks_no_sole_driver breaks_data_not_ready breaks_column_outside breaks_cache_read_misplaced breaks_plane_not_held
+unfolding breaks_command_unknown breaks_sequence_open breaks_several_luns breaks_no_column_to_change breaks_command_misplaced breaks_address_misplaced breaks_row_outside breaks_lun_busy breaks_queue_clash breaks_input_misplaced breaks_no_sole_driver breaks_data_not_ready breaks_column_outside breaks_cache_read_misplaced breaks_copyback_misplaced breaks_plane_not_held
 told_identity g c one = at (is_open c.facts) refl c.view.busy refl (has_some c.view.queue) refl (is_cache_read c.view.closer) refl
   where
     at : (o : Bool) → is_open c.facts ≡ o → (b : Bool) → c.view.busy ≡ b → (q : Bool) → has_some c.view.queue ≡ q → (k : Bool) → is_cache_read c.view.closer ≡ k → Told (is_open c.facts || (c.view.busy || has_some c.view.queue || is_cache_read c.view.closer)) (judged g c (CommandCycle ReadId))
@@ -126,7 +126,7 @@ told_identity g c one = at (is_open c.facts) refl c.view.busy refl (has_some c.v
     at false e false f false h false i = rw (e, one, f, h, i) tt
 
 told_parameters : (g : Parts) (c : Lone) → ltb 1 g.luns ≡ false → Told (is_open c.facts || (c.view.busy || has_some c.view.queue || is_cache_read c.view.closer)) (judged g c (CommandCycle ReadParameterPage))
-unfolding breaks_command_unknown breaks_sequence_open breaks_several_luns breaks_no_column_to_change breaks_command_misplaced breaks_address_misplaced breaks_row_outside breaks_lun_busy breaks_queue_clash breaks_input_misplaced breaks_no_sole_driver breaks_data_not_ready breaks_column_outside breaks_cache_read_misplaced breaks_plane_not_held
+unfolding breaks_command_unknown breaks_sequence_open breaks_several_luns breaks_no_column_to_change breaks_command_misplaced breaks_address_misplaced breaks_row_outside breaks_lun_busy breaks_queue_clash breaks_input_misplaced breaks_no_sole_driver breaks_data_not_ready breaks_column_outside breaks_cache_read_misplaced breaks_copyback_misplaced breaks_plane_not_held
 told_parameters g c one = at (is_open c.facts) refl c.view.busy refl (has_some c.view.queue) refl (is_cache_read c.view.closer) refl
   where
     at : (o : Bool) → is_open c.facts ≡ o → (b : Bool) → c.view.busy ≡ b → (q : Bool) → has_some c.view.queue ≡ q → (k : Bool) → is_cache_read c.view.closer ≡ k → Told (is_open c.facts || (c.view.busy || has_some c.view.queue || is_cache_read c.view.closer)) (judged g c (CommandCycle ReadParameterPage))
@@ -192,7 +192,7 @@ wants_same (InFeatures n) a t d is = absurd is
 wants_same UnknownPlace a t d is = absurd is
 
 told_30 : (g : Parts) (c : Lone) → Told (not (wants_command c.facts ReadConfirm)) (judged g c (CommandCycle ReadConfirm))
-unfolding breaks_command_unknown breaks_sequence_open breaks_several_luns breaks_no_column_to_change breaks_command_misplaced breaks_address_misplaced breaks_row_outside breaks_lun_busy breaks_queue_clash breaks_input_misplaced breaks_no_sole_driver breaks_data_not_ready breaks_column_outside breaks_cache_read_misplaced breaks_plane_not_held
+unfolding breaks_command_unknown breaks_sequence_open breaks_several_luns breaks_no_column_to_change breaks_command_misplaced breaks_address_misplaced breaks_row_outside breaks_lun_busy breaks_queue_clash breaks_input_misplaced breaks_no_sole_driver breaks_data_not_ready breaks_column_outside breaks_cache_read_misplaced breaks_copyback_misplaced breaks_plane_not_held
 told_30 g c = at (wants_command c.facts ReadConfirm) refl
   where
     at : (b : Bool) → wants_command c.facts ReadConfirm ≡ b → Told (not (wants_command c.facts ReadConfirm)) (judged g c (CommandCycle ReadConfirm))
@@ -200,7 +200,7 @@ told_30 g c = at (wants_command c.facts ReadConfirm) refl
     at false e = rw e refl
 
 told_d0 : (g : Parts) (c : Lone) → Told (not (wants_command c.facts BlockEraseConfirm)) (judged g c (CommandCycle BlockEraseConfirm))
-unfolding breaks_command_unknown breaks_sequence_open breaks_several_luns breaks_no_column_to_change breaks_command_misplaced breaks_address_misplaced breaks_row_outside breaks_lun_busy breaks_queue_clash breaks_input_misplaced breaks_no_sole_driver breaks_data_not_ready breaks_column_outside breaks_cache_read_misplaced breaks_plane_not_held
+unfolding breaks_command_unknown breaks_sequence_open breaks_several_luns breaks_no_column_to_change breaks_command_misplaced breaks_address_misplaced breaks_row_outside breaks_lun_busy breaks_queue_clash breaks_input_misplaced breaks_no_sole_driver breaks_data_not_ready breaks_column_outside breaks_cache_read_misplaced breaks_copyback_misplaced breaks_plane_not_held
 told_d0 g c = at (wants_command c.facts BlockEraseConfirm) refl
   where
     at : (b : Bool) → wants_command c.facts BlockEraseConfirm ≡ b → Told (not (wants_command c.facts BlockEraseConfirm)) (judged g c (CommandCycle BlockEraseConfirm))
@@ -208,7 +208,7 @@ told_d0 g c = at (wants_command c.facts BlockEraseConfirm) refl
     at false e = rw e refl
 
 told_10 : (g : Parts) (c : Lone) → Told (not (wants_command c.facts ProgramConfirm)) (judged g c (CommandCycle ProgramConfirm))
-unfolding breaks_command_unknown breaks_sequence_open breaks_several_luns breaks_no_column_to_change breaks_command_misplaced breaks_address_misplaced breaks_row_outside breaks_lun_busy breaks_queue_clash breaks_input_misplaced breaks_no_sole_driver breaks_data_not_ready breaks_column_outside breaks_cache_read_misplaced breaks_plane_not_held
+unfolding breaks_command_unknown breaks_sequence_open breaks_several_luns breaks_no_column_to_change breaks_command_misplaced breaks_address_misplaced breaks_row_outside breaks_lun_busy breaks_queue_clash breaks_input_misplaced breaks_no_sole_driver breaks_data_not_ready breaks_column_outside breaks_cache_read_misplaced breaks_copyback_misplaced breaks_plane_not_held
 told_10 g c = at (wants_command c.facts ProgramConfirm) refl
   where
     at : (b : Bool) → wants_command c.facts ProgramConfirm ≡ b → Told (not (wants_command c.facts ProgramConfirm)) (judged g c (CommandCycle ProgramConfirm))
@@ -216,7 +216,7 @@ told_10 g c = at (wants_command c.facts ProgramConfirm) refl
     at false e = rw e refl
 
 told_85 : (g : Parts) (c : Lone) → Told (not (wants_command c.facts ChangeWriteColumn)) (judged g c (CommandCycle ChangeWriteColumn))
-unfolding breaks_command_unknown breaks_sequence_open breaks_several_luns breaks_no_column_to_change breaks_command_misplaced breaks_address_misplaced breaks_row_outside breaks_lun_busy breaks_queue_clash breaks_input_misplaced breaks_no_sole_driver breaks_data_not_ready breaks_column_outside breaks_cache_read_misplaced breaks_plane_not_held
+unfolding breaks_command_unknown breaks_sequence_open breaks_several_luns breaks_no_column_to_change breaks_command_misplaced breaks_address_misplaced breaks_row_outside breaks_lun_busy breaks_queue_clash breaks_input_misplaced breaks_no_sole_driver breaks_data_not_ready breaks_column_outside breaks_cache_read_misplaced breaks_copyback_misplaced breaks_plane_not_held
 told_85 g c = at (wants_command c.facts ChangeWriteColumn) refl
   where
     at : (b : Bool) → wants_command c.facts ChangeWriteColumn ≡ b → Told (not (wants_command c.facts ChangeWriteColumn)) (judged g c (CommandCycle ChangeWriteColumn))
@@ -226,7 +226,7 @@ told_85 g c = at (wants_command c.facts ChangeWriteColumn) refl
 -- 3. by the claim
 -- E0h
 told_e0 : (g : Parts) (c : Lone) → Told (not (wants_command c.facts ChangeReadColumnConfirm)) (judged g c (CommandCycle ChangeReadColumnConfirm))
-unfolding breaks_command_unknown breaks_sequence_open breaks_several_luns breaks_no_column_to_change breaks_command_misplaced breaks_address_misplaced breaks_row_outside breaks_lun_busy breaks_queue_clash breaks_input_misplaced breaks_no_sole_driver breaks_data_not_ready breaks_column_outside breaks_cache_read_misplaced breaks_plane_not_held
+unfolding breaks_command_unknown breaks_sequence_open breaks_several_luns breaks_no_column_to_change breaks_command_misplaced breaks_address_misplaced breaks_row_outside breaks_lun_busy breaks_queue_clash breaks_input_misplaced breaks_no_sole_driver breaks_data_not_ready breaks_column_outside breaks_cache_read_misplaced breaks_copyback_misplaced breaks_plane_not_held
 told_e0 g c = at (wants_command c.facts ChangeReadColumnConfirm) refl
   where
     at : (b : Bool) → wants_command c.facts ChangeReadColumnConfirm ≡ b → Told (not (wants_command c.facts ChangeReadColumnConfirm)) (judged g c (CommandCycle ChangeReadColumnConfirm))
@@ -235,7 +235,7 @@ told_e0 g c = at (wants_command c.facts ChangeReadColumnConfirm) refl
 
 -- D1h and 11h, where they are declared
 told_d1 : (g : Parts) (c : Lone) → not g.multi_plane ≡ false → Told (not (wants_command c.facts BlockErasePlane)) (judged g c (CommandCycle BlockErasePlane))
-unfolding breaks_command_unknown breaks_sequence_open breaks_several_luns breaks_no_column_to_change breaks_command_misplaced breaks_address_misplaced breaks_row_outside breaks_lun_busy breaks_queue_clash breaks_input_misplaced breaks_no_sole_driver breaks_data_not_ready breaks_column_outside breaks_cache_read_misplaced breaks_plane_not_held
+unfolding breaks_command_unknown breaks_sequence_open breaks_several_luns breaks_no_column_to_change breaks_command_misplaced breaks_address_misplaced breaks_row_outside breaks_lun_busy breaks_queue_clash breaks_input_misplaced breaks_no_sole_driver breaks_data_not_ready breaks_column_outside breaks_cache_read_misplaced breaks_copyback_misplaced breaks_plane_not_held
 told_d1 g c fit = at (wants_command c.facts BlockErasePlane) refl
   where
     at : (b : Bool) → wants_command c.facts BlockErasePlane ≡ b → Told (not (wants_command c.facts BlockErasePlane)) (judged g c (CommandCycle BlockErasePlane))
@@ -243,7 +243,7 @@ told_d1 g c fit = at (wants_command c.facts BlockErasePlane) refl
     at false e = rw (fit, e) refl
 
 told_11 : (g : Parts) (c : Lone) → not g.multi_plane ≡ false → Told (not (wants_command c.facts ProgramPlane)) (judged g c (CommandCycle ProgramPlane))
-unfolding breaks_command_unknown breaks_sequence_open breaks_several_luns breaks_no_column_to_change breaks_command_misplaced breaks_address_misplaced breaks_row_outside breaks_lun_busy breaks_queue_clash breaks_input_misplaced breaks_no_sole_driver breaks_data_not_ready breaks_column_outside breaks_cache_read_misplaced breaks_plane_not_held
+unfolding breaks_command_unknown breaks_sequence_open breaks_several_luns breaks_no_column_to_change breaks_command_misplaced breaks_address_misplaced breaks_row_outside breaks_lun_busy breaks_queue_clash breaks_input_misplaced breaks_no_sole_driver breaks_data_not_ready breaks_column_outside breaks_cache_read_misplaced breaks_copyback_misplaced breaks_plane_not_held
 told_11 g c fit = at (wants_command c.facts ProgramPlane) refl
   where
     at : (b : Bool) → wants_command c.facts ProgramPlane ≡ b → Told (not (wants_command c.facts ProgramPlane)) (judged g c (CommandCycle ProgramPlane))
@@ -252,7 +252,7 @@ told_11 g c fit = at (wants_command c.facts ProgramPlane) refl
 
 -- 31h and 3Fh, where they are declared; a 31h that the tail wants comes amid a sequence
 told_row_31 : (g : Parts) (c : Lone) → not g.cache ≡ false → wants_command c.facts ReadCacheSequential ≡ true → Told true (judged g c (CommandCycle ReadCacheSequential))
-unfolding breaks_command_unknown breaks_sequence_open breaks_several_luns breaks_no_column_to_change breaks_command_misplaced breaks_address_misplaced breaks_row_outside breaks_lun_busy breaks_queue_clash breaks_input_misplaced breaks_no_sole_driver breaks_data_not_ready breaks_column_outside breaks_cache_read_misplaced breaks_plane_not_held
+unfolding breaks_command_unknown breaks_sequence_open breaks_several_luns breaks_no_column_to_change breaks_command_misplaced breaks_address_misplaced breaks_row_outside breaks_lun_busy breaks_queue_clash breaks_input_misplaced breaks_no_sole_driver breaks_data_not_ready breaks_column_outside breaks_cache_read_misplaced breaks_copyback_misplaced breaks_plane_not_held
 told_row_31 g c fit wants = at (is_open c.facts) refl
   where
     at : (o : Bool) → is_open c.facts ≡ o → Told true (judged g c (CommandCycle ReadCacheSequential))
@@ -260,7 +260,7 @@ told_row_31 g c fit wants = at (is_open c.facts) refl
     at false e = let none = closed_unwanted c.facts e in let both : true ≡ false = sym wants ∙ none in cc
 
 told_31 : (g : Parts) (c : Lone) → not g.cache ≡ false → wants_command c.facts ReadCacheSequential ≡ false → (is_page_read c.view.closer ≡ true → nat_le (length c.view.held) 1 ≡ true) → Told (is_open c.facts || (not (drives (shows_of c.view.latch)) || c.view.busy || not (is_page_read c.view.closer) || not (nat_le (c.view.array_page.page + 2) g.pages))) (judged g c (CommandCycle ReadCacheSequential))
-unfolding breaks_command_unknown breaks_sequence_open breaks_several_luns breaks_no_column_to_change breaks_command_misplaced breaks_address_misplaced breaks_row_outside breaks_lun_busy breaks_queue_clash breaks_input_misplaced breaks_no_sole_driver breaks_data_not_ready breaks_column_outside breaks_cache_read_misplaced breaks_plane_not_held
+unfolding breaks_command_unknown breaks_sequence_open breaks_several_luns breaks_no_column_to_change breaks_command_misplaced breaks_address_misplaced breaks_row_outside breaks_lun_busy breaks_queue_clash breaks_input_misplaced breaks_no_sole_driver breaks_data_not_ready breaks_column_outside breaks_cache_read_misplaced breaks_copyback_misplaced breaks_plane_not_held
 told_31 g c fit unwanted held = at (is_open c.facts) refl c.view.latch refl c.view.busy refl (is_page_read c.view.closer) refl (nat_le (c.view.array_page.page + 2) g.pages) refl
   where
     next : (b : Bool) → nat_le (c.view.array_page.page + 2) g.pages ≡ b → ltb (c.view.array_page.page + 1) g.pages ≡ b
@@ -286,7 +286,7 @@ caches_a_page (Some ReadCacheSequential) h = cc
 caches_a_page (Some _) h = refl
 
 told_3f : (g : Parts) (c : Lone) → not g.cache ≡ false → Told (is_open c.facts || (not (drives (shows_of c.view.latch)) || c.view.busy || not (is_page_read c.view.closer) || not (is_cache_read c.view.closer))) (judged g c (CommandCycle ReadCacheEnd))
-unfolding breaks_command_unknown breaks_sequence_open breaks_several_luns breaks_no_column_to_change breaks_command_misplaced breaks_address_misplaced breaks_row_outside breaks_lun_busy breaks_queue_clash breaks_input_misplaced breaks_no_sole_driver breaks_data_not_ready breaks_column_outside breaks_cache_read_misplaced breaks_plane_not_held
+unfolding breaks_command_unknown breaks_sequence_open breaks_several_luns breaks_no_column_to_change breaks_command_misplaced breaks_address_misplaced breaks_row_outside breaks_lun_busy breaks_queue_clash breaks_input_misplaced breaks_no_sole_driver breaks_data_not_ready breaks_column_outside breaks_cache_read_misplaced breaks_copyback_misplaced breaks_plane_not_held
 told_3f g c fit = at (is_open c.facts) refl c.view.latch refl c.view.busy refl (is_page_read c.view.closer) refl (is_cache_read c.view.closer) refl
   where
     at : (o : Bool) → is_open c.facts ≡ o → (x : Latch) → c.view.latch ≡ x → (b : Bool) → c.view.busy ≡ b → (q : Bool) → is_page_read c.view.closer ≡ q → (n : Bool) → is_cache_read c.view.closer ≡ n → Told (is_open c.facts || (not (drives (shows_of c.view.latch)) || c.view.busy || not (is_page_read c.view.closer) || not (is_cache_read c.view.closer))) (judged g c (CommandCycle ReadCacheEnd))
@@ -359,8 +359,8 @@ told_command g j v done c d one base low m h = by d h
     wanted : (d : Command) → not (place_wants d v.target.tail) ≡ not (wants_command c.facts d)
     wanted d = ap not (ap (place_wants d) m.tail.single ∙ wants_same m.tail.place m.tail.address c.facts d m.tail.is)
 
-    fitting : (d : Command) → is_unfit g d ≡ false → command_out_of_place g v d ≡ cond (is_opener d && not (reads_cache_at d v.target.tail)) ((not (may_end_sequence g d) && may_be_open v) || opener_refused g v d) (not (place_wants d v.target.tail) || closer_refused g v d)
-    fitting d fit = ap (λ (b : Bool). cond b false (cond (is_opener d && not (reads_cache_at d v.target.tail)) ((not (may_end_sequence g d) && may_be_open v) || opener_refused g v d) (not (place_wants d v.target.tail) || closer_refused g v d))) fit
+    fitting : (d : Command) → is_unfit g d ≡ false → command_out_of_place g v d ≡ cond (is_opener d && not (goes_on_at d v.target.tail)) ((not (may_end_sequence g d) && may_be_open v) || opener_refused g v d) (not (place_wants d v.target.tail) || closer_refused g v d)
+    fitting d fit = ap (λ (b : Bool). cond b false (cond (is_opener d && not (goes_on_at d v.target.tail)) ((not (may_end_sequence g d) && may_be_open v) || opener_refused g v d) (not (place_wants d v.target.tail) || closer_refused g v d))) fit
 
     drive : place_wants ChangeReadColumnConfirm v.target.tail ≡ true → drives v.target.shows ≡ true
     drive h = ap drives m.shows ∙ shows_may_change c.view (m.tail.changes (wants_change m.tail.place m.tail.base (sym (ap (place_wants ChangeReadColumnConfirm) m.tail.single) ∙ h)))
@@ -410,6 +410,7 @@ told_command g j v done c d one base low m h = by d h
         (told_3f g c h)
     by ChangeReadColumnEnhanced h = absurd (barred (is_wide g.optional) (not (has_enhanced_column g.optional)) base h)
     by ReadPlane h = absurd (barred (is_wide g.optional) (not (has_plane_reads g.optional)) base h)
+    by CopybackRead h = absurd (barred (is_wide g.optional) (not (has_copyback g.optional)) base h)
     by ReadUniqueId h = absurd (barred (is_wide g.optional) (not (has_unique_id g.optional)) base h)
     by GetFeatures h = absurd (barred (is_wide g.optional) (not (has_features g.optional)) base h)
     by SetFeatures h = absurd (barred (is_wide g.optional) (not (has_features g.optional)) base h)

@@ -2,7 +2,7 @@
 use Rattle.std.specs.Prelude.{◌≡◌, ℕ, ◌+◌, ◌*◌, ◌/◌, ◌<◌, ◌≤◌, ◌==◌, Bool, true, false, ◌&&◌, ◌||◌, not, nat_lt, nat_le, if◌then◌else◌, List, [], ◌∷◌, ◌++◌, Option, Some, None, take, slice_get, length}
 use Rattle.nand_geometry.specs.declared.parts.Parts.{Parts}
 use Rattle.nand_geometry.specs.Limits.{InLimits, planes, indices}
-use Rattle.nand_geometry.specs.Optional.{is_wide, has_plane_reads, has_free_blocks}
+use Rattle.nand_geometry.specs.Optional.{is_wide}
 use Rattle.onfi_cycle.specs.declared.command.Command.{Command}
 use Rattle.onfi_cycle.specs.declared.command.Command.TheVariants.{ReadCacheSequential}
 use Rattle.onfi_cycle.specs.declared.data_phase.DataPhase.{DataPhase}
@@ -193,8 +193,6 @@ pub record IsStraight (g : Parts) (text : Microprogram) (format : Format) : Type
   pub limits : InLimits g
   pub one : g.luns ≡ 1
   pub base : is_wide g.optional ≡ false
-  pub plane_reads : has_plane_reads g.optional ≡ false
-  pub free_blocks : has_free_blocks g.optional ≡ false
   pub rows : text.rows ≤ indices g
   pub leads_on : all_lead_on text.words ≡ true
   pub in_range : AllInRange format (length text.words) text.words

@@ -7,7 +7,7 @@ use Rattle.std.proofs.lemmas.Bool.{and_parts, and_from}
 use Rattle.nand_geometry.specs.declared.parts.Parts.{Parts}
 use Rattle.nand_geometry.specs.Limits.{InLimits}
 use Rattle.onfi_cycle.specs.declared.command.Command.{Command}
-use Rattle.onfi_cycle.specs.declared.command.Command.TheVariants.{ReadId, ReadParameterPage, ReadUniqueId, GetFeatures, SetFeatures, ResetLun}
+use Rattle.onfi_cycle.specs.declared.command.Command.TheVariants.{PageProgram, ReadId, ReadParameterPage, ReadUniqueId, GetFeatures, SetFeatures, ResetLun}
 use Rattle.micro_claims.specs.Spans.{Span}
 use Rattle.micro_claims.specs.Spans.{greatest_bound, copied}
 use Rattle.micro_claims.specs.declared.state.State.{State}
@@ -17,8 +17,8 @@ use Rattle.micro_claims.specs.declared.place.Place.{Place}
 use Rattle.micro_claims.specs.declared.place.Place.TheVariants.{Closed, After, InData, InColumn, InFeatures, Unknown}
 use Rattle.micro_claims.specs.declared.held.Held.{Held}
 use Rattle.micro_claims.specs.Against.{byte_of_column}
-use Rattle.micro_claims.specs.Leaves.{with_target, data_shown, id_held, beside_read, features_opened, reset_started, lun_reset, page_plus, address_leads_to, greatest_page_of, name_now, target_after_addresses, identity_read, address_leaves_at, address_leaves}
-use Rattle.micro_claims.specs.Order.{top, May, SpanAt, SpanIs, RegisterIs, RegistersAt, HasColumn, NameIs, NamedIs, IsFineName, IsFineNamed, TargetAt, At, column_number, PlaceIs, Exactly}
+use Rattle.micro_claims.specs.Leaves.{with_target, data_shown, id_held, beside_read, features_opened, reset_started, lun_reset, without_pages, program_addressed, page_plus, address_leads_to, greatest_page_of, name_now, target_after_addresses, identity_read, address_leaves_at, address_leaves}
+use Rattle.micro_claims.specs.Order.{top, May, SpanAt, SpanIs, RegisterIs, RegistersAt, HasColumn, NameIs, NamedIs, IsFineName, IsFineNamed, TargetAt, LunAt, At, column_number, PlaceIs, Exactly}
 use Rattle.micro_walk.proofs.SpanLaws as numbers
 use Rattle.micro_walk.proofs.SpanLaws.{le_of}
 use Rattle.micro_claims.proofs.NamesNow.{same_block, page_in_block}
@@ -240,6 +240,15 @@ lun_reset_at g l v s a from count n d same = at (n + count == 3)
     at true = reset_at g v s a d
     at false = gone_on g l v s a from count d same
 
+program_at : (g : Parts) → InLimits g → (v s a : State) (from count n : ℕ) → At g v s a → s.target.tail ≡ a.target.tail → At g v (program_addressed g s from count n) (program_addressed g a from count n)
+program_at g l v s a from count n d same = record { registers = d.registers; target = addressed g l v s a from count d same; lun = at (n + count == 5) }
+  where
+    at : (b : Bool) → LunAt v.lun (cond b (without_pages s.lun) s.lun) (cond b (without_pages a.lun) a.lun)
+    at true =
+        let f = d.lun in
+        record { busy = f.busy; register = f.register; has_column = f.has_column; column = f.column; queue = f.queue; last_read = f.last_read; last_cache = f.last_cache; last_other = f.last_other; cached_index = f.cached_index; cached_page = f.cached_page; held = among_self no_planes; array = f.array }
+    at false = d.lun
+
 -- at one place both leave what is claimed
 opener_at : (g : Parts) → InLimits g → (v s a : State) (from count n : ℕ) (o : Command) → ((m : ℕ) → After o n ≡ After ReadId m → s.registers.column.lo ≡ a.registers.column.lo) → At g v s a → s.target.tail ≡ a.target.tail → At g v (address_leaves_at g s from count (After o n)) (address_leaves_at g a from count (After o n))
 opener_at g l v s a from count n ReadId known d same = id_at g v s a from (known n refl) d
@@ -248,6 +257,7 @@ opener_at g l v s a from count n ReadUniqueId known d same = beside_at g v s a t
 opener_at g l v s a from count n GetFeatures known d same = beside_at g v s a true true (record { 0 = 64 }) (λ h. h) (held_is (record { 0 = 64 }) refl) d
 opener_at g l v s a from count n SetFeatures known d same = features_at g v s a d
 opener_at g l v s a from count n ResetLun known d same = lun_reset_at g l v s a from count n d same
+opener_at g l v s a from count n PageProgram known d same = program_at g l v s a from count n d same
 opener_at g l v s a from count n o known d same = gone_on g l v s a from count d same
 
 place_at : (g : Parts) → InLimits g → (v s a : State) (from count : ℕ) (p : Place) → ((m : ℕ) → p ≡ After ReadId m → s.registers.column.lo ≡ a.registers.column.lo) → At g v s a → s.target.tail ≡ a.target.tail → At g v (address_leaves_at g s from count p) (address_leaves_at g a from count p)

@@ -5,7 +5,7 @@ use Rattle.std.proofs.lemmas.Bool.Decides.{nat_tests}
 use Rattle.nand_geometry.specs.declared.parts.Parts.{Parts}
 use Rattle.nand_geometry.specs.Limits.{InLimits, planes}
 use Rattle.onfi_cycle.specs.declared.command.Command.{Command}
-use Rattle.onfi_cycle.specs.declared.command.Command.TheVariants.{Read, ReadPlane, ChangeReadColumn, ChangeReadColumnEnhanced, ChangeReadColumnConfirm, BlockErase, PageProgram, ReadId, ReadParameterPage, ReadUniqueId, GetFeatures, SetFeatures, ReadCacheSequential, ReadCacheEnd, ReadConfirm}
+use Rattle.onfi_cycle.specs.declared.command.Command.TheVariants.{Read, ReadPlane, ChangeReadColumn, ChangeReadColumnEnhanced, ChangeReadColumnConfirm, BlockErase, PageProgram, ChangeWriteColumn, ReadId, ReadParameterPage, ReadUniqueId, GetFeatures, SetFeatures, ReadCacheSequential, ReadCacheEnd, ReadConfirm}
 use Rattle.onfi_cycle.specs.Command.{command, is_opener, addresses_the_array}
 use Rattle.micro_word.specs.declared.word.Word.{Word}
 use Rattle.micro_word.specs.declared.word.Word.TheVariants.{End, Address, Get, Put, Column, RowAdd, Row, Plane, Wait, Yield, ReadStatus, BranchOnStatus}
@@ -79,6 +79,9 @@ command_on g v s a d ReadCacheSequential =
     at _ _ (Anywhere q) r c h = refl
     at _ _ (NothingOpen q e) {ra} {rs} {ca} {cs} r c h = r (rw (closed q e, e) at h)
     at _ _ (Exactly q) {ra} {rs} {ca} {cs} r c h = either (place_wants ReadCacheSequential q) (is_open_place q || ra) ca (is_open_place q || rs) cs (or_on _ _ _ _ (same_on (is_open_place q)) r) c h
+command_on g v s a d ChangeWriteColumn =
+    cond_on (is_unfit g ChangeWriteColumn) _ _ _ _ (same_on false)
+    (or_on _ _ _ _ (not_on _ _ (wants_too ChangeWriteColumn s.target.tail a.target.tail d.target.tail)) (closer_on g v s a d ChangeWriteColumn))
 command_on g v s a d c =
     cond_on (is_unfit g c) _ _ _ _ (same_on false)
     (cond_on (is_opener c) _ _ _ _ (or_on _ _ _ _ (and_on _ _ _ _ (same_on (not (may_end_sequence g c))) (open_on g v s a d)) (opener_on g v s a d c))

@@ -1,5 +1,5 @@
 -- The page of a geometry is signed and sound, declares the geometry and has no fault; copies before it that aren't good are passed.
-use Rattle.std.proofs.Common.{◌≡◌, ℕ, ◌+◌, ◌*◌, ◌/◌, ◌%◌, ◌^◌, ◌<◌, ◌≤◌, Bool, true, false, not, cond, ◌&&◌, ◌||◌, nat_lt, List, [], ◌∷◌, ◌++◌, All, length, None, Ok, refl, sym, ap, ◌∙◌, arith, eq-eqb, append_assoc, length-append}
+use Rattle.std.proofs.Common.{◌≡◌, ℕ, ◌+◌, ◌*◌, ◌/◌, ◌%◌, ◌^◌, ◌<◌, ◌≤◌, Bool, true, false, not, cond, ◌&&◌, ◌||◌, nat_lt, List, [], ◌∷◌, ◌++◌, All, length, None, Ok, refl, sym, ap, ◌∙◌, arith, eq-eqb, append_assoc, length-append, subst, ◌==◌}
 use Rattle.std.specs.List.{concat}
 use Rattle.std.proofs.lemmas.List.Elements.{All-head, All-tail, All-nil}
 use Rattle.nand_geometry.specs.declared.parts.Parts.{Parts}
@@ -7,114 +7,140 @@ use Rattle.nand_geometry.specs.Limits.{fault_of, InLimits}
 use Rattle.nand_geometry.specs.declared.optional.Profile.{Profile}
 use Rattle.nand_geometry.specs.declared.optional.Profile.TheVariants.{Base, Onfi}
 use Rattle.nand_geometry.specs.Flag.{flag}
-use Rattle.nand_geometry.specs.Optional.{no_optional, has_features, has_unique_id, has_enhanced_column, has_lun_reset, has_plane_reads, has_synchronous_reset, has_free_blocks, wide_with, kept_optional, as_read}
-use Rattle.nand_geometry.specs.Page.{page_body, crc, page, parameter_bytes}
+use Rattle.nand_geometry.specs.Optional.{no_optional, has_features, has_copyback, has_unique_id, has_enhanced_column, has_lun_reset, has_plane_reads, has_synchronous_reset, has_free_blocks, has_odd_even, wide_with, kept_optional, as_read}
+use Rattle.nand_geometry.specs.Page.{features, page_body, crc, page, parameter_bytes}
 use Rattle.nand_geometry.specs.Reading.{whole_copies, has_bit, is_signed, is_sound, optional_by, declared_by, declared_as, has_lun_operations, copy_fault, IsDamaged, PagesReadBack, ParametersReadBack}
 use Rattle.nand_geometry.proofs.ChecksumLemmas.{crc_fits}
 use Rattle.nand_geometry.proofs.LimitLemmas.{faultless}
 use Rattle.nand_geometry.proofs.ReadingLemmas.{scan, read_copy, copies_of_append, no_copy_fault, scan_reads}
 
--- the bits of the features, read again
-record FeaturesRead (several planes rate reads : Bool) (number : ℕ) : Type 0 where
-  narrow : has_bit (number % 256) 0 ≡ false
-  several_luns : has_bit (number % 256) 1 ≡ several
-  several_planes : has_bit (number % 256) 3 ≡ planes
-  double_rate : (has_bit (number % 256) 5 || (has_bit (number / 256 % 256) 2 || has_bit (number / 256 % 256) 5)) ≡ rate
-  plane_reads : has_bit (number % 256) 6 ≡ reads
+-- a number of two parts: bits 1, 2 and 3 of one are its own, and the bits of the other stand from bit 4 on
+abbrev number_of : (low high : ℕ) → ℕ
+number_of low high = low + 16 * high
 
-features_read : (several planes rate reads : Bool) → FeaturesRead several planes rate reads (flag 1 several + flag 3 planes + flag 5 rate + flag 6 reads)
-features_read true true true true = record { narrow = refl; several_luns = refl; several_planes = refl; double_rate = refl; plane_reads = refl }
-features_read true true true false = record { narrow = refl; several_luns = refl; several_planes = refl; double_rate = refl; plane_reads = refl }
-features_read true true false true = record { narrow = refl; several_luns = refl; several_planes = refl; double_rate = refl; plane_reads = refl }
-features_read true true false false = record { narrow = refl; several_luns = refl; several_planes = refl; double_rate = refl; plane_reads = refl }
-features_read true false true true = record { narrow = refl; several_luns = refl; several_planes = refl; double_rate = refl; plane_reads = refl }
-features_read true false true false = record { narrow = refl; several_luns = refl; several_planes = refl; double_rate = refl; plane_reads = refl }
-features_read true false false true = record { narrow = refl; several_luns = refl; several_planes = refl; double_rate = refl; plane_reads = refl }
-features_read true false false false = record { narrow = refl; several_luns = refl; several_planes = refl; double_rate = refl; plane_reads = refl }
-features_read false true true true = record { narrow = refl; several_luns = refl; several_planes = refl; double_rate = refl; plane_reads = refl }
-features_read false true true false = record { narrow = refl; several_luns = refl; several_planes = refl; double_rate = refl; plane_reads = refl }
-features_read false true false true = record { narrow = refl; several_luns = refl; several_planes = refl; double_rate = refl; plane_reads = refl }
-features_read false true false false = record { narrow = refl; several_luns = refl; several_planes = refl; double_rate = refl; plane_reads = refl }
-features_read false false true true = record { narrow = refl; several_luns = refl; several_planes = refl; double_rate = refl; plane_reads = refl }
-features_read false false true false = record { narrow = refl; several_luns = refl; several_planes = refl; double_rate = refl; plane_reads = refl }
-features_read false false false true = record { narrow = refl; several_luns = refl; several_planes = refl; double_rate = refl; plane_reads = refl }
-features_read false false false false = record { narrow = refl; several_luns = refl; several_planes = refl; double_rate = refl; plane_reads = refl }
+record LowRead (one two three : Bool) (low : ℕ) : Type 0 where
+  small : low < 16
+  bit_0 : has_bit low 0 ≡ false
+  bit_1 : has_bit low 1 ≡ one
+  bit_2 : has_bit low 2 ≡ two
+  bit_3 : has_bit low 3 ≡ three
 
--- and those of the optional commands
-record CommandsRead (cache features enhanced unique column reset : Bool) (number : ℕ) : Type 0 where
-  read_cache : has_bit (number % 256) 1 ≡ cache
-  set_features : has_bit (number % 256) 2 ≡ features
-  status_enhanced : has_bit (number % 256) 3 ≡ enhanced
-  unique_id : has_bit (number % 256) 5 ≡ unique
-  enhanced_column : has_bit (number % 256) 6 ≡ column
-  lun_reset : has_bit (number / 256 % 256) 1 ≡ reset
+low_read : (one two three : Bool) → LowRead one two three (flag 1 one + flag 2 two + flag 3 three)
+low_read true true true = record { small = omega arith; bit_0 = refl; bit_1 = refl; bit_2 = refl; bit_3 = refl }
+low_read true true false = record { small = omega arith; bit_0 = refl; bit_1 = refl; bit_2 = refl; bit_3 = refl }
+low_read true false true = record { small = omega arith; bit_0 = refl; bit_1 = refl; bit_2 = refl; bit_3 = refl }
+low_read true false false = record { small = omega arith; bit_0 = refl; bit_1 = refl; bit_2 = refl; bit_3 = refl }
+low_read false true true = record { small = omega arith; bit_0 = refl; bit_1 = refl; bit_2 = refl; bit_3 = refl }
+low_read false true false = record { small = omega arith; bit_0 = refl; bit_1 = refl; bit_2 = refl; bit_3 = refl }
+low_read false false true = record { small = omega arith; bit_0 = refl; bit_1 = refl; bit_2 = refl; bit_3 = refl }
+low_read false false false = record { small = omega arith; bit_0 = refl; bit_1 = refl; bit_2 = refl; bit_3 = refl }
 
-commands_read : (cache features enhanced unique column reset : Bool)
-    → CommandsRead cache features enhanced unique column reset (flag 1 cache + flag 2 features + flag 3 enhanced + flag 5 unique + flag 6 column + flag 9 reset)
-commands_read true true true true true true = record { read_cache = refl; set_features = refl; status_enhanced = refl; unique_id = refl; enhanced_column = refl; lun_reset = refl }
-commands_read true true true true true false = record { read_cache = refl; set_features = refl; status_enhanced = refl; unique_id = refl; enhanced_column = refl; lun_reset = refl }
-commands_read true true true true false true = record { read_cache = refl; set_features = refl; status_enhanced = refl; unique_id = refl; enhanced_column = refl; lun_reset = refl }
-commands_read true true true true false false = record { read_cache = refl; set_features = refl; status_enhanced = refl; unique_id = refl; enhanced_column = refl; lun_reset = refl }
-commands_read true true true false true true = record { read_cache = refl; set_features = refl; status_enhanced = refl; unique_id = refl; enhanced_column = refl; lun_reset = refl }
-commands_read true true true false true false = record { read_cache = refl; set_features = refl; status_enhanced = refl; unique_id = refl; enhanced_column = refl; lun_reset = refl }
-commands_read true true true false false true = record { read_cache = refl; set_features = refl; status_enhanced = refl; unique_id = refl; enhanced_column = refl; lun_reset = refl }
-commands_read true true true false false false = record { read_cache = refl; set_features = refl; status_enhanced = refl; unique_id = refl; enhanced_column = refl; lun_reset = refl }
-commands_read true true false true true true = record { read_cache = refl; set_features = refl; status_enhanced = refl; unique_id = refl; enhanced_column = refl; lun_reset = refl }
-commands_read true true false true true false = record { read_cache = refl; set_features = refl; status_enhanced = refl; unique_id = refl; enhanced_column = refl; lun_reset = refl }
-commands_read true true false true false true = record { read_cache = refl; set_features = refl; status_enhanced = refl; unique_id = refl; enhanced_column = refl; lun_reset = refl }
-commands_read true true false true false false = record { read_cache = refl; set_features = refl; status_enhanced = refl; unique_id = refl; enhanced_column = refl; lun_reset = refl }
-commands_read true true false false true true = record { read_cache = refl; set_features = refl; status_enhanced = refl; unique_id = refl; enhanced_column = refl; lun_reset = refl }
-commands_read true true false false true false = record { read_cache = refl; set_features = refl; status_enhanced = refl; unique_id = refl; enhanced_column = refl; lun_reset = refl }
-commands_read true true false false false true = record { read_cache = refl; set_features = refl; status_enhanced = refl; unique_id = refl; enhanced_column = refl; lun_reset = refl }
-commands_read true true false false false false = record { read_cache = refl; set_features = refl; status_enhanced = refl; unique_id = refl; enhanced_column = refl; lun_reset = refl }
-commands_read true false true true true true = record { read_cache = refl; set_features = refl; status_enhanced = refl; unique_id = refl; enhanced_column = refl; lun_reset = refl }
-commands_read true false true true true false = record { read_cache = refl; set_features = refl; status_enhanced = refl; unique_id = refl; enhanced_column = refl; lun_reset = refl }
-commands_read true false true true false true = record { read_cache = refl; set_features = refl; status_enhanced = refl; unique_id = refl; enhanced_column = refl; lun_reset = refl }
-commands_read true false true true false false = record { read_cache = refl; set_features = refl; status_enhanced = refl; unique_id = refl; enhanced_column = refl; lun_reset = refl }
-commands_read true false true false true true = record { read_cache = refl; set_features = refl; status_enhanced = refl; unique_id = refl; enhanced_column = refl; lun_reset = refl }
-commands_read true false true false true false = record { read_cache = refl; set_features = refl; status_enhanced = refl; unique_id = refl; enhanced_column = refl; lun_reset = refl }
-commands_read true false true false false true = record { read_cache = refl; set_features = refl; status_enhanced = refl; unique_id = refl; enhanced_column = refl; lun_reset = refl }
-commands_read true false true false false false = record { read_cache = refl; set_features = refl; status_enhanced = refl; unique_id = refl; enhanced_column = refl; lun_reset = refl }
-commands_read true false false true true true = record { read_cache = refl; set_features = refl; status_enhanced = refl; unique_id = refl; enhanced_column = refl; lun_reset = refl }
-commands_read true false false true true false = record { read_cache = refl; set_features = refl; status_enhanced = refl; unique_id = refl; enhanced_column = refl; lun_reset = refl }
-commands_read true false false true false true = record { read_cache = refl; set_features = refl; status_enhanced = refl; unique_id = refl; enhanced_column = refl; lun_reset = refl }
-commands_read true false false true false false = record { read_cache = refl; set_features = refl; status_enhanced = refl; unique_id = refl; enhanced_column = refl; lun_reset = refl }
-commands_read true false false false true true = record { read_cache = refl; set_features = refl; status_enhanced = refl; unique_id = refl; enhanced_column = refl; lun_reset = refl }
-commands_read true false false false true false = record { read_cache = refl; set_features = refl; status_enhanced = refl; unique_id = refl; enhanced_column = refl; lun_reset = refl }
-commands_read true false false false false true = record { read_cache = refl; set_features = refl; status_enhanced = refl; unique_id = refl; enhanced_column = refl; lun_reset = refl }
-commands_read true false false false false false = record { read_cache = refl; set_features = refl; status_enhanced = refl; unique_id = refl; enhanced_column = refl; lun_reset = refl }
-commands_read false true true true true true = record { read_cache = refl; set_features = refl; status_enhanced = refl; unique_id = refl; enhanced_column = refl; lun_reset = refl }
-commands_read false true true true true false = record { read_cache = refl; set_features = refl; status_enhanced = refl; unique_id = refl; enhanced_column = refl; lun_reset = refl }
-commands_read false true true true false true = record { read_cache = refl; set_features = refl; status_enhanced = refl; unique_id = refl; enhanced_column = refl; lun_reset = refl }
-commands_read false true true true false false = record { read_cache = refl; set_features = refl; status_enhanced = refl; unique_id = refl; enhanced_column = refl; lun_reset = refl }
-commands_read false true true false true true = record { read_cache = refl; set_features = refl; status_enhanced = refl; unique_id = refl; enhanced_column = refl; lun_reset = refl }
-commands_read false true true false true false = record { read_cache = refl; set_features = refl; status_enhanced = refl; unique_id = refl; enhanced_column = refl; lun_reset = refl }
-commands_read false true true false false true = record { read_cache = refl; set_features = refl; status_enhanced = refl; unique_id = refl; enhanced_column = refl; lun_reset = refl }
-commands_read false true true false false false = record { read_cache = refl; set_features = refl; status_enhanced = refl; unique_id = refl; enhanced_column = refl; lun_reset = refl }
-commands_read false true false true true true = record { read_cache = refl; set_features = refl; status_enhanced = refl; unique_id = refl; enhanced_column = refl; lun_reset = refl }
-commands_read false true false true true false = record { read_cache = refl; set_features = refl; status_enhanced = refl; unique_id = refl; enhanced_column = refl; lun_reset = refl }
-commands_read false true false true false true = record { read_cache = refl; set_features = refl; status_enhanced = refl; unique_id = refl; enhanced_column = refl; lun_reset = refl }
-commands_read false true false true false false = record { read_cache = refl; set_features = refl; status_enhanced = refl; unique_id = refl; enhanced_column = refl; lun_reset = refl }
-commands_read false true false false true true = record { read_cache = refl; set_features = refl; status_enhanced = refl; unique_id = refl; enhanced_column = refl; lun_reset = refl }
-commands_read false true false false true false = record { read_cache = refl; set_features = refl; status_enhanced = refl; unique_id = refl; enhanced_column = refl; lun_reset = refl }
-commands_read false true false false false true = record { read_cache = refl; set_features = refl; status_enhanced = refl; unique_id = refl; enhanced_column = refl; lun_reset = refl }
-commands_read false true false false false false = record { read_cache = refl; set_features = refl; status_enhanced = refl; unique_id = refl; enhanced_column = refl; lun_reset = refl }
-commands_read false false true true true true = record { read_cache = refl; set_features = refl; status_enhanced = refl; unique_id = refl; enhanced_column = refl; lun_reset = refl }
-commands_read false false true true true false = record { read_cache = refl; set_features = refl; status_enhanced = refl; unique_id = refl; enhanced_column = refl; lun_reset = refl }
-commands_read false false true true false true = record { read_cache = refl; set_features = refl; status_enhanced = refl; unique_id = refl; enhanced_column = refl; lun_reset = refl }
-commands_read false false true true false false = record { read_cache = refl; set_features = refl; status_enhanced = refl; unique_id = refl; enhanced_column = refl; lun_reset = refl }
-commands_read false false true false true true = record { read_cache = refl; set_features = refl; status_enhanced = refl; unique_id = refl; enhanced_column = refl; lun_reset = refl }
-commands_read false false true false true false = record { read_cache = refl; set_features = refl; status_enhanced = refl; unique_id = refl; enhanced_column = refl; lun_reset = refl }
-commands_read false false true false false true = record { read_cache = refl; set_features = refl; status_enhanced = refl; unique_id = refl; enhanced_column = refl; lun_reset = refl }
-commands_read false false true false false false = record { read_cache = refl; set_features = refl; status_enhanced = refl; unique_id = refl; enhanced_column = refl; lun_reset = refl }
-commands_read false false false true true true = record { read_cache = refl; set_features = refl; status_enhanced = refl; unique_id = refl; enhanced_column = refl; lun_reset = refl }
-commands_read false false false true true false = record { read_cache = refl; set_features = refl; status_enhanced = refl; unique_id = refl; enhanced_column = refl; lun_reset = refl }
-commands_read false false false true false true = record { read_cache = refl; set_features = refl; status_enhanced = refl; unique_id = refl; enhanced_column = refl; lun_reset = refl }
-commands_read false false false true false false = record { read_cache = refl; set_features = refl; status_enhanced = refl; unique_id = refl; enhanced_column = refl; lun_reset = refl }
-commands_read false false false false true true = record { read_cache = refl; set_features = refl; status_enhanced = refl; unique_id = refl; enhanced_column = refl; lun_reset = refl }
-commands_read false false false false true false = record { read_cache = refl; set_features = refl; status_enhanced = refl; unique_id = refl; enhanced_column = refl; lun_reset = refl }
-commands_read false false false false false true = record { read_cache = refl; set_features = refl; status_enhanced = refl; unique_id = refl; enhanced_column = refl; lun_reset = refl }
-commands_read false false false false false false = record { read_cache = refl; set_features = refl; status_enhanced = refl; unique_id = refl; enhanced_column = refl; lun_reset = refl }
+record HighRead (four five six nine : Bool) (high : ℕ) : Type 0 where
+  bit_4 : has_bit high 0 ≡ four
+  bit_5 : has_bit high 1 ≡ five
+  bit_6 : has_bit high 2 ≡ six
+  bit_9 : has_bit high 5 ≡ nine
+  bit_10 : has_bit high 6 ≡ false
+  bit_13 : has_bit high 9 ≡ false
+
+high_read : (four five six nine : Bool) → HighRead four five six nine (flag 0 four + flag 1 five + flag 2 six + flag 5 nine)
+high_read true true true true = record { bit_4 = refl; bit_5 = refl; bit_6 = refl; bit_9 = refl; bit_10 = refl; bit_13 = refl }
+high_read true true true false = record { bit_4 = refl; bit_5 = refl; bit_6 = refl; bit_9 = refl; bit_10 = refl; bit_13 = refl }
+high_read true true false true = record { bit_4 = refl; bit_5 = refl; bit_6 = refl; bit_9 = refl; bit_10 = refl; bit_13 = refl }
+high_read true true false false = record { bit_4 = refl; bit_5 = refl; bit_6 = refl; bit_9 = refl; bit_10 = refl; bit_13 = refl }
+high_read true false true true = record { bit_4 = refl; bit_5 = refl; bit_6 = refl; bit_9 = refl; bit_10 = refl; bit_13 = refl }
+high_read true false true false = record { bit_4 = refl; bit_5 = refl; bit_6 = refl; bit_9 = refl; bit_10 = refl; bit_13 = refl }
+high_read true false false true = record { bit_4 = refl; bit_5 = refl; bit_6 = refl; bit_9 = refl; bit_10 = refl; bit_13 = refl }
+high_read true false false false = record { bit_4 = refl; bit_5 = refl; bit_6 = refl; bit_9 = refl; bit_10 = refl; bit_13 = refl }
+high_read false true true true = record { bit_4 = refl; bit_5 = refl; bit_6 = refl; bit_9 = refl; bit_10 = refl; bit_13 = refl }
+high_read false true true false = record { bit_4 = refl; bit_5 = refl; bit_6 = refl; bit_9 = refl; bit_10 = refl; bit_13 = refl }
+high_read false true false true = record { bit_4 = refl; bit_5 = refl; bit_6 = refl; bit_9 = refl; bit_10 = refl; bit_13 = refl }
+high_read false true false false = record { bit_4 = refl; bit_5 = refl; bit_6 = refl; bit_9 = refl; bit_10 = refl; bit_13 = refl }
+high_read false false true true = record { bit_4 = refl; bit_5 = refl; bit_6 = refl; bit_9 = refl; bit_10 = refl; bit_13 = refl }
+high_read false false true false = record { bit_4 = refl; bit_5 = refl; bit_6 = refl; bit_9 = refl; bit_10 = refl; bit_13 = refl }
+high_read false false false true = record { bit_4 = refl; bit_5 = refl; bit_6 = refl; bit_9 = refl; bit_10 = refl; bit_13 = refl }
+high_read false false false false = record { bit_4 = refl; bit_5 = refl; bit_6 = refl; bit_9 = refl; bit_10 = refl; bit_13 = refl }
+
+-- a bit that is the same of two numbers
+same_bit : (m n : ℕ) (is : Bool) → m ≡ n → (n == 1) ≡ is → (m == 1) ≡ is
+same_bit m n is same of = ap (λ (k : ℕ). k == 1) same ∙ of
+
+-- the bits of both bytes of such a number, read again
+record BothRead (one two three four five six nine : Bool) (number : ℕ) : Type 0 where
+  bit_0 : has_bit (number % 256) 0 ≡ false
+  bit_1 : has_bit (number % 256) 1 ≡ one
+  bit_2 : has_bit (number % 256) 2 ≡ two
+  bit_3 : has_bit (number % 256) 3 ≡ three
+  bit_4 : has_bit (number % 256) 4 ≡ four
+  bit_5 : has_bit (number % 256) 5 ≡ five
+  bit_6 : has_bit (number % 256) 6 ≡ six
+  bit_9 : has_bit (number / 256 % 256) 1 ≡ nine
+  bit_10 : has_bit (number / 256 % 256) 2 ≡ false
+  bit_13 : has_bit (number / 256 % 256) 5 ≡ false
+
+both_read : {one two three four five six nine : Bool} (low high : ℕ) → LowRead one two three low → HighRead four five six nine high
+    → BothRead one two three four five six nine (number_of low high)
+both_read {one} {two} {three} {four} {five} {six} {nine} low high l h =
+    let small = l.small in
+    record {
+      bit_0 = same_bit _ (low / 2 ^ 0 % 2) false (omega (arith, small)) l.bit_0;
+      bit_1 = same_bit _ (low / 2 ^ 1 % 2) one (omega (arith, small)) l.bit_1;
+      bit_2 = same_bit _ (low / 2 ^ 2 % 2) two (omega (arith, small)) l.bit_2;
+      bit_3 = same_bit _ (low / 2 ^ 3 % 2) three (omega (arith, small)) l.bit_3;
+      bit_4 = same_bit _ (high / 2 ^ 0 % 2) four (omega (arith, small)) h.bit_4;
+      bit_5 = same_bit _ (high / 2 ^ 1 % 2) five (omega (arith, small)) h.bit_5;
+      bit_6 = same_bit _ (high / 2 ^ 2 % 2) six (omega (arith, small)) h.bit_6;
+      bit_9 = same_bit _ (high / 2 ^ 5 % 2) nine (omega (arith, small)) h.bit_9;
+      bit_10 = same_bit _ (high / 2 ^ 6 % 2) false (omega (arith, small)) h.bit_10;
+      bit_13 = same_bit _ (high / 2 ^ 9 % 2) false (omega (arith, small)) h.bit_13;
+    }
+
+abbrev flags_of : (one two three four five six nine : Bool) → ℕ
+flags_of one two three four five six nine = number_of (flag 1 one + flag 2 two + flag 3 three) (flag 0 four + flag 1 five + flag 2 six + flag 5 nine)
+
+flags_read : (one two three four five six nine : Bool) → BothRead one two three four five six nine (flags_of one two three four five six nine)
+flags_read one two three four five six nine =
+    both_read (flag 1 one + flag 2 two + flag 3 three) (flag 0 four + flag 1 five + flag 2 six + flag 5 nine) (low_read one two three) (high_read four five six nine)
+
+-- a flag sixteen times as high
+raised_4 : (b : Bool) → 16 * flag 0 b ≡ flag 4 b
+raised_4 true = refl
+raised_4 false = refl
+
+raised_5 : (b : Bool) → 16 * flag 1 b ≡ flag 5 b
+raised_5 true = refl
+raised_5 false = refl
+
+raised_6 : (b : Bool) → 16 * flag 2 b ≡ flag 6 b
+raised_6 true = refl
+raised_6 false = refl
+
+raised_9 : (b : Bool) → 16 * flag 5 b ≡ flag 9 b
+raised_9 true = refl
+raised_9 false = refl
+
+features_number : (several planes odd rate reads : Bool) → flags_of several false planes odd rate reads false ≡ flag 1 several + flag 3 planes + flag 4 odd + flag 5 rate + flag 6 reads
+features_number several planes odd rate reads = omega (arith, raised_4 odd, raised_5 rate, raised_6 reads)
+
+commands_number : (cache setting enhanced copyback unique column reset : Bool)
+    → flags_of cache setting enhanced copyback unique column reset ≡ flag 1 cache + flag 2 setting + flag 3 enhanced + flag 4 copyback + flag 5 unique + flag 6 column + flag 9 reset
+commands_number cache setting enhanced copyback unique column reset = omega (arith, raised_4 copyback, raised_5 unique, raised_6 column, raised_9 reset)
+
+-- the bits of the features, and those of the optional commands
+features_read : (several planes odd rate reads : Bool) → BothRead several false planes odd rate reads false (flag 1 several + flag 3 planes + flag 4 odd + flag 5 rate + flag 6 reads)
+features_read several planes odd rate reads =
+    subst (BothRead several false planes odd rate reads false) (features_number several planes odd rate reads) (flags_read several false planes odd rate reads false)
+
+commands_read : (cache setting enhanced copyback unique column reset : Bool)
+    → BothRead cache setting enhanced copyback unique column reset (flag 1 cache + flag 2 setting + flag 3 enhanced + flag 4 copyback + flag 5 unique + flag 6 column + flag 9 reset)
+commands_read cache setting enhanced copyback unique column reset =
+    subst (BothRead cache setting enhanced copyback unique column reset) (commands_number cache setting enhanced copyback unique column reset) (flags_read cache setting enhanced copyback unique column reset)
+
+-- an interface of double data rate is declared by one of three bits
+double_rate_read : (rate : Bool) (number : ℕ) → has_bit (number % 256) 5 ≡ rate → has_bit (number / 256 % 256) 2 ≡ false → has_bit (number / 256 % 256) 5 ≡ false
+    → (has_bit (number % 256) 5 || (has_bit (number / 256 % 256) 2 || has_bit (number / 256 % 256) 5)) ≡ rate
+double_rate_read true number five ten thirteen = rw five refl
+double_rate_read false number five ten thirteen = rw (five, ten, thirteen) refl
 
 free_read : (free : Bool) → has_bit (flag 1 free) 1 ≡ free
 free_read true = refl
@@ -142,31 +168,33 @@ page_optional : (g : Parts) → optional_by (page g) ≡ kept_optional Onfi g.op
 unfolding optional_by
 page_optional g =
     let o = g.optional in
-    let f = features_read (nat_lt 1 g.luns) g.multi_plane (has_synchronous_reset o) (has_plane_reads o) in
-    let k = commands_read g.cache (has_features o) g.enhanced (has_unique_id o) (has_enhanced_column o) (has_lun_reset o) in
-    let set_features = k.set_features in
-    let unique_id = k.unique_id in
-    let enhanced_column = k.enhanced_column in
-    let lun_reset = k.lun_reset in
-    let plane_reads = f.plane_reads in
-    let double_rate = f.double_rate in
+    let f = features_read (nat_lt 1 g.luns) g.multi_plane (has_odd_even o) (has_synchronous_reset o) (has_plane_reads o) in
+    let k = commands_read g.cache (has_features o) g.enhanced (has_copyback o) (has_unique_id o) (has_enhanced_column o) (has_lun_reset o) in
+    let set_features = k.bit_2 in
+    let copyback = k.bit_4 in
+    let unique_id = k.bit_5 in
+    let enhanced_column = k.bit_6 in
+    let lun_reset = k.bit_9 in
+    let odd_even = f.bit_4 in
+    let plane_reads = f.bit_6 in
+    let double_rate = double_rate_read (has_synchronous_reset o) (features g) f.bit_5 f.bit_10 f.bit_13 in
     let free_blocks = free_read (has_free_blocks o) in
-    λ i. wide_with (set_features i) (unique_id i) (enhanced_column i) (lun_reset i) (plane_reads i) (double_rate i) (free_blocks i)
+    λ i. wide_with (set_features i) (copyback i) (unique_id i) (enhanced_column i) (lun_reset i) (plane_reads i) (double_rate i) (free_blocks i) (odd_even i)
 
 page_numbers : (g : Parts) → InLimits g → declared_by (page g) ≡ as_read Base g
 unfolding declared_by
 page_numbers g limits =
     let o = g.optional in
-    let f = features_read (nat_lt 1 g.luns) g.multi_plane (has_synchronous_reset o) (has_plane_reads o) in
-    let k = commands_read g.cache (has_features o) g.enhanced (has_unique_id o) (has_enhanced_column o) (has_lun_reset o) in
+    let f = features_read (nat_lt 1 g.luns) g.multi_plane (has_odd_even o) (has_synchronous_reset o) (has_plane_reads o) in
+    let k = commands_read g.cache (has_features o) g.enhanced (has_copyback o) (has_unique_id o) (has_enhanced_column o) (has_lun_reset o) in
     let page_bytes = four_bytes g.page_bytes (omega (arith, limits.page_bytes_most)) in
     let spare_bytes = two_bytes g.spare_bytes (omega (arith, limits.spare_bytes_most)) in
     let pages = four_bytes g.pages (omega (arith, limits.pages_most)) in
     let blocks = four_bytes g.blocks (omega (arith, limits.blocks_most)) in
     let plane_bits : g.plane_bits % 16 ≡ g.plane_bits = omega (arith, limits.plane_bits_most) in
-    let enhanced = k.status_enhanced in
-    let multi_plane = f.several_planes in
-    let cache = k.read_cache in
+    let enhanced = k.bit_3 in
+    let multi_plane = f.bit_3 in
+    let cache = k.bit_1 in
     λ i. record {
       page_bytes = page_bytes i;
       spare_bytes = spare_bytes i;
@@ -195,9 +223,9 @@ several_declared false operations h = refl
 page_faultless : (g : Parts) → InLimits g → copy_fault (page g) ≡ None
 page_faultless g limits =
     let declares = page_numbers g limits in
-    let f = features_read (nat_lt 1 g.luns) g.multi_plane (has_synchronous_reset g.optional) (has_plane_reads g.optional) in
-    let operations : has_lun_operations (page g) ≡ nat_lt 1 (declared_by (page g)).luns = f.several_luns ∙ ap (λ (p : Parts). nat_lt 1 p.luns) (sym declares) in
-    no_copy_fault Base (page g) f.narrow refl (ap fault_of declares ∙ (faultless g).1 limits) (several_declared _ _ operations)
+    let f = features_read (nat_lt 1 g.luns) g.multi_plane (has_odd_even g.optional) (has_synchronous_reset g.optional) (has_plane_reads g.optional) in
+    let operations : has_lun_operations (page g) ≡ nat_lt 1 (declared_by (page g)).luns = f.bit_1 ∙ ap (λ (p : Parts). nat_lt 1 p.luns) (sym declares) in
+    no_copy_fault Base (page g) f.bit_0 refl (ap fault_of declares ∙ (faultless g).1 limits) (several_declared _ _ operations)
 
 -- the page of a geometry is read as the geometry, with what the profile keeps
 page_read : (profile : Profile) (g : Parts) → InLimits g → read_copy profile (page g) ≡ Ok (as_read profile g)

@@ -2,23 +2,24 @@
 use Rattle.std.specs.Prelude.{◌≡◌, ℕ, zero, suc, ◌+◌, ◌*◌, ◌/◌, ◌%◌, ◌^◌, ◌==◌, nat_lt, if◌then◌else◌, List, [], ◌∷◌, ◌++◌, replicate, bit_xor, length}
 use Rattle.nand_geometry.specs.declared.parts.Parts.{Parts}
 use Rattle.nand_geometry.specs.Flag.{flag}
-use Rattle.nand_geometry.specs.Optional.{has_features, has_unique_id, has_enhanced_column, has_lun_reset, has_plane_reads, has_synchronous_reset, has_free_blocks}
+use Rattle.nand_geometry.specs.Optional.{has_features, has_copyback, has_unique_id, has_enhanced_column, has_lun_reset, has_plane_reads, has_synchronous_reset, has_free_blocks, has_odd_even}
 
 -- so many bytes of a number, the least significant first
 abbrev pub low_bytes : ℕ → ℕ → List ℕ
 low_bytes zero n = []
 low_bytes (suc count) n = n % 256 ∷ low_bytes count (n / 256)
 
--- bit 1: operations of several LUNs; bit 3: program and erase of several planes; bit 5: an interface of double data rate;
--- bit 6: reads of several planes
+-- bit 1: operations of several LUNs; bit 3: program and erase of several planes; bit 4: copyback between odd and even pages;
+-- bit 5: an interface of double data rate; bit 6: reads of several planes
 abbrev pub features : Parts → ℕ
-features g = flag 1 (nat_lt 1 g.luns) + flag 3 g.multi_plane + flag 5 (has_synchronous_reset g.optional) + flag 6 (has_plane_reads g.optional)
+features g =
+    flag 1 (nat_lt 1 g.luns) + flag 3 g.multi_plane + flag 4 (has_odd_even g.optional) + flag 5 (has_synchronous_reset g.optional) + flag 6 (has_plane_reads g.optional)
 
--- read cache is bit 1, Get and Set Features bit 2, Read Status Enhanced bit 3, Read Unique ID bit 5,
+-- read cache is bit 1, Get and Set Features bit 2, Read Status Enhanced bit 3, Copyback bit 4, Read Unique ID bit 5,
 -- Change Read Column Enhanced bit 6, and Reset LUN bit 9
 abbrev pub optional_commands : Parts → ℕ
 optional_commands g =
-    flag 1 g.cache + flag 2 (has_features g.optional) + flag 3 g.enhanced + flag 5 (has_unique_id g.optional) + flag 6 (has_enhanced_column g.optional) + flag 9 (has_lun_reset g.optional)
+    flag 1 g.cache + flag 2 (has_features g.optional) + flag 3 g.enhanced + flag 4 (has_copyback g.optional) + flag 5 (has_unique_id g.optional) + flag 6 (has_enhanced_column g.optional) + flag 9 (has_lun_reset g.optional)
 
 abbrev zeros : ℕ → List ℕ
 zeros count = replicate count 0

@@ -1,6 +1,6 @@
 //! The commands beyond the base profile that a chip has.
 ghost use Rattle.std.specs.Prelude.{⊤, ◌≡◌, [], ◌∷◌, codes};
-ghost use Rattle.nand_geometry.specs.Optional.{no_optional, is_wide, has_features, has_unique_id, has_enhanced_column, has_lun_reset, has_plane_reads, has_synchronous_reset, has_free_blocks};
+ghost use Rattle.nand_geometry.specs.Optional.{no_optional, is_wide, has_features, has_copyback, has_unique_id, has_enhanced_column, has_lun_reset, has_plane_reads, has_synchronous_reset, has_free_blocks, has_odd_even};
 
 use bitflags::{Flag, Flags, bitflag_items};
 
@@ -21,6 +21,8 @@ bitflag_items! {
     impl Optional: u16 {
         /// EEh and EFh, Get Features and Set Features (byte 8 bit 2 of the parameter page).
         const FEATURES = 4;
+        /// 35h and 85h with five addresses, Copyback Read and Copyback Program (byte 8 bit 4).
+        const COPYBACK = 16;
         /// EDh, Read Unique ID (byte 8 bit 5).
         const UNIQUE_ID = 32;
         /// 06h, Change Read Column Enhanced (byte 8 bit 6).
@@ -33,6 +35,8 @@ bitflag_items! {
         const SYNCHRONOUS_RESET = 2048;
         /// The blocks of one group of planes may have any bits above those of the plane (byte 114 bit 1).
         const FREE_BLOCKS = 4096;
+        /// A copyback may go from an odd page to an even one, or back (byte 6 bit 4).
+        const ODD_EVEN = 8192;
         /// What each chip of the profile has: 90h with the addresses 00h and 40h, and FFh in an open sequence.
         const WIDE = 32_768;
     }
@@ -43,7 +47,7 @@ impl Flags for Optional {
 
     ghost exact = { ⊤ };
 
-    ghost table = { (codes "FEATURES", 4) ∷ (codes "UNIQUE_ID", 32) ∷ (codes "ENHANCED_COLUMN", 64) ∷ (codes "RESET_LUN", 512) ∷ (codes "PLANE_READS", 1024) ∷ (codes "SYNCHRONOUS_RESET", 2048) ∷ (codes "FREE_BLOCKS", 4096) ∷ (codes "WIDE", 32768) ∷ [] };
+    ghost table = { (codes "FEATURES", 4) ∷ (codes "COPYBACK", 16) ∷ (codes "UNIQUE_ID", 32) ∷ (codes "ENHANCED_COLUMN", 64) ∷ (codes "RESET_LUN", 512) ∷ (codes "PLANE_READS", 1024) ∷ (codes "SYNCHRONOUS_RESET", 2048) ∷ (codes "FREE_BLOCKS", 4096) ∷ (codes "ODD_EVEN", 8192) ∷ (codes "WIDE", 32768) ∷ [] };
 
     ghost set_of = { λ o. o.0 };
 
@@ -78,6 +82,13 @@ impl Optional {
         self.contains(Optional::FEATURES)
     }
 
+    /// The chip has Copyback Read and Copyback Program.
+    pub fn has_copyback(self) -> bool
+        ensures { result ≡ has_copyback self }
+    {
+        self.is_wide() && self.contains(Optional::COPYBACK)
+    }
+
     /// The chip has Read Unique ID.
     pub fn has_unique_id(self) -> bool
         ensures { result ≡ has_unique_id self }
@@ -103,14 +114,21 @@ impl Optional {
     pub fn has_plane_reads(self) -> bool
         ensures { result ≡ has_plane_reads self }
     {
-        self.contains(Optional::PLANE_READS)
+        self.is_wide() && self.contains(Optional::PLANE_READS)
     }
 
     /// The blocks of one group of planes may have any bits above those of the plane.
     pub fn has_free_blocks(self) -> bool
         ensures { result ≡ has_free_blocks self }
     {
-        self.contains(Optional::FREE_BLOCKS)
+        self.is_wide() && self.contains(Optional::FREE_BLOCKS)
+    }
+
+    /// A copyback may go from an odd page to an even one, or back.
+    pub fn has_odd_even(self) -> bool
+        ensures { result ≡ has_odd_even self }
+    {
+        self.is_wide() && self.contains(Optional::ODD_EVEN)
     }
 
     /// The chip has Synchronous Reset.

@@ -97,12 +97,14 @@ fn optional_by(copy: &[u8]) -> Optional
     Optional(
         Optional::WIDE.0
             + flag(2, has_bit(copy[8], 2))
+            + flag(4, has_bit(copy[8], 4))
             + flag(5, has_bit(copy[8], 5))
             + flag(6, has_bit(copy[8], 6))
             + flag(9, has_bit(copy[9], 1))
             + flag(10, has_bit(copy[6], 6))
             + flag(11, has_double_rate(copy))
-            + flag(12, has_bit(copy[114], 1)),
+            + flag(12, has_bit(copy[114], 1))
+            + flag(13, has_bit(copy[6], 4)),
     )
 }
 

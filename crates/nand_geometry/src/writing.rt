@@ -18,27 +18,28 @@ fn u32_bytes(number: u32) -> [u8; 4]
 
 /// A bit of a field, where it is set.
 pub(crate) fn flag(bit: u32, set: bool) -> u16
-    requires { bit < 13 }
+    requires { bit < 14 }
     ensures value { result ≡ flag bit set }
-    ensures small { result < 8192 }
+    ensures small { result < 16384 }
 {
     if set { 1 << bit } else { 0 }
 }
 
-/// Bit 1: operations of several LUNs; bit 3: program and erase of several planes; bit 5: an interface of double data rate;
-/// bit 6: reads of several planes.
+/// Bit 1: operations of several LUNs; bit 3: program and erase of several planes; bit 4: copyback between odd and even pages;
+/// bit 5: an interface of double data rate; bit 6: reads of several planes.
 fn features(parts: Parts) -> u16
     ensures { result ≡ features parts }
 {
     let optional = parts.optional;
     flag(1, parts.luns > 1)
         + flag(3, parts.multi_plane)
+        + flag(4, optional.has_odd_even())
         + flag(5, optional.has_synchronous_reset())
         + flag(6, optional.has_plane_reads())
 }
 
-/// Read cache is bit 1, Get and Set Features bit 2, Read Status Enhanced bit 3, Read Unique ID bit 5, Change Read Column Enhanced
-/// bit 6, Reset LUN bit 9.
+/// Read cache is bit 1, Get and Set Features bit 2, Read Status Enhanced bit 3, Copyback bit 4, Read Unique ID bit 5,
+/// Change Read Column Enhanced bit 6, Reset LUN bit 9.
 fn optional_commands(parts: Parts) -> u16
     ensures { result ≡ optional_commands parts }
 {
@@ -46,6 +47,7 @@ fn optional_commands(parts: Parts) -> u16
     flag(1, parts.cache)
         + flag(2, optional.has_features())
         + flag(3, parts.enhanced)
+        + flag(4, optional.has_copyback())
         + flag(5, optional.has_unique_id())
         + flag(6, optional.has_enhanced_column())
         + flag(9, optional.has_lun_reset())

@@ -1,11 +1,11 @@
 -- What an item makes of the LUNs of its target, by its parts.
 use Rattle.std.specs.List.{list_any}
-use Rattle.std.proofs.Common.{◌≡◌, ℕ, zero, suc, ◌+◌, ◌<◌, ◌==◌, ◌≢◌, ◌≤◌, length, Bool, true, false, ◌||◌, cond, Option, Some, None, List, [], ◌∷◌, refl, sym, ap, ◌∙◌, arith, set, get_or}
+use Rattle.std.proofs.Common.{◌≡◌, ℕ, zero, suc, ◌+◌, ◌<◌, ◌==◌, ◌≢◌, ◌≤◌, length, Bool, true, false, ◌||◌, ◌&&◌, cond, Option, Some, None, List, [], ◌∷◌, refl, sym, ap, ◌∙◌, arith, set, get_or}
 use Rattle.std.proofs.lemmas.Bool.Decides.{nat_tests}
 use Rattle.nand_geometry.specs.declared.parts.Parts.{Parts}
 use Rattle.onfi_cycle.specs.declared.command.Command.{Command}
 use Rattle.onfi_cycle.specs.declared.opening.Opening.{Opening}
-use Rattle.onfi_cycle.specs.declared.command.Command.TheVariants.{Read, ReadConfirm, ChangeReadColumn, ChangeReadColumnConfirm, BlockErase, BlockEraseConfirm, BlockErasePlane, ReadStatus, ReadStatusEnhanced, PageProgram, ChangeWriteColumn, ProgramConfirm, ProgramPlane, ReadId, ReadParameterPage, Reset, ReadCacheSequential, ReadCacheEnd, ReadUniqueId, GetFeatures, SetFeatures, ResetLun, SynchronousReset, Unknown, ChangeReadColumnEnhanced, ReadPlane}
+use Rattle.onfi_cycle.specs.declared.command.Command.TheVariants.{Read, ReadConfirm, ChangeReadColumn, ChangeReadColumnConfirm, BlockErase, BlockEraseConfirm, BlockErasePlane, ReadStatus, ReadStatusEnhanced, PageProgram, ChangeWriteColumn, ProgramConfirm, ProgramPlane, ReadId, ReadParameterPage, Reset, ReadCacheSequential, ReadCacheEnd, ReadUniqueId, GetFeatures, SetFeatures, ResetLun, SynchronousReset, Unknown, ChangeReadColumnEnhanced, ReadPlane, CopybackRead}
 use Rattle.onfi_cycle.specs.declared.item.Cycle.{Cycle}
 use Rattle.onfi_cycle.specs.declared.effect.Effect.{Effect}
 use Rattle.onfi_cycle.specs.declared.effect.Effect.TheVariants.{Unaffected, BecameReady, ArrayBecameReady}
@@ -17,6 +17,7 @@ use Rattle.onfi_cycle.specs.declared.tail_facts.TailFacts.{TailFacts}
 use Rattle.onfi_cycle.specs.declared.target_cycle.TargetCycle.{TargetCycle}
 use Rattle.onfi_cycle.specs.declared.target_cycle.TargetCycle.TheVariants.{CommandCycle, AddressCycle, InputCycle, OutputCycle}
 use Rattle.onfi_cycle.specs.LunView.{LunView}
+use Rattle.onfi_cycle.specs.Command.{is_page_program}
 use Rattle.onfi_cycle.specs.Applied.{luns_after_cycle, one_after, needs_no_row, acts_by_address, may_act}
 use Rattle.onfi_cycle.specs.Effect.{cycle_effect, command_effect, address_effect, opening_address_effect, is_data}
 use Rattle.onfi_cycle.specs.Lun.{view_after}
@@ -38,6 +39,7 @@ command_rests : (g : Parts) (t : TailFacts) (s : Latch) (c : Command) (n : ℕ) 
 command_rests g t s Read n h = cc
 command_rests g t s ReadConfirm n h = rw h refl
 command_rests g t s ReadPlane n h = rw h refl
+command_rests g t s CopybackRead n h = rw h refl
 command_rests g t s ChangeReadColumn n h = rw h refl
 command_rests g t s ChangeReadColumnEnhanced n h = rw h refl
 command_rests g t s ChangeReadColumnConfirm n h = cc
@@ -62,10 +64,11 @@ command_rests g t s ResetLun n h = rw h refl
 command_rests g t s SynchronousReset n h = cc
 command_rests g t s Unknown n h = rw h refl
 
-address_rests : (g : Parts) (t : TailFacts) (byte : ℕ) (c : Command) (k n : ℕ) → acts_by_address c ≡ false → address_effect g t byte c k n ≡ Unaffected
+address_rests : (g : Parts) (t : TailFacts) (byte : ℕ) (c : Command) (k n : ℕ) → (acts_by_address c || (is_page_program c && k == 4)) ≡ false → address_effect g t byte c k n ≡ Unaffected
 address_rests g t byte Read k n h = refl
 address_rests g t byte ReadConfirm k n h = refl
 address_rests g t byte ReadPlane k n h = refl
+address_rests g t byte CopybackRead k n h = refl
 address_rests g t byte ChangeReadColumn k n h = refl
 address_rests g t byte ChangeReadColumnEnhanced k n h = refl
 address_rests g t byte ChangeReadColumnConfirm k n h = refl
@@ -74,7 +77,7 @@ address_rests g t byte BlockEraseConfirm k n h = refl
 address_rests g t byte BlockErasePlane k n h = refl
 address_rests g t byte ReadStatus k n h = refl
 address_rests g t byte ReadStatusEnhanced k n h = cc
-address_rests g t byte PageProgram k n h = refl
+address_rests g t byte PageProgram k n h = rw h refl
 address_rests g t byte ChangeWriteColumn k n h = refl
 address_rests g t byte ProgramConfirm k n h = refl
 address_rests g t byte ProgramPlane k n h = refl
@@ -90,7 +93,7 @@ address_rests g t byte ResetLun k n h = cc
 address_rests g t byte SynchronousReset k n h = refl
 address_rests g t byte Unknown k n h = refl
 
-opening_rests : (g : Parts) (t : TailFacts) (byte : ℕ) (o : Option Opening) (n : ℕ) → opened (λ c k. acts_by_address c) o ≡ false → opening_address_effect g t byte o n ≡ Unaffected
+opening_rests : (g : Parts) (t : TailFacts) (byte : ℕ) (o : Option Opening) (n : ℕ) → opened (λ c k. acts_by_address c || (is_page_program c && k == 4)) o ≡ false → opening_address_effect g t byte o n ≡ Unaffected
 opening_rests g t byte None n h = refl
 opening_rests g t byte (Some o) n h = address_rests g t byte o.opener o.addresses n h
 

@@ -3,7 +3,7 @@ use Rattle.std.proofs.Common.{◌≡◌, ℕ, suc, ◌<◌, ◌==◌, Bool, true
 use Rattle.std.proofs.lemmas.List.{length-replicate}
 use Rattle.std.proofs.lemmas.Option.{slice_get-get_or}
 use Rattle.nand_geometry.specs.declared.parts.Parts.{Parts}
-use Rattle.nand_geometry.specs.Limits.{page_len}
+use Rattle.nand_geometry.specs.Limits.{page_len, planes}
 use Rattle.onfi_cycle.specs.declared.lun.Lun.{Lun}
 use Rattle.onfi_cycle.specs.declared.item.Cycle.{Cycle}
 use Rattle.onfi_cycle.specs.declared.item.Item.{Item}
@@ -16,12 +16,12 @@ use Rattle.onfi_cycle.specs.declared.page_address.PageAddress.{PageAddress}
 use Rattle.onfi_cycle.specs.declared.register.Register.{Register}
 use Rattle.onfi_cycle.specs.declared.register.Register.TheVariants.{Empty, Page, ParameterPage, Identifier, Identity, JedecIdentity, UniqueId, Features}
 use Rattle.onfi_cycle.specs.declared.effect.Effect.{Effect}
-use Rattle.onfi_cycle.specs.declared.effect.Effect.TheVariants.{ReadStarted, EraseStarted, ProgramStarted, ResetStarted, BecameReady, ParameterPageReadStarted, UniqueIdReadStarted, FeaturesReadStarted, FeaturesSet, CacheReadContinued, CacheReadEnded, TargetResetStarted, ReadQueued}
-use Rattle.onfi_cycle.specs.Sequence.{tail, facts_of, filled, input_column, is_open, with_cycle}
+use Rattle.onfi_cycle.specs.declared.effect.Effect.TheVariants.{ReadStarted, EraseStarted, ProgramStarted, ResetStarted, BecameReady, ParameterPageReadStarted, UniqueIdReadStarted, FeaturesReadStarted, FeaturesSet, CacheReadContinued, CacheReadEnded, TargetResetStarted, ReadQueued, CopybackReadStarted}
+use Rattle.onfi_cycle.specs.Sequence.{tail, facts_of, filled, row, input_column, is_open, with_cycle}
 use Rattle.onfi_cycle.specs.LunView.{LunView}
-use Rattle.onfi_cycle.specs.Effect.{is_off, is_data}
-use Rattle.onfi_cycle.specs.Lun.{latch, effect_on, drivers, is_only, is_busy, register, read_column, output_column, lun_view}
-use Rattle.onfi_cycle.specs.Content.{ArrayWork, ErasesBlock, ProgramsPage, and_bytes, left_by, left_by_all, same_page, queued_work, queued_work_after, pending_work, pending_work_after, content, content_after, status, register_bytes, byte_at, shown, shown_by}
+use Rattle.onfi_cycle.specs.Effect.{is_off, is_data, plane_of_row}
+use Rattle.onfi_cycle.specs.Lun.{latch, effect_on, drivers, is_only, is_busy, register, read_column, output_column, lun_view, held, page_in_plane}
+use Rattle.onfi_cycle.specs.Content.{ArrayWork, ErasesBlock, ProgramsPage, and_bytes, left_by, left_by_all, same_page, queued_work, queued_work_after, pending_work, pending_work_after, content, content_after, status, register_bytes, byte_at, shown, shown_by, LunPages, pages_of, program_bytes, bytes_held, is_some_work, changes_after, changes_pages, WorkChangesPages}
 use Rattle.onfi_cycle.specs.Rules.{breaks_data_not_ready, breaks_column_outside, is_some_and, has_no_byte, is_past_register, is_past, lacks, is_empty, register_len}
 use Rattle.onfi_cycle.specs.Permitted.{broken}
 use Rattle.onfi_cycle.specs.Channel.{Channel, IsChannel, cycle, bus_byte, byte_of_driver, is_open_on}
@@ -38,12 +38,16 @@ abbrev AllWhole : ℕ → List ArrayWork → Type 0
 AllWhole len [] = Unit {0}
 AllWhole len (c ∷ cs) = IsWhole len c × AllWhole len cs
 
-filled_len : (len : ℕ) (t : List TargetCycle) → length (filled len t) ≡ len
-filled_len len [] = length-replicate len 0xff
-filled_len len (CommandCycle c ∷ t) = filled_len len t
-filled_len len (AddressCycle byte ∷ t) = filled_len len t
-filled_len len (InputCycle byte ∷ t) = length-set (filled len t) (input_column (facts_of t)) byte ∙ filled_len len t
-filled_len len (OutputCycle ∷ t) = filled_len len t
+filled_len : (begun : List ℕ) (t : List TargetCycle) → length (filled begun t) ≡ length begun
+filled_len begun [] = refl
+filled_len begun (CommandCycle c ∷ t) = filled_len begun t
+filled_len begun (AddressCycle byte ∷ t) = filled_len begun t
+filled_len begun (InputCycle byte ∷ t) = length-set (filled begun t) (input_column (facts_of t)) byte ∙ filled_len begun t
+filled_len begun (OutputCycle ∷ t) = filled_len begun t
+
+held_len : (g : Parts) (content : PageAddress → List ℕ) (held : Option PageAddress) → ((p : PageAddress) → length (content p) ≡ page_len g) → length (bytes_held g content held) ≡ page_len g
+held_len g content None h = length-replicate (page_len g) 0xff
+held_len g content (Some p) h = h p
 
 queued_after_whole : (len : ℕ) (e : Effect) (bytes : List ℕ) (q : List ArrayWork) → length bytes ≡ len → AllWhole len q → AllWhole len (queued_work_after e bytes q)
 queued_after_whole len (EraseStarted true at) bytes q h w = (tt, w)
@@ -51,6 +55,7 @@ queued_after_whole len (EraseStarted false at) bytes q h w = tt
 queued_after_whole len (ProgramStarted true at) bytes q h w = (h, w)
 queued_after_whole len (ProgramStarted false at) bytes q h w = tt
 queued_after_whole len (ReadStarted at from) bytes q h w = tt
+queued_after_whole len (CopybackReadStarted at from count) bytes q h w = tt
 queued_after_whole len ResetStarted bytes q h w = tt
 queued_after_whole len (TargetResetStarted first) bytes q h w = tt
 queued_after_whole len _ bytes q h w = w
@@ -62,6 +67,7 @@ pending_after_whole len (ProgramStarted true at) bytes q p h w v = tt
 pending_after_whole len (ProgramStarted false at) bytes q p h w v = (h, w)
 pending_after_whole len (ReadStarted at from) bytes q p h w v = tt
 pending_after_whole len (ReadQueued at) bytes q p h w v = tt
+pending_after_whole len (CopybackReadStarted at from count) bytes q p h w v = tt
 pending_after_whole len ParameterPageReadStarted bytes q p h w v = tt
 pending_after_whole len UniqueIdReadStarted bytes q p h w v = tt
 pending_after_whole len (FeaturesReadStarted address) bytes q p h w v = tt
@@ -72,14 +78,6 @@ pending_after_whole len ResetStarted bytes q p h w v = tt
 pending_after_whole len (TargetResetStarted first) bytes q p h w v = tt
 pending_after_whole len (BecameReady fail) bytes q p h w v = tt
 pending_after_whole len _ bytes q p h w v = v
-
-queued_whole : (g : Parts) (past : List Item) (l : Lun) → AllWhole (page_len g) (queued_work g past l)
-queued_whole g [] l = tt
-queued_whole g (i ∷ past) l = queued_after_whole (page_len g) (effect_on g past i l) _ _ (filled_len (page_len g) (tail past l.ce)) (queued_whole g past l)
-
-pending_whole : (g : Parts) (past : List Item) (l : Lun) → AllWhole (page_len g) (pending_work g past l)
-pending_whole g [] l = tt
-pending_whole g (i ∷ past) l = pending_after_whole (page_len g) (effect_on g past i l) _ _ _ (filled_len (page_len g) (tail past l.ce)) (queued_whole g past l) (pending_whole g past l)
 
 and_len : (a b : List ℕ) → length a ≡ length b → length (and_bytes a b) ≡ length a
 and_len [] b h = refl
@@ -107,10 +105,52 @@ content_after_len g (BecameReady true) cs p old w h = h
 content_after_len g (BecameReady false) cs p old w h = left_by_all_len (page_len g) cs p old w h
 content_after_len g _ cs p old w h = h
 
+-- the works carry whole pages, and each page has its length
+record ArePagesWhole (g : Parts) (s : LunPages) : Type 0 where
+  queued : AllWhole (page_len g) s.queued
+  pending : AllWhole (page_len g) s.pending
+  content : (p : PageAddress) → length (s.content p) ≡ page_len g
+
+pages_whole : (g : Parts) (opening : Lun → PageAddress → List ℕ) → ((l : Lun) (p : PageAddress) → length (opening l p) ≡ page_len g) → (past : List Item) (l : Lun) → ArePagesWhole g (pages_of g opening past l)
+pages_whole g opening h [] l = record { queued = tt; pending = tt; content = h l }
+pages_whole g opening h (i ∷ past) l =
+    let before = pages_whole g opening h past l in
+    let s = pages_of g opening past l in
+    let held_there = page_in_plane (planes g) (plane_of_row g (row (facts_of (tail past l.ce)))) (held g past l) in
+    let bytes : length (program_bytes g s.content past l) ≡ page_len g = filled_len (bytes_held g s.content held_there) (tail past l.ce) ∙ held_len g s.content held_there before.content in
+    record {
+      queued = queued_after_whole (page_len g) (effect_on g past i l) _ _ bytes before.queued;
+      pending = pending_after_whole (page_len g) (effect_on g past i l) _ _ _ bytes before.queued before.pending;
+      content = λ p. content_after_len g (effect_on g past i l) s.pending p (s.content p) before.pending (before.content p);
+    }
+
 -- the content of a page keeps its length
 pub content_len : (g : Parts) (opening : Lun → PageAddress → List ℕ) → ((l : Lun) (p : PageAddress) → length (opening l p) ≡ page_len g) → (past : List Item) (l : Lun) (p : PageAddress) → length (content g opening past l p) ≡ page_len g
-content_len g opening h [] l p = h l p
-content_len g opening h (i ∷ past) l p = content_after_len g (effect_on g past i l) (pending_work g past l) p (content g opening past l p) (pending_whole g past l) (content_len g opening h past l p)
+content_len g opening h past l p = (pages_whole g opening h past l).content p
+
+-- whether the work that goes on changes pages
+changes_step : (e : Effect) (bytes : List ℕ) (q p : List ArrayWork) (changes : Bool) → is_some_work p ≡ changes → is_some_work (pending_work_after e bytes q p) ≡ changes_after e changes
+changes_step (EraseStarted true at) bytes q p changes h = refl
+changes_step (EraseStarted false at) bytes q p changes h = refl
+changes_step (ProgramStarted true at) bytes q p changes h = refl
+changes_step (ProgramStarted false at) bytes q p changes h = refl
+changes_step (ReadStarted at from) bytes q p changes h = refl
+changes_step (ReadQueued at) bytes q p changes h = refl
+changes_step (CopybackReadStarted at from count) bytes q p changes h = refl
+changes_step ParameterPageReadStarted bytes q p changes h = refl
+changes_step UniqueIdReadStarted bytes q p changes h = refl
+changes_step (FeaturesReadStarted address) bytes q p changes h = refl
+changes_step (FeaturesSet feature) bytes q p changes h = refl
+changes_step (CacheReadContinued to) bytes q p changes h = refl
+changes_step CacheReadEnded bytes q p changes h = refl
+changes_step ResetStarted bytes q p changes h = refl
+changes_step (TargetResetStarted first) bytes q p changes h = refl
+changes_step (BecameReady fail) bytes q p changes h = refl
+changes_step _ bytes q p changes h = h
+
+pub work_changes_pages : WorkChangesPages
+work_changes_pages g opening [] l = refl
+work_changes_pages g opening (i ∷ past) l = changes_step (effect_on g past i l) _ _ (pending_work g opening past l) (changes_pages g past l) (work_changes_pages g opening past l)
 
 pub register_bytes_len : (g : Parts) (parameters : List ℕ) (pages : PageAddress → List ℕ) (r : Register) → length parameters ≡ 768 → ((p : PageAddress) → length (pages p) ≡ page_len g) → length (register_bytes parameters pages r) ≡ register_len g r
 register_bytes_len g parameters pages Empty h k = refl

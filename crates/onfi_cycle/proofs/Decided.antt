@@ -1,5 +1,5 @@
 -- Each fact of a LUN is what the newest item says that says something of it.
-use Rattle.std.proofs.Common.{◌≡◌, ℕ, ◌+◌, Bool, true, false, ◌&&◌, ◌||◌, cond, List, [], ◌∷◌, Option, Some, None, refl, sym, ap, ◌∙◌, arith, ltb, unwrap_or, take}
+use Rattle.std.proofs.Common.{◌≡◌, ℕ, ◌+◌, Bool, true, false, ◌&&◌, ◌||◌, cond, List, [], ◌∷◌, Option, Some, None, refl, sym, ap, ◌∙◌, arith, ltb, unwrap_or, take, ◌++◌}
 use Rattle.std.proofs.Math.Bool.{or-false}
 use Rattle.nand_geometry.specs.declared.parts.Parts.{Parts}
 use Rattle.nand_geometry.specs.Limits.{planes}
@@ -13,14 +13,14 @@ use Rattle.onfi_cycle.specs.declared.register.Register.{Register}
 use Rattle.onfi_cycle.specs.declared.register.Register.TheVariants.{Empty, Page, Features}
 use Rattle.onfi_cycle.specs.declared.read_column.ReadColumn.{ReadColumn}
 use Rattle.onfi_cycle.specs.declared.effect.Effect.{Effect}
-use Rattle.onfi_cycle.specs.declared.effect.Effect.TheVariants.{StatusSelected, StatusOfSelected, StatusRowAwaited, IdRead, IdentityRead, UniqueIdReadStarted, FeaturesReadStarted, ParameterPageReadStarted, CacheReadContinued, CacheReadEnded, DataOutput, BecameReady, ReadStarted, EraseStarted, ProgramStarted, ReadColumnChanged, PlaneSelected, ReadQueued}
+use Rattle.onfi_cycle.specs.declared.effect.Effect.TheVariants.{StatusSelected, StatusOfSelected, StatusRowAwaited, IdRead, IdentityRead, UniqueIdReadStarted, FeaturesReadStarted, ParameterPageReadStarted, CacheReadContinued, CacheReadEnded, DataOutput, BecameReady, ReadStarted, EraseStarted, ProgramStarted, ReadColumnChanged, PlaneSelected, ReadQueued, CopybackReadStarted, ProgramAddressed}
 use Rattle.onfi_cycle.specs.declared.tail_facts.TailFacts.{TailFacts}
 use Rattle.onfi_cycle.specs.declared.command.Command.TheVariants.{ReadCacheSequential}
 use Rattle.onfi_cycle.specs.Sequence.{row, wants_command}
 use Rattle.onfi_cycle.specs.Effect.{page_address, plane_of_row}
-use Rattle.onfi_cycle.specs.Lun.{effect_on, busy_after, closer_after, array_busy_after, array_page_after, next_page, register_after, read_column_after, queue_after, is_busy, is_caching, closer, is_array_busy, array_page, register, read_column, queue, held, held_after, has_reads, page_in_plane, register_of_plane, pages_of_reads}
+use Rattle.onfi_cycle.specs.Lun.{effect_on, busy_after, closer_after, array_busy_after, array_page_after, next_page, register_after, read_column_after, queue_after, is_busy, is_caching, closer, is_array_busy, array_page, register, read_column, queue, held, held_after, has_reads, page_in_plane, register_of_plane, pages_of_reads, held_on, is_copyback_read}
 use Rattle.onfi_cycle.specs.Decides.{or_before, last_decided, count_since, some_since, with_some, all_since, tail_of, closing, work_of, busy_decided, ends_array_work, array_busy_decided, reads_page, reads_its_row, reads_on, page_read, pages_on, first_page, page_of_array, byte_of, register_of, register_decided, changes_column, column_of, column_decided, is_given, gives_column, outputs_data, outputs_since, loses_column, is_status_command, is_cycle_of, empties_queue, queued_row, held_of, held_decided}
-use Rattle.onfi_cycle.proofs.Meaning.{means, closer_of, is_ready, is_array_ready, is_column_change, is_data_output, is_status, Carries, is_plane_selected}
+use Rattle.onfi_cycle.proofs.Meaning.{means, closer_of, is_ready, is_array_ready, is_column_change, is_data_output, is_status, Carries, is_plane_selected, is_program_addressed}
 
 -- what was decided before, unless this decides
 unwrap_before : {A : Type 0} (x y : Option A) (d : A) → unwrap_or (or_before x y) d ≡ unwrap_or x (unwrap_or y d)
@@ -100,6 +100,7 @@ plus_none p = λ i. record { block = p.block; page = add_none p.page i }
 
 array_page_step : (g : Parts) (t : TailFacts) (byte : ℕ) (e : Effect) (q : PageAddress) (n : ℕ) → Carries g t byte e → array_page_after e (pages_on q n) ≡ cond (reads_page (wants_command t ReadCacheSequential) (closer_of e)) (pages_on (page_address g (row t)) 0) (cond (reads_on (closer_of e)) (pages_on q (n + 1)) (pages_on q n))
 array_page_step g t byte (ReadStarted page column) q n carries = carries.0 ∙ plus_none (page_address g (row t))
+array_page_step g t byte (CopybackReadStarted page column count) q n carries = carries.0 ∙ plus_none (page_address g (row t))
 array_page_step g t byte (CacheReadContinued to) q n carries = ap (λ x. unwrap_or x (next_page (pages_on q n))) carries ∙ to_page (wants_command t ReadCacheSequential)
   where
     add_assoc_one : (a b : ℕ) → a + b + 1 ≡ a + (b + 1)
@@ -134,6 +135,7 @@ array_page_is_decided g (i ∷ past) l =
 -- what the register holds after an effect, where the LUN has this page of the array, this queue and these pages
 register_step : (g : Parts) (past : List Item) (l : Lun) (byte : ℕ) (e : Effect) (before : Register) → Carries g (tail_of past l) byte e → register_after e (array_page g past l) (queue g past l) (held g past l) before ≡ unwrap_or (cond (is_plane_selected e) (Some (register_of_plane (page_in_plane (planes g) (plane_of_row g (row (tail_of past l))) (held g past l)))) (register_of g past l byte (closer_of e))) before
 register_step g past l byte (ReadStarted page column) before carries = ap (λ (p : PageAddress). cond (has_reads (queue g past l)) Empty (Page p)) carries.0
+register_step g past l byte (CopybackReadStarted page column count) before carries = ap (λ (p : PageAddress). cond (has_reads (queue g past l)) Empty (Page p)) carries.0
 register_step g past l byte (PlaneSelected plane count column) before carries = λ i. register_of_plane (page_in_plane (carries.1 i) (carries.0 i) (held g past l))
 register_step g past l byte (EraseStarted true row) before carries = refl
 register_step g past l byte (EraseStarted false row) before carries = refl
@@ -153,20 +155,22 @@ register_is_decided g (i ∷ past) l =
     ((λ j. unwrap_or (cond (sym m.selects j) (Some chosen) (register_of g past l (byte_of i) (sym m.closes j))) (register g past l)) ∙ (ap (unwrap_or (register_decided g l past i)) (register_is_decided g past l) ∙ sym (unwrap_before (register_decided g l past i) (last_decided (register_decided g l) past) Empty)))
 
 -- the pages that the plane registers hold
-held_step : (g : Parts) (past : List Item) (l : Lun) (byte : ℕ) (e : Effect) (before : List PageAddress) → Carries g (tail_of past l) byte e → held_after e (array_page g past l) (queue g past l) before ≡ unwrap_or (held_of g past l (closer_of e)) before
-held_step g past l byte (ReadStarted page column) before carries = ap (λ (p : PageAddress). take 4 (p ∷ pages_of_reads (queue g past l))) carries.0
-held_step g past l byte (EraseStarted true row) before carries = refl
-held_step g past l byte (EraseStarted false row) before carries = refl
-held_step g past l byte (ProgramStarted true page) before carries = refl
-held_step g past l byte (ProgramStarted false page) before carries = refl
-held_step g past l byte _ before carries = refl
+held_step : (g : Parts) (past : List Item) (l : Lun) (byte : ℕ) (e : Effect) → Carries g (tail_of past l) byte e → held_after e (is_copyback_read (closer g past l)) (array_page g past l) (queue g past l) (held g past l) ≡ unwrap_or (cond (is_program_addressed e) (Some []) (held_of g past l (closer_of e))) (held g past l)
+held_step g past l byte (ReadStarted page column) carries = ap (λ (p : PageAddress). take 4 (p ∷ pages_of_reads (queue g past l))) carries.0
+held_step g past l byte (CopybackReadStarted page column count) carries =
+    λ i. take 4 (carries.0 i ∷ (pages_of_reads (queue g past l) ++ held_on (carries.2 i) (carries.0 i) (is_copyback_read (closer g past l)) (held g past l)))
+held_step g past l byte (EraseStarted true row) carries = refl
+held_step g past l byte (EraseStarted false row) carries = refl
+held_step g past l byte (ProgramStarted true page) carries = refl
+held_step g past l byte (ProgramStarted false page) carries = refl
+held_step g past l byte _ carries = refl
 
 pub held_is_decided : (g : Parts) (past : List Item) (l : Lun) → held g past l ≡ unwrap_or (last_decided (held_decided g l) past) []
 held_is_decided g [] l = refl
 held_is_decided g (i ∷ past) l =
     let m = means g past i l in
-    held_step g past l (byte_of i) (effect_on g past i l) (held g past l) m.carries ∙
-    (ap (λ c. unwrap_or (held_of g past l c) (held g past l)) (sym m.closes) ∙ (ap (unwrap_or (held_decided g l past i)) (held_is_decided g past l) ∙ sym (unwrap_before (held_decided g l past i) (last_decided (held_decided g l) past) [])))
+    held_step g past l (byte_of i) (effect_on g past i l) m.carries ∙
+    ((λ j. unwrap_or (cond (sym m.clears j) (Some []) (held_of g past l (sym m.closes j))) (held g past l)) ∙ (ap (unwrap_or (held_decided g l past i)) (held_is_decided g past l) ∙ sym (unwrap_before (held_decided g l past i) (last_decided (held_decided g l) past) [])))
 
 -- 5. the read column
 
@@ -180,6 +184,7 @@ column_step : (past : List Item) (l : Lun) (g : Parts) (byte : ℕ) (e : Effect)
 }
 unfolding given_by
 column_step past l g byte (ReadStarted page column) k carries = λ i. record { given = Some (carries.1 i); outputs = 0; lost = false }
+column_step past l g byte (CopybackReadStarted page column count) k carries = λ i. record { given = Some (carries.1 i); outputs = 0; lost = false }
 column_step past l g byte (ReadColumnChanged column) k carries = λ i. record { given = Some (carries i); outputs = 0; lost = false }
 column_step past l g byte (PlaneSelected plane count column) k carries = λ i. record { given = Some (carries.2 i); outputs = 0; lost = false }
 column_step past l g byte (EraseStarted true row) k carries = λ i. record { given = k.given; outputs = k.outputs; lost = sym (or-false k.lost) i }

@@ -7,10 +7,10 @@ use Rattle.std.proofs.lemmas.Bool.{not-false, or_left, or_right, and_parts as bo
 use Rattle.nand_geometry.specs.declared.parts.Parts.{Parts}
 use Rattle.nand_geometry.specs.Limits.{planes}
 use Rattle.onfi_cycle.specs.declared.command.Command.{Command}
-use Rattle.onfi_cycle.specs.declared.command.Command.TheVariants.{Read, ChangeReadColumnConfirm, ReadStatus, ReadStatusEnhanced, ReadConfirm, BlockEraseConfirm, BlockErasePlane, ProgramConfirm, ProgramPlane, ReadId, ReadParameterPage, Reset, ReadCacheSequential, ReadCacheEnd, ReadUniqueId, GetFeatures, SetFeatures, ResetLun, SynchronousReset, ReadPlane}
+use Rattle.onfi_cycle.specs.declared.command.Command.TheVariants.{Read, ChangeReadColumnConfirm, ReadStatus, ReadStatusEnhanced, ReadConfirm, BlockEraseConfirm, BlockErasePlane, ProgramConfirm, ProgramPlane, ReadId, ReadParameterPage, Reset, ReadCacheSequential, ReadCacheEnd, ReadUniqueId, GetFeatures, SetFeatures, ResetLun, SynchronousReset, ReadPlane, CopybackRead, PageProgram}
 use Rattle.onfi_cycle.specs.declared.item.Cycle.{Cycle}
 use Rattle.onfi_cycle.specs.declared.effect.Effect.{Effect}
-use Rattle.onfi_cycle.specs.declared.effect.Effect.TheVariants.{Unaffected, StatusSelected, StatusOfSelected, AnotherAddressed, SelectedForStatus, Deselected, IdRead, ParameterPageReadStarted, ReadColumnChanged, DataOutput, BecameReady, ArrayBecameReady, IdentityRead, UniqueIdReadStarted, FeaturesReadStarted, FeaturesSet, ResetStarted, PlaneSelected}
+use Rattle.onfi_cycle.specs.declared.effect.Effect.TheVariants.{Unaffected, StatusSelected, StatusOfSelected, AnotherAddressed, SelectedForStatus, Deselected, IdRead, ParameterPageReadStarted, ReadColumnChanged, DataOutput, BecameReady, ArrayBecameReady, IdentityRead, UniqueIdReadStarted, FeaturesReadStarted, FeaturesSet, ResetStarted, PlaneSelected, ProgramAddressed}
 use Rattle.onfi_cycle.specs.declared.forbidden.Forbidden.TheVariants.{NotThere}
 use Rattle.onfi_cycle.specs.declared.item.Item.{Item}
 use Rattle.onfi_cycle.specs.declared.item.Item.TheVariants.{Cyc, Rdy, Ard}
@@ -25,7 +25,7 @@ use Rattle.onfi_cycle.specs.declared.target_cycle.TargetCycle.TheVariants.{Comma
 use Rattle.onfi_cycle.specs.LunView.{LunView}
 use Rattle.onfi_cycle.specs.Command.{closes_row, reads_row, address_cycles, is_opener, takes_address, is_set_features}
 use Rattle.onfi_cycle.specs.Sequence.{target_of, target_cycle, begins_anew, facts_of, facts_after, extended_facts, opened, one_address_more, wants_command, wants_address, wants_column, row, row_with, takes_features, phase_after_command, phase_after_address, phase_after_input, selects_plane}
-use Rattle.onfi_cycle.specs.Effect.{is_off, is_data, is_shared, acts_for_target, other_effect, names_lun, confirm_effect, command_effect, address_effect, opening_address_effect, cycle_effect, ends_features, input_effect, plane_effect, column_effect, plane_of_row}
+use Rattle.onfi_cycle.specs.Effect.{is_off, is_data, is_shared, acts_for_target, other_effect, names_lun, confirm_effect, command_effect, address_effect, opening_address_effect, cycle_effect, ends_features, input_effect, plane_effect, column_effect, plane_of_row, program_row_effect}
 use Rattle.onfi_cycle.specs.Lun.{busy_after, array_busy_after, closer_after, is_cache_read, view_after}
 use Rattle.onfi_cycle.specs.Applied.{one_after}
 use Rattle.onfi_cycle.specs.Rules.{lun_is, breaks_not_there}
@@ -58,6 +58,7 @@ either false x y h k = k
 confirm_keeps : (g : Parts) (t : TailFacts) (c : Command) → starts c ≡ false → Keeps (confirm_effect g t c)
 confirm_keeps g t ReadConfirm h = cc
 confirm_keeps g t ReadPlane h = cc
+confirm_keeps g t CopybackRead h = cc
 confirm_keeps g t ReadCacheSequential h = cc
 confirm_keeps g t BlockEraseConfirm h = cc
 confirm_keeps g t BlockErasePlane h = cc
@@ -274,6 +275,10 @@ address_due g t byte n v tf less = at t.opening refl
     kind o is ReadStatusEnhanced e =
         keeps_due t u (address_effect g t byte ReadStatusEnhanced o.addresses n) v
         (either (o.addresses == 2) (cond (names_lun g (row_with t byte) n) SelectedForStatus Deselected) Unaffected (either (names_lun g (row_with t byte) n) SelectedForStatus Deselected (record { busy = λ b. refl; array = λ b c a. refl; closer = λ c. refl }) (record { busy = λ b. refl; array = λ b c a. refl; closer = λ c. refl })) unaffected)
+        less
+    kind o is PageProgram e =
+        keeps_due t u (address_effect g t byte PageProgram o.addresses n) v
+        (either (o.addresses == 4) (program_row_effect (names_lun g (row_with t byte) n)) Unaffected (either (names_lun g (row_with t byte) n) ProgramAddressed Unaffected (record { busy = λ b. refl; array = λ b c a. refl; closer = λ c. refl }) unaffected) unaffected)
         less
     kind o is ReadId e = identifier (wants_address t byte) (acts_for_target g n) (byte == 0x20)
     kind o is ReadParameterPage e = served o is ParameterPageReadStarted (record { busy = λ b. refl; array = λ b c a. refl; closer = λ c. refl }) (wants_address t byte) (acts_for_target g n) (only o is ReadParameterPage e refl refl refl)

@@ -9,7 +9,7 @@ use Rattle.onfi_cycle.proofs.Booleans.{and_rest}
 use Rattle.nand_geometry.specs.declared.parts.Parts.{Parts}
 use Rattle.nand_geometry.specs.Limits.{InLimits, page_bits, planes}
 use Rattle.onfi_cycle.specs.declared.command.Command.{Command}
-use Rattle.onfi_cycle.specs.declared.command.Command.TheVariants.{Read, ReadConfirm, ChangeReadColumnConfirm, BlockErase, BlockEraseConfirm, BlockErasePlane, ReadStatus, ReadStatusEnhanced, ProgramConfirm, ProgramPlane, ReadId, ReadParameterPage, Reset, ReadCacheSequential, ReadCacheEnd, ReadUniqueId, GetFeatures, SetFeatures, ResetLun, SynchronousReset, ReadPlane}
+use Rattle.onfi_cycle.specs.declared.command.Command.TheVariants.{Read, ReadConfirm, ChangeReadColumnConfirm, BlockErase, BlockEraseConfirm, BlockErasePlane, ReadStatus, ReadStatusEnhanced, ProgramConfirm, ProgramPlane, ReadId, ReadParameterPage, Reset, ReadCacheSequential, ReadCacheEnd, ReadUniqueId, GetFeatures, SetFeatures, ResetLun, SynchronousReset, ReadPlane, CopybackRead, PageProgram}
 use Rattle.onfi_cycle.specs.declared.item.Item.{Item}
 use Rattle.onfi_cycle.specs.declared.item.Item.TheVariants.{Cyc, Rdy, Ard}
 use Rattle.onfi_cycle.specs.declared.forbidden.Forbidden.TheVariants.{NotThere}
@@ -23,11 +23,11 @@ use Rattle.onfi_cycle.specs.declared.tail_facts.TailFacts.{TailFacts}
 use Rattle.onfi_cycle.specs.declared.target_cycle.TargetCycle.{TargetCycle}
 use Rattle.onfi_cycle.specs.declared.target_cycle.TargetCycle.TheVariants.{CommandCycle, AddressCycle, InputCycle, OutputCycle}
 use Rattle.onfi_cycle.specs.declared.effect.Effect.{Effect}
-use Rattle.onfi_cycle.specs.declared.effect.Effect.TheVariants.{Unaffected, SelectedForStatus, Deselected, IdRead, IdentityRead, UniqueIdReadStarted, FeaturesReadStarted, FeaturesSet, ParameterPageReadStarted, CacheReadContinued, CacheReadEnded, ReadColumnChanged, DataOutput, BecameReady, ArrayBecameReady, ResetStarted, StatusSelected, StatusOfSelected, AnotherAddressed, TargetResetStarted, PlaneSelected}
+use Rattle.onfi_cycle.specs.declared.effect.Effect.TheVariants.{Unaffected, SelectedForStatus, Deselected, IdRead, IdentityRead, UniqueIdReadStarted, FeaturesReadStarted, FeaturesSet, ParameterPageReadStarted, CacheReadContinued, CacheReadEnded, ReadColumnChanged, DataOutput, BecameReady, ArrayBecameReady, ResetStarted, StatusSelected, StatusOfSelected, AnotherAddressed, TargetResetStarted, PlaneSelected, ProgramAddressed}
 use Rattle.onfi_cycle.specs.LunView.{LunView}
 use Rattle.onfi_cycle.specs.Command.{closes, address_cycles, is_opener, takes_address, reads_identity, closes_row, reads_row}
 use Rattle.onfi_cycle.specs.Sequence.{target_cycle, opened, takes_data, takes_features, wants_column, wants_command, wants_address, row, row_with, selects_plane}
-use Rattle.onfi_cycle.specs.Effect.{is_off, is_data, names_lun, page_address, confirm_effect, row_effect, cache_effect, command_effect, id_effect, address_effect, opening_address_effect, ends_features, cycle_effect, is_shared, acts_for_target, of_target, other_effect, lun_reset_effect, plane_effect, column_effect, plane_of_row}
+use Rattle.onfi_cycle.specs.Effect.{is_off, is_data, names_lun, page_address, confirm_effect, row_effect, cache_effect, command_effect, id_effect, address_effect, opening_address_effect, ends_features, cycle_effect, is_shared, acts_for_target, of_target, other_effect, lun_reset_effect, program_row_effect, plane_effect, column_effect, plane_of_row}
 use Rattle.onfi_cycle.specs.Lun.{output_column, option_plus}
 use Rattle.onfi_cycle.specs.Rules.{driving, are_none, only, driver, is_some_and, driver_is, lacks, is_past, is_empty, register_len, has_no_byte, is_past_register, continues_cache, ends_cache, some_queued_clashes, breaks_not_there, breaks_data_not_ready, breaks_column_outside, breaks_cache_read_misplaced, has_read_one}
 use Rattle.onfi_cycle.specs.Permitted.{judge, judge_cycle}
@@ -71,10 +71,10 @@ driver_at (x ∷ vs) (suc n) v w found on h = at (is_off x.latch) (driver_at vs 
     at false ih h = more (are_none (driving vs)) (on_drives vs n v found on) h
 
 -- a LUN that shows something alone is the one driver, and what a test says of the driver it says of this LUN
-record IsDriver (luns : List LunView) (v : LunView) : Type 0 where
-  is : driver luns ≡ Some v
+pub record IsDriver (luns : List LunView) (v : LunView) : Type 0 where
+  pub is : driver luns ≡ Some v
 
-alone_drives : (luns : List LunView) (n : ℕ) (v : LunView) → slice_get luns n ≡ Some v → is_off (cond (has_driver luns) v.latch Off) ≡ false → IsDriver luns v
+pub alone_drives : (luns : List LunView) (n : ℕ) (v : LunView) → slice_get luns n ≡ Some v → is_off (cond (has_driver luns) v.latch Off) ≡ false → IsDriver luns v
 alone_drives luns n v found on = at (driver luns) refl on
   where
     at : (d : Option LunView) → driver luns ≡ d → is_off (cond (is_some_and (λ v. true) d) v.latch Off) ≡ false → IsDriver luns v
@@ -93,7 +93,7 @@ data_is_on Off h = cc
 data_is_on Status h = cc
 data_is_on Data h = refl
 
-driver_passes : (test : LunView → Bool) (luns : List LunView) (v : LunView) → IsDriver luns v → driver_is test luns ≡ test v
+pub driver_passes : (test : LunView → Bool) (luns : List LunView) (v : LunView) → IsDriver luns v → driver_is test luns ≡ test v
 driver_passes test luns v d = rw d.is refl
 
 -- an effect that comes or not
@@ -120,6 +120,10 @@ wants_cache_read c n h = cc
 wants_plane_read : (c : Command) (n : ℕ) → (closes c ReadPlane && n == address_cycles c) ≡ true → (is_read c && n == 5) ≡ true
 wants_plane_read Read n h = h
 wants_plane_read c n h = cc
+
+wants_copyback_read : (c : Command) (n : ℕ) → (closes c CopybackRead && n == address_cycles c) ≡ true → (is_read c && n == 5) ≡ true
+wants_copyback_read Read n h = h
+wants_copyback_read c n h = cc
 
 wants_erase : (c : Command) (n : ℕ) → (closes c BlockEraseConfirm && n == address_cycles c) ≡ true → (is_block_erase c && n == 3) ≡ true
 wants_erase BlockErase n h = h
@@ -162,6 +166,9 @@ confirm_fits g limits t n v tf rf rs ReadPlane h =
     let parts = both (wants_command t ReadPlane) _ h in
     let whole = opened_too _ _ wants_plane_read t.opening parts.0 in
     (rf.read parts.1 whole, can_start g t n v rs parts.1 (read_named t whole))
+confirm_fits g limits t n v tf rf rs CopybackRead h =
+    let parts = both (wants_command t CopybackRead) _ h in
+    (page_is_small g limits (row t), tf.column, pow_pos g.plane_bits, can_start g t n v rs parts.1 (read_named t (opened_too _ _ wants_copyback_read t.opening parts.0)))
 confirm_fits g limits t n v tf rf rs ReadCacheSequential h =
     let parts = both (wants_command t ReadCacheSequential) _ h in
     (page_is_small g limits (row t), can_start g t n v rs parts.1 (read_named t (opened_too _ _ wants_cache_read t.opening parts.0)))
@@ -245,6 +252,8 @@ address_kind_fits g t byte n v ResetLun m ready =
     (λ e. choice g v (names_lun g (row_with t byte) n) ResetStarted _ (λ e. tt) (λ e. choice g v (is_shared g) (AnotherAddressed false) Unaffected (λ e. tt) (λ e. tt)))
     (λ e. tt)
 address_kind_fits g t byte n v ReadParameterPage m ready = served_fits g v n (wants_address t byte) ParameterPageReadStarted (λ e. ready refl e)
+address_kind_fits g t byte n v PageProgram m ready =
+    choice g v (m == 4) (program_row_effect (names_lun g (row_with t byte) n)) Unaffected (λ e. choice g v (names_lun g (row_with t byte) n) ProgramAddressed Unaffected (λ e. tt) (λ e. tt)) (λ e. tt)
 address_kind_fits g t byte n v c m ready = tt
 
 address_fits : (g : Parts) (t : TailFacts) (byte n : ℕ) (v : LunView) → TailFits g t → RowStands g t n v → EffectFits g v (opening_address_effect g t byte t.opening n)

@@ -272,7 +272,7 @@ lun_fits_at g t n (x ∷ vs) zero v f found = let same : x ≡ v = cc in subst (
 lun_fits_at g t n (x ∷ vs) (suc k) v f found = lun_fits_at g t (n + 1) vs k v f.3 found
 
 -- a look at a LUN, by the state and by the past
-lun_beyond : (g : Parts) (past : List Item) (ce k : ℕ) → g.luns ≤ k → slice_get (luns_of g past ce) k ≡ None
+pub lun_beyond : (g : Parts) (past : List Item) (ce k : ℕ) → g.luns ≤ k → slice_get (luns_of g past ce) k ≡ None
 lun_beyond g past ce k h = slice_get_past (luns_of g past ce) k (omega (arith, views_length g past ce g.luns 0))
 
 pub looked_is_look : (g : Parts) (n : ℕ) (s : BusView) (past : List Item) (l : Lun) → Follows g n s past → looked s l ≡ look_after g n past l

@@ -4,7 +4,7 @@ use Rattle.std.proofs.lemmas.Bool.Decides.{nat_tests}
 use Rattle.std.proofs.lemmas.Bool.{not-false, and_parts as both_true}
 use Rattle.nand_geometry.specs.declared.parts.Parts.{Parts}
 use Rattle.onfi_cycle.specs.declared.command.Command.{Command}
-use Rattle.onfi_cycle.specs.declared.command.Command.TheVariants.{Read, ReadConfirm, ChangeReadColumnConfirm, BlockEraseConfirm, BlockErasePlane, ReadStatus, ReadStatusEnhanced, ProgramConfirm, ProgramPlane, ReadId, ReadParameterPage, Reset, ReadCacheSequential, ReadCacheEnd, ReadUniqueId, GetFeatures, SetFeatures, ResetLun, SynchronousReset, ReadPlane}
+use Rattle.onfi_cycle.specs.declared.command.Command.TheVariants.{Read, ReadConfirm, ChangeReadColumnConfirm, BlockEraseConfirm, BlockErasePlane, ReadStatus, ReadStatusEnhanced, ProgramConfirm, ProgramPlane, ReadId, ReadParameterPage, Reset, ReadCacheSequential, ReadCacheEnd, ReadUniqueId, GetFeatures, SetFeatures, ResetLun, SynchronousReset, ReadPlane, CopybackRead, PageProgram}
 use Rattle.onfi_cycle.specs.declared.lun.Lun.{Lun}
 use Rattle.onfi_cycle.specs.declared.latch.Latch.{Latch}
 use Rattle.onfi_cycle.specs.declared.latch.Latch.TheVariants.{Off, Status, Data}
@@ -21,7 +21,7 @@ use Rattle.onfi_cycle.specs.declared.effect.Effect.TheVariants.{Unaffected, Stat
 use Rattle.onfi_cycle.specs.LunView.{LunView}
 use Rattle.onfi_cycle.specs.Sequence.{target_cycle, row, row_with, wants_command, wants_address, selects_plane}
 use Rattle.onfi_cycle.specs.Command.{reads_identity, is_set_features}
-use Rattle.onfi_cycle.specs.Effect.{is_off, is_data, is_shared, acts_for_target, page_address, names_lun, command_effect, address_effect, id_effect, opening_address_effect, cycle_effect, ends_features}
+use Rattle.onfi_cycle.specs.Effect.{is_off, is_data, is_shared, acts_for_target, page_address, names_lun, command_effect, address_effect, id_effect, opening_address_effect, program_row_effect, cycle_effect, ends_features}
 use Rattle.onfi_cycle.specs.Lun.{latch, latch_after, latch_alone, is_selected, is_busy, is_array_busy, effect_on, effect_among, drivers_from, is_only, lun_view, views_from, luns_of, shown_after}
 use Rattle.onfi_cycle.specs.Rules.{driving, are_none, only, driver, is_some_and, driver_is, breaks_cache_read_misplaced, continues_cache, ends_cache}
 use Rattle.onfi_cycle.specs.Permitted.{broken, is_permitted, is_legal}
@@ -195,6 +195,7 @@ command_step g past l la ChangeReadColumnConfirm cache =
     plane_step (selects_plane (tail_of past l)) (names_lun g (row (tail_of past l)) l.lun) (wants_command (tail_of past l) ChangeReadColumnConfirm && not (is_off la)) (is_selected g past l) (is_busy g past l || is_array_busy g past l) (latch g past l) _ _ (tail_of past l).column
 command_step g past l la ReadConfirm cache = row_step (wants_command (tail_of past l) ReadConfirm) (names_lun g (row (tail_of past l)) l.lun) (is_shared g) true (is_selected g past l) (is_busy g past l || is_array_busy g past l) (latch g past l) _ (Some ReadConfirm) refl
 command_step g past l la ReadPlane cache = row_step (wants_command (tail_of past l) ReadPlane) (names_lun g (row (tail_of past l)) l.lun) (is_shared g) true (is_selected g past l) (is_busy g past l || is_array_busy g past l) (latch g past l) _ (Some ReadPlane) refl
+command_step g past l la CopybackRead cache = row_step (wants_command (tail_of past l) CopybackRead) (names_lun g (row (tail_of past l)) l.lun) (is_shared g) true (is_selected g past l) (is_busy g past l || is_array_busy g past l) (latch g past l) _ (Some CopybackRead) refl
 command_step g past l la BlockEraseConfirm cache = row_step (wants_command (tail_of past l) BlockEraseConfirm) (names_lun g (row (tail_of past l)) l.lun) (is_shared g) false (is_selected g past l) (is_busy g past l || is_array_busy g past l) (latch g past l) _ (Some BlockEraseConfirm) refl
 command_step g past l la BlockErasePlane cache = row_step (wants_command (tail_of past l) BlockErasePlane) (names_lun g (row (tail_of past l)) l.lun) (is_shared g) false (is_selected g past l) (is_busy g past l || is_array_busy g past l) (latch g past l) _ (Some BlockErasePlane) refl
 command_step g past l la ProgramConfirm cache = row_step (wants_command (tail_of past l) ProgramConfirm) (names_lun g (row (tail_of past l)) l.lun) (is_shared g) false (is_selected g past l) (is_busy g past l || is_array_busy g past l) (latch g past l) _ (Some ProgramConfirm) refl
@@ -243,6 +244,11 @@ address_step g past l byte (Some o) = at o.opener o.addresses
     resets true false false = rw (other (w && not false) a ResetLun refl) refl
     resets false named shared = rw (other (w && not false) a ResetLun refl) refl
 
+    programs : (b named : Bool) → latch_after (cond b (program_row_effect named) Unaffected) p q (latch g past l) ≡ unwrap_or (turned_off (w && not false) a PageProgram) (latch g past l)
+    programs true true = rw (other (w && not false) a PageProgram refl) refl
+    programs true false = rw (other (w && not false) a PageProgram refl) refl
+    programs false named = rw (other (w && not false) a PageProgram refl) refl
+
     shows_id : (b : Bool) → latch_after (cond b IdRead (IdentityRead (byte == 0x40))) p q (latch g past l) ≡ Data
     shows_id true = refl
     shows_id false = refl
@@ -255,6 +261,7 @@ address_step g past l byte (Some o) = at o.opener o.addresses
     at GetFeatures n = identity_step w a p q (latch g past l) (FeaturesReadStarted byte) GetFeatures refl refl refl
     at SetFeatures n = rw (set w a SetFeatures) refl
     at ResetLun n = resets (n == 2) (names_lun g (row_with (tail_of past l) byte) l.lun) (is_shared g)
+    at PageProgram n = programs (n == 4) (names_lun g (row_with (tail_of past l) byte) l.lun)
     at c n = rw (other (w && not false) a c refl) refl
 
 input_step : (e a p q : Bool) (before : Latch) (f : ℕ) → latch_after (cond e (cond a (FeaturesSet f) Deselected) Unaffected) p q before ≡ unwrap_or (turned_off e a SetFeatures) before

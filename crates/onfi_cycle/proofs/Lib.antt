@@ -16,6 +16,7 @@ pub mod LunBounds
 pub mod Meaning
 pub mod NamingLemmas
 pub mod Numbered
+pub mod NoRow
 pub mod Others
 pub mod Outputs
 pub mod Passed

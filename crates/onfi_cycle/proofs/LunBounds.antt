@@ -1,5 +1,5 @@
 -- What an effect that keeps what fits leaves of a LUN.
-use Rattle.std.proofs.Common.{◌≡◌, ℕ, zero, suc, ◌+◌, ◌%◌, ◌^◌, ◌<◌, ◌≤◌, ◌==◌, Bool, true, false, ◌||◌, cond, not, List, [], ◌∷◌, Some, None, refl, arith, length, take}
+use Rattle.std.proofs.Common.{◌≡◌, ℕ, zero, suc, ◌+◌, ◌%◌, ◌^◌, ◌<◌, ◌≤◌, ◌==◌, Bool, true, false, ◌||◌, cond, not, List, [], ◌∷◌, Some, None, refl, arith, length, take, ◌++◌}
 use Rattle.std.proofs.lemmas.Bool.Decides.{nat_tests}
 use Rattle.std.proofs.lemmas.Bool.{or_parts as either}
 use Rattle.nand_geometry.specs.declared.parts.Parts.{Parts}
@@ -9,9 +9,9 @@ use Rattle.onfi_cycle.specs.declared.page_address.PageAddress.{PageAddress}
 use Rattle.onfi_cycle.specs.declared.queued.Queued.{Queued}
 use Rattle.onfi_cycle.specs.declared.queued.Queued.TheVariants.{Erase, Program, Read as QueuedRead}
 use Rattle.onfi_cycle.specs.declared.effect.Effect.{Effect}
-use Rattle.onfi_cycle.specs.declared.effect.Effect.TheVariants.{Unaffected, DataOutputEnabled, StatusSelected, StatusRowAwaited, SelectedForStatus, Deselected, ReadStarted, EraseStarted, ProgramStarted, IdRead, IdentityRead, UniqueIdReadStarted, FeaturesReadStarted, FeaturesSet, ParameterPageReadStarted, CacheReadContinued, CacheReadEnded, ReadColumnChanged, DataOutput, ResetStarted, TargetResetStarted, StatusOfSelected, AnotherAddressed, BecameReady, ArrayBecameReady, PlaneSelected, ReadQueued}
+use Rattle.onfi_cycle.specs.declared.effect.Effect.TheVariants.{Unaffected, DataOutputEnabled, StatusSelected, StatusRowAwaited, SelectedForStatus, Deselected, ReadStarted, EraseStarted, ProgramStarted, IdRead, IdentityRead, UniqueIdReadStarted, FeaturesReadStarted, FeaturesSet, ParameterPageReadStarted, CacheReadContinued, CacheReadEnded, ReadColumnChanged, DataOutput, ResetStarted, TargetResetStarted, StatusOfSelected, AnotherAddressed, BecameReady, ArrayBecameReady, PlaneSelected, ReadQueued, CopybackReadStarted, ProgramAddressed}
 use Rattle.onfi_cycle.specs.LunView.{LunView}
-use Rattle.onfi_cycle.specs.Lun.{view_after, pages_of_reads}
+use Rattle.onfi_cycle.specs.Lun.{view_after, pages_of_reads, held_on, is_copyback_read}
 use Rattle.onfi_cycle.specs.Rules.{planes_clash, blocks_clash, queued_clashes, some_queued_clashes, read_clashes, some_read_clashes}
 use Rattle.onfi_cycle.specs.Bounds.{plane_of, is_in_use, room_in, rooms, LunFits, EffectFits}
 
@@ -95,6 +95,8 @@ few_pages (a ∷ (b ∷ (c ∷ (d ∷ more)))) = omega arith
 -- what an effect leaves of a LUN
 pub lun_fits : (g : Parts) → InLimits g → (e : Effect) (v : LunView) → EffectFits g v e → LunFits g v → LunFits g (view_after e v)
 lun_fits g limits (ReadStarted page column) v h f = record { outputs = omega arith; given = h.1; array_page = h.0; queue = omega arith; held = few_pages (page ∷ pages_of_reads v.queue) }
+lun_fits g limits (CopybackReadStarted page column count) v h f = record { outputs = omega arith; given = h.1; array_page = h.0; queue = omega arith; held = few_pages (page ∷ (pages_of_reads v.queue ++ held_on count page (is_copyback_read v.closer) v.held)) }
+lun_fits g limits ProgramAddressed v h f = record { outputs = f.outputs; given = f.given; array_page = f.array_page; queue = f.queue; held = omega arith }
 lun_fits g limits (ReadQueued at) v h f =
     record { outputs = f.outputs; given = f.given; array_page = f.array_page; queue = queue_fits g limits (QueuedRead at) v.queue (read_not_in_use g at v.queue h.0) (four_planes g.plane_bits at.block limits.plane_bits_most) f.queue; held = omega arith }
 lun_fits g limits (EraseStarted true at) v h f =

@@ -1,5 +1,5 @@
 -- A tail names its last three row cycles and its last two column cycles.
-use Rattle.std.proofs.Common.{◌≡◌, ℕ, suc, ◌+◌, ◌*◌, ◌%◌, ◌<◌, ◌≤◌, ◌==◌, ◌⊎◌, Bool, true, false, ◌&&◌, cond, List, [], ◌∷◌, ◌++◌, reverse, length, Option, Some, None, refl, sym, ap, ◌∙◌, subst, inl, inr, arith, ltb, append_assoc}
+use Rattle.std.proofs.Common.{◌≡◌, ℕ, suc, ◌+◌, ◌*◌, ◌%◌, ◌<◌, ◌≤◌, ◌==◌, ◌⊎◌, Bool, true, false, ◌&&◌, cond, List, [], ◌∷◌, ◌++◌, reverse, length, Option, Some, None, refl, sym, ap, ◌∙◌, subst, inl, inr, arith, ltb, leb, append_assoc}
 use Rattle.std.proofs.lemmas.Bool.Decides.{nat_tests}
 use Rattle.std.proofs.lemmas.List.{reverse-reverse}
 use Rattle.std.proofs.lemmas.Bool.{or_cases, and_parts}
@@ -12,8 +12,8 @@ use Rattle.onfi_cycle.specs.declared.data_phase.DataPhase.{DataPhase}
 use Rattle.onfi_cycle.specs.declared.data_phase.DataPhase.TheVariants.{Outside, Inputs, FirstColumn, SecondColumn, FeatureInputs}
 use Rattle.onfi_cycle.specs.declared.target_cycle.TargetCycle.{TargetCycle}
 use Rattle.onfi_cycle.specs.declared.target_cycle.TargetCycle.TheVariants.{CommandCycle, AddressCycle, InputCycle, OutputCycle}
-use Rattle.onfi_cycle.specs.Command.{is_opener, address_cycles, takes_address, is_page_program, is_set_features}
-use Rattle.onfi_cycle.specs.Sequence.{opening, opened, one_address_more, next_address_place, data_phase, phase_after_command, phase_after_address, phase_after_input, phase_after_last_address, facts_of, row, row_with, column, column_with, wants_address, wants_column, inputs}
+use Rattle.onfi_cycle.specs.Command.{is_opener, address_cycles, takes_address, begins_data, is_set_features}
+use Rattle.onfi_cycle.specs.Sequence.{opening, opened, one_address_more, next_address_place, next_column_place, data_phase, phase_after_command, phase_after_address, phase_after_input, phase_after_last_address, facts_of, row, row_with, column, column_with, wants_address, wants_column, inputs}
 use Rattle.onfi_cycle.specs.Table.{IsSequence, IsBeginning}
 use Rattle.onfi_cycle.specs.Naming.{since_command, row_cycles, column_cycles, AreWhole, TailsName}
 use Rattle.onfi_cycle.proofs.TableLemmas.{IsOpening, opening_shape, addresses, beginning_wants, reverse_more}
@@ -84,6 +84,13 @@ opening_rows PageProgram (a ∷ (b ∷ (c ∷ []))) h = λ r1 r2 r3 older is. cc
 opening_rows PageProgram (a ∷ (b ∷ (c ∷ (d ∷ [])))) h = λ r1 r2 r3 older is. cc
 opening_rows PageProgram (a ∷ (b ∷ (c ∷ (d ∷ (e ∷ []))))) h = λ r1 r2 r3 older is. same_row c d e r1 r2 r3 older is
 opening_rows PageProgram (a ∷ (b ∷ (c ∷ (d ∷ (e ∷ (x ∷ more)))))) h = absurd (omega arith)
+opening_rows ChangeWriteColumn [] h = λ r1 r2 r3 older is. cc
+opening_rows ChangeWriteColumn (a ∷ []) h = λ r1 r2 r3 older is. cc
+opening_rows ChangeWriteColumn (a ∷ (b ∷ [])) h = λ r1 r2 r3 older is. cc
+opening_rows ChangeWriteColumn (a ∷ (b ∷ (c ∷ []))) h = λ r1 r2 r3 older is. cc
+opening_rows ChangeWriteColumn (a ∷ (b ∷ (c ∷ (d ∷ [])))) h = λ r1 r2 r3 older is. cc
+opening_rows ChangeWriteColumn (a ∷ (b ∷ (c ∷ (d ∷ (e ∷ []))))) h = λ r1 r2 r3 older is. same_row c d e r1 r2 r3 older is
+opening_rows ChangeWriteColumn (a ∷ (b ∷ (c ∷ (d ∷ (e ∷ (x ∷ more)))))) h = absurd (omega arith)
 opening_rows ReadId [] h = λ r1 r2 r3 older is. cc
 opening_rows ReadId (a ∷ []) h = λ r1 r2 r3 older is. cc
 opening_rows ReadId (a ∷ (x ∷ more)) h = absurd (omega arith)
@@ -143,6 +150,13 @@ opening_columns PageProgram (a ∷ (b ∷ (c ∷ []))) h = λ w c1 c2 older is s
 opening_columns PageProgram (a ∷ (b ∷ (c ∷ (d ∷ [])))) h = λ w c1 c2 older is s. same_column a b c1 c2 older is s
 opening_columns PageProgram (a ∷ (b ∷ (c ∷ (d ∷ (e ∷ []))))) h = λ w c1 c2 older is s. same_column a b c1 c2 older is s
 opening_columns PageProgram (a ∷ (b ∷ (c ∷ (d ∷ (e ∷ (x ∷ more)))))) h = absurd (omega arith)
+opening_columns ChangeWriteColumn [] h = λ w c1 c2 older is s. cc
+opening_columns ChangeWriteColumn (a ∷ []) h = λ w c1 c2 older is s. absurd (odd_is_not_whole a w)
+opening_columns ChangeWriteColumn (a ∷ (b ∷ [])) h = λ w c1 c2 older is s. same_column a b c1 c2 older is s
+opening_columns ChangeWriteColumn (a ∷ (b ∷ (c ∷ []))) h = λ w c1 c2 older is s. same_column a b c1 c2 older is s
+opening_columns ChangeWriteColumn (a ∷ (b ∷ (c ∷ (d ∷ [])))) h = λ w c1 c2 older is s. same_column a b c1 c2 older is s
+opening_columns ChangeWriteColumn (a ∷ (b ∷ (c ∷ (d ∷ (e ∷ []))))) h = λ w c1 c2 older is s. same_column a b c1 c2 older is s
+opening_columns ChangeWriteColumn (a ∷ (b ∷ (c ∷ (d ∷ (e ∷ (x ∷ more)))))) h = absurd (omega arith)
 opening_columns ReadId [] h = λ w c1 c2 older is s. cc
 opening_columns ReadId (a ∷ []) h = λ w c1 c2 older is s. cc
 opening_columns ReadId (a ∷ (x ∷ more)) h = absurd (omega arith)
@@ -171,29 +185,47 @@ record WaitsForColumn (t : List TargetCycle) : Type 0 where
   no_opening : opening t ≡ None
   addresses : ℕ
   after : since_command t ≡ Some (record { opener = ChangeWriteColumn; addresses = addresses })
+  count : addresses ≡ next_column_place (data_phase t)
+  in_column : ltb addresses 2 ≡ true
+  in_row : leb 2 addresses ≡ false
 
 not_while_outside : (t : List TargetCycle) (x : Option Opening) → wants_column (phase_after_last_address x) ≡ true → WaitsForColumn t
 not_while_outside t None h = cc
-not_while_outside t (Some o) h = at (is_page_program o.opener && o.addresses == 4) (is_set_features o.opener && o.addresses == 0) h
+not_while_outside t (Some o) h = at (begins_data o.opener && o.addresses == 4) (is_set_features o.opener && o.addresses == 0) h
   where
     at : (v w : Bool) → wants_column (cond v Inputs (cond w FeatureInputs Outside)) ≡ true → WaitsForColumn t
     at true w h = cc
     at false true h = cc
     at false false h = cc
 
+first_place : (p : DataPhase) → wants_column (phase_after_command ChangeWriteColumn p) ≡ true → 0 ≡ next_column_place (phase_after_command ChangeWriteColumn p)
+first_place Inputs h = refl
+first_place Outside h = cc
+first_place FirstColumn h = cc
+first_place SecondColumn h = cc
+first_place FeatureInputs h = cc
+
 waits_after_command : (c : Command) (t : List TargetCycle) → wants_column (phase_after_command c (data_phase t)) ≡ true → WaitsForColumn (CommandCycle c ∷ t)
 waits_after_command ChangeWriteColumn [] h = cc
-waits_after_command ChangeWriteColumn (d ∷ t) h = record { no_opening = refl; addresses = 0; after = refl }
+waits_after_command ChangeWriteColumn (d ∷ t) h = record { no_opening = refl; addresses = 0; after = refl; count = first_place (data_phase (d ∷ t)) h; in_column = refl; in_row = refl }
 waits_after_command _ t h = cc
 
-waits_after_address : (b : ℕ) (t : List TargetCycle) (d : DataPhase) → (d ≡ FirstColumn → WaitsForColumn t) → wants_column (phase_after_address (opening t) d) ≡ true → WaitsForColumn (AddressCycle b ∷ t)
-waits_after_address b t Outside before h = not_while_outside (AddressCycle b ∷ t) (opening t) h
-waits_after_address b t FirstColumn before h =
+waits_after_address : (b : ℕ) (t : List TargetCycle) (d : DataPhase) → data_phase t ≡ d → (d ≡ FirstColumn → WaitsForColumn t) → wants_column (phase_after_address (opening t) d) ≡ true → WaitsForColumn (AddressCycle b ∷ t)
+waits_after_address b t Outside e before h = not_while_outside (AddressCycle b ∷ t) (opening t) h
+waits_after_address b t FirstColumn e before h =
     let w = before refl in
-    record { no_opening = ap one_address_more w.no_opening; addresses = w.addresses + 1; after = ap one_address_more w.after }
-waits_after_address b t SecondColumn before h = cc
-waits_after_address b t Inputs before h = cc
-waits_after_address b t FeatureInputs before h = cc
+    let none : w.addresses ≡ 0 = w.count ∙ ap next_column_place e in
+    record {
+      no_opening = ap one_address_more w.no_opening;
+      addresses = w.addresses + 1;
+      after = ap one_address_more w.after;
+      count = ap (λ n. n + 1) none ∙ sym (ap (λ p. next_column_place (phase_after_address (opening t) p)) e);
+      in_column = ap (λ n. ltb (n + 1) 2) none;
+      in_row = ap (λ n. leb 2 (n + 1)) none;
+    }
+waits_after_address b t SecondColumn e before h = cc
+waits_after_address b t Inputs e before h = cc
+waits_after_address b t FeatureInputs e before h = cc
 
 no_column_after_input : (n : ℕ) (d : DataPhase) → wants_column (phase_after_input n d) ≡ true → ⊥
 no_column_after_input n Inputs h = cc
@@ -209,7 +241,7 @@ no_column_after_input n FeatureInputs h = at (ltb n 3) h
 waits_for_column : (t : List TargetCycle) → wants_column (data_phase t) ≡ true → WaitsForColumn t
 waits_for_column [] h = cc
 waits_for_column (CommandCycle c ∷ t) h = waits_after_command c t h
-waits_for_column (AddressCycle b ∷ t) h = waits_after_address b t (data_phase t) (λ e. waits_for_column t (ap wants_column e)) h
+waits_for_column (AddressCycle b ∷ t) h = waits_after_address b t (data_phase t) refl (λ e. waits_for_column t (ap wants_column e)) h
 waits_for_column (InputCycle b ∷ t) h = absurd (no_column_after_input (inputs t) (data_phase t) h)
 waits_for_column (OutputCycle ∷ t) h = cc
 
@@ -245,7 +277,7 @@ after_address P opens b t waits begins = at (beginning_wants t (AddressCycle b) 
 -- the rows
 rows_kept : (b : ℕ) (t : List TargetCycle) → RowsAgree t → WaitsForColumn t → RowsAgree (AddressCycle b ∷ t)
 rows_kept b t before w r1 r2 r3 older h =
-    let same_cycles : row_cycles (AddressCycle b ∷ t) ≡ row_cycles t = rw w.after refl in
+    let same_cycles : row_cycles (AddressCycle b ∷ t) ≡ row_cycles t = rw (w.after, w.in_row) refl in
     let same_row : row (facts_of (AddressCycle b ∷ t)) ≡ row (facts_of t) = rw w.no_opening refl in
     same_row ∙ before r1 r2 r3 older (sym same_cycles ∙ h)
 
@@ -295,33 +327,30 @@ columns_after_input b t FeatureInputs h = at (ltb (inputs t) 3)
     at false = tt
 
 -- the fifth address of a program, written out
-program_columns : (bs : List ℕ) → length bs ≡ 5 → AreWhole (column_cycles (reverse (CommandCycle PageProgram ∷ addresses bs)))
-program_columns (a ∷ (b ∷ (c ∷ (d ∷ (e ∷ []))))) h = (1, refl)
-program_columns [] h = absurd (omega arith)
-program_columns (a ∷ []) h = absurd (omega arith)
-program_columns (a ∷ (b ∷ [])) h = absurd (omega arith)
-program_columns (a ∷ (b ∷ (c ∷ []))) h = absurd (omega arith)
-program_columns (a ∷ (b ∷ (c ∷ (d ∷ [])))) h = absurd (omega arith)
-program_columns (a ∷ (b ∷ (c ∷ (d ∷ (e ∷ (x ∷ more)))))) h = absurd (omega arith)
-
-page_program_only : (c : Command) → is_page_program c ≡ true → c ≡ PageProgram
-page_program_only PageProgram h = refl
-page_program_only _ h = cc
+program_columns : (c : Command) → begins_data c ≡ true → (bs : List ℕ) → length bs ≡ 5 → AreWhole (column_cycles (reverse (CommandCycle c ∷ addresses bs)))
+program_columns PageProgram is (a ∷ (b ∷ (c ∷ (d ∷ (e ∷ []))))) h = (1, refl)
+program_columns ChangeWriteColumn is (a ∷ (b ∷ (c ∷ (d ∷ (e ∷ []))))) h = (1, refl)
+program_columns o is (a ∷ (b ∷ (c ∷ (d ∷ (e ∷ []))))) h = cc
+program_columns o is [] h = absurd (omega arith)
+program_columns o is (a ∷ []) h = absurd (omega arith)
+program_columns o is (a ∷ (b ∷ [])) h = absurd (omega arith)
+program_columns o is (a ∷ (b ∷ (c ∷ []))) h = absurd (omega arith)
+program_columns o is (a ∷ (b ∷ (c ∷ (d ∷ [])))) h = absurd (omega arith)
+program_columns o is (a ∷ (b ∷ (c ∷ (d ∷ (e ∷ (x ∷ more)))))) h = absurd (omega arith)
 
 columns_after_last_address : (b : ℕ) (t : List TargetCycle) (x : Option Opening) → opening t ≡ x → HasColumns (phase_after_last_address x) (AddressCycle b ∷ t)
 columns_after_last_address b t None e = tt
-columns_after_last_address b t (Some o) e = at (is_page_program o.opener && o.addresses == 4) refl (is_set_features o.opener && o.addresses == 0)
+columns_after_last_address b t (Some o) e = at (begins_data o.opener && o.addresses == 4) refl (is_set_features o.opener && o.addresses == 0)
   where
-    at : (v : Bool) → (is_page_program o.opener && o.addresses == 4) ≡ v → (w : Bool) → HasColumns (cond v Inputs (cond w FeatureInputs Outside)) (AddressCycle b ∷ t)
+    at : (v : Bool) → (begins_data o.opener && o.addresses == 4) ≡ v → (w : Bool) → HasColumns (cond v Inputs (cond w FeatureInputs Outside)) (AddressCycle b ∷ t)
     at false k true = tt
     at false k false = tt
     at true k w =
-        let both = and_parts (is_page_program o.opener) (o.addresses == 4) k in
+        let both = and_parts (begins_data o.opener) (o.addresses == 4) k in
         let more : Opening = record { opener = o.opener; addresses = o.addresses + 1 } in
         let s = opening_shape (AddressCycle b ∷ t) more (ap one_address_more e) in
         let five : length s.bytes ≡ 5 = s.count ∙ grind (arith, nat_tests, both.1) in
-        let is : reverse (AddressCycle b ∷ t) ≡ CommandCycle PageProgram ∷ addresses s.bytes = s.is ∙ ap (λ c. CommandCycle c ∷ addresses s.bytes) (page_program_only o.opener both.0) in
-        subst (λ l. AreWhole (column_cycles l)) (sym (tail_of_opening (AddressCycle b ∷ t) PageProgram s.bytes is)) (program_columns s.bytes five)
+        subst (λ l. AreWhole (column_cycles l)) (sym (tail_of_opening (AddressCycle b ∷ t) o.opener s.bytes s.is)) (program_columns o.opener both.0 s.bytes five)
 
 columns_after_address : (b : ℕ) (t : List TargetCycle) (d : DataPhase) → data_phase t ≡ d → HasColumns d t → HasColumns (phase_after_address (opening t) d) (AddressCycle b ∷ t)
 columns_after_address b t Outside e h = columns_after_last_address b t (opening t) refl
@@ -329,10 +358,10 @@ columns_after_address b t Inputs e h = tt
 columns_after_address b t FeatureInputs e h = tt
 columns_after_address b t FirstColumn e h =
     let w = waits_for_column t (ap wants_column e) in
-    record { low = b; older = column_cycles t; is = rw w.after refl; whole = h; first = rw (w.no_opening, e) refl }
+    record { low = b; older = column_cycles t; is = rw (w.after, w.in_column) refl; whole = h; first = rw (w.no_opening, e) refl }
 columns_after_address b t SecondColumn e h =
     let w = waits_for_column t (ap wants_column e) in
-    let is : column_cycles (AddressCycle b ∷ t) ≡ b ∷ column_cycles t = rw w.after refl in
+    let is : column_cycles (AddressCycle b ∷ t) ≡ b ∷ column_cycles t = rw (w.after, w.in_column) refl in
     columns_as (column_cycles (AddressCycle b ∷ t)) (b ∷ (h.low ∷ h.older)) (is ∙ ap (λ l. b ∷ l) h.is) (whole_more b h.low h.older h.whole)
 
 has_columns : (t : List TargetCycle) → HasColumns (data_phase t) t
@@ -353,10 +382,10 @@ second_column_names c1 c2 low b older rest h small =
 
 columns_kept : (b : ℕ) (t : List TargetCycle) (d : DataPhase) → data_phase t ≡ d → HasColumns d t → wants_column d ≡ true → WaitsForColumn t → ColumnsAgree (AddressCycle b ∷ t)
 columns_kept b t FirstColumn e h k w whole_now c1 c2 older is small =
-    let one_more : column_cycles (AddressCycle b ∷ t) ≡ b ∷ column_cycles t = rw w.after refl in
+    let one_more : column_cycles (AddressCycle b ∷ t) ≡ b ∷ column_cycles t = rw (w.after, w.in_column) refl in
     absurd (odd_and_even (column_cycles t) b h (columns_as (b ∷ column_cycles t) (column_cycles (AddressCycle b ∷ t)) (sym one_more) whole_now))
 columns_kept b t SecondColumn e h k w whole_now c1 c2 older is small =
-    let one_more : column_cycles (AddressCycle b ∷ t) ≡ b ∷ column_cycles t = rw w.after refl in
+    let one_more : column_cycles (AddressCycle b ∷ t) ≡ b ∷ column_cycles t = rw (w.after, w.in_column) refl in
     let now : column (AddressCycle b ∷ t) ≡ column t % 256 + 256 * b = rw (w.no_opening, e) refl in
     now ∙ (ap (λ n. n % 256 + 256 * b) h.first ∙ second_column_names c1 c2 h.low b h.older older (ap (λ l. b ∷ l) (sym h.is) ∙ (sym one_more ∙ is)) small)
 columns_kept b t _ e h k w whole_now c1 c2 older is small = cc

@@ -10,8 +10,8 @@ use Rattle.onfi_cycle.specs.declared.item.Item.TheVariants.{Cyc, Rdy, Ard}
 use Rattle.onfi_cycle.specs.declared.latch.Latch.{Latch}
 use Rattle.onfi_cycle.specs.declared.latch.Latch.TheVariants.{Off}
 use Rattle.onfi_cycle.specs.declared.command.Command.{Command}
-use Rattle.onfi_cycle.specs.declared.command.Command.TheVariants.{Read, ProgramConfirm, ProgramPlane, ReadConfirm, ReadPlane, ReadCacheSequential, ReadCacheEnd, ReadStatus, ReadStatusEnhanced, ReadId, BlockEraseConfirm, BlockErasePlane, ChangeReadColumnConfirm, ReadParameterPage, Reset, ChangeWriteColumn, ReadUniqueId, GetFeatures, SetFeatures, ResetLun, SynchronousReset}
-use Rattle.onfi_cycle.specs.Command.{closes_row, reads_row, is_page_program, is_set_features, at_last_row, reads_identity, is_of_target, wants_one_lun}
+use Rattle.onfi_cycle.specs.declared.command.Command.TheVariants.{Read, ProgramConfirm, ProgramPlane, PageProgram, CopybackRead, ReadConfirm, ReadPlane, ReadCacheSequential, ReadCacheEnd, ReadStatus, ReadStatusEnhanced, ReadId, BlockEraseConfirm, BlockErasePlane, ChangeReadColumnConfirm, ReadParameterPage, Reset, ChangeWriteColumn, ReadUniqueId, GetFeatures, SetFeatures, ResetLun, SynchronousReset}
+use Rattle.onfi_cycle.specs.Command.{closes_row, reads_row, begins_data, is_set_features, at_last_row, reads_identity, is_of_target, wants_one_lun}
 use Rattle.onfi_cycle.specs.declared.data_phase.DataPhase.{DataPhase}
 use Rattle.onfi_cycle.specs.declared.data_phase.DataPhase.TheVariants.{Outside, Inputs, FirstColumn, SecondColumn, FeatureInputs}
 use Rattle.onfi_cycle.specs.declared.target_cycle.TargetCycle.{TargetCycle}
@@ -21,7 +21,7 @@ use Rattle.onfi_cycle.specs.declared.effect.Effect.TheVariants.{Unaffected, Sele
 use Rattle.onfi_cycle.specs.declared.opening.Opening.{Opening}
 use Rattle.onfi_cycle.specs.declared.tail_facts.TailFacts.{TailFacts}
 use Rattle.onfi_cycle.specs.Sequence.{takes_features, phase_after_command, phase_after_last_address, phase_after_address, phase_after_input, data_phase, inputs, continued, target_of, facts_of, row_with, target_cycle, with_cycle, one_address_more, tail, opening, opened, wants_command, works_on_row, begins_anew, row, selects_plane}
-use Rattle.onfi_cycle.specs.Effect.{is_shared, other_effect, row_effect, cache_effect, names_lun, command_effect, address_effect, opening_address_effect, cycle_effect, effect_given, plane_effect, column_effect}
+use Rattle.onfi_cycle.specs.Effect.{is_shared, other_effect, row_effect, cache_effect, names_lun, command_effect, address_effect, opening_address_effect, program_row_effect, cycle_effect, effect_given, plane_effect, column_effect}
 use Rattle.onfi_cycle.specs.Lun.{effect_on, effect_among, latch_alone, drivers, is_only, lun_view, shown_after, read_column, read_column_after, luns_of}
 use Rattle.onfi_cycle.specs.LunView.{LunView}
 use Rattle.onfi_cycle.specs.declared.item.Cycle.{Cycle}
@@ -82,6 +82,7 @@ quiet_command g t s ChangeReadColumnConfirm l m ne one named driver = at (select
     at false named driver = rw (driver refl refl) (quiet_named (wants_command t ChangeReadColumnConfirm) false _ _ refl refl)
 quiet_command g t s ReadConfirm l m ne one named driver = quiet_named (wants_command t ReadConfirm) (names_lun g (row t) l) _ _ (not_both _ l m ne (named refl)) (other_is_quiet g t ReadConfirm)
 quiet_command g t s ReadPlane l m ne one named driver = quiet_named (wants_command t ReadPlane) (names_lun g (row t) l) _ _ (not_both _ l m ne (named refl)) (other_is_quiet g t ReadPlane)
+quiet_command g t s CopybackRead l m ne one named driver = quiet_named (wants_command t CopybackRead) (names_lun g (row t) l) _ _ (not_both _ l m ne (named refl)) (other_is_quiet g t CopybackRead)
 quiet_command g t s BlockEraseConfirm l m ne one named driver = quiet_named (wants_command t BlockEraseConfirm) (names_lun g (row t) l) _ _ (not_both _ l m ne (named refl)) (other_is_quiet g t BlockEraseConfirm)
 quiet_command g t s BlockErasePlane l m ne one named driver = quiet_named (wants_command t BlockErasePlane) (names_lun g (row t) l) _ _ (not_both _ l m ne (named refl)) (other_is_quiet g t BlockErasePlane)
 quiet_command g t s ProgramConfirm l m ne one named driver = quiet_named (wants_command t ProgramConfirm) (names_lun g (row t) l) _ _ (not_both _ l m ne (named refl)) (other_is_quiet g t ProgramConfirm)
@@ -99,6 +100,11 @@ quiet_address g t byte ResetLun n l m ne id row = at (n == 2) refl
   where
     at : (b : Bool) → (n == 2) ≡ b → is_quiet (cond b (cond (names_lun g (row_with t byte) l) ResetStarted (cond (is_shared g) (AnotherAddressed false) Unaffected)) Unaffected) ≡ true
     at true e = rw (not_both _ l m ne (row e)) (quiet_choice (is_shared g) (AnotherAddressed false) Unaffected refl refl)
+    at false e = refl
+quiet_address g t byte PageProgram n l m ne id row = at (n == 4) refl
+  where
+    at : (b : Bool) → (n == 4) ≡ b → is_quiet (cond b (program_row_effect (names_lun g (row_with t byte) l)) Unaffected) ≡ true
+    at true e = rw (not_both _ l m ne (row e)) refl
     at false e = refl
 quiet_address g t byte ReadId n l m ne id row = cc
 quiet_address g t byte ReadParameterPage n l m ne id row = cc
@@ -157,6 +163,11 @@ other_with_cycle g luns (CommandCycle c) t narrow several f4 h = at c t (chosen_
         of : (w : Bool) → is_other_opening (opening (cond (not w) (CommandCycle ReadCacheSequential ∷ []) (CommandCycle ReadCacheSequential ∷ (d ∷ t)))) ≡ true
         of true = refl
         of false = refl
+    at ChangeWriteColumn (d ∷ t) f4 = of (wants_command (facts_of (d ∷ t)) ChangeWriteColumn)
+      where
+        of : (w : Bool) → is_other_opening (opening (cond (not w) (CommandCycle ChangeWriteColumn ∷ []) (CommandCycle ChangeWriteColumn ∷ (d ∷ t)))) ≡ true
+        of true = refl
+        of false = refl
     at c [] f4 = refl
     at c (d ∷ t) f4 = refl
 other_with_cycle g luns (AddressCycle byte) [] narrow several f4 h = refl
@@ -179,7 +190,7 @@ set_is_identity _ h = refl
 
 no_features_at_last : (o : Option Opening) → is_other_opening o ≡ true → takes_features (phase_after_last_address o) ≡ false
 no_features_at_last None h = refl
-no_features_at_last (Some o) h = rw (set_is_identity o.opener h) (at (is_page_program o.opener && o.addresses == 4))
+no_features_at_last (Some o) h = rw (set_is_identity o.opener h) (at (begins_data o.opener && o.addresses == 4))
   where
     at : (b : Bool) → takes_features (cond b Inputs Outside) ≡ false
     at true = refl

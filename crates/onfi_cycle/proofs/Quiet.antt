@@ -33,10 +33,10 @@ pub record LeftBy (a : Effect) : Type 0 where
   pub array_page : (p : PageAddress) → array_page_after a p ≡ p
   pub register : (p : PageAddress) (q : List Queued) (h : List PageAddress) (r : Register) → register_after a p q h r ≡ r
   pub queue : (q : List Queued) → queue_after a q ≡ q
-  pub held : (p : PageAddress) (q : List Queued) (h : List PageAddress) → held_after a p q h ≡ h
+  pub held : (c : Bool) (p : PageAddress) (q : List Queued) (h : List PageAddress) → held_after a c p q h ≡ h
   pub queued_work : (b : List ℕ) (q : List ArrayWork) → queued_work_after a b q ≡ q
   pub pending_work : (b : List ℕ) (q p : List ArrayWork) → pending_work_after a b q p ≡ p
-  pub failed : (p : List ArrayWork) (b : Bool) → failed_after a p b ≡ b
+  pub failed : (c b : Bool) → failed_after a c b ≡ b
   pub content : (g : Parts) (q : List ArrayWork) (p : PageAddress) (old : List ℕ) → content_after g a q p old ≡ old
   pub column : (k : ReadColumn) → IsSameOrLost k (read_column_after a k)
 
@@ -45,12 +45,12 @@ lost_or_same k true e = inr (ap (λ (l : Bool). record k { lost = l }) (or-true 
 lost_or_same k false e = inl (ap (λ (l : Bool). record k { lost = l }) (or-false k.lost))
 
 pub left_by_quiet : (a : Effect) → is_quiet a ≡ true → LeftBy a
-left_by_quiet Unaffected h = record { busy = λ b. refl; closer = λ c. refl; array_busy = λ b c d. refl; array_page = λ p. refl; register = λ p q h r. refl; queue = λ q. refl; held = λ p q h. refl; queued_work = λ b q. refl; pending_work = λ b q p. refl; failed = λ p b. refl; content = λ g q p old. refl; column = λ k. inl refl }
-left_by_quiet DataOutputEnabled h = record { busy = λ b. refl; closer = λ c. refl; array_busy = λ b c d. refl; array_page = λ p. refl; register = λ p q h r. refl; queue = λ q. refl; held = λ p q h. refl; queued_work = λ b q. refl; pending_work = λ b q p. refl; failed = λ p b. refl; content = λ g q p old. refl; column = λ k. inl refl }
-left_by_quiet StatusRowAwaited h = record { busy = λ b. refl; closer = λ c. refl; array_busy = λ b c d. refl; array_page = λ p. refl; register = λ p q h r. refl; queue = λ q. refl; held = λ p q h. refl; queued_work = λ b q. refl; pending_work = λ b q p. refl; failed = λ p b. refl; content = λ g q p old. refl; column = λ k. lost_or_same k (ltb 0 k.outputs) refl }
-left_by_quiet Deselected h = record { busy = λ b. refl; closer = λ c. refl; array_busy = λ b c d. refl; array_page = λ p. refl; register = λ p q h r. refl; queue = λ q. refl; held = λ p q h. refl; queued_work = λ b q. refl; pending_work = λ b q p. refl; failed = λ p b. refl; content = λ g q p old. refl; column = λ k. inl refl }
-left_by_quiet (AnotherAddressed reads) h = record { busy = λ b. refl; closer = λ c. refl; array_busy = λ b c d. refl; array_page = λ p. refl; register = λ p q h r. refl; queue = λ q. refl; held = λ p q h. refl; queued_work = λ b q. refl; pending_work = λ b q p. refl; failed = λ p b. refl; content = λ g q p old. refl; column = λ k. inl refl }
-left_by_quiet StatusOfSelected h = record { busy = λ b. refl; closer = λ c. refl; array_busy = λ b c d. refl; array_page = λ p. refl; register = λ p q h r. refl; queue = λ q. refl; held = λ p q h. refl; queued_work = λ b q. refl; pending_work = λ b q p. refl; failed = λ p b. refl; content = λ g q p old. refl; column = λ k. lost_or_same k (ltb 0 k.outputs) refl }
+left_by_quiet Unaffected h = record { busy = λ b. refl; closer = λ c. refl; array_busy = λ b c d. refl; array_page = λ p. refl; register = λ p q h r. refl; queue = λ q. refl; held = λ c p q h. refl; queued_work = λ b q. refl; pending_work = λ b q p. refl; failed = λ c b. refl; content = λ g q p old. refl; column = λ k. inl refl }
+left_by_quiet DataOutputEnabled h = record { busy = λ b. refl; closer = λ c. refl; array_busy = λ b c d. refl; array_page = λ p. refl; register = λ p q h r. refl; queue = λ q. refl; held = λ c p q h. refl; queued_work = λ b q. refl; pending_work = λ b q p. refl; failed = λ c b. refl; content = λ g q p old. refl; column = λ k. inl refl }
+left_by_quiet StatusRowAwaited h = record { busy = λ b. refl; closer = λ c. refl; array_busy = λ b c d. refl; array_page = λ p. refl; register = λ p q h r. refl; queue = λ q. refl; held = λ c p q h. refl; queued_work = λ b q. refl; pending_work = λ b q p. refl; failed = λ c b. refl; content = λ g q p old. refl; column = λ k. lost_or_same k (ltb 0 k.outputs) refl }
+left_by_quiet Deselected h = record { busy = λ b. refl; closer = λ c. refl; array_busy = λ b c d. refl; array_page = λ p. refl; register = λ p q h r. refl; queue = λ q. refl; held = λ c p q h. refl; queued_work = λ b q. refl; pending_work = λ b q p. refl; failed = λ c b. refl; content = λ g q p old. refl; column = λ k. inl refl }
+left_by_quiet (AnotherAddressed reads) h = record { busy = λ b. refl; closer = λ c. refl; array_busy = λ b c d. refl; array_page = λ p. refl; register = λ p q h r. refl; queue = λ q. refl; held = λ c p q h. refl; queued_work = λ b q. refl; pending_work = λ b q p. refl; failed = λ c b. refl; content = λ g q p old. refl; column = λ k. inl refl }
+left_by_quiet StatusOfSelected h = record { busy = λ b. refl; closer = λ c. refl; array_busy = λ b c d. refl; array_page = λ p. refl; register = λ p q h r. refl; queue = λ q. refl; held = λ c p q h. refl; queued_work = λ b q. refl; pending_work = λ b q p. refl; failed = λ c b. refl; content = λ g q p old. refl; column = λ k. lost_or_same k (ltb 0 k.outputs) refl }
 left_by_quiet _ h = cc
 
 -- a quiet item keeps the LUN
@@ -64,9 +64,9 @@ keeps_quiet g past i l h =
       array_page = left.array_page _;
       register = left.register _ _ _ _;
       queue = left.queue _;
-      held = left.held _ _ _;
-      queued_work = left.queued_work _ _;
-      pending_work = left.pending_work _ _ _;
+      held = left.held _ _ _ _;
+      queued_work = λ opening. left.queued_work _ _;
+      pending_work = λ opening. left.pending_work _ _ _;
       failed = left.failed _ _;
       content = λ opening p. left.content g _ _ _;
       column = left.column _;

@@ -10,7 +10,7 @@ use Rattle.onfi_cycle.specs.declared.command.Command.TheVariants.{BlockErase, Re
 use Rattle.onfi_cycle.specs.declared.data_phase.DataPhase.{DataPhase}
 use Rattle.onfi_cycle.specs.declared.data_phase.DataPhase.TheVariants.{Outside, Inputs, FirstColumn, SecondColumn, FeatureInputs}
 use Rattle.onfi_cycle.specs.declared.effect.Effect.{Effect}
-use Rattle.onfi_cycle.specs.declared.effect.Effect.TheVariants.{Unaffected, SelectedForStatus, Deselected, IdRead, ParameterPageReadStarted, BecameReady, ArrayBecameReady, IdentityRead, UniqueIdReadStarted, FeaturesReadStarted, FeaturesSet}
+use Rattle.onfi_cycle.specs.declared.effect.Effect.TheVariants.{Unaffected, SelectedForStatus, Deselected, IdRead, ParameterPageReadStarted, BecameReady, ArrayBecameReady, IdentityRead, UniqueIdReadStarted, FeaturesReadStarted, FeaturesSet, ProgramAddressed}
 use Rattle.onfi_cycle.specs.declared.forbidden.Forbidden.TheVariants.{NotThere}
 use Rattle.onfi_cycle.specs.declared.item.Item.{Item}
 use Rattle.onfi_cycle.specs.declared.item.Item.TheVariants.{Cyc, Rdy, Ard}
@@ -23,9 +23,9 @@ use Rattle.onfi_cycle.specs.declared.tail_facts.TailFacts.{TailFacts}
 use Rattle.onfi_cycle.specs.declared.target_cycle.TargetCycle.{TargetCycle}
 use Rattle.onfi_cycle.specs.declared.target_cycle.TargetCycle.TheVariants.{CommandCycle, AddressCycle, InputCycle, OutputCycle}
 use Rattle.onfi_cycle.specs.LunView.{LunView}
-use Rattle.onfi_cycle.specs.Command.{is_page_program, at_last_row, is_set_features}
+use Rattle.onfi_cycle.specs.Command.{begins_data, at_last_row, is_set_features}
 use Rattle.onfi_cycle.specs.Sequence.{target_cycle, begins_sequence, begins_anew, facts_of, facts_after, extended_facts, opened, one_address_more, row_after_address, takes_data, wants_column, wants_command, wants_address, phase_after_command, phase_after_address, phase_after_input, row, row_with, takes_features}
-use Rattle.onfi_cycle.specs.Effect.{names_lun, page_address, cycle_effect, address_effect, opening_address_effect, id_effect, ends_features, of_target, acts_for_target}
+use Rattle.onfi_cycle.specs.Effect.{names_lun, page_address, cycle_effect, address_effect, program_row_effect, opening_address_effect, id_effect, ends_features, of_target, acts_for_target}
 use Rattle.onfi_cycle.specs.Lun.{queue_after, view_after}
 use Rattle.onfi_cycle.specs.Rules.{some_queued_clashes, some_read_clashes, is_some_and, named_lun_is, refused_by, is_refused_by, breaks_not_there, breaks_queue_clash}
 use Rattle.onfi_cycle.specs.Permitted.{judge, judge_cycle}
@@ -68,6 +68,8 @@ address_keeps g t byte ReadId m n q h = served_keeps g n (wants_address t byte) 
 address_keeps g t byte ReadParameterPage m n q h = served_keeps g n (wants_address t byte) ParameterPageReadStarted q refl
 address_keeps g t byte ReadUniqueId m n q h = served_keeps g n (wants_address t byte) UniqueIdReadStarted q refl
 address_keeps g t byte GetFeatures m n q h = served_keeps g n (wants_address t byte) (FeaturesReadStarted byte) q refl
+address_keeps g t byte PageProgram m n q h =
+    either_keeps (m == 4) (program_row_effect (names_lun g (row_with t byte) n)) Unaffected q (either_keeps (names_lun g (row_with t byte) n) ProgramAddressed Unaffected q refl refl) refl
 address_keeps g t byte ResetLun m n q h = cc
 address_keeps g t byte c m n q h = refl
 
@@ -149,13 +151,14 @@ erase_judged g p q BlockErase m h e = let two = next_is m 2 e in passes (m == 2)
     passes false e h = cc
 erase_judged g p q c m h e = cc
 
+judged_passes : (g : Parts) (p : PageAddress) (q : List Queued) (b : Bool) → b ≡ true → (b && some_queued_clashes g false p q) ≡ false → some_queued_clashes g false p q ≡ false
+judged_passes g p q true e h = h
+judged_passes g p q false e h = cc
+
 -- the fifth address of a program
-program_judged : (g : Parts) (p : PageAddress) (q : List Queued) (c : Command) (m : ℕ) → (at_last_row c m && refused_by g c p q) ≡ false → (is_page_program c && m == 4) ≡ true → some_queued_clashes g false p q ≡ false
-program_judged g p q PageProgram m h e = passes (m == 4) e h
-  where
-    passes : (b : Bool) → b ≡ true → (b && some_queued_clashes g false p q) ≡ false → some_queued_clashes g false p q ≡ false
-    passes true e h = h
-    passes false e h = cc
+program_judged : (g : Parts) (p : PageAddress) (q : List Queued) (c : Command) (m : ℕ) → (at_last_row c m && refused_by g c p q) ≡ false → (begins_data c && m == 4) ≡ true → some_queued_clashes g false p q ≡ false
+program_judged g p q PageProgram m h e = judged_passes g p q (m == 4) e h
+program_judged g p q ChangeWriteColumn m h e = judged_passes g p q (m == 4) e h
 program_judged g p q c m h e = cc
 
 in_data : (b c : Bool) → (takes_data (cond b Inputs (cond c FeatureInputs Outside)) || wants_column (cond b Inputs (cond c FeatureInputs Outside))) ≡ true → b ≡ true
@@ -172,15 +175,15 @@ later_address Inputs h = cc
 later_address FeatureInputs h = cc
 
 -- behind an opener, its last address
-pub last_address : (o : Opening) (p : DataPhase) → (wants_column p ≡ true → Some o ≡ None) → (takes_data (phase_after_address (Some o) p) || wants_column (phase_after_address (Some o) p)) ≡ true → (is_page_program o.opener && o.addresses == 4) ≡ true
-last_address o Outside alone h = in_data (is_page_program o.opener && o.addresses == 4) (is_set_features o.opener && o.addresses == 0) h
+pub last_address : (o : Opening) (p : DataPhase) → (wants_column p ≡ true → Some o ≡ None) → (takes_data (phase_after_address (Some o) p) || wants_column (phase_after_address (Some o) p)) ≡ true → (begins_data o.opener && o.addresses == 4) ≡ true
+last_address o Outside alone h = in_data (begins_data o.opener && o.addresses == 4) (is_set_features o.opener && o.addresses == 0) h
 last_address o FirstColumn alone h = let never = alone refl in cc
 last_address o SecondColumn alone h = let never = alone refl in cc
 last_address o Inputs alone h = cc
 last_address o FeatureInputs alone h = cc
 
 -- a Reset LUN names no row of the array
-no_program : (c : Command) (b : Bool) → is_reset_lun c ≡ true → (is_page_program c && b) ≡ true → false ≡ true
+no_program : (c : Command) (b : Bool) → is_reset_lun c ≡ true → (begins_data c && b) ≡ true → false ≡ true
 no_program ResetLun b r h = h
 no_program _ b r h = r
 

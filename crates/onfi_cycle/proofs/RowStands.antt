@@ -24,9 +24,9 @@ use Rattle.onfi_cycle.specs.declared.tail_facts.TailFacts.{TailFacts}
 use Rattle.onfi_cycle.specs.declared.target_cycle.TargetCycle.{TargetCycle}
 use Rattle.onfi_cycle.specs.declared.target_cycle.TargetCycle.TheVariants.{CommandCycle, AddressCycle, InputCycle, OutputCycle}
 use Rattle.onfi_cycle.specs.LunView.{LunView}
-use Rattle.onfi_cycle.specs.Command.{is_page_program, at_last_row, addresses_the_array, reads_identity, is_set_features}
+use Rattle.onfi_cycle.specs.Command.{begins_data, at_last_row, addresses_the_array, reads_identity, is_set_features}
 use Rattle.onfi_cycle.specs.Sequence.{target_cycle, begins_anew, facts_of, facts_after, extended_facts, opened, one_address_more, row_after_address, wants_command, phase_after_command, phase_after_address, row, row_with, takes_features, phase_after_input}
-use Rattle.onfi_cycle.specs.Effect.{is_shared, names_lun, page_address, cycle_effect, address_effect, opening_address_effect, ends_features}
+use Rattle.onfi_cycle.specs.Effect.{is_shared, names_lun, page_address, cycle_effect, address_effect, program_row_effect, opening_address_effect, ends_features}
 use Rattle.onfi_cycle.specs.Lun.{busy_after, view_after}
 use Rattle.onfi_cycle.specs.Rules.{named_lun_is, ends_row, breaks_not_there, breaks_several_luns, breaks_row_outside, breaks_lun_busy}
 use Rattle.onfi_cycle.specs.Permitted.{judge, judge_cycle}
@@ -168,8 +168,9 @@ erase_ends : (c : Command) (m : ℕ) → (is_block_erase c && m + 1 == 3) ≡ tr
 erase_ends BlockErase m h = let two = next_is m 2 h in rw two refl
 erase_ends c m h = cc
 
-program_ends : (c : Command) (m : ℕ) → (is_page_program c && m == 4) ≡ true → (addresses_the_array c && at_last_row c m) ≡ true
+program_ends : (c : Command) (m : ℕ) → (begins_data c && m == 4) ≡ true → (addresses_the_array c && at_last_row c m) ≡ true
 program_ends PageProgram m h = h
+program_ends ChangeWriteColumn m h = h
 program_ends c m h = cc
 
 one_of : {A : Type 0} (a b c : Bool) → (a || (b || c)) ≡ true → (a ≡ true → A) → (b ≡ true → A) → (c ≡ true → A) → A
@@ -177,13 +178,19 @@ one_of true b c h x y z = x refl
 one_of false true c h x y z = y refl
 one_of false false c h x y z = z h
 
--- no address of theirs does anything
-array_rests : (g : Parts) (t : TailFacts) (byte : ℕ) (c : Command) (m n : ℕ) → addresses_the_array c ≡ true → address_effect g t byte c m n ≡ Unaffected
-array_rests g t byte Read m n h = refl
-array_rests g t byte ChangeReadColumnEnhanced m n h = refl
-array_rests g t byte BlockErase m n h = refl
-array_rests g t byte PageProgram m n h = refl
-array_rests g t byte _ m n h = cc
+-- no address of theirs begins work
+array_rests : (g : Parts) (t : TailFacts) (byte : ℕ) (c : Command) (m n : ℕ) (busy : Bool) → addresses_the_array c ≡ true → busy_after (address_effect g t byte c m n) busy ≡ busy
+array_rests g t byte Read m n busy h = refl
+array_rests g t byte ChangeReadColumnEnhanced m n busy h = refl
+array_rests g t byte BlockErase m n busy h = refl
+array_rests g t byte ChangeWriteColumn m n busy h = refl
+array_rests g t byte PageProgram m n busy h = of (m == 4) (names_lun g (row_with t byte) n)
+  where
+    of : (b named : Bool) → busy_after (cond b (program_row_effect named) Unaffected) busy ≡ busy
+    of true true = refl
+    of true false = refl
+    of false named = refl
+array_rests g t byte _ m n busy h = cc
 
 lies_inside : (g : Parts) (r : ℕ) → is_inside g (parts_of g r) ≡ true → is_row g (page_address g r) ≡ true
 lies_inside g r h = of (ltb (parts_of g r).lun g.luns) (ltb (parts_of g r).block g.blocks) (ltb (parts_of g r).page g.pages) h
@@ -203,7 +210,7 @@ no_features_alone SecondColumn = refl
 no_features_alone FeatureInputs = refl
 
 pub features_begin : (o : Opening) (p : DataPhase) → takes_features (phase_after_address (Some o) p) ≡ true → (is_set_features o.opener && o.addresses == 0) ≡ true
-features_begin o Outside h = at (is_page_program o.opener && o.addresses == 4) (is_set_features o.opener && o.addresses == 0) h
+features_begin o Outside h = at (begins_data o.opener && o.addresses == 4) (is_set_features o.opener && o.addresses == 0) h
   where
     at : (b c : Bool) → takes_features (cond b Inputs (cond c FeatureInputs Outside)) ≡ true → c ≡ true
     at true c h = cc
@@ -268,7 +275,7 @@ address_stands g t la luns n v byte keeps found tf f = at t.opening refl
           inside = λ named h. row_is_inside o is (ends o is h);
           ready = λ named h.
               let last = ends o is h in
-              ap (λ (e : Effect). busy_after e v.busy) (array_rests g t byte o.opener o.addresses n (both (addresses_the_array o.opener) _ last).0)
+              array_rests g t byte o.opener o.addresses n v.busy (both (addresses_the_array o.opener) _ last).0
               ∙ lun_is_ready o is last named;
           identity = λ h.
               let begin = begins_features o h in

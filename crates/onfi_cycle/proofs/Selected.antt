@@ -3,7 +3,7 @@ use Rattle.std.proofs.Common.{◌≡◌, ℕ, ◌==◌, Bool, true, false, ◌&&
 use Rattle.std.proofs.Math.Bool.{or-false, or-true}
 use Rattle.nand_geometry.specs.declared.parts.Parts.{Parts}
 use Rattle.onfi_cycle.specs.declared.command.Command.{Command}
-use Rattle.onfi_cycle.specs.declared.command.Command.TheVariants.{Read, ReadConfirm, ChangeReadColumnConfirm, BlockEraseConfirm, BlockErasePlane, ReadStatus, ReadStatusEnhanced, ProgramConfirm, ProgramPlane, ReadId, ReadParameterPage, Reset, ReadCacheSequential, ReadCacheEnd, ReadUniqueId, GetFeatures, SetFeatures, ResetLun, SynchronousReset, ReadPlane}
+use Rattle.onfi_cycle.specs.declared.command.Command.TheVariants.{Read, ReadConfirm, ChangeReadColumnConfirm, BlockEraseConfirm, BlockErasePlane, ReadStatus, ReadStatusEnhanced, ProgramConfirm, ProgramPlane, ReadId, ReadParameterPage, Reset, ReadCacheSequential, ReadCacheEnd, ReadUniqueId, GetFeatures, SetFeatures, ResetLun, SynchronousReset, ReadPlane, CopybackRead, PageProgram}
 use Rattle.onfi_cycle.specs.declared.lun.Lun.{Lun}
 use Rattle.onfi_cycle.specs.declared.latch.Latch.{Latch}
 use Rattle.onfi_cycle.specs.declared.item.Item.{Item}
@@ -15,7 +15,7 @@ use Rattle.onfi_cycle.specs.declared.effect.Effect.{Effect}
 use Rattle.onfi_cycle.specs.declared.effect.Effect.TheVariants.{Unaffected, StatusSelected, StatusOfSelected, AnotherAddressed, TargetResetStarted, SelectedForStatus, Deselected, IdRead, IdentityRead, UniqueIdReadStarted, FeaturesReadStarted, FeaturesSet, ParameterPageReadStarted, CacheReadContinued, CacheReadEnded, BecameReady, ArrayBecameReady, ReadColumnChanged, DataOutput, ResetStarted, PlaneSelected}
 use Rattle.onfi_cycle.specs.declared.page_address.PageAddress.{PageAddress}
 use Rattle.onfi_cycle.specs.Sequence.{target_cycle, row, row_with, wants_command, wants_address, selects_plane}
-use Rattle.onfi_cycle.specs.Effect.{is_off, is_data, is_shared, acts_for_target, page_address, names_lun, command_effect, address_effect, id_effect, opening_address_effect, cycle_effect, ends_features}
+use Rattle.onfi_cycle.specs.Effect.{is_off, is_data, is_shared, acts_for_target, page_address, names_lun, command_effect, address_effect, id_effect, opening_address_effect, cycle_effect, ends_features, program_row_effect}
 use Rattle.onfi_cycle.specs.Lun.{selected_after, overlapped_after, latch_alone, is_selected, is_overlapped, is_busy, is_array_busy, effect_on, effect_among}
 use Rattle.onfi_cycle.specs.Decides.{or_before, last_decided, tail_of, selected_by_row, selected_by_address, selected_by_opening, selected_cycle, selected_decided, overlapped_by_row, overlapped_by_address, overlapped_by_opening, overlapped_cycle, overlapped_decided}
 
@@ -63,6 +63,7 @@ command_selected g past l la ReadCacheEnd p = same_selected (is_off la) p Unaffe
 command_selected g past l la ChangeReadColumnConfirm p = plane_selected (selects_plane (tail_of past l)) (names_lun g (row (tail_of past l)) l.lun) (wants_command (tail_of past l) ChangeReadColumnConfirm && not (is_off la)) p _ _ (tail_of past l).column
 command_selected g past l la ReadConfirm p = row_selected (wants_command (tail_of past l) ReadConfirm) (names_lun g (row (tail_of past l)) l.lun) (is_shared g) true p _ refl
 command_selected g past l la ReadPlane p = row_selected (wants_command (tail_of past l) ReadPlane) (names_lun g (row (tail_of past l)) l.lun) (is_shared g) true p _ refl
+command_selected g past l la CopybackRead p = row_selected (wants_command (tail_of past l) CopybackRead) (names_lun g (row (tail_of past l)) l.lun) (is_shared g) true p _ refl
 command_selected g past l la BlockEraseConfirm p = row_selected (wants_command (tail_of past l) BlockEraseConfirm) (names_lun g (row (tail_of past l)) l.lun) (is_shared g) false p _ refl
 command_selected g past l la BlockErasePlane p = row_selected (wants_command (tail_of past l) BlockErasePlane) (names_lun g (row (tail_of past l)) l.lun) (is_shared g) false p _ refl
 command_selected g past l la ProgramConfirm p = row_selected (wants_command (tail_of past l) ProgramConfirm) (names_lun g (row (tail_of past l)) l.lun) (is_shared g) false p _ refl
@@ -96,6 +97,11 @@ address_selected g past l byte (Some o) p = at o.opener o.addresses
     resets true false false = refl
     resets false named shared = refl
 
+    programs : (b named : Bool) → selected_after (cond b (program_row_effect named) Unaffected) p ≡ p
+    programs true true = refl
+    programs true false = refl
+    programs false named = refl
+
     reads_id : (b : Bool) → selected_after (cond b IdRead (IdentityRead (byte == 0x40))) p ≡ true
     reads_id true = refl
     reads_id false = refl
@@ -112,6 +118,7 @@ address_selected g past l byte (Some o) p = at o.opener o.addresses
     at GetFeatures n = served_selected w a p (FeaturesReadStarted byte) refl
     at SetFeatures n = sets w
     at ResetLun n = resets (n == 2) (names_lun g (row_with (tail_of past l) byte) l.lun) (is_shared g)
+    at PageProgram n = programs (n == 4) (names_lun g (row_with (tail_of past l) byte) l.lun)
     at c n = refl
 
 input_selected : (e a p : Bool) (f : ℕ) → selected_after (cond e (cond a (FeaturesSet f) Deselected) Unaffected) p ≡ unwrap_or (cond e (Some a) None) p
@@ -182,6 +189,7 @@ command_overlapped g past l la ReadCacheEnd p = same_overlapped (is_off la) _ p 
 command_overlapped g past l la ChangeReadColumnConfirm p = plane_overlapped (selects_plane (tail_of past l)) (names_lun g (row (tail_of past l)) l.lun) (wants_command (tail_of past l) ChangeReadColumnConfirm && not (is_off la)) _ p _ _ (tail_of past l).column
 command_overlapped g past l la ReadConfirm p = row_overlapped (wants_command (tail_of past l) ReadConfirm) (names_lun g (row (tail_of past l)) l.lun) (is_shared g) true _ p _ refl
 command_overlapped g past l la ReadPlane p = row_overlapped (wants_command (tail_of past l) ReadPlane) (names_lun g (row (tail_of past l)) l.lun) (is_shared g) true _ p _ refl
+command_overlapped g past l la CopybackRead p = row_overlapped (wants_command (tail_of past l) CopybackRead) (names_lun g (row (tail_of past l)) l.lun) (is_shared g) true _ p _ refl
 command_overlapped g past l la BlockEraseConfirm p = row_overlapped (wants_command (tail_of past l) BlockEraseConfirm) (names_lun g (row (tail_of past l)) l.lun) (is_shared g) false _ p _ refl
 command_overlapped g past l la BlockErasePlane p = row_overlapped (wants_command (tail_of past l) BlockErasePlane) (names_lun g (row (tail_of past l)) l.lun) (is_shared g) false _ p _ refl
 command_overlapped g past l la ProgramConfirm p = row_overlapped (wants_command (tail_of past l) ProgramConfirm) (names_lun g (row (tail_of past l)) l.lun) (is_shared g) false _ p _ refl
@@ -213,6 +221,11 @@ address_overlapped g past l byte (Some o) q p = at o.opener o.addresses
     resets true false shared = another_overlaps shared q p false
     resets false named shared = refl
 
+    programs : (b named : Bool) → overlapped_after (cond b (program_row_effect named) Unaffected) q p ≡ p
+    programs true true = refl
+    programs true false = refl
+    programs false named = refl
+
     reads_id : (b : Bool) → overlapped_after (cond b IdRead (IdentityRead (byte == 0x40))) q p ≡ false
     reads_id true = refl
     reads_id false = refl
@@ -229,6 +242,7 @@ address_overlapped g past l byte (Some o) q p = at o.opener o.addresses
     at GetFeatures n = served_overlapped w a q p (FeaturesReadStarted byte) refl
     at SetFeatures n = sets w
     at ResetLun n = resets (n == 2) (names_lun g (row_with (tail_of past l) byte) l.lun) (is_shared g)
+    at PageProgram n = programs (n == 4) (names_lun g (row_with (tail_of past l) byte) l.lun)
     at c n = refl
 
 input_overlapped : (e a q p : Bool) (f : ℕ) → overlapped_after (cond e (cond a (FeaturesSet f) Deselected) Unaffected) q p ≡ unwrap_or (cond e (Some false) None) p

@@ -5,9 +5,9 @@ use Rattle.std.proofs.lemmas.Bool.{and_parts, or_from, or_parts as neither}
 use Rattle.nand_geometry.specs.declared.parts.Parts.{Parts}
 use Rattle.nand_geometry.specs.Limits.{planes}
 use Rattle.onfi_cycle.specs.declared.command.Command.{Command}
-use Rattle.onfi_cycle.specs.declared.command.Command.TheVariants.{Read, ReadConfirm, ChangeReadColumn, ChangeReadColumnConfirm, BlockErase, BlockEraseConfirm, BlockErasePlane, ReadStatus, ReadStatusEnhanced, PageProgram, ChangeWriteColumn, ProgramConfirm, ProgramPlane, ReadId, ReadParameterPage, Reset, ReadCacheSequential, ReadCacheEnd, ReadUniqueId, GetFeatures, SetFeatures, ResetLun, SynchronousReset, Unknown, ChangeReadColumnEnhanced, ReadPlane}
+use Rattle.onfi_cycle.specs.declared.command.Command.TheVariants.{Read, ReadConfirm, ChangeReadColumn, ChangeReadColumnConfirm, BlockErase, BlockEraseConfirm, BlockErasePlane, ReadStatus, ReadStatusEnhanced, PageProgram, ChangeWriteColumn, ProgramConfirm, ProgramPlane, ReadId, ReadParameterPage, Reset, ReadCacheSequential, ReadCacheEnd, ReadUniqueId, GetFeatures, SetFeatures, ResetLun, SynchronousReset, Unknown, ChangeReadColumnEnhanced, ReadPlane, CopybackRead}
 use Rattle.onfi_cycle.specs.declared.effect.Effect.{Effect}
-use Rattle.onfi_cycle.specs.declared.effect.Effect.TheVariants.{Unaffected, DataOutputEnabled, StatusSelected, StatusRowAwaited, SelectedForStatus, Deselected, IdRead, IdentityRead, UniqueIdReadStarted, FeaturesReadStarted, FeaturesSet, ParameterPageReadStarted, CacheReadContinued, CacheReadEnded, DataOutput, ResetStarted, BecameReady, ArrayBecameReady, ReadStarted, EraseStarted, ProgramStarted, ReadColumnChanged, AnotherAddressed, StatusOfSelected, TargetResetStarted, PlaneSelected, ReadQueued}
+use Rattle.onfi_cycle.specs.declared.effect.Effect.TheVariants.{Unaffected, DataOutputEnabled, StatusSelected, StatusRowAwaited, SelectedForStatus, Deselected, IdRead, IdentityRead, UniqueIdReadStarted, FeaturesReadStarted, FeaturesSet, ParameterPageReadStarted, CacheReadContinued, CacheReadEnded, DataOutput, ResetStarted, BecameReady, ArrayBecameReady, ReadStarted, EraseStarted, ProgramStarted, ReadColumnChanged, AnotherAddressed, StatusOfSelected, TargetResetStarted, PlaneSelected, ReadQueued, CopybackReadStarted, ProgramAddressed}
 use Rattle.onfi_cycle.specs.declared.item.Item.{Item}
 use Rattle.onfi_cycle.specs.declared.item.Item.TheVariants.{Cyc, Rdy, Ard}
 use Rattle.onfi_cycle.specs.declared.latch.Latch.{Latch}
@@ -18,7 +18,7 @@ use Rattle.onfi_cycle.specs.declared.target_cycle.TargetCycle.{TargetCycle}
 use Rattle.onfi_cycle.specs.declared.target_cycle.TargetCycle.TheVariants.{CommandCycle, AddressCycle, InputCycle, OutputCycle}
 use Rattle.onfi_cycle.specs.Command.{closes_row, reads_row, reads_identity}
 use Rattle.onfi_cycle.specs.Sequence.{target_cycle, tail, facts_of, opened, takes_features, wants_command, row, row_with, selects_plane}
-use Rattle.onfi_cycle.specs.Effect.{is_off, is_data, is_shared, names_lun, confirm_effect, row_effect, cache_effect, command_effect, address_effect, opening_address_effect, lun_reset_effect, of_target, cycle_effect, plane_effect, column_effect, plane_of_row}
+use Rattle.onfi_cycle.specs.Effect.{is_off, is_data, is_shared, names_lun, confirm_effect, row_effect, cache_effect, command_effect, address_effect, opening_address_effect, lun_reset_effect, program_row_effect, of_target, cycle_effect, plane_effect, column_effect, plane_of_row}
 use Rattle.onfi_cycle.specs.Lun.{busy_after, closer_after, is_target_work, effect_on, effect_among, alone, latch, is_busy, closer, lun_view, views_from}
 use Rattle.onfi_cycle.specs.Rules.{works_for_target}
 use Rattle.onfi_cycle.specs.OtherLun.{serves_target, keeps_to_lun, keeps_to, is_of}
@@ -47,6 +47,8 @@ serves_no_more SelectedForStatus b c h k = k
 serves_no_more Deselected b c h k = k
 serves_no_more (ReadStarted page column) b c h k = refl
 serves_no_more (ReadQueued page) b c h k = refl
+serves_no_more (CopybackReadStarted page column count) b c h k = refl
+serves_no_more ProgramAddressed b c h k = k
 serves_no_more (EraseStarted true page) b c h k = refl
 serves_no_more (EraseStarted false page) b c h k = refl
 serves_no_more (ProgramStarted true page) b c h k = refl
@@ -83,6 +85,7 @@ command_serves : (g : Parts) (t : TailFacts) (la : Latch) (c : Command) (n : ℕ
 command_serves g t la Read n = refl
 command_serves g t la ReadConfirm n = closer_serves (wants_command t ReadConfirm && names_lun g (row t) n) (closes_row ReadConfirm && (wants_command t ReadConfirm && is_shared g)) (reads_row ReadConfirm) (confirm_effect g t ReadConfirm) refl
 command_serves g t la ReadPlane n = closer_serves (wants_command t ReadPlane && names_lun g (row t) n) (closes_row ReadPlane && (wants_command t ReadPlane && is_shared g)) (reads_row ReadPlane) (confirm_effect g t ReadPlane) refl
+command_serves g t la CopybackRead n = closer_serves (wants_command t CopybackRead && names_lun g (row t) n) (closes_row CopybackRead && (wants_command t CopybackRead && is_shared g)) (reads_row CopybackRead) (confirm_effect g t CopybackRead) refl
 command_serves g t la ChangeReadColumn n = closer_serves (wants_command t ChangeReadColumn && names_lun g (row t) n) (closes_row ChangeReadColumn && (wants_command t ChangeReadColumn && is_shared g)) (reads_row ChangeReadColumn) (confirm_effect g t ChangeReadColumn) refl
 command_serves g t la ChangeReadColumnEnhanced n = closer_serves (wants_command t ChangeReadColumnEnhanced && names_lun g (row t) n) (closes_row ChangeReadColumnEnhanced && (wants_command t ChangeReadColumnEnhanced && is_shared g)) (reads_row ChangeReadColumnEnhanced) (confirm_effect g t ChangeReadColumnEnhanced) refl
 command_serves g t la ChangeReadColumnConfirm n =
@@ -116,6 +119,7 @@ address_serves : (g : Parts) (t : TailFacts) (byte : ℕ) (c : Command) (k n : �
 address_serves g t byte Read k n none = refl
 address_serves g t byte ReadConfirm k n none = refl
 address_serves g t byte ReadPlane k n none = refl
+address_serves g t byte CopybackRead k n none = refl
 address_serves g t byte ChangeReadColumn k n none = refl
 address_serves g t byte ChangeReadColumnEnhanced k n none = refl
 address_serves g t byte ChangeReadColumnConfirm k n none = refl
@@ -124,7 +128,7 @@ address_serves g t byte BlockEraseConfirm k n none = refl
 address_serves g t byte BlockErasePlane k n none = refl
 address_serves g t byte ReadStatus k n none = refl
 address_serves g t byte ReadStatusEnhanced k n none = either (k == 2) (cond (names_lun g (row_with t byte) n) SelectedForStatus Deselected) Unaffected (either (names_lun g (row_with t byte) n) SelectedForStatus Deselected refl refl) refl
-address_serves g t byte PageProgram k n none = refl
+address_serves g t byte PageProgram k n none = either (k == 4) (program_row_effect (names_lun g (row_with t byte) n)) Unaffected (either (names_lun g (row_with t byte) n) ProgramAddressed Unaffected refl refl) refl
 address_serves g t byte ChangeWriteColumn k n none = refl
 address_serves g t byte ProgramConfirm k n none = refl
 address_serves g t byte ProgramPlane k n none = refl

@@ -5,19 +5,20 @@ use Rattle.std.proofs.lemmas.List.{reverse-append, reverse-reverse}
 use Rattle.std.proofs.lemmas.Bool.{or_cases, or_right, and_parts, and_from, or_left}
 use Rattle.onfi_cycle.proofs.Booleans.{clash}
 use Rattle.onfi_cycle.specs.declared.command.Command.{Command}
-use Rattle.onfi_cycle.specs.declared.command.Command.TheVariants.{Read, ReadConfirm, ChangeReadColumn, ChangeReadColumnConfirm, BlockErase, BlockEraseConfirm, BlockErasePlane, ReadStatusEnhanced, PageProgram, ChangeWriteColumn, ProgramConfirm, ProgramPlane, ReadId, ReadParameterPage, ReadUniqueId, GetFeatures, SetFeatures, ResetLun, ReadCacheSequential, ChangeReadColumnEnhanced, ReadPlane}
+use Rattle.onfi_cycle.specs.declared.command.Command.TheVariants.{Read, ReadConfirm, ChangeReadColumn, ChangeReadColumnConfirm, BlockErase, BlockEraseConfirm, BlockErasePlane, ReadStatusEnhanced, PageProgram, ChangeWriteColumn, ProgramConfirm, ProgramPlane, ReadId, ReadParameterPage, ReadUniqueId, GetFeatures, SetFeatures, ResetLun, ReadCacheSequential, ChangeReadColumnEnhanced, ReadPlane, CopybackRead}
 use Rattle.onfi_cycle.specs.declared.opening.Opening.{Opening}
 use Rattle.onfi_cycle.specs.declared.data_phase.DataPhase.{DataPhase}
 use Rattle.onfi_cycle.specs.declared.data_phase.DataPhase.TheVariants.{Outside, Inputs, FirstColumn, SecondColumn, FeatureInputs}
 use Rattle.onfi_cycle.specs.declared.tail_facts.TailFacts.{TailFacts}
 use Rattle.onfi_cycle.specs.declared.target_cycle.TargetCycle.{TargetCycle}
 use Rattle.onfi_cycle.specs.declared.target_cycle.TargetCycle.TheVariants.{CommandCycle, AddressCycle, InputCycle, OutputCycle}
-use Rattle.onfi_cycle.specs.Command.{is_opener, address_cycles, takes_address, closes, is_page_program, is_set_features}
+use Rattle.onfi_cycle.specs.Command.{is_opener, address_cycles, takes_address, closes, begins_data, is_set_features}
 use Rattle.onfi_cycle.specs.Sequence.{begins_sequence, one_address_more, opening, opened, data_phase, phase_after_command, phase_after_address, phase_after_input, phase_after_last_address, facts_of, extended_facts, wants, wants_command, wants_address, is_proper_beginning, is_open, takes_inputs, wants_column, takes_data, takes_features, inputs}
-use Rattle.onfi_cycle.specs.Table.{IsProgramData, IsProgramCloser, IsSequence, IsBeginning, IsProperBeginning, TailsFollowTheTable}
+use Rattle.onfi_cycle.specs.Table.{IsProgramData, IsProgramOpener, IsProgramCloser, IsSequence, IsBeginning, IsProperBeginning, TailsFollowTheTable}
 use Rattle.onfi_cycle.specs.Table.IsProgramData.{nothing, input, column}
+use Rattle.onfi_cycle.specs.Table.IsProgramOpener.{write, copy}
 use Rattle.onfi_cycle.specs.Table.IsProgramCloser.{whole, plane}
-use Rattle.onfi_cycle.specs.Table.IsSequence.{read, read_plane, read_cache_random, change_read_column, change_read_column_enhanced, erase, erase_plane, read_status, read_status_enhanced, program, read_id, read_parameter_page, reset, read_cache_sequential, read_cache_end, read_manufacturer, read_jedec, read_unique_id, get_features, set_features, reset_lun, synchronous_reset}
+use Rattle.onfi_cycle.specs.Table.IsSequence.{read, read_plane, copyback_read, read_cache_random, change_read_column, change_read_column_enhanced, erase, erase_plane, read_status, read_status_enhanced, program, read_id, read_parameter_page, reset, read_cache_sequential, read_cache_end, read_manufacturer, read_jedec, read_unique_id, get_features, set_features, reset_lun, synchronous_reset}
 
 -- 1. A sequence, read in the order of time, is wanted cycle by cycle.
 
@@ -63,6 +64,7 @@ data_scans f _ closer (column c1 c2 more rest) k h =
 sequence_scans : (s : List TargetCycle) → IsSequence s → scans s ≡ true
 sequence_scans _ (read c1 c2 r1 r2 r3) = refl
 sequence_scans _ (read_plane c1 c2 r1 r2 r3) = refl
+sequence_scans _ (copyback_read c1 c2 r1 r2 r3) = refl
 sequence_scans _ (read_cache_random c1 c2 r1 r2 r3) = refl
 sequence_scans _ (change_read_column c1 c2) = refl
 sequence_scans _ (change_read_column_enhanced c1 c2 r1 r2 r3) = refl
@@ -70,8 +72,10 @@ sequence_scans _ (erase r1 r2 r3) = refl
 sequence_scans _ (erase_plane r1 r2 r3) = refl
 sequence_scans _ read_status = refl
 sequence_scans _ (read_status_enhanced r1 r2 r3) = refl
-sequence_scans _ (program c1 c2 r1 r2 r3 bytes closer d k) =
+sequence_scans _ (program _ c1 c2 r1 r2 r3 bytes closer write d k) =
     data_scans (facts_of (AddressCycle r3 ∷ (AddressCycle r2 ∷ (AddressCycle r1 ∷ (AddressCycle c2 ∷ (AddressCycle c1 ∷ (CommandCycle PageProgram ∷ []))))))) bytes closer d k refl
+sequence_scans _ (program _ c1 c2 r1 r2 r3 bytes closer copy d k) =
+    data_scans (facts_of (AddressCycle r3 ∷ (AddressCycle r2 ∷ (AddressCycle r1 ∷ (AddressCycle c2 ∷ (AddressCycle c1 ∷ (CommandCycle ChangeWriteColumn ∷ []))))))) bytes closer d k refl
 sequence_scans _ read_id = refl
 sequence_scans _ read_parameter_page = refl
 sequence_scans _ reset = refl
@@ -162,12 +166,14 @@ opening_shape (InputCycle b ∷ t) o h = cc
 opening_shape (OutputCycle ∷ t) o h = cc
 
 -- a program with its addresses and some of its data
-abbrev program_with : (c1 c2 r1 r2 r3 : ℕ) → List TargetCycle → List TargetCycle
-program_with c1 c2 r1 r2 r3 rest =
-    CommandCycle PageProgram ∷ (AddressCycle c1 ∷ (AddressCycle c2 ∷ (AddressCycle r1 ∷ (AddressCycle r2 ∷ (AddressCycle r3 ∷ rest)))))
+abbrev program_with : (opener : Command) (c1 c2 r1 r2 r3 : ℕ) → List TargetCycle → List TargetCycle
+program_with opener c1 c2 r1 r2 r3 rest =
+    CommandCycle opener ∷ (AddressCycle c1 ∷ (AddressCycle c2 ∷ (AddressCycle r1 ∷ (AddressCycle r2 ∷ (AddressCycle r3 ∷ rest)))))
 
 -- a program whose data goes on with this
 record IsInProgram (behind t : List TargetCycle) : Type 0 where
+  opener : Command
+  opens : IsProgramOpener opener
   c1 : ℕ
   c2 : ℕ
   r1 : ℕ
@@ -175,7 +181,7 @@ record IsInProgram (behind t : List TargetCycle) : Type 0 where
   r3 : ℕ
   bytes : List TargetCycle
   is_data : IsProgramData bytes
-  is : reverse t ≡ program_with c1 c2 r1 r2 r3 (bytes ++ behind)
+  is : reverse t ≡ program_with opener c1 c2 r1 r2 r3 (bytes ++ behind)
 
 -- some inputs
 abbrev input_cycles : List ℕ → List TargetCycle
@@ -211,6 +217,8 @@ data_append _ b (column c1 c2 more d) k = column c1 c2 (more ++ b) (data_append 
 in_program_more : (behind t : List TargetCycle) (c : TargetCycle) → IsInProgram behind t → IsInProgram (behind ++ (c ∷ [])) (c ∷ t)
 in_program_more behind t c p =
     record {
+      opener = p.opener;
+      opens = p.opens;
       c1 = p.c1;
       c2 = p.c2;
       r1 = p.r1;
@@ -218,13 +226,15 @@ in_program_more behind t c p =
       r3 = p.r3;
       bytes = p.bytes;
       is_data = p.is_data;
-      is = reverse_more c t ∙ (ap (λ l. l ++ (c ∷ [])) p.is ∙ ap (program_with p.c1 p.c2 p.r1 p.r2 p.r3) (append_assoc p.bytes behind (c ∷ [])));
+      is = reverse_more c t ∙ (ap (λ l. l ++ (c ∷ [])) p.is ∙ ap (program_with p.opener p.c1 p.c2 p.r1 p.r2 p.r3) (append_assoc p.bytes behind (c ∷ [])));
     }
 
 -- what stands behind the data is data too
 in_program_whole : (behind t : List TargetCycle) → IsProgramData behind → IsInProgram behind t → IsInProgram [] t
 in_program_whole behind t d p =
     record {
+      opener = p.opener;
+      opens = p.opens;
       c1 = p.c1;
       c2 = p.c2;
       r1 = p.r1;
@@ -232,7 +242,7 @@ in_program_whole behind t d p =
       r3 = p.r3;
       bytes = p.bytes ++ behind;
       is_data = data_append p.bytes behind p.is_data d;
-      is = p.is ∙ ap (program_with p.c1 p.c2 p.r1 p.r2 p.r3) (sym (append-nil (p.bytes ++ behind)));
+      is = p.is ∙ ap (program_with p.opener p.c1 p.c2 p.r1 p.r2 p.r3) (sym (append-nil (p.bytes ++ behind)));
     }
 
 -- four bytes
@@ -251,17 +261,20 @@ four_of (a ∷ (b ∷ [])) h = absurd (omega arith)
 four_of (a ∷ (b ∷ (c ∷ []))) h = absurd (omega arith)
 four_of (a ∷ (b ∷ (c ∷ (d ∷ (e ∷ bs))))) h = absurd (omega arith)
 
-page_program_is : (c : Command) → is_page_program c ≡ true → c ≡ PageProgram
-page_program_is PageProgram h = refl
-page_program_is _ h = cc
+program_opener_is : (c : Command) → begins_data c ≡ true → IsProgramOpener c
+program_opener_is PageProgram h = write
+program_opener_is ChangeWriteColumn h = copy
+program_opener_is _ h = cc
 
 -- the fifth address of a program
-fifth_address : (t : List TargetCycle) (b : ℕ) (o : Opening) → IsOpening o t → o.opener ≡ PageProgram → o.addresses ≡ 4 → IsInProgram [] (AddressCycle b ∷ t)
-fifth_address t b o shape opener count =
+fifth_address : (t : List TargetCycle) (b : ℕ) (o : Opening) → IsOpening o t → IsProgramOpener o.opener → o.addresses ≡ 4 → IsInProgram [] (AddressCycle b ∷ t)
+fifth_address t b o shape opens count =
     let four = four_of shape.bytes (shape.count ∙ count) in
-    let before : reverse t ≡ CommandCycle PageProgram ∷ addresses (four.a ∷ (four.b ∷ (four.c ∷ (four.d ∷ [])))) =
-    shape.is ∙ (ap (λ c. CommandCycle c ∷ addresses shape.bytes) opener ∙ ap (λ l. CommandCycle PageProgram ∷ addresses l) four.is) in
+    let before : reverse t ≡ CommandCycle o.opener ∷ addresses (four.a ∷ (four.b ∷ (four.c ∷ (four.d ∷ [])))) =
+    shape.is ∙ ap (λ l. CommandCycle o.opener ∷ addresses l) four.is in
     record {
+      opener = o.opener;
+      opens = opens;
       c1 = four.a;
       c2 = four.b;
       r1 = four.c;
@@ -306,12 +319,12 @@ feature_more t b p low =
 
 last_address_phase : (t : List TargetCycle) (b : ℕ) (x : Option Opening) → ((p : Opening) → x ≡ Some p → IsOpening p t) → HasPhase (phase_after_last_address x) (AddressCycle b ∷ t)
 last_address_phase t b None shape = tt
-last_address_phase t b (Some o) shape = at (is_page_program o.opener && o.addresses == 4) refl (is_set_features o.opener && o.addresses == 0) refl
+last_address_phase t b (Some o) shape = at (begins_data o.opener && o.addresses == 4) refl (is_set_features o.opener && o.addresses == 0) refl
   where
-    at : (v : Bool) → (is_page_program o.opener && o.addresses == 4) ≡ v → (w : Bool) → (is_set_features o.opener && o.addresses == 0) ≡ w → HasPhase (cond v Inputs (cond w FeatureInputs Outside)) (AddressCycle b ∷ t)
+    at : (v : Bool) → (begins_data o.opener && o.addresses == 4) ≡ v → (w : Bool) → (is_set_features o.opener && o.addresses == 0) ≡ w → HasPhase (cond v Inputs (cond w FeatureInputs Outside)) (AddressCycle b ∷ t)
     at true e w k =
-        let both = and_parts (is_page_program o.opener) (o.addresses == 4) e in
-        fifth_address t b o (shape o refl) (page_program_is o.opener both.0) (eqb-true o.addresses 4 both.1)
+        let both = and_parts (begins_data o.opener) (o.addresses == 4) e in
+        fifth_address t b o (shape o refl) (program_opener_is o.opener both.0) (eqb-true o.addresses 4 both.1)
     at false e true k =
         let both = and_parts (is_set_features o.opener) (o.addresses == 0) k in
         feature_address t b o (shape o refl) (set_features_is o.opener both.0) (eqb-true o.addresses 0 both.1)
@@ -392,14 +405,14 @@ status_begins (a ∷ (b ∷ [])) h = (AddressCycle 0 ∷ [], read_status_enhance
 status_begins (a ∷ (b ∷ (c ∷ []))) h = ([], read_status_enhanced a b c)
 status_begins (a ∷ (b ∷ (c ∷ (x ∷ more)))) h = absurd (omega arith)
 
-program_begins : (bs : List ℕ) → length bs ≤ 5 → IsBeginning (CommandCycle PageProgram ∷ addresses bs)
-program_begins [] h = (AddressCycle 0 ∷ (AddressCycle 0 ∷ (AddressCycle 0 ∷ (AddressCycle 0 ∷ (AddressCycle 0 ∷ (CommandCycle ProgramConfirm ∷ []))))), program 0 0 0 0 0 [] ProgramConfirm nothing whole)
-program_begins (a ∷ []) h = (AddressCycle 0 ∷ (AddressCycle 0 ∷ (AddressCycle 0 ∷ (AddressCycle 0 ∷ (CommandCycle ProgramConfirm ∷ [])))), program a 0 0 0 0 [] ProgramConfirm nothing whole)
-program_begins (a ∷ (b ∷ [])) h = (AddressCycle 0 ∷ (AddressCycle 0 ∷ (AddressCycle 0 ∷ (CommandCycle ProgramConfirm ∷ []))), program a b 0 0 0 [] ProgramConfirm nothing whole)
-program_begins (a ∷ (b ∷ (c ∷ []))) h = (AddressCycle 0 ∷ (AddressCycle 0 ∷ (CommandCycle ProgramConfirm ∷ [])), program a b c 0 0 [] ProgramConfirm nothing whole)
-program_begins (a ∷ (b ∷ (c ∷ (d ∷ [])))) h = (AddressCycle 0 ∷ (CommandCycle ProgramConfirm ∷ []), program a b c d 0 [] ProgramConfirm nothing whole)
-program_begins (a ∷ (b ∷ (c ∷ (d ∷ (e ∷ []))))) h = (CommandCycle ProgramConfirm ∷ [], program a b c d e [] ProgramConfirm nothing whole)
-program_begins (a ∷ (b ∷ (c ∷ (d ∷ (e ∷ (x ∷ more)))))) h = absurd (omega arith)
+program_begins : (opener : Command) → IsProgramOpener opener → (bs : List ℕ) → length bs ≤ 5 → IsBeginning (CommandCycle opener ∷ addresses bs)
+program_begins opener opens [] h = (AddressCycle 0 ∷ (AddressCycle 0 ∷ (AddressCycle 0 ∷ (AddressCycle 0 ∷ (AddressCycle 0 ∷ (CommandCycle ProgramConfirm ∷ []))))), program opener 0 0 0 0 0 [] ProgramConfirm opens nothing whole)
+program_begins opener opens (a ∷ []) h = (AddressCycle 0 ∷ (AddressCycle 0 ∷ (AddressCycle 0 ∷ (AddressCycle 0 ∷ (CommandCycle ProgramConfirm ∷ [])))), program opener a 0 0 0 0 [] ProgramConfirm opens nothing whole)
+program_begins opener opens (a ∷ (b ∷ [])) h = (AddressCycle 0 ∷ (AddressCycle 0 ∷ (AddressCycle 0 ∷ (CommandCycle ProgramConfirm ∷ []))), program opener a b 0 0 0 [] ProgramConfirm opens nothing whole)
+program_begins opener opens (a ∷ (b ∷ (c ∷ []))) h = (AddressCycle 0 ∷ (AddressCycle 0 ∷ (CommandCycle ProgramConfirm ∷ [])), program opener a b c 0 0 [] ProgramConfirm opens nothing whole)
+program_begins opener opens (a ∷ (b ∷ (c ∷ (d ∷ [])))) h = (AddressCycle 0 ∷ (CommandCycle ProgramConfirm ∷ []), program opener a b c d 0 [] ProgramConfirm opens nothing whole)
+program_begins opener opens (a ∷ (b ∷ (c ∷ (d ∷ (e ∷ []))))) h = (CommandCycle ProgramConfirm ∷ [], program opener a b c d e [] ProgramConfirm opens nothing whole)
+program_begins opener opens (a ∷ (b ∷ (c ∷ (d ∷ (e ∷ (x ∷ more)))))) h = absurd (omega arith)
 
 reset_begins : (bs : List ℕ) → length bs ≤ 3 → IsBeginning (CommandCycle ResetLun ∷ addresses bs)
 reset_begins [] h = (AddressCycle 0 ∷ (AddressCycle 0 ∷ (AddressCycle 0 ∷ [])), reset_lun 0 0 0)
@@ -434,7 +447,8 @@ address_begins ChangeReadColumn bs b h = change_begins (bs ++ (b ∷ [])) (grind
 address_begins ChangeReadColumnEnhanced bs b h = plane_begins (bs ++ (b ∷ [])) (grind (arith, nat_tests, length_more bs b, h))
 address_begins BlockErase bs b h = erase_begins (bs ++ (b ∷ [])) (grind (arith, nat_tests, length_more bs b, h))
 address_begins ReadStatusEnhanced bs b h = status_begins (bs ++ (b ∷ [])) (grind (arith, nat_tests, length_more bs b, h))
-address_begins PageProgram bs b h = program_begins (bs ++ (b ∷ [])) (grind (arith, nat_tests, length_more bs b, h))
+address_begins ChangeWriteColumn bs b h = program_begins ChangeWriteColumn copy (bs ++ (b ∷ [])) (grind (arith, nat_tests, length_more bs b, h))
+address_begins PageProgram bs b h = program_begins PageProgram write (bs ++ (b ∷ [])) (grind (arith, nat_tests, length_more bs b, h))
 address_begins ReadId [] b h = id_begins b h
 address_begins ReadId (x ∷ bs) b h = absurd (grind (arith, nat_tests, h))
 address_begins ReadParameterPage [] b h = subst (λ x. IsBeginning (CommandCycle ReadParameterPage ∷ (AddressCycle x ∷ []))) (sym (eqb-true b 0x00 h)) ([], read_parameter_page)
@@ -466,6 +480,15 @@ plane_read_ends (a ∷ (b ∷ [])) h = absurd (omega arith)
 plane_read_ends (a ∷ (b ∷ (c ∷ []))) h = absurd (omega arith)
 plane_read_ends (a ∷ (b ∷ (c ∷ (d ∷ [])))) h = absurd (omega arith)
 plane_read_ends (a ∷ (b ∷ (c ∷ (d ∷ (e ∷ (x ∷ more)))))) h = absurd (omega arith)
+
+copyback_read_ends : (bs : List ℕ) → length bs ≡ 5 → IsSequence (CommandCycle Read ∷ (addresses bs ++ (CommandCycle CopybackRead ∷ [])))
+copyback_read_ends (a ∷ (b ∷ (c ∷ (d ∷ (e ∷ []))))) h = copyback_read a b c d e
+copyback_read_ends [] h = absurd (omega arith)
+copyback_read_ends (a ∷ []) h = absurd (omega arith)
+copyback_read_ends (a ∷ (b ∷ [])) h = absurd (omega arith)
+copyback_read_ends (a ∷ (b ∷ (c ∷ []))) h = absurd (omega arith)
+copyback_read_ends (a ∷ (b ∷ (c ∷ (d ∷ [])))) h = absurd (omega arith)
+copyback_read_ends (a ∷ (b ∷ (c ∷ (d ∷ (e ∷ (x ∷ more)))))) h = absurd (omega arith)
 
 read_ends : (bs : List ℕ) → length bs ≡ 5 → IsSequence (CommandCycle Read ∷ (addresses bs ++ (CommandCycle ReadConfirm ∷ [])))
 read_ends (a ∷ (b ∷ (c ∷ (d ∷ (e ∷ []))))) h = read a b c d e
@@ -507,6 +530,7 @@ erase_plane_ends (a ∷ (b ∷ (c ∷ (x ∷ more)))) h = absurd (omega arith)
 
 closer_ends : (c d : Command) (bs : List ℕ) → (closes c d && length bs == address_cycles c) ≡ true → IsSequence (CommandCycle c ∷ (addresses bs ++ (CommandCycle d ∷ [])))
 closer_ends Read ReadConfirm bs h = read_ends bs (eqb-true (length bs) 5 h)
+closer_ends Read CopybackRead bs h = copyback_read_ends bs (eqb-true (length bs) 5 h)
 closer_ends Read ReadPlane bs h = plane_read_ends bs (eqb-true (length bs) 5 h)
 closer_ends Read ReadCacheSequential bs h = cache_read_ends bs (eqb-true (length bs) 5 h)
 closer_ends ChangeReadColumn ChangeReadColumnConfirm bs h = change_ends bs (eqb-true (length bs) 2 h)
@@ -526,19 +550,19 @@ in_program_begins behind t rest p d =
     let closing = CommandCycle ProgramConfirm ∷ [] in
     let same : (bytes ++ behind) ++ (rest ++ closing) ≡ (bytes ++ (behind ++ rest)) ++ closing =
     sym (append_assoc (bytes ++ behind) rest closing) ∙ ap (λ l. l ++ closing) (append_assoc bytes behind rest) in
-    begins_as (reverse t) (program_with p.c1 p.c2 p.r1 p.r2 p.r3 (bytes ++ behind)) p.is (
+    begins_as (reverse t) (program_with p.opener p.c1 p.c2 p.r1 p.r2 p.r3 (bytes ++ behind)) p.is (
       rest ++ closing,
-      subst (λ l. IsSequence (program_with p.c1 p.c2 p.r1 p.r2 p.r3 l)) (sym same)
-          (program p.c1 p.c2 p.r1 p.r2 p.r3 (bytes ++ (behind ++ rest)) ProgramConfirm (data_append bytes (behind ++ rest) p.is_data d) whole),
+      subst (λ l. IsSequence (program_with p.opener p.c1 p.c2 p.r1 p.r2 p.r3 l)) (sym same)
+          (program p.opener p.c1 p.c2 p.r1 p.r2 p.r3 (bytes ++ (behind ++ rest)) ProgramConfirm p.opens (data_append bytes (behind ++ rest) p.is_data d) whole),
     )
 
 -- a closer behind the data is a beginning, and a whole program
 program_ends : (t : List TargetCycle) (c : Command) → IsProgramCloser c → IsInProgram [] t → IsBeginning (reverse (CommandCycle c ∷ t))
 program_ends t c k p =
-    let is : reverse (CommandCycle c ∷ t) ≡ program_with p.c1 p.c2 p.r1 p.r2 p.r3 (p.bytes ++ (CommandCycle c ∷ [])) =
-    reverse_more (CommandCycle c) t ∙ (ap (λ l. l ++ (CommandCycle c ∷ [])) p.is ∙ ap (program_with p.c1 p.c2 p.r1 p.r2 p.r3) (append_assoc p.bytes [] (CommandCycle c ∷ []))) in
-    begins_as (reverse (CommandCycle c ∷ t)) (program_with p.c1 p.c2 p.r1 p.r2 p.r3 (p.bytes ++ (CommandCycle c ∷ []))) is
-    ([], subst IsSequence (sym (append-nil (program_with p.c1 p.c2 p.r1 p.r2 p.r3 (p.bytes ++ (CommandCycle c ∷ []))))) (program p.c1 p.c2 p.r1 p.r2 p.r3 p.bytes c p.is_data k))
+    let is : reverse (CommandCycle c ∷ t) ≡ program_with p.opener p.c1 p.c2 p.r1 p.r2 p.r3 (p.bytes ++ (CommandCycle c ∷ [])) =
+    reverse_more (CommandCycle c) t ∙ (ap (λ l. l ++ (CommandCycle c ∷ [])) p.is ∙ ap (program_with p.opener p.c1 p.c2 p.r1 p.r2 p.r3) (append_assoc p.bytes [] (CommandCycle c ∷ []))) in
+    begins_as (reverse (CommandCycle c ∷ t)) (program_with p.opener p.c1 p.c2 p.r1 p.r2 p.r3 (p.bytes ++ (CommandCycle c ∷ []))) is
+    ([], subst IsSequence (sym (append-nil (program_with p.opener p.c1 p.c2 p.r1 p.r2 p.r3 (p.bytes ++ (CommandCycle c ∷ []))))) (program p.opener p.c1 p.c2 p.r1 p.r2 p.r3 p.bytes c p.opens p.is_data k))
 
 -- a command that the opener and its addresses want
 opened_command : (t : List TargetCycle) (d : Command) (x : Option Opening) → ((p : Opening) → x ≡ Some p → IsOpening p t) → opened (λ c n. closes c d && n == address_cycles c) x ≡ true → IsBeginning (reverse (CommandCycle d ∷ t))
@@ -618,14 +642,14 @@ whole_begins s k = ([], subst IsSequence (sym (append-nil s)) k)
 address_next : (c : Command) (bs : List ℕ) (b : ℕ) → (is_opener c && ltb (length bs) (address_cycles c) && takes_address c b) ≡ true → (next : TargetCycle) × IsBeginning (CommandCycle c ∷ (addresses bs ++ (next ∷ [])))
 address_next c bs b h = (AddressCycle b, begins_as (CommandCycle c ∷ (addresses bs ++ (AddressCycle b ∷ []))) (CommandCycle c ∷ addresses (bs ++ (b ∷ []))) (ap (λ l. CommandCycle c ∷ l) (addresses_append bs b)) (address_begins c bs b h))
 
-program_end : (bs : List ℕ) → length bs ≡ 5 → IsSequence (CommandCycle PageProgram ∷ (addresses bs ++ (CommandCycle ProgramConfirm ∷ [])))
-program_end (a ∷ (b ∷ (c ∷ (d ∷ (e ∷ []))))) h = program a b c d e [] ProgramConfirm nothing whole
-program_end [] h = absurd (omega arith)
-program_end (a ∷ []) h = absurd (omega arith)
-program_end (a ∷ (b ∷ [])) h = absurd (omega arith)
-program_end (a ∷ (b ∷ (c ∷ []))) h = absurd (omega arith)
-program_end (a ∷ (b ∷ (c ∷ (d ∷ [])))) h = absurd (omega arith)
-program_end (a ∷ (b ∷ (c ∷ (d ∷ (e ∷ (x ∷ more)))))) h = absurd (omega arith)
+program_end : (opener : Command) → IsProgramOpener opener → (bs : List ℕ) → length bs ≡ 5 → IsSequence (CommandCycle opener ∷ (addresses bs ++ (CommandCycle ProgramConfirm ∷ [])))
+program_end opener opens (a ∷ (b ∷ (c ∷ (d ∷ (e ∷ []))))) h = program opener a b c d e [] ProgramConfirm opens nothing whole
+program_end opener opens [] h = absurd (omega arith)
+program_end opener opens (a ∷ []) h = absurd (omega arith)
+program_end opener opens (a ∷ (b ∷ [])) h = absurd (omega arith)
+program_end opener opens (a ∷ (b ∷ (c ∷ []))) h = absurd (omega arith)
+program_end opener opens (a ∷ (b ∷ (c ∷ (d ∷ [])))) h = absurd (omega arith)
+program_end opener opens (a ∷ (b ∷ (c ∷ (d ∷ (e ∷ (x ∷ more)))))) h = absurd (omega arith)
 
 -- where not all addresses have come another may, and else the closer
 next_or_closer : (c d : Command) (bs : List ℕ) (b : ℕ) → is_opener c ≡ true → takes_address c b ≡ true → length bs ≤ address_cycles c → (length bs ≡ address_cycles c → IsSequence (CommandCycle c ∷ (addresses bs ++ (CommandCycle d ∷ [])))) → (next : TargetCycle) × IsBeginning (CommandCycle c ∷ (addresses bs ++ (next ∷ [])))
@@ -640,7 +664,8 @@ proper_next Read bs h = next_or_closer Read ReadConfirm bs 0 refl refl (grind (a
 proper_next ChangeReadColumn bs h = next_or_closer ChangeReadColumn ChangeReadColumnConfirm bs 0 refl refl (grind (arith, nat_tests, h)) (change_ends bs)
 proper_next ChangeReadColumnEnhanced bs h = next_or_closer ChangeReadColumnEnhanced ChangeReadColumnConfirm bs 0 refl refl (grind (arith, nat_tests, h)) (plane_ends bs)
 proper_next BlockErase bs h = next_or_closer BlockErase BlockEraseConfirm bs 0 refl refl (grind (arith, nat_tests, h)) (erase_ends bs)
-proper_next PageProgram bs h = next_or_closer PageProgram ProgramConfirm bs 0 refl refl (grind (arith, nat_tests, h)) (program_end bs)
+proper_next PageProgram bs h = next_or_closer PageProgram ProgramConfirm bs 0 refl refl (grind (arith, nat_tests, h)) (program_end PageProgram write bs)
+proper_next ChangeWriteColumn bs h = next_or_closer ChangeWriteColumn ProgramConfirm bs 0 refl refl (grind (arith, nat_tests, h)) (program_end ChangeWriteColumn copy bs)
 proper_next ReadStatusEnhanced bs h = address_next ReadStatusEnhanced bs 0 (grind (arith, nat_tests, h))
 proper_next ReadId bs h = address_next ReadId bs 0x20 (grind (arith, nat_tests, h))
 proper_next ReadParameterPage bs h = address_next ReadParameterPage bs 0x00 (grind (arith, nat_tests, h))
@@ -694,6 +719,7 @@ right_true false false c h = h
 -- an opener that is closed by this, with its addresses whole
 closed_is_proper : (c d : Command) (n : ℕ) → (closes c d && n == address_cycles c) ≡ true → is_proper_beginning c n ≡ true
 closed_is_proper Read ReadConfirm n h = grind (arith, nat_tests, h)
+closed_is_proper Read CopybackRead n h = grind (arith, nat_tests, h)
 closed_is_proper Read ReadPlane n h = grind (arith, nat_tests, h)
 closed_is_proper Read ReadCacheSequential n h = grind (arith, nat_tests, h)
 closed_is_proper ChangeReadColumn ChangeReadColumnConfirm n h = grind (arith, nat_tests, h)
@@ -724,6 +750,7 @@ begun_is_proper ChangeReadColumn n b h k = grind (arith, nat_tests, h)
 begun_is_proper ChangeReadColumnEnhanced n b h k = grind (arith, nat_tests, h)
 begun_is_proper BlockErase n b h k = grind (arith, nat_tests, h)
 begun_is_proper ReadStatusEnhanced n b h k = grind (arith, nat_tests, h)
+begun_is_proper ChangeWriteColumn n b h k = grind (arith, nat_tests, h)
 begun_is_proper PageProgram n b h k = grind (arith, nat_tests, h)
 begun_is_proper ReadId n b h k = grind (arith, nat_tests, h)
 begun_is_proper ReadParameterPage n b h k = grind (arith, nat_tests, h)

@@ -13,7 +13,7 @@ use Rattle.onfi_cycle.specs.declared.tail_facts.TailFacts.{TailFacts}
 use Rattle.onfi_cycle.specs.declared.target_cycle.TargetCycle.{TargetCycle}
 use Rattle.onfi_cycle.specs.declared.target_cycle.TargetCycle.TheVariants.{CommandCycle, AddressCycle, InputCycle, OutputCycle}
 use Rattle.onfi_cycle.specs.LunView.{LunView}
-use Rattle.onfi_cycle.specs.Command.{address_cycles, is_opener, takes_address, is_page_program, is_set_features}
+use Rattle.onfi_cycle.specs.Command.{address_cycles, is_opener, takes_address, begins_data, is_set_features}
 use Rattle.onfi_cycle.specs.Sequence.{takes_features, target_cycle, begins_sequence, begins_anew, facts_of, facts_after, extended_facts, opened, one_address_more, wants_column, phase_after_command, phase_after_address, phase_after_last_address, phase_after_input}
 use Rattle.onfi_cycle.specs.Rules.{breaks_not_there, breaks_address_misplaced, breaks_column_outside}
 use Rattle.onfi_cycle.specs.Permitted.{judge, judge_cycle}
@@ -52,7 +52,7 @@ last_in_column false true = refl
 last_in_column false false = refl
 
 address_in_column : (o : Option Opening) (p : DataPhase) → wants_column (phase_after_address o p) ≡ true → wants_column p ≡ true
-address_in_column o Outside h = let no : wants_column (phase_after_last_address o) ≡ false = last_in_column (opened (λ c n. is_page_program c && n == 4) o) (opened (λ c n. is_set_features c && n == 0) o) in cc
+address_in_column o Outside h = let no : wants_column (phase_after_last_address o) ≡ false = last_in_column (opened (λ c n. begins_data c && n == 4) o) (opened (λ c n. is_set_features c && n == 0) o) in cc
 address_in_column o FirstColumn h = refl
 address_in_column o SecondColumn h = refl
 address_in_column o Inputs h = cc

@@ -8,14 +8,14 @@ use Rattle.nand_geometry.specs.declared.parts.Parts.{Parts}
 use Rattle.nand_geometry.specs.Limits.{InLimits, planes}
 use Rattle.nand_geometry.specs.Row.{parts_of}
 use Rattle.onfi_cycle.specs.declared.command.Command.{Command}
-use Rattle.onfi_cycle.specs.declared.command.Command.TheVariants.{Read, ChangeReadColumnConfirm, ReadStatus, ReadStatusEnhanced, PageProgram, ReadId, ReadParameterPage, Reset, ReadCacheSequential, ReadCacheEnd, ReadUniqueId, GetFeatures, ResetLun, SynchronousReset}
+use Rattle.onfi_cycle.specs.declared.command.Command.TheVariants.{Read, ChangeReadColumnConfirm, ReadStatus, ReadStatusEnhanced, PageProgram, ChangeWriteColumn, ReadId, ReadParameterPage, Reset, ReadCacheSequential, ReadCacheEnd, ReadUniqueId, GetFeatures, ResetLun, SynchronousReset}
 use Rattle.onfi_cycle.specs.declared.item.Cycle.{Cycle}
 use Rattle.onfi_cycle.specs.declared.effect.Effect.{Effect}
 use Rattle.onfi_cycle.specs.declared.effect.Effect.TheVariants.{Unaffected, SelectedForStatus, Deselected, ParameterPageReadStarted, CacheReadContinued, CacheReadEnded, ReadColumnChanged, DataOutput, BecameReady, ArrayBecameReady, UniqueIdReadStarted, FeaturesReadStarted, FeaturesSet, ResetStarted, AnotherAddressed, StatusSelected, StatusOfSelected, PlaneSelected}
 use Rattle.onfi_cycle.specs.declared.data_phase.DataPhase.{DataPhase}
 use Rattle.onfi_cycle.specs.declared.data_phase.DataPhase.TheVariants.{Outside, Inputs, FirstColumn, SecondColumn, FeatureInputs}
 use Rattle.onfi_cycle.specs.declared.filling.Filling.{Filling}
-use Rattle.onfi_cycle.specs.declared.filling.Filling.TheVariants.{Leaves, Clears, Fills}
+use Rattle.onfi_cycle.specs.declared.filling.Filling.TheVariants.{Leaves, Clears, Copies, Fills}
 use Rattle.onfi_cycle.specs.declared.item.Item.{Item}
 use Rattle.onfi_cycle.specs.declared.item.Item.TheVariants.{Cyc, Rdy, Ard}
 use Rattle.onfi_cycle.specs.declared.latch.Latch.{Latch}
@@ -26,11 +26,12 @@ use Rattle.onfi_cycle.specs.declared.tail_facts.TailFacts.{TailFacts}
 use Rattle.onfi_cycle.specs.declared.target_cycle.TargetCycle.{TargetCycle}
 use Rattle.onfi_cycle.specs.declared.target_cycle.TargetCycle.TheVariants.{CommandCycle, AddressCycle, InputCycle, OutputCycle}
 use Rattle.onfi_cycle.specs.LunView.{LunView}
-use Rattle.onfi_cycle.specs.Command.{closes_row, reads_row, is_page_program, at_last_row, reads_identity, is_reset, wants_one_lun}
+use Rattle.onfi_cycle.specs.Command.{closes_row, reads_row, is_page_program, is_write_column, at_last_row, reads_identity, is_reset, wants_one_lun}
 use Rattle.onfi_cycle.specs.Sequence.{target_of, target_cycle, tail, facts_of, opened, takes_data, wants_command, wants_address, wants_column, row, row_with, input_column, takes_features, selects_plane}
-use Rattle.onfi_cycle.specs.Effect.{is_off, is_data, is_shared, acts_for_target, of_target, other_effect, row_effect, cache_effect, names_lun, page_address, confirm_effect, command_effect, address_effect, opening_address_effect, cycle_effect, id_effect, ends_features, plane_of_row, plane_effect, column_effect}
-use Rattle.onfi_cycle.specs.Filling.{cycle_filling, filling}
-use Rattle.onfi_cycle.specs.Lun.{latch, latch_alone, drivers, is_only, effect_on, effect_among, lun_view, luns_of}
+use Rattle.onfi_cycle.specs.Effect.{is_off, is_data, is_shared, acts_for_target, of_target, other_effect, row_effect, cache_effect, names_lun, page_address, confirm_effect, command_effect, address_effect, opening_address_effect, program_row_effect, cycle_effect, id_effect, ends_features, plane_of_row, plane_effect, column_effect}
+use Rattle.onfi_cycle.specs.declared.page_address.PageAddress.{PageAddress}
+use Rattle.onfi_cycle.specs.Filling.{cycle_filling, filling, row_filling, copied, held_by}
+use Rattle.onfi_cycle.specs.Lun.{latch, latch_alone, drivers, is_only, effect_on, effect_among, lun_view, luns_of, held, page_in_plane}
 use Rattle.onfi_cycle.specs.Rules.{ends_row, breaks_several_luns}
 use Rattle.onfi_cycle.specs.Permitted.{broken}
 use Rattle.onfi_cycle.specs.State.{BusView, TargetView, Follows, target_view}
@@ -143,6 +144,11 @@ is_begun g t byte n alone h = at t.opening refl h
     selects true false h = h
     selects false d h = h
 
+    programs : (b d : Bool) → begins (cond b (program_row_effect d) Unaffected) ≡ true → false ≡ true
+    programs true true h = h
+    programs true false h = h
+    programs false d h = h
+
     reads : (o : Opening) → t.opening ≡ Some o → reads_identity o.opener ≡ true → (wants_address t byte ≡ true) × (acts_for_target g n ≡ true) → Begun g t byte n
     reads o e r w = identity (ap (opened (λ c n. reads_identity c)) e ∙ r) (identity_waits t byte o e (outside o e (wants_column t.phase) refl) r w.0) w.1
 
@@ -159,6 +165,7 @@ is_begun g t byte n alone h = at t.opening refl h
     kind o e ReadUniqueId is k h = reads o e (ap reads_identity is) (chosen_twice (wants_address t byte) (acts_for_target g n) UniqueIdReadStarted h)
     kind o e GetFeatures is k h = reads o e (ap reads_identity is) (chosen_twice (wants_address t byte) (acts_for_target g n) (FeaturesReadStarted byte) h)
     kind o e ResetLun is k h = reset (ap (opened (λ c n. reads_identity c)) e ∙ ap reads_identity is) (resets (k == 2) (names_lun g (row_with t byte) n) (is_shared g) h)
+    kind o e PageProgram is k h = let no = programs (k == 4) (names_lun g (row_with t byte) n) h in cc
     kind o e c is k h = cc
 
     at : (o : Option Opening) → t.opening ≡ o → begins (opening_address_effect g t byte o n) ≡ true → Begun g t byte n
@@ -185,22 +192,39 @@ program_opens_none (Some o) h = of o.opener (both (is_page_program o.opener) _ h
     of PageProgram h = refl
     of c h = cc
 
-one_of_address : (g : Parts) (t : TailFacts) (la lb : Latch) (byte n m : ℕ) → MayShare g t la lb (AddressCycle byte) n m → (fills (cycle_filling g t (AddressCycle byte) n) || begins (cycle_effect g t la (AddressCycle byte) n)) ≡ true → (fills (cycle_filling g t (AddressCycle byte) m) || begins (cycle_effect g t lb (AddressCycle byte) m)) ≡ true → n ≡ m
-one_of_address g t la lb byte n m s a b =
-    one_of_two g t byte n m s.identity
-    (either _ _ a (cleared n) (is_begun g t byte n s.outside))
-    (either _ _ b (cleared m) (is_begun g t byte m s.outside))
+copyback_opens_none : (o : Option Opening) → opened (λ c n. is_write_column c && at_last_row c n) o ≡ true → opened (λ c n. reads_identity c) o ≡ false
+copyback_opens_none None h = cc
+copyback_opens_none (Some o) h = of o.opener (both (is_write_column o.opener) _ h).0
   where
-    cleared : (k : ℕ) → fills (cycle_filling g t (AddressCycle byte) k) ≡ true → Begun g t byte k
-    cleared k h =
-        let parts = both (ends_row is_page_program t) (names_lun g (row_with t byte) k) (filled_when (ends_row is_page_program t && names_lun g (row_with t byte) k) (Clears (page_address g (row_with t byte))) h) in
-        reset (program_opens_none t.opening parts.0) parts.1
+    of : (c : Command) → is_write_column c ≡ true → reads_identity c ≡ false
+    of ChangeWriteColumn h = refl
+    of c h = cc
+
+row_opens_none : (g : Parts) (t : TailFacts) (row : ℕ) (held : List PageAddress) → fills (row_filling g t row held) ≡ true → opens_identity t ≡ false
+row_opens_none g t row held h = of (ends_row is_page_program t) refl (ends_row is_write_column t) refl h
+  where
+    of : (p : Bool) → ends_row is_page_program t ≡ p → (c : Bool) → ends_row is_write_column t ≡ c
+        → fills (cond p (Clears (page_address g row)) (cond c (copied (page_address g row) (page_in_plane (planes g) (plane_of_row g row) held)) Leaves)) ≡ true → opens_identity t ≡ false
+    of true e c f h = program_opens_none t.opening e
+    of false e true f h = copyback_opens_none t.opening f
+    of false e false f h = cc
+
+one_of_address : (g : Parts) (t : TailFacts) (la lb : Latch) (hn hm : List PageAddress) (byte n m : ℕ) → MayShare g t la lb (AddressCycle byte) n m → (fills (cycle_filling g t (AddressCycle byte) n hn) || begins (cycle_effect g t la (AddressCycle byte) n)) ≡ true → (fills (cycle_filling g t (AddressCycle byte) m hm) || begins (cycle_effect g t lb (AddressCycle byte) m)) ≡ true → n ≡ m
+one_of_address g t la lb hn hm byte n m s a b =
+    one_of_two g t byte n m s.identity
+    (either _ _ a (cleared n hn) (is_begun g t byte n s.outside))
+    (either _ _ b (cleared m hm) (is_begun g t byte m s.outside))
+  where
+    cleared : (k : ℕ) (held : List PageAddress) → fills (cycle_filling g t (AddressCycle byte) k held) ≡ true → Begun g t byte k
+    cleared k held h =
+        let named = filled_when (names_lun g (row_with t byte) k) (row_filling g t (row_with t byte) held) h in
+        reset (row_opens_none g t (row_with t byte) held (rw named at h)) named
 
 abbrev filled_by_data : Parts → TailFacts → ℕ → Bool
 filled_by_data g t k = takes_data t.phase && names_lun g (row t) k
 
-one_of_input : (g : Parts) (t : TailFacts) (la lb : Latch) (byte n m : ℕ) → MayShare g t la lb (InputCycle byte) n m → (fills (cycle_filling g t (InputCycle byte) n) || begins (cycle_effect g t la (InputCycle byte) n)) ≡ true → (fills (cycle_filling g t (InputCycle byte) m) || begins (cycle_effect g t lb (InputCycle byte) m)) ≡ true → n ≡ m
-one_of_input g t la lb byte n m s a b = at (ends_features t) refl
+one_of_input : (g : Parts) (t : TailFacts) (la lb : Latch) (hn hm : List PageAddress) (byte n m : ℕ) → MayShare g t la lb (InputCycle byte) n m → (fills (cycle_filling g t (InputCycle byte) n hn) || begins (cycle_effect g t la (InputCycle byte) n)) ≡ true → (fills (cycle_filling g t (InputCycle byte) m hm) || begins (cycle_effect g t lb (InputCycle byte) m)) ≡ true → n ≡ m
+one_of_input g t la lb hn hm byte n m s a b = at (ends_features t) refl
   where
     fill : ℕ → Filling
     fill k = cond (filled_by_data g t k) (Fills (page_address g (row t)) (input_column t) byte) Leaves
@@ -238,14 +262,14 @@ no_output la h = of (is_data la) h
     of true h = h
     of false h = h
 
-abbrev works_by : Parts → TailFacts → Latch → TargetCycle → ℕ → Bool
-works_by g t la cycle n = fills (cycle_filling g t cycle n) || begins (cycle_effect g t la cycle n)
+abbrev works_by : Parts → TailFacts → Latch → List PageAddress → TargetCycle → ℕ → Bool
+works_by g t la held cycle n = fills (cycle_filling g t cycle n held) || begins (cycle_effect g t la cycle n)
 
-one_of_cycle : (g : Parts) (t : TailFacts) (la lb : Latch) (cycle : TargetCycle) (n m : ℕ) → MayShare g t la lb cycle n m → works_by g t la cycle n ≡ true → works_by g t lb cycle m ≡ true → n ≡ m
-one_of_cycle g t la lb (CommandCycle c) n m s a b = one_of_command g t la lb c n m s a b
-one_of_cycle g t la lb (AddressCycle byte) n m s a b = one_of_address g t la lb byte n m s a b
-one_of_cycle g t la lb (InputCycle byte) n m s a b = one_of_input g t la lb byte n m s a b
-one_of_cycle g t la lb OutputCycle n m s a b = let no = no_output la a in cc
+one_of_cycle : (g : Parts) (t : TailFacts) (la lb : Latch) (hn hm : List PageAddress) (cycle : TargetCycle) (n m : ℕ) → MayShare g t la lb cycle n m → works_by g t la hn cycle n ≡ true → works_by g t lb hm cycle m ≡ true → n ≡ m
+one_of_cycle g t la lb hn hm (CommandCycle c) n m s a b = one_of_command g t la lb c n m s a b
+one_of_cycle g t la lb hn hm (AddressCycle byte) n m s a b = one_of_address g t la lb hn hm byte n m s a b
+one_of_cycle g t la lb hn hm (InputCycle byte) n m s a b = one_of_input g t la lb hn hm byte n m s a b
+one_of_cycle g t la lb hn hm OutputCycle n m s a b = let no = no_output la a in cc
 
 -- two that are the only one
 one_only : (ds : List ℕ) (n m : ℕ) → is_only ds n ≡ true → is_only ds m ≡ true → n ≡ m
@@ -261,11 +285,11 @@ alone_is_only g past l h = of (is_only (drivers g past l.ce) l.lun) h
     of false h = cc
 
 -- where an item works, it happens on the target
-cycle_of : (g : Parts) (past : List Item) (c : Cycle) (l : Lun) → works_on g past (Cyc c) l ≡ true → (c.ce ≡ l.ce) × (works_by g (facts_of (tail past l.ce)) (latch_alone g past l) (target_cycle c.kind c.byte) l.lun ≡ true)
+cycle_of : (g : Parts) (past : List Item) (c : Cycle) (l : Lun) → works_on g past (Cyc c) l ≡ true → (c.ce ≡ l.ce) × (works_by g (facts_of (tail past l.ce)) (latch_alone g past l) (held g past l) (target_cycle c.kind c.byte) l.lun ≡ true)
 unfolding effect_among
 cycle_of g past c l h = at (c.ce == l.ce) refl h
   where
-    at : (b : Bool) → (c.ce == l.ce) ≡ b → (fills (cond b (cycle_filling g (facts_of (tail past l.ce)) (target_cycle c.kind c.byte) l.lun) Leaves) || begins (cond b (cycle_effect g (facts_of (tail past l.ce)) (latch_alone g past l) (target_cycle c.kind c.byte) l.lun) Unaffected)) ≡ true → (c.ce ≡ l.ce) × (works_by g (facts_of (tail past l.ce)) (latch_alone g past l) (target_cycle c.kind c.byte) l.lun ≡ true)
+    at : (b : Bool) → (c.ce == l.ce) ≡ b → (fills (cond b (cycle_filling g (facts_of (tail past l.ce)) (target_cycle c.kind c.byte) l.lun (held g past l)) Leaves) || begins (cond b (cycle_effect g (facts_of (tail past l.ce)) (latch_alone g past l) (target_cycle c.kind c.byte) l.lun) Unaffected)) ≡ true → (c.ce ≡ l.ce) × (works_by g (facts_of (tail past l.ce)) (latch_alone g past l) (held g past l) (target_cycle c.kind c.byte) l.lun ≡ true)
     at true e h = (eqb-true c.ce l.ce e, h)
     at false e h = cc
 
@@ -352,10 +376,10 @@ one_of_cycles g n s past c l m narrow fits f there also h a b =
     let t = facts_of (tail past l.ce) in
     let stands = (known g n s past l fits f there).stands in
     let other : RowStands g t m.lun (lun_view g past m) = subst (λ (ce : ℕ). RowStands g (facts_of (tail past ce)) m.lun (lun_view g past m)) together (known g n s past m fits f also).stands in
-    let works : works_by g t (latch_alone g past m) (target_cycle c.kind c.byte) m.lun ≡ true = subst (λ (ce : ℕ). works_by g (facts_of (tail past ce)) (latch_alone g past m) (target_cycle c.kind c.byte) m.lun ≡ true) together y.1 in
+    let works : works_by g t (latch_alone g past m) (held g past m) (target_cycle c.kind c.byte) m.lun ≡ true = subst (λ (ce : ℕ). works_by g (facts_of (tail past ce)) (latch_alone g past m) (held g past m) (target_cycle c.kind c.byte) m.lun ≡ true) together y.1 in
     let tf = (known g n s past l fits f there).tail_fits in
     same_ce l m (sym together)
-    (one_of_cycle g t (latch_alone g past l) (latch_alone g past m) (target_cycle c.kind c.byte) l.lun m.lun
+    (one_of_cycle g t (latch_alone g past l) (latch_alone g past m) (held g past l) (held g past m) (target_cycle c.kind c.byte) l.lun m.lun
     (record {
       identity = λ i. one_acts g l.lun m.lun (λ one. stands.alone one i ∙ sym (other.alone one i));
       reset = λ e. let few = few_luns g (luns_of g past c.ce) (target_cycle c.kind c.byte) narrow keeps.f4 e in let low = there.lun in let low' = also.lun in omega arith;
@@ -411,7 +435,10 @@ tail_there g n s past ce v f here found =
     ap (λ (x : TargetView). x.tail) same
 
 -- what an item does to the page registers, by the state and by the past
-pub filling_there : (g : Parts) (n : ℕ) (s : BusView) (past : List Item) (i : Item) (l : Lun) (v : TargetView) → Follows g n s past → l.ce < n → slice_get s.targets l.ce ≡ Some v → filling s.geometry v.tail i l ≡ filling g (facts_of (tail past l.ce)) i l
-filling_there g n s past i l v f here found =
+pub filling_there : (g : Parts) (n : ℕ) (s : BusView) (past : List Item) (i : Item) (l : Lun) (v : TargetView) → Follows g n s past → l.ce < n → l.lun < g.luns → slice_get s.targets l.ce ≡ Some v
+    → filling s.geometry v.tail i l (held_by (slice_get v.luns l.lun)) ≡ filling g (facts_of (tail past l.ce)) i l (held g past l)
+filling_there g n s past i l v f here low found =
     let same : v ≡ target_view g past l.ce = let two = found_target g n s past l.ce f here in cc in
-    ap (λ (x : Parts). filling x v.tail i l) f.geometry ∙ ap (λ (x : TargetView). filling g x.tail i l) same
+    ap (λ (x : Parts). filling x v.tail i l (held_by (slice_get v.luns l.lun))) f.geometry
+    ∙ (ap (λ (x : TargetView). filling g x.tail i l (held_by (slice_get x.luns l.lun))) same
+    ∙ ap (λ (o : Option LunView). filling g (facts_of (tail past l.ce)) i l (held_by o)) (view_at g past l low))

@@ -1,6 +1,6 @@
 -- What the parts of an item make of the LUNs of its target.
 use Rattle.std.specs.List.{list_any}
-use Rattle.std.specs.Prelude.{ℕ, zero, suc, ◌+◌, Bool, true, false, ◌||◌, List, [], ◌∷◌, if◌then◌else◌}
+use Rattle.std.specs.Prelude.{ℕ, zero, suc, ◌+◌, ◌==◌, Bool, true, false, ◌||◌, ◌&&◌, List, [], ◌∷◌, if◌then◌else◌}
 use Rattle.nand_geometry.specs.declared.parts.Parts.{Parts}
 use Rattle.onfi_cycle.specs.declared.command.Command.{Command}
 use Rattle.onfi_cycle.specs.declared.command.Command.TheVariants.{Read, ReadStatus, ReadStatusEnhanced, ReadId, ReadParameterPage, Reset, ChangeReadColumnConfirm, ReadCacheSequential, ReadCacheEnd, ReadUniqueId, GetFeatures, ResetLun, SynchronousReset}
@@ -12,6 +12,7 @@ use Rattle.onfi_cycle.specs.declared.target_cycle.TargetCycle.TheVariants.{Comma
 use Rattle.onfi_cycle.specs.LunView.{LunView}
 use Rattle.onfi_cycle.specs.Effect.{cycle_effect, is_data, ends_features}
 use Rattle.onfi_cycle.specs.Lun.{view_after}
+use Rattle.onfi_cycle.specs.Command.{is_page_program}
 use Rattle.onfi_cycle.specs.Sequence.{opened, wants_command}
 
 -- what a cycle makes of them, from number n on; sole tells whether one of them is the one driver
@@ -46,7 +47,7 @@ needs_no_row ReadCacheEnd = true
 needs_no_row ChangeReadColumnConfirm = true
 needs_no_row _ = false
 
--- an address behind the opener may do something to a LUN
+-- an address behind the opener may do something to a LUN, whichever it is
 abbrev pub acts_by_address : Command → Bool
 acts_by_address ReadStatusEnhanced = true
 acts_by_address ReadId = true
@@ -59,6 +60,6 @@ acts_by_address _ = false
 -- the cycle may do something to a LUN of its target; where it can't, all stay as they are
 abbrev pub may_act : TailFacts → List LunView → TargetCycle → Bool
 may_act t luns (CommandCycle c) = needs_no_row c || wants_command t c
-may_act t luns (AddressCycle byte) = opened (λ c n. acts_by_address c) t.opening
+may_act t luns (AddressCycle byte) = opened (λ c n. acts_by_address c || (is_page_program c && n == 4)) t.opening
 may_act t luns (InputCycle byte) = ends_features t
 may_act t luns OutputCycle = list_any (λ v. is_data v.latch) luns

@@ -1,7 +1,7 @@
 -- The commands of the profiles: their bytes, and what each asks of its sequence.
 use Rattle.std.specs.Prelude.{◌≡◌, ◌≢◌, ℕ, ◌==◌, Bool, true, false, ◌||◌, if◌then◌else◌, Option, Some, None}
 use Rattle.onfi_cycle.specs.declared.command.Command.{Command}
-use Rattle.onfi_cycle.specs.declared.command.Command.TheVariants.{Read, ReadConfirm, ChangeReadColumn, ChangeReadColumnEnhanced, ChangeReadColumnConfirm, BlockErase, BlockEraseConfirm, BlockErasePlane, ReadStatus, ReadStatusEnhanced, PageProgram, ChangeWriteColumn, ProgramConfirm, ProgramPlane, ReadId, ReadParameterPage, Reset, ReadCacheSequential, ReadCacheEnd, ReadUniqueId, GetFeatures, SetFeatures, ResetLun, SynchronousReset, Unknown, ReadPlane}
+use Rattle.onfi_cycle.specs.declared.command.Command.TheVariants.{Read, ReadConfirm, ChangeReadColumn, ChangeReadColumnEnhanced, ChangeReadColumnConfirm, BlockErase, BlockEraseConfirm, BlockErasePlane, ReadStatus, ReadStatusEnhanced, PageProgram, ChangeWriteColumn, ProgramConfirm, ProgramPlane, ReadId, ReadParameterPage, Reset, ReadCacheSequential, ReadCacheEnd, ReadUniqueId, GetFeatures, SetFeatures, ResetLun, SynchronousReset, Unknown, ReadPlane, CopybackRead}
 
 -- the command of a byte
 unfoldable pub command : ℕ → Command
@@ -31,13 +31,15 @@ command byte =
     else (if byte == 0xfc then SynchronousReset
     else (if byte == 0x06 then ChangeReadColumnEnhanced
     else (if byte == 0x32 then ReadPlane
-    else Unknown))))))))))))))))))))))))
+    else (if byte == 0x35 then CopybackRead
+    else Unknown)))))))))))))))))))))))))
 
 -- the byte of a command
 abbrev pub opcode : Command → Option ℕ
 opcode Read = Some 0x00
 opcode ReadConfirm = Some 0x30
 opcode ReadPlane = Some 0x32
+opcode CopybackRead = Some 0x35
 opcode ChangeReadColumn = Some 0x05
 opcode ChangeReadColumnEnhanced = Some 0x06
 opcode ChangeReadColumnConfirm = Some 0xe0
@@ -72,14 +74,14 @@ abbrev pub is_known : Command → Bool
 is_known Unknown = false
 is_known _ = true
 
--- the commands that begin a sequence
+-- the commands that begin a sequence; 31 and 85 do so where the tail doesn't want them
 abbrev pub is_opener : Command → Bool
 is_opener ReadConfirm = false
 is_opener ReadPlane = false
+is_opener CopybackRead = false
 is_opener ChangeReadColumnConfirm = false
 is_opener BlockEraseConfirm = false
 is_opener BlockErasePlane = false
-is_opener ChangeWriteColumn = false
 is_opener ProgramConfirm = false
 is_opener ProgramPlane = false
 is_opener Unknown = false
@@ -93,6 +95,7 @@ address_cycles ChangeReadColumnEnhanced = 5
 address_cycles BlockErase = 3
 address_cycles ReadStatusEnhanced = 3
 address_cycles PageProgram = 5
+address_cycles ChangeWriteColumn = 5
 address_cycles ReadId = 1
 address_cycles ReadParameterPage = 1
 address_cycles ReadUniqueId = 1
@@ -108,12 +111,14 @@ wants_closer ChangeReadColumn = true
 wants_closer ChangeReadColumnEnhanced = true
 wants_closer BlockErase = true
 wants_closer PageProgram = true
+wants_closer ChangeWriteColumn = true
 wants_closer _ = false
 
 -- the second command closes what the first opened, straight after its addresses
 abbrev pub closes : Command → Command → Bool
 closes Read ReadConfirm = true
 closes Read ReadPlane = true
+closes Read CopybackRead = true
 closes Read ReadCacheSequential = true
 closes ChangeReadColumn ChangeReadColumnConfirm = true
 closes ChangeReadColumnEnhanced ChangeReadColumnConfirm = true
@@ -132,6 +137,7 @@ takes_address _ byte = true
 abbrev pub closes_row : Command → Bool
 closes_row ReadConfirm = true
 closes_row ReadPlane = true
+closes_row CopybackRead = true
 closes_row ReadCacheSequential = true
 closes_row BlockEraseConfirm = true
 closes_row BlockErasePlane = true
@@ -143,6 +149,7 @@ closes_row _ = false
 abbrev pub reads_row : Command → Bool
 reads_row ReadConfirm = true
 reads_row ReadPlane = true
+reads_row CopybackRead = true
 reads_row ReadCacheSequential = true
 reads_row _ = false
 
@@ -154,6 +161,7 @@ at_last_row BlockErase n = n == 2
 at_last_row ReadStatusEnhanced n = n == 2
 at_last_row ResetLun n = n == 2
 at_last_row PageProgram n = n == 4
+at_last_row ChangeWriteColumn n = n == 4
 at_last_row _ n = false
 
 abbrev pub is_change_read_column : Command → Bool
@@ -167,6 +175,17 @@ is_enhanced_column _ = false
 abbrev pub is_page_program : Command → Bool
 is_page_program PageProgram = true
 is_page_program _ = false
+
+-- 85, which begins a copyback, or changes the column in the data of a program
+abbrev pub is_write_column : Command → Bool
+is_write_column ChangeWriteColumn = true
+is_write_column _ = false
+
+-- the openers whose row is followed by the data of a program
+abbrev pub begins_data : Command → Bool
+begins_data PageProgram = true
+begins_data ChangeWriteColumn = true
+begins_data _ = false
 
 abbrev pub is_set_features : Command → Bool
 is_set_features SetFeatures = true
@@ -188,6 +207,7 @@ addresses_the_array Read = true
 addresses_the_array ChangeReadColumnEnhanced = true
 addresses_the_array BlockErase = true
 addresses_the_array PageProgram = true
+addresses_the_array ChangeWriteColumn = true
 addresses_the_array _ = false
 
 -- the openers whose column is of a page
@@ -195,6 +215,7 @@ abbrev pub addresses_a_page : Command → Bool
 addresses_a_page Read = true
 addresses_a_page ChangeReadColumnEnhanced = true
 addresses_a_page PageProgram = true
+addresses_a_page ChangeWriteColumn = true
 addresses_a_page _ = false
 
 -- the openers that read what stands beside the array, or set it

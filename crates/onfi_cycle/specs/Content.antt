@@ -1,7 +1,7 @@
 -- What the pages of a LUN contain, and what a LUN shows.
-use Rattle.std.specs.Prelude.{ℕ, zero, suc, ◌+◌, ◌==◌, Bool, true, false, ◌&&◌, if◌then◌else◌, List, [], ◌∷◌, ◌++◌, Option, Some, None, bit_and, replicate, slice_get, slice_set}
+use Rattle.std.specs.Prelude.{◌≡◌, ℕ, zero, suc, ◌+◌, ◌==◌, Bool, true, false, ◌&&◌, not, if◌then◌else◌, List, [], ◌∷◌, ◌++◌, Option, Some, None, bit_and, replicate, slice_get, slice_set}
 use Rattle.nand_geometry.specs.declared.parts.Parts.{Parts}
-use Rattle.nand_geometry.specs.Limits.{page_len}
+use Rattle.nand_geometry.specs.Limits.{page_len, planes}
 use Rattle.onfi_cycle.specs.declared.lun.Lun.{Lun}
 use Rattle.onfi_cycle.specs.declared.latch.Latch.{Latch}
 use Rattle.onfi_cycle.specs.declared.latch.Latch.TheVariants.{Off, Status, Data}
@@ -10,9 +10,10 @@ use Rattle.onfi_cycle.specs.declared.page_address.PageAddress.{PageAddress}
 use Rattle.onfi_cycle.specs.declared.register.Register.{Register}
 use Rattle.onfi_cycle.specs.declared.register.Register.TheVariants.{Empty, Page, ParameterPage, Identifier, Identity, JedecIdentity, UniqueId, Features}
 use Rattle.onfi_cycle.specs.declared.effect.Effect.{Effect}
-use Rattle.onfi_cycle.specs.declared.effect.Effect.TheVariants.{ParameterPageReadStarted, UniqueIdReadStarted, FeaturesReadStarted, FeaturesSet, CacheReadContinued, CacheReadEnded, ResetStarted, TargetResetStarted, BecameReady, ReadStarted, EraseStarted, ProgramStarted, ReadQueued}
-use Rattle.onfi_cycle.specs.Sequence.{tail, filled}
-use Rattle.onfi_cycle.specs.Lun.{effect_on, latch, is_busy, is_array_busy, read_column, output_column, register}
+use Rattle.onfi_cycle.specs.declared.effect.Effect.TheVariants.{ParameterPageReadStarted, UniqueIdReadStarted, FeaturesReadStarted, FeaturesSet, CacheReadContinued, CacheReadEnded, ResetStarted, TargetResetStarted, BecameReady, ReadStarted, EraseStarted, ProgramStarted, ReadQueued, CopybackReadStarted}
+use Rattle.onfi_cycle.specs.Sequence.{tail, facts_of, filled, row}
+use Rattle.onfi_cycle.specs.Effect.{plane_of_row}
+use Rattle.onfi_cycle.specs.Lun.{effect_on, latch, is_busy, is_array_busy, read_column, output_column, register, held, page_in_plane}
 
 -- a list with these bytes written over it from a place on, the first byte first
 abbrev pub written : List ℕ → ℕ → List ℕ → List ℕ
@@ -46,20 +47,17 @@ abbrev pub queued_work_after : Effect → List ℕ → List ArrayWork → List A
 queued_work_after (EraseStarted queued at) bytes works = if queued then ErasesBlock at ∷ works else []
 queued_work_after (ProgramStarted queued at) bytes works = if queued then ProgramsPage at bytes ∷ works else []
 queued_work_after (ReadStarted _ _) bytes works = []
+queued_work_after (CopybackReadStarted _ _ _) bytes works = []
 queued_work_after ResetStarted bytes works = []
 queued_work_after (TargetResetStarted _) bytes works = []
 queued_work_after _ bytes works = works
-
--- the queue with its bytes, the newest first
-abbrev pub queued_work : Parts → List Item → Lun → List ArrayWork
-queued_work g [] l = []
-queued_work g (i ∷ past) l = queued_work_after (effect_on g past i l) (filled (page_len g) (tail past l.ce)) (queued_work g past l)
 
 abbrev pub pending_work_after : Effect → List ℕ → List ArrayWork → List ArrayWork → List ArrayWork
 pending_work_after (EraseStarted queued at) bytes works pending = if queued then [] else ErasesBlock at ∷ works
 pending_work_after (ProgramStarted queued at) bytes works pending = if queued then [] else ProgramsPage at bytes ∷ works
 pending_work_after (ReadStarted _ _) bytes works pending = []
 pending_work_after (ReadQueued _) bytes works pending = []
+pending_work_after (CopybackReadStarted _ _ _) bytes works pending = []
 pending_work_after ParameterPageReadStarted bytes works pending = []
 pending_work_after UniqueIdReadStarted bytes works pending = []
 pending_work_after (FeaturesReadStarted _) bytes works pending = []
@@ -71,33 +69,94 @@ pending_work_after (TargetResetStarted _) bytes works pending = []
 pending_work_after (BecameReady _) bytes works pending = []
 pending_work_after _ bytes works pending = pending
 
--- what takes effect at the next ready of the LUN, if that is without failure: what 10 or D0 closed, and its queue
-abbrev pub pending_work : Parts → List Item → Lun → List ArrayWork
-pending_work g [] l = []
-pending_work g (i ∷ past) l =
-    pending_work_after (effect_on g past i l) (filled (page_len g) (tail past l.ce)) (queued_work g past l) (pending_work g past l)
-
 abbrev pub content_after : Parts → Effect → List ArrayWork → PageAddress → List ℕ → List ℕ
 content_after g (BecameReady failed) pending p old = if failed then old else left_by_all (page_len g) pending p old
 content_after g _ pending p old = old
 
--- the bytes of a page, from what the LUN's pages had at the opening
+-- the pages of a LUN, and the works on them that are to come
+pub record LunPages : Type 0 where
+  pub queued : List ArrayWork
+  pub pending : List ArrayWork
+  pub content : PageAddress → List ℕ
+
+-- the bytes of a page that is held, and FF where none is
+abbrev pub bytes_held : Parts → (PageAddress → List ℕ) → Option PageAddress → List ℕ
+bytes_held g content None = replicate (page_len g) 0xff
+bytes_held g content (Some p) = content p
+
+-- the bytes that a program begins with: of the page that the LUN holds in the plane of the row. 85 copies that; 80 leaves none
+abbrev pub begun_with : Parts → (PageAddress → List ℕ) → List Item → Lun → List ℕ
+begun_with g content past l = bytes_held g content (page_in_plane (planes g) (plane_of_row g (row (facts_of (tail past l.ce)))) (held g past l))
+
+-- the bytes of a program that is open on the LUN
+abbrev pub program_bytes : Parts → (PageAddress → List ℕ) → List Item → Lun → List ℕ
+program_bytes g content past l = filled (begun_with g content past l) (tail past l.ce)
+
+abbrev pub pages_after : Parts → Effect → List ℕ → LunPages → LunPages
+pages_after g a bytes s =
+    record {
+      queued = queued_work_after a bytes s.queued;
+      pending = pending_work_after a bytes s.queued s.pending;
+      content = λ p. content_after g a s.pending p (s.content p);
+    }
+
+-- the pages of the LUN after a past, from what they had at the opening
+abbrev pub pages_of : Parts → (Lun → PageAddress → List ℕ) → List Item → Lun → LunPages
+pages_of g opening [] l = record { queued = []; pending = []; content = opening l }
+pages_of g opening (i ∷ past) l =
+    let before = pages_of g opening past l in pages_after g (effect_on g past i l) (program_bytes g before.content past l) before
+
+-- the queue with its bytes, the newest first
+abbrev pub queued_work : Parts → (Lun → PageAddress → List ℕ) → List Item → Lun → List ArrayWork
+queued_work g opening past l = (pages_of g opening past l).queued
+
+-- what takes effect at the next ready of the LUN, if that is without failure: what 10 or D0 closed, and its queue
+abbrev pub pending_work : Parts → (Lun → PageAddress → List ℕ) → List Item → Lun → List ArrayWork
+pending_work g opening past l = (pages_of g opening past l).pending
+
+-- the bytes of a page
 abbrev pub content : Parts → (Lun → PageAddress → List ℕ) → List Item → Lun → PageAddress → List ℕ
-content g opening [] l p = opening l p
-content g opening (i ∷ past) l p = content_after g (effect_on g past i l) (pending_work g past l) p (content g opening past l p)
+content g opening past l = (pages_of g opening past l).content
+
+-- whether the work that goes on changes pages: 10 or D0 closed it
+abbrev pub changes_after : Effect → Bool → Bool
+changes_after (EraseStarted queued at) changes = not queued
+changes_after (ProgramStarted queued at) changes = not queued
+changes_after (ReadStarted _ _) changes = false
+changes_after (ReadQueued _) changes = false
+changes_after (CopybackReadStarted _ _ _) changes = false
+changes_after ParameterPageReadStarted changes = false
+changes_after UniqueIdReadStarted changes = false
+changes_after (FeaturesReadStarted _) changes = false
+changes_after (FeaturesSet _) changes = false
+changes_after (CacheReadContinued _) changes = false
+changes_after CacheReadEnded changes = false
+changes_after ResetStarted changes = false
+changes_after (TargetResetStarted _) changes = false
+changes_after (BecameReady _) changes = false
+changes_after _ changes = changes
+
+abbrev pub changes_pages : Parts → List Item → Lun → Bool
+changes_pages g [] l = false
+changes_pages g (i ∷ past) l = changes_after (effect_on g past i l) (changes_pages g past l)
+
+abbrev pub failed_after : Effect → (changes : Bool) → Bool → Bool
+failed_after (BecameReady fail) changes failed = fail && changes
+failed_after _ changes failed = failed
+
+-- the newest work is over, it was a program or an erase, and its ready brought a failure
+abbrev pub has_failed : Parts → List Item → Lun → Bool
+has_failed g [] l = false
+has_failed g (i ∷ past) l = failed_after (effect_on g past i l) (changes_pages g past l) (has_failed g past l)
 
 abbrev pub is_some_work : List ArrayWork → Bool
 is_some_work [] = false
 is_some_work (work ∷ works) = true
 
-abbrev pub failed_after : Effect → List ArrayWork → Bool → Bool
-failed_after (BecameReady fail) pending failed = fail && is_some_work pending
-failed_after _ pending failed = failed
-
--- the newest work is over, it was a program or an erase, and its ready brought a failure
-abbrev pub has_failed : Parts → List Item → Lun → Bool
-has_failed g [] l = false
-has_failed g (i ∷ past) l = failed_after (effect_on g past i l) (pending_work g past l) (has_failed g past l)
+-- the law: the work that goes on changes pages exactly where something takes effect at its end
+abbrev pub WorkChangesPages : Type 0
+WorkChangesPages =
+    (g : Parts) (opening : Lun → PageAddress → List ℕ) (past : List Item) (l : Lun) → is_some_work (pending_work g opening past l) ≡ changes_pages g past l
 
 -- the status byte: WP_N alone while the LUN is busy; with RDY while its array still is; else with ARDY too, and FAIL if its last work failed
 abbrev pub status : Parts → List Item → Lun → ℕ

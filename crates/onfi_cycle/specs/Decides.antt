@@ -1,9 +1,9 @@
 -- What decides each fact of a LUN, in the words of the trace: the newest item that says something of it.
-use Rattle.std.specs.Prelude.{◌≡◌, ℕ, ◌+◌, ◌<◌, ◌==◌, Bool, true, false, ◌||◌, ◌&&◌, not, nat_lt, if◌then◌else◌, List, [], ◌∷◌, Option, Some, None, unwrap_or, take}
+use Rattle.std.specs.Prelude.{◌≡◌, ℕ, ◌+◌, ◌<◌, ◌==◌, Bool, true, false, ◌||◌, ◌&&◌, not, nat_lt, if◌then◌else◌, List, [], ◌∷◌, Option, Some, None, unwrap_or, take, ◌++◌}
 use Rattle.nand_geometry.specs.declared.parts.Parts.{Parts}
 use Rattle.nand_geometry.specs.Limits.{planes}
 use Rattle.onfi_cycle.specs.declared.command.Command.{Command}
-use Rattle.onfi_cycle.specs.declared.command.Command.TheVariants.{Read, ReadConfirm, ChangeReadColumnConfirm, BlockEraseConfirm, BlockErasePlane, ReadStatus, ReadStatusEnhanced, ProgramConfirm, ProgramPlane, ReadId, ReadParameterPage, Reset, ReadCacheSequential, ReadCacheEnd, ReadUniqueId, GetFeatures, SetFeatures, ResetLun, SynchronousReset, ReadPlane}
+use Rattle.onfi_cycle.specs.declared.command.Command.TheVariants.{Read, ReadConfirm, ChangeReadColumnConfirm, BlockEraseConfirm, BlockErasePlane, ReadStatus, ReadStatusEnhanced, ProgramConfirm, ProgramPlane, ReadId, ReadParameterPage, Reset, ReadCacheSequential, ReadCacheEnd, ReadUniqueId, GetFeatures, SetFeatures, ResetLun, SynchronousReset, ReadPlane, CopybackRead}
 use Rattle.onfi_cycle.specs.declared.lun.Lun.{Lun}
 use Rattle.onfi_cycle.specs.declared.latch.Latch.{Latch}
 use Rattle.onfi_cycle.specs.declared.latch.Latch.TheVariants.{Off, Status, Data}
@@ -18,10 +18,10 @@ use Rattle.onfi_cycle.specs.declared.queued.Queued.TheVariants.{Erase, Program, 
 use Rattle.onfi_cycle.specs.declared.register.Register.{Register}
 use Rattle.onfi_cycle.specs.declared.register.Register.TheVariants.{Empty, Page, ParameterPage, Identifier, Identity, JedecIdentity, UniqueId, Features}
 use Rattle.onfi_cycle.specs.declared.tail_facts.TailFacts.{TailFacts}
-use Rattle.onfi_cycle.specs.Command.{closes_row, reads_row, is_set_features, reads_identity}
+use Rattle.onfi_cycle.specs.Command.{closes_row, reads_row, is_set_features, is_page_program, reads_identity}
 use Rattle.onfi_cycle.specs.Sequence.{target_cycle, tail, facts_of, row, row_with, selects_plane, wants_command, wants_address}
 use Rattle.onfi_cycle.specs.Effect.{is_data, is_shared, acts_for_target, page_address, names_lun, ends_features, plane_of_row}
-use Rattle.onfi_cycle.specs.Lun.{latch, drivers, is_only, is_selected, is_overlapped, is_busy, is_caching, closer, is_array_busy, array_page, register, read_column, queue, held, has_reads, pages_of_reads, page_in_plane, register_of_plane}
+use Rattle.onfi_cycle.specs.Lun.{latch, drivers, is_only, is_selected, is_overlapped, is_busy, is_caching, closer, is_array_busy, array_page, register, read_column, queue, held, has_reads, pages_of_reads, page_in_plane, register_of_plane, held_on, is_copyback_read}
 use Rattle.onfi_cycle.specs.Permitted.{is_legal}
 
 -- 1. the newest item that decides, and what stands since
@@ -70,6 +70,7 @@ drives_alone g past l = is_only (drivers g past l.ce) l.lun
 abbrev pub row_closer : Bool → Command → Option Command
 row_closer named ReadConfirm = if named then Some ReadConfirm else None
 row_closer named ReadPlane = if named then Some ReadPlane else None
+row_closer named CopybackRead = if named then Some CopybackRead else None
 row_closer named ReadCacheSequential = if named then Some ReadCacheSequential else None
 row_closer named BlockEraseConfirm = if named then Some BlockEraseConfirm else None
 row_closer named BlockErasePlane = if named then Some BlockErasePlane else None
@@ -172,9 +173,10 @@ array_busy_decided g l past i =
 
 -- 4. the register and the page of the array
 
--- a closer reads the page of its row: a 30, and a 31 that its tail wants
+-- a closer reads the page of its row: a 30 or 35, and a 31 that its tail wants
 abbrev pub reads_page : (wanted : Bool) → Option Command → Bool
 reads_page wanted (Some ReadConfirm) = true
+reads_page wanted (Some CopybackRead) = true
 reads_page wanted (Some ReadCacheSequential) = wanted
 reads_page wanted _ = false
 
@@ -217,6 +219,7 @@ id_register byte = if byte == 0x20 then Identifier else (if byte == 0x40 then Je
 abbrev pub register_of : Parts → List Item → Lun → ℕ → Option Command → Option Register
 register_of g past l byte None = None
 register_of g past l byte (Some ReadConfirm) = Some (if has_reads (queue g past l) then Empty else Page (page_address g (row (tail_of past l))))
+register_of g past l byte (Some CopybackRead) = Some (if has_reads (queue g past l) then Empty else Page (page_address g (row (tail_of past l))))
 register_of g past l byte (Some ReadParameterPage) = Some ParameterPage
 register_of g past l byte (Some ReadId) = Some (id_register byte)
 register_of g past l byte (Some ReadUniqueId) = Some UniqueId
@@ -235,17 +238,38 @@ register_decided g l past i =
     if selects_here g l past i then Some (register_of_plane (page_in_plane (planes g) (plane_of_row g (row (tail_of past l))) (held g past l)))
     else register_of g past l (byte_of i) (closing g l past i)
 
+-- the page of the row is read for a copyback: it is held, with the reads that were queued and, behind another 35, those of other planes
+abbrev pub copies_held : Parts → List Item → Lun → List PageAddress
+copies_held g past l =
+    let at = page_address g (row (tail_of past l)) in
+    take 4 (at ∷ (pages_of_reads (queue g past l) ++ held_on (planes g) at (is_copyback_read (closer g past l)) (held g past l)))
+
 -- the pages that a closer leaves in the plane registers; an 11 leaves those that are there
 abbrev pub held_of : Parts → List Item → Lun → Option Command → Option (List PageAddress)
 held_of g past l None = None
 held_of g past l (Some ReadConfirm) = Some (take 4 (page_address g (row (tail_of past l)) ∷ pages_of_reads (queue g past l)))
+held_of g past l (Some CopybackRead) = Some (copies_held g past l)
 held_of g past l (Some ReadCacheSequential) = Some (array_page g past l ∷ [])
 held_of g past l (Some ReadCacheEnd) = Some (array_page g past l ∷ [])
 held_of g past l (Some ProgramPlane) = None
 held_of g past l (Some c) = Some []
 
+-- the address ends the row of an 80 that names the LUN, which clears its registers
+abbrev pub clears_by_opening : Parts → Lun → TailFacts → ℕ → Option Opening → Bool
+clears_by_opening g l t byte None = false
+clears_by_opening g l t byte (Some o) = is_page_program o.opener && (o.addresses == 4 && names_lun g (row_with t byte) l.lun)
+
+abbrev pub clears_by_cycle : Parts → Lun → TailFacts → TargetCycle → Bool
+clears_by_cycle g l t (AddressCycle byte) = clears_by_opening g l t byte t.opening
+clears_by_cycle g l t _ = false
+
+abbrev pub clears_here : Parts → Lun → List Item → Item → Bool
+clears_here g l past (Cyc c) = c.ce == l.ce && clears_by_cycle g l (tail_of past l) (target_cycle c.kind c.byte)
+clears_here g l past (Rdy ce lun fail) = false
+clears_here g l past (Ard ce lun) = false
+
 abbrev pub held_decided : Parts → Lun → List Item → Item → Option (List PageAddress)
-held_decided g l past i = held_of g past l (closing g l past i)
+held_decided g l past i = if clears_here g l past i then Some [] else held_of g past l (closing g l past i)
 
 -- 5. the read column
 
@@ -261,6 +285,7 @@ changes_column g l past i =
 abbrev pub column_of : List Item → Lun → Option Command → Option ℕ
 column_of past l None = None
 column_of past l (Some ReadConfirm) = Some (tail_of past l).column
+column_of past l (Some CopybackRead) = Some (tail_of past l).column
 column_of past l (Some ReadParameterPage) = Some 0
 column_of past l (Some ReadId) = Some 0
 column_of past l (Some ReadUniqueId) = Some 0
@@ -304,6 +329,7 @@ empties_queue (Some BlockEraseConfirm) = true
 empties_queue (Some ProgramConfirm) = true
 empties_queue (Some Reset) = true
 empties_queue (Some ReadConfirm) = true
+empties_queue (Some CopybackRead) = true
 empties_queue _ = false
 
 abbrev pub queued_row : PageAddress → Option Command → Option Queued
@@ -319,6 +345,7 @@ closed_latch None = None
 closed_latch (Some Reset) = Some Off
 closed_latch (Some ReadConfirm) = Some Data
 closed_latch (Some ReadPlane) = Some Data
+closed_latch (Some CopybackRead) = Some Data
 closed_latch (Some ReadParameterPage) = Some Data
 closed_latch (Some ReadId) = Some Data
 closed_latch (Some ReadUniqueId) = Some Data

@@ -5,7 +5,7 @@ use Rattle.nand_geometry.specs.Optional.{is_wide}
 use Rattle.nand_geometry.specs.Limits.{planes}
 use Rattle.nand_geometry.specs.Row.{parts_of}
 use Rattle.onfi_cycle.specs.declared.command.Command.{Command}
-use Rattle.onfi_cycle.specs.declared.command.Command.TheVariants.{Read, ProgramConfirm, ProgramPlane, ReadConfirm, ReadCacheSequential, ReadCacheEnd, ReadStatus, ReadStatusEnhanced, ReadId, BlockEraseConfirm, BlockErasePlane, ChangeReadColumnConfirm, ReadParameterPage, Reset, ReadUniqueId, GetFeatures, ResetLun, SynchronousReset, ReadPlane}
+use Rattle.onfi_cycle.specs.declared.command.Command.TheVariants.{Read, ProgramConfirm, ProgramPlane, ReadConfirm, ReadCacheSequential, ReadCacheEnd, ReadStatus, ReadStatusEnhanced, ReadId, BlockEraseConfirm, BlockErasePlane, ChangeReadColumnConfirm, ReadParameterPage, Reset, ReadUniqueId, GetFeatures, ResetLun, SynchronousReset, ReadPlane, CopybackRead, PageProgram}
 use Rattle.onfi_cycle.specs.declared.lun.Lun.{Lun}
 use Rattle.onfi_cycle.specs.declared.latch.Latch.{Latch}
 use Rattle.onfi_cycle.specs.declared.latch.Latch.TheVariants.{Off, Status, Data}
@@ -15,7 +15,7 @@ use Rattle.onfi_cycle.specs.declared.target_cycle.TargetCycle.{TargetCycle}
 use Rattle.onfi_cycle.specs.declared.target_cycle.TargetCycle.TheVariants.{CommandCycle, AddressCycle, InputCycle, OutputCycle}
 use Rattle.onfi_cycle.specs.declared.page_address.PageAddress.{PageAddress}
 use Rattle.onfi_cycle.specs.declared.effect.Effect.{Effect}
-use Rattle.onfi_cycle.specs.declared.effect.Effect.TheVariants.{Unaffected, DataOutputEnabled, StatusSelected, StatusRowAwaited, SelectedForStatus, Deselected, PlaneSelected, IdRead, IdentityRead, UniqueIdReadStarted, FeaturesReadStarted, FeaturesSet, ParameterPageReadStarted, CacheReadContinued, CacheReadEnded, DataOutput, ResetStarted, BecameReady, ArrayBecameReady, ReadStarted, EraseStarted, ProgramStarted, ReadColumnChanged, AnotherAddressed, StatusOfSelected, TargetResetStarted, ReadQueued}
+use Rattle.onfi_cycle.specs.declared.effect.Effect.TheVariants.{Unaffected, DataOutputEnabled, StatusSelected, StatusRowAwaited, SelectedForStatus, Deselected, PlaneSelected, IdRead, IdentityRead, UniqueIdReadStarted, FeaturesReadStarted, FeaturesSet, ParameterPageReadStarted, CacheReadContinued, CacheReadEnded, DataOutput, ResetStarted, BecameReady, ArrayBecameReady, ReadStarted, EraseStarted, ProgramStarted, ReadColumnChanged, AnotherAddressed, StatusOfSelected, TargetResetStarted, ReadQueued, CopybackReadStarted, ProgramAddressed}
 use Rattle.onfi_cycle.specs.declared.opening.Opening.{Opening}
 use Rattle.onfi_cycle.specs.declared.tail_facts.TailFacts.{TailFacts}
 use Rattle.onfi_cycle.specs.Command.{closes_row, reads_row}
@@ -39,6 +39,7 @@ page_address g row = let at = parts_of g row in record { block = at.block; page 
 abbrev pub confirm_effect : Parts → TailFacts → Command → Effect
 confirm_effect g t ReadConfirm = ReadStarted (page_address g (row t)) t.column
 confirm_effect g t ReadPlane = ReadQueued (page_address g (row t))
+confirm_effect g t CopybackRead = CopybackReadStarted (page_address g (row t)) t.column (planes g)
 confirm_effect g t ReadCacheSequential = CacheReadContinued (Some (page_address g (row t)))
 confirm_effect g t BlockEraseConfirm = EraseStarted false (page_address g (row t))
 confirm_effect g t BlockErasePlane = EraseStarted true (page_address g (row t))
@@ -115,6 +116,10 @@ id_effect byte = if byte == 0x20 then IdRead else IdentityRead (byte == 0x40)
 abbrev pub lun_reset_effect : Parts → (named : Bool) → Effect
 lun_reset_effect g named = if named then ResetStarted else (if is_shared g then AnotherAddressed false else Unaffected)
 
+-- what the last row cycle of 80 does
+abbrev pub program_row_effect : (named : Bool) → Effect
+program_row_effect named = if named then ProgramAddressed else Unaffected
+
 -- what an address does that comes after this opener and so many others
 abbrev pub address_effect : Parts → TailFacts → ℕ → Command → ℕ → ℕ → Effect
 address_effect g t byte ReadStatusEnhanced n lun = if n == 2 then (if names_lun g (row_with t byte) lun then SelectedForStatus else Deselected) else Unaffected
@@ -123,6 +128,7 @@ address_effect g t byte ReadParameterPage n lun = if wants_address t byte then o
 address_effect g t byte ReadUniqueId n lun = if wants_address t byte then of_target g lun UniqueIdReadStarted else Unaffected
 address_effect g t byte GetFeatures n lun = if wants_address t byte then of_target g lun (FeaturesReadStarted byte) else Unaffected
 address_effect g t byte ResetLun n lun = if n == 2 then lun_reset_effect g (names_lun g (row_with t byte) lun) else Unaffected
+address_effect g t byte PageProgram n lun = if n == 4 then program_row_effect (names_lun g (row_with t byte) lun) else Unaffected
 address_effect g t byte _ n lun = Unaffected
 
 abbrev pub opening_address_effect : Parts → TailFacts → ℕ → Option Opening → ℕ → Effect
@@ -158,11 +164,13 @@ effect_given g past latch_alone i l = item_effect g (facts_of (tail past l.ce)) 
 abbrev pub IsSmallEffect : Effect → Type 0
 IsSmallEffect (ReadStarted page column) = page.page < 2 ^ 32
 IsSmallEffect (ReadQueued page) = page.page < 2 ^ 32
+IsSmallEffect (CopybackReadStarted page column planes) = (page.page < 2 ^ 32) × (0 < planes)
 IsSmallEffect (PlaneSelected plane planes column) = 0 < planes
 IsSmallEffect (CacheReadContinued to) = IfSome to (λ page. page.page < 2 ^ 32)
 IsSmallEffect _ = Unit {0}
 
--- the planes of a selected one are some
+-- the planes of a selected one, or of a LUN that reads for a copyback, are some
 abbrev pub HasPlanes : Effect → Type 0
 HasPlanes (PlaneSelected plane planes column) = 0 < planes
+HasPlanes (CopybackReadStarted page column planes) = 0 < planes
 HasPlanes _ = Unit {0}

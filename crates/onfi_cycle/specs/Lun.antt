@@ -1,9 +1,9 @@
 -- Of each LUN: what it shows, whether it is busy, its register, its column and its queue, each by the newest item that decides it.
-use Rattle.std.specs.Prelude.{ℕ, zero, suc, ◌+◌, ◌%◌, ◌==◌, Bool, true, false, ◌||◌, ◌&&◌, not, nat_lt, if◌then◌else◌, List, [], ◌∷◌, Option, Some, None, unwrap_or, take}
+use Rattle.std.specs.Prelude.{ℕ, zero, suc, ◌+◌, ◌%◌, ◌==◌, Bool, true, false, ◌||◌, ◌&&◌, not, nat_lt, if◌then◌else◌, List, [], ◌∷◌, ◌++◌, filter, Option, Some, None, unwrap_or, take}
 use Rattle.std.specs.List.{list_any}
 use Rattle.nand_geometry.specs.declared.parts.Parts.{Parts}
 use Rattle.onfi_cycle.specs.declared.command.Command.{Command}
-use Rattle.onfi_cycle.specs.declared.command.Command.TheVariants.{ProgramConfirm, ProgramPlane, ReadConfirm, ReadCacheSequential, ReadCacheEnd, ReadId, BlockEraseConfirm, BlockErasePlane, ReadParameterPage, Reset, ReadUniqueId, GetFeatures, SetFeatures, ReadPlane}
+use Rattle.onfi_cycle.specs.declared.command.Command.TheVariants.{ProgramConfirm, ProgramPlane, ReadConfirm, ReadCacheSequential, ReadCacheEnd, ReadId, BlockEraseConfirm, BlockErasePlane, ReadParameterPage, Reset, ReadUniqueId, GetFeatures, SetFeatures, ReadPlane, CopybackRead}
 use Rattle.onfi_cycle.specs.declared.lun.Lun.{Lun}
 use Rattle.onfi_cycle.specs.declared.latch.Latch.{Latch}
 use Rattle.onfi_cycle.specs.declared.latch.Latch.TheVariants.{Off, Status, Data}
@@ -16,7 +16,7 @@ use Rattle.onfi_cycle.specs.declared.register.Register.TheVariants.{Empty, Page,
 use Rattle.onfi_cycle.specs.declared.read_column.ReadColumn.{ReadColumn}
 use Rattle.onfi_cycle.specs.LunView.{LunView}
 use Rattle.onfi_cycle.specs.declared.effect.Effect.{Effect}
-use Rattle.onfi_cycle.specs.declared.effect.Effect.TheVariants.{DataOutputEnabled, StatusSelected, StatusRowAwaited, SelectedForStatus, Deselected, PlaneSelected, IdRead, IdentityRead, UniqueIdReadStarted, FeaturesReadStarted, FeaturesSet, ParameterPageReadStarted, CacheReadContinued, CacheReadEnded, DataOutput, ResetStarted, BecameReady, ArrayBecameReady, ReadStarted, EraseStarted, ProgramStarted, ReadColumnChanged, AnotherAddressed, StatusOfSelected, TargetResetStarted, ReadQueued}
+use Rattle.onfi_cycle.specs.declared.effect.Effect.TheVariants.{DataOutputEnabled, StatusSelected, StatusRowAwaited, SelectedForStatus, Deselected, PlaneSelected, IdRead, IdentityRead, UniqueIdReadStarted, FeaturesReadStarted, FeaturesSet, ParameterPageReadStarted, CacheReadContinued, CacheReadEnded, DataOutput, ResetStarted, BecameReady, ArrayBecameReady, ReadStarted, EraseStarted, ProgramStarted, ReadColumnChanged, AnotherAddressed, StatusOfSelected, TargetResetStarted, ReadQueued, CopybackReadStarted, ProgramAddressed}
 use Rattle.onfi_cycle.specs.Effect.{effect_given, is_off}
 
 -- of so many LUNs from number n on, those that a latch has on
@@ -49,6 +49,7 @@ latch_after Deselected selected works latch = Off
 latch_after (PlaneSelected _ _ _) selected works latch = Data
 latch_after (ReadStarted _ _) selected works latch = Data
 latch_after (ReadQueued _) selected works latch = Data
+latch_after (CopybackReadStarted _ _ _) selected works latch = Data
 latch_after IdRead selected works latch = Data
 latch_after (IdentityRead _) selected works latch = Data
 latch_after ParameterPageReadStarted selected works latch = Data
@@ -69,6 +70,7 @@ selected_after (PlaneSelected _ _ _) selected = true
 selected_after Deselected selected = false
 selected_after (ReadStarted _ _) selected = true
 selected_after (ReadQueued _) selected = true
+selected_after (CopybackReadStarted _ _ _) selected = true
 selected_after (CacheReadContinued (Some _)) selected = true
 selected_after (EraseStarted _ _) selected = true
 selected_after (ProgramStarted _ _) selected = true
@@ -101,6 +103,7 @@ overlapped_after _ works overlapped = overlapped
 abbrev pub busy_after : Effect → Bool → Bool
 busy_after (ReadStarted _ _) busy = true
 busy_after (ReadQueued _) busy = true
+busy_after (CopybackReadStarted _ _ _) busy = true
 busy_after (EraseStarted _ _) busy = true
 busy_after (ProgramStarted _ _) busy = true
 busy_after ParameterPageReadStarted busy = true
@@ -117,6 +120,7 @@ busy_after _ busy = busy
 abbrev pub closer_after : Effect → Option Command → Option Command
 closer_after (ReadStarted _ _) last = Some ReadConfirm
 closer_after (ReadQueued _) last = Some ReadPlane
+closer_after (CopybackReadStarted _ _ _) last = Some CopybackRead
 closer_after (EraseStarted queued _) last = Some (if queued then BlockErasePlane else BlockEraseConfirm)
 closer_after (ProgramStarted queued _) last = Some (if queued then ProgramPlane else ProgramConfirm)
 closer_after IdRead last = Some ReadId
@@ -140,6 +144,11 @@ is_page_read (Some ReadConfirm) = true
 is_page_read (Some ReadCacheSequential) = true
 is_page_read _ = false
 
+-- the page was read for a copyback
+abbrev pub is_copyback_read : Option Command → Bool
+is_copyback_read (Some CopybackRead) = true
+is_copyback_read _ = false
+
 -- the closers of work that is of a whole target
 abbrev pub is_target_work : Option Command → Bool
 is_target_work (Some ReadParameterPage) = true
@@ -153,6 +162,7 @@ array_busy_after (BecameReady _) busy caching array_busy = array_busy || (busy &
 array_busy_after ArrayBecameReady busy caching array_busy = false
 array_busy_after (ReadStarted _ _) busy caching array_busy = false
 array_busy_after (ReadQueued _) busy caching array_busy = false
+array_busy_after (CopybackReadStarted _ _ _) busy caching array_busy = false
 array_busy_after (EraseStarted _ _) busy caching array_busy = false
 array_busy_after (ProgramStarted _ _) busy caching array_busy = false
 array_busy_after IdRead busy caching array_busy = false
@@ -172,6 +182,7 @@ next_page p = record { block = p.block; page = p.page + 1 }
 
 abbrev pub array_page_after : Effect → PageAddress → PageAddress
 array_page_after (ReadStarted at _) p = at
+array_page_after (CopybackReadStarted at _ _) p = at
 array_page_after (CacheReadContinued to) p = unwrap_or to (next_page p)
 array_page_after _ p = p
 
@@ -199,26 +210,38 @@ abbrev pub register_of_plane : Option PageAddress → Register
 register_of_plane None = Empty
 register_of_plane (Some p) = Page p
 
--- the pages that the plane registers hold, four at most: that of a 30 and of the reads queued before it, or the one that a cache read gives
-abbrev pub held_after : Effect → PageAddress → List Queued → List PageAddress → List PageAddress
-held_after (ReadStarted at _) p queue held = take 4 (at ∷ pages_of_reads queue)
-held_after (CacheReadContinued _) p queue held = p ∷ []
-held_after CacheReadEnded p queue held = p ∷ []
-held_after (ReadQueued _) p queue held = []
-held_after (EraseStarted _ _) p queue held = []
-held_after (ProgramStarted queued _) p queue held = if queued then held else []
-held_after IdRead p queue held = []
-held_after (IdentityRead _) p queue held = []
-held_after ParameterPageReadStarted p queue held = []
-held_after UniqueIdReadStarted p queue held = []
-held_after (FeaturesReadStarted _) p queue held = []
-held_after (FeaturesSet _) p queue held = []
-held_after ResetStarted p queue held = []
-held_after (TargetResetStarted _) p queue held = []
-held_after _ p queue held = held
+-- the pages of other planes than this one's
+abbrev pub of_other_planes : (planes : ℕ) → PageAddress → List PageAddress → List PageAddress
+of_other_planes planes at held = filter (λ p. not (p.block % planes == at.block % planes)) held
+
+-- the pages that stay held beside one that is read for a copyback: those of other planes, where they were read for one too
+abbrev pub held_on : (planes : ℕ) → PageAddress → (copyback : Bool) → List PageAddress → List PageAddress
+held_on planes at copyback held = if copyback then of_other_planes planes at held else []
+
+-- the pages that the plane registers hold, four at most: that of a 30 and of the reads queued before it, or the one that a cache read gives; of a
+-- 35, which may be read one by one, those read so before it too, if the last closer was one; the last row cycle of 80 clears the registers
+abbrev pub held_after : Effect → (copyback : Bool) → PageAddress → List Queued → List PageAddress → List PageAddress
+held_after (ReadStarted at _) copyback p queue held = take 4 (at ∷ pages_of_reads queue)
+held_after (CopybackReadStarted at _ planes) copyback p queue held = take 4 (at ∷ (pages_of_reads queue ++ held_on planes at copyback held))
+held_after ProgramAddressed copyback p queue held = []
+held_after (CacheReadContinued _) copyback p queue held = p ∷ []
+held_after CacheReadEnded copyback p queue held = p ∷ []
+held_after (ReadQueued _) copyback p queue held = []
+held_after (EraseStarted _ _) copyback p queue held = []
+held_after (ProgramStarted queued _) copyback p queue held = if queued then held else []
+held_after IdRead copyback p queue held = []
+held_after (IdentityRead _) copyback p queue held = []
+held_after ParameterPageReadStarted copyback p queue held = []
+held_after UniqueIdReadStarted copyback p queue held = []
+held_after (FeaturesReadStarted _) copyback p queue held = []
+held_after (FeaturesSet _) copyback p queue held = []
+held_after ResetStarted copyback p queue held = []
+held_after (TargetResetStarted _) copyback p queue held = []
+held_after _ copyback p queue held = held
 
 abbrev pub register_after : Effect → PageAddress → List Queued → List PageAddress → Register → Register
 register_after (ReadStarted at _) p queue held r = if has_reads queue then Empty else Page at
+register_after (CopybackReadStarted at _ _) p queue held r = if has_reads queue then Empty else Page at
 register_after (ReadQueued _) p queue held r = Empty
 register_after (PlaneSelected plane planes _) p queue held r = register_of_plane (page_in_plane planes plane held)
 register_after (EraseStarted _ _) p queue held r = Empty
@@ -240,6 +263,7 @@ column_at from = record { given = Some from; outputs = 0; lost = false }
 
 abbrev pub read_column_after : Effect → ReadColumn → ReadColumn
 read_column_after (ReadStarted _ from) k = column_at from
+read_column_after (CopybackReadStarted _ from _) k = column_at from
 read_column_after (ReadColumnChanged from) k = column_at from
 read_column_after (PlaneSelected _ _ from) k = column_at from
 read_column_after IdRead k = column_at 0
@@ -265,6 +289,7 @@ output_column k = if k.lost then None else option_plus k.outputs k.given
 
 abbrev pub queue_after : Effect → List Queued → List Queued
 queue_after (ReadStarted _ _) queue = []
+queue_after (CopybackReadStarted _ _ _) queue = []
 queue_after (ReadQueued at) queue = Read at ∷ queue
 queue_after (EraseStarted queued at) queue = if queued then Erase at ∷ queue else []
 queue_after (ProgramStarted queued at) queue = if queued then Program at ∷ queue else []
@@ -294,7 +319,7 @@ view_after a v =
       register = register_after a v.array_page v.queue v.held v.register;
       column = read_column_after a v.column;
       queue = queue_after a v.queue;
-      held = held_after a v.array_page v.queue v.held;
+      held = held_after a (is_copyback_read v.closer) v.array_page v.queue v.held;
     }
 
 -- the LUN of this number when nothing has happened to it: the first one is selected

@@ -22,6 +22,7 @@ abbrev pub is_row_place : Command → ℕ → Bool
 is_row_place Read n = nat_le 2 n
 is_row_place ChangeReadColumnEnhanced n = nat_le 2 n
 is_row_place PageProgram n = nat_le 2 n
+is_row_place ChangeWriteColumn n = nat_le 2 n
 is_row_place BlockErase n = true
 is_row_place ReadStatusEnhanced n = true
 is_row_place ResetLun n = true
@@ -33,7 +34,7 @@ is_column_place Read n = nat_lt n 2
 is_column_place ChangeReadColumnEnhanced n = nat_lt n 2
 is_column_place PageProgram n = nat_lt n 2
 is_column_place ChangeReadColumn n = true
-is_column_place ChangeWriteColumn n = true
+is_column_place ChangeWriteColumn n = nat_lt n 2
 is_column_place _ n = false
 
 -- the address bytes of a tail at the places that pass, the newest first

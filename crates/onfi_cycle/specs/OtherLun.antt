@@ -65,8 +65,8 @@ pub record KeepsLun (g : Parts) (past : List Item) (i : Item) (l : Lun) : Type 0
   pub register : register g (i ∷ past) l ≡ register g past l
   pub queue : queue g (i ∷ past) l ≡ queue g past l
   pub held : held g (i ∷ past) l ≡ held g past l
-  pub queued_work : queued_work g (i ∷ past) l ≡ queued_work g past l
-  pub pending_work : pending_work g (i ∷ past) l ≡ pending_work g past l
+  pub queued_work : (opening : Lun → PageAddress → List ℕ) → queued_work g opening (i ∷ past) l ≡ queued_work g opening past l
+  pub pending_work : (opening : Lun → PageAddress → List ℕ) → pending_work g opening (i ∷ past) l ≡ pending_work g opening past l
   pub failed : has_failed g (i ∷ past) l ≡ has_failed g past l
   pub content : (opening : Lun → PageAddress → List ℕ) (p : PageAddress) → content g opening (i ∷ past) l p ≡ content g opening past l p
   pub column : IsSameOrLost (read_column g past l) (read_column g (i ∷ past) l)

@@ -6,11 +6,11 @@ use Rattle.onfi_cycle.specs.declared.item.Item.TheVariants.{Cyc, Rdy, Ard}
 use Rattle.onfi_cycle.specs.declared.target_cycle.TargetCycle.{TargetCycle}
 use Rattle.onfi_cycle.specs.declared.tail_facts.TailFacts.{TailFacts}
 use Rattle.onfi_cycle.specs.declared.forbidden.Forbidden.{Forbidden}
-use Rattle.onfi_cycle.specs.declared.forbidden.Forbidden.TheVariants.{NotThere, CommandUnknown, SequenceOpen, SeveralLuns, NoColumnToChange, CommandMisplaced, AddressMisplaced, RowOutside, LunBusy, QueueClash, InputMisplaced, NoSoleDriver, DataNotReady, ColumnOutside, CacheReadMisplaced, PlaneNotHeld}
+use Rattle.onfi_cycle.specs.declared.forbidden.Forbidden.TheVariants.{NotThere, CommandUnknown, SequenceOpen, SeveralLuns, NoColumnToChange, CommandMisplaced, AddressMisplaced, RowOutside, LunBusy, QueueClash, InputMisplaced, NoSoleDriver, DataNotReady, ColumnOutside, CacheReadMisplaced, CopybackMisplaced, PlaneNotHeld}
 use Rattle.onfi_cycle.specs.LunView.{LunView}
 use Rattle.onfi_cycle.specs.Sequence.{target_of, target_cycle, tail, facts_of}
 use Rattle.onfi_cycle.specs.Lun.{luns_of}
-use Rattle.onfi_cycle.specs.Rules.{breaks_not_there, breaks_command_unknown, breaks_sequence_open, breaks_several_luns, breaks_no_column_to_change, breaks_command_misplaced, breaks_address_misplaced, breaks_row_outside, breaks_lun_busy, breaks_queue_clash, breaks_input_misplaced, breaks_no_sole_driver, breaks_data_not_ready, breaks_column_outside, breaks_cache_read_misplaced, breaks_plane_not_held}
+use Rattle.onfi_cycle.specs.Rules.{breaks_not_there, breaks_command_unknown, breaks_sequence_open, breaks_several_luns, breaks_no_column_to_change, breaks_command_misplaced, breaks_address_misplaced, breaks_row_outside, breaks_lun_busy, breaks_queue_clash, breaks_input_misplaced, breaks_no_sole_driver, breaks_data_not_ready, breaks_column_outside, breaks_cache_read_misplaced, breaks_copyback_misplaced, breaks_plane_not_held}
 
 -- the first of F3 to F18 that a cycle breaks
 abbrev pub judge_known_cycle : Parts → TailFacts → List LunView → TargetCycle → Option Forbidden
@@ -18,7 +18,7 @@ judge_known_cycle g t luns cycle =
     if breaks_sequence_open g t cycle then Some SequenceOpen
     else (if breaks_several_luns g luns cycle then Some SeveralLuns
     else (if breaks_no_column_to_change luns cycle then Some NoColumnToChange
-    else (if breaks_command_misplaced t cycle then Some CommandMisplaced
+    else (if breaks_command_misplaced g t cycle then Some CommandMisplaced
     else (if breaks_address_misplaced g t cycle then Some AddressMisplaced
     else (if breaks_row_outside g t cycle then Some RowOutside
     else (if breaks_lun_busy g t luns cycle then Some LunBusy
@@ -28,8 +28,9 @@ judge_known_cycle g t luns cycle =
     else (if breaks_data_not_ready luns cycle then Some DataNotReady
     else (if breaks_column_outside g t luns cycle then Some ColumnOutside
     else (if breaks_cache_read_misplaced g t luns cycle then Some CacheReadMisplaced
+    else (if breaks_copyback_misplaced g t luns cycle then Some CopybackMisplaced
     else (if breaks_plane_not_held g t luns cycle then Some PlaneNotHeld
-    else None)))))))))))))
+    else None))))))))))))))
 
 -- the first of F2 to F18 that a cycle breaks
 abbrev pub judge_cycle : Parts → TailFacts → List LunView → TargetCycle → Option Forbidden

@@ -1,15 +1,15 @@
--- The rules F1 to F15, and F18: what each forbids, by the facts of the tail and of the LUNs of one target.
+-- The rules F1 to F15, F17 and F18: what each forbids, by the facts of the tail and of the LUNs of one target.
 use Rattle.std.specs.Prelude.{ℕ, ◌+◌, ◌/◌, ◌%◌, ◌==◌, Bool, true, false, ◌||◌, ◌&&◌, not, nat_lt, nat_le, if◌then◌else◌, List, [], ◌∷◌, Option, Some, None, slice_get, length}
 use Rattle.std.specs.List.{list_any}
 use Rattle.nand_geometry.specs.declared.parts.Parts.{Parts}
 use Rattle.nand_geometry.specs.Limits.{page_len, planes}
 use Rattle.nand_geometry.specs.Row.{parts_of, is_inside}
 use Rattle.onfi_cycle.specs.declared.command.Command.{Command}
-use Rattle.onfi_cycle.specs.declared.command.Command.TheVariants.{Read, ReadConfirm, ChangeReadColumn, ChangeReadColumnEnhanced, BlockErase, BlockErasePlane, ReadStatus, ReadStatusEnhanced, PageProgram, ProgramPlane, ReadCacheSequential, ReadCacheEnd, ReadUniqueId, GetFeatures, SetFeatures, ResetLun, SynchronousReset, ReadPlane}
+use Rattle.onfi_cycle.specs.declared.command.Command.TheVariants.{Read, ReadConfirm, ChangeReadColumn, ChangeReadColumnEnhanced, BlockErase, BlockErasePlane, ReadStatus, ReadStatusEnhanced, PageProgram, ProgramPlane, ReadCacheSequential, ReadCacheEnd, ReadUniqueId, GetFeatures, SetFeatures, ResetLun, SynchronousReset, ReadPlane, ChangeWriteColumn, CopybackRead}
 use Rattle.onfi_cycle.specs.declared.item.Item.{Item}
 use Rattle.onfi_cycle.specs.declared.item.Item.TheVariants.{Cyc, Rdy, Ard}
-use Rattle.nand_geometry.specs.Optional.{is_wide, has_features, has_unique_id, has_enhanced_column, has_lun_reset, has_plane_reads, has_free_blocks, has_synchronous_reset}
-use Rattle.onfi_cycle.specs.Command.{is_known, is_opener, is_read_id, is_reset, at_last_row, is_change_read_column, is_enhanced_column, addresses_the_array, addresses_a_page, reads_identity, wants_ready, wants_one_lun}
+use Rattle.nand_geometry.specs.Optional.{is_wide, has_features, has_unique_id, has_enhanced_column, has_lun_reset, has_plane_reads, has_free_blocks, has_synchronous_reset, has_copyback, has_odd_even}
+use Rattle.onfi_cycle.specs.Command.{is_known, is_opener, is_read_id, is_reset, at_last_row, is_change_read_column, is_enhanced_column, is_page_program, is_write_column, addresses_the_array, addresses_a_page, reads_identity, wants_ready, wants_one_lun}
 use Rattle.onfi_cycle.specs.declared.target_cycle.TargetCycle.{TargetCycle}
 use Rattle.onfi_cycle.specs.declared.target_cycle.TargetCycle.TheVariants.{CommandCycle, AddressCycle, InputCycle, OutputCycle}
 use Rattle.onfi_cycle.specs.declared.page_address.PageAddress.{PageAddress}
@@ -19,10 +19,10 @@ use Rattle.onfi_cycle.specs.declared.register.Register.{Register}
 use Rattle.onfi_cycle.specs.declared.register.Register.TheVariants.{Empty, Page, ParameterPage, Identifier, Identity, JedecIdentity, UniqueId, Features}
 use Rattle.onfi_cycle.specs.declared.opening.Opening.{Opening}
 use Rattle.onfi_cycle.specs.declared.tail_facts.TailFacts.{TailFacts}
-use Rattle.onfi_cycle.specs.Sequence.{opened, takes_features, takes_inputs, wants_second_column, wants_command, wants_address, works_on_row, is_open, row, row_with, column_with, input_column}
+use Rattle.onfi_cycle.specs.Sequence.{opened, takes_features, takes_inputs, wants_second_column, wants_command, wants_address, goes_on_with, is_open, row, row_with, column_with, input_column}
 use Rattle.onfi_cycle.specs.Effect.{is_off, is_data, is_shared, page_address}
 use Rattle.onfi_cycle.specs.LunView.{LunView}
-use Rattle.onfi_cycle.specs.Lun.{is_cache_read, is_page_read, is_target_work, output_column}
+use Rattle.onfi_cycle.specs.Lun.{is_cache_read, is_page_read, is_target_work, output_column, page_in_plane, is_copyback_read}
 
 -- the LUNs of a target that aren't off
 abbrev pub driving : List LunView → List LunView
@@ -72,6 +72,7 @@ is_undeclared g ReadCacheEnd = not g.cache
 is_undeclared g ReadUniqueId = not (has_unique_id g.optional)
 is_undeclared g ChangeReadColumnEnhanced = not (has_enhanced_column g.optional)
 is_undeclared g ReadPlane = not (has_plane_reads g.optional)
+is_undeclared g CopybackRead = not (has_copyback g.optional)
 is_undeclared g GetFeatures = not (has_features g.optional)
 is_undeclared g SetFeatures = not (has_features g.optional)
 is_undeclared g ResetLun = not (has_lun_reset g.optional)
@@ -148,9 +149,14 @@ unfoldable pub breaks_command_unknown : Parts → TargetCycle → Bool
 breaks_command_unknown g (CommandCycle c) = not (is_known c) || is_undeclared g c
 breaks_command_unknown g _ = false
 
--- F3: an opener while a sequence is open, but in the wider profile a reset, and a 31 that the tail wants
+-- the command begins sequences of the chip: 85 does where a copyback is declared
+abbrev pub opens_here : Parts → Command → Bool
+opens_here g ChangeWriteColumn = has_copyback g.optional
+opens_here g c = is_opener c
+
+-- F3: an opener while a sequence is open, but in the wider profile a reset, and one that goes on with the tail
 unfoldable pub breaks_sequence_open : Parts → TailFacts → TargetCycle → Bool
-breaks_sequence_open g t (CommandCycle c) = is_opener c && (is_open t && not ((is_reset c || works_on_row t c) && is_wide g.optional))
+breaks_sequence_open g t (CommandCycle c) = opens_here g c && (is_open t && not ((is_reset c || goes_on_with t c) && is_wide g.optional))
 breaks_sequence_open g t _ = false
 
 -- work of the whole target goes on at the LUN
@@ -178,10 +184,10 @@ unfoldable pub breaks_no_column_to_change : List LunView → TargetCycle → Boo
 breaks_no_column_to_change luns (CommandCycle ChangeReadColumn) = not (driver_is may_change_column luns)
 breaks_no_column_to_change luns _ = false
 
--- F6: a command that is no opener and that the tail doesn't want
-unfoldable pub breaks_command_misplaced : TailFacts → TargetCycle → Bool
-breaks_command_misplaced t (CommandCycle c) = not (is_opener c) && not (wants_command t c)
-breaks_command_misplaced t _ = false
+-- F6: a command that begins no sequence, and that the tail doesn't want
+unfoldable pub breaks_command_misplaced : Parts → TailFacts → TargetCycle → Bool
+breaks_command_misplaced g t (CommandCycle c) = not (opens_here g c) && not (wants_command t c)
+breaks_command_misplaced g t _ = false
 
 -- the address of a Read ID that the base profile hasn't
 abbrev pub is_undeclared_address : Parts → TailFacts → ℕ → Bool
@@ -197,12 +203,16 @@ unfoldable pub breaks_row_outside : Parts → TailFacts → TargetCycle → Bool
 breaks_row_outside g t (AddressCycle byte) = ends_row (λ c. true) t && not (is_inside g (parts_of g (row_with t byte)))
 breaks_row_outside g t _ = false
 
--- F9: an opener that wants a ready LUN where there is none; the last row cycle of 00, 06, 60 or 80 names a busy LUN.
+-- the command begins a sequence and wants a ready LUN for it
+abbrev pub begins_on_ready : TailFacts → Command → Bool
+begins_on_ready t c = wants_ready c && not (goes_on_with t c)
+
+-- F9: an opener that wants a ready LUN where there is none; the last row cycle of 00, 06, 60, 80 or 85 names a busy LUN.
 -- In the wider profile, on a target with several LUNs: too what reads or sets what stands beside the array, while some LUN is busy, and
 -- such a row cycle while work of the whole target goes on
 unfoldable pub breaks_lun_busy : Parts → TailFacts → List LunView → TargetCycle → Bool
 breaks_lun_busy g t luns (CommandCycle c) =
-    (wants_ready c && not (list_any (λ v. not v.busy) luns)) || (is_shared g && (reads_identity c && list_any (λ v. v.busy) luns))
+    (begins_on_ready t c && not (list_any (λ v. not v.busy) luns)) || (is_shared g && (reads_identity c && list_any (λ v. v.busy) luns))
 breaks_lun_busy g t luns (AddressCycle byte) =
     ends_row addresses_the_array t && (named_lun_is g (row_with t byte) (λ v. v.busy) luns || (is_shared g && list_any works_for_target luns))
 breaks_lun_busy g t luns _ = false
@@ -212,12 +222,13 @@ abbrev pub refused_by : Parts → Command → PageAddress → List Queued → Bo
 refused_by g Read p q = some_read_clashes g p q
 refused_by g BlockErase p q = some_queued_clashes g true p q
 refused_by g PageProgram p q = some_queued_clashes g false p q
+refused_by g ChangeWriteColumn p q = some_queued_clashes g false p q
 refused_by g _ p q = false
 
 abbrev pub is_refused_by : Parts → Option Opening → PageAddress → List Queued → Bool
 is_refused_by g o p q = opened (λ c n. at_last_row c n && refused_by g c p q) o
 
--- F10: what reads or sets what stands beside the array, while a LUN has a queue; the last row cycle of 00, 60 or 80 that doesn't go together with
+-- F10: what reads or sets what stands beside the array, while a LUN has a queue; the last row cycle of 00, 60, 80 or 85 that doesn't go together with
 -- the queue of its LUN, as a 00 does with reads alone
 unfoldable pub breaks_queue_clash : Parts → TailFacts → List LunView → TargetCycle → Bool
 breaks_queue_clash g t luns (CommandCycle c) = reads_identity c && list_any (λ v. has_some v.queue) luns
@@ -290,17 +301,49 @@ finds_no_cache_read g t luns =
     if wants_command t ReadCacheSequential then not (named_lun_is g (row t) has_read_one luns) else not (driver_is (continues_cache g) luns)
 
 -- F15: 31 or 3F without one driver that isn't busy; 31 after another closer than 30 or 31, or with no page left in the block;
--- 3F without a cache read; the last row cycle of 00, 60 or 80, or what reads or sets what stands beside the array, while one goes on.
+-- 3F without a cache read; the last row cycle of 00, 60, 80 or 85, or what reads or sets what stands beside the array, while one goes on.
 -- In the wider profile a 31 that the tail wants is of the LUN that its row names, and asks for its last closer alone; the last row cycle of 00
--- may come while a cache read goes on, and its 30 or 32 may not; and none goes on where more than one page is held
+-- may come while a cache read goes on, and its 30, 32 or 35 may not; and none goes on where more than one page is held
 unfoldable pub breaks_cache_read_misplaced : Parts → TailFacts → List LunView → TargetCycle → Bool
 breaks_cache_read_misplaced g t luns (CommandCycle ReadCacheSequential) = finds_no_cache_read g t luns
 breaks_cache_read_misplaced g t luns (CommandCycle ReadConfirm) = is_wide g.optional && named_lun_is g (row t) caching luns
 breaks_cache_read_misplaced g t luns (CommandCycle ReadPlane) = named_lun_is g (row t) caching luns
+breaks_cache_read_misplaced g t luns (CommandCycle CopybackRead) = named_lun_is g (row t) caching luns
 breaks_cache_read_misplaced g t luns (CommandCycle ReadCacheEnd) = not (driver_is ends_cache luns)
 breaks_cache_read_misplaced g t luns (CommandCycle c) = reads_identity c && list_any caching luns
 breaks_cache_read_misplaced g t luns (AddressCycle byte) = ends_row (excludes_cache g) t && named_lun_is g (row_with t byte) caching luns
 breaks_cache_read_misplaced g t luns _ = false
+
+-- a program may take what is held: the last closer is a 35, or an 11 behind one
+abbrev pub keeps_copy : Option Command → Bool
+keeps_copy (Some CopybackRead) = true
+keeps_copy (Some ProgramPlane) = true
+keeps_copy _ = false
+
+-- a page may be copied to another of its plane: both are odd, or both even, where that matters
+abbrev pub may_copy_to : Parts → PageAddress → Option PageAddress → Bool
+may_copy_to g p None = false
+may_copy_to g p (Some q) = has_odd_even g.optional || p.page % 2 == q.page % 2
+
+-- the LUN holds a page that was read for a copyback and may be copied to this one
+abbrev pub may_copy : Parts → PageAddress → LunView → Bool
+may_copy g p v = keeps_copy v.closer && may_copy_to g p (page_in_plane (planes g) (p.block % planes g) v.held)
+
+abbrev pub holds_none : List PageAddress → Bool
+holds_none [] = true
+holds_none (p ∷ held) = false
+
+-- a group of copybacks has begun
+abbrev pub is_copying : LunView → Bool
+is_copying v = has_some v.queue && not (holds_none v.held)
+
+-- F17: the last row cycle of 85, where its LUN holds no page that may be copied to its row; that of 80 in a group of copybacks
+unfoldable pub breaks_copyback_misplaced : Parts → TailFacts → List LunView → TargetCycle → Bool
+breaks_copyback_misplaced g t luns (AddressCycle byte) =
+    has_copyback g.optional
+    && ((ends_row is_write_column t && named_lun_is g (row_with t byte) (λ v. not (may_copy g (page_address g (row_with t byte)) v)) luns)
+    || (ends_row is_page_program t && named_lun_is g (row_with t byte) is_copying luns))
+breaks_copyback_misplaced g t luns _ = false
 
 -- the LUN holds a page of the plane in which this one lies, and nothing is queued
 abbrev pub holds_plane_of : Parts → PageAddress → LunView → Bool

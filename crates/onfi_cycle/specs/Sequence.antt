@@ -15,7 +15,7 @@ use Rattle.onfi_cycle.specs.declared.item.Kind.{Kind}
 use Rattle.onfi_cycle.specs.declared.item.Kind.TheVariants.{Cmd, Adr, Din, Dout}
 use Rattle.onfi_cycle.specs.declared.item.Item.{Item}
 use Rattle.onfi_cycle.specs.declared.item.Item.TheVariants.{Cyc, Rdy, Ard}
-use Rattle.onfi_cycle.specs.Command.{command, is_opener, address_cycles, wants_closer, closes, closes_row, takes_address, is_enhanced_column, is_page_program, is_set_features}
+use Rattle.onfi_cycle.specs.Command.{command, is_opener, address_cycles, wants_closer, closes, closes_row, takes_address, is_enhanced_column, begins_data, is_set_features}
 
 -- where an item happens
 abbrev pub target_of : Item → ℕ
@@ -64,7 +64,7 @@ abbrev pub opened : (Command → ℕ → Bool) → Option Opening → Bool
 opened test None = false
 opened test (Some o) = test o.opener o.addresses
 
--- the data of a Page Program goes on
+-- the data of a program goes on
 abbrev pub takes_data : DataPhase → Bool
 takes_data Inputs = true
 takes_data _ = false
@@ -88,10 +88,10 @@ abbrev pub wants_second_column : DataPhase → Bool
 wants_second_column SecondColumn = true
 wants_second_column _ = false
 
--- the fifth address of a Page Program begins its data, and the one of a Set Features its four bytes
+-- the fifth address of 80, or of 85, begins the data of a program, and the one of a Set Features its four bytes
 abbrev pub phase_after_last_address : Option Opening → DataPhase
 phase_after_last_address o =
-    if opened (λ c n. is_page_program c && n == 4) o then Inputs
+    if opened (λ c n. begins_data c && n == 4) o then Inputs
     else (if opened (λ c n. is_set_features c && n == 0) o then FeatureInputs
     else Outside)
 
@@ -196,9 +196,15 @@ works_on_row t ReadCacheSequential = wants_command t ReadCacheSequential
 works_on_row t ChangeReadColumnConfirm = selects_plane t
 works_on_row t c = closes_row c
 
--- a tail begins anew with the cycle: with an opener, but not with a 31 that it wants
+-- an opener goes on with the tail: a 31 that it wants, and an 85 in the data of a program
+abbrev pub goes_on_with : TailFacts → Command → Bool
+goes_on_with t ReadCacheSequential = wants_command t ReadCacheSequential
+goes_on_with t ChangeWriteColumn = wants_command t ChangeWriteColumn
+goes_on_with t c = false
+
+-- a tail begins anew with the cycle: with an opener that doesn't go on with it
 abbrev pub begins_anew : TailFacts → TargetCycle → Bool
-begins_anew t (CommandCycle c) = is_opener c && not (works_on_row t c)
+begins_anew t (CommandCycle c) = is_opener c && not (goes_on_with t c)
 begins_anew t (AddressCycle byte) = false
 begins_anew t (InputCycle byte) = false
 begins_anew t OutputCycle = false
@@ -245,13 +251,13 @@ column_with t byte = t.column % 256 + 256 * byte
 abbrev pub input_column : TailFacts → ℕ
 input_column t = t.column + t.inputs
 
--- the bytes of a program: in each column the newest input there, FF where there was none
-abbrev pub filled : ℕ → List TargetCycle → List ℕ
-filled len [] = replicate len 0xff
-filled len (CommandCycle c ∷ t) = filled len t
-filled len (AddressCycle byte ∷ t) = filled len t
-filled len (InputCycle byte ∷ t) = slice_set (filled len t) (input_column (facts_of t)) byte
-filled len (OutputCycle ∷ t) = filled len t
+-- the bytes of a program that began with these: in each column the newest input there
+abbrev pub filled : List ℕ → List TargetCycle → List ℕ
+filled begun [] = begun
+filled begun (CommandCycle c ∷ t) = filled begun t
+filled begun (AddressCycle byte ∷ t) = filled begun t
+filled begun (InputCycle byte ∷ t) = slice_set (filled begun t) (input_column (facts_of t)) byte
+filled begun (OutputCycle ∷ t) = filled begun t
 
 -- what one cycle more makes of the facts of a tail
 abbrev pub extended_facts : TargetCycle → TailFacts → TailFacts

@@ -1,7 +1,7 @@
 -- The sequences of the profiles, written out, each in the order of time; and what a tail is to them.
 use Rattle.std.specs.Prelude.{◌≡◌, ◌≢◌, ◌↔◌, ℕ, true, false, List, [], ◌∷◌, ◌++◌, reverse}
 use Rattle.onfi_cycle.specs.declared.command.Command.{Command}
-use Rattle.onfi_cycle.specs.declared.command.Command.TheVariants.{Read, ReadConfirm, ChangeReadColumn, ChangeReadColumnEnhanced, ChangeReadColumnConfirm, BlockErase, BlockEraseConfirm, BlockErasePlane, ReadStatus, ReadStatusEnhanced, PageProgram, ChangeWriteColumn, ProgramConfirm, ProgramPlane, ReadId, ReadParameterPage, Reset, ReadCacheSequential, ReadCacheEnd, ReadUniqueId, GetFeatures, SetFeatures, ResetLun, SynchronousReset, ReadPlane}
+use Rattle.onfi_cycle.specs.declared.command.Command.TheVariants.{Read, ReadConfirm, ChangeReadColumn, ChangeReadColumnEnhanced, ChangeReadColumnConfirm, BlockErase, BlockEraseConfirm, BlockErasePlane, ReadStatus, ReadStatusEnhanced, PageProgram, ChangeWriteColumn, ProgramConfirm, ProgramPlane, ReadId, ReadParameterPage, Reset, ReadCacheSequential, ReadCacheEnd, ReadUniqueId, GetFeatures, SetFeatures, ResetLun, SynchronousReset, ReadPlane, CopybackRead}
 use Rattle.onfi_cycle.specs.declared.target_cycle.TargetCycle.{TargetCycle}
 use Rattle.onfi_cycle.specs.declared.target_cycle.TargetCycle.TheVariants.{CommandCycle, AddressCycle, InputCycle}
 use Rattle.onfi_cycle.specs.Sequence.{begins_sequence, facts_of, wants, is_open}
@@ -12,7 +12,12 @@ pub data IsProgramData : List TargetCycle → Type 0 where
   input : (byte : ℕ) (more : List TargetCycle) → IsProgramData more → IsProgramData (InputCycle byte ∷ more)
   column : (c1 c2 : ℕ) (more : List TargetCycle) → IsProgramData more → IsProgramData (CommandCycle ChangeWriteColumn ∷ (AddressCycle c1 ∷ (AddressCycle c2 ∷ more)))
 
--- the commands that close a program
+-- the commands that begin a program
+pub data IsProgramOpener : Command → Type 0 where
+  write : IsProgramOpener PageProgram
+  copy : IsProgramOpener ChangeWriteColumn
+
+-- the commands that close it
 pub data IsProgramCloser : Command → Type 0 where
   whole : IsProgramCloser ProgramConfirm
   plane : IsProgramCloser ProgramPlane
@@ -21,6 +26,7 @@ pub data IsProgramCloser : Command → Type 0 where
 pub data IsSequence : List TargetCycle → Type 0 where
   read : (c1 c2 r1 r2 r3 : ℕ) → IsSequence (CommandCycle Read ∷ (AddressCycle c1 ∷ (AddressCycle c2 ∷ (AddressCycle r1 ∷ (AddressCycle r2 ∷ (AddressCycle r3 ∷ (CommandCycle ReadConfirm ∷ [])))))))
   read_plane : (c1 c2 r1 r2 r3 : ℕ) → IsSequence (CommandCycle Read ∷ (AddressCycle c1 ∷ (AddressCycle c2 ∷ (AddressCycle r1 ∷ (AddressCycle r2 ∷ (AddressCycle r3 ∷ (CommandCycle ReadPlane ∷ [])))))))
+  copyback_read : (c1 c2 r1 r2 r3 : ℕ) → IsSequence (CommandCycle Read ∷ (AddressCycle c1 ∷ (AddressCycle c2 ∷ (AddressCycle r1 ∷ (AddressCycle r2 ∷ (AddressCycle r3 ∷ (CommandCycle CopybackRead ∷ [])))))))
   read_cache_random : (c1 c2 r1 r2 r3 : ℕ) → IsSequence (CommandCycle Read ∷ (AddressCycle c1 ∷ (AddressCycle c2 ∷ (AddressCycle r1 ∷ (AddressCycle r2 ∷ (AddressCycle r3 ∷ (CommandCycle ReadCacheSequential ∷ [])))))))
   change_read_column : (c1 c2 : ℕ) → IsSequence (CommandCycle ChangeReadColumn ∷ (AddressCycle c1 ∷ (AddressCycle c2 ∷ (CommandCycle ChangeReadColumnConfirm ∷ []))))
   change_read_column_enhanced : (c1 c2 r1 r2 r3 : ℕ) → IsSequence (CommandCycle ChangeReadColumnEnhanced ∷ (AddressCycle c1 ∷ (AddressCycle c2 ∷ (AddressCycle r1 ∷ (AddressCycle r2 ∷ (AddressCycle r3 ∷ (CommandCycle ChangeReadColumnConfirm ∷ [])))))))
@@ -28,7 +34,7 @@ pub data IsSequence : List TargetCycle → Type 0 where
   erase_plane : (r1 r2 r3 : ℕ) → IsSequence (CommandCycle BlockErase ∷ (AddressCycle r1 ∷ (AddressCycle r2 ∷ (AddressCycle r3 ∷ (CommandCycle BlockErasePlane ∷ [])))))
   read_status : IsSequence (CommandCycle ReadStatus ∷ [])
   read_status_enhanced : (r1 r2 r3 : ℕ) → IsSequence (CommandCycle ReadStatusEnhanced ∷ (AddressCycle r1 ∷ (AddressCycle r2 ∷ (AddressCycle r3 ∷ []))))
-  program : (c1 c2 r1 r2 r3 : ℕ) (bytes : List TargetCycle) (closer : Command) → IsProgramData bytes → IsProgramCloser closer → IsSequence (CommandCycle PageProgram ∷ (AddressCycle c1 ∷ (AddressCycle c2 ∷ (AddressCycle r1 ∷ (AddressCycle r2 ∷ (AddressCycle r3 ∷ (bytes ++ (CommandCycle closer ∷ []))))))))
+  program : (opener : Command) (c1 c2 r1 r2 r3 : ℕ) (bytes : List TargetCycle) (closer : Command) → IsProgramOpener opener → IsProgramData bytes → IsProgramCloser closer → IsSequence (CommandCycle opener ∷ (AddressCycle c1 ∷ (AddressCycle c2 ∷ (AddressCycle r1 ∷ (AddressCycle r2 ∷ (AddressCycle r3 ∷ (bytes ++ (CommandCycle closer ∷ []))))))))
   read_id : IsSequence (CommandCycle ReadId ∷ (AddressCycle 0x20 ∷ []))
   read_parameter_page : IsSequence (CommandCycle ReadParameterPage ∷ (AddressCycle 0x00 ∷ []))
   reset : IsSequence (CommandCycle Reset ∷ [])
@@ -51,7 +57,7 @@ abbrev pub IsProperBeginning : List TargetCycle → Type 0
 IsProperBeginning cycles = (next : TargetCycle) × IsBeginning (cycles ++ (next ∷ []))
 
 -- what the rules compute of a tail, by the table: a cycle continues a tail exactly where both together begin some sequence
--- (of an opener, as 31 is one, it is said where some tail is there), and a sequence is open exactly where it is begun, not ended, and more
+-- (of an opener, as 31 and 85 are, it is said where some tail is there), and a sequence is open exactly where it is begun, not ended, and more
 -- than a lone 00
 pub record TailsFollowTheTable : Type 0 where
   pub goes_on : (t : List TargetCycle) (c : TargetCycle) → begins_sequence c ≡ false → (wants (facts_of t) c ≡ true) ↔ IsBeginning (reverse (c ∷ t))

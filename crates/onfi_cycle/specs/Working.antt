@@ -3,9 +3,9 @@ use Rattle.std.specs.Prelude.{◌≡◌, ℕ, ◌<◌, Bool, true, false, ◌||�
 use Rattle.nand_geometry.specs.declared.parts.Parts.{Parts}
 use Rattle.nand_geometry.specs.Limits.{InLimits}
 use Rattle.onfi_cycle.specs.declared.effect.Effect.{Effect}
-use Rattle.onfi_cycle.specs.declared.effect.Effect.TheVariants.{ReadStarted, EraseStarted, ProgramStarted, IdRead, IdentityRead, UniqueIdReadStarted, FeaturesReadStarted, FeaturesSet, ParameterPageReadStarted, CacheReadContinued, CacheReadEnded, ResetStarted, TargetResetStarted, ReadQueued, PlaneSelected}
+use Rattle.onfi_cycle.specs.declared.effect.Effect.TheVariants.{ReadStarted, EraseStarted, ProgramStarted, IdRead, IdentityRead, UniqueIdReadStarted, FeaturesReadStarted, FeaturesSet, ParameterPageReadStarted, CacheReadContinued, CacheReadEnded, ResetStarted, TargetResetStarted, ReadQueued, PlaneSelected, CopybackReadStarted}
 use Rattle.onfi_cycle.specs.declared.filling.Filling.{Filling}
-use Rattle.onfi_cycle.specs.declared.filling.Filling.TheVariants.{Leaves, Clears, Fills}
+use Rattle.onfi_cycle.specs.declared.filling.Filling.TheVariants.{Leaves, Clears, Copies, Fills}
 use Rattle.onfi_cycle.specs.declared.item.Item.{Item}
 use Rattle.onfi_cycle.specs.declared.item.Item.TheVariants.{Cyc, Rdy, Ard}
 use Rattle.onfi_cycle.specs.declared.target_cycle.TargetCycle.{TargetCycle}
@@ -15,19 +15,21 @@ use Rattle.onfi_cycle.specs.Command.{is_reset}
 use Rattle.onfi_cycle.specs.Effect.{is_shared}
 use Rattle.onfi_cycle.specs.Sequence.{target_cycle, tail, facts_of}
 use Rattle.onfi_cycle.specs.Filling.{filling}
-use Rattle.onfi_cycle.specs.Lun.{effect_on, lun_view}
+use Rattle.onfi_cycle.specs.Lun.{effect_on, lun_view, held}
 use Rattle.onfi_cycle.specs.Permitted.{broken}
 use Rattle.onfi_cycle.specs.Bounds.{LunFits, RowFits, RowStands, EffectFits}
 
 abbrev pub fills : Filling → Bool
 fills Leaves = false
 fills (Clears at) = true
+fills (Copies at from) = true
 fills (Fills at column byte) = true
 
 -- the effect begins work, or puts another page into the register
 abbrev pub begins : Effect → Bool
 begins (ReadStarted _ _) = true
 begins (ReadQueued _) = true
+begins (CopybackReadStarted _ _ _) = true
 begins (EraseStarted _ _) = true
 begins (ProgramStarted _ _) = true
 begins IdRead = true
@@ -45,7 +47,7 @@ begins _ = false
 
 -- the item begins work on the LUN, or changes a page register of it
 abbrev pub works_on : Parts → List Item → Item → Lun → Bool
-works_on g past i l = fills (filling g (facts_of (tail past l.ce)) i l) || begins (effect_on g past i l)
+works_on g past i l = fills (filling g (facts_of (tail past l.ce)) i l (held g past l)) || begins (effect_on g past i l)
 
 abbrev pub is_reset_cycle : TargetCycle → Bool
 is_reset_cycle (CommandCycle c) = is_reset c

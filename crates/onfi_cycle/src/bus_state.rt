@@ -7,7 +7,7 @@ ghost use Rattle.onfi_cycle.specs.Sequence.{facts_of, tail};
 ghost use Rattle.onfi_cycle.specs.Filling.{filling};
 ghost use Rattle.onfi_cycle.specs.Working.{FactsFit};
 ghost use Rattle.onfi_cycle.specs.Readies.{due_there};
-ghost use Rattle.onfi_cycle.specs.Lun.{effect_on};
+ghost use Rattle.onfi_cycle.specs.Lun.{effect_on, held};
 ghost use Rattle.onfi_cycle.specs.Permitted.{broken};
 ghost use Rattle.onfi_cycle.specs.State.{BusView, Follows, judged, bus_after, bus, changed_at, without_sequence, bus_without};
 ghost use Rattle.onfi_cycle.specs.Look.{looked, look_after, is_selected_in, target_works};
@@ -311,8 +311,8 @@ impl BusState {
     /// What an item does to the page registers of a LUN that is there.
     #[inline(always)]
     pub fn filling(&self, item: Item, lun: Lun) -> Filling
-        ensures past { (g : Parts) (n : ℕ) (past : List Item) → Follows g n self.now past → lun.ce < n
-            → result ≡ filling g (facts_of (tail past lun.ce)) item lun }
+        ensures past { (g : Parts) (n : ℕ) (past : List Item) → Follows g n self.now past → lun.ce < n → lun.lun < g.luns
+            → result ≡ filling g (facts_of (tail past lun.ce)) item lun (held g past lun) }
     {
         match target_at(self.targets.as_slice(), lun.ce) {
             None => Filling::Leaves,

@@ -1,6 +1,6 @@
 //! The commands: their bytes, and what each asks of its sequence.
 ghost use Rattle.std.specs.Prelude.{ℕ, ◌≡◌, ◌<◌, ◌^◌, Option};
-ghost use Rattle.onfi_cycle.specs.Command.{command, opcode, is_known, is_opener, address_cycles, closes, takes_address, at_last_row, addresses_the_array, reads_identity, is_reset, closes_row, reads_row, is_of_target, wants_ready, wants_one_lun};
+ghost use Rattle.onfi_cycle.specs.Command.{command, opcode, is_known, is_opener, address_cycles, closes, takes_address, at_last_row, addresses_the_array, begins_data, reads_identity, is_reset, closes_row, reads_row, is_of_target, wants_ready, wants_one_lun};
 ghost use Rattle.onfi_cycle.specs.Base.{is_of_base};
 ghost use Rattle.onfi_cycle.specs.Sequence.{is_proper_beginning};
 
@@ -21,6 +21,8 @@ pub enum Command {
     ReadConfirm,
     /// 32h, Read Page Multi-plane.
     ReadPlane,
+    /// 35h, Copyback Read.
+    CopybackRead,
     /// 05h, Change Read Column Definition.
     ChangeReadColumn,
     /// 06h, Change Read Column Enhanced Definition.
@@ -39,7 +41,7 @@ pub enum Command {
     ReadStatusEnhanced,
     /// 80h, Page Program Definition.
     PageProgram,
-    /// 85h, Change Write Column Definition.
+    /// 85h, Change Write Column Definition, in the data of a program; elsewhere Copyback Program.
     ChangeWriteColumn,
     /// 10h, Page Program Definition.
     ProgramConfirm,
@@ -101,6 +103,7 @@ impl Command {
             0xfc => Command::SynchronousReset,
             0x06 => Command::ChangeReadColumnEnhanced,
             0x32 => Command::ReadPlane,
+            0x35 => Command::CopybackRead,
             _ => Command::Unknown,
         }
     }
@@ -113,6 +116,7 @@ impl Command {
             Command::Read => Some(0x00),
             Command::ReadConfirm => Some(0x30),
             Command::ReadPlane => Some(0x32),
+            Command::CopybackRead => Some(0x35),
             Command::ChangeReadColumn => Some(0x05),
             Command::ChangeReadColumnEnhanced => Some(0x06),
             Command::ChangeReadColumnConfirm => Some(0xe0),
@@ -154,6 +158,7 @@ impl Command {
             self,
             Command::ChangeReadColumnEnhanced
                 | Command::ReadPlane
+                | Command::CopybackRead
                 | Command::ReadUniqueId
                 | Command::GetFeatures
                 | Command::SetFeatures
@@ -163,7 +168,7 @@ impl Command {
         )
     }
 
-    /// The command begins a sequence.
+    /// The command begins a sequence. [`Command::ReadCacheSequential`] and [`Command::ChangeWriteColumn`] do so where the tail doesn't want them.
     pub fn is_opener(self) -> bool
         ensures { result ≡ is_opener self }
     {
@@ -171,10 +176,10 @@ impl Command {
             self,
             Command::ReadConfirm
                 | Command::ReadPlane
+                | Command::CopybackRead
                 | Command::ChangeReadColumnConfirm
                 | Command::BlockEraseConfirm
                 | Command::BlockErasePlane
-                | Command::ChangeWriteColumn
                 | Command::ProgramConfirm
                 | Command::ProgramPlane
                 | Command::Unknown
@@ -186,7 +191,10 @@ impl Command {
         ensures { result ≡ address_cycles self }
     {
         match self {
-            Command::Read | Command::ChangeReadColumnEnhanced | Command::PageProgram => 5,
+            Command::Read
+            | Command::ChangeReadColumnEnhanced
+            | Command::PageProgram
+            | Command::ChangeWriteColumn => 5,
             Command::BlockErase | Command::ReadStatusEnhanced | Command::ResetLun => 3,
             Command::ChangeReadColumn => 2,
             Command::ReadId
@@ -206,7 +214,10 @@ impl Command {
             Command::Read => {
                 matches!(
                     closer,
-                    Command::ReadConfirm | Command::ReadPlane | Command::ReadCacheSequential
+                    Command::ReadConfirm
+                        | Command::ReadPlane
+                        | Command::CopybackRead
+                        | Command::ReadCacheSequential
                 )
             }
             Command::ChangeReadColumn | Command::ChangeReadColumnEnhanced => {
@@ -239,9 +250,10 @@ impl Command {
         ensures { result ≡ at_last_row self addresses }
     {
         match self {
-            Command::Read | Command::ChangeReadColumnEnhanced | Command::PageProgram => {
-                addresses == 4
-            }
+            Command::Read
+            | Command::ChangeReadColumnEnhanced
+            | Command::PageProgram
+            | Command::ChangeWriteColumn => addresses == 4,
             Command::BlockErase | Command::ReadStatusEnhanced | Command::ResetLun => addresses == 2,
             _ => false,
         }
@@ -257,7 +269,15 @@ impl Command {
                 | Command::ChangeReadColumnEnhanced
                 | Command::BlockErase
                 | Command::PageProgram
+                | Command::ChangeWriteColumn
         )
+    }
+
+    /// The opener's row is followed by the data of a program: those of a Page Program, or of a copyback.
+    pub fn begins_data(self) -> bool
+        ensures { result ≡ begins_data self }
+    {
+        matches!(self, Command::PageProgram | Command::ChangeWriteColumn)
     }
 
     /// The opener reads what stands beside the array, or sets it.
@@ -287,7 +307,10 @@ impl Command {
     {
         matches!(
             self,
-            Command::ReadConfirm | Command::ReadPlane | Command::ReadCacheSequential
+            Command::ReadConfirm
+                | Command::ReadPlane
+                | Command::CopybackRead
+                | Command::ReadCacheSequential
         )
     }
 
@@ -299,6 +322,7 @@ impl Command {
             self,
             Command::ReadConfirm
                 | Command::ReadPlane
+                | Command::CopybackRead
                 | Command::ReadCacheSequential
                 | Command::BlockEraseConfirm
                 | Command::BlockErasePlane
@@ -348,7 +372,8 @@ impl Command {
             Command::Read => 0 < addresses && addresses <= 5,
             Command::ChangeReadColumn => addresses <= 2,
             Command::BlockErase => addresses <= 3,
-            Command::ChangeReadColumnEnhanced | Command::PageProgram => addresses <= 5,
+            Command::ChangeReadColumnEnhanced | Command::PageProgram | Command::ChangeWriteColumn =>
+                addresses <= 5,
             _ => addresses < self.address_cycles(),
         }
     }

@@ -1,4 +1,4 @@
-//! Where a tail is in the data of a Page Program or of a Set Features.
+//! Where a tail is in the data of a program or of a Set Features.
 ghost use Rattle.std.specs.Prelude.{◌≡◌};
 ghost use Rattle.onfi_cycle.specs.Sequence.{phase_after_command, phase_after_address, phase_after_input, takes_data, takes_features, takes_inputs, wants_column, wants_second_column};
 
@@ -7,7 +7,7 @@ use crate::{Command, Opening};
 /// How many bytes a Set Features sets.
 pub const FEATURE_BYTES: usize = 4;
 
-/// Where a tail is in the data of a Page Program or of a Set Features.
+/// Where a tail is in the data of a program or of a Set Features.
 #[derive(Clone, Copy, Debug, PartialEq, Eq)]
 pub enum DataPhase {
     /// In neither.
@@ -23,7 +23,7 @@ pub enum DataPhase {
 }
 
 impl DataPhase {
-    /// The data of a Page Program goes on.
+    /// The data of a program goes on.
     pub fn takes_data(self) -> bool
         ensures { result ≡ takes_data self }
     {
@@ -77,7 +77,7 @@ impl DataPhase {
             DataPhase::SecondColumn => DataPhase::Inputs,
             DataPhase::Inputs | DataPhase::FeatureInputs => DataPhase::Outside,
             DataPhase::Outside => match opening {
-                Some(opening) if opening.ends_program_row() => DataPhase::Inputs,
+                Some(opening) if opening.ends_data_row() => DataPhase::Inputs,
                 Some(opening) if opening.names_feature() => DataPhase::FeatureInputs,
                 _ => DataPhase::Outside,
             },

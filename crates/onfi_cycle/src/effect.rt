@@ -30,6 +30,14 @@ pub enum Effect {
     ReadQueued {
         page: PageAddress,
     },
+    /// 35h: it reads a page for a copyback, and gives it from this column on; it has so many planes.
+    CopybackReadStarted {
+        page: PageAddress,
+        column: u32,
+        planes: u32,
+    },
+    /// The last row cycle of 80h: its plane registers are cleared.
+    ProgramAddressed,
     /// D0h, or D1h if queued.
     EraseStarted {
         queued: bool,
@@ -116,6 +124,7 @@ impl Effect {
             Effect::PlaneSelected { .. }
             | Effect::ReadStarted { .. }
             | Effect::ReadQueued { .. }
+            | Effect::CopybackReadStarted { .. }
             | Effect::IdRead
             | Effect::IdentityRead { .. }
             | Effect::ParameterPageReadStarted
@@ -137,6 +146,7 @@ impl Effect {
             | Effect::PlaneSelected { .. }
             | Effect::ReadStarted { .. }
             | Effect::ReadQueued { .. }
+            | Effect::CopybackReadStarted { .. }
             | Effect::CacheReadContinued { to: Some(_) }
             | Effect::EraseStarted { .. }
             | Effect::ProgramStarted { .. }
@@ -179,6 +189,7 @@ impl Effect {
         match self {
             Effect::ReadStarted { .. }
             | Effect::ReadQueued { .. }
+            | Effect::CopybackReadStarted { .. }
             | Effect::EraseStarted { .. }
             | Effect::ProgramStarted { .. }
             | Effect::ParameterPageReadStarted
@@ -201,6 +212,7 @@ impl Effect {
         match self {
             Effect::ReadStarted { .. } => Some(Command::ReadConfirm),
             Effect::ReadQueued { .. } => Some(Command::ReadPlane),
+            Effect::CopybackReadStarted { .. } => Some(Command::CopybackRead),
             Effect::EraseStarted { queued: true, .. } => Some(Command::BlockErasePlane),
             Effect::EraseStarted { queued: false, .. } => Some(Command::BlockEraseConfirm),
             Effect::ProgramStarted { queued: true, .. } => Some(Command::ProgramPlane),
@@ -226,6 +238,7 @@ impl Effect {
             Effect::ArrayBecameReady
             | Effect::ReadStarted { .. }
             | Effect::ReadQueued { .. }
+            | Effect::CopybackReadStarted { .. }
             | Effect::EraseStarted { .. }
             | Effect::ProgramStarted { .. }
             | Effect::IdRead
@@ -249,8 +262,9 @@ impl Effect {
         ensures small { IsSmallEffect self → result.page ≤ 2 ^ 32 ⊎ result.page ≤ before.page + 1 }
     {
         match self {
-            Effect::ReadStarted { page, .. } | Effect::CacheReadContinued { to: Some(page) } =>
-                page,
+            Effect::ReadStarted { page, .. }
+            | Effect::CopybackReadStarted { page, .. }
+            | Effect::CacheReadContinued { to: Some(page) } => page,
             Effect::CacheReadContinued { to: None } => PageAddress {
                 block: before.block,
                 page: before.page + 1,
@@ -272,7 +286,8 @@ impl Effect {
         ensures { result ≡ register_after self array_page queue.now held.now before }
     {
         match self {
-            Effect::ReadStarted { page, .. } if !has_reads(queue) => Register::Page(page),
+            Effect::ReadStarted { page, .. } | Effect::CopybackReadStarted { page, .. }
+                if !has_reads(queue) => Register::Page(page),
             Effect::PlaneSelected { plane, planes, .. } => match page_in_plane(
                 planes, plane, held,
             ) {
@@ -281,6 +296,7 @@ impl Effect {
             },
             Effect::ReadStarted { .. }
             | Effect::ReadQueued { .. }
+            | Effect::CopybackReadStarted { .. }
             | Effect::EraseStarted { .. }
             | Effect::ProgramStarted { .. }
             | Effect::FeaturesSet { .. }
@@ -307,6 +323,7 @@ impl Effect {
     {
         match self {
             Effect::ReadStarted { column, .. }
+            | Effect::CopybackReadStarted { column, .. }
             | Effect::ReadColumnChanged { column }
             | Effect::PlaneSelected { column, .. } => { ReadColumn::given(column) }
             Effect::IdRead

@@ -37,12 +37,14 @@ pub enum Forbidden {
     ColumnOutside,
     #[error("the cache read doesn't stand so")]
     CacheReadMisplaced,
+    #[error("the LUN holds no page to copy there, or copies a group")]
+    CopybackMisplaced,
     #[error("the LUN holds no page of the plane, or has a queue")]
     PlaneNotHeld,
 }
 
 impl Forbidden {
-    /// Its code, `F1` to `F15` or `F18`.
+    /// Its code, `F1` to `F15`, `F17` or `F18`.
     pub fn code(self) -> &'static str
         ensures { result.now ≡ forbidden_code self }
     {
@@ -62,11 +64,12 @@ impl Forbidden {
             Forbidden::DataNotReady => "F13",
             Forbidden::ColumnOutside => "F14",
             Forbidden::CacheReadMisplaced => "F15",
+            Forbidden::CopybackMisplaced => "F17",
             Forbidden::PlaneNotHeld => "F18",
         }
     }
 
-    /// The number of its code, 1 to 15 or 18.
+    /// The number of its code, 1 to 15, 17 or 18.
     pub fn number(self) -> u32
         ensures { result ≡ rule_number self }
     {
@@ -86,6 +89,7 @@ impl Forbidden {
             Forbidden::DataNotReady => 13,
             Forbidden::ColumnOutside => 14,
             Forbidden::CacheReadMisplaced => 15,
+            Forbidden::CopybackMisplaced => 17,
             Forbidden::PlaneNotHeld => 18,
         }
     }
@@ -111,6 +115,7 @@ impl Forbidden {
             13 => Some(Forbidden::DataNotReady),
             14 => Some(Forbidden::ColumnOutside),
             15 => Some(Forbidden::CacheReadMisplaced),
+            17 => Some(Forbidden::CopybackMisplaced),
             18 => Some(Forbidden::PlaneNotHeld),
             _ => None,
         }

@@ -1,7 +1,8 @@
 //! The pages that the plane registers of a LUN hold.
 ghost use Rattle.std.specs.Prelude.{◌≡◌, ◌%◌, ◌==◌, ◌<◌, ◌≤◌, ◌++◌, List, [], ◌∷◌, length, take};
 ghost use Rattle.std.specs.List.{list_any};
-ghost use Rattle.onfi_cycle.specs.Lun.{has_reads, held_after, page_in_plane, pages_of_reads};
+ghost use Rattle.onfi_cycle.specs.Lun.{has_reads, held_after, held_on, of_other_planes, page_in_plane, pages_of_reads};
+ghost use Rattle.onfi_cycle.specs.Effect.{HasPlanes};
 
 use crate::{Effect, PageAddress, Queued};
 use arrayvec::ArrayVec;
@@ -20,7 +21,7 @@ pub fn has_reads(queue: &[Queued]) -> bool
 }
 
 /// The page of this plane, where a LUN has so many planes.
-pub(crate) fn page_in_plane(planes: u32, plane: u32, held: &[PageAddress]) -> Option<PageAddress>
+pub fn page_in_plane(planes: u32, plane: u32, held: &[PageAddress]) -> Option<PageAddress>
     requires { 0 < planes }
     ensures { result ≡ page_in_plane planes plane held.now }
 {
@@ -44,17 +45,23 @@ pub(crate) fn holds_plane(planes: u32, plane: u32, held: &[PageAddress]) -> bool
     held.iter().any(|page| page.block % planes == plane)
 }
 
+// Adds a page, if there is room.
+fn hold_page(held: &mut HeldPages, page: PageAddress)
+    requires { length held.old.items ≤ 4 }
+    ensures { held.new.items ≡ take 4 (held.old.items ++ (page ∷ [])) }
+{
+    if held.len() < MAX_PLANES {
+        held.push(page);
+    }
+}
+
 // Adds the page of a queued read, as far as there is room.
 fn hold_read(held: &mut HeldPages, queued: Queued)
     requires { length held.old.items ≤ 4 }
     ensures { held.new.items ≡ take 4 (held.old.items ++ pages_of_reads (queued ∷ [])) }
 {
     match queued {
-        Queued::Read(page) => {
-            if held.len() < MAX_PLANES {
-                held.push(page);
-            }
-        }
+        Queued::Read(page) => hold_page(held, page),
         Queued::Erase(_) | Queued::Program(_) => {}
     }
 }
@@ -73,17 +80,69 @@ fn hold_reads(held: &mut HeldPages, queue: &[Queued])
     }
 }
 
-/// What an effect leaves of them, `array_page` being the page that the array was told to read before it and `queue` the rows that were queued.
+// Adds a page of another plane, as far as there is room.
+fn hold_other(kept: &mut HeldPages, planes: u32, page: PageAddress, other: PageAddress)
+    requires some { 0 < planes }
+    requires room { length kept.old.items ≤ 4 }
+    ensures { kept.new.items ≡ take 4 (kept.old.items ++ of_other_planes planes page (other ∷ [])) }
+{
+    if other.block % planes != page.block % planes {
+        hold_page(kept, other);
+    }
+}
+
+// Adds the pages of other planes, as far as there is room.
+fn hold_others(kept: &mut HeldPages, planes: u32, page: PageAddress, held: &[PageAddress])
+    requires some { 0 < planes }
+    requires room { length kept.old.items ≤ 4 }
+    ensures { kept.new.items ≡ take 4 (kept.old.items ++ of_other_planes planes page held.now) }
+{
+    match held {
+        [] => {}
+        [first, rest @ ..] => {
+            hold_other(kept, planes, page, *first);
+            hold_others(kept, planes, page, rest)
+        }
+    }
+}
+
+// A page that is read for a copyback, with the reads of the queue, and with those of other planes where they were read for one too.
+fn held_for_copyback(
+    page: PageAddress,
+    planes: u32,
+    is_copyback: bool,
+    queue: &[Queued],
+    held: &HeldPages,
+) -> HeldPages
+    requires { 0 < planes }
+    ensures { result.items ≡ take 4 (page ∷ (pages_of_reads queue.now ++ held_on planes page is_copyback held.now.items)) }
+{
+    let mut kept = HeldPages::new();
+    kept.push(page);
+    hold_reads(&mut kept, queue);
+    if is_copyback {
+        hold_others(&mut kept, planes, page, held.as_slice());
+    }
+    kept
+}
+
+/// What an effect leaves of them, behind a Copyback Read or not, `array_page` being the page that the array was told to read before it and
+/// `queue` the rows that were queued.
 #[inline(always)]
 pub fn apply_to_held(
     held: &mut HeldPages,
     effect: Effect,
+    is_copyback: bool,
     array_page: PageAddress,
     queue: &[Queued],
 )
-    ensures { held.new.items ≡ held_after effect array_page queue.now held.old.items }
+    requires { HasPlanes effect }
+    ensures { held.new.items ≡ held_after effect is_copyback array_page queue.now held.old.items }
 {
     match effect {
+        Effect::CopybackReadStarted { page, planes, .. } => {
+            *held = held_for_copyback(page, planes, is_copyback, queue, held);
+        }
         Effect::ReadStarted { page, .. } => {
             held.clear();
             held.push(page);
@@ -94,6 +153,7 @@ pub fn apply_to_held(
             held.push(array_page);
         }
         Effect::ReadQueued { .. }
+        | Effect::ProgramAddressed
         | Effect::EraseStarted { .. }
         | Effect::ProgramStarted { queued: false, .. }
         | Effect::IdRead

@@ -1,6 +1,6 @@
 //! What an item does to a LUN, by the facts of its target's tail.
 ghost use Rattle.std.specs.Prelude.{◌≡◌};
-ghost use Rattle.onfi_cycle.specs.Effect.{names_lun, is_shared, acts_for_target, of_target, status_effect, reset_effect, other_effect, row_effect, cache_effect, plane_of_row, plane_effect, column_effect, lun_reset_effect, confirm_effect, command_effect, address_effect, opening_address_effect, id_effect, ends_features, input_effect, cycle_effect, item_effect, IsSmallEffect};
+ghost use Rattle.onfi_cycle.specs.Effect.{names_lun, is_shared, acts_for_target, of_target, status_effect, reset_effect, other_effect, row_effect, cache_effect, plane_of_row, plane_effect, column_effect, lun_reset_effect, program_row_effect, confirm_effect, command_effect, address_effect, opening_address_effect, id_effect, ends_features, input_effect, cycle_effect, item_effect, IsSmallEffect};
 
 use crate::data_phase::FEATURE_BYTES;
 use crate::{Command, Effect, Item, Latch, Lun, PageAddress, TailFacts, TargetCycle};
@@ -91,6 +91,11 @@ fn confirm_effect(geometry: &Geometry, tail: TailFacts, command: Command) -> Eff
             column: tail.column,
         },
         Command::ReadPlane => Effect::ReadQueued { page: at },
+        Command::CopybackRead => Effect::CopybackReadStarted {
+            page: at,
+            column: tail.column,
+            planes: geometry.planes(),
+        },
         Command::ReadCacheSequential => Effect::CacheReadContinued { to: Some(at) },
         Command::BlockEraseConfirm => Effect::EraseStarted {
             queued: false,
@@ -229,6 +234,18 @@ fn lun_reset_effect(geometry: &Geometry, is_named: bool) -> Effect
     }
 }
 
+/// What the last row cycle of a Page Program does.
+fn program_row_effect(is_named: bool) -> Effect
+    ensures value { result ≡ program_row_effect is_named }
+    ensures small { IsSmallEffect result }
+{
+    if is_named {
+        Effect::ProgramAddressed
+    } else {
+        Effect::Unaffected
+    }
+}
+
 /// What the address of a Read ID does.
 fn id_effect(byte: u8) -> Effect
     ensures value { result ≡ id_effect byte }
@@ -256,6 +273,9 @@ fn address_effect(geometry: &Geometry, tail: TailFacts, byte: u8, lun: u8) -> Ef
         }
         Command::ResetLun if opening.addresses == 2 => {
             lun_reset_effect(geometry, names_lun(geometry, tail.row_with(byte), lun))
+        }
+        Command::PageProgram if opening.addresses == 4 => {
+            program_row_effect(names_lun(geometry, tail.row_with(byte), lun))
         }
         Command::ReadId if tail.wants_address(byte) => of_target(geometry, lun, id_effect(byte)),
         Command::ReadParameterPage if tail.wants_address(byte) => {

@@ -6,6 +6,7 @@ ghost use Rattle.onfi_cycle.specs.Naming.{TailsName};
 ghost use Rattle.onfi_cycle.specs.Decides.{FactsAreDecided};
 ghost use Rattle.onfi_cycle.specs.Steps.{FactsGoOn, ReadiesChange, OutputsShow, OwnCyclesKeep, ServiceBegins};
 ghost use Rattle.onfi_cycle.specs.Codes.{RulesAreNumbered};
+ghost use Rattle.onfi_cycle.specs.Content.{WorkChangesPages};
 
 /// Each command of the profile has one byte, and each byte of the profile one command.
 pub fn commands_have_bytes()
@@ -61,6 +62,11 @@ pub fn own_cycles_keep()
 /// Work of a whole target that has several LUNs begins by its own commands alone, and those are of none of its LUNs.
 pub fn service_begins()
     ensures { ServiceBegins }
+{}
+
+/// The work that goes on changes pages exactly where something takes effect at its end.
+pub fn work_changes_pages()
+    ensures { WorkChangesPages }
 {}
 
 /// Each rule is that of its number.

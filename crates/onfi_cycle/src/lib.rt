@@ -45,12 +45,14 @@ pub use data_phase::{DataPhase, FEATURE_BYTES};
 pub use effect::Effect;
 pub use filling::Filling;
 pub use forbidden::Forbidden;
-pub use held::{HeldPages, MAX_PLANES, apply_to_held, has_reads};
+pub use held::{HeldPages, MAX_PLANES, apply_to_held, has_reads, page_in_plane};
 pub use item::{Cycle, Item, Kind};
 pub use item_effects::{acts_for_target, cycle_effect, is_shared, item_effect};
 pub use latch::Latch;
 pub use lun::{Lun, MAX_CHANNEL_LUNS, MAX_TARGETS};
-pub use lun_facts::{LunFacts, is_cache_read, is_page_read, is_target_work};
+pub use lun_facts::{
+    LunFacts, is_cache_read, is_copyback_read, is_page_read, is_target_work, keeps_copy,
+};
 pub use lun_state::LunState;
 pub use opening::Opening;
 pub use page_address::PageAddress;

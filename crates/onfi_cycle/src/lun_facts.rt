@@ -1,10 +1,10 @@
 //! What the rules see of a LUN.
 ghost use Rattle.std.specs.Prelude.{◌≡◌, ◌^◌, ◌<◌, ◌≤◌};
-ghost use Rattle.onfi_cycle.specs.Lun.{is_cache_read, is_page_read, is_target_work, works};
+ghost use Rattle.onfi_cycle.specs.Lun.{is_cache_read, is_page_read, is_copyback_read, is_target_work, works};
 ghost use Rattle.onfi_cycle.specs.Outputs.{has_fewer};
-ghost use Rattle.onfi_cycle.specs.Rules.{works_for_target, caching, may_change_column, has_no_byte, is_past_register, continues_cache, ends_cache, has_read_one, holds_plane_of};
+ghost use Rattle.onfi_cycle.specs.Rules.{works_for_target, caching, may_change_column, has_no_byte, is_past_register, continues_cache, ends_cache, has_read_one, holds_plane_of, keeps_copy, may_copy_to, may_copy, is_copying};
 
-use crate::held::holds_plane;
+use crate::held::{holds_plane, page_in_plane};
 use crate::{Command, HeldPages, Latch, PageAddress, ReadColumn, Register, WorkQueue};
 use nand_geometry::Geometry;
 use std::marker::Model;
@@ -26,6 +26,20 @@ pub fn is_page_read(closer: Option<Command>) -> bool
     )
 }
 
+/// The last closer has read a page for a copyback.
+pub fn is_copyback_read(closer: Option<Command>) -> bool
+    ensures { result ≡ is_copyback_read closer }
+{
+    closer == Some(Command::CopybackRead)
+}
+
+/// A program may take what is held: the last closer is Copyback Read, or a queued program behind one.
+pub fn keeps_copy(closer: Option<Command>) -> bool
+    ensures { result ≡ keeps_copy closer }
+{
+    matches!(closer, Some(Command::CopybackRead | Command::ProgramPlane))
+}
+
 /// The last closer reads or sets what stands beside the array, which is work of a whole target.
 pub fn is_target_work(closer: Option<Command>) -> bool
     ensures { result ≡ is_target_work closer }
@@ -39,6 +53,16 @@ pub fn is_target_work(closer: Option<Command>) -> bool
                 | Command::SetFeatures
         )
     )
+}
+
+/// A page may be copied to another of its plane: both are odd, or both even, where that matters.
+fn may_copy_to(geometry: &Geometry, page: PageAddress, held: Option<PageAddress>) -> bool
+    ensures { result ≡ may_copy_to geometry.now page held }
+{
+    match held {
+        None => false,
+        Some(from) => { geometry.parts().optional.has_odd_even() || page.page % 2 == from.page % 2 }
+    }
 }
 
 /// What the rules see of a LUN.
@@ -110,6 +134,22 @@ impl<Q: WorkQueue> LunFacts<Q> {
         let planes = geometry.planes();
         self.queue.works().is_empty()
             && holds_plane(planes, page.block % planes, self.held.as_slice())
+    }
+
+    /// It holds a page that was read for a copyback, and may be copied to this one.
+    pub(crate) fn may_copy(&self, geometry: &Geometry, page: PageAddress) -> bool
+        ensures { result ≡ may_copy geometry.now page self.now }
+    {
+        let planes = geometry.planes();
+        let held = page_in_plane(planes, page.block % planes, self.held.as_slice());
+        keeps_copy(self.closer) && may_copy_to(geometry, page, held)
+    }
+
+    /// A group of copybacks has begun.
+    pub(crate) fn is_copying(&self) -> bool
+        ensures { result ≡ is_copying self.now }
+    {
+        !self.queue.works().is_empty() && !self.held.is_empty()
     }
 
     /// Read Cache Sequential may come: a page of the array was read, and the block has a page after it.

@@ -1,6 +1,6 @@
 //! The beginning of a tail.
 ghost use Rattle.std.specs.Prelude.{◌≡◌, ◌+◌, ◌-◌, ◌<◌, ◌^◌, ◌&&◌, ◌==◌, nat_lt};
-ghost use Rattle.onfi_cycle.specs.Command.{is_opener, address_cycles, takes_address, closes, at_last_row, is_page_program, is_set_features};
+ghost use Rattle.onfi_cycle.specs.Command.{is_opener, address_cycles, takes_address, closes, at_last_row, begins_data, is_page_program, is_write_column, is_set_features};
 ghost use Rattle.onfi_cycle.specs.Sequence.{is_proper_beginning};
 
 use crate::Command;
@@ -65,10 +65,24 @@ impl Opening {
         self.opener == Command::SetFeatures && self.addresses == 0
     }
 
-    /// The next address is the last of a Page Program.
+    /// The next address is the last of the row of a program, behind which its data come.
+    pub(crate) fn ends_data_row(self) -> bool
+        ensures { result ≡ (begins_data self.opener && self.addresses == 4) }
+    {
+        self.opener.begins_data() && self.addresses == 4
+    }
+
+    /// The next address is the last of the row of a Page Program.
     pub(crate) fn ends_program_row(self) -> bool
         ensures { result ≡ (is_page_program self.opener && self.addresses == 4) }
     {
         self.opener == Command::PageProgram && self.addresses == 4
+    }
+
+    /// The next address is the last of the row of a Copyback Program.
+    pub(crate) fn ends_copyback_row(self) -> bool
+        ensures { result ≡ (is_write_column self.opener && self.addresses == 4) }
+    {
+        self.opener == Command::ChangeWriteColumn && self.addresses == 4
     }
 }

@@ -12,6 +12,7 @@ fn starts(command: Command) -> bool
         command,
         Command::ReadConfirm
             | Command::ReadPlane
+            | Command::CopybackRead
             | Command::BlockEraseConfirm
             | Command::BlockErasePlane
             | Command::ProgramConfirm

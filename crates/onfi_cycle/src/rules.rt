@@ -1,11 +1,11 @@
-//! The rules F1 to F15 and F18, and the judge that tries them in order, by the facts of one target.
+//! The rules F1 to F15, F17 and F18, and the judge that tries them in order, by the facts of one target.
 ghost use Rattle.std.specs.Prelude.{◌≡◌, ◌+◌, ◌^◌, ◌<◌, ◌≤◌, length, true, false, not, slice_get};
 ghost use Rattle.std.specs.List.{list_all, list_any};
 ghost use Rattle.std.specs.Option.{option_copied};
 ghost use Rattle.nand_geometry.specs.Row.{parts_of};
 ghost use Rattle.onfi_cycle.specs.declared.target_cycle.TargetCycle.{TargetCycle};
 ghost use Rattle.onfi_cycle.specs.Effect.{is_off, page_address};
-ghost use Rattle.onfi_cycle.specs.Rules.{breaks_not_there, breaks_command_unknown, breaks_sequence_open, breaks_several_luns, breaks_no_column_to_change, breaks_command_misplaced, breaks_address_misplaced, breaks_row_outside, breaks_lun_busy, breaks_queue_clash, breaks_input_misplaced, breaks_no_sole_driver, breaks_data_not_ready, breaks_column_outside, breaks_cache_read_misplaced, breaks_plane_not_held, holds_plane_of, blocks_clash, read_clashes, some_read_clashes, has_read_one, driving, are_none, driver, is_undeclared, is_undeclared_address, planes_clash, queued_clashes, some_queued_clashes, refused_by, is_refused_by, caching, has_some, is_unclear, works_for_target, named_lun_is, driver_is, continues_cache, ends_row, excludes_cache, finds_no_cache_read};
+ghost use Rattle.onfi_cycle.specs.Rules.{breaks_not_there, breaks_command_unknown, breaks_sequence_open, breaks_several_luns, breaks_no_column_to_change, breaks_command_misplaced, breaks_address_misplaced, breaks_row_outside, breaks_lun_busy, breaks_queue_clash, breaks_input_misplaced, breaks_no_sole_driver, breaks_data_not_ready, breaks_column_outside, breaks_cache_read_misplaced, breaks_copyback_misplaced, breaks_plane_not_held, may_copy, is_copying, opens_here, begins_on_ready, holds_plane_of, blocks_clash, read_clashes, some_read_clashes, has_read_one, driving, are_none, driver, is_undeclared, is_undeclared_address, planes_clash, queued_clashes, some_queued_clashes, refused_by, is_refused_by, caching, has_some, is_unclear, works_for_target, named_lun_is, driver_is, continues_cache, ends_row, excludes_cache, finds_no_cache_read};
 ghost use Rattle.onfi_cycle.specs.Permitted.{judge, judge_cycle, judge_known_cycle};
 
 use crate::{
@@ -84,6 +84,7 @@ pub fn is_undeclared(geometry: &Geometry, command: Command) -> bool
         Command::ReadCacheSequential | Command::ReadCacheEnd => !parts.cache,
         Command::ChangeReadColumnEnhanced => !parts.optional.has_enhanced_column(),
         Command::ReadPlane => !parts.optional.has_plane_reads(),
+        Command::CopybackRead => !parts.optional.has_copyback(),
         Command::ReadUniqueId => !parts.optional.has_unique_id(),
         Command::GetFeatures | Command::SetFeatures => !parts.optional.has_features(),
         Command::ResetLun => !parts.optional.has_lun_reset(),
@@ -103,15 +104,25 @@ fn breaks_command_unknown(geometry: &Geometry, cycle: TargetCycle) -> bool
     }
 }
 
+/// The command begins sequences of the chip: a Change Write Column does where a copyback is declared.
+fn opens_here(geometry: &Geometry, command: Command) -> bool
+    ensures { result ≡ opens_here geometry.now command }
+{
+    match command {
+        Command::ChangeWriteColumn => geometry.parts().optional.has_copyback(),
+        _ => command.is_opener(),
+    }
+}
+
 #[tactic(auto, unfolding(crate::specs::Rules::breaks_sequence_open))]
 fn breaks_sequence_open(geometry: &Geometry, tail: TailFacts, cycle: TargetCycle) -> bool
     ensures { result ≡ breaks_sequence_open geometry.now tail cycle }
 {
     match cycle {
         TargetCycle::CommandCycle(command) => {
-            command.is_opener()
+            opens_here(geometry, command)
                 && tail.is_open()
-                && !((command.is_reset() || tail.works_on_row(command))
+                && !((command.is_reset() || tail.goes_on_with(command))
                     && geometry.parts().optional.is_wide())
         }
         _ => false,
@@ -176,11 +187,12 @@ fn breaks_no_column_to_change<Q: WorkQueue>(luns: &[LunFacts<Q>], cycle: TargetC
 }
 
 #[tactic(auto, unfolding(crate::specs::Rules::breaks_command_misplaced))]
-fn breaks_command_misplaced(tail: TailFacts, cycle: TargetCycle) -> bool
-    ensures { result ≡ breaks_command_misplaced tail cycle }
+fn breaks_command_misplaced(geometry: &Geometry, tail: TailFacts, cycle: TargetCycle) -> bool
+    ensures { result ≡ breaks_command_misplaced geometry.now tail cycle }
 {
     match cycle {
-        TargetCycle::CommandCycle(command) => !command.is_opener() && !tail.wants_command(command),
+        TargetCycle::CommandCycle(command) => !opens_here(geometry, command)
+            && !tail.wants_command(command),
         _ => false,
     }
 }
@@ -242,6 +254,14 @@ fn named_is_busy<Q: WorkQueue>(geometry: &Geometry, row: u32, luns: &[LunFacts<Q
     }
 }
 
+/// The command begins a sequence and wants a ready LUN for it.
+#[inline(always)]
+fn begins_on_ready(tail: TailFacts, command: Command) -> bool
+    ensures { result ≡ begins_on_ready tail command }
+{
+    command.wants_ready() && !tail.goes_on_with(command)
+}
+
 #[tactic(auto, unfolding(crate::specs::Rules::breaks_lun_busy))]
 fn breaks_lun_busy<Q: WorkQueue>(
     geometry: &Geometry,
@@ -253,7 +273,7 @@ fn breaks_lun_busy<Q: WorkQueue>(
 {
     match cycle {
         TargetCycle::CommandCycle(command) => {
-            command.wants_ready() && !some_ready(luns)
+            begins_on_ready(tail, command) && !some_ready(luns)
                 || is_shared(geometry) && command.reads_identity() && some_busy(luns)
         }
         TargetCycle::AddressCycle(byte) => {
@@ -334,7 +354,9 @@ fn refused_by(geometry: &Geometry, opener: Command, page: PageAddress, queue: &[
     match opener {
         Command::Read => some_read_clashes(geometry, page, queue),
         Command::BlockErase => some_queued_clashes(geometry, true, page, queue),
-        Command::PageProgram => some_queued_clashes(geometry, false, page, queue),
+        Command::PageProgram | Command::ChangeWriteColumn => {
+            some_queued_clashes(geometry, false, page, queue)
+        }
         _ => false,
     }
 }
@@ -539,7 +561,7 @@ fn breaks_cache_read_misplaced<Q: WorkQueue>(
             geometry.parts().optional.is_wide()
                 && named_is_caching(geometry, tail.named_row(), luns)
         }
-        TargetCycle::CommandCycle(Command::ReadPlane) => {
+        TargetCycle::CommandCycle(Command::ReadPlane | Command::CopybackRead) => {
             named_is_caching(geometry, tail.named_row(), luns)
         }
         TargetCycle::CommandCycle(Command::ReadCacheEnd) => match driver(luns) {
@@ -550,6 +572,50 @@ fn breaks_cache_read_misplaced<Q: WorkQueue>(
         TargetCycle::AddressCycle(byte) => {
             ends_row_without_cache(geometry, tail)
                 && named_is_caching(geometry, tail.row_with(byte), luns)
+        }
+        _ => false,
+    }
+}
+
+/// The LUN that a row names is there, and holds no page that may be copied to that row.
+fn named_may_not_copy<Q: WorkQueue>(geometry: &Geometry, row: u32, luns: &[LunFacts<Q>]) -> bool
+    ensures { result ≡ named_lun_is geometry.now row (λ v. not (may_copy geometry.now (page_address geometry.now row) v)) luns.now }
+{
+    match find_named(geometry, row, luns) {
+        None => false,
+        Some(lun) => {
+            let page = PageAddress::of_row(geometry, row);
+            !lun.may_copy(geometry, page)
+        }
+    }
+}
+
+/// The LUN that a row names is there, and a group of copybacks has begun on it.
+fn named_is_copying<Q: WorkQueue>(geometry: &Geometry, row: u32, luns: &[LunFacts<Q>]) -> bool
+    ensures { result ≡ named_lun_is geometry.now row is_copying luns.now }
+{
+    match find_named(geometry, row, luns) {
+        None => false,
+        Some(lun) => lun.is_copying(),
+    }
+}
+
+#[inline(always)]
+#[tactic(auto, unfolding(crate::specs::Rules::breaks_copyback_misplaced))]
+fn breaks_copyback_misplaced<Q: WorkQueue>(
+    geometry: &Geometry,
+    tail: TailFacts,
+    luns: &[LunFacts<Q>],
+    cycle: TargetCycle,
+) -> bool
+    ensures { result ≡ breaks_copyback_misplaced geometry.now tail luns.now cycle }
+{
+    match cycle {
+        TargetCycle::AddressCycle(byte) => {
+            let row = tail.row_with(byte);
+            geometry.parts().optional.has_copyback()
+                && (tail.ends_copyback_row() && named_may_not_copy(geometry, row, luns)
+                    || tail.ends_program_row() && named_is_copying(geometry, row, luns))
         }
         _ => false,
     }
@@ -586,7 +652,7 @@ fn breaks_plane_not_held<Q: WorkQueue>(
 }
 
 /// The first of F3 to F18 that a command breaks. A closer can break F6 and F15 alone.
-#[tactic(auto, using(crate::proofs::Closers::closer_misplaced, crate::proofs::Closers::closer_reads, crate::proofs::Closers::closer_passes), unfolding(crate::specs::Rules::breaks_sequence_open, crate::specs::Rules::breaks_several_luns, crate::specs::Rules::breaks_no_column_to_change, crate::specs::Rules::breaks_command_misplaced, crate::specs::Rules::breaks_address_misplaced, crate::specs::Rules::breaks_row_outside, crate::specs::Rules::breaks_lun_busy, crate::specs::Rules::breaks_queue_clash, crate::specs::Rules::breaks_input_misplaced, crate::specs::Rules::breaks_no_sole_driver, crate::specs::Rules::breaks_data_not_ready, crate::specs::Rules::breaks_column_outside, crate::specs::Rules::breaks_cache_read_misplaced, crate::specs::Rules::breaks_plane_not_held))]
+#[tactic(auto, using(crate::proofs::Closers::closer_misplaced, crate::proofs::Closers::closer_reads, crate::proofs::Closers::closer_passes), unfolding(crate::specs::Rules::breaks_sequence_open, crate::specs::Rules::breaks_several_luns, crate::specs::Rules::breaks_no_column_to_change, crate::specs::Rules::breaks_command_misplaced, crate::specs::Rules::breaks_address_misplaced, crate::specs::Rules::breaks_row_outside, crate::specs::Rules::breaks_lun_busy, crate::specs::Rules::breaks_queue_clash, crate::specs::Rules::breaks_input_misplaced, crate::specs::Rules::breaks_no_sole_driver, crate::specs::Rules::breaks_data_not_ready, crate::specs::Rules::breaks_column_outside, crate::specs::Rules::breaks_cache_read_misplaced, crate::specs::Rules::breaks_copyback_misplaced, crate::specs::Rules::breaks_plane_not_held))]
 fn judge_command<Q: WorkQueue>(
     geometry: &Geometry,
     tail: TailFacts,
@@ -596,8 +662,8 @@ fn judge_command<Q: WorkQueue>(
     ensures { result ≡ judge_known_cycle geometry.now tail luns.now (TargetCycle.CommandCycle command) }
 {
     let cycle = TargetCycle::CommandCycle(command);
-    if !command.is_opener() {
-        if breaks_command_misplaced(tail, cycle) {
+    if !opens_here(geometry, command) {
+        if breaks_command_misplaced(geometry, tail, cycle) {
             Some(Forbidden::CommandMisplaced)
         } else if breaks_cache_read_misplaced(geometry, tail, luns, cycle) {
             Some(Forbidden::CacheReadMisplaced)
@@ -644,6 +710,8 @@ fn judge_end_of_row<Q: WorkQueue>(
         Some(Forbidden::ColumnOutside)
     } else if breaks_cache_read_misplaced(geometry, tail, luns, cycle) {
         Some(Forbidden::CacheReadMisplaced)
+    } else if breaks_copyback_misplaced(geometry, tail, luns, cycle) {
+        Some(Forbidden::CopybackMisplaced)
     } else if breaks_plane_not_held(geometry, tail, luns, cycle) {
         Some(Forbidden::PlaneNotHeld)
     } else {
@@ -652,7 +720,7 @@ fn judge_end_of_row<Q: WorkQueue>(
 }
 
 /// The first of F3 to F18 that an address breaks. One that isn't the last of a row can break F7 and F14 alone.
-#[tactic(auto, unfolding(crate::specs::Rules::breaks_sequence_open, crate::specs::Rules::breaks_several_luns, crate::specs::Rules::breaks_no_column_to_change, crate::specs::Rules::breaks_command_misplaced, crate::specs::Rules::breaks_row_outside, crate::specs::Rules::breaks_lun_busy, crate::specs::Rules::breaks_queue_clash, crate::specs::Rules::breaks_input_misplaced, crate::specs::Rules::breaks_no_sole_driver, crate::specs::Rules::breaks_data_not_ready, crate::specs::Rules::breaks_cache_read_misplaced, crate::specs::Rules::breaks_plane_not_held))]
+#[tactic(auto, using(crate::proofs::NoRow::no_copyback), unfolding(crate::specs::Rules::breaks_sequence_open, crate::specs::Rules::breaks_several_luns, crate::specs::Rules::breaks_no_column_to_change, crate::specs::Rules::breaks_command_misplaced, crate::specs::Rules::breaks_row_outside, crate::specs::Rules::breaks_lun_busy, crate::specs::Rules::breaks_queue_clash, crate::specs::Rules::breaks_input_misplaced, crate::specs::Rules::breaks_no_sole_driver, crate::specs::Rules::breaks_data_not_ready, crate::specs::Rules::breaks_cache_read_misplaced, crate::specs::Rules::breaks_plane_not_held))]
 fn judge_address<Q: WorkQueue>(
     geometry: &Geometry,
     tail: TailFacts,
@@ -675,7 +743,7 @@ fn judge_address<Q: WorkQueue>(
 }
 
 /// The first of F3 to F18 that an input breaks.
-#[tactic(auto, unfolding(crate::specs::Rules::breaks_sequence_open, crate::specs::Rules::breaks_several_luns, crate::specs::Rules::breaks_no_column_to_change, crate::specs::Rules::breaks_command_misplaced, crate::specs::Rules::breaks_address_misplaced, crate::specs::Rules::breaks_row_outside, crate::specs::Rules::breaks_lun_busy, crate::specs::Rules::breaks_queue_clash, crate::specs::Rules::breaks_no_sole_driver, crate::specs::Rules::breaks_data_not_ready, crate::specs::Rules::breaks_cache_read_misplaced, crate::specs::Rules::breaks_plane_not_held))]
+#[tactic(auto, unfolding(crate::specs::Rules::breaks_sequence_open, crate::specs::Rules::breaks_several_luns, crate::specs::Rules::breaks_no_column_to_change, crate::specs::Rules::breaks_command_misplaced, crate::specs::Rules::breaks_address_misplaced, crate::specs::Rules::breaks_row_outside, crate::specs::Rules::breaks_lun_busy, crate::specs::Rules::breaks_queue_clash, crate::specs::Rules::breaks_no_sole_driver, crate::specs::Rules::breaks_data_not_ready, crate::specs::Rules::breaks_cache_read_misplaced, crate::specs::Rules::breaks_copyback_misplaced, crate::specs::Rules::breaks_plane_not_held))]
 fn judge_input<Q: WorkQueue>(
     geometry: &Geometry,
     tail: TailFacts,
@@ -696,7 +764,7 @@ fn judge_input<Q: WorkQueue>(
 }
 
 /// The first of F3 to F18 that an output breaks.
-#[tactic(auto, unfolding(crate::specs::Rules::breaks_sequence_open, crate::specs::Rules::breaks_several_luns, crate::specs::Rules::breaks_no_column_to_change, crate::specs::Rules::breaks_command_misplaced, crate::specs::Rules::breaks_address_misplaced, crate::specs::Rules::breaks_row_outside, crate::specs::Rules::breaks_lun_busy, crate::specs::Rules::breaks_queue_clash, crate::specs::Rules::breaks_input_misplaced, crate::specs::Rules::breaks_cache_read_misplaced, crate::specs::Rules::breaks_plane_not_held))]
+#[tactic(auto, unfolding(crate::specs::Rules::breaks_sequence_open, crate::specs::Rules::breaks_several_luns, crate::specs::Rules::breaks_no_column_to_change, crate::specs::Rules::breaks_command_misplaced, crate::specs::Rules::breaks_address_misplaced, crate::specs::Rules::breaks_row_outside, crate::specs::Rules::breaks_lun_busy, crate::specs::Rules::breaks_queue_clash, crate::specs::Rules::breaks_input_misplaced, crate::specs::Rules::breaks_cache_read_misplaced, crate::specs::Rules::breaks_copyback_misplaced, crate::specs::Rules::breaks_plane_not_held))]
 fn judge_output<Q: WorkQueue>(
     geometry: &Geometry,
     tail: TailFacts,

@@ -11,7 +11,7 @@ ghost use Rattle.onfi_cycle.specs.Outputs.{given_on};
 use crate::held::apply_to_held;
 use crate::{
     Effect, Latch, LunFacts, PageAddress, Queued, ReadColumn, Register, RowQueue, TailFacts,
-    TargetCycle, cycle_effect, is_cache_read,
+    TargetCycle, cycle_effect, is_cache_read, is_copyback_read,
 };
 use arrayvec::ArrayVec;
 use nand_geometry::Geometry;
@@ -27,6 +27,7 @@ fn apply_to_queue(queue: &mut RowQueue, effect: Effect)
         Effect::ProgramStarted { queued: true, page } => queue.insert(0, Queued::Program(page)),
         Effect::ReadQueued { page } => queue.insert(0, Queued::Read(page)),
         Effect::ReadStarted { .. }
+        | Effect::CopybackReadStarted { .. }
         | Effect::EraseStarted { .. }
         | Effect::ProgramStarted { .. }
         | Effect::ResetStarted
@@ -78,6 +79,7 @@ impl LunFacts<RowQueue> {
         apply_to_held(
             &mut self.held,
             effect,
+            is_copyback_read(self.closer),
             self.array_page,
             self.queue.as_slice(),
         );
@@ -138,6 +140,7 @@ impl LunFacts<RowQueue> {
                 );
                 self.turn(effect);
             }
+            Effect::ProgramAddressed => self.held.clear(),
             // an arm of its own, so that LLVM makes it for this effect alone
             Effect::EraseStarted { .. } => self.renew(effect),
             _ => self.renew(effect),

@@ -1,7 +1,7 @@
 //! The tail of a target, by its facts: one cycle at a time, with nothing kept but the facts.
 ghost use Rattle.std.specs.Prelude.{ℕ, [], ◌≡◌, ◌+◌, ◌^◌, ◌<◌, ◌≤◌, true, IfSome};
-ghost use Rattle.onfi_cycle.specs.Command.{addresses_the_array, is_change_read_column, is_enhanced_column};
-ghost use Rattle.onfi_cycle.specs.Sequence.{AreSmall, target_cycle, begins_anew, selects_plane, works_on_row, facts_of, facts_after, extended_facts, next_address_place, column_after_address, takes_data, takes_inputs, wants_address, wants_command, wants, is_proper_beginning, is_open, row, row_with, column_with, input_column, target_of};
+ghost use Rattle.onfi_cycle.specs.Command.{addresses_the_array, is_change_read_column, is_enhanced_column, is_page_program, is_write_column};
+ghost use Rattle.onfi_cycle.specs.Sequence.{AreSmall, target_cycle, begins_anew, goes_on_with, selects_plane, works_on_row, facts_of, facts_after, extended_facts, next_address_place, column_after_address, takes_data, takes_inputs, wants_address, wants_command, wants, is_proper_beginning, is_open, row, row_with, column_with, input_column, target_of};
 ghost use Rattle.onfi_cycle.specs.Rules.{ends_row, second_of_page, second_column};
 ghost use Rattle.onfi_cycle.specs.Inputs.{fed_tail, takes_fewer_features, has_no_room};
 
@@ -94,11 +94,23 @@ impl TailFacts {
         }
     }
 
-    // A tail begins anew with this command: with an opener, but not with a 31h that it wants.
+    /// An opener goes on with the tail: a Read Cache Sequential that it wants, and a Change Write Column in the data of a program.
+    pub fn goes_on_with(self, command: Command) -> bool
+        ensures { result ≡ goes_on_with self command }
+    {
+        match command {
+            Command::ReadCacheSequential | Command::ChangeWriteColumn => {
+                self.wants_command(command)
+            }
+            _ => false,
+        }
+    }
+
+    // A tail begins anew with this command: with an opener that doesn't go on with it.
     fn begins_anew(self, command: Command) -> bool
         ensures { result ≡ begins_anew self (TargetCycle.CommandCycle command) }
     {
-        command.is_opener() && !self.works_on_row(command)
+        command.is_opener() && !self.goes_on_with(command)
     }
 
     // Goes on with a tail that isn't empty by an address.
@@ -254,7 +266,7 @@ impl TailFacts {
         }
     }
 
-    /// The next address is the second column cycle of a Read, a Change Read Column Enhanced, a Page Program or a Change Write Column.
+    /// The next address is the second column cycle of a Read, a Change Read Column Enhanced, a program or a Change Write Column.
     pub(crate) fn is_at_second_column_of_page(self) -> bool
         ensures { result ≡ second_of_page self }
     {
@@ -263,7 +275,10 @@ impl TailFacts {
             Some(opening) => {
                 matches!(
                     opening.opener,
-                    Command::Read | Command::ChangeReadColumnEnhanced | Command::PageProgram
+                    Command::Read
+                        | Command::ChangeReadColumnEnhanced
+                        | Command::PageProgram
+                        | Command::ChangeWriteColumn
                 ) && opening.addresses == 1
             }
         };
@@ -279,6 +294,26 @@ impl TailFacts {
             Some(opening) => {
                 opening.opener == Command::ChangeReadColumn && opening.addresses == 1
             }
+        }
+    }
+
+    /// The next address is the last of the row of a Page Program.
+    pub(crate) fn ends_program_row(self) -> bool
+        ensures { result ≡ ends_row is_page_program self }
+    {
+        match self.opening {
+            None => false,
+            Some(opening) => opening.ends_program_row(),
+        }
+    }
+
+    /// The next address is the last of the row of a Copyback Program.
+    pub(crate) fn ends_copyback_row(self) -> bool
+        ensures { result ≡ ends_row is_write_column self }
+    {
+        match self.opening {
+            None => false,
+            Some(opening) => opening.ends_copyback_row(),
         }
     }
 

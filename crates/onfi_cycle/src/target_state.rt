@@ -8,7 +8,7 @@ ghost use Rattle.onfi_cycle.specs.LunView.{LunView};
 ghost use Rattle.onfi_cycle.specs.Effect.{is_data};
 ghost use Rattle.onfi_cycle.specs.Applied.{luns_after_cycle, asks_driver, one_after, needs_no_row, acts_by_address, may_act};
 ghost use Rattle.onfi_cycle.specs.Sequence.{facts_after, takes_data, takes_features};
-ghost use Rattle.onfi_cycle.specs.Filling.{filling};
+ghost use Rattle.onfi_cycle.specs.Filling.{filling, held_by};
 ghost use Rattle.onfi_cycle.specs.Readies.{target_due};
 ghost use Rattle.onfi_cycle.specs.State.{TargetView, target_view, effect_alone, has_driver, target_after, without_sequence};
 ghost use Rattle.onfi_cycle.specs.Look.{look_at_some};
@@ -91,7 +91,7 @@ fn needs_no_row(command: Command) -> bool
     )
 }
 
-// An address after the opener may do something to a LUN.
+// An address after the opener may do something to a LUN, whichever it is.
 fn acts_by_address(opener: Command) -> bool
     ensures { result ≡ acts_by_address opener }
 {
@@ -116,7 +116,7 @@ fn may_act(tail: &TailFacts, luns: &[LunFacts<RowQueue>], cycle: TargetCycle) ->
         }
         TargetCycle::AddressCycle(_) => match tail.opening {
             None => false,
-            Some(opening) => acts_by_address(opening.opener),
+            Some(opening) => { acts_by_address(opening.opener) || opening.ends_program_row() }
         },
         TargetCycle::InputCycle(_) => ends_features(*tail),
         TargetCycle::OutputCycle => some_shows_data(luns),
@@ -334,9 +334,12 @@ impl TargetState {
     pub(crate) fn filling(&self, geometry: &Geometry, item: Item, lun: Lun) -> Filling
         requires limits { InLimits geometry.now }
         requires fits { TargetFits geometry.now self.now }
-        ensures { result ≡ filling geometry.now self.now.tail item lun }
+        ensures { result ≡ filling geometry.now self.now.tail item lun (held_by (slice_get self.now.luns lun.lun)) }
     {
-        Filling::of_item(geometry, self.tail, item, lun)
+        match lun_at(self.luns.as_slice(), lun.lun) {
+            None => Filling::of_item(geometry, self.tail, item, lun, &[]),
+            Some(facts) => Filling::of_item(geometry, self.tail, item, lun, facts.held.as_slice()),
+        }
     }
 
     /// How many readies are still to come.

@@ -1,7 +1,7 @@
 -- The pauses that a datasheet asks for before a cycle, by the last cycle of its target and whether a ready came since. Nothing is said of how long they are.
 use Rattle.std.specs.Prelude.{ℕ, ◌+◌, ◌==◌, Bool, true, false, ◌&&◌, not, nat_lt, Option, Some, None, if◌then◌else◌}
 use Rattle.onfi_cycle.specs.declared.command.Command.{Command}
-use Rattle.onfi_cycle.specs.declared.command.Command.TheVariants.{ReadConfirm, ReadPlane, ChangeReadColumnConfirm, BlockEraseConfirm, BlockErasePlane, ChangeWriteColumn, ProgramConfirm, ProgramPlane, ReadParameterPage, Reset, ReadCacheSequential, ReadCacheEnd, ReadUniqueId, GetFeatures, SetFeatures, ResetLun, SynchronousReset, Unknown}
+use Rattle.onfi_cycle.specs.declared.command.Command.TheVariants.{ReadConfirm, ReadPlane, CopybackRead, ChangeReadColumnConfirm, BlockEraseConfirm, BlockErasePlane, ChangeWriteColumn, ProgramConfirm, ProgramPlane, ReadParameterPage, Reset, ReadCacheSequential, ReadCacheEnd, ReadUniqueId, GetFeatures, SetFeatures, ResetLun, SynchronousReset, Unknown}
 use Rattle.onfi_cycle.specs.Command.{command}
 use Rattle.onfi_cycle.specs.declared.item.Kind.{Kind}
 use Rattle.onfi_cycle.specs.declared.item.Kind.TheVariants.{Cmd, Adr, Din, Dout}
@@ -15,6 +15,7 @@ use Rattle.onfi_pauses.specs.declared.pause.LastCycle.TheVariants as last
 abbrev pub starts : Command → Bool
 starts ReadConfirm = true
 starts ReadPlane = true
+starts CopybackRead = true
 starts BlockEraseConfirm = true
 starts BlockErasePlane = true
 starts ProgramConfirm = true

@@ -56,6 +56,7 @@ impl LastCycle {
                 command,
                 Command::ReadConfirm
                     | Command::ReadPlane
+                    | Command::CopybackRead
                     | Command::BlockEraseConfirm
                     | Command::BlockErasePlane
                     | Command::ProgramConfirm

@@ -59,7 +59,7 @@ command_is_of_one g luns (AddressCycle byte) more h = refl
 command_is_of_one g luns (InputCycle byte) more h = refl
 command_is_of_one g luns OutputCycle more h = refl
 
-base_tail : (g : Parts) (targets : ℕ) (past : List Item) (ce : ℕ) → is_legal (in_base g) targets past ≡ true → AreOfBase (facts_of (tail past ce))
+pub base_tail : (g : Parts) (targets : ℕ) (past : List Item) (ce : ℕ) → is_legal (in_base g) targets past ≡ true → AreOfBase (facts_of (tail past ce))
 base_tail g targets past ce legal = subst AreOfBase (sym (tails_kept g targets past ce legal)) (facts_base g targets past ce legal)
 
 pub plain : (g : Parts) (targets : ℕ) (past : List Item) (c : Cycle) (ce : ℕ) → is_shared g ≡ true → is_legal (in_base g) targets past ≡ true → broken (in_base g) targets past (Cyc c) ≡ None → c.ce ≡ ce → IsPlain g (facts_of (tail past ce)) (target_cycle c.kind c.byte)

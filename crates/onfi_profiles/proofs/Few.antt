@@ -2,9 +2,9 @@
 use Rattle.std.proofs.Common.{◌≡◌, ℕ, zero, suc, ◌+◌, ◌≤◌, ◌==◌, Bool, true, false, ◌&&◌, cond, not, ltb, nat_le, List, [], ◌∷◌, length, take, Option, Some, None, refl, ap, arith}
 use Rattle.nand_geometry.specs.declared.parts.Parts.{Parts}
 use Rattle.onfi_cycle.specs.declared.command.Command.{Command}
-use Rattle.onfi_cycle.specs.declared.command.Command.TheVariants.{Read, ReadConfirm, ReadPlane, ReadStatus, ReadStatusEnhanced, Reset, SynchronousReset, ReadCacheSequential, ReadCacheEnd, ChangeReadColumnConfirm, BlockEraseConfirm, BlockErasePlane, ProgramConfirm, ProgramPlane, ReadId, ReadParameterPage, ReadUniqueId, GetFeatures, ResetLun}
+use Rattle.onfi_cycle.specs.declared.command.Command.TheVariants.{Read, ReadConfirm, ReadPlane, CopybackRead, PageProgram, ReadStatus, ReadStatusEnhanced, Reset, SynchronousReset, ReadCacheSequential, ReadCacheEnd, ChangeReadColumnConfirm, BlockEraseConfirm, BlockErasePlane, ProgramConfirm, ProgramPlane, ReadId, ReadParameterPage, ReadUniqueId, GetFeatures, ResetLun}
 use Rattle.onfi_cycle.specs.declared.effect.Effect.{Effect}
-use Rattle.onfi_cycle.specs.declared.effect.Effect.TheVariants.{Unaffected, StatusSelected, StatusOfSelected, SelectedForStatus, Deselected, ReadStarted, ReadQueued, EraseStarted, ProgramStarted, IdRead, IdentityRead, UniqueIdReadStarted, FeaturesReadStarted, FeaturesSet, ParameterPageReadStarted, CacheReadContinued, CacheReadEnded, ReadColumnChanged, PlaneSelected, DataOutput, ResetStarted, TargetResetStarted, BecameReady, ArrayBecameReady, AnotherAddressed}
+use Rattle.onfi_cycle.specs.declared.effect.Effect.TheVariants.{Unaffected, StatusSelected, StatusOfSelected, SelectedForStatus, Deselected, ReadStarted, ReadQueued, CopybackReadStarted, ProgramAddressed, EraseStarted, ProgramStarted, IdRead, IdentityRead, UniqueIdReadStarted, FeaturesReadStarted, FeaturesSet, ParameterPageReadStarted, CacheReadContinued, CacheReadEnded, ReadColumnChanged, PlaneSelected, DataOutput, ResetStarted, TargetResetStarted, BecameReady, ArrayBecameReady, AnotherAddressed}
 use Rattle.onfi_cycle.specs.declared.item.Item.{Item}
 use Rattle.onfi_cycle.specs.declared.item.Item.TheVariants.{Cyc, Rdy, Ard}
 use Rattle.onfi_cycle.specs.declared.latch.Latch.{Latch}
@@ -19,8 +19,8 @@ use Rattle.onfi_cycle.specs.LunView.{LunView}
 use Rattle.onfi_cycle.specs.Base.{is_of_base}
 use Rattle.onfi_cycle.specs.Command.{closes_row, reads_row}
 use Rattle.onfi_cycle.specs.Sequence.{target_cycle, tail, facts_of, wants_command, wants_address, row, row_with, selects_plane}
-use Rattle.onfi_cycle.specs.Effect.{is_off, is_data, is_shared, acts_for_target, of_target, id_effect, lun_reset_effect, names_lun, ends_features, plane_of_row, plane_effect, column_effect, cache_effect, confirm_effect, other_effect, row_effect, command_effect, address_effect, opening_address_effect, cycle_effect}
-use Rattle.onfi_cycle.specs.Lun.{is_page_read, pages_of_reads, queue_after, held_after, queue, held, array_page, latch_alone, effect_on, effect_among, views_from, luns_of}
+use Rattle.onfi_cycle.specs.Effect.{program_row_effect, is_off, is_data, is_shared, acts_for_target, of_target, id_effect, lun_reset_effect, names_lun, ends_features, plane_of_row, plane_effect, column_effect, cache_effect, confirm_effect, other_effect, row_effect, command_effect, address_effect, opening_address_effect, cycle_effect}
+use Rattle.onfi_cycle.specs.Lun.{is_page_read, is_copyback_read, closer, pages_of_reads, queue_after, held_after, queue, held, array_page, latch_alone, effect_on, effect_among, views_from, luns_of}
 use Rattle.onfi_cycle.specs.Rules.{driving, only, driver_is, is_some_and, continues_cache}
 use Rattle.onfi_cycle.specs.Permitted.{broken, is_legal}
 use Rattle.onfi_cycle.proofs.Passed.{permitted_keeps}
@@ -31,20 +31,22 @@ use Rattle.onfi_profiles.proofs.Pasts.{lun_at, both_legal}
 
 -- 1. what an item does
 
-abbrev queues_read : Effect → Bool
-queues_read (ReadQueued page) = true
-queues_read _ = false
+-- a read is queued, or pages are read for a copyback
+abbrev pub brings_pages : Effect → Bool
+brings_pages (ReadQueued page) = true
+brings_pages (CopybackReadStarted page column planes) = true
+brings_pages _ = false
 
-neither : (b : Bool) (x y : Effect) → queues_read x ≡ false → queues_read y ≡ false → queues_read (cond b x y) ≡ false
+neither : (b : Bool) (x y : Effect) → brings_pages x ≡ false → brings_pages y ≡ false → brings_pages (cond b x y) ≡ false
 neither true x y hx hy = hx
 neither false x y hx hy = hy
 
-row_queues : (g : Parts) (t : TailFacts) (c : Command) (lun : ℕ) → queues_read (confirm_effect g t c) ≡ false → queues_read (row_effect g t c lun) ≡ false
+row_queues : (g : Parts) (t : TailFacts) (c : Command) (lun : ℕ) → brings_pages (confirm_effect g t c) ≡ false → brings_pages (row_effect g t c lun) ≡ false
 row_queues g t c lun h =
     neither (wants_command t c && names_lun g (row t) lun) (confirm_effect g t c) (other_effect g t c) h
     (neither (closes_row c && (wants_command t c && is_shared g)) (AnotherAddressed (reads_row c)) Unaffected refl refl)
 
-command_queues : (g : Parts) (t : TailFacts) (la : Latch) (c : Command) (lun : ℕ) → is_of_base c ≡ true → queues_read (command_effect g t la c lun) ≡ false
+command_queues : (g : Parts) (t : TailFacts) (la : Latch) (c : Command) (lun : ℕ) → is_of_base c ≡ true → brings_pages (command_effect g t la c lun) ≡ false
 command_queues g t la Read lun b = refl
 command_queues g t la ReadStatus lun b = neither (is_shared g) StatusOfSelected StatusSelected refl refl
 command_queues g t la ReadStatusEnhanced lun b = refl
@@ -60,16 +62,17 @@ command_queues g t la ChangeReadColumnConfirm lun b =
     (neither (wants_command t ChangeReadColumnConfirm && not (is_off la)) (ReadColumnChanged t.column) Unaffected refl refl)
 command_queues g t la ReadConfirm lun b = row_queues g t ReadConfirm lun refl
 command_queues g t la ReadPlane lun b = cc
+command_queues g t la CopybackRead lun b = cc
 command_queues g t la BlockEraseConfirm lun b = row_queues g t BlockEraseConfirm lun refl
 command_queues g t la BlockErasePlane lun b = row_queues g t BlockErasePlane lun refl
 command_queues g t la ProgramConfirm lun b = row_queues g t ProgramConfirm lun refl
 command_queues g t la ProgramPlane lun b = row_queues g t ProgramPlane lun refl
 command_queues g t la c lun b = row_queues g t c lun refl
 
-of_target_queues : (g : Parts) (lun : ℕ) (e : Effect) → queues_read e ≡ false → queues_read (of_target g lun e) ≡ false
+of_target_queues : (g : Parts) (lun : ℕ) (e : Effect) → brings_pages e ≡ false → brings_pages (of_target g lun e) ≡ false
 of_target_queues g lun e h = neither (acts_for_target g lun) e Deselected h refl
 
-address_queues : (g : Parts) (t : TailFacts) (byte : ℕ) (c : Command) (n lun : ℕ) → queues_read (address_effect g t byte c n lun) ≡ false
+address_queues : (g : Parts) (t : TailFacts) (byte : ℕ) (c : Command) (n lun : ℕ) → brings_pages (address_effect g t byte c n lun) ≡ false
 address_queues g t byte ReadStatusEnhanced n lun =
     neither (n == 2) (cond (names_lun g (row_with t byte) lun) SelectedForStatus Deselected) Unaffected
     (neither (names_lun g (row_with t byte) lun) SelectedForStatus Deselected refl refl) refl
@@ -82,19 +85,21 @@ address_queues g t byte GetFeatures n lun = neither (wants_address t byte) (of_t
 address_queues g t byte ResetLun n lun =
     neither (n == 2) (lun_reset_effect g (names_lun g (row_with t byte) lun)) Unaffected
     (neither (names_lun g (row_with t byte) lun) ResetStarted (cond (is_shared g) (AnotherAddressed false) Unaffected) refl (neither (is_shared g) (AnotherAddressed false) Unaffected refl refl)) refl
+address_queues g t byte PageProgram n lun =
+    neither (n == 4) (program_row_effect (names_lun g (row_with t byte) lun)) Unaffected (neither (names_lun g (row_with t byte) lun) ProgramAddressed Unaffected refl refl) refl
 address_queues g t byte c n lun = refl
 
-cycle_queues : (g : Parts) (t : TailFacts) (la : Latch) (k : TargetCycle) (lun : ℕ) → is_base_cycle k ≡ true → queues_read (cycle_effect g t la k lun) ≡ false
+cycle_queues : (g : Parts) (t : TailFacts) (la : Latch) (k : TargetCycle) (lun : ℕ) → is_base_cycle k ≡ true → brings_pages (cycle_effect g t la k lun) ≡ false
 cycle_queues g t la (CommandCycle c) lun b = command_queues g t la c lun b
 cycle_queues g t la (AddressCycle byte) lun b = at t.opening
   where
-    at : (o : Option Opening) → queues_read (opening_address_effect g t byte o lun) ≡ false
+    at : (o : Option Opening) → brings_pages (opening_address_effect g t byte o lun) ≡ false
     at None = refl
     at (Some o) = address_queues g t byte o.opener o.addresses lun
 cycle_queues g t la (InputCycle byte) lun b = neither (ends_features t) (of_target g lun (FeaturesSet _)) Unaffected (of_target_queues g lun (FeaturesSet _) refl) refl
 cycle_queues g t la OutputCycle lun b = neither (is_data la) DataOutput Unaffected refl refl
 
-item_queues : (g : Parts) (targets : ℕ) (past : List Item) (i : Item) (l : Lun) → broken (in_base g) targets past i ≡ None → queues_read (effect_on (in_base g) past i l) ≡ false
+pub item_queues : (g : Parts) (targets : ℕ) (past : List Item) (i : Item) (l : Lun) → broken (in_base g) targets past i ≡ None → brings_pages (effect_on (in_base g) past i l) ≡ false
 unfolding effect_among
 item_queues g targets past (Cyc c) l h =
     neither (c.ce == l.ce) (cycle_effect (in_base g) (facts_of (tail past l.ce)) (latch_alone (in_base g) past l) (target_cycle c.kind c.byte) l.lun) Unaffected
@@ -108,32 +113,34 @@ item_queues g targets past (Ard a b) l h = neither (a == l.ce && b == l.lun) Arr
 abbrev pub IsFew : List Queued → List PageAddress → Type 0
 IsFew queue held = (pages_of_reads queue ≡ []) × (length held ≤ 1)
 
-few_after : (e : Effect) (p : PageAddress) (queue : List Queued) (held : List PageAddress) → queues_read e ≡ false → IsFew queue held → IsFew (queue_after e queue) (held_after e p queue held)
-few_after (ReadStarted page column) p queue held r h =
+few_after : (e : Effect) (copyback : Bool) (p : PageAddress) (queue : List Queued) (held : List PageAddress) → brings_pages e ≡ false → IsFew queue held → IsFew (queue_after e queue) (held_after e copyback p queue held)
+few_after (ReadStarted page column) copyback p queue held r h =
     let one : length (take 4 (page ∷ pages_of_reads queue)) ≡ 1 = ap (λ (q : List PageAddress). length (take 4 (page ∷ q))) h.0 in
     (refl, omega (arith, one))
-few_after (ReadQueued page) p queue held r h = cc
-few_after (EraseStarted true at) p queue held r h = (h.0, omega arith)
-few_after (EraseStarted false at) p queue held r h = (refl, omega arith)
-few_after (ProgramStarted true page) p queue held r h = (h.0, h.1)
-few_after (ProgramStarted false page) p queue held r h = (refl, omega arith)
-few_after IdRead p queue held r h = (h.0, omega arith)
-few_after (IdentityRead jedec) p queue held r h = (h.0, omega arith)
-few_after UniqueIdReadStarted p queue held r h = (h.0, omega arith)
-few_after (FeaturesReadStarted address) p queue held r h = (h.0, omega arith)
-few_after (FeaturesSet feature) p queue held r h = (h.0, omega arith)
-few_after ParameterPageReadStarted p queue held r h = (h.0, omega arith)
-few_after (CacheReadContinued to) p queue held r h = (h.0, omega arith)
-few_after CacheReadEnded p queue held r h = (h.0, omega arith)
-few_after ResetStarted p queue held r h = (refl, omega arith)
-few_after (TargetResetStarted first) p queue held r h = (refl, omega arith)
-few_after e p queue held r h = h
+few_after (ReadQueued page) copyback p queue held r h = cc
+few_after (CopybackReadStarted page column planes) copyback p queue held r h = cc
+few_after ProgramAddressed copyback p queue held r h = (h.0, omega arith)
+few_after (EraseStarted true at) copyback p queue held r h = (h.0, omega arith)
+few_after (EraseStarted false at) copyback p queue held r h = (refl, omega arith)
+few_after (ProgramStarted true page) copyback p queue held r h = (h.0, h.1)
+few_after (ProgramStarted false page) copyback p queue held r h = (refl, omega arith)
+few_after IdRead copyback p queue held r h = (h.0, omega arith)
+few_after (IdentityRead jedec) copyback p queue held r h = (h.0, omega arith)
+few_after UniqueIdReadStarted copyback p queue held r h = (h.0, omega arith)
+few_after (FeaturesReadStarted address) copyback p queue held r h = (h.0, omega arith)
+few_after (FeaturesSet feature) copyback p queue held r h = (h.0, omega arith)
+few_after ParameterPageReadStarted copyback p queue held r h = (h.0, omega arith)
+few_after (CacheReadContinued to) copyback p queue held r h = (h.0, omega arith)
+few_after CacheReadEnded copyback p queue held r h = (h.0, omega arith)
+few_after ResetStarted copyback p queue held r h = (refl, omega arith)
+few_after (TargetResetStarted first) copyback p queue held r h = (refl, omega arith)
+few_after e copyback p queue held r h = h
 
 few : (g : Parts) (targets : ℕ) (past : List Item) (l : Lun) → is_legal (in_base g) targets past ≡ true → IsFew (queue (in_base g) past l) (held (in_base g) past l)
 few g targets [] l legal = (refl, omega arith)
 few g targets (i ∷ past) l legal =
     let parts = both_legal (in_base g) targets past i legal in
-    few_after (effect_on (in_base g) past i l) (array_page (in_base g) past l) (queue (in_base g) past l) (held (in_base g) past l) (item_queues g targets past i l parts.0) (few g targets past l parts.1)
+    few_after (effect_on (in_base g) past i l) (is_copyback_read (closer (in_base g) past l)) (array_page (in_base g) past l) (queue (in_base g) past l) (held (in_base g) past l) (item_queues g targets past i l parts.0) (few g targets past l parts.1)
 
 -- 3. a cache read may go on where it might before more than one page could be held
 

@@ -9,3 +9,4 @@ pub mod Shared
 pub mod Pasts
 pub mod Alike
 pub mod Widened
+pub mod Copies

@@ -4,12 +4,15 @@ use Rattle.std.proofs.Math.Bool.{or-false}
 use Rattle.std.specs.List.{list_any}
 use Rattle.nand_geometry.specs.declared.parts.Parts.{Parts}
 use Rattle.nand_geometry.specs.Limits.{page_len}
+use Rattle.nand_geometry.specs.Row.{parts_of, is_inside}
+use Rattle.std.proofs.lemmas.Bool.{not-false}
+use Rattle.onfi_cycle.proofs.Booleans.{by_case}
 use Rattle.onfi_cycle.specs.declared.command.Command.{Command}
-use Rattle.onfi_cycle.specs.declared.command.Command.TheVariants.{ChangeWriteColumn, ProgramConfirm, ProgramPlane, ReadId, ReadUniqueId, GetFeatures, SetFeatures, ResetLun, SynchronousReset, Unknown, ReadCacheSequential, ChangeReadColumnEnhanced, ReadPlane, Read, BlockErase, PageProgram}
+use Rattle.onfi_cycle.specs.declared.command.Command.TheVariants.{ChangeWriteColumn, ProgramConfirm, ProgramPlane, ReadId, ReadUniqueId, GetFeatures, SetFeatures, ResetLun, SynchronousReset, Unknown, ReadCacheSequential, ChangeReadColumnEnhanced, ReadPlane, CopybackRead, Read, BlockErase, PageProgram}
 use Rattle.onfi_cycle.specs.declared.data_phase.DataPhase.{DataPhase}
 use Rattle.onfi_cycle.specs.declared.data_phase.DataPhase.TheVariants.{Outside, Inputs, FirstColumn, SecondColumn, FeatureInputs}
 use Rattle.onfi_cycle.specs.declared.forbidden.Forbidden.{Forbidden}
-use Rattle.onfi_cycle.specs.declared.forbidden.Forbidden.TheVariants.{NotThere, CommandUnknown, SequenceOpen, SeveralLuns, NoColumnToChange, CommandMisplaced, AddressMisplaced, RowOutside, LunBusy, QueueClash, InputMisplaced, NoSoleDriver, DataNotReady, ColumnOutside, CacheReadMisplaced, PlaneNotHeld}
+use Rattle.onfi_cycle.specs.declared.forbidden.Forbidden.TheVariants.{NotThere, CommandUnknown, SequenceOpen, SeveralLuns, NoColumnToChange, CommandMisplaced, AddressMisplaced, RowOutside, LunBusy, QueueClash, InputMisplaced, NoSoleDriver, DataNotReady, ColumnOutside, CacheReadMisplaced, CopybackMisplaced, PlaneNotHeld}
 use Rattle.onfi_cycle.specs.declared.item.Item.{Item}
 use Rattle.onfi_cycle.specs.declared.item.Item.TheVariants.{Cyc, Rdy, Ard}
 use Rattle.onfi_cycle.specs.declared.opening.Opening.{Opening}
@@ -21,18 +24,18 @@ use Rattle.onfi_cycle.specs.declared.target_cycle.TargetCycle.{TargetCycle}
 use Rattle.onfi_cycle.specs.declared.target_cycle.TargetCycle.TheVariants.{CommandCycle, AddressCycle, InputCycle, OutputCycle}
 use Rattle.onfi_cycle.specs.LunView.{LunView}
 use Rattle.onfi_cycle.specs.Base.{is_of_base}
-use Rattle.onfi_cycle.specs.Command.{is_known, is_opener, at_last_row, is_read_id, is_reset, address_cycles, takes_address, addresses_the_array}
-use Rattle.onfi_cycle.specs.Sequence.{target_of, target_cycle, opened, takes_data, takes_features, takes_inputs, wants_column, wants_command, wants_address, is_open, is_proper_beginning, row_with, input_column, works_on_row, row}
+use Rattle.onfi_cycle.specs.Command.{is_known, is_opener, is_write_column, is_change_read_column, addresses_a_page, at_last_row, is_read_id, is_reset, address_cycles, takes_address, addresses_the_array}
+use Rattle.onfi_cycle.specs.Sequence.{target_of, target_cycle, opened, takes_data, takes_features, takes_inputs, wants_column, wants_command, wants_address, is_open, is_proper_beginning, row_with, input_column, column_with, wants_second_column, goes_on_with, row}
 use Rattle.onfi_cycle.specs.Effect.{page_address}
 use Rattle.onfi_cycle.specs.Lun.{luns_of}
-use Rattle.onfi_cycle.specs.Rules.{driver_is, ends_row, named_lun_is, is_undeclared, breaks_not_there, breaks_command_unknown, breaks_sequence_open, breaks_several_luns, breaks_no_column_to_change, breaks_command_misplaced, breaks_address_misplaced, breaks_row_outside, breaks_lun_busy, breaks_queue_clash, breaks_input_misplaced, breaks_no_sole_driver, breaks_data_not_ready, breaks_column_outside, breaks_cache_read_misplaced, continues_cache, caching, has_read_one, has_some, queued_clashes, refused_by, some_read_clashes}
+use Rattle.onfi_cycle.specs.Rules.{opens_here, second_column, register_len, is_refused_by, breaks_copyback_misplaced, driver_is, ends_row, named_lun_is, is_undeclared, breaks_not_there, breaks_command_unknown, breaks_sequence_open, breaks_several_luns, breaks_no_column_to_change, breaks_command_misplaced, breaks_address_misplaced, breaks_row_outside, breaks_lun_busy, breaks_queue_clash, breaks_input_misplaced, breaks_no_sole_driver, breaks_data_not_ready, breaks_column_outside, breaks_cache_read_misplaced, continues_cache, caching, has_read_one, has_some, queued_clashes, refused_by, some_read_clashes}
 use Rattle.onfi_cycle.specs.Permitted.{judge_cycle, judge_item, judge}
 use Rattle.onfi_profiles.specs.Widening.{in_base}
-use Rattle.onfi_profiles.specs.Tails.{base_takes_inputs, base_takes_address, base_wants_command, base_wants_address, base_is_open, base_facts}
-use Rattle.onfi_profiles.specs.Judging.{base_undeclared, base_command_unknown, base_sequence_open, base_command_misplaced, base_several_luns, base_lun_busy, base_address_misplaced, base_input_misplaced, base_no_sole_driver, base_column_outside, base_judge_cycle, base_judge_item, JudgesBase, base_cache_read_misplaced, base_continues_cache, base_queued_clashes, base_refused_by, base_queue_clash}
+use Rattle.onfi_profiles.specs.Tails.{base_is_opener, base_takes_inputs, base_takes_address, base_wants_command, base_wants_address, base_is_open, base_facts}
+use Rattle.onfi_profiles.specs.Judging.{base_row_outside, base_undeclared, base_command_unknown, base_sequence_open, base_command_misplaced, base_several_luns, base_lun_busy, base_address_misplaced, base_input_misplaced, base_no_sole_driver, base_column_outside, base_judge_cycle, base_judge_item, JudgesBase, base_cache_read_misplaced, base_continues_cache, base_queued_clashes, base_refused_by, base_queue_clash}
 use Rattle.onfi_profiles.proofs.OldTails.{AreOfBase, is_base_cycle, base_cycle, facts_base, tails_kept}
 use Rattle.onfi_profiles.proofs.Few.{driver_same}
-use Rattle.onfi_profiles.proofs.Unwanted.{unwanted, excluded_same, plane_kept}
+use Rattle.onfi_profiles.proofs.Unwanted.{unwanted, unwritten, excluded_same, plane_kept}
 
 -- 1. parts of rules
 
@@ -44,11 +47,12 @@ inputs_same SecondColumn f = refl
 inputs_same FeatureInputs f = cc
 
 open_same : (t : TailFacts) → AreOfBase t → is_open t ≡ base_is_open t
-open_same t a = ap (λ (b : Bool). opened is_proper_beginning t.opening || b || wants_column t.phase) (inputs_same t.phase a.phase)
+open_same t a = λ i. unwritten is_proper_beginning t.opening a.written i || inputs_same t.phase a.phase i || wants_column t.phase
 
 unknown_same : (g : Parts) (c : Command) → (not (is_known c) || is_undeclared (in_base g) c) ≡ (not (is_of_base c) || base_undeclared (in_base g) c)
 unknown_same g ChangeReadColumnEnhanced = refl
 unknown_same g ReadPlane = refl
+unknown_same g CopybackRead = refl
 unknown_same g ReadUniqueId = refl
 unknown_same g GetFeatures = refl
 unknown_same g SetFeatures = refl
@@ -85,20 +89,21 @@ not_none o false h = refl
 
 address_same : (t : TailFacts) (byte : ℕ) → AreOfBase t
     → (not (wants_address t byte) || (true && (opened (λ c n. is_read_id c) t.opening && not (byte == 0x20)))) ≡ not (base_wants_address t byte)
-address_same t byte a = by t.opening a.opener a.alone
+address_same t byte a = by t.opening a.opener a.written a.alone
   where
-    by : (o : Option Opening) → opened (λ c n. not (is_of_base c)) o ≡ false → (wants_column t.phase ≡ true → o ≡ None)
+    by : (o : Option Opening) → opened (λ c n. not (is_of_base c)) o ≡ false → opened (λ c n. is_write_column c) o ≡ false → (wants_column t.phase ≡ true → o ≡ None)
         → (not (opened (λ c n. is_opener c && ltb n (address_cycles c) && takes_address c byte) o || wants_column t.phase) || (true && (opened (λ c n. is_read_id c) o && not (byte == 0x20))))
-        ≡ not (opened (λ c n. is_opener c && ltb n (address_cycles c) && base_takes_address c byte) o || wants_column t.phase)
-    by None b h = or-false _
-    by (Some o) b h = of o.opener o.addresses b (not_none o (wants_column t.phase) h)
+        ≡ not (opened (λ c n. base_is_opener c && ltb n (address_cycles c) && base_takes_address c byte) o || wants_column t.phase)
+    by None b r h = or-false _
+    by (Some o) b r h = of o.opener o.addresses b r (not_none o (wants_column t.phase) h)
       where
-        of : (c : Command) (n : ℕ) → not (is_of_base c) ≡ false → wants_column t.phase ≡ false
+        of : (c : Command) (n : ℕ) → not (is_of_base c) ≡ false → is_write_column c ≡ false → wants_column t.phase ≡ false
             → (not ((is_opener c && ltb n (address_cycles c) && takes_address c byte) || wants_column t.phase) || (true && (is_read_id c && not (byte == 0x20))))
-            ≡ not ((is_opener c && ltb n (address_cycles c) && base_takes_address c byte) || wants_column t.phase)
-        of ReadId n b w = id_address (ltb n 1) (byte == 0x20) (byte == 0x00 || byte == 0x40) (wants_column t.phase) w
-        of ReadUniqueId n b w = cc
-        of c n b w = or-false _
+            ≡ not ((base_is_opener c && ltb n (address_cycles c) && base_takes_address c byte) || wants_column t.phase)
+        of ReadId n b r w = id_address (ltb n 1) (byte == 0x20) (byte == 0x00 || byte == 0x40) (wants_column t.phase) w
+        of ReadUniqueId n b r w = cc
+        of ChangeWriteColumn n b r w = cc
+        of c n b r w = or-false _
 
 no_exception : (a o r : Bool) → (a && (o && not (r && false))) ≡ (a && o)
 no_exception false o r = refl
@@ -115,19 +120,24 @@ f2 g (AddressCycle byte) = refl
 f2 g (InputCycle byte) = refl
 f2 g OutputCycle = refl
 
+-- 85 begins no sequence of the base profile
+opens_same : (g : Parts) (c : Command) → opens_here (in_base g) c ≡ base_is_opener c
+opens_same g ChangeWriteColumn = refl
+opens_same g c = refl
+
 f3 : (g : Parts) (t : TailFacts) (k : TargetCycle) → AreOfBase t → breaks_sequence_open (in_base g) t k ≡ base_sequence_open t k
 unfolding breaks_sequence_open
-f3 g t (CommandCycle c) a = no_exception (is_opener c) (is_open t) (is_reset c || works_on_row t c) ∙ ap (λ (b : Bool). is_opener c && b) (open_same t a)
+f3 g t (CommandCycle c) a = no_exception (opens_here (in_base g) c) (is_open t) (is_reset c || goes_on_with t c) ∙ (λ i. opens_same g c i && open_same t a i)
 f3 g t (AddressCycle byte) a = refl
 f3 g t (InputCycle byte) a = refl
 f3 g t OutputCycle a = refl
 
-f6 : (t : TailFacts) (k : TargetCycle) → breaks_command_misplaced t k ≡ base_command_misplaced t k
+f6 : (g : Parts) (t : TailFacts) (k : TargetCycle) → breaks_command_misplaced (in_base g) t k ≡ base_command_misplaced t k
 unfolding breaks_command_misplaced
-f6 t (CommandCycle c) = ap (λ (b : Bool). not (is_opener c) && not b) (wants_same t c)
-f6 t (AddressCycle byte) = refl
-f6 t (InputCycle byte) = refl
-f6 t OutputCycle = refl
+f6 g t (CommandCycle c) = λ i. not (opens_same g c i) && not (wants_same t c i)
+f6 g t (AddressCycle byte) = refl
+f6 g t (InputCycle byte) = refl
+f6 g t OutputCycle = refl
 
 f7 : (g : Parts) (t : TailFacts) (k : TargetCycle) → AreOfBase t → breaks_address_misplaced (in_base g) t k ≡ base_address_misplaced t k
 unfolding breaks_address_misplaced
@@ -154,7 +164,9 @@ f14 : (g : Parts) (t : TailFacts) (luns : List LunView) (k : TargetCycle) → Ar
 unfolding breaks_column_outside
 f14 g t luns (InputCycle byte) a = ap (λ (b : Bool). not b && nat_le (page_len g) (input_column t)) a.phase
 f14 g t luns (CommandCycle c) a = refl
-f14 g t luns (AddressCycle byte) a = refl
+f14 g t luns (AddressCycle byte) a =
+    ap (λ (b : Bool). ((b || wants_second_column t.phase) && nat_le (page_len g) (column_with t byte)) || (second_column is_change_read_column t && driver_is (λ v. nat_le (register_len (in_base g) v.register) (column_with t byte)) luns))
+    (unwritten (λ c n. addresses_a_page c && n == 1) t.opening a.written)
 f14 g t luns OutputCycle a = refl
 
 f4 : (g : Parts) (luns : List LunView) (k : TargetCycle) → breaks_several_luns (in_base g) luns k ≡ base_several_luns (in_base g) k
@@ -164,12 +176,20 @@ f4 g luns (AddressCycle byte) = refl
 f4 g luns (InputCycle byte) = refl
 f4 g luns OutputCycle = refl
 
-f9 : (g : Parts) (t : TailFacts) (luns : List LunView) (k : TargetCycle) → breaks_lun_busy (in_base g) t luns k ≡ base_lun_busy (in_base g) t luns k
-unfolding breaks_lun_busy
-f9 g t luns (CommandCycle c) = or-false _
-f9 g t luns (AddressCycle byte) = ap (λ (b : Bool). ends_row addresses_the_array t && b) (or-false (named_lun_is (in_base g) (row_with t byte) (λ v. v.busy) luns))
-f9 g t luns (InputCycle byte) = refl
-f9 g t luns OutputCycle = refl
+f8 : (g : Parts) (t : TailFacts) (k : TargetCycle) → AreOfBase t → breaks_row_outside (in_base g) t k ≡ base_row_outside (in_base g) t k
+unfolding breaks_row_outside
+f8 g t (AddressCycle byte) a = ap (λ (b : Bool). b && not (is_inside g (parts_of g (row_with t byte)))) (unwritten (λ c n. true && at_last_row c n) t.opening a.written)
+f8 g t (CommandCycle c) a = refl
+f8 g t (InputCycle byte) a = refl
+f8 g t OutputCycle a = refl
+
+f9 : (g : Parts) (t : TailFacts) (luns : List LunView) (k : TargetCycle) → AreOfBase t → breaks_command_misplaced (in_base g) t k ≡ false → breaks_lun_busy (in_base g) t luns k ≡ base_lun_busy (in_base g) t luns k
+unfolding breaks_lun_busy breaks_command_misplaced
+f9 g t luns (CommandCycle ChangeWriteColumn) a placed = rw (not-false (wants_command t ChangeWriteColumn) placed) refl
+f9 g t luns (CommandCycle c) a placed = or-false _
+f9 g t luns (AddressCycle byte) a placed = λ i. unwritten (λ c n. addresses_the_array c && at_last_row c n) t.opening a.written i && or-false (named_lun_is (in_base g) (row_with t byte) (λ v. v.busy) luns) i
+f9 g t luns (InputCycle byte) a placed = refl
+f9 g t luns OutputCycle a placed = refl
 
 -- a read finds the queue empty
 reads_same : (g : Parts) (p : PageAddress) (queue : List Queued) → some_read_clashes (in_base g) p queue ≡ has_some queue
@@ -183,18 +203,23 @@ clashes_same g erase p (Erase q) = refl
 clashes_same g erase p (Program q) = refl
 clashes_same g erase p (QueuedRead q) = refl
 
-refused_same : (g : Parts) (c : Command) (p : PageAddress) (queue : List Queued) → refused_by (in_base g) c p queue ≡ base_refused_by (in_base g) c p queue
-refused_same g Read p queue = reads_same g p queue
-refused_same g BlockErase p queue = λ i. list_any (λ q. clashes_same g true p q i) queue
-refused_same g PageProgram p queue = λ i. list_any (λ q. clashes_same g false p q i) queue
-refused_same g c p queue = refl
+refused_same : (g : Parts) (c : Command) → is_write_column c ≡ false → (p : PageAddress) (queue : List Queued) → refused_by (in_base g) c p queue ≡ base_refused_by (in_base g) c p queue
+refused_same g Read w p queue = reads_same g p queue
+refused_same g BlockErase w p queue = λ i. list_any (λ q. clashes_same g true p q i) queue
+refused_same g PageProgram w p queue = λ i. list_any (λ q. clashes_same g false p q i) queue
+refused_same g ChangeWriteColumn w p queue = cc
+refused_same g c w p queue = refl
 
-f10 : (g : Parts) (t : TailFacts) (luns : List LunView) (k : TargetCycle) → breaks_queue_clash (in_base g) t luns k ≡ base_queue_clash (in_base g) t luns k
+refused_opened : (g : Parts) (o : Option Opening) → opened (λ c n. is_write_column c) o ≡ false → (p : PageAddress) (queue : List Queued) → is_refused_by (in_base g) o p queue ≡ opened (λ c n. at_last_row c n && base_refused_by (in_base g) c p queue) o
+refused_opened g None w p queue = refl
+refused_opened g (Some o) w p queue = ap (λ (b : Bool). at_last_row o.opener o.addresses && b) (refused_same g o.opener w p queue)
+
+f10 : (g : Parts) (t : TailFacts) (luns : List LunView) (k : TargetCycle) → AreOfBase t → breaks_queue_clash (in_base g) t luns k ≡ base_queue_clash (in_base g) t luns k
 unfolding breaks_queue_clash
-f10 g t luns (AddressCycle byte) = λ i. named_lun_is g (row_with t byte) (λ v. opened (λ c n. at_last_row c n && refused_same g c (page_address g (row_with t byte)) v.queue i) t.opening) luns
-f10 g t luns (CommandCycle c) = refl
-f10 g t luns (InputCycle byte) = refl
-f10 g t luns OutputCycle = refl
+f10 g t luns (AddressCycle byte) a = λ i. named_lun_is g (row_with t byte) (λ v. refused_opened g t.opening a.written (page_address g (row_with t byte)) v.queue i) luns
+f10 g t luns (CommandCycle c) a = refl
+f10 g t luns (InputCycle byte) a = refl
+f10 g t luns OutputCycle a = refl
 
 -- the one driver may go on with a cache read where it might
 abbrev GoesOn : Parts → List LunView → Type 0
@@ -204,34 +229,56 @@ f15 : (g : Parts) (t : TailFacts) (luns : List LunView) (k : TargetCycle) → Ar
 unfolding breaks_cache_read_misplaced
 f15 g t luns (CommandCycle ReadCacheSequential) a b go h = ap (λ (w : Bool). cond w (not (named_lun_is (in_base g) (row t) has_read_one luns)) (not (driver_is (continues_cache (in_base g)) luns))) (unwanted (in_base g) t refl h) ∙ ap not go
 f15 g t luns (CommandCycle ReadPlane) a b go h = cc
+f15 g t luns (CommandCycle CopybackRead) a b go h = cc
 f15 g t luns (CommandCycle c) a b go h = refl
-f15 g t luns (AddressCycle byte) a b go h = ap (λ (b : Bool). b && named_lun_is (in_base g) (row_with t byte) caching luns) (excluded_same g t a.opener)
+f15 g t luns (AddressCycle byte) a b go h = ap (λ (b : Bool). b && named_lun_is (in_base g) (row_with t byte) caching luns) (excluded_same g t a.opener ∙ unwritten (λ c n. addresses_the_array c && at_last_row c n) t.opening a.written)
 f15 g t luns (InputCycle byte) a b go h = refl
 f15 g t luns OutputCycle a b go h = refl
+
+-- F17 is of no chip of the base profile
+copy_kept : (g : Parts) (t : TailFacts) (luns : List LunView) (k : TargetCycle) → breaks_copyback_misplaced (in_base g) t luns k ≡ false
+unfolding breaks_copyback_misplaced
+copy_kept g t luns (AddressCycle byte) = refl
+copy_kept g t luns (CommandCycle c) = refl
+copy_kept g t luns (InputCycle byte) = refl
+copy_kept g t luns OutputCycle = refl
 
 -- 3. all of them
 
 cycle_same : (g : Parts) (t : TailFacts) (luns : List LunView) (k : TargetCycle) → AreOfBase t → GoesOn g luns → judge_cycle (in_base g) t luns k ≡ base_judge_cycle (in_base g) t luns k
 cycle_same g t luns k a go = by (breaks_command_unknown (in_base g) k) refl
   where
-    at : is_base_cycle k ≡ true → (b : Bool) → breaks_sequence_open (in_base g) t k ≡ b → judge_cycle (in_base g) t luns k ≡ base_judge_cycle (in_base g) t luns k
-    at base true e = rw (f2 g k, e, sym (f3 g t k a) ∙ e) refl
-    at base false e = λ i.
+    -- a misplaced command
+    misplaced : breaks_sequence_open (in_base g) t k ≡ false → breaks_command_misplaced (in_base g) t k ≡ true → judge_cycle (in_base g) t luns k ≡ base_judge_cycle (in_base g) t luns k
+    misplaced e m =
+        rw (e, sym (f3 g t k a) ∙ e, m, sym (f6 g t k) ∙ m)
+        (λ i.
+        cond (f2 g k i) (Some CommandUnknown)
+        (cond (f4 g luns k i) (Some SeveralLuns)
+        (cond (breaks_no_column_to_change luns k) (Some NoColumnToChange) (Some CommandMisplaced))))
+
+    placed : is_base_cycle k ≡ true → breaks_sequence_open (in_base g) t k ≡ false → breaks_command_misplaced (in_base g) t k ≡ false → judge_cycle (in_base g) t luns k ≡ base_judge_cycle (in_base g) t luns k
+    placed base e m = λ i.
         cond (f2 g k i) (Some CommandUnknown)
         (cond (f3 g t k a i) (Some SequenceOpen)
         (cond (f4 g luns k i) (Some SeveralLuns)
         (cond (breaks_no_column_to_change luns k) (Some NoColumnToChange)
-        (cond (f6 t k i) (Some CommandMisplaced)
+        (cond (f6 g t k i) (Some CommandMisplaced)
         (cond (f7 g t k a i) (Some AddressMisplaced)
-        (cond (breaks_row_outside (in_base g) t k) (Some RowOutside)
-        (cond (f9 g t luns k i) (Some LunBusy)
-        (cond (f10 g t luns k i) (Some QueueClash)
+        (cond (f8 g t k a i) (Some RowOutside)
+        (cond (f9 g t luns k a m i) (Some LunBusy)
+        (cond (f10 g t luns k a i) (Some QueueClash)
         (cond (f11 t k a i) (Some InputMisplaced)
         (cond (f12 t luns k a i) (Some NoSoleDriver)
         (cond (breaks_data_not_ready luns k) (Some DataNotReady)
         (cond (f14 g t luns k a i) (Some ColumnOutside)
         (cond (f15 g t luns k a base go e i) (Some CacheReadMisplaced)
-        (cond (plane_kept (in_base g) t luns k a.opener i) (Some PlaneNotHeld) None))))))))))))))
+        (cond (copy_kept g t luns k i) (Some CopybackMisplaced)
+        (cond (plane_kept (in_base g) t luns k a.opener i) (Some PlaneNotHeld) None)))))))))))))))
+
+    at : is_base_cycle k ≡ true → (b : Bool) → breaks_sequence_open (in_base g) t k ≡ b → judge_cycle (in_base g) t luns k ≡ base_judge_cycle (in_base g) t luns k
+    at base true e = rw (f2 g k, e, sym (f3 g t k a) ∙ e) refl
+    at base false e = by_case (breaks_command_misplaced (in_base g) t k) (misplaced e) (placed base e)
 
     by : (b : Bool) → breaks_command_unknown (in_base g) k ≡ b → judge_cycle (in_base g) t luns k ≡ base_judge_cycle (in_base g) t luns k
     by true u = rw (u, sym (f2 g k) ∙ u) refl

@@ -4,7 +4,7 @@ use Rattle.std.proofs.lemmas.Bool.{not-false, and_parts}
 use Rattle.nand_geometry.specs.declared.parts.Parts.{Parts}
 use Rattle.nand_geometry.specs.Row.{parts_of, is_inside, row_of}
 use Rattle.onfi_cycle.specs.declared.command.Command.{Command}
-use Rattle.onfi_cycle.specs.declared.command.Command.TheVariants.{Read, ReadConfirm, ChangeReadColumn, ReadCacheSequential}
+use Rattle.onfi_cycle.specs.declared.command.Command.TheVariants.{ChangeWriteColumn, Read, ReadConfirm, ChangeReadColumn, ReadCacheSequential}
 use Rattle.onfi_cycle.specs.declared.effect.Effect.{Effect}
 use Rattle.onfi_cycle.specs.declared.effect.Effect.TheVariants.{Unaffected, BecameReady, ArrayBecameReady}
 use Rattle.onfi_cycle.specs.declared.item.Cycle.{Cycle}
@@ -73,6 +73,11 @@ leads g (CommandCycle ChangeReadColumn) t h = record { rests = λ m la. neither 
 leads g (CommandCycle ReadCacheSequential) (d ∷ t) h = at (wants_command (facts_of (d ∷ t)) ReadCacheSequential) h
   where
     at : (w : Bool) → in_column (opening (cond (not w) (CommandCycle ReadCacheSequential ∷ []) (CommandCycle ReadCacheSequential ∷ (d ∷ t)))) ≡ true → Leads g (CommandCycle ReadCacheSequential) (d ∷ t)
+    at true h = cc
+    at false h = cc
+leads g (CommandCycle ChangeWriteColumn) (d ∷ t) h = at (wants_command (facts_of (d ∷ t)) ChangeWriteColumn) h
+  where
+    at : (w : Bool) → in_column (opening (cond (not w) (CommandCycle ChangeWriteColumn ∷ []) (CommandCycle ChangeWriteColumn ∷ (d ∷ t)))) ≡ true → Leads g (CommandCycle ChangeWriteColumn) (d ∷ t)
     at true h = cc
     at false h = cc
 leads g (CommandCycle c) [] h = cc
@@ -164,6 +169,11 @@ no_read Read (d ∷ t) h = h
 no_read ReadCacheSequential (d ∷ t) h = at (wants_command (facts_of (d ∷ t)) ReadCacheSequential) h
   where
     at : (w : Bool) → whole_read (opening (cond (not w) (CommandCycle ReadCacheSequential ∷ []) (CommandCycle ReadCacheSequential ∷ (d ∷ t)))) ≡ true → false ≡ true
+    at true h = h
+    at false h = h
+no_read ChangeWriteColumn (d ∷ t) h = at (wants_command (facts_of (d ∷ t)) ChangeWriteColumn) h
+  where
+    at : (w : Bool) → whole_read (opening (cond (not w) (CommandCycle ChangeWriteColumn ∷ []) (CommandCycle ChangeWriteColumn ∷ (d ∷ t)))) ≡ true → false ≡ true
     at true h = h
     at false h = h
 no_read c [] h = h
@@ -273,7 +283,7 @@ pub confirm_uncached : (g : Parts) (targets : ℕ) (past : List Item) (c : Cycle
     → named_lun_is g (row (facts_of (tail past c.ce))) caching (luns_of g past c.ce) ≡ false
 unfolding breaks_command_misplaced
 confirm_uncached g targets past c narrow legal h is =
-    let f6 : not (whole_read (opening (tail past c.ce))) ≡ false = subst (λ (k : TargetCycle). breaks_command_misplaced (facts_of (tail past c.ce)) k ≡ false) is (permitted_keeps g targets past c h).f6 in
+    let f6 : not (whole_read (opening (tail past c.ce))) ≡ false = subst (λ (k : TargetCycle). breaks_command_misplaced g (facts_of (tail past c.ce)) k ≡ false) is (permitted_keeps g targets past c h).f6 in
     let whole = not-false (whole_read (opening (tail past c.ce))) f6 in
     let n = (parts_of g (row (facts_of (tail past c.ce)))).lun in
     ap (is_some_and caching) (view_at g past (lun_at c.ce n) (read_inside g targets past c.ce legal whole)) ∙ read_uncached g targets past c.ce narrow legal whole

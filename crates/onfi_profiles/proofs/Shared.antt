@@ -3,9 +3,9 @@ use Rattle.std.proofs.Common.{◌≡◌, ℕ, ◌<◌, ◌==◌, ◌⊎◌, inl,
 use Rattle.nand_geometry.specs.declared.parts.Parts.{Parts}
 use Rattle.nand_geometry.specs.Row.{parts_of}
 use Rattle.onfi_cycle.specs.declared.command.Command.{Command}
-use Rattle.onfi_cycle.specs.declared.command.Command.TheVariants.{Read, ReadConfirm, ReadPlane, ReadStatus, ReadStatusEnhanced, Reset, SynchronousReset, ReadCacheSequential, ReadCacheEnd, ChangeReadColumnConfirm, BlockEraseConfirm, BlockErasePlane, ProgramConfirm, ProgramPlane, ReadId, ReadParameterPage, ReadUniqueId, GetFeatures, ResetLun}
+use Rattle.onfi_cycle.specs.declared.command.Command.TheVariants.{Read, ReadConfirm, ReadPlane, CopybackRead, PageProgram, ReadStatus, ReadStatusEnhanced, Reset, SynchronousReset, ReadCacheSequential, ReadCacheEnd, ChangeReadColumnConfirm, BlockEraseConfirm, BlockErasePlane, ProgramConfirm, ProgramPlane, ReadId, ReadParameterPage, ReadUniqueId, GetFeatures, ResetLun}
 use Rattle.onfi_cycle.specs.declared.effect.Effect.{Effect}
-use Rattle.onfi_cycle.specs.declared.effect.Effect.TheVariants.{Unaffected, DataOutputEnabled, StatusRowAwaited, SelectedForStatus, Deselected, ReadStarted, EraseStarted, ProgramStarted, CacheReadContinued, CacheReadEnded, ReadColumnChanged, DataOutput, BecameReady, ArrayBecameReady, AnotherAddressed}
+use Rattle.onfi_cycle.specs.declared.effect.Effect.TheVariants.{ProgramAddressed, Unaffected, DataOutputEnabled, StatusRowAwaited, SelectedForStatus, Deselected, ReadStarted, EraseStarted, ProgramStarted, CacheReadContinued, CacheReadEnded, ReadColumnChanged, DataOutput, BecameReady, ArrayBecameReady, AnotherAddressed}
 use Rattle.onfi_cycle.specs.declared.latch.Latch.{Latch}
 use Rattle.onfi_cycle.specs.declared.latch.Latch.TheVariants.{Off, Status, Data}
 use Rattle.onfi_cycle.specs.declared.opening.Opening.{Opening}
@@ -16,7 +16,7 @@ use Rattle.onfi_cycle.specs.LunView.{LunView}
 use Rattle.onfi_cycle.specs.Base.{is_of_base}
 use Rattle.onfi_cycle.specs.Command.{reads_identity, wants_one_lun}
 use Rattle.onfi_cycle.specs.Sequence.{opened, takes_features, wants_command, row, row_with, selects_plane}
-use Rattle.onfi_cycle.specs.Effect.{is_off, is_data, is_shared, page_address, names_lun, command_effect, address_effect, opening_address_effect, cycle_effect, row_effect, cache_effect, plane_effect, column_effect}
+use Rattle.onfi_cycle.specs.Effect.{program_row_effect, is_off, is_data, is_shared, page_address, names_lun, command_effect, address_effect, opening_address_effect, cycle_effect, row_effect, cache_effect, plane_effect, column_effect}
 use Rattle.onfi_cycle.specs.Lun.{latch_after, resumed, closer_after, is_target_work, view_after}
 use Rattle.onfi_cycle.specs.Applied.{asks_driver}
 use Rattle.onfi_cycle.proofs.Booleans.{eqb_self}
@@ -114,6 +114,7 @@ command_turn g t ReadConfirm shared p lb lw la law sb wb sw ww asked = at (wants
         (λ m less ne. rw (ne, shared) (passed_over (sw m) (ww m) (lw m)))
     at false low = kept (λ x. x) refl (λ x on. on) (λ m less. refl) (λ m less. refl)
 command_turn g t ReadPlane shared p lb lw la law sb wb sw ww asked = let never = p.base in cc
+command_turn g t CopybackRead shared p lb lw la law sb wb sw ww asked = let never = p.base in cc
 command_turn g t BlockEraseConfirm shared p lb lw la law sb wb sw ww asked =
     kept (λ x. x) refl (λ x on. on)
     (λ m low. still (wants_command t BlockEraseConfirm && names_lun g (row t) m) _ _ (sb m) (wb m) (lb m) refl (still (wants_command t BlockEraseConfirm && false) (AnotherAddressed false) Unaffected (sb m) (wb m) (lb m) refl refl))
@@ -151,6 +152,10 @@ address_turn g t byte (Some o) b i lb lw sb wb sw ww = kind o.opener o.addresses
     kind ReadUniqueId n b i = cc
     kind GetFeatures n b i = cc
     kind ResetLun n b i = cc
+    kind PageProgram n b i =
+        kept (λ x. x) refl (λ x on. on)
+        (λ m low. still (n == 4) (program_row_effect (names_lun g (row_with t byte) m)) Unaffected (sb m) (wb m) (lb m) (still (names_lun g (row_with t byte) m) ProgramAddressed Unaffected (sb m) (wb m) (lb m) refl refl) refl)
+        (λ m low. still (n == 4) (program_row_effect (names_lun g (row_with t byte) m)) Unaffected (sw m) (ww m) (lw m) (still (names_lun g (row_with t byte) m) ProgramAddressed Unaffected (sw m) (ww m) (lw m) refl refl) refl)
     kind c n b i = kept (λ x. x) refl (λ x on. on) (λ m low. refl) (λ m low. refl)
 
 -- what a cycle leaves of the latches
@@ -179,6 +184,7 @@ is_plain (CacheReadContinued _) = true
 is_plain CacheReadEnded = true
 is_plain (ReadColumnChanged _) = true
 is_plain DataOutput = true
+is_plain ProgramAddressed = true
 is_plain (BecameReady _) = true
 is_plain ArrayBecameReady = true
 is_plain _ = false
@@ -218,6 +224,7 @@ command_like g t ChangeReadColumnConfirm m la law one base alone plane asked =
     (plain_choice (wants_command t ChangeReadColumnConfirm && not (is_off la)) (ReadColumnChanged t.column) Unaffected refl refl))
 command_like g t ReadConfirm m la law one base alone plane asked = row_like (wants_command t ReadConfirm) (names_lun g (row t) m) (is_shared g) true _ refl
 command_like g t ReadPlane m la law one base alone plane asked = cc
+command_like g t CopybackRead m la law one base alone plane asked = cc
 command_like g t BlockEraseConfirm m la law one base alone plane asked = row_like (wants_command t BlockEraseConfirm) (names_lun g (row t) m) (is_shared g) false _ refl
 command_like g t BlockErasePlane m la law one base alone plane asked = row_like (wants_command t BlockErasePlane) (names_lun g (row t) m) (is_shared g) false _ refl
 command_like g t ProgramConfirm m la law one base alone plane asked = row_like (wants_command t ProgramConfirm) (names_lun g (row t) m) (is_shared g) false _ refl
@@ -235,6 +242,7 @@ address_like g t byte (Some o) m b i = kind o.opener o.addresses b i
     kind ReadUniqueId n b i = cc
     kind GetFeatures n b i = cc
     kind ResetLun n b i = cc
+    kind PageProgram n b i = equal refl (plain_choice (n == 4) (program_row_effect (names_lun g (row_with t byte) m)) Unaffected (plain_choice (names_lun g (row_with t byte) m) ProgramAddressed Unaffected refl refl) refl)
     kind c n b i = equal refl refl
 
 pub cycle_like : (g : Parts) (t : TailFacts) (k : TargetCycle) (m : ℕ) (la law : Latch) → IsPlain g t k → (asks_driver k ≡ true → law ≡ la) → Like (cycle_effect (in_base g) t la k m) (cycle_effect g t law k m)

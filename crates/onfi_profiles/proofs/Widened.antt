@@ -5,11 +5,11 @@ use Rattle.std.specs.List.{list_any, slice_get}
 use Rattle.std.specs.Option.{is_none}
 use Rattle.std.proofs.lemmas.Bool.{and_parts, and_from, or_parts, not-false}
 use Rattle.nand_geometry.specs.declared.parts.Parts.{Parts}
-use Rattle.nand_geometry.specs.Optional.{is_wide, has_free_blocks}
+use Rattle.nand_geometry.specs.Optional.{is_wide, has_free_blocks, has_copyback}
 use Rattle.nand_geometry.specs.Limits.{page_len, planes}
 use Rattle.nand_geometry.specs.Row.{parts_of}
 use Rattle.onfi_cycle.specs.declared.command.Command.{Command}
-use Rattle.onfi_cycle.specs.declared.command.Command.TheVariants.{Read, ChangeReadColumn, ReadStatus, ReadId, ReadParameterPage, BlockErase, PageProgram, ReadStatusEnhanced, BlockErasePlane, ProgramPlane, ReadCacheSequential, ReadCacheEnd, ReadUniqueId, GetFeatures, SetFeatures, ResetLun, SynchronousReset, ReadConfirm, ChangeReadColumnEnhanced, ReadPlane}
+use Rattle.onfi_cycle.specs.declared.command.Command.TheVariants.{Read, ChangeReadColumn, ReadStatus, ReadId, ReadParameterPage, BlockErase, PageProgram, ReadStatusEnhanced, BlockErasePlane, ProgramPlane, ReadCacheSequential, ReadCacheEnd, ReadUniqueId, GetFeatures, SetFeatures, ResetLun, SynchronousReset, ReadConfirm, ChangeReadColumnEnhanced, ReadPlane, CopybackRead, ChangeWriteColumn}
 use Rattle.onfi_cycle.specs.declared.item.Item.{Item}
 use Rattle.onfi_cycle.specs.declared.item.Item.TheVariants.{Cyc, Rdy, Ard}
 use Rattle.onfi_cycle.specs.declared.lun.Lun.{Lun}
@@ -27,12 +27,12 @@ use Rattle.onfi_cycle.specs.declared.tail_facts.TailFacts.{TailFacts}
 use Rattle.onfi_cycle.specs.declared.target_cycle.TargetCycle.{TargetCycle}
 use Rattle.onfi_cycle.specs.declared.target_cycle.TargetCycle.TheVariants.{CommandCycle, AddressCycle, InputCycle, OutputCycle}
 use Rattle.onfi_cycle.specs.LunView.{LunView}
-use Rattle.onfi_cycle.specs.Command.{is_known, is_opener, is_read_id, is_reset, at_last_row, is_change_read_column, addresses_the_array, reads_identity, wants_ready, wants_one_lun, is_enhanced_column}
-use Rattle.onfi_cycle.specs.Sequence.{opened, opening, filled, tail, facts_of, target_of, target_cycle, is_open, wants_address, row_with, column_with, works_on_row, wants_command, row}
-use Rattle.onfi_cycle.specs.Effect.{is_off, is_data, is_shared, page_address}
-use Rattle.onfi_cycle.specs.Lun.{output_column, effect_on, drivers, drivers_from, is_only, closer, is_target_work, is_busy, lun_view, views_from, luns_of}
-use Rattle.onfi_cycle.specs.Content.{ArrayWork, queued_work_after, queued_work, pending_work_after, pending_work, content_after, content, failed_after, has_failed, register_bytes, byte_at, shown_by, shown}
-use Rattle.onfi_cycle.specs.Rules.{has_some, has_read_one, planes_clash, read_clashes, driving, only, is_some_and, lun_is, ends_row, works_for_target, is_unclear, may_change_column, has_no_byte, caching, continues_cache, ends_cache, driver_is, named_lun_is, register_len, is_past, is_past_register, queued_clashes, refused_by, is_refused_by, is_undeclared, second_of_page, second_column, breaks_not_there, breaks_command_unknown, breaks_sequence_open, breaks_several_luns, breaks_no_column_to_change, breaks_address_misplaced, breaks_row_outside, breaks_lun_busy, breaks_queue_clash, breaks_no_sole_driver, breaks_data_not_ready, breaks_column_outside, breaks_cache_read_misplaced, excludes_cache, breaks_plane_not_held, holds_plane_of}
+use Rattle.onfi_cycle.specs.Command.{is_known, is_opener, is_read_id, is_reset, at_last_row, is_change_read_column, addresses_the_array, reads_identity, wants_ready, wants_one_lun, is_enhanced_column, is_page_program, is_write_column}
+use Rattle.onfi_cycle.specs.Sequence.{opened, opening, filled, tail, facts_of, target_of, target_cycle, is_open, wants_address, row_with, column_with, goes_on_with, wants_command, row}
+use Rattle.onfi_cycle.specs.Effect.{is_off, is_data, is_shared, page_address, plane_of_row}
+use Rattle.onfi_cycle.specs.Lun.{held, page_in_plane, output_column, effect_on, drivers, drivers_from, is_only, closer, is_target_work, is_busy, lun_view, views_from, luns_of}
+use Rattle.onfi_cycle.specs.Content.{bytes_held, program_bytes, changes_after, changes_pages, ArrayWork, queued_work_after, queued_work, pending_work_after, pending_work, content_after, content, failed_after, has_failed, register_bytes, byte_at, shown_by, shown}
+use Rattle.onfi_cycle.specs.Rules.{is_copying, begins_on_ready, breaks_command_misplaced, breaks_copyback_misplaced, has_some, has_read_one, planes_clash, read_clashes, driving, only, is_some_and, lun_is, ends_row, works_for_target, is_unclear, may_change_column, has_no_byte, caching, continues_cache, ends_cache, driver_is, named_lun_is, register_len, is_past, is_past_register, queued_clashes, refused_by, is_refused_by, is_undeclared, second_of_page, second_column, breaks_not_there, breaks_command_unknown, breaks_sequence_open, breaks_several_luns, breaks_no_column_to_change, breaks_address_misplaced, breaks_row_outside, breaks_lun_busy, breaks_queue_clash, breaks_no_sole_driver, breaks_data_not_ready, breaks_column_outside, breaks_cache_read_misplaced, excludes_cache, breaks_plane_not_held, holds_plane_of}
 use Rattle.onfi_cycle.specs.Permitted.{judge_cycle, judge_item, judge, broken, is_permitted, is_legal}
 use Rattle.onfi_cycle.proofs.Others.{first_passed, chosen_else}
 use Rattle.onfi_cycle.proofs.Passed.{KeepsRules, keeps_rules, permitted_keeps}
@@ -42,7 +42,8 @@ use Rattle.onfi_profiles.specs.Widening.{in_base, Widens}
 use Rattle.onfi_profiles.proofs.Same.{view_same, effect_same, luns_same}
 use Rattle.onfi_profiles.proofs.Shared.{Like, equal, passes, is_passed, core, one_lun_cycle}
 use Rattle.onfi_profiles.proofs.Pasts.{lun_at, both_legal, in_column, driver_one, column_driver, confirm_uncached}
-use Rattle.onfi_profiles.proofs.Alike.{AreAlike, plain, same_latches, same_drivers, are_alike, effects_like}
+use Rattle.onfi_profiles.proofs.Alike.{AreAlike, base_tail, plain, same_latches, same_drivers, are_alike, effects_like}
+use Rattle.onfi_profiles.proofs.Copies.{none_copying}
 use Rattle.onfi_profiles.proofs.Unwanted.{unwanted, excluded_less}
 
 -- 1. rules that hang on the set
@@ -55,6 +56,7 @@ fits g ReadCacheSequential h = h
 fits g ReadCacheEnd h = h
 fits g ChangeReadColumnEnhanced h = let no : true ≡ false = h in cc
 fits g ReadPlane h = let no : true ≡ false = h in cc
+fits g CopybackRead h = let no : true ≡ false = h in cc
 fits g ReadUniqueId h = let no : true ≡ false = h in cc
 fits g GetFeatures h = let no : true ≡ false = h in cc
 fits g SetFeatures h = let no : true ≡ false = h in cc
@@ -76,12 +78,30 @@ wider_open true false r w h = refl
 wider_open true true true w h = cc
 wider_open true true false w h = cc
 
-open_too : (g : Parts) (t : TailFacts) (k : TargetCycle) → breaks_sequence_open (in_base g) t k ≡ false → breaks_sequence_open g t k ≡ false
-unfolding breaks_sequence_open
-open_too g t (CommandCycle c) h = wider_open (is_opener c) (is_open t) (is_reset c || works_on_row t c) (is_wide g.optional) h
-open_too g t (AddressCycle byte) h = refl
-open_too g t (InputCycle byte) h = refl
-open_too g t OutputCycle h = refl
+-- an 85 that the tail wants may come; d: a copyback is declared; o: a sequence is open; w: the tail wants it
+column_open : (d o w wide : Bool) → (d ≡ true → wide ≡ true) → w ≡ true → (d && (o && not (w && wide))) ≡ false
+column_open false o w wide f h = refl
+column_open true o false wide f h = cc
+column_open true true true true f h = refl
+column_open true false true true f h = refl
+column_open true o true false f h = let no : false ≡ true = f refl in cc
+
+open_too : (g : Parts) (t : TailFacts) (k : TargetCycle) → breaks_sequence_open (in_base g) t k ≡ false → breaks_command_misplaced (in_base g) t k ≡ false → breaks_sequence_open g t k ≡ false
+unfolding breaks_sequence_open breaks_command_misplaced
+open_too g t (CommandCycle ChangeWriteColumn) h f =
+    column_open (has_copyback g.optional) (is_open t) (wants_command t ChangeWriteColumn) (is_wide g.optional) (λ d. (and_parts (is_wide g.optional) _ d).0) (not-false (wants_command t ChangeWriteColumn) f)
+open_too g t (CommandCycle c) h f = wider_open (is_opener c) (is_open t) (is_reset c || goes_on_with t c) (is_wide g.optional) h
+open_too g t (AddressCycle byte) h f = refl
+open_too g t (InputCycle byte) h f = refl
+open_too g t OutputCycle h f = refl
+
+placed_too : (g : Parts) (t : TailFacts) (k : TargetCycle) → breaks_command_misplaced (in_base g) t k ≡ false → breaks_command_misplaced g t k ≡ false
+unfolding breaks_command_misplaced
+placed_too g t (CommandCycle ChangeWriteColumn) h = ap (λ (w : Bool). not (has_copyback g.optional) && not w) (not-false (wants_command t ChangeWriteColumn) h) ∙ and-false (not (has_copyback g.optional))
+placed_too g t (CommandCycle c) h = h
+placed_too g t (AddressCycle byte) h = refl
+placed_too g t (InputCycle byte) h = refl
+placed_too g t OutputCycle h = refl
 
 -- an address that the base profile has
 wider_address : (a r n w : Bool) → (a || (r && n)) ≡ false → (a || (not w && (r && n))) ≡ false
@@ -142,15 +162,16 @@ any_less test less f (q ∷ queue) h =
     let parts = or_parts (test q) (list_any test queue) h in
     rw (f q parts.0, any_less test less f queue parts.1) refl
 
-refused_less : (g : Parts) (c : Command) (p : PageAddress) (queue : List Queued) → refused_by (in_base g) c p queue ≡ false → refused_by g c p queue ≡ false
-refused_less g Read p queue h = any_less (read_clashes (in_base g) p) (read_clashes g p) (read_less g p) queue h
-refused_less g BlockErase p queue h = any_less (queued_clashes (in_base g) true p) (queued_clashes g true p) (queued_less g true p) queue h
-refused_less g PageProgram p queue h = any_less (queued_clashes (in_base g) false p) (queued_clashes g false p) (queued_less g false p) queue h
-refused_less g c p queue h = refl
+refused_less : (g : Parts) (c : Command) → is_write_column c ≡ false → (p : PageAddress) (queue : List Queued) → refused_by (in_base g) c p queue ≡ false → refused_by g c p queue ≡ false
+refused_less g Read w p queue h = any_less (read_clashes (in_base g) p) (read_clashes g p) (read_less g p) queue h
+refused_less g BlockErase w p queue h = any_less (queued_clashes (in_base g) true p) (queued_clashes g true p) (queued_less g true p) queue h
+refused_less g PageProgram w p queue h = any_less (queued_clashes (in_base g) false p) (queued_clashes g false p) (queued_less g false p) queue h
+refused_less g ChangeWriteColumn w p queue h = cc
+refused_less g c w p queue h = refl
 
-is_refused_less : (g : Parts) (o : Option Opening) (p : PageAddress) (queue : List Queued) → is_refused_by (in_base g) o p queue ≡ false → is_refused_by g o p queue ≡ false
-is_refused_less g None p queue h = refl
-is_refused_less g (Some o) p queue h = less_too (at_last_row o.opener o.addresses) (refused_by (in_base g) o.opener p queue) (refused_by g o.opener p queue) (refused_less g o.opener p queue) h
+is_refused_less : (g : Parts) (o : Option Opening) → opened (λ c n. is_write_column c) o ≡ false → (p : PageAddress) (queue : List Queued) → is_refused_by (in_base g) o p queue ≡ false → is_refused_by g o p queue ≡ false
+is_refused_less g None w p queue h = refl
+is_refused_less g (Some o) w p queue h = less_too (at_last_row o.opener o.addresses) (refused_by (in_base g) o.opener p queue) (refused_by g o.opener p queue) (refused_less g o.opener w p queue) h
 
 some_less : (test less : LunView → Bool) → ((v : LunView) → test v ≡ false → less v ≡ false) → (o : Option LunView) → is_some_and test o ≡ false → is_some_and less o ≡ false
 some_less test less f None h = refl
@@ -177,14 +198,14 @@ busy_same g narrow t luns (AddressCycle byte) = rw narrow refl
 busy_same g narrow t luns (InputCycle byte) = refl
 busy_same g narrow t luns OutputCycle = refl
 
-clash_wider : (g : Parts) (t : TailFacts) (luns : List LunView) (k : TargetCycle) → breaks_queue_clash (in_base g) t luns k ≡ false → breaks_queue_clash g t luns k ≡ false
+clash_wider : (g : Parts) (t : TailFacts) (luns : List LunView) (k : TargetCycle) → opened (λ c n. is_write_column c) t.opening ≡ false → breaks_queue_clash (in_base g) t luns k ≡ false → breaks_queue_clash g t luns k ≡ false
 unfolding breaks_queue_clash
-clash_wider g t luns (CommandCycle c) h = h
-clash_wider g t luns (AddressCycle byte) h =
+clash_wider g t luns (CommandCycle c) w h = h
+clash_wider g t luns (AddressCycle byte) w h =
     some_less (λ v. is_refused_by (in_base g) t.opening (page_address g (row_with t byte)) v.queue) (λ v. is_refused_by g t.opening (page_address g (row_with t byte)) v.queue)
-    (λ v refused. is_refused_less g t.opening (page_address g (row_with t byte)) v.queue refused) (slice_get luns (parts_of g (row_with t byte)).lun) h
-clash_wider g t luns (InputCycle byte) h = refl
-clash_wider g t luns OutputCycle h = refl
+    (λ v refused. is_refused_less g t.opening w (page_address g (row_with t byte)) v.queue refused) (slice_get luns (parts_of g (row_with t byte)).lun) h
+clash_wider g t luns (InputCycle byte) w h = refl
+clash_wider g t luns OutputCycle w h = refl
 
 column_same_too : (g : Parts) (t : TailFacts) (luns : List LunView) (k : TargetCycle) → breaks_column_outside (in_base g) t luns k ≡ breaks_column_outside g t luns k
 unfolding breaks_column_outside
@@ -216,30 +237,59 @@ cache_wider g t luns (AddressCycle byte) free h =
 cache_wider g t luns (InputCycle byte) free h = refl
 cache_wider g t luns OutputCycle free h = refl
 
+-- no sequence is begun by 85, and no group of copybacks has begun
+record OfBase (g : Parts) (t : TailFacts) (luns : List LunView) : Type 0 where
+  written : opened (λ c n. is_write_column c) t.opening ≡ false
+  none : (r : ℕ) → named_lun_is g r is_copying luns ≡ false
+
+not_ended : (o : Option Opening) → opened (λ c n. is_write_column c) o ≡ false → opened (λ c n. is_write_column c && at_last_row c n) o ≡ false
+not_ended None h = refl
+not_ended (Some o) h = of (is_write_column o.opener) (at_last_row o.opener o.addresses) h
+  where
+    of : (a b : Bool) → a ≡ false → (a && b) ≡ false
+    of true b h = cc
+    of false b h = refl
+
+copy_wider : (g : Parts) (t : TailFacts) (luns : List LunView) (k : TargetCycle) → OfBase g t luns → breaks_copyback_misplaced g t luns k ≡ false
+unfolding breaks_copyback_misplaced
+copy_wider g t luns (AddressCycle byte) s =
+    of (has_copyback g.optional) (ends_row is_write_column t) _ (ends_row is_page_program t) (named_lun_is g (row_with t byte) is_copying luns) (not_ended t.opening s.written) (s.none (row_with t byte))
+  where
+    of : (d w x p c : Bool) → w ≡ false → c ≡ false → (d && ((w && x) || (p && c))) ≡ false
+    of d true x p c h k = cc
+    of d false x p true h k = cc
+    of true false x true false h k = refl
+    of true false x false false h k = refl
+    of false false x p false h k = refl
+copy_wider g t luns (CommandCycle c) s = refl
+copy_wider g t luns (InputCycle byte) s = refl
+copy_wider g t luns OutputCycle s = refl
+
 -- 3. all of them
 
 kept : (g : Parts) (t : TailFacts) (luns : List LunView) (k : TargetCycle) → KeepsRules g t luns k → judge_cycle g t luns k ≡ None
-kept g t luns k r = rw (r.f2, r.f3, r.f4, r.f5, r.f6, r.f7, r.f8, r.f9, r.f10, r.f11, r.f12, r.f13, r.f14, r.f15, r.f18) refl
+kept g t luns k r = rw (r.f2, r.f3, r.f4, r.f5, r.f6, r.f7, r.f8, r.f9, r.f10, r.f11, r.f12, r.f13, r.f14, r.f15, r.f17, r.f18) refl
 
-wider : (g : Parts) → is_shared g ≡ false → (t : TailFacts) (luns : List LunView) (k : TargetCycle) → NamesUncached g t luns k → judge_cycle (in_base g) t luns k ≡ None → judge_cycle g t luns k ≡ None
-wider g narrow t luns k free h =
+wider : (g : Parts) → is_shared g ≡ false → (t : TailFacts) (luns : List LunView) (k : TargetCycle) → NamesUncached g t luns k → OfBase g t luns → judge_cycle (in_base g) t luns k ≡ None → judge_cycle g t luns k ≡ None
+wider g narrow t luns k free old h =
     let r = keeps_rules (in_base g) t luns k h in
     kept g t luns k
     (record {
       f2 = known_too g k r.f2;
-      f3 = open_too g t k r.f3;
+      f3 = open_too g t k r.f3 r.f6;
       f4 = sym (several_same g narrow luns k) ∙ r.f4;
       f5 = r.f5;
-      f6 = r.f6;
+      f6 = placed_too g t k r.f6;
       f7 = address_too g t k r.f7;
       f8 = sym (row_same g t k) ∙ r.f8;
       f9 = sym (busy_same g narrow t luns k) ∙ r.f9;
-      f10 = clash_wider g t luns k r.f10;
+      f10 = clash_wider g t luns k old.written r.f10;
       f11 = r.f11;
       f12 = r.f12;
       f13 = r.f13;
       f14 = sym (column_same_too g t luns k) ∙ r.f14;
       f15 = cache_wider g t luns k free r.f15;
+      f17 = copy_wider g t luns k old;
       f18 = sym (plane_same g t luns k) ∙ r.f18;
     })
 
@@ -300,6 +350,7 @@ record BothSee (g : Parts) (t : TailFacts) (k : TargetCycle) (bs ws : List LunVi
   shown : looks t k ≡ true → map shown_facts bs ≡ map shown_facts ws
   alone : k ≡ CommandCycle ReadCacheSequential → wants_command t ReadCacheSequential ≡ false
   free : NamesUncached g t bs k
+  old : OfBase g t bs
 
 identity_is_of_one : (c : Command) → wants_one_lun c ≡ false → reads_identity c ≡ false
 identity_is_of_one ReadId h = cc
@@ -353,7 +404,7 @@ busy_too : (g : Parts) (t : TailFacts) (bs ws : List LunView) (k : TargetCycle) 
 unfolding breaks_lun_busy
 busy_too g t bs ws (CommandCycle c) s h =
     neither_busy _ (is_shared g) (reads_identity c) _
-    (ap (λ (b : Bool). wants_ready c && not b) (any_by core (λ v. not v.busy) (λ v. refl) bs ws s.cores) ∙ (or_parts (wants_ready c && not (list_any (λ v. not v.busy) bs)) false h).0)
+    (ap (λ (b : Bool). begins_on_ready t c && not b) (any_by core (λ v. not v.busy) (λ v. refl) bs ws s.cores) ∙ (or_parts (begins_on_ready t c && not (list_any (λ v. not v.busy) bs)) false h).0)
     (identity_is_of_one c s.one)
 busy_too g t bs ws (AddressCycle byte) s h =
     row_free (ends_row addresses_the_array t) (named_lun_is g (row_with t byte) (λ v. v.busy) ws) (is_shared g) (list_any works_for_target ws)
@@ -405,6 +456,7 @@ cache_too g t bs ws (CommandCycle ReadCacheSequential) s h =
 cache_too g t bs ws (CommandCycle ReadConfirm) s h =
     ap (λ (b : Bool). is_wide g.optional && b) (lun_by core caching (λ v. refl) bs ws s.cores (parts_of g (row t)).lun) ∙ h
 cache_too g t bs ws (CommandCycle ReadPlane) s h = lun_by core caching (λ v. refl) bs ws s.cores (parts_of g (row t)).lun ∙ h
+cache_too g t bs ws (CommandCycle CopybackRead) s h = lun_by core caching (λ v. refl) bs ws s.cores (parts_of g (row t)).lun ∙ h
 cache_too g t bs ws (CommandCycle ReadCacheEnd) s h = ap not (driver_by ends_cache (λ v. refl) bs ws (s.shown refl)) ∙ h
 cache_too g t bs ws (CommandCycle c) s h = none_of (reads_identity c) (list_any caching ws) (identity_is_of_one c s.one)
 cache_too g t bs ws (AddressCycle byte) s h = ap (λ (b : Bool). ends_row (excludes_cache g) t && b) (lun_by core caching (λ v. refl) bs ws s.cores (parts_of g (row_with t byte)).lun) ∙ h
@@ -420,24 +472,28 @@ plane_too g t bs ws (CommandCycle c) s h = refl
 plane_too g t bs ws (InputCycle byte) s h = refl
 plane_too g t bs ws OutputCycle s h = refl
 
+old_too : (g : Parts) (t : TailFacts) (bs ws : List LunView) (k : TargetCycle) → BothSee g t k bs ws → OfBase g t ws
+old_too g t bs ws k s = record { written = s.old.written; none = λ r. lun_by core is_copying (λ v. refl) bs ws s.cores (parts_of g r).lun ∙ s.old.none r }
+
 wider_shared : (g : Parts) → is_shared g ≡ true → (t : TailFacts) (bs ws : List LunView) (k : TargetCycle) → KeepsRules (in_base g) t bs k → BothSee g t k bs ws → judge_cycle g t ws k ≡ None
 wider_shared g shared t bs ws k r s =
     kept g t ws k
     (record {
       f2 = known_too g k r.f2;
-      f3 = open_too g t k r.f3;
+      f3 = open_too g t k r.f3 r.f6;
       f4 = several_too g shared t bs ws k s;
       f5 = change_too g t bs ws k s r.f5;
-      f6 = r.f6;
+      f6 = placed_too g t k r.f6;
       f7 = address_too g t k r.f7;
       f8 = sym (row_same g t k) ∙ r.f8;
       f9 = busy_too g t bs ws k s r.f9;
-      f10 = clash_too g t bs ws k s (clash_wider g t bs k r.f10);
+      f10 = clash_too g t bs ws k s (clash_wider g t bs k s.old.written r.f10);
       f11 = r.f11;
       f12 = sole_too g t bs ws k s r.f12;
       f13 = ready_too g t bs ws k s r.f13;
       f14 = column_too g t bs ws k s (sym (column_same_too g t bs k) ∙ r.f14);
       f15 = cache_too g t bs ws k s (cache_wider g t bs k s.free r.f15);
+      f17 = copy_wider g t ws k (old_too g t bs ws k s);
       f18 = plane_too g t bs ws k s (sym (plane_same g t bs k) ∙ r.f18);
     })
 
@@ -490,6 +546,9 @@ one_looked g targets past ce (AddressCycle byte) narrow legal r e = column_drive
 one_looked g targets past ce (InputCycle byte) narrow legal r e = cc
 one_looked g targets past ce OutputCycle narrow legal r e = driver_one g past ce (λ v. true) (not-false _ (or_parts (is_open (facts_of (tail past ce))) _ r.f12).1)
 
+of_base : (g : Parts) (targets : ℕ) (past : List Item) (ce : ℕ) → is_legal (in_base g) targets past ≡ true → OfBase g (facts_of (tail past ce)) (luns_of (in_base g) past ce)
+of_base g targets past ce legal = record { written = (base_tail g targets past ce legal).written; none = none_copying g targets past ce legal }
+
 permitted_shared : (g : Parts) → is_shared g ≡ true → (targets : ℕ) (past : List Item) (i : Item) → is_legal (in_base g) targets past ≡ true → broken (in_base g) targets past i ≡ None → broken g targets past i ≡ None
 unfolding breaks_not_there
 permitted_shared g shared targets past (Cyc c) legal h =
@@ -506,6 +565,7 @@ permitted_shared g shared targets past (Cyc c) legal h =
       shown = λ e. all_shown g past c.ce a (one_looked (in_base g) targets past c.ce k refl legal r e);
       alone = (plain g targets past c c.ce shared legal h refl).alone;
       free = confirm_uncached (in_base g) targets past c refl legal h;
+      old = of_base g targets past c.ce legal;
     }) in
     rw first.0 judged
 permitted_shared g shared targets past (Rdy ce lun fail) legal h = rw same h
@@ -520,12 +580,12 @@ permitted_shared g shared targets past (Ard ce lun) legal h = rw same h
 -- 5. elsewhere
 
 abbrev ItemUncached : Parts → TailFacts → List LunView → Item → Type 0
-ItemUncached g t luns (Cyc c) = NamesUncached g t luns (target_cycle c.kind c.byte)
+ItemUncached g t luns (Cyc c) = NamesUncached g t luns (target_cycle c.kind c.byte) × OfBase g t luns
 ItemUncached g t luns (Rdy ce lun fail) = Unit {0}
 ItemUncached g t luns (Ard ce lun) = Unit {0}
 
 item_wider : (g : Parts) → is_shared g ≡ false → (t : TailFacts) (luns : List LunView) (i : Item) → ItemUncached g t luns i → judge_item (in_base g) t luns i ≡ None → judge_item g t luns i ≡ None
-item_wider g narrow t luns (Cyc c) free h = wider g narrow t luns (target_cycle c.kind c.byte) free h
+item_wider g narrow t luns (Cyc c) free h = wider g narrow t luns (target_cycle c.kind c.byte) free.0 free.1 h
 item_wider g narrow t luns (Rdy ce lun fail) free h = refl
 item_wider g narrow t luns (Ard ce lun) free h = refl
 
@@ -535,8 +595,10 @@ judged_wider g narrow targets t luns i free h =
     rw first.0 (item_wider g narrow t luns i free first.1)
 
 item_uncached : (g : Parts) → is_shared g ≡ false → (targets : ℕ) (past : List Item) (i : Item) → is_legal (in_base g) targets past ≡ true → broken (in_base g) targets past i ≡ None → ItemUncached g (facts_of (tail past (target_of i))) (luns_of g past (target_of i)) i
-item_uncached g narrow targets past (Cyc c) legal h =
-    subst (λ (luns : List LunView). NamesUncached g (facts_of (tail past c.ce)) luns (target_cycle c.kind c.byte)) (luns_same g narrow past c.ce) (confirm_uncached (in_base g) targets past c refl legal h)
+item_uncached g narrow targets past (Cyc c) legal h = (
+  subst (λ (luns : List LunView). NamesUncached g (facts_of (tail past c.ce)) luns (target_cycle c.kind c.byte)) (luns_same g narrow past c.ce) (confirm_uncached (in_base g) targets past c refl legal h),
+  subst (OfBase g (facts_of (tail past c.ce))) (luns_same g narrow past c.ce) (of_base g targets past c.ce legal),
+)
 item_uncached g narrow targets past (Rdy ce lun fail) legal h = tt
 item_uncached g narrow targets past (Ard ce lun) legal h = tt
 
@@ -564,7 +626,8 @@ legal_wider g targets (i ∷ past) h =
 record AreSame (e e' : Effect) : Type 0 where
   queued : (bytes : List ℕ) (works : List ArrayWork) → queued_work_after e bytes works ≡ queued_work_after e' bytes works
   pending : (bytes : List ℕ) (works pending : List ArrayWork) → pending_work_after e bytes works pending ≡ pending_work_after e' bytes works pending
-  failed : (pending : List ArrayWork) (failed : Bool) → failed_after e pending failed ≡ failed_after e' pending failed
+  changes : (changes : Bool) → changes_after e changes ≡ changes_after e' changes
+  failed : (changes failed : Bool) → failed_after e changes failed ≡ failed_after e' changes failed
   content : (g : Parts) (pending : List ArrayWork) (p : PageAddress) (old : List ℕ) → content_after g e pending p old ≡ content_after g e' pending p old
 
 same_by_path : (e e' : Effect) → e ≡ e' → AreSame e e'
@@ -572,7 +635,8 @@ same_by_path e e' h =
     record {
       queued = λ b w. ap (λ (x : Effect). queued_work_after x b w) h;
       pending = λ b w p. ap (λ (x : Effect). pending_work_after x b w p) h;
-      failed = λ p f. ap (λ (x : Effect). failed_after x p f) h;
+      changes = λ c. ap (λ (x : Effect). changes_after x c) h;
+      failed = λ c f. ap (λ (x : Effect). failed_after x c f) h;
       content = λ g p a o. ap (λ (x : Effect). content_after g x p a o) h;
     }
 
@@ -584,7 +648,8 @@ same_by_passed e (AnotherAddressed reads) none h = same_by_passed_reads e reads 
         record {
           queued = λ b w. ap (λ (x : Effect). queued_work_after x b w) none;
           pending = λ b w p. ap (λ (x : Effect). pending_work_after x b w p) none;
-          failed = λ p f. ap (λ (x : Effect). failed_after x p f) none;
+          changes = λ c. ap (λ (x : Effect). changes_after x c) none;
+          failed = λ c f. ap (λ (x : Effect). failed_after x c f) none;
           content = λ g p a o. ap (λ (x : Effect). content_after g x p a o) none;
         }
 same_by_passed e e' none h = cc
@@ -595,34 +660,50 @@ same_by_like e e' (passes none is) = same_by_passed e e' none is
 
 -- the effects of a past that is legal in the base profile are the same, but for the work of other LUNs
 record Goes (g : Parts) (past : List Item) (l : Lun) : Type 0 where
-  queued : queued_work (in_base g) past l ≡ queued_work g past l
-  pending : pending_work (in_base g) past l ≡ pending_work g past l
+  changes : changes_pages (in_base g) past l ≡ changes_pages g past l
   failed : has_failed (in_base g) past l ≡ has_failed g past l
+  queued : (opening : Lun → PageAddress → List ℕ) → queued_work (in_base g) opening past l ≡ queued_work g opening past l
+  pending : (opening : Lun → PageAddress → List ℕ) → pending_work (in_base g) opening past l ≡ pending_work g opening past l
   content : (opening : Lun → PageAddress → List ℕ) (p : PageAddress) → content (in_base g) opening past l p ≡ content g opening past l p
+
+-- a program begins with the same bytes
+bytes_same : (g : Parts) (pages others : PageAddress → List ℕ) → ((p : PageAddress) → pages p ≡ others p) → (o : Option PageAddress) → bytes_held (in_base g) pages o ≡ bytes_held g others o
+bytes_same g pages others h None = refl
+bytes_same g pages others h (Some p) = h p
+
+program_same : (g : Parts) (past : List Item) (l : Lun) (opening : Lun → PageAddress → List ℕ) → held (in_base g) past l ≡ held g past l → Goes g past l → program_bytes (in_base g) (content (in_base g) opening past l) past l ≡ program_bytes g (content g opening past l) past l
+program_same g past l opening same before =
+    ap (λ (begun : List ℕ). filled begun (tail past l.ce))
+    (bytes_same g (content (in_base g) opening past l) (content g opening past l) (before.content opening) (page_in_plane (planes g) (plane_of_row g (row (facts_of (tail past l.ce)))) (held (in_base g) past l))
+    ∙ ap (λ (pages : List PageAddress). bytes_held g (content g opening past l) (page_in_plane (planes g) (plane_of_row g (row (facts_of (tail past l.ce)))) pages)) same)
 
 after_same : (g : Parts) (e : Effect) (pending : List ArrayWork) (p : PageAddress) (old : List ℕ) → content_after (in_base g) e pending p old ≡ content_after g e pending p old
 after_same g (BecameReady failed) pending p old = refl
 after_same g e pending p old = refl
 
-goes_on : (g : Parts) (past : List Item) (i : Item) (l : Lun) → AreSame (effect_on (in_base g) past i l) (effect_on g past i l) → Goes g past l → Goes g (i ∷ past) l
-goes_on g past i l s before =
+goes_on : (g : Parts) (past : List Item) (i : Item) (l : Lun) → AreSame (effect_on (in_base g) past i l) (effect_on g past i l) → held (in_base g) past l ≡ held g past l → Goes g past l → Goes g (i ∷ past) l
+goes_on g past i l s same before =
     record {
-      queued = s.queued _ _ ∙ ap (queued_work_after (effect_on g past i l) (filled (page_len g) (tail past l.ce))) before.queued;
-      pending = s.pending _ _ _ ∙ (λ k. pending_work_after (effect_on g past i l) (filled (page_len g) (tail past l.ce)) (before.queued k) (before.pending k));
-      failed = s.failed _ _ ∙ (λ k. failed_after (effect_on g past i l) (before.pending k) (before.failed k));
+      changes = s.changes _ ∙ ap (changes_after (effect_on g past i l)) before.changes;
+      failed = s.failed _ _ ∙ (λ k. failed_after (effect_on g past i l) (before.changes k) (before.failed k));
+      queued = λ opening. s.queued _ _ ∙ (λ k. queued_work_after (effect_on g past i l) (program_same g past l opening same before k) (before.queued opening k));
+      pending = λ opening. s.pending _ _ _ ∙ (λ k. pending_work_after (effect_on g past i l) (program_same g past l opening same before k) (before.queued opening k) (before.pending opening k));
       content = λ opening p.
-          after_same g (effect_on (in_base g) past i l) (pending_work (in_base g) past l) p (content (in_base g) opening past l p)
-          ∙ (s.content g _ p _ ∙ (λ k. content_after g (effect_on g past i l) (before.pending k) p (before.content opening p k)));
+          after_same g (effect_on (in_base g) past i l) (pending_work (in_base g) opening past l) p (content (in_base g) opening past l p)
+          ∙ (s.content g _ p _ ∙ (λ k. content_after g (effect_on g past i l) (before.pending opening k) p (before.content opening p k)));
     }
 
 goes : (g : Parts) (targets : ℕ) (past : List Item) (l : Lun) → is_legal (in_base g) targets past ≡ true → l.lun < g.luns → Goes g past l
-goes g targets [] l legal low = record { queued = refl; pending = refl; failed = refl; content = λ opening p. refl }
+goes g targets [] l legal low = record { changes = refl; failed = refl; queued = λ opening. refl; pending = λ opening. refl; content = λ opening p. refl }
 goes g targets (i ∷ past) l legal low =
     let parts = both_legal (in_base g) targets past i legal in
     goes_on g past i l
     (by_case (is_shared g)
     (λ shared. same_by_like _ _ (effects_like g targets past i l shared parts.1 parts.0 low))
     (λ narrow. same_by_path _ _ (effect_same g narrow past i l)))
+    (by_case (is_shared g)
+    (λ shared. ap (λ (v : LunView). v.held) ((are_alike g targets past l.ce shared parts.1).rest l.lun low))
+    (λ narrow. ap (λ (v : LunView). v.held) (view_same g narrow past l)))
     (goes g targets past l parts.1 low)
 
 one_of_only : (ds : List ℕ) (n : ℕ) → is_only ds n ≡ true → IsOne ds

@@ -3,6 +3,7 @@ use Rattle.std.specs.Prelude.{◌≡◌, ℕ, ◌+◌, ◌/◌, ◌%◌, ◌==�
 use Rattle.std.specs.List.{list_any}
 use Rattle.nand_geometry.specs.declared.parts.Parts.{Parts}
 use Rattle.nand_geometry.specs.Limits.{page_len, planes}
+use Rattle.nand_geometry.specs.Row.{parts_of, is_inside}
 use Rattle.onfi_cycle.specs.declared.command.Command.{Command}
 use Rattle.onfi_cycle.specs.declared.command.Command.TheVariants.{Read, BlockErase, PageProgram, BlockErasePlane, ReadStatusEnhanced, ProgramPlane, ReadCacheSequential, ReadCacheEnd}
 use Rattle.onfi_cycle.specs.declared.forbidden.Forbidden.{Forbidden}
@@ -18,12 +19,12 @@ use Rattle.onfi_cycle.specs.declared.target_cycle.TargetCycle.TheVariants.{Comma
 use Rattle.onfi_cycle.specs.Effect.{page_address}
 use Rattle.onfi_cycle.specs.LunView.{LunView}
 use Rattle.onfi_cycle.specs.Base.{is_of_base}
-use Rattle.onfi_cycle.specs.Command.{is_opener, at_last_row, is_change_read_column, addresses_the_array, reads_identity, wants_ready, wants_one_lun}
-use Rattle.onfi_cycle.specs.Sequence.{opened, target_of, target_cycle, row_with, column_with, input_column}
+use Rattle.onfi_cycle.specs.Command.{at_last_row, is_change_read_column, is_write_column, addresses_the_array, addresses_a_page, reads_identity, wants_ready, wants_one_lun}
+use Rattle.onfi_cycle.specs.Sequence.{opened, wants_second_column, target_of, target_cycle, row_with, column_with, input_column}
 use Rattle.onfi_cycle.specs.Lun.{luns_of, is_page_read}
-use Rattle.onfi_cycle.specs.Rules.{driver_is, is_past_register, register_len, second_of_page, second_column, ends_row, named_lun_is, breaks_not_there, breaks_no_column_to_change, has_some, breaks_row_outside, breaks_data_not_ready, caching, ends_cache}
+use Rattle.onfi_cycle.specs.Rules.{driver_is, is_past_register, register_len, second_column, named_lun_is, breaks_not_there, breaks_no_column_to_change, has_some, breaks_data_not_ready, caching, ends_cache}
 use Rattle.onfi_cycle.specs.Permitted.{is_legal, broken}
-use Rattle.onfi_profiles.specs.Tails.{base_takes_inputs, base_wants_address, base_wants_command, base_is_open, base_facts}
+use Rattle.onfi_profiles.specs.Tails.{base_is_opener, base_opened, base_takes_inputs, base_wants_address, base_wants_command, base_is_open, base_facts}
 use Rattle.onfi_profiles.specs.Widening.{in_base}
 
 abbrev pub base_undeclared : Parts → Command → Bool
@@ -41,7 +42,7 @@ base_command_unknown g _ = false
 
 -- F3
 abbrev pub base_sequence_open : TailFacts → TargetCycle → Bool
-base_sequence_open t (CommandCycle c) = is_opener c && base_is_open t
+base_sequence_open t (CommandCycle c) = base_is_opener c && base_is_open t
 base_sequence_open t _ = false
 
 -- F4
@@ -51,7 +52,7 @@ base_several_luns g _ = false
 
 -- F6
 abbrev pub base_command_misplaced : TailFacts → TargetCycle → Bool
-base_command_misplaced t (CommandCycle c) = not (is_opener c) && not (base_wants_command t c)
+base_command_misplaced t (CommandCycle c) = not (base_is_opener c) && not (base_wants_command t c)
 base_command_misplaced t _ = false
 
 -- F7
@@ -59,10 +60,19 @@ abbrev pub base_address_misplaced : TailFacts → TargetCycle → Bool
 base_address_misplaced t (AddressCycle byte) = not (base_wants_address t byte)
 base_address_misplaced t _ = false
 
+-- this address is the last row cycle of the opener, if one of these
+abbrev pub base_ends_row : (Command → Bool) → TailFacts → Bool
+base_ends_row among t = base_opened (λ c n. among c && at_last_row c n) t.opening
+
+-- F8
+abbrev pub base_row_outside : Parts → TailFacts → TargetCycle → Bool
+base_row_outside g t (AddressCycle byte) = base_ends_row (λ c. true) t && not (is_inside g (parts_of g (row_with t byte)))
+base_row_outside g t _ = false
+
 -- F9
 abbrev pub base_lun_busy : Parts → TailFacts → List LunView → TargetCycle → Bool
-base_lun_busy g t luns (CommandCycle c) = wants_ready c && not (list_any (λ v. not v.busy) luns)
-base_lun_busy g t luns (AddressCycle byte) = ends_row addresses_the_array t && named_lun_is g (row_with t byte) (λ v. v.busy) luns
+base_lun_busy g t luns (CommandCycle c) = not (is_write_column c) && wants_ready c && not (list_any (λ v. not v.busy) luns)
+base_lun_busy g t luns (AddressCycle byte) = base_ends_row addresses_the_array t && named_lun_is g (row_with t byte) (λ v. v.busy) luns
 base_lun_busy g t luns _ = false
 
 -- two pages of one queue don't go together: the same plane, another page or other block bits above the plane
@@ -100,10 +110,14 @@ abbrev pub base_no_sole_driver : TailFacts → List LunView → TargetCycle → 
 base_no_sole_driver t luns OutputCycle = base_is_open t || not (driver_is (λ v. true) luns)
 base_no_sole_driver t luns _ = false
 
+-- this address is the second column cycle of 00 or 80, or of an 85
+abbrev pub base_second_of_page : TailFacts → Bool
+base_second_of_page t = base_opened (λ c n. addresses_a_page c && n == 1) t.opening || wants_second_column t.phase
+
 -- F14
 abbrev pub base_column_outside : Parts → TailFacts → List LunView → TargetCycle → Bool
 base_column_outside g t luns (AddressCycle byte) =
-    (second_of_page t && nat_le (page_len g) (column_with t byte)) || (second_column is_change_read_column t && driver_is (λ v. nat_le (register_len g v.register) (column_with t byte)) luns)
+    (base_second_of_page t && nat_le (page_len g) (column_with t byte)) || (second_column is_change_read_column t && driver_is (λ v. nat_le (register_len g v.register) (column_with t byte)) luns)
 base_column_outside g t luns (InputCycle byte) = nat_le (page_len g) (input_column t)
 base_column_outside g t luns OutputCycle = driver_is (is_past_register g) luns
 base_column_outside g t luns (CommandCycle c) = false
@@ -117,7 +131,7 @@ abbrev pub base_cache_read_misplaced : Parts → TailFacts → List LunView → 
 base_cache_read_misplaced g t luns (CommandCycle ReadCacheSequential) = not (driver_is (base_continues_cache g) luns)
 base_cache_read_misplaced g t luns (CommandCycle ReadCacheEnd) = not (driver_is ends_cache luns)
 base_cache_read_misplaced g t luns (CommandCycle c) = reads_identity c && list_any caching luns
-base_cache_read_misplaced g t luns (AddressCycle byte) = ends_row addresses_the_array t && named_lun_is g (row_with t byte) caching luns
+base_cache_read_misplaced g t luns (AddressCycle byte) = base_ends_row addresses_the_array t && named_lun_is g (row_with t byte) caching luns
 base_cache_read_misplaced g t luns _ = false
 
 abbrev pub base_judge_cycle : Parts → TailFacts → List LunView → TargetCycle → Option Forbidden
@@ -128,7 +142,7 @@ base_judge_cycle g t luns cycle =
     else (if breaks_no_column_to_change luns cycle then Some NoColumnToChange
     else (if base_command_misplaced t cycle then Some CommandMisplaced
     else (if base_address_misplaced t cycle then Some AddressMisplaced
-    else (if breaks_row_outside g t cycle then Some RowOutside
+    else (if base_row_outside g t cycle then Some RowOutside
     else (if base_lun_busy g t luns cycle then Some LunBusy
     else (if base_queue_clash g t luns cycle then Some QueueClash
     else (if base_input_misplaced t cycle then Some InputMisplaced

@@ -1,5 +1,5 @@
 -- What a tail of the base profile was before there was a wider one.
-use Rattle.std.specs.Prelude.{◌≡◌, ℕ, ◌+◌, ◌==◌, Bool, true, false, ◌&&◌, ◌||◌, nat_lt, if◌then◌else◌, List, [], ◌∷◌, Option, Some, None}
+use Rattle.std.specs.Prelude.{◌≡◌, ℕ, ◌+◌, ◌==◌, Bool, true, false, ◌&&◌, ◌||◌, not, nat_lt, if◌then◌else◌, List, [], ◌∷◌, Option, Some, None}
 use Rattle.nand_geometry.specs.declared.parts.Parts.{Parts}
 use Rattle.onfi_cycle.specs.declared.command.Command.{Command}
 use Rattle.onfi_cycle.specs.declared.command.Command.TheVariants.{ReadId, ReadParameterPage, ChangeWriteColumn, ProgramConfirm, ProgramPlane}
@@ -11,10 +11,21 @@ use Rattle.onfi_cycle.specs.declared.opening.Opening.{Opening}
 use Rattle.onfi_cycle.specs.declared.tail_facts.TailFacts.{TailFacts}
 use Rattle.onfi_cycle.specs.declared.target_cycle.TargetCycle.{TargetCycle}
 use Rattle.onfi_cycle.specs.declared.target_cycle.TargetCycle.TheVariants.{CommandCycle, AddressCycle, InputCycle, OutputCycle}
-use Rattle.onfi_cycle.specs.Command.{is_opener, address_cycles, closes, is_page_program}
-use Rattle.onfi_cycle.specs.Sequence.{target_cycle, tail, facts_of, opened, wants_column, one_address_more, phase_after_command, row_after_address, column_after_address, next_address_place, begins_sequence, is_proper_beginning}
+use Rattle.onfi_cycle.specs.Command.{is_opener, address_cycles, closes, is_page_program, is_write_column}
+use Rattle.onfi_cycle.specs.Sequence.{target_cycle, tail, facts_of, opened, wants_column, one_address_more, phase_after_command, row_after_address, column_after_address, next_address_place, is_proper_beginning}
 use Rattle.onfi_cycle.specs.Permitted.{is_legal}
 use Rattle.onfi_profiles.specs.Widening.{in_base}
+
+-- ---- the openers
+
+-- the commands that begin a sequence: 85 begins none
+abbrev pub base_is_opener : Command → Bool
+base_is_opener ChangeWriteColumn = false
+base_is_opener c = is_opener c
+
+-- an opener of the base profile is among these, with so many addresses
+abbrev pub base_opened : (Command → ℕ → Bool) → Option Opening → Bool
+base_opened P o = opened (λ c n. not (is_write_column c) && P c n) o
 
 -- ---- what comes next
 
@@ -30,7 +41,7 @@ base_takes_address _ byte = true
 
 abbrev pub base_wants_address : TailFacts → ℕ → Bool
 base_wants_address t byte =
-    opened (λ c n. is_opener c && nat_lt n (address_cycles c) && base_takes_address c byte) t.opening || wants_column t.phase
+    opened (λ c n. base_is_opener c && nat_lt n (address_cycles c) && base_takes_address c byte) t.opening || wants_column t.phase
 
 abbrev pub base_wants_command : TailFacts → Command → Bool
 base_wants_command t ChangeWriteColumn = base_takes_inputs t.phase
@@ -39,7 +50,7 @@ base_wants_command t ProgramPlane = base_takes_inputs t.phase
 base_wants_command t d = opened (λ c n. closes c d && n == address_cycles c) t.opening
 
 abbrev pub base_is_open : TailFacts → Bool
-base_is_open t = opened is_proper_beginning t.opening || base_takes_inputs t.phase || wants_column t.phase
+base_is_open t = base_opened is_proper_beginning t.opening || base_takes_inputs t.phase || wants_column t.phase
 
 -- ---- what a cycle makes of the facts of a tail
 
@@ -80,9 +91,15 @@ base_extended_facts (InputCycle byte) t =
     record { opening = None; phase = base_phase_after_input t.phase; row = t.row; column = t.column; inputs = t.inputs + 1; is_empty = false }
 base_extended_facts OutputCycle t = record { opening = None; phase = Outside; row = t.row; column = t.column; inputs = 0; is_empty = false }
 
+abbrev pub base_begins_sequence : TargetCycle → Bool
+base_begins_sequence (CommandCycle c) = base_is_opener c
+base_begins_sequence (AddressCycle byte) = false
+base_begins_sequence (InputCycle byte) = false
+base_begins_sequence OutputCycle = false
+
 abbrev pub base_facts_after : TargetCycle → TailFacts → TailFacts
 base_facts_after cycle t =
-    if begins_sequence cycle then base_extended_facts cycle (facts_of []) else (if t.is_empty then t else base_extended_facts cycle t)
+    if base_begins_sequence cycle then base_extended_facts cycle (facts_of []) else (if t.is_empty then t else base_extended_facts cycle t)
 
 -- the facts of a target's tail, one item after the other
 abbrev pub base_facts : List Item → ℕ → TailFacts

@@ -60,11 +60,17 @@ fn undriven_of(luns: &[OnfiseqLun]) -> Undriven {
     }
 }
 
+// The LUN of the row of a target's program holds a page, which the program copies: the row of a Page Program would have cleared it.
+fn copies_page(kept: &OnfiseqTarget, geometry: &Geometry) -> bool {
+    let place = geometry.parts_of(tail_of(kept).named_row()).lun as usize;
+    place < MOST_LUNS && kept.luns[place].holds != 0
+}
+
 // What the record of a target tells of its past.
-fn past_of(kept: &OnfiseqTarget) -> TargetPast {
+fn past_of(kept: &OnfiseqTarget, geometry: &Geometry) -> TargetPast {
     let [first, second, third, fourth] = &kept.luns;
     TargetPast::told_by(
-        opener_of(tail_of(kept)).map(somewhere),
+        opener_of(tail_of(kept), copies_page(kept, geometry)).map(somewhere),
         undriven_of(&kept.luns[..kept.count.min(MOST_LUNS)]),
         [
             work_of(first),
@@ -97,7 +103,7 @@ fn cause_of(bus: &OnfiseqBus, cycle: Cycle, rule: Forbidden) -> Option<CauseInLi
                 lun_of(bus, ce, 3),
             ],
         },
-        past: past_of(kept),
+        past: past_of(kept, &geometry),
         cycle,
     };
     let cause = faulty.cause_of(rule)?;

@@ -1,2 +1,3 @@
 pub mod AndBytes
+pub mod Copied
 pub mod Stepping

@@ -1,4 +1,5 @@
 pub mod Opening
 pub mod Filled
+pub mod Copied
 pub mod Driven
 pub mod Stepped

@@ -4,8 +4,8 @@ use Rattle.onfi_cycle.specs.declared.lun.Lun.{Lun}
 use Rattle.onfi_cycle.specs.declared.page_address.PageAddress.{PageAddress}
 use Rattle.onfi_cycle.specs.Content.{ArrayWork, same_page}
 use Rattle.onfi_cycle.specs.Content.ArrayWork.{ErasesBlock, ProgramsPage}
-use Rattle.oracle_onfi.specs.declared.WorkKind.{WorkKind}
-use Rattle.oracle_onfi.specs.declared.WorkKind.TheVariants.{Erase, Program}
+use Rattle.oracle_onfi.specs.declared.works.WorkKind.{WorkKind}
+use Rattle.oracle_onfi.specs.declared.works.WorkKind.TheVariants.{Erase, Program}
 
 -- a page with its bytes
 pub record PageContent : Type 0 where

@@ -4,18 +4,21 @@ ghost use Rattle.std.specs.List.{zip};
 ghost use Rattle.nand_geometry.specs.Limits.{page_len};
 ghost use Rattle.onfi_cycle.specs.Sequence.{AreSmall, filled, tail};
 ghost use Rattle.onfi_cycle.specs.Lun.{output_column, read_column, register};
-ghost use Rattle.onfi_cycle.specs.Content.{and_bytes, byte_at, content, has_failed, identifiers, left_by, left_by_all, pending_work, pending_work_after, queued_work, queued_work_after, register_bytes, same_page, shown, status};
-ghost use Rattle.onfi_cycle.specs.Content.ArrayWork.{ErasesBlock, ProgramsPage};
+ghost use Rattle.onfi_cycle.specs.Content.{and_bytes, byte_at, changes_after, changes_pages, content, content_after, has_failed, identifiers, left_by, left_by_all, pending_work, queued_work, register_bytes, same_page, shown, status};
 ghost use Rattle.oracle_onfi.specs.Driven.{driven_byte};
 ghost use Rattle.oracle_onfi.specs.Filled.{filled_after};
+ghost use Rattle.oracle_onfi.specs.Copied.{page_begun_with, page_copied};
 ghost use Rattle.oracle_onfi.specs.Opening.{opening_of, same_lun};
 
+use crate::WrittenPage;
 use crate::past::{
-    drivers, effect_on, is_array_busy, is_busy, latch, read_column, register, tail_facts,
+    drivers, effect_on, is_array_busy, is_busy, latch, lun_facts, read_column, register, tail_facts,
 };
-use crate::{ArrayWork, WorkKind, WrittenPage};
+use crate::works::{ArrayWork, WorkKind, Works};
 use nand_geometry::Geometry;
-use onfi_cycle::{Effect, Item, Latch, Lun, PageAddress, Register, Status, TailFacts, TargetCycle};
+use onfi_cycle::{
+    Effect, Item, Latch, Lun, PageAddress, Register, Status, TailFacts, TargetCycle, page_in_plane,
+};
 use std::alloc::{AllocError, Global};
 
 /// A page of FF.
@@ -25,20 +28,20 @@ fn erased_page(alloc: Global, geometry: &Geometry) -> Result<Vec<u8>, AllocError
     vec![in alloc; 0xff; geometry.page_len() as usize]
 }
 
-/// The bytes of a program with one cycle more after this tail.
+/// The bytes of a program that began with these, with one cycle more after this tail.
 fn filled_after(
     alloc: Global,
-    geometry: &Geometry,
+    begun: &[u8],
     cycle: TargetCycle,
     tail: TailFacts,
     before: Vec<u8>,
 ) -> Result<Vec<u8>, AllocError>
     requires { (tail.column < 2 ^ 16) × (tail.inputs < 2 ^ 63) }
-    ensures { IfOk result (λ v. v.items ≡ filled_after (page_len geometry.now) cycle tail before.items) }
+    ensures { IfOk result (λ v. v.items ≡ filled_after begun.now cycle tail before.items) }
 {
     match cycle {
-        TargetCycle::CommandCycle(command) if command.is_opener() && !tail.works_on_row(command) =>
-            { erased_page(alloc, geometry) }
+        TargetCycle::CommandCycle(command) if command.is_opener() && !tail.goes_on_with(command) =>
+            { begun.to_vec(alloc) }
         TargetCycle::InputCycle(byte) if !tail.is_empty => {
             let mut bytes = before;
             let column = tail.input_column();
@@ -51,24 +54,19 @@ fn filled_after(
     }
 }
 
-/// The bytes of the program that the tail of a target holds: those of its inputs, and FF elsewhere.
-pub fn filled(
-    alloc: Global,
-    geometry: &Geometry,
-    past: &[Item],
-    ce: u8,
-) -> Result<Vec<u8>, AllocError>
-    ensures { IfOk result (λ v. v.items ≡ filled (page_len geometry.now) (tail past.now ce)) }
+/// The bytes of the program that the tail of a target holds: those of its inputs, and elsewhere those that it began with.
+pub fn filled(alloc: Global, begun: &[u8], past: &[Item], ce: u8) -> Result<Vec<u8>, AllocError>
+    ensures { IfOk result (λ v. v.items ≡ filled begun.now (tail past.now ce)) }
 {
     match past {
-        [] => erased_page(alloc, geometry),
+        [] => begun.to_vec(alloc),
         [first, rest @ ..] => {
-            let before = filled(alloc, geometry, rest, ce)?;
+            let before = filled(alloc, begun, rest, ce)?;
             match first {
                 Item::Cyc(c) => {
                     if c.ce == ce {
                         let t = tail_facts(rest, ce);
-                        filled_after(alloc, geometry, TargetCycle::of(c.kind, c.byte), t, before)
+                        filled_after(alloc, begun, TargetCycle::of(c.kind, c.byte), t, before)
                     } else {
                         Ok(before)
                     }
@@ -76,136 +74,6 @@ pub fn filled(
                 Item::Rdy { .. } => Ok(before),
                 Item::Ard { .. } => Ok(before),
             }
-        }
-    }
-}
-
-/// The erase of a row's block.
-fn erase_of(alloc: Global, at: PageAddress) -> ArrayWork
-    ensures { result ≡ ErasesBlock at }
-{
-    ArrayWork {
-        kind: WorkKind::Erase,
-        at,
-        bytes: Vec::new(alloc),
-    }
-}
-
-/// The program of a page.
-fn program_of(at: PageAddress, bytes: Vec<u8>) -> ArrayWork
-    ensures { result ≡ ProgramsPage at bytes.items }
-{
-    ArrayWork {
-        kind: WorkKind::Program,
-        at,
-        bytes,
-    }
-}
-
-/// The queued works after an effect; the bytes are those of the program that it closes.
-fn queued_work_after(
-    alloc: Global,
-    effect: Effect,
-    bytes: Vec<u8>,
-    mut works: Vec<ArrayWork>,
-) -> Result<Vec<ArrayWork>, AllocError>
-    ensures { IfOk result (λ v. v.items ≡ queued_work_after effect bytes.items works.items) }
-{
-    match effect {
-        Effect::EraseStarted { queued: true, row } => {
-            works.insert(0, erase_of(alloc, row))?;
-            Ok(works)
-        }
-        Effect::ProgramStarted { queued: true, page } => {
-            works.insert(0, program_of(page, bytes))?;
-            Ok(works)
-        }
-        Effect::ReadStarted { .. }
-        | Effect::EraseStarted { .. }
-        | Effect::ProgramStarted { .. }
-        | Effect::ResetStarted
-        | Effect::TargetResetStarted { .. } => Ok(Vec::new(alloc)),
-        _ => Ok(works),
-    }
-}
-
-/// The works in the queue of the LUN, with their bytes, the newest first.
-pub fn queued_work(
-    alloc: Global,
-    geometry: &Geometry,
-    past: &[Item],
-    lun: Lun,
-) -> Result<Vec<ArrayWork>, AllocError>
-    ensures { IfOk result (λ v. v.items ≡ queued_work geometry.now past.now lun) }
-{
-    match past {
-        [] => Ok(Vec::new(alloc)),
-        [item, rest @ ..] => {
-            let before = queued_work(alloc, geometry, rest, lun)?;
-            let effect = effect_on(alloc, geometry, rest, *item, lun)?;
-            let bytes = filled(alloc, geometry, rest, lun.ce)?;
-            queued_work_after(alloc, effect, bytes, before)
-        }
-    }
-}
-
-/// The pending works after an effect; the bytes are those of the program that it closes, the works those that
-/// are queued before it.
-fn pending_work_after(
-    alloc: Global,
-    effect: Effect,
-    bytes: Vec<u8>,
-    mut works: Vec<ArrayWork>,
-    pending: Vec<ArrayWork>,
-) -> Result<Vec<ArrayWork>, AllocError>
-    ensures { IfOk result (λ v. v.items ≡ pending_work_after effect bytes.items works.items pending.items) }
-{
-    match effect {
-        Effect::EraseStarted { queued: false, row } => {
-            works.insert(0, erase_of(alloc, row))?;
-            Ok(works)
-        }
-        Effect::ProgramStarted {
-            queued: false,
-            page,
-        } => {
-            works.insert(0, program_of(page, bytes))?;
-            Ok(works)
-        }
-        Effect::EraseStarted { .. }
-        | Effect::ProgramStarted { .. }
-        | Effect::ReadStarted { .. }
-        | Effect::ReadQueued { .. }
-        | Effect::ParameterPageReadStarted
-        | Effect::UniqueIdReadStarted
-        | Effect::FeaturesReadStarted { .. }
-        | Effect::FeaturesSet { .. }
-        | Effect::CacheReadContinued { .. }
-        | Effect::CacheReadEnded
-        | Effect::ResetStarted
-        | Effect::TargetResetStarted { .. }
-        | Effect::BecameReady { .. } => Ok(Vec::new(alloc)),
-        _ => Ok(pending),
-    }
-}
-
-/// The works that take effect at the next ready of the LUN, if that is without failure, the newest first.
-pub fn pending_work(
-    alloc: Global,
-    geometry: &Geometry,
-    past: &[Item],
-    lun: Lun,
-) -> Result<Vec<ArrayWork>, AllocError>
-    ensures { IfOk result (λ v. v.items ≡ pending_work geometry.now past.now lun) }
-{
-    match past {
-        [] => Ok(Vec::new(alloc)),
-        [item, rest @ ..] => {
-            let before = pending_work(alloc, geometry, rest, lun)?;
-            let effect = effect_on(alloc, geometry, rest, *item, lun)?;
-            let bytes = filled(alloc, geometry, rest, lun.ce)?;
-            let works = queued_work(alloc, geometry, rest, lun)?;
-            pending_work_after(alloc, effect, bytes, works, before)
         }
     }
 }
@@ -288,6 +156,133 @@ fn opening_of(
     }
 }
 
+/// What an effect leaves of a page; the works are those that are pending before it.
+fn content_after(
+    alloc: Global,
+    geometry: &Geometry,
+    effect: Effect,
+    pending: &[ArrayWork],
+    page: PageAddress,
+    old: Vec<u8>,
+) -> Result<Vec<u8>, AllocError>
+    ensures { IfOk result (λ v. v.items ≡ content_after geometry.now effect pending.now page old.items) }
+{
+    match effect {
+        Effect::BecameReady { failed: false } => left_by_all(alloc, geometry, pending, page, old),
+        _ => Ok(old),
+    }
+}
+
+/// The page that the LUN holds in the plane of the row of its target, whose bytes a program of that row begins with.
+fn page_begun_with(
+    alloc: Global,
+    geometry: &Geometry,
+    past: &[Item],
+    lun: Lun,
+) -> Result<Option<PageAddress>, AllocError>
+    ensures { IfOk result (λ p. p ≡ page_begun_with geometry.now past.now lun) }
+{
+    let row = tail_facts(past, lun.ce).named_row();
+    let planes = geometry.planes();
+    let plane = PageAddress::of_row(geometry, row).block % planes;
+    let facts = lun_facts(alloc, geometry, past, lun)?;
+    Ok(page_in_plane(planes, plane, facts.held.as_slice()))
+}
+
+/// The page that an effect copies: that with whose bytes the program begins that it closes.
+fn page_copied(
+    alloc: Global,
+    geometry: &Geometry,
+    effect: Effect,
+    past: &[Item],
+    lun: Lun,
+) -> Result<Option<PageAddress>, AllocError>
+    ensures { IfOk result (λ p. p ≡ page_copied effect (page_begun_with geometry.now past.now lun)) }
+{
+    match effect {
+        Effect::ProgramStarted { .. } => page_begun_with(alloc, geometry, past, lun),
+        _ => Ok(None),
+    }
+}
+
+/// What is to come of a LUN, and the bytes of one of its pages.
+#[derive(Drop)]
+struct PageState {
+    works: Works,
+    bytes: Vec<u8>,
+}
+
+/// The works of a LUN that are to come, and the bytes of a page of it.
+fn page_state(
+    alloc: Global,
+    geometry: &Geometry,
+    opening: &[WrittenPage],
+    past: &[Item],
+    lun: Lun,
+    page: PageAddress,
+) -> Result<PageState, AllocError>
+    ensures queued { IfOk result (λ s. s.works.queued.items ≡ queued_work geometry.now (opening_of (page_len geometry.now) opening.now) past.now lun) }
+    ensures pending { IfOk result (λ s. s.works.pending.items ≡ pending_work geometry.now (opening_of (page_len geometry.now) opening.now) past.now lun) }
+    ensures bytes { IfOk result (λ s. s.bytes.items ≡ content geometry.now (opening_of (page_len geometry.now) opening.now) past.now lun page) }
+{
+    match past {
+        [] => Ok(PageState {
+            works: Works::none(alloc),
+            bytes: opening_of(alloc, geometry, opening, lun, page)?,
+        }),
+        [item, rest @ ..] => {
+            let before = page_state(alloc, geometry, opening, rest, lun, page)?;
+            let effect = effect_on(alloc, geometry, rest, *item, lun)?;
+            let begun = match page_copied(alloc, geometry, effect, rest, lun)? {
+                Some(copied) => page_state(alloc, geometry, opening, rest, lun, copied)?.bytes,
+                None => erased_page(alloc, geometry)?,
+            };
+            let program = filled(alloc, &begun, rest, lun.ce)?;
+            let PageState { works, bytes } = before;
+            let bytes = content_after(alloc, geometry, effect, &works.pending, page, bytes)?;
+            let works = works.after(alloc, effect, program)?;
+            Ok(PageState { works, bytes })
+        }
+    }
+}
+
+/// Some page of a LUN, where it doesn't matter which.
+const SOME_PAGE: PageAddress = PageAddress { block: 0, page: 0 };
+
+/// The works in the queue of the LUN, with their bytes, the newest first.
+pub fn queued_work(
+    alloc: Global,
+    geometry: &Geometry,
+    opening: &[WrittenPage],
+    past: &[Item],
+    lun: Lun,
+) -> Result<Vec<ArrayWork>, AllocError>
+    ensures { IfOk result (λ v. v.items ≡ queued_work geometry.now (opening_of (page_len geometry.now) opening.now) past.now lun) }
+{
+    Ok(
+        page_state(alloc, geometry, opening, past, lun, SOME_PAGE)?
+            .works
+            .queued,
+    )
+}
+
+/// The works that take effect at the next ready of the LUN, if that is without failure, the newest first.
+pub fn pending_work(
+    alloc: Global,
+    geometry: &Geometry,
+    opening: &[WrittenPage],
+    past: &[Item],
+    lun: Lun,
+) -> Result<Vec<ArrayWork>, AllocError>
+    ensures { IfOk result (λ v. v.items ≡ pending_work geometry.now (opening_of (page_len geometry.now) opening.now) past.now lun) }
+{
+    Ok(
+        page_state(alloc, geometry, opening, past, lun, SOME_PAGE)?
+            .works
+            .pending,
+    )
+}
+
 /// The bytes of a page of the LUN: those of its opening content, AND-ed with each program that took effect, and
 /// FF after an erase that did.
 pub fn content(
@@ -300,17 +295,46 @@ pub fn content(
 ) -> Result<Vec<u8>, AllocError>
     ensures { IfOk result (λ v. v.items ≡ content geometry.now (opening_of (page_len geometry.now) opening.now) past.now lun page) }
 {
+    Ok(page_state(alloc, geometry, opening, past, lun, page)?.bytes)
+}
+
+/// Whether the work that goes on changes pages, once it did or did not before this effect.
+fn changes_after(effect: Effect, before: bool) -> bool
+    ensures { result ≡ changes_after effect before }
+{
+    match effect {
+        Effect::EraseStarted { queued, .. } | Effect::ProgramStarted { queued, .. } => !queued,
+        Effect::ReadStarted { .. }
+        | Effect::ReadQueued { .. }
+        | Effect::CopybackReadStarted { .. }
+        | Effect::ParameterPageReadStarted
+        | Effect::UniqueIdReadStarted
+        | Effect::FeaturesReadStarted { .. }
+        | Effect::FeaturesSet { .. }
+        | Effect::CacheReadContinued { .. }
+        | Effect::CacheReadEnded
+        | Effect::ResetStarted
+        | Effect::TargetResetStarted { .. }
+        | Effect::BecameReady { .. } => false,
+        _ => before,
+    }
+}
+
+/// The work that goes on changes pages: Program Confirm or Block Erase Confirm closed it.
+pub fn changes_pages(
+    alloc: Global,
+    geometry: &Geometry,
+    past: &[Item],
+    lun: Lun,
+) -> Result<bool, AllocError>
+    ensures { IfOk result (λ a. a ≡ changes_pages geometry.now past.now lun) }
+{
     match past {
-        [] => opening_of(alloc, geometry, opening, lun, page),
+        [] => Ok(false),
         [item, rest @ ..] => {
-            let before = content(alloc, geometry, opening, rest, lun, page)?;
-            match effect_on(alloc, geometry, rest, *item, lun)? {
-                Effect::BecameReady { failed: false } => {
-                    let pending = pending_work(alloc, geometry, rest, lun)?;
-                    left_by_all(alloc, geometry, &pending, page, before)
-                }
-                _ => Ok(before),
-            }
+            let before = changes_pages(alloc, geometry, rest, lun)?;
+            let effect = effect_on(alloc, geometry, rest, *item, lun)?;
+            Ok(changes_after(effect, before))
         }
     }
 }
@@ -328,8 +352,7 @@ pub fn has_failed(
         [] => Ok(false),
         [item, rest @ ..] => match effect_on(alloc, geometry, rest, *item, lun)? {
             Effect::BecameReady { failed } => {
-                let pending = pending_work(alloc, geometry, rest, lun)?;
-                Ok(failed && !pending.is_empty())
+                Ok(failed && changes_pages(alloc, geometry, rest, lun)?)
             }
             _ => has_failed(alloc, geometry, rest, lun),
         },

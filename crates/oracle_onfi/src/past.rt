@@ -1,15 +1,15 @@
 //! The facts of a target and of its LUNs, by looking back over a past, the newest item first.
 ghost use Rattle.std.specs.Prelude.{[], ◌≡◌, ◌+◌, ◌^◌, ◌<◌, ◌≤◌, ◌∷◌, IfOk, length};
 ghost use Rattle.onfi_cycle.specs.declared.lun.Lun.{Lun};
-ghost use Rattle.onfi_cycle.specs.Effect.{IsSmallEffect};
+ghost use Rattle.onfi_cycle.specs.Effect.{IsSmallEffect, HasPlanes};
 ghost use Rattle.onfi_cycle.specs.Sequence.{AreSmall, tail, facts_of};
-ghost use Rattle.onfi_cycle.specs.Lun.{latch, drivers, is_only, latch_alone, effect_on, is_busy, closer, is_caching, is_array_busy, array_page, register, read_column, queue, queue_after, held_after, first_view, lun_view, luns_of, works};
+ghost use Rattle.onfi_cycle.specs.Lun.{latch, drivers, is_only, latch_alone, effect_on, is_busy, closer, is_caching, is_array_busy, array_page, register, read_column, queue, queue_after, held_after, is_copyback_read, first_view, lun_view, luns_of, works};
 ghost use Rattle.oracle_onfi.specs.Stepped.{IsShort, AreShort, given_alone, facts_by, stepped, stepped_from, firsts_from, numbers_from};
 
 use nand_geometry::Geometry;
 use onfi_cycle::{
     Command, Effect, HeldPages, Item, Latch, Lun, LunFacts, PageAddress, Queued, ReadColumn,
-    Register, TailFacts, TargetCycle, apply_to_held, is_cache_read, item_effect,
+    Register, TailFacts, TargetCycle, apply_to_held, is_cache_read, is_copyback_read, item_effect,
 };
 use std::alloc::{AllocError, Global};
 
@@ -86,6 +86,7 @@ fn queue_after(alloc: Global, effect: Effect, before: &[Queued]) -> Result<Vec<Q
         Effect::ProgramStarted { queued: true, page } => Queued::Program(page),
         Effect::ReadQueued { page } => Queued::Read(page),
         Effect::ReadStarted { .. }
+        | Effect::CopybackReadStarted { .. }
         | Effect::EraseStarted { .. }
         | Effect::ProgramStarted { .. }
         | Effect::ResetStarted
@@ -100,12 +101,14 @@ fn queue_after(alloc: Global, effect: Effect, before: &[Queued]) -> Result<Vec<Q
 }
 
 fn held_after(effect: Effect, before: &LunFacts<Vec<Queued>>) -> Result<HeldPages, AllocError>
-    ensures { IfOk result (λ v. v.items ≡ held_after effect before.now.array_page before.now.queue before.now.held) }
+    requires { HasPlanes effect }
+    ensures { IfOk result (λ v. v.items ≡ held_after effect (is_copyback_read before.now.closer) before.now.array_page before.now.queue before.now.held) }
 {
     let mut held = before.held.clone()?;
     apply_to_held(
         &mut held,
         effect,
+        is_copyback_read(before.closer),
         before.array_page,
         before.queue.as_slice(),
     );

@@ -3,12 +3,12 @@ use Rattle.std.proofs.Common.{◌≡◌, ℕ, ◌+◌, ◌==◌, Bool, true, fal
 use Rattle.std.proofs.lemmas.Bool.{and_parts, or_parts, not-true, not-false}
 use Rattle.nand_geometry.specs.declared.parts.Parts.{Parts}
 use Rattle.nand_geometry.specs.Limits.{planes}
-use Rattle.nand_geometry.specs.Optional.{has_plane_reads}
+use Rattle.nand_geometry.specs.Optional.{has_plane_reads, has_copyback}
 use Rattle.nand_geometry.specs.Row.{parts_of}
 use Rattle.onfi_cycle.specs.declared.command.Command.{Command}
-use Rattle.onfi_cycle.specs.declared.command.Command.TheVariants.{Read, ReadConfirm, ChangeReadColumn, ChangeReadColumnEnhanced, ChangeReadColumnConfirm, BlockErase, BlockEraseConfirm, BlockErasePlane, ReadStatus, ReadStatusEnhanced, PageProgram, ProgramConfirm, ProgramPlane, ReadPlane, ReadId, ReadParameterPage, Reset, ReadCacheSequential, ReadCacheEnd, ReadUniqueId, GetFeatures, SetFeatures, ResetLun, SynchronousReset}
+use Rattle.onfi_cycle.specs.declared.command.Command.TheVariants.{Read, ReadConfirm, ChangeReadColumn, ChangeReadColumnEnhanced, ChangeReadColumnConfirm, BlockErase, BlockEraseConfirm, BlockErasePlane, ReadStatus, ReadStatusEnhanced, PageProgram, ProgramConfirm, ProgramPlane, ReadPlane, ReadId, ReadParameterPage, Reset, ReadCacheSequential, ReadCacheEnd, ReadUniqueId, GetFeatures, SetFeatures, ResetLun, SynchronousReset, CopybackRead, ChangeWriteColumn}
 use Rattle.onfi_cycle.specs.declared.effect.Effect.{Effect}
-use Rattle.onfi_cycle.specs.declared.effect.Effect.TheVariants.{Unaffected, SelectedForStatus, Deselected, IdRead, IdentityRead, UniqueIdReadStarted, FeaturesReadStarted, FeaturesSet, ParameterPageReadStarted, CacheReadContinued, CacheReadEnded, ReadColumnChanged, PlaneSelected, DataOutput, ResetStarted, AnotherAddressed}
+use Rattle.onfi_cycle.specs.declared.effect.Effect.TheVariants.{Unaffected, SelectedForStatus, Deselected, IdRead, IdentityRead, UniqueIdReadStarted, FeaturesReadStarted, FeaturesSet, ParameterPageReadStarted, CacheReadContinued, CacheReadEnded, ReadColumnChanged, PlaneSelected, DataOutput, ResetStarted, AnotherAddressed, ProgramAddressed}
 use Rattle.onfi_cycle.specs.declared.item.Cycle.{Cycle}
 use Rattle.onfi_cycle.specs.declared.item.Item.{Item}
 use Rattle.onfi_cycle.specs.declared.item.Item.TheVariants.{Cyc}
@@ -21,11 +21,11 @@ use Rattle.onfi_cycle.specs.declared.target_cycle.TargetCycle.TheVariants.{Comma
 use Rattle.onfi_cycle.specs.Applied.{asks_driver}
 use Rattle.onfi_cycle.specs.Bounds.{is_read}
 use Rattle.onfi_cycle.specs.Command.{is_opener, closes, address_cycles, is_change_read_column, is_enhanced_column}
-use Rattle.onfi_cycle.specs.Effect.{is_off, is_data, is_shared, of_target, other_effect, lun_reset_effect, confirm_effect, row_effect, cache_effect, plane_of_row, plane_effect, column_effect, names_lun, command_effect, id_effect, address_effect, opening_address_effect, cycle_effect, ends_features}
+use Rattle.onfi_cycle.specs.Effect.{is_off, is_data, is_shared, of_target, other_effect, lun_reset_effect, confirm_effect, row_effect, cache_effect, plane_of_row, plane_effect, column_effect, names_lun, command_effect, id_effect, address_effect, opening_address_effect, cycle_effect, ends_features, program_row_effect}
 use Rattle.onfi_cycle.specs.Look.{look_at}
 use Rattle.onfi_cycle.specs.Lun.{is_cache_read, is_page_read, view_after}
 use Rattle.onfi_cycle.specs.LunView.{LunView}
-use Rattle.onfi_cycle.specs.Rules.{is_some_and, driver, driver_is, named_lun_is, is_empty, has_read_one, continues_cache, ends_cache, breaks_no_sole_driver, breaks_cache_read_misplaced}
+use Rattle.onfi_cycle.specs.Rules.{is_some_and, driver, driver_is, named_lun_is, is_empty, has_read_one, continues_cache, ends_cache, breaks_no_sole_driver, breaks_cache_read_misplaced, breaks_command_unknown}
 use Rattle.onfi_cycle.specs.Sequence.{target_cycle, facts_of, begins_anew, opened, selects_plane, wants_address, wants_command, row, row_with, is_open}
 use Rattle.onfi_cycle.specs.State.{effect_alone, luns_after, has_driver}
 use Rattle.onfi_cycle.proofs.Booleans.{eqb_self}
@@ -128,19 +128,21 @@ asks_plane g u n t s selects z = of (names_lun g (row u) n) refl
     of true names = z selects names
     of false names = tt
 
-asks_command : (g : Parts) → is_shared g ≡ false → (u : TailFacts) (la : Latch) (c : Command) (n : ℕ) (t s : LunView) → asks_driver (CommandCycle c) ≡ false → ReadsClear g u n t → Asks (has_plane_reads g.optional) (command_effect g u la c n) t s
-asks_command g plain u la Read n t s h z = tt
-asks_command g plain u la ReadStatus n t s h z = rw plain tt
-asks_command g plain u la ReadStatusEnhanced n t s h z = tt
-asks_command g plain u la Reset n t s h z = rw plain tt
-asks_command g plain u la SynchronousReset n t s h z = rw plain tt
-asks_command g plain u la ReadCacheSequential n t s h z = cc
-asks_command g plain u la ReadCacheEnd n t s h z = cc
-asks_command g plain u la ChangeReadColumnConfirm n t s h z = cc
-asks_command g plain u la ReadConfirm n t s h z =
+asks_command : (g : Parts) → is_shared g ≡ false → has_copyback g.optional ≡ false → (u : TailFacts) (la : Latch) (c : Command) (n : ℕ) (t s : LunView) → breaks_command_unknown g (CommandCycle c) ≡ false → asks_driver (CommandCycle c) ≡ false → ReadsClear g u n t → Asks (has_plane_reads g.optional) (command_effect g u la c n) t s
+unfolding breaks_command_unknown
+asks_command g plain copyless u la Read n t s f2 h z = tt
+asks_command g plain copyless u la ReadStatus n t s f2 h z = rw plain tt
+asks_command g plain copyless u la ReadStatusEnhanced n t s f2 h z = tt
+asks_command g plain copyless u la Reset n t s f2 h z = rw plain tt
+asks_command g plain copyless u la SynchronousReset n t s f2 h z = rw plain tt
+asks_command g plain copyless u la ReadCacheSequential n t s f2 h z = cc
+asks_command g plain copyless u la ReadCacheEnd n t s f2 h z = cc
+asks_command g plain copyless u la ChangeReadColumnConfirm n t s f2 h z = cc
+asks_command g plain copyless u la ReadConfirm n t s f2 h z =
     asks_or (has_plane_reads g.optional) (wants_command u ReadConfirm && names_lun g (row u) n) (confirm_effect g u ReadConfirm) (other_effect g u ReadConfirm) t s
     (λ b single. let a = and_parts (wants_command u ReadConfirm) (names_lun g (row u) n) b in z single (read_opened u.opening a.0) a.1) (asks_other g u ReadConfirm t s plain)
-asks_command g plain u la c n t s h z = asks_or (has_plane_reads g.optional) (wants_command u c && names_lun g (row u) n) (confirm_effect g u c) (other_effect g u c) t s (λ b. tt) (asks_other g u c t s plain)
+asks_command g plain copyless u la CopybackRead n t s f2 h z = let none : true ≡ false = rw copyless at f2 in cc
+asks_command g plain copyless u la c n t s f2 h z = asks_or (has_plane_reads g.optional) (wants_command u c && names_lun g (row u) n) (confirm_effect g u c) (other_effect g u c) t s (λ b. tt) (asks_other g u c t s plain)
 
 resets_command : (g : Parts) → is_shared g ≡ false → (u : TailFacts) (la : Latch) (c : Command) (n : ℕ) → is_reset_cycle (CommandCycle c) ≡ true → command_effect g u la c n ≡ ResetStarted
 resets_command g plain u la Reset n h = rw plain refl
@@ -176,6 +178,7 @@ opener_effect g u la lb ReadCacheEnd n o h = cc
 opener_effect g u la lb ChangeReadColumn n o h = neither (wants_command u ChangeReadColumn && names_lun g (row u) n)
 opener_effect g u la lb ChangeReadColumnEnhanced n o h = neither (wants_command u ChangeReadColumnEnhanced && names_lun g (row u) n)
 opener_effect g u la lb BlockErase n o h = neither (wants_command u BlockErase && names_lun g (row u) n)
+opener_effect g u la lb ChangeWriteColumn n o h = neither (wants_command u ChangeWriteColumn && names_lun g (row u) n)
 opener_effect g u la lb PageProgram n o h = neither (wants_command u PageProgram && names_lun g (row u) n)
 opener_effect g u la lb ReadId n o h = neither (wants_command u ReadId && names_lun g (row u) n)
 opener_effect g u la lb ReadParameterPage n o h = neither (wants_command u ReadParameterPage && names_lun g (row u) n)
@@ -196,6 +199,7 @@ asks_opener g plain lb ChangeReadColumnConfirm n t s o h = cc
 asks_opener g plain lb BlockEraseConfirm n t s o h = cc
 asks_opener g plain lb BlockErasePlane n t s o h = cc
 asks_opener g plain lb ReadPlane n t s o h = cc
+asks_opener g plain lb CopybackRead n t s o h = cc
 asks_opener g plain lb ProgramConfirm n t s o h = cc
 asks_opener g plain lb ProgramPlane n t s o h = cc
 asks_opener g plain lb c n t s o h = tt
@@ -209,6 +213,7 @@ asks_address_of g plain u byte ReadParameterPage m n t s = asks_if (has_plane_re
 asks_address_of g plain u byte ReadUniqueId m n t s = asks_if (has_plane_reads g.optional) (wants_address u byte) (of_target g n UniqueIdReadStarted) t s (λ w. asks_target g n UniqueIdReadStarted t s plain tt)
 asks_address_of g plain u byte GetFeatures m n t s = asks_if (has_plane_reads g.optional) (wants_address u byte) (of_target g n (FeaturesReadStarted byte)) t s (λ w. asks_target g n (FeaturesReadStarted byte) t s plain tt)
 asks_address_of g plain u byte ResetLun m n t s = asks_if (has_plane_reads g.optional) (m == 2) (lun_reset_effect g (names_lun g (row_with u byte) n)) t s (λ w. asks_or (has_plane_reads g.optional) (names_lun g (row_with u byte) n) ResetStarted (cond (is_shared g) (AnotherAddressed false) Unaffected) t s (λ b. tt) (rw plain tt))
+asks_address_of g plain u byte PageProgram m n t s = asks_if (has_plane_reads g.optional) (m == 4) (program_row_effect (names_lun g (row_with u byte) n)) t s (λ w. asks_if (has_plane_reads g.optional) (names_lun g (row_with u byte) n) ProgramAddressed t s (λ b. tt))
 asks_address_of g plain u byte c m n t s = tt
 
 asks_address : (g : Parts) → is_shared g ≡ false → (u : TailFacts) (byte : ℕ) (o : Option Opening) (n : ℕ) (t s : LunView) → Asks (has_plane_reads g.optional) (opening_address_effect g u byte o n) t s
@@ -254,7 +259,7 @@ cache_read_on g u h la n = ap (λ (b : Bool). cond b (row_effect g u ReadCacheSe
 abbrev ReadsPages : Parts → TailFacts → ℕ → LunView → Type 0
 ReadsPages g u n s = names_lun g (row u) n ≡ true → is_page_read s.closer ≡ true
 
-module _ (g : Parts) (plain : is_shared g ≡ false) (i : Item) (k : Known) (ts ss : List LunView) (each : Each IsBelow ts ss) where
+module _ (g : Parts) (plain : is_shared g ≡ false) (copyless : has_copyback g.optional ≡ false) (i : Item) (k : Known) (ts ss : List LunView) (each : Each IsBelow ts ss) where
   -- 31h and 3Fh, whatever the tails
   go_cache : (u w : TailFacts) (test : LunView → Bool) (c : Command) (x : Effect) → ((la : Latch) (n : ℕ) → command_effect g u la c n ≡ cond (is_off la) Unaffected x) → ((la : Latch) (n : ℕ) → command_effect g w la c n ≡ cond (is_off la) Unaffected x) →
       ((t s : LunView) → test s ≡ true → Asks (has_plane_reads g.optional) x t s) → (is_reset i ≡ true → ⊥) → driver_is test ts ≡ true → driver_is test ss ≡ true →
@@ -393,12 +398,12 @@ module _ (g : Parts) (plain : is_shared g ≡ false) (i : Item) (k : Known) (ts 
       of true h = go_plane_column u h resets z
       of false h = go_driver_column u h d resets
 
-  go_other : (u : TailFacts) (c : Command) → asks_driver (CommandCycle c) ≡ false → (is_reset i ≡ true → is_reset_cycle (CommandCycle c) ≡ true) → AtEach (ReadsClear g u) 0 ts →
+  go_other : (u : TailFacts) (c : Command) → breaks_command_unknown g (CommandCycle c) ≡ false → asks_driver (CommandCycle c) ≡ false → (is_reset i ≡ true → is_reset_cycle (CommandCycle c) ≡ true) → AtEach (ReadsClear g u) 0 ts →
       GoEach (has_plane_reads g.optional) i k (by_cycle g u (has_driver ts) (CommandCycle c)) (by_cycle g u (has_driver ss) (CommandCycle c)) 0 ts ss
-  go_other u c h r z =
+  go_other u c f2 h r z =
       go_alike (by_cycle g u (has_driver ts) (CommandCycle c)) (by_cycle g u (has_driver ss) (CommandCycle c)) (ReadsClear g u)
       (λ n t s. same_command g u (cond (has_driver ts) t.latch Off) (cond (has_driver ss) s.latch Off) c n h)
-      (λ n t s x. asks_command g plain u (cond (has_driver ss) s.latch Off) c n t s h x)
+      (λ n t s x. asks_command g plain copyless u (cond (has_driver ss) s.latch Off) c n t s f2 h x)
       (λ n s y. resets_command g plain u (cond (has_driver ss) s.latch Off) c n (r y)) z
 
   -- a command by which the tail goes on, or that begins a sequence behind one that was seen
@@ -419,7 +424,7 @@ module _ (g : Parts) (plain : is_shared g ≡ false) (i : Item) (k : Known) (ts 
   go_command u ReadCacheEnd r a b d z y =
       go_cache u u ends_cache ReadCacheEnd CacheReadEnded (λ la n. refl) (λ la n. refl) (λ t s h. (and_parts (not s.busy) (is_cache_read s.closer) h).1) (λ h. let yes = r h in cc) (not-false (driver_is ends_cache ts) a.f15) (not-false (driver_is ends_cache ss) b.f15)
   go_command u ChangeReadColumnConfirm r a b d z y = go_column u d (λ h. let yes = r h in cc) y
-  go_command u c r a b d z y = go_other u c refl r z
+  go_command u c r a b d z y = go_other u c a.f2 refl r z
 
   -- an opener behind a sequence that wasn't seen
   pub go_opener : (u : TailFacts) (c : Command) → is_opener c ≡ true → begins_anew u (CommandCycle c) ≡ true → (is_reset i ≡ true → is_reset_cycle (CommandCycle c) ≡ true) → KeepsRules g u ts (CommandCycle c) → KeepsRules g (facts_of []) ss (CommandCycle c) →

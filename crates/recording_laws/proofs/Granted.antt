@@ -4,22 +4,22 @@ use Rattle.std.proofs.lemmas.Bool.{and_parts, and_from, or_left, or_parts}
 use Rattle.nand_geometry.specs.declared.parts.Parts.{Parts}
 use Rattle.nand_geometry.specs.Row.{parts_of}
 use Rattle.onfi_cycle.specs.declared.command.Command.{Command}
-use Rattle.onfi_cycle.specs.declared.command.Command.TheVariants.{Read, ReadConfirm, ChangeReadColumn, ChangeReadColumnEnhanced, ChangeWriteColumn, BlockErase, PageProgram, ReadId, ReadParameterPage, ReadCacheSequential, ReadCacheEnd, ReadUniqueId, GetFeatures, SetFeatures, ReadPlane}
+use Rattle.onfi_cycle.specs.declared.command.Command.TheVariants.{Read, ReadConfirm, ChangeReadColumn, ChangeReadColumnEnhanced, ChangeWriteColumn, BlockErase, PageProgram, ReadId, ReadParameterPage, ReadCacheSequential, ReadCacheEnd, ReadUniqueId, GetFeatures, SetFeatures, ReadPlane, CopybackRead}
 use Rattle.onfi_cycle.specs.declared.data_phase.DataPhase.{DataPhase}
 use Rattle.onfi_cycle.specs.declared.data_phase.DataPhase.TheVariants.{Outside, Inputs, FirstColumn, SecondColumn, FeatureInputs}
-use Rattle.onfi_cycle.specs.declared.effect.Effect.TheVariants.{Unaffected, CacheReadContinued, CacheReadEnded, DataOutput}
+use Rattle.onfi_cycle.specs.declared.effect.Effect.TheVariants.{Unaffected, CacheReadContinued, CacheReadEnded, DataOutput, ProgramAddressed}
 use Rattle.onfi_cycle.specs.declared.forbidden.Forbidden.{Forbidden}
 use Rattle.onfi_cycle.specs.declared.latch.Latch.{Latch}
 use Rattle.onfi_cycle.specs.declared.opening.Opening.{Opening}
 use Rattle.onfi_cycle.specs.declared.tail_facts.TailFacts.{TailFacts}
 use Rattle.onfi_cycle.specs.declared.target_cycle.TargetCycle.{TargetCycle}
 use Rattle.onfi_cycle.specs.declared.target_cycle.TargetCycle.TheVariants.{CommandCycle, AddressCycle, InputCycle, OutputCycle}
-use Rattle.nand_geometry.specs.Optional.{is_wide}
-use Rattle.onfi_cycle.specs.Command.{is_page_program, is_set_features, at_last_row, is_change_read_column, is_enhanced_column, reads_identity}
-use Rattle.onfi_cycle.specs.Effect.{is_off, is_data, is_shared, names_lun, confirm_effect, other_effect, row_effect, cache_effect, command_effect, address_effect, opening_address_effect, cycle_effect}
+use Rattle.nand_geometry.specs.Optional.{is_wide, has_copyback}
+use Rattle.onfi_cycle.specs.Command.{begins_data, is_set_features, at_last_row, is_change_read_column, is_enhanced_column, reads_identity}
+use Rattle.onfi_cycle.specs.Effect.{is_off, is_data, is_shared, names_lun, confirm_effect, other_effect, row_effect, cache_effect, command_effect, address_effect, opening_address_effect, cycle_effect, program_row_effect}
 use Rattle.onfi_cycle.specs.Lun.{is_page_read}
 use Rattle.onfi_cycle.specs.LunView.{LunView}
-use Rattle.onfi_cycle.specs.Rules.{is_some_and, named_lun_is, ends_row, excludes_cache, second_column, second_of_page, caching, breaks_no_column_to_change, breaks_no_sole_driver, breaks_data_not_ready, breaks_column_outside, breaks_cache_read_misplaced, breaks_plane_not_held}
+use Rattle.onfi_cycle.specs.Rules.{is_some_and, named_lun_is, ends_row, excludes_cache, second_column, second_of_page, caching, breaks_no_column_to_change, breaks_no_sole_driver, breaks_data_not_ready, breaks_column_outside, breaks_cache_read_misplaced, breaks_plane_not_held, breaks_command_unknown}
 use Rattle.onfi_cycle.specs.Sequence.{facts_of, begins_anew, opened, phase_after_address, phase_after_last_address, phase_after_command, one_address_more, row, row_with, wants_command, extended_facts, facts_after}
 use Rattle.onfi_cycle.proofs.Passed.{KeepsRules}
 use Rattle.recording_laws.proofs.Luns.{IsBelow, IsHarmless, reads_on}
@@ -33,7 +33,7 @@ use Rattle.recording_laws.proofs.Unseen.{is_led, is_quiet_by, is_named_by, is_pl
 abbrev pub is_sound_by : Option Opening → DataPhase → Bool
 is_sound_by None p = true
 is_sound_by (Some o) Outside = true
-is_sound_by (Some o) Inputs = is_page_program o.opener && o.addresses == 5
+is_sound_by (Some o) Inputs = begins_data o.opener && o.addresses == 5
 is_sound_by (Some o) FeatureInputs = is_set_features o.opener && o.addresses == 1
 is_sound_by (Some o) FirstColumn = false
 is_sound_by (Some o) SecondColumn = false
@@ -48,6 +48,11 @@ sound_last : (c : Command) (n : ℕ) → is_sound_by (Some (record { opener = c;
 sound_last PageProgram n = of (n == 4) refl
   where
     of : (b : Bool) → (n == 4) ≡ b → is_sound_by (Some (record { opener = PageProgram; addresses = n + 1 })) (cond b Inputs Outside) ≡ true
+    of true h = one_more n 4 h
+    of false h = refl
+sound_last ChangeWriteColumn n = of (n == 4) refl
+  where
+    of : (b : Bool) → (n == 4) ≡ b → is_sound_by (Some (record { opener = ChangeWriteColumn; addresses = n + 1 })) (cond b Inputs Outside) ≡ true
     of true h = one_more n 4 h
     of false h = refl
 sound_last SetFeatures n = of (n == 0) refl
@@ -78,11 +83,12 @@ sound_after OutputCycle t some h = rw some refl
 
 -- ---- 2. which command may be taken for granted
 
--- 05h, 30h, 32h, 31h, 3Fh, and what reads or sets what stands beside the array
+-- 05h, 30h, 32h, 35h, 31h, 3Fh, and what reads or sets what stands beside the array
 abbrev pub grants : Command → Bool
 grants ChangeReadColumn = true
 grants ReadConfirm = true
 grants ReadPlane = true
+grants CopybackRead = true
 grants ReadCacheSequential = true
 grants ReadCacheEnd = true
 grants c = reads_identity c
@@ -92,6 +98,7 @@ unfolding breaks_no_column_to_change breaks_no_sole_driver breaks_data_not_ready
 none_granted g t ss ChangeReadColumn h = cc
 none_granted g t ss ReadConfirm h = cc
 none_granted g t ss ReadPlane h = cc
+none_granted g t ss CopybackRead h = cc
 none_granted g t ss ReadCacheSequential h = cc
 none_granted g t ss ReadCacheEnd h = cc
 none_granted g t ss ReadId h = cc
@@ -108,6 +115,14 @@ is_granted g t ss c rule h = at (grants c) refl
     at true e = e
     at false e = let none = none_granted g t ss c e in cc
 
+-- where a chip has no copyback, no 35h is permitted
+pub no_copyback : (g : Parts) → has_copyback g.optional ≡ false → (c : Command) → breaks_command_unknown g (CommandCycle c) ≡ false → c ≡ CopybackRead → ⊥
+unfolding breaks_command_unknown
+no_copyback g copyless c f2 same =
+    let known : breaks_command_unknown g (CommandCycle CopybackRead) ≡ false = sym (ap (λ (x : Command). breaks_command_unknown g (CommandCycle x)) same) ∙ f2 in
+    let none : true ≡ false = rw copyless at known in
+    cc
+
 -- it ends the data of a program
 granted_ends : (c : Command) (p : DataPhase) → grants c ≡ true → phase_after_command c p ≡ Outside
 granted_ends ChangeWriteColumn p h = cc
@@ -117,6 +132,7 @@ granted_free : (c : Command) → grants c ≡ true → not (is_led c) ≡ true
 granted_free ChangeReadColumn h = refl
 granted_free ReadConfirm h = refl
 granted_free ReadPlane h = refl
+granted_free CopybackRead h = refl
 granted_free ReadCacheSequential h = refl
 granted_free ReadCacheEnd h = refl
 granted_free ReadId h = refl
@@ -126,22 +142,23 @@ granted_free GetFeatures h = refl
 granted_free SetFeatures h = refl
 granted_free c h = cc
 
-pub command_granted : (g : Parts) → is_shared g ≡ false → (t : TailFacts) (la : Latch) (c : Command) (n : ℕ) (s : LunView) → grants c ≡ true → (c ≡ ReadConfirm → names_lun g (row t) n ≡ true → s.queue ≡ []) → IsHarmless (command_effect g t la c n) s
-command_granted g plain t la ReadConfirm n s h calm =
+pub command_granted : (g : Parts) → is_shared g ≡ false → (t : TailFacts) (la : Latch) (c : Command) (n : ℕ) (s : LunView) → grants c ≡ true → (c ≡ CopybackRead → ⊥) → (c ≡ ReadConfirm → names_lun g (row t) n ≡ true → s.queue ≡ []) → IsHarmless (command_effect g t la c n) s
+command_granted g plain t la ReadConfirm n s h never calm =
     harmless_or (wants_command t ReadConfirm && names_lun g (row t) n) (confirm_effect g t ReadConfirm) (other_effect g t ReadConfirm) s (λ b. calm refl (and_parts (wants_command t ReadConfirm) (names_lun g (row t) n) b).1) (other_harmless g t ReadConfirm s plain)
-command_granted g plain t la ReadPlane n s h calm = harmless_or (wants_command t ReadPlane && names_lun g (row t) n) (confirm_effect g t ReadPlane) (other_effect g t ReadPlane) s (λ b. tt) (other_harmless g t ReadPlane s plain)
-command_granted g plain t la ReadCacheSequential n s h calm =
+command_granted g plain t la ReadPlane n s h never calm = harmless_or (wants_command t ReadPlane && names_lun g (row t) n) (confirm_effect g t ReadPlane) (other_effect g t ReadPlane) s (λ b. tt) (other_harmless g t ReadPlane s plain)
+command_granted g plain t la ReadCacheSequential n s h never calm =
     harmless_or (wants_command t ReadCacheSequential) (row_effect g t ReadCacheSequential n) (cache_effect la) s
     (λ w. harmless_or (wants_command t ReadCacheSequential && names_lun g (row t) n) (confirm_effect g t ReadCacheSequential) (other_effect g t ReadCacheSequential) s (λ b. tt) (other_harmless g t ReadCacheSequential s plain))
     (harmless_unless (is_off la) (CacheReadContinued None) s tt)
-command_granted g plain t la ReadCacheEnd n s h calm = harmless_unless (is_off la) CacheReadEnded s tt
-command_granted g plain t la ChangeReadColumn n s h calm = harmless_if (wants_command t ChangeReadColumn && names_lun g (row t) n) Unaffected s (λ b. tt)
-command_granted g plain t la ReadId n s h calm = harmless_if (wants_command t ReadId && names_lun g (row t) n) Unaffected s (λ b. tt)
-command_granted g plain t la ReadParameterPage n s h calm = harmless_if (wants_command t ReadParameterPage && names_lun g (row t) n) Unaffected s (λ b. tt)
-command_granted g plain t la ReadUniqueId n s h calm = harmless_if (wants_command t ReadUniqueId && names_lun g (row t) n) Unaffected s (λ b. tt)
-command_granted g plain t la GetFeatures n s h calm = harmless_if (wants_command t GetFeatures && names_lun g (row t) n) Unaffected s (λ b. tt)
-command_granted g plain t la SetFeatures n s h calm = harmless_if (wants_command t SetFeatures && names_lun g (row t) n) Unaffected s (λ b. tt)
-command_granted g plain t la c n s h calm = cc
+command_granted g plain t la ReadCacheEnd n s h never calm = harmless_unless (is_off la) CacheReadEnded s tt
+command_granted g plain t la ChangeReadColumn n s h never calm = harmless_if (wants_command t ChangeReadColumn && names_lun g (row t) n) Unaffected s (λ b. tt)
+command_granted g plain t la ReadId n s h never calm = harmless_if (wants_command t ReadId && names_lun g (row t) n) Unaffected s (λ b. tt)
+command_granted g plain t la ReadParameterPage n s h never calm = harmless_if (wants_command t ReadParameterPage && names_lun g (row t) n) Unaffected s (λ b. tt)
+command_granted g plain t la ReadUniqueId n s h never calm = harmless_if (wants_command t ReadUniqueId && names_lun g (row t) n) Unaffected s (λ b. tt)
+command_granted g plain t la GetFeatures n s h never calm = harmless_if (wants_command t GetFeatures && names_lun g (row t) n) Unaffected s (λ b. tt)
+command_granted g plain t la SetFeatures n s h never calm = harmless_if (wants_command t SetFeatures && names_lun g (row t) n) Unaffected s (λ b. tt)
+command_granted g plain t la CopybackRead n s h never calm = absurd (never refl)
+command_granted g plain t la c n s h never calm = cc
 
 -- behind such a command nothing is to be seen
 pub command_comes : (g : Parts) (t : TailFacts) (ss : List LunView) (c : Command) → (t.is_empty ≡ false) ⊎ (begins_anew t (CommandCycle c) ≡ true) → grants c ≡ true → MayCome g (facts_after (CommandCycle c) t) ss
@@ -186,6 +203,7 @@ abbrev addresses_quietly : Command → Bool
 addresses_quietly Read = true
 addresses_quietly BlockErase = true
 addresses_quietly PageProgram = true
+addresses_quietly ChangeWriteColumn = true
 addresses_quietly ChangeReadColumn = true
 addresses_quietly ChangeReadColumnEnhanced = true
 addresses_quietly _ = false
@@ -193,7 +211,8 @@ addresses_quietly _ = false
 address_free : (g : Parts) (t : TailFacts) (byte : ℕ) (c : Command) (m n : ℕ) (s : LunView) → addresses_quietly c ≡ true → IsHarmless (address_effect g t byte c m n) s
 address_free g t byte Read m n s h = tt
 address_free g t byte BlockErase m n s h = tt
-address_free g t byte PageProgram m n s h = tt
+address_free g t byte PageProgram m n s h = harmless_if (m == 4) (program_row_effect (names_lun g (row_with t byte) n)) s (λ e. harmless_if (names_lun g (row_with t byte) n) ProgramAddressed s (λ x. tt))
+address_free g t byte ChangeWriteColumn m n s h = tt
 address_free g t byte ChangeReadColumn m n s h = tt
 address_free g t byte ChangeReadColumnEnhanced m n s h = tt
 address_free g t byte c m n s h = cc
@@ -215,12 +234,16 @@ row_comes g Read n FeatureInputs h sound = cc
 row_comes g BlockErase n Inputs h sound = cc
 row_comes g BlockErase n FeatureInputs h sound = cc
 row_comes g PageProgram n FeatureInputs h sound = cc
+row_comes g ChangeWriteColumn n Outside h sound = inr (rw h (one_more n 4 h))
+row_comes g ChangeWriteColumn n Inputs h sound = let five : n ≡ 5 = eqb-true n 5 sound in let four = rw five at h in cc
+row_comes g ChangeWriteColumn n FeatureInputs h sound = cc
 row_comes g c n p h sound = cc
 
 row_quiet : (g : Parts) (c : Command) (n : ℕ) → (excludes_cache g c && at_last_row c n) ≡ true → addresses_quietly c ≡ true
 row_quiet g Read n h = refl
 row_quiet g BlockErase n h = refl
 row_quiet g PageProgram n h = refl
+row_quiet g ChangeWriteColumn n h = refl
 row_quiet g c n h = cc
 
 column_comes : (c : Command) (n : ℕ) (p : DataPhase) → (is_change_read_column c && n == 1) ≡ true → is_sound_by (Some (record { opener = c; addresses = n })) p ≡ true →

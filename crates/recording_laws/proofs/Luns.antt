@@ -5,7 +5,7 @@ use Rattle.std.proofs.lemmas.Bool.{and_parts, or_parts, or_right, not-true, not-
 use Rattle.onfi_cycle.specs.declared.command.Command.{Command}
 use Rattle.onfi_cycle.specs.declared.command.Command.TheVariants.{BlockEraseConfirm, BlockErasePlane, ProgramConfirm, ProgramPlane, ReadCacheSequential}
 use Rattle.onfi_cycle.specs.declared.effect.Effect.{Effect}
-use Rattle.onfi_cycle.specs.declared.effect.Effect.TheVariants.{Unaffected, DataOutputEnabled, StatusSelected, StatusRowAwaited, SelectedForStatus, Deselected, ReadStarted, ReadQueued, EraseStarted, ProgramStarted, IdRead, IdentityRead, UniqueIdReadStarted, FeaturesReadStarted, FeaturesSet, ParameterPageReadStarted, CacheReadContinued, CacheReadEnded, ReadColumnChanged, PlaneSelected, DataOutput, ResetStarted, BecameReady, ArrayBecameReady, TargetResetStarted, StatusOfSelected, AnotherAddressed}
+use Rattle.onfi_cycle.specs.declared.effect.Effect.TheVariants.{Unaffected, DataOutputEnabled, StatusSelected, StatusRowAwaited, SelectedForStatus, Deselected, ReadStarted, ReadQueued, CopybackReadStarted, ProgramAddressed, EraseStarted, ProgramStarted, IdRead, IdentityRead, UniqueIdReadStarted, FeaturesReadStarted, FeaturesSet, ParameterPageReadStarted, CacheReadContinued, CacheReadEnded, ReadColumnChanged, PlaneSelected, DataOutput, ResetStarted, BecameReady, ArrayBecameReady, TargetResetStarted, StatusOfSelected, AnotherAddressed}
 use Rattle.onfi_cycle.specs.declared.latch.Latch.{Latch}
 use Rattle.onfi_cycle.specs.declared.latch.Latch.TheVariants.{Off, Status, Data}
 use Rattle.onfi_cycle.specs.declared.queued.Queued.{Queued}
@@ -153,9 +153,10 @@ no_page_programmed false h = cc
 -- ---- 3. an effect on both
 
 -- what an effect asks of the LUN: a read of a page has no queue where the chip reads one plane at once, none is seen where a plane is chosen, a cache read
--- goes on from a read of a page, and one that ends goes on. Three come only where a target is shared
+-- goes on from a read of a page, and one that ends goes on. Three come only where a target is shared, and a read for a copyback where a chip has that
 abbrev pub Asks : (planes : Bool) → Effect → LunView → LunView → Type 0
 Asks planes (ReadStarted at from) t s = planes ≡ false → t.queue ≡ []
+Asks planes (CopybackReadStarted at from count) t s = ⊥
 Asks planes (PlaneSelected plane count from) t s = s.queue ≡ []
 Asks planes (CacheReadContinued to) t s = is_page_read s.closer ≡ true
 Asks planes CacheReadEnded t s = is_cache_read s.closer ≡ true
@@ -186,6 +187,8 @@ below_after planes SelectedForStatus t s b asks = record { busy = b.busy; queue 
 below_after planes Deselected t s b asks = record { busy = b.busy; queue = b.queue; latch = tt; calm = b.calm }
 below_after planes (ReadStarted at from) t s b asks = record { busy = λ h. refl; queue = λ test h. h; latch = refl; calm = λ h. refl }
 below_after planes (ReadQueued at) t s b asks = record { busy = λ h. refl; queue = within_more (QueuedRead at) s.queue t.queue b.queue; latch = refl; calm = λ h. cc }
+below_after planes (CopybackReadStarted at from count) t s b asks = absurd asks
+below_after planes ProgramAddressed t s b asks = record { busy = b.busy; queue = b.queue; latch = b.latch; calm = b.calm }
 below_after planes (EraseStarted queued at) t s b asks = record { busy = λ h. refl; queue = queue_within queued (Erase at) s.queue t.queue b.queue; latch = b.latch; calm = λ h. absurd (no_page_erased queued h) }
 below_after planes (ProgramStarted queued at) t s b asks = record { busy = λ h. refl; queue = queue_within queued (Program at) s.queue t.queue b.queue; latch = b.latch; calm = λ h. absurd (no_page_programmed queued h) }
 below_after planes IdRead t s b asks = record { busy = b.busy; queue = b.queue; latch = refl; calm = λ h. cc }
@@ -224,6 +227,8 @@ begun_after planes SelectedForStatus t s g asks need = record { busy = g.busy; c
 begun_after planes Deselected t s g asks need = record { busy = g.busy; closer = g.closer; array_busy = g.array_busy; page = g.page; register = g.register; column = g.column; held = g.held }
 begun_after planes (ReadStarted at from) t s g asks need = record { busy = refl; closer = refl; array_busy = refl; page = λ h. refl; register = ap (λ (b : Bool). cond b Empty (Page at)) (same_reads t.queue s.queue need); column = λ h. refl; held = λ h. ap (λ pages. take 4 (at ∷ pages)) need }
 begun_after planes (ReadQueued at) t s g asks need = record { busy = refl; closer = refl; array_busy = refl; page = λ h. cc; register = refl; column = λ h. cc; held = λ h. refl }
+begun_after planes (CopybackReadStarted at from count) t s g asks need = absurd asks
+begun_after planes ProgramAddressed t s g asks need = record { busy = g.busy; closer = g.closer; array_busy = g.array_busy; page = g.page; register = g.register; column = g.column; held = λ h. refl }
 begun_after planes (EraseStarted queued at) t s g asks need = record { busy = refl; closer = refl; array_busy = refl; page = λ h. absurd (no_page_erased queued h); register = refl; column = λ h. cc; held = λ h. refl }
 begun_after planes (ProgramStarted queued at) t s g asks need = record { busy = refl; closer = refl; array_busy = refl; page = λ h. absurd (no_page_programmed queued h); register = refl; column = λ h. cc; held = λ h. held_left queued (Program at) s.queue t.held s.held h }
 begun_after planes IdRead t s g asks need = record { busy = g.busy; closer = refl; array_busy = refl; page = λ h. cc; register = refl; column = λ h. refl; held = λ h. refl }
@@ -264,6 +269,8 @@ begun_by planes SelectedForStatus t s asks need idle busy new = cc
 begun_by planes Deselected t s asks need idle busy new = cc
 begun_by planes (ReadStarted at from) t s asks need idle busy new = record { busy = refl; closer = refl; array_busy = refl; page = λ h. refl; register = ap (λ (b : Bool). cond b Empty (Page at)) (same_reads t.queue s.queue need); column = λ h. refl; held = λ h. ap (λ pages. take 4 (at ∷ pages)) need }
 begun_by planes (ReadQueued at) t s asks need idle busy new = record { busy = refl; closer = refl; array_busy = refl; page = λ h. cc; register = refl; column = λ h. cc; held = λ h. refl }
+begun_by planes (CopybackReadStarted at from count) t s asks need idle busy new = absurd asks
+begun_by planes ProgramAddressed t s asks need idle busy new = cc
 begun_by planes (EraseStarted queued at) t s asks need idle busy new = record { busy = refl; closer = refl; array_busy = refl; page = λ h. absurd (no_page_erased queued h); register = refl; column = λ h. cc; held = λ h. refl }
 begun_by planes (ProgramStarted queued at) t s asks need idle busy new = record { busy = refl; closer = refl; array_busy = refl; page = λ h. absurd (no_page_programmed queued h); register = refl; column = λ h. cc; held = λ h. held_left queued (Program at) s.queue t.held s.held h }
 begun_by planes IdRead t s asks need idle busy new = cc
@@ -293,6 +300,8 @@ same_after planes SelectedForStatus t s asks m = record { off = refl; latch = λ
 same_after planes Deselected t s asks m = record { off = refl; latch = λ h. refl }
 same_after planes (ReadStarted at from) t s asks m = record { off = refl; latch = λ h. refl }
 same_after planes (ReadQueued at) t s asks m = record { off = refl; latch = λ h. refl }
+same_after planes (CopybackReadStarted at from count) t s asks m = absurd asks
+same_after planes ProgramAddressed t s asks m = record { off = m.off; latch = m.latch }
 same_after planes (EraseStarted queued at) t s asks m = record { off = m.off; latch = λ h. cc }
 same_after planes (ProgramStarted queued at) t s asks m = record { off = m.off; latch = λ h. cc }
 same_after planes IdRead t s asks m = record { off = refl; latch = λ h. refl }
@@ -323,6 +332,8 @@ driven_by planes SelectedForStatus t s asks off on = record { off = refl; latch 
 driven_by planes Deselected t s asks off on = cc
 driven_by planes (ReadStarted at from) t s asks off on = record { off = refl; latch = λ h. refl }
 driven_by planes (ReadQueued at) t s asks off on = record { off = refl; latch = λ h. refl }
+driven_by planes (CopybackReadStarted at from count) t s asks off on = absurd asks
+driven_by planes ProgramAddressed t s asks off on = cc
 driven_by planes (EraseStarted queued at) t s asks off on = cc
 driven_by planes (ProgramStarted queued at) t s asks off on = cc
 driven_by planes IdRead t s asks off on = record { off = refl; latch = λ h. refl }
@@ -353,6 +364,8 @@ same_begun SelectedForStatus t s idle busy off = cc
 same_begun Deselected t s idle busy off = cc
 same_begun (ReadStarted at from) t s idle busy off = record { off = off; latch = λ h. refl }
 same_begun (ReadQueued at) t s idle busy off = record { off = off; latch = λ h. refl }
+same_begun (CopybackReadStarted at from count) t s idle busy off = record { off = off; latch = λ h. refl }
+same_begun ProgramAddressed t s idle busy off = cc
 same_begun (EraseStarted queued at) t s idle busy off = record { off = off; latch = λ h. cc }
 same_begun (ProgramStarted queued at) t s idle busy off = record { off = off; latch = λ h. cc }
 same_begun IdRead t s idle busy off = cc
@@ -403,6 +416,8 @@ page_queue planes SelectedForStatus t s asks idle busy new page = cc
 page_queue planes Deselected t s asks idle busy new page = cc
 page_queue planes (ReadStarted at from) t s asks idle busy new page = refl
 page_queue planes (ReadQueued at) t s asks idle busy new page = cc
+page_queue planes (CopybackReadStarted at from count) t s asks idle busy new page = absurd asks
+page_queue planes ProgramAddressed t s asks idle busy new page = cc
 page_queue planes (EraseStarted queued at) t s asks idle busy new page = cc
 page_queue planes (ProgramStarted queued at) t s asks idle busy new page = cc
 page_queue planes IdRead t s asks idle busy new page = cc
@@ -427,6 +442,7 @@ page_queue planes (AnotherAddressed reads) t s asks idle busy new page = cc
 reads_after : (e : Effect) (t s : LunView) → pages_of_reads t.queue ≡ pages_of_reads s.queue → pages_of_reads (view_after e t).queue ≡ pages_of_reads (view_after e s).queue
 reads_after (ReadStarted at from) t s h = refl
 reads_after (ReadQueued at) t s h = ap (λ (pages : List PageAddress). at ∷ pages) h
+reads_after (CopybackReadStarted at from count) t s h = refl
 reads_after (EraseStarted queued at) t s h = reads_left queued (Erase at ∷ t.queue) (Erase at ∷ s.queue) [] [] h refl
 reads_after (ProgramStarted queued at) t s h = reads_left queued (Program at ∷ t.queue) (Program at ∷ s.queue) [] [] h refl
 reads_after ResetStarted t s h = refl
@@ -530,6 +546,7 @@ fits_after planes All i e t s f asks resets =
 -- what an effect that isn't seen leaves as it is seen
 abbrev pub IsHarmless : Effect → LunView → Type 0
 IsHarmless (ReadStarted at from) s = s.queue ≡ []
+IsHarmless (CopybackReadStarted at from count) s = s.queue ≡ []
 IsHarmless (EraseStarted queued at) s = s.queue ≡ []
 IsHarmless (ProgramStarted queued at) s = s.queue ≡ []
 IsHarmless ResetStarted s = (s.queue ≡ []) × (s.latch ≡ Off)
@@ -578,6 +595,8 @@ unseen_after SelectedForStatus t s b h = record { busy = b.busy; queue = b.queue
 unseen_after Deselected t s b h = record { busy = b.busy; queue = b.queue; latch = off_shows s.latch Off h; calm = b.calm }
 unseen_after (ReadStarted at from) t s b h = record { busy = λ x. refl; queue = none_more s.queue [] h; latch = data_shows s.latch; calm = b.calm }
 unseen_after (ReadQueued at) t s b h = record { busy = λ x. refl; queue = λ test x. or_right (test (QueuedRead at)) (list_any test t.queue) (b.queue test x); latch = data_shows s.latch; calm = b.calm }
+unseen_after (CopybackReadStarted at from count) t s b h = record { busy = λ x. refl; queue = none_more s.queue [] h; latch = data_shows s.latch; calm = b.calm }
+unseen_after ProgramAddressed t s b h = record { busy = b.busy; queue = b.queue; latch = b.latch; calm = b.calm }
 unseen_after (EraseStarted queued at) t s b h = record { busy = λ x. refl; queue = none_more s.queue (view_after (EraseStarted queued at) t).queue h; latch = b.latch; calm = b.calm }
 unseen_after (ProgramStarted queued at) t s b h = record { busy = λ x. refl; queue = none_more s.queue (view_after (ProgramStarted queued at) t).queue h; latch = b.latch; calm = b.calm }
 unseen_after IdRead t s b h = record { busy = b.busy; queue = b.queue; latch = data_shows s.latch; calm = b.calm }
@@ -607,6 +626,8 @@ blank_harmless SelectedForStatus s b = b.latch
 blank_harmless Deselected s b = b.latch
 blank_harmless (ReadStarted at from) s b = b.queue
 blank_harmless (ReadQueued at) s b = tt
+blank_harmless (CopybackReadStarted at from count) s b = b.queue
+blank_harmless ProgramAddressed s b = tt
 blank_harmless (EraseStarted queued at) s b = b.queue
 blank_harmless (ProgramStarted queued at) s b = b.queue
 blank_harmless IdRead s b = tt

@@ -19,7 +19,7 @@ use Rattle.onfi_cycle.proofs.Keeping.{views_length}
 use Rattle.trace_faults.specs.declared.broken_rule.BrokenRule.{BrokenRule}
 use Rattle.trace_faults.specs.declared.known.Known.{Known}
 use Rattle.trace_faults.specs.declared.readies.Readies.TheVariants.{Written}
-use Rattle.trace_faults.specs.Middle.{Seen, nothing_known, first_known, all_first_known, known_of, stops_others, first_seen, seen_after, verdicts_from, all_broken}
+use Rattle.trace_faults.specs.Middle.{Seen, nothing_known, first_known, all_first_known, known_of, waits_for_reset, first_seen, seen_after, verdicts_from, all_broken}
 use Rattle.trace_faults.proofs.Judged.{onto, before, nothing}
 use Rattle.recording_laws.specs.FromMiddle.{PartsHaveNoFaults}
 use Rattle.recording_laws.proofs.Luns.{IsBelow, IsBlank}
@@ -47,8 +47,8 @@ or_nothing : (b : Bool) → (b || false) ≡ b
 or_nothing true = refl
 or_nothing false = refl
 
-opens_nothing : (g : Parts) (b : Bool) → (b || cond (stops_others g) false false) ≡ b
-opens_nothing g b = ap (λ (x : Bool). b || x) (at (stops_others g)) ∙ or_nothing b
+opens_nothing : (g : Parts) (b : Bool) → (b || cond (waits_for_reset g) false false) ≡ b
+opens_nothing g b = ap (λ (x : Bool). b || x) (at (waits_for_reset g)) ∙ or_nothing b
   where
     at : (x : Bool) → cond x false false ≡ false
     at true = refl

@@ -5,7 +5,7 @@ use Rattle.std.proofs.lemmas.Bool.{and_parts, and_from, and_right, or_left, or_r
 use Rattle.nand_geometry.specs.declared.parts.Parts.{Parts}
 use Rattle.nand_geometry.specs.Limits.{planes}
 use Rattle.onfi_cycle.specs.declared.command.Command.{Command}
-use Rattle.onfi_cycle.specs.declared.command.Command.TheVariants.{Read, ChangeReadColumn, BlockErase, PageProgram, ReadStatus, ReadStatusEnhanced, ReadConfirm, ReadPlane, ReadCacheSequential, ReadCacheEnd}
+use Rattle.onfi_cycle.specs.declared.command.Command.TheVariants.{Read, ChangeReadColumn, BlockErase, PageProgram, ChangeWriteColumn, ReadStatus, ReadStatusEnhanced, ReadConfirm, ReadPlane, CopybackRead, ReadCacheSequential, ReadCacheEnd}
 use Rattle.onfi_cycle.specs.declared.forbidden.Forbidden.{Forbidden}
 use Rattle.onfi_cycle.specs.declared.forbidden.Forbidden.TheVariants.{NoColumnToChange, NoSoleDriver, DataNotReady, ColumnOutside, CacheReadMisplaced, PlaneNotHeld}
 use Rattle.onfi_cycle.specs.declared.latch.Latch.{Latch}
@@ -18,13 +18,13 @@ use Rattle.onfi_cycle.specs.declared.register.Register.TheVariants.{Empty, Page,
 use Rattle.onfi_cycle.specs.declared.tail_facts.TailFacts.{TailFacts}
 use Rattle.onfi_cycle.specs.declared.target_cycle.TargetCycle.{TargetCycle}
 use Rattle.onfi_cycle.specs.declared.target_cycle.TargetCycle.TheVariants.{CommandCycle, AddressCycle, InputCycle, OutputCycle}
-use Rattle.nand_geometry.specs.Optional.{is_wide}
-use Rattle.onfi_cycle.specs.Command.{is_opener, wants_ready, reads_identity, at_last_row, addresses_the_array, is_change_read_column, is_enhanced_column}
+use Rattle.nand_geometry.specs.Optional.{is_wide, has_copyback}
+use Rattle.onfi_cycle.specs.Command.{is_opener, reads_identity, at_last_row, addresses_the_array, is_change_read_column, is_enhanced_column, is_page_program, is_write_column}
 use Rattle.onfi_cycle.specs.Effect.{is_off, is_data, is_shared, page_address}
 use Rattle.onfi_cycle.specs.Lun.{is_cache_read, is_page_read, output_column}
 use Rattle.onfi_cycle.specs.LunView.{LunView}
 use Rattle.onfi_cycle.specs.Permitted.{judge_cycle}
-use Rattle.onfi_cycle.specs.Rules.{is_some_and, driver_is, named_lun_is, ends_row, excludes_cache, holds_plane_of, register_len, is_page_or_parameters, is_empty, lacks, is_past, queued_clashes, read_clashes, has_some, has_read_one, may_change_column, refused_by, is_refused_by, works_for_target, is_unclear, has_no_byte, is_past_register, second_column, second_of_page, caching, continues_cache, ends_cache, breaks_sequence_open, breaks_several_luns, breaks_no_column_to_change, breaks_command_misplaced, breaks_address_misplaced, breaks_row_outside, breaks_lun_busy, breaks_queue_clash, breaks_input_misplaced, breaks_no_sole_driver, breaks_data_not_ready, breaks_column_outside, breaks_cache_read_misplaced, breaks_plane_not_held}
+use Rattle.onfi_cycle.specs.Rules.{is_some_and, driver_is, named_lun_is, ends_row, excludes_cache, holds_plane_of, register_len, is_page_or_parameters, is_empty, lacks, is_past, queued_clashes, read_clashes, has_some, has_read_one, may_change_column, refused_by, is_refused_by, works_for_target, is_unclear, has_no_byte, is_past_register, second_column, second_of_page, caching, continues_cache, ends_cache, breaks_sequence_open, breaks_several_luns, breaks_no_column_to_change, breaks_command_misplaced, breaks_address_misplaced, breaks_row_outside, breaks_lun_busy, breaks_queue_clash, breaks_input_misplaced, breaks_no_sole_driver, breaks_data_not_ready, breaks_column_outside, breaks_cache_read_misplaced, breaks_plane_not_held, opens_here, begins_on_ready, breaks_copyback_misplaced, may_copy, is_copying}
 use Rattle.onfi_cycle.specs.Sequence.{facts_of, begins_anew, wants_command, row, row_with, column_with, is_open}
 use Rattle.onfi_cycle.proofs.Passed.{KeepsRules}
 use Rattle.trace_faults.specs.Middle.{hangs_on_before}
@@ -37,6 +37,17 @@ and_less : (a b c : Bool) → (c ≡ true → b ≡ true) → (a && b) ≡ false
 and_less false b c f h = refl
 and_less true b true f h = let yes = f refl in cc
 and_less true b false f h = refl
+
+both_less : (a b c d : Bool) → (c ≡ true → a ≡ true) → (d ≡ true → b ≡ true) → (a && b) ≡ false → (c && d) ≡ false
+both_less a b false d f h e = refl
+both_less a b true false f h e = refl
+both_less a b true true f h e = let one = f refl in let two = h refl in cc
+
+-- a test that comes under another
+when_less : (a b c : Bool) → (a ≡ true → c ≡ true → b ≡ true) → (a && b) ≡ false → (a && c) ≡ false
+when_less false b c f h = refl
+when_less true b true f h = let yes = f refl refl in cc
+when_less true b false f h = refl
 
 not_less : (b c : Bool) → (b ≡ true → c ≡ true) → not c ≡ true → not b ≡ true
 not_less true true f h = h
@@ -57,6 +68,7 @@ refused_less : (g : Parts) (c : Command) (p : PageAddress) (seen is : List Queue
 refused_less g Read p seen is w h = w (read_clashes g p) h
 refused_less g BlockErase p seen is w h = w (queued_clashes g true p) h
 refused_less g PageProgram p seen is w h = w (queued_clashes g false p) h
+refused_less g ChangeWriteColumn p seen is w h = w (queued_clashes g false p) h
 refused_less g c p seen is w h = cc
 
 opening_refused : (g : Parts) (o : Option Opening) (p : PageAddress) (seen is : List Queued) → Within seen is → is_refused_by g o p seen ≡ true → is_refused_by g o p is ≡ true
@@ -96,12 +108,12 @@ module _ (g : Parts) (ts ss : List LunView) (each : Each IsUnder ts ss) (clear :
   several_kept (InputCycle byte) h = refl
   several_kept OutputCycle h = refl
 
-  pub busy_command : (u t : TailFacts) (c : Command) → breaks_lun_busy g u ts (CommandCycle c) ≡ false → breaks_lun_busy g t ss (CommandCycle c) ≡ false
+  pub busy_command : (u t : TailFacts) (c : Command) → (begins_on_ready t c ≡ true → begins_on_ready u c ≡ true) → breaks_lun_busy g u ts (CommandCycle c) ≡ false → breaks_lun_busy g t ss (CommandCycle c) ≡ false
   unfolding breaks_lun_busy
-  busy_command u t c h =
-      let o = or_parts (wants_ready c && not (list_any (λ v. not v.busy) ts)) (is_shared g && (reads_identity c && list_any (λ v. v.busy) ts)) h in
-      or_from (wants_ready c && not (list_any (λ v. not v.busy) ss)) (is_shared g && (reads_identity c && list_any (λ v. v.busy) ss))
-      (and_less (wants_ready c) (not (list_any (λ v. not v.busy) ts)) (not (list_any (λ v. not v.busy) ss))
+  busy_command u t c ready h =
+      let o = or_parts (begins_on_ready u c && not (list_any (λ v. not v.busy) ts)) (is_shared g && (reads_identity c && list_any (λ v. v.busy) ts)) h in
+      or_from (begins_on_ready t c && not (list_any (λ v. not v.busy) ss)) (is_shared g && (reads_identity c && list_any (λ v. v.busy) ss))
+      (both_less (begins_on_ready u c) (not (list_any (λ v. not v.busy) ts)) (begins_on_ready t c) (not (list_any (λ v. not v.busy) ss)) ready
       (not_less (list_any (λ v. not v.busy) ts) (list_any (λ v. not v.busy) ss) (any_up IsUnder (λ v. not v.busy) (λ v. not v.busy) idle_up ts ss each)) o.0)
       (and_less (is_shared g) (reads_identity c && list_any (λ v. v.busy) ts) (reads_identity c && list_any (λ v. v.busy) ss)
       (λ x.
@@ -116,7 +128,7 @@ module _ (g : Parts) (ts ss : List LunView) (each : Each IsUnder ts ss) (clear :
 
   pub busy_kept : (t : TailFacts) (cycle : TargetCycle) → breaks_lun_busy g t ts cycle ≡ false → breaks_lun_busy g t ss cycle ≡ false
   unfolding breaks_lun_busy
-  busy_kept t (CommandCycle c) h = busy_command t t c h
+  busy_kept t (CommandCycle c) h = busy_command t t c (λ x. x) h
   busy_kept t (AddressCycle byte) h =
       and_less (ends_row addresses_the_array t) (named_lun_is g (row_with t byte) (λ v. v.busy) ts || (is_shared g && list_any works_for_target ts))
       (named_lun_is g (row_with t byte) (λ v. v.busy) ss || (is_shared g && list_any works_for_target ss))
@@ -165,22 +177,41 @@ six a b c d e f = cond a (Some NoColumnToChange) (cond b (Some NoSoleDriver) (co
 abbrev pub six_of : Parts → TailFacts → List LunView → TargetCycle → Option Forbidden
 six_of g t ss cycle = six (breaks_no_column_to_change ss cycle) (breaks_no_sole_driver t ss cycle) (breaks_data_not_ready ss cycle) (breaks_column_outside g t ss cycle) (breaks_cache_read_misplaced g t ss cycle) (breaks_plane_not_held g t ss cycle)
 
-pub judged_six : (g : Parts) (t : TailFacts) (ts ss : List LunView) (cycle : TargetCycle) → Each IsUnder ts ss → (is_shared g ≡ true → IsClear ts ss) → KeepsRules g t ts cycle → judge_cycle g t ss cycle ≡ six_of g t ss cycle
-judged_six g t ts ss cycle each clear k = rw (k.f2, k.f3, several_kept g ts ss each clear cycle k.f4, k.f6, k.f7, k.f8, busy_kept g ts ss each clear t cycle k.f9, queue_kept g ts ss each clear t cycle k.f10, k.f11) refl
+-- where a chip has no copyback
+copyless_kept : (g : Parts) (t : TailFacts) (ss : List LunView) (cycle : TargetCycle) → has_copyback g.optional ≡ false → breaks_copyback_misplaced g t ss cycle ≡ false
+unfolding breaks_copyback_misplaced
+copyless_kept g t ss (CommandCycle c) h = refl
+copyless_kept g t ss (AddressCycle byte) h = rw h refl
+copyless_kept g t ss (InputCycle byte) h = refl
+copyless_kept g t ss OutputCycle h = refl
+
+pub judged_six : (g : Parts) → has_copyback g.optional ≡ false → (t : TailFacts) (ts ss : List LunView) (cycle : TargetCycle) → Each IsUnder ts ss → (is_shared g ≡ true → IsClear ts ss) → KeepsRules g t ts cycle → judge_cycle g t ss cycle ≡ six_of g t ss cycle
+judged_six g copyless t ts ss cycle each clear k = rw (copyless_kept g t ss cycle copyless, k.f2, k.f3, several_kept g ts ss each clear cycle k.f4, k.f6, k.f7, k.f8, busy_kept g ts ss each clear t cycle k.f9, queue_kept g ts ss each clear t cycle k.f10, k.f11) refl
 
 -- the tail is the same, or an opener comes and no tail was seen
-pub only_hangs : (g : Parts) (t : TailFacts) (ts ss : List LunView) (cycle : TargetCycle) → Each IsUnder ts ss → (is_shared g ≡ true → IsClear ts ss) → KeepsRules g t ts cycle → OnlyHangs (judge_cycle g t ss cycle)
-only_hangs g t ts ss cycle each clear k =
-    rw (k.f2, k.f3, several_kept g ts ss each clear cycle k.f4, k.f6, k.f7, k.f8, busy_kept g ts ss each clear t cycle k.f9, queue_kept g ts ss each clear t cycle k.f10, k.f11)
+pub only_hangs : (g : Parts) → has_copyback g.optional ≡ false → (t : TailFacts) (ts ss : List LunView) (cycle : TargetCycle) → Each IsUnder ts ss → (is_shared g ≡ true → IsClear ts ss) → KeepsRules g t ts cycle → OnlyHangs (judge_cycle g t ss cycle)
+only_hangs g copyless t ts ss cycle each clear k =
+    rw (copyless_kept g t ss cycle copyless, k.f2, k.f3, several_kept g ts ss each clear cycle k.f4, k.f6, k.f7, k.f8, busy_kept g ts ss each clear t cycle k.f9, queue_kept g ts ss each clear t cycle k.f10, k.f11)
     (only_six (breaks_no_column_to_change ss cycle) (breaks_no_sole_driver t ss cycle) (breaks_data_not_ready ss cycle) (breaks_column_outside g t ss cycle) (breaks_cache_read_misplaced g t ss cycle) (breaks_plane_not_held g t ss cycle))
 
 fresh_open : (g : Parts) (c : Command) → breaks_sequence_open g (facts_of []) (CommandCycle c) ≡ false
 unfolding breaks_sequence_open
-fresh_open g c = and_right (is_opener c) _ refl
+fresh_open g c = and_right (opens_here g c) _ refl
 
-fresh_placed : (c : Command) → is_opener c ≡ true → breaks_command_misplaced (facts_of []) (CommandCycle c) ≡ false
+fresh_placed : (g : Parts) (c : Command) → opens_here g c ≡ true → breaks_command_misplaced g (facts_of []) (CommandCycle c) ≡ false
 unfolding breaks_command_misplaced
-fresh_placed c h = rw h refl
+fresh_placed g c h = rw h refl
+
+-- what begins sequences of the chip is an opener
+pub opens_is : (g : Parts) (c : Command) → opens_here g c ≡ true → is_opener c ≡ true
+opens_is g ChangeWriteColumn h = refl
+opens_is g c h = h
+
+-- an opener that wants a ready LUN behind no tail does so behind each, where 85 begins nothing
+fresh_ready : (g : Parts) (u : TailFacts) (c : Command) → has_copyback g.optional ≡ false → opens_here g c ≡ true → begins_on_ready (facts_of []) c ≡ true → begins_on_ready u c ≡ true
+fresh_ready g u ChangeWriteColumn copyless h x = absurd (true≢false (sym h ∙ copyless))
+fresh_ready g u ReadCacheSequential copyless h x = cc
+fresh_ready g u c copyless h x = x
 
 fresh_address : (g : Parts) (c : Command) → breaks_address_misplaced g (facts_of []) (CommandCycle c) ≡ false
 unfolding breaks_address_misplaced
@@ -194,14 +225,14 @@ fresh_input : (c : Command) → breaks_input_misplaced (facts_of []) (CommandCyc
 unfolding breaks_input_misplaced
 fresh_input c = refl
 
-pub only_hangs_fresh : (g : Parts) (t : TailFacts) (ts ss : List LunView) (c : Command) → is_opener c ≡ true → Each IsUnder ts ss → (is_shared g ≡ true → IsClear ts ss) → KeepsRules g t ts (CommandCycle c) → OnlyHangs (judge_cycle g (facts_of []) ss (CommandCycle c))
-only_hangs_fresh g t ts ss c opener each clear k =
-    rw (k.f2, fresh_open g c, several_kept g ts ss each clear (CommandCycle c) k.f4, fresh_placed c opener, fresh_address g c, fresh_row g c, busy_command g ts ss each clear t (facts_of []) c k.f9, queue_command g ts ss each clear t (facts_of []) c k.f10, fresh_input c)
+pub only_hangs_fresh : (g : Parts) → has_copyback g.optional ≡ false → (t : TailFacts) (ts ss : List LunView) (c : Command) → opens_here g c ≡ true → Each IsUnder ts ss → (is_shared g ≡ true → IsClear ts ss) → KeepsRules g t ts (CommandCycle c) → OnlyHangs (judge_cycle g (facts_of []) ss (CommandCycle c))
+only_hangs_fresh g copyless t ts ss c opener each clear k =
+    rw (copyless_kept g (facts_of []) ss (CommandCycle c) copyless, k.f2, fresh_open g c, several_kept g ts ss each clear (CommandCycle c) k.f4, fresh_placed g c opener, fresh_address g c, fresh_row g c, busy_command g ts ss each clear t (facts_of []) c (fresh_ready g t c copyless opener) k.f9, queue_command g ts ss each clear t (facts_of []) c k.f10, fresh_input c)
     (only_six (breaks_no_column_to_change ss (CommandCycle c)) (breaks_no_sole_driver (facts_of []) ss (CommandCycle c)) (breaks_data_not_ready ss (CommandCycle c)) (breaks_column_outside g (facts_of []) ss (CommandCycle c)) (breaks_cache_read_misplaced g (facts_of []) ss (CommandCycle c)) (breaks_plane_not_held g (facts_of []) ss (CommandCycle c)))
 
-pub judged_six_fresh : (g : Parts) (t : TailFacts) (ts ss : List LunView) (c : Command) → is_opener c ≡ true → Each IsUnder ts ss → (is_shared g ≡ true → IsClear ts ss) → KeepsRules g t ts (CommandCycle c) → judge_cycle g (facts_of []) ss (CommandCycle c) ≡ six_of g (facts_of []) ss (CommandCycle c)
-judged_six_fresh g t ts ss c opener each clear k =
-    rw (k.f2, fresh_open g c, several_kept g ts ss each clear (CommandCycle c) k.f4, fresh_placed c opener, fresh_address g c, fresh_row g c, busy_command g ts ss each clear t (facts_of []) c k.f9, queue_command g ts ss each clear t (facts_of []) c k.f10, fresh_input c) refl
+pub judged_six_fresh : (g : Parts) → has_copyback g.optional ≡ false → (t : TailFacts) (ts ss : List LunView) (c : Command) → opens_here g c ≡ true → Each IsUnder ts ss → (is_shared g ≡ true → IsClear ts ss) → KeepsRules g t ts (CommandCycle c) → judge_cycle g (facts_of []) ss (CommandCycle c) ≡ six_of g (facts_of []) ss (CommandCycle c)
+judged_six_fresh g copyless t ts ss c opener each clear k =
+    rw (copyless_kept g (facts_of []) ss (CommandCycle c) copyless, k.f2, fresh_open g c, several_kept g ts ss each clear (CommandCycle c) k.f4, fresh_placed g c opener, fresh_address g c, fresh_row g c, busy_command g ts ss each clear t (facts_of []) c (fresh_ready g t c copyless opener) k.f9, queue_command g ts ss each clear t (facts_of []) c k.f10, fresh_input c) refl
 
 -- ---- 4. where all is known of each LUN
 
@@ -210,6 +241,12 @@ pub record IsKnown (t s : LunView) : Type 0 where
   pub begun : IsBegun t s
   pub same : IsSame t s
   pub held : is_page_read s.closer ≡ true → t.held ≡ s.held
+
+-- and what a copyback hangs on
+pub record IsCopied (t s : LunView) : Type 0 where
+  pub closer : t.closer ≡ s.closer
+  pub held : t.held ≡ s.held
+  pub queue : t.queue ≡ s.queue
 
 known_off : (t s : LunView) → IsKnown t s → is_off t.latch ≡ is_off s.latch
 known_off t s k = k.same.off
@@ -367,6 +404,7 @@ module _ (g : Parts) (ts ss : List LunView) (each : Each IsKnown ts ss) (clear :
   cache_command t ReadConfirm h =
       and_less (is_wide g.optional) (named_lun_is g (row t) caching ts) (named_lun_is g (row t) caching ss) (lun_down IsKnown caching caching caching_down ts ss _ each) h
   cache_command t ReadPlane h = less (named_lun_is g (row t) caching ts) (named_lun_is g (row t) caching ss) (lun_down IsKnown caching caching caching_down ts ss _ each) h
+  cache_command t CopybackRead h = less (named_lun_is g (row t) caching ts) (named_lun_is g (row t) caching ss) (lun_down IsKnown caching caching caching_down ts ss _ each) h
   cache_command t ReadCacheEnd h = not_from_true (driver_is ends_cache ss) (driver_up IsKnown ends_cache ends_cache known_off ends_up ts ss each (not-false (driver_is ends_cache ts) h))
   cache_command t c h = and_less (reads_identity c) (list_any caching ts) (list_any caching ss) (any_down IsKnown caching caching caching_down ts ss each) h
 
@@ -378,6 +416,7 @@ module _ (g : Parts) (ts ss : List LunView) (each : Each IsKnown ts ss) (clear :
       not_from_true (driver_is (continues_cache g) ss) (driver_up IsKnown (continues_cache g) (continues_cache g) known_off (continues_up g) ts ss each (not-false (driver_is (continues_cache g) ts) driven))
   cache_fresh u ReadConfirm anew h = cc
   cache_fresh u ReadPlane anew h = cc
+  cache_fresh u CopybackRead anew h = cc
   cache_fresh u ReadCacheEnd anew h = not_from_true (driver_is ends_cache ss) (driver_up IsKnown ends_cache ends_cache known_off ends_up ts ss each (not-false (driver_is ends_cache ts) h))
   cache_fresh u c anew h = and_less (reads_identity c) (list_any caching ts) (list_any caching ss) (any_down IsKnown caching caching caching_down ts ss each) h
 
@@ -405,15 +444,50 @@ module _ (g : Parts) (ts ss : List LunView) (each : Each IsKnown ts ss) (clear :
   plane_kept t (InputCycle byte) h = refl
   plane_kept t OutputCycle h = refl
 
+  -- where a chip has a copyback
+  copyback_kept : (has_copyback g.optional ≡ true → Each IsCopied ts ss) → (t : TailFacts) (c : TargetCycle) → breaks_copyback_misplaced g t ts c ≡ false → breaks_copyback_misplaced g t ss c ≡ false
+  unfolding breaks_copyback_misplaced
+  copyback_kept copies t (CommandCycle c) h = refl
+  copyback_kept copies t (AddressCycle byte) h = when_less (has_copyback g.optional) (Broken ts) (Broken ss) (λ has x. down (copies has) x) h
+    where
+      page : PageAddress
+      page = page_address g (row_with t byte)
+
+      none : LunView → Bool
+      none v = not (may_copy g page v)
+
+      Broken : List LunView → Bool
+      Broken vs = (ends_row is_write_column t && named_lun_is g (row_with t byte) none vs) || (ends_row is_page_program t && named_lun_is g (row_with t byte) is_copying vs)
+
+      none_down : (x y : LunView) → IsCopied x y → none y ≡ true → none x ≡ true
+      none_down x y k r = rw (k.closer, k.held) r
+
+      copying_down : (x y : LunView) → IsCopied x y → is_copying y ≡ true → is_copying x ≡ true
+      copying_down x y k r = rw (k.queue, k.held) r
+
+      down : Each IsCopied ts ss → Broken ss ≡ true → Broken ts ≡ true
+      down e x =
+          either_of (ends_row is_write_column t && named_lun_is g (row_with t byte) none ss) (ends_row is_page_program t && named_lun_is g (row_with t byte) is_copying ss) x
+          (λ y.
+          let a = and_parts (ends_row is_write_column t) (named_lun_is g (row_with t byte) none ss) y in
+          or_left (ends_row is_write_column t && named_lun_is g (row_with t byte) none ts) (ends_row is_page_program t && named_lun_is g (row_with t byte) is_copying ts)
+          (and_from (ends_row is_write_column t) (named_lun_is g (row_with t byte) none ts) a.0 (lun_down IsCopied none none none_down ts ss _ e a.1)))
+          (λ y.
+          let a = and_parts (ends_row is_page_program t) (named_lun_is g (row_with t byte) is_copying ss) y in
+          or_right (ends_row is_write_column t && named_lun_is g (row_with t byte) none ts) (ends_row is_page_program t && named_lun_is g (row_with t byte) is_copying ts)
+          (and_from (ends_row is_page_program t) (named_lun_is g (row_with t byte) is_copying ts) a.0 (lun_down IsCopied is_copying is_copying copying_down ts ss _ e a.1)))
+  copyback_kept copies t (InputCycle byte) h = refl
+  copyback_kept copies t OutputCycle h = refl
+
   below_each : Each IsUnder ts ss
   below_each = each_more IsKnown IsUnder (λ t s k. k.below) ts ss each
 
-  pub none_broken : (t : TailFacts) (cycle : TargetCycle) → KeepsRules g t ts cycle → judge_cycle g t ss cycle ≡ None
-  none_broken t cycle k =
-      rw (k.f2, k.f3, several_kept g ts ss below_each clear cycle k.f4, column_kept cycle k.f5, k.f6, k.f7, k.f8, busy_kept g ts ss below_each clear t cycle k.f9, queue_kept g ts ss below_each clear t cycle k.f10, k.f11, driver_kept t cycle k.f12, data_kept cycle k.f13, outside_kept t cycle k.f13 k.f14, cache_kept t cycle k.f15, plane_kept t cycle k.f18) refl
+  pub none_broken : (has_copyback g.optional ≡ true → Each IsCopied ts ss) → (t : TailFacts) (cycle : TargetCycle) → KeepsRules g t ts cycle → judge_cycle g t ss cycle ≡ None
+  none_broken copies t cycle k =
+      rw (copyback_kept copies t cycle k.f17, k.f2, k.f3, several_kept g ts ss below_each clear cycle k.f4, column_kept cycle k.f5, k.f6, k.f7, k.f8, busy_kept g ts ss below_each clear t cycle k.f9, queue_kept g ts ss below_each clear t cycle k.f10, k.f11, driver_kept t cycle k.f12, data_kept cycle k.f13, outside_kept t cycle k.f13 k.f14, cache_kept t cycle k.f15, plane_kept t cycle k.f18) refl
 
-  pub none_broken_fresh : (u : TailFacts) (c : Command) → is_opener c ≡ true → begins_anew u (CommandCycle c) ≡ true → KeepsRules g u ts (CommandCycle c) → judge_cycle g (facts_of []) ss (CommandCycle c) ≡ None
+  pub none_broken_fresh : has_copyback g.optional ≡ false → (u : TailFacts) (c : Command) → opens_here g c ≡ true → begins_anew u (CommandCycle c) ≡ true → KeepsRules g u ts (CommandCycle c) → judge_cycle g (facts_of []) ss (CommandCycle c) ≡ None
   unfolding breaks_no_sole_driver breaks_data_not_ready breaks_column_outside breaks_plane_not_held
-  none_broken_fresh u c opener anew k =
-      judged_six_fresh g u ts ss c opener below_each clear k
+  none_broken_fresh copyless u c opener anew k =
+      judged_six_fresh g copyless u ts ss c opener below_each clear k
       ∙ (rw (column_kept (CommandCycle c) k.f5, cache_fresh u c anew k.f15) refl)

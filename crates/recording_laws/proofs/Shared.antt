@@ -7,9 +7,9 @@ use Rattle.nand_geometry.specs.Limits.{planes}
 use Rattle.nand_geometry.specs.Optional.{has_plane_reads}
 use Rattle.nand_geometry.specs.Row.{parts_of}
 use Rattle.onfi_cycle.specs.declared.command.Command.{Command}
-use Rattle.onfi_cycle.specs.declared.command.Command.TheVariants.{Read, ReadStatus, ReadStatusEnhanced, Reset, SynchronousReset, ReadCacheSequential, ReadCacheEnd, ChangeReadColumnConfirm, ReadConfirm, ReadPlane, BlockEraseConfirm, BlockErasePlane, ProgramConfirm, ProgramPlane, ReadId, ReadParameterPage, ReadUniqueId, GetFeatures, ResetLun}
+use Rattle.onfi_cycle.specs.declared.command.Command.TheVariants.{Read, ReadStatus, ReadStatusEnhanced, Reset, SynchronousReset, ReadCacheSequential, ReadCacheEnd, ChangeReadColumnConfirm, ReadConfirm, ReadPlane, BlockEraseConfirm, BlockErasePlane, ProgramConfirm, ProgramPlane, ReadId, ReadParameterPage, ReadUniqueId, GetFeatures, ResetLun, CopybackRead, PageProgram}
 use Rattle.onfi_cycle.specs.declared.effect.Effect.{Effect}
-use Rattle.onfi_cycle.specs.declared.effect.Effect.TheVariants.{Unaffected, StatusSelected, StatusOfSelected, SelectedForStatus, Deselected, IdRead, IdentityRead, UniqueIdReadStarted, FeaturesReadStarted, FeaturesSet, ParameterPageReadStarted, CacheReadContinued, CacheReadEnded, ReadColumnChanged, PlaneSelected, DataOutput, ResetStarted, TargetResetStarted, AnotherAddressed}
+use Rattle.onfi_cycle.specs.declared.effect.Effect.TheVariants.{Unaffected, StatusSelected, StatusOfSelected, SelectedForStatus, Deselected, IdRead, IdentityRead, UniqueIdReadStarted, FeaturesReadStarted, FeaturesSet, ParameterPageReadStarted, CacheReadContinued, CacheReadEnded, ReadColumnChanged, PlaneSelected, DataOutput, ResetStarted, TargetResetStarted, AnotherAddressed, ProgramAddressed}
 use Rattle.onfi_cycle.specs.declared.item.Cycle.{Cycle}
 use Rattle.onfi_cycle.specs.declared.item.Item.{Item}
 use Rattle.onfi_cycle.specs.declared.item.Item.TheVariants.{Cyc}
@@ -20,7 +20,7 @@ use Rattle.onfi_cycle.specs.declared.tail_facts.TailFacts.{TailFacts}
 use Rattle.onfi_cycle.specs.declared.target_cycle.TargetCycle.{TargetCycle}
 use Rattle.onfi_cycle.specs.declared.target_cycle.TargetCycle.TheVariants.{CommandCycle, AddressCycle, InputCycle, OutputCycle}
 use Rattle.onfi_cycle.specs.Command.{closes_row, reads_row}
-use Rattle.onfi_cycle.specs.Effect.{is_off, is_data, is_shared, acts_for_target, of_target, lun_reset_effect, confirm_effect, other_effect, row_effect, cache_effect, plane_of_row, plane_effect, column_effect, names_lun, id_effect, command_effect, address_effect, opening_address_effect, ends_features, cycle_effect}
+use Rattle.onfi_cycle.specs.Effect.{is_off, is_data, is_shared, acts_for_target, of_target, lun_reset_effect, confirm_effect, other_effect, row_effect, cache_effect, plane_of_row, plane_effect, column_effect, names_lun, id_effect, command_effect, address_effect, opening_address_effect, ends_features, cycle_effect, program_row_effect, reset_effect}
 use Rattle.onfi_cycle.specs.Lun.{is_cache_read, is_page_read, view_after}
 use Rattle.onfi_cycle.specs.LunView.{LunView}
 use Rattle.onfi_cycle.specs.Permitted.{judge_cycle}
@@ -29,7 +29,7 @@ use Rattle.onfi_cycle.specs.Sequence.{target_cycle, facts_of, facts_after, selec
 use Rattle.onfi_cycle.specs.State.{TargetView, has_driver, target_after}
 use Rattle.onfi_cycle.proofs.Passed.{keeps_rules}
 use Rattle.trace_faults.specs.declared.known.Known.{Known}
-use Rattle.trace_faults.specs.Middle.{knows, nothing_known, has_begun, stops_others}
+use Rattle.trace_faults.specs.Middle.{knows, nothing_known, has_begun, waits_for_reset}
 use Rattle.recording_laws.proofs.Lists.{Each, each_more, driver_on}
 use Rattle.recording_laws.proofs.Changed.{changed, changed_length, AtEach, at_each, knows_nothing, IsLearned}
 use Rattle.recording_laws.proofs.Cycles.{by_cycle, luns_by_cycle, all_on_at}
@@ -41,9 +41,9 @@ use Rattle.recording_laws.proofs.Readies.{IsReady, by_ready, luns_ready, ready_s
 -- ---- 1. a target
 
 -- from a reset on
-pub record IsAlike (t s : TargetView) : Type 0 where
+pub record IsAlike (g : Parts) (t s : TargetView) : Type 0 where
   pub tail : t.tail ≡ s.tail
-  pub luns : Each IsTwin t.luns s.luns
+  pub luns : Each (IsTwin g) t.luns s.luns
 
 -- and before one
 pub record IsUnseen (k : Known) (s : TargetView) : Type 0 where
@@ -51,21 +51,21 @@ pub record IsUnseen (k : Known) (s : TargetView) : Type 0 where
   pub nothing : k ≡ nothing_known
   pub blank : AreBlank s.luns
 
-pub record FitsShared (k : Known) (t s : TargetView) : Type 0 where
+pub record FitsShared (g : Parts) (k : Known) (t s : TargetView) : Type 0 where
   pub few : length s.luns ≤ 4
   pub beside : Each Beside t.luns s.luns
-  pub opened : k.opened ≡ true → IsAlike t s
+  pub opened : k.opened ≡ true → IsAlike g t s
   pub closed : k.opened ≡ false → IsUnseen k s
 
 -- a target, of whose commands some stop other LUNs, or not
 pub record FitsEither (g : Parts) (k : Known) (t s : TargetView) : Type 0 where
-  pub plain : stops_others g ≡ false → FitsTarget g k t s
-  pub shared : stops_others g ≡ true → FitsShared k t s
+  pub plain : waits_for_reset g ≡ false → FitsTarget g k t s
+  pub shared : waits_for_reset g ≡ true → FitsShared g k t s
 
-pub of_plain : (g : Parts) (k : Known) (t s : TargetView) → stops_others g ≡ false → FitsTarget g k t s → FitsEither g k t s
+pub of_plain : (g : Parts) (k : Known) (t s : TargetView) → waits_for_reset g ≡ false → FitsTarget g k t s → FitsEither g k t s
 of_plain g k t s is f = record { plain = λ h. f; shared = λ h. absurd (true≢false (sym h ∙ is)) }
 
-pub of_shared : (g : Parts) (k : Known) (t s : TargetView) → stops_others g ≡ true → FitsShared k t s → FitsEither g k t s
+pub of_shared : (g : Parts) (k : Known) (t s : TargetView) → waits_for_reset g ≡ true → FitsShared g k t s → FitsEither g k t s
 of_shared g k t s is f = record { plain = λ h. absurd (true≢false (sym is ∙ h)); shared = λ h. f }
 
 -- ---- 2. a cache read that goes on has one driver, which reads pages
@@ -83,6 +83,7 @@ confirm_goes : (g : Parts) (u : TailFacts) (c : Command) (s : LunView) → goes_
 confirm_goes g u ReadCacheSequential s h = cc
 confirm_goes g u ReadConfirm s h = tt
 confirm_goes g u ReadPlane s h = tt
+confirm_goes g u CopybackRead s h = tt
 confirm_goes g u BlockEraseConfirm s h = tt
 confirm_goes g u BlockErasePlane s h = tt
 confirm_goes g u ProgramConfirm s h = tt
@@ -120,6 +121,7 @@ address_goes g u byte GetFeatures m n s = goes_either (wants_address u byte) (of
 address_goes g u byte ResetLun m n s =
     goes_either (m == 2) (lun_reset_effect g (names_lun g (row_with u byte) n)) Unaffected s
     (goes_either (names_lun g (row_with u byte) n) ResetStarted (cond (is_shared g) (AnotherAddressed false) Unaffected) s tt (goes_either (is_shared g) (AnotherAddressed false) Unaffected s tt tt)) tt
+address_goes g u byte PageProgram m n s = goes_either (m == 4) (program_row_effect (names_lun g (row_with u byte) n)) Unaffected s (goes_either (names_lun g (row_with u byte) n) ProgramAddressed Unaffected s tt tt) tt
 address_goes g u byte c m n s = tt
 
 opening_goes : (g : Parts) (u : TailFacts) (byte : ℕ) (o : Option Opening) (n : ℕ) (s : LunView) → GoesOn (opening_address_effect g u byte o n) s
@@ -190,23 +192,23 @@ goes_on g u sole OutputCycle vs h = each_goes g u sole OutputCycle 0 vs (λ m v.
 
 -- ---- 3. cycles
 
-module _ (g : Parts) (k later : Known) (t s : TargetView) (c : Cycle) (f : FitsShared k t s) where
+module _ (g : Parts) (k later : Known) (t s : TargetView) (c : Cycle) (f : FitsShared g k t s) where
   abbrev cycle : TargetCycle
   cycle = target_cycle c.kind c.byte
 
   few_after : length (target_after g (Cyc c) s).luns ≤ 4
   few_after = subst (λ n. n ≤ 4) (sym (ap length (luns_by_cycle g s.tail (has_driver s.luns) c s.luns) ∙ changed_length (by_cycle g s.tail (has_driver s.luns) cycle) 0 s.luns)) f.few
 
-  twins : Each IsTwin (changed (by_cycle g t.tail (has_driver t.luns) cycle) 0 t.luns) (changed (by_cycle g s.tail (has_driver s.luns) cycle) 0 s.luns) → Each IsTwin (target_after g (Cyc c) t).luns (target_after g (Cyc c) s).luns
+  twins : Each (IsTwin g) (changed (by_cycle g t.tail (has_driver t.luns) cycle) 0 t.luns) (changed (by_cycle g s.tail (has_driver s.luns) cycle) 0 s.luns) → Each (IsTwin g) (target_after g (Cyc c) t).luns (target_after g (Cyc c) s).luns
   twins e =
-      subst (λ (vs : List LunView). Each IsTwin vs (target_after g (Cyc c) s).luns) (sym (luns_by_cycle g t.tail (has_driver t.luns) c t.luns))
-      (subst (λ (vs : List LunView). Each IsTwin (changed (by_cycle g t.tail (has_driver t.luns) cycle) 0 t.luns) vs) (sym (luns_by_cycle g s.tail (has_driver s.luns) c s.luns)) e)
+      subst (λ (vs : List LunView). Each (IsTwin g) vs (target_after g (Cyc c) s).luns) (sym (luns_by_cycle g t.tail (has_driver t.luns) c t.luns))
+      (subst (λ (vs : List LunView). Each (IsTwin g) (changed (by_cycle g t.tail (has_driver t.luns) cycle) 0 t.luns) vs) (sym (luns_by_cycle g s.tail (has_driver s.luns) c s.luns)) e)
 
-  alike_fits : later.opened ≡ true → IsAlike (target_after g (Cyc c) t) (target_after g (Cyc c) s) → FitsShared later (target_after g (Cyc c) t) (target_after g (Cyc c) s)
+  alike_fits : later.opened ≡ true → IsAlike g (target_after g (Cyc c) t) (target_after g (Cyc c) s) → FitsShared g later (target_after g (Cyc c) t) (target_after g (Cyc c) s)
   alike_fits later_open a =
       record {
         few = few_after;
-        beside = each_more IsTwin Beside (λ x y z. tt) (target_after g (Cyc c) t).luns (target_after g (Cyc c) s).luns a.luns;
+        beside = each_more (IsTwin g) Beside (λ x y z. tt) (target_after g (Cyc c) t).luns (target_after g (Cyc c) s).luns a.luns;
         opened = λ h. a;
         closed = λ h. cc;
       }
@@ -217,42 +219,42 @@ module _ (g : Parts) (k later : Known) (t s : TargetView) (c : Cycle) (f : FitsS
       let a = f.opened was in
       sym (ap (λ (u : TailFacts). judge_cycle g u s.luns cycle) a.tail) ∙ twins_judged g t.tail t.luns s.luns cycle a.luns (keeps_rules g t.tail t.luns cycle h)
 
-  pub seen_alike : k.opened ≡ true → later.opened ≡ true → judge_cycle g t.tail t.luns cycle ≡ None → FitsShared later (target_after g (Cyc c) t) (target_after g (Cyc c) s)
+  pub seen_alike : k.opened ≡ true → later.opened ≡ true → judge_cycle g t.tail t.luns cycle ≡ None → FitsShared g later (target_after g (Cyc c) t) (target_after g (Cyc c) s)
   seen_alike was later_open h =
       alike_fits later_open
       (record {
         tail = ap (facts_after cycle) a.tail;
         luns = twins
-            (twins_after (by_cycle g t.tail (has_driver t.luns) cycle) (by_cycle g s.tail (has_driver s.luns) cycle) (Goes g s.tail (has_driver s.luns) cycle) one 0 t.luns s.luns a.luns
+            (twins_after g (by_cycle g t.tail (has_driver t.luns) cycle) (by_cycle g s.tail (has_driver s.luns) cycle) (Goes g s.tail (has_driver s.luns) cycle) one 0 t.luns s.luns a.luns
             (goes_on g s.tail (has_driver s.luns) cycle s.luns (keeps_rules g s.tail s.luns cycle (alike_judged was h)).f15));
       })
     where
-      a : IsAlike t s
+      a : IsAlike g t s
       a = f.opened was
 
-      one : (n : ℕ) (x y : LunView) → IsTwin x y → Goes g s.tail (has_driver s.luns) cycle n y →
-          IsTwin (view_after (by_cycle g t.tail (has_driver t.luns) cycle n x) x) (view_after (by_cycle g s.tail (has_driver s.luns) cycle n y) y)
+      one : (n : ℕ) (x y : LunView) → IsTwin g x y → Goes g s.tail (has_driver s.luns) cycle n y →
+          IsTwin g (view_after (by_cycle g t.tail (has_driver t.luns) cycle n x) x) (view_after (by_cycle g s.tail (has_driver s.luns) cycle n y) y)
       one n x y z on =
-          subst (λ (e : Effect). IsTwin (view_after e x) (view_after (by_cycle g s.tail (has_driver s.luns) cycle n y) y))
+          subst (λ (e : Effect). IsTwin g (view_after e x) (view_after (by_cycle g s.tail (has_driver s.luns) cycle n y) y))
           (sym (ap (λ (u : TailFacts). by_cycle g u (has_driver t.luns) cycle n x) a.tail
-          ∙ ap (λ (b : Bool). by_cycle g s.tail b cycle n x) (twins_driver t.luns s.luns a.luns)
+          ∙ ap (λ (b : Bool). by_cycle g s.tail b cycle n x) (twins_driver g t.luns s.luns a.luns)
           ∙ ap (λ (l : Latch). cycle_effect g s.tail (cond (has_driver s.luns) l Off) cycle n) z.latch))
-          (twin_after (by_cycle g s.tail (has_driver s.luns) cycle n y) x y z on)
+          (twin_after g (by_cycle g s.tail (has_driver s.luns) cycle n y) x y z on)
 
   -- the first reset
-  pub reset_alike : is_shared g ≡ true → cycle ≡ CommandCycle Reset → later.opened ≡ true → FitsShared later (target_after g (Cyc c) t) (target_after g (Cyc c) s)
-  reset_alike shared is later_open =
+  pub reset_alike : cycle ≡ CommandCycle Reset → later.opened ≡ true → FitsShared g later (target_after g (Cyc c) t) (target_after g (Cyc c) s)
+  reset_alike is later_open =
       alike_fits later_open
       (record {
         tail = ap (λ (d : TargetCycle). facts_after d t.tail) is ∙ sym (ap (λ (d : TargetCycle). facts_after d s.tail) is);
-        luns = twins (resets_twins (by_cycle g t.tail (has_driver t.luns) cycle) (by_cycle g s.tail (has_driver s.luns) cycle) (effect t.tail (has_driver t.luns)) (effect s.tail (has_driver s.luns)) 0 t.luns s.luns f.beside);
+        luns = twins (resets_twins g (by_cycle g t.tail (has_driver t.luns) cycle) (by_cycle g s.tail (has_driver s.luns) cycle) (effect t.tail (has_driver t.luns)) (effect s.tail (has_driver s.luns)) 0 t.luns s.luns f.beside);
       })
     where
-      effect : (u : TailFacts) (sole : Bool) (n : ℕ) (v : LunView) → by_cycle g u sole cycle n v ≡ TargetResetStarted (n == 0)
-      effect u sole n v = ap (λ (d : TargetCycle). by_cycle g u sole d n v) is ∙ ap (λ (b : Bool). cond b (TargetResetStarted (n == 0)) ResetStarted) shared
+      effect : (u : TailFacts) (sole : Bool) (n : ℕ) (v : LunView) → by_cycle g u sole cycle n v ≡ reset_effect g n
+      effect u sole n v = ap (λ (d : TargetCycle). by_cycle g u sole d n v) is
 
   -- a cycle that isn't judged
-  pub rests_unseen : k.opened ≡ false → FitsShared k (target_after g (Cyc c) t) s
+  pub rests_unseen : k.opened ≡ false → FitsShared g k (target_after g (Cyc c) t) s
   rests_unseen was =
       record {
         few = f.few;
@@ -263,12 +265,12 @@ module _ (g : Parts) (k later : Known) (t s : TargetView) (c : Cycle) (f : FitsS
 
 -- ---- 4. readies
 
-lun_same : (works : LunView → Bool) → ((t s : LunView) → IsTwin t s → works t ≡ works s) → (n : ℕ) (ts ss : List LunView) → Each IsTwin ts ss → lun_is works ts n ≡ lun_is works ss n
-lun_same works f n [] [] e = refl
-lun_same works f zero (t ∷ ts) (s ∷ ss) e = f t s e.0
-lun_same works f (suc n) (t ∷ ts) (s ∷ ss) e = lun_same works f n ts ss e.1
-lun_same works f n [] (s ∷ ss) e = absurd e
-lun_same works f n (t ∷ ts) [] e = absurd e
+lun_same : (g : Parts) (works : LunView → Bool) → ((t s : LunView) → IsTwin g t s → works t ≡ works s) → (n : ℕ) (ts ss : List LunView) → Each (IsTwin g) ts ss → lun_is works ts n ≡ lun_is works ss n
+lun_same g works f n [] [] e = refl
+lun_same g works f zero (t ∷ ts) (s ∷ ss) e = f t s e.0
+lun_same g works f (suc n) (t ∷ ts) (s ∷ ss) e = lun_same g works f n ts ss e.1
+lun_same g works f n [] (s ∷ ss) e = absurd e
+lun_same g works f n (t ∷ ts) [] e = absurd e
 
 beside_found : (works : LunView → Bool) (m : ℕ) (ts ss : List LunView) → Each Beside ts ss → lun_is works ts m ≡ true → (v : LunView) × (slice_get ss m ≡ Some v)
 beside_found works m [] [] e h = cc
@@ -291,7 +293,7 @@ module _ (i : Item) (lun : ℕ) (x : Effect) (works : LunView → Bool) (is : Is
       at None e y = cc
       at (Some v) e y = let idle = is.blank v (b lun v e) in cc
 
-  shared_seen : FitsShared k t s → lun_is works s.luns lun ≡ true → later.opened ≡ k.opened → FitsShared later (target_after g i t) (target_after g i s)
+  shared_seen : FitsShared g k t s → lun_is works s.luns lun ≡ true → later.opened ≡ k.opened → FitsShared g later (target_after g i t) (target_after g i s)
   shared_seen f h kept =
       record {
         few = subst (λ n. n ≤ 4) (sym (ap length here ∙ changed_length (by_ready i lun x works is) 0 s.luns)) f.few;
@@ -301,8 +303,8 @@ module _ (i : Item) (lun : ℕ) (x : Effect) (works : LunView → Bool) (is : Is
             let a = f.opened (sym kept ∙ y) in
             record {
               tail = is.tail g t ∙ a.tail ∙ sym (is.tail g s);
-              luns = subst (λ (vs : List LunView). Each IsTwin vs (target_after g i s).luns) (sym there)
-                  (subst (λ (vs : List LunView). Each IsTwin (changed (by_ready i lun x works is) 0 t.luns) vs) (sym here) (twins 0 t.luns s.luns a.luns));
+              luns = subst (λ (vs : List LunView). Each (IsTwin g) vs (target_after g i s).luns) (sym there)
+                  (subst (λ (vs : List LunView). Each (IsTwin g) (changed (by_ready i lun x works is) 0 t.luns) vs) (sym here) (twins 0 t.luns s.luns a.luns));
             };
         closed = λ y. absurd (none_blank (f.closed (sym kept ∙ y)).blank h);
       }
@@ -322,21 +324,21 @@ module _ (i : Item) (lun : ℕ) (x : Effect) (works : LunView → Bool) (is : Is
       goes : (b : Bool) (v : LunView) → GoesOn (cond b x Unaffected) v
       goes b v = goes_either b x Unaffected v (is.goes v) tt
 
-      twins : (n : ℕ) (ts ss : List LunView) → Each IsTwin ts ss → Each IsTwin (changed (by_ready i lun x works is) n ts) (changed (by_ready i lun x works is) n ss)
+      twins : (n : ℕ) (ts ss : List LunView) → Each (IsTwin g) ts ss → Each (IsTwin g) (changed (by_ready i lun x works is) n ts) (changed (by_ready i lun x works is) n ss)
       twins n [] [] e = tt
-      twins n (a ∷ ts) (b ∷ ss) e = (twin_after (by_ready i lun x works is n b) a b e.0 (goes (lun == n) b), twins (n + 1) ts ss e.1)
+      twins n (a ∷ ts) (b ∷ ss) e = (twin_after g (by_ready i lun x works is n b) a b e.0 (goes (lun == n) b), twins (n + 1) ts ss e.1)
       twins n [] (b ∷ ss) e = e
       twins n (a ∷ ts) [] e = e
 
   -- a ready that isn't seen comes before the reset alone
-  before_reset : FitsShared k t s → lun_is works t.luns lun ≡ true → lun_is works s.luns lun ≡ false → k.opened ≡ false
+  before_reset : FitsShared g k t s → lun_is works t.luns lun ≡ true → lun_is works s.luns lun ≡ false → k.opened ≡ false
   before_reset f h idle = at k.opened refl
     where
       at : (b : Bool) → k.opened ≡ b → k.opened ≡ false
       at false e = e
-      at true e = let same = lun_same works (λ p q z. is.begun p q z.begun) lun t.luns s.luns (f.opened e).luns in cc
+      at true e = let same = lun_same g works (λ p q z. is.begun p q z.begun) lun t.luns s.luns (f.opened e).luns in cc
 
-  shared_granted : FitsShared k t s → k.opened ≡ false → FitsShared k (target_after g i t) s
+  shared_granted : FitsShared g k t s → k.opened ≡ false → FitsShared g k (target_after g i t) s
   shared_granted f was =
       record {
         few = f.few;
@@ -345,7 +347,7 @@ module _ (i : Item) (lun : ℕ) (x : Effect) (works : LunView → Bool) (is : Is
         closed = λ h. f.closed was;
       }
 
-  shared_doubted : FitsShared k t s → lun_is works t.luns lun ≡ true → lun_is works s.luns lun ≡ false → IsDoubted k s lun
+  shared_doubted : FitsShared g k t s → lun_is works t.luns lun ≡ true → lun_is works s.luns lun ≡ false → IsDoubted k s lun
   shared_doubted f h idle =
       let found = beside_found works lun t.luns s.luns f.beside h in
       let within = slice_get_within s.luns lun found.0 found.1 in
@@ -357,9 +359,9 @@ module _ (i : Item) (lun : ℕ) (x : Effect) (works : LunView → Bool) (is : Is
       }
 
   pub either_doubted : FitsEither g k t s → lun_is works t.luns lun ≡ true → lun_is works s.luns lun ≡ false → IsDoubted k s lun
-  either_doubted f h idle = at (stops_others g) refl
+  either_doubted f h idle = at (waits_for_reset g) refl
     where
-      at : (b : Bool) → stops_others g ≡ b → IsDoubted k s lun
+      at : (b : Bool) → waits_for_reset g ≡ b → IsDoubted k s lun
       at true e = shared_doubted (f.shared e) h idle
       at false e = let y = doubted i lun x works is g k later t s (f.plain e) h idle in record { lun_seen = y.lun_seen; found = y.found; none = y.none }
 

@@ -1,10 +1,10 @@
 -- A permitted item breaks no rule by what is seen, and what is known afterwards fits what is.
 use Rattle.std.proofs.Common.{◌≡◌, ◌⊎◌, inl, inr, ℕ, ◌<◌, Bool, true, false, cond, not, ◌||◌, ◌&&◌, leb, ltb, true≢false, List, [], length, Option, Some, None, refl, sym, ap, ◌∙◌, subst, slice_get, slice_set, get_or, arith}
-use Rattle.std.proofs.lemmas.Bool.{ltb-false, and_parts, or_parts, not-false, not_from_true, not_from_false}
+use Rattle.std.proofs.lemmas.Bool.{ltb-false, or_parts, not-false, not_from_true, not_from_false}
 use Rattle.std.proofs.lemmas.List.{set-get_or}
 use Rattle.std.proofs.lemmas.Option.{slice_get-get_or}
 use Rattle.nand_geometry.specs.declared.parts.Parts.{Parts}
-use Rattle.nand_geometry.specs.Optional.{has_enhanced_column, has_plane_reads}
+use Rattle.nand_geometry.specs.Optional.{has_enhanced_column, has_plane_reads, has_copyback}
 use Rattle.onfi_cycle.specs.declared.forbidden.Forbidden.{Forbidden}
 use Rattle.onfi_cycle.specs.declared.forbidden.Forbidden.TheVariants.{NotThere}
 use Rattle.onfi_cycle.specs.declared.item.Cycle.{Cycle}
@@ -16,7 +16,7 @@ use Rattle.onfi_cycle.specs.Effect.{is_shared}
 use Rattle.onfi_cycle.specs.LunView.{LunView}
 use Rattle.onfi_cycle.specs.Permitted.{judge_cycle, judge_item, judge}
 use Rattle.onfi_cycle.specs.Rules.{lun_is, breaks_not_there, breaks_several_luns}
-use Rattle.onfi_cycle.specs.Sequence.{facts_of, target_of, target_cycle, begins_sequence}
+use Rattle.onfi_cycle.specs.Sequence.{facts_of, target_of, target_cycle}
 use Rattle.onfi_cycle.specs.declared.target_cycle.TargetCycle.{TargetCycle}
 use Rattle.onfi_cycle.specs.declared.target_cycle.TargetCycle.TheVariants.{CommandCycle, AddressCycle, InputCycle, OutputCycle}
 use Rattle.onfi_cycle.specs.State.{TargetView, BusView, judged, judged_on as judged_at, target_after, changed_at, bus_after, bus_without, without_sequence, target}
@@ -28,9 +28,9 @@ use Rattle.trace_faults.specs.declared.standing.Standing.{Standing}
 use Rattle.trace_faults.specs.declared.trace_state.TraceState.{TraceState}
 use Rattle.trace_faults.specs.declared.verdict.Verdict.{Verdict}
 use Rattle.trace_faults.specs.declared.verdict.Verdict.TheVariants.{Permitted, PassedOver, Granted}
-use Rattle.trace_faults.specs.Outside.{standings_after}
+use Rattle.trace_faults.specs.Outside.{standings_after, opens_sequence}
 use Rattle.trace_faults.specs.Recovery.{all_inside, judged_here, gone_on, gone_on_by}
-use Rattle.trace_faults.specs.Middle.{Seen, nothing_known, known_of, knows, has_begun, is_doubtful, doubts_ready, doubts, hangs_on_before, of_cycle, of_ready, looks_of, is_reset_cycle, is_reset, stops_others, begins_here, learned, verdict_on, is_passed_over, granted_to, judged_on, seen_by, verdict_here, verdict, seen_after, broken_in}
+use Rattle.trace_faults.specs.Middle.{Seen, nothing_known, known_of, knows, has_begun, doubts_ready, doubts, hangs_on_before, of_cycle, of_ready, looks_of, is_reset_cycle, is_reset, waits_for_reset, begins_here, learned, is_passed_over, granted_to, seen_by, verdict_here, verdict, seen_after, broken_in, stops_others}
 use Rattle.trace_faults.proofs.Judged.{standings_inside, is_inside, judged_inside}
 use Rattle.recording_laws.proofs.Changed.{IsLearned, under_each, below_each, known_each}
 use Rattle.recording_laws.proofs.Rules.{IsKnown, plain_clear, OnlyHangs, only_hangs, only_hangs_fresh, none_broken, none_broken_fresh}
@@ -161,12 +161,18 @@ unfold_there : (n : ℕ) (luns : List LunView) (c : Cycle) → breaks_not_there 
 unfolding breaks_not_there
 unfold_there n luns c = refl
 
-module _ (g : Parts) (bus : BusView) (seen : Seen) (c : Cycle) (later : List Item) (f : FitsBus g bus seen) (x : Here g bus seen (Cyc c)) (narrow : stops_others g ≡ false) where
+module _ (g : Parts) (bus : BusView) (seen : Seen) (c : Cycle) (later : List Item) (f : FitsBus g bus seen) (x : Here g bus seen (Cyc c)) (narrow : waits_for_reset g ≡ false) where
+  still : stops_others g ≡ false
+  still = (or_parts (stops_others g) (has_copyback g.optional) narrow).0
+
   plain : is_shared g ≡ false
-  plain = (or_parts (is_shared g) (has_enhanced_column g.optional && ltb 1 g.luns) narrow).0
+  plain = (or_parts (is_shared g) (has_enhanced_column g.optional && ltb 1 g.luns) still).0
+
+  copyless : has_copyback g.optional ≡ false
+  copyless = (or_parts (stops_others g) (has_copyback g.optional) narrow).1
 
   one : IsAlone g
-  one = at (has_enhanced_column g.optional) refl (or_parts (is_shared g) (has_enhanced_column g.optional && ltb 1 g.luns) narrow).1
+  one = at (has_enhanced_column g.optional) refl (or_parts (is_shared g) (has_enhanced_column g.optional && ltb 1 g.luns) still).1
     where
       at : (b : Bool) → has_enhanced_column g.optional ≡ b → (b && ltb 1 g.luns) ≡ false → IsAlone g
       at true e h = inr (ltb-false 1 g.luns h)
@@ -218,10 +224,10 @@ module _ (g : Parts) (bus : BusView) (seen : Seen) (c : Cycle) (later : List Ite
   abbrev learned_own : Known
   learned_own = learned_by_it g bus seen (Cyc c) later f x (gone_on_by None (Cyc c) seen.state)
 
-  begins_plain : begins_here seen.state.bus.geometry (Cyc c) ≡ begins_sequence d
-  begins_plain = ap (λ (y : Parts). begins_here y (Cyc c)) f.seen_geometry ∙ ap (λ (b : Bool). cond b (is_reset (Cyc c)) (begins_sequence d)) narrow
+  begins_plain : begins_here seen.state.bus.geometry (Cyc c) ≡ opens_sequence g d
+  begins_plain = ap (λ (y : Parts). begins_here y (Cyc c)) f.seen_geometry ∙ ap (λ (b : Bool). cond b (is_reset (Cyc c)) (opens_sequence g d)) narrow
 
-  open_now : at.opened ≡ true ⊎ begins_sequence d ≡ true → is_passed_over seen.state.bus.geometry at (Cyc c) ≡ false
+  open_now : at.opened ≡ true ⊎ opens_sequence g d ≡ true → is_passed_over seen.state.bus.geometry at (Cyc c) ≡ false
   open_now (inl h) = rw h refl
   open_now (inr h) = ap (λ (b : Bool). not (at.opened || b)) (begins_plain ∙ h) ∙ not_from_true (at.opened || true) (of at.opened)
     where
@@ -229,7 +235,7 @@ module _ (g : Parts) (bus : BusView) (seen : Seen) (c : Cycle) (later : List Ite
       of true = refl
       of false = refl
 
-  open_later : at.opened ≡ true ⊎ begins_sequence d ≡ true → learned_own.opened ≡ true
+  open_later : at.opened ≡ true ⊎ opens_sequence g d ≡ true → learned_own.opened ≡ true
   open_later (inl h) = rw h refl
   open_later (inr h) = ap (λ (b : Bool). at.opened || b) (begins_plain ∙ h) ∙ of at.opened
     where
@@ -237,7 +243,7 @@ module _ (g : Parts) (bus : BusView) (seen : Seen) (c : Cycle) (later : List Ite
       of true = refl
       of false = refl
 
-  permitted_step : at.opened ≡ true ⊎ begins_sequence d ≡ true → judge_cycle g x.shown.tail x.shown.luns d ≡ None → FitsTarget g learned_own (target_after g (Cyc c) x.is) (target_after g (Cyc c) x.shown) → Stepped g bus seen (Cyc c) later
+  permitted_step : at.opened ≡ true ⊎ opens_sequence g d ≡ true → judge_cycle g x.shown.tail x.shown.luns d ≡ None → FitsTarget g learned_own (target_after g (Cyc c) x.is) (target_after g (Cyc c) x.shown) → Stepped g bus seen (Cyc c) later
   permitted_step some h fits = seen_step g bus seen (Cyc c) later f x (judged_so ∙ h) (open_now some) (said_so None h) (of_plain g learned_own (target_after g (Cyc c) x.is) (target_after g (Cyc c) x.shown) narrow fits)
 
   plain_step : Stepped g bus seen (Cyc c) later
@@ -255,74 +261,74 @@ module _ (g : Parts) (bus : BusView) (seen : Seen) (c : Cycle) (later : List Ite
       opened_known : at.opened ≡ true → doubts seen.state.bus at c.ce ≡ false → judge_cycle g x.shown.tail x.shown.luns d ≡ None
       opened_known e h =
           let o = own.opened e in
-          ap (λ w. judge_cycle g w x.shown.luns d) (sym o.tail) ∙ none_broken g x.is.luns x.shown.luns (known_luns h) (plain_clear g x.is.luns x.shown.luns plain) x.is.tail d (keeps_rules g x.is.tail x.is.luns d kept)
+          ap (λ w. judge_cycle g w x.shown.luns d) (sym o.tail) ∙ none_broken g x.is.luns x.shown.luns (known_luns h) (plain_clear g x.is.luns x.shown.luns plain) (λ has. absurd (true≢false (sym has ∙ copyless))) x.is.tail d (keeps_rules g x.is.tail x.is.luns d kept)
 
       opened_step : at.opened ≡ true → (r : Option Forbidden) → judge_cycle g x.shown.tail x.shown.luns d ≡ r → Stepped g bus seen (Cyc c) later
-      opened_step e None h = permitted_step (inl e) h (seen_opened g plain at learned_own x.is x.shown c own e (open_later (inl e)) kept h learned_now)
+      opened_step e None h = permitted_step (inl e) h (seen_opened g plain copyless at learned_own x.is x.shown c own e (open_later (inl e)) kept h learned_now)
       opened_step e (Some rule) h =
           let o = own.opened e in
           granted_step rule h (open_now (inl e))
-          (hangs_of rule (judge_cycle g x.is.tail x.shown.luns d) (only_hangs g x.is.tail x.is.luns x.shown.luns d (under_each x.is.luns x.shown.luns (below_each (has_plane_reads g.optional) at 0 x.is.luns x.shown.luns own.luns)) (plain_clear g x.is.luns x.shown.luns plain) (keeps_rules g x.is.tail x.is.luns d kept)) (ap (λ w. judge_cycle g w x.shown.luns d) o.tail ∙ h))
-          (opened_known e) (granted_opened g plain one at x.is x.shown c own rule e kept h)
+          (hangs_of rule (judge_cycle g x.is.tail x.shown.luns d) (only_hangs g copyless x.is.tail x.is.luns x.shown.luns d (under_each x.is.luns x.shown.luns (below_each (has_plane_reads g.optional) at 0 x.is.luns x.shown.luns own.luns)) (plain_clear g x.is.luns x.shown.luns plain) (keeps_rules g x.is.tail x.is.luns d kept)) (ap (λ w. judge_cycle g w x.shown.luns d) o.tail ∙ h))
+          (opened_known e) (granted_opened g plain copyless one at x.is x.shown c own rule e kept h)
 
-      fresh_hangs : (e : TargetCycle) → e ≡ d → begins_sequence e ≡ true → at.opened ≡ false → OnlyHangs (judge_cycle g x.shown.tail x.shown.luns e)
+      fresh_hangs : (e : TargetCycle) → e ≡ d → opens_sequence g e ≡ true → at.opened ≡ false → OnlyHangs (judge_cycle g x.shown.tail x.shown.luns e)
       fresh_hangs (CommandCycle y) e b h =
           subst (λ w. OnlyHangs (judge_cycle g w x.shown.luns (CommandCycle y))) (sym (own.closed h).tail)
-          (only_hangs_fresh g x.is.tail x.is.luns x.shown.luns y b (under_each x.is.luns x.shown.luns (below_each (has_plane_reads g.optional) at 0 x.is.luns x.shown.luns own.luns)) (plain_clear g x.is.luns x.shown.luns plain) (keeps_rules g x.is.tail x.is.luns (CommandCycle y) (ap (judge_cycle g x.is.tail x.is.luns) e ∙ kept)))
+          (only_hangs_fresh g copyless x.is.tail x.is.luns x.shown.luns y b (under_each x.is.luns x.shown.luns (below_each (has_plane_reads g.optional) at 0 x.is.luns x.shown.luns own.luns)) (plain_clear g x.is.luns x.shown.luns plain) (keeps_rules g x.is.tail x.is.luns (CommandCycle y) (ap (judge_cycle g x.is.tail x.is.luns) e ∙ kept)))
       fresh_hangs (AddressCycle byte) e b h = cc
       fresh_hangs (InputCycle byte) e b h = cc
       fresh_hangs OutputCycle e b h = cc
 
-      fresh_known : (e : TargetCycle) → e ≡ d → begins_sequence e ≡ true → at.opened ≡ false → doubts seen.state.bus at c.ce ≡ false → judge_cycle g x.shown.tail x.shown.luns e ≡ None
+      fresh_known : (e : TargetCycle) → e ≡ d → opens_sequence g e ≡ true → at.opened ≡ false → doubts seen.state.bus at c.ce ≡ false → judge_cycle g x.shown.tail x.shown.luns e ≡ None
       fresh_known (CommandCycle y) e b h doubt =
           ap (λ w. judge_cycle g w x.shown.luns (CommandCycle y)) (own.closed h).tail
-          ∙ none_broken_fresh g x.is.luns x.shown.luns (known_luns doubt) (plain_clear g x.is.luns x.shown.luns plain) x.is.tail y b
-          (known_anew g x.is.tail x.is.luns x.shown.luns y b (keeps_rules g x.is.tail x.is.luns (CommandCycle y) (ap (judge_cycle g x.is.tail x.is.luns) e ∙ kept)) (own.closed h).comes (known_luns doubt))
+          ∙ none_broken_fresh g x.is.luns x.shown.luns (known_luns doubt) (plain_clear g x.is.luns x.shown.luns plain) copyless x.is.tail y b
+          (known_anew g copyless x.is.tail x.is.luns x.shown.luns y b (keeps_rules g x.is.tail x.is.luns (CommandCycle y) (ap (judge_cycle g x.is.tail x.is.luns) e ∙ kept)) (own.closed h).comes (known_luns doubt))
           (keeps_rules g x.is.tail x.is.luns (CommandCycle y) (ap (judge_cycle g x.is.tail x.is.luns) e ∙ kept))
       fresh_known (AddressCycle byte) e b h doubt = cc
       fresh_known (InputCycle byte) e b h doubt = cc
       fresh_known OutputCycle e b h doubt = cc
 
-      fresh_step : at.opened ≡ false → begins_sequence d ≡ true → (r : Option Forbidden) → judge_cycle g x.shown.tail x.shown.luns d ≡ r → Stepped g bus seen (Cyc c) later
-      fresh_step e b None h = permitted_step (inr b) h (seen_fresh g plain at learned_own x.is x.shown c own e (open_later (inr b)) b kept h learned_now)
+      fresh_step : at.opened ≡ false → opens_sequence g d ≡ true → (r : Option Forbidden) → judge_cycle g x.shown.tail x.shown.luns d ≡ r → Stepped g bus seen (Cyc c) later
+      fresh_step e b None h = permitted_step (inr b) h (seen_fresh g plain copyless at learned_own x.is x.shown c own e (open_later (inr b)) b kept h learned_now)
       fresh_step e b (Some rule) h =
           granted_step rule h (open_now (inr b)) (hangs_of rule (judge_cycle g x.shown.tail x.shown.luns d) (fresh_hangs d refl b e) h) (fresh_known d refl b e)
-          (granted_fresh g plain one at x.is x.shown c own rule e b kept h)
+          (granted_fresh g plain copyless one at x.is x.shown c own rule e b kept h)
 
-      over : at.opened ≡ false → begins_sequence d ≡ false → is_passed_over seen.state.bus.geometry at (Cyc c) ≡ true
+      over : at.opened ≡ false → opens_sequence g d ≡ false → is_passed_over seen.state.bus.geometry at (Cyc c) ≡ true
       over e b = ap (λ (o : Bool). not (o || begins_here seen.state.bus.geometry (Cyc c))) e ∙ ap not (begins_plain ∙ b)
 
       same_known : slice_set seen.known c.ce at ≡ seen.known
       same_known = set-get_or seen.known c.ce Rattle.trace_faults.specs.Middle.all_known
 
-      passed_step : at.opened ≡ false → begins_sequence d ≡ false → Stepped g bus seen (Cyc c) later
+      passed_step : at.opened ≡ false → opens_sequence g d ≡ false → Stepped g bus seen (Cyc c) later
       passed_step e b =
           told g bus seen (Cyc c) later f x true PassedOver seen (over e b) refl refl (λ n. refl)
           (subst (λ (ks : List Known). FitsBus g (bus_after (Cyc c) bus) (record { state = seen.state; known = ks })) same_known
-          (changed_fits g bus seen (Cyc c) later f x (λ s. s) at seen.state f.seen_geometry f.inside (sym (put_nothing c.ce seen.state.bus.targets)) (of_plain g at (target_after g (Cyc c) x.is) x.shown narrow (passed_over g plain one at x.is x.shown c own e b kept))))
+          (changed_fits g bus seen (Cyc c) later f x (λ s. s) at seen.state f.seen_geometry f.inside (sym (put_nothing c.ce seen.state.bus.targets)) (of_plain g at (target_after g (Cyc c) x.is) x.shown narrow (passed_over g plain copyless one at x.is x.shown c own e b kept))))
 
-      by_begun : at.opened ≡ false → (b : Bool) → begins_sequence d ≡ b → Stepped g bus seen (Cyc c) later
+      by_begun : at.opened ≡ false → (b : Bool) → opens_sequence g d ≡ b → Stepped g bus seen (Cyc c) later
       by_begun e true b = fresh_step e b (judge_cycle g x.shown.tail x.shown.luns d) refl
       by_begun e false b = passed_step e b
 
       by_opened : (b : Bool) → at.opened ≡ b → Stepped g bus seen (Cyc c) later
       by_opened true e = opened_step e (judge_cycle g x.shown.tail x.shown.luns d) refl
-      by_opened false e = by_begun e (begins_sequence d) refl
+      by_opened false e = by_begun e (opens_sequence g d) refl
 
--- ---- cycles of a target of whose commands some stop other LUNs
+-- ---- cycles of a target that waits for a reset
 
 one_alone : (g : Parts) (luns : List LunView) → is_shared g ≡ false → breaks_several_luns g luns (CommandCycle Reset) ≡ false → ltb 1 g.luns ≡ false
 unfolding breaks_several_luns
 one_alone g luns plain h = rw plain at h
 
-module _ (g : Parts) (bus : BusView) (seen : Seen) (c : Cycle) (later : List Item) (f : FitsBus g bus seen) (x : Here g bus seen (Cyc c)) (shared : stops_others g ≡ true) where
+module _ (g : Parts) (bus : BusView) (seen : Seen) (c : Cycle) (later : List Item) (f : FitsBus g bus seen) (x : Here g bus seen (Cyc c)) (shared : waits_for_reset g ≡ true) where
   abbrev known : Known
   known = known_of seen.known c.ce
 
   abbrev done : TargetCycle
   done = target_cycle c.kind c.byte
 
-  fit : FitsShared known x.is x.shown
+  fit : FitsShared g known x.is x.shown
   fit = (fits_here g bus seen (Cyc c) later f x).shared shared
 
   split : (leb (length bus.targets) c.ce ≡ false) × (judge_cycle g x.is.tail x.is.luns done ≡ None)
@@ -334,12 +340,12 @@ module _ (g : Parts) (bus : BusView) (seen : Seen) (c : Cycle) (later : List Ite
   seen_judged = x.judged ∙ ap (λ b. cond b (Some NotThere) (judge_cycle g x.shown.tail x.shown.luns done)) (unfold_there (length bus.targets) x.shown.luns c ∙ split.0)
 
   begins_shared : begins_here seen.state.bus.geometry (Cyc c) ≡ is_reset_cycle done
-  begins_shared = ap (λ (y : Parts). begins_here y (Cyc c)) f.seen_geometry ∙ ap (λ (b : Bool). cond b (is_reset_cycle done) (begins_sequence done)) shared
+  begins_shared = ap (λ (y : Parts). begins_here y (Cyc c)) f.seen_geometry ∙ ap (λ (b : Bool). cond b (is_reset_cycle done) (opens_sequence g done)) shared
 
   abbrev known_later : Known
   known_later = learned_by_it g bus seen (Cyc c) later f x (gone_on_by None (Cyc c) seen.state)
 
-  permitted : judge_cycle g x.shown.tail x.shown.luns done ≡ None → is_passed_over seen.state.bus.geometry known (Cyc c) ≡ false → FitsShared known_later (target_after g (Cyc c) x.is) (target_after g (Cyc c) x.shown) → Stepped g bus seen (Cyc c) later
+  permitted : judge_cycle g x.shown.tail x.shown.luns done ≡ None → is_passed_over seen.state.bus.geometry known (Cyc c) ≡ false → FitsShared g known_later (target_after g (Cyc c) x.is) (target_after g (Cyc c) x.shown) → Stepped g bus seen (Cyc c) later
   permitted h over fits =
       seen_step g bus seen (Cyc c) later f x (seen_judged ∙ h) over (ap (of_cycle (doubts seen.state.bus known c.ce)) (seen_judged ∙ h))
       (of_shared g known_later (target_after g (Cyc c) x.is) (target_after g (Cyc c) x.shown) shared fits)
@@ -352,18 +358,16 @@ module _ (g : Parts) (bus : BusView) (seen : Seen) (c : Cycle) (later : List Ite
   or_true true = refl
   or_true false = refl
 
-  -- where only some commands stop others, and none is of all LUNs, no reset is permitted
-  reset_shared : done ≡ CommandCycle Reset → is_shared g ≡ true
-  reset_shared reset = at (is_shared g) refl
+  -- a permitted reset is of all LUNs, or of the one LUN of its target
+  reset_can : done ≡ CommandCycle Reset → (is_shared g ≡ true) ⊎ ((is_shared g ≡ false) × (ltb 1 g.luns ≡ false))
+  reset_can reset = at (is_shared g) refl
     where
       kept : breaks_several_luns g x.is.luns (CommandCycle Reset) ≡ false
       kept = ap (λ (d : TargetCycle). breaks_several_luns g x.is.luns d) (sym reset) ∙ (keeps_rules g x.is.tail x.is.luns done split.1).f4
 
-      at : (b : Bool) → is_shared g ≡ b → is_shared g ≡ true
-      at true e = e
-      at false e =
-          let several = (and_parts (has_enhanced_column g.optional) (ltb 1 g.luns) (sym (ap (λ (b : Bool). b || (has_enhanced_column g.optional && ltb 1 g.luns)) e) ∙ shared)).1 in
-          absurd (true≢false (sym several ∙ one_alone g x.is.luns e kept))
+      at : (b : Bool) → is_shared g ≡ b → (is_shared g ≡ true) ⊎ ((is_shared g ≡ false) × (ltb 1 g.luns ≡ false))
+      at true e = inl e
+      at false e = inr (e, one_alone g x.is.luns e kept)
 
   shared_step : Stepped g bus seen (Cyc c) later
   shared_step = at known.opened refl (is_reset_cycle done) refl
@@ -375,11 +379,10 @@ module _ (g : Parts) (bus : BusView) (seen : Seen) (c : Cycle) (later : List Ite
           (seen_alike g known known_later x.is x.shown c fit e (ap (λ (o : Bool). o || begins_here seen.state.bus.geometry (Cyc c)) e) split.1)
       at false e true is =
           let reset = reset_is done is in
-          let every = reset_shared reset in
           permitted
-          (ap (λ (d : TargetCycle). judge_cycle g x.shown.tail x.shown.luns d) reset ∙ ap (λ (u : TailFacts). judge_cycle g u x.shown.luns (CommandCycle Reset)) (fit.closed e).tail ∙ reset_judged g x.shown.luns every)
+          (ap (λ (d : TargetCycle). judge_cycle g x.shown.tail x.shown.luns d) reset ∙ ap (λ (u : TailFacts). judge_cycle g u x.shown.luns (CommandCycle Reset)) (fit.closed e).tail ∙ reset_judged g x.shown.luns (reset_can reset))
           (ap (λ (o : Bool). not (known.opened || o)) (begins_shared ∙ is) ∙ not_from_true (known.opened || true) (or_true known.opened))
-          (reset_alike g known known_later x.is x.shown c fit every reset (ap (λ (o : Bool). known.opened || o) (begins_shared ∙ is) ∙ or_true known.opened))
+          (reset_alike g known known_later x.is x.shown c fit reset (ap (λ (o : Bool). known.opened || o) (begins_shared ∙ is) ∙ or_true known.opened))
       at false e false is =
           told g bus seen (Cyc c) later f x true PassedOver seen (ap (λ (o : Bool). not (o || begins_here seen.state.bus.geometry (Cyc c))) e ∙ ap not (begins_shared ∙ is)) refl refl (λ n. refl)
           (subst (λ (ks : List Known). FitsBus g (bus_after (Cyc c) bus) (record { state = seen.state; known = ks })) (set-get_or seen.known c.ce Rattle.trace_faults.specs.Middle.all_known)
@@ -387,9 +390,9 @@ module _ (g : Parts) (bus : BusView) (seen : Seen) (c : Cycle) (later : List Ite
           (of_shared g known (target_after g (Cyc c) x.is) x.shown shared (rests_unseen g known known_later x.is x.shown c fit e))))
 
 pub cycle_step : (g : Parts) (bus : BusView) (seen : Seen) (c : Cycle) (later : List Item) (f : FitsBus g bus seen) (x : Here g bus seen (Cyc c)) → Stepped g bus seen (Cyc c) later
-cycle_step g bus seen c later f x = at (stops_others g) refl
+cycle_step g bus seen c later f x = at (waits_for_reset g) refl
   where
-    at : (b : Bool) → stops_others g ≡ b → Stepped g bus seen (Cyc c) later
+    at : (b : Bool) → waits_for_reset g ≡ b → Stepped g bus seen (Cyc c) later
     at true e = shared_step g bus seen c later f x e
     at false e = plain_step g bus seen c later f x e
 

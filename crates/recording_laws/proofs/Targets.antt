@@ -4,7 +4,7 @@ use Rattle.std.proofs.lemmas.Bool.{ltb-true, and_parts, or_left, or_right, not-f
 use Rattle.nand_geometry.specs.declared.parts.Parts.{Parts}
 use Rattle.nand_geometry.specs.Row.{parts_of, is_inside}
 use Rattle.onfi_cycle.specs.declared.command.Command.{Command}
-use Rattle.onfi_cycle.specs.declared.command.Command.TheVariants.{Read, ReadConfirm, ChangeReadColumn, ChangeReadColumnEnhanced, BlockErase, BlockEraseConfirm, BlockErasePlane, PageProgram, ProgramConfirm, ProgramPlane, ReadCacheSequential, ReadPlane}
+use Rattle.onfi_cycle.specs.declared.command.Command.TheVariants.{Read, ReadConfirm, ChangeReadColumn, ChangeReadColumnEnhanced, BlockErase, BlockEraseConfirm, BlockErasePlane, PageProgram, ProgramConfirm, ProgramPlane, ReadCacheSequential, ReadPlane, CopybackRead, ChangeWriteColumn}
 use Rattle.onfi_cycle.specs.declared.data_phase.DataPhase.{DataPhase}
 use Rattle.onfi_cycle.specs.declared.data_phase.DataPhase.TheVariants.{Outside, Inputs, FirstColumn, SecondColumn, FeatureInputs}
 use Rattle.onfi_cycle.specs.declared.effect.Effect.{Effect}
@@ -22,27 +22,28 @@ use Rattle.onfi_cycle.specs.declared.tail_facts.TailFacts.{TailFacts}
 use Rattle.onfi_cycle.specs.declared.target_cycle.TargetCycle.{TargetCycle}
 use Rattle.onfi_cycle.specs.declared.target_cycle.TargetCycle.TheVariants.{CommandCycle, AddressCycle, InputCycle, OutputCycle}
 use Rattle.onfi_cycle.specs.Bounds.{is_read, is_block_erase}
-use Rattle.nand_geometry.specs.Optional.{is_wide, has_enhanced_column, has_plane_reads}
-use Rattle.onfi_cycle.specs.Command.{is_opener, closes, address_cycles, at_last_row, is_change_read_column, is_enhanced_column, is_page_program}
+use Rattle.nand_geometry.specs.Optional.{is_wide, has_enhanced_column, has_plane_reads, has_copyback}
+use Rattle.onfi_cycle.specs.Command.{is_opener, closes, address_cycles, at_last_row, is_change_read_column, is_enhanced_column, begins_data}
 use Rattle.onfi_cycle.specs.Effect.{is_off, is_shared, names_lun, page_address, address_effect, opening_address_effect, cycle_effect}
 use Rattle.onfi_cycle.specs.Lun.{is_page_read, view_after}
 use Rattle.onfi_cycle.specs.LunView.{LunView}
 use Rattle.onfi_cycle.specs.Permitted.{judge_cycle}
-use Rattle.onfi_cycle.specs.Rules.{is_some_and, driving, only, driver, driver_is, lun_is, named_lun_is, continues_cache, has_read_one, has_some, some_read_clashes, holds_plane_of, may_change_column, refused_by, is_refused_by, ends_row, breaks_command_unknown, breaks_row_outside, breaks_sequence_open, breaks_no_column_to_change, breaks_queue_clash, breaks_cache_read_misplaced, breaks_plane_not_held}
-use Rattle.onfi_cycle.specs.Sequence.{target_cycle, facts_of, opened, one_address_more, row, row_with, wants_command, extended_facts, facts_after, begins_sequence, begins_anew, works_on_row}
+use Rattle.onfi_cycle.specs.Rules.{is_some_and, driving, only, driver, driver_is, lun_is, named_lun_is, continues_cache, has_read_one, has_some, some_read_clashes, holds_plane_of, may_change_column, refused_by, is_refused_by, ends_row, breaks_command_unknown, breaks_row_outside, breaks_sequence_open, breaks_no_column_to_change, breaks_queue_clash, breaks_cache_read_misplaced, breaks_plane_not_held, opens_here}
+use Rattle.onfi_cycle.specs.Sequence.{target_cycle, facts_of, opened, one_address_more, row, row_with, wants_command, extended_facts, facts_after, begins_anew, goes_on_with}
 use Rattle.onfi_cycle.specs.State.{TargetView, luns_after, has_driver, target_after, without_sequence}
 use Rattle.onfi_cycle.proofs.Booleans.{and_rest}
 use Rattle.onfi_cycle.proofs.Passed.{KeepsRules, keeps_rules}
 use Rattle.onfi_cycle.proofs.TableLemmas.{command_opens}
 use Rattle.trace_faults.specs.declared.known.Known.{Known}
+use Rattle.trace_faults.specs.Outside.{opens_sequence}
 use Rattle.trace_faults.specs.Middle.{nothing_known, is_reset_cycle}
 use Rattle.recording_laws.proofs.Luns.{IsBelow, IsHarmless}
 use Rattle.recording_laws.proofs.Lists.{Each, lun_up}
-use Rattle.recording_laws.proofs.Rules.{six_of, IsKnown, IsClear, plain_clear, judged_six, judged_six_fresh}
+use Rattle.recording_laws.proofs.Rules.{six_of, IsKnown, IsClear, plain_clear, judged_six, judged_six_fresh, opens_is}
 use Rattle.recording_laws.proofs.Changed.{changed, changed_length, AtEach, at_each, AllFit, under_each, below_each, GoEach, all_fit_on, IsLearned, learns_each, below_unseen, all_nothing}
 use Rattle.recording_laws.proofs.Cycles.{by_cycle, luns_by_cycle, ReadsClear, PlaneClear, go_command, go_opener, go_address, go_input, go_output}
 use Rattle.recording_laws.proofs.Unseen.{is_led, is_quiet_by, is_quiet, is_named_by, is_named, is_plane_by, is_plane, NoneQueued, AllNamed, AreBlank, MayCome, blank, quiet, named, selecting, not_led, may_come_on, unseen_harmless, quiet_command}
-use Rattle.recording_laws.proofs.Granted.{is_sound, is_sound_by, sound_after, grants, is_granted, granted_row, command_granted, command_comes, Comes, address_granted, input_granted, output_granted}
+use Rattle.recording_laws.proofs.Granted.{is_sound, is_sound_by, sound_after, grants, is_granted, granted_row, command_granted, command_comes, Comes, address_granted, input_granted, output_granted, no_copyback}
 
 -- ---- 1. a target
 
@@ -297,7 +298,7 @@ plane_clear g u ss h = at_each (PlaneClear g u) ss (λ m s found r names. h r m 
 
 -- ---- 3. a cycle that is seen
 
-module _ (g : Parts) (plain : is_shared g ≡ false) (k later : Known) (t s : TargetView) (c : Cycle) (f : FitsTarget g k t s) where
+module _ (g : Parts) (plain : is_shared g ≡ false) (copyless : has_copyback g.optional ≡ false) (k later : Known) (t s : TargetView) (c : Cycle) (f : FitsTarget g k t s) where
   abbrev cycle : TargetCycle
   cycle = target_cycle c.kind c.byte
 
@@ -319,10 +320,10 @@ module _ (g : Parts) (plain : is_shared g ≡ false) (k later : Known) (t s : Ta
 
   go_cycle : (u : TailFacts) (d : TargetCycle) → d ≡ cycle → KeepsRules g u t.luns d → KeepsRules g u s.luns d → (opened (λ c n. is_change_read_column c) u.opening ≡ true → (has_driver t.luns ≡ true) × (has_driver s.luns ≡ true)) →
       (has_plane_reads g.optional ≡ false → opened (λ c n. is_read c && n == 5) u.opening ≡ true → NoneQueued g (row u) t.luns) → (opened (λ c n. is_enhanced_column c && n == 5) u.opening ≡ true → NoneQueued g (row u) s.luns) → GoEach (has_plane_reads g.optional) (Cyc c) k (by_cycle g u (has_driver t.luns) d) (by_cycle g u (has_driver s.luns) d) 0 t.luns s.luns
-  go_cycle u (CommandCycle x) e a b column read plane = go_command g plain (Cyc c) k t.luns s.luns each u x (λ h. ap is_reset_cycle e ∙ h) a b column (reads_clear g u t.luns read) (plane_clear g u s.luns plane)
-  go_cycle u (AddressCycle byte) e a b column read plane = go_address g plain (Cyc c) k t.luns s.luns each u byte (λ h. ap is_reset_cycle e ∙ h)
-  go_cycle u (InputCycle byte) e a b column read plane = go_input g plain (Cyc c) k t.luns s.luns each u byte (λ h. ap is_reset_cycle e ∙ h)
-  go_cycle u OutputCycle e a b column read plane = go_output g plain (Cyc c) k t.luns s.luns each u (λ h. ap is_reset_cycle e ∙ h) a b
+  go_cycle u (CommandCycle x) e a b column read plane = go_command g plain copyless (Cyc c) k t.luns s.luns each u x (λ h. ap is_reset_cycle e ∙ h) a b column (reads_clear g u t.luns read) (plane_clear g u s.luns plane)
+  go_cycle u (AddressCycle byte) e a b column read plane = go_address g plain copyless (Cyc c) k t.luns s.luns each u byte (λ h. ap is_reset_cycle e ∙ h)
+  go_cycle u (InputCycle byte) e a b column read plane = go_input g plain copyless (Cyc c) k t.luns s.luns each u byte (λ h. ap is_reset_cycle e ∙ h)
+  go_cycle u OutputCycle e a b column read plane = go_output g plain copyless (Cyc c) k t.luns s.luns each u (λ h. ap is_reset_cycle e ∙ h) a b
 
   -- a cycle of a target of which an opener was seen
   pub seen_opened : k.opened ≡ true → later.opened ≡ true → judge_cycle g t.tail t.luns cycle ≡ None → judge_cycle g s.tail s.luns cycle ≡ None → IsLearned (has_plane_reads g.optional) (Cyc c) k later s.luns (target_after g (Cyc c) s).luns →
@@ -378,21 +379,25 @@ opens_nothing ReadConfirm h = cc
 opens_nothing BlockEraseConfirm h = cc
 opens_nothing BlockErasePlane h = cc
 opens_nothing ReadPlane h = cc
+opens_nothing CopybackRead h = cc
 opens_nothing ProgramConfirm h = cc
 opens_nothing ProgramPlane h = cc
 opens_nothing ReadCacheSequential h = refl
+opens_nothing ChangeWriteColumn h = refl
 opens_nothing c h = h
 
--- so does each behind another, but a 31h that it wants
-anew_by : (t : TailFacts) (c : Command) → is_opener c ≡ true → (c ≡ ReadCacheSequential → wants_command t ReadCacheSequential ≡ false) → begins_anew t (CommandCycle c) ≡ true
-anew_by t ReadConfirm h w = cc
-anew_by t BlockEraseConfirm h w = cc
-anew_by t BlockErasePlane h w = cc
-anew_by t ReadPlane h w = cc
-anew_by t ProgramConfirm h w = cc
-anew_by t ProgramPlane h w = cc
-anew_by t ReadCacheSequential h w = ap not (w refl)
-anew_by t c h w = h
+-- so does each behind another, but a 31h that it wants, where an 85h begins none
+anew_by : (g : Parts) → has_copyback g.optional ≡ false → (t : TailFacts) (c : Command) → opens_here g c ≡ true → (c ≡ ReadCacheSequential → wants_command t ReadCacheSequential ≡ false) → begins_anew t (CommandCycle c) ≡ true
+anew_by g copyless t ReadConfirm h w = cc
+anew_by g copyless t BlockEraseConfirm h w = cc
+anew_by g copyless t BlockErasePlane h w = cc
+anew_by g copyless t ReadPlane h w = cc
+anew_by g copyless t CopybackRead h w = cc
+anew_by g copyless t ChangeWriteColumn h w = absurd (true≢false (sym h ∙ copyless))
+anew_by g copyless t ProgramConfirm h w = cc
+anew_by g copyless t ProgramPlane h w = cc
+anew_by g copyless t ReadCacheSequential h w = ap not (w refl)
+anew_by g copyless t c h w = h
 
 -- in the base profile none that is permitted is wanted
 unwanted : (g : Parts) (t : TailFacts) → is_wide g.optional ≡ false → breaks_sequence_open g t (CommandCycle ReadCacheSequential) ≡ false → wants_command t ReadCacheSequential ≡ false
@@ -414,8 +419,9 @@ erase_unread : (c : Command) (n : ℕ) → is_block_erase c ≡ true → (closes
 erase_unread BlockErase n h = refl
 erase_unread c n h = cc
 
-program_unread : (c : Command) (n : ℕ) → is_page_program c ≡ true → (closes c ReadCacheSequential && n == address_cycles c) ≡ false
+program_unread : (c : Command) (n : ℕ) → begins_data c ≡ true → (closes c ReadCacheSequential && n == address_cycles c) ≡ false
 program_unread PageProgram n h = refl
+program_unread ChangeWriteColumn n h = refl
 program_unread c n h = cc
 
 quiet_unread : (o : Option Opening) (p : DataPhase) → is_quiet_by o p ≡ true → ReadClosed o ≡ false
@@ -424,7 +430,7 @@ quiet_unread (Some o) p h = led_unread o.opener o.addresses (not_led o p h)
 
 named_unread : (g : Parts) (o : Option Opening) (p : DataPhase) → is_wide g.optional ≡ true → is_named_by g o p ≡ true → ReadClosed o ≡ false
 named_unread g None p w h = refl
-named_unread g (Some o) Inputs w h = program_unread o.opener o.addresses (and_parts (is_page_program o.opener) (o.addresses == 5) h).0
+named_unread g (Some o) Inputs w h = program_unread o.opener o.addresses (and_parts (begins_data o.opener) (o.addresses == 5) h).0
 named_unread g (Some o) Outside w h = at (is_block_erase o.opener && o.addresses == 3) refl h
   where
     at : (b : Bool) → (is_block_erase o.opener && o.addresses == 3) ≡ b → (b || (not (is_wide g.optional) && (is_read o.opener && o.addresses == 5))) ≡ true → ReadClosed (Some o) ≡ false
@@ -472,24 +478,26 @@ blank_reader (v ∷ vs) zero b h = let none : is_page_read None ≡ true = ap is
 blank_reader (v ∷ vs) (suc n) b h = blank_reader vs n (λ m s found. b (suc m) s found) h
 
 -- an opener that is seen to be permitted behind what wasn't seen begins a tail
-fresh_anew : (g : Parts) (t : TailFacts) (ts ss : List LunView) (c : Command) → is_opener c ≡ true → KeepsRules g t ts (CommandCycle c) → KeepsRules g (facts_of []) ss (CommandCycle c) → MayCome g t ss → begins_anew t (CommandCycle c) ≡ true
+fresh_anew : (g : Parts) → has_copyback g.optional ≡ false → (t : TailFacts) (ts ss : List LunView) (c : Command) → opens_here g c ≡ true → KeepsRules g t ts (CommandCycle c) → KeepsRules g (facts_of []) ss (CommandCycle c) → MayCome g t ss → begins_anew t (CommandCycle c) ≡ true
 unfolding breaks_cache_read_misplaced
-fresh_anew g t ts ss ReadCacheSequential h a b (blank e) = absurd (blank_driver ss (continues_cache g) e (not-false (driver_is (continues_cache g) ss) b.f15))
-fresh_anew g t ts ss ReadCacheSequential h a b (quiet e) = ap not (quiet_read g t e)
-fresh_anew g t ts ss ReadCacheSequential h a b (named e n) = ap not (named_read g t e a.f3)
-fresh_anew g t ts ss ReadCacheSequential h a b (selecting e n) = ap not (selecting_read g t e)
-fresh_anew g t ts ss ReadConfirm h a b m = cc
-fresh_anew g t ts ss BlockEraseConfirm h a b m = cc
-fresh_anew g t ts ss BlockErasePlane h a b m = cc
-fresh_anew g t ts ss ReadPlane h a b m = cc
-fresh_anew g t ts ss ProgramConfirm h a b m = cc
-fresh_anew g t ts ss ProgramPlane h a b m = cc
-fresh_anew g t ts ss c h a b m = h
+fresh_anew g copyless t ts ss ReadCacheSequential h a b (blank e) = absurd (blank_driver ss (continues_cache g) e (not-false (driver_is (continues_cache g) ss) b.f15))
+fresh_anew g copyless t ts ss ReadCacheSequential h a b (quiet e) = ap not (quiet_read g t e)
+fresh_anew g copyless t ts ss ReadCacheSequential h a b (named e n) = ap not (named_read g t e a.f3)
+fresh_anew g copyless t ts ss ReadCacheSequential h a b (selecting e n) = ap not (selecting_read g t e)
+fresh_anew g copyless t ts ss ReadConfirm h a b m = cc
+fresh_anew g copyless t ts ss BlockEraseConfirm h a b m = cc
+fresh_anew g copyless t ts ss BlockErasePlane h a b m = cc
+fresh_anew g copyless t ts ss ReadPlane h a b m = cc
+fresh_anew g copyless t ts ss CopybackRead h a b m = cc
+fresh_anew g copyless t ts ss ChangeWriteColumn h a b m = absurd (true≢false (sym h ∙ copyless))
+fresh_anew g copyless t ts ss ProgramConfirm h a b m = cc
+fresh_anew g copyless t ts ss ProgramPlane h a b m = cc
+fresh_anew g copyless t ts ss c h a b m = h
 
 -- so does one where all is known of each LUN
-pub known_anew : (g : Parts) (t : TailFacts) (ts ss : List LunView) (c : Command) → is_opener c ≡ true → KeepsRules g t ts (CommandCycle c) → MayCome g t ss → Each IsKnown ts ss → begins_anew t (CommandCycle c) ≡ true
+pub known_anew : (g : Parts) → has_copyback g.optional ≡ false → (t : TailFacts) (ts ss : List LunView) (c : Command) → opens_here g c ≡ true → KeepsRules g t ts (CommandCycle c) → MayCome g t ss → Each IsKnown ts ss → begins_anew t (CommandCycle c) ≡ true
 unfolding breaks_cache_read_misplaced
-known_anew g t ts ss ReadCacheSequential h a (blank e) each = ap not (at (wants_command t ReadCacheSequential) refl a.f15)
+known_anew g copyless t ts ss ReadCacheSequential h a (blank e) each = ap not (at (wants_command t ReadCacheSequential) refl a.f15)
   where
     at : (w : Bool) → wants_command t ReadCacheSequential ≡ w → cond w (not (named_lun_is g (row t) has_read_one ts)) (not (driver_is (continues_cache g) ts)) ≡ false → w ≡ false
     at false x f = refl
@@ -497,29 +505,31 @@ known_anew g t ts ss ReadCacheSequential h a (blank e) each = ap not (at (wants_
         absurd (blank_reader ss (parts_of g (row t)).lun e
         (lun_up IsKnown has_read_one (λ v. is_page_read v.closer) (λ x y k r. ap is_page_read (sym k.begun.closer) ∙ (and_parts (is_page_read x.closer) (leb (length x.held) 1) r).0) ts ss (parts_of g (row t)).lun each
         (not-false (named_lun_is g (row t) has_read_one ts) f)))
-known_anew g t ts ss ReadCacheSequential h a (quiet e) each = ap not (quiet_read g t e)
-known_anew g t ts ss ReadCacheSequential h a (named e n) each = ap not (named_read g t e a.f3)
-known_anew g t ts ss ReadCacheSequential h a (selecting e n) each = ap not (selecting_read g t e)
-known_anew g t ts ss ReadConfirm h a m each = cc
-known_anew g t ts ss BlockEraseConfirm h a m each = cc
-known_anew g t ts ss BlockErasePlane h a m each = cc
-known_anew g t ts ss ReadPlane h a m each = cc
-known_anew g t ts ss ProgramConfirm h a m each = cc
-known_anew g t ts ss ProgramPlane h a m each = cc
-known_anew g t ts ss c h a m each = h
+known_anew g copyless t ts ss ReadCacheSequential h a (quiet e) each = ap not (quiet_read g t e)
+known_anew g copyless t ts ss ReadCacheSequential h a (named e n) each = ap not (named_read g t e a.f3)
+known_anew g copyless t ts ss ReadCacheSequential h a (selecting e n) each = ap not (selecting_read g t e)
+known_anew g copyless t ts ss ReadConfirm h a m each = cc
+known_anew g copyless t ts ss BlockEraseConfirm h a m each = cc
+known_anew g copyless t ts ss BlockErasePlane h a m each = cc
+known_anew g copyless t ts ss ReadPlane h a m each = cc
+known_anew g copyless t ts ss CopybackRead h a m each = cc
+known_anew g copyless t ts ss ChangeWriteColumn h a m each = absurd (true≢false (sym h ∙ copyless))
+known_anew g copyless t ts ss ProgramConfirm h a m each = cc
+known_anew g copyless t ts ss ProgramPlane h a m each = cc
+known_anew g copyless t ts ss c h a m each = h
 
 -- what comes behind one that is taken for granted
-fresh_comes_on : (g : Parts) (t : TailFacts) (ts ss : List LunView) (c : Command) → is_opener c ≡ true → grants c ≡ true → KeepsRules g t ts (CommandCycle c) → MayCome g t ss → MayCome g (facts_after (CommandCycle c) t) ss
-fresh_comes_on g t ts ss c h grant a (blank e) = blank e
-fresh_comes_on g t ts ss c h grant a (quiet e) = command_comes g t ss c (inr (anew_by t c h (λ same. quiet_read g t e))) grant
-fresh_comes_on g t ts ss c h grant a (selecting e n) = command_comes g t ss c (inr (anew_by t c h (λ same. selecting_read g t e))) grant
-fresh_comes_on g t ts ss c h grant a (named e n) =
-    command_comes g t ss c (inr (anew_by t c h (λ same. named_read g t e (ap (λ (x : Command). breaks_sequence_open g t (CommandCycle x)) (sym same) ∙ a.f3)))) grant
+fresh_comes_on : (g : Parts) → has_copyback g.optional ≡ false → (t : TailFacts) (ts ss : List LunView) (c : Command) → opens_here g c ≡ true → grants c ≡ true → KeepsRules g t ts (CommandCycle c) → MayCome g t ss → MayCome g (facts_after (CommandCycle c) t) ss
+fresh_comes_on g copyless t ts ss c h grant a (blank e) = blank e
+fresh_comes_on g copyless t ts ss c h grant a (quiet e) = command_comes g t ss c (inr (anew_by g copyless t c h (λ same. quiet_read g t e))) grant
+fresh_comes_on g copyless t ts ss c h grant a (selecting e n) = command_comes g t ss c (inr (anew_by g copyless t c h (λ same. selecting_read g t e))) grant
+fresh_comes_on g copyless t ts ss c h grant a (named e n) =
+    command_comes g t ss c (inr (anew_by g copyless t c h (λ same. named_read g t e (ap (λ (x : Command). breaks_sequence_open g t (CommandCycle x)) (sym same) ∙ a.f3)))) grant
 
 fresh_of : (g : Parts) (d : TargetCycle) (u : TailFacts) → begins_anew u d ≡ true → Fresh g d u
 fresh_of g (CommandCycle c) u h =
     record {
-      same = rw (h, opens_nothing c (and_parts (is_opener c) (not (works_on_row u c)) h).0) refl;
+      same = rw (h, opens_nothing c (and_parts (is_opener c) (not (goes_on_with u c)) h).0) refl;
       some = rw h refl;
       sound = rw h (ap (is_sound_by (Some (record { opener = c; addresses = 0 }))) (quiet_command c Outside refl));
       column = λ x w vs f5. opened_driver g w vs c f5 (rw h at x);
@@ -531,21 +541,21 @@ fresh_of g (AddressCycle byte) u h = cc
 fresh_of g (InputCycle byte) u h = cc
 fresh_of g OutputCycle u h = cc
 
-module _ (g : Parts) (plain : is_shared g ≡ false) (k later : Known) (t s : TargetView) (c : Cycle) (f : FitsTarget g k t s) where
-  go_fresh : (u : TailFacts) (d : TargetCycle) → d ≡ target_cycle c.kind c.byte → begins_sequence d ≡ true → begins_anew u d ≡ true → KeepsRules g u t.luns d → KeepsRules g (facts_of []) s.luns d →
+module _ (g : Parts) (plain : is_shared g ≡ false) (copyless : has_copyback g.optional ≡ false) (k later : Known) (t s : TargetView) (c : Cycle) (f : FitsTarget g k t s) where
+  go_fresh : (u : TailFacts) (d : TargetCycle) → d ≡ target_cycle c.kind c.byte → opens_sequence g d ≡ true → begins_anew u d ≡ true → KeepsRules g u t.luns d → KeepsRules g (facts_of []) s.luns d →
       GoEach (has_plane_reads g.optional) (Cyc c) k (by_cycle g u (has_driver t.luns) d) (by_cycle g (facts_of []) (has_driver s.luns) d) 0 t.luns s.luns
-  go_fresh u (CommandCycle x) e h anew a b = go_opener g plain (Cyc c) k t.luns s.luns (each g plain k later t s c f) u x h anew (λ y. ap is_reset_cycle e ∙ y) a b
+  go_fresh u (CommandCycle x) e h anew a b = go_opener g plain copyless (Cyc c) k t.luns s.luns (each g plain copyless k later t s c f) u x (opens_is g x h) anew (λ y. ap is_reset_cycle e ∙ y) a b
   go_fresh u (AddressCycle byte) e h anew a b = cc
   go_fresh u (InputCycle byte) e h anew a b = cc
   go_fresh u OutputCycle e h anew a b = cc
 
-  pub seen_fresh : k.opened ≡ false → later.opened ≡ true → begins_sequence (target_cycle c.kind c.byte) ≡ true → judge_cycle g t.tail t.luns (target_cycle c.kind c.byte) ≡ None → judge_cycle g s.tail s.luns (target_cycle c.kind c.byte) ≡ None →
+  pub seen_fresh : k.opened ≡ false → later.opened ≡ true → opens_sequence g (target_cycle c.kind c.byte) ≡ true → judge_cycle g t.tail t.luns (target_cycle c.kind c.byte) ≡ None → judge_cycle g s.tail s.luns (target_cycle c.kind c.byte) ≡ None →
       IsLearned (has_plane_reads g.optional) (Cyc c) k later s.luns (target_after g (Cyc c) s).luns → FitsTarget g later (target_after g (Cyc c) t) (target_after g (Cyc c) s)
   seen_fresh was later_open begins permitted seen learned =
       record {
-        few = few_after g plain k later t s c f s.tail;
-        count = count_after g plain k later t s c f s.tail;
-        luns = fit_after g plain k later t s c f t.tail s.tail (subst (λ (w : TailFacts). GoEach (has_plane_reads g.optional) (Cyc c) k (by_cycle g t.tail (has_driver t.luns) d) (by_cycle g w (has_driver s.luns) d) 0 t.luns s.luns) (sym q.tail) (go_fresh t.tail d refl begins anew a b)) learned;
+        few = few_after g plain copyless k later t s c f s.tail;
+        count = count_after g plain copyless k later t s c f s.tail;
+        luns = fit_after g plain copyless k later t s c f t.tail s.tail (subst (λ (w : TailFacts). GoEach (has_plane_reads g.optional) (Cyc c) k (by_cycle g t.tail (has_driver t.luns) d) (by_cycle g w (has_driver s.luns) d) 0 t.luns s.luns) (sym q.tail) (go_fresh t.tail d refl begins anew a b)) learned;
         opened = λ h. record {
           tail = fresh.same ∙ ap (facts_after d) (sym q.tail);
           some = fresh.some;
@@ -573,8 +583,8 @@ module _ (g : Parts) (plain : is_shared g ≡ false) (k later : Known) (t s : Ta
       b : KeepsRules g (facts_of []) s.luns d
       b = keeps_rules g (facts_of []) s.luns d (ap (λ (w : TailFacts). judge_cycle g w s.luns d) (sym q.tail) ∙ seen)
 
-      opens_anew : (e : TargetCycle) → begins_sequence e ≡ true → KeepsRules g t.tail t.luns e → KeepsRules g (facts_of []) s.luns e → begins_anew t.tail e ≡ true
-      opens_anew (CommandCycle x) h x' y = fresh_anew g t.tail t.luns s.luns x h x' y q.comes
+      opens_anew : (e : TargetCycle) → opens_sequence g e ≡ true → KeepsRules g t.tail t.luns e → KeepsRules g (facts_of []) s.luns e → begins_anew t.tail e ≡ true
+      opens_anew (CommandCycle x) h x' y = fresh_anew g copyless t.tail t.luns s.luns x h x' y q.comes
       opens_anew (AddressCycle byte) h x' y = cc
       opens_anew (InputCycle byte) h x' y = cc
       opens_anew OutputCycle h x' y = cc
@@ -587,7 +597,7 @@ module _ (g : Parts) (plain : is_shared g ≡ false) (k later : Known) (t s : Ta
 
 -- ---- 5. a cycle that is taken for granted, or passed over
 
-module _ (g : Parts) (plain : is_shared g ≡ false) (one : IsAlone g) (k : Known) (t s : TargetView) (c : Cycle) (f : FitsTarget g k t s) where
+module _ (g : Parts) (plain : is_shared g ≡ false) (copyless : has_copyback g.optional ≡ false) (one : IsAlone g) (k : Known) (t s : TargetView) (c : Cycle) (f : FitsTarget g k t s) where
   abbrev clear : is_shared g ≡ true → IsClear t.luns s.luns
   clear = plain_clear g t.luns s.luns plain
 
@@ -610,17 +620,17 @@ module _ (g : Parts) (plain : is_shared g ≡ false) (one : IsAlone g) (k : Know
         closed = λ h. record { tail = refl; nothing = refl; comes = x.comes };
       }
 
-  by_command : (u : TailFacts) (x : Command) (rule : Forbidden) → (x ≡ ReadConfirm → NoneQueued g (row t.tail) s.luns) → six_of g u s.luns (CommandCycle x) ≡ Some rule → (grants x ≡ true → MayCome g (facts_after (CommandCycle x) t.tail) s.luns) → Comes g t.tail s.luns (CommandCycle x)
-  by_command u x rule calm h comes =
+  by_command : (u : TailFacts) (x : Command) (rule : Forbidden) → (x ≡ CopybackRead → ⊥) → (x ≡ ReadConfirm → NoneQueued g (row t.tail) s.luns) → six_of g u s.luns (CommandCycle x) ≡ Some rule → (grants x ≡ true → MayCome g (facts_after (CommandCycle x) t.tail) s.luns) → Comes g t.tail s.luns (CommandCycle x)
+  by_command u x rule never calm h comes =
       let grant = is_granted g u s.luns x rule h in
-      record { comes = comes grant; harmless = λ la n v found. command_granted g plain t.tail la x n v grant (λ same names. calm same n v found names) }
+      record { comes = comes grant; harmless = λ la n v found. command_granted g plain t.tail la x n v grant never (λ same names. calm same n v found names) }
 
   open_comes : (d : TargetCycle) (rule : Forbidden) → KeepsRules g t.tail t.luns d → IsOpened g t s → judge_cycle g t.tail s.luns d ≡ Some rule → Comes g t.tail s.luns d
   open_comes (CommandCycle x) rule a o h =
-      let six = sym (judged_six g t.tail t.luns s.luns (CommandCycle x) (under_each t.luns s.luns below) clear a) ∙ h in
-      by_command t.tail x rule (λ same. granted_row g t.tail t.luns s.luns rule below (sym (ap (λ (y : Command). six_of g t.tail s.luns (CommandCycle y)) same) ∙ six)) six (command_comes g t.tail s.luns x (inl o.some))
-  open_comes (AddressCycle byte) rule a o h = address_granted g t.tail t.luns s.luns byte rule below a o.some o.sound (alone_named g t.tail s.luns byte one f.count o.declared a.f8) (sym (judged_six g t.tail t.luns s.luns (AddressCycle byte) (under_each t.luns s.luns below) clear a) ∙ h)
-  open_comes (InputCycle byte) rule a o h = absurd (input_granted g t.tail t.luns s.luns byte rule a (sym (judged_six g t.tail t.luns s.luns (InputCycle byte) (under_each t.luns s.luns below) clear a) ∙ h))
+      let six = sym (judged_six g copyless t.tail t.luns s.luns (CommandCycle x) (under_each t.luns s.luns below) clear a) ∙ h in
+      by_command t.tail x rule (no_copyback g copyless x a.f2) (λ same. granted_row g t.tail t.luns s.luns rule below (sym (ap (λ (y : Command). six_of g t.tail s.luns (CommandCycle y)) same) ∙ six)) six (command_comes g t.tail s.luns x (inl o.some))
+  open_comes (AddressCycle byte) rule a o h = address_granted g t.tail t.luns s.luns byte rule below a o.some o.sound (alone_named g t.tail s.luns byte one f.count o.declared a.f8) (sym (judged_six g copyless t.tail t.luns s.luns (AddressCycle byte) (under_each t.luns s.luns below) clear a) ∙ h)
+  open_comes (InputCycle byte) rule a o h = absurd (input_granted g t.tail t.luns s.luns byte rule a (sym (judged_six g copyless t.tail t.luns s.luns (InputCycle byte) (under_each t.luns s.luns below) clear a) ∙ h))
   open_comes OutputCycle rule a o h = output_granted g t.tail s.luns o.some
 
   pub granted_opened : (rule : Forbidden) → k.opened ≡ true → judge_cycle g t.tail t.luns (target_cycle c.kind c.byte) ≡ None → judge_cycle g s.tail s.luns (target_cycle c.kind c.byte) ≡ Some rule →
@@ -629,20 +639,20 @@ module _ (g : Parts) (plain : is_shared g ≡ false) (one : IsAlone g) (k : Know
       let o = f.opened was in
       by_comes (open_comes (target_cycle c.kind c.byte) rule (keeps_rules g t.tail t.luns (target_cycle c.kind c.byte) permitted) o (ap (λ (w : TailFacts). judge_cycle g w s.luns (target_cycle c.kind c.byte)) o.tail ∙ h))
 
-  fresh_comes : (d : TargetCycle) (rule : Forbidden) → begins_sequence d ≡ true → KeepsRules g t.tail t.luns d → MayCome g t.tail s.luns → judge_cycle g (facts_of []) s.luns d ≡ Some rule → Comes g t.tail s.luns d
+  fresh_comes : (d : TargetCycle) (rule : Forbidden) → opens_sequence g d ≡ true → KeepsRules g t.tail t.luns d → MayCome g t.tail s.luns → judge_cycle g (facts_of []) s.luns d ≡ Some rule → Comes g t.tail s.luns d
   fresh_comes (CommandCycle x) rule begins a m h =
-      by_command (facts_of []) x rule (λ same. let opens : false ≡ true = sym (ap is_opener same) ∙ begins in cc) (sym (judged_six_fresh g t.tail t.luns s.luns x begins (under_each t.luns s.luns below) clear a) ∙ h) (λ grant. fresh_comes_on g t.tail t.luns s.luns x begins grant a m)
+      by_command (facts_of []) x rule (no_copyback g copyless x a.f2) (λ same. let opens : false ≡ true = sym (ap (opens_here g) same) ∙ begins in cc) (sym (judged_six_fresh g copyless t.tail t.luns s.luns x begins (under_each t.luns s.luns below) clear a) ∙ h) (λ grant. fresh_comes_on g copyless t.tail t.luns s.luns x begins grant a m)
   fresh_comes (AddressCycle byte) rule begins a m h = cc
   fresh_comes (InputCycle byte) rule begins a m h = cc
   fresh_comes OutputCycle rule begins a m h = cc
 
-  pub granted_fresh : (rule : Forbidden) → k.opened ≡ false → begins_sequence (target_cycle c.kind c.byte) ≡ true → judge_cycle g t.tail t.luns (target_cycle c.kind c.byte) ≡ None → judge_cycle g s.tail s.luns (target_cycle c.kind c.byte) ≡ Some rule →
+  pub granted_fresh : (rule : Forbidden) → k.opened ≡ false → opens_sequence g (target_cycle c.kind c.byte) ≡ true → judge_cycle g t.tail t.luns (target_cycle c.kind c.byte) ≡ None → judge_cycle g s.tail s.luns (target_cycle c.kind c.byte) ≡ Some rule →
       FitsTarget g nothing_known (target_after g (Cyc c) t) (without_sequence s)
   granted_fresh rule was begins permitted h =
       let q = f.closed was in
       by_comes (fresh_comes (target_cycle c.kind c.byte) rule begins (keeps_rules g t.tail t.luns (target_cycle c.kind c.byte) permitted) q.comes (ap (λ (w : TailFacts). judge_cycle g w s.luns (target_cycle c.kind c.byte)) (sym q.tail) ∙ h))
 
-  pub passed_over : k.opened ≡ false → begins_sequence (target_cycle c.kind c.byte) ≡ false → judge_cycle g t.tail t.luns (target_cycle c.kind c.byte) ≡ None → FitsTarget g k (target_after g (Cyc c) t) s
+  pub passed_over : k.opened ≡ false → opens_sequence g (target_cycle c.kind c.byte) ≡ false → judge_cycle g t.tail t.luns (target_cycle c.kind c.byte) ≡ None → FitsTarget g k (target_after g (Cyc c) t) s
   passed_over was begins permitted =
       let q = f.closed was in
       let a = keeps_rules g t.tail t.luns (target_cycle c.kind c.byte) permitted in

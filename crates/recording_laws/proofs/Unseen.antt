@@ -7,11 +7,11 @@ use Rattle.nand_geometry.specs.Limits.{planes}
 use Rattle.nand_geometry.specs.Optional.{is_wide}
 use Rattle.nand_geometry.specs.Row.{row_of}
 use Rattle.onfi_cycle.specs.declared.command.Command.{Command}
-use Rattle.onfi_cycle.specs.declared.command.Command.TheVariants.{Read, ReadConfirm, ChangeReadColumnEnhanced, ChangeReadColumnConfirm, BlockErase, BlockEraseConfirm, BlockErasePlane, ReadPlane, ReadStatusEnhanced, PageProgram, ChangeWriteColumn, ProgramConfirm, ProgramPlane, ReadId, ReadParameterPage, ReadUniqueId, GetFeatures, SetFeatures, ResetLun, Unknown}
+use Rattle.onfi_cycle.specs.declared.command.Command.TheVariants.{Read, ReadConfirm, ChangeReadColumnEnhanced, ChangeReadColumnConfirm, BlockErase, BlockEraseConfirm, BlockErasePlane, ReadPlane, CopybackRead, ReadStatusEnhanced, PageProgram, ChangeWriteColumn, ProgramConfirm, ProgramPlane, ReadId, ReadParameterPage, ReadUniqueId, GetFeatures, SetFeatures, ResetLun, Unknown}
 use Rattle.onfi_cycle.specs.declared.data_phase.DataPhase.{DataPhase}
 use Rattle.onfi_cycle.specs.declared.data_phase.DataPhase.TheVariants.{Outside, Inputs, FirstColumn, SecondColumn, FeatureInputs}
 use Rattle.onfi_cycle.specs.declared.effect.Effect.{Effect}
-use Rattle.onfi_cycle.specs.declared.effect.Effect.TheVariants.{Unaffected, IdRead, IdentityRead, UniqueIdReadStarted, FeaturesReadStarted, FeaturesSet, ParameterPageReadStarted, Deselected, ReadColumnChanged, PlaneSelected, DataOutput, AnotherAddressed}
+use Rattle.onfi_cycle.specs.declared.effect.Effect.TheVariants.{Unaffected, IdRead, IdentityRead, UniqueIdReadStarted, FeaturesReadStarted, FeaturesSet, ParameterPageReadStarted, Deselected, ReadColumnChanged, PlaneSelected, DataOutput, ProgramAddressed, AnotherAddressed}
 use Rattle.onfi_cycle.specs.declared.latch.Latch.{Latch}
 use Rattle.onfi_cycle.specs.declared.opening.Opening.{Opening}
 use Rattle.onfi_cycle.specs.declared.tail_facts.TailFacts.{TailFacts}
@@ -19,11 +19,12 @@ use Rattle.onfi_cycle.specs.declared.target_cycle.TargetCycle.{TargetCycle}
 use Rattle.onfi_cycle.specs.declared.target_cycle.TargetCycle.TheVariants.{CommandCycle, AddressCycle, InputCycle, OutputCycle}
 use Rattle.onfi_cycle.specs.Bounds.{is_block_erase, is_read}
 use Rattle.onfi_cycle.specs.declared.row_bytes.RowBytes.{RowBytes}
-use Rattle.onfi_cycle.specs.Command.{is_opener, closes_row, reads_row, closes, address_cycles, takes_address, is_enhanced_column, is_page_program}
-use Rattle.onfi_cycle.specs.Effect.{is_off, is_data, is_shared, of_target, other_effect, confirm_effect, plane_of_row, plane_effect, column_effect, names_lun, command_effect, id_effect, address_effect, opening_address_effect, cycle_effect, ends_features}
+use Rattle.onfi_cycle.specs.Command.{is_opener, closes_row, reads_row, closes, address_cycles, takes_address, is_enhanced_column, begins_data}
+use Rattle.onfi_cycle.specs.Effect.{is_off, is_data, is_shared, of_target, other_effect, confirm_effect, plane_of_row, plane_effect, column_effect, names_lun, command_effect, id_effect, program_row_effect, address_effect, opening_address_effect, cycle_effect, ends_features}
 use Rattle.onfi_cycle.specs.LunView.{LunView}
-use Rattle.onfi_cycle.specs.Rules.{breaks_command_misplaced, breaks_address_misplaced, is_undeclared_address}
-use Rattle.onfi_cycle.specs.Sequence.{begins_sequence, begins_anew, works_on_row, one_address_more, row_after_address, wants_column, opened, takes_data, phase_after_command, phase_after_address, phase_after_last_address, phase_after_input, selects_plane, wants_address, wants_command, row, extended_facts, facts_after}
+use Rattle.trace_faults.specs.Outside.{opens_sequence}
+use Rattle.onfi_cycle.specs.Rules.{opens_here, breaks_command_misplaced, breaks_address_misplaced, is_undeclared_address}
+use Rattle.onfi_cycle.specs.Sequence.{begins_anew, row_with, one_address_more, row_after_address, wants_column, opened, takes_data, phase_after_command, phase_after_address, phase_after_last_address, phase_after_input, selects_plane, wants_address, wants_command, row, extended_facts, facts_after}
 use Rattle.onfi_cycle.proofs.Passed.{KeepsRules}
 use Rattle.trace_faults.specs.declared.lun_known.LunKnown.TheVariants.{Nothing}
 use Rattle.recording_laws.proofs.Luns.{IsBelow, Fits, IsHarmless, IsBlank, blank_harmless}
@@ -36,6 +37,7 @@ is_led ReadStatusEnhanced = true
 is_led ResetLun = true
 is_led BlockErase = true
 is_led PageProgram = true
+is_led ChangeWriteColumn = true
 is_led Read = true
 is_led ChangeReadColumnEnhanced = true
 is_led _ = false
@@ -59,7 +61,7 @@ abbrev pub is_named_by : Parts → Option Opening → DataPhase → Bool
 is_named_by g None Inputs = true
 is_named_by g None FirstColumn = true
 is_named_by g None SecondColumn = true
-is_named_by g (Some o) Inputs = is_page_program o.opener && o.addresses == 5
+is_named_by g (Some o) Inputs = begins_data o.opener && o.addresses == 5
 is_named_by g (Some o) Outside = is_whole_row g o
 is_named_by g _ _ = false
 
@@ -112,6 +114,7 @@ quiet_last ReadStatusEnhanced n h = cc
 quiet_last ResetLun n h = cc
 quiet_last BlockErase n h = cc
 quiet_last PageProgram n h = cc
+quiet_last ChangeWriteColumn n h = cc
 quiet_last Read n h = cc
 quiet_last ChangeReadColumnEnhanced n h = cc
 quiet_last SetFeatures n h = of (n == 0)
@@ -179,7 +182,8 @@ row_full g o byte e h = at (is_block_erase o.opener && o.addresses == 3) refl e
     at true x y = erase_full o.opener o.addresses byte x h
     at false x y = read_full o.opener o.addresses byte (and_parts (not (is_wide g.optional)) (is_read o.opener && o.addresses == 5) y).1 h
 
-program_full : (c : Command) (n byte : ℕ) → (is_page_program c && n == 5) ≡ true → ((is_opener c && ltb n (address_cycles c) && takes_address c byte) || false) ≡ true → ⊥
+program_full : (c : Command) (n byte : ℕ) → (begins_data c && n == 5) ≡ true → ((is_opener c && ltb n (address_cycles c) && takes_address c byte) || false) ≡ true → ⊥
+program_full ChangeWriteColumn n byte e h = let five : n ≡ 5 = eqb-true n 5 e in let full = rw five at h in cc
 program_full PageProgram n byte e h = let five : n ≡ 5 = eqb-true n 5 e in let full = rw five at h in cc
 program_full c n byte e h = cc
 
@@ -219,9 +223,9 @@ address_wanted : (g : Parts) (t : TailFacts) (byte : ℕ) → breaks_address_mis
 unfolding breaks_address_misplaced
 address_wanted g t byte h = not-false (wants_address t byte) (or_parts (not (wants_address t byte)) (is_undeclared_address g t byte) h).0
 
-command_wanted : (t : TailFacts) (c : Command) → is_opener c ≡ false → breaks_command_misplaced t (CommandCycle c) ≡ false → wants_command t c ≡ true
+command_wanted : (g : Parts) (t : TailFacts) (c : Command) → opens_here g c ≡ false → breaks_command_misplaced g t (CommandCycle c) ≡ false → wants_command t c ≡ true
 unfolding breaks_command_misplaced
-command_wanted t c o h = not-false (wants_command t c) (rw o at h)
+command_wanted g t c o h = not-false (wants_command t c) (rw o at h)
 
 comes_of : (g : Parts) (t : TailFacts) (ss : List LunView) → MayCome g t ss → (AreBlank ss) ⊎ (Comes g ss t.opening t.phase (row t))
 comes_of g t ss (blank b) = inl b
@@ -235,15 +239,16 @@ of_comes g t ss (inr (inl n)) = named n.0 n.1
 of_comes g t ss (inr (inr n)) = selecting n.0 n.1
 
 -- what is no opener begins no tail anew
-no_opener : (t : TailFacts) (cycle : TargetCycle) → begins_sequence cycle ≡ false → begins_anew t cycle ≡ false
-no_opener t (CommandCycle c) h = ap (λ (b : Bool). b && not (works_on_row t c)) h
-no_opener t (AddressCycle byte) h = refl
-no_opener t (InputCycle byte) h = refl
-no_opener t OutputCycle h = refl
+no_opener : (g : Parts) (t : TailFacts) (cycle : TargetCycle) → opens_sequence g cycle ≡ false → breaks_command_misplaced g t cycle ≡ false → begins_anew t cycle ≡ false
+no_opener g t (CommandCycle ChangeWriteColumn) h f6 = ap not (command_wanted g t ChangeWriteColumn h f6)
+no_opener g t (CommandCycle c) h f6 = cc
+no_opener g t (AddressCycle byte) h f6 = refl
+no_opener g t (InputCycle byte) h f6 = refl
+no_opener g t OutputCycle h f6 = refl
 
 -- a permitted cycle that isn't seen
-pub may_come_on : (g : Parts) (t : TailFacts) (ts ss : List LunView) (cycle : TargetCycle) → begins_sequence cycle ≡ false → KeepsRules g t ts cycle → MayCome g t ss → MayCome g (facts_after cycle t) ss
-may_come_on g t ts ss cycle begins k m = elim (comes_of g t ss m) [ inl b ↦ blank b | inr c ↦ rw (no_opener t cycle begins) (at t.is_empty refl c) ]
+pub may_come_on : (g : Parts) (t : TailFacts) (ts ss : List LunView) (cycle : TargetCycle) → opens_sequence g cycle ≡ false → KeepsRules g t ts cycle → MayCome g t ss → MayCome g (facts_after cycle t) ss
+may_come_on g t ts ss cycle begins k m = elim (comes_of g t ss m) [ inl b ↦ blank b | inr c ↦ rw (no_opener g t cycle begins k.f6) (at t.is_empty refl c) ]
   where
     first : (c : Command) (e : Bool) → e ≡ false → Comes g ss None (phase_after_command c t.phase) (row t) → Comes g ss (cond e (Some (record { opener = c; addresses = 0 })) None) (phase_after_command c t.phase) (row t)
     first c false f x = x
@@ -371,6 +376,23 @@ program_beside None p q h = cc
 program_beside (Some o) Outside q h = cc
 program_beside (Some o) p q h = cc
 
+copyback_led : (c : Command) (n : ℕ) → (closes c CopybackRead && n == address_cycles c) ≡ true → is_led c ≡ true
+copyback_led Read n h = refl
+copyback_led c n h = cc
+
+copyback_loud : (o : Option Opening) (p : DataPhase) → is_quiet_by o p ≡ true → opened (λ c n. closes c CopybackRead && n == address_cycles c) o ≡ true → ⊥
+copyback_loud None p q h = cc
+copyback_loud (Some o) p q h = let led = copyback_led o.opener o.addresses h in let quiet = not_led o p q in cc
+
+copyback_column : (c : Command) (n : ℕ) → (is_enhanced_column c && n == 5) ≡ true → (closes c CopybackRead && n == address_cycles c) ≡ true → ⊥
+copyback_column ChangeReadColumnEnhanced n e h = cc
+copyback_column c n e h = cc
+
+copyback_beside : (o : Option Opening) (p : DataPhase) → is_plane_by o p ≡ true → opened (λ c n. closes c CopybackRead && n == address_cycles c) o ≡ true → ⊥
+copyback_beside None p q h = cc
+copyback_beside (Some o) Outside q h = copyback_column o.opener o.addresses q h
+copyback_beside (Some o) p q h = cc
+
 -- neither such a tail nor one that names a row of the array is a 06h with its row
 column_led : (c : Command) → is_enhanced_column c ≡ true → is_led c ≡ true
 column_led ChangeReadColumnEnhanced h = refl
@@ -391,8 +413,9 @@ read_apart : (c : Command) → is_read c ≡ true → is_enhanced_column c ≡ t
 read_apart Read h e = cc
 read_apart c h e = cc
 
-program_apart : (c : Command) → is_page_program c ≡ true → is_enhanced_column c ≡ true → ⊥
+program_apart : (c : Command) → begins_data c ≡ true → is_enhanced_column c ≡ true → ⊥
 program_apart PageProgram h e = cc
+program_apart ChangeWriteColumn h e = cc
 program_apart c h e = cc
 
 row_apart : (g : Parts) (o : Opening) → is_whole_row g o ≡ true → is_enhanced_column o.opener ≡ true → ⊥
@@ -404,7 +427,7 @@ row_apart g o h e = at (is_block_erase o.opener && o.addresses == 3) refl h
 
 named_apart : (g : Parts) (o : Option Opening) (p : DataPhase) → is_named_by g o p ≡ true → opened (λ c n. is_enhanced_column c && n == 5) o ≡ true → ⊥
 named_apart g None p n h = cc
-named_apart g (Some o) Inputs n h = program_apart o.opener (and_parts (is_page_program o.opener) (o.addresses == 5) n).0 (and_parts (is_enhanced_column o.opener) (o.addresses == 5) h).0
+named_apart g (Some o) Inputs n h = program_apart o.opener (and_parts (begins_data o.opener) (o.addresses == 5) n).0 (and_parts (is_enhanced_column o.opener) (o.addresses == 5) h).0
 named_apart g (Some o) Outside n h = row_apart g o n (and_parts (is_enhanced_column o.opener) (o.addresses == 5) h).0
 named_apart g (Some o) FirstColumn n h = absurd (true≢false (sym n))
 named_apart g (Some o) SecondColumn n h = absurd (true≢false (sym n))
@@ -416,6 +439,7 @@ module _ (g : Parts) (t : TailFacts) (byte m : ℕ) (s : LunView) (plain : is_sh
   quiet_address ReadStatusEnhanced n h = cc
   quiet_address ResetLun n h = cc
   quiet_address Read n h = cc
+  quiet_address PageProgram n h = cc
   quiet_address ReadId n h = harmless_if (wants_address t byte) (of_target g m (id_effect byte)) s (λ w. target_harmless g m (id_effect byte) s plain (id_harmless byte s))
   quiet_address ReadParameterPage n h = harmless_if (wants_address t byte) (of_target g m ParameterPageReadStarted) s (λ w. target_harmless g m ParameterPageReadStarted s plain tt)
   quiet_address ReadUniqueId n h = harmless_if (wants_address t byte) (of_target g m UniqueIdReadStarted) s (λ w. target_harmless g m UniqueIdReadStarted s plain tt)
@@ -437,8 +461,9 @@ module _ (g : Parts) (t : TailFacts) (byte m : ℕ) (s : LunView) (plain : is_sh
       at true x y = erase_address o.opener o.addresses (and_parts (is_block_erase o.opener) (o.addresses == 3) x).0
       at false x y = read_address o.opener o.addresses (and_parts (is_read o.opener) (o.addresses == 5) (and_parts (not (is_wide g.optional)) (is_read o.opener && o.addresses == 5) y).1).0
 
-  program_address : (c : Command) (n : ℕ) → is_page_program c ≡ true → IsHarmless (address_effect g t byte c n m) s
-  program_address PageProgram n h = tt
+  program_address : (c : Command) (n : ℕ) → begins_data c ≡ true → IsHarmless (address_effect g t byte c n m) s
+  program_address PageProgram n h = harmless_if (n == 4) (program_row_effect (names_lun g (row_with t byte) m)) s (λ e. harmless_if (names_lun g (row_with t byte) m) ProgramAddressed s (λ x. tt))
+  program_address ChangeWriteColumn n h = tt
   program_address c n h = cc
 
   plane_address : (c : Command) (n : ℕ) → is_enhanced_column c ≡ true → IsHarmless (address_effect g t byte c n m) s
@@ -448,7 +473,7 @@ module _ (g : Parts) (t : TailFacts) (byte m : ℕ) (s : LunView) (plain : is_sh
   address_harmless : (ss : List LunView) (o : Option Opening) (p : DataPhase) (r : ℕ) → Comes g ss o p r → IsHarmless (opening_address_effect g t byte o m) s
   address_harmless ss None p r h = tt
   address_harmless ss (Some o) p r (inl q) = quiet_address o.opener o.addresses (not_led o p q)
-  address_harmless ss (Some o) Inputs r (inr (inl n)) = program_address o.opener o.addresses (and_parts (is_page_program o.opener) (o.addresses == 5) n.0).0
+  address_harmless ss (Some o) Inputs r (inr (inl n)) = program_address o.opener o.addresses (and_parts (begins_data o.opener) (o.addresses == 5) n.0).0
   address_harmless ss (Some o) Inputs r (inr (inr n)) = absurd (true≢false (sym n.0))
   address_harmless ss (Some o) Outside r (inr (inl n)) = row_address o n.0
   address_harmless ss (Some o) Outside r (inr (inr n)) = plane_address o.opener o.addresses (and_parts (is_enhanced_column o.opener) (o.addresses == 5) n.0).0
@@ -482,9 +507,10 @@ module _ (g : Parts) (t : TailFacts) (la : Latch) (ss : List LunView) (m : ℕ) 
       at true e = subst (λ (b : Bool). IsHarmless (cond b (PlaneSelected (plane_of_row g (row t)) (planes g) t.column) Deselected) s) (sym (selects_named h e)) tt
       at false e = harmless_if (wants_command t ChangeReadColumnConfirm && not (is_off la)) (ReadColumnChanged t.column) s (λ b. tt)
 
-  command_harmless : (c : Command) → is_opener c ≡ false → wants_command t c ≡ true → IsHarmless (command_effect g t la c m) s
+  command_harmless : (c : Command) → opens_here g c ≡ false → wants_command t c ≡ true → IsHarmless (command_effect g t la c m) s
   command_harmless ReadConfirm o w = closes_nothing (wants_command t ReadConfirm) (confirm_effect g t ReadConfirm) ReadConfirm refl (read_loud t.opening t.phase) (read_beside t.opening t.phase)
   command_harmless ReadPlane o w = harmless_or (wants_command t ReadPlane && names_lun g (row t) m) (confirm_effect g t ReadPlane) (other_effect g t ReadPlane) s (λ b. tt) (other_harmless g t ReadPlane s plain)
+  command_harmless CopybackRead o w = closes_nothing (wants_command t CopybackRead) (confirm_effect g t CopybackRead) CopybackRead refl (copyback_loud t.opening t.phase) (copyback_beside t.opening t.phase)
   command_harmless ChangeReadColumnConfirm o w = column_harmless
   command_harmless BlockEraseConfirm o w = closes_nothing (wants_command t BlockEraseConfirm) (confirm_effect g t BlockEraseConfirm) BlockEraseConfirm refl (erase_loud t.opening t.phase) (erase_beside t.opening t.phase)
   command_harmless BlockErasePlane o w = closes_nothing (wants_command t BlockErasePlane) (confirm_effect g t BlockErasePlane) BlockErasePlane refl (plane_loud t.opening t.phase) (plane_beside t.opening t.phase)
@@ -494,12 +520,12 @@ module _ (g : Parts) (t : TailFacts) (la : Latch) (ss : List LunView) (m : ℕ) 
   command_harmless Unknown o w = harmless_if (wants_command t Unknown && names_lun g (row t) m) Unaffected s (λ b. tt)
   command_harmless c o w = cc
 
-pub unseen_harmless : (g : Parts) → is_shared g ≡ false → (t : TailFacts) (ts ss : List LunView) (cycle : TargetCycle) → begins_sequence cycle ≡ false → KeepsRules g t ts cycle → MayCome g t ss →
+pub unseen_harmless : (g : Parts) → is_shared g ≡ false → (t : TailFacts) (ts ss : List LunView) (cycle : TargetCycle) → opens_sequence g cycle ≡ false → KeepsRules g t ts cycle → MayCome g t ss →
     (m : ℕ) (s : LunView) → slice_get ss m ≡ Some s → (la : Latch) → IsHarmless (cycle_effect g t la cycle m) s
 unseen_harmless g plain t ts ss cycle begins k m n s found la = elim (comes_of g t ss m) [ inl b ↦ blank_harmless (cycle_effect g t la cycle n) s (b n s found) | inr c ↦ at cycle begins k c ]
   where
-    at : (cycle : TargetCycle) → begins_sequence cycle ≡ false → KeepsRules g t ts cycle → Comes g ss t.opening t.phase (row t) → IsHarmless (cycle_effect g t la cycle n) s
-    at (CommandCycle c) b k h = command_harmless g t la ss n s found h plain c b (command_wanted t c b k.f6)
+    at : (cycle : TargetCycle) → opens_sequence g cycle ≡ false → KeepsRules g t ts cycle → Comes g ss t.opening t.phase (row t) → IsHarmless (cycle_effect g t la cycle n) s
+    at (CommandCycle c) b k h = command_harmless g t la ss n s found h plain c b (command_wanted g t c b k.f6)
     at (AddressCycle byte) b k h = address_harmless g t byte n s plain ss t.opening t.phase (row t) h
     at (InputCycle byte) b k h = harmless_if (ends_features t) (of_target g n (FeaturesSet _)) s (λ b. target_harmless g n (FeaturesSet _) s plain tt)
     at OutputCycle b k h = harmless_if (is_data la) DataOutput s (λ b. tt)

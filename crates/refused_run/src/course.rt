@@ -80,6 +80,7 @@ fn reason_of(rule: Forbidden) -> Reason
         | Forbidden::NoSoleDriver
         | Forbidden::DataNotReady
         | Forbidden::CacheReadMisplaced
+        | Forbidden::CopybackMisplaced
         | Forbidden::PlaneNotHeld => Reason::CycleForbidden,
     }
 }

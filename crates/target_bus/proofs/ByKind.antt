@@ -9,6 +9,7 @@ use Rattle.onfi_cycle.specs.declared.item.Item.TheVariants.{Cyc}
 use Rattle.onfi_cycle.specs.declared.item.Kind.{Kind}
 use Rattle.onfi_cycle.specs.declared.item.Kind.TheVariants.{Cmd, Adr, Din, Dout}
 use Rattle.onfi_cycle.specs.declared.lun.Lun.{Lun}
+use Rattle.onfi_cycle.specs.declared.page_address.PageAddress.{PageAddress}
 use Rattle.onfi_cycle.specs.declared.tail_facts.TailFacts.{TailFacts}
 use Rattle.onfi_cycle.specs.declared.data_phase.DataPhase.{DataPhase}
 use Rattle.onfi_cycle.specs.declared.data_phase.DataPhase.TheVariants.{Outside, Inputs, FirstColumn, SecondColumn, FeatureInputs}
@@ -17,7 +18,7 @@ use Rattle.onfi_cycle.specs.declared.filling.Filling.TheVariants.{Leaves}
 use Rattle.onfi_cycle.specs.Sequence.{tail, facts_of, target_cycle, takes_data, takes_features}
 use Rattle.onfi_cycle.specs.Effect.{of_target, cycle_effect}
 use Rattle.onfi_cycle.specs.Filling.{filling, cycle_filling}
-use Rattle.onfi_cycle.specs.Lun.{effect_on, latch_alone, effect_among}
+use Rattle.onfi_cycle.specs.Lun.{effect_on, latch_alone, effect_among, held}
 use Rattle.onfi_cycle.specs.Permitted.{broken}
 use Rattle.onfi_cycle.specs.State.{BusView, Follows}
 use Rattle.onfi_cycle.specs.Working.{fills, begins}
@@ -28,10 +29,10 @@ use Rattle.target_bus.specs.Bus.{Entries, is_input, may_fill, lun_at, FindsWork,
 use Rattle.target_bus.proofs.Standing.{cycle_there}
 
 -- a command or an output changes no page register
-pub leaves : (g : Parts) (t : TailFacts) (c : Cycle) (l : Lun) → may_fill c.kind ≡ false → Leaves ≡ filling g t (Cyc c) l
-leaves g t c l h = by c.kind (c.ce == l.ce) h
+pub leaves : (g : Parts) (t : TailFacts) (c : Cycle) (l : Lun) (held : List PageAddress) → may_fill c.kind ≡ false → Leaves ≡ filling g t (Cyc c) l held
+leaves g t c l held h = by c.kind (c.ce == l.ce) h
   where
-    by : (k : Kind) (b : Bool) → may_fill k ≡ false → Leaves ≡ cond b (cycle_filling g t (target_cycle k c.byte) l.lun) Leaves
+    by : (k : Kind) (b : Bool) → may_fill k ≡ false → Leaves ≡ cond b (cycle_filling g t (target_cycle k c.byte) l.lun held) Leaves
     by Cmd true h = refl
     by Cmd false h = refl
     by Dout true h = refl
@@ -63,11 +64,11 @@ unaffected g past c l h takes = by c.kind (c.ce == l.ce) h
     by Dout b h = cc
 
 -- one LUN more is left
-pub leaves_more : (g : Parts) (past : List Item) (c : Cycle) (n : ℕ) → fills (filling g (facts_of (tail past c.ce)) (Cyc c) (lun_at c.ce n)) ≡ false → LeavesBelow g past (Cyc c) c.ce n → LeavesBelow g past (Cyc c) c.ce (n + 1)
+pub leaves_more : (g : Parts) (past : List Item) (c : Cycle) (n : ℕ) → fills (filling g (facts_of (tail past c.ce)) (Cyc c) (lun_at c.ce n) (held g past (lun_at c.ce n))) ≡ false → LeavesBelow g past (Cyc c) c.ce n → LeavesBelow g past (Cyc c) c.ce (n + 1)
 leaves_more g past c n none f = λ m low. at m (m == n) refl low
   where
-    at : (m : ℕ) (b : Bool) → (m == n) ≡ b → m < n + 1 → fills (filling g (facts_of (tail past c.ce)) (Cyc c) (lun_at c.ce m)) ≡ false
-    at m true q low = let same : m ≡ n = grind (arith, nat_tests) in ap (λ (k : ℕ). fills (filling g (facts_of (tail past c.ce)) (Cyc c) (lun_at c.ce k))) same ∙ none
+    at : (m : ℕ) (b : Bool) → (m == n) ≡ b → m < n + 1 → fills (filling g (facts_of (tail past c.ce)) (Cyc c) (lun_at c.ce m) (held g past (lun_at c.ce m))) ≡ false
+    at m true q low = let same : m ≡ n = grind (arith, nat_tests) in ap (λ (k : ℕ). fills (filling g (facts_of (tail past c.ce)) (Cyc c) (lun_at c.ce k) (held g past (lun_at c.ce k)))) same ∙ none
     at m false q low = let below : m < n = grind (arith, nat_tests) in f m below
 
 -- an input that fills a page register of a LUN works on it, and does nothing else
@@ -86,7 +87,7 @@ none_filled state opened dies past c luns n f h input takes same all rest = λ m
     none : LeavesBelow state.geometry past (Cyc c) c.ce n
     none = rest state.geometry (length state.targets) past f.follows (cycle_there state.geometry (length state.targets) past c h)
 
-pub one_filled : (state : BusView) (opened : List Entries) (dies : List Die) (past : List Item) (c : Cycle) (luns n : ℕ) (x : Filling) → IsStanding state opened dies past → broken state.geometry (length state.targets) past (Cyc c) ≡ None → is_input c.kind ≡ true → InData state c → luns ≡ state.geometry.luns → n < luns → fills x ≡ true → ((g : Parts) (targets : ℕ) (past : List Item) → Follows g targets state past → c.ce < targets → x ≡ filling g (facts_of (tail past c.ce)) (Cyc c) (lun_at c.ce n)) → FindsWork state.geometry past (Cyc c) c.ce 0 (Some (filled n x))
+pub one_filled : (state : BusView) (opened : List Entries) (dies : List Die) (past : List Item) (c : Cycle) (luns n : ℕ) (x : Filling) → IsStanding state opened dies past → broken state.geometry (length state.targets) past (Cyc c) ≡ None → is_input c.kind ≡ true → InData state c → luns ≡ state.geometry.luns → n < luns → fills x ≡ true → ((g : Parts) (targets : ℕ) (past : List Item) → Follows g targets state past → c.ce < targets → n < g.luns → x ≡ filling g (facts_of (tail past c.ce)) (Cyc c) (lun_at c.ce n) (held g past (lun_at c.ce n))) → FindsWork state.geometry past (Cyc c) c.ce 0 (Some (filled n x))
 one_filled state opened dies past c luns n x f h input takes same low one fillings =
     record {
       lun = omega (arith, low, same);
@@ -95,8 +96,8 @@ one_filled state opened dies past c luns n x f h input takes same low one fillin
       works = or_left _ _ (ap fills (sym is) ∙ one);
     }
   where
-    is : x ≡ filling state.geometry (facts_of (tail past c.ce)) (Cyc c) (lun_at c.ce n)
-    is = fillings state.geometry (length state.targets) past f.follows (cycle_there state.geometry (length state.targets) past c h)
+    is : x ≡ filling state.geometry (facts_of (tail past c.ce)) (Cyc c) (lun_at c.ce n) (held state.geometry past (lun_at c.ce n))
+    is = fillings state.geometry (length state.targets) past f.follows (cycle_there state.geometry (length state.targets) past c h) (omega (arith, low, same))
 
 pub on_err : {T E : Type 0} (r : Result T E) (P Q : Type 0) → OnErr r P → (P → Q) → OnErr r Q
 on_err (Ok x) P Q h f = tt

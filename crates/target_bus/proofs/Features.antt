@@ -17,7 +17,7 @@ use Rattle.onfi_cycle.specs.declared.target_cycle.TargetCycle.TheVariants.{Input
 use Rattle.onfi_cycle.specs.Sequence.{extended_facts, takes_data, takes_features, takes_inputs, phase_after_input}
 use Rattle.onfi_cycle.specs.Effect.{is_shared, of_target, input_effect, ends_features}
 use Rattle.onfi_cycle.specs.Filling.{filling, cycle_filling}
-use Rattle.onfi_cycle.specs.Lun.{effect_on, lun_view, effect_among}
+use Rattle.onfi_cycle.specs.Lun.{effect_on, lun_view, effect_among, held}
 use Rattle.onfi_cycle.specs.Rules.{breaks_input_misplaced}
 use Rattle.onfi_cycle.specs.Permitted.{broken}
 use Rattle.onfi_cycle.specs.Channel.{cycle}
@@ -48,9 +48,9 @@ effect_is : (g : Parts) (past : List Item) (ce byte lun : ℕ) → effect_on g p
 unfolding effect_among
 effect_is g past ce byte lun = ap (λ (b : Bool). cond b (input_effect g (facts past ce) lun) Unaffected) (eq-eqb ce ce refl)
 
-filling_is : (g : Parts) (past : List Item) (ce byte lun : ℕ) → takes_data (facts past ce).phase ≡ false → filling g (facts past ce) (input ce byte) (lun_at ce lun) ≡ Leaves
+filling_is : (g : Parts) (past : List Item) (ce byte lun : ℕ) → takes_data (facts past ce).phase ≡ false → filling g (facts past ce) (input ce byte) (lun_at ce lun) (held g past (lun_at ce lun)) ≡ Leaves
 filling_is g past ce byte lun none =
-    ap (λ (b : Bool). cond b (cycle_filling g (facts past ce) (InputCycle byte) lun) Leaves) (eq-eqb ce ce refl) ∙ rw none refl
+    ap (λ (b : Bool). cond b (cycle_filling g (facts past ce) (InputCycle byte) lun (held g past (lun_at ce lun))) Leaves) (eq-eqb ce ce refl) ∙ rw none refl
 
 -- it works on no LUN, if it isn't the last byte of a feature
 rests : (g : Parts) (past : List Item) (ce byte : ℕ) → takes_data (facts past ce).phase ≡ false → ends_features (facts past ce) ≡ false → FindsWork g past (input ce byte) ce 0 None

@@ -1,6 +1,7 @@
 -- A run of inputs: which page register it fills, and how the dies stand after it.
-use Rattle.std.proofs.Common.{◌≡◌, ℕ, zero, suc, ◌+◌, ◌%◌, ◌<◌, ◌≤◌, ◌==◌, Bool, true, false, cond, eq-eqb, List, [], ◌∷◌, ◌++◌, Option, Some, None, refl, sym, ap, subst, ◌∙◌, arith, length, length-set, map, reverse, set, get_or}
+use Rattle.std.proofs.Common.{◌≡◌, ◌⊎◌, inl, inr, ℕ, zero, suc, ◌+◌, ◌%◌, ◌<◌, ◌≤◌, ◌==◌, Bool, true, false, cond, eq-eqb, List, [], ◌∷◌, ◌++◌, Option, Some, None, refl, sym, ap, subst, ◌∙◌, arith, length, length-set, map, reverse, set, get_or}
 use Rattle.std.proofs.lemmas.Bool.{or_from, or_left, and_parts}
+use Rattle.std.proofs.lemmas.Bool.Decides.{nat_tests}
 use Rattle.std.proofs.lemmas.List.{set-get_or, get_or-set_same}
 use Rattle.std.proofs.lemmas.Option.{slice_get_within}
 use Rattle.std.proofs.lemmas.Nat.{pow_pos}
@@ -10,7 +11,8 @@ use Rattle.nand_geometry.specs.declared.parts.Parts.{Parts}
 use Rattle.nand_geometry.specs.Limits.{page_len, planes}
 use Rattle.onfi_cycle.specs.declared.data_phase.DataPhase.{DataPhase}
 use Rattle.onfi_cycle.specs.declared.data_phase.DataPhase.TheVariants.{Outside, Inputs, FirstColumn, SecondColumn, FeatureInputs}
-use Rattle.onfi_cycle.specs.declared.filling.Filling.TheVariants.{Leaves, Fills}
+use Rattle.onfi_cycle.specs.declared.filling.Filling.{Filling}
+use Rattle.onfi_cycle.specs.declared.filling.Filling.TheVariants.{Leaves, Clears, Copies, Fills}
 use Rattle.onfi_cycle.specs.declared.item.Item.{Item}
 use Rattle.onfi_cycle.specs.declared.item.Kind.TheVariants.{Din}
 use Rattle.onfi_cycle.specs.declared.page_address.PageAddress.{PageAddress}
@@ -21,6 +23,7 @@ use Rattle.onfi_cycle.specs.Sequence.{tail, facts_of, facts_after, extended_fact
 use Rattle.onfi_cycle.specs.Effect.{page_address}
 use Rattle.onfi_cycle.specs.Filling.{filling, cycle_filling}
 use Rattle.onfi_cycle.specs.Content.{written}
+use Rattle.onfi_cycle.specs.Lun.{held}
 use Rattle.onfi_cycle.specs.Permitted.{broken}
 use Rattle.onfi_cycle.specs.Channel.{cycle}
 use Rattle.onfi_cycle.specs.State.{BusView, Follows, judged, bus_after, target_view}
@@ -48,8 +51,38 @@ facts past ce = facts_of (tail past ce)
 
 -- 1. which register an input fills, and that the next fills it a column on
 
-filling_is : (g : Parts) (past : List Item) (ce lun byte : ℕ) → filling g (facts past ce) (input ce byte) (lun_at ce lun) ≡ cond (is_filled g (facts past ce) lun) (Fills (page_address g (row (facts past ce))) (input_column (facts past ce)) byte) Leaves
-filling_is g past ce lun byte = ap (λ (b : Bool). cond b (cycle_filling g (facts past ce) (InputCycle byte) lun) Leaves) (eq-eqb ce ce refl)
+filling_is : (g : Parts) (past : List Item) (ce lun byte : ℕ) → filling g (facts past ce) (input ce byte) (lun_at ce lun) (held g past (lun_at ce lun)) ≡ cond (is_filled g (facts past ce) lun) (Fills (page_address g (row (facts past ce))) (input_column (facts past ce)) byte) Leaves
+filling_is g past ce lun byte = ap (λ (b : Bool). cond b (cycle_filling g (facts past ce) (InputCycle byte) lun (held g past (lun_at ce lun))) Leaves) (eq-eqb ce ce refl)
+
+-- bytes of an input come into a register
+abbrev pub is_input_filling : Filling → Bool
+is_input_filling (Fills at column byte) = true
+is_input_filling x = false
+
+-- what fills no register
+pub fills_nothing : (x : Filling) → (x ≡ Leaves) ⊎ (((at : PageAddress) × (x ≡ Clears at)) ⊎ ((at from : PageAddress) × (x ≡ Copies at from))) → is_input_filling x ≡ false
+fills_nothing x (inl h) = ap is_input_filling h
+fills_nothing x (inr (inl h)) = ap is_input_filling h.1
+fills_nothing x (inr (inr h)) = ap is_input_filling h.2
+
+-- an input that fills no page register of this LUN: the one that it fills is later
+pub filled_later : (g : Parts) (past : List Item) (ce n : ℕ) (o : Option FilledLun) → is_input_filling (filling g (facts past ce) (input ce 0) (lun_at ce n) (held g past (lun_at ce n))) ≡ false → FindsFilled g (facts past ce) (n + 1) o → FindsFilled g (facts past ce) n o
+filled_later g past ce n o leaves rest = of o rest
+  where
+    none : (b : Bool) → is_input_filling (cond b (Fills (page_address g (row (facts past ce))) (input_column (facts past ce)) 0) Leaves) ≡ false → b ≡ false
+    none true h = cc
+    none false h = refl
+
+    here : is_filled g (facts past ce) n ≡ false
+    here = none (is_filled g (facts past ce) n) (ap is_input_filling (sym (filling_is g past ce n 0)) ∙ leaves)
+
+    of : (p : Option FilledLun) → FindsFilled g (facts past ce) (n + 1) p → FindsFilled g (facts past ce) n p
+    of None f = λ m least low. at m (m == n) refl least low
+      where
+        at : (m : ℕ) (b : Bool) → (m == n) ≡ b → n ≤ m → m < g.luns → is_filled g (facts past ce) m ≡ false
+        at m true q least low = let same : m ≡ n = grind (arith, nat_tests) in ap (is_filled g (facts past ce)) same ∙ here
+        at m false q least low = let later : n + 1 ≤ m = grind (arith, nat_tests) in f m later low
+    of (Some x) f = f
 
 still_filled : (g : Parts) (k : ℕ) (t : TailFacts) (lun : ℕ) → is_filled g (fed_tail k t) lun ≡ is_filled g t lun
 still_filled g k t lun = refl
@@ -145,7 +178,7 @@ one_fills : (s : BusView) (opened : List Entries) (dies : List Die) (past : List
 one_fills s opened dies past ce byte lun k page column d f fits h here place found =
     let permitted = one_permitted s past ce byte h f.follows in
     let new = filled_with (page.block % planes d.geometry) column (byte ∷ []) d in
-    let is : Fills page column byte ≡ filling s.geometry (facts past ce) (input ce byte) (lun_at ce lun) =
+    let is : Fills page column byte ≡ filling s.geometry (facts past ce) (input ce byte) (lun_at ce lun) (held s.geometry past (lun_at ce lun)) =
     ap (λ (p : PageAddress). Fills p column byte) here.page_is ∙
     (ap (λ (n : ℕ). Fills (page_address s.geometry (row (facts past ce))) n byte) here.column_is ∙
     sym (filling_is s.geometry past ce lun byte ∙ ap (λ (b : Bool). cond b (Fills (page_address s.geometry (row (facts past ce))) (input_column (facts past ce)) byte) Leaves) here.fills)) in

@@ -15,13 +15,14 @@ use Rattle.onfi_cycle.specs.declared.item.Item.{Item}
 use Rattle.onfi_cycle.specs.declared.item.Item.TheVariants.{Cyc}
 use Rattle.onfi_cycle.specs.declared.latch.Latch.{Latch}
 use Rattle.onfi_cycle.specs.declared.lun.Lun.{Lun}
+use Rattle.onfi_cycle.specs.declared.page_address.PageAddress.{PageAddress}
 use Rattle.onfi_cycle.specs.declared.tail_facts.TailFacts.{TailFacts}
 use Rattle.onfi_cycle.specs.declared.target_cycle.TargetCycle.{TargetCycle}
 use Rattle.onfi_cycle.specs.declared.target_cycle.TargetCycle.TheVariants.{CommandCycle, AddressCycle, InputCycle, OutputCycle}
 use Rattle.onfi_cycle.specs.Sequence.{tail, facts_of, target_cycle}
 use Rattle.onfi_cycle.specs.Effect.{is_shared, cycle_effect}
 use Rattle.onfi_cycle.specs.Filling.{filling, cycle_filling}
-use Rattle.onfi_cycle.specs.Lun.{effect_on, effect_among, latch_alone, lun_view}
+use Rattle.onfi_cycle.specs.Lun.{effect_on, effect_among, latch_alone, lun_view, held}
 use Rattle.onfi_cycle.specs.Permitted.{broken}
 use Rattle.onfi_cycle.specs.Channel.{Channel}
 use Rattle.onfi_cycle.specs.Working.{is_reset_cycle, resets_several, FactsFit}
@@ -34,24 +35,24 @@ use Rattle.target_bus.proofs.Standing.{can_begin, number_there, die_goes_on, res
 
 -- 1. what the reset does to a LUN
 
-resets_cycle : (g : Parts) (t : TailFacts) (la : Latch) (k : TargetCycle) (n : ℕ) → (is_shared g && is_reset_cycle k) ≡ true → (cycle_effect g t la k n ≡ TargetResetStarted (n == 0)) × (cycle_filling g t k n ≡ Leaves)
-resets_cycle g t la (CommandCycle Reset) n h = (ap (λ (b : Bool). cond b (TargetResetStarted (n == 0)) ResetStarted) (and_parts (is_shared g) true h).0, refl)
-resets_cycle g t la (CommandCycle SynchronousReset) n h = (ap (λ (b : Bool). cond b (TargetResetStarted (n == 0)) ResetStarted) (and_parts (is_shared g) true h).0, refl)
-resets_cycle g t la (CommandCycle c) n h = let no = (and_parts (is_shared g) false h).1 in cc
-resets_cycle g t la (AddressCycle byte) n h = let no = (and_parts (is_shared g) false h).1 in cc
-resets_cycle g t la (InputCycle byte) n h = let no = (and_parts (is_shared g) false h).1 in cc
-resets_cycle g t la OutputCycle n h = let no = (and_parts (is_shared g) false h).1 in cc
+resets_cycle : (g : Parts) (t : TailFacts) (la : Latch) (k : TargetCycle) (n : ℕ) (held : List PageAddress) → (is_shared g && is_reset_cycle k) ≡ true → (cycle_effect g t la k n ≡ TargetResetStarted (n == 0)) × (cycle_filling g t k n held ≡ Leaves)
+resets_cycle g t la (CommandCycle Reset) n held h = (ap (λ (b : Bool). cond b (TargetResetStarted (n == 0)) ResetStarted) (and_parts (is_shared g) true h).0, refl)
+resets_cycle g t la (CommandCycle SynchronousReset) n held h = (ap (λ (b : Bool). cond b (TargetResetStarted (n == 0)) ResetStarted) (and_parts (is_shared g) true h).0, refl)
+resets_cycle g t la (CommandCycle c) n held h = let no = (and_parts (is_shared g) false h).1 in cc
+resets_cycle g t la (AddressCycle byte) n held h = let no = (and_parts (is_shared g) false h).1 in cc
+resets_cycle g t la (InputCycle byte) n held h = let no = (and_parts (is_shared g) false h).1 in cc
+resets_cycle g t la OutputCycle n held h = let no = (and_parts (is_shared g) false h).1 in cc
 
 -- on a LUN of the target, and on another
 reset_on : (g : Parts) (past : List Item) (c : Cycle) (l : Lun) → resets_several g (Cyc c) ≡ true → effect_on g past (Cyc c) l ≡ cond (c.ce == l.ce) (TargetResetStarted (l.lun == 0)) Unaffected
 unfolding effect_among
-reset_on g past c l h = ap (λ (e : Effect). cond (c.ce == l.ce) e Unaffected) (resets_cycle g (facts_of (tail past l.ce)) (latch_alone g past l) (target_cycle c.kind c.byte) l.lun h).0
+reset_on g past c l h = ap (λ (e : Effect). cond (c.ce == l.ce) e Unaffected) (resets_cycle g (facts_of (tail past l.ce)) (latch_alone g past l) (target_cycle c.kind c.byte) l.lun (held g past l) h).0
 
-leaves_on : (g : Parts) (past : List Item) (c : Cycle) (l : Lun) → resets_several g (Cyc c) ≡ true → filling g (facts_of (tail past l.ce)) (Cyc c) l ≡ Leaves
+leaves_on : (g : Parts) (past : List Item) (c : Cycle) (l : Lun) → resets_several g (Cyc c) ≡ true → filling g (facts_of (tail past l.ce)) (Cyc c) l (held g past l) ≡ Leaves
 leaves_on g past c l h = at (c.ce == l.ce)
   where
-    at : (b : Bool) → cond b (cycle_filling g (facts_of (tail past l.ce)) (target_cycle c.kind c.byte) l.lun) Leaves ≡ Leaves
-    at true = (resets_cycle g (facts_of (tail past l.ce)) (latch_alone g past l) (target_cycle c.kind c.byte) l.lun h).1
+    at : (b : Bool) → cond b (cycle_filling g (facts_of (tail past l.ce)) (target_cycle c.kind c.byte) l.lun (held g past l)) Leaves ≡ Leaves
+    at true = (resets_cycle g (facts_of (tail past l.ce)) (latch_alone g past l) (target_cycle c.kind c.byte) l.lun (held g past l) h).1
     at false = refl
 
 -- 2. the dies, as far as the reset has come

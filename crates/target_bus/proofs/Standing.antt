@@ -7,19 +7,19 @@ use Rattle.std.proofs.lemmas.List.{reverse-append}
 use Rattle.std.specs.Option.{is_some}
 use Rattle.std.specs.Result.{is_err}
 use Rattle.std.proofs.Math.Nat.{mul-le-mul_right}
-use Rattle.std.proofs.lemmas.Bool.{false_from_ne_true, not-false, or_parts as neither}
+use Rattle.std.proofs.lemmas.Bool.{false_from_ne_true, not-false, or_parts as neither, and_parts}
 use Rattle.onfi_cycle.proofs.Booleans.{clash}
 use Rattle.nand_geometry.specs.declared.parts.Parts.{Parts}
 use Rattle.nand_geometry.specs.Limits.{InLimits, page_len, planes}
 use Rattle.onfi_cycle.specs.declared.command.Command.{Command}
-use Rattle.onfi_cycle.specs.declared.command.Command.TheVariants.{Read, ReadConfirm, ChangeReadColumnConfirm, BlockEraseConfirm, BlockErasePlane, ReadStatus, ReadStatusEnhanced, ProgramConfirm, ProgramPlane, ReadId, ReadParameterPage, Reset, ReadCacheSequential, ReadCacheEnd, ReadUniqueId, GetFeatures, ResetLun, SynchronousReset}
+use Rattle.onfi_cycle.specs.declared.command.Command.TheVariants.{Read, ReadConfirm, ChangeReadColumnConfirm, BlockEraseConfirm, BlockErasePlane, ReadStatus, ReadStatusEnhanced, ProgramConfirm, ProgramPlane, ReadId, ReadParameterPage, Reset, ReadCacheSequential, ReadCacheEnd, ReadUniqueId, GetFeatures, ResetLun, SynchronousReset, CopybackRead, PageProgram}
 use Rattle.onfi_cycle.specs.declared.item.Cycle.{Cycle}
 use Rattle.onfi_cycle.specs.declared.data_phase.DataPhase.{DataPhase}
 use Rattle.onfi_cycle.specs.declared.data_phase.DataPhase.TheVariants.{Outside, Inputs, FirstColumn, SecondColumn, FeatureInputs}
 use Rattle.onfi_cycle.specs.declared.effect.Effect.{Effect}
 use Rattle.onfi_cycle.specs.declared.effect.Effect.TheVariants as e
 use Rattle.onfi_cycle.specs.declared.filling.Filling.{Filling}
-use Rattle.onfi_cycle.specs.declared.filling.Filling.TheVariants.{Leaves, Clears, Fills}
+use Rattle.onfi_cycle.specs.declared.filling.Filling.TheVariants.{Leaves, Clears, Copies, Fills}
 use Rattle.onfi_cycle.specs.declared.forbidden.Forbidden.TheVariants.{NotThere}
 use Rattle.onfi_cycle.specs.declared.item.Item.{Item}
 use Rattle.onfi_cycle.specs.declared.item.Item.TheVariants.{Cyc, Rdy, Ard}
@@ -35,7 +35,7 @@ use Rattle.onfi_cycle.specs.Sequence.{tail, facts_of, target_cycle, takes_data, 
 use Rattle.onfi_cycle.specs.Effect.{is_shared, acts_for_target, of_target, other_effect, lun_reset_effect, is_off, is_data, names_lun, confirm_effect, command_effect, address_effect, opening_address_effect, id_effect, ends_features, cycle_effect, row_effect, cache_effect, plane_effect, column_effect, plane_of_row}
 use Rattle.onfi_cycle.specs.Command.{closes_row, reads_row}
 use Rattle.onfi_cycle.specs.Filling.{filling, cycle_filling}
-use Rattle.onfi_cycle.specs.Lun.{effect_on, latch_alone, luns_of, lun_view, effect_among}
+use Rattle.onfi_cycle.specs.Lun.{effect_on, latch_alone, luns_of, lun_view, effect_among, held}
 use Rattle.onfi_cycle.specs.Rules.{breaks_not_there, breaks_column_outside, lun_is, is_some_and, some_queued_clashes, some_read_clashes}
 use Rattle.onfi_cycle.specs.declared.item.Kind.{Kind}
 use Rattle.onfi_cycle.specs.declared.item.Kind.TheVariants.{Cmd, Adr, Din, Dout}
@@ -59,22 +59,32 @@ use Rattle.target_bus.proofs.Numbers.{target_there, lun_there, numbered_number, 
 
 -- 1. what leaves a die as it is
 
-pub rests : (x : Effect) (d : Die) → begins x ≡ false → is_no_ready x ≡ true → IsAfter x d d
-rests e.Unaffected d b r = record { geometry = refl; planes = refl; pages = λ p. refl; register = refl; held = refl; array_page = refl; busy = refl; caching = refl; array_busy = refl; queue = refl; queued = refl; pending = refl; failed = refl }
-rests e.DataOutputEnabled d b r = record { geometry = refl; planes = refl; pages = λ p. refl; register = refl; held = refl; array_page = refl; busy = refl; caching = refl; array_busy = refl; queue = refl; queued = refl; pending = refl; failed = refl }
-rests e.StatusSelected d b r = record { geometry = refl; planes = refl; pages = λ p. refl; register = refl; held = refl; array_page = refl; busy = refl; caching = refl; array_busy = refl; queue = refl; queued = refl; pending = refl; failed = refl }
-rests e.StatusRowAwaited d b r = record { geometry = refl; planes = refl; pages = λ p. refl; register = refl; held = refl; array_page = refl; busy = refl; caching = refl; array_busy = refl; queue = refl; queued = refl; pending = refl; failed = refl }
-rests e.SelectedForStatus d b r = record { geometry = refl; planes = refl; pages = λ p. refl; register = refl; held = refl; array_page = refl; busy = refl; caching = refl; array_busy = refl; queue = refl; queued = refl; pending = refl; failed = refl }
-rests e.Deselected d b r = record { geometry = refl; planes = refl; pages = λ p. refl; register = refl; held = refl; array_page = refl; busy = refl; caching = refl; array_busy = refl; queue = refl; queued = refl; pending = refl; failed = refl }
-rests e.StatusOfSelected d b r = record { geometry = refl; planes = refl; pages = λ p. refl; register = refl; held = refl; array_page = refl; busy = refl; caching = refl; array_busy = refl; queue = refl; queued = refl; pending = refl; failed = refl }
-rests (e.AnotherAddressed reads) d b r = record { geometry = refl; planes = refl; pages = λ p. refl; register = refl; held = refl; array_page = refl; busy = refl; caching = refl; array_busy = refl; queue = refl; queued = refl; pending = refl; failed = refl }
-rests (e.ReadColumnChanged column) d b r = record { geometry = refl; planes = refl; pages = λ p. refl; register = refl; held = refl; array_page = refl; busy = refl; caching = refl; array_busy = refl; queue = refl; queued = refl; pending = refl; failed = refl }
-rests e.DataOutput d b r = record { geometry = refl; planes = refl; pages = λ p. refl; register = refl; held = refl; array_page = refl; busy = refl; caching = refl; array_busy = refl; queue = refl; queued = refl; pending = refl; failed = refl }
+-- the whole row of 80 came
+abbrev is_addressed : Effect → Bool
+is_addressed e.ProgramAddressed = true
+is_addressed x = false
+
+-- an effect is no ready's, and where 80 has its whole row a page register changes
+abbrev IsQuiet : Bool → Effect → Type 0
+IsQuiet changes x = (is_no_ready x && (not (is_addressed x) || changes)) ≡ true
+
+pub rests : (x : Effect) (d : Die) → begins x ≡ false → IsQuiet false x → IsAfter x d d
+rests e.Unaffected d b r = record { geometry = refl; planes = refl; pages = λ p. refl; register = refl; held = refl; array_page = refl; busy = refl; caching = refl; array_busy = refl; queue = refl; queued = refl; pending = refl; copying = refl; failed = refl }
+rests e.DataOutputEnabled d b r = record { geometry = refl; planes = refl; pages = λ p. refl; register = refl; held = refl; array_page = refl; busy = refl; caching = refl; array_busy = refl; queue = refl; queued = refl; pending = refl; copying = refl; failed = refl }
+rests e.StatusSelected d b r = record { geometry = refl; planes = refl; pages = λ p. refl; register = refl; held = refl; array_page = refl; busy = refl; caching = refl; array_busy = refl; queue = refl; queued = refl; pending = refl; copying = refl; failed = refl }
+rests e.StatusRowAwaited d b r = record { geometry = refl; planes = refl; pages = λ p. refl; register = refl; held = refl; array_page = refl; busy = refl; caching = refl; array_busy = refl; queue = refl; queued = refl; pending = refl; copying = refl; failed = refl }
+rests e.SelectedForStatus d b r = record { geometry = refl; planes = refl; pages = λ p. refl; register = refl; held = refl; array_page = refl; busy = refl; caching = refl; array_busy = refl; queue = refl; queued = refl; pending = refl; copying = refl; failed = refl }
+rests e.Deselected d b r = record { geometry = refl; planes = refl; pages = λ p. refl; register = refl; held = refl; array_page = refl; busy = refl; caching = refl; array_busy = refl; queue = refl; queued = refl; pending = refl; copying = refl; failed = refl }
+rests e.StatusOfSelected d b r = record { geometry = refl; planes = refl; pages = λ p. refl; register = refl; held = refl; array_page = refl; busy = refl; caching = refl; array_busy = refl; queue = refl; queued = refl; pending = refl; copying = refl; failed = refl }
+rests (e.AnotherAddressed reads) d b r = record { geometry = refl; planes = refl; pages = λ p. refl; register = refl; held = refl; array_page = refl; busy = refl; caching = refl; array_busy = refl; queue = refl; queued = refl; pending = refl; copying = refl; failed = refl }
+rests (e.ReadColumnChanged column) d b r = record { geometry = refl; planes = refl; pages = λ p. refl; register = refl; held = refl; array_page = refl; busy = refl; caching = refl; array_busy = refl; queue = refl; queued = refl; pending = refl; copying = refl; failed = refl }
+rests e.DataOutput d b r = record { geometry = refl; planes = refl; pages = λ p. refl; register = refl; held = refl; array_page = refl; busy = refl; caching = refl; array_busy = refl; queue = refl; queued = refl; pending = refl; copying = refl; failed = refl }
 rests x d b r = cc
 
-rests_worked : (g : Parts) (x : Filling) (k : Effect) (d : Die) → (fills x || begins k) ≡ false → is_no_ready k ≡ true → WorkedBy g x k d d
+rests_worked : (g : Parts) (x : Filling) (k : Effect) (d : Die) → (fills x || begins k) ≡ false → IsQuiet (fills x) k → WorkedBy g x k d d
 rests_worked g Leaves k d h r = rests k d h r
 rests_worked g (Clears at) k d h r = cc
+rests_worked g (Copies at from) k d h r = cc
 rests_worked g (Fills at column byte) k d h r = cc
 
 -- a cycle is no ready
@@ -90,68 +100,87 @@ either_passed P g t c h k = either P (closes_row c && (wants_command t c && is_s
 either_reset : (P : Effect → Type 0) (g : Parts) (named : Bool) → P e.ResetStarted → P (e.AnotherAddressed false) → P e.Unaffected → P (lun_reset_effect g named)
 either_reset P g named h k u = either P named e.ResetStarted (cond (is_shared g) (e.AnotherAddressed false) e.Unaffected) h (either P (is_shared g) (e.AnotherAddressed false) e.Unaffected k u)
 
-abbrev IsNoReady : Effect → Type 0
-IsNoReady x = is_no_ready x ≡ true
+confirm_quiet : (b : Bool) (g : Parts) (t : TailFacts) (c : Command) → IsQuiet b (confirm_effect g t c)
+confirm_quiet b g t ReadConfirm = refl
+confirm_quiet b g t ReadCacheSequential = refl
+confirm_quiet b g t BlockEraseConfirm = refl
+confirm_quiet b g t BlockErasePlane = refl
+confirm_quiet b g t ProgramConfirm = refl
+confirm_quiet b g t ProgramPlane = refl
+confirm_quiet b g t CopybackRead = refl
+confirm_quiet b g t c = refl
 
-confirm_no_ready : (g : Parts) (t : TailFacts) (c : Command) → IsNoReady (confirm_effect g t c)
-confirm_no_ready g t ReadConfirm = refl
-confirm_no_ready g t ReadCacheSequential = refl
-confirm_no_ready g t BlockEraseConfirm = refl
-confirm_no_ready g t BlockErasePlane = refl
-confirm_no_ready g t ProgramConfirm = refl
-confirm_no_ready g t ProgramPlane = refl
-confirm_no_ready g t c = refl
+command_quiet : (b : Bool) (g : Parts) (t : TailFacts) (la : Latch) (c : Command) (n : ℕ) → IsQuiet b (command_effect g t la c n)
+command_quiet b g t la Read n = refl
+command_quiet b g t la ReadStatus n = either (IsQuiet b) (is_shared g) e.StatusOfSelected e.StatusSelected refl refl
+command_quiet b g t la ReadStatusEnhanced n = refl
+command_quiet b g t la Reset n = either (IsQuiet b) (is_shared g) (e.TargetResetStarted (n == 0)) e.ResetStarted refl refl
+command_quiet b g t la SynchronousReset n = either (IsQuiet b) (is_shared g) (e.TargetResetStarted (n == 0)) e.ResetStarted refl refl
+command_quiet b g t la ReadCacheSequential n =
+    either (IsQuiet b) (wants_command t ReadCacheSequential) (row_effect g t ReadCacheSequential n) (cache_effect la)
+    (either (IsQuiet b) (wants_command t ReadCacheSequential && names_lun g (row t) n) (confirm_effect g t ReadCacheSequential) (other_effect g t ReadCacheSequential) (confirm_quiet b g t ReadCacheSequential) (either_passed (IsQuiet b) g t ReadCacheSequential refl refl))
+    (either (IsQuiet b) (is_off la) e.Unaffected (e.CacheReadContinued None) refl refl)
+command_quiet b g t la ReadCacheEnd n = either (IsQuiet b) (is_off la) e.Unaffected e.CacheReadEnded refl refl
+command_quiet b g t la ChangeReadColumnConfirm n =
+    either (IsQuiet b) (selects_plane t) (plane_effect g t n) (column_effect t la) (either (IsQuiet b) (names_lun g (row t) n) (e.PlaneSelected (plane_of_row g (row t)) (planes g) t.column) e.Deselected refl refl)
+    (either (IsQuiet b) (wants_command t ChangeReadColumnConfirm && not (is_off la)) (e.ReadColumnChanged t.column) e.Unaffected refl refl)
+command_quiet b g t la c n = either (IsQuiet b) (wants_command t c && names_lun g (row t) n) (confirm_effect g t c) (other_effect g t c) (confirm_quiet b g t c) (either_passed (IsQuiet b) g t c refl refl)
 
-command_no_ready : (g : Parts) (t : TailFacts) (la : Latch) (c : Command) (n : ℕ) → IsNoReady (command_effect g t la c n)
-command_no_ready g t la Read n = refl
-command_no_ready g t la ReadStatus n = either IsNoReady (is_shared g) e.StatusOfSelected e.StatusSelected refl refl
-command_no_ready g t la ReadStatusEnhanced n = refl
-command_no_ready g t la Reset n = either IsNoReady (is_shared g) (e.TargetResetStarted (n == 0)) e.ResetStarted refl refl
-command_no_ready g t la SynchronousReset n = either IsNoReady (is_shared g) (e.TargetResetStarted (n == 0)) e.ResetStarted refl refl
-command_no_ready g t la ReadCacheSequential n =
-    either IsNoReady (wants_command t ReadCacheSequential) (row_effect g t ReadCacheSequential n) (cache_effect la)
-    (either IsNoReady (wants_command t ReadCacheSequential && names_lun g (row t) n) (confirm_effect g t ReadCacheSequential) (other_effect g t ReadCacheSequential) (confirm_no_ready g t ReadCacheSequential) (either_passed IsNoReady g t ReadCacheSequential refl refl))
-    (either IsNoReady (is_off la) e.Unaffected (e.CacheReadContinued None) refl refl)
-command_no_ready g t la ReadCacheEnd n = either IsNoReady (is_off la) e.Unaffected e.CacheReadEnded refl refl
-command_no_ready g t la ChangeReadColumnConfirm n =
-    either IsNoReady (selects_plane t) (plane_effect g t n) (column_effect t la) (either IsNoReady (names_lun g (row t) n) (e.PlaneSelected (plane_of_row g (row t)) (planes g) t.column) e.Deselected refl refl)
-    (either IsNoReady (wants_command t ChangeReadColumnConfirm && not (is_off la)) (e.ReadColumnChanged t.column) e.Unaffected refl refl)
-command_no_ready g t la c n = either IsNoReady (wants_command t c && names_lun g (row t) n) (confirm_effect g t c) (other_effect g t c) (confirm_no_ready g t c) (either_passed IsNoReady g t c refl refl)
+id_quiet : (b : Bool) (byte : ℕ) → IsQuiet b (id_effect byte)
+id_quiet b byte = either (IsQuiet b) (byte == 0x20) e.IdRead (e.IdentityRead (byte == 0x40)) refl refl
 
-id_no_ready : (byte : ℕ) → IsNoReady (id_effect byte)
-id_no_ready byte = either IsNoReady (byte == 0x20) e.IdRead (e.IdentityRead (byte == 0x40)) refl refl
-
-address_no_ready : (g : Parts) (t : TailFacts) (byte : ℕ) (o : Option Opening) (n : ℕ) → IsNoReady (opening_address_effect g t byte o n)
-address_no_ready g t byte None n = refl
-address_no_ready g t byte (Some o) n = of o.opener
+address_quiet : (b : Bool) (g : Parts) (t : TailFacts) (byte : ℕ) (o : Opening) (n : ℕ) → (o.opener ≡ PageProgram → (o.addresses == 4) ≡ true → names_lun g (row_with t byte) n ≡ true → b ≡ true) → IsQuiet b (address_effect g t byte o.opener o.addresses n)
+address_quiet b g t byte o n clears = of o.opener clears
   where
-    of : (c : Command) → IsNoReady (address_effect g t byte c o.addresses n)
-    of ReadStatusEnhanced = either IsNoReady (o.addresses == 2) (cond (names_lun g (row_with t byte) n) e.SelectedForStatus e.Deselected) e.Unaffected (either IsNoReady (names_lun g (row_with t byte) n) e.SelectedForStatus e.Deselected refl refl) refl
-    of ReadId = either IsNoReady (wants_address t byte) (of_target g n (id_effect byte)) e.Unaffected (either IsNoReady (acts_for_target g n) (id_effect byte) e.Deselected (id_no_ready byte) refl) refl
-    of ReadParameterPage = either IsNoReady (wants_address t byte) (of_target g n e.ParameterPageReadStarted) e.Unaffected (either IsNoReady (acts_for_target g n) e.ParameterPageReadStarted e.Deselected refl refl) refl
-    of ReadUniqueId = either IsNoReady (wants_address t byte) (of_target g n e.UniqueIdReadStarted) e.Unaffected (either IsNoReady (acts_for_target g n) e.UniqueIdReadStarted e.Deselected refl refl) refl
-    of GetFeatures = either IsNoReady (wants_address t byte) (of_target g n (e.FeaturesReadStarted byte)) e.Unaffected (either IsNoReady (acts_for_target g n) (e.FeaturesReadStarted byte) e.Deselected refl refl) refl
-    of ResetLun = either IsNoReady (o.addresses == 2) (lun_reset_effect g (names_lun g (row_with t byte) n)) e.Unaffected (either_reset IsNoReady g (names_lun g (row_with t byte) n) refl refl refl) refl
-    of c = refl
+    of : (c : Command) → (c ≡ PageProgram → (o.addresses == 4) ≡ true → names_lun g (row_with t byte) n ≡ true → b ≡ true) → IsQuiet b (address_effect g t byte c o.addresses n)
+    of PageProgram clears = program (o.addresses == 4) (names_lun g (row_with t byte) n) (clears refl)
+      where
+        program : (last named : Bool) → (last ≡ true → named ≡ true → b ≡ true) → IsQuiet b (cond last (cond named e.ProgramAddressed e.Unaffected) e.Unaffected)
+        program true true changes = changes refl refl
+        program true false changes = refl
+        program false named changes = refl
+    of ReadStatusEnhanced clears = either (IsQuiet b) (o.addresses == 2) (cond (names_lun g (row_with t byte) n) e.SelectedForStatus e.Deselected) e.Unaffected (either (IsQuiet b) (names_lun g (row_with t byte) n) e.SelectedForStatus e.Deselected refl refl) refl
+    of ReadId clears = either (IsQuiet b) (wants_address t byte) (of_target g n (id_effect byte)) e.Unaffected (either (IsQuiet b) (acts_for_target g n) (id_effect byte) e.Deselected (id_quiet b byte) refl) refl
+    of ReadParameterPage clears = either (IsQuiet b) (wants_address t byte) (of_target g n e.ParameterPageReadStarted) e.Unaffected (either (IsQuiet b) (acts_for_target g n) e.ParameterPageReadStarted e.Deselected refl refl) refl
+    of ReadUniqueId clears = either (IsQuiet b) (wants_address t byte) (of_target g n e.UniqueIdReadStarted) e.Unaffected (either (IsQuiet b) (acts_for_target g n) e.UniqueIdReadStarted e.Deselected refl refl) refl
+    of GetFeatures clears = either (IsQuiet b) (wants_address t byte) (of_target g n (e.FeaturesReadStarted byte)) e.Unaffected (either (IsQuiet b) (acts_for_target g n) (e.FeaturesReadStarted byte) e.Deselected refl refl) refl
+    of ResetLun clears = either (IsQuiet b) (o.addresses == 2) (lun_reset_effect g (names_lun g (row_with t byte) n)) e.Unaffected (either_reset (IsQuiet b) g (names_lun g (row_with t byte) n) refl refl refl) refl
+    of c clears = refl
 
-cycle_no_ready : (g : Parts) (t : TailFacts) (la : Latch) (k : TargetCycle) (n : ℕ) → IsNoReady (cycle_effect g t la k n)
-cycle_no_ready g t la (CommandCycle c) n = command_no_ready g t la c n
-cycle_no_ready g t la (AddressCycle byte) n = address_no_ready g t byte t.opening n
-cycle_no_ready g t la (InputCycle byte) n = either IsNoReady (ends_features t) (of_target g n (e.FeaturesSet (t.column % 256))) e.Unaffected (either IsNoReady (acts_for_target g n) (e.FeaturesSet (t.column % 256)) e.Deselected refl refl) refl
-cycle_no_ready g t la OutputCycle n = either IsNoReady (is_data la) e.DataOutput e.Unaffected refl refl
+-- the last row cycle of 80 clears a page register of the LUN that it names
+row_clears : (g : Parts) (t : TailFacts) (byte n : ℕ) (held : List PageAddress) (o : Opening) → t.opening ≡ Some o → o.opener ≡ PageProgram → (o.addresses == 4) ≡ true → names_lun g (row_with t byte) n ≡ true → fills (cycle_filling g t (AddressCycle byte) n held) ≡ true
+row_clears g t byte n held o opening opener last named = rw (named, opening, opener, last) refl
 
-pub no_ready : (g : Parts) (past : List Item) (c : Cycle) (l : Lun) → IsNoReady (effect_on g past (Cyc c) l)
+cycle_quiet : (g : Parts) (t : TailFacts) (la : Latch) (k : TargetCycle) (n : ℕ) (held : List PageAddress) → IsQuiet (fills (cycle_filling g t k n held)) (cycle_effect g t la k n)
+cycle_quiet g t la (CommandCycle c) n held = command_quiet false g t la c n
+cycle_quiet g t la (AddressCycle byte) n held = of t.opening refl
+  where
+    of : (o : Option Opening) → t.opening ≡ o → IsQuiet (fills (cycle_filling g t (AddressCycle byte) n held)) (opening_address_effect g t byte o n)
+    of None q = refl
+    of (Some o) q = address_quiet _ g t byte o n (row_clears g t byte n held o q)
+cycle_quiet g t la (InputCycle byte) n held = either (IsQuiet (fills (cycle_filling g t (InputCycle byte) n held))) (ends_features t) (of_target g n (e.FeaturesSet (t.column % 256))) e.Unaffected (either (IsQuiet (fills (cycle_filling g t (InputCycle byte) n held))) (acts_for_target g n) (e.FeaturesSet (t.column % 256)) e.Deselected refl refl) refl
+cycle_quiet g t la OutputCycle n held = either (IsQuiet false) (is_data la) e.DataOutput e.Unaffected refl refl
+
+pub is_quiet : (g : Parts) (past : List Item) (c : Cycle) (l : Lun) → IsQuiet (fills (filling g (facts_of (tail past l.ce)) (Cyc c) l (held g past l))) (effect_on g past (Cyc c) l)
 unfolding effect_among
-no_ready g past c l =
-    either IsNoReady (c.ce == l.ce) (cycle_effect g (facts_of (tail past l.ce)) (latch_alone g past l) (target_cycle c.kind c.byte) l.lun) e.Unaffected
-    (cycle_no_ready g (facts_of (tail past l.ce)) (latch_alone g past l) (target_cycle c.kind c.byte) l.lun) refl
+is_quiet g past c l = at (c.ce == l.ce)
+  where
+    t : TailFacts
+    t = facts_of (tail past l.ce)
+
+    at : (b : Bool) → IsQuiet (fills (cond b (cycle_filling g t (target_cycle c.kind c.byte) l.lun (held g past l)) Leaves)) (cond b (cycle_effect g t (latch_alone g past l) (target_cycle c.kind c.byte) l.lun) e.Unaffected)
+    at true = cycle_quiet g t (latch_alone g past l) (target_cycle c.kind c.byte) l.lun (held g past l)
+    at false = refl
+
+pub no_ready : (g : Parts) (past : List Item) (c : Cycle) (l : Lun) → is_no_ready (effect_on g past (Cyc c) l) ≡ true
+no_ready g past c l = (and_parts (is_no_ready (effect_on g past (Cyc c) l)) _ (is_quiet g past c l)).0
 
 -- a cycle of another target works on no LUN of this one
 pub works_here : (g : Parts) (past : List Item) (c : Cycle) (l : Lun) → works_on g past (Cyc c) l ≡ true → c.ce ≡ l.ce
 unfolding effect_among
 works_here g past c l h = at (c.ce == l.ce) refl h
   where
-    at : (b : Bool) → (c.ce == l.ce) ≡ b → (fills (cond b (cycle_filling g (facts_of (tail past l.ce)) (target_cycle c.kind c.byte) l.lun) Leaves) || begins (cond b (cycle_effect g (facts_of (tail past l.ce)) (latch_alone g past l) (target_cycle c.kind c.byte) l.lun) e.Unaffected)) ≡ true → c.ce ≡ l.ce
+    at : (b : Bool) → (c.ce == l.ce) ≡ b → (fills (cond b (cycle_filling g (facts_of (tail past l.ce)) (target_cycle c.kind c.byte) l.lun (held g past l)) Leaves) || begins (cond b (cycle_effect g (facts_of (tail past l.ce)) (latch_alone g past l) (target_cycle c.kind c.byte) l.lun) e.Unaffected)) ≡ true → c.ce ≡ l.ce
     at true q h = eqb-true c.ce l.ce q
     at false q h = cc
 
@@ -182,23 +211,24 @@ apart_read : (g : Parts) (v : LunView) (d : Die) (at : PageAddress) → SameDie 
 apart_read g v d at s h = ap not (ap (λ (k : Parts). some_read_clashes k at d.queued) s.geometry ∙ (ap (some_read_clashes g at) s.queue ∙ h))
 
 pub can_begin : (g : Parts) (v : LunView) (d : Die) (x : Effect) → SameDie g v d → LunFits g v → EffectFits g v x → CanBeginSome (work_begun x) d
-can_begin g v d (e.ReadStarted at column) s f h = record { row = row_there g v d at s h.2.inside; together = refl; ready = is_ready g v d s h.2.ready; room = small_queue g v d s f; next = small_page g v d s f }
-can_begin g v d (e.ReadQueued at) s f h = record { row = row_there g v d at s h.1.inside; together = apart_read g v d at s h.0; ready = is_ready g v d s h.1.ready; room = small_queue g v d s f; next = small_page g v d s f }
-can_begin g v d (e.EraseStarted true at) s f h = record { row = row_there g v d at s h.1.inside; together = apart g v d true at s h.0; ready = is_ready g v d s h.1.ready; room = small_queue g v d s f; next = small_page g v d s f }
-can_begin g v d (e.EraseStarted false at) s f h = record { row = row_there g v d at s h.1.inside; together = apart g v d true at s h.0; ready = is_ready g v d s h.1.ready; room = small_queue g v d s f; next = small_page g v d s f }
-can_begin g v d (e.ProgramStarted true at) s f h = record { row = row_there g v d at s h.1.inside; together = apart g v d false at s h.0; ready = is_ready g v d s h.1.ready; room = small_queue g v d s f; next = small_page g v d s f }
-can_begin g v d (e.ProgramStarted false at) s f h = record { row = row_there g v d at s h.1.inside; together = apart g v d false at s h.0; ready = is_ready g v d s h.1.ready; room = small_queue g v d s f; next = small_page g v d s f }
-can_begin g v d e.IdRead s f h = record { row = refl; together = refl; ready = is_ready g v d s h; room = small_queue g v d s f; next = small_page g v d s f }
-can_begin g v d (e.IdentityRead jedec) s f h = record { row = refl; together = refl; ready = is_ready g v d s h; room = small_queue g v d s f; next = small_page g v d s f }
-can_begin g v d e.UniqueIdReadStarted s f h = record { row = refl; together = refl; ready = is_ready g v d s h; room = small_queue g v d s f; next = small_page g v d s f }
-can_begin g v d (e.FeaturesReadStarted address) s f h = record { row = refl; together = refl; ready = is_ready g v d s h; room = small_queue g v d s f; next = small_page g v d s f }
-can_begin g v d (e.FeaturesSet address) s f h = record { row = refl; together = refl; ready = is_ready g v d s h; room = small_queue g v d s f; next = small_page g v d s f }
-can_begin g v d e.ParameterPageReadStarted s f h = record { row = refl; together = refl; ready = is_ready g v d s h; room = small_queue g v d s f; next = small_page g v d s f }
-can_begin g v d (e.CacheReadContinued None) s f h = record { row = refl; together = refl; ready = is_ready g v d s h.1; room = small_queue g v d s f; next = small_page g v d s f }
-can_begin g v d (e.CacheReadContinued (Some at)) s f h = record { row = refl; together = refl; ready = is_ready g v d s h.1.ready; room = small_queue g v d s f; next = small_page g v d s f }
-can_begin g v d e.CacheReadEnded s f h = record { row = refl; together = refl; ready = is_ready g v d s h; room = small_queue g v d s f; next = small_page g v d s f }
-can_begin g v d e.ResetStarted s f h = record { row = refl; together = refl; ready = refl; room = small_queue g v d s f; next = small_page g v d s f }
-can_begin g v d (e.TargetResetStarted first) s f h = record { row = refl; together = refl; ready = refl; room = small_queue g v d s f; next = small_page g v d s f }
+can_begin g v d (e.ReadStarted at column) s f h = record { row = row_there g v d at s h.2.inside; together = refl; ready = is_ready g v d s h.2.ready; room = small_queue g v d s f; next = small_page g v d s f; planes = tt }
+can_begin g v d (e.ReadQueued at) s f h = record { row = row_there g v d at s h.1.inside; together = apart_read g v d at s h.0; ready = is_ready g v d s h.1.ready; room = small_queue g v d s f; next = small_page g v d s f; planes = tt }
+can_begin g v d (e.CopybackReadStarted at column planes) s f h = record { row = row_there g v d at s h.3.inside; together = refl; ready = is_ready g v d s h.3.ready; room = small_queue g v d s f; next = small_page g v d s f; planes = h.2 }
+can_begin g v d (e.EraseStarted true at) s f h = record { row = row_there g v d at s h.1.inside; together = apart g v d true at s h.0; ready = is_ready g v d s h.1.ready; room = small_queue g v d s f; next = small_page g v d s f; planes = tt }
+can_begin g v d (e.EraseStarted false at) s f h = record { row = row_there g v d at s h.1.inside; together = apart g v d true at s h.0; ready = is_ready g v d s h.1.ready; room = small_queue g v d s f; next = small_page g v d s f; planes = tt }
+can_begin g v d (e.ProgramStarted true at) s f h = record { row = row_there g v d at s h.1.inside; together = apart g v d false at s h.0; ready = is_ready g v d s h.1.ready; room = small_queue g v d s f; next = small_page g v d s f; planes = tt }
+can_begin g v d (e.ProgramStarted false at) s f h = record { row = row_there g v d at s h.1.inside; together = apart g v d false at s h.0; ready = is_ready g v d s h.1.ready; room = small_queue g v d s f; next = small_page g v d s f; planes = tt }
+can_begin g v d e.IdRead s f h = record { row = refl; together = refl; ready = is_ready g v d s h; room = small_queue g v d s f; next = small_page g v d s f; planes = tt }
+can_begin g v d (e.IdentityRead jedec) s f h = record { row = refl; together = refl; ready = is_ready g v d s h; room = small_queue g v d s f; next = small_page g v d s f; planes = tt }
+can_begin g v d e.UniqueIdReadStarted s f h = record { row = refl; together = refl; ready = is_ready g v d s h; room = small_queue g v d s f; next = small_page g v d s f; planes = tt }
+can_begin g v d (e.FeaturesReadStarted address) s f h = record { row = refl; together = refl; ready = is_ready g v d s h; room = small_queue g v d s f; next = small_page g v d s f; planes = tt }
+can_begin g v d (e.FeaturesSet address) s f h = record { row = refl; together = refl; ready = is_ready g v d s h; room = small_queue g v d s f; next = small_page g v d s f; planes = tt }
+can_begin g v d e.ParameterPageReadStarted s f h = record { row = refl; together = refl; ready = is_ready g v d s h; room = small_queue g v d s f; next = small_page g v d s f; planes = tt }
+can_begin g v d (e.CacheReadContinued None) s f h = record { row = refl; together = refl; ready = is_ready g v d s h.1; room = small_queue g v d s f; next = small_page g v d s f; planes = tt }
+can_begin g v d (e.CacheReadContinued (Some at)) s f h = record { row = refl; together = refl; ready = is_ready g v d s h.1.ready; room = small_queue g v d s f; next = small_page g v d s f; planes = tt }
+can_begin g v d e.CacheReadEnded s f h = record { row = refl; together = refl; ready = is_ready g v d s h; room = small_queue g v d s f; next = small_page g v d s f; planes = tt }
+can_begin g v d e.ResetStarted s f h = record { row = refl; together = refl; ready = refl; room = small_queue g v d s f; next = small_page g v d s f; planes = tt }
+can_begin g v d (e.TargetResetStarted first) s f h = record { row = refl; together = refl; ready = refl; room = small_queue g v d s f; next = small_page g v d s f; planes = tt }
 can_begin g v d x s f h = tt
 
 pub only_data : (p : DataPhase) → takes_data p ≡ true → takes_features p ≡ false
@@ -209,7 +239,7 @@ only_data SecondColumn h = cc
 only_data FeatureInputs h = cc
 
 -- an input comes inside the page
-input_inside : (g : Parts) (n : ℕ) (past : List Item) (i : Item) (l : Lun) (at : PageAddress) (column byte : ℕ) → broken g n past i ≡ None → filling g (facts_of (tail past l.ce)) i l ≡ Fills at column byte → column < page_len g
+input_inside : (g : Parts) (n : ℕ) (past : List Item) (i : Item) (l : Lun) (at : PageAddress) (column byte : ℕ) → broken g n past i ≡ None → filling g (facts_of (tail past l.ce)) i l (held g past l) ≡ Fills at column byte → column < page_len g
 unfolding breaks_column_outside
 input_inside g n past i l at column byte h is =
     let j = is_an_input g past i l at column byte is in
@@ -222,15 +252,16 @@ input_inside g n past i l at column byte h is =
     below : (a b c : ℕ) → b ≡ c → leb a c ≡ false → b < a
     below a b c e f = grind (arith, nat_tests)
 
-pub can_work : (s : Channel) (past : List Item) (c : Cycle) (l : Lun) (d : Die) → broken s.geometry s.targets past (Cyc c) ≡ None → IsLun s.geometry s.targets l → FactsFit s.geometry s.targets past → IsDieOf s past l d → CanWork (filling s.geometry (facts_of (tail past l.ce)) (Cyc c) l) (effect_on s.geometry past (Cyc c) l) d
-can_work s past c l d h there facts f = of (filling s.geometry (facts_of (tail past l.ce)) (Cyc c) l) refl
+pub can_work : (s : Channel) (past : List Item) (c : Cycle) (l : Lun) (d : Die) → broken s.geometry s.targets past (Cyc c) ≡ None → IsLun s.geometry s.targets l → FactsFit s.geometry s.targets past → IsDieOf s past l d → CanWork (filling s.geometry (facts_of (tail past l.ce)) (Cyc c) l (held s.geometry past l)) (effect_on s.geometry past (Cyc c) l) d
+can_work s past c l d h there facts f = of (filling s.geometry (facts_of (tail past l.ce)) (Cyc c) l (held s.geometry past l)) refl
   where
     same : SameDie s.geometry (lun_view s.geometry past l) d
     same = record { geometry = f.geometry; busy = f.busy; queue = f.queue; array_page = f.array_page }
 
-    of : (x : Filling) → filling s.geometry (facts_of (tail past l.ce)) (Cyc c) l ≡ x → CanWork x (effect_on s.geometry past (Cyc c) l) d
+    of : (x : Filling) → filling s.geometry (facts_of (tail past l.ce)) (Cyc c) l (held s.geometry past l) ≡ x → CanWork x (effect_on s.geometry past (Cyc c) l) d
     of Leaves q = (can_begin s.geometry (lun_view s.geometry past l) d (effect_on s.geometry past (Cyc c) l) same (facts.lun l there) (facts.effect (Cyc c) l there h), no_ready s.geometry past c l, fits_planes s.geometry (lun_view s.geometry past l) (effect_on s.geometry past (Cyc c) l) (facts.effect (Cyc c) l there h))
     of (Clears at) q = tt
+    of (Copies at from) q = tt
     of (Fills at column byte) q = subst (λ (k : Parts). column < page_len k) (sym f.geometry) (input_inside s.geometry s.targets past (Cyc c) l at column byte h q)
 
 -- a cycle that starts no work programs nothing
@@ -241,6 +272,7 @@ confirm_programs g t BlockEraseConfirm h = refl
 confirm_programs g t BlockErasePlane h = refl
 confirm_programs g t ProgramConfirm h = cc
 confirm_programs g t ProgramPlane h = cc
+confirm_programs g t CopybackRead h = refl
 confirm_programs g t c h = refl
 
 abbrev IsNoProgram : Effect → Type 0
@@ -276,6 +308,7 @@ address_programs g t byte (Some o) n = of o.opener
     of ReadUniqueId = either IsNoProgram (wants_address t byte) (of_target g n e.UniqueIdReadStarted) e.Unaffected (either IsNoProgram (acts_for_target g n) e.UniqueIdReadStarted e.Deselected refl refl) refl
     of GetFeatures = either IsNoProgram (wants_address t byte) (of_target g n (e.FeaturesReadStarted byte)) e.Unaffected (either IsNoProgram (acts_for_target g n) (e.FeaturesReadStarted byte) e.Deselected refl refl) refl
     of ResetLun = either IsNoProgram (o.addresses == 2) (lun_reset_effect g (names_lun g (row_with t byte) n)) e.Unaffected (either_reset IsNoProgram g (names_lun g (row_with t byte) n) refl refl refl) refl
+    of PageProgram = either IsNoProgram (o.addresses == 4) (cond (names_lun g (row_with t byte) n) e.ProgramAddressed e.Unaffected) e.Unaffected (either IsNoProgram (names_lun g (row_with t byte) n) e.ProgramAddressed e.Unaffected refl refl) refl
     of c = refl
 
 cycle_programs : (g : Parts) (t : TailFacts) (la : Latch) (k : TargetCycle) (n : ℕ) → cycle_starts k ≡ false → IsNoProgram (cycle_effect g t la k n)
@@ -327,7 +360,7 @@ stand_changed state opened dies past i m old new f h facts still here worked = �
 -- 4. cycles
 
 resting : (s : Channel) (past : List Item) (c : Cycle) (l : Lun) (d : Die) → works_on s.geometry past (Cyc c) l ≡ false → IsWorked s past (Cyc c) l d d
-resting s past c l d h = rests_worked s.geometry (filling s.geometry (facts_of (tail past l.ce)) (Cyc c) l) (effect_on s.geometry past (Cyc c) l) d h (no_ready s.geometry past c l)
+resting s past c l d h = rests_worked s.geometry (filling s.geometry (facts_of (tail past l.ce)) (Cyc c) l (held s.geometry past l)) (effect_on s.geometry past (Cyc c) l) d h (is_quiet s.geometry past c l)
 
 -- nothing was found: no LUN of the channel is worked on
 pub none_works : (state : BusView) (opened : List Entries) (dies : List Die) (past : List Item) (c : Cycle) → IsStanding state opened dies past → broken state.geometry (length state.targets) past (Cyc c) ≡ None → FactsFit state.geometry (length state.targets) past → FindsWork state.geometry past (Cyc c) c.ce 0 None → StandFor (channel_on state.geometry (length state.targets) opened) (Cyc c ∷ past) dies
@@ -394,7 +427,7 @@ can_work_at state opened dies past c x k d f h facts found place here =
     let is : numbered state.geometry k ≡ l = ap (numbered state.geometry) place ∙ numbered_number state.geometry l found.lun in
     let there : IsLun state.geometry (length state.targets) l = record { target = cycle_there state.geometry (length state.targets) past c h; lun = found.lun } in
     subst (λ (y : Filling). CanWork y x.effect d) (sym found.filling_is)
-    (subst (λ (y : Effect). CanWork (filling state.geometry (facts_of (tail past l.ce)) (Cyc c) l) y d) (sym found.effect_is)
+    (subst (λ (y : Effect). CanWork (filling state.geometry (facts_of (tail past l.ce)) (Cyc c) l (held state.geometry past l)) y d) (sym found.effect_is)
     (can_work s past c l d h there facts (subst (λ (m : Lun). IsDieOf s past m d) is (f.stand k d here))))
 
 -- one LUN more is looked at
@@ -544,7 +577,7 @@ pub worked_there : (state : BusView) (opened : List Entries) (dies : List Die) (
 worked_there state opened dies past c x k f h found place =
     subst (λ (n : ℕ). n < length dies) (sym place) (die_there state opened dies past (lun_at c.ce x.lun) f (cycle_there state.geometry (length state.targets) past c h) found.lun)
 
-pub rests_by : (g : Parts) (past : List Item) (i : Item) (l : Lun) (x : Filling) (y : Effect) → x ≡ filling g (facts_of (tail past l.ce)) i l → y ≡ effect_on g past i l → fills x ≡ false → begins y ≡ false → works_on g past i l ≡ false
+pub rests_by : (g : Parts) (past : List Item) (i : Item) (l : Lun) (x : Filling) (y : Effect) → x ≡ filling g (facts_of (tail past l.ce)) i l (held g past l) → y ≡ effect_on g past i l → fills x ≡ false → begins y ≡ false → works_on g past i l ≡ false
 rests_by g past i l x y ex ey a b = rw (sym (ap fills ex) ∙ a, sym (ap begins ey) ∙ b) refl
 
 pub no_program_at : (g : Parts) (past : List Item) (c : Cycle) (x : Worked) → FindsWork g past (Cyc c) c.ce 0 (Some x) → starts_work (Cyc c) ≡ false → is_program x.effect ≡ false

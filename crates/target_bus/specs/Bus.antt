@@ -19,7 +19,7 @@ use Rattle.onfi_cycle.specs.declared.tail_facts.TailFacts.{TailFacts}
 use Rattle.onfi_cycle.specs.Sequence.{tail, facts_of, takes_data, takes_features, row, input_column}
 use Rattle.onfi_cycle.specs.Effect.{names_lun, page_address}
 use Rattle.onfi_cycle.specs.Filling.{filling}
-use Rattle.onfi_cycle.specs.Lun.{effect_on, option_plus}
+use Rattle.onfi_cycle.specs.Lun.{effect_on, held, option_plus}
 use Rattle.onfi_cycle.specs.Content.{shown_by, byte_at}
 use Rattle.onfi_cycle.specs.Permitted.{broken}
 use Rattle.onfi_cycle.specs.Outputs.{with_outputs}
@@ -178,7 +178,7 @@ lun_at ce n = record { ce = ce; lun = n }
 -- an item works on a LUN, in this way
 pub record IsWorkedAt (g : Parts) (past : List Item) (i : Item) (l : Lun) (filled : Filling) (effect : Effect) : Type 0 where
   pub lun : l.lun < g.luns
-  pub filling_is : filled ≡ filling g (facts_of (tail past l.ce)) i l
+  pub filling_is : filled ≡ filling g (facts_of (tail past l.ce)) i l (held g past l)
   pub effect_is : effect ≡ effect_on g past i l
   pub works : works_on g past i l ≡ true
 
@@ -189,7 +189,7 @@ FindsWork g past i ce n (Some w) = IsWorkedAt g past i (lun_at ce w.lun) w.filli
 
 -- an item changes no page register of the LUNs before number n of a target
 abbrev pub LeavesBelow : Parts → List Item → Item → (ce n : ℕ) → Type 0
-LeavesBelow g past i ce n = (m : ℕ) → m < n → fills (filling g (facts_of (tail past ce)) i (lun_at ce m)) ≡ false
+LeavesBelow g past i ce n = (m : ℕ) → m < n → fills (filling g (facts_of (tail past ce)) i (lun_at ce m) (held g past (lun_at ce m))) ≡ false
 
 -- inputs fill a page register of the LUN of this number
 abbrev pub is_filled : Parts → TailFacts → ℕ → Bool

@@ -6,6 +6,7 @@ ghost use Rattle.onfi_cycle.specs.declared.item.Kind.TheVariants.{Din};
 ghost use Rattle.onfi_cycle.specs.declared.item.Item.{Item};
 ghost use Rattle.onfi_cycle.specs.declared.item.Item.TheVariants.{Cyc};
 ghost use Rattle.onfi_cycle.specs.Sequence.{facts_of, tail, takes_data};
+ghost use Rattle.onfi_cycle.specs.Lun.{held};
 ghost use Rattle.onfi_cycle.specs.Filling.{filling};
 ghost use Rattle.onfi_cycle.specs.Channel.{is_cycle, cycle};
 ghost use Rattle.onfi_cycle.specs.State.{Follows};
@@ -28,7 +29,10 @@ use std::alloc::{AllocError, Allocator};
 fn fills(filling: Filling) -> bool
     ensures { result ≡ fills filling }
 {
-    matches!(filling, Filling::Clears(_) | Filling::Fills(..))
+    matches!(
+        filling,
+        Filling::Clears(_) | Filling::Copies(..) | Filling::Fills(..)
+    )
 }
 
 // Work begins, or another page comes into the register.
@@ -39,6 +43,7 @@ fn begins(effect: Effect) -> bool
         effect,
         Effect::ReadStarted { .. }
             | Effect::ReadQueued { .. }
+            | Effect::CopybackReadStarted { .. }
             | Effect::PlaneSelected { .. }
             | Effect::EraseStarted { .. }
             | Effect::ProgramStarted { .. }
@@ -64,8 +69,8 @@ fn may_fill(kind: Kind) -> bool
 
 // What a cycle does to the page registers of a LUN that is there.
 fn filling_by(state: &BusState, cycle: Cycle, lun: Lun) -> Filling
-    ensures { (g : Parts) (n : ℕ) (past : List Item) → Follows g n state.now past → lun.ce < n
-        → result ≡ filling g (facts_of (tail past lun.ce)) (Cyc cycle) lun }
+    ensures { (g : Parts) (n : ℕ) (past : List Item) → Follows g n state.now past → lun.ce < n → lun.lun < g.luns
+        → result ≡ filling g (facts_of (tail past lun.ce)) (Cyc cycle) lun (held g past lun) }
 {
     if may_fill(cycle.kind) {
         state.filling(Item::Cyc(cycle), lun)
@@ -339,7 +344,9 @@ fn find_filled(state: &BusState, ce: u8, luns: u8, lun: u8) -> Option<FilledLun>
     }
     match state.filling(input(ce), Lun { ce, lun }) {
         Filling::Fills(page, column, _) => Some(FilledLun { lun, page, column }),
-        Filling::Leaves | Filling::Clears(_) => find_filled(state, ce, luns, lun + 1),
+        Filling::Leaves | Filling::Clears(_) | Filling::Copies(..) => {
+            find_filled(state, ce, luns, lun + 1)
+        }
     }
 }
 

@@ -1,3 +1,4 @@
 pub mod Stored
 pub mod Fitting
 pub mod Planes
+pub mod Going

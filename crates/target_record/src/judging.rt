@@ -1,4 +1,4 @@
-//! The rules F1 to F15 and F18 by the record of a target: of its LUNs only what a rule looks at is read, so nothing is taken out of the record.
+//! The rules F1 to F15, F17 and F18 by the record of a target: of its LUNs only what a rule looks at is read, so nothing is taken out of the record.
 ghost use Rattle.std.specs.Prelude.{◌≡◌, ℕ, ◌%◌, ◌==◌, length, List, ◌^◌, ◌<◌, ◌≤◌, IfSome, true, false, not, slice_get};
 ghost use Rattle.std.specs.List.{All, list_all, list_any};
 ghost use Rattle.std.specs.Option.{option_copied, option_map};
@@ -9,19 +9,21 @@ ghost use Rattle.onfi_cycle.specs.declared.item.Kind.{Kind as KindValue};
 ghost use Rattle.onfi_cycle.specs.declared.tail_facts.TailFacts.{TailFacts as TailValue};
 ghost use Rattle.onfi_cycle.specs.declared.target_cycle.TargetCycle.{TargetCycle};
 ghost use Rattle.onfi_cycle.specs.Effect.{is_off, is_data, is_shared, page_address};
-ghost use Rattle.onfi_cycle.specs.Lun.{output_column};
+ghost use Rattle.onfi_cycle.specs.Lun.{output_column, is_copyback_read, page_in_plane};
+ghost use Rattle.nand_geometry.specs.Optional.{has_copyback};
 ghost use Rattle.onfi_cycle.specs.LunView.{LunView};
-ghost use Rattle.onfi_cycle.specs.Sequence.{is_open, target_cycle, wants_command, works_on_row, row};
+ghost use Rattle.onfi_cycle.specs.Sequence.{is_open, target_cycle, goes_on_with, wants_command, row};
 ghost use Rattle.onfi_cycle.specs.Permitted.{judge, judge_cycle, judge_known_cycle};
-ghost use Rattle.onfi_cycle.specs.Rules.{has_read_one, blocks_clash, read_clashes, some_read_clashes, are_none, is_undeclared_address, breaks_address_misplaced, breaks_cache_read_misplaced, breaks_column_outside, breaks_command_unknown, breaks_lun_busy, breaks_no_column_to_change, breaks_several_luns, is_unclear, works_for_target, caching, continues_cache, driver, driving, ends_cache, ends_row, excludes_cache, named_lun_is, has_no_byte, holds_plane_of, has_some, is_past_register, lun_is, is_refused_by, is_undeclared, may_change_column, planes_clash, queued_clashes, refused_by, register_len, second_column, second_of_page, some_queued_clashes};
-ghost use Rattle.onfi_cycle.specs.Command.{command, addresses_the_array, is_change_read_column, is_enhanced_column, is_opener};
+ghost use Rattle.onfi_cycle.specs.Rules.{has_read_one, opens_here, keeps_copy, may_copy_to, may_copy, is_copying, blocks_clash, read_clashes, some_read_clashes, are_none, is_undeclared_address, breaks_address_misplaced, breaks_cache_read_misplaced, breaks_column_outside, breaks_command_unknown, breaks_lun_busy, breaks_no_column_to_change, breaks_several_luns, is_unclear, works_for_target, caching, continues_cache, driver, driving, ends_cache, ends_row, excludes_cache, named_lun_is, has_no_byte, holds_plane_of, has_some, is_past_register, lun_is, is_refused_by, is_undeclared, may_change_column, planes_clash, queued_clashes, refused_by, register_len, second_column, second_of_page, some_queued_clashes};
+ghost use Rattle.onfi_cycle.specs.Command.{command, addresses_the_array, is_change_read_column, is_enhanced_column, is_page_program, is_write_column};
 ghost use Rattle.onfi_cycle.specs.Bounds.{TargetFits};
 ghost use Rattle.target_record.specs.Geometry.{parts_of};
 ghost use Rattle.target_record.specs.Record.{IsRecord, tail_of, lun_of, luns_of, queue_of, pages_of, target_of};
 ghost use Rattle.target_record.specs.Record.{IsTarget};
-ghost use Rattle.target_record.specs.Judging.{named_rule, nobody_rule, is_kept_from_cache};
+ghost use Rattle.target_record.specs.Judging.{named_rule, nobody_rule, copies_badly, is_kept_from_cache};
 
 use crate::geometry::OnfiseqGeometry;
+use crate::lun_change::page_in_plane;
 use crate::record::{
     OnfiseqHeld, OnfiseqLun, OnfiseqQueued, OnfiseqTarget, closer_of, given_of, is_set, latch_of,
     opening_of, page_of, phase_of, queued_of, register_of, tail_of,
@@ -29,7 +31,7 @@ use crate::record::{
 use nand_geometry::{Geometry, Optional};
 use onfi_cycle::{
     Command, Cycle, DataPhase, Forbidden, Item, Kind, PageAddress, Queued, ReadColumn, Register,
-    TailFacts, is_cache_read, is_page_read, is_target_work,
+    TailFacts, is_cache_read, is_page_read, is_target_work, keeps_copy,
 };
 
 // ---- what a record says of its LUN
@@ -320,6 +322,7 @@ fn is_undeclared(geometry: &OnfiseqGeometry, command: Command) -> bool
         Command::ReadCacheSequential | Command::ReadCacheEnd => !is_set(geometry.cache),
         Command::ChangeReadColumnEnhanced => { !Optional(geometry.optional).has_enhanced_column() }
         Command::ReadPlane => !Optional(geometry.optional).has_plane_reads(),
+        Command::CopybackRead => !Optional(geometry.optional).has_copyback(),
         Command::ReadUniqueId => !Optional(geometry.optional).has_unique_id(),
         Command::GetFeatures | Command::SetFeatures => {
             !Optional(geometry.optional).has_features()
@@ -357,9 +360,9 @@ fn breaks_cache_read_misplaced(
     luns: &[OnfiseqLun],
     command: Command,
 ) -> bool
-    requires opener { is_opener command ≡ true }
+    requires opener { opens_here (parts_of geometry.now) command ≡ true }
     requires numbers { All IsRecord luns.now }
-    ensures { (t : TailValue) → works_on_row t command ≡ false → result ≡ breaks_cache_read_misplaced (parts_of geometry.now) t (luns_of luns.now) (TargetCycle.CommandCycle command) }
+    ensures { (t : TailValue) → goes_on_with t command ≡ false → result ≡ breaks_cache_read_misplaced (parts_of geometry.now) t (luns_of luns.now) (TargetCycle.CommandCycle command) }
 {
     match command {
         Command::ReadCacheSequential => match driver(luns) {
@@ -395,24 +398,34 @@ fn breaks_several_luns(geometry: &OnfiseqGeometry, luns: &[OnfiseqLun], command:
 
 #[tactic(auto, unfolding(onfi_cycle::specs::Rules::breaks_lun_busy))]
 fn breaks_lun_busy(geometry: &OnfiseqGeometry, luns: &[OnfiseqLun], command: Command) -> bool
-    ensures { (t : TailValue) → result ≡ breaks_lun_busy (parts_of geometry.now) t (luns_of luns.now) (TargetCycle.CommandCycle command) }
+    ensures { (t : TailValue) → goes_on_with t command ≡ false → result ≡ breaks_lun_busy (parts_of geometry.now) t (luns_of luns.now) (TargetCycle.CommandCycle command) }
 {
     command.wants_ready() && !some_ready(luns)
         || is_shared(geometry) && command.reads_identity() && some_busy(luns)
 }
 
+// The command begins sequences of the chip: a Change Write Column does where a copyback is declared.
+fn opens_here(geometry: &OnfiseqGeometry, command: Command) -> bool
+    ensures { result ≡ opens_here (parts_of geometry.now) command }
+{
+    match command {
+        Command::ChangeWriteColumn => Optional(geometry.optional).has_copyback(),
+        _ => command.is_opener(),
+    }
+}
+
 // The first of F3 to F18 that an opener breaks which the tail doesn't want.
 #[inline(always)]
-#[tactic(auto, unfolding(onfi_cycle::specs::Rules::breaks_sequence_open, onfi_cycle::specs::Rules::breaks_command_misplaced, onfi_cycle::specs::Rules::breaks_address_misplaced, onfi_cycle::specs::Rules::breaks_row_outside, onfi_cycle::specs::Rules::breaks_queue_clash, onfi_cycle::specs::Rules::breaks_input_misplaced, onfi_cycle::specs::Rules::breaks_no_sole_driver, onfi_cycle::specs::Rules::breaks_data_not_ready, onfi_cycle::specs::Rules::breaks_column_outside, onfi_cycle::specs::Rules::breaks_plane_not_held))]
+#[tactic(auto, unfolding(onfi_cycle::specs::Rules::breaks_sequence_open, onfi_cycle::specs::Rules::breaks_command_misplaced, onfi_cycle::specs::Rules::breaks_address_misplaced, onfi_cycle::specs::Rules::breaks_row_outside, onfi_cycle::specs::Rules::breaks_queue_clash, onfi_cycle::specs::Rules::breaks_input_misplaced, onfi_cycle::specs::Rules::breaks_no_sole_driver, onfi_cycle::specs::Rules::breaks_data_not_ready, onfi_cycle::specs::Rules::breaks_column_outside, onfi_cycle::specs::Rules::breaks_copyback_misplaced, onfi_cycle::specs::Rules::breaks_plane_not_held))]
 fn judge_opener(
     geometry: &OnfiseqGeometry,
     in_sequence: bool,
     luns: &[OnfiseqLun],
     command: Command,
 ) -> Option<Forbidden>
-    requires opener { is_opener command ≡ true }
+    requires opener { opens_here (parts_of geometry.now) command ≡ true }
     requires numbers { All IsRecord luns.now }
-    ensures { (t : TailValue) → is_open t ≡ in_sequence → works_on_row t command ≡ false → result ≡ judge_known_cycle (parts_of geometry.now) t (luns_of luns.now) (TargetCycle.CommandCycle command) }
+    ensures { (t : TailValue) → is_open t ≡ in_sequence → goes_on_with t command ≡ false → result ≡ judge_known_cycle (parts_of geometry.now) t (luns_of luns.now) (TargetCycle.CommandCycle command) }
 {
     if in_sequence && !(command.is_reset() && Optional(geometry.optional).is_wide()) {
         Some(Forbidden::SequenceOpen)
@@ -461,7 +474,7 @@ fn named_has_read_one(geometry: &OnfiseqGeometry, kept: &OnfiseqTarget) -> bool
 
 // The first of F3 to F18 that a 31h breaks which the tail wants.
 #[inline(never)]
-#[tactic(auto, unfolding(onfi_cycle::specs::Rules::breaks_sequence_open, onfi_cycle::specs::Rules::breaks_several_luns, onfi_cycle::specs::Rules::breaks_no_column_to_change, onfi_cycle::specs::Rules::breaks_command_misplaced, onfi_cycle::specs::Rules::breaks_address_misplaced, onfi_cycle::specs::Rules::breaks_row_outside, onfi_cycle::specs::Rules::breaks_lun_busy, onfi_cycle::specs::Rules::breaks_queue_clash, onfi_cycle::specs::Rules::breaks_input_misplaced, onfi_cycle::specs::Rules::breaks_no_sole_driver, onfi_cycle::specs::Rules::breaks_data_not_ready, onfi_cycle::specs::Rules::breaks_column_outside, onfi_cycle::specs::Rules::breaks_cache_read_misplaced, onfi_cycle::specs::Rules::breaks_plane_not_held))]
+#[tactic(auto, unfolding(onfi_cycle::specs::Rules::breaks_sequence_open, onfi_cycle::specs::Rules::breaks_several_luns, onfi_cycle::specs::Rules::breaks_no_column_to_change, onfi_cycle::specs::Rules::breaks_command_misplaced, onfi_cycle::specs::Rules::breaks_address_misplaced, onfi_cycle::specs::Rules::breaks_row_outside, onfi_cycle::specs::Rules::breaks_lun_busy, onfi_cycle::specs::Rules::breaks_queue_clash, onfi_cycle::specs::Rules::breaks_input_misplaced, onfi_cycle::specs::Rules::breaks_no_sole_driver, onfi_cycle::specs::Rules::breaks_data_not_ready, onfi_cycle::specs::Rules::breaks_column_outside, onfi_cycle::specs::Rules::breaks_cache_read_misplaced, onfi_cycle::specs::Rules::breaks_copyback_misplaced, onfi_cycle::specs::Rules::breaks_plane_not_held))]
 fn judge_random_cache_read(geometry: &OnfiseqGeometry, kept: &OnfiseqTarget) -> Option<Forbidden>
     requires limits { InLimits (parts_of geometry.now) }
     requires numbers { IsTarget kept.now }
@@ -477,25 +490,53 @@ fn judge_random_cache_read(geometry: &OnfiseqGeometry, kept: &OnfiseqTarget) -> 
     }
 }
 
-// The closer may not come while a cache read goes on at the LUN of its row: 32h, and in the wider profile 30h.
+// The tail goes on with this opener: a 31h that it wants, and an 85h in the data of a program.
+fn goes_on_with(kept: &OnfiseqTarget, command: Command) -> bool
+    ensures { result ≡ goes_on_with (tail_of kept.now) command }
+{
+    match command {
+        Command::ReadCacheSequential | Command::ChangeWriteColumn => wants_command(kept, command),
+        _ => false,
+    }
+}
+
+// The first of F3 to F18 that an opener breaks with which the tail goes on: an 85h breaks none.
+fn judge_going_on(
+    geometry: &OnfiseqGeometry,
+    kept: &OnfiseqTarget,
+    command: Command,
+) -> Option<Forbidden>
+    requires limits { InLimits (parts_of geometry.now) }
+    requires numbers { IsTarget kept.now }
+    requires opener { opens_here (parts_of geometry.now) command ≡ true }
+    requires wanted { goes_on_with (tail_of kept.now) command ≡ true }
+    ensures { result ≡ judge_known_cycle (parts_of geometry.now) (tail_of kept.now) (target_of kept.now).luns (TargetCycle.CommandCycle command) }
+{
+    match command {
+        Command::ReadCacheSequential => judge_random_cache_read(geometry, kept),
+        _ => None,
+    }
+}
+
+// The closer may not come while a cache read goes on at the LUN of its row: 32h and 35h, and in the wider profile 30h.
 fn is_kept_from_cache(geometry: &OnfiseqGeometry, command: Command) -> bool
     ensures { result ≡ is_kept_from_cache (parts_of geometry.now) command }
 {
     match command {
         Command::ReadConfirm => Optional(geometry.optional).is_wide(),
-        Command::ReadPlane => true,
+        Command::ReadPlane | Command::CopybackRead => true,
         _ => false,
     }
 }
 
 // The first of F6 to F15 that a closer breaks.
-#[tactic(auto, unfolding(onfi_cycle::specs::Rules::breaks_sequence_open, onfi_cycle::specs::Rules::breaks_several_luns, onfi_cycle::specs::Rules::breaks_no_column_to_change, onfi_cycle::specs::Rules::breaks_command_misplaced, onfi_cycle::specs::Rules::breaks_address_misplaced, onfi_cycle::specs::Rules::breaks_row_outside, onfi_cycle::specs::Rules::breaks_lun_busy, onfi_cycle::specs::Rules::breaks_queue_clash, onfi_cycle::specs::Rules::breaks_input_misplaced, onfi_cycle::specs::Rules::breaks_no_sole_driver, onfi_cycle::specs::Rules::breaks_data_not_ready, onfi_cycle::specs::Rules::breaks_column_outside, onfi_cycle::specs::Rules::breaks_cache_read_misplaced, onfi_cycle::specs::Rules::breaks_plane_not_held))]
+#[tactic(auto, unfolding(onfi_cycle::specs::Rules::breaks_sequence_open, onfi_cycle::specs::Rules::breaks_several_luns, onfi_cycle::specs::Rules::breaks_no_column_to_change, onfi_cycle::specs::Rules::breaks_command_misplaced, onfi_cycle::specs::Rules::breaks_address_misplaced, onfi_cycle::specs::Rules::breaks_row_outside, onfi_cycle::specs::Rules::breaks_lun_busy, onfi_cycle::specs::Rules::breaks_queue_clash, onfi_cycle::specs::Rules::breaks_input_misplaced, onfi_cycle::specs::Rules::breaks_no_sole_driver, onfi_cycle::specs::Rules::breaks_data_not_ready, onfi_cycle::specs::Rules::breaks_column_outside, onfi_cycle::specs::Rules::breaks_cache_read_misplaced, onfi_cycle::specs::Rules::breaks_copyback_misplaced, onfi_cycle::specs::Rules::breaks_plane_not_held))]
 fn judge_closer(
     geometry: &OnfiseqGeometry,
     kept: &OnfiseqTarget,
     command: Command,
 ) -> Option<Forbidden>
-    requires closer { is_opener command ≡ false }
+    requires closer { opens_here (parts_of geometry.now) command ≡ false }
     requires limits { InLimits (parts_of geometry.now) }
     requires numbers { IsTarget kept.now }
     ensures { result ≡ judge_known_cycle (parts_of geometry.now) (tail_of kept.now) (target_of kept.now).luns (TargetCycle.CommandCycle command) }
@@ -596,7 +637,9 @@ fn refused_by(
     match opener {
         Command::Read => some_read_clashes(geometry, page, queue),
         Command::BlockErase => some_queued_clashes(geometry, true, page, queue),
-        Command::PageProgram => some_queued_clashes(geometry, false, page, queue),
+        Command::PageProgram | Command::ChangeWriteColumn => {
+            some_queued_clashes(geometry, false, page, queue)
+        }
         _ => false,
     }
 }
@@ -657,7 +700,7 @@ fn ends_row_without_cache(geometry: &Geometry, tail: TailFacts) -> bool
     }
 }
 
-// The next address is the second column cycle of a Read, a Change Read Column Enhanced, a Page Program or a Change Write Column.
+// The next address is the second column cycle of a Read, a Change Read Column Enhanced, a Page Program, a Copyback Program or a Change Write Column.
 fn is_at_second_column_of_page(tail: TailFacts) -> bool
     ensures { result ≡ second_of_page tail }
 {
@@ -666,7 +709,10 @@ fn is_at_second_column_of_page(tail: TailFacts) -> bool
         Some(opening) => {
             matches!(
                 opening.opener,
-                Command::Read | Command::ChangeReadColumnEnhanced | Command::PageProgram
+                Command::Read
+                    | Command::ChangeReadColumnEnhanced
+                    | Command::PageProgram
+                    | Command::ChangeWriteColumn
             ) && opening.addresses == 1
         }
     };
@@ -716,6 +762,66 @@ fn holds_plane_of(geometry: &Geometry, page: PageAddress, lun: &OnfiseqLun) -> b
     !has_queue(lun) && holds_plane(planes, page.block % planes, &lun.held[..lun.holds])
 }
 
+// A page may be copied to another of its plane: both are odd, or both even, where that matters.
+fn may_copy_to(geometry: &Geometry, page: PageAddress, held: Option<PageAddress>) -> bool
+    ensures { result ≡ may_copy_to geometry.now page held }
+{
+    match held {
+        None => false,
+        Some(from) => { geometry.parts().optional.has_odd_even() || page.page % 2 == from.page % 2 }
+    }
+}
+
+// The LUN holds a page that was read for a copyback, and may be copied to this one.
+fn may_copy(geometry: &Geometry, page: PageAddress, lun: &OnfiseqLun) -> bool
+    requires { IsRecord lun.now }
+    ensures { result ≡ may_copy geometry.now page (lun_of lun.now) }
+{
+    let planes = geometry.planes();
+    let held = page_in_plane(planes, page.block % planes, &lun.held[..lun.holds]);
+    keeps_copy(closer(lun)) && may_copy_to(geometry, page, held)
+}
+
+// A group of copybacks has begun on it.
+fn is_copying(lun: &OnfiseqLun) -> bool
+    requires { IsRecord lun.now }
+    ensures { result ≡ is_copying (lun_of lun.now) }
+{
+    has_queue(lun) && lun.holds > 0
+}
+
+// The next address is the last of the row of a Copyback Program.
+fn ends_copyback_row(tail: TailFacts) -> bool
+    ensures { result ≡ ends_row is_write_column tail }
+{
+    match tail.opening {
+        None => false,
+        Some(opening) => opening.opener == Command::ChangeWriteColumn
+            && opening.opener.at_last_row(opening.addresses),
+    }
+}
+
+// The next address is the last of the row of a Page Program.
+fn ends_program_row(tail: TailFacts) -> bool
+    ensures { result ≡ ends_row is_page_program tail }
+{
+    match tail.opening {
+        None => false,
+        Some(opening) => opening.opener == Command::PageProgram
+            && opening.opener.at_last_row(opening.addresses),
+    }
+}
+
+// The last address of a row breaks F17 on the LUN that it names.
+fn copies_badly(geometry: &Geometry, tail: TailFacts, page: PageAddress, lun: &OnfiseqLun) -> bool
+    requires { IsRecord lun.now }
+    ensures { result ≡ copies_badly geometry.now tail page (lun_of lun.now) }
+{
+    geometry.parts().optional.has_copyback()
+        && (ends_copyback_row(tail) && !may_copy(geometry, page, lun)
+            || ends_program_row(tail) && is_copying(lun))
+}
+
 // The column is outside the page, or outside the register of the LUN that drives.
 #[tactic(auto, unfolding(onfi_cycle::specs::Rules::breaks_column_outside))]
 fn breaks_column_outside(
@@ -759,6 +865,8 @@ fn judge_named(
         Some(Forbidden::ColumnOutside)
     } else if ends_row_without_cache(geometry, tail) && is_caching(lun) {
         Some(Forbidden::CacheReadMisplaced)
+    } else if copies_badly(geometry, tail, page, lun) {
+        Some(Forbidden::CopybackMisplaced)
     } else if ends_plane_row(tail) && !holds_plane_of(geometry, page, lun) {
         Some(Forbidden::PlaneNotHeld)
     } else {
@@ -780,7 +888,7 @@ fn judge_nobody(tail: TailFacts, is_outside: bool, target_works: bool) -> Option
 }
 
 // The first of F8 to F18 that the last address of a row breaks.
-#[tactic(auto, unfolding(onfi_cycle::specs::Rules::breaks_sequence_open, onfi_cycle::specs::Rules::breaks_several_luns, onfi_cycle::specs::Rules::breaks_no_column_to_change, onfi_cycle::specs::Rules::breaks_command_misplaced, onfi_cycle::specs::Rules::breaks_input_misplaced, onfi_cycle::specs::Rules::breaks_no_sole_driver, onfi_cycle::specs::Rules::breaks_data_not_ready, onfi_cycle::specs::Rules::breaks_row_outside, onfi_cycle::specs::Rules::breaks_lun_busy, onfi_cycle::specs::Rules::breaks_queue_clash, onfi_cycle::specs::Rules::breaks_cache_read_misplaced, onfi_cycle::specs::Rules::breaks_plane_not_held))]
+#[tactic(auto, unfolding(onfi_cycle::specs::Rules::breaks_sequence_open, onfi_cycle::specs::Rules::breaks_several_luns, onfi_cycle::specs::Rules::breaks_no_column_to_change, onfi_cycle::specs::Rules::breaks_command_misplaced, onfi_cycle::specs::Rules::breaks_input_misplaced, onfi_cycle::specs::Rules::breaks_no_sole_driver, onfi_cycle::specs::Rules::breaks_data_not_ready, onfi_cycle::specs::Rules::breaks_row_outside, onfi_cycle::specs::Rules::breaks_lun_busy, onfi_cycle::specs::Rules::breaks_queue_clash, onfi_cycle::specs::Rules::breaks_cache_read_misplaced, onfi_cycle::specs::Rules::breaks_copyback_misplaced, onfi_cycle::specs::Rules::breaks_plane_not_held))]
 #[inline(never)]
 fn judge_end_of_row(
     geometry: &OnfiseqGeometry,
@@ -828,7 +936,7 @@ fn is_undeclared_address(geometry: &OnfiseqGeometry, tail: TailFacts, byte: u8) 
 }
 
 // The first of F3 to F18 that an address breaks. One that isn't the last of a row can break F7 and F14 alone.
-#[tactic(auto, unfolding(onfi_cycle::specs::Rules::breaks_sequence_open, onfi_cycle::specs::Rules::breaks_several_luns, onfi_cycle::specs::Rules::breaks_no_column_to_change, onfi_cycle::specs::Rules::breaks_command_misplaced, onfi_cycle::specs::Rules::breaks_address_misplaced, onfi_cycle::specs::Rules::breaks_row_outside, onfi_cycle::specs::Rules::breaks_lun_busy, onfi_cycle::specs::Rules::breaks_queue_clash, onfi_cycle::specs::Rules::breaks_input_misplaced, onfi_cycle::specs::Rules::breaks_no_sole_driver, onfi_cycle::specs::Rules::breaks_data_not_ready, onfi_cycle::specs::Rules::breaks_cache_read_misplaced, onfi_cycle::specs::Rules::breaks_plane_not_held))]
+#[tactic(auto, using(onfi_cycle::proofs::NoRow::no_copyback), unfolding(onfi_cycle::specs::Rules::breaks_sequence_open, onfi_cycle::specs::Rules::breaks_several_luns, onfi_cycle::specs::Rules::breaks_no_column_to_change, onfi_cycle::specs::Rules::breaks_command_misplaced, onfi_cycle::specs::Rules::breaks_row_outside, onfi_cycle::specs::Rules::breaks_lun_busy, onfi_cycle::specs::Rules::breaks_queue_clash, onfi_cycle::specs::Rules::breaks_input_misplaced, onfi_cycle::specs::Rules::breaks_no_sole_driver, onfi_cycle::specs::Rules::breaks_data_not_ready, onfi_cycle::specs::Rules::breaks_cache_read_misplaced, onfi_cycle::specs::Rules::breaks_plane_not_held))]
 #[inline(always)]
 fn judge_address(
     geometry: &OnfiseqGeometry,
@@ -855,7 +963,7 @@ fn judge_address(
 
 // The first of F3 to F18 that an input breaks.
 #[inline(always)]
-#[tactic(auto, unfolding(onfi_cycle::specs::Rules::breaks_sequence_open, onfi_cycle::specs::Rules::breaks_several_luns, onfi_cycle::specs::Rules::breaks_no_column_to_change, onfi_cycle::specs::Rules::breaks_command_misplaced, onfi_cycle::specs::Rules::breaks_address_misplaced, onfi_cycle::specs::Rules::breaks_row_outside, onfi_cycle::specs::Rules::breaks_lun_busy, onfi_cycle::specs::Rules::breaks_queue_clash, onfi_cycle::specs::Rules::breaks_input_misplaced, onfi_cycle::specs::Rules::breaks_no_sole_driver, onfi_cycle::specs::Rules::breaks_data_not_ready, onfi_cycle::specs::Rules::breaks_column_outside, onfi_cycle::specs::Rules::breaks_cache_read_misplaced, onfi_cycle::specs::Rules::breaks_plane_not_held))]
+#[tactic(auto, unfolding(onfi_cycle::specs::Rules::breaks_sequence_open, onfi_cycle::specs::Rules::breaks_several_luns, onfi_cycle::specs::Rules::breaks_no_column_to_change, onfi_cycle::specs::Rules::breaks_command_misplaced, onfi_cycle::specs::Rules::breaks_address_misplaced, onfi_cycle::specs::Rules::breaks_row_outside, onfi_cycle::specs::Rules::breaks_lun_busy, onfi_cycle::specs::Rules::breaks_queue_clash, onfi_cycle::specs::Rules::breaks_input_misplaced, onfi_cycle::specs::Rules::breaks_no_sole_driver, onfi_cycle::specs::Rules::breaks_data_not_ready, onfi_cycle::specs::Rules::breaks_column_outside, onfi_cycle::specs::Rules::breaks_cache_read_misplaced, onfi_cycle::specs::Rules::breaks_copyback_misplaced, onfi_cycle::specs::Rules::breaks_plane_not_held))]
 fn judge_input(geometry: &OnfiseqGeometry, kept: &OnfiseqTarget) -> Option<Forbidden>
     requires { (kept.now.column < 2 ^ 16) × (kept.now.inputs < 2 ^ 63) }
     ensures { (luns : List LunView) (byte : ℕ) → result ≡ judge_known_cycle (parts_of geometry.now) (tail_of kept.now) luns (TargetCycle.InputCycle byte) }
@@ -874,7 +982,7 @@ fn judge_input(geometry: &OnfiseqGeometry, kept: &OnfiseqTarget) -> Option<Forbi
 
 // The first of F3 to F18 that an output breaks.
 #[inline(always)]
-#[tactic(auto, unfolding(onfi_cycle::specs::Rules::breaks_sequence_open, onfi_cycle::specs::Rules::breaks_several_luns, onfi_cycle::specs::Rules::breaks_no_column_to_change, onfi_cycle::specs::Rules::breaks_command_misplaced, onfi_cycle::specs::Rules::breaks_address_misplaced, onfi_cycle::specs::Rules::breaks_row_outside, onfi_cycle::specs::Rules::breaks_lun_busy, onfi_cycle::specs::Rules::breaks_queue_clash, onfi_cycle::specs::Rules::breaks_input_misplaced, onfi_cycle::specs::Rules::breaks_no_sole_driver, onfi_cycle::specs::Rules::breaks_data_not_ready, onfi_cycle::specs::Rules::breaks_column_outside, onfi_cycle::specs::Rules::breaks_cache_read_misplaced, onfi_cycle::specs::Rules::breaks_plane_not_held))]
+#[tactic(auto, unfolding(onfi_cycle::specs::Rules::breaks_sequence_open, onfi_cycle::specs::Rules::breaks_several_luns, onfi_cycle::specs::Rules::breaks_no_column_to_change, onfi_cycle::specs::Rules::breaks_command_misplaced, onfi_cycle::specs::Rules::breaks_address_misplaced, onfi_cycle::specs::Rules::breaks_row_outside, onfi_cycle::specs::Rules::breaks_lun_busy, onfi_cycle::specs::Rules::breaks_queue_clash, onfi_cycle::specs::Rules::breaks_input_misplaced, onfi_cycle::specs::Rules::breaks_no_sole_driver, onfi_cycle::specs::Rules::breaks_data_not_ready, onfi_cycle::specs::Rules::breaks_column_outside, onfi_cycle::specs::Rules::breaks_cache_read_misplaced, onfi_cycle::specs::Rules::breaks_copyback_misplaced, onfi_cycle::specs::Rules::breaks_plane_not_held))]
 fn judge_output(geometry: &OnfiseqGeometry, kept: &OnfiseqTarget) -> Option<Forbidden>
     requires { IsTarget kept.now }
     ensures { result ≡ judge_known_cycle (parts_of geometry.now) (tail_of kept.now) (target_of kept.now).luns TargetCycle.OutputCycle }
@@ -931,10 +1039,10 @@ fn judge_command(
     requires numbers { IsTarget kept.now }
     ensures { result ≡ judge_known_cycle (parts_of geometry.now) (tail_of kept.now) (target_of kept.now).luns (TargetCycle.CommandCycle command) }
 {
-    if !command.is_opener() {
+    if !opens_here(geometry, command) {
         judge_closer(geometry, kept, command)
-    } else if command == Command::ReadCacheSequential && wants_command(kept, command) {
-        judge_random_cache_read(geometry, kept)
+    } else if goes_on_with(kept, command) {
+        judge_going_on(geometry, kept, command)
     } else {
         judge_opener(geometry, is_open(kept), &kept.luns[..kept.count], command)
     }

@@ -1,20 +1,20 @@
 //! What an effect leaves of the record of a LUN, written where it stands.
-ghost use Rattle.std.specs.Prelude.{◌≡◌, ◌+◌, ◌%◌, ◌^◌, ◌<◌, ◌≤◌, true, false, Some, [], ◌∷◌, length};
+ghost use Rattle.std.specs.Prelude.{◌≡◌, ◌+◌, ◌%◌, ◌^◌, ◌<◌, ◌≤◌, ◌++◌, true, false, if◌then◌else◌, Some, None, [], ◌∷◌, length, take};
 ghost use Rattle.onfi_cycle.specs.declared.command.Command.{Command as CommandValue};
 ghost use Rattle.onfi_cycle.specs.declared.effect.Effect.{Effect as EffectValue};
 ghost use Rattle.onfi_cycle.specs.declared.latch.Latch.{Latch as LatchValue};
 ghost use Rattle.onfi_cycle.specs.declared.register.Register.{Register as RegisterValue};
-ghost use Rattle.onfi_cycle.specs.Lun.{column_at, latch_after, selected_after, overlapped_after, works, queue_after, view_after, page_in_plane, register_of_plane};
+ghost use Rattle.onfi_cycle.specs.Lun.{column_at, has_reads, latch_after, selected_after, overlapped_after, works, queue_after, view_after, page_in_plane, register_of_plane, of_other_planes, held_on, pages_of_reads, is_copyback_read};
 ghost use Rattle.target_record.specs.Record.{IsRecord, lun_of, pages_of, queue_of};
 
-use crate::judging::is_caching;
+use crate::judging::{closer, is_caching};
 use crate::record::{
     NO_PAGE, NO_ROW, OnfiseqHeld, OnfiseqLun, OnfiseqQueued, closer_byte, flag, held_record,
     held_records, is_set, latch_code, latch_of, page_of, queued_of, queued_record, register_record,
 };
 use onfi_cycle::{
-    Command, Effect, HeldPages, Latch, PageAddress, Queued, Register, RowQueue, apply_to_held,
-    has_reads,
+    Command, Effect, HeldPages, Latch, MAX_PLANES, PageAddress, Queued, Register, RowQueue,
+    apply_to_held, has_reads,
 };
 
 // Its next output gives this column of its register.
@@ -126,18 +126,35 @@ fn act_for_target(kept: &mut OnfiseqLun)
     kept.overlapped = 0;
 }
 
-// It reads a page, this being what its register is to hold, and gives it from this column on.
+// It reads a page for this closer, this being what its register is to hold, and gives it from this column on.
 #[inline(always)]
-fn begin_read(kept: &mut OnfiseqLun, page: PageAddress, register: Register, column: u32)
+fn begin_read(
+    kept: &mut OnfiseqLun,
+    closer: Command,
+    page: PageAddress,
+    register: Register,
+    column: u32,
+)
     requires { IsRecord kept.old }
-    ensures value { lun_of kept.new ≡ record (lun_of kept.old) { latch = LatchValue.Data; selected = true; busy = true; closer = Some CommandValue.ReadConfirm; array_busy = false; array_page = page; register = register; column = column_at column } }
+    ensures value { lun_of kept.new ≡ record (lun_of kept.old) { latch = LatchValue.Data; selected = true; busy = true; closer = Some closer; array_busy = false; array_page = page; register = register; column = column_at column } }
     ensures numbers { IsRecord kept.new }
 {
-    give_register(kept, Command::ReadConfirm, register, column);
+    give_register(kept, closer, register, column);
     be_selected(kept);
     kept.busy = 1;
     kept.array_block = page.block;
     kept.array_page = page.page;
+}
+
+// What the register is to hold behind a read of this page: none where reads are queued, since a plane is selected first.
+fn register_behind(queue: &[Queued], page: PageAddress) -> Register
+    ensures { result ≡ register_of_plane (if has_reads queue.now then None else Some page) }
+{
+    if has_reads(queue) {
+        Register::Empty
+    } else {
+        Register::Page(page)
+    }
 }
 
 // It reads a page, and those of the reads that it has queued.
@@ -151,15 +168,12 @@ fn start_reads(kept: &mut OnfiseqLun, page: PageAddress, column: u32)
     apply_to_held(
         &mut held,
         Effect::ReadStarted { page, column },
+        false,
         page,
         rows.as_slice(),
     );
-    let register = if has_reads(rows.as_slice()) {
-        Register::Empty
-    } else {
-        Register::Page(page)
-    };
-    begin_read(kept, page, register, column);
+    let register = register_behind(rows.as_slice(), page);
+    begin_read(kept, Command::ReadConfirm, page, register, column);
     queue_none(kept);
     hold_all(kept, held.as_slice());
 }
@@ -172,12 +186,99 @@ fn start_read(kept: &mut OnfiseqLun, page: PageAddress, column: u32)
     ensures numbers { IsRecord kept.new }
 {
     if kept.queued == 0 {
-        begin_read(kept, page, Register::Page(page), column);
+        begin_read(
+            kept,
+            Command::ReadConfirm,
+            page,
+            Register::Page(page),
+            column,
+        );
         queue_none(kept);
         hold_one(kept, page);
     } else {
         start_reads(kept, page, column);
     }
+}
+
+// Adds a page, if there is room.
+fn hold_page(held: &mut HeldPages, page: PageAddress)
+    requires { length held.old.items ≤ 4 }
+    ensures { held.new.items ≡ take 4 (held.old.items ++ (page ∷ [])) }
+{
+    if held.len() < MAX_PLANES {
+        held.push(page);
+    }
+}
+
+// Adds a page, if it lies in another plane of so many than this one and there is room.
+fn hold_other(held: &mut HeldPages, planes: u32, page: PageAddress, other: PageAddress)
+    requires { length held.old.items ≤ 4 }
+    ensures { held.new.items ≡ take 4 (held.old.items ++ of_other_planes planes page (other ∷ [])) }
+{
+    if plane_of(other.block, planes) != plane_of(page.block, planes) {
+        hold_page(held, other);
+    }
+}
+
+// Adds the pages of other planes.
+fn hold_others(held: &mut HeldPages, planes: u32, page: PageAddress, kept: &[OnfiseqHeld])
+    requires { length held.old.items ≤ 4 }
+    ensures { held.new.items ≡ take 4 (held.old.items ++ of_other_planes planes page (pages_of kept.now)) }
+{
+    match kept {
+        [] => {}
+        [first, rest @ ..] => {
+            hold_other(held, planes, page, page_of(first));
+            hold_others(held, planes, page, rest)
+        }
+    }
+}
+
+// The last closer is Copyback Read.
+fn is_copyback_read(closer: Option<Command>) -> bool
+    ensures { result ≡ is_copyback_read closer }
+{
+    closer == Some(Command::CopybackRead)
+}
+
+// The pages that it holds behind a read of this page for a copyback: those of the queued reads too, and those of other planes that were read for
+// one before it.
+#[tactic(auto, using(onfi_cycle::proofs::HeldPages::copies_hold, onfi_cycle::proofs::HeldPages::copies_hold_none))]
+fn held_for_copyback(
+    kept: &OnfiseqLun,
+    queue: &[Queued],
+    page: PageAddress,
+    planes: u32,
+) -> HeldPages
+    requires { IsRecord kept.now }
+    ensures { result.items ≡ take 4 (page ∷ (pages_of_reads queue.now ++ held_on planes page (is_copyback_read (lun_of kept.now).closer) (lun_of kept.now).held)) }
+{
+    let mut held = HeldPages::new();
+    apply_to_held(
+        &mut held,
+        Effect::ReadStarted { page, column: 0 },
+        false,
+        page,
+        queue,
+    );
+    if is_copyback_read(closer(kept)) {
+        hold_others(&mut held, planes, page, &kept.held[..kept.holds]);
+    }
+    held
+}
+
+// It reads a page for a copyback, and those of the reads that it has queued.
+fn start_copyback_read(kept: &mut OnfiseqLun, page: PageAddress, column: u32, planes: u32)
+    requires { IsRecord kept.old }
+    ensures value { lun_of kept.new ≡ view_after (EffectValue.CopybackReadStarted page column planes) (lun_of kept.old) }
+    ensures numbers { IsRecord kept.new }
+{
+    let rows = queue_rows(&kept.queue[..kept.queued]);
+    let held = held_for_copyback(kept, rows.as_slice(), page, planes);
+    let register = register_behind(rows.as_slice(), page);
+    begin_read(kept, Command::CopybackRead, page, register, column);
+    queue_none(kept);
+    hold_all(kept, held.as_slice());
 }
 
 // It queues the read of a page, and shows data.
@@ -348,8 +449,8 @@ fn plane_of(block: u32, planes: u32) -> u32
     if planes == 0 { block } else { block % planes }
 }
 
-// The page of this plane among these, where a LUN has so many planes.
-fn page_in_plane(planes: u32, plane: u32, held: &[OnfiseqHeld]) -> Option<PageAddress>
+/// The page of this plane among these, where a LUN has so many planes.
+pub(crate) fn page_in_plane(planes: u32, plane: u32, held: &[OnfiseqHeld]) -> Option<PageAddress>
     ensures { result ≡ page_in_plane planes plane (pages_of held.now) }
 {
     match held {
@@ -470,6 +571,12 @@ pub fn change(kept: &mut OnfiseqLun, effect: Effect)
         }
         Effect::ReadStarted { page, column } => start_read(kept, page, column),
         Effect::ReadQueued { page } => queue_read(kept, page),
+        Effect::CopybackReadStarted {
+            page,
+            column,
+            planes,
+        } => start_copyback_read(kept, page, column, planes),
+        Effect::ProgramAddressed => hold_none(kept),
         Effect::EraseStarted { queued: true, row } => {
             queue_work(kept, Command::BlockErasePlane, Queued::Erase(row));
             hold_none(kept);

@@ -1,5 +1,6 @@
 ghost use Rattle.std.specs.Prelude.{◌≡◌, true};
-ghost use Rattle.die_model.specs.Die.{is_row_of, row_of_work, goes_with};
+ghost use Rattle.die_model.specs.Die.{effect_of, is_row_of, row_of_work, goes_with};
+ghost use Rattle.onfi_cycle.specs.Effect.{HasPlanes};
 ghost use Rattle.onfi_cycle.specs.Rules.{planes_clash};
 
 use die_model::{ImageFault, ImageRefusal, LunDie, Work};
@@ -40,6 +41,7 @@ fn row_of(work: Work) -> Option<PageAddress>
 {
     match work {
         Work::Read(at)
+        | Work::Copyback { page: at, .. }
         | Work::Program(at)
         | Work::Erase(at)
         | Work::Queue(Queued::Erase(at))
@@ -84,6 +86,16 @@ fn goes_with(geometry: &Geometry, work: Work, queue: &[Queued]) -> bool
     }
 }
 
+// A read for a copyback is by a LUN of some planes.
+fn has_planes(work: Work) -> bool
+    ensures { result ≡ true → HasPlanes (effect_of work) }
+{
+    match work {
+        Work::Copyback { planes, .. } => planes > 0,
+        _ => true,
+    }
+}
+
 // Begins a work. Whether there was memory for it.
 fn has_begun<A: Allocator + Copy>(die: &mut LunDie<A>, work: Work) -> Result<bool, Fail> {
     die.forget_array_page();
@@ -91,7 +103,8 @@ fn has_begun<A: Allocator + Copy>(die: &mut LunDie<A>, work: Work) -> Result<boo
     let together = goes_with(&geometry, work, die.queued());
     let room = die.queued().len() < 16;
     let ready = work == Work::Reset || !die.is_busy();
-    if !(is_row(&geometry, row_of(work)) && together && ready && room) {
+    let planes = has_planes(work);
+    if !(is_row(&geometry, row_of(work)) && together && ready && room && planes) {
         return Err("the work can begin".into());
     }
     Ok(die.begin(work).is_ok())

@@ -1,5 +1,5 @@
 use crate::made::{
-    CACHED, ELSEWHERE, Operations, PLAIN, PLANED, READING, SELECTING, SHARED, WIDE, made,
+    CACHED, COPYING, ELSEWHERE, Operations, PLAIN, PLANED, READING, SELECTING, SHARED, WIDE, made,
 };
 use die_model::LunDie;
 use nand_geometry::{Geometry, Optional, Parts, SMALL_CHIP};
@@ -77,10 +77,16 @@ const WIDE_READING: Parts = Parts {
     ..WIDE_CACHED
 };
 
+// One LUN in two planes, with copyback.
+const COPYING_LUN: Parts = Parts {
+    optional: Optional(0x8450),
+    ..TWO_PLANES
+};
+
 // A kind of traces: a channel of so many targets, the operations on it, and how many items a trace has at most.
 type Traces = (Parts, u8, Operations, usize);
 
-const TRACES: [Traces; 12] = [
+const TRACES: [Traces; 13] = [
     (ONE_LUN, 1, PLAIN, 26),
     (CACHED_LUN, 1, CACHED, 26),
     (TWO_PLANES, 1, PLANED, 26),
@@ -93,6 +99,7 @@ const TRACES: [Traces; 12] = [
     (WIDE_CACHED, 1, ELSEWHERE, 26),
     (WIDE_CACHED, 1, SELECTING, 26),
     (WIDE_READING, 1, READING, 26),
+    (COPYING_LUN, 1, COPYING, 26),
 ];
 
 // The facts of the LUNs of each target, by the look back.
@@ -123,7 +130,7 @@ struct Counts {
     permitted: u32,
     bytes: u32,
     changed: u32,
-    rules: [u32; 16],
+    rules: [u32; 17],
 }
 
 // The item is an output of a byte that is no status and not FF.
@@ -422,7 +429,7 @@ impl Counts {
             permitted: 0,
             bytes: 0,
             changed: 0,
-            rules: [0; 16],
+            rules: [0; 17],
         }
     }
 

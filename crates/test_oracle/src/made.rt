@@ -576,6 +576,95 @@ pub const SELECTING: Operations = [
     &ENDING,
 ];
 
+// A page that is copied to its own place, and read.
+const COPY_AND_READ: [Part; 16] = [
+    Command(0x00),
+    Column,
+    Row,
+    Command(0x35),
+    Ready,
+    Command(0x85),
+    Column,
+    Row,
+    Command(0x10),
+    Ready,
+    Command(0x00),
+    Column,
+    Row,
+    Command(0x30),
+    Ready,
+    Output,
+];
+
+// A page that is read for a copy, and looked at.
+const READ_TO_COPY: [Part; 7] = [
+    Command(0x00),
+    Column,
+    Row,
+    Command(0x35),
+    Ready,
+    Output,
+    Output,
+];
+
+// The copy of a page that was read before it, with a change.
+const COPY_CHANGED: [Part; 9] = [
+    Command(0x85),
+    Column,
+    Row,
+    Command(0x85),
+    Column,
+    Input,
+    Command(0x10),
+    Ready,
+    Output,
+];
+
+const COPY_PLANES: [Part; 15] = [
+    Command(0x00),
+    Column,
+    OtherPlane,
+    Command(0x35),
+    Ready,
+    Command(0x85),
+    Column,
+    Row,
+    Command(0x11),
+    Ready,
+    Command(0x85),
+    Column,
+    OtherPlane,
+    Command(0x10),
+    Ready,
+];
+
+// A queued copy, and one of whatever page behind it.
+const QUEUE_COPY: [Part; 5] = [Command(0x85), Column, Row, Command(0x11), Ready];
+
+const COPY_BEHIND: [Part; 5] = [Command(0x85), Column, OtherPlane, Command(0x10), Ready];
+
+const PROGRAM_BEHIND: [Part; 5] = [Command(0x80), Column, OtherPlane, Command(0x10), Ready];
+
+/// Those with copies of pages.
+pub const COPYING: Operations = [
+    &PROGRAM_AND_READ,
+    &PROGRAM_AND_READ,
+    &COPY_AND_READ,
+    &COPY_AND_READ,
+    &COPY_AND_READ,
+    &READ_TO_COPY,
+    &READ_TO_COPY,
+    &COPY_CHANGED,
+    &COPY_CHANGED,
+    &COPY_PLANES,
+    &COPY_PLANES,
+    &QUEUE_COPY,
+    &COPY_BEHIND,
+    &PROGRAM_BEHIND,
+    &READ_PLANES,
+    &ENDING,
+];
+
 /// Those with reads of several planes.
 pub const READING: Operations = [
     &PROGRAM_AND_READ,

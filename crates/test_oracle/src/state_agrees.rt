@@ -117,7 +117,7 @@ pub(crate) fn luns_agree(
 fn state_agrees(rt: HostRuntime) -> Result<(), Fail> {
     let mut seed = 0x2545_f491;
     let mut permitted: u32 = 0;
-    let mut told = [0u32; 16];
+    let mut told = [0u32; 17];
     for number in 0..2_000 {
         let geometry = Geometry::of(if number % 4 == 0 { ONE_LUN } else { TWO_LUNS })?;
         let mut state = BusState::new(geometry, TARGETS);

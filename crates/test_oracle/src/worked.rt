@@ -57,6 +57,17 @@ pub const FREE_READING: Parts = Parts {
     ..READING
 };
 
+/// One that copies pages besides, of both kinds to the other where blocks are free.
+pub const COPYING: Parts = Parts {
+    optional: Optional(0x8450),
+    ..READING
+};
+
+pub const FREE_COPYING: Parts = Parts {
+    optional: Optional(0xb450),
+    ..READING
+};
+
 /// Two LUNs in two planes, with Change Read Column Enhanced.
 pub const TWO_SELECTING: Parts = Parts {
     luns: 2,

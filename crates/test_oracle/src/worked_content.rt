@@ -1,5 +1,5 @@
 //! Worked contents: what pages hold after works, and the byte that a LUN gives next.
-use crate::worked::{CACHED, ONE_LUN, TWO_LUNS, past_of};
+use crate::worked::{CACHED, COPYING, ONE_LUN, TWO_LUNS, past_of};
 use nand_geometry::{Geometry, Parts};
 use onfi_cycle::{Lun, PageAddress};
 use oracle_onfi::WrittenPage;
@@ -51,6 +51,17 @@ fn expect_pages(
     Ok(())
 }
 
+const ONE_COPY: &str = "C80 A00x5 Ia5 I3c C10 R0 C00 A00x5 C35 R0 C85 A00x2 A08 A00x2 C10 R0";
+
+const CHANGED_COPY: &str =
+    "C80 A00x5 Ia5 I3c C10 R0 C00 A00x5 C35 R0 C85 A01 A00 A08 A00x2 I0f C85 A03 A00 I77 C10 R0";
+
+const COPY_ONTO: &str =
+    "C80 A00x2 A08 A00x2 If0 C10 R0 C80 A00x5 I3c C10 R0 C00 A00x5 C35 R0 C85 A00x2 A08 A00x2 C10 R0";
+
+const TWO_COPIES: &str =
+    "C80 A00x5 I11 C10 R0 C80 A00x2 A04 A00x2 I22 C10 R0 C00 A00x5 C32 R0 C00 A00x2 A04 A00x2 C35 R0 C85 A00x2 A08 A00x2 C11 R0 C85 A00x2 A0c A00x2 C10 R0";
+
 /// What is left of pages of an erased LUN.
 const PROGRAMS: &[Content] = &[
     // Programs of row 0, and what they leave of its page.
@@ -92,6 +103,12 @@ const PROGRAMS: &[Content] = &[
         0,
         &[0x3c],
     ),
+    // Copies: the page, with a change, AND-ed into its place, and of two planes.
+    (COPYING, ONE_COPY, 2, 0, &[0xa5, 0x3c]),
+    (COPYING, CHANGED_COPY, 2, 0, &[0xa5, 0x0f, 0xff, 0x77]),
+    (COPYING, COPY_ONTO, 2, 0, &[0x30]),
+    (COPYING, TWO_COPIES, 2, 0, &[0x11]),
+    (COPYING, TWO_COPIES, 3, 0, &[0x22]),
     // Programs of two planes take effect together, with the ready of the last.
     (TWO_LUNS, "C80 A00x5 Ia5 C11 R0", 0, 0, &[]),
     (

@@ -234,11 +234,11 @@ fn is_program(work: Option<&ArrayWork>, at: PageAddress, start: &[u8]) -> bool {
 fn work_of_an_open_plane(rt: HostRuntime) -> Result<(), Fail> {
     let two = Geometry::of(TWO_LUNS)?;
     let open = past_of(&rt, rt.alloc(), &two, OPEN)?;
-    let bytes = filled(rt.alloc(), &two, &open, 0)?;
-    assert!(rt; bytes.starts_with(&[0xff, 0x3c, 0xff]));
-    let queued = queued_work(rt.alloc(), &two, &open, LUN_0)?;
+    let bytes = filled(rt.alloc(), &[0x11, 0x22, 0x33], &open, 0)?;
+    assert!(rt; bytes.as_slice() == [0x11, 0x3c, 0x33].as_slice());
+    let queued = queued_work(rt.alloc(), &two, &[], &open, LUN_0)?;
     assert!(rt; queued.len() == 1 && is_program(queued.first(), PAGE_0, &[0xa5, 0xff]));
-    assert!(rt; pending_work(rt.alloc(), &two, &open, LUN_0)?.is_empty());
+    assert!(rt; pending_work(rt.alloc(), &two, &[], &open, LUN_0)?.is_empty());
     Ok(())
 }
 
@@ -247,12 +247,12 @@ fn work_of_an_open_plane(rt: HostRuntime) -> Result<(), Fail> {
 fn works_of_two_planes(rt: HostRuntime) -> Result<(), Fail> {
     let two = Geometry::of(TWO_LUNS)?;
     let closed = past_of(&rt, rt.alloc(), &two, CLOSED)?;
-    let pending = pending_work(rt.alloc(), &two, &closed, LUN_0)?;
+    let pending = pending_work(rt.alloc(), &two, &[], &closed, LUN_0)?;
     let last = PageAddress { block: 1, page: 0 };
     assert!(rt; pending.len() == 2);
     assert!(rt; is_program(pending.first(), last, &[0xff, 0x3c, 0xff]));
     assert!(rt; is_program(pending.last(), PAGE_0, &[]));
-    assert!(rt; queued_work(rt.alloc(), &two, &closed, LUN_0)?.is_empty());
+    assert!(rt; queued_work(rt.alloc(), &two, &[], &closed, LUN_0)?.is_empty());
     Ok(())
 }
 

@@ -1,7 +1,7 @@
 //! Worked traces, with the first rule that each breaks.
 use crate::worked::{
-    CACHED, FREE_READING, ONE_LUN, READING, SELECTING, TWO_CACHED, TWO_LUNS, TWO_PLANES,
-    TWO_SELECTING, UNEVEN, first_broken, trace,
+    CACHED, COPYING, FREE_COPYING, FREE_READING, ONE_LUN, READING, SELECTING, TWO_CACHED, TWO_LUNS,
+    TWO_PLANES, TWO_SELECTING, UNEVEN, first_broken, trace,
 };
 use nand_geometry::{Geometry, Parts};
 use onfi_cycle::{Cycle, Forbidden, Item, Kind};
@@ -334,6 +334,65 @@ fn rules_are_broken(rt: HostRuntime) -> Result<(), Fail> {
     Ok(())
 }
 
+/// Traces of copies by the rule that their last items break.
+const COPIES_BROKEN: &[(Forbidden, &[(Parts, &str, usize)])] = &[
+    (
+        Forbidden::CommandMisplaced,
+        &[(COPYING, "C00 A00x5 C35 R0 C85 A00x2 C10", 11)],
+    ),
+    (Forbidden::LunBusy, &[(COPYING, "C00 A00x5 C35 C85", 7)]),
+    (
+        Forbidden::NoSoleDriver,
+        &[(COPYING, "C00 A00x5 C35 R0 C85 A00x2 A08 A00x2 Off", 14)],
+    ),
+    (
+        Forbidden::ColumnOutside,
+        &[(COPYING, "C00 A00x5 C35 R0 C85 A10 A02", 10)],
+    ),
+    (
+        Forbidden::CacheReadMisplaced,
+        &[(COPYING, "C00 A00x5 C35 R0 C31", 8)],
+    ),
+    // F17: an 85 copies the page that its LUN holds in the plane of its row, an even one to an even one, and an 80 ends a group of none.
+    (
+        Forbidden::CopybackMisplaced,
+        &[
+            (COPYING, "C85 A00x2 A08 A00x2", 5),
+            (COPYING, "C00 A00x5 C30 R0 C85 A00x2 A08 A00x2", 13),
+            (COPYING, "C00 A00x5 C35 R0 C85 A00x2 A09 A00x2", 13),
+            (COPYING, "C00 A00x5 C35 R0 C85 A00x2 A04 A00x2", 13),
+            (
+                COPYING,
+                "C00 A00x5 C35 R0 C85 A00x2 A08 A00x2 C10 R0 C85 A00x2 A0c A00x2",
+                21,
+            ),
+            (
+                COPYING,
+                "C00 A00x5 C35 R0 C00 A00x2 A04 A00x2 C30 R0 C85 A00x2 A08 A00x2",
+                21,
+            ),
+            (
+                COPYING,
+                "C00 A00x5 C32 R0 C00 A00x2 A04 A00x2 C35 R0 C85 A00x2 A08 A00x2 C11 R0 C80 A00x2 A0c A00x2",
+                29,
+            ),
+            (
+                COPYING,
+                "C00 A00x2 A04 A00x2 C35 R0 C80 A00x2 A08 A00x2 C11 R0 C85 A00x2 A0c A00x2",
+                21,
+            ),
+        ],
+    ),
+];
+
+#[test]
+fn copies_are_broken(rt: HostRuntime) -> Result<(), Fail> {
+    for (rule, cases) in COPIES_BROKEN {
+        expect_broken(&rt, rt.alloc(), *rule, cases)?;
+    }
+    Ok(())
+}
+
 /// Traces that go as far as the rules let them, whatever commands the bus takes.
 const PERMITTED: &[(Parts, &str)] = &[
     (ONE_LUN, "C70 C70 C00 C60 A00x3 Cd0 Cff"),
@@ -357,6 +416,30 @@ const PERMITTED: &[(Parts, &str)] = &[
         "C00 A00x5 C32 R0 C00 A00x2 A0c A00x2 C30 R0 C06 A00x2 A0c A00x2 Ce0 Off",
     ),
     (READING, "C00 A00x5 C32 R0 Cff R0 C00 A00x5 C30 R0 Off"),
+    // A page copied, with a change, and to one of the other kind.
+    (
+        COPYING,
+        "C80 A00x5 Ia5 I3c C10 R0 C00 A00x5 C35 R0 C85 A00x2 A08 A00x2 C10 R0 C00 A00x2 A08 A00x2 C30 R0 Oa5",
+    ),
+    (
+        COPYING,
+        "C00 A00x5 C35 R0 Off C05 A01 A00 Ce0 Off C85 A01 A00 A08 A00x2 I0f C85 A03 A00 I77 C10 R0",
+    ),
+    (FREE_COPYING, "C00 A00x5 C35 R0 C85 A00x2 A09 A00x2 C10 R0"),
+    (
+        COPYING,
+        "C00 A00x5 C35 R0 C70 Oe0 C00 C85 A00x2 A08 A00x2 C10 R0",
+    ),
+    (COPYING, "C00 A00x5 C35 R0 C85 A00x2 A08 A00x2 I00 Cff R0"),
+    // Two pages copied together.
+    (
+        COPYING,
+        "C00 A00x5 C32 R0 C00 A00x2 A04 A00x2 C35 R0 C85 A00x2 A08 A00x2 C11 R0 C85 A00x2 A0c A00x2 C10 R0",
+    ),
+    (
+        COPYING,
+        "C00 A00x5 C35 R0 C00 A00x2 A04 A00x2 C35 R0 C85 A00x2 A08 A00x2 C11 R0 C85 A00x2 A0c A00x2 C10 R0",
+    ),
     (SELECTING, "C00 A00x5 C30 R0 C06 A00x2 A08 A00x2 Ce0 Off"),
     (
         SELECTING,
@@ -440,6 +523,12 @@ const ERASES: &[(Parts, &str, Option<(usize, Forbidden)>)] = &[
         "C00 A00x5 C32",
         Some((6, Forbidden::CommandUnknown)),
     ),
+    (
+        READING,
+        "C00 A00x5 C35",
+        Some((6, Forbidden::CommandUnknown)),
+    ),
+    (READING, "C85", Some((0, Forbidden::CommandMisplaced))),
     (ONE_LUN, "C70 C60 C60", Some((2, Forbidden::SequenceOpen))),
     (ONE_LUN, "C70 R0 C60", Some((1, Forbidden::NotThere))),
 ];

@@ -40,6 +40,13 @@ impl fmt::Display for Unwanted {
     }
 }
 
+/// The odd pages of a block, or the even ones.
+#[derive(Clone, Copy)]
+pub enum Half {
+    Odd,
+    Even,
+}
+
 /// Where a column is to be.
 #[derive(Clone, Copy)]
 pub enum Columns {
@@ -108,6 +115,10 @@ pub enum Cause {
     NoColumnOpened {
         command: u8,
     },
+    /// The same of a closer of programs, where a copyback may come before it too.
+    NoProgramOpened {
+        command: u8,
+    },
     /// The target wants nothing.
     Nothing(Unwanted),
     /// A part of the row is past the last one.
@@ -172,6 +183,19 @@ pub enum Cause {
     /// The LUN has read no page from which a cache read goes on, or several at once.
     NoPageAlone {
         lun: u32,
+    },
+    /// No page that the LUN holds may be copied to this one, in this plane of so many; of one half of the pages alone it may be, or of both.
+    NoCopy {
+        lun: u32,
+        page: PageAddress,
+        plane: u32,
+        planes: u32,
+        half: Option<Half>,
+    },
+    /// The LUN has so many pages in its queue to which others are copied.
+    CopiesQueued {
+        lun: u32,
+        rows: usize,
     },
 }
 
@@ -335,6 +359,41 @@ fn write_queue<W: fmt::Write>(
     }
 }
 
+// Of a LUN that holds no page which may be copied to this one.
+fn write_no_copy<W: fmt::Write>(
+    f: &mut fmt::Formatter<W>,
+    lun: u32,
+    page: PageAddress,
+    plane: u32,
+    planes: u32,
+    half: Option<Half>,
+) -> fmt::Result {
+    write!(
+        f,
+        "no page that LUN {lun} holds may be copied to page {} of block {}: `00` and `35` read ",
+        page.page, page.block
+    )?;
+    f.write_str(match half {
+        None => "one",
+        Some(Half::Odd) => "an odd one",
+        Some(Half::Even) => "an even one",
+    })?;
+    if planes == 1 {
+        f.write_str(" first")
+    } else {
+        write!(f, " of plane {plane} first")
+    }
+}
+
+// Of a LUN in whose queue copies wait.
+fn write_copies<W: fmt::Write>(f: &mut fmt::Formatter<W>, lun: u32, rows: usize) -> fmt::Result {
+    match rows {
+        1 => write!(f, "LUN {lun} has 1 copy of a page in its queue")?,
+        _ => write!(f, "LUN {lun} has {rows} copies of pages in its queue")?,
+    }
+    f.write_str(": `85` and `10` end the queue first")
+}
+
 impl Cause {
     /// The command that its words name, if they name one.
     pub fn named_command(self) -> Option<CommandAt> {
@@ -352,6 +411,7 @@ impl Cause {
             | Cause::SeveralAnswer { .. }
             | Cause::Unopened { .. }
             | Cause::NoColumnOpened { .. }
+            | Cause::NoProgramOpened { .. }
             | Cause::Nothing(_)
             | Cause::RowOutside { .. }
             | Cause::NoDriver {
@@ -363,7 +423,9 @@ impl Cause {
             | Cause::PlaneNotHeld { .. }
             | Cause::QueueStands { .. }
             | Cause::CacheGoesOn { .. }
-            | Cause::NoPageAlone { .. } => None,
+            | Cause::NoPageAlone { .. }
+            | Cause::NoCopy { .. }
+            | Cause::CopiesQueued { .. } => None,
         }
     }
 }
@@ -402,6 +464,10 @@ impl fmt::Display for CauseInLine {
             Cause::NoColumnOpened { command } => write!(
                 f,
                 "`{command:02x}` isn't wanted: no `05` or `06` is open before it"
+            ),
+            Cause::NoProgramOpened { command } => write!(
+                f,
+                "`{command:02x}` isn't wanted: no `80` or `85` is open before it"
             ),
             Cause::Nothing(cycle) => write!(f, "{cycle}: no sequence is open"),
             Cause::RowOutside { part, number, last } => {
@@ -443,6 +509,14 @@ impl fmt::Display for CauseInLine {
                 f,
                 "LUN {lun} has read no single page from which `31` goes on: `00` and `30` read one first"
             ),
+            Cause::NoCopy {
+                lun,
+                page,
+                plane,
+                planes,
+                half,
+            } => write_no_copy(f, lun, page, plane, planes, half),
+            Cause::CopiesQueued { lun, rows } => write_copies(f, lun, rows),
         }
     }
 }

@@ -1,6 +1,6 @@
 //! A cycle that breaks a rule, and what it came to: why it isn't permitted.
 
-use crate::cause::{Cause, Columns, RowPart, Unwanted};
+use crate::cause::{Cause, Columns, Half, RowPart, Unwanted};
 use crate::open_sequence::{CommandAt, OpenSequence, Wanted};
 use crate::target_look::{MOST_LUNS, TargetLook};
 use crate::target_past::TargetPast;
@@ -20,7 +20,7 @@ pub struct FaultyCycle {
 // The opener of the sequences that a command ends or goes on with.
 fn opener_of(command: Command) -> Option<u8> {
     match command {
-        Command::ReadConfirm | Command::ReadPlane => Some(0x00),
+        Command::ReadConfirm | Command::ReadPlane | Command::CopybackRead => Some(0x00),
         Command::ChangeReadColumnConfirm => Some(0x05),
         Command::BlockEraseConfirm | Command::BlockErasePlane => Some(0x60),
         Command::ChangeWriteColumn | Command::ProgramConfirm | Command::ProgramPlane => Some(0x80),
@@ -69,6 +69,9 @@ impl FaultyCycle {
         match (self.open(), opener_of(Command::of(command))) {
             (None, Some(0x05)) if self.geometry.parts().optional.has_enhanced_column() => {
                 Cause::NoColumnOpened { command }
+            }
+            (None, Some(0x80)) if self.geometry.parts().optional.has_copyback() => {
+                Cause::NoProgramOpened { command }
             }
             (None, Some(opener)) => Cause::Unopened { command, opener },
             (None, None) | (Some(_), _) => self.unwanted(Unwanted::Command(command)),
@@ -244,6 +247,42 @@ impl FaultyCycle {
         }
     }
 
+    // Whether an odd page alone, or an even one alone, may be copied to this page; None: each may.
+    fn wanted_half(&self, page: PageAddress) -> Option<Half> {
+        if self.geometry.parts().optional.has_odd_even() {
+            return None;
+        }
+        Some(if page.page % 2 == 1 {
+            Half::Odd
+        } else {
+            Half::Even
+        })
+    }
+
+    // A row of a copyback to which no page may be copied that its LUN holds.
+    fn no_copy(&self) -> Cause {
+        let row = self.named_row();
+        let planes = self.geometry.planes().max(1);
+        let page = PageAddress::of_row(&self.geometry, self.tail().row_with(self.cycle.byte));
+        Cause::NoCopy {
+            lun: row.lun,
+            page,
+            plane: row.block % planes,
+            planes,
+            half: self.wanted_half(page),
+        }
+    }
+
+    // A row of a copyback to which nothing may be copied, or of another program while copies wait in the queue.
+    fn copyback_misplaced(&self) -> Option<Cause> {
+        if self.tail().opening?.opener == Command::ChangeWriteColumn {
+            return Some(self.no_copy());
+        }
+        let lun = self.named_row().lun;
+        let rows = self.lun(lun)?.queued;
+        Some(Cause::CopiesQueued { lun, rows })
+    }
+
     // The LUN of this number reads a cache.
     fn caching(&self, lun: u32) -> Option<Cause> {
         if self.lun(lun)?.caching {
@@ -282,7 +321,9 @@ impl FaultyCycle {
             Kind::Adr => self.caching(self.named_row().lun),
             Kind::Cmd | Kind::Din | Kind::Dout => match Command::of(self.cycle.byte) {
                 Command::ReadCacheSequential => self.no_page_alone(),
-                Command::ReadConfirm | Command::ReadPlane => self.caching(self.named_row().lun),
+                Command::ReadConfirm | Command::ReadPlane | Command::CopybackRead => {
+                    self.caching(self.named_row().lun)
+                }
                 Command::ReadCacheEnd => None,
                 _ => self
                     .caching(0)
@@ -344,6 +385,7 @@ impl FaultyCycle {
             Forbidden::DataNotReady => self.data_not_ready(),
             Forbidden::ColumnOutside => self.column_outside(),
             Forbidden::PlaneNotHeld => Some(self.plane_not_held()),
+            Forbidden::CopybackMisplaced => self.copyback_misplaced(),
             Forbidden::QueueClash => self.queue_clash(),
             Forbidden::CacheReadMisplaced => self.cache_read_misplaced(),
             Forbidden::NotThere | Forbidden::CommandUnknown | Forbidden::NoColumnToChange => None,

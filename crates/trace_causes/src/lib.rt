@@ -11,7 +11,7 @@ mod target_look;
 mod target_past;
 
 pub use broken::BrokenInWords;
-pub use cause::{Cause, CauseInLine, Columns, RowPart, Undriven, Unwanted};
+pub use cause::{Cause, CauseInLine, Columns, Half, RowPart, Undriven, Unwanted};
 pub use faulty_cycle::FaultyCycle;
 pub use open_sequence::{CommandAt, OpenSequence, Wanted, opener_of};
 pub use target_look::{MOST_LUNS, TargetLook};

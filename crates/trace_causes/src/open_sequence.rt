@@ -37,10 +37,13 @@ fn wanted_by(opening: Opening) -> Option<Wanted> {
     }
 }
 
-/// The opener of the sequence that a tail is in, where one is open.
-pub fn opener_of(tail: TailFacts) -> Option<u8> {
+/// The opener of the sequence that a tail is in, where one is open. In the data of a program the tail has forgotten it: a program that copies a page began with
+/// another one.
+pub fn opener_of(tail: TailFacts, copies: bool) -> Option<u8> {
     match tail.phase {
-        DataPhase::Inputs | DataPhase::FirstColumn | DataPhase::SecondColumn => Some(0x80),
+        DataPhase::Inputs | DataPhase::FirstColumn | DataPhase::SecondColumn => {
+            Some(if copies { 0x85 } else { 0x80 })
+        }
         DataPhase::FeatureInputs => Some(0xef),
         DataPhase::Outside => tail.opening?.opener.opcode(),
     }

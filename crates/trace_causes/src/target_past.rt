@@ -56,7 +56,8 @@ impl TargetPast {
         }
     }
 
-    /// Goes on by a command that the target took, behind which its tail has these facts. A 31h that closes a 00h is no opener.
+    /// Goes on by a command that the target took, behind which its tail has these facts. A 31h that closes a 00h is no opener, nor is an 85h
+    /// in the data of a program.
     pub fn note_command(&mut self, command: CommandAt, tail: TailFacts) {
         self.last = Some(command);
         if Command::of(command.byte).is_opener() && tail.opening.is_some() {

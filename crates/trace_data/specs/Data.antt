@@ -1,5 +1,5 @@
 -- What the dies of a trace hold and show, and which of its outputs give another byte.
-use Rattle.std.specs.Prelude.{◌≡◌, ⊤, ℕ, zero, suc, ◌+◌, ◌*◌, ◌≤◌, ◌==◌, Bool, true, false, if◌then◌else◌, List, [], ◌∷◌, ◌++◌, Option, Some, None, length, map, slice_get, slice_index_or}
+use Rattle.std.specs.Prelude.{◌≡◌, ⊤, ℕ, zero, suc, ◌+◌, ◌*◌, ◌≤◌, ◌==◌, ◌&&◌, ◌||◌, Bool, true, false, if◌then◌else◌, List, [], ◌∷◌, ◌++◌, Option, Some, None, length, map, slice_get, slice_index_or}
 use Rattle.std.specs.List.{cons_option}
 use Rattle.nand_geometry.specs.declared.parts.Parts.{Parts}
 use Rattle.onfi_cycle.specs.declared.lun.Lun.{Lun}
@@ -15,7 +15,7 @@ use Rattle.onfi_cycle.specs.declared.page_address.PageAddress.{PageAddress}
 use Rattle.onfi_cycle.specs.declared.queued.Queued.{Queued}
 use Rattle.onfi_cycle.specs.declared.queued.Queued.TheVariants.{Erase, Program, Read}
 use Rattle.onfi_cycle.specs.declared.effect.Effect.{Effect}
-use Rattle.onfi_cycle.specs.declared.effect.Effect.TheVariants.{EraseStarted, ProgramStarted, ResetStarted, TargetResetStarted, BecameReady}
+use Rattle.onfi_cycle.specs.declared.effect.Effect.TheVariants.{EraseStarted, ProgramStarted, CopybackReadStarted, ProgramAddressed, ResetStarted, TargetResetStarted, BecameReady}
 use Rattle.onfi_cycle.specs.declared.forbidden.Forbidden.{Forbidden as Rule}
 use Rattle.onfi_cycle.specs.declared.lun_state.LunState.{LunState}
 use Rattle.onfi_cycle.specs.Content.{same_page}
@@ -55,31 +55,47 @@ touches (Erase at) p = p.block == at.block
 touches (Program at) p = same_page p at
 touches (Read at) p = false
 
--- where a page that a work touches has its bytes from, if that went well
-abbrev pub left_well : Queued → ℕ → Origin → Origin
-left_well (Erase at) n before = Erased n
-left_well (Program at) n before = programmed_at n before
-left_well (Read at) n before = before
+-- after a program that copies another page of its LUN, of which nobody may know what it held, or that copies none
+abbrev pub copied_at : (copies doubted : Bool) → ℕ → Origin → Origin
+copied_at copies doubted n before = if copies && doubted then Unknown else programmed_at n before
+
+-- where a page that a work touches has its bytes from, if that went well; nobody may know what the other pages of its LUN hold
+abbrev pub left_well : (doubted copies : Bool) → Queued → ℕ → Origin → Origin
+left_well doubted copies (Erase at) n before = Erased n
+left_well doubted copies (Program at) n before = copied_at copies doubted n before
+left_well doubted copies (Read at) n before = before
 
 -- after a work that is over: of a page that it touched and failed at nobody knows what it holds
-abbrev pub left_of : EndedWork → PageAddress → Origin → Origin
-left_of w p before = if touches w.work p then (if w.failed then Unknown else left_well w.work w.item before) else before
+abbrev pub left_of : (doubted : Bool) → EndedWork → PageAddress → Origin → Origin
+left_of doubted w p before = if touches w.work p then (if w.failed then Unknown else left_well doubted w.copies w.work w.item before) else before
 
--- after works that are over, the oldest first
+-- after works that are over, the oldest first; one that failed leaves some page of which nobody knows what it holds
+abbrev pub origin_from : (doubted : Bool) → List EndedWork → PageAddress → Origin → Origin
+origin_from doubted [] p before = before
+origin_from doubted (w ∷ works) p before = origin_from (doubted || w.failed) works p (left_of doubted w p before)
+
+abbrev pub is_unknown : Origin → Bool
+is_unknown Unknown = true
+is_unknown Beginning = false
+is_unknown (Erased n) = false
+is_unknown (Programmed n) = false
+
+-- the same on a LUN whose pages were all known at the beginning, or none
 abbrev pub origin_by : List EndedWork → PageAddress → Origin → Origin
-origin_by [] p before = before
-origin_by (w ∷ works) p before = origin_by works p (left_of w p before)
+origin_by works p before = origin_from (is_unknown before) works p before
 
 -- ---- the works on a LUN
 
--- those that wait for the command that begins them all, those that its next ready ends, and those that are over, each the oldest first
+-- those that wait for the command that begins them all, those that its next ready ends, and those that are over, each the oldest first; and whether a
+-- program copies a page: one was read for a copyback, and no 80 with a row came since
 pub record Works : Type 0 where
+  pub copying : Bool
   pub queued : List BegunWork
   pub working : List BegunWork
   pub ended : List EndedWork
 
 abbrev pub no_works : Works
-no_works = record { queued = []; working = []; ended = [] }
+no_works = record { copying = false; queued = []; working = []; ended = [] }
 
 -- a work begins with those that wait, or waits itself
 abbrev pub begun : (queued : Bool) → BegunWork → Works → Works
@@ -88,7 +104,7 @@ begun false work w = record w { queued = []; working = w.queued ++ (work ∷ [])
 
 -- a work is over, with failure or without
 abbrev pub ended_as : (failed : Bool) → BegunWork → EndedWork
-ended_as failed w = record { work = w.work; item = w.item; failed = failed }
+ended_as failed w = record { work = w.work; item = w.item; copies = w.copies; failed = failed }
 
 -- what works is over
 abbrev pub over : (failed : Bool) → Works → Works
@@ -100,8 +116,10 @@ unqueued w = record w { queued = [] }
 
 -- the works after an effect of the item of this number; a reset breaks off what works, which leaves its pages as a failure does
 abbrev pub works_after : Effect → ℕ → Works → Works
-works_after (EraseStarted queued at) n w = begun queued (record { work = Erase at; item = n }) w
-works_after (ProgramStarted queued at) n w = begun queued (record { work = Program at; item = n }) w
+works_after (EraseStarted queued at) n w = begun queued (record { work = Erase at; item = n; copies = false }) w
+works_after (ProgramStarted queued at) n w = begun queued (record { work = Program at; item = n; copies = w.copying }) w
+works_after (CopybackReadStarted at column planes) n w = record w { copying = true }
+works_after ProgramAddressed n w = record w { copying = false }
 works_after ResetStarted n w = over true (unqueued w)
 works_after (TargetResetStarted first) n w = over true (unqueued w)
 works_after (BecameReady failed) n w = over failed w

@@ -1,6 +1,6 @@
 //! Programs and erases of a LUN.
 ghost use Rattle.std.specs.Prelude.{◌≡◌};
-ghost use Rattle.trace_data.specs.Data.{left_of, ended_as};
+ghost use Rattle.trace_data.specs.Data.{copied_at, left_of, ended_as};
 
 use crate::origin::Origin;
 use onfi_cycle::{PageAddress, Queued};
@@ -11,6 +11,8 @@ pub struct BegunWork {
     pub work: Queued,
     /// The item of the command that began it, counted from 0.
     pub item: usize,
+    /// It programs a page with the bytes of another.
+    pub copies: bool,
 }
 
 impl BegunWork {
@@ -21,6 +23,7 @@ impl BegunWork {
         EndedWork {
             work: self.work,
             item: self.item,
+            copies: self.copies,
             failed,
         }
     }
@@ -32,19 +35,32 @@ pub struct EndedWork {
     pub work: Queued,
     /// The item of the command that began it, counted from 0.
     pub item: usize,
+    /// It has programmed a page with the bytes of another.
+    pub copies: bool,
     /// Its ready brought a failure, or a reset broke it off.
     pub failed: bool,
 }
 
 impl EndedWork {
-    /// Where a page has its bytes from after it.
-    pub(crate) fn leaves(self, page: PageAddress, before: Origin) -> Origin
-        ensures { result ≡ left_of self page before }
+    // Where its page has its bytes from after it as a program, where nobody may know what other pages of its LUN hold.
+    fn programs(self, doubted: bool, before: Origin) -> Origin
+        ensures { result ≡ copied_at self.copies doubted self.item before }
+    {
+        if self.copies && doubted {
+            Origin::Unknown
+        } else {
+            before.programmed_at(self.item)
+        }
+    }
+
+    /// Where a page has its bytes from after it, where nobody may know what other pages of its LUN hold.
+    pub(crate) fn leaves(self, page: PageAddress, doubted: bool, before: Origin) -> Origin
+        ensures { result ≡ left_of doubted self page before }
     {
         let item = self.item;
         let (is_touched, left) = match self.work {
             Queued::Erase(at) => (page.block == at.block, Origin::Erased { item }),
-            Queued::Program(at) => (page == at, before.programmed_at(item)),
+            Queued::Program(at) => (page == at, self.programs(doubted, before)),
             Queued::Read(_) => (false, before),
         };
         match (is_touched, self.failed) {

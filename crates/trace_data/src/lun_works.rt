@@ -1,6 +1,6 @@
 //! The programs and erases of a LUN, as a trace tells them.
 ghost use Rattle.std.specs.Prelude.{◌≡◌, ◌++◌, OnOk, map};
-ghost use Rattle.trace_data.specs.Data.{no_works, begun, over, works_after, origin_by, ended_as};
+ghost use Rattle.trace_data.specs.Data.{no_works, begun, over, works_after, is_unknown, origin_from, origin_by, ended_as};
 
 use crate::lun_work::{BegunWork, EndedWork};
 use crate::origin::Origin;
@@ -11,6 +11,8 @@ use std::marker::Model;
 /// The programs and erases of a LUN, the oldest first.
 #[derive(Drop)]
 pub struct LunWorks {
+    /// A program copies a page: one was read for a copyback, and no Page Program with a row came since.
+    copying: bool,
     /// Those that wait for the command that begins them all.
     queued: Vec<BegunWork>,
     /// Those that the next ready ends.
@@ -23,7 +25,7 @@ impl Model for LunWorks {
 
     ghost Value = { Works };
 
-    ghost view = { λ w. record { queued = w.queued.items; working = w.working.items; ended = w.ended.items } };
+    ghost view = { λ w. record { copying = w.copying; queued = w.queued.items; working = w.working.items; ended = w.ended.items } };
 }
 
 // Adds works that are over, with failure or without.
@@ -40,12 +42,38 @@ fn push_ended(
     Ok(())
 }
 
+// Nobody knows what it holds.
+fn is_unknown(origin: Origin) -> bool
+    ensures { result ≡ is_unknown origin }
+{
+    match origin {
+        Origin::Unknown => true,
+        Origin::Beginning | Origin::Erased { .. } | Origin::Programmed { .. } => false,
+    }
+}
+
+// Where a page has its bytes from after works that are over, where nobody may know what other pages of its LUN hold.
+fn origin_from(works: &[EndedWork], page: PageAddress, doubted: bool, before: Origin) -> Origin
+    ensures { result ≡ origin_from doubted works.now page before }
+{
+    match works {
+        [] => before,
+        [first, rest @ ..] => origin_from(
+            rest,
+            page,
+            doubted || first.failed,
+            first.leaves(page, doubted, before),
+        ),
+    }
+}
+
 impl LunWorks {
     /// No work has begun.
     pub(crate) fn new(alloc: Global) -> LunWorks
         ensures { result ≡ no_works }
     {
         LunWorks {
+            copying: false,
             queued: Vec::new(alloc),
             working: Vec::new(alloc),
             ended: Vec::new(alloc),
@@ -81,11 +109,33 @@ impl LunWorks {
         match effect {
             Effect::EraseStarted { queued, row } => {
                 let work = Queued::Erase(row);
-                self.begin(queued, BegunWork { work, item })
+                self.begin(
+                    queued,
+                    BegunWork {
+                        work,
+                        item,
+                        copies: false,
+                    },
+                )
             }
             Effect::ProgramStarted { queued, page } => {
                 let work = Queued::Program(page);
-                self.begin(queued, BegunWork { work, item })
+                self.begin(
+                    queued,
+                    BegunWork {
+                        work,
+                        item,
+                        copies: self.copying,
+                    },
+                )
+            }
+            Effect::CopybackReadStarted { .. } => {
+                self.copying = true;
+                Ok(())
+            }
+            Effect::ProgramAddressed => {
+                self.copying = false;
+                Ok(())
             }
             Effect::ResetStarted | Effect::TargetResetStarted { .. } => {
                 self.queued.clear();
@@ -121,10 +171,11 @@ impl LunWorks {
     pub fn origin(&self, page: PageAddress, beginning: Origin) -> Origin
         ensures { result ≡ origin_by self.now.ended page beginning }
     {
-        let mut origin = beginning;
-        for ended in &self.ended {
-            origin = ended.leaves(page, origin);
-        }
-        origin
+        origin_from(
+            self.ended.as_slice(),
+            page,
+            is_unknown(beginning),
+            beginning,
+        )
     }
 }

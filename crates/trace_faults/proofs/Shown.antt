@@ -8,7 +8,7 @@ use Rattle.onfi_cycle.specs.declared.item.Item.{Item}
 use Rattle.onfi_cycle.specs.declared.item.Item.TheVariants.{Cyc, Rdy, Ard}
 use Rattle.onfi_cycle.specs.declared.item.Cycle.{Cycle}
 use Rattle.onfi_cycle.specs.declared.forbidden.Forbidden.{Forbidden}
-use Rattle.onfi_cycle.specs.declared.forbidden.Forbidden.TheVariants.{NotThere, CommandUnknown, SequenceOpen, SeveralLuns, NoColumnToChange, CommandMisplaced, AddressMisplaced, RowOutside, LunBusy, QueueClash, InputMisplaced, NoSoleDriver, DataNotReady, ColumnOutside, CacheReadMisplaced, PlaneNotHeld}
+use Rattle.onfi_cycle.specs.declared.forbidden.Forbidden.TheVariants.{NotThere, CommandUnknown, SequenceOpen, SeveralLuns, NoColumnToChange, CommandMisplaced, AddressMisplaced, RowOutside, LunBusy, QueueClash, InputMisplaced, NoSoleDriver, DataNotReady, ColumnOutside, CacheReadMisplaced, CopybackMisplaced, PlaneNotHeld}
 use Rattle.onfi_cycle.specs.declared.lun_state.LunState.{LunState}
 use Rattle.onfi_cycle.specs.LunView.{LunView}
 use Rattle.onfi_cycle.specs.Rules.{breaks_not_there, lun_is, is_some_and}
@@ -243,13 +243,14 @@ wanted_works (Some NoColumnToChange) s c later = driving_works s c.ce
 wanted_works (Some CommandMisplaced) s c later = none_works s c.ce
 wanted_works (Some AddressMisplaced) s c later = none_works s c.ce
 wanted_works (Some RowOutside) s c later = none_works s c.ce
-wanted_works (Some LunBusy) s c later = where_works s c.ce (is_opening (Cyc c)) (to_begin s c later) (begin_works s c later)
+wanted_works (Some LunBusy) s c later = where_works s c.ce (is_opening s.bus.geometry (Cyc c)) (to_begin s c later) (begin_works s c later)
 wanted_works (Some QueueClash) s c later = none_works s c.ce
 wanted_works (Some InputMisplaced) s c later = none_works s c.ce
 wanted_works (Some NoSoleDriver) s c later = none_works s c.ce
 wanted_works (Some DataNotReady) s c later = driving_works s c.ce
 wanted_works (Some ColumnOutside) s c later = none_works s c.ce
-wanted_works (Some CacheReadMisplaced) s c later = where_works s c.ce (is_opening (Cyc c)) (driving_done s c.ce) (driving_works s c.ce)
+wanted_works (Some CacheReadMisplaced) s c later = where_works s c.ce (is_opening s.bus.geometry (Cyc c)) (driving_done s c.ce) (driving_works s c.ce)
+wanted_works (Some CopybackMisplaced) s c later = none_works s c.ce
 wanted_works (Some PlaneNotHeld) s c later = none_works s c.ce
 
 pub taken_at_work : TakenAtWork
@@ -318,8 +319,8 @@ by_geometry : (rule : Option Forbidden) (i : Item) (s : BusView) → (bus_by rul
 by_geometry None i s = refl
 by_geometry (Some rule) i s =
     either_geometry (leaves_profile (Some rule) s (target_of i)) (bus_without (target_of i) s)
-    (cond (is_opening i) (done_unless (judged (bus_without (target_of i) s) i) i (bus_without (target_of i) s)) s) s.geometry refl
-    (either_geometry (is_opening i) (done_unless (judged (bus_without (target_of i) s) i) i (bus_without (target_of i) s)) s s.geometry
+    (cond (is_opening s.geometry i) (done_unless (judged (bus_without (target_of i) s) i) i (bus_without (target_of i) s)) s) s.geometry refl
+    (either_geometry (is_opening s.geometry i) (done_unless (judged (bus_without (target_of i) s) i) i (bus_without (target_of i) s)) s s.geometry
     (unless_geometry (judged (bus_without (target_of i) s) i) i (bus_without (target_of i) s)) refl)
 
 same_geometry : (i : Item) (t : TraceState) → (gone_on i t).bus.geometry ≡ t.bus.geometry

@@ -1,11 +1,11 @@
 -- What can be judged of a trace whose recording began in the middle: nobody knows what its LUNs did before.
 use Rattle.std.specs.Prelude.{ℕ, ◌+◌, ◌==◌, Bool, true, false, not, ◌&&◌, ◌||◌, nat_lt, List, [], ◌∷◌, ◌++◌, Option, Some, None, get_or, slice_set, if◌then◌else◌}
-use Rattle.nand_geometry.specs.Optional.{has_enhanced_column, has_plane_reads}
+use Rattle.nand_geometry.specs.Optional.{has_enhanced_column, has_plane_reads, has_copyback}
 use Rattle.nand_geometry.specs.declared.parts.Parts.{Parts}
 use Rattle.onfi_cycle.specs.declared.item.Item.{Item}
 use Rattle.onfi_cycle.specs.declared.item.Item.TheVariants.{Cyc, Rdy, Ard}
 use Rattle.onfi_cycle.specs.declared.forbidden.Forbidden.{Forbidden}
-use Rattle.onfi_cycle.specs.declared.forbidden.Forbidden.TheVariants.{NotThere, CommandUnknown, SequenceOpen, SeveralLuns, NoColumnToChange, CommandMisplaced, AddressMisplaced, RowOutside, LunBusy, QueueClash, InputMisplaced, NoSoleDriver, DataNotReady, ColumnOutside, CacheReadMisplaced, PlaneNotHeld}
+use Rattle.onfi_cycle.specs.declared.forbidden.Forbidden.TheVariants.{NotThere, CommandUnknown, SequenceOpen, SeveralLuns, NoColumnToChange, CommandMisplaced, AddressMisplaced, RowOutside, LunBusy, QueueClash, InputMisplaced, NoSoleDriver, DataNotReady, ColumnOutside, CacheReadMisplaced, CopybackMisplaced, PlaneNotHeld}
 use Rattle.onfi_cycle.specs.declared.lun_state.LunState.{LunState}
 use Rattle.onfi_cycle.specs.declared.register.Register.{Register}
 use Rattle.onfi_cycle.specs.declared.register.Register.TheVariants.{Page}
@@ -156,10 +156,15 @@ looks_of state ce = record {
 abbrev pub stops_others : Parts → Bool
 stops_others g = is_shared g || (has_enhanced_column g.optional && nat_lt 1 g.luns)
 
+-- nothing is sure of a target before a reset: commands of one LUN stop the others, or its chip has a copyback. There an 85 begins one or goes on with a
+-- program that nobody saw, and which pages may be copied hangs on reads that nobody saw
+abbrev pub waits_for_reset : Parts → Bool
+waits_for_reset g = stops_others g || has_copyback g.optional
+
 -- from this item on its target is judged: from an opener. Where commands stop other LUNs, 70 shows the status of the one that was selected before, and what
--- is for all stops the others: there it is judged from a reset on, after which all is known of it
+-- is for all stops the others: there it is judged from a reset on, after which all is known of it, and so it is where a chip has a copyback
 abbrev pub begins_here : Parts → Item → Bool
-begins_here g i = if stops_others g then is_reset i else is_opening i
+begins_here g i = if waits_for_reset g then is_reset i else is_opening g i
 
 -- what is known of the target of an item after it
 abbrev pub learned : Parts → Item → (before after : Looks) → Known → Known
@@ -190,6 +195,7 @@ hangs_on_before NoSoleDriver = true
 hangs_on_before DataNotReady = true
 hangs_on_before ColumnOutside = true
 hangs_on_before CacheReadMisplaced = true
+hangs_on_before CopybackMisplaced = true
 hangs_on_before PlaneNotHeld = true
 
 -- a cycle, where some LUN of its target is in doubt or none

@@ -6,7 +6,7 @@ use Rattle.onfi_cycle.specs.declared.item.Cycle.{Cycle}
 use Rattle.onfi_cycle.specs.declared.item.Kind.{Kind}
 use Rattle.onfi_cycle.specs.declared.item.Kind.TheVariants.{Cmd, Adr, Din, Dout}
 use Rattle.onfi_cycle.specs.declared.command.Command.{Command}
-use Rattle.onfi_cycle.specs.declared.command.Command.TheVariants.{Read, ReadStatus, ReadStatusEnhanced}
+use Rattle.onfi_cycle.specs.declared.command.Command.TheVariants.{Read, ReadStatus, ReadStatusEnhanced, ChangeWriteColumn}
 use Rattle.onfi_cycle.specs.declared.target_cycle.TargetCycle.{TargetCycle}
 use Rattle.onfi_cycle.specs.declared.target_cycle.TargetCycle.TheVariants.{CommandCycle, AddressCycle, InputCycle, OutputCycle}
 use Rattle.onfi_cycle.specs.declared.forbidden.Forbidden.{Forbidden}
@@ -14,6 +14,8 @@ use Rattle.onfi_cycle.specs.declared.forbidden.Forbidden.TheVariants.{CommandUnk
 use Rattle.onfi_cycle.specs.declared.latch.Latch.{Latch}
 use Rattle.onfi_cycle.specs.declared.latch.Latch.TheVariants.{Off, Status, Data}
 use Rattle.onfi_cycle.specs.declared.lun_state.LunState.{LunState}
+use Rattle.nand_geometry.specs.declared.parts.Parts.{Parts}
+use Rattle.onfi_cycle.specs.Rules.{opens_here}
 use Rattle.onfi_cycle.specs.Sequence.{target_cycle, begins_sequence}
 use Rattle.onfi_cycle.specs.State.{BusView, judged}
 use Rattle.onfi_cycle.specs.Look.{looked}
@@ -21,11 +23,23 @@ use Rattle.trace_faults.specs.declared.standing.Standing.{Standing}
 use Rattle.trace_faults.specs.declared.standing.Standing.TheVariants.{Inside, Outside, Interrupted}
 use Rattle.trace_faults.specs.declared.trace_state.TraceState.{TraceState}
 
--- the item begins a sequence
-abbrev pub is_opening : Item → Bool
-is_opening (Cyc c) = begins_sequence (target_cycle c.kind c.byte)
-is_opening (Rdy _ _ _) = false
-is_opening (Ard _ _) = false
+-- the cycle begins a sequence of the chip
+abbrev pub opens_sequence : Parts → TargetCycle → Bool
+opens_sequence g (CommandCycle c) = opens_here g c
+opens_sequence g (AddressCycle byte) = false
+opens_sequence g (InputCycle byte) = false
+opens_sequence g OutputCycle = false
+
+-- and so does the item
+abbrev pub is_opening : Parts → Item → Bool
+is_opening g (Cyc c) = opens_sequence g (target_cycle c.kind c.byte)
+is_opening g (Rdy _ _ _) = false
+is_opening g (Ard _ _) = false
+
+-- the cycle begins a sequence whatever was before: an 85 may go on with the data of a program
+abbrev pub begins_alone : TargetCycle → Bool
+begins_alone (CommandCycle ChangeWriteColumn) = false
+begins_alone c = begins_sequence c
 
 -- ---- where one begins: at a command that isn't in the profile, or at an address that the profile hasn't of 90 or EC
 
@@ -116,7 +130,7 @@ shows_status bus ce = shows_status_at bus ce 0 || (shows_status_at bus ce 1 || (
 -- a cycle of a target that stands so belongs to the sequence outside: up to the next command that begins a sequence, and after a status what isn't status
 abbrev pub belongs_outside : Standing → BusView → Cycle → Bool
 belongs_outside Inside bus c = false
-belongs_outside Outside bus c = not (begins_sequence (target_cycle c.kind c.byte)) && not (is_unknown_command (judged bus (Cyc c)))
+belongs_outside Outside bus c = not (begins_alone (target_cycle c.kind c.byte)) && not (is_unknown_command (judged bus (Cyc c)))
 belongs_outside Interrupted bus c = is_output c.kind && not (shows_status bus c.ce)
 
 -- the item is passed over, since it belongs to a sequence outside of the profile

@@ -51,7 +51,7 @@ done_unless (Some rule) i state = state
 abbrev pub recovered : Forbidden → Item → BusView → BusView
 recovered rule i state =
     if leaves_profile (Some rule) state (target_of i) then bus_without (target_of i) state
-    else (if is_opening i then done_unless (judged (bus_without (target_of i) state) i) i (bus_without (target_of i) state) else state)
+    else (if is_opening state.geometry i then done_unless (judged (bus_without (target_of i) state) i) i (bus_without (target_of i) state) else state)
 
 abbrev pub bus_by : Option Forbidden → Item → BusView → BusView
 bus_by None i state = bus_after i state

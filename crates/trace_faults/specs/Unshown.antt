@@ -4,7 +4,7 @@ use Rattle.onfi_cycle.specs.declared.item.Cycle.{Cycle}
 use Rattle.onfi_cycle.specs.declared.item.Item.{Item}
 use Rattle.onfi_cycle.specs.declared.item.Item.TheVariants.{Cyc, Rdy, Ard}
 use Rattle.onfi_cycle.specs.declared.forbidden.Forbidden.{Forbidden}
-use Rattle.onfi_cycle.specs.declared.forbidden.Forbidden.TheVariants.{NotThere, CommandUnknown, SequenceOpen, SeveralLuns, NoColumnToChange, CommandMisplaced, AddressMisplaced, RowOutside, LunBusy, QueueClash, InputMisplaced, NoSoleDriver, DataNotReady, ColumnOutside, CacheReadMisplaced, PlaneNotHeld}
+use Rattle.onfi_cycle.specs.declared.forbidden.Forbidden.TheVariants.{NotThere, CommandUnknown, SequenceOpen, SeveralLuns, NoColumnToChange, CommandMisplaced, AddressMisplaced, RowOutside, LunBusy, QueueClash, InputMisplaced, NoSoleDriver, DataNotReady, ColumnOutside, CacheReadMisplaced, CopybackMisplaced, PlaneNotHeld}
 use Rattle.onfi_cycle.specs.declared.lun_state.LunState.{LunState}
 use Rattle.onfi_cycle.specs.declared.target_cycle.TargetCycle.{TargetCycle}
 use Rattle.onfi_cycle.specs.declared.target_cycle.TargetCycle.TheVariants.{CommandCycle, AddressCycle, InputCycle, OutputCycle}
@@ -87,13 +87,14 @@ wanted_by (Some NoColumnToChange) state c later = driving_done state c.ce
 wanted_by (Some CommandMisplaced) state c later = None
 wanted_by (Some AddressMisplaced) state c later = None
 wanted_by (Some RowOutside) state c later = None
-wanted_by (Some LunBusy) state c later = if is_opening (Cyc c) then to_begin state c later else None
+wanted_by (Some LunBusy) state c later = if is_opening state.bus.geometry (Cyc c) then to_begin state c later else None
 wanted_by (Some QueueClash) state c later = None
 wanted_by (Some InputMisplaced) state c later = None
 wanted_by (Some NoSoleDriver) state c later = None
 wanted_by (Some DataNotReady) state c later = driving_done state c.ce
 wanted_by (Some ColumnOutside) state c later = None
-wanted_by (Some CacheReadMisplaced) state c later = if is_opening (Cyc c) then driving_done state c.ce else None
+wanted_by (Some CacheReadMisplaced) state c later = if is_opening state.bus.geometry (Cyc c) then driving_done state c.ce else None
+wanted_by (Some CopybackMisplaced) state c later = None
 wanted_by (Some PlaneNotHeld) state c later = None
 
 -- the rule that is broken without that ready: of an opener that breaks none, F9 at its last address

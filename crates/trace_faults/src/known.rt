@@ -1,6 +1,6 @@
 //! What a recording that began in the middle has shown of a target.
 ghost use Rattle.std.specs.Prelude.{◌≡◌, get_or, slice_set, nat_lt};
-ghost use Rattle.trace_faults.specs.Middle.{nothing_known, all_known, first_known, all_first_known, known_of, knows, is_doubtful, doubts_ready, doubts_lun, doubts, is_whole, stops_others, begins_here, learned};
+ghost use Rattle.trace_faults.specs.Middle.{nothing_known, all_known, first_known, all_first_known, known_of, knows, is_doubtful, doubts_ready, doubts_lun, doubts, is_whole, stops_others, waits_for_reset, begins_here, learned};
 
 use crate::looks::Looks;
 use crate::lun_known::{LunKnown, is_reset};
@@ -42,15 +42,21 @@ fn stops_others(geometry: &Geometry) -> bool
     is_shared(geometry) || (parts.optional.has_enhanced_column() && parts.luns > 1)
 }
 
-/// From this item on its target, which has this geometry, is judged: from an opener, or from a reset where it has several LUNs and commands of one stop the
-/// others.
+// Whether nothing is sure of a target before a reset: commands of one LUN stop the others, or its chip has a copyback.
+fn waits_for_reset(geometry: &Geometry) -> bool
+    ensures { result ≡ waits_for_reset geometry.now }
+{
+    stops_others(geometry) || geometry.parts().optional.has_copyback()
+}
+
+/// From this item on its target, which has this geometry, is judged: from an opener, or from a reset where nothing is sure before one.
 pub(crate) fn begins_here(geometry: &Geometry, item: Item) -> bool
     ensures { result ≡ begins_here geometry.now item }
 {
-    if stops_others(geometry) {
+    if waits_for_reset(geometry) {
         is_reset(item)
     } else {
-        is_opening(item)
+        is_opening(geometry, item)
     }
 }
 

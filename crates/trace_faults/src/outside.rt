@@ -2,19 +2,44 @@
 ghost use Rattle.std.specs.Prelude.{◌≡◌};
 ghost use Rattle.onfi_cycle.specs.State.{judged};
 ghost use Rattle.onfi_cycle.specs.Look.{looked};
-ghost use Rattle.trace_faults.specs.Outside.{is_opening, is_unknown_command, is_misplaced_address, takes_address_of, is_other_address, leaves_profile, standing_of, standing_after, standings_after, is_status, is_output, lun_shows_status, shows_status_at, shows_status, belongs_outside, is_outside};
+ghost use Rattle.trace_faults.specs.Outside.{opens_sequence, is_opening, begins_alone, is_unknown_command, is_misplaced_address, takes_address_of, is_other_address, leaves_profile, standing_of, standing_after, standings_after, is_status, is_output, lun_shows_status, shows_status_at, shows_status, belongs_outside, is_outside};
 
 use crate::standing::Standing;
 use crate::trace_state::TraceState;
-use onfi_cycle::{BusState, Cycle, Forbidden, Item, Kind, Latch, Lun, LunState, TargetCycle};
+use nand_geometry::Geometry;
+use onfi_cycle::{
+    BusState, Command, Cycle, Forbidden, Item, Kind, Latch, Lun, LunState, TargetCycle,
+};
 
-/// The item begins a sequence.
-pub(crate) fn is_opening(item: Item) -> bool
-    ensures { result ≡ is_opening item }
+// The cycle begins a sequence of the chip: a Change Write Column does where a copyback is declared.
+fn opens_sequence(geometry: &Geometry, cycle: TargetCycle) -> bool
+    ensures { result ≡ opens_sequence geometry.now cycle }
+{
+    match cycle {
+        TargetCycle::CommandCycle(Command::ChangeWriteColumn) => {
+            geometry.parts().optional.has_copyback()
+        }
+        _ => cycle.begins_sequence(),
+    }
+}
+
+/// The item begins a sequence of the chip.
+pub(crate) fn is_opening(geometry: &Geometry, item: Item) -> bool
+    ensures { result ≡ is_opening geometry.now item }
 {
     match item {
-        Item::Cyc(cycle) => TargetCycle::of(cycle.kind, cycle.byte).begins_sequence(),
+        Item::Cyc(cycle) => opens_sequence(geometry, TargetCycle::of(cycle.kind, cycle.byte)),
         Item::Rdy { .. } | Item::Ard { .. } => false,
+    }
+}
+
+// The cycle begins a sequence whatever was before: a Change Write Column may go on with the data of a program.
+fn begins_alone(cycle: TargetCycle) -> bool
+    ensures { result ≡ begins_alone cycle }
+{
+    match cycle {
+        TargetCycle::CommandCycle(Command::ChangeWriteColumn) => false,
+        _ => cycle.begins_sequence(),
     }
 }
 
@@ -155,7 +180,7 @@ fn belongs_outside(standing: Standing, bus: &BusState, cycle: Cycle) -> bool
     match standing {
         Standing::Inside => false,
         Standing::Outside => {
-            !TargetCycle::of(cycle.kind, cycle.byte).begins_sequence()
+            !begins_alone(TargetCycle::of(cycle.kind, cycle.byte))
                 && !is_unknown_command(bus.judge(Item::Cyc(cycle)))
         }
         Standing::Interrupted => is_output(cycle.kind) && !shows_status(bus, cycle.ce),

@@ -28,7 +28,7 @@ fn recover(bus: &mut BusState, rule: Forbidden, item: Item)
 {
     if leaves_profile(Some(rule), bus, item.target()) {
         bus.drop_sequence(item.target());
-    } else if is_opening(item) {
+    } else if is_opening(&bus.geometry(), item) {
         reopen(bus, item);
     }
 }

@@ -144,7 +144,7 @@ fn wanted_by(
     match rule {
         None => row_done(state, cycle.ce, given_row(cycle, later)),
         Some(Forbidden::LunBusy) => {
-            if is_opening(Item::Cyc(cycle)) {
+            if is_opening(&state.bus.geometry(), Item::Cyc(cycle)) {
                 to_begin(state, cycle, later)
             } else {
                 None
@@ -154,7 +154,7 @@ fn wanted_by(
             driving_done(state, cycle.ce)
         }
         Some(Forbidden::CacheReadMisplaced) => {
-            if is_opening(Item::Cyc(cycle)) {
+            if is_opening(&state.bus.geometry(), Item::Cyc(cycle)) {
                 driving_done(state, cycle.ce)
             } else {
                 None
@@ -172,6 +172,7 @@ fn wanted_by(
             | Forbidden::InputMisplaced
             | Forbidden::NoSoleDriver
             | Forbidden::ColumnOutside
+            | Forbidden::CopybackMisplaced
             | Forbidden::PlaneNotHeld,
         ) => None,
     }

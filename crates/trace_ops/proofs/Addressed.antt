@@ -3,9 +3,9 @@ use Rattle.std.proofs.Common.{◌≡◌, ◌⊎◌, inl, inr, ℕ, ◌==◌, Boo
 use Rattle.std.proofs.lemmas.Bool.{and_parts, or_parts}
 use Rattle.nand_geometry.specs.declared.parts.Parts.{Parts}
 use Rattle.nand_geometry.specs.declared.optional.Optional.{Optional}
-use Rattle.nand_geometry.specs.Optional.{no_optional, is_wide, has_features, has_unique_id, has_enhanced_column, has_plane_reads, has_lun_reset, has_synchronous_reset}
+use Rattle.nand_geometry.specs.Optional.{no_optional, is_wide, has_features, has_unique_id, has_enhanced_column, has_plane_reads, has_lun_reset, has_synchronous_reset, has_copyback}
 use Rattle.onfi_cycle.specs.declared.command.Command.{Command}
-use Rattle.onfi_cycle.specs.declared.command.Command.TheVariants.{Read, ChangeReadColumnEnhanced, ChangeReadColumnConfirm, ReadStatus, ReadStatusEnhanced, ReadId, ReadParameterPage, ReadUniqueId, GetFeatures, SetFeatures, ResetLun, SynchronousReset, Unknown, ReadPlane}
+use Rattle.onfi_cycle.specs.declared.command.Command.TheVariants.{Read, ChangeReadColumnEnhanced, ChangeReadColumnConfirm, ReadStatus, ReadStatusEnhanced, ReadId, ReadParameterPage, ReadUniqueId, GetFeatures, SetFeatures, ResetLun, SynchronousReset, Unknown, ReadPlane, CopybackRead}
 use Rattle.onfi_cycle.specs.declared.data_phase.DataPhase.{DataPhase}
 use Rattle.onfi_cycle.specs.declared.data_phase.DataPhase.TheVariants.{Outside, FirstColumn, SecondColumn}
 use Rattle.onfi_cycle.specs.declared.item.Item.{Item}
@@ -14,7 +14,7 @@ use Rattle.onfi_cycle.specs.declared.opening.Opening.{Opening}
 use Rattle.onfi_cycle.specs.declared.target_cycle.TargetCycle.{TargetCycle}
 use Rattle.onfi_cycle.specs.declared.target_cycle.TargetCycle.TheVariants.{CommandCycle, AddressCycle}
 use Rattle.onfi_cycle.specs.Base.{is_of_base}
-use Rattle.onfi_cycle.specs.Command.{command, is_opener, address_cycles, takes_address, is_read_id, is_page_program, is_set_features}
+use Rattle.onfi_cycle.specs.Command.{command, is_opener, address_cycles, takes_address, is_read_id, begins_data, is_set_features}
 use Rattle.onfi_cycle.specs.Rules.{is_undeclared_address, breaks_command_unknown, breaks_address_misplaced}
 use Rattle.onfi_cycle.specs.Sequence.{opened, opening, data_phase, tail, facts_of, wants_address, wants_column}
 use Rattle.onfi_cycle.proofs.Booleans.{clash}
@@ -37,6 +37,7 @@ record HasNone (o : Optional) : Type 0 where
   unique_id : has_unique_id o ≡ false
   enhanced_column : has_enhanced_column o ≡ false
   plane_reads : has_plane_reads o ≡ false
+  copyback : has_copyback o ≡ false
   features : has_features o ≡ false
   lun_reset : has_lun_reset o ≡ false
   synchronous_reset : has_synchronous_reset o ≡ false
@@ -47,6 +48,7 @@ has_none o h = record {
   unique_id = ap has_unique_id h;
   enhanced_column = ap has_enhanced_column h;
   plane_reads = ap has_plane_reads h;
+  copyback = ap has_copyback h;
   features = ap has_features h;
   lun_reset = ap has_lun_reset h;
   synchronous_reset = ap has_synchronous_reset h;
@@ -62,6 +64,7 @@ pub base_command : (g : Parts) (c : Command) → g.optional ≡ no_optional → 
 unfolding breaks_command_unknown
 base_command g ChangeReadColumnEnhanced base h = absurd (denied (has_enhanced_column g.optional) (has_none g.optional base).enhanced_column h)
 base_command g ReadPlane base h = absurd (denied (has_plane_reads g.optional) (has_none g.optional base).plane_reads h)
+base_command g CopybackRead base h = absurd (denied (has_copyback g.optional) (has_none g.optional base).copyback h)
 base_command g ReadUniqueId base h = absurd (denied (has_unique_id g.optional) (has_none g.optional base).unique_id h)
 base_command g GetFeatures base h = absurd (denied (has_features g.optional) (has_none g.optional base).features h)
 base_command g SetFeatures base h = absurd (denied (has_features g.optional) (has_none g.optional base).features h)
@@ -75,6 +78,14 @@ base_command g c base h = refl
 pub two_bytes : (x : Option ℕ) (a b : ℕ) → (a == b) ≡ false → is_byte x a ≡ true → is_byte x b ≡ true → ⊥
 two_bytes None a b apart p q = cc
 two_bytes (Some byte) a b apart p q = clash (a == b) (ap (λ n. n == b) (sym (eqb-true byte a p)) ∙ q) apart
+
+-- a program's opener is none of these
+pub program_byte : (x : Option ℕ) (b : ℕ) → (0x80 == b) ≡ false → (0x85 == b) ≡ false → (is_byte x 0x80 || is_byte x 0x85) ≡ true → is_byte x b ≡ true → ⊥
+program_byte x b p q h e = at (is_byte x 0x80) refl h
+  where
+    at : (y : Bool) → is_byte x 0x80 ≡ y → (y || is_byte x 0x85) ≡ true → ⊥
+    at true f h = two_bytes x 0x80 b p f e
+    at false f h = two_bytes x 0x85 b q h e
 
 pub in_column : (d : DataPhase) → wants_column d ≡ true → in_program d ≡ true
 in_column FirstColumn h = refl
@@ -106,15 +117,15 @@ fits_of g b closer t byte base content kept wanted = at (opening t) refl
     undeclared = (or_parts (not (wants_address (facts_of t) byte)) (is_undeclared_address g (facts_of t) byte) kept).1
 
     at : (o : Option Opening) → opening t ≡ o → Fits byte b
-    at None e = record { identifier = λ h. absurd (two_bytes (opener_of b) 0x80 0x90 refl program h); parameters = λ h. absurd (two_bytes (opener_of b) 0x80 0xec refl program h) }
+    at None e = record { identifier = λ h. absurd (program_byte (opener_of b) 0x90 refl refl program h); parameters = λ h. absurd (program_byte (opener_of b) 0xec refl refl program h) }
       where
         column : wants_column (data_phase t) ≡ true
         column =
             or_other (opened (λ c n. is_opener c && ltb n (address_cycles c) && takes_address c byte) (opening t)) (wants_column (data_phase t))
             (ap (opened (λ c n. is_opener c && ltb n (address_cycles c) && takes_address c byte)) e) wanted
 
-        program : is_byte (opener_of b) 0x80 ≡ true
-        program = (and_parts (is_byte (opener_of b) 0x80) (not (is_some closer)) (content.program (in_column (data_phase t) column))).0
+        program : (is_byte (opener_of b) 0x80 || is_byte (opener_of b) 0x85) ≡ true
+        program = (and_parts (is_byte (opener_of b) 0x80 || is_byte (opener_of b) 0x85) (not (is_some closer)) (content.program (in_column (data_phase t) column))).0
     at (Some o) e = record { identifier = identifier; parameters = parameters }
       where
         opens : Opens b closer o
@@ -132,7 +143,7 @@ fits_of g b closer t byte base content kept wanted = at (opening t) refl
         parameters : is_byte (opener_of b) 0xec ≡ true → byte ≡ 0
         parameters h =
             let page : o.opener ≡ ReadParameterPage = sym opens.is_of ∙ ap command (byte_is 0xec h) ∙ commands_have_bytes.command_of_byte ReadParameterPage 0xec refl in
-            let outside : data_phase t ≡ Outside = outside_opening t o e (ap is_page_program page) (ap is_set_features page) in
+            let outside : data_phase t ≡ Outside = outside_opening t o e (ap begins_data page) (ap is_set_features page) in
             let first =
             or_right_of (opened (λ c n. is_opener c && ltb n (address_cycles c) && takes_address c byte) (opening t)) (wants_column (data_phase t)) wanted (ap wants_column outside) in
             let here = sym (ap (opened (λ c n. is_opener c && ltb n (address_cycles c) && takes_address c byte)) e) ∙ first in

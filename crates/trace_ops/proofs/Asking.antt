@@ -11,13 +11,13 @@ use Rattle.onfi_cycle.specs.declared.opening.Opening.{Opening}
 use Rattle.onfi_cycle.specs.declared.tail_facts.TailFacts.{TailFacts}
 use Rattle.onfi_cycle.specs.declared.target_cycle.TargetCycle.{TargetCycle}
 use Rattle.onfi_cycle.specs.declared.target_cycle.TargetCycle.TheVariants.{CommandCycle, AddressCycle, OutputCycle}
-use Rattle.onfi_cycle.specs.Command.{command, is_opener, address_cycles, closes, takes_address, is_page_program, is_set_features}
+use Rattle.onfi_cycle.specs.Command.{command, is_opener, address_cycles, closes, takes_address, begins_data, is_set_features}
 use Rattle.onfi_cycle.specs.Effect.{names_lun, address_effect, opening_address_effect}
 use Rattle.onfi_cycle.specs.Sequence.{continued, tail, opening, opened, one_address_more, data_phase, phase_after_last_address, phase_after_address, facts_of, takes_data, takes_inputs, wants_command, wants_address, wants_column, row_with}
 use Rattle.onfi_cycle.proofs.CommandBytes.{commands_have_bytes}
 use Rattle.trace_ops.specs.declared.operation.Beginning.{Beginning}
 use Rattle.trace_ops.specs.Operation.{opener_of, is_byte}
-use Rattle.trace_ops.proofs.Addressed.{two_bytes, in_column}
+use Rattle.trace_ops.proofs.Addressed.{program_byte, in_column}
 use Rattle.trace_ops.proofs.Contents.{Opens, Content}
 use Rattle.trace_ops.proofs.Legal.{or_other}
 use Rattle.trace_ops.proofs.Starts.{starts, starts_by, either_false, outside_opening, unopened_starts}
@@ -85,7 +85,7 @@ pub asking_output : (t : List TargetCycle) → Asking (continued OutputCycle t)
 asking_output [] = record { outside = refl; opening = refl }
 asking_output (c ∷ t) = record { outside = refl; opening = refl }
 
-phase_stays : (c : Command) (n : ℕ) → asking_opener c n ≡ true → cond (is_page_program c && n == 4) Inputs (cond (is_set_features c && n == 0) FeatureInputs Outside) ≡ Outside
+phase_stays : (c : Command) (n : ℕ) → asking_opener c n ≡ true → cond (begins_data c && n == 4) Inputs (cond (is_set_features c && n == 0) FeatureInputs Outside) ≡ Outside
 phase_stays ReadStatus n h = refl
 phase_stays ReadStatusEnhanced n h = refl
 phase_stays Read n h = refl
@@ -150,15 +150,15 @@ pub enhanced_of : (b : Beginning) (closer : Option ℕ) (t : List TargetCycle) (
 enhanced_of b closer t byte content h wanted = at (opening t) refl
   where
     at : (o : Option Opening) → opening t ≡ o → Enhanced closer t byte
-    at None e = absurd (two_bytes (opener_of b) 0x80 0x78 refl program h)
+    at None e = absurd (program_byte (opener_of b) 0x78 refl refl program h)
       where
         column : wants_column (data_phase t) ≡ true
         column =
             or_other (opened (λ c n. is_opener c && ltb n (address_cycles c) && takes_address c byte) (opening t)) (wants_column (data_phase t))
             (ap (opened (λ c n. is_opener c && ltb n (address_cycles c) && takes_address c byte)) e) wanted
 
-        program : is_byte (opener_of b) 0x80 ≡ true
-        program = (and_parts (is_byte (opener_of b) 0x80) (not (is_some closer)) (content.program (in_column (data_phase t) column))).0
+        program : (is_byte (opener_of b) 0x80 || is_byte (opener_of b) 0x85) ≡ true
+        program = (and_parts (is_byte (opener_of b) 0x80 || is_byte (opener_of b) 0x85) (not (is_some closer)) (content.program (in_column (data_phase t) column))).0
     at (Some o) e = record { asking = asking_address t byte apart (record { outside = outside; opening = ap asked e ∙ ap (λ c. asking_opener c o.addresses) is }); unclosed = ap (λ (x : Option ℕ). is_some x) opens.unclosed }
       where
         opens : Opens b closer o
@@ -170,7 +170,7 @@ enhanced_of b closer t byte content h wanted = at (opening t) refl
             ∙ commands_have_bytes.command_of_byte ReadStatusEnhanced 0x78 refl
 
         outside : data_phase t ≡ Outside
-        outside = outside_opening t o e (ap is_page_program is) (ap is_set_features is)
+        outside = outside_opening t o e (ap begins_data is) (ap is_set_features is)
 
         apart : (x : Opening) → opening t ≡ Some x → x.opener ≡ Read → ⊥
         apart x f reads = not_read b closer t content (or_right (is_byte (opener_of b) 0x70) (is_byte (opener_of b) 0x78) h) x f reads

@@ -5,6 +5,7 @@ use Rattle.std.specs.List.{All}
 use Rattle.std.proofs.lemmas.Bool.{or_left, or_right}
 use Rattle.std.proofs.lemmas.List.{length-append}
 use Rattle.std.proofs.lemmas.List.Elements.{All-head, All-tail, All-set, All-weaker, All-replicate}
+use Rattle.onfi_cycle.specs.declared.command.Command.{Command}
 use Rattle.onfi_cycle.specs.declared.command.Command.TheVariants.{Read, ReadStatus}
 use Rattle.onfi_cycle.specs.declared.item.Cycle.{Cycle as BusCycle}
 use Rattle.onfi_cycle.specs.declared.item.Item.{Item}
@@ -14,9 +15,10 @@ use Rattle.onfi_cycle.specs.declared.item.Kind.TheVariants.{Cmd, Adr, Din, Dout}
 use Rattle.onfi_cycle.specs.declared.lun_state.LunState.{LunState}
 use Rattle.onfi_cycle.specs.declared.register.Register.{Register}
 use Rattle.onfi_cycle.specs.declared.register.Register.TheVariants.{Empty, Page, ParameterPage, Identifier, Identity, JedecIdentity, UniqueId, Features}
-use Rattle.onfi_cycle.specs.Command.{command, is_opener}
+use Rattle.onfi_cycle.specs.declared.target_cycle.TargetCycle.TheVariants.{CommandCycle}
 use Rattle.onfi_cycle.specs.Sequence.{target_of}
 use Rattle.onfi_cycle.proofs.CommandBytes.{commands_have_bytes}
+use Rattle.trace_faults.specs.Outside.{begins_alone}
 use Rattle.trace_faults.specs.declared.readies.Readies.{Readies}
 use Rattle.trace_faults.specs.Middle.{Seen, seen_after}
 use Rattle.trace_ops.specs.declared.change.Change.{Change}
@@ -31,7 +33,7 @@ use Rattle.trace_ops.specs.declared.role.Role.{Role}
 use Rattle.trace_ops.specs.declared.role.Role.TheVariants as role
 use Rattle.trace_ops.specs.Operation.{begun, opener_of, is_byte, is_permitted, takes_address, with_byte, says_ready, changed, changed_by, changed_at, is_folded}
 use Rattle.trace_ops.specs.Laws.{HasLine}
-use Rattle.trace_ops.specs.Listing.{Listing, nobody, found, lun_place, worker, giver, op_of, cycle_owner, owner_of, either_of, begins_one, new_by_command, new_one, number_of, with_new, is_new_opener, change_of, unfolded, gives_data, gives_status, look_at, begins_by, begins_foreign, starts_on, abandoned_by, begun_on, all_begun, role_of_command, role_of_address, role_of_kind, role_by, is_unshown, folded_into, folded_if, held_in, held_by, selected_by, selected_on, all_selected, with_ends, with_polls, owner_in, mark_in, listed, judged_as, ops_from}
+use Rattle.trace_ops.specs.Listing.{Listing, nobody, found, lun_place, worker, giver, op_of, cycle_owner, owner_of, either_of, begins_one, new_by_command, new_one, number_of, with_new, is_new_opener, change_of, unfolded, gives_data, gives_status, look_at, begins_by, begins_foreign, starts_on, abandoned_by, begun_on, all_begun, role_of_command, role_of_address, role_of_kind, role_by, is_unshown, folded_into, folded_if, held_in, held_by, selected_by, selected_on, all_selected, with_ends, with_polls, owner_in, mark_in, listed, judged_as, ops_from, opens_alone}
 use Rattle.trace_ops.proofs.Quiet.{is_quiet, is_plain, plain_ends, plain_unfold, plain_polls, plain_ready, by_begin, by_begins, by_select}
 use Rattle.trace_ops.proofs.Changed.{by, put, there, length_changed}
 use Rattle.trace_ops.proofs.Spans.{same_some, which}
@@ -531,7 +533,7 @@ command_of (Ard ce lun) = None
 
 -- an opener that closes nothing
 abbrev Alone : ℕ → Type 0
-Alone byte = (is_opener (command byte) ≡ true) × ((byte == 0x31) ≡ false)
+Alone byte = (opens_alone byte ≡ true) × ((byte == 0x31) ≡ false)
 
 -- what is known of the operation to which an item came
 pub record Context (j : Judged) (k : ℕ) (ops : List Operation) : Type 0 where
@@ -570,12 +572,12 @@ module _ (j : Judged) (k : ℕ) (ops : List Operation) (o : Operation) (is : sli
     status_opens : (byte : ℕ) → (byte == 0x70) ≡ true → Alone byte
     status_opens byte e =
         let is = eqb-true byte 0x70 e in
-        (ap is_opener (commands_have_bytes.command_of_byte ReadStatus byte (ap Some (sym is))), ap (λ n. n == 0x31) is)
+        (ap (λ (x : Command). begins_alone (CommandCycle x)) (commands_have_bytes.command_of_byte ReadStatus byte (ap Some (sym is))), ap (λ n. n == 0x31) is)
 
     read_opens : (byte : ℕ) → (byte == 0x00) ≡ true → Alone byte
     read_opens byte e =
         let is = eqb-true byte 0x00 e in
-        (ap is_opener (commands_have_bytes.command_of_byte Read byte (ap Some (sym is))), ap (λ n. n == 0x31) is)
+        (ap (λ (x : Command). begins_alone (CommandCycle x)) (commands_have_bytes.command_of_byte Read byte (ap Some (sym is))), ap (λ n. n == 0x31) is)
 
     command_fits : (byte : ℕ) (starts : Bool) (after : Option LunState) → command_of j.item ≡ Some byte → (starts ≡ true → Main ops k) → RoleFits (role_of_command byte starts after) ops k
     command_fits byte starts after cmd main =

@@ -19,12 +19,12 @@ use Rattle.onfi_cycle.specs.declared.tail_facts.TailFacts.{TailFacts}
 use Rattle.onfi_cycle.specs.declared.target_cycle.TargetCycle.{TargetCycle}
 use Rattle.onfi_cycle.specs.declared.target_cycle.TargetCycle.TheVariants.{CommandCycle, AddressCycle, InputCycle, OutputCycle}
 use Rattle.onfi_cycle.specs.Bounds.{is_read, is_block_erase, names_read, names_erase, names_program, names_row}
-use Rattle.onfi_cycle.specs.Command.{is_opener, address_cycles, closes, is_page_program, is_set_features, at_last_row, addresses_the_array}
+use Rattle.onfi_cycle.specs.Command.{address_cycles, closes, begins_data, is_set_features, at_last_row, addresses_the_array}
 use Rattle.onfi_cycle.specs.Effect.{names_lun, cycle_effect, address_effect, opening_address_effect}
 use Rattle.onfi_cycle.specs.Lun.{is_busy, latch_alone, luns_of, lun_view}
 use Rattle.onfi_cycle.specs.LunView.{LunView}
 use Rattle.onfi_cycle.specs.Permitted.{broken, is_permitted, is_legal}
-use Rattle.onfi_cycle.specs.Rules.{ends_row, breaks_row_outside, breaks_lun_busy}
+use Rattle.onfi_cycle.specs.Rules.{opens_here, ends_row, breaks_row_outside, breaks_lun_busy}
 use Rattle.onfi_cycle.specs.Sequence.{target_cycle, begins_anew, continued, with_cycle, tail, opening, opened, one_address_more, data_phase, phase_after_address, phase_after_last_address, row_bytes, row_after_address, column, facts_of, row, row_with, wants_command, wants_column, takes_data}
 use Rattle.onfi_cycle.proofs.Booleans.{and_rest, clash}
 use Rattle.onfi_cycle.proofs.Keeping.{view_at}
@@ -33,7 +33,7 @@ use Rattle.onfi_cycle.proofs.Passed.{KeepsRules, permitted_keeps}
 use Rattle.onfi_cycle.proofs.RowBounds.{begun_outside, goes_on_inside, judged_row, next_is, later_address, last_address, input_inside, no_features_inside}
 use Rattle.trace_ops.proofs.Contents.{one_less}
 use Rattle.trace_ops.proofs.Legal.{at_lun}
-use Rattle.trace_ops.proofs.Starts.{starts, starts_by, cycle_busy, ready_busy, array_ready_busy}
+use Rattle.trace_ops.proofs.Starts.{starts, starts_by, either_false, cycle_busy, ready_busy, array_ready_busy}
 use Rattle.trace_ops.proofs.Tails.{wanted_command}
 
 -- the row that the tail names is one of the first LUN, and that is ready
@@ -47,7 +47,7 @@ unnamed g t busy none = record { named = λ h. absurd (clash (names_row t) h non
 -- ---- tails
 
 after_last_row : (o : Option Opening) → wants_column (phase_after_last_address o) ≡ false
-after_last_row o = at (opened (λ c n. is_page_program c && n == 4) o) (opened (λ c n. is_set_features c && n == 0) o)
+after_last_row o = at (opened (λ c n. begins_data c && n == 4) o) (opened (λ c n. is_set_features c && n == 0) o)
   where
     at : (b c : Bool) → wants_column (cond b Inputs (cond c FeatureInputs Outside)) ≡ false
     at true c = refl
@@ -85,8 +85,9 @@ erase_ends : (c : Command) (m : ℕ) → (is_block_erase c && m + 1 == 3) ≡ tr
 erase_ends BlockErase m h = eq-eqb m 2 (next_is m 2 h)
 erase_ends c m h = cc
 
-program_ends : (c : Command) (m : ℕ) → (is_page_program c && m == 4) ≡ true → (addresses_the_array c && at_last_row c m) ≡ true
+program_ends : (c : Command) (m : ℕ) → (begins_data c && m == 4) ≡ true → (addresses_the_array c && at_last_row c m) ≡ true
 program_ends PageProgram m h = h
+program_ends ChangeWriteColumn m h = h
 program_ends c m h = cc
 
 one_of : {A : Type 0} (a b c : Bool) → (a || (b || c)) ≡ true → (a ≡ true → A) → (b ≡ true → A) → (c ≡ true → A) → A
@@ -94,11 +95,12 @@ one_of true b c h x y z = x refl
 one_of false true c h x y z = y refl
 one_of false false c h x y z = z h
 
-array_rests : (g : Parts) (t : TailFacts) (byte : ℕ) (c : Command) (m n : ℕ) → addresses_the_array c ≡ true → address_effect g t byte c m n ≡ Unaffected
+array_rests : (g : Parts) (t : TailFacts) (byte : ℕ) (c : Command) (m n : ℕ) → addresses_the_array c ≡ true → starts (address_effect g t byte c m n) ≡ false
 array_rests g t byte Read m n h = refl
 array_rests g t byte ChangeReadColumnEnhanced m n h = refl
 array_rests g t byte BlockErase m n h = refl
-array_rests g t byte PageProgram m n h = refl
+array_rests g t byte ChangeWriteColumn m n h = refl
+array_rests g t byte PageProgram m n h = either_false starts (m == 4) _ _ (either_false starts (names_lun g (row_with t byte) n) _ _ refl refl) refl
 array_rests g t byte c m n h = cc
 
 first_of_three : (a b c : Bool) → (a && b && c) ≡ true → a ≡ true
@@ -166,7 +168,7 @@ module _ (g : Parts) (t : List TargetCycle) (luns : List LunView) (v : LunView) 
       named = λ h. row_inside (ends h);
       ready = λ h. (
           let last = ends h in
-          still_ready v.busy _ (lun_ready last) (ap starts (array_rests g (facts_of t) byte o.opener o.addresses 0 (and_parts (addresses_the_array o.opener) _ last).0))
+          still_ready v.busy _ (lun_ready last) (array_rests g (facts_of t) byte o.opener o.addresses 0 (and_parts (addresses_the_array o.opener) _ last).0)
           );
     }
 
@@ -309,11 +311,11 @@ closer_starts g t la BlockEraseConfirm h w n = rw (w, n) refl
 closer_starts g t la ProgramConfirm h w n = rw (w, n) refl
 closer_starts g t la c h w n = cc
 
-closes_opens : (c : Command) → closes_work c ≡ true → is_opener c ≡ false
-closes_opens ReadConfirm h = refl
-closes_opens BlockEraseConfirm h = refl
-closes_opens ProgramConfirm h = refl
-closes_opens c h = cc
+closes_opens : (g : Parts) (c : Command) → closes_work c ≡ true → opens_here g c ≡ false
+closes_opens g ReadConfirm h = refl
+closes_opens g BlockEraseConfirm h = refl
+closes_opens g ProgramConfirm h = refl
+closes_opens g c h = cc
 
 -- a LUN that doesn't work, and that a cycle starts
 pub record Started (g : Parts) (past : List Item) (ce : ℕ) (c : Command) : Type 0 where
@@ -323,7 +325,7 @@ pub record Started (g : Parts) (past : List Item) (ce : ℕ) (c : Command) : Typ
 pub closer_begins : (g : Parts) (targets : ℕ) (past : List Item) (ce : ℕ) (c : Command) → g.luns ≡ 1 → is_legal g targets past ≡ true → closes_work c ≡ true →
     KeepsRules g (facts_of (tail past ce)) (luns_of g past ce) (CommandCycle c) → Started g past ce c
 closer_begins g targets past ce c one legal closes' keeps =
-    let wanted = wanted_command (facts_of (tail past ce)) c keeps.f6 (closes_opens c closes') in
+    let wanted = wanted_command g (facts_of (tail past ce)) c keeps.f6 (closes_opens g c closes') in
     let named = row_wanted (facts_of (tail past ce)) c closes' wanted in
     let ready = rows_ready g targets past ce one legal in
     record { rested = ready.ready named; started = closer_starts g (facts_of (tail past ce)) (latch_alone g past (at_lun ce 0)) c closes' wanted (ready.named named) }

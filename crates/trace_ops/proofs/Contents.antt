@@ -3,21 +3,22 @@ use Rattle.std.proofs.Common.{◌≡◌, ◌⊎◌, inl, inr, ℕ, ◌==◌, Boo
 use Rattle.std.proofs.Math.Bool.{and-false}
 use Rattle.std.proofs.lemmas.Bool.{and_parts}
 use Rattle.onfi_cycle.specs.declared.command.Command.{Command}
-use Rattle.onfi_cycle.specs.declared.command.Command.TheVariants.{Read, ReadConfirm, ChangeReadColumn, ChangeReadColumnEnhanced, ChangeReadColumnConfirm, BlockErase, BlockEraseConfirm, BlockErasePlane, ReadStatus, ReadStatusEnhanced, PageProgram, ChangeWriteColumn, ProgramConfirm, ProgramPlane, ReadId, ReadParameterPage, Reset, ReadCacheSequential, ReadCacheEnd, ReadUniqueId, GetFeatures, SetFeatures, ResetLun, SynchronousReset, Unknown, ReadPlane}
+use Rattle.onfi_cycle.specs.declared.command.Command.TheVariants.{Read, ReadConfirm, ChangeReadColumn, ChangeReadColumnEnhanced, ChangeReadColumnConfirm, BlockErase, BlockEraseConfirm, BlockErasePlane, ReadStatus, ReadStatusEnhanced, PageProgram, ChangeWriteColumn, ProgramConfirm, ProgramPlane, ReadId, ReadParameterPage, Reset, ReadCacheSequential, ReadCacheEnd, ReadUniqueId, GetFeatures, SetFeatures, ResetLun, SynchronousReset, Unknown, ReadPlane, CopybackRead}
 use Rattle.onfi_cycle.specs.declared.data_phase.DataPhase.{DataPhase}
 use Rattle.onfi_cycle.specs.declared.data_phase.DataPhase.TheVariants.{Outside, Inputs, FirstColumn, SecondColumn, FeatureInputs}
 use Rattle.onfi_cycle.specs.declared.opening.Opening.{Opening}
 use Rattle.onfi_cycle.specs.declared.target_cycle.TargetCycle.{TargetCycle}
 use Rattle.onfi_cycle.specs.declared.target_cycle.TargetCycle.TheVariants.{CommandCycle, AddressCycle, InputCycle, OutputCycle}
 use Rattle.onfi_cycle.specs.Base.{is_of_base}
-use Rattle.onfi_cycle.specs.Command.{command, opcode, is_known, is_opener, is_page_program, is_set_features}
+use Rattle.onfi_cycle.specs.Command.{command, opcode, is_known, begins_data, is_set_features}
 use Rattle.onfi_cycle.specs.Sequence.{continued, opening, one_address_more, inputs, data_phase, phase_after_last_address, phase_after_address, phase_after_command, phase_after_input, facts_of, wants_command, takes_data}
 use Rattle.onfi_cycle.proofs.CommandBytes.{commands_have_bytes}
 use Rattle.trace_ops.specs.declared.operation.Beginning.{Beginning}
 use Rattle.trace_ops.specs.declared.operation.Beginning.TheVariants as begins
 use Rattle.trace_ops.specs.declared.operation.Operation.{Operation}
+use Rattle.trace_faults.specs.Outside.{begins_alone}
 use Rattle.trace_ops.specs.Operation.{opener_of, is_byte, is_unknown, closes_as_known, is_open_program}
-use Rattle.trace_ops.specs.Listing.{is_open_program_op, is_open_read_op, closes_read, begins_one}
+use Rattle.trace_ops.specs.Listing.{is_open_program_op, is_open_read_op, closes_read, opens_alone, begins_one}
 use Rattle.trace_ops.proofs.Spans.{same_some}
 
 -- the operation began with this opener, and no command has closed it
@@ -35,7 +36,7 @@ in_program SecondColumn = true
 in_program FeatureInputs = false
 
 abbrev pub is_program_open : Beginning → Option ℕ → Bool
-is_program_open b closer = is_byte (opener_of b) 0x80 && not (is_some closer)
+is_program_open b closer = (is_byte (opener_of b) 0x80 || is_byte (opener_of b) 0x85) && not (is_some closer)
 
 pub record Content (b : Beginning) (closer : Option ℕ) (t : List TargetCycle) : Type 0 where
   pub opens : (o : Opening) → opening t ≡ Some o → Opens b closer o
@@ -76,6 +77,7 @@ after_nothing BlockErase h = cc
 after_nothing BlockEraseConfirm h = cc
 after_nothing BlockErasePlane h = cc
 after_nothing ReadPlane h = cc
+after_nothing CopybackRead h = cc
 after_nothing ReadStatus h = cc
 after_nothing ReadStatusEnhanced h = cc
 after_nothing PageProgram h = cc
@@ -116,6 +118,7 @@ column_alone BlockErase d h = cc
 column_alone BlockEraseConfirm d h = cc
 column_alone BlockErasePlane d h = cc
 column_alone ReadPlane d h = cc
+column_alone CopybackRead d h = cc
 column_alone ReadStatus d h = cc
 column_alone ReadStatusEnhanced d h = cc
 column_alone PageProgram d h = cc
@@ -161,22 +164,28 @@ pub one_less : (x : Option Opening) (o : Opening) → one_address_more x ≡ Som
 one_less None o h = cc
 one_less (Some y) o h = (y, refl, ap (λ (z : Opening). z.opener) (same_some h))
 
-is_program : (c : Command) → is_page_program c ≡ true → c ≡ PageProgram
-is_program PageProgram h = refl
+is_program : (c : Command) → begins_data c ≡ true → (c ≡ PageProgram) ⊎ (c ≡ ChangeWriteColumn)
+is_program PageProgram h = inl refl
+is_program ChangeWriteColumn h = inr refl
 is_program c h = cc
 
 -- the fifth address of a program is behind its opener
-begins_data : (b : Beginning) (closer : Option ℕ) (x : Option Opening) → ((o : Opening) → x ≡ Some o → Opens b closer o) →
+opens_data : (b : Beginning) (closer : Option ℕ) (x : Option Opening) → ((o : Opening) → x ≡ Some o → Opens b closer o) →
     in_program (phase_after_last_address x) ≡ true → is_program_open b closer ≡ true
-begins_data b closer None opens h = cc
-begins_data b closer (Some o) opens h = at (is_page_program o.opener && o.addresses == 4) refl (is_set_features o.opener && o.addresses == 0) h
+opens_data b closer None opens h = cc
+opens_data b closer (Some o) opens h = at (begins_data o.opener && o.addresses == 4) refl (is_set_features o.opener && o.addresses == 0) h
   where
-    at : (p : Bool) → (is_page_program o.opener && o.addresses == 4) ≡ p → (q : Bool) → in_program (cond p Inputs (cond q FeatureInputs Outside)) ≡ true → is_program_open b closer ≡ true
+    of : (byte code : ℕ) → b ≡ begins.Opener byte → closer ≡ None → byte ≡ code → is_program_open (begins.Opener code) None ≡ true → is_program_open b closer ≡ true
+    of byte code begun unclosed same so =
+        ap (λ (z : Beginning). is_program_open z closer) begun ∙ ap (λ (n : ℕ). is_program_open (begins.Opener n) closer) same ∙ ap (λ (z : Option ℕ). is_program_open (begins.Opener code) z) unclosed ∙ so
+
+    at : (p : Bool) → (begins_data o.opener && o.addresses == 4) ≡ p → (q : Bool) → in_program (cond p Inputs (cond q FeatureInputs Outside)) ≡ true → is_program_open b closer ≡ true
     at true e q h =
         let mine = opens o refl in
-        let whole = is_program o.opener (and_parts _ _ e).0 in
-        let byte = byte_of mine.byte 0x80 PageProgram refl (mine.is_of ∙ whole) in
-        ap (λ (z : Beginning). is_program_open z closer) mine.begun ∙ ap (λ (n : ℕ). is_program_open (begins.Opener n) closer) byte ∙ ap (λ (z : Option ℕ). is_program_open (begins.Opener 0x80) z) mine.unclosed
+        elim (is_program o.opener (and_parts _ _ e).0) [
+          | inl whole ↦ of mine.byte 0x80 mine.begun mine.unclosed (byte_of mine.byte 0x80 PageProgram refl (mine.is_of ∙ whole)) refl
+          | inr whole ↦ of mine.byte 0x85 mine.begun mine.unclosed (byte_of mine.byte 0x85 ChangeWriteColumn refl (mine.is_of ∙ whole)) refl
+        ]
     at false e true h = cc
     at false e false h = cc
 
@@ -191,7 +200,7 @@ content_address b closer byte t was = record {
 }
   where
     at : (d : DataPhase) → data_phase t ≡ d → in_program (phase_after_address (opening t) d) ≡ true → is_program_open b closer ≡ true
-    at Outside e h = begins_data b closer (opening t) was.opens h
+    at Outside e h = opens_data b closer (opening t) was.opens h
     at Inputs e h = cc
     at FirstColumn e h = was.program (ap in_program e)
     at SecondColumn e h = was.program (ap in_program e)
@@ -216,13 +225,14 @@ content_input b closer byte t was = record { opens = λ o h. none o h; program =
 
 -- ---- which command begins one
 
--- a command that closes a sequence is one of the base profile, or 32h
-base_closer : (c : Command) → is_opener c ≡ false → is_known c ≡ true → (is_of_base c ≡ true) ⊎ (c ≡ ReadPlane)
+-- a command that closes a sequence is one of the base profile, or 32h or 35h
+base_closer : (c : Command) → begins_alone (CommandCycle c) ≡ false → is_known c ≡ true → (is_of_base c ≡ true) ⊎ ((c ≡ ReadPlane) ⊎ (c ≡ CopybackRead))
 base_closer ReadConfirm o k = inl refl
 base_closer ChangeReadColumnConfirm o k = inl refl
 base_closer BlockEraseConfirm o k = inl refl
 base_closer BlockErasePlane o k = inl refl
-base_closer ReadPlane o k = inr refl
+base_closer ReadPlane o k = inr (inl refl)
+base_closer CopybackRead o k = inr (inr refl)
 base_closer ChangeWriteColumn o k = inl refl
 base_closer ProgramConfirm o k = inl refl
 base_closer ProgramPlane o k = inl refl
@@ -246,17 +256,20 @@ base_closer ResetLun o k = cc
 base_closer SynchronousReset o k = cc
 
 -- so it doesn't begin an operation as one that isn't known
-no_unknown : (byte : ℕ) → is_opener (command byte) ≡ false → is_known (command byte) ≡ true → (is_unknown byte && not (closes_as_known byte)) ≡ false
+no_unknown : (byte : ℕ) → opens_alone byte ≡ false → is_known (command byte) ≡ true → (is_unknown byte && not (closes_as_known byte)) ≡ false
 no_unknown byte o k = at (base_closer (command byte) o k)
   where
-    at : ((is_of_base (command byte) ≡ true) ⊎ (command byte ≡ ReadPlane)) → (is_unknown byte && not (closes_as_known byte)) ≡ false
+    at : ((is_of_base (command byte) ≡ true) ⊎ ((command byte ≡ ReadPlane) ⊎ (command byte ≡ CopybackRead))) → (is_unknown byte && not (closes_as_known byte)) ≡ false
     at (inl base) = ap (λ x. not x && not (closes_as_known byte)) base
-    at (inr plane) =
+    at (inr (inr copy)) =
+        let is : byte ≡ 0x35 = byte_of byte 0x35 CopybackRead refl copy in
+        ap (λ n. is_unknown byte && not (closes_as_known n)) is ∙ and-false (is_unknown byte)
+    at (inr (inl plane)) =
         let is : byte ≡ 0x32 = same_some (sym (commands_have_bytes.byte_of_command byte (λ unknown. let clash = sym plane ∙ unknown in cc)) ∙ ap opcode plane) in
         ap (λ n. is_unknown byte && not (closes_as_known n)) is ∙ and-false (is_unknown byte)
 
 -- an opener begins an operation, if it isn't a 31h that closes a read
-pub opener_begins : (newest : Option Operation) (byte : ℕ) → is_opener (command byte) ≡ true → closes_read newest byte ≡ false → begins_one newest byte ≡ true
+pub opener_begins : (newest : Option Operation) (byte : ℕ) → opens_alone byte ≡ true → closes_read newest byte ≡ false → begins_one newest byte ≡ true
 opener_begins newest byte h apart =
     ap (λ x. (x && not (closes_read newest byte)) || ((is_unknown byte && not (closes_as_known byte)) || (byte == 0x85 && not (is_open_program_op newest)))) h
     ∙ ap (λ x. not x || ((is_unknown byte && not (closes_as_known byte)) || (byte == 0x85 && not (is_open_program_op newest)))) apart
@@ -271,7 +284,7 @@ closing_begins_none newest byte h =
     let is : byte ≡ 0x31 = eqb-true byte 0x31 (and_parts (byte == 0x31) (is_open_read_op newest) h).0 in
     let code : command byte ≡ ReadCacheSequential = commands_have_bytes.command_of_byte ReadCacheSequential byte (ap Some (sym is)) in
     let other : (byte == 0x85) ≡ false = ap (λ n. n == 0x85) is in
-    ap (λ c. (is_opener c && not (closes_read newest byte)) || ((not (is_of_base c) && not (closes_as_known byte)) || (byte == 0x85 && not (is_open_program_op newest)))) code
+    ap (λ c. (begins_alone (CommandCycle c) && not (closes_read newest byte)) || ((not (is_of_base c) && not (closes_as_known byte)) || (byte == 0x85 && not (is_open_program_op newest)))) code
     ∙ ap (λ x. not x || (byte == 0x85 && not (is_open_program_op newest))) h ∙ ap (λ x. x && not (is_open_program_op newest)) other
 
 pub in_data : (d : DataPhase) → takes_data d ≡ true → in_program d ≡ true
@@ -279,7 +292,7 @@ in_data Inputs h = refl
 in_data d h = cc
 
 -- a command that is wanted begins none
-pub wanted_begins_none : (o : Operation) (t : List TargetCycle) (byte : ℕ) → Content o.beginning o.closer t → is_known (command byte) ≡ true → is_opener (command byte) ≡ false →
+pub wanted_begins_none : (o : Operation) (t : List TargetCycle) (byte : ℕ) → Content o.beginning o.closer t → is_known (command byte) ≡ true → opens_alone byte ≡ false →
     wants_command (facts_of t) (command byte) ≡ true → begins_one (Some o) byte ≡ false
 wanted_begins_none o t byte content known no_opener wanted =
     ap (λ x. (x && not (closes_read (Some o) byte)) || ((is_unknown byte && not (closes_as_known byte)) || (byte == 0x85 && not (is_open_program o)))) no_opener

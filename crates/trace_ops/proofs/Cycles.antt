@@ -5,6 +5,7 @@ use Rattle.std.proofs.lemmas.Bool.{and_parts, or_from, false_from_ne_true}
 use Rattle.std.proofs.lemmas.Option.{slice_get_within}
 use Rattle.nand_geometry.specs.declared.parts.Parts.{Parts}
 use Rattle.nand_geometry.specs.Optional.{no_optional}
+use Rattle.onfi_cycle.specs.declared.command.Command.{Command}
 use Rattle.onfi_cycle.specs.declared.command.Command.TheVariants.{ChangeWriteColumn, ReadCacheSequential}
 use Rattle.onfi_cycle.specs.declared.item.Cycle.{Cycle as BusCycle}
 use Rattle.onfi_cycle.specs.declared.item.Item.{Item}
@@ -16,10 +17,12 @@ use Rattle.onfi_cycle.specs.declared.tail_facts.TailFacts.{TailFacts}
 use Rattle.onfi_cycle.specs.declared.target_cycle.TargetCycle.{TargetCycle}
 use Rattle.onfi_cycle.specs.declared.target_cycle.TargetCycle.TheVariants.{CommandCycle}
 use Rattle.onfi_cycle.specs.LunView.{LunView}
-use Rattle.onfi_cycle.specs.Command.{command, is_known, is_opener}
+use Rattle.onfi_cycle.specs.Command.{command, is_known}
 use Rattle.onfi_cycle.specs.Lun.{luns_of}
 use Rattle.onfi_cycle.specs.Permitted.{broken, is_legal}
-use Rattle.onfi_cycle.specs.Sequence.{target_cycle, begins_sequence, with_cycle, tail, opening, facts_of, wants, wants_command, is_open}
+use Rattle.onfi_cycle.specs.Rules.{opens_here}
+use Rattle.trace_faults.specs.Outside.{begins_alone}
+use Rattle.onfi_cycle.specs.Sequence.{target_cycle, with_cycle, tail, opening, facts_of, wants, wants_command, is_open}
 use Rattle.onfi_cycle.specs.Working.{IsLun}
 use Rattle.onfi_cycle.proofs.Booleans.{clash}
 use Rattle.onfi_cycle.proofs.CommandBytes.{commands_have_bytes}
@@ -35,14 +38,14 @@ use Rattle.trace_ops.specs.declared.operation.Ending.TheVariants as ends
 use Rattle.trace_ops.specs.declared.operation.Operation.{Operation}
 use Rattle.trace_ops.specs.Operation.{opener_of, is_byte, is_unknown, selects_column, is_output, changed, changed_at}
 use Rattle.trace_ops.specs.AtWork.{begins_work}
-use Rattle.trace_ops.specs.Listing.{Listing, found, worker, op_of, look_at, is_busy, has_failed, end_by, ended_if, ended_on, is_open_read_op, closes_read, begins_one, cycle_owner, new_by_command, new_one, number_of, with_new, is_address_kind, change_of, unfolded, begins_by, starts_on, abandoned_by, begun_on, all_begun, role_of_kind, role_by, all_selected, with_ends, owner_in, mark_in, listed}
+use Rattle.trace_ops.specs.Listing.{Listing, found, worker, op_of, look_at, is_busy, has_failed, end_by, ended_if, ended_on, is_open_read_op, closes_read, begins_one, cycle_owner, new_by_command, new_one, number_of, with_new, is_address_kind, change_of, unfolded, begins_by, starts_on, abandoned_by, begun_on, all_begun, role_of_kind, role_by, all_selected, with_ends, owner_in, mark_in, listed, opens_alone}
 use Rattle.trace_ops.proofs.Quiet.{is_plain, plain_is_quiet, by_ends, by_unfold, by_begin, by_begins, by_selects}
 use Rattle.trace_ops.proofs.Changed.{by, there}
 use Rattle.trace_ops.proofs.Contents.{Content, opener_begins, wanted_begins_none}
 use Rattle.trace_ops.proofs.HeldReads.{kept_of, whole_read, Held, whole_is_open}
 use Rattle.trace_ops.proofs.Pieces.{Each, each_quiet, Holds, Stands, newest_by, listed_newest, found_same, found_other, found_below, kept_beginning}
 use Rattle.trace_ops.proofs.Spans.{same_some, which}
-use Rattle.trace_ops.proofs.Tails.{split, base_shut, tail_own, tail_other, target_below, known_command, wanted_command, wanted_address, wanted_input, no_command}
+use Rattle.trace_ops.proofs.Tails.{split, base_opens, base_shut, tail_own, tail_other, target_below, known_command, wanted_command, wanted_address, wanted_input, no_command}
 use Rattle.trace_ops.proofs.Walks.{came, length_ends, mark_new}
 use Rattle.trace_ops.proofs.Within.{AreWithin}
 use Rattle.trace_ops.proofs.Addressed.{base_command, fits_of, command_sets, address_sets, status_address}
@@ -65,12 +68,12 @@ resting_alike newest past ops more alike all k w is d h =
     (back.core.ce ∙ was.0, (λ s. was.1 (ap (λ (x : Option ℕ). is_some x) (sym back.core.start) ∙ s)))
 
 -- a permitted cycle that goes on with a sequence is wanted
-wanted_by : (g : Parts) (t : TailFacts) (luns : List LunView) (kind : Kind) (byte : ℕ) → KeepsRules g t luns (target_cycle kind byte) → is_output kind ≡ false →
-    begins_sequence (target_cycle kind byte) ≡ false → wants t (target_cycle kind byte) ≡ true
-wanted_by g t luns Cmd byte keeps input opens = wanted_command t (command byte) keeps.f6 opens
-wanted_by g t luns Adr byte keeps input opens = wanted_address g t byte keeps.f7
-wanted_by g t luns Din byte keeps input opens = wanted_input t byte keeps.f11
-wanted_by g t luns Dout byte keeps input opens = cc
+wanted_by : (g : Parts) (t : TailFacts) (luns : List LunView) (kind : Kind) (byte : ℕ) → g.optional ≡ no_optional → KeepsRules g t luns (target_cycle kind byte) → is_output kind ≡ false →
+    begins_alone (target_cycle kind byte) ≡ false → wants t (target_cycle kind byte) ≡ true
+wanted_by g t luns Cmd byte base keeps input opens = wanted_command g t (command byte) keeps.f6 (base_opens g (command byte) base opens)
+wanted_by g t luns Adr byte base keeps input opens = wanted_address g t byte keeps.f7
+wanted_by g t luns Din byte base keeps input opens = wanted_input t byte keeps.f11
+wanted_by g t luns Dout byte base keeps input opens = cc
 
 output_tail : (kind : Kind) (byte : ℕ) (t : List TargetCycle) → is_output kind ≡ true → IsEnded (facts_of (with_cycle (target_cycle kind byte) t))
 output_tail Cmd byte t h = cc
@@ -212,20 +215,20 @@ module _ (g : Parts) (targets n : ℕ) (one_lun : Bool) (past : List Item) (mark
           let both = and_parts (c.byte == 0x31) (is_open_read_op newest) h in
           let code = commands_have_bytes.command_of_byte ReadCacheSequential c.byte (ap Some (sym (eqb-true c.byte 0x31 both.0))) in
           absurd (clash (is_open (facts_of (tail past c.ce))) (whole_is_open (tail past c.ce) (reads (found l.places.newest c.ce) refl newest refl both.1))
-          (base_shut g (facts_of (tail past c.ce)) (command c.byte) here.base kept.f3 (ap is_opener code)))
+          (base_shut g (facts_of (tail past c.ce)) (command c.byte) here.base kept.f3 (ap (λ (x : Command). opens_here g x) code)))
 
   pub owned_by : (kind : Kind) → KeepsRules g (facts_of (tail past c.ce)) (luns_of g past c.ce) (target_cycle kind c.byte) → is_output kind ≡ false → (m : ℕ) → cycle_owner (with_ends j l).ops l.places j c kind ≡ Some m →
-      (found l.places.newest c.ce ≡ Some m) × (begins_sequence (target_cycle kind c.byte) ≡ false)
+      (found l.places.newest c.ce ≡ Some m) × (begins_alone (target_cycle kind c.byte) ≡ false)
   owned_by Cmd kept input m h = at (begins_one (op_of (with_ends j l).ops (found l.places.newest c.ce)) c.byte) refl h
     where
-      no_opener : (b : Bool) → is_opener (command c.byte) ≡ b → begins_one (op_of (with_ends j l).ops (found l.places.newest c.ce)) c.byte ≡ false → is_opener (command c.byte) ≡ false
+      no_opener : (b : Bool) → opens_alone c.byte ≡ b → begins_one (op_of (with_ends j l).ops (found l.places.newest c.ce)) c.byte ≡ false → opens_alone c.byte ≡ false
       no_opener true e none = absurd (clash _ (opener_begins (op_of (with_ends j l).ops (found l.places.newest c.ce)) c.byte e (closes_no_read Cmd refl kept)) none)
       no_opener false e none = e
 
       at : (b : Bool) → begins_one (op_of (with_ends j l).ops (found l.places.newest c.ce)) c.byte ≡ b → cond b None (found l.places.newest c.ce) ≡ Some m →
-          (found l.places.newest c.ce ≡ Some m) × (begins_sequence (target_cycle Cmd c.byte) ≡ false)
+          (found l.places.newest c.ce ≡ Some m) × (begins_alone (target_cycle Cmd c.byte) ≡ false)
       at true e h = cc
-      at false e h = (h, no_opener (is_opener (command c.byte)) refl e)
+      at false e h = (h, no_opener (opens_alone c.byte) refl e)
   owned_by Adr kept input m h = (h, refl)
   owned_by Din kept input m h = (h, refl)
   owned_by Dout kept input m h = cc
@@ -266,7 +269,7 @@ module _ (g : Parts) (targets n : ℕ) (one_lun : Bool) (past : List Item) (mark
       )
   mine_by input (Some m) h o is = (rests.0, at (is_some o.start) refl)
     where
-      newest : (found l.places.newest c.ce ≡ Some m) × (begins_sequence (target_cycle c.kind c.byte) ≡ false)
+      newest : (found l.places.newest c.ce ≡ Some m) × (begins_alone (target_cycle c.kind c.byte) ≡ false)
       newest = owned_by c.kind keeps input m h
 
       rests : (o.ce ≡ c.ce) × (is_some o.start ≡ true → IsEnded (facts_of (tail past c.ce)))
@@ -275,7 +278,7 @@ module _ (g : Parts) (targets n : ℕ) (one_lun : Bool) (past : List Item) (mark
       at : (b : Bool) → is_some o.start ≡ b → is_some o.start ≡ false
       at true e =
           absurd (clash (wants (facts_of (tail past c.ce)) (target_cycle c.kind c.byte))
-          (wanted_by g (facts_of (tail past c.ce)) (luns_of g past c.ce) c.kind c.byte keeps input newest.1)
+          (wanted_by g (facts_of (tail past c.ce)) (luns_of g past c.ce) c.kind c.byte here.base keeps input newest.1)
           (ended_wants (facts_of (tail past c.ce)) (target_cycle c.kind c.byte) (rests.1 e)))
       at false e = e
 
@@ -303,7 +306,7 @@ module _ (g : Parts) (targets n : ℕ) (one_lun : Bool) (past : List Item) (mark
   fits_by (Some m) h o is = fits_kind c.kind keeps o (λ e. content_at m o (owned_by c.kind keeps (ap is_output e) m h).0 is)
 
   -- a command that goes on with a sequence comes to the newest operation
-  pub goes_to : (k : ℕ) → found l.places.newest c.ce ≡ Some k → is_known (command c.byte) ≡ true → is_opener (command c.byte) ≡ false →
+  pub goes_to : (k : ℕ) → found l.places.newest c.ce ≡ Some k → is_known (command c.byte) ≡ true → opens_alone c.byte ≡ false →
       wants_command (facts_of (tail past c.ce)) (command c.byte) ≡ true → cycle_owner (with_ends j l).ops l.places j c Cmd ≡ Some k
   goes_to k h known opens wanted =
       let small = found_below (length l.ops) l.places.newest c.ce k here.within.newest h in
@@ -322,18 +325,19 @@ module _ (g : Parts) (targets n : ℕ) (one_lun : Bool) (past : List Item) (mark
       no : {m : ℕ} → Some m ≡ None → ⊥
       no x = cc
 
-      by_newest : (x : Option ℕ) → found l.places.newest c.ce ≡ x → is_opener (command c.byte) ≡ false → ⊥
+      by_newest : (x : Option ℕ) → found l.places.newest c.ce ≡ x → opens_alone c.byte ≡ false → ⊥
       by_newest None h opens =
           no_command (command c.byte)
           (ap (λ (t : List TargetCycle). wants_command (facts_of t) (command c.byte)) (sym (here.stands.nobody c.ce target_few h))
-          ∙ wanted_command (facts_of (tail past c.ce)) (command c.byte) kept.f6 opens)
+          ∙ wanted_command g (facts_of (tail past c.ce)) (command c.byte) kept.f6 (base_opens g (command c.byte) here.base opens))
       by_newest (Some k) h opens =
-          no (sym (goes_to k h (known_command g (command c.byte) kept.f2) opens (wanted_command (facts_of (tail past c.ce)) (command c.byte) kept.f6 opens)) ∙ none)
+          no (sym (goes_to k h (known_command g (command c.byte) kept.f2) opens
+          (wanted_command g (facts_of (tail past c.ce)) (command c.byte) kept.f6 (base_opens g (command c.byte) here.base opens))) ∙ none)
 
       at : (b : Bool) → (c.byte == 0x85) ≡ b → (c.byte == 0x85) ≡ false
       at true h =
           absurd (by_newest (found l.places.newest c.ce) refl
-          (ap is_opener (commands_have_bytes.command_of_byte ChangeWriteColumn c.byte (ap Some (sym (eqb-true c.byte 0x85 h))))))
+          (ap (λ (x : Command). begins_alone (CommandCycle x)) (commands_have_bytes.command_of_byte ChangeWriteColumn c.byte (ap Some (sym (eqb-true c.byte 0x85 h))))))
       at false h = h
 
   new_domestic : (kind : Kind) → KeepsRules g (facts_of (tail past c.ce)) (luns_of g past c.ce) (target_cycle kind c.byte) → (kind ≡ Cmd → (c.byte == 0x85) ≡ false) → (newest : Option Operation) →

@@ -5,9 +5,9 @@ use Rattle.std.proofs.lemmas.Bool.{or_parts, not-false}
 use Rattle.std.proofs.lemmas.Option.{slice_get_within}
 use Rattle.nand_geometry.specs.declared.parts.Parts.{Parts}
 use Rattle.onfi_cycle.specs.declared.command.Command.{Command}
-use Rattle.onfi_cycle.specs.declared.command.Command.TheVariants.{Read, ReadConfirm, ChangeReadColumn, ChangeReadColumnEnhanced, ChangeReadColumnConfirm, BlockErase, BlockEraseConfirm, BlockErasePlane, ReadStatus, ReadStatusEnhanced, PageProgram, ChangeWriteColumn, ProgramConfirm, ProgramPlane, ReadId, ReadParameterPage, Reset, ReadCacheSequential, ReadCacheEnd, ReadUniqueId, GetFeatures, SetFeatures, ResetLun, SynchronousReset, Unknown, ReadPlane}
+use Rattle.onfi_cycle.specs.declared.command.Command.TheVariants.{Read, ReadConfirm, ChangeReadColumn, ChangeReadColumnEnhanced, ChangeReadColumnConfirm, BlockErase, BlockEraseConfirm, BlockErasePlane, ReadStatus, ReadStatusEnhanced, PageProgram, ChangeWriteColumn, ProgramConfirm, ProgramPlane, ReadId, ReadParameterPage, Reset, ReadCacheSequential, ReadCacheEnd, ReadUniqueId, GetFeatures, SetFeatures, ResetLun, SynchronousReset, Unknown, ReadPlane, CopybackRead}
 use Rattle.onfi_cycle.specs.declared.effect.Effect.{Effect}
-use Rattle.onfi_cycle.specs.declared.effect.Effect.TheVariants.{BecameReady, ArrayBecameReady, ReadStarted, ReadQueued, EraseStarted, ProgramStarted, IdRead, IdentityRead, UniqueIdReadStarted, FeaturesReadStarted, FeaturesSet, ParameterPageReadStarted, CacheReadContinued, CacheReadEnded, ResetStarted, TargetResetStarted}
+use Rattle.onfi_cycle.specs.declared.effect.Effect.TheVariants.{BecameReady, ArrayBecameReady, ReadStarted, ReadQueued, EraseStarted, ProgramStarted, IdRead, IdentityRead, UniqueIdReadStarted, FeaturesReadStarted, FeaturesSet, ParameterPageReadStarted, CacheReadContinued, CacheReadEnded, ResetStarted, TargetResetStarted, CopybackReadStarted}
 use Rattle.onfi_cycle.specs.declared.forbidden.Forbidden.TheVariants.{NotThere}
 use Rattle.onfi_cycle.specs.declared.item.Cycle.{Cycle}
 use Rattle.onfi_cycle.specs.declared.item.Item.{Item}
@@ -25,7 +25,8 @@ use Rattle.onfi_cycle.specs.Effect.{is_off, cycle_effect}
 use Rattle.onfi_cycle.specs.Lun.{latch, latch_after, array_busy_after, effect_on, is_busy, is_caching, is_array_busy, lun_view, luns_of, views_from}
 use Rattle.onfi_cycle.specs.Permitted.{broken}
 use Rattle.onfi_cycle.specs.Rules.{driving, driver_is, is_some_and, lun_is, breaks_not_there, breaks_no_sole_driver}
-use Rattle.onfi_cycle.specs.Sequence.{begins_sequence, begins_anew, continued, with_cycle, tail, facts_of, is_open, target_cycle}
+use Rattle.trace_faults.specs.Outside.{begins_alone}
+use Rattle.onfi_cycle.specs.Sequence.{begins_anew, continued, with_cycle, tail, facts_of, is_open, target_cycle}
 use Rattle.onfi_cycle.specs.Working.{IsLun}
 use Rattle.onfi_cycle.proofs.Keeping.{views_length, view_at}
 use Rattle.onfi_cycle.proofs.Others.{first_passed}
@@ -34,12 +35,13 @@ use Rattle.onfi_cycle.proofs.Passed.{permitted_keeps}
 -- ---- who shows something has had a command
 
 -- without a tail no cycle but an opener turns a latch on
-off_command : (g : Parts) (selected working : Bool) (c : Command) (lun : ℕ) → begins_sequence (CommandCycle c) ≡ false → latch_after (cycle_effect g (facts_of []) Off (CommandCycle c) lun) selected working Off ≡ Off
+off_command : (g : Parts) (selected working : Bool) (c : Command) (lun : ℕ) → begins_alone (CommandCycle c) ≡ false → latch_after (cycle_effect g (facts_of []) Off (CommandCycle c) lun) selected working Off ≡ Off
 off_command g selected working ReadConfirm lun h = refl
 off_command g selected working ChangeReadColumnConfirm lun h = refl
 off_command g selected working BlockEraseConfirm lun h = refl
 off_command g selected working BlockErasePlane lun h = refl
 off_command g selected working ReadPlane lun h = refl
+off_command g selected working CopybackRead lun h = refl
 off_command g selected working ChangeWriteColumn lun h = refl
 off_command g selected working ProgramConfirm lun h = refl
 off_command g selected working ProgramPlane lun h = refl
@@ -62,7 +64,7 @@ off_command g selected working SetFeatures lun h = cc
 off_command g selected working ResetLun lun h = cc
 off_command g selected working SynchronousReset lun h = cc
 
-off_cycle : (g : Parts) (selected working : Bool) (c : TargetCycle) (lun : ℕ) → begins_sequence c ≡ false → latch_after (cycle_effect g (facts_of []) Off c lun) selected working Off ≡ Off
+off_cycle : (g : Parts) (selected working : Bool) (c : TargetCycle) (lun : ℕ) → begins_alone c ≡ false → latch_after (cycle_effect g (facts_of []) Off c lun) selected working Off ≡ Off
 off_cycle g selected working (CommandCycle c) lun h = off_command g selected working c lun h
 off_cycle g selected working (AddressCycle byte) lun h = refl
 off_cycle g selected working (InputCycle byte) lun h = refl
@@ -75,6 +77,7 @@ command_of_nothing ChangeReadColumnConfirm = refl
 command_of_nothing BlockEraseConfirm = refl
 command_of_nothing BlockErasePlane = refl
 command_of_nothing ReadPlane = refl
+command_of_nothing CopybackRead = refl
 command_of_nothing ChangeWriteColumn = refl
 command_of_nothing ProgramConfirm = refl
 command_of_nothing ProgramPlane = refl
@@ -97,22 +100,26 @@ command_of_nothing SetFeatures = refl
 command_of_nothing ResetLun = refl
 command_of_nothing SynchronousReset = refl
 
-anew_of_nothing : (c : TargetCycle) → begins_anew (facts_of []) c ≡ begins_sequence c
-anew_of_nothing (CommandCycle c) = command_of_nothing c
-anew_of_nothing (AddressCycle byte) = refl
-anew_of_nothing (InputCycle byte) = refl
-anew_of_nothing OutputCycle = refl
+no_opener_alone : (c : Command) → is_opener c ≡ false → begins_alone (CommandCycle c) ≡ false
+no_opener_alone ChangeWriteColumn h = refl
+no_opener_alone c h = h
+
+none_anew : (c : TargetCycle) → begins_anew (facts_of []) c ≡ false → begins_alone c ≡ false
+none_anew (CommandCycle c) h = no_opener_alone c (sym (command_of_nothing c) ∙ h)
+none_anew (AddressCycle byte) h = refl
+none_anew (InputCycle byte) h = refl
+none_anew OutputCycle h = refl
 
 -- a tail that is empty after a cycle was so before it
-empty_before : (c : TargetCycle) (t : List TargetCycle) → with_cycle c t ≡ [] → (begins_sequence c ≡ false) × (t ≡ [])
+empty_before : (c : TargetCycle) (t : List TargetCycle) → with_cycle c t ≡ [] → (begins_alone c ≡ false) × (t ≡ [])
 empty_before c t h = at t (begins_anew (facts_of t) c) refl h
   where
-    at : (u : List TargetCycle) (b : Bool) → begins_anew (facts_of u) c ≡ b → cond b (c ∷ []) (continued c u) ≡ [] → (begins_sequence c ≡ false) × (u ≡ [])
+    at : (u : List TargetCycle) (b : Bool) → begins_anew (facts_of u) c ≡ b → cond b (c ∷ []) (continued c u) ≡ [] → (begins_alone c ≡ false) × (u ≡ [])
     at u true e h = cc
-    at [] false e h = (sym (anew_of_nothing c) ∙ e, refl)
+    at [] false e h = (none_anew c e, refl)
     at (d ∷ u) false e h = cc
 
-off_by : (g : Parts) (past : List Item) (selected working : Bool) (c : TargetCycle) (l : Lun) → tail past l.ce ≡ [] → latch g past l ≡ Off → begins_sequence c ≡ false →
+off_by : (g : Parts) (past : List Item) (selected working : Bool) (c : TargetCycle) (l : Lun) → tail past l.ce ≡ [] → latch g past l ≡ Off → begins_alone c ≡ false →
     latch_after (cycle_effect g (facts_of (tail past l.ce)) (latch g past l) c l.lun) selected working (latch g past l) ≡ Off
 off_by g past selected working c l empty off h =
     ap (λ (t : List TargetCycle). latch_after (cycle_effect g (facts_of t) (latch g past l) c l.lun) selected working (latch g past l)) empty
@@ -223,6 +230,7 @@ array_after (BecameReady fail) busy caching array h = two_true array busy cachin
 array_after ArrayBecameReady busy caching array h = cc
 array_after (ReadStarted at from) busy caching array h = cc
 array_after (ReadQueued at) busy caching array h = cc
+array_after (CopybackReadStarted at from count) busy caching array h = cc
 array_after (EraseStarted queued at) busy caching array h = cc
 array_after (ProgramStarted queued at) busy caching array h = cc
 array_after IdRead busy caching array h = cc

@@ -4,6 +4,7 @@ use Rattle.std.specs.Prelude.{slice_get}
 use Rattle.std.proofs.lemmas.Bool.{or_left, false_from_ne_true}
 use Rattle.std.proofs.lemmas.Option.{slice_get_within}
 use Rattle.nand_geometry.specs.declared.parts.Parts.{Parts}
+use Rattle.onfi_cycle.specs.declared.command.Command.{Command}
 use Rattle.onfi_cycle.specs.declared.command.Command.TheVariants.{Read, ReadStatus}
 use Rattle.onfi_cycle.specs.declared.item.Cycle.{Cycle as BusCycle}
 use Rattle.onfi_cycle.specs.declared.item.Item.{Item}
@@ -12,9 +13,10 @@ use Rattle.onfi_cycle.specs.declared.item.Kind.{Kind}
 use Rattle.onfi_cycle.specs.declared.item.Kind.TheVariants.{Cmd, Adr, Din, Dout}
 use Rattle.onfi_cycle.specs.declared.target_cycle.TargetCycle.{TargetCycle}
 use Rattle.onfi_cycle.specs.declared.target_cycle.TargetCycle.TheVariants.{CommandCycle, AddressCycle}
-use Rattle.onfi_cycle.specs.Command.{command, is_opener}
+use Rattle.onfi_cycle.specs.Command.{command}
 use Rattle.onfi_cycle.specs.Lun.{luns_of}
-use Rattle.onfi_cycle.specs.Sequence.{target_cycle, begins_sequence, continued, with_cycle, tail, data_phase, facts_of, takes_inputs, wants_command, wants_address}
+use Rattle.trace_faults.specs.Outside.{begins_alone}
+use Rattle.onfi_cycle.specs.Sequence.{target_cycle, continued, with_cycle, tail, data_phase, facts_of, takes_inputs, wants_command, wants_address}
 use Rattle.onfi_cycle.proofs.Booleans.{clash}
 use Rattle.onfi_cycle.proofs.CommandBytes.{commands_have_bytes}
 use Rattle.onfi_cycle.proofs.Passed.{KeepsRules, permitted_keeps}
@@ -26,7 +28,7 @@ use Rattle.trace_ops.specs.declared.operation.Beginning.{Beginning}
 use Rattle.trace_ops.specs.declared.operation.Beginning.TheVariants as begins
 use Rattle.trace_ops.specs.declared.operation.Operation.{Operation}
 use Rattle.trace_ops.specs.Operation.{begun, opener_of, is_byte, is_alone, is_output, takes_address, with_byte, changed, changed_at}
-use Rattle.trace_ops.specs.Listing.{Listing, found, op_of, begins_one, new_by_command, new_one, number_of, with_new, is_new_opener, change_of, is_address_kind, is_alone_op, unfolded, all_begun, all_selected, with_ends, with_polls, owner_in, mark_in, listed}
+use Rattle.trace_ops.specs.Listing.{Listing, found, op_of, begins_one, new_by_command, new_one, number_of, with_new, is_new_opener, change_of, is_address_kind, is_alone_op, unfolded, all_begun, all_selected, with_ends, with_polls, owner_in, mark_in, listed, opens_alone}
 use Rattle.trace_ops.proofs.Asking.{Asking, Enhanced, asking_command, asking_input, asking_rests, asking_output, asking_address, asking_status, asking_read, not_read, enhanced_of}
 use Rattle.trace_ops.proofs.Changed.{by}
 use Rattle.trace_ops.proofs.Chains.{new_parent}
@@ -39,7 +41,7 @@ use Rattle.trace_ops.proofs.Pieces.{Each, Holds, each_quiet, kept_beginning, new
 use Rattle.trace_ops.proofs.Quiet.{is_plain, plain_is_quiet, plain_begins, plain_unfold, plain_polls, plain_ready, by_ends, by_unfold}
 use Rattle.trace_ops.proofs.Spans.{same_some, which}
 use Rattle.trace_ops.proofs.Starts.{starts_by, output_starts, status_starts, read_starts}
-use Rattle.trace_ops.proofs.Tails.{split, tail_own, tail_other, wanted_command, wanted_address, wanted_input}
+use Rattle.trace_ops.proofs.Tails.{split, base_opens, tail_own, tail_other, wanted_command, wanted_address, wanted_input}
 use Rattle.trace_ops.proofs.Unstarted.{Unstarted, unstarted_begins}
 use Rattle.trace_ops.proofs.Walks.{came, length_ends}
 
@@ -99,12 +101,12 @@ opens_by byte h = at (byte == 0x70) refl h
     at true e h = inl (commands_have_bytes.command_of_byte ReadStatus byte (ap Some (sym (eqb-true byte 0x70 e))))
     at false e h = inr (commands_have_bytes.command_of_byte Read byte (ap Some (sym (eqb-true byte 0x00 h))))
 
-opens_so : (byte : ℕ) → (byte == 0x70 || byte == 0x00) ≡ true → is_opener (command byte) ≡ true
+opens_so : (byte : ℕ) → (byte == 0x70 || byte == 0x00) ≡ true → opens_alone byte ≡ true
 opens_so byte h = at (opens_by byte h)
   where
-    at : (command byte ≡ ReadStatus) ⊎ (command byte ≡ Read) → is_opener (command byte) ≡ true
-    at (inl e) = ap is_opener e
-    at (inr e) = ap is_opener e
+    at : (command byte ≡ ReadStatus) ⊎ (command byte ≡ Read) → opens_alone byte ≡ true
+    at (inl e) = ap (λ (x : Command). begins_alone (CommandCycle x)) e
+    at (inr e) = ap (λ (x : Command). begins_alone (CommandCycle x)) e
 
 no_31 : (byte : ℕ) → (byte == 0x70 || byte == 0x00) ≡ true → (byte == 0x31) ≡ false
 no_31 byte h = at (byte == 0x70) refl h
@@ -163,22 +165,22 @@ module _ (g : Parts) (targets n : ℕ) (one_lun : Bool) (past : List Item) (mark
   mark_none : owner ≡ None → mark ≡ many
   mark_none h = ap (λ (x : Option ℕ). number_of x (with_ends j l).ops) h
 
-  owned : is_output c.kind ≡ false → (m : ℕ) → owner ≡ Some m → (found l.places.newest c.ce ≡ Some m) × (begins_sequence (target_cycle c.kind c.byte) ≡ false)
+  owned : is_output c.kind ≡ false → (m : ℕ) → owner ≡ Some m → (found l.places.newest c.ce ≡ Some m) × (begins_alone (target_cycle c.kind c.byte) ≡ false)
   owned input m h = owned_by g targets n one_lun past marks c before after l pieces here c.kind keeps input m h
 
   -- ---- an operation that asks begins no work
 
-  starts_none : (kind : Kind) → KeepsRules g (facts_of (tail past c.ce)) (luns_of g past c.ce) (target_cycle kind c.byte) → begins_sequence (target_cycle kind c.byte) ≡ false →
+  starts_none : (kind : Kind) → KeepsRules g (facts_of (tail past c.ce)) (luns_of g past c.ce) (target_cycle kind c.byte) → begins_alone (target_cycle kind c.byte) ≡ false →
       Asking (tail past c.ce) → (lun : ℕ) → starts_by g past (at_lun c.ce lun) (target_cycle kind c.byte) ≡ false
   starts_none Cmd kept opens asks lun =
-      absurd (clash (wants_command (facts_of (tail past c.ce)) (command c.byte)) (wanted_command (facts_of (tail past c.ce)) (command c.byte) kept.f6 opens)
+      absurd (clash (wants_command (facts_of (tail past c.ce)) (command c.byte)) (wanted_command g (facts_of (tail past c.ce)) (command c.byte) kept.f6 (base_opens g (command c.byte) here.base opens))
       (asking_command (tail past c.ce) (command c.byte) asks))
   starts_none Adr kept opens asks lun = asking_rests g past (at_lun c.ce lun) c.byte asks
   starts_none Din kept opens asks lun =
       absurd (clash (takes_inputs (data_phase (tail past c.ce))) (wanted_input (facts_of (tail past c.ce)) c.byte kept.f11) (asking_input (tail past c.ce) asks))
   starts_none Dout kept opens asks lun = output_starts g past (at_lun c.ce lun)
 
-  asks_rest : begins_sequence (target_cycle c.kind c.byte) ≡ false → Asking (tail past c.ce) → (lun : ℕ) → lun < 4 → begins_between c before after lun ≡ false
+  asks_rest : begins_alone (target_cycle c.kind c.byte) ≡ false → Asking (tail past c.ce) → (lun : ℕ) → lun < 4 → begins_between c before after lun ≡ false
   asks_rest opens asks lun low =
       false_from_ne_true (begins_between c before after lun)
       (λ e. clash (starts_by g past (at_lun c.ce lun) (target_cycle c.kind c.byte)) (begins_starts g targets past c before after here.sees here.saw lun low e) (starts_none c.kind keeps opens asks lun))
@@ -354,7 +356,7 @@ module _ (g : Parts) (targets n : ℕ) (one_lun : Bool) (past : List Item) (mark
     asks_now : is_output c.kind ≡ false → Asking (tail past c.ce)
     asks_now input = p.asking c.ce (newest_is input)
 
-    opens_none : is_output c.kind ≡ false → begins_sequence (target_cycle c.kind c.byte) ≡ false
+    opens_none : is_output c.kind ≡ false → begins_alone (target_cycle c.kind c.byte) ≡ false
     opens_none input = (owned input m h).1
 
     asks_status' : c.kind ≡ Adr → (is_byte (opener_of o.beginning) 0x70 || is_byte (opener_of o.beginning) 0x78) ≡ true
@@ -386,7 +388,8 @@ module _ (g : Parts) (targets n : ℕ) (one_lun : Bool) (past : List Item) (mark
         Part newest_after (Cyc c ∷ past) Rested mark (changed (Cycle n kind c.byte j.said) o)
     part_by Cmd e kept =
         absurd (clash (wants_command (facts_of (tail past c.ce)) (command c.byte))
-        (wanted_command (facts_of (tail past c.ce)) (command c.byte) kept.f6 (ap (λ (k : Kind). begins_sequence (target_cycle k c.byte)) (sym e) ∙ opens_none (ap is_output e)))
+        (wanted_command g (facts_of (tail past c.ce)) (command c.byte) kept.f6
+        (base_opens g (command c.byte) here.base (ap (λ (k : Kind). begins_alone (target_cycle k c.byte)) (sym e) ∙ opens_none (ap is_output e))))
         (asking_command (tail past c.ce) (command c.byte) (asks_now (ap is_output e))))
     part_by Adr e kept = record {
       kind = asks_still (with_byte Adr c.byte o).beginning _ _ (ap (λ (b : Beginning). is_byte (opener_of b) 0x70 || is_byte (opener_of b) 0x78) (address_beginning c.byte o) ∙ asks_status' e);
@@ -496,7 +499,7 @@ module _ (g : Parts) (targets n : ℕ) (one_lun : Bool) (past : List Item) (mark
 
   fit_old : (kind : Kind) → c.kind ≡ kind → (m : ℕ) → owner ≡ Some m → (o : Operation) → slice_get (unfolded j mark more) mark ≡ Some o → FitBy kind (changed (Loud (Some m) kind) o)
   fit_old Cmd e m h o is may =
-      absurd (clash (is_opener (command c.byte)) (opens_so c.byte may) (ap (λ (k : Kind). begins_sequence (target_cycle k c.byte)) (sym e) ∙ (owned (ap is_output e) m h).1))
+      absurd (clash (opens_alone c.byte) (opens_so c.byte may) (ap (λ (k : Kind). begins_alone (target_cycle k c.byte)) (sym e) ∙ (owned (ap is_output e) m h).1))
   fit_old Adr e m h o is may =
       let asks = ap (λ (b : Beginning). is_byte (opener_of b) 0x78) (sym (address_beginning c.byte o)) ∙ may in (
         asks_still (with_byte Adr c.byte o).beginning _ _ (asks_78 (with_byte Adr c.byte o).beginning may),

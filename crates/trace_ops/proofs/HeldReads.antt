@@ -1,15 +1,15 @@
 -- What an operation keeps of a read: its addresses, until a command closes it.
-use Rattle.std.proofs.Common.{◌≡◌, ℕ, ◌+◌, ◌==◌, Bool, true, false, ◌&&◌, ◌||◌, not, cond, List, [], ◌∷◌, Option, Some, None, is_some, refl, sym, ap, ◌∙◌, ltb, eqb-true}
+use Rattle.std.proofs.Common.{◌≡◌, ◌⊎◌, inl, inr, ℕ, ◌+◌, ◌==◌, Bool, true, false, ◌&&◌, ◌||◌, not, cond, List, [], ◌∷◌, Option, Some, None, is_some, refl, sym, ap, ◌∙◌, ltb, eqb-true}
 use Rattle.std.proofs.lemmas.Bool.{and_parts}
 use Rattle.onfi_cycle.specs.declared.command.Command.{Command}
-use Rattle.onfi_cycle.specs.declared.command.Command.TheVariants.{Read, ChangeWriteColumn, ReadCacheSequential}
+use Rattle.onfi_cycle.specs.declared.command.Command.TheVariants.{Read, PageProgram, ChangeWriteColumn, ReadCacheSequential}
 use Rattle.onfi_cycle.specs.declared.data_phase.DataPhase.{DataPhase}
 use Rattle.onfi_cycle.specs.declared.data_phase.DataPhase.TheVariants.{Outside, FirstColumn, SecondColumn}
 use Rattle.onfi_cycle.specs.declared.opening.Opening.{Opening}
 use Rattle.onfi_cycle.specs.declared.target_cycle.TargetCycle.{TargetCycle}
 use Rattle.onfi_cycle.specs.declared.target_cycle.TargetCycle.TheVariants.{CommandCycle, AddressCycle, InputCycle, OutputCycle}
 use Rattle.onfi_cycle.specs.Bounds.{is_read}
-use Rattle.onfi_cycle.specs.Command.{command, is_opener, address_cycles, closes, takes_address, is_page_program, is_set_features}
+use Rattle.onfi_cycle.specs.Command.{command, is_opener, address_cycles, closes, takes_address, begins_data, is_set_features}
 use Rattle.onfi_cycle.specs.Sequence.{continued, opening, opened, one_address_more, data_phase, facts_of, wants_command, wants_address, wants_column, takes_inputs, is_proper_beginning, is_open}
 use Rattle.onfi_cycle.proofs.Booleans.{clash}
 use Rattle.onfi_cycle.proofs.CommandBytes.{commands_have_bytes}
@@ -17,9 +17,10 @@ use Rattle.trace_ops.specs.declared.operation.Beginning.{Beginning}
 use Rattle.trace_ops.specs.declared.operation.Beginning.TheVariants as begins
 use Rattle.trace_ops.specs.declared.operation.Operation.{Operation}
 use Rattle.trace_ops.specs.Operation.{opener_of, is_byte}
-use Rattle.trace_ops.proofs.Contents.{Content, byte_of, closer_by, in_program, in_data, content_output, content_opener, content_command, content_address, content_input}
+use Rattle.trace_ops.proofs.Contents.{Content, is_program_open, byte_of, closer_by, in_program, in_data, content_output, content_opener, content_command, content_address, content_input}
 use Rattle.trace_ops.proofs.Spans.{same_some}
 use Rattle.trace_ops.proofs.Starts.{outside_opening}
+use Rattle.trace_ops.proofs.Writing.{is_writing, writing_is_open, writing_opener, writing_address, writing_input, writing_column}
 
 -- the parts of an operation that its bytes change
 pub record Kept : Type 0 where
@@ -41,15 +42,16 @@ pub record Held (b : Beginning) (kept : Kept) (t : List TargetCycle) : Type 0 wh
   pub content : Content b kept.closer t
   pub counted : (o : Opening) → opening t ≡ Some o → is_read o.opener ≡ true → (kept.is_addressed ≡ true) × (kept.address_count ≡ o.addresses)
   pub reads : is_reading b kept ≡ true → opening t ≡ Some whole_read
+  pub writing : is_program_open b kept.closer ≡ true → is_writing t ≡ true
 
 -- ---- small facts
 
 nothing_opened : {A : Type 0} (o : Opening) → None ≡ Some o → A
 nothing_opened o h = cc
 
-two_openers : (x : Option ℕ) → is_byte x 0x80 ≡ true → is_byte x 0 ≡ true → ⊥
+two_openers : (x : Option ℕ) → (is_byte x 0x80 || is_byte x 0x85) ≡ true → is_byte x 0 ≡ true → ⊥
 two_openers None p q = cc
-two_openers (Some byte) p q = clash (0x80 == 0) (ap (λ n. n == 0) (sym (eqb-true byte 0x80 p)) ∙ q) refl
+two_openers (Some byte) p q = clash (0 == 0x80 || 0 == 0x85) (ap (λ n. n == 0x80 || n == 0x85) (sym (eqb-true byte 0 q)) ∙ p) refl
 
 in_column : (d : DataPhase) → wants_column d ≡ true → in_program d ≡ true
 in_column FirstColumn h = refl
@@ -73,13 +75,13 @@ reading_unclosed b kept h = (and_parts (kept.address_count == 5) _ (and_parts (i
 -- a program and a read don't begin alike
 no_program : (b : Beginning) (kept more : Kept) (t : List TargetCycle) → Held b kept t → is_reading b more ≡ true → in_program (data_phase t) ≡ true → ⊥
 no_program b kept more t was h inside =
-    two_openers (opener_of b) (and_parts (is_byte (opener_of b) 0x80) (not (is_some kept.closer)) (was.content.program inside)).0 (reading_opens b more h)
+    two_openers (opener_of b) (and_parts (is_byte (opener_of b) 0x80 || is_byte (opener_of b) 0x85) (not (is_some kept.closer)) (was.content.program inside)).0 (reading_opens b more h)
 
 -- the data of a read is outside
 pub read_outside : (t : List TargetCycle) (o : Opening) → opening t ≡ Some o → is_read o.opener ≡ true → data_phase t ≡ Outside
 read_outside t o h r =
     let is = read_is o.opener r in
-    outside_opening t o h (ap is_page_program is) (ap is_set_features is)
+    outside_opening t o h (ap begins_data is) (ap is_set_features is)
 
 -- a read with its addresses is open, and wants its 31h
 pub whole_is_open : (t : List TargetCycle) → opening t ≡ Some whole_read → is_open (facts_of t) ≡ true
@@ -122,6 +124,7 @@ held_output b kept t was closed = record {
   content = content_output b kept.closer t;
   counted = λ o h r. unopened t o h;
   reads = λ h. absurd (clash (is_open (facts_of t)) (whole_is_open t (was.reads h)) closed);
+  writing = λ h. absurd (clash (is_open (facts_of t)) (writing_is_open t (was.writing h)) closed);
 }
   where
     unopened : {A : Type 0} (u : List TargetCycle) (o : Opening) → opening (continued OutputCycle u) ≡ Some o → A
@@ -130,7 +133,7 @@ held_output b kept t was closed = record {
 
 -- of an operation that isn't begun by a command
 pub held_cut : (kept : Kept) (t : List TargetCycle) → Held begins.Cut kept (continued OutputCycle t)
-held_cut kept t = record { content = content_output begins.Cut kept.closer t; counted = λ o h r. unopened t o h; reads = λ h. cc }
+held_cut kept t = record { content = content_output begins.Cut kept.closer t; counted = λ o h r. unopened t o h; reads = λ h. cc; writing = λ h. cc }
   where
     unopened : {A : Type 0} (u : List TargetCycle) (o : Opening) → opening (continued OutputCycle u) ≡ Some o → A
     unopened [] o h = cc
@@ -141,10 +144,16 @@ held_opener byte = record {
   content = content_opener byte;
   counted = λ o h r. (refl, ap (λ (x : Opening). x.addresses) (same_some h));
   reads = λ h. absurd (none (and_parts (byte == 0) _ h).1);
+  writing = λ h. writing_opener (command byte) (writes (byte == 0x80) refl (byte == 0x85) refl (and_parts (byte == 0x80 || byte == 0x85) true h).0);
 }
   where
     none : false ≡ true → ⊥
     none h = cc
+
+    writes : (x : Bool) → (byte == 0x80) ≡ x → (y : Bool) → (byte == 0x85) ≡ y → (x || y) ≡ true → (command byte ≡ PageProgram) ⊎ (command byte ≡ ChangeWriteColumn)
+    writes true e y f h = inl (commands_have_bytes.command_of_byte PageProgram byte (ap Some (sym (eqb-true byte 0x80 e))))
+    writes false e true f h = inr (commands_have_bytes.command_of_byte ChangeWriteColumn byte (ap Some (sym (eqb-true byte 0x85 f))))
+    writes false e false f h = cc
 
 -- a command that the tail wants
 abbrev pub kept_by : Beginning → Kept → ℕ → Kept
@@ -163,12 +172,21 @@ closes_no_read (Some o) h = at o.opener o.addresses h
     at Read n h = cc
     at c n h = cc
 
+closes_no_program : (o : Option Opening) → opened (λ c n. closes c PageProgram && n == address_cycles c) o ≡ true → ⊥
+closes_no_program None h = cc
+closes_no_program (Some o) h = at o.opener o.addresses h
+  where
+    at : (c : Command) (n : ℕ) → (closes c PageProgram && n == address_cycles c) ≡ true → ⊥
+    at PageProgram n h = cc
+    at c n h = cc
+
 pub held_command : (b : Beginning) (kept : Kept) (byte : ℕ) (d : TargetCycle) (t : List TargetCycle) → Held b kept (d ∷ t) → wants_command (facts_of (d ∷ t)) (command byte) ≡ true →
     Held b (kept_by b kept byte) (CommandCycle (command byte) ∷ (d ∷ t))
 held_command b kept byte d t was wanted = record {
   content = content_command b kept.closer byte d t was.content;
   counted = λ o h r. nothing_opened o h;
   reads = λ h. absurd (at (byte == 0x85) refl h (still_unclosed kept.closer (byte == 0x85 || is_byte (opener_of b) byte) byte (reading_unclosed b (kept_by b kept byte) h)));
+  writing = λ h. writes (byte == 0x85) refl h (still_unclosed kept.closer (byte == 0x85 || is_byte (opener_of b) byte) byte (and_parts (is_byte (opener_of b) 0x80 || is_byte (opener_of b) 0x85) _ h).1);
 }
   where
     wants : (c : Command) → command byte ≡ c → wants_command (facts_of (d ∷ t)) c ≡ true
@@ -177,6 +195,24 @@ held_command b kept byte d t was wanted = record {
     same_byte : (x : Option ℕ) → is_byte x byte ≡ true → is_byte x 0 ≡ true → byte ≡ 0
     same_byte None p q = cc
     same_byte (Some other) p q = sym (eqb-true other byte p) ∙ eqb-true other 0 q
+
+    changes_column : (byte == 0x85) ≡ true → is_writing (CommandCycle (command byte) ∷ (d ∷ t)) ≡ true
+    changes_column e =
+        let code = commands_have_bytes.command_of_byte ChangeWriteColumn byte (ap Some (sym (eqb-true byte 0x85 e))) in
+        ap (λ (c : Command). is_writing (CommandCycle c ∷ (d ∷ t))) code ∙ writing_column d t (wants ChangeWriteColumn code)
+
+    begins_again : (x : Option ℕ) → is_byte x byte ≡ true → (p : Bool) → is_byte x 0x80 ≡ p → (q : Bool) → is_byte x 0x85 ≡ q → (p || q) ≡ true → is_writing (CommandCycle (command byte) ∷ (d ∷ t)) ≡ true
+    begins_again None e p f q i h = cc
+    begins_again (Some other) e true f q i h =
+        absurd (closes_no_program (opening (d ∷ t))
+        (wants PageProgram (commands_have_bytes.command_of_byte PageProgram byte (ap Some (sym (sym (eqb-true other byte e) ∙ eqb-true other 0x80 f))))))
+    begins_again (Some other) e false f true i h = changes_column (ap (λ n. n == 0x85) (sym (eqb-true other byte e)) ∙ i)
+    begins_again (Some other) e false f false i h = cc
+
+    writes : (x : Bool) → (byte == 0x85) ≡ x → is_program_open b (closer_by b kept.closer byte) ≡ true → (x || is_byte (opener_of b) byte) ≡ true → is_writing (CommandCycle (command byte) ∷ (d ∷ t)) ≡ true
+    writes true e h y = changes_column e
+    writes false e h y =
+        begins_again (opener_of b) y (is_byte (opener_of b) 0x80) refl (is_byte (opener_of b) 0x85) refl (and_parts (is_byte (opener_of b) 0x80 || is_byte (opener_of b) 0x85) _ h).0
 
     at : (x : Bool) → (byte == 0x85) ≡ x → is_reading b (kept_by b kept byte) ≡ true → (x || is_byte (opener_of b) byte) ≡ true → ⊥
     at true e h y =
@@ -224,7 +260,7 @@ later_of true b e h = cc
 later_of false b e h = h
 
 pub held_address : (b : Beginning) (kept : Kept) (byte : ℕ) (t : List TargetCycle) → Held b kept t → wants_address (facts_of t) byte ≡ true → Held b (kept_address kept) (AddressCycle byte ∷ t)
-held_address b kept byte t was wanted = record { content = content_address b kept.closer byte t was.content; counted = counts; reads = λ h. whole (opening t) refl h }
+held_address b kept byte t was wanted = record { content = content_address b kept.closer byte t was.content; counted = counts; reads = λ h. whole (opening t) refl h; writing = λ h. writing_address t byte (was.writing h) wanted }
   where
     -- behind a read with so many addresses
     low : (n : ℕ) → opening t ≡ Some (record { opener = Read; addresses = n }) → ltb n 5 ≡ true
@@ -270,4 +306,5 @@ held_input b kept byte t was wanted = record {
   content = content_input b kept.closer byte t was.content;
   counted = λ o h r. nothing_opened o h;
   reads = λ h. absurd (clash (takes_inputs (data_phase t)) wanted (ap takes_inputs (read_outside t whole_read (was.reads h) refl)));
+  writing = λ h. writing_input t byte (was.writing h) wanted;
 }

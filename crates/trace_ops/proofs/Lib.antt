@@ -48,3 +48,4 @@ pub mod PolledReturns
 pub mod PolledReadies
 pub mod Polling
 pub mod PolledLines
+pub mod Writing

@@ -1,8 +1,8 @@
 -- In a legal trace the commands, addresses and inputs of an operation are the tail of its target.
-use Rattle.std.proofs.Common.{◌≡◌, ◌⊎◌, inl, inr, ℕ, zero, suc, ◌+◌, ◌<◌, ◌≤◌, ◌==◌, Bool, true, false, cond, List, [], ◌∷◌, ◌++◌, Option, Some, None, is_some, is_none, refl, sym, ap, ◌∙◌, subst, arith, length, slice_set, reverse, eqb-true, eq-eqb, ne_eqb, ◌&&◌, not, if◌then◌else◌}
+use Rattle.std.proofs.Common.{◌≡◌, ◌⊎◌, inl, inr, ℕ, zero, suc, ◌+◌, ◌<◌, ◌≤◌, ◌==◌, Bool, true, false, ◌||◌, cond, List, [], ◌∷◌, ◌++◌, Option, Some, None, is_some, is_none, refl, sym, ap, ◌∙◌, subst, arith, length, slice_set, reverse, eqb-true, eq-eqb, ne_eqb, ◌&&◌, not, if◌then◌else◌}
 use Rattle.std.specs.Prelude.{slice_get}
 use Rattle.std.specs.List.{All}
-use Rattle.std.proofs.lemmas.Bool.{and_parts, or_parts}
+use Rattle.std.proofs.lemmas.Bool.{and_parts, or_parts, false_from_ne_true}
 use Rattle.std.proofs.lemmas.Option.{slice_get_within}
 use Rattle.std.proofs.lemmas.List.{length-set, reverse-append, append_assoc}
 use Rattle.std.proofs.lemmas.List.Elements.{All-head, All-tail}
@@ -16,12 +16,12 @@ use Rattle.onfi_cycle.specs.declared.item.Kind.TheVariants.{Cmd, Adr, Din, Dout}
 use Rattle.onfi_cycle.specs.declared.target_cycle.TargetCycle.{TargetCycle}
 use Rattle.onfi_cycle.specs.declared.target_cycle.TargetCycle.TheVariants.{CommandCycle, OutputCycle}
 use Rattle.onfi_cycle.specs.declared.command.Command.{Command}
-use Rattle.onfi_cycle.specs.declared.command.Command.TheVariants.{ReadConfirm, BlockEraseConfirm, BlockErasePlane, ProgramConfirm, ProgramPlane, ReadCacheSequential, ReadPlane}
+use Rattle.onfi_cycle.specs.declared.command.Command.TheVariants.{ReadConfirm, BlockEraseConfirm, BlockErasePlane, ProgramConfirm, ProgramPlane, ChangeWriteColumn, ReadCacheSequential, ReadPlane, CopybackRead}
 use Rattle.onfi_cycle.specs.declared.tail_facts.TailFacts.{TailFacts}
 use Rattle.onfi_cycle.specs.LunView.{LunView}
 use Rattle.onfi_cycle.specs.Lun.{luns_of}
-use Rattle.onfi_cycle.specs.Rules.{breaks_no_sole_driver}
-use Rattle.onfi_cycle.specs.Command.{command, is_known, is_opener}
+use Rattle.onfi_cycle.specs.Rules.{breaks_no_sole_driver, breaks_sequence_open, opens_here}
+use Rattle.onfi_cycle.specs.Command.{command, is_known}
 use Rattle.onfi_cycle.specs.Permitted.{broken, is_permitted, is_legal}
 use Rattle.onfi_cycle.specs.Sequence.{target_of, target_cycle, begins_anew, continued, tail, opening, facts_of, wants_command, wants_address, takes_inputs, is_open}
 use Rattle.onfi_cycle.proofs.Booleans.{clash}
@@ -29,6 +29,7 @@ use Rattle.onfi_cycle.proofs.CommandBytes.{commands_have_bytes}
 use Rattle.onfi_cycle.proofs.Passed.{KeepsRules, permitted_keeps}
 use Rattle.trace_faults.specs.declared.readies.Readies.{Readies}
 use Rattle.trace_faults.specs.Middle.{Seen, seen_after}
+use Rattle.trace_faults.specs.Outside.{begins_alone}
 use Rattle.trace_ops.specs.declared.change.Change.{Change}
 use Rattle.trace_ops.specs.declared.change.Change.TheVariants.{Opened, Cycle as CycleOf, LoneReady, End, Begin, Poll, Show, Hold, SetLun, Fold, Unfold}
 use Rattle.trace_ops.specs.declared.judged.Judged.{Judged}
@@ -37,16 +38,17 @@ use Rattle.trace_ops.specs.declared.operation.Beginning.TheVariants as begins
 use Rattle.trace_ops.specs.declared.operation.Operation.{Operation}
 use Rattle.trace_ops.specs.declared.role.Role.{Role}
 use Rattle.trace_ops.specs.declared.role.Role.TheVariants as role
-use Rattle.trace_ops.specs.Operation.{begun, is_open_read, is_output, takes_address, with_byte, says_ready, changed, changed_by, changed_at}
-use Rattle.trace_ops.specs.Listing.{Listing, found, op_of, is_open_read_op, closes_read, begins_one, either_of, cycle_owner, new_one, newest_with, number_of, with_new, is_new_opener, change_of, unfolded, starts_on, begun_on, all_begun, role_by, selected_by, selected_on, all_selected, with_ends, owner_in, mark_in, listed, judged_as, marks_from, nothing_listed}
+use Rattle.trace_ops.specs.Operation.{begun, is_unknown, closes_as_known, is_open_program, is_open_read, is_output, takes_address, with_byte, says_ready, changed, changed_by, changed_at}
+use Rattle.trace_ops.specs.Listing.{Listing, found, op_of, is_open_program_op, is_open_read_op, closes_read, begins_one, either_of, cycle_owner, new_one, newest_with, number_of, with_new, is_new_opener, change_of, unfolded, starts_on, begun_on, all_begun, role_by, selected_by, selected_on, all_selected, with_ends, owner_in, mark_in, listed, judged_as, marks_from, nothing_listed, opens_alone}
 use Rattle.trace_ops.specs.Laws.{with_part, piece_on, without_outputs}
 use Rattle.trace_ops.proofs.Quiet.{is_quiet, by_ends, by_unfold, by_rest}
 use Rattle.trace_ops.proofs.Changed.{by, put, there}
 use Rattle.trace_ops.proofs.Spans.{same_some, which}
 use Rattle.trace_ops.proofs.Within.{Within, AreWithin}
 use Rattle.trace_ops.proofs.Walks.{came, new_many, length_ends, length_came, length_listed, within_listed}
-use Rattle.trace_ops.proofs.Tails.{split, tail_own, tail_other, after_output, goes_on, no_opener_goes_on, target_below, known_command, wanted_command, wanted_address, wanted_input, no_command, no_address, no_input}
+use Rattle.trace_ops.proofs.Tails.{split, tail_own, tail_other, after_output, goes_on, wanted_goes_on, unwanted_opens, only_column_opens, column_shut, target_below, known_command, wanted_address, wanted_input, no_command, no_address, no_input}
 use Rattle.trace_ops.proofs.Contents.{byte_of, closer_by, opener_begins, closing_begins_none, wanted_begins_none}
+use Rattle.trace_ops.proofs.Writing.{writing_is_open}
 use Rattle.trace_ops.proofs.HeldReads.{Kept, kept_of, count_after, whole_read, Held, whole_wants, wanted_reading, held_output, held_cut, held_opener, held_command, held_address, held_input}
 
 -- ---- the newest of each target
@@ -680,7 +682,7 @@ module _ (readies : Readies) (one_lun : Bool) (seen : Seen) (n : ℕ) (later pas
 module _ (readies : Readies) (one_lun : Bool) (g : Parts) (targets : ℕ) (few : targets ≤ 4) where
   module _ (seen : Seen) (n : ℕ) (later past : List Item) (l : Listing) (pieces : ℕ → List TargetCycle) (stands : Stands past l pieces) (w : AreWithin (length l.ops) l.places) where
     -- the newest operation of a target goes on with what its tail wants
-    goes_on_with : (ce byte k : ℕ) → found l.places.newest ce ≡ Some k → is_known (command byte) ≡ true → is_opener (command byte) ≡ false → wants_command (facts_of (tail past ce)) (command byte) ≡ true →
+    goes_on_with : (ce byte k : ℕ) → found l.places.newest ce ≡ Some k → is_known (command byte) ≡ true → opens_alone byte ≡ false → wants_command (facts_of (tail past ce)) (command byte) ≡ true →
         owner_in (JudgedAs readies one_lun seen n (Cyc (record { ce = ce; kind = Cmd; byte = byte })) later)
         (with_ends (JudgedAs readies one_lun seen n (Cyc (record { ce = ce; kind = Cmd; byte = byte })) later) l) ≡ Some k
     goes_on_with ce byte k h known no_opener wanted =
@@ -695,7 +697,7 @@ module _ (readies : Readies) (one_lun : Bool) (g : Parts) (targets : ℕ) (few :
 
     stands_cycle : (ce byte : ℕ) (kind : Kind) → broken g targets past (Cyc (record { ce = ce; kind = kind; byte = byte })) ≡ None →
         StandsAfter readies one_lun seen n later past l pieces (Cyc (record { ce = ce; kind = kind; byte = byte }))
-    stands_cycle ce byte Cmd h = at (closes_read newest byte) refl (is_opener (command byte)) refl
+    stands_cycle ce byte Cmd h = at (closes_read newest byte) refl (opens_alone byte) refl
       where
         c : Cycle
         c = record { ce = ce; kind = Cmd; byte = byte }
@@ -745,7 +747,7 @@ module _ (readies : Readies) (one_lun : Bool) (g : Parts) (targets : ℕ) (few :
             goes = ap (λ x. begins_anew (facts_of (tail past ce)) (CommandCycle x)) code ∙ ap not (whole_wants (tail past ce) whole)
 
         -- an opener that closes none
-        opening_so : closes_read newest byte ≡ false → is_opener (command byte) ≡ true → StandsAfter readies one_lun seen n later past l pieces (Cyc c)
+        opening_so : closes_read newest byte ≡ false → opens_alone byte ≡ true → StandsAfter readies one_lun seen n later past l pieces (Cyc c)
         opening_so e opens = stands_opener readies one_lun seen n later past l pieces stands w ce byte lt (anew (command byte) refl opens) (opener_begins newest byte opens e)
           where
             unread : command byte ≡ ReadCacheSequential → wants_command (facts_of (tail past ce)) ReadCacheSequential ≡ true → ⊥
@@ -769,26 +771,73 @@ module _ (readies : Readies) (one_lun : Bool) (g : Parts) (targets : ℕ) (few :
             off true q code = absurd (unread code q)
             off false q code = refl
 
-            anew : (x : Command) → command byte ≡ x → is_opener (command byte) ≡ true → begins_anew (facts_of (tail past ce)) (CommandCycle (command byte)) ≡ true
-            anew x code h = ap (λ y. begins_anew (facts_of (tail past ce)) (CommandCycle y)) code ∙ of x code (ap is_opener (sym code) ∙ h)
+            anew : (x : Command) → command byte ≡ x → opens_alone byte ≡ true → begins_anew (facts_of (tail past ce)) (CommandCycle (command byte)) ≡ true
+            anew x code h = ap (λ y. begins_anew (facts_of (tail past ce)) (CommandCycle y)) code ∙ of x code (ap (λ (x : Command). begins_alone (CommandCycle x)) (sym code) ∙ h)
               where
-                of : (y : Command) → command byte ≡ y → is_opener y ≡ true → begins_anew (facts_of (tail past ce)) (CommandCycle y) ≡ true
+                of : (y : Command) → command byte ≡ y → begins_alone (CommandCycle y) ≡ true → begins_anew (facts_of (tail past ce)) (CommandCycle y) ≡ true
                 of ReadCacheSequential code h = ap not (off (wants_command (facts_of (tail past ce)) ReadCacheSequential) refl code)
+                of ChangeWriteColumn code h = cc
                 of ReadConfirm code h = cc
                 of BlockEraseConfirm code h = cc
                 of BlockErasePlane code h = cc
                 of ReadPlane code h = cc
+                of CopybackRead code h = cc
                 of ProgramConfirm code h = cc
                 of ProgramPlane code h = cc
                 of y code h = h
 
-        at : (r : Bool) → closes_read newest byte ≡ r → (x : Bool) → is_opener (command byte) ≡ x → StandsAfter readies one_lun seen n later past l pieces (Cyc c)
+        -- an 85h that no program wants begins an operation
+        copying : opens_alone byte ≡ false → wants_command (facts_of (tail past ce)) (command byte) ≡ false → StandsAfter readies one_lun seen n later past l pieces (Cyc c)
+        copying opens unwanted = stands_opener readies one_lun seen n later past l pieces stands w ce byte lt anew begins
+          where
+            third : (x y : Bool) → (x || (y || true)) ≡ true
+            third true y = refl
+            third false true = refl
+            third false false = refl
+
+            here : opens_here g (command byte) ≡ true
+            here = unwanted_opens g (facts_of (tail past ce)) (command byte) keeps.f6 unwanted
+
+            code : command byte ≡ ChangeWriteColumn
+            code = only_column_opens g (command byte) opens here
+
+            alone : wants_command (facts_of (tail past ce)) ChangeWriteColumn ≡ false
+            alone = ap (wants_command (facts_of (tail past ce))) (sym code) ∙ unwanted
+
+            shut : is_open (facts_of (tail past ce)) ≡ false
+            shut =
+                column_shut g (facts_of (tail past ce)) (ap (λ (x : Command). breaks_sequence_open g (facts_of (tail past ce)) (CommandCycle x)) (sym code) ∙ keeps.f3)
+                (ap (opens_here g) (sym code) ∙ here) alone
+
+            no_program_open : (k : Option ℕ) → found l.places.newest ce ≡ k → is_open_program_op newest ≡ false
+            no_program_open None p = ap (λ (x : Option ℕ). is_open_program_op (op_of (with_ends j l).ops x)) p
+            no_program_open (Some k) p =
+                let small = found_below (length l.ops) l.places.newest ce k w.newest p in
+                let same = length_ends j l in
+                let o = there (with_ends j l).ops k (omega (arith, small, same)) in
+                let there' : newest ≡ Some o.0 = ap (op_of (with_ends j l).ops) p ∙ o.1 in
+                ap is_open_program_op there'
+                ∙ false_from_ne_true (is_open_program o.0) (λ q. clash (is_open (facts_of (tail past ce))) (writing_is_open (tail past ce) ((each k o.0 o.1 ce p).writing q)) shut)
+
+            anew : begins_anew (facts_of (tail past ce)) (CommandCycle (command byte)) ≡ true
+            anew = ap (λ (x : Command). begins_anew (facts_of (tail past ce)) (CommandCycle x)) code ∙ ap not alone
+
+            begins : begins_one newest byte ≡ true
+            begins =
+                ap (λ x. (opens_alone byte && not (closes_read newest byte)) || ((is_unknown byte && not (closes_as_known byte)) || (x && not (is_open_program_op newest))))
+                (eq-eqb byte 0x85 (byte_of byte 0x85 ChangeWriteColumn refl code))
+                ∙ ap (λ x. (opens_alone byte && not (closes_read newest byte)) || ((is_unknown byte && not (closes_as_known byte)) || not x)) (no_program_open (found l.places.newest ce) refl)
+                ∙ third (opens_alone byte && not (closes_read newest byte)) (is_unknown byte && not (closes_as_known byte))
+
+        alone_none : opens_alone byte ≡ false → (x : Bool) → wants_command (facts_of (tail past ce)) (command byte) ≡ x → StandsAfter readies one_lun seen n later past l pieces (Cyc c)
+        alone_none opens true wanted =
+            on wanted (wanted_goes_on (facts_of (tail past ce)) (command byte) opens wanted) (λ k found'. goes_on_with ce byte k found' (known_command g (command byte) keeps.f2) opens wanted)
+        alone_none opens false unwanted = copying opens unwanted
+
+        at : (r : Bool) → closes_read newest byte ≡ r → (x : Bool) → opens_alone byte ≡ x → StandsAfter readies one_lun seen n later past l pieces (Cyc c)
         at true e x opens = closing e
         at false e true opens = opening_so e opens
-        at false e false opens =
-            let known = known_command g (command byte) keeps.f2 in
-            let wanted = wanted_command (facts_of (tail past ce)) (command byte) keeps.f6 opens in
-            on wanted (no_opener_goes_on (facts_of (tail past ce)) (CommandCycle (command byte)) opens) (λ k found'. goes_on_with ce byte k found' known opens wanted)
+        at false e false opens = alone_none opens (wants_command (facts_of (tail past ce)) (command byte)) refl
     stands_cycle ce byte Adr h =
         let c : Cycle = record { ce = ce; kind = Adr; byte = byte } in
         let small = target_below g targets past c h in

@@ -11,7 +11,6 @@ use Rattle.onfi_cycle.specs.declared.item.Kind.{Kind}
 use Rattle.onfi_cycle.specs.declared.item.Kind.TheVariants.{Cmd, Adr, Din, Dout}
 use Rattle.onfi_cycle.specs.declared.latch.Latch.TheVariants.{Status}
 use Rattle.onfi_cycle.specs.declared.target_cycle.TargetCycle.{TargetCycle}
-use Rattle.onfi_cycle.specs.Command.{command, is_opener}
 use Rattle.onfi_cycle.specs.Lun.{latch}
 use Rattle.onfi_cycle.proofs.Others.{targets_keep}
 use Rattle.trace_ops.specs.declared.change.Change.{Change}
@@ -21,7 +20,7 @@ use Rattle.trace_ops.specs.declared.looks.Looks.{Looks}
 use Rattle.trace_ops.specs.declared.operation.Operation.{Operation}
 use Rattle.trace_ops.specs.Operation.{is_output, changed, changed_at, changed_if}
 use Rattle.trace_ops.specs.Openings.{opens, Opened as OpenedAt}
-use Rattle.trace_ops.specs.Listing.{Listing, found, lun_place, worker, op_of, new_one, with_new, change_of, is_new_opener, is_address_kind, is_alone_op, unfolded, is_command, is_off_look, driver_of, look_at, gives_status, starts_on, begun_on, all_begun, all_selected, polled_by, with_ends, with_polls, owner_in, mark_in, listed}
+use Rattle.trace_ops.specs.Listing.{Listing, found, lun_place, worker, op_of, new_one, with_new, change_of, is_new_opener, is_address_kind, is_alone_op, unfolded, is_command, is_off_look, driver_of, look_at, gives_status, starts_on, begun_on, all_begun, all_selected, polled_by, with_ends, with_polls, owner_in, mark_in, listed, opens_alone}
 use Rattle.trace_ops.specs.Polling.{Sequence, Doing, Rests, Sends, Waits, Asks, Sees, by_cycle, is_sending}
 use Rattle.trace_ops.proofs.AtWork.{worker_in}
 use Rattle.trace_ops.proofs.Cycles.{CycleAt, mine, begins_nothing}
@@ -163,7 +162,7 @@ module _ (g : Parts) (targets n : ℕ) (one_lun : Bool) (past : List Item) (mark
 
     module _ (e : c.kind ≡ Dout) (poll : (lun w : ℕ) → lun < 4 → worker_in l.places.workers c.ce lun ≡ Some w → (o : Operation) → D w o → D w (changed (Poll n c.byte) o)) (all : Every D l.ops) where
       opens_none : opens (Cyc c) ≡ false
-      opens_none = ap (λ (k : Kind). is_command k && is_opener (command c.byte)) e
+      opens_none = ap (λ (k : Kind). is_command k && opens_alone c.byte) e
 
       mine' : (m : ℕ) × (owner ≡ Some m)
       mine' = old g targets n one_lun past marks c before after l pieces here opens_none
@@ -352,7 +351,7 @@ module _ (g : Parts) (targets n : ℕ) (one_lun : Bool) (past : List Item) (mark
         by : (b : Bool) → is_output c.kind ≡ b → Every Holding (listed j l).ops
         by true e =
             let kind = output_kind c.kind e in
-            subst (λ b. Every (Fits d ce at items (told_after b None told)) (listed j l).ops) (sym (ap (λ (k : Kind). is_command k && is_opener (command c.byte)) kind)) (far_output kind)
+            subst (λ b. Every (Fits d ce at items (told_after b None told)) (listed j l).ops) (sym (ap (λ (k : Kind). is_command k && opens_alone c.byte) kind)) (far_output kind)
         by false e = far_input e
 
     newest_far : found (listed j l).places.newest ce ≡ found l.places.newest ce

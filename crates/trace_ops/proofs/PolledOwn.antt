@@ -3,6 +3,8 @@ use Rattle.std.proofs.Common.{◌≡◌, ◌⊎◌, inl, inr, ℕ, ◌<◌, ◌=
 use Rattle.std.specs.Prelude.{slice_get}
 use Rattle.std.proofs.lemmas.Option.{slice_get_within}
 use Rattle.nand_geometry.specs.declared.parts.Parts.{Parts}
+use Rattle.onfi_cycle.specs.declared.target_cycle.TargetCycle.TheVariants.{CommandCycle}
+use Rattle.onfi_cycle.specs.declared.command.Command.{Command}
 use Rattle.onfi_cycle.specs.declared.command.Command.TheVariants.{Read, ReadConfirm, BlockErase, BlockEraseConfirm, PageProgram, ProgramConfirm}
 use Rattle.onfi_cycle.specs.declared.effect.Effect.TheVariants.{Unaffected, DataOutput}
 use Rattle.onfi_cycle.specs.declared.item.Cycle.{Cycle as BusCycle}
@@ -12,13 +14,14 @@ use Rattle.onfi_cycle.specs.declared.item.Kind.{Kind}
 use Rattle.onfi_cycle.specs.declared.item.Kind.TheVariants.{Cmd, Adr, Din, Dout}
 use Rattle.onfi_cycle.specs.declared.latch.Latch.{Latch}
 use Rattle.onfi_cycle.specs.declared.target_cycle.TargetCycle.{TargetCycle}
-use Rattle.onfi_cycle.specs.Command.{command, is_opener}
+use Rattle.onfi_cycle.specs.Command.{command}
 use Rattle.onfi_cycle.specs.Effect.{is_data, cycle_effect}
 use Rattle.onfi_cycle.specs.LunView.{LunView}
 use Rattle.onfi_cycle.specs.Lun.{latch, latch_after, lun_view, luns_of, is_busy, works as working}
 use Rattle.onfi_cycle.specs.Sequence.{target_cycle, tail, facts_of}
 use Rattle.onfi_cycle.proofs.CommandBytes.{commands_have_bytes}
 use Rattle.onfi_cycle.proofs.Passed.{KeepsRules}
+use Rattle.trace_faults.specs.Outside.{begins_alone}
 use Rattle.trace_ops.specs.declared.change.Change.{Change}
 use Rattle.trace_ops.specs.declared.change.Change.TheVariants.{Opened, Cycle, Poll, Unfold}
 use Rattle.trace_ops.specs.declared.judged.Judged.{Judged}
@@ -29,7 +32,7 @@ use Rattle.trace_ops.specs.declared.operation.Operation.{Operation}
 use Rattle.trace_ops.specs.AtWork.{resets}
 use Rattle.trace_ops.specs.Operation.{begun, opener_of, is_byte, is_output, changed, changed_at, says_ready}
 use Rattle.trace_ops.specs.Openings.{opens, opened_at, Opened as OpenedAt}
-use Rattle.trace_ops.specs.Listing.{Listing, found, lun_place, op_of, begins_one, new_by_command, new_one, number_of, with_new, change_of, is_new_opener, is_address_kind, is_alone_op, unfolded, is_command, all_begun, with_ends, owner_in, mark_in, listed}
+use Rattle.trace_ops.specs.Listing.{Listing, found, lun_place, op_of, begins_one, new_by_command, new_one, number_of, with_new, change_of, is_new_opener, is_address_kind, is_alone_op, unfolded, is_command, all_begun, with_ends, owner_in, mark_in, listed, opens_alone}
 use Rattle.trace_ops.specs.Polling.{Work, Reads, Programs, Erases, Sequence, begun_with, Doing, Rests, Sends, Waits, opener_for, closer_for, doing_after, is_sending}
 use Rattle.trace_ops.proofs.AtWork.{worker_in}
 use Rattle.trace_ops.proofs.Changed.{by}
@@ -60,15 +63,15 @@ command_is Reads byte e = ap closes_work (commands_have_bytes.command_of_byte Re
 command_is Programs byte e = ap closes_work (commands_have_bytes.command_of_byte ProgramConfirm byte (ap Some (sym e)))
 command_is Erases byte e = ap closes_work (commands_have_bytes.command_of_byte BlockEraseConfirm byte (ap Some (sym e)))
 
-pub closes_opens : (w : Work) (byte : ℕ) → byte ≡ closer_for w → is_opener (command byte) ≡ false
-closes_opens Reads byte e = ap is_opener (commands_have_bytes.command_of_byte ReadConfirm byte (ap Some (sym e)))
-closes_opens Programs byte e = ap is_opener (commands_have_bytes.command_of_byte ProgramConfirm byte (ap Some (sym e)))
-closes_opens Erases byte e = ap is_opener (commands_have_bytes.command_of_byte BlockEraseConfirm byte (ap Some (sym e)))
+pub closes_opens : (w : Work) (byte : ℕ) → byte ≡ closer_for w → opens_alone byte ≡ false
+closes_opens Reads byte e = ap (λ (x : Command). begins_alone (CommandCycle x)) (commands_have_bytes.command_of_byte ReadConfirm byte (ap Some (sym e)))
+closes_opens Programs byte e = ap (λ (x : Command). begins_alone (CommandCycle x)) (commands_have_bytes.command_of_byte ProgramConfirm byte (ap Some (sym e)))
+closes_opens Erases byte e = ap (λ (x : Command). begins_alone (CommandCycle x)) (commands_have_bytes.command_of_byte BlockEraseConfirm byte (ap Some (sym e)))
 
-pub opens_work : (w : Work) (byte : ℕ) → byte ≡ opener_for w → is_opener (command byte) ≡ true
-opens_work Reads byte e = ap is_opener (commands_have_bytes.command_of_byte Read byte (ap Some (sym e)))
-opens_work Programs byte e = ap is_opener (commands_have_bytes.command_of_byte PageProgram byte (ap Some (sym e)))
-opens_work Erases byte e = ap is_opener (commands_have_bytes.command_of_byte BlockErase byte (ap Some (sym e)))
+pub opens_work : (w : Work) (byte : ℕ) → byte ≡ opener_for w → opens_alone byte ≡ true
+opens_work Reads byte e = ap (λ (x : Command). begins_alone (CommandCycle x)) (commands_have_bytes.command_of_byte Read byte (ap Some (sym e)))
+opens_work Programs byte e = ap (λ (x : Command). begins_alone (CommandCycle x)) (commands_have_bytes.command_of_byte PageProgram byte (ap Some (sym e)))
+opens_work Erases byte e = ap (λ (x : Command). begins_alone (CommandCycle x)) (commands_have_bytes.command_of_byte BlockErase byte (ap Some (sym e)))
 
 -- the closer of the operation
 closed_so : (w : Work) (b : Beginning) (closer : Option ℕ) (byte : ℕ) → b ≡ begins.Opener (opener_for w) → closer ≡ None → byte ≡ closer_for w →
@@ -145,7 +148,7 @@ module _ (g : Parts) (targets n : ℕ) (one_lun : Bool) (past : List Item) (mark
     })
       where
         opens_none : opens (Cyc c) ≡ false
-        opens_none = ap (λ (k : Kind). is_command k && is_opener (command c.byte)) e
+        opens_none = ap (λ (k : Kind). is_command k && opens_alone c.byte) e
 
   -- ---- in the middle of a sequence
 
@@ -338,7 +341,7 @@ module _ (g : Parts) (targets n : ℕ) (one_lun : Bool) (past : List Item) (mark
     newcomer = new_one j newest (Cyc c)
 
     opens_one : opens (Cyc c) ≡ true
-    opens_one = ap (λ (k : Kind). is_command k && is_opener (command c.byte)) e ∙ opens_work w c.byte byte
+    opens_one = ap (λ (k : Kind). is_command k && opens_alone c.byte) e ∙ opens_work w c.byte byte
 
     is_new : (owner ≡ None) × (opened_at newcomer ≡ record { first = n; ce = c.ce; beginning = begins.Opener c.byte })
     is_new = new g targets n one_lun past marks c before after l pieces here opens_one

@@ -8,13 +8,12 @@ use Rattle.onfi_cycle.specs.declared.item.Item.{Item}
 use Rattle.onfi_cycle.specs.declared.item.Item.TheVariants.{Cyc}
 use Rattle.onfi_cycle.specs.declared.item.Kind.TheVariants.{Cmd}
 use Rattle.onfi_cycle.specs.declared.target_cycle.TargetCycle.{TargetCycle}
-use Rattle.onfi_cycle.specs.Command.{command, is_opener}
 use Rattle.trace_ops.specs.declared.change.Change.TheVariants.{Opened, SetLun, Fold}
 use Rattle.trace_ops.specs.declared.judged.Judged.{Judged}
 use Rattle.trace_ops.specs.declared.looks.Looks.{Looks}
 use Rattle.trace_ops.specs.declared.operation.Operation.{Operation}
 use Rattle.trace_ops.specs.Operation.{changed, changed_at}
-use Rattle.trace_ops.specs.Listing.{Listing, op_of, number_of, with_new, change_of, is_unshown, folded_into, with_ends, owner_in, mark_in}
+use Rattle.trace_ops.specs.Listing.{Listing, op_of, number_of, with_new, change_of, is_unshown, folded_into, with_ends, owner_in, mark_in, opens_alone}
 use Rattle.trace_ops.specs.Polling.{Sequence, Doing, is_sending}
 use Rattle.trace_ops.proofs.Changed.{there}
 use Rattle.trace_ops.proofs.Cycles.{CycleAt}
@@ -33,7 +32,7 @@ no e = cc
 -- ---- an operation more, which is no work
 
 module _ (g : Parts) (targets n : ℕ) (one_lun : Bool) (past : List Item) (marks : List ℕ) (ce byte : ℕ) (before after : Looks) (l : Listing) (pieces : ℕ → List TargetCycle)
-    (here : CycleAt g targets n past marks (record { ce = ce; kind = Cmd; byte = byte }) before after l pieces) (opens' : is_opener (command byte) ≡ true)
+    (here : CycleAt g targets n past marks (record { ce = ce; kind = Cmd; byte = byte }) before after l pieces) (opens' : opens_alone byte ≡ true)
     (items : List Item) (told : List (Option Sequence)) (d next : Doing) (at : ℕ) (was : Polls g ce past (Cyc (record { ce = ce; kind = Cmd; byte = byte }) ∷ items) l told d at)
     (weaker : (k : ℕ) (o : Operation) → Fits d ce at (Cyc (record { ce = ce; kind = Cmd; byte = byte }) ∷ items) told k o → Fits next ce at items told k o) (rests : is_sending next ≡ false) (worked : has_worked d ≡ true) where
   abbrev c : BusCycle

@@ -2,24 +2,26 @@
 use Rattle.std.proofs.Common.{◌≡◌, ℕ, ◌<◌, Bool, true, false, cond, List, [], ◌∷◌, ◌++◌, Option, Some, None, refl, sym, ap, ◌∙◌, subst, length}
 use Rattle.std.specs.Prelude.{slice_get}
 use Rattle.nand_geometry.specs.declared.parts.Parts.{Parts}
+use Rattle.onfi_cycle.specs.declared.target_cycle.TargetCycle.TheVariants.{CommandCycle}
+use Rattle.onfi_cycle.specs.declared.command.Command.{Command}
 use Rattle.onfi_cycle.specs.declared.command.Command.TheVariants.{ReadStatus}
 use Rattle.onfi_cycle.specs.declared.item.Cycle.{Cycle as BusCycle}
 use Rattle.onfi_cycle.specs.declared.item.Item.{Item}
 use Rattle.onfi_cycle.specs.declared.item.Item.TheVariants.{Cyc}
 use Rattle.onfi_cycle.specs.declared.item.Kind.TheVariants.{Cmd}
 use Rattle.onfi_cycle.specs.declared.target_cycle.TargetCycle.{TargetCycle}
-use Rattle.onfi_cycle.specs.Command.{command, is_opener}
 use Rattle.onfi_cycle.specs.Permitted.{broken}
 use Rattle.onfi_cycle.proofs.CommandBytes.{commands_have_bytes}
 use Rattle.trace_faults.specs.declared.readies.Readies.TheVariants.{Written}
 use Rattle.trace_faults.specs.Middle.{Seen, seen_after}
+use Rattle.trace_faults.specs.Outside.{begins_alone}
 use Rattle.trace_ops.specs.declared.change.Change.TheVariants.{SetLun, Fold}
 use Rattle.trace_ops.specs.declared.judged.Judged.{Judged}
 use Rattle.trace_ops.specs.declared.looks.Looks.{Looks}
 use Rattle.trace_ops.specs.declared.operation.Operation.{Operation}
 use Rattle.trace_ops.specs.Operation.{changed_at}
 use Rattle.trace_ops.specs.LastWork.{question}
-use Rattle.trace_ops.specs.Listing.{Listing, worker, op_of, all_begun, looks_of, is_unshown, folded_into, folded_if, with_ends, mark_in, listed}
+use Rattle.trace_ops.specs.Listing.{Listing, worker, op_of, all_begun, looks_of, is_unshown, folded_into, folded_if, with_ends, mark_in, listed, opens_alone}
 use Rattle.trace_ops.specs.Openings.{opens}
 use Rattle.trace_ops.specs.Polling.{Work, Sequence, Doing, Asks, is_sending}
 use Rattle.trace_ops.proofs.AtWork.{worker_in}
@@ -58,8 +60,8 @@ module _ (g : Parts) (targets n : ℕ) (seen : Seen) (past : List Item) (marks :
   here : CycleAt g targets n past marks c before after l pieces
   here = cycle_at g targets n seen past marks l pieces walked c later h
 
-  opens' : is_opener (command 0x70) ≡ true
-  opens' = ap is_opener (commands_have_bytes.command_of_byte ReadStatus 0x70 refl)
+  opens' : opens_alone 0x70 ≡ true
+  opens' = ap (λ (x : Command). begins_alone (CommandCycle x)) (commands_have_bytes.command_of_byte ReadStatus 0x70 refl)
 
   weaker : (k : ℕ) (o : Operation) → Fits d ce at (Cyc c ∷ later) told k o → Fits (Asks w) ce at later told k o
   weaker = fits_asks d (Asks w) ce at (Cyc c ∷ later) later told rests unseen' refl

@@ -3,6 +3,7 @@ use Rattle.std.proofs.Common.{◌≡◌, ℕ, ◌<◌, ◌==◌, Bool, true, fal
 use Rattle.std.specs.Prelude.{slice_get}
 use Rattle.std.proofs.lemmas.Bool.{and_right, false_from_ne_true}
 use Rattle.nand_geometry.specs.declared.parts.Parts.{Parts}
+use Rattle.onfi_cycle.specs.declared.command.Command.{Command}
 use Rattle.onfi_cycle.specs.declared.command.Command.TheVariants.{Read}
 use Rattle.onfi_cycle.specs.declared.item.Cycle.{Cycle as BusCycle}
 use Rattle.onfi_cycle.specs.declared.item.Item.{Item}
@@ -12,7 +13,7 @@ use Rattle.onfi_cycle.specs.declared.latch.Latch.{Latch}
 use Rattle.onfi_cycle.specs.declared.latch.Latch.TheVariants.{Status, Data}
 use Rattle.onfi_cycle.specs.declared.target_cycle.TargetCycle.{TargetCycle}
 use Rattle.onfi_cycle.specs.declared.target_cycle.TargetCycle.TheVariants.{CommandCycle}
-use Rattle.onfi_cycle.specs.Command.{command, is_opener}
+use Rattle.onfi_cycle.specs.Command.{command}
 use Rattle.onfi_cycle.specs.Effect.{cycle_effect}
 use Rattle.onfi_cycle.specs.Look.{look_at as look_of, look_after}
 use Rattle.onfi_cycle.specs.Lun.{latch, latch_after, lun_view}
@@ -23,13 +24,14 @@ use Rattle.onfi_cycle.proofs.CommandBytes.{commands_have_bytes}
 use Rattle.onfi_cycle.proofs.Following.{looked_is_look}
 use Rattle.trace_faults.specs.declared.readies.Readies.TheVariants.{Written}
 use Rattle.trace_faults.specs.Middle.{Seen, seen_after}
+use Rattle.trace_faults.specs.Outside.{begins_alone}
 use Rattle.trace_ops.specs.declared.change.Change.TheVariants.{SetLun, Fold}
 use Rattle.trace_ops.specs.declared.judged.Judged.{Judged}
 use Rattle.trace_ops.specs.declared.looks.Looks.{Looks}
 use Rattle.trace_ops.specs.declared.operation.Operation.{Operation}
 use Rattle.trace_ops.specs.declared.role.Role.TheVariants as role
 use Rattle.trace_ops.specs.Operation.{changed_at}
-use Rattle.trace_ops.specs.Listing.{Listing, worker, giver, all_begun, all_selected, looks_of, look_at, has_data, gives_data, either_of, folded_into, role_by, selected_by, selected_on, is_foreign_at, with_ends, owner_in, mark_in, listed}
+use Rattle.trace_ops.specs.Listing.{Listing, worker, giver, all_begun, all_selected, looks_of, look_at, has_data, gives_data, either_of, folded_into, role_by, selected_by, selected_on, is_foreign_at, with_ends, owner_in, mark_in, listed, opens_alone}
 use Rattle.trace_ops.specs.Openings.{opens}
 use Rattle.trace_ops.specs.Polling.{Sequence, Rests, Sees}
 use Rattle.trace_ops.proofs.AtWork.{worker_in}
@@ -83,8 +85,8 @@ module _ (g : Parts) (targets n : ℕ) (seen : Seen) (past : List Item) (marks :
   here : CycleAt g targets n past marks c before after l pieces
   here = cycle_at g targets n seen past marks l pieces walked c later h
 
-  opens' : is_opener (command 0x00) ≡ true
-  opens' = ap is_opener (commands_have_bytes.command_of_byte Read 0x00 refl)
+  opens' : opens_alone 0x00 ≡ true
+  opens' = ap (λ (x : Command). begins_alone (CommandCycle x)) (commands_have_bytes.command_of_byte Read 0x00 refl)
 
   weaker : (k : ℕ) (o : Operation) → Fits Sees ce at (Cyc c ∷ later) told k o → Fits Rests ce at later told k o
   weaker = fits_seen Sees Rests ce at at (Cyc c ∷ later) later told refl refl refl

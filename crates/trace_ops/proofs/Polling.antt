@@ -9,7 +9,6 @@ use Rattle.onfi_cycle.specs.declared.item.Item.TheVariants.{Cyc, Rdy, Ard}
 use Rattle.onfi_cycle.specs.declared.item.Kind.{Kind}
 use Rattle.onfi_cycle.specs.declared.item.Kind.TheVariants.{Cmd, Adr, Din, Dout}
 use Rattle.onfi_cycle.specs.declared.target_cycle.TargetCycle.{TargetCycle}
-use Rattle.onfi_cycle.specs.Command.{command, is_opener}
 use Rattle.onfi_cycle.specs.Permitted.{broken, is_permitted, is_legal}
 use Rattle.onfi_cycle.proofs.Others.{permitted_none}
 use Rattle.trace_faults.specs.declared.beginning.Beginning.TheVariants.{Start}
@@ -23,7 +22,7 @@ use Rattle.trace_faults.specs.declared.verdict.Verdict.TheVariants.{Permitted}
 use Rattle.trace_ops.specs.declared.change.Change.TheVariants.{Cycle}
 use Rattle.trace_ops.specs.Operation.{is_output, takes_address, changed, says_ready}
 use Rattle.trace_ops.proofs.Changed.{by}
-use Rattle.trace_ops.specs.Listing.{Listing, is_command, worker, with_ends, mark_in, listed, nothing_listed, has_one_lun, ops_from, ops_of}
+use Rattle.trace_ops.specs.Listing.{Listing, is_command, worker, with_ends, mark_in, listed, nothing_listed, has_one_lun, ops_from, ops_of, opens_alone}
 use Rattle.trace_ops.specs.Polling.{Work, Reads, Programs, Erases, Sequence, begun_with, Doing, Rests, Sends, Waits, Asks, Sees, opener_for, closer_for, work_by, sends_by, is_over, by_command, by_address, by_input, by_output, by_cycle, doing_after, goes_on, doing_at_end, sent_in, sent_at, in_front, sequences_on, sequences_from, is_sending}
 use Rattle.trace_ops.proofs.Domestic.{Every}
 use Rattle.trace_ops.proofs.Driven.{ready_of, array_ready_of}
@@ -161,7 +160,7 @@ module _ (g : Parts) (targets n : ℕ) (seen : Seen) (past : List Item) (marks :
           at = at;
           polls =
               own_closer g targets n one_lun past marks c _ _ l pieces (cycle_at g targets n seen past marks l pieces walked c later h) later told s at was (ap is_output kind)
-              (ap (λ (k : Kind). is_command k && is_opener (command c.byte)) kind ∙ closes_opens s.work c.byte byte) one kind byte
+              (ap (λ (k : Kind). is_command k && opens_alone c.byte) kind ∙ closes_opens s.work c.byte byte) one kind byte
               (own_step (Sends s) Cmd kind ∙ e ∙ ap Some (sym both.1)) None;
         })
     command_by (Waits w) next at was kind e =
@@ -183,7 +182,7 @@ module _ (g : Parts) (targets n : ℕ) (seen : Seen) (past : List Item) (marks :
       at = at;
       polls =
           own_input g targets n one_lun past marks c _ _ l pieces (cycle_at g targets n seen past marks l pieces walked c later h) later told s at was (ap is_output e ∙ out)
-          (ap (λ b. b && is_opener (command c.byte)) (ap is_command e ∙ bare)) t (own_step (Sends s) kind e ∙ step)
+          (ap (λ b. b && opens_alone c.byte) (ap is_command e ∙ bare)) t (own_step (Sends s) kind e ∙ step)
           (λ o f. subst (λ (k : Kind). IsOpen t (changed (Cycle n k c.byte Permitted) o)) (sym e) (opens' o f)) (λ o. ap (λ (k : Kind). (changed (Cycle n k c.byte Permitted) o).status) e ∙ status o) None;
     }
 
@@ -320,7 +319,7 @@ front_is None works = refl
 front_is (Some w) works = refl
 
 -- what is told so opens an operation
-begun_opens : (byte : ℕ) (w : Work) → work_by byte ≡ Some w → is_opener (command byte) ≡ true
+begun_opens : (byte : ℕ) (w : Work) → work_by byte ≡ Some w → opens_alone byte ≡ true
 begun_opens byte w h = (let b = begun_so byte (Sends (begun_with w)) (ap sends_by h) in opens_work b.work byte b.byte_is)
 
 told_opens : (ce : ℕ) (items : List Item) (i : Item) (d : Doing) (s : Sequence) → told_at ce items i d ≡ Some s → opens i ≡ true
@@ -328,11 +327,11 @@ told_opens ce items (Rdy x lun fail) d s h = cc
 told_opens ce items (Ard x lun) d s h = cc
 told_opens ce items (Cyc c) d s h = at (c.ce == ce) h
   where
-    by_work : (w : Option Work) → work_by c.byte ≡ w → open_by ce items w ≡ Some s → is_opener (command c.byte) ≡ true
+    by_work : (w : Option Work) → work_by c.byte ≡ w → open_by ce items w ≡ Some s → opens_alone c.byte ≡ true
     by_work None e h = absurd (none h)
     by_work (Some w) e h = begun_opens c.byte w e
 
-    by_kind : (e : Doing) (kind : Kind) → told_in ce items e kind c.byte ≡ Some s → (is_command kind && is_opener (command c.byte)) ≡ true
+    by_kind : (e : Doing) (kind : Kind) → told_in ce items e kind c.byte ≡ Some s → (is_command kind && opens_alone c.byte) ≡ true
     by_kind Rests Cmd h = by_work (work_by c.byte) refl h
     by_kind Rests Adr h = absurd (none h)
     by_kind Rests Din h = absurd (none h)
@@ -342,7 +341,7 @@ told_opens ce items (Cyc c) d s h = at (c.ce == ce) h
     by_kind (Asks v) kind h = absurd (none h)
     by_kind Sees kind h = absurd (none h)
 
-    at : (b : Bool) → cond b (told_in ce items d c.kind c.byte) None ≡ Some s → (is_command c.kind && is_opener (command c.byte)) ≡ true
+    at : (b : Bool) → cond b (told_in ce items d c.kind c.byte) None ≡ Some s → (is_command c.kind && opens_alone c.byte) ≡ true
     at true h = by_kind d c.kind h
     at false h = absurd (none h)
 

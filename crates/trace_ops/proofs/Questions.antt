@@ -7,6 +7,7 @@ use Rattle.std.proofs.lemmas.List.Elements.{All-nil}
 use Rattle.std.proofs.lemmas.List.{append_assoc, append-nil}
 use Rattle.std.proofs.lemmas.Option.{slice_get_within}
 use Rattle.nand_geometry.specs.declared.parts.Parts.{Parts}
+use Rattle.onfi_cycle.specs.declared.command.Command.{Command}
 use Rattle.onfi_cycle.specs.declared.command.Command.TheVariants.{ReadStatus}
 use Rattle.onfi_cycle.specs.declared.item.Cycle.{Cycle as BusCycle}
 use Rattle.onfi_cycle.specs.declared.item.Item.{Item}
@@ -16,7 +17,7 @@ use Rattle.onfi_cycle.specs.declared.latch.Latch.{Latch}
 use Rattle.onfi_cycle.specs.declared.latch.Latch.TheVariants.{Status}
 use Rattle.onfi_cycle.specs.declared.target_cycle.TargetCycle.{TargetCycle}
 use Rattle.onfi_cycle.specs.declared.target_cycle.TargetCycle.TheVariants.{CommandCycle}
-use Rattle.onfi_cycle.specs.Command.{command, is_opener}
+use Rattle.onfi_cycle.specs.Command.{command}
 use Rattle.onfi_cycle.specs.declared.effect.Effect.TheVariants.{StatusSelected, StatusOfSelected}
 use Rattle.onfi_cycle.specs.Effect.{is_shared, cycle_effect}
 use Rattle.onfi_cycle.specs.Look.{look_at as look_of, look_after}
@@ -32,6 +33,7 @@ use Rattle.onfi_cycle.proofs.Others.{permitted_none, keeps_several_luns}
 use Rattle.trace_faults.specs.declared.beginning.Beginning.TheVariants.{Start}
 use Rattle.trace_faults.specs.declared.readies.Readies.TheVariants.{Written}
 use Rattle.trace_faults.specs.Middle.{Seen, seen_after, first_seen_as}
+use Rattle.trace_faults.specs.Outside.{begins_alone}
 use Rattle.trace_ops.specs.declared.change.Change.{Change}
 use Rattle.trace_ops.specs.declared.change.Change.TheVariants.{SetLun, Fold}
 use Rattle.trace_ops.specs.declared.judged.Judged.{Judged}
@@ -139,7 +141,7 @@ module _ (g : Parts) (targets n : ℕ) (seen : Seen) (past : List Item) (marks :
   -- ---- the operation is a new one
 
   opens' : opens (Cyc c) ≡ true
-  opens' = ap is_opener status_command
+  opens' = ap (λ (x : Command). begins_alone (CommandCycle x)) status_command
 
   pub is_new : owner_in j (with_ends j l) ≡ None
   is_new = (new g targets n one_lun past marks c before after l pieces here opens').0

@@ -4,7 +4,7 @@ use Rattle.std.proofs.lemmas.Bool.{and_parts, and_left, or_parts}
 use Rattle.std.proofs.lemmas.Bool.Decides.{nat_tests}
 use Rattle.nand_geometry.specs.declared.parts.Parts.{Parts}
 use Rattle.onfi_cycle.specs.declared.command.Command.{Command}
-use Rattle.onfi_cycle.specs.declared.command.Command.TheVariants.{Read, ReadConfirm, ChangeReadColumn, ChangeReadColumnEnhanced, ChangeReadColumnConfirm, BlockErase, BlockEraseConfirm, BlockErasePlane, ReadStatus, ReadStatusEnhanced, PageProgram, ChangeWriteColumn, ProgramConfirm, ProgramPlane, ReadId, ReadParameterPage, Reset, ReadCacheSequential, ReadCacheEnd, ReadUniqueId, GetFeatures, ResetLun, SynchronousReset, ReadPlane}
+use Rattle.onfi_cycle.specs.declared.command.Command.TheVariants.{Read, ReadConfirm, ChangeReadColumn, ChangeReadColumnEnhanced, ChangeReadColumnConfirm, BlockErase, BlockEraseConfirm, BlockErasePlane, ReadStatus, ReadStatusEnhanced, PageProgram, ChangeWriteColumn, ProgramConfirm, ProgramPlane, ReadId, ReadParameterPage, Reset, ReadCacheSequential, ReadCacheEnd, ReadUniqueId, GetFeatures, ResetLun, SynchronousReset, ReadPlane, CopybackRead}
 use Rattle.onfi_cycle.specs.declared.data_phase.DataPhase.{DataPhase}
 use Rattle.onfi_cycle.specs.declared.data_phase.DataPhase.TheVariants.{Outside, Inputs, FirstColumn, SecondColumn, FeatureInputs}
 use Rattle.onfi_cycle.specs.declared.effect.Effect.{Effect}
@@ -19,7 +19,7 @@ use Rattle.onfi_cycle.specs.declared.opening.Opening.{Opening}
 use Rattle.onfi_cycle.specs.declared.tail_facts.TailFacts.{TailFacts}
 use Rattle.onfi_cycle.specs.declared.target_cycle.TargetCycle.{TargetCycle}
 use Rattle.onfi_cycle.specs.declared.target_cycle.TargetCycle.TheVariants.{CommandCycle, AddressCycle, InputCycle, OutputCycle}
-use Rattle.onfi_cycle.specs.Command.{is_opener, closes_row, reads_row, address_cycles, wants_closer, closes, takes_address, at_last_row, is_page_program, is_set_features}
+use Rattle.onfi_cycle.specs.Command.{is_opener, closes_row, reads_row, address_cycles, wants_closer, closes, takes_address, at_last_row, begins_data, is_set_features}
 use Rattle.onfi_cycle.specs.Effect.{is_off, is_data, is_shared, acts_for_target, of_target, other_effect, lun_reset_effect, names_lun, confirm_effect, row_effect, cache_effect, plane_effect, column_effect, command_effect, address_effect, opening_address_effect, ends_features, cycle_effect}
 use Rattle.onfi_cycle.specs.Lun.{is_only, drivers, latch, latch_alone, effect_among, busy_after, is_busy}
 use Rattle.onfi_cycle.specs.OtherLun.{keeps_to, keeps_to_lun, serves_target}
@@ -52,6 +52,7 @@ confirm_ready g t ReadCacheSequential = refl
 confirm_ready g t BlockEraseConfirm = refl
 confirm_ready g t BlockErasePlane = refl
 confirm_ready g t ReadPlane = refl
+confirm_ready g t CopybackRead = refl
 confirm_ready g t ProgramConfirm = refl
 confirm_ready g t ProgramPlane = refl
 confirm_ready g t c = refl
@@ -99,6 +100,7 @@ address_ready g t byte ReadParameterPage n lun = either_false is_ready (wants_ad
 address_ready g t byte ReadUniqueId n lun = either_false is_ready (wants_address t byte) _ _ (target_ready g lun _ refl) refl
 address_ready g t byte GetFeatures n lun = either_false is_ready (wants_address t byte) _ _ (target_ready g lun _ refl) refl
 address_ready g t byte ResetLun n lun = either_false is_ready (n == 2) _ _ (either_false is_ready (names_lun g (row_with t byte) lun) _ _ refl (spared_ready g)) refl
+address_ready g t byte PageProgram n lun = either_false is_ready (n == 4) _ _ (either_false is_ready (names_lun g (row_with t byte) lun) _ _ refl refl) refl
 address_ready g t byte c n lun = refl
 
 opening_ready : (g : Parts) (t : TailFacts) (byte : ℕ) (o : Option Opening) (lun : ℕ) → is_ready (opening_address_effect g t byte o lun) ≡ false
@@ -182,6 +184,7 @@ command_keeps g past l ReadConfirm h = named_true _ _ _ _ (other_starts g (facts
 command_keeps g past l BlockEraseConfirm h = named_true _ _ _ _ (other_starts g (facts_of (tail past l.ce)) BlockEraseConfirm) h
 command_keeps g past l BlockErasePlane h = named_true _ _ _ _ (other_starts g (facts_of (tail past l.ce)) BlockErasePlane) h
 command_keeps g past l ReadPlane h = named_true _ _ _ _ (other_starts g (facts_of (tail past l.ce)) ReadPlane) h
+command_keeps g past l CopybackRead h = named_true _ _ _ _ (other_starts g (facts_of (tail past l.ce)) CopybackRead) h
 command_keeps g past l ProgramConfirm h = named_true _ _ _ _ (other_starts g (facts_of (tail past l.ce)) ProgramConfirm) h
 command_keeps g past l ProgramPlane h = named_true _ _ _ _ (other_starts g (facts_of (tail past l.ce)) ProgramPlane) h
 command_keeps g past l ReadCacheSequential h = at (wants_command (facts_of (tail past l.ce)) ReadCacheSequential) h
@@ -203,7 +206,8 @@ address_keeps : (g : Parts) (t : TailFacts) (byte : ℕ) (c : Command) (n lun : 
 address_keeps g t byte Read n lun h = cc
 address_keeps g t byte ChangeReadColumnEnhanced n lun h = cc
 address_keeps g t byte BlockErase n lun h = cc
-address_keeps g t byte PageProgram n lun h = cc
+address_keeps g t byte PageProgram n lun h = absurd (neither_starts (n == 4) _ _ (either_false starts (names_lun g (row_with t byte) lun) _ _ refl refl) refl h)
+address_keeps g t byte ChangeWriteColumn n lun h = cc
 address_keeps g t byte ReadStatusEnhanced n lun h =
     absurd (neither_starts (n == 2) _ _ (either_false starts (names_lun g (row_with t byte) lun) _ _ refl refl) refl h)
 address_keeps g t byte ResetLun n lun h = at (n == 2) (reset_named g (n == 2) (names_lun g (row_with t byte) lun) h)
@@ -328,18 +332,18 @@ after_none : (c : Command) → phase_after_command c Outside ≡ Outside
 after_none ChangeWriteColumn = refl
 after_none c = refl
 
-pub after_last : (o : Option Opening) (y : Opening) → o ≡ Some y → is_page_program y.opener ≡ false → is_set_features y.opener ≡ false → phase_after_last_address o ≡ Outside
+pub after_last : (o : Option Opening) (y : Opening) → o ≡ Some y → begins_data y.opener ≡ false → is_set_features y.opener ≡ false → phase_after_last_address o ≡ Outside
 after_last o y is program features = ap phase_after_last_address is ∙ rw (program, features) refl
 
 -- a sequence that is no program, and sets no features, has no data while it has its opener and addresses alone
-pub outside_opening : (t : List TargetCycle) (o : Opening) → opening t ≡ Some o → is_page_program o.opener ≡ false → is_set_features o.opener ≡ false → data_phase t ≡ Outside
+pub outside_opening : (t : List TargetCycle) (o : Opening) → opening t ≡ Some o → begins_data o.opener ≡ false → is_set_features o.opener ≡ false → data_phase t ≡ Outside
 outside_opening [] o h program features = refl
 outside_opening (CommandCycle c ∷ []) o h program features = after_none c
 outside_opening (CommandCycle c ∷ (d ∷ t)) o h program features = cc
 outside_opening (AddressCycle byte ∷ t) o h program features =
     let less = one_less (opening t) o h in
     let y = less.0 in
-    let p : is_page_program y.opener ≡ false = ap is_page_program less.2 ∙ program in
+    let p : begins_data y.opener ≡ false = ap begins_data less.2 ∙ program in
     let f : is_set_features y.opener ≡ false = ap is_set_features less.2 ∙ features in
     ap (phase_after_address (opening t)) (outside_opening t y less.1 p f) ∙ after_last (opening t) y less.1 p f
 outside_opening (InputCycle byte ∷ t) o h program features = cc
@@ -357,6 +361,7 @@ command_ended g past l ReadConfirm t h = closer_ended ReadConfirm t (λ d. refl)
 command_ended g past l BlockEraseConfirm t h = closer_ended BlockEraseConfirm t (λ d. refl)
 command_ended g past l BlockErasePlane t h = closer_ended BlockErasePlane t (λ d. refl)
 command_ended g past l ReadPlane t h = closer_ended ReadPlane t (λ d. refl)
+command_ended g past l CopybackRead t h = closer_ended CopybackRead t (λ d. refl)
 command_ended g past l ProgramConfirm t h = closer_ended ProgramConfirm t (λ d. refl)
 command_ended g past l ProgramPlane t h = closer_ended ProgramPlane t (λ d. refl)
 command_ended g past l ChangeReadColumnConfirm t h = closer_ended ChangeReadColumnConfirm t (λ d. refl)
@@ -373,7 +378,7 @@ command_ended g past l c t h = absurd (neither_starts (wants_command (facts_of (
 -- an opener that an address ends by which work starts
 record EndsBy (c : Command) (n : ℕ) : Type 0 where
   over : goes_on_by c (n + 1) ≡ false
-  program : is_page_program c ≡ false
+  program : begins_data c ≡ false
   features : is_set_features c ≡ false
 
 past_one : (n : ℕ) → ltb (n + 1) 1 ≡ false
@@ -394,6 +399,7 @@ address_ends g t byte ReadUniqueId n lun h = record { over = one_false n; progra
 address_ends g t byte GetFeatures n lun h = record { over = one_false n; program = refl; features = refl }
 address_ends g t byte ResetLun n lun h =
     record { over = ap (λ m. ltb (m + 1) 3 || false) (eqb-true n 2 (first_true (n == 2) _ h)); program = refl; features = refl }
+address_ends g t byte PageProgram n lun h = absurd (neither_starts (n == 4) _ _ (either_false starts (names_lun g (row_with t byte) lun) _ _ refl refl) refl h)
 address_ends g t byte c n lun h = cc
 
 address_ended : (g : Parts) (past : List Item) (l : Lun) (byte : ℕ) (t : List TargetCycle) (o : Option Opening) → opening t ≡ o →

@@ -11,7 +11,7 @@ use Rattle.onfi_cycle.specs.declared.latch.Latch.TheVariants.{Off, Status, Data}
 use Rattle.onfi_cycle.specs.declared.lun_state.LunState.{LunState}
 use Rattle.onfi_cycle.specs.declared.register.Register.{Register}
 use Rattle.onfi_cycle.specs.declared.register.Register.TheVariants.{Empty, Page, ParameterPage, Identifier, Identity, JedecIdentity, UniqueId, Features}
-use Rattle.onfi_cycle.specs.Command.{command, is_opener}
+use Rattle.onfi_cycle.specs.Command.{command}
 use Rattle.onfi_cycle.specs.Look.{looked}
 use Rattle.onfi_cycle.specs.Sequence.{target_of}
 use Rattle.onfi_cycle.specs.State.{BusView}
@@ -31,6 +31,8 @@ use Rattle.trace_ops.specs.declared.judged.Judged.{Judged}
 use Rattle.trace_ops.specs.declared.looks.Looks.{Looks}
 use Rattle.trace_ops.specs.declared.role.Role.{Role}
 use Rattle.trace_ops.specs.declared.role.Role.TheVariants as role
+use Rattle.onfi_cycle.specs.declared.target_cycle.TargetCycle.TheVariants.{CommandCycle}
+use Rattle.trace_faults.specs.Outside.{begins_alone}
 use Rattle.trace_ops.specs.Operation.{is_permitted, begun, opener_of, is_byte, is_unknown, closes_as_known, is_foreign, is_alone, is_open_program, is_open_read, is_output, says_ready, changed_at, changed_if}
 
 -- ---- a look at the LUNs of a target
@@ -171,10 +173,14 @@ is_open_read_op (Some o) = is_open_read o
 abbrev pub closes_read : Option Operation → ℕ → Bool
 closes_read newest byte = byte == 0x31 && is_open_read_op newest
 
+-- the command begins a sequence whatever was before: an 85h may go on with the data of a program
+abbrev pub opens_alone : ℕ → Bool
+opens_alone byte = begins_alone (CommandCycle (command byte))
+
 -- a command begins an operation: an opener but a 31h that closes a read, one that isn't known but 15h, 32h and 35h, and 85h outside of a program
 abbrev pub begins_one : Option Operation → ℕ → Bool
 begins_one newest byte =
-    (is_opener (command byte) && not (closes_read newest byte)) || ((is_unknown byte && not (closes_as_known byte)) || (byte == 0x85 && not (is_open_program_op newest)))
+    (opens_alone byte && not (closes_read newest byte)) || ((is_unknown byte && not (closes_as_known byte)) || (byte == 0x85 && not (is_open_program_op newest)))
 
 -- a 00h alone that goes back to what a foreign one gives
 abbrev pub returns_to_foreign : List Operation → Option Operation → Bool

@@ -3,7 +3,6 @@ use Rattle.std.specs.Prelude.{◌≡◌, ℕ, ◌+◌, ◌&&◌, Bool, false, Li
 use Rattle.nand_geometry.specs.declared.parts.Parts.{Parts}
 use Rattle.onfi_cycle.specs.declared.item.Item.{Item}
 use Rattle.onfi_cycle.specs.declared.item.Item.TheVariants.{Cyc, Rdy, Ard}
-use Rattle.onfi_cycle.specs.Command.{command, is_opener}
 use Rattle.onfi_cycle.specs.Sequence.{target_of}
 use Rattle.trace_faults.specs.declared.beginning.Beginning.TheVariants.{Start}
 use Rattle.trace_faults.specs.declared.readies.Readies.TheVariants.{Written}
@@ -11,7 +10,7 @@ use Rattle.trace_ops.specs.declared.operation.Beginning.{Beginning}
 use Rattle.trace_ops.specs.declared.operation.Beginning.TheVariants as begins
 use Rattle.trace_ops.specs.declared.operation.Operation.{Operation}
 use Rattle.trace_ops.specs.AtWork.{IsLegalBase}
-use Rattle.trace_ops.specs.Listing.{is_command, ops_of}
+use Rattle.trace_ops.specs.Listing.{is_command, opens_alone, ops_of}
 
 -- where something begins: its first item, its target, and how
 pub record Opened : Type 0 where
@@ -22,9 +21,9 @@ pub record Opened : Type 0 where
 abbrev pub opened_at : Operation → Opened
 opened_at o = record { first = o.first; ce = o.ce; beginning = o.beginning }
 
--- the item is a command that begins a sequence
+-- the item is a command that begins a sequence; in the base profile 85 goes on with one
 abbrev pub opens : Item → Bool
-opens (Cyc c) = is_command c.kind && is_opener (command c.byte)
+opens (Cyc c) = is_command c.kind && opens_alone c.byte
 opens (Rdy ce lun fail) = false
 opens (Ard ce lun) = false
 

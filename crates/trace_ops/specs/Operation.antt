@@ -104,7 +104,7 @@ is_alone o = is_byte (opener_of o.beginning) 0 && (o.address_count == 0 && not (
 
 -- an 80h that no command has closed
 abbrev pub is_open_program : Operation → Bool
-is_open_program o = is_byte (opener_of o.beginning) 0x80 && not (is_some o.closer)
+is_open_program o = (is_byte (opener_of o.beginning) 0x80 || is_byte (opener_of o.beginning) 0x85) && not (is_some o.closer)
 
 -- a 00h with its five addresses that no command has closed
 abbrev pub is_open_read : Operation → Bool

@@ -235,11 +235,11 @@ impl Operation {
         is_byte(self.opener(), 0) && self.address_count == 0 && self.closer.is_none()
     }
 
-    /// An 80h that no command has closed.
+    /// An 80h or an 85h that no command has closed.
     pub(crate) fn is_open_program(self) -> bool
         ensures { result ≡ is_open_program self }
     {
-        is_byte(self.opener(), 0x80) && self.closer.is_none()
+        (is_byte(self.opener(), 0x80) || is_byte(self.opener(), 0x85)) && self.closer.is_none()
     }
 
     /// It is a 00h with its five addresses that no command has closed.

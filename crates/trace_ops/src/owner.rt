@@ -1,6 +1,6 @@
 //! To which operation an item belongs.
 ghost use Rattle.std.specs.Prelude.{◌≡◌, ◌++◌, ◌∷◌, [], length, slice_get, slice_set, IfOk, OnOk};
-ghost use Rattle.trace_ops.specs.Listing.{Listing, op_of, either_of, is_foreign_at, is_foreign_op, is_open_program_op, is_open_read_op, closes_read, begins_one, returns_to_foreign, keeps_outputs, owner_on, owner_by, output_owner, cycle_owner, is_waiting, ready_owner, owner_of, new_by_command, new_one, newest_with, number_of, with_new};
+ghost use Rattle.trace_ops.specs.Listing.{Listing, op_of, either_of, is_foreign_at, is_foreign_op, is_open_program_op, is_open_read_op, closes_read, opens_alone, begins_one, returns_to_foreign, keeps_outputs, owner_on, owner_by, output_owner, cycle_owner, is_waiting, ready_owner, owner_of, new_by_command, new_one, newest_with, number_of, with_new};
 
 use crate::judged::Judged;
 use crate::looks::latch_of;
@@ -70,11 +70,21 @@ fn closes_read(newest: Option<Operation>, byte: u8) -> bool
     byte == 0x31 && is_open_read_op(newest)
 }
 
+// The command begins a sequence whatever was before: an 85h may go on with the data of a program.
+fn opens_alone(byte: u8) -> bool
+    ensures { result ≡ opens_alone byte }
+{
+    match Command::of(byte) {
+        Command::ChangeWriteColumn => false,
+        command => command.is_opener(),
+    }
+}
+
 // A command begins an operation: an opener but a 31h that closes a read, one that isn't known but 15h, 32h and 35h, and 85h outside of a program.
 fn begins_one(newest: Option<Operation>, byte: u8) -> bool
     ensures { result ≡ begins_one newest byte }
 {
-    (Command::of(byte).is_opener() && !closes_read(newest, byte))
+    (opens_alone(byte) && !closes_read(newest, byte))
         || (is_unknown(byte) && !closes_as_known(byte))
         || (byte == 0x85 && !is_open_program_op(newest))
 }

@@ -66,6 +66,7 @@ fn opener_name(opener: Command) -> &'static str {
         Command::ChangeReadColumn | Command::ChangeReadColumnEnhanced => "column",
         Command::BlockErase => "erase",
         Command::PageProgram => "program",
+        Command::ChangeWriteColumn => "copyback",
         Command::ReadStatus | Command::ReadStatusEnhanced => "status",
         Command::ReadId => "id",
         Command::ReadParameterPage => "parameters",
@@ -79,10 +80,10 @@ fn opener_name(opener: Command) -> &'static str {
         Command::ReadCacheEnd => "last page",
         Command::ReadConfirm
         | Command::ReadPlane
+        | Command::CopybackRead
         | Command::ChangeReadColumnConfirm
         | Command::BlockEraseConfirm
         | Command::BlockErasePlane
-        | Command::ChangeWriteColumn
         | Command::ProgramConfirm
         | Command::ProgramPlane
         | Command::Unknown => "",
@@ -238,7 +239,7 @@ impl Label {
                 | Command::ChangeReadColumnEnhanced
                 | Command::ReadCacheSequential
                 | Command::ReadCacheEnd => "read",
-                Command::PageProgram => "program",
+                Command::PageProgram | Command::ChangeWriteColumn => "program",
                 Command::BlockErase => "erase",
                 _ => "other",
             },

@@ -52,9 +52,13 @@ impl Lane {
     fn row_bytes(self) -> Option<[u8; 3]> {
         let [first, second, third, fourth, fifth] = self.addresses;
         match (self.opener, self.count) {
-            (Command::Read | Command::ChangeReadColumnEnhanced | Command::PageProgram, 5) => Some([
-                third, fourth, fifth,
-            ]),
+            (
+                Command::Read
+                | Command::ChangeReadColumnEnhanced
+                | Command::PageProgram
+                | Command::ChangeWriteColumn,
+                5,
+            ) => Some([third, fourth, fifth]),
             (Command::BlockErase | Command::ReadStatusEnhanced, 3) => Some([first, second, third]),
             _ => None,
         }

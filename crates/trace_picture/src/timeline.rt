@@ -75,11 +75,11 @@ enum Coming {
     GoesOn,
 }
 
-// A command goes on with the row that its target has got: of the openers 31h alone does, behind a 00h and its addresses.
-fn works_on_row(state: &BusState, ce: u8, command: Command) -> bool {
+// An opener goes on with what its target has got: 31h behind a 00h and its addresses, and 85h in the data of a program.
+fn goes_on_with(state: &BusState, ce: u8, command: Command) -> bool {
     match state.tail(ce) {
         None => false,
-        Some(tail) => tail.works_on_row(command),
+        Some(tail) => tail.goes_on_with(command),
     }
 }
 
@@ -94,7 +94,7 @@ fn begins_sequence(state: &BusState, item: Item) -> bool {
             },
         ) => {
             let command = Command::of(byte);
-            command.is_opener() && !works_on_row(state, ce, command)
+            command.is_opener() && !goes_on_with(state, ce, command)
         }
         Item::Cyc(_) | Item::Rdy { .. } | Item::Ard { .. } => false,
     }

@@ -1,7 +1,7 @@
 -- How long work takes at the most.
 use Rattle.std.specs.Prelude.{ℕ, ◌*◌, ◌<◌, ◌^◌, Option, Some, None}
 use Rattle.onfi_cycle.specs.declared.command.Command.{Command}
-use Rattle.onfi_cycle.specs.declared.command.Command.TheVariants.{ReadConfirm, ReadCacheSequential, ReadCacheEnd, ReadParameterPage, ProgramConfirm, BlockEraseConfirm, Reset, GetFeatures, SetFeatures}
+use Rattle.onfi_cycle.specs.declared.command.Command.TheVariants.{ReadConfirm, CopybackRead, ReadCacheSequential, ReadCacheEnd, ReadParameterPage, ProgramConfirm, BlockEraseConfirm, Reset, GetFeatures, SetFeatures}
 use Rattle.trace_timing.specs.declared.busy_time.BusyTime.{BusyTime}
 use Rattle.trace_timing.specs.declared.busy_time.BusyTime.TheVariants.{Read, Program, Erase, Features}
 use Rattle.trace_timing.specs.declared.busy_time.BusyTime.TheVariants as busy
@@ -22,6 +22,7 @@ pub record AreFinite (t : LongestTimes) : Type 0 where
 -- the time that bounds the work which a command, or an address or an input behind it, begins
 abbrev pub bound_of : Command → Option BusyTime
 bound_of ReadConfirm = Some Read
+bound_of CopybackRead = Some Read
 bound_of ReadCacheSequential = Some Read
 bound_of ReadCacheEnd = Some Read
 bound_of ReadParameterPage = Some Read

@@ -23,6 +23,7 @@ impl BusyTime {
     {
         match command {
             Command::ReadConfirm
+            | Command::CopybackRead
             | Command::ReadCacheSequential
             | Command::ReadCacheEnd
             | Command::ReadParameterPage => Some(BusyTime::Read),

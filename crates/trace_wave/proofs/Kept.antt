@@ -6,9 +6,9 @@ use Rattle.std.specs.List.{slice_get}
 use Rattle.nand_geometry.specs.declared.parts.Parts.{Parts}
 use Rattle.nand_geometry.specs.Limits.{planes}
 use Rattle.onfi_cycle.specs.declared.command.Command.{Command}
-use Rattle.onfi_cycle.specs.declared.command.Command.TheVariants.{Read, ChangeReadColumnConfirm, ReadStatus, ReadStatusEnhanced, ReadConfirm, ReadPlane, BlockEraseConfirm, BlockErasePlane, ProgramConfirm, ProgramPlane, ReadId, ReadParameterPage, Reset, ReadCacheSequential, ReadCacheEnd, ReadUniqueId, GetFeatures, ResetLun, SynchronousReset}
+use Rattle.onfi_cycle.specs.declared.command.Command.TheVariants.{Read, ChangeReadColumnConfirm, ReadStatus, ReadStatusEnhanced, ReadConfirm, ReadPlane, BlockEraseConfirm, BlockErasePlane, ProgramConfirm, ProgramPlane, ReadId, ReadParameterPage, Reset, ReadCacheSequential, ReadCacheEnd, ReadUniqueId, GetFeatures, ResetLun, SynchronousReset, CopybackRead, PageProgram}
 use Rattle.onfi_cycle.specs.declared.effect.Effect.{Effect}
-use Rattle.onfi_cycle.specs.declared.effect.Effect.TheVariants.{Unaffected, FeaturesSet, SelectedForStatus, Deselected, ReadColumnChanged, PlaneSelected, DataOutput, StatusSelected, StatusOfSelected, AnotherAddressed}
+use Rattle.onfi_cycle.specs.declared.effect.Effect.TheVariants.{Unaffected, FeaturesSet, SelectedForStatus, Deselected, ReadColumnChanged, PlaneSelected, DataOutput, StatusSelected, StatusOfSelected, AnotherAddressed, ProgramAddressed}
 use Rattle.onfi_cycle.specs.declared.item.Kind.{Kind}
 use Rattle.onfi_cycle.specs.declared.item.Kind.TheVariants.{Cmd, Adr, Din, Dout}
 use Rattle.onfi_cycle.specs.declared.item.Item.{Item}
@@ -19,7 +19,7 @@ use Rattle.onfi_cycle.specs.declared.opening.Opening.{Opening}
 use Rattle.onfi_cycle.specs.declared.tail_facts.TailFacts.{TailFacts}
 use Rattle.onfi_cycle.specs.Command.{command, reads_identity, closes_row, reads_row}
 use Rattle.onfi_cycle.specs.Sequence.{target_of, target_cycle, opened, selects_plane, wants_command, row, row_with, takes_features, tail, facts_of}
-use Rattle.onfi_cycle.specs.Effect.{is_off, is_data, is_shared, of_target, other_effect, plane_of_row, plane_effect, column_effect, names_lun, confirm_effect, command_effect, address_effect, opening_address_effect, ends_features, cycle_effect, item_effect}
+use Rattle.onfi_cycle.specs.Effect.{is_off, is_data, is_shared, of_target, other_effect, plane_of_row, plane_effect, column_effect, names_lun, confirm_effect, command_effect, address_effect, opening_address_effect, ends_features, cycle_effect, item_effect, program_row_effect}
 use Rattle.onfi_cycle.specs.Lun.{busy_after, array_busy_after, effect_on, latch_alone, effect_among}
 use Rattle.onfi_cycle.specs.Readies.{starts}
 use Rattle.onfi_cycle.specs.State.{TargetView, BusView, Follows, judged, judged_on}
@@ -43,6 +43,7 @@ either false x y h k = k
 confirm_keeps : (g : Parts) (t : TailFacts) (c : Command) → starts c ≡ false → Keeps (confirm_effect g t c)
 confirm_keeps g t ReadConfirm h = cc
 confirm_keeps g t ReadPlane h = cc
+confirm_keeps g t CopybackRead h = cc
 confirm_keeps g t ReadCacheSequential h = cc
 confirm_keeps g t BlockEraseConfirm h = cc
 confirm_keeps g t BlockErasePlane h = cc
@@ -76,6 +77,9 @@ address_keeps g t byte n lun ReadParameterPage h = cc
 address_keeps g t byte n lun ReadUniqueId h = cc
 address_keeps g t byte n lun GetFeatures h = cc
 address_keeps g t byte n lun ResetLun h = cc
+address_keeps g t byte n lun PageProgram h =
+    either (n == 4) (program_row_effect (names_lun g (row_with t byte) lun)) Unaffected
+    (either (names_lun g (row_with t byte) lun) ProgramAddressed Unaffected (record { busy = λ b. refl; array = λ b c a. refl }) unaffected) unaffected
 address_keeps g t byte n lun c h = unaffected
 
 opening_keeps : (g : Parts) (t : TailFacts) (byte lun : ℕ) (o : Option Opening) → not (opened (λ c n. reads_identity c || is_reset_lun c) o) ≡ true → Keeps (opening_address_effect g t byte o lun)

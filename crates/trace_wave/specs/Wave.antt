@@ -30,6 +30,7 @@ rule_number F.NoSoleDriver = 12
 rule_number F.DataNotReady = 13
 rule_number F.ColumnOutside = 14
 rule_number F.CacheReadMisplaced = 15
+rule_number F.CopybackMisplaced = 17
 rule_number F.PlaneNotHeld = 18
 
 -- 0, or the number of the rule that is broken

@@ -12,7 +12,8 @@ use Rattle.onfi_cycle.specs.declared.item.Kind.TheVariants.{Cmd, Adr, Din, Dout}
 use Rattle.onfi_cycle.specs.declared.lun_state.LunState.{LunState}
 use Rattle.onfi_cycle.specs.declared.forbidden.Forbidden.{Forbidden}
 use Rattle.onfi_cycle.specs.declared.forbidden.Forbidden.TheVariants.{CommandUnknown, SequenceOpen, CommandMisplaced, AddressMisplaced, InputMisplaced, NoSoleDriver}
-use Rattle.onfi_cycle.specs.Sequence.{target_cycle, begins_sequence, target_of}
+use Rattle.onfi_cycle.specs.Sequence.{target_cycle, target_of}
+use Rattle.trace_faults.specs.Outside.{begins_alone}
 use Rattle.onfi_cycle.specs.State.{BusView, judged}
 use Rattle.onfi_cycle.specs.Look.{looked}
 use Rattle.trace_faults.specs.declared.readies.Readies.{Readies}
@@ -162,7 +163,7 @@ rule_of profile Din byte = InputMisplaced
 rule_of profile Dout byte = NoSoleDriver
 
 abbrev pub opens : Cycle → Option ℕ → Bool
-opens c None = begins_sequence (target_cycle c.kind c.byte)
+opens c None = begins_alone (target_cycle c.kind c.byte)
 opens c (Some place) = true
 
 -- a cycle that isn't next: what begins a sequence drops the one that it comes in, and all else is as if it hadn't come

@@ -2,13 +2,14 @@
 ghost use Rattle.std.specs.Prelude.{◌≡◌, ◌≤◌, ◌+◌, slice_set};
 ghost use Rattle.onfi_cycle.specs.Sequence.{target_of};
 ghost use Rattle.onfi_cycle.specs.State.{judged};
+ghost use Rattle.trace_faults.specs.Outside.{begins_alone};
 ghost use Rattle.vendor_file.specs.Passing.{step_at, place_after, place_of, is_command, is_address, is_input, is_output, wants, may_end, place_on, is_sequence_open, is_open, address_in, cycle_on, next_address, is_next, begins_with, profile_of, is_begun, first_step, begun_at, kept_in, passed, begun_by, outside, rule_of, opens, broken_by, inside, part_of_cycle, ready_place, ready_on, is_idle, passed_ready, part_of_ready, part_of, state_after, after_part, beginning};
 
 use crate::part::Part;
 use crate::reading::is_profile;
 use crate::step::Step;
 use nand_geometry::{Geometry, Profile};
-use onfi_cycle::{BusState, Cycle, Forbidden, Item, Kind, Lun, LunState, TargetCycle};
+use onfi_cycle::{BusState, Command, Cycle, Forbidden, Item, Kind, Lun, LunState, TargetCycle};
 use trace_faults::{Readies, TraceState};
 
 /// Where a trace is: its channel, after the items that are kept, and where each target is in the file.
@@ -296,11 +297,21 @@ fn rule_of(profile: Profile, kind: Kind, byte: u8) -> Forbidden
     }
 }
 
+// The cycle begins a sequence whatever was before: a Change Write Column may go on with the data of a program.
+fn begins_alone(cycle: TargetCycle) -> bool
+    ensures { result ≡ begins_alone cycle }
+{
+    match cycle {
+        TargetCycle::CommandCycle(Command::ChangeWriteColumn) => false,
+        _ => cycle.begins_sequence(),
+    }
+}
+
 fn opens(cycle: Cycle, begun: Option<usize>) -> bool
     ensures { result ≡ opens cycle begun }
 {
     match begun {
-        None => TargetCycle::of(cycle.kind, cycle.byte).begins_sequence(),
+        None => begins_alone(TargetCycle::of(cycle.kind, cycle.byte)),
         Some(_) => true,
     }
 }

@@ -18,7 +18,7 @@ use Rattle.onfi_cycle.specs.declared.tail_facts.TailFacts.{TailFacts}
 use Rattle.onfi_cycle.specs.declared.target_cycle.TargetCycle.{TargetCycle}
 use Rattle.onfi_cycle.specs.declared.target_cycle.TargetCycle.TheVariants.{CommandCycle, AddressCycle, InputCycle, OutputCycle}
 use Rattle.onfi_cycle.specs.Sequence.{tail, facts_of, row, row_with, target_cycle, selects_plane, wants_command, wants_address}
-use Rattle.onfi_cycle.specs.Effect.{is_shared, plane_of_row, acts_for_target, of_target, other_effect, lun_reset_effect, names_lun, is_off, is_data, confirm_effect, command_effect, opening_address_effect, address_effect, cycle_effect, id_effect, ends_features, row_effect, cache_effect, plane_effect, column_effect}
+use Rattle.onfi_cycle.specs.Effect.{is_shared, plane_of_row, acts_for_target, of_target, other_effect, lun_reset_effect, names_lun, is_off, is_data, confirm_effect, command_effect, opening_address_effect, address_effect, cycle_effect, id_effect, ends_features, row_effect, cache_effect, plane_effect, column_effect, program_row_effect}
 use Rattle.onfi_cycle.specs.Command.{closes_row, reads_row}
 use Rattle.onfi_cycle.specs.Lun.{effect_on, effect_among, latch_alone, is_busy as lun_is_busy, is_caching, busy_after, array_busy_after}
 use Rattle.bus_lines.specs.declared.lines.Lines.{Lines}
@@ -74,6 +74,8 @@ address_keeps g t byte k.ResetLun n lun =
     either (n == 2) (lun_reset_effect g (names_lun g (row_with t byte) lun)) e.Unaffected
     (either (names_lun g (row_with t byte) lun) e.ResetStarted (cond (is_shared g) (e.AnotherAddressed false) e.Unaffected) refl (either (is_shared g) (e.AnotherAddressed false) e.Unaffected refl refl)) refl
 address_keeps g t byte k.ReadParameterPage n lun = either (wants_address t byte) (of_target g lun e.ParameterPageReadStarted) e.Unaffected (target_keeps g lun e.ParameterPageReadStarted refl) refl
+address_keeps g t byte k.PageProgram n lun =
+    either (n == 4) (program_row_effect (names_lun g (row_with t byte) lun)) e.Unaffected (either (names_lun g (row_with t byte) lun) e.ProgramAddressed e.Unaffected refl refl) refl
 address_keeps g t byte _ n lun = refl
 
 opening_keeps : (g : Parts) (t : TailFacts) (byte : ℕ) (o : Option Opening) (lun : ℕ) → Keeps (opening_address_effect g t byte o lun)

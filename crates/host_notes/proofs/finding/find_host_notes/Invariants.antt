@@ -1,4 +1,4 @@
-use Rattle.std.proofs.Common.{ℕ, length}
+use Rattle.std.proofs.Common.{length}
 use Rattle.host_notes.proofs.finding.find_host_notes.Given as goal
 
 abbrev pub decreases-rest : goal.decreases-rest

@@ -8,5 +8,5 @@ pub returns-clause-past : goal.returns-clause-past
 returns-clause-past t c = λ g targets past f here luns.
     let low : c.args.lun < g.luns = omega (arith, luns, c.requires, c.if-lun-luns.false) in
     finds_later g past (Cyc c.args.cycle) c.args.cycle.ce c.args.lun c.find_work.result
-    (rests_by g past (Cyc c.args.cycle) (lun_at c.args.cycle.ce c.args.lun) c.filling_by-filling.result c.effect-effect.result (c.filling_by-filling.ensures g targets past f here) (c.effect-effect.ensures.past g targets past f here low) (sym c.fills.ensures ∙ c.if-fills.false) (sym c.begins.ensures ∙ c.if-begins.false))
+    (rests_by g past (Cyc c.args.cycle) (lun_at c.args.cycle.ce c.args.lun) c.filling_by-filling.result c.effect-effect.result (c.filling_by-filling.ensures g targets past f here low) (c.effect-effect.ensures.past g targets past f here low) (sym c.fills.ensures ∙ c.if-fills.false) (sym c.begins.ensures ∙ c.if-begins.false))
     (c.find_work.ensures.past g targets past f here luns)

@@ -1,4 +1,4 @@
-use Rattle.std.proofs.Common.{◌≡◌, ℕ, ◌*◌, ◌+◌, ◌<◌, ◌∷◌, List, sym, ap, subst, ◌∙◌, length, set}
+use Rattle.std.proofs.Common.{◌≡◌, ℕ, ◌*◌, ◌+◌, ◌<◌, ◌∷◌, List, sym, ap, subst, ◌∙◌, arith, length, set}
 use Rattle.std.specs.List.{slice_get}
 use Rattle.nand_geometry.specs.declared.parts.Parts.{Parts}
 use Rattle.onfi_cycle.specs.declared.item.Item.TheVariants.{Cyc}
@@ -54,7 +54,11 @@ returns-then-fills-clause-memory g c = λ idle.
 
 pub loop-lun-preserved : goal.loop-lun-preserved
 loop-lun-preserved g c =
-    (c.loop-lun.invariant.0, λ h n past f here. leaves_more h past c.args.cycle c.loop-lun.lun (ap fills (sym (c.filling-filling.ensures.past h n past f here)) ∙ (sym c.fills.ensures ∙ c.if-fills.false)) (c.loop-lun.invariant.1 h n past f here))
+    let luns = ap (λ (g : Parts). g.luns) (c.parts-luns.ensures.value ∙ c.geometry.ensures) in (
+      c.loop-lun.invariant.0,
+      λ h n past f here. let same = ap (λ (g : Parts). g.luns) f.geometry in
+          leaves_more h past c.args.cycle c.loop-lun.lun (ap fills (sym (c.filling-filling.ensures.past h n past f here (omega (arith, luns, same, c.loop-lun-test.true)))) ∙ (sym c.fills.ensures ∙ c.if-fills.false)) (c.loop-lun.invariant.1 h n past f here),
+    )
 
 pub returns-clause-ok : goal.returns-clause-ok
 returns-clause-ok g c = λ opened past f h.

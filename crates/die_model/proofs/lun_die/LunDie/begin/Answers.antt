@@ -17,6 +17,12 @@ begin-requires-clause-next g c =
     let r : CanBegin c.args.work (die_of i.geometry i.pages i.planes.items i.activity) = subst (CanBegin c.args.work) (sym c.self.view_is) c.requires in
     r.next
 
+pub begin-requires-clause-planes : goal.begin-requires-clause-planes
+begin-requires-clause-planes g c =
+    let i = c.self.inside in
+    let r : CanBegin c.args.work (die_of i.geometry i.pages i.planes.items i.activity) = subst (CanBegin c.args.work) (sym c.self.view_is) c.requires in
+    r.planes
+
 pub fetch-requires : goal.fetch-requires
 fetch-requires g c =
     let i = c.self.inside in
@@ -36,7 +42,7 @@ invariant_of-self-2 g c =
     record {
       die = die_begun i.geometry c.args.work i.parameters.items i.pages c.keep_some.new.self i.planes.items old.queue.items new.queue.items old.closed new.closed old.busy new.busy
           c.self.invariant.die r.row r.together plain keeps begun.queue begun.closed begun.busy;
-      shows = shows_begun i.geometry c.args.work old.array_page old.queue.items c.keep_some.new.self i.output c.fetch.new.output old.register new.register old.held.items new.held.items new.closed
+      shows = shows_begun i.geometry c.args.work old.copying old.array_page old.queue.items c.keep_some.new.self i.output c.fetch.new.output old.register new.register old.held.items new.held.items new.closed
           begun.register begun.held begun.closed c.self.invariant.shows.width c.fetch.ensures.width c.fetch.ensures.page;
     }
 
@@ -55,10 +61,11 @@ returns-clause-ok g c =
       planes = refl;
       pages = λ p. page_kept (page_len i.geometry) (page_to_keep c.args.work) i.pages c.keep_some.new.self keeps p ∙ sym (content_begun i.geometry c.args.work _ p _);
       register = begun.register ∙ register_begun c.args.work old.array_page old.closed old.queue.items old.held.items old.register plain;
-      held = begun.held ∙ held_begun c.args.work old.array_page old.closed old.queue.items old.held.items plain;
+      held = begun.held ∙ held_begun c.args.work old.copying old.array_page old.closed old.queue.items old.held.items plain;
       array_page = begun.array_page;
       busy = begun.busy;
       caching = begun.caching;
+      copying = begun.copying;
       array_busy = begun.array_busy;
       queue = waits begun.closed begun.queue ∙ queue_begun c.args.work old.closed old.queue.items plain;
       queued = ap (works_of i.geometry i.planes.items) (waits begun.closed begun.queue) ∙ (queued_begun i.geometry i.planes.items c.args.work old.closed old.queue.items plain

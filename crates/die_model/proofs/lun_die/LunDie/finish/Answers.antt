@@ -33,6 +33,7 @@ returns g c =
       array_page = over.array_page;
       busy = over.busy;
       caching = over.caching;
+      copying = over.copying;
       array_busy = over.array_busy;
       queue = none;
       queued = ap (works_of i.geometry i.planes.items) none;

@@ -1,6 +1,6 @@
 use Rattle.std.proofs.Common.{◌≡◌, length, sym, arith}
 use Rattle.onfi_cycle.proofs.HeldPages.{take_full}
-use Rattle.onfi_cycle.proofs.held.hold_read.Goals as goal
+use Rattle.onfi_cycle.proofs.held.hold_page.Goals as goal
 
 pub returns-else-len-lt-MAX_PLANES : goal.returns-else-len-lt-MAX_PLANES
 returns-else-len-lt-MAX_PLANES c =
