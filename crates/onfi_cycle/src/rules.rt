@@ -105,6 +105,7 @@ fn breaks_command_unknown(geometry: &Geometry, cycle: TargetCycle) -> bool
 }
 
 /// The command begins sequences of the chip: a Change Write Column does where a copyback is declared.
+#[inline(always)]
 fn opens_here(geometry: &Geometry, command: Command) -> bool
     ensures { result ≡ opens_here geometry.now command }
 {
