@@ -415,7 +415,7 @@ behind_85 : (t : TailFacts) (a : Address) → t.phase ≡ Inputs → t.row ≡ r
 behind_85 t a phase row begun =
     record { few = omega arith; alone = rw (begun, phase) refl; program = record { phase = rw (begun, phase) refl; row = rw (begun, phase) row; begun = rw (begun, phase) refl }; column = λ e. absurd (omega (arith, e)) }
 
-changes_leaves : (g : Parts) (v : State) → place_wants ChangeWriteColumn v.target.tail ≡ true → command_leaves g v ChangeWriteColumn ≡ with_target v (record v.target { tail = InColumn 0 })
+pub changes_leaves : (g : Parts) (v : State) → place_wants ChangeWriteColumn v.target.tail ≡ true → command_leaves g v ChangeWriteColumn ≡ with_target v (record v.target { tail = InColumn 0 })
 changes_leaves g v placed = rw placed refl
 
 copies_leave : (g : Parts) (v : State) → place_wants ChangeWriteColumn v.target.tail ≡ false → command_leaves g v ChangeWriteColumn ≡ opened_by ChangeWriteColumn v
