@@ -95,6 +95,7 @@ impl TailFacts {
     }
 
     /// An opener goes on with the tail: a Read Cache Sequential that it wants, and a Change Write Column in the data of a program.
+    #[inline(always)]
     pub fn goes_on_with(self, command: Command) -> bool
         ensures { result ≡ goes_on_with self command }
     {
@@ -107,6 +108,7 @@ impl TailFacts {
     }
 
     // A tail begins anew with this command: with an opener that doesn't go on with it.
+    #[inline(always)]
     fn begins_anew(self, command: Command) -> bool
         ensures { result ≡ begins_anew self (TargetCycle.CommandCycle command) }
     {
@@ -188,7 +190,10 @@ impl TailFacts {
         ensures { result ≡ wants_command self command }
     {
         match command {
-            Command::ChangeWriteColumn | Command::ProgramConfirm | Command::ProgramPlane => {
+            Command::ChangeWriteColumn
+            | Command::ProgramConfirm
+            | Command::ProgramPlane
+            | Command::ProgramCache => {
                 self.phase.takes_data()
             }
             _ => match self.opening {
