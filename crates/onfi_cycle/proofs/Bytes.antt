@@ -4,6 +4,7 @@ use Rattle.std.proofs.lemmas.List.{length-replicate}
 use Rattle.std.proofs.lemmas.Option.{slice_get-get_or}
 use Rattle.nand_geometry.specs.declared.parts.Parts.{Parts}
 use Rattle.nand_geometry.specs.Limits.{page_len, planes}
+use Rattle.onfi_cycle.specs.declared.queued.Queued.{Queued}
 use Rattle.onfi_cycle.specs.declared.command.Command.{Command}
 use Rattle.onfi_cycle.specs.declared.lun.Lun.{Lun}
 use Rattle.onfi_cycle.specs.declared.item.Cycle.{Cycle}
@@ -17,11 +18,11 @@ use Rattle.onfi_cycle.specs.declared.page_address.PageAddress.{PageAddress}
 use Rattle.onfi_cycle.specs.declared.register.Register.{Register}
 use Rattle.onfi_cycle.specs.declared.register.Register.TheVariants.{Empty, Page, ParameterPage, Identifier, Identity, JedecIdentity, UniqueId, Features}
 use Rattle.onfi_cycle.specs.declared.effect.Effect.{Effect}
-use Rattle.onfi_cycle.specs.declared.effect.Effect.TheVariants.{ReadStarted, EraseStarted, ProgramStarted, ResetStarted, BecameReady, ParameterPageReadStarted, UniqueIdReadStarted, FeaturesReadStarted, FeaturesSet, CacheReadContinued, CacheReadEnded, TargetResetStarted, ReadQueued, CopybackReadStarted, CacheProgramStarted, ArrayBecameReady}
+use Rattle.onfi_cycle.specs.declared.effect.Effect.TheVariants.{ReadStarted, EraseStarted, ProgramStarted, ResetStarted, BecameReady, ParameterPageReadStarted, UniqueIdReadStarted, FeaturesReadStarted, FeaturesSet, CacheReadContinued, CacheReadEnded, TargetResetStarted, ReadQueued, CopybackReadStarted, CacheProgramStarted, ArrayBecameReady, IdRead, IdentityRead, ProgramAddressed}
 use Rattle.onfi_cycle.specs.Sequence.{tail, facts_of, filled, row, input_column, is_open, with_cycle}
 use Rattle.onfi_cycle.specs.LunView.{LunView}
 use Rattle.onfi_cycle.specs.Effect.{is_off, is_data, plane_of_row}
-use Rattle.onfi_cycle.specs.Lun.{latch, effect_on, drivers, is_only, is_busy, register, read_column, output_column, lun_view, held, page_in_plane, closer, is_cache_program, is_plane_program}
+use Rattle.onfi_cycle.specs.Lun.{latch, effect_on, drivers, is_only, is_busy, register, read_column, output_column, lun_view, held, page_in_plane, closer, is_cache_program, is_plane_program, closer_after, held_after}
 use Rattle.onfi_cycle.specs.Content.{ArrayWork, ErasesBlock, ProgramsPage, and_bytes, left_by, left_by_all, same_page, queued_work, queued_work_after, pending_work, pending_work_after, content, content_after, status, register_bytes, byte_at, shown, shown_by, LunPages, pages_of, program_bytes, bytes_held, is_some_work, changes_after, changes_pages, WorkChangesPages, left_unless, array_work_after, array_work, array_changes, array_changes_after}
 use Rattle.onfi_cycle.specs.Rules.{breaks_data_not_ready, breaks_column_outside, is_some_and, has_no_byte, is_past_register, is_past, lacks, is_empty, register_len}
 use Rattle.onfi_cycle.specs.Permitted.{broken}
@@ -122,6 +123,18 @@ in_array_whole len (BecameReady fail) last cs ws w v = pick (is_cache_program la
     pick false true = v
     pick false false = tt
 in_array_whole len (ArrayBecameReady fail) last cs ws w v = tt
+in_array_whole len (ReadStarted at from) last cs ws w v = tt
+in_array_whole len (ReadQueued at) last cs ws w v = tt
+in_array_whole len (CopybackReadStarted at from count) last cs ws w v = tt
+in_array_whole len (EraseStarted queued at) last cs ws w v = tt
+in_array_whole len IdRead last cs ws w v = tt
+in_array_whole len (IdentityRead jedec) last cs ws w v = tt
+in_array_whole len ParameterPageReadStarted last cs ws w v = tt
+in_array_whole len UniqueIdReadStarted last cs ws w v = tt
+in_array_whole len (FeaturesReadStarted address) last cs ws w v = tt
+in_array_whole len (FeaturesSet feature) last cs ws w v = tt
+in_array_whole len (CacheReadContinued to) last cs ws w v = tt
+in_array_whole len CacheReadEnded last cs ws w v = tt
 in_array_whole len ResetStarted last cs ws w v = tt
 in_array_whole len (TargetResetStarted first) last cs ws w v = tt
 in_array_whole len _ last cs ws w v = v
@@ -186,6 +199,18 @@ array_step (BecameReady fail) last p w changes array h k = pick (is_cache_progra
     pick false true = k
     pick false false = refl
 array_step (ArrayBecameReady fail) last p w changes array h k = refl
+array_step (ReadStarted at from) last p w changes array h k = refl
+array_step (ReadQueued at) last p w changes array h k = refl
+array_step (CopybackReadStarted at from count) last p w changes array h k = refl
+array_step (EraseStarted queued at) last p w changes array h k = refl
+array_step IdRead last p w changes array h k = refl
+array_step (IdentityRead jedec) last p w changes array h k = refl
+array_step ParameterPageReadStarted last p w changes array h k = refl
+array_step UniqueIdReadStarted last p w changes array h k = refl
+array_step (FeaturesReadStarted address) last p w changes array h k = refl
+array_step (FeaturesSet feature) last p w changes array h k = refl
+array_step (CacheReadContinued to) last p w changes array h k = refl
+array_step CacheReadEnded last p w changes array h k = refl
 array_step ResetStarted last p w changes array h k = refl
 array_step (TargetResetStarted first) last p w changes array h k = refl
 array_step _ last p w changes array h k = k
@@ -196,8 +221,47 @@ array_goes_on g opening (i ∷ past) l =
     array_step (effect_on g past i l) (closer g past l) (pending_work g opening past l) (array_work g opening past l) (changes_pages g past l) (array_changes g past l)
     (lun_changes g opening past l) (array_goes_on g opening past l)
 
+-- no page is held behind a 15, nor while the array goes on with its pages
+record HoldsNone (closer : Option Command) (changes array : Bool) (pages : List PageAddress) : Type 0 where
+  closed : is_cache_program closer ≡ true → changes ≡ true → pages ≡ []
+  in_array : array ≡ true → pages ≡ []
+
+holds_none_step : (e : Effect) (copyback : Bool) (at : PageAddress) (queue : List Queued) (last : Option Command) (changes array : Bool) (pages : List PageAddress) → HoldsNone last changes array pages
+    → HoldsNone (closer_after e last) (changes_after e changes) (array_changes_after e last changes array) (held_after e copyback at queue pages)
+holds_none_step (BecameReady fail) copyback at queue last changes array pages h = record { closed = λ c d. cc; in_array = pick (is_cache_program last) refl (is_plane_program last) }
+  where
+    pick : (cache : Bool) → is_cache_program last ≡ cache → (plane : Bool) → cond cache changes (plane && array) ≡ true → pages ≡ []
+    pick true is plane k = h.closed is k
+    pick false is true k = h.in_array k
+    pick false is false k = cc
+holds_none_step (ProgramStarted true page) copyback at queue last changes array pages h = record { closed = λ c d. cc; in_array = h.in_array }
+holds_none_step (ProgramStarted false page) copyback at queue last changes array pages h = record { closed = λ c d. refl; in_array = λ k. refl }
+holds_none_step (CacheProgramStarted page) copyback at queue last changes array pages h = record { closed = λ c d. refl; in_array = λ k. refl }
+holds_none_step (EraseStarted true page) copyback at queue last changes array pages h = record { closed = λ c d. refl; in_array = λ k. refl }
+holds_none_step (EraseStarted false page) copyback at queue last changes array pages h = record { closed = λ c d. refl; in_array = λ k. refl }
+holds_none_step (ArrayBecameReady fail) copyback at queue last changes array pages h = record { closed = h.closed; in_array = λ k. cc }
+holds_none_step ProgramAddressed copyback at queue last changes array pages h = record { closed = λ c d. refl; in_array = λ k. refl }
+holds_none_step (ReadStarted page from) copyback at queue last changes array pages h = record { closed = λ c d. cc; in_array = λ k. cc }
+holds_none_step (ReadQueued page) copyback at queue last changes array pages h = record { closed = λ c d. refl; in_array = λ k. refl }
+holds_none_step (CopybackReadStarted page from count) copyback at queue last changes array pages h = record { closed = λ c d. cc; in_array = λ k. cc }
+holds_none_step IdRead copyback at queue last changes array pages h = record { closed = λ c d. refl; in_array = λ k. refl }
+holds_none_step (IdentityRead jedec) copyback at queue last changes array pages h = record { closed = λ c d. refl; in_array = λ k. refl }
+holds_none_step ParameterPageReadStarted copyback at queue last changes array pages h = record { closed = λ c d. refl; in_array = λ k. refl }
+holds_none_step UniqueIdReadStarted copyback at queue last changes array pages h = record { closed = λ c d. refl; in_array = λ k. refl }
+holds_none_step (FeaturesReadStarted address) copyback at queue last changes array pages h = record { closed = λ c d. refl; in_array = λ k. refl }
+holds_none_step (FeaturesSet feature) copyback at queue last changes array pages h = record { closed = λ c d. refl; in_array = λ k. refl }
+holds_none_step (CacheReadContinued to) copyback at queue last changes array pages h = record { closed = λ c d. cc; in_array = λ k. cc }
+holds_none_step CacheReadEnded copyback at queue last changes array pages h = record { closed = λ c d. cc; in_array = λ k. cc }
+holds_none_step ResetStarted copyback at queue last changes array pages h = record { closed = λ c d. refl; in_array = λ k. refl }
+holds_none_step (TargetResetStarted first) copyback at queue last changes array pages h = record { closed = λ c d. refl; in_array = λ k. refl }
+holds_none_step _ copyback at queue last changes array pages h = record { closed = h.closed; in_array = h.in_array }
+
+holds_none : (g : Parts) (past : List Item) (l : Lun) → HoldsNone (closer g past l) (changes_pages g past l) (array_changes g past l) (held g past l)
+holds_none g [] l = record { closed = λ c d. refl; in_array = λ k. refl }
+holds_none g (i ∷ past) l = holds_none_step (effect_on g past i l) _ _ _ (closer g past l) (changes_pages g past l) (array_changes g past l) (held g past l) (holds_none g past l)
+
 pub work_changes_pages : WorkChangesPages
-work_changes_pages = record { lun = lun_changes; array = array_goes_on }
+work_changes_pages = record { lun = lun_changes; array = array_goes_on; held = λ g past l. (holds_none g past l).in_array }
 
 pub register_bytes_len : (g : Parts) (parameters : List ℕ) (pages : PageAddress → List ℕ) (r : Register) → length parameters ≡ 768 → ((p : PageAddress) → length (pages p) ≡ page_len g) → length (register_bytes parameters pages r) ≡ register_len g r
 register_bytes_len g parameters pages Empty h k = refl

@@ -11,7 +11,7 @@ use Rattle.onfi_cycle.specs.declared.page_address.PageAddress.{PageAddress}
 use Rattle.onfi_cycle.specs.declared.register.Register.{Register}
 use Rattle.onfi_cycle.specs.declared.register.Register.TheVariants.{Empty, Page, ParameterPage, Identifier, Identity, JedecIdentity, UniqueId, Features}
 use Rattle.onfi_cycle.specs.declared.effect.Effect.{Effect}
-use Rattle.onfi_cycle.specs.declared.effect.Effect.TheVariants.{ParameterPageReadStarted, UniqueIdReadStarted, FeaturesReadStarted, FeaturesSet, CacheReadContinued, CacheReadEnded, ResetStarted, TargetResetStarted, BecameReady, ArrayBecameReady, ReadStarted, EraseStarted, ProgramStarted, ReadQueued, CopybackReadStarted, CacheProgramStarted}
+use Rattle.onfi_cycle.specs.declared.effect.Effect.TheVariants.{ParameterPageReadStarted, UniqueIdReadStarted, FeaturesReadStarted, FeaturesSet, CacheReadContinued, CacheReadEnded, ResetStarted, TargetResetStarted, BecameReady, ArrayBecameReady, ReadStarted, EraseStarted, ProgramStarted, ReadQueued, CopybackReadStarted, CacheProgramStarted, IdRead, IdentityRead}
 use Rattle.onfi_cycle.specs.Sequence.{tail, facts_of, filled, row}
 use Rattle.onfi_cycle.specs.Effect.{plane_of_row}
 use Rattle.onfi_cycle.specs.Lun.{effect_on, closer, is_cache_program, is_plane_program, keeps_array_busy, latch, is_busy, is_array_busy, read_column, output_column, register, held, page_in_plane}
@@ -72,10 +72,23 @@ pending_work_after (TargetResetStarted _) bytes works pending = []
 pending_work_after (BecameReady _) bytes works pending = []
 pending_work_after _ bytes works pending = pending
 
--- what the array goes on with: behind the ready of a 15 what that closed; a ready of it ends that, and so does each ready of the LUN but that of an 11
+-- what the array goes on with: behind the ready of a 15 what that closed; a ready of it ends that, and so does each ready of the LUN but that of an 11;
+-- each other work than a program drops it
 abbrev pub array_work_after : Effect → Option Command → (pending works : List ArrayWork) → List ArrayWork
 array_work_after (BecameReady _) last pending works = if is_cache_program last then pending else (if is_plane_program last then works else [])
 array_work_after (ArrayBecameReady _) last pending works = []
+array_work_after (ReadStarted _ _) last pending works = []
+array_work_after (ReadQueued _) last pending works = []
+array_work_after (CopybackReadStarted _ _ _) last pending works = []
+array_work_after (EraseStarted _ _) last pending works = []
+array_work_after IdRead last pending works = []
+array_work_after (IdentityRead _) last pending works = []
+array_work_after ParameterPageReadStarted last pending works = []
+array_work_after UniqueIdReadStarted last pending works = []
+array_work_after (FeaturesReadStarted _) last pending works = []
+array_work_after (FeaturesSet _) last pending works = []
+array_work_after (CacheReadContinued _) last pending works = []
+array_work_after CacheReadEnded last pending works = []
 array_work_after ResetStarted last pending works = []
 array_work_after (TargetResetStarted _) last pending works = []
 array_work_after _ last pending works = works
@@ -170,6 +183,18 @@ changes_pages g (i ∷ past) l = changes_after (effect_on g past i l) (changes_p
 abbrev pub array_changes_after : Effect → Option Command → (changes array_changes : Bool) → Bool
 array_changes_after (BecameReady _) last changes array_changes = if is_cache_program last then changes else is_plane_program last && array_changes
 array_changes_after (ArrayBecameReady _) last changes array_changes = false
+array_changes_after (ReadStarted _ _) last changes array_changes = false
+array_changes_after (ReadQueued _) last changes array_changes = false
+array_changes_after (CopybackReadStarted _ _ _) last changes array_changes = false
+array_changes_after (EraseStarted _ _) last changes array_changes = false
+array_changes_after IdRead last changes array_changes = false
+array_changes_after (IdentityRead _) last changes array_changes = false
+array_changes_after ParameterPageReadStarted last changes array_changes = false
+array_changes_after UniqueIdReadStarted last changes array_changes = false
+array_changes_after (FeaturesReadStarted _) last changes array_changes = false
+array_changes_after (FeaturesSet _) last changes array_changes = false
+array_changes_after (CacheReadContinued _) last changes array_changes = false
+array_changes_after CacheReadEnded last changes array_changes = false
 array_changes_after ResetStarted last changes array_changes = false
 array_changes_after (TargetResetStarted _) last changes array_changes = false
 array_changes_after _ last changes array_changes = array_changes
@@ -220,9 +245,11 @@ is_some_work [] = false
 is_some_work (work ∷ works) = true
 
 -- the law: the work that goes on changes pages exactly where something takes effect at its end, and the array's where something does at the end of that
+-- and while it does, no page is held
 pub record WorkChangesPages : Type 0 where
   pub lun : (g : Parts) (opening : Lun → PageAddress → List ℕ) (past : List Item) (l : Lun) → is_some_work (pending_work g opening past l) ≡ changes_pages g past l
   pub array : (g : Parts) (opening : Lun → PageAddress → List ℕ) (past : List Item) (l : Lun) → is_some_work (array_work g opening past l) ≡ array_changes g past l
+  pub held : (g : Parts) (past : List Item) (l : Lun) → array_changes g past l ≡ true → held g past l ≡ []
 
 -- the last work failed; that of an 11 tells nothing
 abbrev pub shows_failure : Parts → List Item → Lun → Bool
