@@ -16,20 +16,17 @@ use Rattle.micro_word.specs.declared.word.Word.TheVariants.{End, Command as Comm
 use Rattle.micro_word.specs.Text.{Microprogram}
 use Rattle.micro_claims.specs.declared.refusal.Reason.{Reason}
 use Rattle.micro_program.specs.Lines.{Line, unrolled}
-use Rattle.micro_program.specs.Program.{Job, Done}
+use Rattle.micro_program.specs.Program.{Job, Done, index_now}
 use Rattle.micro_program.specs.Step.{Stride, answered_step}
 use Rattle.micro_program.specs.Safe.{Seat, loaded, after_step, IsSafe, IsJobOf, IsFine, LineIsFine, may_step, AreTruthful}
 use Rattle.micro_claims.specs.State.{State, Closed, any_but_31, first_state, bounds_of}
-use Rattle.micro_claims.specs.Against.{asks_status, is_for_traces, command_not_for_programs, continues_unseen, is_unfit}
+use Rattle.micro_claims.specs.Against.{command_not_for_programs, continues_unseen, is_unfit}
 use Rattle.micro_claims.specs.Reasons.{breaks_command_not_allowed, reason_against}
 use Rattle.micro_claims.specs.Accepts.{state_after, goes_on, accepts}
 use Rattle.micro_program.proofs.Below.{rows}
 use Rattle.micro_program.proofs.Basics.{there_lun}
 use Rattle.micro_program.proofs.Claiming.{stays_fine}
-use Rattle.onfi_cycle.specs.Bounds.{names_program}
-use Rattle.onfi_cycle.proofs.Booleans.{clash}
-use Rattle.micro_program.proofs.Scenes.{Scene, SceneIs, IsScene}
-use Rattle.micro_program.proofs.NoCopies.{names_none, copies_first}
+use Rattle.micro_program.proofs.Scenes.{Scene, IsScene}
 use Rattle.micro_claims.proofs.Fits.{closer_among, Fits}
 use Rattle.micro_claims.proofs.HeldPlanes.{no_pages}
 use Rattle.micro_claims.proofs.Numbers.{in_exactly}
@@ -37,13 +34,15 @@ use Rattle.micro_claims.proofs.Tails.{no_address}
 use Rattle.micro_claims.proofs.Sounding.{KnownJob, Claims, knows_tail, NoReasons, no_reasons, SoundWord}
 use Rattle.micro_claims.proofs.Commands.{sound_00, sound_30, sound_05, sound_e0, sound_60, sound_d0, sound_80, sound_85, sound_10}
 use Rattle.micro_claims.proofs.Identities.{sound_90, sound_ec, sound_ed, sound_ee, sound_ef, sound_any_address}
-use Rattle.micro_claims.proofs.PlaneCommands.{sound_06, sound_32}
+use Rattle.micro_claims.proofs.PlaneCommands.{sound_06, sound_32, sound_35}
 use Rattle.micro_claims.proofs.MoreCommands.{sound_d1, sound_11, sound_ff, sound_fa, sound_fc, sound_31, sound_3f}
 use Rattle.micro_claims.proofs.Words.{sound_get, sound_put}
 use Rattle.micro_claims.proofs.Controls.{sound_stat, sound_wait, sound_yield, sound_end, sound_jump, sound_branch}
 use Rattle.micro_claims.proofs.Settings.{sound_loop, sound_next, sound_seek, sound_column, sound_plane}
 use Rattle.micro_claims.proofs.Indices.{sound_rowadd, sound_row}
 use Rattle.micro_claims.proofs.Keeping.{ready_kept, other_kept}
+use Rattle.micro_claims.proofs.CopiedPages.{uncopied_fit}
+use Rattle.micro_claims.specs.Planes.{no_planes}
 
 -- 1. the next word, whatever it is
 
@@ -72,16 +71,11 @@ data Taken (d : Command) : Type 0 where
   IsFC : (e : d ≡ SynchronousReset) → Taken d
   Is06 : (e : d ≡ ChangeReadColumnEnhanced) → Taken d
   Is32 : (e : d ≡ ReadPlane) → Taken d
+  Is35 : (e : d ≡ CopybackRead) → Taken d
 
-asked : (a b c : Bool) → (a || true || b || c) ≡ false → ⊥
-asked true b c h = cc
-asked false b c h = cc
-
--- a command for traces isn't for programs
-traced : (a b c : Bool) → (a || b || true || c) ≡ false → ⊥
-traced true b c h = cc
-traced false true c h = cc
-traced false false c h = cc
+asked : (a b : Bool) → (a || true || b) ≡ false → ⊥
+asked true b h = cc
+asked false b h = cc
 
 which : (g : Parts) (d : Command) → command_not_for_programs g d ≡ false → Taken d
 which g Read h = Is00 refl
@@ -105,11 +99,11 @@ which g GetFeatures h = IsEE refl
 which g SetFeatures h = IsEF refl
 which g ResetLun h = IsFA refl
 which g SynchronousReset h = IsFC refl
-which g AskStatus h = absurd (asked (is_unfit g AskStatus) (is_for_traces AskStatus) (wants_one_lun AskStatus && ltb 1 g.luns) h)
-which g ReadStatusEnhanced h = absurd (asked (is_unfit g ReadStatusEnhanced) (is_for_traces ReadStatusEnhanced) (wants_one_lun ReadStatusEnhanced && ltb 1 g.luns) h)
+which g AskStatus h = absurd (asked (is_unfit g AskStatus) (wants_one_lun AskStatus && ltb 1 g.luns) h)
+which g ReadStatusEnhanced h = absurd (asked (is_unfit g ReadStatusEnhanced) (wants_one_lun ReadStatusEnhanced && ltb 1 g.luns) h)
 which g ChangeReadColumnEnhanced h = Is06 refl
 which g ReadPlane h = Is32 refl
-which g CopybackRead h = absurd (traced (is_unfit g CopybackRead) (asks_status CopybackRead) (wants_one_lun CopybackRead && ltb 1 g.luns) h)
+which g CopybackRead h = Is35 refl
 which g _ h = cc
 
 taken_command : (g : Parts) (text : Microprogram) (v : State) (byte : ℕ) → NoReasons g text v (CommandWord byte) → Taken (command byte)
@@ -143,6 +137,7 @@ command_sound s j k v past c done rest at byte scene f clear acc = by (taken_com
     by (IsFC e) = sound_fc s j k v past c done rest at byte e scene f clear acc
     by (Is06 e) = sound_06 s j k v past c done rest at byte e scene f clear acc
     by (Is32 e) = sound_32 s j k v past c done rest at byte e scene f clear acc
+    by (Is35 e) = sound_35 s j k v past c done rest at byte e scene f clear acc
 
 branch_sound : (s : Channel) (j : Job) (k : KnownJob s j) (v : State) (past : List Item) (c : Scene) (done : List Done) (rest : List Line) (at mask target : ℕ) → IsScene s j.lun past c → Fits s.geometry j v done c true → NoReasons s.geometry j.text v (BranchOnStatus mask target) → goes_on (BranchOnStatus mask target) (λ t. accepts s.geometry (bounds_of j.text) t (state_after s.geometry v (BranchOnStatus mask target)) rest) ≡ true → SoundWord s j past done rest at (BranchOnStatus mask target)
 branch_sound s j k v past c done rest at mask target scene f clear acc =
@@ -179,32 +174,28 @@ word_sound s j v past done rest at (Jump target) h = sound_jump s j h.k v past h
 
 -- 2. at a seat
 
--- where another LUN may have the bus and the next word may be stepped, nothing is open
-shut_there : (s : Channel) (j : Job) (seat : Seat) (c : Claims s j seat) → may_step j seat ≡ true → knows_tail s seat c.scene ≡ false → is_open c.scene.facts ≡ false
-shut_there s j seat c may e =
-    let open_is : is_open_on seat.past j.lun.ce ≡ is_open c.scene.facts = ap is_open c.is.facts in
-    shut seat.holding (not (ltb 1 s.geometry.luns)) (is_open c.scene.facts) e (ap (λ (b : Bool). seat.holding || not b) (sym open_is) ∙ may)
+-- where the next word may be stepped, what is claimed of the tail is claimed
+settled : (s : Channel) (j : Job) (seat : Seat) (c : Claims s j seat) → may_step j seat ≡ true → Fits s.geometry j c.claim seat.done c.scene true
+settled s j seat c may = at (knows_tail s seat c.scene) refl
   where
     shut : (h n o : Bool) → (h || (n && not o)) ≡ false → (h || not o) ≡ true → o ≡ false
     shut true n o e m = cc
     shut false n true e m = cc
     shut false n false e m = refl
 
--- where the next word may be stepped, what is claimed of the tail is claimed
-settled : (s : Channel) (j : Job) (seat : Seat) (c : Claims s j seat) → may_step j seat ≡ true → Fits s.geometry j c.claim seat.done c.scene true
-settled s j seat c may = at (knows_tail s seat c.scene) refl
-  where
     at : (b : Bool) → knows_tail s seat c.scene ≡ b → Fits s.geometry j c.claim seat.done c.scene true
     at true e = subst (λ (b : Bool). Fits s.geometry j c.claim seat.done c.scene b) e c.fits
     at false e =
         let free = c.fits.free e in
+        let open_is : is_open_on seat.past j.lun.ce ≡ is_open c.scene.facts = ap is_open c.is.facts in
+        let closed : is_open c.scene.facts ≡ false = shut seat.holding (not (ltb 1 s.geometry.luns)) (is_open c.scene.facts) e (ap (λ (b : Bool). seat.holding || not b) (sym open_is) ∙ may) in
         record {
           registers = c.fits.registers;
           tail = λ x. record {
             place = Closed;
             here = free.tail;
             address = no_address;
-            is = shut_there s j seat c may e;
+            is = closed;
             now = λ y. cc;
             column = λ y. cc;
             row = λ y. cc;
@@ -214,25 +205,6 @@ settled s j seat c may = at (knows_tail s seat c.scene) refl
           free = λ x. cc;
           shows = c.fits.shows;
           lun = c.fits.lun;
-        }
-
--- and so is the scene
-settled_scene : (s : Channel) (j : Job) (seat : Seat) (c : Claims s j seat) → may_step j seat ≡ true → IsScene s j.lun seat.past c.scene
-settled_scene s j seat c may = at (knows_tail s seat c.scene) refl
-  where
-    at : (b : Bool) → knows_tail s seat c.scene ≡ b → IsScene s j.lun seat.past c.scene
-    at true e = subst (λ (b : Bool). SceneIs s j.lun seat.past c.scene b) e c.is
-    at false e =
-        record {
-          facts = c.is.facts;
-          view = c.is.view;
-          sole = c.is.sole;
-          free = c.is.free;
-          copies = record {
-            read = c.is.copies.read;
-            queued = c.is.copies.queued;
-            program = λ x named. absurd (clash (names_program c.scene.facts) named (names_none c.scene.facts (shut_there s j seat c may e)));
-          };
         }
 
 -- an accepted line
@@ -258,7 +230,7 @@ fine_lines s j k v past c done [] scene f h = cc
 fine_lines s j k v past c done (line ∷ rest) scene f h = (line_sound s j k v past c done line rest scene f h).fine
 
 fine_here : (s : Channel) (j : Job) (k : KnownJob s j) (seat : Seat) → Claims s j seat → may_step j seat ≡ true → IsFine s j seat
-fine_here s j k seat c may = fine_lines s j k c.claim seat.past c.scene seat.done seat.ahead (settled_scene s j seat c may) (settled s j seat c may) c.accepted
+fine_here s j k seat c may = fine_lines s j k c.claim seat.past c.scene seat.done seat.ahead c.is (settled s j seat c may) c.accepted
 
 -- what the step of a sound word leaves is claimed
 Keeps : (s : Channel) (j : Job) (past : List Item) (done : List Done) (ahead : List Line) → Type 0
@@ -278,7 +250,7 @@ lines_keep s j k v past c done (line ∷ rest) scene f h = line_keeps s j past d
 
 step_keeps : (s : Channel) (j : Job) (k : KnownJob s j) (seat : Seat) (bytes : List ℕ) (r : Stride) → Claims s j seat → may_step j seat ≡ true → answered_step s.geometry j bytes seat.past seat.ahead seat.done ≡ Some r → AreTruthful s.geometry j.lun seat.past seat.ahead bytes → r.code ≡ None → Claims s j (after_step r)
 unfolding Keeps
-step_keeps s j k seat bytes r c may e true_bytes code = lines_keep s j k c.claim seat.past c.scene seat.done seat.ahead (settled_scene s j seat c may) (settled s j seat c may) c.accepted bytes r e true_bytes code
+step_keeps s j k seat bytes r c may e true_bytes code = lines_keep s j k c.claim seat.past c.scene seat.done seat.ahead c.is (settled s j seat c may) c.accepted bytes r e true_bytes code
 
 -- 3. at first
 
@@ -294,13 +266,7 @@ first_fits s j past idle accepted =
     record {
       claim = first_state;
       scene = scene;
-      is = record {
-        facts = refl;
-        view = refl;
-        sole = λ e. cc;
-        free = idle.free;
-        copies = copies_first scene.facts scene.view _ idle.no_queue (open_not (ltb 1 s.geometry.luns) (is_open (facts_of (tail past j.lun.ce))));
-      };
+      is = record { facts = refl; view = refl; sole = λ e. cc; free = idle.free };
       fits = record {
         registers = record {
           column = in_exactly 0;
@@ -316,7 +282,7 @@ first_fits s j past idle accepted =
         tail = λ e. record { place = Closed; here = refl; address = no_address; is = open_not (ltb 1 s.geometry.luns) (is_open (facts_of (tail past j.lun.ce))) e; now = λ x. cc; column = λ x. cc; row = λ x. cc; named = λ x. cc; single = λ x. cc };
         free = λ e. record { tail = refl; shows = refl; unread = refl };
         shows = tt;
-        lun = record { ready = λ e. idle.ready; register = tt; column = tt; queue = idle.no_queue; last = other_there (closer s.geometry past j.lun) idle.no_cache; cached = λ base e. cc; held = λ e. cc; planes = no_pages s.geometry scene.view.held; array = no_pages s.geometry (scene.view.array_page ∷ []) };
+        lun = record { ready = λ e. idle.ready; register = tt; column = tt; queue = idle.no_queue; last = other_there (closer s.geometry past j.lun) idle.no_cache; cached = λ base e. cc; held = λ e. cc; planes = no_pages s.geometry scene.view.held; array = no_pages s.geometry (scene.view.array_page ∷ []); copies = uncopied_fit s.geometry no_planes (index_now j.base []) scene.view.closer scene.view.held };
       };
       accepted = accepted;
     }

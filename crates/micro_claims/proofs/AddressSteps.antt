@@ -2,17 +2,17 @@
 use Rattle.std.proofs.Common.{◌≡◌, ℕ, zero, suc, ◌+◌, ◌*◌, ◌/◌, ◌%◌, ◌≤◌, ◌<◌, Bool, true, false, ◌&&◌, cond, not, nat_le, List, [], ◌∷◌, length, refl, sym, ap, ◌∙◌, subst, arith, take, drop}
 use Rattle.nand_geometry.specs.declared.parts.Parts.{Parts}
 use Rattle.nand_geometry.specs.Limits.{page_len}
-use Rattle.nand_geometry.specs.Optional.{is_wide}
+use Rattle.nand_geometry.specs.Optional.{is_wide, has_copyback}
 use Rattle.nand_geometry.specs.Row.{row_of, parts_of, is_inside}
 use Rattle.onfi_cycle.specs.declared.command.Command.{Command}
-use Rattle.onfi_cycle.specs.declared.command.Command.TheVariants.{Read, ChangeReadColumn, ChangeReadColumnEnhanced, BlockErase, PageProgram}
+use Rattle.onfi_cycle.specs.declared.command.Command.TheVariants.{Read, ChangeReadColumn, ChangeReadColumnEnhanced, BlockErase, PageProgram, ChangeWriteColumn}
 use Rattle.onfi_cycle.specs.declared.item.Kind.TheVariants.{Adr}
 use Rattle.onfi_cycle.specs.declared.target_cycle.TargetCycle.TheVariants.{AddressCycle}
 use Rattle.onfi_cycle.specs.LunView.{LunView}
 use Rattle.onfi_cycle.specs.declared.effect.Effect.TheVariants.{ProgramAddressed}
 use Rattle.onfi_cycle.specs.Effect.{names_lun, page_address, program_row_effect}
 use Rattle.onfi_cycle.specs.Lun.{view_after}
-use Rattle.onfi_cycle.specs.Rules.{caching, refused_by, register_len, excludes_cache, holds_plane_of}
+use Rattle.onfi_cycle.specs.Rules.{caching, refused_by, register_len, excludes_cache, holds_plane_of, may_copy, is_copying}
 use Rattle.micro_program.specs.Moves.{gives}
 use Rattle.micro_program.proofs.Scenes.{Scene, AddressAllowed, scene_behind}
 use Rattle.micro_program.proofs.SceneMoves.{MovesAllowed, scene_after}
@@ -82,7 +82,7 @@ read_steps g lun a view sole (suc (suc zero)) few column row = record { allowed 
 read_steps g lun a view sole (suc (suc (suc zero))) few column row = record { allowed = record { wanted = refl; profile = never (not (is_wide g.optional)); alone = λ e. cc; row = λ e. cc; column = λ e. cc; read_column = λ e. cc }; leads = refl }
 read_steps g lun a view sole (suc (suc (suc (suc zero)))) few column row =
     let r = row refl in
-    record { allowed = record { wanted = refl; profile = never (not (is_wide g.optional)); alone = λ e. cc; row = λ e. record { inside = r.inside; names = r.names; ready = λ x. r.ready; goes = r.goes; no_cache = λ x. r.no_cache (and_parts (excludes_cache g Read) true x).0; plane = λ x. cc; no_copy = refl }; column = λ e. cc; read_column = λ e. cc }; leads = refl }
+    record { allowed = record { wanted = refl; profile = never (not (is_wide g.optional)); alone = λ e. cc; row = λ e. record { inside = r.inside; names = r.names; ready = λ x. r.ready; goes = r.goes; no_cache = λ x. r.no_cache (and_parts (excludes_cache g Read) true x).0; plane = λ x. cc; copy = λ x. cc; no_group = λ x. cc }; column = λ e. cc; read_column = λ e. cc }; leads = refl }
 read_steps g lun a view sole (suc (suc (suc (suc (suc n))))) few column row = absurd (omega (arith, few))
 
 pub enhanced_steps : (g : Parts) (lun : ℕ) (a : Address) (view : LunView) (sole : Bool) (n : ℕ) → n ≤ 4 → (n ≡ 1 → nat_le (page_len g) (carried a) ≡ false) → (n ≡ 4 → RowGoes g lun a view ChangeReadColumnEnhanced × (holds_plane_of g (page_address g (row_of a.r1 a.r2 a.r3)) view ≡ true)) → OneStep g lun (scene_at ChangeReadColumnEnhanced a view sole) (bytes_of ChangeReadColumnEnhanced a) n
@@ -93,7 +93,7 @@ enhanced_steps g lun a view sole (suc (suc (suc zero))) few column row = record 
 enhanced_steps g lun a view sole (suc (suc (suc (suc zero)))) few column row =
     let r = (row refl).0 in
     let held = (row refl).1 in
-    record { allowed = record { wanted = refl; profile = never (not (is_wide g.optional)); alone = λ e. cc; row = λ e. record { inside = r.inside; names = r.names; ready = λ x. r.ready; goes = r.goes; no_cache = λ x. cc; plane = λ x. held; no_copy = refl }; column = λ e. cc; read_column = λ e. cc }; leads = refl }
+    record { allowed = record { wanted = refl; profile = never (not (is_wide g.optional)); alone = λ e. cc; row = λ e. record { inside = r.inside; names = r.names; ready = λ x. r.ready; goes = r.goes; no_cache = λ x. cc; plane = λ x. held; copy = λ x. cc; no_group = λ x. cc }; column = λ e. cc; read_column = λ e. cc }; leads = refl }
 enhanced_steps g lun a view sole (suc (suc (suc (suc (suc n))))) few column row = absurd (omega (arith, few))
 
 -- the last row cycle of 80h lets the LUN hold no page
@@ -103,22 +103,35 @@ addressed_view n view = cond (nat_le 5 n) (view_after ProgramAddressed view) vie
 abbrev pub program_scene : Address → LunView → Bool → ℕ → Scene
 program_scene a view sole n = record { facts = facts_behind (opener_facts PageProgram) (take n (bytes_of PageProgram a)); view = addressed_view n view; sole = sole }
 
-pub program_steps : (g : Parts) (lun : ℕ) (a : Address) (view : LunView) (sole : Bool) (n : ℕ) → n ≤ 4 → (n ≡ 1 → nat_le (page_len g) (carried a) ≡ false) → (n ≡ 4 → RowGoes g lun a view PageProgram) → OneStep g lun (program_scene a view sole) (bytes_of PageProgram a) n
+pub program_steps : (g : Parts) (lun : ℕ) (a : Address) (view : LunView) (sole : Bool) (n : ℕ) → n ≤ 4 → (n ≡ 1 → nat_le (page_len g) (carried a) ≡ false) → (n ≡ 4 → RowGoes g lun a view PageProgram × ((has_copyback g.optional && is_copying view) ≡ false)) → OneStep g lun (program_scene a view sole) (bytes_of PageProgram a) n
 program_steps g lun a view sole zero few column row = record { allowed = record { wanted = refl; profile = never (not (is_wide g.optional)); alone = λ e. cc; row = λ e. cc; column = λ e. cc; read_column = λ e. cc }; leads = refl }
 program_steps g lun a view sole (suc zero) few column row = record { allowed = record { wanted = refl; profile = never (not (is_wide g.optional)); alone = λ e. cc; row = λ e. cc; column = λ e. column refl; read_column = λ e. cc }; leads = refl }
 program_steps g lun a view sole (suc (suc zero)) few column row = record { allowed = record { wanted = refl; profile = never (not (is_wide g.optional)); alone = λ e. cc; row = λ e. cc; column = λ e. cc; read_column = λ e. cc }; leads = refl }
 program_steps g lun a view sole (suc (suc (suc zero))) few column row = record { allowed = record { wanted = refl; profile = never (not (is_wide g.optional)); alone = λ e. cc; row = λ e. cc; column = λ e. cc; read_column = λ e. cc }; leads = refl }
 program_steps g lun a view sole (suc (suc (suc (suc zero)))) few column row =
-    let r = row refl in
-    record { allowed = record { wanted = refl; profile = never (not (is_wide g.optional)); alone = λ e. cc; row = λ e. record { inside = r.inside; names = r.names; ready = λ x. r.ready; goes = r.goes; no_cache = λ x. r.no_cache refl; plane = λ x. cc; no_copy = refl }; column = λ e. cc; read_column = λ e. cc }; leads = ap (λ (b : Bool). record { facts = (program_scene a view sole 5).facts; view = view_after (program_row_effect b) view; sole = sole }) r.names }
+    let r = (row refl).0 in
+    let alone = (row refl).1 in
+    record { allowed = record { wanted = refl; profile = never (not (is_wide g.optional)); alone = λ e. cc; row = λ e. record { inside = r.inside; names = r.names; ready = λ x. r.ready; goes = r.goes; no_cache = λ x. r.no_cache refl; plane = λ x. cc; copy = λ x. cc; no_group = λ x. alone }; column = λ e. cc; read_column = λ e. cc }; leads = ap (λ (b : Bool). record { facts = (program_scene a view sole 5).facts; view = view_after (program_row_effect b) view; sole = sole }) r.names }
 program_steps g lun a view sole (suc (suc (suc (suc (suc n))))) few column row = absurd (omega (arith, few))
+
+-- 85h that begins a copy
+pub copy_steps : (g : Parts) (lun : ℕ) (a : Address) (view : LunView) (sole : Bool) (n : ℕ) → n ≤ 4 → (n ≡ 1 → nat_le (page_len g) (carried a) ≡ false) → (n ≡ 4 → RowGoes g lun a view ChangeWriteColumn × (may_copy g (page_address g (row_of a.r1 a.r2 a.r3)) view ≡ true)) → OneStep g lun (scene_at ChangeWriteColumn a view sole) (bytes_of ChangeWriteColumn a) n
+copy_steps g lun a view sole zero few column row = record { allowed = record { wanted = refl; profile = never (not (is_wide g.optional)); alone = λ e. cc; row = λ e. cc; column = λ e. cc; read_column = λ e. cc }; leads = refl }
+copy_steps g lun a view sole (suc zero) few column row = record { allowed = record { wanted = refl; profile = never (not (is_wide g.optional)); alone = λ e. cc; row = λ e. cc; column = λ e. column refl; read_column = λ e. cc }; leads = refl }
+copy_steps g lun a view sole (suc (suc zero)) few column row = record { allowed = record { wanted = refl; profile = never (not (is_wide g.optional)); alone = λ e. cc; row = λ e. cc; column = λ e. cc; read_column = λ e. cc }; leads = refl }
+copy_steps g lun a view sole (suc (suc (suc zero))) few column row = record { allowed = record { wanted = refl; profile = never (not (is_wide g.optional)); alone = λ e. cc; row = λ e. cc; column = λ e. cc; read_column = λ e. cc }; leads = refl }
+copy_steps g lun a view sole (suc (suc (suc (suc zero)))) few column row =
+    let r = (row refl).0 in
+    let held = (row refl).1 in
+    record { allowed = record { wanted = refl; profile = never (not (is_wide g.optional)); alone = λ e. cc; row = λ e. record { inside = r.inside; names = r.names; ready = λ x. r.ready; goes = r.goes; no_cache = λ x. r.no_cache refl; plane = λ x. cc; copy = λ x. held; no_group = λ x. cc }; column = λ e. cc; read_column = λ e. cc }; leads = refl }
+copy_steps g lun a view sole (suc (suc (suc (suc (suc n))))) few column row = absurd (omega (arith, few))
 
 pub erase_steps : (g : Parts) (lun : ℕ) (a : Address) (view : LunView) (sole : Bool) (n : ℕ) → n ≤ 2 → (n ≡ 2 → RowGoes g lun a view BlockErase) → OneStep g lun (scene_at BlockErase a view sole) (bytes_of BlockErase a) n
 erase_steps g lun a view sole zero few row = record { allowed = record { wanted = refl; profile = never (not (is_wide g.optional)); alone = λ e. cc; row = λ e. cc; column = λ e. cc; read_column = λ e. cc }; leads = refl }
 erase_steps g lun a view sole (suc zero) few row = record { allowed = record { wanted = refl; profile = never (not (is_wide g.optional)); alone = λ e. cc; row = λ e. cc; column = λ e. cc; read_column = λ e. cc }; leads = refl }
 erase_steps g lun a view sole (suc (suc zero)) few row =
     let r = row refl in
-    record { allowed = record { wanted = refl; profile = never (not (is_wide g.optional)); alone = λ e. cc; row = λ e. record { inside = r.inside; names = r.names; ready = λ x. r.ready; goes = r.goes; no_cache = λ x. r.no_cache refl; plane = λ x. cc; no_copy = refl }; column = λ e. cc; read_column = λ e. cc }; leads = refl }
+    record { allowed = record { wanted = refl; profile = never (not (is_wide g.optional)); alone = λ e. cc; row = λ e. record { inside = r.inside; names = r.names; ready = λ x. r.ready; goes = r.goes; no_cache = λ x. r.no_cache refl; plane = λ x. cc; copy = λ x. cc; no_group = λ x. cc }; column = λ e. cc; read_column = λ e. cc }; leads = refl }
 erase_steps g lun a view sole (suc (suc (suc n))) few row = absurd (omega (arith, few))
 
 pub column_steps : (g : Parts) (lun : ℕ) (a : Address) (view : LunView) (sole : Bool) (n : ℕ) → n ≤ 1 → (n ≡ 1 → (sole ≡ true) × (nat_le (register_len g view.register) (carried a) ≡ false)) → OneStep g lun (scene_at ChangeReadColumn a view sole) (bytes_of ChangeReadColumn a) n

@@ -23,7 +23,7 @@ use Rattle.onfi_cycle.specs.declared.tail_facts.TailFacts.{TailFacts}
 use Rattle.onfi_cycle.specs.declared.target_cycle.TargetCycle.TheVariants.{CommandCycle}
 use Rattle.onfi_cycle.specs.LunView.{LunView}
 use Rattle.onfi_cycle.specs.Command.{command, is_opener, closes, address_cycles}
-use Rattle.onfi_cycle.specs.Sequence.{facts_after, is_open, selects_plane, wants_command, row, takes_data, input_column}
+use Rattle.onfi_cycle.specs.Sequence.{facts_after, is_open, selects_plane, wants_command, row, takes_data, input_column, begins_anew, is_proper_beginning, opened, takes_features, takes_inputs, wants_column}
 use Rattle.onfi_cycle.specs.Effect.{is_off, is_data, names_lun, page_address, plane_of_row, cycle_effect}
 use Rattle.onfi_cycle.specs.Lun.{resumed, column_at, view_after, is_cache_read, page_in_plane, register_of_plane}
 use Rattle.onfi_cycle.specs.Rules.{may_change_column, is_page_or_parameters}
@@ -34,20 +34,21 @@ use Rattle.micro_program.specs.Lines.{Line}
 use Rattle.micro_program.specs.Program.{Job, Done, index_now}
 use Rattle.onfi_cycle.proofs.Booleans.{and_rest}
 use Rattle.micro_claims.specs.Spans.{Span}
-use Rattle.micro_claims.specs.Planes.{Planes, has_plane, are_planes_within}
-use Rattle.micro_claims.specs.State.{NoRows, other_closer, closed, State, Registers, KnownTarget, KnownLun, NamedRow, Place, Closed, After, InData, InColumn, InFeatures, Shown, Held, bounds_of, Unknown, shows_status, holds_identifier, holds_identity, holds_jedec, holds_feature, LastCloser, may_be_31}
+use Rattle.micro_claims.specs.Planes.{Planes, has_plane, no_planes, are_planes_within}
+use Rattle.micro_claims.specs.State.{NoRows, other_closer, closed, State, Registers, KnownTarget, KnownLun, NamedRow, Place, Closed, After, InData, InColumn, InFeatures, Shown, Held, bounds_of, Unknown, shows_status, holds_identifier, holds_identity, holds_jedec, holds_feature, LastCloser, may_be_31, no_copies}
 use Rattle.micro_claims.specs.Against.{holds_short, is_unfit, may_end_sequence, closer_refused, drives, may_be_open, command_out_of_place, opener_refused, place_wants, selects_plane_at, shows_only_data, has_page_or_parameters, goes_on_at}
 use Rattle.micro_claims.specs.Reasons.{breaks_cycle_forbidden}
-use Rattle.micro_claims.specs.Leaves.{paid, with_registers, resumed_shows, data_shown, opened_by, work_started, given_at, may_be_reads, page_register, cached_at, shows_after_read, read_started, register_selected, column_changed, command_leaves}
+use Rattle.micro_claims.specs.Leaves.{paid, with_registers, resumed_shows, data_shown, opened_by, work_started, given_at, may_be_reads, page_register, cached_at, shows_after_read, read_started, register_selected, column_changed, command_leaves, held_by_read, with_target}
 use Rattle.micro_claims.specs.Accepts.{state_after, accepts}
 use Rattle.micro_program.proofs.Scenes.{Scene, IsScene, CommandAllowed, shown_alone, sole_behind, scene_behind}
 use Rattle.micro_program.specs.Moves.{Give}
-use Rattle.micro_claims.proofs.Fits.{ColumnBegun, closer_among, Address, is_place, RegistersFit, TailFits, ColumnFits, RowIs, NameFits, ShowsFit, HavePages, LunFits, OutputColumnFits, RegisterFits, Below, latch_among, register_among, Fits, Now, now_of}
+use Rattle.micro_claims.proofs.Fits.{ColumnBegun, closer_among, Address, is_place, RegistersFit, TailFits, ColumnFits, RowIs, NameFits, ShowsFit, HavePages, CopiesFit, LunFits, OutputColumnFits, RegisterFits, Below, latch_among, register_among, Fits, Now, now_of}
 use Rattle.micro_claims.proofs.Sets.{has_more}
 use Rattle.micro_claims.proofs.HeldPlanes.{no_pages, plane_is, found_page, read_register, read_closer, read_held, read_planes, read_array}
 use Rattle.micro_claims.proofs.Tails.{closed_tail, closed_fits, opener_fits, whole_read, whole_erase, whole_column, whole_plane, Programming, programming}
 use Rattle.micro_claims.proofs.Sounding.{KnownJob, NoReasons, unmoved, SoundWord, plain_sound}
-use Rattle.nand_geometry.specs.Optional.{is_wide}
+use Rattle.nand_geometry.specs.Optional.{is_wide, has_copyback}
+use Rattle.micro_claims.proofs.CopiedPages.{no_copies_fit, uncopied_fit}
 
 -- 1. what serves all of them
 
@@ -74,7 +75,7 @@ command_sound s j k v past c done rest at byte d is scene f clear allowed same t
 
 -- another latch
 relatched : (g : Parts) (j : Job) (v : KnownLun) (i : ℕ) (view : LunView) (x : Latch) → LunFits g j v i view → LunFits g j v i (record view { latch = x })
-relatched g j v i view x f = record { ready = f.ready; register = f.register; column = f.column; queue = f.queue; last = f.last; cached = f.cached; held = f.held; planes = f.planes; array = f.array }
+relatched g j v i view x f = record { ready = f.ready; register = f.register; column = f.column; queue = f.queue; last = f.last; cached = f.cached; held = f.held; planes = f.planes; array = f.array; copies = f.copies }
 
 -- what shows is kept with the latch
 pub shows_kept : (o : Option Shown) (c d : Scene) → (c.sole ≡ true → d.sole ≡ true) → d.view.latch ≡ c.view.latch → ShowsFit o c → ShowsFit o d
@@ -111,16 +112,16 @@ sound_00 s j k v past c done rest at byte is scene f clear acc =
     let free = or_parts (may_be_open v) v.lun.busy (out_of_place s.geometry j.text v byte Read is clear) in
     let o = opening s.geometry j v done c f free.0 free.1 in
     command_sound s j k v past c done rest at byte Read is scene f clear (o.closed, o.ready) refl
-    (opener_fits s.geometry j (resumed_shows v.target.shows) (now_of j done) c.facts Read refl)
+    (opener_fits s.geometry j (resumed_shows v.target.shows) (now_of j done) c.facts Read refl refl)
     (resumed_shown v.target.shows (facts_after (CommandCycle Read) c.facts) c f.shows)
     (relatched s.geometry j v.lun (index_now j.base done) c.view (resumed c.view.latch) f.lun)
     acc
 
 -- 60h and 80h
-pub plain_opener : (s : Channel) (j : Job) (k : KnownJob s j) (v : State) (past : List Item) (c : Scene) (done : List Done) (rest : List Line) (at byte : ℕ) (d : Command) → command byte ≡ d → IsScene s j.lun past c → Fits s.geometry j v done c true → NoReasons s.geometry j.text v (CommandWord byte) → CommandAllowed s.geometry j.lun.lun c d → command_leaves s.geometry v d ≡ opened_by d v → is_place d 0 ≡ true → (cycle_effect s.geometry c.facts (shown_alone c) (CommandCycle d) j.lun.lun ≡ Unaffected) → (sole_behind s.geometry c (CommandCycle d) ≡ c.sole) → accepts s.geometry (bounds_of j.text) None (state_after s.geometry v (CommandWord byte)) rest ≡ true → SoundWord s j past done rest at (CommandWord byte)
-plain_opener s j k v past c done rest at byte d is scene f clear allowed leaves place effect sole acc =
+pub plain_opener : (s : Channel) (j : Job) (k : KnownJob s j) (v : State) (past : List Item) (c : Scene) (done : List Done) (rest : List Line) (at byte : ℕ) (d : Command) → command byte ≡ d → IsScene s j.lun past c → Fits s.geometry j v done c true → NoReasons s.geometry j.text v (CommandWord byte) → CommandAllowed s.geometry j.lun.lun c d → command_leaves s.geometry v d ≡ opened_by d v → is_place d 0 ≡ true → begins_anew c.facts (CommandCycle d) ≡ true → (cycle_effect s.geometry c.facts (shown_alone c) (CommandCycle d) j.lun.lun ≡ Unaffected) → (sole_behind s.geometry c (CommandCycle d) ≡ c.sole) → accepts s.geometry (bounds_of j.text) None (state_after s.geometry v (CommandWord byte)) rest ≡ true → SoundWord s j past done rest at (CommandWord byte)
+plain_opener s j k v past c done rest at byte d is scene f clear allowed leaves place begins effect sole acc =
     command_sound s j k v past c done rest at byte d is scene f clear allowed (ap (λ (x : State). x.registers) leaves)
-    (subst (λ (x : State). TailFits s.geometry j x.target (now_of j done) (facts_after (CommandCycle d) c.facts)) (sym leaves) (opener_fits s.geometry j v.target.shows (now_of j done) c.facts d place))
+    (subst (λ (x : State). TailFits s.geometry j x.target (now_of j done) (facts_after (CommandCycle d) c.facts)) (sym leaves) (opener_fits s.geometry j v.target.shows (now_of j done) c.facts d place begins))
     (subst (λ (x : State). ShowsFit x.target.shows (scene_behind s.geometry j.lun.lun (CommandCycle d) c)) (sym leaves) (shows_kept v.target.shows c (scene_behind s.geometry j.lun.lun (CommandCycle d) c) (λ e. sole ∙ e) (ap (λ (e : Effect). (view_after e c.view).latch) effect) f.shows))
     (subst (λ (x : State). LunFits s.geometry j x.lun (index_now j.base done) (scene_behind s.geometry j.lun.lun (CommandCycle d) c).view) (sym leaves) (subst (λ (e : Effect). LunFits s.geometry j v.lun (index_now j.base done) (view_after e c.view)) (sym effect) f.lun))
     acc
@@ -129,13 +130,13 @@ pub sound_60 : (s : Channel) (j : Job) (k : KnownJob s j) (v : State) (past : Li
 sound_60 s j k v past c done rest at byte is scene f clear acc =
     let free = or_parts (may_be_open v) v.lun.busy (out_of_place s.geometry j.text v byte BlockErase is clear) in
     let o = opening s.geometry j v done c f free.0 free.1 in
-    plain_opener s j k v past c done rest at byte BlockErase is scene f clear (o.closed, o.ready) refl refl (same_either (wants_command c.facts BlockErase && names_lun s.geometry (row c.facts) j.lun.lun)) refl acc
+    plain_opener s j k v past c done rest at byte BlockErase is scene f clear (o.closed, o.ready) refl refl refl (same_either (wants_command c.facts BlockErase && names_lun s.geometry (row c.facts) j.lun.lun)) refl acc
 
 pub sound_80 : (s : Channel) (j : Job) (k : KnownJob s j) (v : State) (past : List Item) (c : Scene) (done : List Done) (rest : List Line) (at byte : ℕ) → command byte ≡ PageProgram → IsScene s j.lun past c → Fits s.geometry j v done c true → NoReasons s.geometry j.text v (CommandWord byte) → accepts s.geometry (bounds_of j.text) None (state_after s.geometry v (CommandWord byte)) rest ≡ true → SoundWord s j past done rest at (CommandWord byte)
 sound_80 s j k v past c done rest at byte is scene f clear acc =
     let free = or_parts (may_be_open v) v.lun.busy (out_of_place s.geometry j.text v byte PageProgram is clear) in
     let o = opening s.geometry j v done c f free.0 free.1 in
-    plain_opener s j k v past c done rest at byte PageProgram is scene f clear (o.closed, o.ready) refl refl (same_either (wants_command c.facts PageProgram && names_lun s.geometry (row c.facts) j.lun.lun)) refl acc
+    plain_opener s j k v past c done rest at byte PageProgram is scene f clear (o.closed, o.ready) refl refl refl (same_either (wants_command c.facts PageProgram && names_lun s.geometry (row c.facts) j.lun.lun)) refl acc
 
 -- 05h
 changes : (o : Option Shown) (r : Option Held) (c : Scene) → ShowsFit o c → RegisterFits r c.view.register → c.view.busy ≡ false → shows_only_data o ≡ true → has_page_or_parameters r ≡ true → (c.sole ≡ true) × (may_change_column c.view ≡ true)
@@ -172,7 +173,7 @@ sound_05 s j k v past c done rest at byte is scene f clear acc =
     let ready = or_parts (not (shows_only_data v.target.shows)) v.lun.busy held.0 in
     let o = opening s.geometry j v done c f free.0 ready.1 in
     let may = changes v.target.shows v.lun.register c f.shows f.lun.register o.ready (not-false _ ready.0) (not-false _ held.1) in
-    plain_opener s j k v past c done rest at byte ChangeReadColumn is scene f clear ((o.closed, o.ready), may.0, may.1) refl refl (same_either (wants_command c.facts ChangeReadColumn && names_lun s.geometry (row c.facts) j.lun.lun)) refl acc
+    plain_opener s j k v past c done rest at byte ChangeReadColumn is scene f clear ((o.closed, o.ready), may.0, may.1) refl refl refl (same_either (wants_command c.facts ChangeReadColumn && names_lun s.geometry (row c.facts) j.lun.lun)) refl acc
 
 -- 3. closers
 
@@ -184,18 +185,18 @@ pub record Wanted (g : Parts) (v : State) (d : Command) : Type 0 where
   pub places : place_wants d v.target.tail ≡ true
   pub not_refused : closer_refused g v d ≡ false
 
-pub wanted : (g : Parts) (text : Microprogram) (v : State) (byte : ℕ) (d : Command) → command byte ≡ d → is_unfit g d ≡ false → (is_opener d && not (goes_on_at d v.target.tail)) ≡ false → NoReasons g text v (CommandWord byte) → Wanted g v d
+pub wanted : (g : Parts) (text : Microprogram) (v : State) (byte : ℕ) (d : Command) → command byte ≡ d → is_unfit g d ≡ false → (is_opener d && not (goes_on_at g d v.target.tail)) ≡ false → NoReasons g text v (CommandWord byte) → Wanted g v d
 wanted g text v byte d is fit closer clear =
     let free = (not (may_end_sequence g d) && may_be_open v) || opener_refused g v d in
     let all = not (place_wants d v.target.tail) || closer_refused g v d in
-    let fitting = subst (λ (b : Bool). cond b false (cond (is_opener d && not (goes_on_at d v.target.tail)) free all) ≡ false) fit (out_of_place g text v byte d is clear) in
+    let fitting = subst (λ (b : Bool). cond b false (cond (is_opener d && not (goes_on_at g d v.target.tail)) free all) ≡ false) fit (out_of_place g text v byte d is clear) in
     let closing = subst (λ (b : Bool). cond b free all ≡ false) closer fitting in
     let both = or_parts (not (place_wants d v.target.tail)) (closer_refused g v d) closing in
     record { places = not-false _ both.0; not_refused = both.1 }
 
 -- work that leaves no register, and an empty queue
-started_fits : (g : Parts) (j : Job) (v : State) (i : ℕ) (view : LunView) → view.queue ≡ [] → closer_among other_closer view.closer ≡ true → LunFits g j (work_started NoRows v).lun i view
-started_fits g j v i view queue last = record { ready = λ e. cc; register = tt; column = tt; queue = queue; last = last; cached = λ e f. cc; held = λ e. cc; planes = no_pages g view.held; array = no_pages g (view.array_page ∷ []) }
+started_fits : (g : Parts) (j : Job) (v : State) (i : ℕ) (view : LunView) → view.queue ≡ [] → view.held ≡ [] → closer_among other_closer view.closer ≡ true → LunFits g j (work_started NoRows v).lun i view
+started_fits g j v i view queue none last = record { ready = λ e. cc; register = tt; column = tt; queue = queue; last = last; cached = λ e f. cc; held = λ e. cc; planes = no_pages g view.held; array = no_pages g (view.array_page ∷ []); copies = subst (CopiesFit g no_copies no_planes i view.closer) (sym none) (no_copies_fit g no_planes i view.closer) }
 
 -- D0h
 pub sound_d0 : (s : Channel) (j : Job) (k : KnownJob s j) (v : State) (past : List Item) (c : Scene) (done : List Done) (rest : List Line) (at byte : ℕ) → command byte ≡ BlockEraseConfirm → IsScene s j.lun past c → Fits s.geometry j v done c true → NoReasons s.geometry j.text v (CommandWord byte) → accepts s.geometry (bounds_of j.text) None (state_after s.geometry v (CommandWord byte)) rest ≡ true → SoundWord s j past done rest at (CommandWord byte)
@@ -208,7 +209,7 @@ sound_d0 s j k v past c done rest at byte is scene f clear acc =
     command_sound s j k v past c done rest at byte BlockEraseConfirm is scene f clear (wants, names) refl
     (closed_fits g j None None v.target.shows (now_of j done) _ (ap (λ (t : TailFacts). is_open (facts_after (CommandCycle BlockEraseConfirm) t)) w.facts))
     (shows_kept v.target.shows c (scene_behind g j.lun.lun (CommandCycle BlockEraseConfirm) c) (λ e. e) (ap (λ (e : Effect). (view_after e c.view).latch) effect) f.shows)
-    (subst (λ (e : Effect). LunFits g j (work_started NoRows v).lun (index_now j.base done) (view_after e c.view)) (sym effect) (started_fits g j v (index_now j.base done) (view_after (EraseStarted false (page_address g (row c.facts))) c.view) refl refl))
+    (subst (λ (e : Effect). LunFits g j (work_started NoRows v).lun (index_now j.base done) (view_after e c.view)) (sym effect) (started_fits g j v (index_now j.base done) (view_after (EraseStarted false (page_address g (row c.facts))) c.view) refl refl refl))
     acc
 
 -- 10h
@@ -240,11 +241,11 @@ sound_10 s j k v past c done rest at byte is scene f clear acc =
     command_sound s j k v past c done rest at byte ProgramConfirm is scene f clear (wants, names) refl
     (closed_fits g j None None v.target.shows (now_of j done) _ (rw p.program.begun refl))
     (shows_kept v.target.shows c (scene_behind g j.lun.lun (CommandCycle ProgramConfirm) c) (λ e. e) (ap (λ (e : Effect). (view_after e c.view).latch) effect) f.shows)
-    (subst (λ (e : Effect). LunFits g j (work_started NoRows v).lun (index_now j.base done) (view_after e c.view)) (sym effect) (started_fits g j v (index_now j.base done) (view_after (ProgramStarted false (page_address g (row c.facts))) c.view) refl refl))
+    (subst (λ (e : Effect). LunFits g j (work_started NoRows v).lun (index_now j.base done) (view_after e c.view)) (sym effect) (started_fits g j v (index_now j.base done) (view_after (ProgramStarted false (page_address g (row c.facts))) c.view) refl refl refl))
     acc
 
 -- 30h
-read_column_fits : (o : Option Span) (t : TailFacts) → t.inputs ≡ 0 → ColumnFits (input_column t) o → OutputColumnFits (given_at o) (column_at t.column)
+pub read_column_fits : (o : Option Span) (t : TailFacts) → t.inputs ≡ 0 → ColumnFits (input_column t) o → OutputColumnFits (given_at o) (column_at t.column)
 read_column_fits None t none h = absurd h
 read_column_fits (Some k) t none h =
     record { at = t.column + 0; is = refl; below = subst (λ (n : ℕ). Below (t.column + n) k.hi) none h; unread = λ e. refl }
@@ -302,6 +303,7 @@ sound_30 s j k v past c done rest at byte is scene f clear acc =
       held = λ e. read_held g (index_now j.base done) v.lun.queue c.view.queue at_row f.lun.queue e;
       planes = read_planes g k.limits j (index_now j.base done) v.lun.queue c.view.queue v.target.named w.address at_row (w.named refl) (w.row refl) page.1 f.lun.queue;
       array = read_array g j (index_now j.base done) v.target.named w.address at_row (w.named refl) (w.row refl) page.1;
+      copies = uncopied_fit g (held_by_read v.lun.queue v.target.named) _ _ _;
     }))
     acc
 
@@ -336,7 +338,7 @@ sound_column_e0 s j k v past c done rest at byte is scene f clear plainly acc =
     (shows_kept v.target.shows c (scene_behind g j.lun.lun (CommandCycle ChangeReadColumnConfirm) c) (λ e. or_right (selects_plane c.facts) c.sole e) (ap (λ (e : Effect). (view_after e c.view).latch) effect) f.shows))
     (subst (λ (x : State). LunFits g j x.lun (index_now j.base done) (view_after (cycle_effect g c.facts (shown_alone c) (CommandCycle ChangeReadColumnConfirm) j.lun.lun) c.view)) (sym leaves)
     (subst (λ (e : Effect). LunFits g j (record v.lun { column = given_at v.target.column }) (index_now j.base done) (view_after e c.view)) (sym effect)
-    (record { ready = f.lun.ready; register = f.lun.register; column = read_column_fits v.target.column c.facts (ap (λ (t : TailFacts). t.inputs) w.facts) (w.column refl); queue = f.lun.queue; last = f.lun.last; cached = f.lun.cached; held = f.lun.held; planes = f.lun.planes; array = f.lun.array })))
+    (record { ready = f.lun.ready; register = f.lun.register; column = read_column_fits v.target.column c.facts (ap (λ (t : TailFacts). t.inputs) w.facts) (w.column refl); queue = f.lun.queue; last = f.lun.last; cached = f.lun.cached; held = f.lun.held; planes = f.lun.planes; array = f.lun.array; copies = f.lun.copies })))
     acc
 
 -- behind 06h
@@ -382,6 +384,7 @@ sound_plane_e0 s j k v past c done rest at byte is scene f clear selects acc =
       held = f.lun.held;
       planes = f.lun.planes;
       array = f.lun.array;
+      copies = f.lun.copies;
     })))
     acc
 
@@ -412,13 +415,22 @@ behind_85 : (t : TailFacts) (a : Address) → t.phase ≡ Inputs → t.row ≡ r
 behind_85 t a phase row begun =
     record { few = omega arith; alone = rw (begun, phase) refl; program = record { phase = rw (begun, phase) refl; row = rw (begun, phase) row; begun = rw (begun, phase) refl }; column = λ e. absurd (omega (arith, e)) }
 
-pub sound_85 : (s : Channel) (j : Job) (k : KnownJob s j) (v : State) (past : List Item) (c : Scene) (done : List Done) (rest : List Line) (at byte : ℕ) → command byte ≡ ChangeWriteColumn → IsScene s j.lun past c → Fits s.geometry j v done c true → NoReasons s.geometry j.text v (CommandWord byte) → accepts s.geometry (bounds_of j.text) None (state_after s.geometry v (CommandWord byte)) rest ≡ true → SoundWord s j past done rest at (CommandWord byte)
-sound_85 s j k v past c done rest at byte is scene f clear acc =
+pub changes_leaves : (g : Parts) (v : State) → place_wants ChangeWriteColumn v.target.tail ≡ true → command_leaves g v ChangeWriteColumn ≡ with_target v (record v.target { tail = InColumn 0 })
+changes_leaves g v placed = rw placed refl
+
+copies_leave : (g : Parts) (v : State) → place_wants ChangeWriteColumn v.target.tail ≡ false → command_leaves g v ChangeWriteColumn ≡ opened_by ChangeWriteColumn v
+copies_leave g v unplaced = rw unplaced refl
+
+-- in the data of a program
+sound_column_85 : (s : Channel) (j : Job) (k : KnownJob s j) (v : State) (past : List Item) (c : Scene) (done : List Done) (rest : List Line) (at byte : ℕ) → command byte ≡ ChangeWriteColumn → IsScene s j.lun past c → Fits s.geometry j v done c true → NoReasons s.geometry j.text v (CommandWord byte) → place_wants ChangeWriteColumn v.target.tail ≡ true → accepts s.geometry (bounds_of j.text) None (state_after s.geometry v (CommandWord byte)) rest ≡ true → SoundWord s j past done rest at (CommandWord byte)
+sound_column_85 s j k v past c done rest at byte is scene f clear placed acc =
     let g = s.geometry in
-    let p = programming g j v.target (now_of j done) c.facts (place_wants ChangeWriteColumn) changes_column (f.tail refl) (wanted g j.text v byte ChangeWriteColumn is refl refl clear).places in
+    let p = programming g j v.target (now_of j done) c.facts (place_wants ChangeWriteColumn) changes_column (f.tail refl) placed in
+    let leaves : command_leaves g v ChangeWriteColumn ≡ with_target v (record v.target { tail = InColumn 0 }) = changes_leaves g v placed in
     let wants : wants_command c.facts ChangeWriteColumn ≡ true = ap takes_data p.program.phase in
     let effect : cycle_effect g c.facts (shown_alone c) (CommandCycle ChangeWriteColumn) j.lun.lun ≡ Unaffected = same_either (wants_command c.facts ChangeWriteColumn && names_lun g (row c.facts) j.lun.lun) in
-    command_sound s j k v past c done rest at byte ChangeWriteColumn is scene f clear wants refl
+    command_sound s j k v past c done rest at byte ChangeWriteColumn is scene f clear (inl wants) (ap (λ (x : State). x.registers) leaves)
+    (subst (λ (x : State). TailFits g j x.target (now_of j done) (facts_after (CommandCycle ChangeWriteColumn) c.facts)) (sym leaves)
     (record {
       place = InColumn 0;
       here = refl;
@@ -429,7 +441,37 @@ sound_85 s j k v past c done rest at byte is scene f clear acc =
       row = λ e. p.row;
       named = λ e. p.named;
       single = λ e. cc;
-    })
-    (shows_kept v.target.shows c (scene_behind g j.lun.lun (CommandCycle ChangeWriteColumn) c) (λ e. e) (ap (λ (e : Effect). (view_after e c.view).latch) effect) f.shows)
-    (subst (λ (e : Effect). LunFits g j v.lun (index_now j.base done) (view_after e c.view)) (sym effect) f.lun)
+    }))
+    (subst (λ (x : State). ShowsFit x.target.shows (scene_behind g j.lun.lun (CommandCycle ChangeWriteColumn) c)) (sym leaves)
+    (shows_kept v.target.shows c (scene_behind g j.lun.lun (CommandCycle ChangeWriteColumn) c) (λ e. e) (ap (λ (e : Effect). (view_after e c.view).latch) effect) f.shows))
+    (subst (λ (x : State). LunFits g j x.lun (index_now j.base done) (view_after (cycle_effect g c.facts (shown_alone c) (CommandCycle ChangeWriteColumn) j.lun.lun) c.view)) (sym leaves)
+    (subst (λ (e : Effect). LunFits g j v.lun (index_now j.base done) (view_after e c.view)) (sym effect) f.lun))
     acc
+
+-- where nothing is open it begins a sequence
+copy_begins : (t : TailFacts) → is_open t ≡ false → begins_anew t (CommandCycle ChangeWriteColumn) ≡ true
+copy_begins t closed = ap not (or_parts (takes_data t.phase) (takes_features t.phase) (or_parts (opened is_proper_beginning t.opening) (takes_inputs t.phase) (or_parts (opened is_proper_beginning t.opening || takes_inputs t.phase) (wants_column t.phase) closed).0).1).0
+
+-- where it begins a copy: a chip that declares none refuses it
+copies_there : (g : Parts) (v : State) → place_wants ChangeWriteColumn v.target.tail ≡ false → command_out_of_place g v ChangeWriteColumn ≡ false → (has_copyback g.optional ≡ true) × ((may_be_open v || v.lun.busy) ≡ false)
+copies_there g v unplaced h = at (has_copyback g.optional) refl (subst (λ (b : Bool). cond (not (b || not (has_copyback g.optional))) (may_be_open v || v.lun.busy) (not b || false) ≡ false) unplaced h)
+  where
+    at : (b : Bool) → has_copyback g.optional ≡ b → cond (not (false || not b)) (may_be_open v || v.lun.busy) (not false || false) ≡ false → (has_copyback g.optional ≡ true) × ((may_be_open v || v.lun.busy) ≡ false)
+    at true e h = (e, h)
+    at false e h = cc
+
+sound_copy_85 : (s : Channel) (j : Job) (k : KnownJob s j) (v : State) (past : List Item) (c : Scene) (done : List Done) (rest : List Line) (at byte : ℕ) → command byte ≡ ChangeWriteColumn → IsScene s j.lun past c → Fits s.geometry j v done c true → NoReasons s.geometry j.text v (CommandWord byte) → place_wants ChangeWriteColumn v.target.tail ≡ false → accepts s.geometry (bounds_of j.text) None (state_after s.geometry v (CommandWord byte)) rest ≡ true → SoundWord s j past done rest at (CommandWord byte)
+sound_copy_85 s j k v past c done rest at byte is scene f clear unplaced acc =
+    let g = s.geometry in
+    let may = copies_there g v unplaced (out_of_place g j.text v byte ChangeWriteColumn is clear) in
+    let free = or_parts (may_be_open v) v.lun.busy may.1 in
+    let o = opening g j v done c f free.0 free.1 in
+    plain_opener s j k v past c done rest at byte ChangeWriteColumn is scene f clear (inr ((o.closed, o.ready), may.0)) (copies_leave g v unplaced) refl (copy_begins c.facts o.closed)
+    (same_either (wants_command c.facts ChangeWriteColumn && names_lun g (row c.facts) j.lun.lun)) refl acc
+
+pub sound_85 : (s : Channel) (j : Job) (k : KnownJob s j) (v : State) (past : List Item) (c : Scene) (done : List Done) (rest : List Line) (at byte : ℕ) → command byte ≡ ChangeWriteColumn → IsScene s j.lun past c → Fits s.geometry j v done c true → NoReasons s.geometry j.text v (CommandWord byte) → accepts s.geometry (bounds_of j.text) None (state_after s.geometry v (CommandWord byte)) rest ≡ true → SoundWord s j past done rest at (CommandWord byte)
+sound_85 s j k v past c done rest at byte is scene f clear acc = by_place (place_wants ChangeWriteColumn v.target.tail) refl
+  where
+    by_place : (b : Bool) → place_wants ChangeWriteColumn v.target.tail ≡ b → SoundWord s j past done rest at (CommandWord byte)
+    by_place true e = sound_column_85 s j k v past c done rest at byte is scene f clear e acc
+    by_place false e = sound_copy_85 s j k v past c done rest at byte is scene f clear e acc

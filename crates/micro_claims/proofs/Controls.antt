@@ -25,7 +25,7 @@ use Rattle.micro_claims.specs.Leaves.{with_registers, paid, status_shown, unread
 use Rattle.micro_claims.specs.Accepts.{state_after, accepts}
 use Rattle.micro_program.proofs.Polls.{Polling, polling, own_poll, poll_leaves, one_answer, after_output, lost}
 use Rattle.micro_program.proofs.Tracking.{answered_parts, quiet_step}
-use Rattle.micro_program.proofs.Scenes.{Scene, IsScene, scene_is}
+use Rattle.micro_program.proofs.Scenes.{Scene, IsScene}
 use Rattle.micro_program.proofs.PollScenes.{polled_view, PolledScene, poll_scene}
 use Rattle.micro_claims.proofs.Fits.{RowsFit, latch_among, Below, RegistersFit, TailFits, LunFits, OutputColumnFits, Fits, is_unread, Now, now_of}
 use Rattle.micro_claims.proofs.Tails.{closed_tail, closed_fits}
@@ -51,7 +51,7 @@ unread_kept (Some c) k f = at c.read refl
         kept false h = h
 
 poll_lun : (g : Parts) (j : Job) (l : KnownLun) (i : ℕ) (view : LunView) (selected overlapped : Bool) → LunFits g j l i view → LunFits g j (record l { column = unread l.column }) i (polled_view selected overlapped view)
-poll_lun g j l i view selected overlapped f = record { ready = f.ready; register = f.register; column = unread_kept l.column view.column f.column; queue = f.queue; last = f.last; cached = f.cached; held = f.held; planes = f.planes; array = f.array }
+poll_lun g j l i view selected overlapped f = record { ready = f.ready; register = f.register; column = unread_kept l.column view.column f.column; queue = f.queue; last = f.last; cached = f.cached; held = f.held; planes = f.planes; array = f.array; copies = f.copies }
 
 -- behind a poll the claim fits; `busy` may be claimed not to be where the poll said so
 poll_fits : (s : Channel) (j : Job) (v : State) (done new : List Done) (later : List Item) (c : Scene) (p : PolledScene s j.lun later c) (l : KnownLun) (r : Registers) → RegistersFit s.geometry j r new → LunFits s.geometry j l (index_now j.base new) (polled_view p.selected p.overlapped c.view) → Fits s.geometry j (record { registers = r; target = closed status_shown; lun = l }) new p.now true
@@ -65,10 +65,10 @@ poll_fits s j v done new later c p l r registers lun =
     }
 
 found_ready_lun : (g : Parts) (j : Job) (l : KnownLun) (i : ℕ) (view : LunView) → LunFits g j l i view → view.busy ≡ false → LunFits g j (record l { busy = false }) i view
-found_ready_lun g j l i view f ready = record { ready = λ e. ready; register = f.register; column = f.column; queue = f.queue; last = f.last; cached = f.cached; held = f.held; planes = f.planes; array = f.array }
+found_ready_lun g j l i view f ready = record { ready = λ e. ready; register = f.register; column = f.column; queue = f.queue; last = f.last; cached = f.cached; held = f.held; planes = f.planes; array = f.array; copies = f.copies }
 
 found_busy_lun : (g : Parts) (j : Job) (l : KnownLun) (i : ℕ) (view : LunView) → LunFits g j l i view → LunFits g j (record l { busy = true }) i view
-found_busy_lun g j l i view f = record { ready = λ e. cc; register = f.register; column = f.column; queue = f.queue; last = f.last; cached = f.cached; held = f.held; planes = f.planes; array = f.array }
+found_busy_lun g j l i view f = record { ready = λ e. cc; register = f.register; column = f.column; queue = f.queue; last = f.last; cached = f.cached; held = f.held; planes = f.planes; array = f.array; copies = f.copies }
 
 -- nothing is open on the target, as the scene says
 open_on : (s : Channel) (j : Job) (past : List Item) (c : Scene) → IsScene s j.lun past c → is_open c.facts ≡ false → is_open_on past j.lun.ce ≡ false
@@ -113,7 +113,7 @@ sound_stat s j k v past c done rest at scene f clear acc =
           (record {
             claim = state_after s.geometry v ReadStatus;
             scene = behind.now;
-            is = scene_is s j.lun _ behind.now _ behind.is;
+            is = behind.is;
             fits = poll_fits s j v done (record { word = ReadStatus; answer = Polled one.byte } ∷ done) _ c behind (record v.lun { column = unread v.lun.column }) _
                 (unmoved s.geometry j v v.registers.place true done ReadStatus (Polled one.byte) f.registers clear (record { column = λ n. refl; plane = λ n. refl; index = λ b n. refl }) f.registers.place)
                 (poll_lun s.geometry j v.lun (index_now j.base done) c.view behind.selected behind.overlapped f.lun);
@@ -176,7 +176,7 @@ waiting_fits s j v done later c p f true e =
       lun =
           let polled_lun = poll_lun s.geometry j v.lun (index_now j.base done) c.view p.selected p.overlapped f.lun in
           subst (λ (w : LunView). LunFits s.geometry j (record v.lun { busy = true; column = unread (unread v.lun.column) }) (index_now j.base done) w) (sym p.view)
-          (record { ready = λ x. cc; register = f.lun.register; column = subst (λ (k : Option OutputColumn). OutputColumnFits k (lost c.view.column)) (sym (unread_twice v.lun.column)) polled_lun.column; queue = f.lun.queue; last = f.lun.last; cached = f.lun.cached; held = f.lun.held; planes = f.lun.planes; array = f.lun.array });
+          (record { ready = λ x. cc; register = f.lun.register; column = subst (λ (k : Option OutputColumn). OutputColumnFits k (lost c.view.column)) (sym (unread_twice v.lun.column)) polled_lun.column; queue = f.lun.queue; last = f.lun.last; cached = f.lun.cached; held = f.lun.held; planes = f.lun.planes; array = f.lun.array; copies = f.lun.copies });
     }
 waiting_fits s j v done later c p f false e =
     poll_fits s j v done done later c p (record v.lun { busy = true; column = unread v.lun.column }) v.registers f.registers
@@ -217,7 +217,7 @@ sound_wait s j k v past c done rest at scene f clear acc =
         (record {
           claim = state_after s.geometry v Wait;
           scene = (behind byte).now;
-          is = scene_is s j.lun _ (behind byte).now _ (behind byte).is;
+          is = (behind byte).is;
           fits = poll_fits s j v done (record { word = Wait; answer = Polled byte } ∷ done) _ c (behind byte) (record v.lun { busy = false; column = unread v.lun.column }) _
               (unmoved s.geometry j v v.registers.place true done Wait (Polled byte) f.registers clear (record { column = λ n. refl; plane = λ n. refl; index = λ b n. refl }) f.registers.place)
               (found_ready_lun s.geometry j (record v.lun { column = unread v.lun.column }) (index_now j.base done) (polled_view (behind byte).selected (behind byte).overlapped c.view) (poll_lun s.geometry j v.lun (index_now j.base done) c.view (behind byte).selected (behind byte).overlapped f.lun) ready);
@@ -228,7 +228,7 @@ sound_wait s j k v past c done rest at scene f clear acc =
         (record {
           claim = waiting_where (ltb 1 s.geometry.luns) v;
           scene = (behind byte).now;
-          is = scene_is s j.lun _ (behind byte).now _ (behind byte).is;
+          is = (behind byte).is;
           fits = subst (λ (x : Bool). Fits s.geometry j (waiting_where (ltb 1 s.geometry.luns) v) done (behind byte).now x) (sym (closed_knows (ltb 1 s.geometry.luns) (behind byte).now (behind byte).closed)) (waiting_fits s j v done _ c (behind byte) f (ltb 1 s.geometry.luns) refl);
           accepted = waiting_accepted s.geometry j.text v (ltb 1 s.geometry.luns) rest at acc;
         })
@@ -262,7 +262,7 @@ yield_fits s j v done answer c f clear true =
       tail = λ x. cc;
       free = λ x. record { tail = refl; shows = refl; unread = unread_is v.lun.column };
       shows = tt;
-      lun = record { ready = f.lun.ready; register = f.lun.register; column = yield_column v.lun.column c.view.column f.lun.column; queue = f.lun.queue; last = f.lun.last; cached = f.lun.cached; held = f.lun.held; planes = f.lun.planes; array = f.lun.array };
+      lun = record { ready = f.lun.ready; register = f.lun.register; column = yield_column v.lun.column c.view.column f.lun.column; queue = f.lun.queue; last = f.lun.last; cached = f.lun.cached; held = f.lun.held; planes = f.lun.planes; array = f.lun.array; copies = f.lun.copies };
     }
 yield_fits s j v done answer c f clear false =
     record {
@@ -293,7 +293,7 @@ sound_yield s j k v past c done rest at scene f clear acc =
           (record {
             claim = yielded several v;
             scene = c;
-            is = scene_is s j.lun past c _ scene;
+            is = scene;
             fits = subst (λ (x : Bool). Fits s.geometry j (yielded several v) (record { word = Yield; answer = Nothing } ∷ done) c x) (sym (closed_knows several c shut)) (yield_fits s j v done Nothing c f clear several);
             accepted = ap (λ (x : State). accepts s.geometry (bounds_of j.text) None x rest) (sym leaves) ∙ acc;
           });
@@ -367,7 +367,7 @@ sound_jump s j k v past c done rest at target scene f clear acc =
           (record {
             claim = state_after s.geometry v (Jump target);
             scene = c;
-            is = scene_is s j.lun past c _ scene;
+            is = scene;
             fits = branch_fits s j v done (Jump target) Nothing c f clear (record { column = λ n. refl; plane = λ n. refl; index = λ b n. refl }) refl refl;
             accepted = sym (left_out s.geometry j.text target (state_after s.geometry v (Jump target)) rest) ∙ acc;
           });
@@ -382,7 +382,7 @@ sound_branch s j k v past c done rest at mask target scene f clear acc taken =
           (record {
             claim = state_after s.geometry v (BranchOnStatus mask target);
             scene = c;
-            is = scene_is s j.lun past c _ scene;
+            is = scene;
             fits = branch_fits s j v done (BranchOnStatus mask target) Nothing c f clear (record { column = λ n. refl; plane = λ n. refl; index = λ b n. refl }) refl refl;
             accepted = either (meets mask (status_now done));
           });

@@ -6,7 +6,7 @@ use Rattle.nand_geometry.specs.Limits.{planes}
 use Rattle.nand_geometry.specs.Optional.{has_plane_reads}
 use Rattle.nand_geometry.specs.Row.{row_of, parts_of, indexed, row_bytes_of, is_inside}
 use Rattle.onfi_cycle.specs.declared.command.Command.{Command}
-use Rattle.onfi_cycle.specs.declared.command.Command.TheVariants.{Read, ReadConfirm, ReadCacheSequential, ChangeReadColumn, ChangeReadColumnEnhanced, BlockErase, PageProgram, ReadId, ReadParameterPage, ReadUniqueId, GetFeatures, SetFeatures, ResetLun}
+use Rattle.onfi_cycle.specs.declared.command.Command.TheVariants.{Read, ReadConfirm, ReadCacheSequential, ChangeReadColumn, ChangeReadColumnEnhanced, BlockErase, PageProgram, ChangeWriteColumn, ReadId, ReadParameterPage, ReadUniqueId, GetFeatures, SetFeatures, ResetLun}
 use Rattle.onfi_cycle.specs.declared.data_phase.DataPhase.{DataPhase}
 use Rattle.onfi_cycle.specs.declared.data_phase.DataPhase.TheVariants.{Inputs, FirstColumn, SecondColumn, FeatureInputs}
 use Rattle.onfi_cycle.specs.declared.latch.Latch.{Latch}
@@ -21,10 +21,11 @@ use Rattle.onfi_cycle.specs.declared.tail_facts.TailFacts.{TailFacts}
 use Rattle.onfi_cycle.specs.declared.target_cycle.TargetCycle.TheVariants.{CommandCycle, AddressCycle}
 use Rattle.onfi_cycle.specs.LunView.{LunView}
 use Rattle.onfi_cycle.specs.Sequence.{facts_of, facts_after, is_open, input_column}
-use Rattle.onfi_cycle.specs.Lun.{output_column, is_queued_read, pages_of_reads}
+use Rattle.onfi_cycle.specs.Lun.{output_column, is_queued_read, is_copyback_read, pages_of_reads, page_in_plane}
+use Rattle.onfi_cycle.specs.Rules.{keeps_copy}
 use Rattle.micro_claims.specs.Spans.{Span}
 use Rattle.micro_claims.specs.Planes.{Planes, has_plane}
-use Rattle.micro_claims.specs.State.{State, Registers, KnownTarget, KnownLun, PageRange, Place, Closed, After, InData, InColumn, InFeatures, Unknown, Drift, NamedRow, Shown, Held, OutputColumn, QueuedRows, NoRows, SomeRows, SomeReads, AnyRows, LastCloser, shows_status, shows_register, holds_page, holds_parameters, holds_identifier, holds_identity, holds_jedec, holds_unique_id, holds_feature, may_be_30, may_be_31, may_be_other}
+use Rattle.micro_claims.specs.State.{State, Registers, KnownTarget, KnownLun, PageRange, Place, Closed, After, InData, InColumn, InFeatures, Unknown, Drift, NamedRow, Shown, Held, OutputColumn, QueuedRows, NoRows, SomeRows, SomeReads, AnyRows, LastCloser, Copies, shows_status, shows_register, holds_page, holds_parameters, holds_identifier, holds_identity, holds_jedec, holds_unique_id, holds_feature, may_be_30, may_be_31, may_be_other}
 use Rattle.micro_claims.specs.Against.{is_inside_address, next_address, first_address, is_in_features}
 use Rattle.micro_program.specs.Program.{Job, Done, column_now, plane_now, index_now, place_now, cost_now}
 use Rattle.micro_program.proofs.Scenes.{Scene}
@@ -89,6 +90,7 @@ is_place ChangeReadColumn n = nat_le n 2
 is_place ChangeReadColumnEnhanced n = nat_le n 5
 is_place BlockErase n = nat_le n 3
 is_place PageProgram n = nat_le n 4
+is_place ChangeWriteColumn n = nat_le n 4
 is_place ReadId n = n == 0
 is_place ReadParameterPage n = n == 0
 is_place ReadUniqueId n = n == 0
@@ -137,6 +139,7 @@ takes_column Read = true
 takes_column ChangeReadColumn = true
 takes_column ChangeReadColumnEnhanced = true
 takes_column PageProgram = true
+takes_column ChangeWriteColumn = true
 takes_column _ = false
 
 abbrev pub takes_row : Command → Bool
@@ -144,6 +147,7 @@ takes_row Read = true
 takes_row ChangeReadColumnEnhanced = true
 takes_row BlockErase = true
 takes_row PageProgram = true
+takes_row ChangeWriteColumn = true
 takes_row _ = false
 
 abbrev pub has_column : Place → Bool
@@ -310,6 +314,33 @@ abbrev pub closer_among : LastCloser → Option Command → Bool
 closer_among w None = may_be_other w
 closer_among w (Some c) = command_among w c
 
+-- the page that each of these planes holds is even, or odd, as this number is
+abbrev pub page_number : Option PageAddress → Option ℕ
+page_number None = None
+page_number (Some q) = Some q.page
+
+abbrev pub number_parity : Option ℕ → Option ℕ
+number_parity None = None
+number_parity (Some n) = Some (n % 2)
+
+abbrev pub HaveParity : Parts → Planes → ℕ → List PageAddress → Type 0
+HaveParity g p number pages = (n : ℕ) → has_plane n p ≡ true → number_parity (page_number (page_in_plane (planes g) n pages)) ≡ Some (number % 2)
+
+-- each plane of the first is one of the second
+abbrev pub Among : Planes → Planes → Type 0
+Among p q = (n : ℕ) → has_plane n p ≡ true → has_plane n q ≡ true
+
+-- what is held for copies: behind a 35 the pages of which it is sure come first, as many as planes
+pub record CopiesFit (g : Parts) (c : Copies) (held : Planes) (index : ℕ) (closer : Option Command) (pages : List PageAddress) : Type 0 where
+  pub even : HaveParity g c.even (index % g.pages) pages
+  pub odd : HaveParity g c.odd (index % g.pages + 1) pages
+  pub even_held : Among c.even held
+  pub odd_held : Among c.odd held
+  pub copying : c.copying ≡ true → is_copyback_read closer ≡ true
+  pub first : c.copying ≡ true → HavePages g held (take (count_of held) pages)
+  pub keeps : c.keeps ≡ true → keeps_copy closer ≡ true
+  pub holds : c.holds ≡ false → pages ≡ []
+
 pub record LunFits (g : Parts) (j : Job) (v : KnownLun) (index : ℕ) (view : LunView) : Type 0 where
   pub ready : v.busy ≡ false → view.busy ≡ false
   pub register : RegisterFits v.register view.register
@@ -320,6 +351,7 @@ pub record LunFits (g : Parts) (j : Job) (v : KnownLun) (index : ℕ) (view : Lu
   pub held : may_be_other v.last ≡ false → nat_le (length view.held) 1 ≡ true
   pub planes : HavePages g v.held view.held
   pub array : HavePages g v.array (view.array_page ∷ [])
+  pub copies : CopiesFit g v.copies v.held index view.closer view.held
 
 -- 5. all of it
 

@@ -178,7 +178,7 @@ none_queued g now (SomeRows e p d) queue h f = cc
 none_queued g now (SomeReads p surely d) queue h f = cc
 none_queued g now AnyRows queue h f = cc
 
-few_reads : (qs : List Queued) → length (pages_of_reads qs) ≤ length qs
+pub few_reads : (qs : List Queued) → length (pages_of_reads qs) ≤ length qs
 few_reads [] = omega arith
 few_reads (Erase p ∷ qs) = let x = few_reads qs in omega (arith, x)
 few_reads (Program p ∷ qs) = let x = few_reads qs in omega (arith, x)
@@ -206,7 +206,7 @@ read_row g j now a p queued d row page block among drift =
     record { kind = refl; index = a.index; plane = a.plane; low = row.low; page = page; block = block; among = among; drift = drift }
 
 -- a distance that is the same as another
-same_far : (now index : ℕ) (o : Option Drift) (d : Drift) → same_drift o d ≡ true → DriftFits now index o → now + d.behind ≡ index + d.ahead
+pub same_far : (now index : ℕ) (o : Option Drift) (d : Drift) → same_drift o d ≡ true → DriftFits now index o → now + d.behind ≡ index + d.ahead
 same_far now index None d same f = cc
 same_far now index (Some e) d same f =
     let parts = and_parts (e.ahead == d.ahead) (e.behind == d.behind) same in

@@ -42,6 +42,8 @@ use Rattle.micro_claims.proofs.MoreCommands.{declared, opener_free}
 use Rattle.micro_claims.proofs.SoundAddress.{resets_lun, sound_address}
 use Rattle.micro_claims.proofs.LunResets.{sound_lun_reset}
 use Rattle.micro_claims.proofs.Indices.{only_is}
+use Rattle.micro_claims.proofs.CopiedPages.{no_copies_fit}
+use Rattle.micro_claims.specs.Planes.{no_planes}
 
 -- 1. the commands
 
@@ -65,14 +67,14 @@ sound_90 s j k v past c done rest at byte is scene f clear acc =
     let dec = declared s.geometry j.text v byte ReadId is clear in
     let allowed = identity_allowed s j v c done f dec.one (opener_free s.geometry j.text v byte ReadId is refl refl clear) in
     plain_opener s j k v past c done rest at byte ReadId is scene f clear allowed
-    refl refl (same_either (wants_command c.facts ReadId && names_lun s.geometry (row c.facts) j.lun.lun)) refl acc
+    refl refl refl (same_either (wants_command c.facts ReadId && names_lun s.geometry (row c.facts) j.lun.lun)) refl acc
 
 pub sound_ec : (s : Channel) (j : Job) (k : KnownJob s j) (v : State) (past : List Item) (c : Scene) (done : List Done) (rest : List Line) (at byte : ℕ) → command byte ≡ ReadParameterPage → IsScene s j.lun past c → Fits s.geometry j v done c true → NoReasons s.geometry j.text v (CommandWord byte) → accepts s.geometry (bounds_of j.text) None (state_after s.geometry v (CommandWord byte)) rest ≡ true → SoundWord s j past done rest at (CommandWord byte)
 sound_ec s j k v past c done rest at byte is scene f clear acc =
     let dec = declared s.geometry j.text v byte ReadParameterPage is clear in
     let allowed = identity_allowed s j v c done f dec.one (opener_free s.geometry j.text v byte ReadParameterPage is refl refl clear) in
     plain_opener s j k v past c done rest at byte ReadParameterPage is scene f clear allowed
-    refl refl (same_either (wants_command c.facts ReadParameterPage && names_lun s.geometry (row c.facts) j.lun.lun)) refl acc
+    refl refl refl (same_either (wants_command c.facts ReadParameterPage && names_lun s.geometry (row c.facts) j.lun.lun)) refl acc
 
 pub sound_ed : (s : Channel) (j : Job) (k : KnownJob s j) (v : State) (past : List Item) (c : Scene) (done : List Done) (rest : List Line) (at byte : ℕ) → command byte ≡ ReadUniqueId → IsScene s j.lun past c → Fits s.geometry j v done c true → NoReasons s.geometry j.text v (CommandWord byte) → accepts s.geometry (bounds_of j.text) None (state_after s.geometry v (CommandWord byte)) rest ≡ true → SoundWord s j past done rest at (CommandWord byte)
 sound_ed s j k v past c done rest at byte is scene f clear acc =
@@ -80,7 +82,7 @@ sound_ed s j k v past c done rest at byte is scene f clear acc =
     let allowed = identity_allowed s j v c done f dec.one (opener_free s.geometry j.text v byte ReadUniqueId is dec.fit refl clear) in
     let fit = or_parts (not (is_wide s.geometry.optional)) (not (has_unique_id s.geometry.optional)) dec.fit in
     plain_opener s j k v past c done rest at byte ReadUniqueId is scene f clear (allowed, not-false (has_unique_id s.geometry.optional) fit.1)
-    refl refl (same_either (wants_command c.facts ReadUniqueId && names_lun s.geometry (row c.facts) j.lun.lun)) refl acc
+    refl refl refl (same_either (wants_command c.facts ReadUniqueId && names_lun s.geometry (row c.facts) j.lun.lun)) refl acc
 
 pub sound_ee : (s : Channel) (j : Job) (k : KnownJob s j) (v : State) (past : List Item) (c : Scene) (done : List Done) (rest : List Line) (at byte : ℕ) → command byte ≡ GetFeatures → IsScene s j.lun past c → Fits s.geometry j v done c true → NoReasons s.geometry j.text v (CommandWord byte) → accepts s.geometry (bounds_of j.text) None (state_after s.geometry v (CommandWord byte)) rest ≡ true → SoundWord s j past done rest at (CommandWord byte)
 sound_ee s j k v past c done rest at byte is scene f clear acc =
@@ -88,7 +90,7 @@ sound_ee s j k v past c done rest at byte is scene f clear acc =
     let allowed = identity_allowed s j v c done f dec.one (opener_free s.geometry j.text v byte GetFeatures is dec.fit refl clear) in
     let fit = or_parts (not (is_wide s.geometry.optional)) (not (has_features s.geometry.optional)) dec.fit in
     plain_opener s j k v past c done rest at byte GetFeatures is scene f clear (allowed, not-false (has_features s.geometry.optional) fit.1)
-    refl refl (same_either (wants_command c.facts GetFeatures && names_lun s.geometry (row c.facts) j.lun.lun)) refl acc
+    refl refl refl (same_either (wants_command c.facts GetFeatures && names_lun s.geometry (row c.facts) j.lun.lun)) refl acc
 
 pub sound_ef : (s : Channel) (j : Job) (k : KnownJob s j) (v : State) (past : List Item) (c : Scene) (done : List Done) (rest : List Line) (at byte : ℕ) → command byte ≡ SetFeatures → IsScene s j.lun past c → Fits s.geometry j v done c true → NoReasons s.geometry j.text v (CommandWord byte) → accepts s.geometry (bounds_of j.text) None (state_after s.geometry v (CommandWord byte)) rest ≡ true → SoundWord s j past done rest at (CommandWord byte)
 sound_ef s j k v past c done rest at byte is scene f clear acc =
@@ -96,7 +98,7 @@ sound_ef s j k v past c done rest at byte is scene f clear acc =
     let allowed = identity_allowed s j v c done f dec.one (opener_free s.geometry j.text v byte SetFeatures is dec.fit refl clear) in
     let fit = or_parts (not (is_wide s.geometry.optional)) (not (has_features s.geometry.optional)) dec.fit in
     plain_opener s j k v past c done rest at byte SetFeatures is scene f clear (allowed, not-false (has_features s.geometry.optional) fit.1)
-    refl refl (same_either (wants_command c.facts SetFeatures && names_lun s.geometry (row c.facts) j.lun.lun)) refl acc
+    refl refl refl (same_either (wants_command c.facts SetFeatures && names_lun s.geometry (row c.facts) j.lun.lun)) refl acc
 
 -- 2. their address
 
@@ -264,9 +266,9 @@ beside_fits s j v c done busy held next left is single sole shut latch lun =
 
 -- what 90h reads is what may be held
 id_lun : (g : Parts) (j : Job) (v : State) (i : ℕ) (view : LunView) (a b : Bool) → LunFits g j v.lun i view → LunFits g j (beside_read v.lun.busy (cond a (record { 0 = 4 }) (cond b (record { 0 = 16 }) (record { 0 = 8 }))) v).lun i (view_after (cond a IdRead (IdentityRead b)) view)
-id_lun g j v i view true b f = record { ready = f.ready; register = refl; column = record { at = 0; is = refl; below = (in_exactly 0).most; unread = λ e. refl }; queue = f.queue; last = refl; cached = λ e x. cc; held = λ e. cc; planes = no_pages g []; array = no_pages g (view.array_page ∷ []) }
-id_lun g j v i view false true f = record { ready = f.ready; register = refl; column = record { at = 0; is = refl; below = (in_exactly 0).most; unread = λ e. refl }; queue = f.queue; last = refl; cached = λ e x. cc; held = λ e. cc; planes = no_pages g []; array = no_pages g (view.array_page ∷ []) }
-id_lun g j v i view false false f = record { ready = f.ready; register = refl; column = record { at = 0; is = refl; below = (in_exactly 0).most; unread = λ e. refl }; queue = f.queue; last = refl; cached = λ e x. cc; held = λ e. cc; planes = no_pages g []; array = no_pages g (view.array_page ∷ []) }
+id_lun g j v i view true b f = record { ready = f.ready; register = refl; column = record { at = 0; is = refl; below = (in_exactly 0).most; unread = λ e. refl }; queue = f.queue; last = refl; cached = λ e x. cc; held = λ e. cc; planes = no_pages g []; array = no_pages g (view.array_page ∷ []); copies = no_copies_fit g no_planes i _ }
+id_lun g j v i view false true f = record { ready = f.ready; register = refl; column = record { at = 0; is = refl; below = (in_exactly 0).most; unread = λ e. refl }; queue = f.queue; last = refl; cached = λ e x. cc; held = λ e. cc; planes = no_pages g []; array = no_pages g (view.array_page ∷ []); copies = no_copies_fit g no_planes i _ }
+id_lun g j v i view false false f = record { ready = f.ready; register = refl; column = record { at = 0; is = refl; below = (in_exactly 0).most; unread = λ e. refl }; queue = f.queue; last = refl; cached = λ e x. cc; held = λ e. cc; planes = no_pages g []; array = no_pages g (view.array_page ∷ []); copies = no_copies_fit g no_planes i _ }
 
 id_latch : (a b : Bool) (view : LunView) → (view_after (cond a IdRead (IdentityRead b)) view).latch ≡ Data
 id_latch true b view = refl
@@ -301,7 +303,7 @@ identity_ec s j v past c done rest at from count h =
     let next = beside_scene s.geometry ReadParameterPage ParameterPageReadStarted byte c in
     at_identity s j h.k v past c done rest at from count ReadParameterPage next h.id (ec_step s j c byte h.start h.id.single h.id.takes)
     (beside_fits s j v c done true (record { 0 = 2 }) next (identity_read v from ReadParameterPage) refl h.id.single refl refl refl
-    (record { ready = λ e. cc; register = refl; column = record { at = 0; is = refl; below = (in_exactly 0).most; unread = λ e. refl }; queue = h.f.lun.queue; last = refl; cached = λ e x. cc; held = λ e. cc; planes = no_pages s.geometry []; array = no_pages s.geometry (c.view.array_page ∷ []) }))
+    (record { ready = λ e. cc; register = refl; column = record { at = 0; is = refl; below = (in_exactly 0).most; unread = λ e. refl }; queue = h.f.lun.queue; last = refl; cached = λ e x. cc; held = λ e. cc; planes = no_pages s.geometry []; array = no_pages s.geometry (c.view.array_page ∷ []); copies = no_copies_fit s.geometry no_planes _ _ }))
     h.left h.scene h.f h.clear h.acc
 
 identity_ed : (s : Channel) (j : Job) (v : State) (past : List Item) (c : Scene) (done : List Done) (rest : List Line) (at from count : ℕ) → AtOpener s j v past c done rest from count ReadUniqueId → SoundWord s j past done rest at (AddressWord from count)
@@ -310,7 +312,7 @@ identity_ed s j v past c done rest at from count h =
     let next = beside_scene s.geometry ReadUniqueId UniqueIdReadStarted byte c in
     at_identity s j h.k v past c done rest at from count ReadUniqueId next h.id (ed_step s j c byte h.start h.id.single h.id.takes)
     (beside_fits s j v c done true (record { 0 = 32 }) next (identity_read v from ReadUniqueId) refl h.id.single refl refl refl
-    (record { ready = λ e. cc; register = refl; column = record { at = 0; is = refl; below = (in_exactly 0).most; unread = λ e. refl }; queue = h.f.lun.queue; last = refl; cached = λ e x. cc; held = λ e. cc; planes = no_pages s.geometry []; array = no_pages s.geometry (c.view.array_page ∷ []) }))
+    (record { ready = λ e. cc; register = refl; column = record { at = 0; is = refl; below = (in_exactly 0).most; unread = λ e. refl }; queue = h.f.lun.queue; last = refl; cached = λ e x. cc; held = λ e. cc; planes = no_pages s.geometry []; array = no_pages s.geometry (c.view.array_page ∷ []); copies = no_copies_fit s.geometry no_planes _ _ }))
     h.left h.scene h.f h.clear h.acc
 
 identity_ee : (s : Channel) (j : Job) (v : State) (past : List Item) (c : Scene) (done : List Done) (rest : List Line) (at from count : ℕ) → AtOpener s j v past c done rest from count GetFeatures → SoundWord s j past done rest at (AddressWord from count)
@@ -319,7 +321,7 @@ identity_ee s j v past c done rest at from count h =
     let next = beside_scene s.geometry GetFeatures (FeaturesReadStarted byte) byte c in
     at_identity s j h.k v past c done rest at from count GetFeatures next h.id (ee_step s j c byte h.start h.id.single)
     (beside_fits s j v c done true (record { 0 = 64 }) next (identity_read v from GetFeatures) refl h.id.single refl refl refl
-    (record { ready = λ e. cc; register = refl; column = record { at = 0; is = refl; below = (in_exactly 0).most; unread = λ e. refl }; queue = h.f.lun.queue; last = refl; cached = λ e x. cc; held = λ e. cc; planes = no_pages s.geometry []; array = no_pages s.geometry (c.view.array_page ∷ []) }))
+    (record { ready = λ e. cc; register = refl; column = record { at = 0; is = refl; below = (in_exactly 0).most; unread = λ e. refl }; queue = h.f.lun.queue; last = refl; cached = λ e x. cc; held = λ e. cc; planes = no_pages s.geometry []; array = no_pages s.geometry (c.view.array_page ∷ []); copies = no_copies_fit s.geometry no_planes _ _ }))
     h.left h.scene h.f h.clear h.acc
 
 identity_ef : (s : Channel) (j : Job) (v : State) (past : List Item) (c : Scene) (done : List Done) (rest : List Line) (at from count : ℕ) → AtOpener s j v past c done rest from count SetFeatures → SoundWord s j past done rest at (AddressWord from count)

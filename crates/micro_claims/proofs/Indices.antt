@@ -29,6 +29,8 @@ use Rattle.micro_claims.proofs.Tails.{no_place, none_held}
 use Rattle.micro_claims.proofs.Sounding.{KnownJob, NoReasons, within_budget, SoundWord}
 use Rattle.micro_claims.proofs.Settings.{loop_like}
 use Rattle.micro_claims.proofs.NamesNow.{over_page}
+use Rattle.micro_claims.proofs.CopiedPages.{moved_copies_fit}
+use Rattle.micro_claims.specs.Copies.{no_distance, parity_of, copies_moved}
 
 -- 1. what is said of rows by their distance
 
@@ -80,9 +82,9 @@ tail_moved g j v n m move t none moves f =
       single = f.single;
     }
 
-lun_moved : (g : Parts) (j : Job) (l : KnownLun) (old new : ℕ) (move : Drift → Option Drift) (view : LunView) → MovesDrifts old new move → LunFits g j l old view → LunFits g j (record l { queue = rows_moved move l.queue }) new view
+lun_moved : (g : Parts) (j : Job) (l : KnownLun) (old new : ℕ) (move : Drift → Option Drift) (view : LunView) → MovesDrifts old new move → LunFits g j l old view → LunFits g j (record l { queue = rows_moved move l.queue; copies = copies_moved (parity_of g.pages (move no_distance)) l.copies }) new view
 lun_moved g j l old new move view moves f =
-    record { ready = f.ready; register = f.register; column = f.column; queue = rows_fit g old new move l.queue view.queue moves f.queue; last = f.last; cached = f.cached; held = f.held; planes = f.planes; array = f.array }
+    record { ready = f.ready; register = f.register; column = f.column; queue = rows_fit g old new move l.queue view.queue moves f.queue; last = f.last; cached = f.cached; held = f.held; planes = f.planes; array = f.array; copies = moved_copies_fit g l.copies l.held old new (move no_distance) view.closer view.held (moves no_distance old refl) f.copies }
 
 -- 2. rowadd
 

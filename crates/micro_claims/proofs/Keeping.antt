@@ -27,10 +27,9 @@ use Rattle.micro_program.specs.Safe.{Seat, after_item}
 use Rattle.micro_claims.specs.State.{KnownLun, OutputColumn, Shown}
 use Rattle.micro_program.proofs.Below.{readies, own_cycles, targets, service}
 use Rattle.micro_program.proofs.Basics.{there_lun}
-use Rattle.micro_program.proofs.Scenes.{Scene, SceneIs}
-use Rattle.micro_program.proofs.NoCopies.{copies_moved, copies_beside}
+use Rattle.micro_program.proofs.Scenes.{Scene}
 use Rattle.micro_program.proofs.Stepping.{drivers_same}
-use Rattle.micro_claims.proofs.Fits.{RegisterFits, RowsFit, closer_among, latch_among, Below, ShowsFit, OutputFits, OutputColumnFits, HavePages, LunFits, is_unread}
+use Rattle.micro_claims.proofs.Fits.{RegisterFits, RowsFit, closer_among, latch_among, Below, ShowsFit, OutputFits, OutputColumnFits, HavePages, CopiesFit, LunFits, is_unread}
 use Rattle.micro_claims.proofs.Sounding.{KnownJob, Claims, knows_tail}
 
 -- 1. readies
@@ -145,6 +144,7 @@ moved_view g j v i old new busy closer page register column queue held f =
       held = λ e. ap (λ (pages : List PageAddress). nat_le (length pages) 1) held ∙ f.held e;
       planes = subst (λ (pages : List PageAddress). HavePages g v.held pages) (sym held) f.planes;
       array = subst (λ (p : PageAddress). HavePages g v.array (p ∷ [])) (sym page) f.array;
+      copies = subst (CopiesFit g v.copies v.held i new.closer) (sym held) (subst (λ (o : Option Command). CopiesFit g v.copies v.held i o old.held) (sym closer) f.copies);
     }
 
 shows_moved : (o : Option Shown) (c d : Scene) → d.sole ≡ c.sole → d.view.latch ≡ c.view.latch → ShowsFit o c → ShowsFit o d
@@ -167,11 +167,6 @@ ready_kept s j seat i c h =
         view = refl;
         sole = λ e. ap (λ (ds : List ℕ). is_only ds l.lun) same ∙ c.is.sole e;
         free = service.readies g seat.past i l.ce h c.is.free;
-        copies = copies_moved c.scene.facts c.scene.view (lun_view g (i ∷ seat.past) l) (knows_tail s seat c.scene)
-            (left.closer ∙ ap (λ (v : LunView). v.closer) was)
-            (left.queue ∙ ap (λ (v : LunView). v.queue) was)
-            (left.held ∙ ap (λ (v : LunView). v.held) was)
-            c.is.copies;
       };
       fits = record {
         registers = c.fits.registers;
@@ -214,21 +209,10 @@ here_kept s j k seat c kept claims free several rests =
     record {
       claim = claims.claim;
       scene = now;
-      is = subst (λ (b : Bool). SceneIs s l (Cyc c ∷ seat.past) now b) (sym (unknown_behind now))
-          (record {
-            facts = refl;
-            view = refl;
-            sole = λ e. cc;
-            free = rests;
-            copies = copies_beside now.facts claims.scene.view now.view (knows_tail s seat claims.scene)
-                (kept.closer ∙ ap (λ (v : LunView). v.closer) was)
-                (kept.queue ∙ ap (λ (v : LunView). v.queue) was)
-                (kept.held ∙ ap (λ (v : LunView). v.held) was)
-                claims.is.copies;
-          });
+      is = record { facts = refl; view = refl; sole = λ e. cc; free = rests };
       fits = record {
         registers = claims.fits.registers;
-        tail = λ e. let none = unknown_behind now in cc;
+        tail = λ e. let none : knows_tail s (after_item (Cyc c) seat) now ≡ false = rw (free, several) refl in cc;
         free = λ e. is_free;
         shows = subst (λ (o : Option Shown). ShowsFit o now) (sym is_free.shows) tt;
         lun = moved_view g j claims.claim.lun (index_now j.base seat.done) claims.scene.view (lun_view g (Cyc c ∷ seat.past) l)
@@ -243,9 +227,6 @@ here_kept s j k seat c kept claims free several rests =
       };
       accepted = claims.accepted;
     }
-  where
-    unknown_behind : (now : Scene) → knows_tail s (after_item (Cyc c) seat) now ≡ false
-    unknown_behind now = rw (free, several) refl
 
 -- a LUN of another target
 -- a cycle of another target leaves all of a LUN
@@ -268,7 +249,6 @@ there_kept s j seat c apart rests kept array claims =
         view = view ∙ claims.is.view;
         sole = λ e. ap (λ (ds : List ℕ). is_only ds l.lun) same ∙ claims.is.sole e;
         free = rests;
-        copies = claims.is.copies;
       };
       fits = claims.fits;
       accepted = claims.accepted;

@@ -3,7 +3,9 @@ pub mod AddressSteps
 pub mod Addressing
 pub mod Commands
 pub mod Controls
+pub mod CopiedPages
 pub mod Fits
+pub mod HeldLists
 pub mod HeldPlanes
 pub mod Identities
 pub mod Indices

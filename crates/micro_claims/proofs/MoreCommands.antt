@@ -28,9 +28,9 @@ use Rattle.micro_program.specs.Lines.{Line}
 use Rattle.micro_claims.specs.Spans.{bound_plus, is_at_most}
 use Rattle.micro_claims.specs.Planes.{no_planes, either_plane}
 use Rattle.micro_claims.specs.State.{State, Place, Closed, After, InData, InColumn, InFeatures, NamedRow, Drift, QueuedRows, NoRows, SomeRows, SomeReads, AnyRows, LastCloser, bounds_of, Unknown, may_be_30, may_be_other}
-use Rattle.micro_claims.specs.Against.{may_end_sequence, opener_refused, closer_refused, is_unfit, asks_status, is_for_traces, command_not_for_programs, drives, may_be_open, place_wants, same_test, continues_unseen, goes_on_at}
+use Rattle.micro_claims.specs.Against.{may_end_sequence, opener_refused, closer_refused, is_unfit, asks_status, command_not_for_programs, drives, may_be_open, place_wants, same_test, continues_unseen, goes_on_at}
 use Rattle.micro_claims.specs.Reasons.{breaks_command_not_allowed}
-use Rattle.micro_claims.specs.Leaves.{work_started, rows_at, goes_along, queued_planes, queued_more, data_shown, reset_started, command_leaves, cache_read, next_cached, named_plane, cached_at, shows_after_read}
+use Rattle.micro_claims.specs.Leaves.{work_started, program_queued, rows_at, goes_along, queued_planes, queued_more, data_shown, reset_started, command_leaves, cache_read, next_cached, named_plane, cached_at, shows_after_read}
 use Rattle.micro_claims.specs.Accepts.{state_after, accepts}
 use Rattle.micro_program.specs.Program.{Job, Done, index_now}
 use Rattle.micro_claims.proofs.PlaneSets.{among_first, among_second}
@@ -41,6 +41,7 @@ use Rattle.micro_claims.proofs.Numbers.{below_plus, in_exactly, surely}
 use Rattle.micro_claims.proofs.Tails.{closed_tail, closed_fits, whole_erase_plane, programming, whole}
 use Rattle.micro_claims.proofs.Sounding.{KnownJob, NoReasons, SoundWord}
 use Rattle.micro_claims.proofs.Commands.{command_sound, plain_opener, same_either, shows_kept, wanted, row_names, program_row, driven, out_of_place, page_of_row, page_below, read_shown}
+use Rattle.micro_claims.proofs.CopiedPages.{no_copies_fit, uncopied_fit, queued_copies_fit}
 
 -- 1. what is declared
 
@@ -54,10 +55,9 @@ unfolding breaks_command_not_allowed
 declared g text v byte d is clear =
     let none = subst (λ (c : Command). (command_not_for_programs g c || continues_unseen (bounds_of text) c) ≡ false) is clear.no_command_not_allowed in
     let both = or_parts (command_not_for_programs g d) (continues_unseen (bounds_of text) d) none in
-    let three = or_parts (is_unfit g d || asks_status d || is_for_traces d) (wants_one_lun d && ltb 1 g.luns) both.0 in
-    let two = or_parts (is_unfit g d || asks_status d) (is_for_traces d) three.0 in
+    let two = or_parts (is_unfit g d || asks_status d) (wants_one_lun d && ltb 1 g.luns) both.0 in
     let one = or_parts (is_unfit g d) (asks_status d) two.0 in
-    record { fit = one.0; one = three.1; cache = both.1 }
+    record { fit = one.0; one = two.1; cache = both.1 }
 
 -- 2. queued rows
 
@@ -112,7 +112,7 @@ sound_d1 s j k v past c done rest at byte is scene f clear acc =
     (closed_fits g j None None v.target.shows (now_of j done) _ (ap (λ (t : TailFacts). is_open (facts_after (CommandCycle BlockErasePlane) t)) w.facts))
     (shows_kept v.target.shows c (scene_behind g j.lun.lun (CommandCycle BlockErasePlane) c) (λ e. e) (ap (λ (e : Effect). (view_after e c.view).latch) effect) f.shows)
     (subst (λ (e : Effect). LunFits g j (work_started (queued_more true v.lun.queue v.target.named) v).lun (index_now j.base done) (view_after e c.view)) (sym effect)
-    (record { ready = λ e. cc; register = tt; column = tt; queue = queued_fits g j (index_now j.base done) true v.lun.queue v.target.named w.address (Erase (page_address g (row c.facts))) c.view.queue (w.named refl) (w.row refl) refl page.0 page.1 f.lun.queue; last = refl; cached = λ e x. cc; held = λ e. cc; planes = no_pages g []; array = no_pages g (c.view.array_page ∷ []) }))
+    (record { ready = λ e. cc; register = tt; column = tt; queue = queued_fits g j (index_now j.base done) true v.lun.queue v.target.named w.address (Erase (page_address g (row c.facts))) c.view.queue (w.named refl) (w.row refl) refl page.0 page.1 f.lun.queue; last = refl; cached = λ e x. cc; held = λ e. cc; planes = no_pages g []; array = no_pages g (c.view.array_page ∷ []); copies = no_copies_fit g no_planes (index_now j.base done) _ }))
     acc
 
 -- 11h
@@ -144,17 +144,17 @@ sound_11 s j k v past c done rest at byte is scene f clear acc =
     command_sound s j k v past c done rest at byte ProgramPlane is scene f clear ((wants, names), not-false g.multi_plane dec.fit) refl
     (closed_fits g j None None v.target.shows (now_of j done) _ (rw p.program.begun refl))
     (shows_kept v.target.shows c (scene_behind g j.lun.lun (CommandCycle ProgramPlane) c) (λ e. e) (ap (λ (e : Effect). (view_after e c.view).latch) effect) f.shows)
-    (subst (λ (e : Effect). LunFits g j (work_started (queued_more false v.lun.queue v.target.named) v).lun (index_now j.base done) (view_after e c.view)) (sym effect)
-    (record { ready = λ e. cc; register = tt; column = tt; queue = queued_fits g j (index_now j.base done) false v.lun.queue v.target.named p.address (Program (page_address g (row c.facts))) c.view.queue p.named p.row refl page.0 page.1 f.lun.queue; last = refl; cached = λ e x. cc; held = λ e. cc; planes = no_pages g c.view.held; array = no_pages g (c.view.array_page ∷ []) }))
+    (subst (λ (e : Effect). LunFits g j (program_queued v).lun (index_now j.base done) (view_after e c.view)) (sym effect)
+    (record { ready = λ e. cc; register = tt; column = tt; queue = queued_fits g j (index_now j.base done) false v.lun.queue v.target.named p.address (Program (page_address g (row c.facts))) c.view.queue p.named p.row refl page.0 page.1 f.lun.queue; last = refl; cached = λ e x. cc; held = λ e. cc; planes = f.lun.planes; array = no_pages g (c.view.array_page ∷ []); copies = queued_copies_fit g v.lun.copies v.lun.held (index_now j.base done) c.view.closer c.view.held f.lun.copies }))
     acc
 
 -- 3. openers that are whole by themselves
 
-pub opener_free : (g : Parts) (text : Microprogram) (v : State) (byte : ℕ) (d : Command) → command byte ≡ d → is_unfit g d ≡ false → (is_opener d && not (goes_on_at d v.target.tail)) ≡ true → NoReasons g text v (CommandWord byte) → ((not (may_end_sequence g d) && may_be_open v) || opener_refused g v d) ≡ false
+pub opener_free : (g : Parts) (text : Microprogram) (v : State) (byte : ℕ) (d : Command) → command byte ≡ d → is_unfit g d ≡ false → (is_opener d && not (goes_on_at g d v.target.tail)) ≡ true → NoReasons g text v (CommandWord byte) → ((not (may_end_sequence g d) && may_be_open v) || opener_refused g v d) ≡ false
 opener_free g text v byte d is fit opener clear =
     let free = (not (may_end_sequence g d) && may_be_open v) || opener_refused g v d in
     let all = not (place_wants d v.target.tail) || closer_refused g v d in
-    let fitting = subst (λ (b : Bool). cond b false (cond (is_opener d && not (goes_on_at d v.target.tail)) free all) ≡ false) fit (out_of_place g text v byte d is clear) in
+    let fitting = subst (λ (b : Bool). cond b false (cond (is_opener d && not (goes_on_at g d v.target.tail)) free all) ≡ false) fit (out_of_place g text v byte d is clear) in
     subst (λ (b : Bool). cond b free all ≡ false) opener fitting
 
 -- a reset comes where nothing is open, or anywhere in the wider profile
@@ -177,7 +177,7 @@ reset_one g lun one = sym (ap (λ (b : Bool). cond (is_wide g.optional && b) (Ta
     none false = refl
 
 pub reset_fits : (g : Parts) (j : Job) (v : State) (i : ℕ) (view : LunView) → LunFits g j (reset_started v).lun i (view_after ResetStarted view)
-reset_fits g j v i view = record { ready = λ e. cc; register = tt; column = tt; queue = refl; last = refl; cached = λ e x. cc; held = λ e. cc; planes = no_pages g []; array = no_pages g (view.array_page ∷ []) }
+reset_fits g j v i view = record { ready = λ e. cc; register = tt; column = tt; queue = refl; last = refl; cached = λ e x. cc; held = λ e. cc; planes = no_pages g []; array = no_pages g (view.array_page ∷ []); copies = no_copies_fit g no_planes i _ }
 
 resets_fit : (g : Parts) (j : Job) (v : State) (i lun : ℕ) (view : LunView) → ltb 1 g.luns ≡ false → LunFits g j (reset_started v).lun i (view_after (reset_effect g lun) view)
 resets_fit g j v i lun view one = subst (λ (e : Effect). LunFits g j (reset_started v).lun i (view_after e view)) (reset_one g lun one) (reset_fits g j v i view)
@@ -214,7 +214,7 @@ sound_fa s j k v past c done rest at byte is scene f clear acc =
     let dec = declared g j.text v byte ResetLun is clear in
     let free = or_parts (may_be_open v) false (opener_free g j.text v byte ResetLun is dec.fit refl clear) in
     let fit = or_parts (not (is_wide g.optional)) (not (has_lun_reset g.optional)) dec.fit in
-    plain_opener s j k v past c done rest at byte ResetLun is scene f clear (closed_tail g j v.target (now_of j done) c.facts (f.tail refl) free.0, not-false (has_lun_reset g.optional) fit.1) refl refl
+    plain_opener s j k v past c done rest at byte ResetLun is scene f clear (closed_tail g j v.target (now_of j done) c.facts (f.tail refl) free.0, not-false (has_lun_reset g.optional) fit.1) refl refl refl
     (same_either (wants_command c.facts ResetLun && names_lun g (row c.facts) j.lun.lun)) refl acc
 
 -- 31h and 3Fh
@@ -271,7 +271,7 @@ sound_lone_31 s j k v past c done rest at byte is scene f clear unplaced acc =
     (or_left c.sole (not (ltb 1 g.luns)) drive.0, ap (λ (e : Effect). latch_among (record { 0 = 2 }) (view_after e c.view).latch) effect))
     (subst (λ (x : State). LunFits g j x.lun (index_now j.base done) (view_after (cycle_effect g c.facts (shown_alone c) (CommandCycle ReadCacheSequential) j.lun.lun) c.view)) (sym leaves)
     (subst (λ (e : Effect). LunFits g j (cache_read (record { 0 = 2 }) (next_cached v.lun.cached) v.lun.array data_shown v).lun (index_now j.base done) (view_after e c.view)) (sym effect)
-    (record { ready = λ e. cc; register = refl; column = record { at = 0; is = refl; below = (in_exactly 0).most; unread = λ e. refl }; queue = f.lun.queue; last = refl; cached = λ e x. below_plus c.view.array_page.page v.lun.cached.page.hi 1 1 (f.lun.cached e two.1) (omega arith); held = λ e. refl; planes = f.lun.array; array = f.lun.array })))
+    (record { ready = λ e. cc; register = refl; column = record { at = 0; is = refl; below = (in_exactly 0).most; unread = λ e. refl }; queue = f.lun.queue; last = refl; cached = λ e x. below_plus c.view.array_page.page v.lun.cached.page.hi 1 1 (f.lun.cached e two.1) (omega arith); held = λ e. refl; planes = f.lun.array; array = f.lun.array; copies = uncopied_fit g v.lun.array _ _ _ })))
     acc
 
 sound_row_31 : (s : Channel) (j : Job) (k : KnownJob s j) (v : State) (past : List Item) (c : Scene) (done : List Done) (rest : List Line) (at byte : ℕ) → command byte ≡ ReadCacheSequential → IsScene s j.lun past c → Fits s.geometry j v done c true → NoReasons s.geometry j.text v (CommandWord byte) → place_wants ReadCacheSequential v.target.tail ≡ true → accepts s.geometry (bounds_of j.text) None (state_after s.geometry v (CommandWord byte)) rest ≡ true → SoundWord s j past done rest at (CommandWord byte)
@@ -307,6 +307,7 @@ sound_row_31 s j k v past c done rest at byte is scene f clear placed acc =
       cached = λ base e. subst (λ (n : ℕ). Below n (cached_at v.target.named).page.hi) (sym page_is) (page_below g j w.address (index_now j.base done) v.target.named (w.named refl) base);
       held = λ e. refl;
       planes = f.lun.array;
+      copies = uncopied_fit g v.lun.array _ _ _;
       array = read_array g j (index_now j.base done) v.target.named w.address (page_address g (row c.facts)) (w.named refl) (w.row refl) (page_of_row g j c.facts w.address row_is (w.row refl)).1;
     })))
     acc
@@ -335,5 +336,5 @@ sound_3f s j k v past c done rest at byte is scene f clear acc =
     (closed_fits g j None None data_shown (now_of j done) _ refl)
     (drive.0, ap (λ (e : Effect). latch_among (record { 0 = 2 }) (view_after e c.view).latch) effect)
     (subst (λ (e : Effect). LunFits g j (command_leaves g v ReadCacheEnd).lun (index_now j.base done) (view_after e c.view)) (sym effect)
-    (record { ready = λ e. cc; register = refl; column = record { at = 0; is = refl; below = (in_exactly 0).most; unread = λ e. refl }; queue = f.lun.queue; last = refl; cached = λ e x. cc; held = λ e. cc; planes = f.lun.array; array = f.lun.array }))
+    (record { ready = λ e. cc; register = refl; column = record { at = 0; is = refl; below = (in_exactly 0).most; unread = λ e. refl }; queue = f.lun.queue; last = refl; cached = λ e x. cc; held = λ e. cc; planes = f.lun.array; array = f.lun.array; copies = uncopied_fit g v.lun.array _ _ _ }))
     acc

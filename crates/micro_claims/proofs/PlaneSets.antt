@@ -1,16 +1,16 @@
 -- Sets of planes: who is in them.
-use Rattle.std.proofs.Common.{◌≡◌, ℕ, zero, suc, ◌+◌, ◌*◌, ◌/◌, ◌%◌, ◌^◌, ◌≤◌, ◌<◌, ◌==◌, Bool, true, false, ◌||◌, cond, nat_le, refl, sym, ap, ◌∙◌, arith, eqb-true, eq-eqb}
+use Rattle.std.proofs.Common.{◌≡◌, ℕ, zero, suc, ◌+◌, ◌-◌, ◌*◌, ◌/◌, ◌%◌, ◌^◌, ◌≤◌, ◌<◌, ◌==◌, Bool, true, false, ◌||◌, cond, nat_le, refl, sym, ap, ◌∙◌, arith, eqb-true, eq-eqb}
 use Rattle.std.specs.Prelude.{bit_and, nat_lt}
 use Rattle.std.specs.Int.{bit_at}
 use Rattle.std.specs.Int.Bits.{and_self}
 use Rattle.std.proofs.Math.Pow.{pow_mono}
 use Rattle.std.proofs.lemmas.Bool.Decides.{nat_tests}
-use Rattle.std.proofs.lemmas.Bool.{not-false, not-true}
+use Rattle.std.proofs.lemmas.Bool.{and_parts, not-false, not-true}
 use Rattle.std.proofs.lemmas.Nat.{and_assoc, and_comm, and_le_l, pow_pos, pow_below}
 use Rattle.std.proofs.lemmas.Nat.Bits.{bit_at-lt, bit_at_above, bit_at_cat_low, same_from_bits, bit_at-suc, bit_at_lowest}
 use Rattle.micro_claims.specs.Sets.{has}
-use Rattle.micro_claims.specs.Planes.{Planes, has_plane, no_planes, just_plane, either_plane, share_a_plane, are_below}
-use Rattle.micro_claims.proofs.Sets.{has_more, has_first, has_second, has_bit, has_either, has_none, has_only, shares_one}
+use Rattle.micro_claims.specs.Planes.{Planes, has_plane, no_planes, just_plane, either_plane, other_planes, share_a_plane, is_one_plane, are_below}
+use Rattle.micro_claims.proofs.Sets.{has_more, has_first, has_second, has_bit, has_both, has_either, has_none, has_only, shares_one}
 
 -- the one plane of a set of one
 pub just_has : (n : ℕ) → n ≤ 3 → has_plane n (just_plane n) ≡ true
@@ -150,3 +150,29 @@ sharing p q n a b = at (share_a_plane p q) refl
     at : (c : Bool) → share_a_plane p q ≡ c → share_a_plane p q ≡ true
     at true e = e
     at false e = absurd (let x : (n == n) ≡ false = none_common p q n n e a b in let y : (n == n) ≡ true = eq-eqb n n refl in let z : true ≡ false = sym y ∙ x in cc)
+
+-- of the planes that aren't in a set of one none is that one
+pub record IsOther (n : ℕ) (p q : Planes) : Type 0 where
+  pub there : has_plane n q ≡ true
+  pub apart : has_plane n p ≡ false
+
+pub other_is : (n : ℕ) (p q : Planes) → is_one_plane p ≡ true → has_plane n (other_planes p q) ≡ true → IsOther n p q
+other_is n p q one h =
+    let both = and_parts (has_plane n q) (has (2 ^ n) (15 - p.0)) (sym (has_both n q.0 (15 - p.0)) ∙ h) in
+    record { there = both.0; apart = at (has_plane n p) refl both.1 }
+  where
+    this : (k : ℕ) → p.0 ≡ 2 ^ k → has (2 ^ k) (15 - 2 ^ k) ≡ false → has_plane n p ≡ true → has (2 ^ n) (15 - p.0) ≡ false
+    this k e out here =
+        let is : n ≡ k = eqb-true n k (sym (has_only n k) ∙ (ap (has (2 ^ n)) (sym e) ∙ here)) in
+        ap (λ (m : ℕ). has (2 ^ n) (15 - m)) e ∙ (ap (λ (j : ℕ). has (2 ^ j) (15 - 2 ^ k)) is ∙ out)
+
+    by : (a b c d : Bool) → (p.0 == 1) ≡ a → (p.0 == 2) ≡ b → (p.0 == 4) ≡ c → (p.0 == 8) ≡ d → (a || (b || (c || d))) ≡ true → has_plane n p ≡ true → has (2 ^ n) (15 - p.0) ≡ false
+    by true b c d e f i j h here = this 0 (eqb-true p.0 1 e) refl here
+    by false true c d e f i j h here = this 1 (eqb-true p.0 2 f) refl here
+    by false false true d e f i j h here = this 2 (eqb-true p.0 4 i) refl here
+    by false false false true e f i j h here = this 3 (eqb-true p.0 8 j) refl here
+    by false false false false e f i j h here = cc
+
+    at : (b : Bool) → has_plane n p ≡ b → has (2 ^ n) (15 - p.0) ≡ true → has_plane n p ≡ false
+    at false e out = e
+    at true e out = let in_one = by (p.0 == 1) (p.0 == 2) (p.0 == 4) (p.0 == 8) refl refl refl refl one e in let clash : true ≡ false = sym out ∙ in_one in cc

@@ -1,14 +1,14 @@
 -- Programs that are accepted, computed by the definitions; so they are safe. And some that aren't accepted.
 use Rattle.std.proofs.Common.{◌≡◌, true, false, refl, List, [], ◌∷◌, None, arith}
 use Rattle.micro_word.specs.declared.word.Word.{Word}
-use Rattle.micro_word.specs.declared.word.Word.TheVariants.{End, Command, Address, Get, Put, Plane, Wait, Yield}
+use Rattle.micro_word.specs.declared.word.Word.TheVariants.{End, Command, Address, Get, Put, Plane, Wait, Yield, RowAdd}
 use Rattle.onfi_cycle.specs.Command.{command}
 use Rattle.micro_program.specs.Unsafe.{one_lun}
 use Rattle.micro_program.specs.Lines.{unrolled}
 use Rattle.micro_claims.specs.State.{first_state, bounds_of}
 use Rattle.micro_claims.specs.Reasons.{reason_against, breaks_cycle_forbidden, breaks_address_unaligned, breaks_handover_in_sequence, breaks_buffer_passed, breaks_row_or_plane_outside, breaks_column_too_large, breaks_no_status, breaks_ends_too_soon, breaks_over_budget, breaks_command_not_allowed}
 use Rattle.micro_claims.specs.Accepts.{accepts, state_after}
-use Rattle.micro_claims.specs.SafePrograms.{two_luns, some_text, read_words, handing_words, program_words, column_words, checked_words, parts_words, planes_words, blocks_words, cache_words, identity_words, identities_words, features_words, lun_reset_words, resets_words, plane_read_words, selecting_words, one_wide_lun, two_wide_luns, two_wide_planes, one_lun_with_cache, with_rows, SomeAreSafe}
+use Rattle.micro_claims.specs.SafePrograms.{two_luns, some_text, read_words, handing_words, program_words, column_words, checked_words, parts_words, planes_words, blocks_words, cache_words, identity_words, identities_words, features_words, lun_reset_words, resets_words, plane_read_words, selecting_words, one_wide_lun, two_wide_luns, two_wide_planes, one_lun_with_cache, with_rows, SomeAreSafe, copy_words, copies_words}
 use Rattle.micro_claims.proofs.AcceptedLines.{accepted_is_safe}
 
 read_is : accepts one_lun (bounds_of (some_text 528 536 read_words)) None first_state (unrolled read_words) ≡ true
@@ -153,6 +153,42 @@ unasked_among_others : accepts two_luns (bounds_of (some_text 528 536 unasked)) 
 unfolding command unrolled state_after reason_against breaks_cycle_forbidden breaks_address_unaligned breaks_handover_in_sequence breaks_buffer_passed breaks_row_or_plane_outside breaks_column_too_large breaks_no_status breaks_ends_too_soon breaks_over_budget breaks_command_not_allowed unasked
 unasked_among_others = refl
 
+copied_is : accepts one_wide_lun (bounds_of (with_rows 3 0 14 copy_words)) None first_state (unrolled copy_words) ≡ true
+unfolding command unrolled state_after reason_against breaks_cycle_forbidden breaks_address_unaligned breaks_handover_in_sequence breaks_buffer_passed breaks_row_or_plane_outside breaks_column_too_large breaks_no_status breaks_ends_too_soon breaks_over_budget breaks_command_not_allowed
+copied_is = refl
+
+copied_among_others_is : accepts two_wide_luns (bounds_of (with_rows 3 0 14 copy_words)) None first_state (unrolled copy_words) ≡ true
+unfolding command unrolled state_after reason_against breaks_cycle_forbidden breaks_address_unaligned breaks_handover_in_sequence breaks_buffer_passed breaks_row_or_plane_outside breaks_column_too_large breaks_no_status breaks_ends_too_soon breaks_over_budget breaks_command_not_allowed
+copied_among_others_is = refl
+
+copied_in_planes_is : accepts two_wide_planes (bounds_of (with_rows 3 1 29 copies_words)) None first_state (unrolled copies_words) ≡ true
+unfolding command unrolled state_after reason_against breaks_cycle_forbidden breaks_address_unaligned breaks_handover_in_sequence breaks_buffer_passed breaks_row_or_plane_outside breaks_column_too_large breaks_no_status breaks_ends_too_soon breaks_over_budget breaks_command_not_allowed
+copied_in_planes_is = refl
+
+-- a copy from an even page to an odd one, a copy of nothing, and a program of a page amid a group of copies
+odd_words : List Word
+odd_words = Command 0x00 ∷ (Address 0 5 ∷ (Command 0x35 ∷ (Wait ∷ (RowAdd 1 ∷ (Command 0x85 ∷ (Address 0 5 ∷ (Command 0x10 ∷ (Wait ∷ (End 0 ∷ [])))))))))
+
+odd_copy : accepts one_wide_lun (bounds_of (with_rows 3 0 14 odd_words)) None first_state (unrolled odd_words) ≡ false
+unfolding command unrolled state_after reason_against breaks_cycle_forbidden breaks_address_unaligned breaks_handover_in_sequence breaks_buffer_passed breaks_row_or_plane_outside breaks_column_too_large breaks_no_status breaks_ends_too_soon breaks_over_budget breaks_command_not_allowed odd_words
+odd_copy = refl
+
+nothing_words : List Word
+nothing_words = Command 0x85 ∷ (Address 0 5 ∷ (Command 0x10 ∷ (Wait ∷ (End 0 ∷ []))))
+
+nothing_copied : accepts one_wide_lun (bounds_of (with_rows 3 0 14 nothing_words)) None first_state (unrolled nothing_words) ≡ false
+unfolding command unrolled state_after reason_against breaks_cycle_forbidden breaks_address_unaligned breaks_handover_in_sequence breaks_buffer_passed breaks_row_or_plane_outside breaks_column_too_large breaks_no_status breaks_ends_too_soon breaks_over_budget breaks_command_not_allowed nothing_words
+nothing_copied = refl
+
+amid_words : List Word
+amid_words =
+    Command 0x00 ∷ (Address 0 5 ∷ (Command 0x35 ∷ (Wait ∷ (Command 0x85 ∷ (Address 0 5 ∷ (Command 0x11 ∷ (Wait ∷ (
+    Plane 1 ∷ (Command 0x80 ∷ (Address 0 5 ∷ (Put 1 ∷ (Command 0x10 ∷ (Wait ∷ (End 0 ∷ []))))))))))))))
+
+amid_copies : accepts two_wide_planes (bounds_of (with_rows 3 1 29 amid_words)) None first_state (unrolled amid_words) ≡ false
+unfolding command unrolled state_after reason_against breaks_cycle_forbidden breaks_address_unaligned breaks_handover_in_sequence breaks_buffer_passed breaks_row_or_plane_outside breaks_column_too_large breaks_no_status breaks_ends_too_soon breaks_over_budget breaks_command_not_allowed amid_words
+amid_copies = refl
+
 pub some_are_safe : SomeAreSafe
 some_are_safe =
     record {
@@ -178,4 +214,7 @@ some_are_safe =
       plane_read = accepted_is_safe (some_text 8 36 plane_read_words) two_wide_planes (omega arith) plane_read_is;
       selecting = accepted_is_safe (some_text 4 18 selecting_words) one_wide_lun (omega arith) selecting_is;
       selecting_among_others = accepted_is_safe (some_text 4 18 selecting_words) two_wide_luns (omega arith) selecting_among_others_is;
+      copied = accepted_is_safe (with_rows 3 0 14 copy_words) one_wide_lun (omega arith) copied_is;
+      copied_among_others = accepted_is_safe (with_rows 3 0 14 copy_words) two_wide_luns (omega arith) copied_among_others_is;
+      copied_in_planes = accepted_is_safe (with_rows 3 1 29 copies_words) two_wide_planes (omega arith) copied_in_planes_is;
     }

@@ -1,11 +1,11 @@
 -- Sets as the bits of a number: what is in them.
-use Rattle.std.proofs.Common.{◌≡◌, ℕ, zero, suc, ◌*◌, ◌^◌, ◌<◌, ◌==◌, Bool, true, false, ◌||◌, not, refl, sym, ap, ◌∙◌, arith, eqb-true, eq-eqb}
-use Rattle.std.specs.Prelude.{bit_and, bit_or, max}
+use Rattle.std.proofs.Common.{◌≡◌, ℕ, zero, suc, ◌*◌, ◌^◌, ◌<◌, ◌==◌, Bool, true, false, ◌&&◌, ◌||◌, not, refl, sym, ap, ◌∙◌, arith, eqb-true, eq-eqb}
+use Rattle.std.specs.Prelude.{bit_and, bit_or, max, min}
 use Rattle.std.specs.Int.{bit_at}
 use Rattle.std.specs.Int.Bits.{and_self}
 use Rattle.std.proofs.lemmas.Bool.Decides.{nat_tests}
 use Rattle.std.proofs.lemmas.Nat.{and_assoc, and_comm, and_or_self, or_comm, pow_pos}
-use Rattle.std.proofs.lemmas.Nat.Bits.{and_pow, bit_at-lt, bit_at_or, bit_at-pow_other}
+use Rattle.std.proofs.lemmas.Nat.Bits.{and_pow, bit_at-lt, bit_at_or, bit_at_and, bit_at-pow_other}
 use Rattle.micro_claims.specs.Sets.{has}
 
 pub has_self : (a : ℕ) → has a a ≡ true
@@ -51,6 +51,21 @@ pub has_either : (n a b : ℕ) → has (2 ^ n) (bit_or a b) ≡ (has (2 ^ n) a |
 has_either n a b =
     has_bit n (bit_or a b) ∙ (ap (λ (x : ℕ). x == 1) (bit_at_or a b n)
     ∙ (either_one (bit_at a n) (bit_at b n) (bit_at-lt a n) (bit_at-lt b n) ∙ sym (λ i. has_bit n a i || has_bit n b i)))
+
+-- it is in what two sets share where it is in both
+both_one : (x y : ℕ) → x < 2 → y < 2 → (min x y == 1) ≡ ((x == 1) && (y == 1))
+both_one zero zero l m = refl
+both_one zero (suc zero) l m = refl
+both_one (suc zero) zero l m = refl
+both_one (suc zero) (suc zero) l m = refl
+both_one (suc (suc x)) y l m = absurd (omega (arith, l))
+both_one zero (suc (suc y)) l m = absurd (omega (arith, m))
+both_one (suc zero) (suc (suc y)) l m = absurd (omega (arith, m))
+
+pub has_both : (n a b : ℕ) → has (2 ^ n) (bit_and a b) ≡ (has (2 ^ n) a && has (2 ^ n) b)
+has_both n a b =
+    has_bit n (bit_and a b) ∙ (ap (λ (x : ℕ). x == 1) (bit_at_and a b n)
+    ∙ (both_one (bit_at a n) (bit_at b n) (bit_at-lt a n) (bit_at-lt b n) ∙ sym (λ i. has_bit n a i && has_bit n b i)))
 
 -- it shares a set's members where it is one of them
 some_of : (x k : ℕ) → x < 2 → 0 < k → not (x * k == 0) ≡ (x * k == k)

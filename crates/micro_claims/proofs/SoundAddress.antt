@@ -3,11 +3,11 @@ use Rattle.std.specs.List.{list_any}
 use Rattle.std.proofs.Common.{◌≡◌, ℕ, zero, suc, ◌+◌, ◌-◌, ◌*◌, ◌/◌, ◌%◌, ◌^◌, ◌≤◌, ◌<◌, ◌==◌, Bool, true, false, ◌&&◌, ◌||◌, cond, not, ltb, nat_le, List, [], ◌∷◌, Option, Some, None, refl, sym, ap, ◌∙◌, subst, arith, eq-eqb, eqb-true, take, drop}
 use Rattle.std.proofs.lemmas.Bool.Decides.{nat_tests}
 use Rattle.std.proofs.lemmas.Nat.{div-mul-add, mod-mul-add}
-use Rattle.std.proofs.lemmas.Bool.{not-false, or_from, and_from, or_parts}
+use Rattle.std.proofs.lemmas.Bool.{not-false, or_from, or_left, or_right, and_from, or_parts}
 use Rattle.onfi_cycle.proofs.Booleans.{and_rest}
 use Rattle.nand_geometry.specs.declared.parts.Parts.{Parts}
 use Rattle.nand_geometry.specs.declared.row_parts.RowParts.{RowParts}
-use Rattle.nand_geometry.specs.Optional.{is_wide, has_plane_reads, has_free_blocks}
+use Rattle.nand_geometry.specs.Optional.{is_wide, has_plane_reads, has_free_blocks, has_copyback, has_odd_even}
 use Rattle.nand_geometry.specs.Limits.{InLimits, planes, page_len}
 use Rattle.nand_geometry.specs.Row.{row_of, row_bytes_of}
 use Rattle.onfi_cycle.specs.declared.command.Command.{Command}
@@ -27,16 +27,18 @@ use Rattle.onfi_cycle.specs.Command.{at_last_row, addresses_the_array, is_change
 use Rattle.onfi_cycle.specs.Sequence.{opened, facts_after, column_with, input_column}
 use Rattle.onfi_cycle.specs.Effect.{page_address}
 use Rattle.onfi_cycle.specs.declared.effect.Effect.TheVariants.{ProgramAddressed}
-use Rattle.onfi_cycle.specs.Lun.{is_queued_read, view_after}
-use Rattle.onfi_cycle.specs.Rules.{planes_clash, queued_clashes, some_queued_clashes, read_clashes, some_read_clashes, has_some, holds_plane_of, ends_row, second_of_page, second_column, refused_by, register_len, excludes_cache}
+use Rattle.onfi_cycle.specs.Lun.{is_queued_read, page_in_plane, view_after}
+use Rattle.onfi_cycle.specs.Rules.{planes_clash, queued_clashes, some_queued_clashes, read_clashes, some_read_clashes, has_some, holds_plane_of, holds_none, is_copying, may_copy, may_copy_to, keeps_copy, ends_row, second_of_page, second_column, refused_by, register_len, excludes_cache}
 use Rattle.onfi_cycle.specs.Channel.{Channel}
 use Rattle.micro_claims.specs.Spans.{bound_plus, is_at_most, copied}
 use Rattle.micro_claims.specs.Planes.{Planes, has_plane, share_a_plane, are_planes_within}
 use Rattle.micro_claims.proofs.Sets.{has_more}
 use Rattle.micro_claims.proofs.HeldPlanes.{no_pages, plane_is, none_queued}
+use Rattle.micro_claims.proofs.HeldLists.{found}
+use Rattle.micro_claims.proofs.CopiedPages.{cleared_fit}
 use Rattle.micro_claims.proofs.PlaneSets.{none_common}
 use Rattle.micro_claims.specs.State.{Drift, NamedRow, Shown, Held, State, KnownLun, Place, Closed, After, InData, InColumn, InFeatures, QueuedRows, NoRows, SomeRows, SomeReads, AnyRows, bounds_of, Unknown, may_be_31}
-use Rattle.micro_claims.specs.Against.{may_be_queued, plane_refused, is_read, is_erase, same_test, drives, least_length, takes_identity_at, address_out_of_place, begins_elsewhere, column_past, queue_refuses, row_refused, has_second_column, column_limit, is_inside_address}
+use Rattle.micro_claims.specs.Against.{may_be_queued, plane_refused, copied_planes, copy_refused, is_read, is_erase, same_test, drives, least_length, takes_identity_at, address_out_of_place, begins_elsewhere, column_past, queue_refuses, row_refused, has_second_column, column_limit, is_inside_address}
 use Rattle.micro_claims.specs.Reasons.{breaks_cycle_forbidden, breaks_address_unaligned, breaks_row_or_plane_outside, breaks_column_too_large}
 use Rattle.micro_claims.specs.Leaves.{paid, with_registers, without_pages, address_leads_to, target_after_addresses, name_now, address_leaves_at, after_few, column_leads_to}
 use Rattle.micro_claims.specs.Accepts.{state_after, accepts}
@@ -46,13 +48,13 @@ use Rattle.micro_program.specs.Moves.{gives, and_then}
 use Rattle.micro_word.specs.declared.word.Word.TheVariants.{Address as AddressWord}
 use Rattle.micro_program.proofs.Scenes.{Scene, IsScene, AddressAllowed, scene_behind}
 use Rattle.micro_program.proofs.SceneMoves.{MovesAllowed}
-use Rattle.micro_claims.proofs.Fits.{holds_address, is_of_kind, page_of, RowFits, AllFit, ColumnBegun, Fits, RegisterFits, Below, RegistersFit, Address, all_bytes, bytes_of, opener_facts, facts_behind, InProgram, Opened, PlaceIs, has_column, has_row, now_of, IsNow, ColumnFits, NameFits, RowIs, TailFits, ShowsFit, RowsFit, LunFits}
+use Rattle.micro_claims.proofs.Fits.{holds_address, is_of_kind, page_of, RowFits, AllFit, ColumnBegun, Fits, RegisterFits, Below, RegistersFit, Address, all_bytes, bytes_of, opener_facts, facts_behind, InProgram, Opened, PlaceIs, has_column, has_row, now_of, IsNow, ColumnFits, NameFits, RowIs, TailFits, ShowsFit, RowsFit, page_number, number_parity, LunFits}
 use Rattle.micro_claims.proofs.Numbers.{surely}
 use Rattle.micro_claims.proofs.Commands.{shows_kept, not_caching}
 use Rattle.micro_claims.proofs.Tails.{no_place}
 use Rattle.micro_claims.proofs.Words.{least_register}
 use Rattle.micro_claims.proofs.Sounding.{KnownJob, NoReasons, unmoved, SoundWord, plain_sound}
-use Rattle.micro_claims.proofs.AddressSteps.{Steps, many, carried, RowGoes, scene_at, addressed_view, program_scene, read_steps, enhanced_steps, program_steps, erase_steps, column_steps, never}
+use Rattle.micro_claims.proofs.AddressSteps.{Steps, many, carried, RowGoes, scene_at, addressed_view, program_scene, read_steps, enhanced_steps, program_steps, copy_steps, erase_steps, column_steps, never}
 use Rattle.micro_claims.proofs.Addressing.{PlaceClear, place_clear, address_now, address_bytes, AddressNow, of_now, same_facts, same_bytes, carried_is}
 use Rattle.micro_claims.proofs.NamesNow.{named_now}
 
@@ -146,8 +148,9 @@ queue_goes g now (SomeRows erase queued d) queue regs o p plane f clear low amon
 
 row_goes : (g : Parts) (j : Job) (v : State) (done : List Done) (view : LunView) (a : Address) (o : Command) (n : ℕ) → RegistersFit g j v.registers done → a.index ≡ index_now j.base done → a.plane ≡ plane_now done → LunFits g j v.lun (index_now j.base done) view → RowIs g j a → addresses_the_array o ≡ true → row_refused g v (After o n) ≡ false → RowGoes g j.lun.lun a view o
 row_goes g j v done view a o n registers index plane f row array refused =
-    let clear = and_rest (addresses_the_array o) (v.lun.busy || (excludes_cache g o && may_be_31 v.lun.last) || queue_refuses v.lun.queue v.registers.planes o || plane_refused v o) array refused in
-    let three = or_parts (v.lun.busy || (excludes_cache g o && may_be_31 v.lun.last) || queue_refuses v.lun.queue v.registers.planes o) (plane_refused v o) clear in
+    let clear = and_rest (addresses_the_array o) (v.lun.busy || (excludes_cache g o && may_be_31 v.lun.last) || queue_refuses v.lun.queue v.registers.planes o || plane_refused v o || copy_refused g v o) array refused in
+    let four = or_parts (v.lun.busy || (excludes_cache g o && may_be_31 v.lun.last) || queue_refuses v.lun.queue v.registers.planes o || plane_refused v o) (copy_refused g v o) clear in
+    let three = or_parts (v.lun.busy || (excludes_cache g o && may_be_31 v.lun.last) || queue_refuses v.lun.queue v.registers.planes o) (plane_refused v o) four.0 in
     let two = or_parts (v.lun.busy || (excludes_cache g o && may_be_31 v.lun.last)) (queue_refuses v.lun.queue v.registers.planes o) three.0 in
     let one = or_parts v.lun.busy (excludes_cache g o && may_be_31 v.lun.last) two.0 in
     record {
@@ -161,7 +164,8 @@ row_goes g j v done view a o n registers index plane f row array refused =
 -- the row of 06h is of a plane that holds a page, and nothing is queued
 plane_held : (g : Parts) (j : Job) (v : State) (done : List Done) (view : LunView) (a : Address) (n : ℕ) → RegistersFit g j v.registers done → a.index ≡ index_now j.base done → a.plane ≡ plane_now done → LunFits g j v.lun (index_now j.base done) view → RowIs g j a → row_refused g v (After ChangeReadColumnEnhanced n) ≡ false → holds_plane_of g (page_address g (row_of a.r1 a.r2 a.r3)) view ≡ true
 plane_held g j v done view a n registers index plane f row refused =
-    let three = or_parts (v.lun.busy || false || queue_refuses v.lun.queue v.registers.planes ChangeReadColumnEnhanced) (plane_refused v ChangeReadColumnEnhanced) refused in
+    let four = or_parts (v.lun.busy || false || queue_refuses v.lun.queue v.registers.planes ChangeReadColumnEnhanced || plane_refused v ChangeReadColumnEnhanced) false refused in
+    let three = or_parts (v.lun.busy || false || queue_refuses v.lun.queue v.registers.planes ChangeReadColumnEnhanced) (plane_refused v ChangeReadColumnEnhanced) four.0 in
     let both = or_parts (may_be_queued v.lun.queue) (not (are_planes_within v.registers.planes v.lun.held)) three.1 in
     let within = not-false (are_planes_within v.registers.planes v.lun.held) both.1 in
     let lies : (page_address g (row_of a.r1 a.r2 a.r3)).block % planes g ≡ a.plane = plane_is g _ (a.index / g.pages) a.plane (ap (λ (p : RowParts). p.block) row.reads) row.low in
@@ -169,6 +173,47 @@ plane_held g j v done view a n registers index plane f row refused =
     let held = f.planes a.plane (has_more (2 ^ a.plane) v.registers.planes.0 v.lun.held.0 within among) in
     and_from (not (has_some view.queue)) _ (ap not (none_queued g (index_now j.base done) v.lun.queue view.queue both.0 f.queue))
     (subst (λ (m : ℕ). list_any (λ q. q.block % planes g == m) view.held ≡ true) (sym lies) held)
+
+-- nothing more against the row of this opener
+uncopied_row : (g : Parts) (v : State) (o : Command) (n : ℕ) → addresses_the_array o ≡ true → row_refused g v (After o n) ≡ false → copy_refused g v o ≡ false
+uncopied_row g v o n array refused =
+    let clear = and_rest (addresses_the_array o) _ array refused in
+    (or_parts (v.lun.busy || (excludes_cache g o && may_be_31 v.lun.last) || queue_refuses v.lun.queue v.registers.planes o || plane_refused v o) (copy_refused g v o) clear).1
+
+-- the row of 85h is of a plane that holds a page which may be copied there
+copied_row : (g : Parts) (j : Job) (v : State) (done : List Done) (view : LunView) (a : Address) → RegistersFit g j v.registers done → a.index ≡ index_now j.base done → a.plane ≡ plane_now done → LunFits g j v.lun (index_now j.base done) view → RowIs g j a → copy_refused g v ChangeWriteColumn ≡ false → may_copy g (page_address g (row_of a.r1 a.r2 a.r3)) view ≡ true
+copied_row g j v done view a registers index plane f row refused =
+    let both = or_parts (not v.lun.copies.keeps) (not (are_planes_within v.registers.planes (copied_planes g v.lun))) refused in
+    let within = not-false (are_planes_within v.registers.planes (copied_planes g v.lun)) both.1 in
+    let p = page_address g (row_of a.r1 a.r2 a.r3) in
+    let lies : p.block % planes g ≡ a.plane = plane_is g _ (a.index / g.pages) a.plane (ap (λ (p : RowParts). p.block) row.reads) row.low in
+    let number : p.page ≡ index_now j.base done % g.pages = ap (λ (p : RowParts). p.page) row.reads ∙ ap (λ (i : ℕ). i % g.pages) index in
+    let among : has_plane a.plane v.registers.planes ≡ true = ap (λ (p : ℕ). has_plane p v.registers.planes) plane ∙ registers.plane in
+    let may = has_more (2 ^ a.plane) v.registers.planes.0 (copied_planes g v.lun).0 within among in
+    and_from (keeps_copy view.closer) _ (f.copies.keeps (not-false v.lun.copies.keeps both.0))
+    (subst (λ (m : ℕ). may_copy_to g p (page_in_plane (planes g) m view.held) ≡ true) (sym lies) (at p number (has_odd_even g.optional) refl may))
+  where
+    found_even : (p : PageAddress) (o : Option PageAddress) → p.page ≡ index_now j.base done % g.pages → number_parity (page_number o) ≡ Some (index_now j.base done % g.pages % 2) → may_copy_to g p o ≡ true
+    found_even p None number e = cc
+    found_even p (Some q) number e = or_right (has_odd_even g.optional) _ (eq-eqb (p.page % 2) (q.page % 2) (let same : q.page % 2 ≡ index_now j.base done % g.pages % 2 = cc in ap (λ (n : ℕ). n % 2) number ∙ sym same))
+
+    at : (p : PageAddress) → p.page ≡ index_now j.base done % g.pages → (b : Bool) → has_odd_even g.optional ≡ b → has_plane a.plane (cond b v.lun.held v.lun.copies.even) ≡ true → may_copy_to g p (page_in_plane (planes g) a.plane view.held) ≡ true
+    at p number true e h = let there = found (planes g) a.plane view.held (f.planes a.plane h) in ap (may_copy_to g p) there.is ∙ or_left (has_odd_even g.optional) _ e
+    at p number false e h = found_even p (page_in_plane (planes g) a.plane view.held) number (f.copies.even a.plane h)
+
+-- the row of 80h comes in no group of copies
+no_group : (g : Parts) (j : Job) (v : State) (i : ℕ) (view : LunView) → LunFits g j v.lun i view → copy_refused g v PageProgram ≡ false → (has_copyback g.optional && is_copying view) ≡ false
+no_group g j v i view f refused = at (has_copyback g.optional) (may_be_queued v.lun.queue) refl v.lun.copies.holds refl refused
+  where
+    none_left : (b : Bool) → (b && false) ≡ false
+    none_left true = refl
+    none_left false = refl
+
+    at : (copyback q : Bool) → may_be_queued v.lun.queue ≡ q → (h : Bool) → v.lun.copies.holds ≡ h → (copyback && (q && h)) ≡ false → (copyback && is_copying view) ≡ false
+    at false q e h d x = refl
+    at true false e h d x = ap (λ (b : Bool). b && not (holds_none view.held)) (none_queued g i v.lun.queue view.queue e f.queue)
+    at true true e true d x = cc
+    at true true e false d x = ap (λ (pages : List PageAddress). has_some view.queue && not (holds_none pages)) (f.copies.holds d) ∙ none_left (has_some view.queue)
 
 -- 2. what an address word makes of a place
 
@@ -262,6 +307,15 @@ program_column a (suc (suc (suc zero))) low high = refl
 program_column a (suc (suc (suc (suc zero)))) low high = refl
 program_column a (suc (suc (suc (suc (suc zero))))) low high = refl
 program_column a (suc (suc (suc (suc (suc (suc n)))))) low high = absurd (omega (arith, high))
+
+pub copy_column : (a : Address) (m : ℕ) → 2 ≤ m → m ≤ 5 → input_column (facts_behind (opener_facts ChangeWriteColumn) (take m (all_bytes a))) ≡ carried a + 0
+copy_column a zero low high = absurd (omega (arith, low))
+copy_column a (suc zero) low high = absurd (omega (arith, low))
+copy_column a (suc (suc zero)) low high = refl
+copy_column a (suc (suc (suc zero))) low high = refl
+copy_column a (suc (suc (suc (suc zero)))) low high = refl
+copy_column a (suc (suc (suc (suc (suc zero))))) low high = refl
+copy_column a (suc (suc (suc (suc (suc (suc n)))))) low high = absurd (omega (arith, high))
 
 pub enhanced_column : (a : Address) (m : ℕ) → 2 ≤ m → m ≤ 5 → input_column (facts_behind (opener_facts ChangeReadColumnEnhanced) (take m (all_bytes a))) ≡ carried a + 0
 enhanced_column a zero low high = absurd (omega (arith, low))
@@ -414,7 +468,10 @@ goes_program s j v c done from count n old w clear here is now column =
           (many g j.lun.lun (program_scene a c.view c.sole) (all_bytes a) count n few
           (λ i low high. program_steps g j.lun.lun a c.view c.sole i (omega (arith, high, few))
           (λ e. (carried_now (column_now done) (page_len g) (page_small g w.limits) (column_small g j v done from count (After PageProgram n) (page_len g) (page_small g w.limits) refl w.registers clear (second_of from count n begins (omega (arith, low, e)) (omega (arith, high, e))))).1)
-          (λ e. row_goes g j v done c.view a PageProgram n w.registers refl refl w.lun (w.address.row (let x : ltb 2 (from + count) ≡ true = grind (arith, nat_tests, high, begins, e) in x)) refl (clear.row (let x : nat_le 5 (from + count) ≡ true = grind (arith, nat_tests, high, begins, e) in x))))));
+          (λ e. let refused = clear.row (let x : nat_le 5 (from + count) ≡ true = grind (arith, nat_tests, high, begins, e) in x) in (
+            row_goes g j v done c.view a PageProgram n w.registers refl refl w.lun (w.address.row (let x : ltb 2 (from + count) ≡ true = grind (arith, nat_tests, high, begins, e) in x)) refl refused,
+            no_group g j v (index_now j.base done) c.view w.lun (uncopied_row g v PageProgram n refl refused),
+          )))));
       tail = at (n + count == 5) refl;
     }
   where
@@ -458,7 +515,7 @@ goes_program s j v c done from count n old w clear here is now column =
         let f = w.lun in
         subst (λ (b : Bool). LunFits g j (cond b (without_pages v.lun) v.lun) (index_now j.base done) (addressed_view (n + count) c.view)) (sym (ap (ends_program count) here ∙ e))
         (subst (λ (m : ℕ). LunFits g j (without_pages v.lun) (index_now j.base done) (addressed_view m c.view)) (sym five)
-        (record { ready = f.ready; register = f.register; column = f.column; queue = f.queue; last = f.last; cached = f.cached; held = λ x. refl; planes = no_pages g []; array = f.array }))
+        (record { ready = f.ready; register = f.register; column = f.column; queue = f.queue; last = f.last; cached = f.cached; held = λ x. refl; planes = no_pages g []; array = f.array; copies = cleared_fit g v.lun.copies v.lun.held (index_now j.base done) c.view.closer c.view.held f.copies }))
     lun_at false e =
         let four : n + count ≤ 4 = let f = few in grind (arith, nat_tests, e, f) in
         subst (λ (x : LunView). LunFits g j (lun_addressed v count) (index_now j.base done) x) (sym (early (n + count) four)) (kept_lun s j v done c.view count (After PageProgram n) here e w.lun)
@@ -493,6 +550,96 @@ goes_program s j v c done from count n old w clear here is now column =
         record {
           place = After PageProgram (n + count);
           here = here_led ∙ (ap (λ (b : Bool). cond b InData (after_few PageProgram (n + count))) e ∙ few_is PageProgram (n + count) (omega (arith, four)));
+          address = a;
+          is = record { place = grind (arith, nat_tests, four); facts = refl };
+          now = λ x. record { column = refl; bytes = λ y. w.address.bytes (let z : ltb 2 (from + count) ≡ true = grind (arith, nat_tests, begins, y) in z) };
+          column = λ x. column_fits (grind (arith, nat_tests, x));
+          row = λ x. absurd (too_few x four);
+          named = λ x. absurd (too_few x four);
+          single = λ x. cc;
+        }
+      where
+        too_few : nat_le 5 (0 + (n + count)) ≡ true → n + count ≤ 4 → ⊥
+        too_few x f = grind (arith, nat_tests, x, f)
+
+-- behind an 85h that begins a copy
+goes_copy : (s : Channel) (j : Job) (v : State) (c : Scene) (done : List Done) (from count n : ℕ) (old : Address) (w : AtWord s j v c done from count) → PlaceClear s.geometry v from count (After ChangeWriteColumn n) → v.target.tail ≡ After ChangeWriteColumn n → Opened ChangeWriteColumn n old c.facts → (is_inside_address (After ChangeWriteColumn n) ≡ true → IsNow s.geometry j old (now_of j done) (After ChangeWriteColumn n)) → (has_column (After ChangeWriteColumn n) ≡ true → ColumnFits (input_column c.facts) v.target.column) → Goes s j v c done from count (take count (drop from (all_bytes (of_now s.geometry j done from count w.address))))
+goes_copy s j v c done from count n old w clear here is now column =
+    record {
+      facts = facts_behind (opener_facts ChangeWriteColumn) (take (n + count) (all_bytes a));
+      view = c.view;
+      latch = refl;
+      lun = kept_lun s j v done c.view count (After ChangeWriteColumn n) here refl w.lun;
+      steps =
+          subst (λ (m : ℕ). Steps g j.lun.lun (take count (drop m (all_bytes a))) c (scene_at ChangeWriteColumn a c.view c.sole (n + count))) (sym begins)
+          (subst (λ (x : Scene). Steps g j.lun.lun (take count (drop n (all_bytes a))) x (scene_at ChangeWriteColumn a c.view c.sole (n + count))) (sym scene_is)
+          (many g j.lun.lun (scene_at ChangeWriteColumn a c.view c.sole) (all_bytes a) count n few
+          (λ i low high. copy_steps g j.lun.lun a c.view c.sole i (omega (arith, high, few))
+          (λ e. (carried_now (column_now done) (page_len g) (page_small g w.limits) (column_small g j v done from count (After ChangeWriteColumn n) (page_len g) (page_small g w.limits) refl w.registers clear (second_of from count n begins (omega (arith, low, e)) (omega (arith, high, e))))).1)
+          (λ e. let refused = clear.row (let x : nat_le 5 (from + count) ≡ true = grind (arith, nat_tests, high, begins, e) in x) in (
+            row_goes g j v done c.view a ChangeWriteColumn n w.registers refl refl w.lun (w.address.row (let x : ltb 2 (from + count) ≡ true = grind (arith, nat_tests, high, begins, e) in x)) refl refused,
+            copied_row g j v done c.view a w.registers refl refl w.lun (w.address.row (let x : ltb 2 (from + count) ≡ true = grind (arith, nat_tests, high, begins, e) in x)) (uncopied_row g v ChangeWriteColumn n refl refused),
+          )))));
+      tail = at (n + count == 5) refl;
+    }
+  where
+    g : Parts
+    g = s.geometry
+
+    a : Address
+    a = of_now s.geometry j done from count w.address
+
+    pages : 0 < s.geometry.pages
+    pages = let x = w.limits.pages_least in omega (arith, x)
+
+    begins : from ≡ n
+    begins = let x = clear.begins in omega (arith, x)
+
+    few : n + count ≤ 5
+    few = let x = clear.few in let y : (5 - n == 0) ≡ false = clear.left in let z : n < 5 = grind (arith, nat_tests, y) in omega (arith, x, z)
+
+    facts_are : c.facts ≡ facts_behind (opener_facts ChangeWriteColumn) (take n (all_bytes a))
+    facts_are =
+        facts_now s.geometry j done from count n c.facts (opener_facts ChangeWriteColumn) old w.address begins is.facts
+        (λ x. (now (inside x)).column)
+        (λ x y. (now (inside x)).bytes (let z : ltb 2 (0 + n) ≡ true = grind (arith, nat_tests, y) in z))
+      where
+        inside : ltb 0 n ≡ true → (ltb 0 n && ltb n 5) ≡ true
+        inside x = and_from (ltb 0 n) (ltb n 5) x (let y : (5 - n == 0) ≡ false = clear.left in grind (arith, nat_tests, y))
+
+    scene_is : c ≡ scene_at ChangeWriteColumn a c.view c.sole n
+    scene_is = λ i. record { facts = facts_are i; view = c.view; sole = c.sole }
+
+    here_led : (target_after_addresses g v from count).tail ≡ cond (n + count == 5) InData (after_few ChangeWriteColumn (n + count))
+    here_led = ap (address_leads_to count) here
+
+    column_fits : 2 ≤ n + count → ColumnFits (input_column (facts_behind (opener_facts ChangeWriteColumn) (take (n + count) (all_bytes a)))) (target_after_addresses g v from count).column
+    column_fits both =
+        subst (λ (m : ℕ). ColumnFits m (target_after_addresses g v from count).column) (sym (copy_column a (n + count) both few))
+        (column_led g j v done from count n (carried a + 0) begins both w.registers
+        (λ x. let r : carried a ≡ column_now done = (carried_now (column_now done) (page_len g) (page_small g w.limits) (column_small g j v done from count (After ChangeWriteColumn n) (page_len g) (page_small g w.limits) refl w.registers clear x)).0 in omega (arith, r))
+        (λ x. subst (λ (m : ℕ). ColumnFits m v.target.column) (ap input_column facts_are ∙ copy_column a n x (omega (arith, few))) (column (let y : nat_le 2 n ≡ true = grind (arith, nat_tests, x) in y))))
+
+    at : (b : Bool) → (n + count == 5) ≡ b → TailFits g j (target_after_addresses g v from count) (now_of j done) (facts_behind (opener_facts ChangeWriteColumn) (take (n + count) (all_bytes a)))
+    at true e =
+        let five : n + count ≡ 5 = eqb-true (n + count) 5 e in
+        let row : ltb 2 (from + count) ≡ true = grind (arith, nat_tests, begins, five) in
+        record {
+          place = InData;
+          here = here_led ∙ ap (λ (b : Bool). cond b InData (after_few ChangeWriteColumn (n + count))) e;
+          address = a;
+          is = subst (λ (m : ℕ). InProgram a Inputs (facts_behind (opener_facts ChangeWriteColumn) (take m (all_bytes a)))) (sym five) (record { phase = refl; row = refl; begun = refl });
+          now = λ x. cc;
+          column = λ x. column_fits (omega (arith, five));
+          row = λ x. w.address.row row;
+          named = λ x. name_led g j v done from count w.address pages w.registers (let y : nat_le 5 (from + count) ≡ true = grind (arith, nat_tests, begins, five) in y);
+          single = λ x. cc;
+        }
+    at false e =
+        let four : n + count ≤ 4 = let f = few in grind (arith, nat_tests, e, f) in
+        record {
+          place = After ChangeWriteColumn (n + count);
+          here = here_led ∙ (ap (λ (b : Bool). cond b InData (after_few ChangeWriteColumn (n + count))) e ∙ few_is ChangeWriteColumn (n + count) (omega (arith, four)));
           address = a;
           is = record { place = grind (arith, nat_tests, four); facts = refl };
           now = λ x. record { column = refl; bytes = λ y. w.address.bytes (let z : ltb 2 (from + count) ≡ true = grind (arith, nat_tests, begins, y) in z) };
@@ -898,6 +1045,7 @@ goes s j k v c done from count f clear plainly apart w =
         by Read here is now column clear idn apart = goes_read s j v c done from count n (f.tail refl).address w clear here is now column
         by ChangeReadColumnEnhanced here is now column clear idn apart = goes_enhanced s j v c done from count n (f.tail refl).address w clear here is now column
         by PageProgram here is now column clear idn apart = goes_program s j v c done from count n (f.tail refl).address w clear here is now column
+        by ChangeWriteColumn here is now column clear idn apart = goes_copy s j v c done from count n (f.tail refl).address w clear here is now column
         by BlockErase here is now column clear idn apart = goes_erase s j v c done from count n (f.tail refl).address w clear here is now
         by ChangeReadColumn here is now column clear idn apart = goes_column s j v c done from count n (f.tail refl).address w clear here is now
         by ReadId here is now column clear idn apart = cc

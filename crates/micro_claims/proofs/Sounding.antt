@@ -27,7 +27,7 @@ use Rattle.micro_program.specs.Played.{Played, answered}
 use Rattle.micro_program.specs.Step.{Stride, Went, answered_step, stride, did, first_byte}
 use Rattle.micro_program.specs.Safe.{Seat, after_step, is_end, lets_go, WordIsFine, AreTruthful}
 use Rattle.micro_program.proofs.Tracking.{answered_parts}
-use Rattle.micro_program.proofs.Scenes.{Scene, SceneIs, IsScene, scene_is}
+use Rattle.micro_program.proofs.Scenes.{Scene, IsScene}
 use Rattle.micro_program.proofs.SceneMoves.{MovesAllowed, scene_after, moves_own, moves_lead}
 use Rattle.micro_claims.proofs.Fits.{Below, InSpan, InRange, RegistersFit, Fits}
 use Rattle.micro_claims.proofs.Numbers.{below_cost, surely}
@@ -51,7 +51,7 @@ knows_tail s seat c = seat.holding || (not (ltb 1 s.geometry.luns) && not (is_op
 pub record Claims (s : Channel) (j : Job) (seat : Seat) : Type 0 where
   pub claim : State
   pub scene : Scene
-  pub is : SceneIs s j.lun seat.past scene (knows_tail s seat scene)
+  pub is : IsScene s j.lun seat.past scene
   pub fits : Fits s.geometry j claim seat.done scene (knows_tail s seat scene)
   pub accepted : accepts s.geometry (bounds_of j.text) None claim seat.ahead ≡ true
 
@@ -187,7 +187,7 @@ plain_sound s j k v past c done rest at word moved plain is registers clear is_m
           (record {
             claim = state_after s.geometry v word;
             scene = scene_after s.geometry j.lun.lun moved c;
-            is = scene_is s j.lun parts.p.past (scene_after s.geometry j.lun.lun moved c) _ (moves_lead s j.lun past c moved bytes parts.p k.there is allowed plays);
+            is = moves_lead s j.lun past c moved bytes parts.p k.there is allowed plays;
             fits = behind went.0;
             accepted = acc;
           });

@@ -4,12 +4,12 @@ use Rattle.std.proofs.lemmas.Bool.Decides.{nat_tests}
 use Rattle.std.proofs.lemmas.Bool.{and_parts, and_from}
 use Rattle.nand_geometry.specs.declared.parts.Parts.{Parts}
 use Rattle.onfi_cycle.specs.declared.command.Command.{Command}
-use Rattle.onfi_cycle.specs.declared.command.Command.TheVariants.{Read, ReadConfirm, ChangeReadColumn, ChangeReadColumnEnhanced, ChangeReadColumnConfirm, BlockErase, BlockEraseConfirm, BlockErasePlane, PageProgram, ReadId, ReadParameterPage, ReadUniqueId, GetFeatures, SetFeatures, ResetLun}
+use Rattle.onfi_cycle.specs.declared.command.Command.TheVariants.{Read, ReadConfirm, ChangeReadColumn, ChangeReadColumnEnhanced, ChangeReadColumnConfirm, BlockErase, BlockEraseConfirm, BlockErasePlane, PageProgram, ChangeWriteColumn, ReadId, ReadParameterPage, ReadUniqueId, GetFeatures, SetFeatures, ResetLun}
 use Rattle.onfi_cycle.specs.declared.data_phase.DataPhase.TheVariants.{Inputs}
 use Rattle.onfi_cycle.specs.declared.tail_facts.TailFacts.{TailFacts}
 use Rattle.onfi_cycle.specs.declared.target_cycle.TargetCycle.TheVariants.{CommandCycle}
 use Rattle.onfi_cycle.specs.Command.{closes, address_cycles}
-use Rattle.onfi_cycle.specs.Sequence.{facts_after, is_open, is_proper_beginning, input_column}
+use Rattle.onfi_cycle.specs.Sequence.{begins_anew, facts_after, is_open, is_proper_beginning, input_column}
 use Rattle.micro_program.specs.Program.{Job}
 use Rattle.micro_claims.specs.Spans.{Span}
 use Rattle.micro_claims.specs.State.{KnownTarget, Place, Closed, After, InData, InColumn, InFeatures, Unknown, Shown, NamedRow}
@@ -80,6 +80,14 @@ open_behind PageProgram n a t h proper = absurd (few n h.place proper)
         at : (b : Bool) → ltb n 5 ≡ b → (b || (n == 5 && true)) ≡ false → ⊥
         at true e k = cc
         at false e k = grind (arith, nat_tests)
+open_behind ChangeWriteColumn n a t h proper = absurd (few n h.place proper)
+  where
+    few : (n : ℕ) → nat_le n 4 ≡ true → (ltb n 5 || (n == 5 && true)) ≡ false → ⊥
+    few n h k = at (ltb n 5) refl k
+      where
+        at : (b : Bool) → ltb n 5 ≡ b → (b || (n == 5 && true)) ≡ false → ⊥
+        at true e k = cc
+        at false e k = grind (arith, nat_tests)
 open_behind ReadId zero a t h proper = cc
 open_behind ReadId (suc n) a t h proper = absurd (not_none n h.place)
 open_behind ReadParameterPage zero a t h proper = cc
@@ -120,19 +128,23 @@ pub closed_fits : (g : Parts) (j : Job) (column : Option Span) (named : Option N
 closed_fits g j column named shows n t h =
     record { place = Closed; here = refl; address = no_address; is = h; now = λ e. cc; column = λ e. cc; row = λ e. cc; named = λ e. cc; single = λ e. cc }
 
-pub opener_fits : (g : Parts) (j : Job) (shows : Option Shown) (n : Now) (t : TailFacts) (o : Command) → is_place o 0 ≡ true → TailFits g j (record { tail = After o 0; column = None; named = None; shows = shows }) n (facts_after (CommandCycle o) t)
-opener_fits g j shows n t Read h = record { place = After Read 0; here = refl; address = no_address; is = record { place = refl; facts = refl }; now = λ e. cc; column = λ e. cc; row = λ e. cc; named = λ e. cc; single = λ e. cc }
-opener_fits g j shows n t ChangeReadColumn h = record { place = After ChangeReadColumn 0; here = refl; address = no_address; is = record { place = refl; facts = refl }; now = λ e. cc; column = λ e. cc; row = λ e. cc; named = λ e. cc; single = λ e. cc }
-opener_fits g j shows n t ChangeReadColumnEnhanced h = record { place = After ChangeReadColumnEnhanced 0; here = refl; address = no_address; is = record { place = refl; facts = refl }; now = λ e. cc; column = λ e. cc; row = λ e. cc; named = λ e. cc; single = λ e. cc }
-opener_fits g j shows n t BlockErase h = record { place = After BlockErase 0; here = refl; address = no_address; is = record { place = refl; facts = refl }; now = λ e. cc; column = λ e. cc; row = λ e. cc; named = λ e. cc; single = λ e. cc }
-opener_fits g j shows n t PageProgram h = record { place = After PageProgram 0; here = refl; address = no_address; is = record { place = refl; facts = refl }; now = λ e. cc; column = λ e. cc; row = λ e. cc; named = λ e. cc; single = λ e. cc }
-opener_fits g j shows n t ReadId h = record { place = After ReadId 0; here = refl; address = no_address; is = record { place = refl; facts = refl }; now = λ e. cc; column = λ e. cc; row = λ e. cc; named = λ e. cc; single = λ e. cc }
-opener_fits g j shows n t ReadParameterPage h = record { place = After ReadParameterPage 0; here = refl; address = no_address; is = record { place = refl; facts = refl }; now = λ e. cc; column = λ e. cc; row = λ e. cc; named = λ e. cc; single = λ e. cc }
-opener_fits g j shows n t ReadUniqueId h = record { place = After ReadUniqueId 0; here = refl; address = no_address; is = record { place = refl; facts = refl }; now = λ e. cc; column = λ e. cc; row = λ e. cc; named = λ e. cc; single = λ e. cc }
-opener_fits g j shows n t GetFeatures h = record { place = After GetFeatures 0; here = refl; address = no_address; is = record { place = refl; facts = refl }; now = λ e. cc; column = λ e. cc; row = λ e. cc; named = λ e. cc; single = λ e. cc }
-opener_fits g j shows n t SetFeatures h = record { place = After SetFeatures 0; here = refl; address = no_address; is = record { place = refl; facts = refl }; now = λ e. cc; column = λ e. cc; row = λ e. cc; named = λ e. cc; single = λ e. cc }
-opener_fits g j shows n t ResetLun h = record { place = After ResetLun 0; here = refl; address = no_address; is = record { place = refl; facts = refl }; now = λ e. cc; column = λ e. cc; row = λ e. cc; named = λ e. cc; single = λ e. cc }
-opener_fits g j shows n t _ h = cc
+pub opener_fits : (g : Parts) (j : Job) (shows : Option Shown) (n : Now) (t : TailFacts) (o : Command) → is_place o 0 ≡ true → begins_anew t (CommandCycle o) ≡ true → TailFits g j (record { tail = After o 0; column = None; named = None; shows = shows }) n (facts_after (CommandCycle o) t)
+opener_fits g j shows n t Read h begins = record { place = After Read 0; here = refl; address = no_address; is = record { place = refl; facts = refl }; now = λ e. cc; column = λ e. cc; row = λ e. cc; named = λ e. cc; single = λ e. cc }
+opener_fits g j shows n t ChangeReadColumn h begins = record { place = After ChangeReadColumn 0; here = refl; address = no_address; is = record { place = refl; facts = refl }; now = λ e. cc; column = λ e. cc; row = λ e. cc; named = λ e. cc; single = λ e. cc }
+opener_fits g j shows n t ChangeReadColumnEnhanced h begins = record { place = After ChangeReadColumnEnhanced 0; here = refl; address = no_address; is = record { place = refl; facts = refl }; now = λ e. cc; column = λ e. cc; row = λ e. cc; named = λ e. cc; single = λ e. cc }
+opener_fits g j shows n t BlockErase h begins = record { place = After BlockErase 0; here = refl; address = no_address; is = record { place = refl; facts = refl }; now = λ e. cc; column = λ e. cc; row = λ e. cc; named = λ e. cc; single = λ e. cc }
+opener_fits g j shows n t PageProgram h begins = record { place = After PageProgram 0; here = refl; address = no_address; is = record { place = refl; facts = refl }; now = λ e. cc; column = λ e. cc; row = λ e. cc; named = λ e. cc; single = λ e. cc }
+opener_fits g j shows n t ChangeWriteColumn h begins = record { place = After ChangeWriteColumn 0; here = refl; address = no_address; is = record { place = refl; facts = begun begins }; now = λ e. cc; column = λ e. cc; row = λ e. cc; named = λ e. cc; single = λ e. cc }
+  where
+    begun : begins_anew t (CommandCycle ChangeWriteColumn) ≡ true → facts_after (CommandCycle ChangeWriteColumn) t ≡ opener_facts ChangeWriteColumn
+    begun e = rw e refl
+opener_fits g j shows n t ReadId h begins = record { place = After ReadId 0; here = refl; address = no_address; is = record { place = refl; facts = refl }; now = λ e. cc; column = λ e. cc; row = λ e. cc; named = λ e. cc; single = λ e. cc }
+opener_fits g j shows n t ReadParameterPage h begins = record { place = After ReadParameterPage 0; here = refl; address = no_address; is = record { place = refl; facts = refl }; now = λ e. cc; column = λ e. cc; row = λ e. cc; named = λ e. cc; single = λ e. cc }
+opener_fits g j shows n t ReadUniqueId h begins = record { place = After ReadUniqueId 0; here = refl; address = no_address; is = record { place = refl; facts = refl }; now = λ e. cc; column = λ e. cc; row = λ e. cc; named = λ e. cc; single = λ e. cc }
+opener_fits g j shows n t GetFeatures h begins = record { place = After GetFeatures 0; here = refl; address = no_address; is = record { place = refl; facts = refl }; now = λ e. cc; column = λ e. cc; row = λ e. cc; named = λ e. cc; single = λ e. cc }
+opener_fits g j shows n t SetFeatures h begins = record { place = After SetFeatures 0; here = refl; address = no_address; is = record { place = refl; facts = refl }; now = λ e. cc; column = λ e. cc; row = λ e. cc; named = λ e. cc; single = λ e. cc }
+opener_fits g j shows n t ResetLun h begins = record { place = After ResetLun 0; here = refl; address = no_address; is = record { place = refl; facts = refl }; now = λ e. cc; column = λ e. cc; row = λ e. cc; named = λ e. cc; single = λ e. cc }
+opener_fits g j shows n t _ h begins = cc
 
 -- 4. where a closer is wanted
 

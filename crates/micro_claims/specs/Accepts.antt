@@ -20,8 +20,8 @@ word_leaves g s (Get len) = get_leaves s len
 word_leaves g s (Put len) = put_leaves s len
 word_leaves g s (Seek place) = with_registers s (record s.registers { place = exactly place })
 word_leaves g s (Column column) = with_registers s (record s.registers { column = exactly column })
-word_leaves g s (RowAdd rows) = index_moved (drift_more rows) (plus s.registers.index rows) (page_plus g.pages rows s.registers.page) s
-word_leaves g s (Row row) = index_moved (drift_set (only s.registers.index) row) (exactly row) (record { lo = row % g.pages; hi = row % g.pages }) s
+word_leaves g s (RowAdd rows) = index_moved g.pages (drift_more rows) (plus s.registers.index rows) (page_plus g.pages rows s.registers.page) s
+word_leaves g s (Row row) = index_moved g.pages (drift_set (only s.registers.index) row) (exactly row) (record { lo = row % g.pages; hi = row % g.pages }) s
 word_leaves g s (Plane plane) = with_registers s (record s.registers { planes = just_plane plane })
 word_leaves g s Wait = found_ready (polled s)
 word_leaves g s Yield = handed_over g s

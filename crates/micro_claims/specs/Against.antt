@@ -2,7 +2,7 @@
 use Rattle.std.specs.Prelude.{ℕ, ◌+◌, ◌-◌, ◌/◌, ◌%◌, ◌==◌, Bool, true, false, ◌&&◌, ◌||◌, not, nat_lt, nat_le, min, if◌then◌else◌, Option, Some, None}
 use Rattle.nand_geometry.specs.declared.parts.Parts.{Parts}
 use Rattle.nand_geometry.specs.Limits.{page_len, planes}
-use Rattle.nand_geometry.specs.Optional.{is_wide}
+use Rattle.nand_geometry.specs.Optional.{is_wide, has_copyback, has_odd_even}
 use Rattle.onfi_cycle.specs.declared.command.Command.{Command}
 use Rattle.onfi_cycle.specs.declared.command.Command.TheVariants.{Read, ReadConfirm, ChangeReadColumn, ChangeReadColumnEnhanced, ChangeReadColumnConfirm, BlockErase, ReadStatus, ReadStatusEnhanced, PageProgram, ChangeWriteColumn, ProgramConfirm, ProgramPlane, ReadId, ReadParameterPage, ReadCacheSequential, ReadCacheEnd, ReadUniqueId, GetFeatures, SetFeatures, ResetLun, ReadPlane, CopybackRead}
 use Rattle.onfi_cycle.specs.Base.{is_of_base}
@@ -11,7 +11,7 @@ use Rattle.onfi_cycle.specs.Sequence.{is_proper_beginning}
 use Rattle.onfi_cycle.specs.Rules.{is_undeclared, excludes_cache}
 use Rattle.micro_claims.specs.Spans.{bound_plus, is_at_most, only}
 use Rattle.micro_claims.specs.Planes.{share_a_plane, are_planes_within, are_below}
-use Rattle.micro_claims.specs.State.{State, Span, Planes, Place, Closed, After, InData, InColumn, InFeatures, Unknown, Shown, Held, OutputColumn, QueuedRows, NoRows, SomeRows, SomeReads, AnyRows, Bounds, shows_status, shows_register, holds_page, holds_parameters, holds_identifier, holds_identity, holds_jedec, holds_unique_id, holds_feature, may_be_30, may_be_31, may_be_other}
+use Rattle.micro_claims.specs.State.{State, KnownLun, Span, Planes, Place, Closed, After, InData, InColumn, InFeatures, Unknown, Shown, Held, OutputColumn, QueuedRows, NoRows, SomeRows, SomeReads, AnyRows, Bounds, shows_status, shows_register, holds_page, holds_parameters, holds_identifier, holds_identity, holds_jedec, holds_unique_id, holds_feature, may_be_30, may_be_31, may_be_other}
 
 -- ---- places of the tail
 
@@ -189,6 +189,7 @@ opener_refused g s Read = s.lun.busy
 opener_refused g s ChangeReadColumnEnhanced = s.lun.busy
 opener_refused g s BlockErase = s.lun.busy
 opener_refused g s PageProgram = s.lun.busy
+opener_refused g s ChangeWriteColumn = s.lun.busy
 opener_refused g s ReadId = identity_opener_refused g s
 opener_refused g s ReadParameterPage = identity_opener_refused g s
 opener_refused g s ReadUniqueId = identity_opener_refused g s
@@ -205,14 +206,15 @@ abbrev pub closer_refused : Parts → State → Command → Bool
 closer_refused g s ChangeReadColumnConfirm = not (selects_plane_at s.target.tail) && not (drives s.target.shows)
 closer_refused g s ReadConfirm = is_wide g.optional && may_be_31 s.lun.last
 closer_refused g s ReadPlane = may_be_31 s.lun.last
+closer_refused g s CopybackRead = may_be_31 s.lun.last
 closer_refused g s ReadCacheSequential = not (is_wide g.optional) || may_be_other s.lun.last
 closer_refused g s _ = false
 
--- an opener goes on with the sequence: a 31 that the tail wants, and an 85, as none begins a sequence in programs
-abbrev pub goes_on_at : Command → Place → Bool
-goes_on_at ReadCacheSequential p = place_wants ReadCacheSequential p
-goes_on_at ChangeWriteColumn p = true
-goes_on_at c p = false
+-- an opener goes on with the sequence: a 31 or an 85 that the tail wants; where no copyback is declared no 85 begins a sequence
+abbrev pub goes_on_at : Parts → Command → Place → Bool
+goes_on_at g ReadCacheSequential p = place_wants ReadCacheSequential p
+goes_on_at g ChangeWriteColumn p = place_wants ChangeWriteColumn p || not (has_copyback g.optional)
+goes_on_at g c p = false
 
 -- a reset ends an open sequence in the wider profile
 abbrev pub may_end_sequence : Parts → Command → Bool
@@ -221,7 +223,7 @@ may_end_sequence g c = is_reset c && is_wide g.optional
 abbrev pub command_out_of_place : Parts → State → Command → Bool
 command_out_of_place g s c =
     if is_unfit g c then false
-    else (if is_opener c && not (goes_on_at c s.target.tail) then (not (may_end_sequence g c) && may_be_open s) || opener_refused g s c
+    else (if is_opener c && not (goes_on_at g c s.target.tail) then (not (may_end_sequence g c) && may_be_open s) || opener_refused g s c
     else not (place_wants c s.target.tail) || closer_refused g s c)
 
 -- 31h may go past the rows of the text, where it goes to the next one
@@ -235,14 +237,9 @@ asks_status ReadStatus = true
 asks_status ReadStatusEnhanced = true
 asks_status _ = false
 
--- traces know the command, and programs may not use it yet
-abbrev pub is_for_traces : Command → Bool
-is_for_traces CopybackRead = true
-is_for_traces _ = false
-
 -- programs may not use the command
 abbrev pub command_not_for_programs : Parts → Command → Bool
-command_not_for_programs g c = is_unfit g c || asks_status c || is_for_traces c || (wants_one_lun c && nat_lt 1 g.luns)
+command_not_for_programs g c = is_unfit g c || asks_status c || (wants_one_lun c && nat_lt 1 g.luns)
 
 -- 31h, where no word of the text is known to be one
 abbrev pub continues_unseen : Bounds → Command → Bool
@@ -291,11 +288,21 @@ abbrev pub plane_refused : State → Command → Bool
 plane_refused s ChangeReadColumnEnhanced = may_be_queued s.lun.queue || not (are_planes_within s.registers.planes s.lun.held)
 plane_refused s _ = false
 
+-- the planes whose page a program may copy to a row, as far as its parity goes
+abbrev pub copied_planes : Parts → KnownLun → Planes
+copied_planes g l = if has_odd_even g.optional then l.held else l.copies.even
+
+-- the row of 85h may be of a plane that holds no page to be copied there; that of 80h may come in a group of copies
+abbrev pub copy_refused : Parts → State → Command → Bool
+copy_refused g s ChangeWriteColumn = not s.lun.copies.keeps || not (are_planes_within s.registers.planes (copied_planes g s.lun))
+copy_refused g s PageProgram = has_copyback g.optional && (may_be_queued s.lun.queue && s.lun.copies.holds)
+copy_refused g s _ = false
+
 -- the last row cycle may be refused; that of FAh is fine whatever the LUN does
 abbrev pub row_refused : Parts → State → Place → Bool
 row_refused g s (After opener n) =
     addresses_the_array opener
-    && (s.lun.busy || (excludes_cache g opener && may_be_31 s.lun.last) || queue_refuses s.lun.queue s.registers.planes opener || plane_refused s opener)
+    && (s.lun.busy || (excludes_cache g opener && may_be_31 s.lun.last) || queue_refuses s.lun.queue s.registers.planes opener || plane_refused s opener || copy_refused g s opener)
 row_refused g s _ = false
 
 -- the column is surely past its limit, so that nothing is asked of the cycles after it

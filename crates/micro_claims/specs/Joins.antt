@@ -2,7 +2,7 @@
 use Rattle.std.specs.Prelude.{◌≡◌, ℕ, min, max, true, ◌&&◌, ◌||◌, if◌then◌else◌, Option, Some, None, bit_or}
 use Rattle.micro_claims.specs.Spans.{Span, Growth}
 use Rattle.micro_claims.specs.Planes.{no_planes, either_plane, common_planes}
-use Rattle.micro_claims.specs.State.{State, Registers, KnownTarget, KnownLun, PageRange, Place, Closed, Unknown, Drift, NamedRow, Shown, Held, OutputColumn, QueuedRows, NoRows, SomeRows, SomeReads, AnyRows, LastCloser, CachedPage}
+use Rattle.micro_claims.specs.State.{State, Registers, KnownTarget, KnownLun, PageRange, Place, Closed, Unknown, Drift, NamedRow, Shown, Held, OutputColumn, QueuedRows, NoRows, SomeRows, SomeReads, AnyRows, LastCloser, CachedPage, Copies}
 use Rattle.micro_claims.specs.Against.{same_test, is_open_place}
 use Rattle.micro_claims.specs.Order.{same_place, same_drift_as, is_state_within}
 
@@ -92,6 +92,16 @@ joined_closer c d = record { 0 = bit_or c.0 d.0 }
 abbrev pub joined_cached : CachedPage → CachedPage → CachedPage
 joined_cached c d = record { index = joined_span c.index d.index; page = joined_span c.page d.page }
 
+abbrev pub joined_copies : Copies → Copies → Copies
+joined_copies c d =
+    record {
+      even = common_planes c.even d.even;
+      odd = common_planes c.odd d.odd;
+      copying = c.copying && d.copying;
+      keeps = c.keeps && d.keeps;
+      holds = c.holds || d.holds;
+    }
+
 abbrev pub joined_lun : KnownLun → KnownLun → KnownLun
 joined_lun s t =
     record {
@@ -103,6 +113,7 @@ joined_lun s t =
       cached = joined_cached s.cached t.cached;
       held = common_planes s.held t.held;
       array = common_planes s.array t.array;
+      copies = joined_copies s.copies t.copies;
     }
 
 -- what both claim

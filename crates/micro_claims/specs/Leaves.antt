@@ -2,11 +2,12 @@
 use Rattle.std.specs.Prelude.{ℕ, ◌+◌, ◌-◌, ◌/◌, ◌%◌, ◌==◌, Bool, true, false, ◌&&◌, not, nat_lt, nat_le, min, if◌then◌else◌, Option, Some, None}
 use Rattle.nand_geometry.specs.declared.parts.Parts.{Parts}
 use Rattle.onfi_cycle.specs.declared.command.Command.{Command}
-use Rattle.onfi_cycle.specs.declared.command.Command.TheVariants.{Read, ReadConfirm, ChangeReadColumn, ChangeReadColumnEnhanced, ChangeReadColumnConfirm, BlockErase, BlockEraseConfirm, BlockErasePlane, PageProgram, ChangeWriteColumn, ProgramConfirm, ProgramPlane, ReadId, ReadParameterPage, Reset, ReadCacheSequential, ReadCacheEnd, ReadUniqueId, GetFeatures, SetFeatures, ResetLun, SynchronousReset, ReadPlane}
+use Rattle.onfi_cycle.specs.declared.command.Command.TheVariants.{Read, ReadConfirm, ChangeReadColumn, ChangeReadColumnEnhanced, ChangeReadColumnConfirm, BlockErase, BlockEraseConfirm, BlockErasePlane, PageProgram, ChangeWriteColumn, ProgramConfirm, ProgramPlane, ReadId, ReadParameterPage, Reset, ReadCacheSequential, ReadCacheEnd, ReadUniqueId, GetFeatures, SetFeatures, ResetLun, SynchronousReset, ReadPlane, CopybackRead}
 use Rattle.micro_claims.specs.Spans.{copied, plus, plus_between, greatest_bound}
-use Rattle.micro_claims.specs.Planes.{no_planes, either_plane, share_a_plane, sure_plane, are_planes_within}
-use Rattle.micro_claims.specs.State.{State, Registers, KnownTarget, KnownLun, Span, PageRange, Place, Closed, After, InData, InColumn, InFeatures, Unknown, Drift, IndexMove, On, To, NamedRow, Shown, Held, OutputColumn, QueuedRows, NoRows, SomeRows, SomeReads, AnyRows, LastCloser, CachedPage, Planes, exactly, not_cached, any_but_31, other_closer, closed, shows_status, shows_register}
-use Rattle.micro_claims.specs.Against.{same_test, place_wants, selects_plane_at, byte_of_column}
+use Rattle.micro_claims.specs.Planes.{no_planes, either_plane, share_a_plane, is_one_plane, sure_plane, are_planes_within}
+use Rattle.micro_claims.specs.State.{State, Registers, KnownTarget, KnownLun, Span, PageRange, Place, Closed, After, InData, InColumn, InFeatures, Unknown, Drift, IndexMove, On, To, NamedRow, Shown, Held, OutputColumn, QueuedRows, NoRows, SomeRows, SomeReads, AnyRows, LastCloser, CachedPage, Copies, Planes, exactly, not_cached, any_but_31, other_closer, no_copies, uncopied, closed, shows_status, shows_register}
+use Rattle.micro_claims.specs.Against.{same_test, place_wants, selects_plane_at, byte_of_column, may_be_queued}
+use Rattle.micro_claims.specs.Copies.{no_distance, parity_of, copies_moved, copies_queued, copies_cleared, first_copies, more_copies}
 
 -- ---- parts of a state
 
@@ -108,12 +109,12 @@ rows_moved move (SomeRows erase planes d) = rows_at erase planes (move d)
 rows_moved move (SomeReads planes surely d) = reads_at planes surely (move d)
 
 -- the index register moves: what is said of rows by their distance from it moves too
-abbrev pub index_moved : (Drift → Option Drift) → Span → PageRange → State → State
-index_moved move index page s =
+abbrev pub index_moved : (pages : ℕ) → (Drift → Option Drift) → Span → PageRange → State → State
+index_moved pages move index page s =
     record {
       registers = record s.registers { index = index; page = page };
       target = record s.target { named = named_moved move s.target.named };
-      lun = record s.lun { queue = rows_moved move s.lun.queue };
+      lun = record s.lun { queue = rows_moved move s.lun.queue; copies = copies_moved (parity_of pages (move no_distance)) s.lun.copies };
     }
 
 -- from a known index the distance is known
@@ -143,7 +144,7 @@ work_started queue s =
     record {
       registers = s.registers;
       target = closed s.target.shows;
-      lun = record { busy = true; register = None; column = None; queue = queue; last = other_closer; cached = s.lun.cached; held = no_planes; array = no_planes };
+      lun = record { busy = true; register = None; column = None; queue = queue; last = other_closer; cached = s.lun.cached; held = no_planes; array = no_planes; copies = no_copies };
     }
 
 -- the row of the tail joins the queue
@@ -223,6 +224,7 @@ read_queued g s =
         cached = s.lun.cached;
         held = no_planes;
         array = no_planes;
+        copies = no_copies;
       };
     }
 
@@ -241,6 +243,69 @@ read_started g s =
         cached = cached_at s.target.named;
         held = held_by_read s.lun.queue s.target.named;
         array = named_plane s.target.named;
+        copies = uncopied;
+      };
+    }
+
+-- another 35 leaves the pages that are held: the last closer was surely one, and nothing is queued
+abbrev pub gathers : KnownLun → Bool
+gathers l = l.copies.copying && not (may_be_queued l.queue)
+
+-- the planes that surely hold a page behind a 35 of this row, with these rows queued before it: that of the row, and those of the reads, where
+-- it is sure of each that its page was read
+abbrev pub copied_beside : NamedRow → QueuedRows → Planes
+copied_beside n (SomeReads planes surely d) =
+    if is_one_plane n.planes && (not (share_a_plane n.planes planes) && are_planes_within planes surely) then either_plane n.planes surely else sure_plane n.planes
+copied_beside n _ = sure_plane n.planes
+
+-- those of them whose rows are as far from the index register as this one
+abbrev pub alike_beside : NamedRow → QueuedRows → Planes
+alike_beside n (SomeReads planes surely d) = if same_drift n.drift d then copied_beside n (SomeReads planes surely d) else sure_plane n.planes
+alike_beside n _ = sure_plane n.planes
+
+abbrev pub held_by_copy : KnownLun → Option NamedRow → Planes
+held_by_copy l None = no_planes
+held_by_copy l (Some n) = if gathers l then (if is_one_plane n.planes then either_plane n.planes l.held else no_planes) else copied_beside n l.queue
+
+abbrev pub copies_read : (pages : ℕ) → KnownLun → Option NamedRow → Copies
+copies_read pages l None = first_copies None no_planes
+copies_read pages l (Some n) = if gathers l then more_copies (parity_of pages n.drift) n.planes l.copies else first_copies (parity_of pages n.drift) (alike_beside n l.queue)
+
+-- a 35: as a 30, but that no 31 may follow, and that programs may copy the pages that are held then
+abbrev pub copy_started : Parts → State → State
+copy_started g s =
+    record {
+      registers = s.registers;
+      target = closed (shows_after_read g s.target.shows);
+      lun = record {
+        busy = true;
+        register = if may_be_reads s.lun.queue then None else page_register;
+        column = given_at s.target.column;
+        queue = NoRows;
+        last = other_closer;
+        cached = s.lun.cached;
+        held = held_by_copy s.lun s.target.named;
+        array = named_plane s.target.named;
+        copies = copies_read g.pages s.lun s.target.named;
+      };
+    }
+
+-- an 11: the row is programmed later, and the pages that are held stay
+abbrev pub program_queued : State → State
+program_queued s =
+    record {
+      registers = s.registers;
+      target = closed s.target.shows;
+      lun = record {
+        busy = true;
+        register = None;
+        column = None;
+        queue = queued_more false s.lun.queue s.target.named;
+        last = other_closer;
+        cached = s.lun.cached;
+        held = s.lun.held;
+        array = no_planes;
+        copies = copies_queued s.lun.copies;
       };
     }
 
@@ -259,6 +324,7 @@ cache_read last cached array shows s =
         cached = cached;
         held = s.lun.array;
         array = array;
+        copies = uncopied;
       };
     }
 
@@ -278,7 +344,7 @@ reset_started s =
     record {
       registers = s.registers;
       target = closed None;
-      lun = record { busy = true; register = None; column = None; queue = NoRows; last = other_closer; cached = s.lun.cached; held = no_planes; array = no_planes };
+      lun = record { busy = true; register = None; column = None; queue = NoRows; last = other_closer; cached = s.lun.cached; held = no_planes; array = no_planes; copies = no_copies };
     }
 
 -- the register is the page that the plane of the row holds
@@ -305,14 +371,15 @@ command_leaves g s ReadUniqueId = opened_by ReadUniqueId s
 command_leaves g s GetFeatures = opened_by GetFeatures s
 command_leaves g s SetFeatures = opened_by SetFeatures s
 command_leaves g s ResetLun = opened_by ResetLun s
-command_leaves g s ChangeWriteColumn = with_target s (record s.target { tail = InColumn 0 })
+command_leaves g s ChangeWriteColumn = if place_wants ChangeWriteColumn s.target.tail then with_target s (record s.target { tail = InColumn 0 }) else opened_by ChangeWriteColumn s
 command_leaves g s ReadConfirm = read_started g s
 command_leaves g s ReadPlane = read_queued g s
+command_leaves g s CopybackRead = copy_started g s
 command_leaves g s ChangeReadColumnConfirm = column_changed s
 command_leaves g s BlockEraseConfirm = work_started NoRows s
 command_leaves g s ProgramConfirm = work_started NoRows s
 command_leaves g s BlockErasePlane = work_started (queued_more true s.lun.queue s.target.named) s
-command_leaves g s ProgramPlane = work_started (queued_more false s.lun.queue s.target.named) s
+command_leaves g s ProgramPlane = program_queued s
 command_leaves g s Reset = reset_started s
 command_leaves g s SynchronousReset = reset_started s
 command_leaves g s ReadCacheSequential = cache_read_on g s
@@ -325,10 +392,11 @@ command_leaves g s _ = s
 abbrev pub after_few : Command → ℕ → Place
 after_few opener n = if nat_le n 5 then After opener n else Unknown
 
--- where the tail is after so many addresses of an opener; those of 80h lead into data, the one of EFh leads to its four bytes, and that of
+-- where the tail is after so many addresses of an opener; those of 80h, and of an 85h that began a sequence, lead into data, the one of EFh leads to its four bytes, and that of
 -- 90h, ECh, EDh or EEh closes
 abbrev pub opener_leads_to : Command → ℕ → Place
 opener_leads_to PageProgram n = if n == 5 then InData else after_few PageProgram n
+opener_leads_to ChangeWriteColumn n = if n == 5 then InData else after_few ChangeWriteColumn n
 opener_leads_to ReadId n = Closed
 opener_leads_to ReadParameterPage n = Closed
 opener_leads_to ReadUniqueId n = Closed
@@ -336,7 +404,7 @@ opener_leads_to GetFeatures n = Closed
 opener_leads_to SetFeatures n = InFeatures 0
 opener_leads_to opener n = after_few opener n
 
--- those of 85h lead back into data
+-- those of an 85h in data lead back into it
 abbrev pub column_leads_to : ℕ → Place
 column_leads_to n = if n == 2 then InData else (if nat_le n 1 then InColumn n else Unknown)
 
@@ -377,7 +445,7 @@ beside_read busy held s =
     record {
       registers = s.registers;
       target = closed data_shown;
-      lun = record s.lun { busy = busy; register = Some held; column = Some (record { at = exactly 0; read = false }); last = other_closer; held = no_planes; array = no_planes };
+      lun = record s.lun { busy = busy; register = Some held; column = Some (record { at = exactly 0; read = false }); last = other_closer; held = no_planes; array = no_planes; copies = no_copies };
     }
 
 -- behind the address of EFh its four bytes come
@@ -398,7 +466,7 @@ lun_reset g s from count n = if n + count == 3 then reset_started s else with_ta
 
 -- no page is held any more
 abbrev pub without_pages : KnownLun → KnownLun
-without_pages l = record l { held = no_planes }
+without_pages l = record l { held = no_planes; copies = copies_cleared l.copies }
 
 -- the last row cycle of 80h clears the page register
 abbrev pub program_addressed : Parts → State → (from count n : ℕ) → State

@@ -3,6 +3,7 @@ pub mod Packed
 pub mod Sets
 pub mod Planes
 pub mod State
+pub mod Copies
 pub mod Against
 pub mod Reasons
 pub mod Leaves

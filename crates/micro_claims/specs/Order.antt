@@ -7,7 +7,7 @@ use Rattle.micro_claims.specs.Spans.{greatest_bound, kept, saturated, bound_plus
 use Rattle.micro_claims.specs.Sets.{has}
 use Rattle.micro_claims.specs.Planes.{has_plane, no_planes, is_one_plane}
 pub use Rattle.micro_claims.specs.Planes.{Planes, are_planes_within}
-use Rattle.micro_claims.specs.State.{State, Registers, KnownTarget, KnownLun, Span, Growth, Place, Closed, After, InData, InColumn, InFeatures, Unknown, Drift, NamedRow, Shown, Held, OutputColumn, QueuedRows, NoRows, SomeRows, SomeReads, AnyRows, LoopPlace, Head, Heads, AfterTurns, Bounds, any_number, first_state, shows_status, shows_register, holds_page, holds_parameters, holds_identifier, holds_identity, holds_jedec, holds_unique_id, holds_feature, may_be_30, may_be_31, may_be_other}
+use Rattle.micro_claims.specs.State.{State, Registers, KnownTarget, KnownLun, Span, Growth, Place, Closed, After, InData, InColumn, InFeatures, Unknown, Drift, NamedRow, Shown, Held, OutputColumn, QueuedRows, NoRows, SomeRows, SomeReads, AnyRows, Copies, LoopPlace, Head, Heads, AfterTurns, Bounds, any_number, first_state, shows_status, shows_register, holds_page, holds_parameters, holds_identifier, holds_identity, holds_jedec, holds_unique_id, holds_feature, may_be_30, may_be_31, may_be_other}
 use Rattle.micro_claims.specs.Against.{same_test, is_open_place}
 use Rattle.micro_claims.specs.Reasons.{reason_against}
 use Rattle.micro_claims.specs.Accepts.{state_after}
@@ -244,6 +244,14 @@ RowsAre (SomeReads planes surely d) AnyRows = ⊥
 RowsAre (SomeReads planes surely d) (SomeRows kind ps e) = ⊥
 RowsAre (SomeReads planes surely d) (SomeReads qs some e) = AllAmong surely some × (AllAmong qs planes × (e ≡ d))
 
+-- what is claimed of copies: which pages may surely be copied, and whether one may be held
+pub record CopiesAt (s a : Copies) : Type 0 where
+  pub even : AllAmong s.even a.even
+  pub odd : AllAmong s.odd a.odd
+  pub copying : May s.copying a.copying
+  pub keeps : May s.keeps a.keeps
+  pub holds : May a.holds s.holds
+
 pub record LunAt (v s a : KnownLun) : Type 0 where
   pub busy : May a.busy s.busy
   pub register : RegisteredIs s.register a.register
@@ -257,6 +265,7 @@ pub record LunAt (v s a : KnownLun) : Type 0 where
   pub cached_page : SpanAt v.cached.page s.cached.page a.cached.page
   pub held : AllAmong s.held a.held
   pub array : AllAmong s.array a.array
+  pub copies : CopiesAt s.copies a.copies
 
 -- `s` is claimed of the actual state `a`, in a turn that began with the actual state `v`
 pub record At (g : Parts) (v s a : State) : Type 0 where
@@ -312,11 +321,15 @@ are_rows_within (SomeRows erase planes d) (SomeRows kind ps e) = same_test erase
 are_rows_within (SomeReads planes surely d) (SomeReads qs some e) = are_planes_within some surely && (are_planes_within planes qs && same_drift_as d e)
 are_rows_within _ _ = false
 
+abbrev pub are_copies_within : Copies → Copies → Bool
+are_copies_within s t =
+    are_planes_within t.even s.even && (are_planes_within t.odd s.odd && (may_within t.copying s.copying && (may_within t.keeps s.keeps && may_within s.holds t.holds)))
+
 abbrev pub is_lun_within : KnownLun → KnownLun → Bool
 is_lun_within s t =
     may_within s.busy t.busy && (is_register_within s.register t.register && (is_output_within s.column t.column && (are_rows_within s.queue t.queue
     && (has s.last.0 t.last.0 && (is_span_within s.cached.index t.cached.index && (is_span_within s.cached.page t.cached.page
-    && (are_planes_within t.held s.held && are_planes_within t.array s.array)))))))
+    && (are_planes_within t.held s.held && (are_planes_within t.array s.array && are_copies_within s.copies t.copies))))))))
 
 -- the first claims at least what the second claims
 unfoldable pub is_state_within : State → State → Bool
@@ -367,6 +380,7 @@ state_by f s r =
         cached = record { index = f s.lun.cached.index r.lun.cached.index; page = f s.lun.cached.page r.lun.cached.page };
         held = r.lun.held;
         array = r.lun.array;
+        copies = r.lun.copies;
       };
     }
 

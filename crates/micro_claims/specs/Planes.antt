@@ -1,5 +1,5 @@
 -- Sets of planes: a plane is in a set where the bit of its number is.
-use Rattle.std.specs.Prelude.{ℕ, ◌^◌, ◌==◌, Bool, not, nat_lt, ◌||◌, if◌then◌else◌, bit_and, bit_or}
+use Rattle.std.specs.Prelude.{ℕ, ◌-◌, ◌^◌, ◌==◌, Bool, not, nat_lt, ◌||◌, if◌then◌else◌, bit_and, bit_or}
 pub use Rattle.micro_claims.specs.declared.planes.Planes.{Planes}
 use Rattle.micro_claims.specs.Sets.{has}
 
@@ -25,6 +25,10 @@ either_plane p q = record { 0 = bit_or p.0 q.0 }
 -- the planes that are in both
 abbrev pub common_planes : Planes → Planes → Planes
 common_planes p q = record { 0 = bit_and p.0 q.0 }
+
+-- those of the second that aren't in the first
+abbrev pub other_planes : Planes → Planes → Planes
+other_planes p q = record { 0 = bit_and q.0 (15 - p.0) }
 
 -- it is one plane
 abbrev pub is_one_plane : Planes → Bool

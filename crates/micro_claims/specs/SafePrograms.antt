@@ -89,16 +89,27 @@ plane_read_words =
 abbrev pub selecting_words : List Word
 selecting_words = Command 0x00 ∷ (Address 0 5 ∷ (Command 0x30 ∷ (Wait ∷ (Yield ∷ (Command 0x06 ∷ (Address 0 5 ∷ (Command 0xe0 ∷ (Get 4 ∷ (End 0 ∷ [])))))))))
 
+-- a page is copied to another row of its block
+abbrev pub copy_words : List Word
+copy_words = Command 0x00 ∷ (Address 0 5 ∷ (Command 0x35 ∷ (Wait ∷ (RowAdd 2 ∷ (Command 0x85 ∷ (Address 0 5 ∷ (Command 0x10 ∷ (Wait ∷ (End 0 ∷ [])))))))))
+
+-- a page in each of two planes is copied, in one group: one byte of the second is changed
+abbrev pub copies_words : List Word
+copies_words =
+    Command 0x00 ∷ (Address 0 5 ∷ (Command 0x35 ∷ (Wait ∷ (Plane 1 ∷ (Command 0x00 ∷ (Address 0 5 ∷ (Command 0x35 ∷ (Wait ∷ (RowAdd 2 ∷ (
+    Plane 0 ∷ (Command 0x85 ∷ (Address 0 5 ∷ (Command 0x11 ∷ (Wait ∷ (
+    Plane 1 ∷ (Command 0x85 ∷ (Address 0 5 ∷ (Put 1 ∷ (Command 0x10 ∷ (Wait ∷ (End 0 ∷ [])))))))))))))))))))))
+
 -- one LUN, or two, with all that the wider profile has
 abbrev pub one_wide_lun : Parts
-one_wide_lun = record { page_bytes = 512; spare_bytes = 16; pages = 4; blocks = 8; luns = 1; plane_bits = 0; enhanced = false; multi_plane = false; cache = false; optional = wide_with true false true true true true true true false }
+one_wide_lun = record { page_bytes = 512; spare_bytes = 16; pages = 4; blocks = 8; luns = 1; plane_bits = 0; enhanced = false; multi_plane = false; cache = false; optional = wide_with true true true true true true true true false }
 
 abbrev pub two_wide_luns : Parts
-two_wide_luns = record { page_bytes = 512; spare_bytes = 16; pages = 4; blocks = 8; luns = 2; plane_bits = 0; enhanced = true; multi_plane = false; cache = false; optional = wide_with true false true true true true true true false }
+two_wide_luns = record { page_bytes = 512; spare_bytes = 16; pages = 4; blocks = 8; luns = 2; plane_bits = 0; enhanced = true; multi_plane = false; cache = false; optional = wide_with true true true true true true true true false }
 
 -- one LUN of two planes
 abbrev pub two_wide_planes : Parts
-two_wide_planes = record { page_bytes = 512; spare_bytes = 16; pages = 4; blocks = 8; luns = 1; plane_bits = 1; enhanced = false; multi_plane = false; cache = false; optional = wide_with true false true true true true true true false }
+two_wide_planes = record { page_bytes = 512; spare_bytes = 16; pages = 4; blocks = 8; luns = 1; plane_bits = 1; enhanced = false; multi_plane = true; cache = false; optional = wide_with true true true true true true true true false }
 
 abbrev pub one_lun_with_cache : Parts
 one_lun_with_cache = record { page_bytes = 512; spare_bytes = 16; pages = 4; blocks = 8; luns = 1; plane_bits = 0; enhanced = false; multi_plane = false; cache = true; optional = no_optional }
@@ -129,3 +140,6 @@ pub record SomeAreSafe : Type 0 where
   pub plane_read : IsSafe (some_text 8 36 plane_read_words) two_wide_planes
   pub selecting : IsSafe (some_text 4 18 selecting_words) one_wide_lun
   pub selecting_among_others : IsSafe (some_text 4 18 selecting_words) two_wide_luns
+  pub copied : IsSafe (with_rows 3 0 14 copy_words) one_wide_lun
+  pub copied_among_others : IsSafe (with_rows 3 0 14 copy_words) two_wide_luns
+  pub copied_in_planes : IsSafe (with_rows 3 1 29 copies_words) two_wide_planes

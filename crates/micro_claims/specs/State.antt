@@ -1,5 +1,5 @@
 -- What is known of a program before its first word, and where something is open.
-use Rattle.std.specs.Prelude.{Bool, false, Option, None}
+use Rattle.std.specs.Prelude.{Bool, true, false, Option, None}
 use Rattle.micro_word.specs.Text.{Microprogram}
 use Rattle.micro_program.specs.Lines.{continues_cache_read}
 pub use Rattle.micro_claims.specs.Spans.{Span, Growth, exactly}
@@ -23,6 +23,7 @@ pub use Rattle.micro_claims.specs.declared.queued_rows.QueuedRows.{QueuedRows}
 pub use Rattle.micro_claims.specs.declared.queued_rows.QueuedRows.TheVariants.{NoRows, SomeRows, SomeReads, AnyRows}
 pub use Rattle.micro_claims.specs.declared.last_closer.LastCloser.{LastCloser}
 pub use Rattle.micro_claims.specs.declared.cached_page.CachedPage.{CachedPage}
+pub use Rattle.micro_claims.specs.declared.copies.Copies.{Copies}
 pub use Rattle.micro_claims.specs.declared.known_lun.KnownLun.{KnownLun}
 pub use Rattle.micro_claims.specs.declared.state.State.{State}
 pub use Rattle.micro_claims.specs.declared.bounds.Bounds.{Bounds}
@@ -85,6 +86,14 @@ any_number = record { lo = 0; hi = None; grown = None }
 abbrev pub not_cached : CachedPage
 not_cached = record { index = any_number; page = any_number }
 
+-- no page is held
+abbrev pub no_copies : Copies
+no_copies = record { even = no_planes; odd = no_planes; copying = false; keeps = false; holds = false }
+
+-- pages may be held, and no program may copy one
+abbrev pub uncopied : Copies
+uncopied = record no_copies { holds = true }
+
 -- nothing is open
 abbrev pub closed : Option Shown → KnownTarget
 closed shows = record { tail = Closed; column = None; named = None; shows = shows }
@@ -99,5 +108,5 @@ first_state =
     record {
       registers = first_registers;
       target = closed None;
-      lun = record { busy = false; register = None; column = None; queue = NoRows; last = any_but_31; cached = not_cached; held = no_planes; array = no_planes };
+      lun = record { busy = false; register = None; column = None; queue = NoRows; last = any_but_31; cached = not_cached; held = no_planes; array = no_planes; copies = uncopied };
     }

@@ -4,6 +4,7 @@ ghost use Rattle.onfi_cycle.specs.declared.command.Command.TheVariants.{ReadId};
 ghost use Rattle.micro_claims.specs.Against.{byte_of_column};
 ghost use Rattle.micro_claims.specs.Leaves.{target_after_addresses, id_held, beside_read, features_opened, with_target, identity_read, lun_reset, program_addressed, address_leaves};
 
+use crate::copies::Copies;
 use crate::held::Held;
 use crate::known_target::KnownTarget;
 use crate::last_closer::LastCloser;
@@ -83,6 +84,7 @@ impl State {
         self.lun.last = LastCloser::OTHER;
         self.lun.held = Planes::none();
         self.lun.array = Planes::none();
+        self.lun.copies = Copies::none();
     }
 
     // After the address of Read ID, which is a byte of the column.
@@ -129,6 +131,7 @@ impl State {
     {
         if usize::from(before) + usize::from(count) == Command::PageProgram.address_cycles() {
             self.lun.held = Planes::none();
+            self.lun.copies = self.lun.copies.cleared();
             self.go_on(geometry, from, count);
         } else {
             self.go_on(geometry, from, count);

@@ -1,12 +1,14 @@
 //! What a command leaves of what is known before it.
 ghost use Rattle.std.specs.Prelude.{◌≡◌};
-ghost use Rattle.std.specs.Prelude.{if◌then◌else◌, None};
-ghost use Rattle.micro_claims.specs.Against.{selects_plane_at};
-ghost use Rattle.micro_claims.specs.Leaves.{may_be_reads, page_register, opened_by, work_started, queued_more, read_queued, read_started, cache_read, cache_read_on, column_changed, reset_started, command_leaves, with_target};
+ghost use Rattle.std.specs.Prelude.{if◌then◌else◌, None, true};
+ghost use Rattle.onfi_cycle.specs.declared.command.Command.TheVariants.{ChangeWriteColumn};
+ghost use Rattle.micro_claims.specs.Against.{place_wants, selects_plane_at};
+ghost use Rattle.micro_claims.specs.Leaves.{may_be_reads, page_register, opened_by, work_started, queued_more, read_queued, read_started, copy_started, program_queued, cache_read, cache_read_on, column_changed, reset_started, command_leaves, with_target};
 ghost use Rattle.micro_claims.specs.State.{InColumn, any_but_31};
 
 use crate::cached_page::CachedPage;
-use crate::held::{Held, PAGE_HELD};
+use crate::copies::Copies;
+use crate::held::register_read;
 use crate::known_lun::KnownLun;
 use crate::known_target::KnownTarget;
 use crate::last_closer::LastCloser;
@@ -19,17 +21,6 @@ use crate::shown::{DATA_SHOWN, Shown};
 use crate::state::State;
 use nand_geometry::Geometry;
 use onfi_cycle::Command;
-
-// The register behind a read, with these rows queued before it: where reads were, no page is selected.
-fn register_read(queue: QueuedRows) -> Option<Held>
-    ensures { result ≡ if may_be_reads queue then None else page_register }
-{
-    if queue.may_be_reads() {
-        None
-    } else {
-        PAGE_HELD
-    }
-}
 
 // The last closer then: where reads were queued, no 31h may follow.
 fn last_read(queue: QueuedRows) -> LastCloser
@@ -71,7 +62,16 @@ impl State {
             cached: CachedPage::of(self.target.named),
             held: self.lun.queue.held_by_read(self.target.named),
             array: named_plane(self.target.named),
+            copies: Copies::uncopied(),
         };
+        self.target = KnownTarget::closed(self.target.shows_after_read(geometry));
+    }
+
+    // After the start of a read for copies, behind which no 31h may follow.
+    fn start_copy(&mut self, geometry: &Geometry)
+        ensures { self.new ≡ copy_started geometry.now self.old }
+    {
+        self.lun = self.lun.at_copy(geometry, &self.target);
         self.target = KnownTarget::closed(self.target.shows_after_read(geometry));
     }
 
@@ -142,18 +142,35 @@ impl State {
         }
     }
 
-    // After a change of the write column.
+    // After a Change Write Column: a change of the column, where the tail wants it, and else the beginning of a copy.
     fn change_column(&mut self)
-        ensures { self.new ≡ with_target self.old (record self.old.target { tail = InColumn 0 }) }
+        ensures { self.new ≡ if place_wants ChangeWriteColumn self.old.target.tail then with_target self.old (record self.old.target { tail = InColumn 0 }) else opened_by ChangeWriteColumn self.old }
     {
-        self.target.tail = Place::InColumn { addresses: 0 };
+        if self.target.tail.wants(Command::ChangeWriteColumn) {
+            self.target.tail = Place::InColumn { addresses: 0 };
+        } else {
+            self.open(Command::ChangeWriteColumn);
+        }
     }
 
-    // After a plane's erase, or program.
-    fn queue_row(&mut self, erase: bool)
-        ensures { self.new ≡ work_started (queued_more erase self.old.lun.queue self.old.target.named) self.old }
+    // After a plane's erase.
+    fn queue_erase(&mut self)
+        ensures { self.new ≡ work_started (queued_more true self.old.lun.queue self.old.target.named) self.old }
     {
-        self.start_work(self.lun.queue.with(erase, self.target.named));
+        self.start_work(self.lun.queue.with(true, self.target.named));
+    }
+
+    // After a plane's program, which leaves the pages that are held.
+    fn queue_program(&mut self)
+        ensures { self.new ≡ program_queued self.old }
+    {
+        let queue = self.lun.queue.with(false, self.target.named);
+        self.lun = KnownLun {
+            held: self.lun.held,
+            copies: self.lun.copies.queued(),
+            ..self.lun.at_work(queue)
+        };
+        self.target = KnownTarget::closed(self.target.shows);
     }
 
     // After a command.
@@ -175,12 +192,13 @@ impl State {
             Command::ChangeWriteColumn => self.change_column(),
             Command::ReadConfirm => self.start_read(geometry),
             Command::ReadPlane => self.queue_read(geometry),
+            Command::CopybackRead => self.start_copy(geometry),
             Command::ChangeReadColumnConfirm => self.give_column(),
             Command::BlockEraseConfirm | Command::ProgramConfirm => {
                 self.start_work(QueuedRows::NoRows)
             }
-            Command::BlockErasePlane => self.queue_row(true),
-            Command::ProgramPlane => self.queue_row(false),
+            Command::BlockErasePlane => self.queue_erase(),
+            Command::ProgramPlane => self.queue_program(),
             Command::Reset | Command::SynchronousReset => self.reset(),
             Command::ReadCacheSequential => self.go_on_with_cache_read(geometry),
             Command::ReadCacheEnd => {
@@ -191,10 +209,7 @@ impl State {
                     DATA_SHOWN,
                 );
             }
-            Command::ReadStatus
-            | Command::ReadStatusEnhanced
-            | Command::CopybackRead
-            | Command::Unknown => {}
+            Command::ReadStatus | Command::ReadStatusEnhanced | Command::Unknown => {}
         }
     }
 }

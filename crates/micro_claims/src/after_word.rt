@@ -4,7 +4,8 @@ ghost use Rattle.micro_claims.specs.Accepts.{word_leaves, state_after};
 ghost use Rattle.micro_claims.specs.Leaves.{polled, found_ready, handed_over, drift_more, drift_set, moved_by, index_moved, page_plus, get_leaves, span_more, with_target, features_put, put_leaves};
 ghost use Rattle.micro_claims.specs.Spans.{exactly, plus, only};
 
-use crate::drift::IndexMove;
+use crate::copies::parity_of;
+use crate::drift::{IndexMove, NO_DISTANCE};
 use crate::known_target::KnownTarget;
 use crate::page_range::PageRange;
 use crate::place::Place;
@@ -90,8 +91,8 @@ impl State {
     }
 
     // After a move of the index register.
-    fn move_index(&mut self, by: IndexMove, index: Span, page: PageRange)
-        ensures { self.new ≡ index_moved (moved_by by) index page self.old }
+    fn move_index(&mut self, geometry: &Geometry, by: IndexMove, index: Span, page: PageRange)
+        ensures { self.new ≡ index_moved geometry.now.pages (moved_by by) index page self.old }
     {
         self.registers.index = index;
         self.registers.page = page;
@@ -100,28 +101,31 @@ impl State {
             Some(row) => Some(row.after(by)),
         };
         self.lun.queue = self.lun.queue.after(by);
+        let parity = parity_of(geometry.parts().pages, NO_DISTANCE.after(by));
+        self.lun.copies = self.lun.copies.moved(parity);
     }
 
     // After `rowadd`.
     fn add_rows(&mut self, geometry: &Geometry, rows: u16)
-        ensures { self.new ≡ index_moved (drift_more rows) (plus self.old.registers.index rows)
+        ensures { self.new ≡ index_moved geometry.now.pages (drift_more rows) (plus self.old.registers.index rows)
             (page_plus geometry.now.pages rows self.old.registers.page) self.old }
     {
         let more = u64::from(rows);
         let index = self.registers.index.plus(more);
         let page = self.registers.page.after_rows(geometry, rows);
-        self.move_index(IndexMove::On { rows: more }, index, page);
+        self.move_index(geometry, IndexMove::On { rows: more }, index, page);
     }
 
     // After `row`.
     fn set_row(&mut self, geometry: &Geometry, row: u16)
-        ensures { self.new ≡ index_moved (drift_set (only self.old.registers.index) row) (exactly row)
+        ensures { self.new ≡ index_moved geometry.now.pages (drift_set (only self.old.registers.index) row) (exactly row)
             (record { lo = row % geometry.now.pages; hi = row % geometry.now.pages }) self.old }
     {
         let page = u32::from(row) % geometry.parts().pages;
         let row = u64::from(row);
         let from = self.registers.index.only();
         self.move_index(
+            geometry,
             IndexMove::To { from, row },
             Span::exactly(row),
             PageRange { lo: page, hi: page },

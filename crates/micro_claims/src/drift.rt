@@ -13,6 +13,12 @@ pub struct Drift {
     pub behind: u32,
 }
 
+// The index register is at the row itself.
+pub(crate) const NO_DISTANCE: Drift = Drift {
+    ahead: 0,
+    behind: 0,
+};
+
 /// A move of the index register: on by so many rows, or to a row from where it is, if that is known.
 #[derive(Clone, Copy)]
 pub enum IndexMove {

@@ -1,10 +1,12 @@
 //! What the register of the LUN may hold.
-ghost use Rattle.std.specs.Prelude.{⊤, ◌≡◌, [], ◌∷◌, codes};
+ghost use Rattle.std.specs.Prelude.{⊤, ◌≡◌, [], ◌∷◌, codes, if◌then◌else◌, None};
 ghost use Rattle.micro_claims.specs.Against.{holds_short, long_length_of, length_of};
 ghost use Rattle.micro_claims.specs.Joins.{both_know, joined_held};
+ghost use Rattle.micro_claims.specs.Leaves.{may_be_reads, page_register};
 ghost use Rattle.micro_claims.specs.Order.{is_register_within};
 ghost use Rattle.micro_claims.specs.State.{holds_page, holds_parameters, holds_identifier, holds_identity, holds_jedec, holds_unique_id, holds_feature};
 
+use crate::queued_rows::QueuedRows;
 use bitflags::{Flag, Flags, bitflag_items};
 use nand_geometry::Geometry;
 use onfi_cycle::{
@@ -166,5 +168,16 @@ pub(crate) fn joined_registered(one: Option<Held>, other: Option<Held>) -> Optio
     match (one, other) {
         (Some(one), Some(other)) => Some(one.join(other)),
         _ => None,
+    }
+}
+
+// The register behind a read, with these rows queued before it: where reads were, no page is selected.
+pub(crate) fn register_read(queue: QueuedRows) -> Option<Held>
+    ensures { result ≡ if may_be_reads queue then None else page_register }
+{
+    if queue.may_be_reads() {
+        None
+    } else {
+        PAGE_HELD
     }
 }

@@ -1,17 +1,20 @@
 //! What is known of the LUN.
-ghost use Rattle.std.specs.Prelude.{◌≡◌, Some, true, false, None, ◌||◌};
+ghost use Rattle.std.specs.Prelude.{◌≡◌, Some, true, false, None, ◌||◌, if◌then◌else◌};
 ghost use Rattle.micro_claims.specs.Against.{has_page_or_parameters, least_length, may_be_queued};
 ghost use Rattle.micro_claims.specs.Joins.{joined_lun};
-ghost use Rattle.micro_claims.specs.Leaves.{unread, page_register, column_read};
+ghost use Rattle.micro_claims.specs.Leaves.{unread, page_register, given_at, column_read, gathers, held_by_copy, copies_read, may_be_reads, named_plane};
 ghost use Rattle.micro_claims.specs.Order.{is_lun_within};
 ghost use Rattle.micro_claims.specs.Planes.{no_planes};
 ghost use Rattle.micro_claims.specs.Spans.{exactly};
-ghost use Rattle.micro_claims.specs.State.{other_closer, may_be_31};
+ghost use Rattle.micro_claims.specs.State.{NoRows, other_closer, no_copies, uncopied, may_be_31};
 
 use crate::cached_page::CachedPage;
+use crate::copies::{Copies, parity_of};
 use crate::flags::may_within;
-use crate::held::{Held, PAGE_HELD, is_register_within, joined_registered};
+use crate::held::{Held, PAGE_HELD, is_register_within, joined_registered, register_read};
+use crate::known_target::KnownTarget;
 use crate::last_closer::LastCloser;
+use crate::named_row::{NamedRow, named_plane};
 use crate::output_column::{OutputColumn, is_output_within, joined_outputs, widened_output};
 use crate::planes::Planes;
 use crate::queued_rows::QueuedRows;
@@ -35,6 +38,7 @@ pub struct KnownLun {
     pub held: Planes,
     /// The plane of the page that the array reads, where it is sure.
     pub array: Planes,
+    pub copies: Copies,
 }
 
 impl KnownLun {
@@ -85,6 +89,7 @@ impl KnownLun {
           cached = self.now.cached;
           held = no_planes;
           array = no_planes;
+          copies = no_copies;
         } }
     {
         KnownLun {
@@ -96,6 +101,7 @@ impl KnownLun {
             cached: self.cached,
             held: Planes::none(),
             array: Planes::none(),
+            copies: Copies::none(),
         }
     }
 
@@ -110,6 +116,7 @@ impl KnownLun {
           cached = cached;
           held = self.now.array;
           array = array;
+          copies = uncopied;
         } }
     {
         KnownLun {
@@ -121,6 +128,75 @@ impl KnownLun {
             cached,
             held: self.array,
             array,
+            copies: Copies::uncopied(),
+        }
+    }
+
+    // Another 35h leaves the pages that are held.
+    fn gathers(&self) -> bool
+        ensures { result ≡ gathers self.now }
+    {
+        self.copies.copying && !self.queue.may_be_some()
+    }
+
+    // The planes that surely hold a page behind a 35h of the row of the tail.
+    fn held_by_copy(self, named: Option<NamedRow>) -> Planes
+        ensures { result ≡ held_by_copy self named }
+    {
+        match named {
+            None => Planes::none(),
+            Some(row) if !self.gathers() => self.queue.copied_beside(row),
+            Some(row) => {
+                if row.planes.is_one() {
+                    row.planes.or(self.held)
+                } else {
+                    Planes::none()
+                }
+            }
+        }
+    }
+
+    // What is known of copies behind it.
+    fn copies_read(self, pages: u32, named: Option<NamedRow>) -> Copies
+        ensures { result ≡ copies_read pages self named }
+    {
+        match named {
+            None => Copies::first(None, Planes::none()),
+            Some(row) => {
+                let parity = parity_of(pages, row.drift);
+                if self.gathers() {
+                    self.copies.with(parity, row.planes)
+                } else {
+                    Copies::first(parity, self.queue.alike_beside(row))
+                }
+            }
+        }
+    }
+
+    // At a read for copies of the row of the tail, behind which no 31h may follow.
+    pub(crate) fn at_copy(&self, geometry: &Geometry, target: &KnownTarget) -> KnownLun
+        ensures { result ≡ record {
+          busy = true;
+          register = if may_be_reads self.now.queue then None else page_register;
+          column = given_at target.now.column;
+          queue = NoRows;
+          last = other_closer;
+          cached = self.now.cached;
+          held = held_by_copy self.now target.now.named;
+          array = named_plane target.now.named;
+          copies = copies_read geometry.now.pages self.now target.now.named;
+        } }
+    {
+        KnownLun {
+            busy: true,
+            register: register_read(self.queue),
+            column: OutputColumn::given(target.column),
+            queue: QueuedRows::NoRows,
+            last: LastCloser::OTHER,
+            cached: self.cached,
+            held: self.held_by_copy(target.named),
+            array: named_plane(target.named),
+            copies: self.copies_read(geometry.parts().pages, target.named),
         }
     }
 
@@ -161,6 +237,7 @@ impl KnownLun {
             && self.cached.page.is_within(other.cached.page)
             && other.held.are_within(self.held)
             && other.array.are_within(self.array)
+            && self.copies.are_within(other.copies)
     }
 
     pub(crate) fn join(&self, other: &KnownLun) -> KnownLun
@@ -175,6 +252,7 @@ impl KnownLun {
             cached: self.cached.join(other.cached),
             held: self.held.and(other.held),
             array: self.array.and(other.array),
+            copies: self.copies.join(other.copies),
         }
     }
 

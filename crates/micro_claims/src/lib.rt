@@ -5,7 +5,7 @@
 //! [`State::after`] what is known after it (`after_word`, and by it `after_command` and `after_addresses`). [`State::is_within`] compares
 //! what two states claim, and [`State::join`] is what both claim.
 //!
-//! The definitions stand in `specs/`: numbers with their bounds (`Spans`), sets of planes (`Planes`), what is known (`State`), the tests
+//! The definitions stand in `specs/`: numbers with their bounds (`Spans`), sets of planes (`Planes`), what is known (`State`), pages to be copied (`Copies`), the tests
 //! (`Against`), the reasons against a word (`Reasons`), what it leaves (`Leaves`), lines that are accepted one by one (`Accepts`), which
 //! state claims less (`Order`), what two states both claim (`Joins`), and certificates of texts with loops (`Certificate`). The law is that
 //! lines which are accepted from the first state are safe.
@@ -16,6 +16,7 @@ mod after_command;
 mod after_word;
 mod bounds;
 mod cached_page;
+mod copies;
 mod drift;
 mod flags;
 mod grows;
@@ -42,6 +43,7 @@ mod state;
 
 pub use bounds::Bounds;
 pub use cached_page::CachedPage;
+pub use copies::Copies;
 pub use drift::{Drift, IndexMove};
 pub use growth::Growth;
 pub use held::Held;
@@ -56,7 +58,7 @@ pub use page_range::PageRange;
 pub use place::{Place, first_address};
 pub use planes::Planes;
 pub use queued_rows::QueuedRows;
-pub use reasons::{cost, is_for_traces};
+pub use reasons::cost;
 pub use refusal::{Fault, Reason};
 pub use registers::Registers;
 pub use shown::Shown;

@@ -63,7 +63,7 @@ fn opener_leads_to(opener: Command, addresses: usize) -> Place
     ensures { result ≡ opener_leads_to opener addresses }
 {
     match opener {
-        Command::PageProgram if addresses == 5 => Place::InData,
+        Command::PageProgram | Command::ChangeWriteColumn if addresses == 5 => Place::InData,
         Command::ReadId
         | Command::ReadParameterPage
         | Command::ReadUniqueId

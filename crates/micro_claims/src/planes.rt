@@ -1,6 +1,6 @@
 //! Sets of planes.
 ghost use Rattle.std.specs.Prelude.{⊤, ◌≡◌, ◌==◌, ◌&&◌, not, [], ◌∷◌, codes};
-ghost use Rattle.micro_claims.specs.Planes.{greatest_plane, no_planes, just_plane, either_plane, common_planes, is_one_plane, sure_plane, are_planes_within, share_a_plane, are_below};
+ghost use Rattle.micro_claims.specs.Planes.{greatest_plane, no_planes, just_plane, either_plane, common_planes, other_planes, is_one_plane, sure_plane, are_planes_within, share_a_plane, are_below};
 
 use bitflags::{Flag, Flags, bitflag_items};
 
@@ -73,6 +73,13 @@ impl Planes {
         ensures { result ≡ common_planes self other }
     {
         self.intersection(other)
+    }
+
+    /// Those of the second that aren't in these.
+    pub fn others(self, other: Planes) -> Planes
+        ensures { result ≡ other_planes self other }
+    {
+        Planes(other.0 & 15u8.saturating_sub(self.0))
     }
 
     /// It is one plane.

@@ -2,7 +2,7 @@
 ghost use Rattle.std.specs.Prelude.{◌≡◌};
 ghost use Rattle.micro_claims.specs.Against.{may_be_queued, queue_refuses};
 ghost use Rattle.micro_claims.specs.Joins.{joined_rows};
-ghost use Rattle.micro_claims.specs.Leaves.{moved_by, rows_at, reads_at, rows_moved, queued_planes, goes_along, queued_more, reads_beside, reads_more, may_be_reads, held_beside, held_by_read};
+ghost use Rattle.micro_claims.specs.Leaves.{moved_by, rows_at, reads_at, rows_moved, queued_planes, goes_along, queued_more, reads_beside, reads_more, may_be_reads, held_beside, held_by_read, copied_beside, alike_beside, same_drift};
 ghost use Rattle.micro_claims.specs.Order.{are_rows_within};
 
 use crate::drift::{Drift, IndexMove};
@@ -177,6 +177,36 @@ impl QueuedRows {
         match named {
             None => Planes::none(),
             Some(row) => self.held_beside(row),
+        }
+    }
+
+    // The planes that surely hold a page behind a 35h of this row: of the reads, where it is sure of each that its page was read.
+    pub(crate) fn copied_beside(self, row: NamedRow) -> Planes
+        ensures { result ≡ copied_beside row self }
+    {
+        match self {
+            QueuedRows::SomeReads { planes, surely, .. }
+                if row.planes.is_one() && !row.planes.meet(planes) && planes.are_within(surely) =>
+                row.planes.or(surely),
+            QueuedRows::NoRows
+            | QueuedRows::SomeRows { .. }
+            | QueuedRows::SomeReads { .. }
+            | QueuedRows::AnyRows => row.planes.sure(),
+        }
+    }
+
+    // Those of them whose rows are as far from the index register as this one.
+    pub(crate) fn alike_beside(self, row: NamedRow) -> Planes
+        ensures { result ≡ alike_beside row self }
+    {
+        match self {
+            QueuedRows::SomeReads { drift, .. } if row.drift == Some(drift) => {
+                self.copied_beside(row)
+            }
+            QueuedRows::NoRows
+            | QueuedRows::SomeRows { .. }
+            | QueuedRows::SomeReads { .. }
+            | QueuedRows::AnyRows => row.planes.sure(),
         }
     }
 

@@ -1,6 +1,6 @@
 //! The reasons against a word, by what is known before it.
 ghost use Rattle.std.specs.Prelude.{◌≡◌, ◌^◌, ◌<◌, ◌==◌, ◌&&◌, not};
-ghost use Rattle.micro_claims.specs.Against.{next_address, is_of_profile, is_unfit, opener_refused, closer_refused, goes_on_at, may_end_sequence, command_out_of_place, command_past_rows, is_for_traces, command_not_for_programs, has_second_column, column_limit, takes_any_byte, takes_identity, is_identity_byte, identity_refused, plane_refused, row_refused, surely_past, address_out_of_place, begins_elsewhere, column_past, row_outside, output_refused, output_past, input_past, may_be_unready};
+ghost use Rattle.micro_claims.specs.Against.{next_address, is_of_profile, is_unfit, opener_refused, closer_refused, goes_on_at, may_end_sequence, command_out_of_place, command_past_rows, command_not_for_programs, has_second_column, column_limit, takes_any_byte, takes_identity, is_identity_byte, identity_refused, plane_refused, copied_planes, copy_refused, row_refused, surely_past, address_out_of_place, begins_elsewhere, column_past, row_outside, output_refused, output_past, input_past, may_be_unready};
 ghost use Rattle.nand_geometry.specs.Optional.{is_wide};
 ghost use Rattle.onfi_cycle.specs.Rules.{excludes_cache};
 ghost use Rattle.micro_claims.specs.Reasons.{breaks_cycle_forbidden, breaks_address_unaligned, breaks_handover_in_sequence, breaks_buffer_passed, breaks_row_or_plane_outside, breaks_column_too_large, breaks_no_status, breaks_ends_too_soon, breaks_over_budget, breaks_command_not_allowed, reason_against};
@@ -11,6 +11,7 @@ use crate::bounds::Bounds;
 use crate::last_closer::LastCloser;
 use crate::limits::{bound_plus, is_at_most};
 use crate::place::Place;
+use crate::planes::Planes;
 use crate::refusal::Reason;
 use crate::state::State;
 use bitflags::Flags;
@@ -53,14 +54,16 @@ fn is_unfit(geometry: &Geometry, command: Command) -> bool
     !is_of_profile(geometry, command) || is_undeclared(geometry, command)
 }
 
-// An opener goes on with the sequence: a Read Cache Sequential that the tail wants, and a Change Write Column, as none begins a sequence in
-// programs.
-fn goes_on_at(command: Command, tail: Place) -> bool
-    ensures { result ≡ goes_on_at command tail }
+// An opener goes on with the sequence: a Read Cache Sequential or a Change Write Column that the tail wants. Where no copyback is declared no
+// Change Write Column begins a sequence.
+fn goes_on_at(geometry: &Geometry, command: Command, tail: Place) -> bool
+    ensures { result ≡ goes_on_at geometry.now command tail }
 {
     match command {
         Command::ReadCacheSequential => tail.wants(command),
-        Command::ChangeWriteColumn => true,
+        Command::ChangeWriteColumn => {
+            tail.wants(command) || !geometry.parts().optional.has_copyback()
+        }
         _ => false,
     }
 }
@@ -84,20 +87,12 @@ fn may_end_sequence(geometry: &Geometry, command: Command) -> bool
     command.is_reset() && is_wide(geometry)
 }
 
-/// Traces know the command, and programs may not use it yet.
-pub fn is_for_traces(command: Command) -> bool
-    ensures { result ≡ is_for_traces command }
-{
-    matches!(command, Command::CopybackRead)
-}
-
 // Programs may not use the command.
 fn is_not_for_programs(geometry: &Geometry, command: Command) -> bool
     ensures { result ≡ command_not_for_programs geometry.now command }
 {
     is_unfit(geometry, command)
         || matches!(command, Command::ReadStatus | Command::ReadStatusEnhanced)
-        || is_for_traces(command)
         || command.wants_one_lun() && geometry.parts().luns > 1
 }
 
@@ -180,7 +175,8 @@ impl State {
             Command::Read
             | Command::ChangeReadColumnEnhanced
             | Command::BlockErase
-            | Command::PageProgram => self.lun.busy,
+            | Command::PageProgram
+            | Command::ChangeWriteColumn => self.lun.busy,
             Command::ReadId
             | Command::ReadParameterPage
             | Command::ReadUniqueId
@@ -211,7 +207,7 @@ impl State {
                 !self.target.tail.selects_plane() && !self.target.drives()
             }
             Command::ReadConfirm => is_wide(geometry) && self.lun.last.may_be_31(),
-            Command::ReadPlane => self.lun.last.may_be_31(),
+            Command::ReadPlane | Command::CopybackRead => self.lun.last.may_be_31(),
             Command::ReadCacheSequential => !is_wide(geometry) || self.lun.last.may_be_other(),
             _ => false,
         }
@@ -222,7 +218,7 @@ impl State {
     {
         if is_unfit(geometry, command) {
             false
-        } else if command.is_opener() && !goes_on_at(command, self.target.tail) {
+        } else if command.is_opener() && !goes_on_at(geometry, command, self.target.tail) {
             !may_end_sequence(geometry, command) && self.may_be_open()
                 || self.refuses_opener(geometry, command)
         } else {
@@ -281,6 +277,38 @@ impl State {
             && (self.lun.queue.may_be_some() || !self.registers.planes.are_within(self.lun.held))
     }
 
+    // The planes whose page a program may copy to a row, as far as its parity goes.
+    fn copied_planes(&self, geometry: &Geometry) -> Planes
+        ensures { result ≡ copied_planes geometry.now self.now.lun }
+    {
+        if geometry.parts().optional.has_odd_even() {
+            self.lun.held
+        } else {
+            self.lun.copies.even
+        }
+    }
+
+    // The row of 85h may be of a plane that holds no page to be copied there; that of 80h may come in a group of copies.
+    fn refuses_copy(&self, geometry: &Geometry, opener: Command) -> bool
+        ensures { result ≡ copy_refused geometry.now self.now opener }
+    {
+        match opener {
+            Command::ChangeWriteColumn => {
+                !self.lun.copies.keeps
+                    || !self
+                        .registers
+                        .planes
+                        .are_within(self.copied_planes(geometry))
+            }
+            Command::PageProgram => {
+                geometry.parts().optional.has_copyback()
+                    && self.lun.queue.may_be_some()
+                    && self.lun.copies.holds
+            }
+            _ => false,
+        }
+    }
+
     // The last row cycle may be refused; that of Reset LUN is fine whatever the LUN does.
     fn refuses_row(&self, geometry: &Geometry) -> bool
         ensures { result ≡ row_refused geometry.now self.now self.now.target.tail }
@@ -291,7 +319,8 @@ impl State {
                     && (self.lun.busy
                         || excludes_cache(geometry, opener) && self.lun.last.may_be_31()
                         || self.lun.queue.refuses(self.registers.planes, opener)
-                        || self.refuses_plane(opener))
+                        || self.refuses_plane(opener)
+                        || self.refuses_copy(geometry, opener))
             }
             _ => false,
         }

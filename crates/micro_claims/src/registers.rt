@@ -6,7 +6,7 @@ ghost use Rattle.micro_claims.specs.Order.{are_registers_within, span_in_loop};
 ghost use Rattle.micro_claims.specs.Spans.{plus};
 ghost use Rattle.micro_program.specs.Program.{cost};
 
-use crate::drift::Drift;
+use crate::drift::NO_DISTANCE;
 use crate::flags::may_within;
 use crate::limits::GREATEST_BOUND;
 use crate::loop_place::LoopPlace;
@@ -57,10 +57,7 @@ impl Registers {
             index: self.index.copied(),
             planes: self.planes,
             page: greatest_page(geometry, self),
-            drift: Some(Drift {
-                ahead: 0,
-                behind: 0,
-            }),
+            drift: Some(NO_DISTANCE),
         }
     }
 

@@ -7,6 +7,7 @@ ghost use Rattle.micro_claims.specs.Order.{is_state_within, state_at_head, state
 ghost use Rattle.micro_claims.specs.State.{first_state};
 
 use crate::cached_page::{CachedPage, not_cached};
+use crate::copies::Copies;
 use crate::known_lun::KnownLun;
 use crate::known_target::KnownTarget;
 use crate::last_closer::LastCloser;
@@ -52,6 +53,7 @@ impl State {
                 cached: not_cached(),
                 held: Planes::none(),
                 array: Planes::none(),
+                copies: Copies::uncopied(),
             },
         }
     }
@@ -83,6 +85,7 @@ impl State {
                 cached: not_cached(),
                 held: Planes::none(),
                 array: Planes::none(),
+                copies: Copies::uncopied(),
             },
         }
     }

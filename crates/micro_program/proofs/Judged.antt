@@ -21,13 +21,13 @@ use Rattle.onfi_cycle.specs.Command.{at_last_row, addresses_the_array, is_change
 use Rattle.onfi_cycle.specs.Sequence.{opened, is_open, takes_inputs, takes_features, wants_command, wants_address, row_with, column_with, input_column, row}
 use Rattle.onfi_cycle.specs.Effect.{is_shared, page_address, names_lun}
 use Rattle.onfi_cycle.specs.Lun.{lun_view, luns_of, views_from}
-use Rattle.onfi_cycle.specs.Rules.{ends_row, named_lun_is, works_for_target, is_some_and, driver, second_of_page, second_column, caching, has_read_one, continues_cache, ends_cache, may_change_column, has_some, is_refused_by, register_len, has_no_byte, is_past_register, breaks_command_unknown, breaks_sequence_open, breaks_several_luns, breaks_no_column_to_change, breaks_command_misplaced, breaks_address_misplaced, breaks_row_outside, breaks_lun_busy, breaks_queue_clash, breaks_input_misplaced, breaks_no_sole_driver, breaks_data_not_ready, breaks_column_outside, breaks_cache_read_misplaced, breaks_copyback_misplaced, breaks_plane_not_held, excludes_cache, holds_none, is_copying, holds_plane_of}
+use Rattle.onfi_cycle.specs.Rules.{ends_row, named_lun_is, works_for_target, is_some_and, driver, second_of_page, second_column, caching, has_read_one, continues_cache, ends_cache, may_change_column, has_some, may_copy, is_refused_by, register_len, has_no_byte, is_past_register, breaks_command_unknown, breaks_sequence_open, breaks_several_luns, breaks_no_column_to_change, breaks_command_misplaced, breaks_address_misplaced, breaks_row_outside, breaks_lun_busy, breaks_queue_clash, breaks_input_misplaced, breaks_no_sole_driver, breaks_data_not_ready, breaks_column_outside, breaks_cache_read_misplaced, breaks_copyback_misplaced, breaks_plane_not_held, excludes_cache, is_copying, holds_plane_of}
 use Rattle.onfi_cycle.specs.Permitted.{judge_cycle}
 use Rattle.onfi_cycle.specs.Channel.{Channel, is_there}
 use Rattle.micro_program.proofs.Below.{facts}
 use Rattle.micro_program.proofs.Basics.{there_lun}
 use Rattle.micro_program.proofs.Views.{some_at, passes_at}
-use Rattle.micro_program.proofs.Scenes.{Scene, CopiesNone, IsScene, CommandAllowed, AddressAllowed, closed_unwanted}
+use Rattle.micro_program.proofs.Scenes.{Scene, IsScene, CommandAllowed, AddressAllowed, closed_unwanted}
 
 -- 1. commands
 
@@ -211,6 +211,25 @@ judge_32 g t luns wants free declared = at (is_wide g.optional) (ltb 1 g.luns) r
     at true false e f = rw (e, f, wants, free, reads) refl
     at false several e f = let wide : true ≡ false = sym (and_parts (is_wide g.optional) _ declared).0 ∙ e in cc
 
+-- a chip with copybacks is one of the wider profile
+copies_wide : (g : Parts) → has_copyback g.optional ≡ true → is_wide g.optional ≡ true
+copies_wide g h = (and_parts (is_wide g.optional) _ h).0
+
+copies_bit : (g : Parts) → has_copyback g.optional ≡ true → has_all g.optional 16 ≡ true
+copies_bit g h = (and_parts (is_wide g.optional) (has_all g.optional 16) h).1
+
+judge_35 : (g : Parts) (t : TailFacts) (luns : List LunView) → wants_command t CopybackRead ≡ true → named_lun_is g (row t) caching luns ≡ false → has_copyback g.optional ≡ true → judge_cycle g t luns (CommandCycle CopybackRead) ≡ None
+unfolding breaks_command_unknown breaks_sequence_open breaks_several_luns breaks_no_column_to_change breaks_command_misplaced breaks_address_misplaced breaks_row_outside breaks_lun_busy breaks_queue_clash breaks_input_misplaced breaks_no_sole_driver breaks_data_not_ready breaks_column_outside breaks_cache_read_misplaced breaks_copyback_misplaced breaks_plane_not_held
+judge_35 g t luns wants free declared = at (is_wide g.optional) (ltb 1 g.luns) refl refl
+  where
+    copies : has_all g.optional 16 ≡ true
+    copies = copies_bit g declared
+
+    at : (w several : Bool) → is_wide g.optional ≡ w → ltb 1 g.luns ≡ several → judge_cycle g t luns (CommandCycle CopybackRead) ≡ None
+    at true true e f = rw (e, f, wants, free, copies) refl
+    at true false e f = rw (e, f, wants, free, copies) refl
+    at false several e f = let wide : true ≡ false = sym (copies_wide g declared) ∙ e in cc
+
 judge_d0 : (g : Parts) (t : TailFacts) (luns : List LunView) → wants_command t BlockEraseConfirm ≡ true → judge_cycle g t luns (CommandCycle BlockEraseConfirm) ≡ None
 unfolding breaks_command_unknown breaks_sequence_open breaks_several_luns breaks_no_column_to_change breaks_command_misplaced breaks_address_misplaced breaks_row_outside breaks_lun_busy breaks_queue_clash breaks_input_misplaced breaks_no_sole_driver breaks_data_not_ready breaks_column_outside breaks_cache_read_misplaced breaks_copyback_misplaced breaks_plane_not_held
 judge_d0 g t luns wants = at (is_wide g.optional) (ltb 1 g.luns) refl refl
@@ -286,6 +305,19 @@ judge_85 g t luns wants = at (is_wide g.optional) (ltb 1 g.luns) refl refl
     at true false e f = rw (open_is, placed, e, f, wants) refl
     at false several e f = rw (open_is, placed, e, wants) refl
 
+-- 85 begins a copyback where nothing is open
+judge_copy : (g : Parts) (t : TailFacts) (luns : List LunView) → is_open t ≡ false → list_any (λ v. not v.busy) luns ≡ true → has_copyback g.optional ≡ true → judge_cycle g t luns (CommandCycle ChangeWriteColumn) ≡ None
+unfolding breaks_command_unknown breaks_sequence_open breaks_several_luns breaks_no_column_to_change breaks_command_misplaced breaks_address_misplaced breaks_row_outside breaks_lun_busy breaks_queue_clash breaks_input_misplaced breaks_no_sole_driver breaks_data_not_ready breaks_column_outside breaks_cache_read_misplaced breaks_copyback_misplaced breaks_plane_not_held
+judge_copy g t luns closed ready declared = at (is_wide g.optional) (ltb 1 g.luns) refl refl
+  where
+    copies : has_all g.optional 16 ≡ true
+    copies = copies_bit g declared
+
+    at : (w several : Bool) → is_wide g.optional ≡ w → ltb 1 g.luns ≡ several → judge_cycle g t luns (CommandCycle ChangeWriteColumn) ≡ None
+    at true true e f = rw (e, f, closed, ready, copies) (rw (and-false (not (wants_command t ChangeWriteColumn))) refl)
+    at true false e f = rw (e, f, closed, ready, copies) (rw (and-false (not (wants_command t ChangeWriteColumn))) refl)
+    at false several e f = let wide : true ≡ false = sym (copies_wide g declared) ∙ e in cc
+
 -- the only LUN of its target
 some_of_one : (g : Parts) (past : List Item) (l : Lun) (test : LunView → Bool) → g.luns ≡ 1 → l.lun ≡ 0 → list_any test (luns_of g past l.ce) ≡ (test (lun_view g past l) || false)
 some_of_one g past l test one zero_is =
@@ -337,7 +369,8 @@ command_judged s l past c there k d a = by d a
     by ProgramPlane a = judge_11 s.geometry c.facts _ a.0.0 a.1
     by ChangeReadColumnConfirm (inl a) = judge_e0 s.geometry c.facts _ a.wants
     by ChangeReadColumnConfirm (inr a) = judge_e0 s.geometry c.facts _ a.wants
-    by ChangeWriteColumn a = judge_85 s.geometry c.facts _ a
+    by ChangeWriteColumn (inl a) = judge_85 s.geometry c.facts _ a
+    by ChangeWriteColumn (inr a) = judge_copy s.geometry c.facts _ a.0.0 (some_ready a.0.1) a.1
     by ReadUniqueId a = judge_unique_id s.geometry c.facts _ a.0.closed a.0.one (some_ready a.0.ready) (none_of (λ v. has_some v.queue) a.0.one a.0.no_queue) (none_of caching a.0.one a.0.no_cache) a.1
     by GetFeatures a = judge_features s.geometry c.facts _ a.0.closed a.0.one (some_ready a.0.ready) (none_of (λ v. has_some v.queue) a.0.one a.0.no_queue) (none_of caching a.0.one a.0.no_cache) a.1
     by SetFeatures a = judge_set_features s.geometry c.facts _ a.0.closed a.0.one (some_ready a.0.ready) (none_of (λ v. has_some v.queue) a.0.one a.0.no_queue) (none_of caching a.0.one a.0.no_cache) a.1
@@ -346,7 +379,7 @@ command_judged s l past c there k d a = by d a
     by Unknown a = absurd a
     by ChangeReadColumnEnhanced a = judge_06 s.geometry c.facts _ a.0.0 (some_ready a.0.1) a.1
     by ReadPlane a = judge_32 s.geometry c.facts _ a.0.0 (named_as caching a.0.1 ∙ a.1) a.2
-    by CopybackRead a = absurd a
+    by CopybackRead a = judge_35 s.geometry c.facts _ a.0.0 (named_as caching a.0.1 ∙ a.1) a.2
 
 from_command : (g : Parts) (t u : TailFacts) (luns : List LunView) (c d : Command) → t ≡ u → c ≡ d → judge_cycle g u luns (CommandCycle d) ≡ None → judge_cycle g t luns (CommandCycle c) ≡ None
 from_command g t u luns c d e f h =
@@ -379,19 +412,13 @@ is_not : (b : Bool) → b ≡ true → not b ≡ false
 is_not true h = refl
 is_not false h = cc
 
--- neither of two
-neither : (copies a b : Bool) → a ≡ false → b ≡ false → (copies && (a || b)) ≡ false
-neither copies true b h k = cc
-neither copies false true h k = cc
-neither copies false false h k = and-false copies
-
--- no group of copybacks has begun
-not_copying : (t : TailFacts) (v : LunView) → CopiesNone t v true → is_copying v ≡ false
-not_copying t v k = at (has_some v.queue) refl
-  where
-    at : (b : Bool) → has_some v.queue ≡ b → (b && not (holds_none v.held)) ≡ false
-    at true e = ap (λ (pages : List PageAddress). not (holds_none pages)) (k.queued e)
-    at false e = refl
+-- a chip with copybacks copies no page here, and is in no group of them
+no_misplaced : (copies a b x y : Bool) → (a ≡ true → x ≡ false) → (b ≡ true → (copies && y) ≡ false) → (copies && ((a && x) || (b && y))) ≡ false
+no_misplaced false a b x y h k = refl
+no_misplaced true true true x y h k = or_from x y (h refl) (k refl)
+no_misplaced true true false x y h k = or_from x false (h refl) refl
+no_misplaced true false true x y h k = k refl
+no_misplaced true false false x y h k = refl
 
 -- an address that a scene allows
 pub address_judged : (s : Channel) (l : Lun) (past : List Item) (c : Scene) (byte : ℕ) → is_there s l ≡ true → IsScene s l past c → AddressAllowed s.geometry l.lun c byte → judge_cycle s.geometry c.facts (luns_of s.geometry past l.ce) (AddressCycle byte) ≡ None
@@ -419,6 +446,9 @@ address_judged s l past c byte there k a = at (ends_row (λ d. true) c.facts) re
     named : (n : ℕ) (test : LunView → Bool) → (parts_of g n).lun ≡ l.lun → test c.view ≡ false → named_lun_is g n test luns ≡ false
     named n test e h = passes_at g past l _ test here e ∙ (ap test k.view ∙ h)
 
+    named_as : (test : LunView → Bool) → (parts_of g (row_with c.facts byte)).lun ≡ l.lun → named_lun_is g (row_with c.facts byte) test luns ≡ test c.view
+    named_as test e = passes_at g past l _ test here e ∙ ap test k.view
+
     clash : {x y : Bool} → x ≡ true → x ≡ false → y ≡ false
     clash h k = cc
 
@@ -432,8 +462,9 @@ address_judged s l past c byte there k a = at (ends_row (λ d. true) c.facts) re
         (named (row_with c.facts byte) (λ v. is_refused_by g c.facts.opening (page_address g (row_with c.facts byte)) v.queue) is r.goes)
         f14
         (both_no (ends_row (excludes_cache g) c.facts) _ (λ x. named (row_with c.facts byte) caching is (r.no_cache x)))
-        (neither (has_copyback g.optional) _ _ (both_no (ends_row is_write_column c.facts) _ (λ x. clash x r.no_copy))
-        (both_no (ends_row is_page_program c.facts) _ (λ x. named (row_with c.facts byte) is_copying is (not_copying c.facts c.view k.copies))))
+        (no_misplaced (has_copyback g.optional) (ends_row is_write_column c.facts) (ends_row is_page_program c.facts) _ _
+        (λ x. named (row_with c.facts byte) (λ v. not (may_copy g (page_address g (row_with c.facts byte)) v)) is (is_not _ (r.copy x)))
+        (λ x. ap (λ (b : Bool). has_copyback g.optional && b) (named_as is_copying is) ∙ r.no_group x))
         (both_no (ends_row is_enhanced_column c.facts) _ (λ x. named (row_with c.facts byte) (λ v. not (holds_plane_of g (page_address g (row_with c.facts byte)) v)) is (is_not _ (r.plane x))))
     at false e =
         let none = ends_none addresses_the_array c.facts.opening e in
@@ -443,8 +474,9 @@ address_judged s l past c byte there k a = at (ends_row (λ d. true) c.facts) re
         (no_lun (λ v. is_refused_by g c.facts.opening (page_address g (row_with c.facts byte)) v.queue) _ (λ v. refused_none g (page_address g (row_with c.facts byte)) v.queue c.facts.opening e))
         f14
         (both_no (ends_row (excludes_cache g) c.facts) _ (λ x. clash x (ends_none (excludes_cache g) c.facts.opening e)))
-        (neither (has_copyback g.optional) _ _ (both_no (ends_row is_write_column c.facts) _ (λ x. clash x (ends_none is_write_column c.facts.opening e)))
-        (both_no (ends_row is_page_program c.facts) _ (λ x. clash x (ends_none is_page_program c.facts.opening e))))
+        (no_misplaced (has_copyback g.optional) (ends_row is_write_column c.facts) (ends_row is_page_program c.facts) _ _
+        (λ x. clash x (ends_none is_write_column c.facts.opening e))
+        (λ x. let y : false ≡ true = sym (ends_none is_page_program c.facts.opening e) ∙ x in cc))
         (both_no (ends_row is_enhanced_column c.facts) _ (λ x. clash x (ends_none is_enhanced_column c.facts.opening e)))
 
 -- 3. inputs and outputs

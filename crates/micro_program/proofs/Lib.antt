@@ -19,7 +19,6 @@ pub mod Tracking
 pub mod Waiting
 pub mod Scenes
 pub mod Judged
-pub mod NoCopies
 pub mod Stepping
 pub mod SceneMoves
 pub mod PollScenes

@@ -8,13 +8,10 @@ use Rattle.onfi_cycle.specs.declared.target_cycle.TargetCycle.TheVariants.{Outpu
 use Rattle.onfi_cycle.specs.LunView.{LunView}
 use Rattle.onfi_cycle.specs.Sequence.{tail, facts_of, facts_after, is_open}
 use Rattle.onfi_cycle.specs.Lun.{lun_view}
-use Rattle.onfi_cycle.proofs.Booleans.{clash}
-use Rattle.onfi_cycle.specs.Bounds.{names_program}
 use Rattle.onfi_cycle.specs.Channel.{Channel, is_there, cycle}
 use Rattle.micro_program.specs.Program.{Job}
 use Rattle.micro_program.proofs.Polls.{Polling, PollLeaves, lost}
 use Rattle.micro_program.proofs.Scenes.{Scene, IsScene}
-use Rattle.micro_program.proofs.NoCopies.{names_none}
 use Rattle.micro_program.proofs.Stepping.{scene_next}
 
 -- a LUN that was asked for its status
@@ -35,7 +32,7 @@ pub poll_scene : (s : Channel) (j : Job) (past : List Item) (c : Scene) → is_t
 poll_scene s j past c there is p byte left =
     record {
       now = record { facts = facts_after OutputCycle (facts_of (tail p.polled j.lun.ce)); view = polled_view asked.selected asked.overlapped c.view; sole = true };
-      is = record { facts = next.facts; view = next.view; sole = λ e. next.sole refl; free = next.free; copies = next.copies };
+      is = record { facts = next.facts; view = next.view; sole = λ e. next.sole refl; free = next.free };
       closed = ap is_open (sym next.facts) ∙ left.closed;
       selected = asked.selected;
       overlapped = asked.overlapped;
@@ -53,7 +50,7 @@ poll_scene s j past c there is p byte left =
     now = record { facts = facts_of (tail p.polled j.lun.ce); view = polled_view asked.selected asked.overlapped c.view; sole = true }
 
     now_is : IsScene s j.lun p.polled now
-    now_is = record { facts = refl; view = view_is ∙ ap (polled_view asked.selected asked.overlapped) is.view; sole = λ e. p.one; free = p.free is.free; copies = record { read = is.copies.read; queued = is.copies.queued; program = λ e named. absurd (clash (names_program (facts_of (tail p.polled j.lun.ce))) named (names_none (facts_of (tail p.polled j.lun.ce)) p.closed)) } }
+    now_is = record { facts = refl; view = view_is ∙ ap (polled_view asked.selected asked.overlapped) is.view; sole = λ e. p.one; free = p.free is.free }
 
     next : IsScene s j.lun (cycle j.lun.ce Dout byte ∷ p.polled) (record { facts = facts_after OutputCycle (facts_of (tail p.polled j.lun.ce)); view = polled_view asked.selected asked.overlapped c.view; sole = true })
     next = scene_next s j.lun p.polled now there now_is Dout byte (record { closed = p.closed; sole = refl; has_byte = refl; inside = refl })

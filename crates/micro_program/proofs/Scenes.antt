@@ -1,10 +1,10 @@
 -- What one LUN sees of its target: the facts of the tail, what the rules see of the LUN, and whether it is known to drive alone.
 -- Which cycle of its own is permitted, and what it leaves, is told by that alone.
-use Rattle.std.proofs.Common.{◌≡◌, ℕ, ◌==◌, Bool, true, false, ◌&&◌, ◌||◌, cond, not, ltb, nat_le, Option, Some, None, List, [], ◌⊎◌, refl}
+use Rattle.std.proofs.Common.{◌≡◌, ℕ, ◌==◌, Bool, true, false, ◌&&◌, ◌||◌, cond, not, ltb, nat_le, Option, Some, None, List, ◌⊎◌, refl}
 use Rattle.nand_geometry.specs.declared.parts.Parts.{Parts}
 use Rattle.nand_geometry.specs.Limits.{page_len}
 use Rattle.nand_geometry.specs.Row.{parts_of, is_inside}
-use Rattle.nand_geometry.specs.Optional.{is_wide, has_features, has_unique_id, has_enhanced_column, has_lun_reset, has_plane_reads, has_synchronous_reset}
+use Rattle.nand_geometry.specs.Optional.{is_wide, has_features, has_unique_id, has_enhanced_column, has_lun_reset, has_plane_reads, has_copyback, has_synchronous_reset}
 use Rattle.onfi_cycle.specs.declared.command.Command.{Command}
 use Rattle.onfi_cycle.specs.declared.command.Command.TheVariants.{Read, ReadConfirm, ChangeReadColumn, ChangeReadColumnConfirm, BlockErase, BlockEraseConfirm, BlockErasePlane, ReadStatus, ReadStatusEnhanced, PageProgram, ChangeWriteColumn, ProgramConfirm, ProgramPlane, ReadId, ReadParameterPage, Reset, ReadCacheSequential, ReadCacheEnd, ReadUniqueId, GetFeatures, SetFeatures, ResetLun, SynchronousReset, Unknown, ChangeReadColumnEnhanced, ReadPlane, CopybackRead}
 use Rattle.onfi_cycle.specs.declared.lun.Lun.{Lun}
@@ -18,10 +18,9 @@ use Rattle.onfi_cycle.specs.declared.target_cycle.TargetCycle.TheVariants.{Comma
 use Rattle.onfi_cycle.specs.LunView.{LunView}
 use Rattle.onfi_cycle.specs.Sequence.{tail, facts_of, facts_after, opened, is_open, selects_plane, takes_features, takes_inputs, wants_command, wants_address, row, row_with, column_with, input_column}
 use Rattle.onfi_cycle.specs.Effect.{page_address, names_lun, cycle_effect}
-use Rattle.onfi_cycle.specs.Lun.{drivers, is_only, is_page_read, lun_view, view_after}
-use Rattle.onfi_cycle.specs.Bounds.{names_program}
-use Rattle.onfi_cycle.specs.Rules.{ends_row, second_of_page, second_column, caching, has_read_one, continues_cache, ends_cache, may_change_column, has_some, is_refused_by, register_len, has_no_byte, is_past_register, is_undeclared_address, excludes_cache, holds_plane_of}
-use Rattle.onfi_cycle.specs.Command.{addresses_the_array, is_change_read_column, is_enhanced_column, is_write_column, reads_identity}
+use Rattle.onfi_cycle.specs.Lun.{drivers, is_only, lun_view, view_after}
+use Rattle.onfi_cycle.specs.Rules.{ends_row, second_of_page, second_column, caching, has_read_one, continues_cache, ends_cache, may_change_column, has_some, is_refused_by, register_len, has_no_byte, is_past_register, is_undeclared_address, excludes_cache, holds_plane_of, may_copy, is_copying}
+use Rattle.onfi_cycle.specs.Command.{addresses_the_array, is_change_read_column, is_enhanced_column, is_page_program, is_write_column, reads_identity}
 use Rattle.onfi_cycle.specs.Channel.{Channel, is_serving}
 use Rattle.onfi_cycle.proofs.TableLemmas.{command_opens}
 
@@ -30,29 +29,12 @@ pub record Scene : Type 0 where
   pub view : LunView
   pub sole : Bool
 
--- no page of the LUN is copied: where its last closer has read one nothing is queued, where something is queued no page is held, and where no other
--- LUN of the target may have the bus none in the data of a program
-pub record CopiesNone (t : TailFacts) (v : LunView) (knows : Bool) : Type 0 where
-  pub read : is_page_read v.closer ≡ true → v.queue ≡ []
-  pub queued : has_some v.queue ≡ true → v.held ≡ []
-  pub program : knows ≡ true → names_program t ≡ true → v.held ≡ []
-
--- the scene is what the LUN sees after this past; it is known whether another LUN of the target may have the bus
-pub record SceneIs (s : Channel) (l : Lun) (past : List Item) (c : Scene) (knows : Bool) : Type 0 where
+-- the scene is what the LUN sees after this past
+pub record IsScene (s : Channel) (l : Lun) (past : List Item) (c : Scene) : Type 0 where
   pub facts : facts_of (tail past l.ce) ≡ c.facts
   pub view : lun_view s.geometry past l ≡ c.view
   pub sole : c.sole ≡ true → is_only (drivers s.geometry past l.ce) l.lun ≡ true
   pub free : is_serving s.geometry past l.ce ≡ false
-  pub copies : CopiesNone c.facts c.view knows
-
--- the same where none may
-abbrev pub IsScene : Channel → Lun → List Item → Scene → Type 0
-IsScene s l past c = SceneIs s l past c true
-
--- and where it doesn't matter
-pub scene_is : (s : Channel) (l : Lun) (past : List Item) (c : Scene) (knows : Bool) → IsScene s l past c → SceneIs s l past c knows
-scene_is s l past c knows k =
-    record { facts = k.facts; view = k.view; sole = k.sole; free = k.free; copies = record { read = k.copies.read; queued = k.copies.queued; program = λ e. k.copies.program refl } }
 
 -- ---- what is allowed
 
@@ -126,7 +108,7 @@ CommandAllowed g lun c BlockErasePlane = CloserAllowed g lun c BlockErasePlane �
 CommandAllowed g lun c ProgramConfirm = CloserAllowed g lun c ProgramConfirm
 CommandAllowed g lun c ProgramPlane = CloserAllowed g lun c ProgramPlane × (g.multi_plane ≡ true)
 CommandAllowed g lun c ChangeReadColumnConfirm = ColumnAllowed c ⊎ PlaneAllowed g lun c
-CommandAllowed g lun c ChangeWriteColumn = wants_command c.facts ChangeWriteColumn ≡ true
+CommandAllowed g lun c ChangeWriteColumn = (wants_command c.facts ChangeWriteColumn ≡ true) ⊎ (OpenerAllowed c × (has_copyback g.optional ≡ true))
 CommandAllowed g lun c ReadUniqueId = IdentityAllowed g c × (has_unique_id g.optional ≡ true)
 CommandAllowed g lun c GetFeatures = IdentityAllowed g c × (has_features g.optional ≡ true)
 CommandAllowed g lun c SetFeatures = IdentityAllowed g c × (has_features g.optional ≡ true)
@@ -135,9 +117,9 @@ CommandAllowed g lun c SynchronousReset = ResetAllowed g c × (has_synchronous_r
 CommandAllowed g lun c Unknown = ⊥
 CommandAllowed g lun c ChangeReadColumnEnhanced = OpenerAllowed c × (has_enhanced_column g.optional ≡ true)
 CommandAllowed g lun c ReadPlane = CloserAllowed g lun c ReadPlane × (caching c.view ≡ false) × (has_plane_reads g.optional ≡ true)
-CommandAllowed g lun c CopybackRead = ⊥
+CommandAllowed g lun c CopybackRead = CloserAllowed g lun c CopybackRead × (caching c.view ≡ false) × (has_copyback g.optional ≡ true)
 
--- the last row cycle, which is of no copyback
+-- the last row cycle: that of 85 copies a page that the LUN holds, and that of 80 comes in no group of copybacks
 pub record RowAllowed (g : Parts) (lun : ℕ) (c : Scene) (byte : ℕ) : Type 0 where
   pub inside : is_inside g (parts_of g (row_with c.facts byte)) ≡ true
   pub names : names_lun g (row_with c.facts byte) lun ≡ true
@@ -145,7 +127,8 @@ pub record RowAllowed (g : Parts) (lun : ℕ) (c : Scene) (byte : ℕ) : Type 0 
   pub goes : is_refused_by g c.facts.opening (page_address g (row_with c.facts byte)) c.view.queue ≡ false
   pub no_cache : ends_row (excludes_cache g) c.facts ≡ true → caching c.view ≡ false
   pub plane : ends_row is_enhanced_column c.facts ≡ true → holds_plane_of g (page_address g (row_with c.facts byte)) c.view ≡ true
-  pub no_copy : ends_row is_write_column c.facts ≡ false
+  pub copy : ends_row is_write_column c.facts ≡ true → may_copy g (page_address g (row_with c.facts byte)) c.view ≡ true
+  pub no_group : ends_row is_page_program c.facts ≡ true → (has_copyback g.optional && is_copying c.view) ≡ false
 
 pub record AddressAllowed (g : Parts) (lun : ℕ) (c : Scene) (byte : ℕ) : Type 0 where
   pub wanted : wants_address c.facts byte ≡ true
@@ -185,6 +168,7 @@ command_sole g t sole SynchronousReset = false
 command_sole g t sole ReadStatus = false
 command_sole g t sole ReadConfirm = sole || not (ltb 1 g.luns)
 command_sole g t sole ReadPlane = sole || not (ltb 1 g.luns)
+command_sole g t sole CopybackRead = sole || not (ltb 1 g.luns)
 command_sole g t sole ReadCacheSequential = sole || not (ltb 1 g.luns)
 command_sole g t sole ChangeReadColumnConfirm = selects_plane t || sole
 command_sole g t sole _ = sole

@@ -34,7 +34,6 @@ use Rattle.micro_program.proofs.Calm.{own_effect}
 use Rattle.micro_program.proofs.Cycles.{of_no_target, permitted_cycle}
 use Rattle.micro_program.proofs.Scenes.{Scene, IsScene, PlaneAllowed, CommandAllowed, AddressAllowed, Allowed, shown_alone, command_sole, opener_sole, address_sole, sole_behind, scene_behind, closed_unwanted}
 use Rattle.micro_program.proofs.Judged.{one_lun, command_judged, address_judged, input_judged, output_judged}
-use Rattle.micro_program.proofs.NoCopies.{IsTail, tail_is, copies_behind}
 
 -- 1. permitted, and the LUN's own
 
@@ -90,7 +89,7 @@ command_keeps_to s l past c k SetFeatures a = alone_to_target (is_shared s.geome
 command_keeps_to s l past c k Reset a = alone_to_target (is_shared s.geometry) true true (not_shared s.geometry a.one) refl
 command_keeps_to s l past c k SynchronousReset a = alone_to_target (is_shared s.geometry) true true (not_shared s.geometry a.0.one) refl
 command_keeps_to s l past c k ReadPlane a = of_no_target (is_shared s.geometry) false _ refl (ap (λ (t : TailFacts). names_lun s.geometry (row t) l.lun) k.facts ∙ a.0.1)
-command_keeps_to s l past c k CopybackRead a = absurd a
+command_keeps_to s l past c k CopybackRead a = of_no_target (is_shared s.geometry) false _ refl (ap (λ (t : TailFacts). names_lun s.geometry (row t) l.lun) k.facts ∙ a.0.1)
 command_keeps_to s l past c k _ a = of_no_target (is_shared s.geometry) false true refl refl
 
 either : (b : Bool) (x : Bool) → (b ≡ true → x ≡ true) → cond b x true ≡ true
@@ -298,6 +297,10 @@ command_leaves_off g lun c ReadPlane h a m p q x on off =
     read_leaves (wants_command c.facts ReadPlane && names_lun g (row c.facts) m) (wants_command c.facts ReadPlane && is_shared g) _ p q x
     (λ e. sym (on (sym (eqb-true _ m (and_parts _ _ e).1) ∙ eqb-true _ lun a.0.1)))
     (λ e. off (λ same. not_both (wants_command c.facts ReadPlane) (names_lun g (row c.facts) m) a.0.0 (ap (names_lun g (row c.facts)) same ∙ a.0.1) e))
+command_leaves_off g lun c CopybackRead h a m p q x on off =
+    read_leaves (wants_command c.facts CopybackRead && names_lun g (row c.facts) m) (wants_command c.facts CopybackRead && is_shared g) _ p q x
+    (λ e. sym (on (sym (eqb-true _ m (and_parts _ _ e).1) ∙ eqb-true _ lun a.0.1)))
+    (λ e. off (λ same. not_both (wants_command c.facts CopybackRead) (names_lun g (row c.facts) m) a.0.0 (ap (names_lun g (row c.facts)) same ∙ a.0.1) e))
 command_leaves_off g lun c ChangeReadColumnConfirm h (inr a) m p q x on off =
     ap (λ (b : Bool). is_off (latch_after (cond b (plane_effect g c.facts m) (column_effect c.facts x)) p q x)) a.plane ∙ at (names_lun g (row c.facts) m) refl
   where
@@ -319,7 +322,6 @@ command_leaves_off g lun c ReadCacheEnd h a m p q x on off = leaves_other CacheR
 command_leaves_off g lun c ReadStatusEnhanced h a m p q x on off = refl
 command_leaves_off g lun c Reset h a m p q x on off = cc
 command_leaves_off g lun c SynchronousReset h a m p q x on off = cc
-command_leaves_off g lun c CopybackRead h a m p q x on off = absurd a
 command_leaves_off g lun c ReadStatus h a m p q x on off = cc
 command_leaves_off g lun c d h a m p q x on off = closer_leaves (wants_command c.facts d && names_lun g (row c.facts) m) (closes_row d && (wants_command c.facts d && is_shared g)) _ p q x refl
 
@@ -363,6 +365,9 @@ read_lights g t x p q y lun wants names = rw (wants, names) refl
 
 plane_read_lights : (g : Parts) (t : TailFacts) (x : Latch) (p q : Bool) (y : Latch) (lun : ℕ) → wants_command t ReadPlane ≡ true → names_lun g (row t) lun ≡ true → latch_after (command_effect g t x ReadPlane lun) p q y ≡ Data
 plane_read_lights g t x p q y lun wants names = rw (wants, names) refl
+
+copy_read_lights : (g : Parts) (t : TailFacts) (x : Latch) (p q : Bool) (y : Latch) (lun : ℕ) → wants_command t CopybackRead ≡ true → names_lun g (row t) lun ≡ true → latch_after (command_effect g t x CopybackRead lun) p q y ≡ Data
+copy_read_lights g t x p q y lun wants names = rw (wants, names) refl
 
 -- what shows behind an E0 that 06 began: the LUN of the row shows data, and no other shows anything
 plane_latch : (g : Parts) (lun : ℕ) (c : Scene) → PlaneAllowed g lun c → (m : ℕ) (p q : Bool) (x : Latch) → is_off (latch_after (command_effect g c.facts x ChangeReadColumnConfirm m) p q x) ≡ not (names_lun g (row c.facts) m)
@@ -446,6 +451,10 @@ sole_next s l past c there k kind byte d is a view h = by d is a view h
       | inl e ↦ still (CommandCycle ReadPlane) is (command_leaves_off g l.lun c ReadPlane refl a) e
       | inr e ↦ sole_of_one s l (cycle l.ce kind byte ∷ past) there (not-true (ltb 1 g.luns) e) (off_by _ Data (latch_is (CommandCycle ReadPlane) view ∙ plane_read_lights g c.facts (shown_alone c) c.view.selected (works c.view) c.view.latch l.lun a.0.0 a.0.1) refl)
     ]
+    by_command CopybackRead is a view h = elim (or_cases c.sole (not (ltb 1 g.luns)) h) [
+      | inl e ↦ still (CommandCycle CopybackRead) is (command_leaves_off g l.lun c CopybackRead refl a) e
+      | inr e ↦ sole_of_one s l (cycle l.ce kind byte ∷ past) there (not-true (ltb 1 g.luns) e) (off_by _ Data (latch_is (CommandCycle CopybackRead) view ∙ copy_read_lights g c.facts (shown_alone c) c.view.selected (works c.view) c.view.latch l.lun a.0.0 a.0.1) refl)
+    ]
     by_command ChangeReadColumnConfirm is (inl a) view h = still (CommandCycle ChangeReadColumnConfirm) is (command_leaves_off g l.lun c ChangeReadColumnConfirm refl (inl a)) a.sole
     by_command ChangeReadColumnConfirm is (inr a) view h = plane_alone s l past c there k kind byte is a
     by_command ReadCacheSequential is (inl a) view h = still (CommandCycle ReadCacheSequential) is (command_leaves_off g l.lun c ReadCacheSequential refl (inl a)) a.sole
@@ -496,5 +505,4 @@ scene_next s l past c there k kind byte a =
       view = view;
       sole = sole_next s l past c there k kind byte (target_cycle kind byte) refl a view;
       free = service.own s.geometry past (cycle l.ce kind byte) l l.ce own.own k.free;
-      copies = copies_behind s.geometry l.lun c (shown_alone c) (target_cycle kind byte) (subst IsTail k.facts (tail_is (tail past l.ce))) a k.copies;
     }

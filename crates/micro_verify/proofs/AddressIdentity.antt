@@ -14,7 +14,6 @@ use Rattle.onfi_cycle.specs.Rules.{breaks_command_unknown, breaks_sequence_open,
 use Rattle.onfi_cycle.specs.Channel.{Channel}
 use Rattle.micro_word.specs.declared.word.Word.TheVariants.{Address as AddressWord}
 use Rattle.micro_word.specs.Text.{Microprogram}
-use Rattle.onfi_cycle.specs.Base.{is_of_base}
 use Rattle.micro_claims.specs.Against.{byte_of_column, takes_identity}
 use Rattle.micro_program.specs.Moves.{address}
 use Rattle.micro_program.specs.Program.{column_now}
@@ -24,6 +23,7 @@ use Rattle.micro_verify.specs.Cause.{WordStops, is_of_cycle_forbidden}
 use Rattle.micro_verify.proofs.Lone.{Lone, IsAlone, IsLone, lone_behind, judged}
 use Rattle.micro_verify.proofs.AddressesJudged.{plain_judged}
 use Rattle.micro_verify.proofs.AddressStops.{address_stops, unwanted_judged}
+use Rattle.micro_verify.proofs.Mirrors.{opens_in_base}
 
 -- 1. one cycle
 
@@ -37,7 +37,7 @@ asks ReadId = true
 asks ReadParameterPage = true
 asks _ = false
 
-pub asks_there : (o : Command) → is_of_base o ≡ true → reads_identity o ≡ true → asks o ≡ true
+pub asks_there : (o : Command) → opens_in_base o ≡ true → reads_identity o ≡ true → asks o ≡ true
 asks_there ReadId b h = refl
 asks_there ReadParameterPage b h = refl
 asks_there ReadUniqueId b h = cc

@@ -4,7 +4,7 @@ use Rattle.std.proofs.Common.{◌≡◌, ℕ, ◌+◌, ◌*◌, ◌/◌, ◌%◌
 use Rattle.nand_geometry.specs.declared.parts.Parts.{Parts}
 use Rattle.nand_geometry.specs.declared.row_parts.RowParts.{RowParts}
 use Rattle.nand_geometry.specs.Limits.{planes}
-use Rattle.nand_geometry.specs.Optional.{is_wide}
+use Rattle.nand_geometry.specs.Optional.{is_wide, has_all}
 use Rattle.nand_geometry.specs.Row.{row_of}
 use Rattle.onfi_cycle.specs.declared.command.Command.{Command}
 use Rattle.onfi_cycle.specs.declared.command.Command.TheVariants.{Read, ChangeReadColumn, BlockErase, PageProgram}
@@ -18,7 +18,7 @@ use Rattle.micro_claims.specs.declared.place.Place.TheVariants.{After}
 use Rattle.micro_claims.specs.declared.planes.Planes.{Planes}
 use Rattle.micro_claims.specs.State.{may_be_31}
 use Rattle.micro_claims.specs.Spans.{greatest_bound, bound_plus, is_at_most}
-use Rattle.micro_claims.specs.Against.{queue_refuses, plane_refused, row_refused}
+use Rattle.micro_claims.specs.Against.{queue_refuses, plane_refused, row_refused, copy_refused, may_be_queued}
 use Rattle.micro_program.specs.Program.{Job, Done, index_now, plane_now, column_now}
 use Rattle.micro_claims.proofs.Fits.{Address, RowIs, takes_row}
 use Rattle.micro_claims.proofs.AddressSteps.{carried}
@@ -46,7 +46,7 @@ row_refused_is g j v done view o n a base carries takes m lun row index plane =
     let queue : queue_refuses v.lun.queue v.registers.planes o ≡ refused_by (based g) o (page_address g (row_of a.r1 a.r2 a.r3)) view.queue =
     ap (λ (p : Planes). queue_refuses v.lun.queue p o) m.planes ∙ refuses_is g (index_now 0 done) v.lun.queue view.queue o (page_address g (row_of a.r1 a.r2 a.r3)) (plane_now done) carries takes lun.queue low m.plane_low page block in
     let cached : (excludes_cache g o && may_be_31 v.lun.last) ≡ caching view = ap (λ (b : Bool). b && may_be_31 v.lun.last) (excludes g o base carries takes) ∙ lun.caching in
-    (λ i. row_is_of_array o takes i && (lun.busy i || cached i || queue i || selects o carries i)) ∙ or-false (view.busy || caching view || refused_by (based g) o (page_address g (row_of a.r1 a.r2 a.r3)) view.queue)
+    (λ i. row_is_of_array o takes i && (lun.busy i || cached i || queue i || selects o carries i || copies o base carries i)) ∙ (or-false (view.busy || caching view || refused_by (based g) o (page_address g (row_of a.r1 a.r2 a.r3)) view.queue || false) ∙ or-false (view.busy || caching view || refused_by (based g) o (page_address g (row_of a.r1 a.r2 a.r3)) view.queue))
   where
     -- in the base profile no row may name a LUN that is caching
     excludes : (g : Parts) (o : Command) → is_wide g.optional ≡ false → carries_registers o ≡ true → takes_row o ≡ true → excludes_cache g o ≡ true
@@ -63,6 +63,14 @@ row_refused_is g j v done view o n a base carries takes m lun row index plane =
     selects PageProgram carries = refl
     selects ChangeReadColumn carries = refl
     selects _ carries = cc
+
+    -- nor copies a page
+    copies : (o : Command) → is_wide g.optional ≡ false → carries_registers o ≡ true → copy_refused g v o ≡ false
+    copies Read base carries = refl
+    copies BlockErase base carries = refl
+    copies PageProgram base carries = ap (λ (b : Bool). (b && has_all g.optional 16) && (may_be_queued v.lun.queue && v.lun.copies.holds)) base
+    copies ChangeReadColumn base carries = refl
+    copies _ base carries = cc
 
 -- a row that is refused breaks a rule of V7, another none
 pub refused_breaks : (g : Parts) (o : Command) (a : Address) (view : LunView) → is_refused g o a view ≡ true → (rule : Forbidden) × ((row_rule g o a view ≡ Some rule) × (is_of_cycle_forbidden rule ≡ true))

@@ -4,7 +4,7 @@ use Rattle.std.proofs.Common.{◌≡◌, ℕ, ◌+◌, ◌-◌, ◌/◌, ◌%◌
 use Rattle.std.proofs.lemmas.Bool.{not-false, and_parts, and_from, or_parts}
 use Rattle.nand_geometry.specs.declared.parts.Parts.{Parts}
 use Rattle.onfi_cycle.specs.declared.command.Command.{Command}
-use Rattle.onfi_cycle.specs.declared.command.Command.TheVariants.{Read, ChangeReadColumn, ChangeReadColumnEnhanced, BlockErase, PageProgram}
+use Rattle.onfi_cycle.specs.declared.command.Command.TheVariants.{Read, ChangeReadColumn, ChangeReadColumnEnhanced, BlockErase, PageProgram, ChangeWriteColumn}
 use Rattle.onfi_cycle.specs.declared.queued.Queued.{Queued}
 use Rattle.onfi_cycle.specs.Base.{is_of_base}
 use Rattle.onfi_cycle.specs.Command.{address_cycles}
@@ -28,12 +28,12 @@ use Rattle.micro_program.specs.Program.{Job, Done, column_now, index_now}
 use Rattle.micro_claims.proofs.Fits.{Address, bytes_of, opener_facts, facts_behind, takes_column, takes_row, has_column, has_row, is_place, now_of}
 use Rattle.micro_claims.proofs.Addressing.{AddressNow, of_now, carried_is}
 use Rattle.micro_claims.proofs.AddressSteps.{carried}
-use Rattle.micro_claims.proofs.SoundAddress.{read_column, program_column, column_column, enhanced_column}
+use Rattle.micro_claims.proofs.SoundAddress.{read_column, program_column, column_column, enhanced_column, copy_column}
 use Rattle.micro_verify.proofs.AddressesNow.{carries_registers}
 use Rattle.micro_verify.proofs.AddressTests.{takes_first}
 use Rattle.micro_verify.specs.Lazy.{lone_job, Run}
 use Rattle.micro_verify.proofs.Lone.{Lone}
-use Rattle.micro_verify.proofs.Mirrors.{RegistersMirror, TailMirror, NameMirror, NameIs, BoundIs, RowsMirror, InInputs, greatest_index, is_read_column}
+use Rattle.micro_verify.proofs.Mirrors.{RegistersMirror, TailMirror, NameMirror, NameIs, BoundIs, RowsMirror, InInputs, greatest_index, is_read_column, opens_in_base}
 use Rattle.micro_verify.proofs.Told.{wants_by}
 use Rattle.micro_verify.proofs.AddressesJudged.{view_at, cursor}
 use Rattle.micro_verify.proofs.AddressStops.{AtOpener}
@@ -94,6 +94,7 @@ along_now g now (SomeRows kind queued d) queue planes o m clear =
 input_is : (o : Command) (a : Address) (m : ℕ) → takes_column o ≡ true → 2 ≤ m → m ≤ address_cycles o → input_column (facts_behind (opener_facts o) (take m (bytes_of o a))) ≡ carried a + 0
 input_is Read a m takes low high = read_column a m low high
 input_is PageProgram a m takes low high = program_column a m low high
+input_is ChangeWriteColumn a m takes low high = copy_column a m low high
 input_is ChangeReadColumn a m takes low high = column_column a m low high
 input_is ChangeReadColumnEnhanced a m takes low high = enhanced_column a m low high
 input_is _ a m takes low high = cc
@@ -140,7 +141,7 @@ kept_view ChangeReadColumn m view h = refl
 kept_view o m view h = cc
 
 -- they are of the base profile
-carries_base : (o : Command) → carries_registers o ≡ true → is_of_base o ≡ true
+carries_base : (o : Command) → carries_registers o ≡ true → opens_in_base o ≡ true
 carries_base Read h = refl
 carries_base ChangeReadColumn h = refl
 carries_base BlockErase h = refl

@@ -2,17 +2,18 @@
 use Rattle.std.proofs.lemmas.Bool.Decides.{nat_tests}
 use Rattle.std.proofs.Common.{◌≡◌, ℕ, ◌+◌, ◌-◌, ◌≤◌, ◌<◌, ◌==◌, Bool, true, false, ◌&&◌, ◌||◌, cond, not, ltb, nat_le, refl, arith}
 use Rattle.onfi_cycle.specs.declared.command.Command.{Command}
-use Rattle.onfi_cycle.specs.declared.command.Command.TheVariants.{Read, ChangeReadColumn, ChangeReadColumnEnhanced, BlockErase, PageProgram, ReadId, ReadParameterPage, ResetLun}
+use Rattle.onfi_cycle.specs.declared.command.Command.TheVariants.{Read, ChangeReadColumn, ChangeReadColumnEnhanced, BlockErase, PageProgram, ReadId, ReadParameterPage, ResetLun, ChangeWriteColumn}
 use Rattle.onfi_cycle.specs.Base.{is_of_base}
 use Rattle.onfi_cycle.specs.Command.{at_last_row, address_cycles, addresses_the_array, reads_identity}
 use Rattle.micro_claims.specs.Against.{first_address, has_second_column}
 use Rattle.micro_claims.proofs.Fits.{is_place, takes_column, takes_row}
 use Rattle.micro_verify.proofs.AddressesNow.{carries_registers}
+use Rattle.micro_verify.proofs.Mirrors.{opens_in_base}
 
 -- 1. openers
 
 -- which openers carry the registers
-pub carries_is : (o : Command) (n : ℕ) → is_place o n ≡ true → is_of_base o ≡ true → reads_identity o ≡ false → carries_registers o ≡ true
+pub carries_is : (o : Command) (n : ℕ) → is_place o n ≡ true → opens_in_base o ≡ true → reads_identity o ≡ false → carries_registers o ≡ true
 carries_is Read n place base other = refl
 carries_is ChangeReadColumn n place base other = refl
 carries_is BlockErase n place base other = refl
@@ -21,6 +22,7 @@ carries_is ReadId n place base other = cc
 carries_is ReadParameterPage n place base other = cc
 carries_is ResetLun n place base other = cc
 carries_is ChangeReadColumnEnhanced n place base other = cc
+carries_is ChangeWriteColumn n place base other = cc
 carries_is _ n place base other = cc
 
 pub takes_is : (o : Command) (n : ℕ) → carries_registers o ≡ true → first_address o + n ≤ 1 → takes_column o ≡ true
@@ -33,6 +35,7 @@ takes_is _ n carries low = cc
 pub takes_first : (o : Command) → takes_column o ≡ true → first_address o ≡ 0
 takes_first Read h = refl
 takes_first PageProgram h = refl
+takes_first ChangeWriteColumn h = refl
 takes_first ChangeReadColumn h = refl
 takes_first ChangeReadColumnEnhanced h = refl
 takes_first _ h = cc
@@ -40,6 +43,7 @@ takes_first _ h = cc
 pub two_cycles : (o : Command) → takes_column o ≡ true → 2 ≤ address_cycles o
 two_cycles Read h = omega arith
 two_cycles PageProgram h = omega arith
+two_cycles ChangeWriteColumn h = omega arith
 two_cycles ChangeReadColumn h = omega arith
 two_cycles ChangeReadColumnEnhanced h = omega arith
 two_cycles _ h = cc
@@ -47,6 +51,7 @@ two_cycles _ h = cc
 pub row_cycles : (o : Command) → takes_row o ≡ true → first_address o + address_cycles o ≡ 5
 row_cycles Read h = refl
 row_cycles PageProgram h = refl
+row_cycles ChangeWriteColumn h = refl
 row_cycles BlockErase h = refl
 row_cycles ChangeReadColumnEnhanced h = refl
 row_cycles _ h = cc
@@ -56,6 +61,7 @@ pub row_is_of_array : (o : Command) → takes_row o ≡ true → addresses_the_a
 row_is_of_array Read h = refl
 row_is_of_array BlockErase h = refl
 row_is_of_array PageProgram h = refl
+row_is_of_array ChangeWriteColumn h = refl
 row_is_of_array ChangeReadColumnEnhanced h = refl
 row_is_of_array _ h = cc
 

@@ -21,7 +21,7 @@ use Rattle.micro_claims.specs.declared.named_row.NamedRow.{NamedRow}
 use Rattle.micro_claims.specs.declared.place.Place.{Place}
 use Rattle.micro_claims.specs.declared.place.Place.TheVariants.{After, InData, InColumn}
 use Rattle.micro_claims.specs.Spans.{kept, copied}
-use Rattle.micro_claims.specs.Against.{first_address, takes_identity_at, is_inside_address, is_erase, queue_refuses, plane_refused, row_refused}
+use Rattle.micro_claims.specs.Against.{first_address, takes_identity_at, is_inside_address, is_erase, queue_refuses, plane_refused, row_refused, copy_refused}
 use Rattle.micro_claims.specs.Leaves.{name_now, without_pages, after_few, opener_leads_to, address_leads_to, target_after_addresses}
 use Rattle.micro_program.specs.Program.{Job, column_now, index_now}
 use Rattle.micro_program.specs.Moves.{address}
@@ -51,7 +51,8 @@ use Rattle.micro_verify.proofs.AddressTails.{along_now, tail_after, tail_in_data
 along_led : (g : Parts) (v : State) (r : Run) (c : Lone) (j : Job) (from count : ℕ) (o : Command) (n : ℕ) → Mirrors g j v r.done c → addresses_the_array o ≡ true → 5 ≤ from + count → (nat_le 5 (from + count) ≡ true → row_refused g v (After o n) ≡ false) → row_goes_along (is_erase o) (target_after_addresses g v from count).named v.lun.queue ≡ true
 along_led g v r c j from count o n m array five clear =
     let last : nat_le 5 (from + count) ≡ true = grind (arith, nat_tests, five) in
-    let all = or_parts (v.lun.busy || (excludes_cache g o && may_be_31 v.lun.last) || queue_refuses v.lun.queue v.registers.planes o) (plane_refused v o) (ap (λ (b : Bool). b && (v.lun.busy || (excludes_cache g o && may_be_31 v.lun.last) || queue_refuses v.lun.queue v.registers.planes o || plane_refused v o)) (sym array) ∙ clear last) in
+    let both = or_parts (v.lun.busy || (excludes_cache g o && may_be_31 v.lun.last) || queue_refuses v.lun.queue v.registers.planes o || plane_refused v o) (copy_refused g v o) (ap (λ (b : Bool). b && (v.lun.busy || (excludes_cache g o && may_be_31 v.lun.last) || queue_refuses v.lun.queue v.registers.planes o || plane_refused v o || copy_refused g v o)) (sym array) ∙ clear last) in
+    let all = or_parts (v.lun.busy || (excludes_cache g o && may_be_31 v.lun.last) || queue_refuses v.lun.queue v.registers.planes o) (plane_refused v o) both.0 in
     let queue = (or_parts (v.lun.busy || (excludes_cache g o && may_be_31 v.lun.last)) (queue_refuses v.lun.queue v.registers.planes o) all.0).1 in
     subst (λ (b : Bool). row_goes_along (is_erase o) (cond b (Some (name_now g v.registers)) v.target.named) v.lun.queue ≡ true) (sym last) (along_now g (index_now 0 r.done) v.lun.queue c.view.queue v.registers.planes o m.lun.queue queue)
 

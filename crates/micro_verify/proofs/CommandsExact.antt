@@ -5,7 +5,7 @@ use Rattle.std.proofs.Math.Nat.{div-add-mod, mul-add-div_right}
 use Rattle.std.proofs.Common.{◌≡◌, ℕ, zero, suc, ◌+◌, ◌-◌, ◌*◌, ◌/◌, ◌%◌, ◌≤◌, ◌<◌, ◌==◌, Bool, true, false, ◌&&◌, ◌||◌, cond, not, ltb, nat_le, List, [], ◌∷◌, Option, Some, None, refl, sym, ap, ◌∙◌, subst, arith, eqb-true, take}
 use Rattle.std.proofs.lemmas.Bool.{not-true, and_parts, or_parts}
 use Rattle.nand_geometry.specs.declared.parts.Parts.{Parts}
-use Rattle.nand_geometry.specs.Optional.{is_wide, has_features, has_unique_id, has_enhanced_column, has_lun_reset, has_plane_reads, has_copyback, has_synchronous_reset}
+use Rattle.nand_geometry.specs.Optional.{is_wide, has_features, has_unique_id, has_enhanced_column, has_lun_reset, has_plane_reads, has_copyback, has_synchronous_reset, has_all}
 use Rattle.nand_geometry.specs.declared.row_parts.RowParts.{RowParts}
 use Rattle.nand_geometry.specs.Limits.{planes}
 use Rattle.nand_geometry.specs.Row.{parts_of, row_of}
@@ -49,8 +49,8 @@ use Rattle.micro_claims.specs.declared.place.Place.{Place}
 use Rattle.micro_claims.specs.declared.place.Place.TheVariants.{Closed, After, InData, InColumn, InFeatures, Unknown}
 use Rattle.micro_claims.specs.State.{bounds_of, closed, any_but_31, may_be_30, may_be_31, may_be_other}
 use Rattle.micro_claims.specs.Spans.{greatest_bound, kept, bound_plus, is_at_most}
-use Rattle.micro_claims.specs.Against.{place_wants, selects_plane_at, closer_refused, same_test, is_of_profile, is_unfit, is_data_command, may_be_open, opener_refused, shows_only_data, has_page_or_parameters, has_register, drives, asks_status, is_for_traces, command_out_of_place, command_past_rows, command_not_for_programs, continues_unseen}
-use Rattle.micro_claims.specs.Leaves.{paid, with_registers, resumed_shows, shows_after_read, data_shown, given_at, may_be_reads, page_register, named_plane, cached_at, cache_read, next_cached, command_leaves, queued_more, queued_planes, goes_along, same_drift, rows_at}
+use Rattle.micro_claims.specs.Against.{place_wants, selects_plane_at, closer_refused, same_test, is_of_profile, is_unfit, is_data_command, may_be_open, opener_refused, shows_only_data, has_page_or_parameters, has_register, drives, asks_status, command_out_of_place, command_past_rows, command_not_for_programs, continues_unseen, goes_on_at}
+use Rattle.micro_claims.specs.Leaves.{paid, with_registers, resumed_shows, shows_after_read, data_shown, given_at, may_be_reads, page_register, named_plane, cached_at, cache_read, next_cached, command_leaves, queued_more, queued_planes, goes_along, same_drift, rows_at, with_target}
 use Rattle.micro_claims.specs.Planes.{no_planes, either_plane}
 use Rattle.micro_claims.specs.declared.planes.Planes.{Planes}
 use Rattle.micro_claims.specs.declared.drift.Drift.{Drift}
@@ -65,7 +65,7 @@ use Rattle.micro_verify.specs.Cause.{Cause, WordStops, is_of_cycle_forbidden, in
 use Rattle.micro_claims.proofs.Fits.{Address, is_place, bytes_of, opener_facts, facts_behind, RowIs, Now, now_of, has_row, has_column, InProgram, ColumnBegun, is_of_kind, page_of, closer_among}
 use Rattle.micro_claims.proofs.Tails.{no_address, closed_by, only_read, only_erase, only_erase_plane, only_column}
 use Rattle.micro_claims.proofs.Sounding.{NoReasons, no_reasons}
-use Rattle.micro_claims.proofs.Commands.{same_either, out_of_place, wanted, row_names, column_leaves}
+use Rattle.micro_claims.proofs.Commands.{same_either, out_of_place, wanted, row_names, column_leaves, changes_leaves}
 use Rattle.micro_claims.proofs.HeldPlanes.{one_page}
 use Rattle.micro_claims.proofs.MoreCommands.{declared, opener_free}
 use Rattle.micro_verify.proofs.Lone.{Lone, IsAlone, IsLone, lone_behind, judged, stops_there, based}
@@ -86,20 +86,14 @@ fit_or_none true x h = cc
 fit_or_none false x h = refl
 
 -- among the words of the text that a program may not use
--- a command for traces alone is none of the base profile
-traced : (d : Command) → is_for_traces d ≡ true → not (is_of_base d) ≡ true
-traced CopybackRead h = refl
-traced _ h = cc
-
-for_programs : (x d k a t w n : Bool) → (t ≡ true → x ≡ true) → ((x || d) || a || t || w || n) ≡ true → n ≡ false → (a || x || (k || d) || w) ≡ true
-for_programs x d k true t w n wide h e = refl
-for_programs true d k false t w n wide h e = refl
-for_programs false d k false true w n wide h e = let both = wide refl in cc
-for_programs false true true false false w n wide h e = refl
-for_programs false true false false false w n wide h e = refl
-for_programs false false true false false w n wide h e = refl
-for_programs false false false false false true n wide h e = refl
-for_programs false false false false false false n wide h e = let both : true ≡ false = sym h ∙ e in cc
+for_programs : (x d k a w n : Bool) → ((x || d) || a || w || n) ≡ true → n ≡ false → (a || x || (k || d) || w) ≡ true
+for_programs x d k true w n h e = refl
+for_programs true d k false w n h e = refl
+for_programs false true true false w n h e = refl
+for_programs false true false false w n h e = refl
+for_programs false false true false w n h e = refl
+for_programs false false false false true n h e = refl
+for_programs false false false false false n h e = let both : true ≡ false = sym h ∙ e in cc
 
 next_outside : (rows n : ℕ) → not (nat_le (n + 2) rows) ≡ true → nat_le rows (n + 1) ≡ true
 next_outside rows n h = grind (arith, nat_tests, h)
@@ -143,8 +137,8 @@ command_cause s text v r c byte k is m seen reason e = by reason (reason_is s.ge
     by RowOrPlaneOutside h e = past_rows s text v r c k.rows is m.lun (command byte) h (lowest_row_or_plane_outside g text v (CommandWord byte) e)
     by OverBudget h e = cost_cause g v r (CommandWord byte) text.budget k.budget m.registers h
     by CommandNotAllowed h e =
-        for_programs (not (is_of_base (command byte))) (is_undeclared g (command byte)) (not (is_known (command byte))) (asks_status (command byte)) (is_for_traces (command byte)) (wants_one_lun (command byte) && ltb 1 g.luns) (continues_unseen (bounds_of text) (command byte)) (traced (command byte))
-        (sym (λ i. (not (profile_is g (command byte) k.base i) || is_undeclared g (command byte) || asks_status (command byte) || is_for_traces (command byte) || (wants_one_lun (command byte) && ltb 1 g.luns)) || continues_unseen (bounds_of text) (command byte)) ∙ h) seen
+        for_programs (not (is_of_base (command byte))) (is_undeclared g (command byte)) (not (is_known (command byte))) (asks_status (command byte)) (wants_one_lun (command byte) && ltb 1 g.luns) (continues_unseen (bounds_of text) (command byte))
+        (sym (λ i. (not (profile_is g (command byte) k.base i) || is_undeclared g (command byte) || asks_status (command byte) || (wants_one_lun (command byte) && ltb 1 g.luns)) || continues_unseen (bounds_of text) (command byte)) ∙ h) seen
     by _ h e = cc
 
 -- 2. what serves all that go
@@ -394,13 +388,26 @@ pub goes_85 : (s : Channel) (text : Microprogram) (v : State) (r : Run) (c : Lon
 goes_85 s text v r c byte k is_d is m clear =
     let g = s.geometry in
     let j = lone_job s.geometry text in
-    let p = programming g j v.target (now_of j r.done) c ChangeWriteColumn refl m.tail (wanted g text v byte ChangeWriteColumn is_d refl refl clear).places in
+    let base : has_copyback g.optional ≡ false = ap (λ (b : Bool). b && has_all g.optional 16) k.base in
+    let placed = (wanted g text v byte ChangeWriteColumn is_d refl (goes_on g v base) clear).places in
+    let p = programming g j v.target (now_of j r.done) c ChangeWriteColumn refl m.tail placed in
+    let leaves : command_leaves g v ChangeWriteColumn ≡ with_target v (record v.target { tail = InColumn 0 }) = changes_leaves g v placed in
     let effect : cycle_effect (based g) c.facts c.view.latch (CommandCycle ChangeWriteColumn) 0 ≡ Unaffected = same_either (wants_command c.facts ChangeWriteColumn && names_lun g (row c.facts) 0) in
-    command_goes s text v r c byte ChangeWriteColumn k is_d refl is m clear refl
-    (record { place = InColumn 0; single = refl; address = p.address; is = begins_85 c.facts p.address p.program; now = λ e. cc; column = λ e. cc; row = λ e. p.row; named = λ e. p.named; base = refl; changes = λ e. cc })
-    (m.shows ∙ ap (λ (e : Effect). shows_of (view_after e c.view).latch) (sym effect))
-    (subst (λ (e : Effect). LunMirror g v.lun (index_now 0 r.done) (view_after e c.view)) (sym effect) m.lun)
-    (λ e. sym (ap (λ (q : Place). row_goes_along (place_erases q) v.target.named v.lun.queue) p.tail) ∙ m.along (ap place_queues p.tail))
+    command_goes s text v r c byte ChangeWriteColumn k is_d refl is m clear (ap (λ (x : State). x.registers) leaves)
+    (subst (λ (x : State). TailMirror g j x.target (now_of j r.done) (lone_behind g (CommandCycle ChangeWriteColumn) c)) (sym leaves)
+    (record { place = InColumn 0; single = refl; address = p.address; is = begins_85 c.facts p.address p.program; now = λ e. cc; column = λ e. cc; row = λ e. p.row; named = λ e. p.named; base = refl; changes = λ e. cc }))
+    (ap (λ (x : State). x.target.shows) leaves ∙ (m.shows ∙ ap (λ (e : Effect). shows_of (view_after e c.view).latch) (sym effect)))
+    (subst (λ (x : State). LunMirror g x.lun (index_now 0 r.done) (lone_behind g (CommandCycle ChangeWriteColumn) c).view) (sym leaves)
+    (subst (λ (e : Effect). LunMirror g v.lun (index_now 0 r.done) (view_after e c.view)) (sym effect) m.lun))
+    (subst (λ (x : State). place_queues x.target.tail ≡ true → row_goes_along (place_erases x.target.tail) x.target.named x.lun.queue ≡ true) (sym leaves)
+    (λ e. sym (ap (λ (q : Place). row_goes_along (place_erases q) v.target.named v.lun.queue) p.tail) ∙ m.along (ap place_queues p.tail)))
+  where
+    goes_on : (g : Parts) (v : State) → has_copyback g.optional ≡ false → (is_opener ChangeWriteColumn && not (goes_on_at g ChangeWriteColumn v.target.tail)) ≡ false
+    goes_on g v base = ap (λ (b : Bool). not (place_wants ChangeWriteColumn v.target.tail || not b)) base ∙ at (place_wants ChangeWriteColumn v.target.tail)
+      where
+        at : (w : Bool) → not (w || true) ≡ false
+        at true = refl
+        at false = refl
 
 -- the column of a read, with no input since
 read_column_is : (o : Option Span) (t : TailFacts) → t.inputs ≡ 0 → BoundIs (input_column t) o → ColumnMirror (given_at o) (column_at t.column)
@@ -794,8 +801,7 @@ unfolding breaks_command_not_allowed
 asks_none g text v byte d is_d clear =
     let none = subst (λ (c : Command). (command_not_for_programs g c || continues_unseen (bounds_of text) c) ≡ false) is_d clear.no_command_not_allowed in
     let both = or_parts (command_not_for_programs g d) (continues_unseen (bounds_of text) d) none in
-    let three = or_parts (is_unfit g d || asks_status d || is_for_traces d) (wants_one_lun d && ltb 1 g.luns) both.0 in
-    let two = or_parts (is_unfit g d || asks_status d) (is_for_traces d) three.0 in
+    let two = or_parts (is_unfit g d || asks_status d) (wants_one_lun d && ltb 1 g.luns) both.0 in
     (or_parts (is_unfit g d) (asks_status d) two.0).1
 
 -- a command is exact; of 31h the text is known to have one

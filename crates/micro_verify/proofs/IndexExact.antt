@@ -37,6 +37,7 @@ use Rattle.micro_verify.proofs.Mirrors.{Mirrors, TailMirror, LunMirror, NameIs, 
 use Rattle.micro_verify.proofs.Causes.{Goes, ExactWord, reason_holds, reason_is}
 use Rattle.micro_verify.proofs.WordsExact.{goes_by, cost_exact}
 use Rattle.micro_verify.proofs.SettingsExact.{amid_now}
+use Rattle.micro_claims.specs.Copies.{copies_moved, parity_of, no_distance}
 
 -- 1. drifts
 
@@ -122,7 +123,7 @@ tail_moved g j v n m move c apart moves t =
       changes = t.changes;
     }
 
-pub lun_moved : (g : Parts) (l : KnownLun) (old new : ℕ) (move : Drift → Option Drift) (view : LunView) → MovesExactly old new move → LunMirror g l old view → LunMirror g (record l { queue = rows_moved move l.queue }) new view
+pub lun_moved : (g : Parts) (l : KnownLun) (old new : ℕ) (move : Drift → Option Drift) (view : LunView) → MovesExactly old new move → LunMirror g l old view → LunMirror g (record l { queue = rows_moved move l.queue; copies = copies_moved (parity_of g.pages (move no_distance)) l.copies }) new view
 lun_moved g l old new move view moves m =
     record {
       busy = m.busy;

@@ -5,7 +5,7 @@ use Rattle.nand_geometry.specs.declared.parts.Parts.{Parts}
 use Rattle.nand_geometry.specs.Limits.{planes}
 use Rattle.nand_geometry.specs.Row.{indexed}
 use Rattle.onfi_cycle.specs.declared.command.Command.{Command}
-use Rattle.onfi_cycle.specs.declared.command.Command.TheVariants.{Read, ChangeReadColumn, ChangeReadColumnEnhanced, BlockErase, PageProgram, ReadId, ReadParameterPage, ReadUniqueId, GetFeatures, SetFeatures, ResetLun}
+use Rattle.onfi_cycle.specs.declared.command.Command.TheVariants.{Read, ChangeReadColumn, ChangeReadColumnEnhanced, BlockErase, PageProgram, ReadId, ReadParameterPage, ReadUniqueId, GetFeatures, SetFeatures, ResetLun, ChangeWriteColumn}
 use Rattle.onfi_cycle.specs.declared.data_phase.DataPhase.{DataPhase}
 use Rattle.onfi_cycle.specs.declared.data_phase.DataPhase.TheVariants.{Outside, Inputs, FirstColumn, SecondColumn}
 use Rattle.onfi_cycle.specs.declared.latch.Latch.{Latch}
@@ -101,9 +101,14 @@ PlaceMirror (InColumn n) a t = ColumnBegun n a t
 PlaceMirror (InFeatures n) a t = ⊥
 PlaceMirror Unknown a t = ⊥
 
+-- an opener of the base profile, which copies no page
+abbrev pub opens_in_base : Command → Bool
+opens_in_base ChangeWriteColumn = false
+opens_in_base o = is_of_base o
+
 -- a place of the base profile
 abbrev pub is_base_place : Place → Bool
-is_base_place (After o n) = is_of_base o
+is_base_place (After o n) = opens_in_base o
 is_base_place (InFeatures n) = false
 is_base_place _ = true
 
@@ -294,6 +299,12 @@ begun PageProgram (suc (suc zero)) a t h = record { opening = ap (λ (t : TailFa
 begun PageProgram (suc (suc (suc zero))) a t h = record { opening = ap (λ (t : TailFacts). t.opening) h.facts; phase = ap (λ (t : TailFacts). t.phase) h.facts }
 begun PageProgram (suc (suc (suc (suc zero)))) a t h = record { opening = ap (λ (t : TailFacts). t.opening) h.facts; phase = ap (λ (t : TailFacts). t.phase) h.facts }
 begun PageProgram (suc (suc (suc (suc (suc n))))) a t h = absurd (let e = h.place in let x : ⊥ = grind (arith, nat_tests) in x)
+begun ChangeWriteColumn zero a t h = record { opening = ap (λ (t : TailFacts). t.opening) h.facts; phase = ap (λ (t : TailFacts). t.phase) h.facts }
+begun ChangeWriteColumn (suc zero) a t h = record { opening = ap (λ (t : TailFacts). t.opening) h.facts; phase = ap (λ (t : TailFacts). t.phase) h.facts }
+begun ChangeWriteColumn (suc (suc zero)) a t h = record { opening = ap (λ (t : TailFacts). t.opening) h.facts; phase = ap (λ (t : TailFacts). t.phase) h.facts }
+begun ChangeWriteColumn (suc (suc (suc zero))) a t h = record { opening = ap (λ (t : TailFacts). t.opening) h.facts; phase = ap (λ (t : TailFacts). t.phase) h.facts }
+begun ChangeWriteColumn (suc (suc (suc (suc zero)))) a t h = record { opening = ap (λ (t : TailFacts). t.opening) h.facts; phase = ap (λ (t : TailFacts). t.phase) h.facts }
+begun ChangeWriteColumn (suc (suc (suc (suc (suc n))))) a t h = absurd (let e = h.place in let x : ⊥ = grind (arith, nat_tests) in x)
 begun ReadId zero a t h = record { opening = ap (λ (t : TailFacts). t.opening) h.facts; phase = ap (λ (t : TailFacts). t.phase) h.facts }
 begun ReadId (suc n) a t h = absurd (no_more n h.place)
 begun ReadParameterPage zero a t h = record { opening = ap (λ (t : TailFacts). t.opening) h.facts; phase = ap (λ (t : TailFacts). t.phase) h.facts }

@@ -7,7 +7,7 @@ use Rattle.micro_word.specs.declared.word.Word.{Word}
 use Rattle.micro_word.specs.Text.{Microprogram}
 use Rattle.micro_claims.specs.declared.refusal.Fault.{Fault}
 use Rattle.micro_claims.specs.declared.state.State.{State}
-use Rattle.micro_claims.specs.State.{bounds_of, first_state, not_cached}
+use Rattle.micro_claims.specs.State.{bounds_of, first_state, not_cached, uncopied}
 use Rattle.micro_claims.specs.Spans.{exactly}
 use Rattle.micro_claims.specs.Planes.{just_plane, no_planes}
 use Rattle.micro_claims.specs.Certificate.{claim}
@@ -48,7 +48,7 @@ behind x paid later op ops d h =
 -- from rest all goes well over the operations, whatever states have met at the last word
 rest_goes_well : (g : Parts) → InLimits g → (x : Microprogram) (failure : ℕ) (ops : List PlainOp) (f : Option State) (paid : ℕ) → AllInside g ops → Bounded x paid ops → may_end f ≡ true → FromRest g x f paid (words_from failure ops)
 unfolding reason_against breaks_cycle_forbidden breaks_address_unaligned breaks_handover_in_sequence breaks_buffer_passed breaks_row_or_plane_outside breaks_column_too_large breaks_no_status breaks_ends_too_soon breaks_over_budget breaks_command_not_allowed
-rest_goes_well g l x failure [] f paid inside d e = λ column planes index page place least grown polled shows register output read other cached held array. rw (calm read other) (end_is_fine g x f e)
+rest_goes_well g l x failure [] f paid inside d e = λ column planes index page place least grown polled shows register output read other cached held array copies. rw (calm read other) (end_is_fine g x f e)
 rest_goes_well g l x failure (Read row plane column place len ∷ ops) f paid inside d e =
     let fits = part_fits g row plane column place len inside.0 in
     let there = fits.0.plane_there in
@@ -66,10 +66,10 @@ rest_goes_well g l x failure (Program row plane column place len ∷ ops) f paid
     program_goes_well g x f row plane column place len paid failure (words_from failure ops)
     (omega (arith, there, planes)) (plane_below _ plane there) (rows_parts (Program row plane column place len) ops x.rows d.rows).0 d.few_rows
     fits.1.some fits.1.page (short_page g l) (buffer_parts (Program row plane column place len) ops x.buffer d.buffer).0 d.short_buffer (omega (arith, budget)) d.small_budget
-    (λ column planes index page place least grown polled shows register output read other cached held array.
-    rest_goes_well g l x failure ops (Some (met f (at_rest column planes index page place least grown polled shows register output read other cached held array (paid + 1 + 5 + len + 1)))) (paid + 1 + 5 + len + 1) inside.1 (behind x paid _ _ ops d (omega (arith, budget)))
-    (met_may_end f (at_rest column planes index page place least grown polled shows register output read other cached held array (paid + 1 + 5 + len + 1)) e (calm read other))
-    column planes index page place least grown polled shows register output read other cached held array)
+    (λ column planes index page place least grown polled shows register output read other cached held array copies.
+    rest_goes_well g l x failure ops (Some (met f (at_rest column planes index page place least grown polled shows register output read other cached held array copies (paid + 1 + 5 + len + 1)))) (paid + 1 + 5 + len + 1) inside.1 (behind x paid _ _ ops d (omega (arith, budget)))
+    (met_may_end f (at_rest column planes index page place least grown polled shows register output read other cached held array copies (paid + 1 + 5 + len + 1)) e (calm read other))
+    column planes index page place least grown polled shows register output read other cached held array copies)
 rest_goes_well g l x failure (Erase row plane ∷ ops) f paid inside d e =
     let fits = row_fits g row plane inside.0 in
     let there = fits.plane_there in
@@ -77,10 +77,10 @@ rest_goes_well g l x failure (Erase row plane ∷ ops) f paid inside d e =
     let budget = d.budget in
     erase_goes_well g x f row plane paid failure (words_from failure ops)
     (omega (arith, there, planes)) (plane_below _ plane there) (rows_parts (Erase row plane) ops x.rows d.rows).0 d.few_rows (omega (arith, budget)) d.small_budget
-    (λ column planes index page place least grown polled shows register output read other cached held array.
-    rest_goes_well g l x failure ops (Some (met f (at_rest column planes index page place least grown polled shows register output read other cached held array (paid + 1 + 3 + 1)))) (paid + 1 + 3 + 1) inside.1 (behind x paid _ _ ops d (omega (arith, budget)))
-    (met_may_end f (at_rest column planes index page place least grown polled shows register output read other cached held array (paid + 1 + 3 + 1)) e (calm read other))
-    column planes index page place least grown polled shows register output read other cached held array)
+    (λ column planes index page place least grown polled shows register output read other cached held array copies.
+    rest_goes_well g l x failure ops (Some (met f (at_rest column planes index page place least grown polled shows register output read other cached held array copies (paid + 1 + 3 + 1)))) (paid + 1 + 3 + 1) inside.1 (behind x paid _ _ ops d (omega (arith, budget)))
+    (met_may_end f (at_rest column planes index page place least grown polled shows register output read other cached held array copies (paid + 1 + 3 + 1)) e (calm read other))
+    column planes index page place least grown polled shows register output read other cached held array copies)
 
 -- ---- the whole text
 
@@ -119,7 +119,7 @@ plain_texts_are_faultless g l ops none =
       budget = omega arith;
       small_budget = budget_fits g l ops fine.inside few;
     } in
-    let well = rest_goes_well g l x failure ops None 0 fine.inside bounded refl (exactly 0) (just_plane 0) (exactly 0) (record { lo = 0; hi = 0 }) (exactly 0) 0 None false None None None true true not_cached no_planes no_planes in
+    let well = rest_goes_well g l x failure ops None 0 fine.inside bounded refl (exactly 0) (just_plane 0) (exactly 0) (record { lo = 0; hi = 0 }) (exactly 0) 0 None false None None None true true not_cached no_planes no_planes uncopied in
     ap (λ (o : Option Fault). or_fault o (cond (has_loop x.words) None (followed g (bounds_of x) (known_first x.words) 0 x.words))) (well_shaped ops)
     ∙ (ap (λ (b : Bool). cond b None (followed g (bounds_of x) (known_first x.words) 0 x.words)) (no_loop failure ops)
     ∙ well_followed g x x.words 0 failure (known_first x.words) first_state None (omega (arith, long)) (begins x.words failure (omega (arith, long)) (omega arith)) (are_led failure ops) well)

@@ -4,7 +4,7 @@ use Rattle.std.proofs.Common.{◌≡◌, ℕ, ◌+◌, ◌≤◌, ◌==◌, Bool
 use Rattle.std.proofs.Math.Bool.{or-false}
 use Rattle.std.proofs.lemmas.Bool.{not-false}
 use Rattle.nand_geometry.specs.declared.parts.Parts.{Parts}
-use Rattle.nand_geometry.specs.Optional.{is_wide, has_features, has_unique_id, has_enhanced_column, has_lun_reset, has_plane_reads, has_copyback, has_synchronous_reset}
+use Rattle.nand_geometry.specs.Optional.{is_wide, has_features, has_unique_id, has_enhanced_column, has_lun_reset, has_plane_reads, has_copyback, has_synchronous_reset, has_all}
 use Rattle.onfi_cycle.specs.declared.command.Command.{Command}
 use Rattle.onfi_cycle.specs.declared.command.Command.TheVariants.{Read, ReadConfirm, ReadPlane, ChangeReadColumn, ChangeReadColumnEnhanced, ChangeReadColumnConfirm, BlockErase, BlockEraseConfirm, BlockErasePlane, ReadStatus, ReadStatusEnhanced, PageProgram, ChangeWriteColumn, ProgramConfirm, ProgramPlane, ReadId, ReadParameterPage, Reset, ReadCacheSequential, ReadCacheEnd, ReadUniqueId, GetFeatures, SetFeatures, ResetLun, SynchronousReset, Unknown, CopybackRead}
 use Rattle.onfi_cycle.specs.declared.data_phase.DataPhase.TheVariants.{FirstColumn, SecondColumn}
@@ -350,6 +350,14 @@ pub barred : (w b : Bool) → w ≡ false → (not w || b) ≡ false → ⊥
 barred true b e h = cc
 barred false b e h = cc
 
+-- in the base profile no 85 begins a sequence
+only_goes_on : (g : Parts) (free w : Bool) → is_wide g.optional ≡ false → cond (true && not (w || not (has_copyback g.optional))) free (not w || false) ≡ not w
+only_goes_on g free w base = ap (λ (b : Bool). cond (true && not (w || not b)) free (not w || false)) (ap (λ (b : Bool). b && has_all g.optional 16) base) ∙ at w
+  where
+    at : (w : Bool) → cond (true && not (w || true)) free (not w || false) ≡ not w
+    at true = refl
+    at false = refl
+
 pub told_command : (g : Parts) (j : Job) (v : State) (done : List Done) (c : Lone) (d : Command) → ltb 1 g.luns ≡ false → is_wide g.optional ≡ false → g.pages ≤ greatest_bound → Mirrors g j v done c → is_unfit g d ≡ false → Told (command_out_of_place g v d) (judged g c (CommandCycle d))
 told_command g j v done c d one base low m h = by d h
   where
@@ -359,8 +367,8 @@ told_command g j v done c d one base low m h = by d h
     wanted : (d : Command) → not (place_wants d v.target.tail) ≡ not (wants_command c.facts d)
     wanted d = ap not (ap (place_wants d) m.tail.single ∙ wants_same m.tail.place m.tail.address c.facts d m.tail.is)
 
-    fitting : (d : Command) → is_unfit g d ≡ false → command_out_of_place g v d ≡ cond (is_opener d && not (goes_on_at d v.target.tail)) ((not (may_end_sequence g d) && may_be_open v) || opener_refused g v d) (not (place_wants d v.target.tail) || closer_refused g v d)
-    fitting d fit = ap (λ (b : Bool). cond b false (cond (is_opener d && not (goes_on_at d v.target.tail)) ((not (may_end_sequence g d) && may_be_open v) || opener_refused g v d) (not (place_wants d v.target.tail) || closer_refused g v d))) fit
+    fitting : (d : Command) → is_unfit g d ≡ false → command_out_of_place g v d ≡ cond (is_opener d && not (goes_on_at g d v.target.tail)) ((not (may_end_sequence g d) && may_be_open v) || opener_refused g v d) (not (place_wants d v.target.tail) || closer_refused g v d)
+    fitting d fit = ap (λ (b : Bool). cond b false (cond (is_opener d && not (goes_on_at g d v.target.tail)) ((not (may_end_sequence g d) && may_be_open v) || opener_refused g v d) (not (place_wants d v.target.tail) || closer_refused g v d))) fit
 
     drive : place_wants ChangeReadColumnConfirm v.target.tail ≡ true → drives v.target.shows ≡ true
     drive h = ap drives m.shows ∙ shows_may_change c.view (m.tail.changes (wants_change m.tail.place m.tail.base (sym (ap (place_wants ChangeReadColumnConfirm) m.tail.single) ∙ h)))
@@ -380,7 +388,7 @@ told_command g j v done c d one base low m h = by d h
     by ReadConfirm h = told_by _ _ _ (ap (λ (w : Bool). not (place_wants ReadConfirm v.target.tail) || (w && may_be_31 v.lun.last)) base ∙ (or-false _ ∙ wanted ReadConfirm)) (told_30 g c)
     by BlockEraseConfirm h = told_by _ _ _ (or-false _ ∙ wanted BlockEraseConfirm) (told_d0 g c)
     by ProgramConfirm h = told_by _ _ _ (or-false _ ∙ wanted ProgramConfirm) (told_10 g c)
-    by ChangeWriteColumn h = told_by _ _ _ (or-false _ ∙ wanted ChangeWriteColumn) (told_85 g c)
+    by ChangeWriteColumn h = told_by _ _ _ (fitting ChangeWriteColumn h ∙ (only_goes_on g (may_be_open v || v.lun.busy) (place_wants ChangeWriteColumn v.target.tail) base ∙ wanted ChangeWriteColumn)) (told_85 g c)
     by ReadStatusEnhanced h = told_by _ _ _ (fitting ReadStatusEnhanced h ∙ (λ i. shut i || false)) (told_enhanced g c (not-false g.enhanced h))
     by ChangeReadColumnConfirm h =
         told_by _ _ _

@@ -5,7 +5,7 @@ use Rattle.std.proofs.lemmas.Bool.{and_parts, and_from}
 use Rattle.nand_geometry.specs.declared.parts.Parts.{Parts}
 use Rattle.nand_geometry.specs.Limits.{InLimits}
 use Rattle.onfi_cycle.specs.declared.command.Command.{Command}
-use Rattle.onfi_cycle.specs.declared.command.Command.TheVariants.{Read, ReadConfirm, ReadPlane, ChangeReadColumn, ChangeReadColumnEnhanced, ChangeReadColumnConfirm, BlockErase, BlockEraseConfirm, BlockErasePlane, PageProgram, ChangeWriteColumn, ProgramConfirm, ProgramPlane, ReadId, ReadParameterPage, Reset, ReadCacheSequential, ReadCacheEnd, ReadUniqueId, GetFeatures, SetFeatures, ResetLun, SynchronousReset}
+use Rattle.onfi_cycle.specs.declared.command.Command.TheVariants.{Read, ReadConfirm, ReadPlane, ChangeReadColumn, ChangeReadColumnEnhanced, ChangeReadColumnConfirm, BlockErase, BlockEraseConfirm, BlockErasePlane, PageProgram, ChangeWriteColumn, ProgramConfirm, ProgramPlane, ReadId, ReadParameterPage, Reset, ReadCacheSequential, ReadCacheEnd, ReadUniqueId, GetFeatures, SetFeatures, ResetLun, SynchronousReset, CopybackRead}
 use Rattle.micro_claims.specs.Spans.{Span}
 use Rattle.micro_claims.specs.Spans.{plus, plus_between}
 use Rattle.micro_claims.specs.declared.planes.Planes.{Planes}
@@ -21,15 +21,16 @@ use Rattle.micro_claims.specs.declared.queued_rows.QueuedRows.{QueuedRows}
 use Rattle.micro_claims.specs.declared.queued_rows.QueuedRows.TheVariants.{NoRows, SomeRows, SomeReads, AnyRows}
 use Rattle.micro_claims.specs.declared.last_closer.LastCloser.{LastCloser}
 use Rattle.micro_claims.specs.declared.cached_page.CachedPage.{CachedPage}
-use Rattle.micro_claims.specs.State.{any_but_31, other_closer, closed, any_number, shows_status, shows_register, may_be_30, may_be_31, may_be_other}
+use Rattle.micro_claims.specs.State.{any_but_31, other_closer, closed, any_number, shows_status, shows_register, may_be_30, may_be_31, may_be_other, no_copies, uncopied}
 use Rattle.micro_claims.specs.Against.{same_test, place_wants, selects_plane_at}
-use Rattle.micro_claims.specs.Leaves.{with_target, data_shown, given_at, rows_at, reads_at, reads_beside, reads_more, may_be_reads, named_plane, held_beside, held_by_read, register_selected, work_started, same_drift, queued_more, cache_read, command_leaves, column_read, get_leaves, span_more, place_moved, features_put, put_leaves_at, put_leaves, reset_started, page_register, cached_at, next_cached, shows_after_read}
+use Rattle.micro_claims.specs.Leaves.{with_target, data_shown, given_at, rows_at, reads_at, reads_beside, reads_more, may_be_reads, named_plane, held_beside, held_by_read, register_selected, work_started, same_drift, queued_more, cache_read, command_leaves, column_read, get_leaves, span_more, place_moved, features_put, put_leaves_at, put_leaves, reset_started, page_register, cached_at, next_cached, shows_after_read, opened_by}
 use Rattle.micro_claims.specs.Order.{SpanAt, May, AllAmong, DriftIs, HasColumn, NameIs, NamedIs, IsFineName, IsFineNamed, ShowsIs, RegisteredIs, RowsAre, At, column_number, output_number, Exactly}
 use Rattle.micro_claims.proofs.PlaneSets.{among_first, among_second, either_has}
 use Rattle.micro_walk.proofs.SpanLaws as numbers
 use Rattle.micro_walk.proofs.Shapes.{among_self, both_among, none_there, sure_among, one_within, not_on, no_too}
 use Rattle.micro_walk.proofs.TestsKept.{common_on}
 use Rattle.micro_walk.proofs.LeavesKept.{with_place, any_free, fine_of, one_place, data_is, resumed_is, read_is, OutputAt, first_output, given_is, held_is, registers_at, rows_placed, reads_placed, cached_index_is, cached_page_is, lun_with_output, output_of}
+use Rattle.micro_walk.proofs.CopiesKept.{copies_self, queued_copies, held_copy, copies_copy}
 
 -- 1. inputs and outputs
 
@@ -273,7 +274,7 @@ started_at : (g : Parts) (v s a : State) (q r : QueuedRows) → RowsAre q r → 
 started_at g v s a q r h d = record {
   registers = d.registers;
   target = one_place g v.target Closed s.target.shows a.target.shows d.target.shows;
-  lun = record { busy = λ e. e; register = tt; has_column = tt; column = any_free _; queue = h; last_read = λ e. e; last_cache = λ e. e; last_other = λ e. e; cached_index = d.lun.cached_index; cached_page = d.lun.cached_page; held = among_self no_planes; array = among_self no_planes };
+  lun = record { busy = λ e. e; register = tt; has_column = tt; column = any_free _; queue = h; last_read = λ e. e; last_cache = λ e. e; last_other = λ e. e; cached_index = d.lun.cached_index; cached_page = d.lun.cached_page; held = among_self no_planes; array = among_self no_planes; copies = copies_self no_copies };
 }
 
 features_on : (g : Parts) (v s a : State) (inputs : ℕ) → At g v s a → At g v (features_put s inputs) (features_put a inputs)
@@ -302,17 +303,17 @@ cache_at : (g : Parts) (v s a : State) (last : LastCloser) (x y : CachedPage) (p
 cache_at g v s a last x y ps ms p q h k array shows d = record {
   registers = d.registers;
   target = one_place g v.target Closed p q shows;
-  lun = record { busy = λ e. e; register = page_is; has_column = (first_output v.lun.column).has; column = (first_output v.lun.column).at; queue = d.lun.queue; last_read = λ e. e; last_cache = λ e. e; last_other = λ e. e; cached_index = h; cached_page = k; held = d.lun.array; array = array };
+  lun = record { busy = λ e. e; register = page_is; has_column = (first_output v.lun.column).has; column = (first_output v.lun.column).at; queue = d.lun.queue; last_read = λ e. e; last_cache = λ e. e; last_other = λ e. e; cached_index = h; cached_page = k; held = d.lun.array; array = array; copies = copies_self uncopied };
 }
 
 pub reset_at : (g : Parts) (v s a : State) → At g v s a → At g v (reset_started s) (reset_started a)
 reset_at g v s a d = record {
   registers = d.registers;
   target = one_place g v.target Closed None None tt;
-  lun = record { busy = λ e. e; register = tt; has_column = tt; column = any_free _; queue = refl; last_read = λ e. e; last_cache = λ e. e; last_other = λ e. e; cached_index = d.lun.cached_index; cached_page = d.lun.cached_page; held = among_self no_planes; array = among_self no_planes };
+  lun = record { busy = λ e. e; register = tt; has_column = tt; column = any_free _; queue = refl; last_read = λ e. e; last_cache = λ e. e; last_other = λ e. e; cached_index = d.lun.cached_index; cached_page = d.lun.cached_page; held = among_self no_planes; array = among_self no_planes; copies = copies_self no_copies };
 }
 
-pub command_at : (g : Parts) → InLimits g → (v s a : State) → At g v s a → (c : Command) → (c ≡ ReadCacheSequential → place_wants ReadCacheSequential s.target.tail ≡ place_wants ReadCacheSequential a.target.tail) → (c ≡ ChangeReadColumnConfirm → selects_plane_at s.target.tail ≡ selects_plane_at a.target.tail) → At g v (command_leaves g s c) (command_leaves g a c)
+pub command_at : (g : Parts) → InLimits g → (v s a : State) → At g v s a → (c : Command) → ((c ≡ ReadCacheSequential → place_wants ReadCacheSequential s.target.tail ≡ place_wants ReadCacheSequential a.target.tail) × (c ≡ ChangeWriteColumn → place_wants ChangeWriteColumn s.target.tail ≡ place_wants ChangeWriteColumn a.target.tail)) → (c ≡ ChangeReadColumnConfirm → selects_plane_at s.target.tail ≡ selects_plane_at a.target.tail) → At g v (command_leaves g s c) (command_leaves g a c)
 command_at g l v s a d Read same plane = opened_at g v s a (After Read 0) _ _ (resumed_is s.target.shows a.target.shows d.target.shows) d
 command_at g l v s a d ChangeReadColumn same plane = opened_at g v s a (After ChangeReadColumn 0) _ _ d.target.shows d
 command_at g l v s a d ChangeReadColumnEnhanced same plane = opened_at g v s a (After ChangeReadColumnEnhanced 0) _ _ d.target.shows d
@@ -324,11 +325,20 @@ command_at g l v s a d ReadUniqueId same plane = opened_at g v s a (After ReadUn
 command_at g l v s a d GetFeatures same plane = opened_at g v s a (After GetFeatures 0) _ _ d.target.shows d
 command_at g l v s a d SetFeatures same plane = opened_at g v s a (After SetFeatures 0) _ _ d.target.shows d
 command_at g l v s a d ResetLun same plane = opened_at g v s a (After ResetLun 0) _ _ d.target.shows d
-command_at g l v s a d ChangeWriteColumn same plane = record {
-  registers = d.registers;
-  target = (let t = d.target in record { tail = Exactly (InColumn 0); has_column = t.has_column; column = t.column; named = t.named; fine = t.fine; shows = t.shows });
-  lun = d.lun;
-}
+command_at g l v s a d ChangeWriteColumn same plane = at (place_wants ChangeWriteColumn s.target.tail) (place_wants ChangeWriteColumn a.target.tail) (same.1 refl)
+  where
+    left : Bool → State → State
+    left w x = cond w (with_target x (record x.target { tail = InColumn 0 })) (opened_by ChangeWriteColumn x)
+
+    at : (b c : Bool) → b ≡ c → At g v (left b s) (left c a)
+    at true true e = record {
+      registers = d.registers;
+      target = (let t = d.target in record { tail = Exactly (InColumn 0); has_column = t.has_column; column = t.column; named = t.named; fine = t.fine; shows = t.shows });
+      lun = d.lun;
+    }
+    at true false e = absurd cc
+    at false true e = absurd cc
+    at false false e = opened_at g v s a (After ChangeWriteColumn 0) _ _ d.target.shows d
 command_at g l v s a d ReadConfirm same plane =
     let k = given_is v.lun.column (column_number v.target.column) s.target.column a.target.column d.target.has_column d.target.column in
     let r = read_with (may_be_reads s.lun.queue) (may_be_reads a.lun.queue) (reads_on s.lun.queue a.lun.queue d.lun.queue) in
@@ -348,6 +358,7 @@ command_at g l v s a d ReadConfirm same plane =
         cached_page = cached_page_is g l v.lun.cached.page s.target.named a.target.named d.target.named d.target.fine;
         held = held_read g s.lun.queue a.lun.queue s.target.named a.target.named d.lun.queue d.target.named d.target.fine;
         array = plane_is g s.target.named a.target.named d.target.named d.target.fine;
+        copies = copies_self uncopied;
       };
     }
 command_at g l v s a d ReadPlane same plane = record {
@@ -366,8 +377,31 @@ command_at g l v s a d ReadPlane same plane = record {
     cached_page = d.lun.cached_page;
     held = among_self no_planes;
     array = among_self no_planes;
+    copies = copies_self no_copies;
   };
 }
+command_at g l v s a d CopybackRead same plane =
+    let k = given_is v.lun.column (column_number v.target.column) s.target.column a.target.column d.target.has_column d.target.column in
+    let r = read_with (may_be_reads s.lun.queue) (may_be_reads a.lun.queue) (reads_on s.lun.queue a.lun.queue d.lun.queue) in
+    record {
+      registers = d.registers;
+      target = one_place g v.target Closed _ _ (read_is g s.target.shows a.target.shows d.target.shows);
+      lun = record {
+        busy = λ e. e;
+        register = r.register;
+        has_column = k.has;
+        column = k.at;
+        queue = refl;
+        last_read = λ e. e;
+        last_cache = λ e. e;
+        last_other = λ e. e;
+        cached_index = d.lun.cached_index;
+        cached_page = d.lun.cached_page;
+        held = held_copy g v.lun s.lun a.lun s.target.named a.target.named d.lun d.target.named d.target.fine;
+        array = plane_is g s.target.named a.target.named d.target.named d.target.fine;
+        copies = copies_copy g g.pages v.lun s.lun a.lun s.target.named a.target.named d.lun d.target.named d.target.fine;
+      };
+    }
 command_at g l v s a d ChangeReadColumnConfirm same plane = at (selects_plane_at s.target.tail) (selects_plane_at a.target.tail) (plane refl)
   where
     left : Bool → State → State
@@ -395,6 +429,7 @@ command_at g l v s a d ChangeReadColumnConfirm same plane = at (selects_plane_at
             cached_page = f.cached_page;
             held = f.held;
             array = f.array;
+            copies = f.copies;
           }
           );
     }
@@ -408,10 +443,28 @@ command_at g l v s a d ChangeReadColumnConfirm same plane = at (selects_plane_at
 command_at g l v s a d BlockEraseConfirm same plane = started_at g v s a NoRows NoRows refl d
 command_at g l v s a d ProgramConfirm same plane = started_at g v s a NoRows NoRows refl d
 command_at g l v s a d BlockErasePlane same plane = started_at g v s a _ _ (queued_is g true s.lun.queue a.lun.queue s.target.named a.target.named d.lun.queue d.target.named) d
-command_at g l v s a d ProgramPlane same plane = started_at g v s a _ _ (queued_is g false s.lun.queue a.lun.queue s.target.named a.target.named d.lun.queue d.target.named) d
+command_at g l v s a d ProgramPlane same plane = record {
+  registers = d.registers;
+  target = one_place g v.target Closed s.target.shows a.target.shows d.target.shows;
+  lun = record {
+    busy = λ e. e;
+    register = tt;
+    has_column = tt;
+    column = any_free _;
+    queue = queued_is g false s.lun.queue a.lun.queue s.target.named a.target.named d.lun.queue d.target.named;
+    last_read = λ e. e;
+    last_cache = λ e. e;
+    last_other = λ e. e;
+    cached_index = d.lun.cached_index;
+    cached_page = d.lun.cached_page;
+    held = d.lun.held;
+    array = among_self no_planes;
+    copies = queued_copies s.lun.copies a.lun.copies d.lun.copies;
+  };
+}
 command_at g l v s a d Reset same plane = reset_at g v s a d
 command_at g l v s a d SynchronousReset same plane = reset_at g v s a d
-command_at g l v s a d ReadCacheSequential same plane = at (place_wants ReadCacheSequential s.target.tail) (place_wants ReadCacheSequential a.target.tail) (same refl)
+command_at g l v s a d ReadCacheSequential same plane = at (place_wants ReadCacheSequential s.target.tail) (place_wants ReadCacheSequential a.target.tail) (same.0 refl)
   where
     left : Bool → State → State
     left w x = cond w (cache_read (record { 0 = 2 }) (cached_at x.target.named) (named_plane x.target.named) (shows_after_read g x.target.shows) x) (cache_read (record { 0 = 2 }) (next_cached x.lun.cached) x.lun.array data_shown x)

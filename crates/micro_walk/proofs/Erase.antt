@@ -17,7 +17,8 @@ use Rattle.micro_claims.specs.declared.shown.Shown.{Shown}
 use Rattle.micro_claims.specs.declared.cached_page.CachedPage.{CachedPage}
 use Rattle.micro_claims.specs.declared.queued_rows.QueuedRows.TheVariants.{NoRows}
 use Rattle.micro_claims.specs.declared.last_closer.LastCloser.{LastCloser}
-use Rattle.micro_claims.specs.State.{bounds_of, first_registers, first_state, not_cached, closed, any_but_31, other_closer, may_be_31}
+use Rattle.micro_claims.specs.State.{bounds_of, first_registers, first_state, not_cached, no_copies, uncopied, closed, any_but_31, other_closer, may_be_31}
+use Rattle.micro_claims.specs.declared.copies.Copies.{Copies}
 use Rattle.micro_claims.specs.Planes.{no_planes}
 use Rattle.micro_claims.specs.Leaves.{status_shown}
 use Rattle.micro_claims.specs.Reasons.{reason_against, breaks_cycle_forbidden, breaks_address_unaligned, breaks_handover_in_sequence, breaks_buffer_passed, breaks_row_or_plane_outside, breaks_column_too_large, breaks_no_status, breaks_ends_too_soon, breaks_over_budget, breaks_command_not_allowed}
@@ -29,26 +30,26 @@ use Rattle.micro_walk.specs.Erase.{erase_words, EraseIsSafe, erases, ErasesAreAc
 use Rattle.micro_walk.proofs.Walking.{walked_is_safe, straight_fault, straight_shape}
 
 -- nothing is open and the LUN is ready, so many cycles being paid
-abbrev at_rest : Bool → LastCloser → Option Shown → CachedPage → ℕ → State
-at_rest polled last shows cached n =
+abbrev at_rest : Bool → LastCloser → Option Shown → CachedPage → Copies → ℕ → State
+at_rest polled last shows cached copies n =
     record {
       registers = record first_registers { cost = record { lo = n; hi = Some n; grown = None }; polled = polled };
       target = closed shows;
-      lun = record { busy = false; register = None; column = None; queue = NoRows; last = last; cached = cached; held = no_planes; array = no_planes };
+      lun = record { busy = false; register = None; column = None; queue = NoRows; last = last; cached = cached; held = no_planes; array = no_planes; copies = copies };
     }
 
 -- each erase leaves all as it found it, but for five cycles that are paid, and a status that was asked for
-erases_walk : (g : Parts) (b : Bounds) (count : ℕ) (polled : Bool) (last : LastCloser) (shows : Option Shown) (cached : CachedPage) (n at : ℕ) → nat_le 1 b.rows ≡ true → nat_lt 1 (2 ^ planes g) ≡ true → may_be_31 last ≡ false → b.budget < 2 ^ 32 → n + 5 * count ≤ b.budget → walked g b at (Some (at_rest polled last shows cached n)) (erases count) ≡ None
+erases_walk : (g : Parts) (b : Bounds) (count : ℕ) (polled : Bool) (last : LastCloser) (shows : Option Shown) (cached : CachedPage) (copies : Copies) (n at : ℕ) → nat_le 1 b.rows ≡ true → nat_lt 1 (2 ^ planes g) ≡ true → may_be_31 last ≡ false → b.budget < 2 ^ 32 → n + 5 * count ≤ b.budget → walked g b at (Some (at_rest polled last shows cached copies n)) (erases count) ≡ None
 unfolding command reason_against breaks_cycle_forbidden breaks_address_unaligned breaks_handover_in_sequence breaks_buffer_passed breaks_row_or_plane_outside breaks_column_too_large breaks_no_status breaks_ends_too_soon breaks_over_budget breaks_command_not_allowed state_after
-erases_walk g b zero polled last shows cached n at rows planes calm small h = rw calm refl
-erases_walk g b (suc count) polled last shows cached n at rows planes calm small h =
+erases_walk g b zero polled last shows cached copies n at rows planes calm small h = rw calm refl
+erases_walk g b (suc count) polled last shows cached copies n at rows planes calm small h =
     let one : nat_le (n + 1) greatest_bound ≡ true = grind (arith, nat_tests, h, small) in
     let four : nat_le (n + 1 + 3) greatest_bound ≡ true = grind (arith, nat_tests, h, small) in
     let five : nat_le (n + 1 + 3 + 1) greatest_bound ≡ true = grind (arith, nat_tests, h, small) in
     let one_paid : nat_le (n + 1) b.budget ≡ true = grind (arith, nat_tests, h) in
     let four_paid : nat_le (n + 1 + 3) b.budget ≡ true = grind (arith, nat_tests, h) in
     let five_paid : nat_le (n + 1 + 3 + 1) b.budget ≡ true = grind (arith, nat_tests, h) in
-    rw (one, four, five, one_paid, four_paid, five_paid, rows, planes, calm) (erases_walk g b count true other_closer status_shown cached (n + 1 + 3 + 1) (at + 1 + 1 + 1 + 1) rows planes refl small (omega (arith, h)))
+    rw (one, four, five, one_paid, four_paid, five_paid, rows, planes, calm) (erases_walk g b count true other_closer status_shown cached no_copies (n + 1 + 3 + 1) (at + 1 + 1 + 1 + 1) rows planes refl small (omega (arith, h)))
 
 -- the last word of a text stays the last behind another one
 last_behind : (word other : Word) (words : List Word) → slice_get (word ∷ (other ∷ words)) (length (word ∷ (other ∷ words)) - 1) ≡ slice_get (other ∷ words) (length (other ∷ words) - 1)
@@ -85,7 +86,7 @@ erases_within g b count rows paid small =
     let row : nat_le 1 b.rows ≡ true = grind (arith, nat_tests, rows) in
     straight_fault g b (erases count) (erases_lead_on count)
     ∙ (ap (λ (x : Option Fault). or_fault x (walked g b 0 (Some first_state) (erases count))) (straight_shape (erases count) (erases_lead_on count) (some_words count) (erases_end count))
-    ∙ erases_walk g b count false any_but_31 None not_cached 0 0 row (some_planes g) refl small (omega (arith, paid)))
+    ∙ erases_walk g b count false any_but_31 None not_cached uncopied 0 0 row (some_planes g) refl small (omega (arith, paid)))
 
 pub erases_are_accepted : ErasesAreAccepted
 erases_are_accepted g text count is rows paid small =

@@ -24,11 +24,12 @@ use Rattle.micro_claims.specs.declared.output_column.OutputColumn.{OutputColumn}
 use Rattle.micro_claims.specs.declared.queued_rows.QueuedRows.{QueuedRows}
 use Rattle.micro_claims.specs.declared.queued_rows.QueuedRows.TheVariants.{NoRows, SomeRows, SomeReads, AnyRows}
 use Rattle.micro_claims.specs.Against.{same_test, is_open_place}
-use Rattle.micro_claims.specs.Order.{is_bound_within, is_growth_within, is_span_within, may_within, are_planes_within, same_place, is_place_within, same_drift_as, is_drift_within, are_registers_within, is_column_within, is_name_within, is_named_within, is_shows_within, is_target_within, is_register_within, is_output_within, are_rows_within, is_lun_within, is_state_within}
-use Rattle.micro_claims.specs.Joins.{greater_bound, joined_growth, joined_span, joined_registers, joined_place, both_know, joined_drift, joined_name, joined_shown, joined_target, joined_held, joined_output, joined_rows, joined_lun, joined, JoinsClaimLess}
+use Rattle.micro_claims.specs.Order.{is_bound_within, is_growth_within, is_span_within, may_within, are_planes_within, same_place, is_place_within, same_drift_as, is_drift_within, are_registers_within, is_column_within, is_name_within, is_named_within, is_shows_within, is_target_within, is_register_within, is_output_within, are_rows_within, is_lun_within, is_state_within, are_copies_within}
+use Rattle.micro_claims.specs.Joins.{greater_bound, joined_growth, joined_span, joined_registers, joined_place, both_know, joined_drift, joined_name, joined_shown, joined_target, joined_held, joined_output, joined_rows, joined_lun, joined, JoinsClaimLess, joined_copies}
 use Rattle.micro_claims.specs.Sets.{has}
 use Rattle.micro_claims.proofs.Sets.{has_self, has_first, has_second}
 use Rattle.micro_walk.proofs.Shapes.{same_is, drift_is}
+use Rattle.micro_claims.specs.declared.copies.Copies.{Copies}
 
 -- both of two claims are at least what is claimed
 record Both (a b : Bool) : Type 0 where
@@ -229,6 +230,13 @@ queues_join (SomeRows erase planes d) (SomeRows kind ps e) = at (same_test erase
 queues_join (SomeRows erase planes d) AnyRows = record { one = refl; other = refl }
 queues_join AnyRows b = record { one = refl; other = refl }
 
+copies_join : (c d : Copies) → Both (are_copies_within c (joined_copies c d)) (are_copies_within d (joined_copies c d))
+copies_join c d =
+    both_and _ _ _ _ (common_join c.even d.even)
+    (both_and _ _ _ _ (common_join c.odd d.odd)
+    (both_and _ _ _ _ (both_must c.copying d.copying)
+    (both_and _ _ _ _ (both_must c.keeps d.keeps) (either_may c.holds d.holds))))
+
 luns_join : (s t : KnownLun) → Both (is_lun_within s (joined_lun s t)) (is_lun_within t (joined_lun s t))
 luns_join s t =
     both_and _ _ _ _ (either_may s.busy t.busy)
@@ -237,7 +245,7 @@ luns_join s t =
     (both_and _ _ _ _ (queues_join s.queue t.queue)
     (both_and _ _ _ _ (sets_join s.last.0 t.last.0)
     (both_and _ _ _ _ (spans_join s.cached.index t.cached.index)
-    (both_and _ _ _ _ (spans_join s.cached.page t.cached.page) (both_and _ _ _ _ (common_join s.held t.held) (common_join s.array t.array))))))))
+    (both_and _ _ _ _ (spans_join s.cached.page t.cached.page) (both_and _ _ _ _ (common_join s.held t.held) (both_and _ _ _ _ (common_join s.array t.array) (copies_join s.copies t.copies)))))))))
 
 -- 6. states
 

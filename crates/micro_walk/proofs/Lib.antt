@@ -6,6 +6,7 @@ pub mod StateOrder
 pub mod TestsKept
 pub mod ReasonsKept
 pub mod LeavesKept
+pub mod CopiesKept
 pub mod CommandsKept
 pub mod AddressesKept
 pub mod Machines

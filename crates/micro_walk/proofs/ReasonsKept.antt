@@ -5,7 +5,7 @@ use Rattle.std.proofs.lemmas.Bool.Decides.{nat_tests}
 use Rattle.nand_geometry.specs.declared.parts.Parts.{Parts}
 use Rattle.nand_geometry.specs.Limits.{InLimits, planes}
 use Rattle.onfi_cycle.specs.declared.command.Command.{Command}
-use Rattle.onfi_cycle.specs.declared.command.Command.TheVariants.{Read, ReadPlane, ChangeReadColumn, ChangeReadColumnEnhanced, ChangeReadColumnConfirm, BlockErase, PageProgram, ChangeWriteColumn, ReadId, ReadParameterPage, ReadUniqueId, GetFeatures, SetFeatures, ReadCacheSequential, ReadCacheEnd, ReadConfirm}
+use Rattle.onfi_cycle.specs.declared.command.Command.TheVariants.{Read, ReadPlane, ChangeReadColumn, ChangeReadColumnEnhanced, ChangeReadColumnConfirm, BlockErase, PageProgram, ChangeWriteColumn, ReadId, ReadParameterPage, ReadUniqueId, GetFeatures, SetFeatures, ReadCacheSequential, ReadCacheEnd, ReadConfirm, CopybackRead}
 use Rattle.onfi_cycle.specs.Command.{command, is_opener, addresses_the_array}
 use Rattle.micro_word.specs.declared.word.Word.{Word}
 use Rattle.micro_word.specs.declared.word.Word.TheVariants.{End, Address, Get, Put, Column, RowAdd, Row, Plane, Wait, Yield, ReadStatus, BranchOnStatus}
@@ -18,12 +18,12 @@ use Rattle.micro_claims.specs.declared.place.Place.{Place}
 use Rattle.micro_claims.specs.declared.place.Place.TheVariants.{Closed, After, InData, InColumn, InFeatures, Unknown}
 use Rattle.micro_claims.specs.declared.output_column.OutputColumn.{OutputColumn}
 use Rattle.micro_claims.specs.declared.bounds.Bounds.{Bounds}
-use Rattle.micro_claims.specs.Against.{may_end_sequence, may_be_open, addresses_left, next_address, takes_identity_at, is_inside_address, drives, least_length, is_unfit, identity_opener_refused, opener_refused, closer_refused, command_out_of_place, command_past_rows, has_second_column, column_limit, identity_refused, plane_refused, row_refused, surely_past, address_out_of_place, begins_elsewhere, column_past, row_outside, output_refused, column_bound, output_past, span_bound, input_past, place_wants, is_open_place}
+use Rattle.micro_claims.specs.Against.{may_end_sequence, may_be_open, addresses_left, next_address, takes_identity_at, is_inside_address, drives, least_length, is_unfit, identity_opener_refused, opener_refused, closer_refused, command_out_of_place, command_past_rows, has_second_column, column_limit, identity_refused, plane_refused, row_refused, surely_past, address_out_of_place, begins_elsewhere, column_past, row_outside, output_refused, column_bound, output_past, span_bound, input_past, place_wants, is_open_place, copied_planes, copy_refused}
 use Rattle.micro_claims.specs.Reasons.{breaks_cycle_forbidden, breaks_address_unaligned, breaks_handover_in_sequence, breaks_buffer_passed, breaks_row_or_plane_outside, breaks_column_too_large, breaks_no_status, breaks_ends_too_soon, breaks_over_budget, breaks_command_not_allowed}
-use Rattle.micro_claims.specs.Order.{top, May, column_number, output_number, At, PlaceIs, Anywhere, NothingOpen, Exactly}
+use Rattle.micro_claims.specs.Order.{top, May, column_number, output_number, At, PlaceIs, Anywhere, NothingOpen, Exactly, AllAmong}
 use Rattle.micro_walk.proofs.Shapes.{and_on, or_on, not_on, same_on, no_too, one_within}
-use Rattle.micro_walk.proofs.TestsKept.{Clear, cond_on, most_on, only_data_on, drives_on, show_on, has_register_on, has_page_on, has_column_on, queued_on, length_on, queue_on, identity_byte_on, span_is, open_too, wants_too, selects_too, inputs_too, features_too, inside_too, known_place, planes_on, closed_unwanted}
-use Rattle.nand_geometry.specs.Optional.{is_wide}
+use Rattle.micro_walk.proofs.TestsKept.{Clear, cond_on, most_on, only_data_on, drives_on, show_on, has_register_on, has_page_on, has_column_on, queued_on, length_on, queue_on, identity_byte_on, span_is, open_too, wants_too, selects_too, inputs_too, features_too, inside_too, known_place, planes_on, closed_unwanted, data_closed}
+use Rattle.nand_geometry.specs.Optional.{is_wide, has_copyback, has_odd_even}
 use Rattle.onfi_cycle.specs.Rules.{excludes_cache}
 
 -- 1. parts of reasons, each by the combinators
@@ -44,6 +44,7 @@ opener_on g v s a d Read = d.lun.busy
 opener_on g v s a d ChangeReadColumnEnhanced = d.lun.busy
 opener_on g v s a d BlockErase = d.lun.busy
 opener_on g v s a d PageProgram = d.lun.busy
+opener_on g v s a d ChangeWriteColumn = d.lun.busy
 opener_on g v s a d ReadId = identity_opener_on g v s a d
 opener_on g v s a d ReadParameterPage = identity_opener_on g v s a d
 opener_on g v s a d ReadUniqueId = identity_opener_on g v s a d
@@ -58,6 +59,7 @@ opener_on g v s a d _ = same_on _
 closer_on : (g : Parts) (v s a : State) → At g v s a → (c : Command) → May (closer_refused g a c) (closer_refused g s c)
 closer_on g v s a d ChangeReadColumnConfirm = and_on _ _ _ _ (not_on _ _ (selects_too s.target.tail a.target.tail d.target.tail)) (not_drives_on g v s a d)
 closer_on g v s a d ReadPlane = d.lun.last_cache
+closer_on g v s a d CopybackRead = d.lun.last_cache
 closer_on g v s a d ReadConfirm = and_on _ _ _ _ (same_on (is_wide g.optional)) d.lun.last_cache
 closer_on g v s a d ReadCacheSequential = or_on _ _ _ _ (same_on (not (is_wide g.optional))) d.lun.last_other
 closer_on g v s a d _ = same_on _
@@ -81,7 +83,19 @@ command_on g v s a d ReadCacheSequential =
     at _ _ (Exactly q) {ra} {rs} {ca} {cs} r c h = either (place_wants ReadCacheSequential q) (is_open_place q || ra) ca (is_open_place q || rs) cs (or_on _ _ _ _ (same_on (is_open_place q)) r) c h
 command_on g v s a d ChangeWriteColumn =
     cond_on (is_unfit g ChangeWriteColumn) _ _ _ _ (same_on false)
-    (or_on _ _ _ _ (not_on _ _ (wants_too ChangeWriteColumn s.target.tail a.target.tail d.target.tail)) (closer_on g v s a d ChangeWriteColumn))
+    (at (has_copyback g.optional) s.target.tail a.target.tail d.target.tail)
+  where
+    either : (y w o : Bool) {p q : Bool} → May p q → May (cond (true && not (w || not y)) (o || p) (not w || false)) (cond (true && not (w || not y)) (o || q) (not w || false))
+    either y true o k h = h
+    either false false o k h = h
+    either true false o k h = or_on _ _ _ _ (same_on o) k h
+
+    at : (y : Bool) (p q : Place) → PlaceIs p q → May (cond (true && not (place_wants ChangeWriteColumn q || not y)) (is_open_place q || a.lun.busy) (not (place_wants ChangeWriteColumn q) || false)) (cond (true && not (place_wants ChangeWriteColumn p || not y)) (is_open_place p || s.lun.busy) (not (place_wants ChangeWriteColumn p) || false))
+    at true _ _ (Anywhere q) h = refl
+    at false _ _ (Anywhere q) h = refl
+    at true _ _ (NothingOpen q e) h = d.lun.busy (rw (data_closed q e, e) at h)
+    at false _ _ (NothingOpen q e) h = refl
+    at y _ _ (Exactly q) h = either y (place_wants ChangeWriteColumn q) (is_open_place q) d.lun.busy h
 command_on g v s a d c =
     cond_on (is_unfit g c) _ _ _ _ (same_on false)
     (cond_on (is_opener c) _ _ _ _ (or_on _ _ _ _ (and_on _ _ _ _ (same_on (not (may_end_sequence g c))) (open_on g v s a d)) (opener_on g v s a d c))
@@ -165,6 +179,21 @@ plane_on g v s a d ChangeReadColumnEnhanced =
     (not_on _ _ (one_within s.registers.planes s.lun.held a.registers.planes a.lun.held d.registers.one_plane d.registers.planes d.lun.held))
 plane_on g v s a d _ = same_on _
 
+-- the row of a copy, or of a program in a group of copies
+copied_on : (g : Parts) (v s a : State) → At g v s a → AllAmong (copied_planes g s.lun) (copied_planes g a.lun)
+copied_on g v s a d = at (has_odd_even g.optional)
+  where
+    at : (b : Bool) → AllAmong (cond b s.lun.held s.lun.copies.even) (cond b a.lun.held a.lun.copies.even)
+    at true = d.lun.held
+    at false = d.lun.copies.even
+
+copy_on : (g : Parts) (v s a : State) → At g v s a → (opener : Command) → May (copy_refused g a opener) (copy_refused g s opener)
+copy_on g v s a d ChangeWriteColumn =
+    or_on _ _ _ _ (not_on _ _ d.lun.copies.keeps)
+    (not_on _ _ (one_within s.registers.planes (copied_planes g s.lun) a.registers.planes (copied_planes g a.lun) d.registers.one_plane d.registers.planes (copied_on g v s a d)))
+copy_on g v s a d PageProgram = and_on _ _ _ _ (same_on (has_copyback g.optional)) (and_on _ _ _ _ (queued_on s.lun.queue a.lun.queue d.lun.queue) d.lun.copies.holds)
+copy_on g v s a d _ = same_on _
+
 row_on : (g : Parts) (v s a : State) → At g v s a → (p : Place) → May (row_refused g a p) (row_refused g s p)
 row_on g v s a d Closed = same_on _
 row_on g v s a d InData = same_on _
@@ -173,7 +202,8 @@ row_on g v s a d (InFeatures n) = same_on _
 row_on g v s a d Unknown = same_on _
 row_on g v s a d (After opener n) =
     and_on _ _ _ _ (same_on (addresses_the_array opener))
-    (or_on _ _ _ _ (or_on _ _ _ _ (or_on _ _ _ _ d.lun.busy (and_on _ _ _ _ (same_on (excludes_cache g opener)) d.lun.last_cache)) (queue_on s.lun.queue a.lun.queue s.registers.planes a.registers.planes opener d.lun.queue d.registers.planes)) (plane_on g v s a d opener))
+    (or_on _ _ _ _ (or_on _ _ _ _ (or_on _ _ _ _ (or_on _ _ _ _ d.lun.busy (and_on _ _ _ _ (same_on (excludes_cache g opener)) d.lun.last_cache)) (queue_on s.lun.queue a.lun.queue s.registers.planes a.registers.planes opener d.lun.queue d.registers.planes)) (plane_on g v s a d opener))
+    (copy_on g v s a d opener))
 
 identity_on : (g : Parts) (v s a : State) (from count : ℕ) → At g v s a → (p : Place) → May (identity_refused g a from count p) (identity_refused g s from count p)
 identity_on g v s a from count d Closed = same_on _

@@ -14,14 +14,14 @@ use Rattle.micro_program.specs.Program.{cost}
 use Rattle.micro_claims.specs.declared.state.State.{State}
 use Rattle.micro_claims.specs.declared.bounds.Bounds.{Bounds}
 use Rattle.micro_claims.specs.declared.place.Place.{Place}
-use Rattle.micro_claims.specs.Against.{address_out_of_place, command_out_of_place, command_not_for_programs, is_unfit, asks_status, is_for_traces}
+use Rattle.micro_claims.specs.Against.{address_out_of_place, command_out_of_place, command_not_for_programs, is_unfit, asks_status}
 use Rattle.micro_claims.specs.Reasons.{reason_against, breaks_cycle_forbidden, breaks_row_or_plane_outside, breaks_command_not_allowed}
 use Rattle.micro_claims.specs.Leaves.{drift_more}
 use Rattle.micro_claims.specs.Accepts.{word_leaves, state_after}
 use Rattle.micro_claims.specs.Order.{At, machine, state_step}
 use Rattle.micro_claims.specs.Certificate.{Laws}
 use Rattle.micro_walk.proofs.SpanLaws as numbers
-use Rattle.micro_walk.proofs.TestsKept.{Clear, clear_of, none_of, known_cache_read, known_selects, known_place, known_inputs, known_column}
+use Rattle.micro_walk.proofs.TestsKept.{Clear, clear_of, none_of, known_cache_read, known_write_column, known_selects, known_place, known_inputs, known_column}
 use Rattle.micro_walk.proofs.Shapes.{one_just}
 use Rattle.micro_walk.proofs.ReasonsKept.{clear_too}
 use Rattle.micro_walk.proofs.LeavesKept.{with_column, with_plane, with_place, paid_at, registers_at, drift_same, set_alike, polled_at, ready_at, handed_at, moved_at}
@@ -34,13 +34,15 @@ word_at : (g : Parts) → InLimits g → (text : Bounds) (v s a : State) → At 
 unfolding breaks_cycle_forbidden breaks_row_or_plane_outside breaks_command_not_allowed
 word_at g l text v s a d (Command byte) c =
     let used = or_parts (command_not_for_programs g (command byte)) _ c.no_command_not_allowed in
-    let three = or_parts (is_unfit g (command byte) || asks_status (command byte) || is_for_traces (command byte)) _ used.0 in
-    let two = or_parts (is_unfit g (command byte) || asks_status (command byte)) _ three.0 in
+    let two = or_parts (is_unfit g (command byte) || asks_status (command byte)) _ used.0 in
     let one = or_parts (is_unfit g (command byte)) _ two.0 in
-    command_at g l v s a d (command byte) (λ is.
-    known_cache_read g s s.target.tail a.target.tail d.target.tail refl
-    (subst (λ (x : Commands). is_unfit g x ≡ false) is one.0)
-    (subst (λ (x : Commands). command_out_of_place g s x ≡ false) is c.no_cycle_forbidden))
+    command_at g l v s a d (command byte) (
+      (λ is.
+          known_cache_read g s s.target.tail a.target.tail d.target.tail refl
+          (subst (λ (x : Commands). is_unfit g x ≡ false) is one.0)
+          (subst (λ (x : Commands). command_out_of_place g s x ≡ false) is c.no_cycle_forbidden)),
+      (λ is. known_write_column g s s.target.tail a.target.tail d.target.tail refl (subst (λ (x : Commands). command_out_of_place g s x ≡ false) is c.no_cycle_forbidden)),
+    )
     (λ is. known_selects g s s.target.tail a.target.tail d.target.tail refl (subst (λ (x : Commands). command_out_of_place g s x ≡ false) is c.no_cycle_forbidden))
 word_at g l text v s a d (Address from count) c =
     address_at g l v s a from count d (known_place g s from count s.target.tail a.target.tail d.target.tail c.no_cycle_forbidden)

@@ -16,17 +16,19 @@ use Rattle.micro_claims.specs.declared.held.Held.{Held}
 use Rattle.micro_claims.specs.declared.output_column.OutputColumn.{OutputColumn}
 use Rattle.micro_claims.specs.declared.queued_rows.QueuedRows.{QueuedRows}
 use Rattle.micro_claims.specs.declared.queued_rows.QueuedRows.TheVariants.{NoRows, SomeRows, SomeReads, AnyRows}
-use Rattle.micro_claims.specs.State.{first_state, any_number, may_be_30, may_be_31, may_be_other}
+use Rattle.micro_claims.specs.State.{first_state, any_number, may_be_30, may_be_31, may_be_other, uncopied}
+use Rattle.micro_claims.specs.declared.copies.Copies.{Copies}
 use Rattle.micro_claims.specs.declared.place.Place.{Place}
 use Rattle.micro_claims.specs.declared.bounds.Bounds.{Bounds}
 use Rattle.micro_claims.specs.Against.{same_test, is_open_place}
-use Rattle.micro_claims.specs.Order.{SpanAt, AllAmong, May, RegistersAt, HasColumn, NameIs, NamedIs, IsFineNamed, ShowsIs, TargetAt, RegisteredIs, HasOutput, RowsAre, LunAt, At, column_number, output_number, may_within, same_drift_as, is_span_within, span_at_head, span_at_heads, span_after_turns, are_registers_within, is_column_within, is_name_within, is_named_within, is_shows_within, is_target_within, is_register_within, is_output_within, are_rows_within, is_lun_within, is_state_within, column_by, output_by, state_by, state_at_head, state_at_heads, state_after_turns, machine, PlaceIs, Anywhere, NothingOpen, Exactly, are_planes_within, is_place_within}
+use Rattle.micro_claims.specs.Order.{SpanAt, AllAmong, May, RegistersAt, HasColumn, NameIs, NamedIs, IsFineNamed, ShowsIs, TargetAt, RegisteredIs, HasOutput, RowsAre, LunAt, At, column_number, output_number, may_within, same_drift_as, is_span_within, span_at_head, span_at_heads, span_after_turns, are_registers_within, is_column_within, is_name_within, is_named_within, is_shows_within, is_target_within, is_register_within, is_output_within, are_rows_within, is_lun_within, is_state_within, column_by, output_by, state_by, state_at_head, state_at_heads, state_after_turns, machine, PlaceIs, Anywhere, NothingOpen, Exactly, are_planes_within, is_place_within, CopiesAt, are_copies_within}
 use Rattle.micro_claims.specs.Certificate.{Turned}
 use Rattle.micro_claims.proofs.Sets.{has_more}
 use Rattle.micro_walk.proofs.SpanLaws as numbers
 use Rattle.micro_walk.proofs.SpanLaws.{le_of, Ran}
 use Rattle.micro_walk.proofs.Shapes.{planes_too, among_self, within_among, same_is, may_too, must_too, drift_is, drift_too}
 use Rattle.micro_walk.proofs.Turns.{ran_of, last_turn}
+use Rattle.micro_walk.proofs.CopiesKept.{copies_self}
 
 -- 1. before the first word
 
@@ -64,6 +66,7 @@ begins g l =
         cached_page = any_free _;
         held = among_self no_planes;
         array = among_self no_planes;
+        copies = copies_self uncopied;
       };
     }
 
@@ -224,6 +227,24 @@ rows_eased (SomeRows erase planes d) (SomeRows kind ps e) (SomeRows k qs c) h f 
     let q = and_parts (are_planes_within planes ps) (same_drift_as d e) p.1 in
     (f.0 ∙ same_bool erase kind p.0, (planes_too planes ps qs q.0 f.1.0, f.1.1 ∙ drift_is d e q.1))
 
+copies_eased : (s t a : Copies) → are_copies_within s t ≡ true → CopiesAt s a → CopiesAt t a
+copies_eased s t a h f =
+    let p1 = and_parts _ _ h in
+    let p2 = and_parts _ _ p1.1 in
+    let p3 = and_parts _ _ p2.1 in
+    let p4 = and_parts _ _ p3.1 in
+    record {
+      even = λ n here. f.even n (within_among t.even s.even p1.0 n here);
+      odd = λ n here. f.odd n (within_among t.odd s.odd p2.0 n here);
+      copying = λ e. f.copying (may_on t.copying s.copying p3.0 e);
+      keeps = λ e. f.keeps (may_on t.keeps s.keeps p4.0 e);
+      holds = λ e. may_on s.holds t.holds p4.1 (f.holds e);
+    }
+  where
+    may_on : (b c : Bool) → may_within b c ≡ true → b ≡ true → c ≡ true
+    may_on true c h e = h
+    may_on false c h e = absurd cc
+
 lun_eased : (v s t a : KnownLun) → is_lun_within s t ≡ true → LunAt v s a → LunAt v t a
 lun_eased v s t a h f =
     let p1 = and_parts _ _ h in
@@ -234,6 +255,7 @@ lun_eased v s t a h f =
     let p6 = and_parts _ _ p5.1 in
     let p7 = and_parts _ _ p6.1 in
     let p8 = and_parts _ _ p7.1 in
+    let p9 = and_parts _ _ p8.1 in
     record {
       busy = may_too s.busy t.busy a.busy p1.0 f.busy;
       register = register_eased s.register t.register a.register p2.0 f.register;
@@ -246,7 +268,8 @@ lun_eased v s t a h f =
       cached_index = numbers.eased v.cached.index s.cached.index t.cached.index a.cached.index p6.0 f.cached_index;
       cached_page = numbers.eased v.cached.page s.cached.page t.cached.page a.cached.page p7.0 f.cached_page;
       held = λ n here. f.held n (within_among t.held s.held p8.0 n here);
-      array = λ n here. f.array n (within_among t.array s.array p8.1 n here);
+      array = λ n here. f.array n (within_among t.array s.array p9.0 n here);
+      copies = copies_eased s.copies t.copies a.copies p9.1 f.copies;
     }
 
 pub eases : (g : Parts) (v s t a : State) → is_state_within s t ≡ true → At g v s a → At g v t a
@@ -285,6 +308,7 @@ pub record Stands (g : Parts) (r a : State) : Type 0 where
   pub last_other : May (may_be_other a.lun.last) (may_be_other r.lun.last)
   pub held : AllAmong r.lun.held a.lun.held
   pub array : AllAmong r.lun.array a.lun.array
+  pub copies : CopiesAt r.lun.copies a.lun.copies
 
 pub stands : (g : Parts) (v s a : State) → At g v s a → Stands g s a
 stands g v s a d = record {
@@ -309,6 +333,7 @@ stands g v s a d = record {
   last_other = d.lun.last_other;
   held = d.lun.held;
   array = d.lun.array;
+  copies = d.lun.copies;
 }
 
 -- the numbers of a claim
@@ -389,6 +414,7 @@ made g f v s r a n x = record {
     cached_page = n CachedPage;
     held = x.held;
     array = x.array;
+    copies = x.copies;
   };
 }
 

@@ -6,7 +6,7 @@ use Rattle.std.proofs.lemmas.Bool.{not-false, or_left, or_parts, and_parts, and_
 use Rattle.nand_geometry.specs.declared.parts.Parts.{Parts}
 use Rattle.nand_geometry.specs.Limits.{InLimits, page_len}
 use Rattle.onfi_cycle.specs.declared.command.Command.{Command}
-use Rattle.onfi_cycle.specs.declared.command.Command.TheVariants.{Read, ReadId, ReadCacheSequential, ChangeReadColumnConfirm}
+use Rattle.onfi_cycle.specs.declared.command.Command.TheVariants.{Read, ReadId, ReadCacheSequential, ChangeReadColumnConfirm, ChangeWriteColumn, ChangeReadColumn, ChangeReadColumnEnhanced, BlockErase}
 use Rattle.onfi_cycle.specs.declared.register.Register.{Register}
 use Rattle.onfi_cycle.specs.declared.register.Register.TheVariants.{Empty, Page, ParameterPage, Identifier, Identity, JedecIdentity, UniqueId, Features}
 use Rattle.onfi_cycle.specs.Rules.{register_len}
@@ -39,6 +39,7 @@ use Rattle.micro_claims.proofs.Identities.{any_byte, least_is}
 use Rattle.micro_walk.proofs.SpanLaws.{at_most_too, only_too}
 use Rattle.micro_walk.proofs.Shapes.{or_on, not_on, same_on}
 use Rattle.onfi_cycle.specs.Command.{closes, address_cycles}
+use Rattle.nand_geometry.specs.Optional.{has_copyback}
 
 -- 1. nothing is against a word
 
@@ -141,6 +142,32 @@ pub known_cache_read : (g : Parts) (s : State) (p q : Place) → PlaceIs p q →
 known_cache_read g s _ _ (Anywhere q) is fit h = absurd (let no : true ≡ false = rw (is, fit) at h in cc)
 known_cache_read g s _ _ (NothingOpen q e) is fit h = sym (closed_unwanted q e)
 known_cache_read g s _ _ (Exactly q) is fit h = refl
+
+-- in the data of a program something is open
+pub data_closed : (q : Place) → is_open_place q ≡ false → place_wants ChangeWriteColumn q ≡ false
+data_closed Closed e = refl
+data_closed InData e = absurd cc
+data_closed (InColumn n) e = refl
+data_closed (InFeatures n) e = refl
+data_closed Unknown e = refl
+data_closed (After o n) e = ap (λ (b : Bool). b && n == address_cycles o) (none o)
+  where
+    none : (o : Command) → closes o ChangeWriteColumn ≡ false
+    none Read = refl
+    none ChangeReadColumn = refl
+    none ChangeReadColumnEnhanced = refl
+    none BlockErase = refl
+    none _ = refl
+
+-- where an 85 isn't refused it is known whether it is wanted
+pub known_write_column : (g : Parts) (s : State) (p q : Place) → PlaceIs p q → s.target.tail ≡ p → command_out_of_place g s ChangeWriteColumn ≡ false → place_wants ChangeWriteColumn p ≡ place_wants ChangeWriteColumn q
+known_write_column g s _ _ (Anywhere q) is h = absurd (at (has_copyback g.optional) (rw is at h))
+  where
+    at : (b : Bool) → cond (not (false || not b)) (true || s.lun.busy) (not false || false) ≡ false → ⊥
+    at true h = cc
+    at false h = cc
+known_write_column g s _ _ (NothingOpen q e) is h = sym (data_closed q e)
+known_write_column g s _ _ (Exactly q) is h = refl
 
 pub inputs_too : (n : ℕ) (s a : Place) → PlaceIs s a → May (takes_inputs_at n s) (takes_inputs_at n a)
 inputs_too n _ _ (Anywhere p) h = absurd cc
