@@ -1,5 +1,5 @@
 -- Plain operations in a loop: where the first turn begins, where a later one may, and why no walk after the second is needed.
-use Rattle.std.proofs.Common.{◌≡◌, ℕ, ◌+◌, ◌-◌, ◌*◌, ◌≤◌, Bool, true, false, ◌||◌, cond, nat_le, min, max, List, [], ◌∷◌, Option, Some, None, refl, sym, ap, ap₂, ◌∙◌, subst, arith, eq-eqb}
+use Rattle.std.proofs.Common.{◌≡◌, ℕ, ◌+◌, ◌-◌, ◌*◌, ◌≤◌, Bool, true, false, ◌||◌, cond, nat_le, min, max, List, [], ◌∷◌, Option, Some, None, refl, sym, ap, ap₂, ◌∙◌, subst, arith, eq-eqb, not}
 use Rattle.std.specs.Prelude.{bit_or}
 use Rattle.std.proofs.lemmas.Bool.{and_from}
 use Rattle.std.proofs.lemmas.Bool.Decides.{nat_tests}
@@ -9,7 +9,7 @@ use Rattle.micro_claims.specs.Spans.{Span, greatest_bound, kept, saturated, exac
 use Rattle.micro_claims.specs.declared.growth.Growth.{Growth}
 use Rattle.micro_claims.specs.declared.planes.Planes.{Planes}
 use Rattle.micro_claims.specs.declared.state.State.{State}
-use Rattle.micro_claims.specs.State.{first_state, any_number}
+use Rattle.micro_claims.specs.State.{first_state, any_number, uncopied}
 use Rattle.micro_claims.specs.Planes.{just_plane, either_plane, no_planes, are_planes_within}
 use Rattle.micro_claims.specs.Sets.{has}
 use Rattle.micro_claims.proofs.Sets.{has_second}
@@ -35,7 +35,7 @@ head_is = record { hi = refl; grown = refl }
 pub first_rests : Rests 0 first_way (state_at_head first_state)
 unfolding state_at_head
 first_rests =
-    rests_at first_way (span_at_head (exactly 0)) (span_at_head (exactly 0)) (record { lo = 0; hi = 0 }) (span_at_head (exactly 0)) 0 0 false None None None true true (record { index = span_at_head any_number; page = span_at_head any_number }) no_planes no_planes 0 0
+    rests_at first_way (span_at_head (exactly 0)) (span_at_head (exactly 0)) (record { lo = 0; hi = 0 }) (span_at_head (exactly 0)) 0 0 false None None None true true (record { index = span_at_head any_number; page = span_at_head any_number }) no_planes no_planes uncopied 0 0
     refl head_is head_is head_is refl
 
 -- a number that a turn has set is there at most what it was set to, and another one what it was at first
@@ -62,7 +62,7 @@ heads_rest turns total v r d few =
     let plus : 0 + n ≡ n = omega arith in
     let cost : bound_sum (Some 0) (kept n) ≡ Some n = rw (kept1, plus, kept1) refl in
     let made = rests_at (way_at_heads v) (span_at_heads (exactly 0) d.column turns) (span_at_heads (exactly 0) d.index turns) d.page (span_at_heads (exactly 0) d.place turns) (saturated (0 + d.growth)) 0 d.polled d.shows d.register
-    (output_by (λ x y. span_at_heads x y turns) None d.output) d.read d.other (record { index = span_at_heads any_number d.cached.index turns; page = span_at_heads any_number d.cached.page turns }) d.held d.array n n
+    (output_by (λ x y. span_at_heads x y turns) None d.output) d.read d.other (record { index = span_at_heads any_number d.cached.index turns; page = span_at_heads any_number d.cached.page turns }) d.held d.array d.copies n n
     refl (heads_is d.column v.column turns d.column_is) (heads_is d.index v.index turns d.index_is) (heads_is d.place v.place turns d.place_is) d.page_is in
     subst (λ (x : State). Rests n (way_at_heads v) x) (sym (ap (λ (x : State). state_at_heads first_state x turns) d.is ∙ rw (cost) refl)) made
 
@@ -228,6 +228,10 @@ follows_at_heads m n f = at m.set n.set f.set f.most
     at true false e h = absurd cc
     at false true e h = absurd cc
 
+any_held : (b : Bool) → (not b || true) ≡ true
+any_held true = refl
+any_held false = refl
+
 pub stays_within : (turns t u : ℕ) (v w : Way) (r q : State) → Rests t v r → Rests u w q → Beside (second_way v).column.most (second_way v).place.most v w
     → is_state_within (state_at_heads first_state q turns) (joined (state_at_head first_state) (state_at_heads first_state r turns)) ≡ true
 unfolding is_state_within joined state_at_head state_at_heads
@@ -249,4 +253,5 @@ stays_within turns t u v w r q a b d =
     (and_from _ _ (closer_within b.read b.other a.read a.other)
     (and_from _ _ (free_within (span_at_heads any_number b.cached.index turns) (span_at_heads any_number a.cached.index turns) (heads_grown any_number b.cached.index turns) (heads_grown any_number a.cached.index turns))
     (and_from _ _ (free_within (span_at_heads any_number b.cached.page turns) (span_at_heads any_number a.cached.page turns) (heads_grown any_number b.cached.page turns) (heads_grown any_number a.cached.page turns))
-    (and_from _ _ (none_within b.held) (none_within b.array)))))))))))
+    (and_from _ _ (none_within b.held) (and_from _ _ (none_within b.array)
+    (and_from _ _ (none_within b.copies.even) (and_from _ _ (none_within b.copies.odd) (and_from _ _ refl (and_from _ _ refl (any_held b.copies.holds))))))))))))))))

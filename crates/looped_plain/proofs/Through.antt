@@ -20,12 +20,13 @@ use Rattle.micro_claims.specs.declared.output_column.OutputColumn.{OutputColumn}
 use Rattle.micro_claims.specs.declared.queued_rows.QueuedRows.{QueuedRows}
 use Rattle.micro_claims.specs.declared.queued_rows.QueuedRows.TheVariants.{NoRows, SomeRows, SomeReads, AnyRows}
 use Rattle.micro_claims.specs.Against.{same_test, is_open_place}
-use Rattle.micro_claims.specs.Order.{is_bound_within, is_growth_within, is_span_within, may_within, same_place, is_place_within, same_drift_as, is_drift_within, are_registers_within, is_column_within, is_name_within, is_named_within, is_shows_within, is_target_within, is_register_within, is_output_within, are_rows_within, is_lun_within, is_state_within}
+use Rattle.micro_claims.specs.Order.{is_bound_within, is_growth_within, is_span_within, may_within, same_place, is_place_within, same_drift_as, is_drift_within, are_registers_within, is_column_within, is_name_within, is_named_within, is_shows_within, is_target_within, is_register_within, is_output_within, are_rows_within, is_lun_within, is_state_within, are_copies_within}
 use Rattle.micro_claims.specs.Joins.{joined}
 use Rattle.micro_claims.specs.Sets.{has}
 use Rattle.micro_claims.proofs.Sets.{has_self, has_more}
 use Rattle.micro_walk.proofs.Shapes.{same_is, drift_is}
 use Rattle.micro_walk.proofs.Joining.{joins_claim_less}
+use Rattle.micro_claims.specs.declared.copies.Copies.{Copies}
 
 -- ---- through a second one to a third
 
@@ -209,6 +210,13 @@ rows AnyRows (SomeRows kind ps e) (SomeReads qs some f) h k = absurd cc
 rows AnyRows (SomeReads ps sure e) (SomeReads qs some f) h k = absurd cc
 rows AnyRows AnyRows (SomeReads qs some f) h k = absurd cc
 
+copies : (s t u : Copies) → Through (are_copies_within s t) (are_copies_within t u) (are_copies_within s u)
+copies s t u h k =
+    pair _ _ _ _ _ _ (λ a b. sets u.even.0 t.even.0 s.even.0 b a)
+    (pair _ _ _ _ _ _ (λ a b. sets u.odd.0 t.odd.0 s.odd.0 b a)
+    (pair _ _ _ _ _ _ (λ a b. mays u.copying t.copying s.copying b a)
+    (pair _ _ _ _ _ _ (λ a b. mays u.keeps t.keeps s.keeps b a) (mays s.holds t.holds u.holds)))) h k
+
 luns : (s t u : KnownLun) → Through (is_lun_within s t) (is_lun_within t u) (is_lun_within s u)
 luns s t u h k =
     pair _ _ _ _ _ _ (mays s.busy t.busy u.busy)
@@ -218,7 +226,8 @@ luns s t u h k =
     (pair _ _ _ _ _ _ (sets s.last.0 t.last.0 u.last.0)
     (pair _ _ _ _ _ _ (spans s.cached.index t.cached.index u.cached.index)
     (pair _ _ _ _ _ _ (spans s.cached.page t.cached.page u.cached.page)
-    (pair _ _ _ _ _ _ (λ a b. sets u.held.0 t.held.0 s.held.0 b a) (λ a b. sets u.array.0 t.array.0 s.array.0 b a)))))))) h k
+    (pair _ _ _ _ _ _ (λ a b. sets u.held.0 t.held.0 s.held.0 b a)
+    (pair _ _ _ _ _ _ (λ a b. sets u.array.0 t.array.0 s.array.0 b a) (copies s.copies t.copies u.copies))))))))) h k
 
 pub within_through : (s t u : State) → is_state_within s t ≡ true → is_state_within t u ≡ true → is_state_within s u ≡ true
 unfolding is_state_within
@@ -295,10 +304,13 @@ rows_self AnyRows = refl
 rows_self (SomeRows erase planes d) = and_from _ _ (test_self erase) (and_from _ _ (has_self planes.0) (drift_self d))
 rows_self (SomeReads planes surely d) = and_from _ _ (has_self surely.0) (and_from _ _ (has_self planes.0) (drift_self d))
 
+copies_self : (c : Copies) → are_copies_within c c ≡ true
+copies_self c = and_from _ _ (has_self c.even.0) (and_from _ _ (has_self c.odd.0) (and_from _ _ (may_self c.copying) (and_from _ _ (may_self c.keeps) (may_self c.holds))))
+
 lun_self : (s : KnownLun) → is_lun_within s s ≡ true
 lun_self s =
     and_from _ _ (may_self s.busy) (and_from _ _ (held_self s.register) (and_from _ _ (output_self s.column) (and_from _ _ (rows_self s.queue)
-    (and_from _ _ (has_self s.last.0) (and_from _ _ (span_self s.cached.index) (and_from _ _ (span_self s.cached.page) (and_from _ _ (has_self s.held.0) (has_self s.array.0))))))))
+    (and_from _ _ (has_self s.last.0) (and_from _ _ (span_self s.cached.index) (and_from _ _ (span_self s.cached.page) (and_from _ _ (has_self s.held.0) (and_from _ _ (has_self s.array.0) (copies_self s.copies)))))))))
 
 -- where its place is a known one
 pub within_itself : (s : State) → is_place_within s.target.tail s.target.tail ≡ true → is_state_within s s ≡ true

@@ -16,7 +16,7 @@ use Rattle.micro_claims.specs.declared.state.State.{State}
 use Rattle.micro_claims.specs.declared.bounds.Bounds.{Bounds}
 use Rattle.micro_claims.specs.Planes.{just_plane, either_plane, common_planes}
 use Rattle.micro_claims.specs.Order.{no_growth}
-use Rattle.micro_claims.specs.Joins.{joined, joined_span, joined_growth, joined_pages, both_know, joined_shown, joined_held, joined_output, joined_closer, joined_cached}
+use Rattle.micro_claims.specs.Joins.{joined, joined_span, joined_growth, joined_pages, both_know, joined_shown, joined_held, joined_output, joined_closer, joined_cached, joined_copies}
 use Rattle.micro_walk.specs.Faults.{met}
 use Rattle.micro_verify.specs.declared.plain_op.PlainOp.{PlainOp}
 use Rattle.micro_verify.specs.declared.plain_op.PlainOp.TheVariants.{Read, Program, Erase}
@@ -25,6 +25,7 @@ use Rattle.micro_verify.proofs.PlainInsides.{AllInside, row_fits, part_fits, few
 use Rattle.micro_verify.proofs.PlainOperations.{closer_of}
 use Rattle.looped_plain.proofs.Walks.{is_placed, ended}
 use Rattle.looped_plain.proofs.Operations.{known, page_of, resting, read_ends, program_ends, erase_ends}
+use Rattle.micro_claims.specs.declared.copies.Copies.{Copies}
 
 -- ---- ways
 
@@ -106,7 +107,8 @@ pub record Rests (total : ℕ) (w : Way) (s : State) : Type 0 where
   pub cached : CachedPage
   pub held : Planes
   pub array : Planes
-  pub is : s ≡ resting column w.planes index page place least growth polled shows register output read other cached held array total w.paid
+  pub copies : Copies
+  pub is : s ≡ resting column w.planes index page place least growth polled shows register output read other cached held array copies total w.paid
   pub column_is : NumberIs column w.column
   pub index_is : NumberIs index w.index
   pub place_is : NumberIs place w.place
@@ -167,6 +169,7 @@ rests_joined t u v w q s a b =
       cached = joined_cached a.cached b.cached;
       held = common_planes a.held b.held;
       array = common_planes a.array b.array;
+      copies = joined_copies a.copies b.copies;
       is = ap₂ joined a.is b.is ∙ rw (closers a.read a.other b.read b.other) refl;
       column_is = joined_is a.column b.column v.column w.column a.column_is b.column_is;
       index_is = joined_is a.index b.index v.index w.index a.index_is b.index_is;
@@ -192,10 +195,10 @@ met_rests before None (Some v) w s m d = absurd m
 met_rests before (Some q) None w s m d = absurd m
 met_rests before (Some q) (Some v) w s m d = subst (λ (n : ℕ). Rests n (joined_way v w) (joined q s)) (greater_sum before v.paid w.paid) (rests_joined (before + v.paid) (before + w.paid) v w q s m d)
 
-pub rests_at : (w : Way) (column index : Span) (page : PageRange) (place : Span) (least growth : ℕ) (polled : Bool) (shows : Option Shown) (register : Option Held) (output : Option OutputColumn) (read other : Bool) (cached : CachedPage) (held array : Planes) (total t : ℕ)
+pub rests_at : (w : Way) (column index : Span) (page : PageRange) (place : Span) (least growth : ℕ) (polled : Bool) (shows : Option Shown) (register : Option Held) (output : Option OutputColumn) (read other : Bool) (cached : CachedPage) (held array : Planes) (copies : Copies) (total t : ℕ)
     → t ≡ total → NumberIs column w.column → NumberIs index w.index → NumberIs place w.place → page.hi ≡ w.page
-    → Rests total w (resting column w.planes index page place least growth polled shows register output read other cached held array t w.paid)
-rests_at w column index page place least growth polled shows register output read other cached held array total t e c i p pg =
+    → Rests total w (resting column w.planes index page place least growth polled shows register output read other cached held array copies t w.paid)
+rests_at w column index page place least growth polled shows register output read other cached held array copies total t e c i p pg =
     record {
       column = column;
       index = index;
@@ -212,7 +215,8 @@ rests_at w column index page place least growth polled shows register output rea
       cached = cached;
       held = held;
       array = array;
-      is = ap (λ (n : ℕ). resting column w.planes index page place least growth polled shows register output read other cached held array n w.paid) e;
+      copies = copies;
+      is = ap (λ (n : ℕ). resting column w.planes index page place least growth polled shows register output read other cached held array copies n w.paid) e;
       column_is = c;
       index_is = i;
       place_is = p;
@@ -265,10 +269,10 @@ runs g l b failure before (Read row plane column place len ∷ ops) w s f h insi
     (read_ends g b P f row plane column place len (before + w.paid) w.paid (body failure ops)
     (omega (arith, there, few)) (plane_below _ plane there) (rows_parts op ops b.rows d.rows).0 d.few_rows
     fits.1.some fits.1.page (short_page g l) (buffer_parts op ops b.buffer d.buffer).0 d.short_buffer (omega (arith, budget)) d.small_budget (omega arith)
-    (λ least growth shows register output cached held array.
+    (λ least growth shows register output cached held array copies.
     runs g l b failure before ops v _ f h inside.1 (behind b (before + w.paid) (before + v.paid) op ops d (omega (arith, budget)))
-    (rests_at v (known column) (known row) (page_of g row) (known (place + len)) least growth true shows register output true false cached held array (before + v.paid) _ same (known_is column) (known_is row) (known_is (place + len)) refl) m)
-    r.column w.planes r.index r.page r.place r.least r.growth r.polled r.shows r.register r.output r.read r.other r.cached r.held r.array)
+    (rests_at v (known column) (known row) (page_of g row) (known (place + len)) least growth true shows register output true false cached held array copies (before + v.paid) _ same (known_is column) (known_is row) (known_is (place + len)) refl) m)
+    r.column w.planes r.index r.page r.place r.least r.growth r.polled r.shows r.register r.output r.read r.other r.cached r.held r.array r.copies)
 runs g l b failure before (Program row plane column place len ∷ ops) w s f h inside d r m =
     let fits = part_fits g row plane column place len inside.0 in
     let there = fits.0.plane_there in
@@ -282,10 +286,10 @@ runs g l b failure before (Program row plane column place len ∷ ops) w s f h i
     (program_ends g b P f row plane column place len (before + w.paid) w.paid failure (body failure ops)
     (omega (arith, there, few)) (plane_below _ plane there) (rows_parts op ops b.rows d.rows).0 d.few_rows
     fits.1.some fits.1.page (short_page g l) (buffer_parts op ops b.buffer d.buffer).0 d.short_buffer (omega (arith, budget)) d.small_budget (omega arith)
-    (λ least growth shows register output cached held array.
-    (let rest : Rests (before + v.paid) v _ = rests_at v (known column) (known row) (page_of g row) (known (place + len)) least growth true shows register output false true cached held array (before + v.paid) (before + w.paid + 1 + 5 + len + 1) same (known_is column) (known_is row) (known_is (place + len)) refl in
+    (λ least growth shows register output cached held array copies.
+    (let rest : Rests (before + v.paid) v _ = rests_at v (known column) (known row) (page_of g row) (known (place + len)) least growth true shows register output false true cached held array copies (before + v.paid) (before + w.paid + 1 + 5 + len + 1) same (known_is column) (known_is row) (known_is (place + len)) refl in
     runs g l b failure before ops v _ (Some (met f _)) (Some (met_way h v)) inside.1 (behind b (before + w.paid) (before + v.paid) op ops d (omega (arith, budget))) rest (met_rests before f h v _ m rest)))
-    r.column w.planes r.index r.page r.place r.least r.growth r.polled r.shows r.register r.output r.read r.other r.cached r.held r.array)
+    r.column w.planes r.index r.page r.place r.least r.growth r.polled r.shows r.register r.output r.read r.other r.cached r.held r.array r.copies)
 runs g l b failure before (Erase row plane ∷ ops) w s f h inside d r m =
     let fits = row_fits g row plane inside.0 in
     let there = fits.plane_there in
@@ -299,7 +303,7 @@ runs g l b failure before (Erase row plane ∷ ops) w s f h inside d r m =
     (erase_ends g b P f row plane (before + w.paid) w.paid failure (body failure ops)
     (omega (arith, there, few)) (plane_below _ plane there) (rows_parts op ops b.rows d.rows).0 d.few_rows (omega (arith, budget)) d.small_budget (omega arith)
     r.column r.place
-    (λ least growth shows register output cached held array.
-    (let rest : Rests (before + v.paid) v _ = rests_at v r.column (known row) (page_of g row) r.place least growth true shows register output false true cached held array (before + v.paid) (before + w.paid + 1 + 3 + 1) same r.column_is (known_is row) r.place_is refl in
+    (λ least growth shows register output cached held array copies.
+    (let rest : Rests (before + v.paid) v _ = rests_at v r.column (known row) (page_of g row) r.place least growth true shows register output false true cached held array copies (before + v.paid) (before + w.paid + 1 + 3 + 1) same r.column_is (known_is row) r.place_is refl in
     runs g l b failure before ops v _ (Some (met f _)) (Some (met_way h v)) inside.1 (behind b (before + w.paid) (before + v.paid) op ops d (omega (arith, budget))) rest (met_rests before f h v _ m rest)))
-    w.planes r.index r.page r.least r.growth r.polled r.shows r.register r.output r.read r.other r.cached r.held r.array)
+    w.planes r.index r.page r.least r.growth r.polled r.shows r.register r.output r.read r.other r.cached r.held r.array r.copies)

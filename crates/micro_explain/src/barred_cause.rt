@@ -2,7 +2,6 @@
 
 use crate::outside::name_outside;
 use crate::refused::Refused;
-use micro_claims::is_for_traces;
 use onfi_cycle::{Command, is_undeclared};
 use std::fmt;
 
@@ -33,8 +32,6 @@ pub enum BarredCause {
     SynchronousReset,
     /// The command wants the only LUN of a target, and this one has so many.
     SeveralLuns { luns: u8 },
-    /// Traces know the command with this byte, and programs can't use it yet.
-    ForTraces { byte: u8 },
 }
 
 impl BarredCause {
@@ -97,8 +94,6 @@ impl BarredCause {
             Some(BarredCause::NoCommand { byte })
         } else if is_undeclared(refused.geometry, command) {
             Some(undeclared)
-        } else if is_for_traces(command) {
-            Some(BarredCause::ForTraces { byte })
         } else {
             BarredCause::of_several_luns(refused)
         }
@@ -147,9 +142,6 @@ impl fmt::Display for BarredCause {
                 f,
                 "it works on a target with one LUN alone, and this one has {luns}"
             ),
-            BarredCause::ForTraces { byte } => {
-                write!(f, "programs can't use {byte:02x}h yet; traces may")
-            }
         }
     }
 }

@@ -8,7 +8,7 @@ use micro_claims::{KnownLun, bound_plus, is_at_most};
 use onfi_cycle::Command;
 use std::fmt;
 
-/// Why `cmd 31` or `cmd 3f` may come at a wrong time, or `cmd 30` or `cmd 32` amid a cache read.
+/// Why `cmd 31` or `cmd 3f` may come at a wrong time, or `cmd 30`, `cmd 32` or `cmd 35` amid a cache read.
 #[derive(Clone, Copy, Debug, PartialEq, Eq)]
 pub enum CacheCause {
     NoDriver(NoDriver),
@@ -25,7 +25,7 @@ pub enum CacheCause {
     },
     /// `cmd 3f` where the last work may be another than `cmd 31`.
     NothingToEnd,
-    /// `cmd 30` or `cmd 32` where a cache read may go on since this command.
+    /// `cmd 30`, `cmd 32` or `cmd 35` where a cache read may go on since this command.
     NotEnded {
         since: CommandAt,
         /// It surely goes on.

@@ -56,9 +56,9 @@ fn opener_of(closer: Command) -> Option<Command> {
     }
 }
 
-// The command only goes on with a sequence: it is no opener, or a Change Write Column, with which programs begin none.
-fn only_goes_on(command: Command) -> bool {
-    !command.is_opener() || command == Command::ChangeWriteColumn
+// The command only goes on with a sequence: it is no opener, or a Change Write Column where no copyback is declared.
+fn only_goes_on(refused: &Refused<'_>, command: Command) -> bool {
+    !command.is_opener() || command == Command::ChangeWriteColumn && !refused.copies_pages()
 }
 
 impl CommandCause {
@@ -66,7 +66,7 @@ impl CommandCause {
         if refused.state.target.tail.wants(command) {
             return CommandCause::of_wanted(refused, command);
         }
-        if only_goes_on(command) {
+        if only_goes_on(refused, command) {
             return CommandCause::of_closer(refused, command);
         }
         if refused.state.may_be_open() {
@@ -84,7 +84,8 @@ impl CommandCause {
             Command::Read
             | Command::ChangeReadColumnEnhanced
             | Command::BlockErase
-            | Command::PageProgram => Some(CommandCause::Lun(LunCause::of_busy(refused)?)),
+            | Command::PageProgram
+            | Command::ChangeWriteColumn => Some(CommandCause::Lun(LunCause::of_busy(refused)?)),
             Command::ReadId
             | Command::ReadParameterPage
             | Command::ReadUniqueId
@@ -102,7 +103,6 @@ impl CommandCause {
             | Command::BlockErasePlane
             | Command::ReadStatus
             | Command::ReadStatusEnhanced
-            | Command::ChangeWriteColumn
             | Command::ProgramConfirm
             | Command::ProgramPlane
             | Command::Reset

@@ -23,10 +23,11 @@ impl fmt::Display for Emptied {
     fn fmt<W: fmt::Write>(&self, f: &mut fmt::Formatter<W>) -> fmt::Result {
         match self.by {
             None => f.write_str("the register may be empty: a read must come first"),
-            Some(by) if by.command == Command::ReadConfirm => write!(
-                f,
-                "{by} reads several planes: `cmd 06`, `addr 0 5`, `cmd e0` must select one of them"
-            ),
+            Some(by) if matches!(by.command, Command::ReadConfirm | Command::CopybackRead) =>
+                write!(
+                    f,
+                    "{by} reads several planes: `cmd 06`, `addr 0 5`, `cmd e0` must select one of them"
+                ),
             Some(by) => write!(
                 f,
                 "{by} may have left the register empty: a read must come first"

@@ -2,6 +2,7 @@
 
 use crate::busy::Busy;
 use crate::command_at::CommandAt;
+use crate::copy_cause::CopyCause;
 use crate::plane_cause::PlaneCause;
 use crate::queue_cause::QueueCause;
 use crate::refused::Refused;
@@ -19,6 +20,8 @@ pub enum LunCause {
     CacheRead(CommandAt),
     /// The plane of the row can't be selected.
     Plane(PlaneCause),
+    /// No page may be copied to the row, or it comes amid copies.
+    Copy(CopyCause),
 }
 
 // The row of the opener may name a LUN whose cache read goes on: that of a Read in the wider profile.
@@ -66,8 +69,10 @@ impl LunCause {
             Some(LunCause::Queue(queue))
         } else if may_name_caching(refused, opener) {
             None
+        } else if let Some(cache) = LunCause::of_cache(refused) {
+            Some(cache)
         } else {
-            LunCause::of_cache(refused)
+            Some(LunCause::Copy(CopyCause::of_row(refused, opener)?))
         }
     }
 
@@ -78,6 +83,7 @@ impl LunCause {
             LunCause::Queue(_) => Forbidden::QueueClash,
             LunCause::CacheRead(_) => Forbidden::CacheReadMisplaced,
             LunCause::Plane(_) => Forbidden::PlaneNotHeld,
+            LunCause::Copy(_) => Forbidden::CopybackMisplaced,
         }
     }
 }
@@ -88,6 +94,7 @@ impl fmt::Display for LunCause {
             LunCause::Busy(busy) => write!(f, "{busy}"),
             LunCause::Queue(queue) => write!(f, "{queue}"),
             LunCause::Plane(plane) => write!(f, "{plane}"),
+            LunCause::Copy(copy) => write!(f, "{copy}"),
             LunCause::CacheRead(command) => write!(
                 f,
                 "the cache read of {command} goes on: `cmd 3f` and a `wait` must end it"

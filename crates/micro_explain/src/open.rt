@@ -17,6 +17,8 @@ pub struct Open {
     pub reads_cache_at_rows: bool,
     /// Reads of several planes are declared.
     pub reads_planes: bool,
+    /// Copybacks are declared.
+    pub copies_pages: bool,
 }
 
 impl fmt::Display for Open {
@@ -26,6 +28,7 @@ impl fmt::Display for Open {
             multi_plane: self.multi_plane,
             reads_cache_at_rows: self.reads_cache_at_rows,
             reads_planes: self.reads_planes,
+            copies_pages: self.copies_pages,
         };
         match (self.place, self.command) {
             (Place::Closed, _) => f.write_str("no sequence is open"),

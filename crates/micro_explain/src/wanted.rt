@@ -14,6 +14,8 @@ pub(crate) struct Wanted {
     pub reads_cache_at_rows: bool,
     /// Reads of several planes are declared.
     pub reads_planes: bool,
+    /// Copybacks are declared.
+    pub copies_pages: bool,
 }
 
 impl Wanted {
@@ -24,7 +26,7 @@ impl Wanted {
             Command::ChangeReadColumn | Command::ChangeReadColumnEnhanced => "`cmd e0`",
             Command::BlockErase if self.multi_plane => "`cmd d0` or `cmd d1`",
             Command::BlockErase => "`cmd d0`",
-            Command::PageProgram => self.in_data(),
+            Command::PageProgram | Command::ChangeWriteColumn => self.in_data(),
             Command::ReadConfirm
             | Command::ReadPlane
             | Command::CopybackRead
@@ -33,7 +35,6 @@ impl Wanted {
             | Command::BlockErasePlane
             | Command::ReadStatus
             | Command::ReadStatusEnhanced
-            | Command::ChangeWriteColumn
             | Command::ProgramConfirm
             | Command::ProgramPlane
             | Command::ReadId
@@ -52,11 +53,19 @@ impl Wanted {
 
     // What ends the sequence of a read.
     fn read_closer(self) -> &'static str {
-        match (self.reads_cache_at_rows, self.reads_planes) {
-            (true, true) => "`cmd 30`, `cmd 31` or `cmd 32`",
-            (true, false) => "`cmd 30` or `cmd 31`",
-            (false, true) => "`cmd 30` or `cmd 32`",
-            (false, false) => "`cmd 30`",
+        match (
+            self.reads_cache_at_rows,
+            self.reads_planes,
+            self.copies_pages,
+        ) {
+            (true, true, true) => "`cmd 30`, `cmd 31`, `cmd 32` or `cmd 35`",
+            (true, true, false) => "`cmd 30`, `cmd 31` or `cmd 32`",
+            (true, false, true) => "`cmd 30`, `cmd 31` or `cmd 35`",
+            (true, false, false) => "`cmd 30` or `cmd 31`",
+            (false, true, true) => "`cmd 30`, `cmd 32` or `cmd 35`",
+            (false, true, false) => "`cmd 30` or `cmd 32`",
+            (false, false, true) => "`cmd 30` or `cmd 35`",
+            (false, false, false) => "`cmd 30`",
         }
     }
 

@@ -1,8 +1,8 @@
 //! One thing that is known before a word.
 
 use crate::lun_words::{
-    write_cache, write_held, write_output_column, write_queue, write_register, write_shown,
-    write_work,
+    write_cache, write_copies, write_held, write_output_column, write_queue, write_register,
+    write_shown, write_work,
 };
 use crate::span_words::write_span;
 use crate::tail_words::write_tail;
@@ -38,6 +38,8 @@ pub enum Aspect {
     Cache,
     /// The planes that hold a page.
     Held,
+    /// The pages that may be copied.
+    Copies,
 }
 
 /// An aspect of a state, in words.
@@ -65,6 +67,23 @@ impl Aspect {
     ];
 
     /// What is told of a chip whose programs may select a plane that holds a page.
+    pub const WITH_HELD: &'static [Aspect] = &[
+        Aspect::Row,
+        Aspect::Planes,
+        Aspect::Column,
+        Aspect::Place,
+        Aspect::Cost,
+        Aspect::Tail,
+        Aspect::Work,
+        Aspect::Shown,
+        Aspect::Register,
+        Aspect::OutputColumn,
+        Aspect::Queue,
+        Aspect::Cache,
+        Aspect::Held,
+    ];
+
+    /// What is told of a chip whose programs may copy pages.
     pub const ALL: &'static [Aspect] = &[
         Aspect::Row,
         Aspect::Planes,
@@ -79,6 +98,7 @@ impl Aspect {
         Aspect::Queue,
         Aspect::Cache,
         Aspect::Held,
+        Aspect::Copies,
     ];
 
     /// Its name in JSON.
@@ -97,6 +117,7 @@ impl Aspect {
             Aspect::Queue => "queue",
             Aspect::Cache => "cache",
             Aspect::Held => "held",
+            Aspect::Copies => "copies",
         }
     }
 }
@@ -146,6 +167,7 @@ impl fmt::Display for InWords<'_> {
             Aspect::Queue => write_queue(f, &lun.queue),
             Aspect::Cache => write_cache(f, lun.last),
             Aspect::Held => write_held(f, lun.held),
+            Aspect::Copies => write_copies(f, lun.copies),
         }
     }
 }

@@ -26,12 +26,14 @@ impl<A: Allocator> KnownWords<A> {
         Ok(KnownWords { geometry, states })
     }
 
-    /// What is told before each word: which planes hold a page of a chip alone whose programs may select one.
+    /// What is told before each word: which planes hold a page of a chip alone whose programs may select or copy one.
     pub fn aspects(&self) -> &'static [Aspect] {
-        if is_undeclared(&self.geometry, Command::ChangeReadColumnEnhanced) {
-            Aspect::BASE
-        } else {
+        if !is_undeclared(&self.geometry, Command::CopybackRead) {
             Aspect::ALL
+        } else if !is_undeclared(&self.geometry, Command::ChangeReadColumnEnhanced) {
+            Aspect::WITH_HELD
+        } else {
+            Aspect::BASE
         }
     }
 

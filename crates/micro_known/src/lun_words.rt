@@ -2,7 +2,7 @@
 
 use crate::span_words::write_span;
 use bitflags::Flags;
-use micro_claims::{Held, KnownLun, LastCloser, OutputColumn, Planes, QueuedRows, Shown};
+use micro_claims::{Copies, Held, KnownLun, LastCloser, OutputColumn, Planes, QueuedRows, Shown};
 use std::fmt;
 
 /// Writes what the LUN may show on the bus.
@@ -126,6 +126,46 @@ pub(crate) fn write_held<W: fmt::Write>(f: &mut fmt::Formatter<W>, held: Planes)
     } else {
         f.write_str("no plane surely holds a page")
     }
+}
+
+// Writes of which planes the page lies so many rows away.
+fn write_away<W: fmt::Write>(
+    f: &mut fmt::Formatter<W>,
+    planes: Planes,
+    number: &str,
+) -> fmt::Result {
+    if planes.is_one() {
+        write!(f, "the page of plane {} lies ", planes.greatest())?;
+    } else {
+        f.write_str("the pages of planes ")?;
+        write_numbers(f, planes)?;
+        f.write_str(" lie ")?;
+    }
+    write!(f, "{number} number of rows away")
+}
+
+/// Writes which pages may be copied.
+pub(crate) fn write_copies<W: fmt::Write>(
+    f: &mut fmt::Formatter<W>,
+    copies: Copies,
+) -> fmt::Result {
+    let is_none = copies.even.0 == 0 && copies.odd.0 == 0;
+    if !copies.keeps {
+        return f.write_str("no page was surely read to be copied");
+    }
+    if is_none {
+        return f.write_str("no page surely lies an even or an odd number of rows away");
+    }
+    if copies.even.0 != 0 {
+        write_away(f, copies.even, "an even")?;
+    }
+    if copies.even.0 != 0 && copies.odd.0 != 0 {
+        f.write_str(", ")?;
+    }
+    if copies.odd.0 != 0 {
+        write_away(f, copies.odd, "an odd")?;
+    }
+    Ok(())
 }
 
 /// Writes whether the LUN works.

@@ -54,7 +54,7 @@ pub(crate) fn write_tail<W: fmt::Write>(
             write_named(f, &target.named)
         }
         Place::InData => {
-            f.write_str("`80` takes data")?;
+            f.write_str("a program takes data")?;
             write_named(f, &target.named)
         }
         Place::InColumn { addresses } => {

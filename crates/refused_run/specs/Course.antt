@@ -2,7 +2,6 @@
 use Rattle.std.specs.Prelude.{◌≡◌, ℕ, ◌≤◌, ◌+◌, ◌-◌, ◌==◌, Bool, true, false, ◌&&◌, ◌||◌, not, nat_le, nat_lt, if◌then◌else◌, List, [], ◌∷◌, Option, Some, None, map, replicate, slice_get, slice_index, take, drop}
 use Rattle.nand_geometry.specs.declared.parts.Parts.{Parts}
 use Rattle.nand_geometry.specs.Limits.{planes}
-use Rattle.nand_geometry.specs.Optional.{has_copyback}
 use Rattle.nand_geometry.specs.Row.{row_bytes_of}
 use Rattle.onfi_cycle.specs.declared.command.Command.{Command}
 use Rattle.onfi_cycle.specs.declared.command.Command.TheVariants.{ReadStatus as StatusCommand, ReadStatusEnhanced}
@@ -19,10 +18,10 @@ use Rattle.onfi_cycle.specs.declared.lun_state.LunState.{LunState}
 use Rattle.onfi_cycle.specs.declared.opening.Opening.{Opening}
 use Rattle.onfi_cycle.specs.declared.tail_facts.TailFacts.{TailFacts}
 use Rattle.onfi_cycle.specs.Channel.{cycle}
-use Rattle.onfi_cycle.specs.Command.{command, address_cycles, is_write_column, reads_identity}
+use Rattle.onfi_cycle.specs.Command.{command, address_cycles, reads_identity}
 use Rattle.onfi_cycle.specs.Look.{look_after}
 use Rattle.onfi_cycle.specs.Permitted.{broken, is_permitted}
-use Rattle.onfi_cycle.specs.Sequence.{tail, facts_of, is_open, wants_command}
+use Rattle.onfi_cycle.specs.Sequence.{tail, facts_of, is_open}
 use Rattle.micro_word.specs.declared.word.Word.{Word}
 use Rattle.micro_word.specs.declared.word.Word.TheVariants.{End, Command as CommandWord, Address, Get, Put, Column, RowAdd, Row, Plane, Wait, Yield, ReadStatus, BranchOnStatus, Loop}
 use Rattle.micro_program.specs.Moves.{and_then}
@@ -32,7 +31,7 @@ use Rattle.micro_claims.specs.declared.refusal.Reason.{Reason}
 use Rattle.micro_claims.specs.declared.refusal.Reason.TheVariants.{CycleForbidden, AddressUnaligned, HandoverInSequence, BufferPassed, RowOrPlaneOutside, ColumnTooLarge, NoStatus, EndsTooSoon, OverBudget, CommandNotAllowed}
 use Rattle.micro_word.specs.Text.{Microprogram}
 use Rattle.micro_claims.specs.State.{bounds_of}
-use Rattle.micro_claims.specs.Against.{first_address, is_for_traces}
+use Rattle.micro_claims.specs.Against.{first_address}
 use Rattle.seq_core.specs.declared.registers.Registers.{Registers}
 use Rattle.seq_core.specs.Progress.{five_bytes}
 use Rattle.refused_run.specs.declared.bench.Stop.{Stop}
@@ -215,15 +214,10 @@ asks_status StatusCommand = true
 asks_status ReadStatusEnhanced = true
 asks_status _ = false
 
--- a command that programs may not give, whatever the bus says of it: one that asks for the status, or one that traces alone know
+-- a command that programs may not give, whatever the bus says of it: one that asks for the status
 abbrev pub is_kept_back : Word → Bool
-is_kept_back (CommandWord byte) = asks_status (command byte) || is_for_traces (command byte)
+is_kept_back (CommandWord byte) = asks_status (command byte)
 is_kept_back _ = false
-
--- an 85 outside of the data of a program, where the chip takes it as a copyback: programs begin none
-abbrev pub begins_copyback : Parts → TailFacts → Word → Bool
-begins_copyback g t (CommandWord byte) = is_write_column (command byte) && has_copyback g.optional && not (wants_command t (command byte))
-begins_copyback g t _ = false
 
 -- a reason that needs no cycle stands against the word, by where the program stands, the tail of its target and a look at its LUN
 abbrev pub is_wrong : Parts → Bounds → Stand → TailFacts → Option LunState → Word → Reason → Bool
@@ -235,7 +229,6 @@ is_wrong g b s t look word NoStatus = is_branch word && not s.polled
 is_wrong g b s t look word EndsTooSoon = is_end word && (is_open t || is_working look)
 is_wrong g b s t look word OverBudget = costs_too_much g b s.spent word
 is_wrong g b s t look word CommandNotAllowed = is_kept_back word
-is_wrong g b s t look word CycleForbidden = begins_copyback g t word
 is_wrong g b s t look word _ = false
 
 -- the reason that a rule gives, which a cycle of a program breaks

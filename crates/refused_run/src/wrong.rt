@@ -1,10 +1,10 @@
 //! What is against a word where no cycle of it is looked at.
 ghost use Rattle.std.specs.Prelude.{◌≡◌, ◌<◌, ◌^◌, true};
 ghost use Rattle.seq_core.specs.Progress.{reaches};
-ghost use Rattle.refused_run.specs.Course.{place_of_phase, place_wanted, is_identity, begins_elsewhere, is_amid, is_misplaced, hands_over, is_outside, is_working, is_end, is_branch, costs_too_much, asks_status, is_kept_back, begins_copyback, is_wrong, fits_in};
+ghost use Rattle.refused_run.specs.Course.{place_of_phase, place_wanted, is_identity, begins_elsewhere, is_amid, is_misplaced, hands_over, is_outside, is_working, is_end, is_branch, costs_too_much, asks_status, is_kept_back, is_wrong, fits_in};
 
 use crate::stand::Stand;
-use micro_claims::{Bounds, Reason, cost, first_address, is_for_traces};
+use micro_claims::{Bounds, Reason, cost, first_address};
 use micro_word::Word;
 use nand_geometry::Geometry;
 use onfi_cycle::{Command, DataPhase, LunState, TailFacts};
@@ -158,25 +158,7 @@ fn is_kept_back(word: Word) -> bool
     ensures { result ≡ is_kept_back word }
 {
     match word {
-        Word::Command { byte } => {
-            let command = Command::of(byte);
-            asks_status(command) || is_for_traces(command)
-        }
-        _ => false,
-    }
-}
-
-// A Change Write Column outside of the data of a program, where the chip takes it as a copyback: programs begin none.
-fn begins_copyback(geometry: &Geometry, tail: TailFacts, word: Word) -> bool
-    ensures { result ≡ begins_copyback geometry.now tail word }
-{
-    match word {
-        Word::Command { byte } => {
-            let command = Command::of(byte);
-            matches!(command, Command::ChangeWriteColumn)
-                && geometry.parts().optional.has_copyback()
-                && !tail.wants_command(command)
-        }
+        Word::Command { byte } => asks_status(Command::of(byte)),
         _ => false,
     }
 }
@@ -210,8 +192,8 @@ pub(crate) fn is_wrong(
         Reason::EndsTooSoon => is_end(word) && (tail.is_open() || is_working(look)),
         Reason::OverBudget => costs_too_much(geometry, bounds, stand.spent, word),
         Reason::CommandNotAllowed => is_kept_back(word),
-        Reason::CycleForbidden => begins_copyback(geometry, tail, word),
-        Reason::NoWords
+        Reason::CycleForbidden
+        | Reason::NoWords
         | Reason::LoopUnpaired
         | Reason::LoopsTooDeep
         | Reason::BranchMisplaced

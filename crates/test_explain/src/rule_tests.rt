@@ -1,4 +1,4 @@
-use crate::table::{PLANE_READS, TWO_LUNS, TWO_PLANES};
+use crate::table::{COPIES, PLANE_READS, TWO_LUNS, TWO_PLANES};
 use micro_asm::assemble;
 use micro_claims::{Fault, Reason};
 use micro_explain::explain;
@@ -40,6 +40,16 @@ const PLANE_PROGRAMS: &[&str] = &[
     "cmd 00\naddr 0 5\ncmd 30\nwait\ncmd 31\nwait\ncmd 06\naddr 0 5\ncmd e0\nget 1\ncmd 3f\nwait\ncmd 06\naddr 0 5\ncmd e0\nget 1\nend 0",
     // A read of two planes between erases.
     "cmd 60\naddr 2 3\ncmd d0\nwait\ncmd 00\naddr 0 5\ncmd 32\nwait\nplane 1\ncmd 00\naddr 0 5\ncmd 30\nwait\ncmd 06\naddr 0 5\ncmd e0\nget 2\ncmd 60\naddr 2 3\ncmd d0\nwait\nend 0",
+];
+
+// Programs for a LUN whose pages are copied, which the verifier takes.
+const COPY_PROGRAMS: &[&str] = &[
+    // A page copied two rows on, with a byte of its own.
+    "cmd 00\naddr 0 5\ncmd 35\nwait\nrowadd 1\nrowadd 1\ncmd 85\naddr 0 5\nput 1\ncmd 10\nwait\nend 0",
+    // A page of each of two planes, read one by one, and copied in one group.
+    "cmd 00\naddr 0 5\ncmd 35\nwait\nplane 1\ncmd 00\naddr 0 5\ncmd 35\nwait\nrow 2\ncmd 85\naddr 0 5\ncmd 11\nwait\nplane 0\ncmd 85\naddr 0 5\ncmd 10\nwait\nend 0",
+    // A program between two reads, and a copy behind them.
+    "cmd 00\naddr 0 5\ncmd 35\nwait\ncmd 80\naddr 0 5\nput 1\ncmd 10\nwait\ncmd 00\naddr 0 5\ncmd 32\nwait\nplane 1\ncmd 00\naddr 0 5\ncmd 35\nwait\ncmd 85\naddr 0 5\ncmd 10\nwait\nend 0",
 ];
 
 // How many programs were refused by V7, and of how many the rule was compared.
@@ -197,6 +207,19 @@ fn rules_of_plane_reads_are_those_of_the_model(rt: HostRuntime) -> Result<(), Fa
     };
     for program in PLANE_PROGRAMS {
         compare_all(rt.alloc(), PLANE_READS, program, &mut counted)?;
+    }
+    assert!(rt; counted.compared >= 100);
+    Ok(())
+}
+
+#[test]
+fn rules_of_copies_are_those_of_the_model(rt: HostRuntime) -> Result<(), Fail> {
+    let mut counted = Counted {
+        refused: 0,
+        compared: 0,
+    };
+    for program in COPY_PROGRAMS {
+        compare_all(rt.alloc(), COPIES, program, &mut counted)?;
     }
     assert!(rt; counted.compared >= 100);
     Ok(())

@@ -25,3 +25,9 @@ pub(crate) const PLANE_READS: Parts = Parts {
     optional: Optional(0x8e64),
     ..TWO_PLANES
 };
+
+/// The same, whose pages are copied.
+pub(crate) const COPIES: Parts = Parts {
+    optional: Optional(0x8e74),
+    ..TWO_PLANES
+};

@@ -1,4 +1,4 @@
-use crate::table::{PLAIN, TWO_LUNS, Try, differences};
+use crate::table::{COPIES, PLAIN, TWO_LUNS, Try, differences};
 use std::test::Fail;
 
 const ON_TWO: Try<'static> = Try {
@@ -60,6 +60,35 @@ const STRAIGHT: [Try<'static>; 9] = [
 #[test]
 fn straight_programs(rt: HostRuntime) -> Result<(), Fail> {
     assert_eq!(rt; differences(rt.alloc(), &STRAIGHT)?.as_str(), "");
+    Ok(())
+}
+
+// Programs that copy pages: an odd number of rows on, from the other plane, and amid which a page is programmed.
+const COPYING: [Try<'static>; 3] = [
+    Try {
+        parts: COPIES,
+        rows: 4,
+        words: "cmd 00\naddr 0 5\ncmd 35\nwait\nrowadd 1\ncmd 85\naddr 0 5\ncmd 10\nwait\nend 0",
+        told: "V7 at 6: V7 at 6 after 15 items, F17 at 15",
+        ..PLAIN
+    },
+    Try {
+        parts: COPIES,
+        words: "cmd 00\naddr 0 5\ncmd 35\nwait\nplane 1\ncmd 85\naddr 0 5\ncmd 10\nwait\nend 0",
+        told: "V7 at 6: V7 at 6 after 15 items, F17 at 15",
+        ..PLAIN
+    },
+    Try {
+        parts: COPIES,
+        words: "cmd 00\naddr 0 5\ncmd 35\nwait\ncmd 85\naddr 0 5\ncmd 11\nwait\nplane 1\ncmd 80\naddr 0 5\ncmd 10\nwait\nend 0",
+        told: "V7 at 10: V7 at 10 after 25 items, F17 at 25",
+        ..PLAIN
+    },
+];
+
+#[test]
+fn programs_that_copy(rt: HostRuntime) -> Result<(), Fail> {
+    assert_eq!(rt; differences(rt.alloc(), &COPYING)?.as_str(), "");
     Ok(())
 }
 

@@ -3,7 +3,7 @@
 use micro_asm::assemble;
 use micro_claims::Fault;
 use micro_walk::examine;
-use nand_geometry::{Geometry, Parts, SMALL_CHIP};
+use nand_geometry::{Geometry, Optional, Parts, SMALL_CHIP};
 use onfi_cycle::Item;
 use refused_run::{Choice, Run, find_run};
 use std::alloc::Global;
@@ -20,6 +20,14 @@ pub(crate) const TWO_LUNS: Parts = Parts {
     cache: true,
     luns: 2,
     enhanced: true,
+    ..ONE_LUN
+};
+
+/// One LUN of two planes of the wider profile, whose pages are copied.
+pub(crate) const COPIES: Parts = Parts {
+    plane_bits: 1,
+    multi_plane: true,
+    optional: Optional(0x8e74),
     ..ONE_LUN
 };
 
