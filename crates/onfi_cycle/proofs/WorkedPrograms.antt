@@ -222,4 +222,3 @@ copyback_closed_by_cache = refl
 read_of_other_block : then_breaks cached (c 0x80 ∷ (a 0 ∷ (a 0 ∷ (a 0x0 ∷ (a 0 ∷ (a 0 ∷ (c 0x15 ∷ (r 0 ∷ (c 0x00 ∷ (a 0 ∷ (a 0 ∷ (a 0x4 ∷ (a 0 ∷ []))))))))))))) (a 0) ≡ Some CacheProgramMisplaced
 unfolding command width effect_among breaks_not_there breaks_command_unknown breaks_sequence_open breaks_several_luns breaks_no_column_to_change breaks_command_misplaced breaks_address_misplaced breaks_row_outside breaks_lun_busy breaks_queue_clash breaks_input_misplaced breaks_no_sole_driver breaks_data_not_ready breaks_column_outside breaks_cache_read_misplaced breaks_cache_program_misplaced breaks_copyback_misplaced breaks_plane_not_held
 read_of_other_block = refl
-

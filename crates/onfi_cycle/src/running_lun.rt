@@ -10,8 +10,8 @@ ghost use Rattle.onfi_cycle.specs.Outputs.{given_on};
 
 use crate::held::apply_to_held;
 use crate::{
-    Effect, Failures, Latch, LunFacts, PageAddress, Queued, ReadColumn, Register, RowQueue, TailFacts,
-    TargetCycle, cycle_effect, is_copyback_read,
+    Effect, Failures, Latch, LunFacts, PageAddress, Queued, ReadColumn, Register, RowQueue,
+    TailFacts, TargetCycle, cycle_effect, is_copyback_read,
 };
 use arrayvec::ArrayVec;
 use nand_geometry::Geometry;

@@ -193,9 +193,7 @@ impl TailFacts {
             Command::ChangeWriteColumn
             | Command::ProgramConfirm
             | Command::ProgramPlane
-            | Command::ProgramCache => {
-                self.phase.takes_data()
-            }
+            | Command::ProgramCache => { self.phase.takes_data() }
             _ => match self.opening {
                 None => false,
                 Some(opening) => opening.is_closed_by(command),

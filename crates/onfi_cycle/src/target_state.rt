@@ -21,8 +21,8 @@ use crate::item_effects::ends_features;
 use crate::readies::due_of;
 use crate::rules::some_works_for_target;
 use crate::{
-    Command, Effect, Failures, Filling, Forbidden, Item, Latch, Lun, LunFacts, LunState, RowQueue, TailFacts,
-    TargetCycle, driver, item_effect,
+    Command, Effect, Failures, Filling, Forbidden, Item, Latch, Lun, LunFacts, LunState, RowQueue,
+    TailFacts, TargetCycle, driver, item_effect,
 };
 use arrayvec::ArrayVec;
 use nand_geometry::{Geometry, MAX_LUNS};

@@ -18,7 +18,7 @@ invariant_of-self g c =
     let registers = c.take_registers.new.into in
     let cache = is_cache_program old.closer in
     let given : registers ≡ cond cache i.planes.items i.array_planes.items =
-        c.take_registers.ensures ∙ (λ k. cond (c.is_cache_program.ensures k) (c.as_slice-3.ensures.value k) (c.as_mut_slice.ensures.value k)) in
+    c.take_registers.ensures ∙ (λ k. cond (c.is_cache_program.ensures k) (c.as_slice-3.ensures.value k) (c.as_mut_slice.ensures.value k)) in
     let written = refilled i.array_planes.len i.array_planes.items registers (c.take_registers.auto.into ∙ (ap length c.as_mut_slice.ensures.value ∙ sym i.array_planes.ok.0)) i.array_planes.ok.0 in
     subst (λ (r : List (List ℕ)). KeepsDie i.geometry i.parameters.items c.end_works.new.pages i.planes.items r new.queue.items new.in_array.items new.closed new.busy new.closer new.register c.fetch.new.output) (sym (written ∙ given))
     (record {
@@ -40,11 +40,11 @@ returns g c =
     let registers = c.take_registers.new.into in
     let cache = is_cache_program old.closer in
     let given : registers ≡ cond cache i.planes.items i.array_planes.items =
-        c.take_registers.ensures ∙ (λ k. cond (c.is_cache_program.ensures k) (c.as_slice-3.ensures.value k) (c.as_mut_slice.ensures.value k)) in
+    c.take_registers.ensures ∙ (λ k. cond (c.is_cache_program.ensures k) (c.as_slice-3.ensures.value k) (c.as_mut_slice.ensures.value k)) in
     let written = refilled i.array_planes.len i.array_planes.items registers (c.take_registers.auto.into ∙ (ap length c.as_mut_slice.ensures.value ∙ sym i.array_planes.ok.0)) i.array_planes.ok.0 in
     let none = waits over.closed over.queue in
     let ended = ended_pages c.args.fail old.closer old.closed i.geometry c.parts.result i.planes.items c.as_slice.result.now i.array_planes.items c.as_slice-2.result.now old.queue.items old.in_array.items i.pages c.end_works.new.pages
-        c.parts.ensures.value c.as_slice.ensures.value c.as_slice-2.ensures.value c.end_works.ensures.pages in
+    c.parts.ensures.value c.as_slice.ensures.value c.as_slice-2.ensures.value c.end_works.ensures.pages in
     subst (λ (o : Die). IsAfter (BecameReady c.args.fail) o (die_of i.geometry c.end_works.new.pages i.planes.items (refill i.array_planes.len i.array_planes.items registers) new)) c.self.view_is
     (record {
       geometry = refl;
