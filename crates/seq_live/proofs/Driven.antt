@@ -535,7 +535,7 @@ ready_then_step s l bytes (ArrayReady m fail ∷ rs) pending w ready is =
     λ a after. on (λ u there. ready_then_step s l bytes rs (pending ++ (ArrayReady m fail ∷ [])) u (and_parts true (list_all is_ready rs) ready).1 (append_assoc pending (ArrayReady m fail ∷ []) rs ∙ (is ∙ there))) (is_permitted s.geometry s.targets w.past (Ard m.ce m.lun fail)) a after
   where
     on : ((u : World) → shown_in w l bytes (slot_of s w l) ≡ shown_in u l bytes (slot_of s u l) → AreShown s (pending ++ (ArrayReady m fail ∷ [])) (rs ++ (Step l bytes ∷ [])) u) → (came : Bool) (a : After) → Some (after_item w (Ard m.ce m.lun fail) ToArrayReady came) ≡ Some a → AreShown s (pending ++ (ArrayReady m fail ∷ [])) (rs ++ (Step l bytes ∷ [])) a.world
-    on rest true a h = subst (λ (b : After). AreShown s (pending ++ (ArrayReady m fail ∷ [])) (rs ++ (Step l bytes ∷ [])) b.world) (some_same (after_item w (Ard m.ce m.lun fail) ToArrayReady true) a h) (rest (record w { past = Ard m.ce m.lun ∷ w.past }) refl)
+    on rest true a h = subst (λ (b : After). AreShown s (pending ++ (ArrayReady m fail ∷ [])) (rs ++ (Step l bytes ∷ [])) b.world) (some_same (after_item w (Ard m.ce m.lun fail) ToArrayReady true) a h) (rest (record w { past = Ard m.ce m.lun fail ∷ w.past }) refl)
     on rest false a h = subst (λ (b : After). AreShown s (pending ++ (ArrayReady m fail ∷ [])) (rs ++ (Step l bytes ∷ [])) b.world) (some_same (after_item w (Ard m.ce m.lun fail) ToArrayReady false) a h) (rest w refl)
 
 -- of a LUN that may step: those of its next word
