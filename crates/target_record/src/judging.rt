@@ -103,7 +103,7 @@ pub fn is_caching(lun: &OnfiseqLun) -> bool
 }
 
 /// It programs behind a Page Cache Program, queued programs left out, and no ready of its array came since.
-pub(crate) fn is_programming(lun: &OnfiseqLun) -> bool
+pub fn is_programming(lun: &OnfiseqLun) -> bool
     ensures { result ≡ programs (lun_of lun.now) }
 {
     let closer = closer(lun);
