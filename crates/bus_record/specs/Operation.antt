@@ -27,7 +27,7 @@ after_cycles kind ce (byte ∷ bytes) s = after_cycles kind ce bytes (bus_after 
 
 -- R/B# of the target has risen: each of its four LUNs is ready that is there and busy
 abbrev pub readied : ℕ → ℕ → BusView → BusView
-readied ce lun s = bus_pushed s (Some (Rdy ce lun false))
+readied ce lun s = bus_pushed s (Some (Rdy ce lun (record { last = false; before = false })))
 
 abbrev pub after_wait : ℕ → BusView → BusView
 after_wait ce s = readied ce 3 (readied ce 2 (readied ce 1 (readied ce 0 s)))
