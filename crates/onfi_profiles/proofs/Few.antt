@@ -2,9 +2,9 @@
 use Rattle.std.proofs.Common.{◌≡◌, ℕ, zero, suc, ◌+◌, ◌≤◌, ◌==◌, Bool, true, false, ◌&&◌, cond, not, ltb, nat_le, List, [], ◌∷◌, length, take, Option, Some, None, refl, ap, arith}
 use Rattle.nand_geometry.specs.declared.parts.Parts.{Parts}
 use Rattle.onfi_cycle.specs.declared.command.Command.{Command}
-use Rattle.onfi_cycle.specs.declared.command.Command.TheVariants.{Read, ReadConfirm, ReadPlane, CopybackRead, PageProgram, ReadStatus, ReadStatusEnhanced, Reset, SynchronousReset, ReadCacheSequential, ReadCacheEnd, ChangeReadColumnConfirm, BlockEraseConfirm, BlockErasePlane, ProgramConfirm, ProgramPlane, ReadId, ReadParameterPage, ReadUniqueId, GetFeatures, ResetLun}
+use Rattle.onfi_cycle.specs.declared.command.Command.TheVariants.{Read, ReadConfirm, ReadPlane, CopybackRead, PageProgram, ReadStatus, ReadStatusEnhanced, Reset, SynchronousReset, ReadCacheSequential, ReadCacheEnd, ChangeReadColumnConfirm, BlockEraseConfirm, BlockErasePlane, ProgramConfirm, ProgramPlane, ReadId, ReadParameterPage, ReadUniqueId, GetFeatures, ResetLun, ProgramCache}
 use Rattle.onfi_cycle.specs.declared.effect.Effect.{Effect}
-use Rattle.onfi_cycle.specs.declared.effect.Effect.TheVariants.{Unaffected, StatusSelected, StatusOfSelected, SelectedForStatus, Deselected, ReadStarted, ReadQueued, CopybackReadStarted, ProgramAddressed, EraseStarted, ProgramStarted, IdRead, IdentityRead, UniqueIdReadStarted, FeaturesReadStarted, FeaturesSet, ParameterPageReadStarted, CacheReadContinued, CacheReadEnded, ReadColumnChanged, PlaneSelected, DataOutput, ResetStarted, TargetResetStarted, BecameReady, ArrayBecameReady, AnotherAddressed}
+use Rattle.onfi_cycle.specs.declared.effect.Effect.TheVariants.{Unaffected, StatusSelected, StatusOfSelected, SelectedForStatus, Deselected, ReadStarted, ReadQueued, CopybackReadStarted, ProgramAddressed, EraseStarted, ProgramStarted, IdRead, IdentityRead, UniqueIdReadStarted, FeaturesReadStarted, FeaturesSet, ParameterPageReadStarted, CacheReadContinued, CacheReadEnded, ReadColumnChanged, PlaneSelected, DataOutput, ResetStarted, TargetResetStarted, BecameReady, ArrayBecameReady, AnotherAddressed, CacheProgramStarted}
 use Rattle.onfi_cycle.specs.declared.item.Item.{Item}
 use Rattle.onfi_cycle.specs.declared.item.Item.TheVariants.{Cyc, Rdy, Ard}
 use Rattle.onfi_cycle.specs.declared.latch.Latch.{Latch}
@@ -31,10 +31,11 @@ use Rattle.onfi_profiles.proofs.Pasts.{lun_at, both_legal}
 
 -- 1. what an item does
 
--- a read is queued, or pages are read for a copyback
+-- a read is queued, pages are read for a copyback, or a page is programmed while the next one comes
 abbrev pub brings_pages : Effect → Bool
 brings_pages (ReadQueued page) = true
 brings_pages (CopybackReadStarted page column planes) = true
+brings_pages (CacheProgramStarted page) = true
 brings_pages _ = false
 
 neither : (b : Bool) (x y : Effect) → brings_pages x ≡ false → brings_pages y ≡ false → brings_pages (cond b x y) ≡ false
@@ -63,6 +64,7 @@ command_queues g t la ChangeReadColumnConfirm lun b =
 command_queues g t la ReadConfirm lun b = row_queues g t ReadConfirm lun refl
 command_queues g t la ReadPlane lun b = cc
 command_queues g t la CopybackRead lun b = cc
+command_queues g t la ProgramCache lun b = cc
 command_queues g t la BlockEraseConfirm lun b = row_queues g t BlockEraseConfirm lun refl
 command_queues g t la BlockErasePlane lun b = row_queues g t BlockErasePlane lun refl
 command_queues g t la ProgramConfirm lun b = row_queues g t ProgramConfirm lun refl
@@ -106,7 +108,7 @@ item_queues g targets past (Cyc c) l h =
     (cycle_queues (in_base g) (facts_of (tail past l.ce)) (latch_alone (in_base g) past l) (target_cycle c.kind c.byte) l.lun (base_cycle g (target_cycle c.kind c.byte) (permitted_keeps (in_base g) targets past c h).f2))
     refl
 item_queues g targets past (Rdy a b f) l h = neither (a == l.ce && b == l.lun) (BecameReady f) Unaffected refl refl
-item_queues g targets past (Ard a b) l h = neither (a == l.ce && b == l.lun) ArrayBecameReady Unaffected refl refl
+item_queues g targets past (Ard a b fail) l h = neither (a == l.ce && b == l.lun) (ArrayBecameReady fail) Unaffected refl refl
 
 -- 2. the queue and the pages
 
@@ -119,6 +121,7 @@ few_after (ReadStarted page column) copyback p queue held r h =
     (refl, omega (arith, one))
 few_after (ReadQueued page) copyback p queue held r h = cc
 few_after (CopybackReadStarted page column planes) copyback p queue held r h = cc
+few_after (CacheProgramStarted page) copyback p queue held r h = cc
 few_after ProgramAddressed copyback p queue held r h = (h.0, omega arith)
 few_after (EraseStarted true at) copyback p queue held r h = (h.0, omega arith)
 few_after (EraseStarted false at) copyback p queue held r h = (refl, omega arith)

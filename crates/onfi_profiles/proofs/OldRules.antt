@@ -8,7 +8,7 @@ use Rattle.nand_geometry.specs.Row.{parts_of, is_inside}
 use Rattle.std.proofs.lemmas.Bool.{not-false}
 use Rattle.onfi_cycle.proofs.Booleans.{by_case}
 use Rattle.onfi_cycle.specs.declared.command.Command.{Command}
-use Rattle.onfi_cycle.specs.declared.command.Command.TheVariants.{ChangeWriteColumn, ProgramConfirm, ProgramPlane, ReadId, ReadUniqueId, GetFeatures, SetFeatures, ResetLun, SynchronousReset, Unknown, ReadCacheSequential, ChangeReadColumnEnhanced, ReadPlane, CopybackRead, Read, BlockErase, PageProgram}
+use Rattle.onfi_cycle.specs.declared.command.Command.TheVariants.{ChangeWriteColumn, ProgramConfirm, ProgramPlane, ReadId, ReadUniqueId, GetFeatures, SetFeatures, ResetLun, SynchronousReset, Unknown, ReadCacheSequential, ChangeReadColumnEnhanced, ReadPlane, CopybackRead, Read, BlockErase, PageProgram, ProgramCache}
 use Rattle.onfi_cycle.specs.declared.data_phase.DataPhase.{DataPhase}
 use Rattle.onfi_cycle.specs.declared.data_phase.DataPhase.TheVariants.{Outside, Inputs, FirstColumn, SecondColumn, FeatureInputs}
 use Rattle.onfi_cycle.specs.declared.forbidden.Forbidden.{Forbidden}
@@ -53,6 +53,7 @@ unknown_same : (g : Parts) (c : Command) → (not (is_known c) || is_undeclared 
 unknown_same g ChangeReadColumnEnhanced = refl
 unknown_same g ReadPlane = refl
 unknown_same g CopybackRead = refl
+unknown_same g ProgramCache = refl
 unknown_same g ReadUniqueId = refl
 unknown_same g GetFeatures = refl
 unknown_same g SetFeatures = refl
@@ -230,6 +231,7 @@ unfolding breaks_cache_read_misplaced
 f15 g t luns (CommandCycle ReadCacheSequential) a b go h = ap (λ (w : Bool). cond w (not (named_lun_is (in_base g) (row t) has_read_one luns)) (not (driver_is (continues_cache (in_base g)) luns))) (unwanted (in_base g) t refl h) ∙ ap not go
 f15 g t luns (CommandCycle ReadPlane) a b go h = cc
 f15 g t luns (CommandCycle CopybackRead) a b go h = cc
+f15 g t luns (CommandCycle ProgramCache) a b go h = cc
 f15 g t luns (CommandCycle c) a b go h = refl
 f15 g t luns (AddressCycle byte) a b go h = ap (λ (b : Bool). b && named_lun_is (in_base g) (row_with t byte) caching luns) (excluded_same g t a.opener ∙ unwritten (λ c n. addresses_the_array c && at_last_row c n) t.opening a.written)
 f15 g t luns (InputCycle byte) a b go h = refl
@@ -287,7 +289,7 @@ cycle_same g t luns k a go = by (breaks_command_unknown (in_base g) k) refl
 item_same : (g : Parts) (t : TailFacts) (luns : List LunView) (i : Item) → AreOfBase t → GoesOn g luns → judge_item (in_base g) t luns i ≡ base_judge_item (in_base g) t luns i
 item_same g t luns (Cyc c) a go = cycle_same g t luns (target_cycle c.kind c.byte) a go
 item_same g t luns (Rdy ce lun fail) a go = refl
-item_same g t luns (Ard ce lun) a go = refl
+item_same g t luns (Ard ce lun fail) a go = refl
 
 pub judged_so : JudgesBase
 judged_so g targets past i h =

@@ -9,7 +9,7 @@ use Rattle.nand_geometry.specs.Optional.{is_wide, has_free_blocks, has_copyback}
 use Rattle.nand_geometry.specs.Limits.{page_len, planes}
 use Rattle.nand_geometry.specs.Row.{parts_of}
 use Rattle.onfi_cycle.specs.declared.command.Command.{Command}
-use Rattle.onfi_cycle.specs.declared.command.Command.TheVariants.{Read, ChangeReadColumn, ReadStatus, ReadId, ReadParameterPage, BlockErase, PageProgram, ReadStatusEnhanced, BlockErasePlane, ProgramPlane, ReadCacheSequential, ReadCacheEnd, ReadUniqueId, GetFeatures, SetFeatures, ResetLun, SynchronousReset, ReadConfirm, ChangeReadColumnEnhanced, ReadPlane, CopybackRead, ChangeWriteColumn}
+use Rattle.onfi_cycle.specs.declared.command.Command.TheVariants.{Read, ChangeReadColumn, ReadStatus, ReadId, ReadParameterPage, BlockErase, PageProgram, ReadStatusEnhanced, BlockErasePlane, ProgramPlane, ReadCacheSequential, ReadCacheEnd, ReadUniqueId, GetFeatures, SetFeatures, ResetLun, SynchronousReset, ReadConfirm, ChangeReadColumnEnhanced, ReadPlane, CopybackRead, ChangeWriteColumn, ProgramCache}
 use Rattle.onfi_cycle.specs.declared.item.Item.{Item}
 use Rattle.onfi_cycle.specs.declared.item.Item.TheVariants.{Cyc, Rdy, Ard}
 use Rattle.onfi_cycle.specs.declared.lun.Lun.{Lun}
@@ -57,6 +57,7 @@ fits g ReadCacheEnd h = h
 fits g ChangeReadColumnEnhanced h = let no : true ≡ false = h in cc
 fits g ReadPlane h = let no : true ≡ false = h in cc
 fits g CopybackRead h = let no : true ≡ false = h in cc
+fits g ProgramCache h = let no : true ≡ false = h in cc
 fits g ReadUniqueId h = let no : true ≡ false = h in cc
 fits g GetFeatures h = let no : true ≡ false = h in cc
 fits g SetFeatures h = let no : true ≡ false = h in cc
@@ -457,6 +458,7 @@ cache_too g t bs ws (CommandCycle ReadConfirm) s h =
     ap (λ (b : Bool). is_wide g.optional && b) (lun_by core caching (λ v. refl) bs ws s.cores (parts_of g (row t)).lun) ∙ h
 cache_too g t bs ws (CommandCycle ReadPlane) s h = lun_by core caching (λ v. refl) bs ws s.cores (parts_of g (row t)).lun ∙ h
 cache_too g t bs ws (CommandCycle CopybackRead) s h = lun_by core caching (λ v. refl) bs ws s.cores (parts_of g (row t)).lun ∙ h
+cache_too g t bs ws (CommandCycle ProgramCache) s h = lun_by core caching (λ v. refl) bs ws s.cores (parts_of g (row t)).lun ∙ h
 cache_too g t bs ws (CommandCycle ReadCacheEnd) s h = ap not (driver_by ends_cache (λ v. refl) bs ws (s.shown refl)) ∙ h
 cache_too g t bs ws (CommandCycle c) s h = none_of (reads_identity c) (list_any caching ws) (identity_is_of_one c s.one)
 cache_too g t bs ws (AddressCycle byte) s h = ap (λ (b : Bool). ends_row (excludes_cache g) t && b) (lun_by core caching (λ v. refl) bs ws s.cores (parts_of g (row_with t byte)).lun) ∙ h
@@ -572,7 +574,7 @@ permitted_shared g shared targets past (Rdy ce lun fail) legal h = rw same h
   where
     same : lun_is (λ v. v.busy) (luns_of g past ce) lun ≡ lun_is (λ v. v.busy) (luns_of (in_base g) past ce) lun
     same = lun_by core (λ v. v.busy) (λ v. refl) (luns_of (in_base g) past ce) (luns_of g past ce) (all_cores g past ce (are_alike g targets past ce shared legal)) lun
-permitted_shared g shared targets past (Ard ce lun) legal h = rw same h
+permitted_shared g shared targets past (Ard ce lun fail) legal h = rw same h
   where
     same : lun_is (λ v. v.array_busy) (luns_of g past ce) lun ≡ lun_is (λ v. v.array_busy) (luns_of (in_base g) past ce) lun
     same = lun_by core (λ v. v.array_busy) (λ v. refl) (luns_of (in_base g) past ce) (luns_of g past ce) (all_cores g past ce (are_alike g targets past ce shared legal)) lun
@@ -582,12 +584,12 @@ permitted_shared g shared targets past (Ard ce lun) legal h = rw same h
 abbrev ItemUncached : Parts → TailFacts → List LunView → Item → Type 0
 ItemUncached g t luns (Cyc c) = NamesUncached g t luns (target_cycle c.kind c.byte) × OfBase g t luns
 ItemUncached g t luns (Rdy ce lun fail) = Unit {0}
-ItemUncached g t luns (Ard ce lun) = Unit {0}
+ItemUncached g t luns (Ard ce lun fail) = Unit {0}
 
 item_wider : (g : Parts) → is_shared g ≡ false → (t : TailFacts) (luns : List LunView) (i : Item) → ItemUncached g t luns i → judge_item (in_base g) t luns i ≡ None → judge_item g t luns i ≡ None
 item_wider g narrow t luns (Cyc c) free h = wider g narrow t luns (target_cycle c.kind c.byte) free.0 free.1 h
 item_wider g narrow t luns (Rdy ce lun fail) free h = refl
-item_wider g narrow t luns (Ard ce lun) free h = refl
+item_wider g narrow t luns (Ard ce lun fail) free h = refl
 
 judged_wider : (g : Parts) → is_shared g ≡ false → (targets : ℕ) (t : TailFacts) (luns : List LunView) (i : Item) → ItemUncached g t luns i → judge (in_base g) targets t luns i ≡ None → judge g targets t luns i ≡ None
 judged_wider g narrow targets t luns i free h =
@@ -600,7 +602,7 @@ item_uncached g narrow targets past (Cyc c) legal h = (
   subst (OfBase g (facts_of (tail past c.ce))) (luns_same g narrow past c.ce) (of_base g targets past c.ce legal),
 )
 item_uncached g narrow targets past (Rdy ce lun fail) legal h = tt
-item_uncached g narrow targets past (Ard ce lun) legal h = tt
+item_uncached g narrow targets past (Ard ce lun fail) legal h = tt
 
 permitted_narrow : (g : Parts) → is_shared g ≡ false → (targets : ℕ) (past : List Item) (i : Item) → is_legal (in_base g) targets past ≡ true → broken (in_base g) targets past i ≡ None → broken g targets past i ≡ None
 permitted_narrow g narrow targets past i legal h =
