@@ -96,7 +96,7 @@ impl fmt::Display for CopyCause {
             ),
             CopyCause::OddRows { plane } => write!(
                 f,
-                "the page of plane {plane} was read an odd number of rows from here: it goes to a row an even number away alone, as the chip doesn't declare more"
+                "the page of plane {plane} was read an odd number of rows from here: `row` or `rowadd` must move by an even number, as the chip doesn't declare copies between even and odd pages"
             ),
             CopyCause::PerhapsOdd { plane } => write!(
                 f,
@@ -107,7 +107,7 @@ impl fmt::Display for CopyCause {
             ),
             CopyCause::OddBlock { pages } => write!(
                 f,
-                "a block has {pages} pages, an odd number, so a page is surely even or odd at its own row alone: no `row` or `rowadd` may come between"
+                "a block has {pages} pages, an odd number, so it isn't known whether another row is even or odd as this one: no `row` or `rowadd` may come between"
             ),
             CopyCause::AmidCopies(queued) => write!(
                 f,
