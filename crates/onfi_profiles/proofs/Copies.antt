@@ -11,7 +11,6 @@ use Rattle.onfi_cycle.specs.declared.data_phase.DataPhase.{DataPhase}
 use Rattle.onfi_cycle.specs.declared.data_phase.DataPhase.TheVariants.{Outside, Inputs, FirstColumn, SecondColumn, FeatureInputs}
 use Rattle.onfi_cycle.specs.declared.effect.Effect.{Effect}
 use Rattle.onfi_cycle.specs.declared.effect.Effect.TheVariants.{Unaffected, StatusSelected, StatusOfSelected, SelectedForStatus, Deselected, ReadStarted, ReadQueued, CopybackReadStarted, ProgramAddressed, EraseStarted, ProgramStarted, IdRead, IdentityRead, UniqueIdReadStarted, FeaturesReadStarted, FeaturesSet, ParameterPageReadStarted, CacheReadContinued, CacheReadEnded, ReadColumnChanged, PlaneSelected, DataOutput, ResetStarted, TargetResetStarted, BecameReady, ArrayBecameReady, AnotherAddressed, CacheProgramStarted}
-use Rattle.onfi_cycle.specs.declared.item.Cycle.{Cycle}
 use Rattle.onfi_cycle.specs.declared.item.Item.{Item}
 use Rattle.onfi_cycle.specs.declared.item.Item.TheVariants.{Cyc, Rdy, Ard}
 use Rattle.onfi_cycle.specs.declared.latch.Latch.{Latch}
@@ -26,21 +25,21 @@ use Rattle.onfi_cycle.specs.declared.target_cycle.TargetCycle.TheVariants.{Comma
 use Rattle.onfi_cycle.specs.LunView.{LunView}
 use Rattle.onfi_cycle.specs.Base.{is_of_base}
 use Rattle.onfi_cycle.specs.Bounds.{names_program}
-use Rattle.onfi_cycle.specs.Command.{closes_row, reads_row, is_page_program, is_write_column}
-use Rattle.onfi_cycle.specs.Sequence.{target_cycle, tail, facts_of, opened, takes_data, takes_features, wants_column, wants_command, wants_address, row, row_with, row_after_address, selects_plane, phase_after_command}
+use Rattle.onfi_cycle.specs.Command.{closes_row, reads_row, is_page_program}
+use Rattle.onfi_cycle.specs.Sequence.{target_cycle, tail, facts_of, takes_data, wants_column, wants_command, wants_address, row, row_with, row_after_address, selects_plane, phase_after_command}
 use Rattle.onfi_cycle.specs.Effect.{program_row_effect, is_off, is_data, is_shared, acts_for_target, of_target, id_effect, lun_reset_effect, names_lun, ends_features, plane_of_row, plane_effect, column_effect, cache_effect, confirm_effect, other_effect, row_effect, command_effect, input_effect, address_effect, opening_address_effect, cycle_effect}
-use Rattle.onfi_cycle.specs.Lun.{is_page_read, is_copyback_read, is_cache_read, closer, closer_after, queue_after, held_after, queue, held, latch, latch_alone, effect_on, effect_among, lun_view, luns_of}
-use Rattle.onfi_cycle.specs.Rules.{named_lun_is, driver_is, is_some_and, continues_cache, ends_cache, has_some, has_read_one, caching, is_copying, holds_none, breaks_cache_read_misplaced, breaks_sequence_open}
+use Rattle.onfi_cycle.specs.Lun.{is_page_read, is_copyback_read, is_cache_read, closer_after, queue_after, held_after, queue, held, latch_alone, effect_on, effect_among, lun_view, luns_of}
+use Rattle.onfi_cycle.specs.Rules.{named_lun_is, is_some_and, continues_cache, ends_cache, has_some, has_read_one, is_copying, holds_none, breaks_cache_read_misplaced, breaks_sequence_open}
 use Rattle.onfi_cycle.specs.State.{has_driver}
 use Rattle.onfi_cycle.specs.Permitted.{broken, is_legal}
 use Rattle.onfi_cycle.proofs.Booleans.{clash}
-use Rattle.onfi_cycle.proofs.EffectBounds.{IsDriver, alone_drives, driver_passes}
+use Rattle.onfi_cycle.proofs.EffectBounds.{alone_drives, driver_passes}
 use Rattle.onfi_cycle.proofs.Following.{alone_by_views, lun_beyond}
 use Rattle.onfi_cycle.proofs.Keeping.{view_at}
 use Rattle.onfi_cycle.proofs.Others.{chosen_else}
 use Rattle.onfi_cycle.proofs.Passed.{KeepsRules, permitted_keeps}
 use Rattle.onfi_profiles.specs.Widening.{in_base}
-use Rattle.onfi_profiles.specs.Tails.{base_opened, base_begins_sequence, base_phase_after_address, base_phase_after_last_address, base_phase_after_input, base_extended_facts, base_facts_after, base_facts}
+use Rattle.onfi_profiles.specs.Tails.{base_begins_sequence, base_phase_after_address, base_phase_after_input, base_extended_facts, base_facts_after, base_facts}
 use Rattle.onfi_profiles.proofs.OldTails.{AreOfBase, is_base_cycle, base_cycle, facts_base, tails_kept}
 use Rattle.onfi_profiles.proofs.Few.{brings_pages, item_queues}
 use Rattle.onfi_profiles.proofs.Pasts.{both_legal}
