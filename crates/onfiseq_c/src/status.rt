@@ -81,11 +81,7 @@ fn array_item(item: &OnfiseqItem, lun: u8, look: OnfiseqLook) -> OnfiseqItem
         ce: item.ce,
         kind: b'Y',
         byte: lun,
-        fail: if look.programming {
-            item.byte & 1
-        } else {
-            0
-        },
+        fail: if look.programming { item.byte & 1 } else { 0 },
     }
 }
 
