@@ -89,6 +89,7 @@ fn queue_after(alloc: Global, effect: Effect, before: &[Queued]) -> Result<Vec<Q
         | Effect::CopybackReadStarted { .. }
         | Effect::EraseStarted { .. }
         | Effect::ProgramStarted { .. }
+        | Effect::CacheProgramStarted { .. }
         | Effect::ResetStarted
         | Effect::TargetResetStarted { .. } => {
             return Ok(Vec::new(alloc));

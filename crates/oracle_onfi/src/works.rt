@@ -168,7 +168,10 @@ impl Works {
     {
         match effect {
             Effect::EraseStarted { queued, row } => {
-                Ok(self.with_closed(alloc, erase_of(alloc, row), queued)?.without_array(alloc))
+                Ok(
+                    self.with_closed(alloc, erase_of(alloc, row), queued)?
+                        .without_array(alloc),
+                )
             }
             Effect::ProgramStarted { queued, page } => {
                 self.with_closed(alloc, program_of(page, bytes), queued)
