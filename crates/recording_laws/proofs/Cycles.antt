@@ -226,7 +226,7 @@ asks_address g plain u byte (Some o) n t s = asks_address_of g plain u byte o.op
 output_unseen : (p : Bool) (k : LunKnown) (t s : LunView) → s.latch ≡ Status → t.latch ≡ Data → Fits p k t s → Fits p k (view_after DataOutput t) s
 output_unseen p k t s status gives f =
     record {
-      below = record { busy = f.below.busy; queue = f.below.queue; latch = f.below.latch; calm = f.below.calm; spare = f.below.spare; spare_seen = f.below.spare_seen };
+      below = record { busy = f.below.busy; queue = f.below.queue; latch = f.below.latch; calm = f.below.calm; spare = record { closer = f.below.spare.closer; array = f.below.spare.array }; spare_seen = record { closer = f.below.spare_seen.closer; array = f.below.spare_seen.array } };
       queue = f.queue;
       begun = λ h.
           let b = f.begun h in
