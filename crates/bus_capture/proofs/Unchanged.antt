@@ -54,7 +54,7 @@ none_falls false true c d x y h k = absurd cc
 no_ready : (before after : List Level) (ce lun : ℕ) → drop 16 before ≡ drop 16 after → ready_of before after ce lun ≡ None
 no_ready before after ce lun still =
     none_falls (is_low (level before (role.Busy ce lun))) (falls (level before (role.Busy ce lun)) (level after (role.Busy ce lun)))
-    (falls (level before (role.ArrayBusy ce lun)) (level after (role.ArrayBusy ce lun))) (not (strobe_rises before after)) (Rdy ce lun (is_high (level after (role.Failed ce lun)))) (Ard ce lun)
+    (falls (level before (role.ArrayBusy ce lun)) (level after (role.ArrayBusy ce lun))) (not (strobe_rises before after)) (Rdy ce lun (record { last = is_high (level after (role.Failed ce lun)); before = false })) (Ard ce lun (is_high (level after (role.Failed ce lun))))
     (falls_not (level before (role.Busy ce lun)) (level after (role.Busy ce lun)) (same_level before after (role.Busy ce lun) (omega arith) still))
     (falls_not (level before (role.ArrayBusy ce lun)) (level after (role.ArrayBusy ce lun)) (same_level before after (role.ArrayBusy ce lun) (omega arith) still))
 

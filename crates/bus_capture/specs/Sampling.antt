@@ -216,8 +216,8 @@ strobe_rises before after = rises (level before We) (level after We) || rises (l
 abbrev pub array_is_done : (before after : List Level) → (ce lun : ℕ) → Bool
 array_is_done before after ce lun = is_low (level before (Busy ce lun)) && (falls (level before (ArrayBusy ce lun)) (level after (ArrayBusy ce lun)) && not (strobe_rises before after))
 
--- busy falls: a ready, with failure if that is told then; the array is done: a ready of the array
+-- busy falls: a ready, with failure if that is told then; the array is done: a ready of the array, and so is that. No line tells of the page before
 abbrev pub ready_of : (before after : List Level) → (ce lun : ℕ) → Option Item
 ready_of before after ce lun =
-    if falls (level before (Busy ce lun)) (level after (Busy ce lun)) then Some (Rdy ce lun (is_high (level after (Failed ce lun)))) else (
-    if array_is_done before after ce lun then Some (Ard ce lun) else None)
+    if falls (level before (Busy ce lun)) (level after (Busy ce lun)) then Some (Rdy ce lun (record { last = is_high (level after (Failed ce lun)); before = false })) else (
+    if array_is_done before after ce lun then Some (Ard ce lun (is_high (level after (Failed ce lun)))) else None)

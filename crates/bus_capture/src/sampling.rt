@@ -5,7 +5,7 @@ ghost use Rattle.bus_capture.specs.Sampling.{level, with_enable, enabled_from, w
 use crate::fault::BusFault;
 use crate::levels::Levels;
 use bus_signals::Role;
-use onfi_cycle::{Cycle, Item, Kind};
+use onfi_cycle::{Cycle, Failures, Item, Kind};
 use vcd_text::Level;
 
 /// The strobes of a bus: WE#, and RE#.
@@ -349,11 +349,15 @@ pub fn ready_of(before: &Levels, after: &Levels, ce: u8, lun: u8) -> Option<Item
         return Some(Item::Rdy {
             ce,
             lun,
-            fail: is_high(after.level(Role::Failed { ce, lun })),
+            fail: Failures {
+                last: is_high(after.level(Role::Failed { ce, lun })),
+                before: false,
+            },
         });
     }
     if array_is_done(before, after, ce, lun) {
-        return Some(Item::Ard { ce, lun });
+        let fail = is_high(after.level(Role::Failed { ce, lun }));
+        return Some(Item::Ard { ce, lun, fail });
     }
     None
 }

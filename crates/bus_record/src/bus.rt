@@ -18,7 +18,7 @@ ghost use Rattle.bus_record.specs.Channel.{IsSameChannel};
 ghost use Rattle.target_record.specs.Record.{target_of};
 ghost use Rattle.onfi_cycle.specs.Bounds.{TargetFits};
 ghost use Rattle.nand_geometry.specs.Limits.{InLimits};
-ghost use Rattle.nand_geometry.specs.Optional.{is_wide};
+ghost use Rattle.nand_geometry.specs.Optional.{is_wide, has_program_cache};
 
 use crate::item::OnfiseqItem;
 use crate::luns_change::{end_array_work_of, end_work_of};
@@ -510,6 +510,14 @@ pub fn is_wide(bus: &OnfiseqBus) -> bool
     ensures { result ≡ is_wide (bus_view bus.now).geometry.optional }
 {
     Optional(bus.geometry.optional).is_wide()
+}
+
+/// The chips of the channel program caches.
+#[inline(always)]
+pub fn caches_programs(bus: &OnfiseqBus) -> bool
+    ensures { result ≡ has_program_cache (bus_view bus.now).geometry.optional }
+{
+    Optional(bus.geometry.optional).has_program_cache()
 }
 
 /// The channel goes on by the item that numbers stand for in the wider profile or the base one, as [`push`] does; [`NO_ITEM`] where they are none.

@@ -5,6 +5,7 @@ use Rattle.nand_geometry.specs.declared.parts.Parts.{Parts}
 use Rattle.onfi_cycle.specs.declared.item.Cycle.{Cycle}
 use Rattle.onfi_cycle.specs.declared.item.Kind.{Kind}
 use Rattle.onfi_cycle.specs.declared.item.Kind.TheVariants.{Cmd, Adr, Din, Dout}
+use Rattle.onfi_cycle.specs.declared.item.Failures.{Failures}
 use Rattle.onfi_cycle.specs.declared.item.Item.{Item}
 use Rattle.onfi_cycle.specs.declared.item.Item.TheVariants.{Cyc, Rdy, Ard}
 use Rattle.bus_lines.specs.declared.lines.Lines.{Lines}
@@ -24,7 +25,7 @@ use Rattle.wave_laws.specs.Lines.{lines_of}
 use Rattle.wave_laws.specs.Readies.{held_of, busy_code}
 use Rattle.wave_laws.proofs.Followed.{drawn_on}
 use Rattle.wave_laws.proofs.Levels.{length_levels}
-use Rattle.capture_laws.specs.Drawn.{carries_byte, carry_bytes, stamped_from}
+use Rattle.capture_laws.specs.Drawn.{carries_byte, carry_bytes, told_of, stamped_from}
 use Rattle.capture_laws.proofs.Placed.{Shows}
 use Rattle.capture_laws.proofs.Tables.{Fits}
 use Rattle.capture_laws.proofs.Standing.{told, told_at, bus_at, Stands, stands}
@@ -85,10 +86,10 @@ module _ (g : Parts) (targets : ℕ) (fit : Fits targets g.luns) (few : targets 
     standing_next s e shows = subst (λ (past : List Item). Stands g s.targets s.after.of past next.lines) past_is (standing s s.after.of next.past next.rule next.lines e legal shows)
 
     ready_sees : (items : List Stamped) (t : ℕ) → next.lines ≡ d.lines →
-        ((s : Sampler) (os : List Observed) → s.targets ≡ targets → s.glitch ≡ 0 → Stands g s.targets s.before.of d.past d.lines → Stands g s.targets s.after.of (i ∷ d.past) d.lines → Settles s os (seen_items os ++ (record { time = s.time; item = i } ∷ []))) →
-        Sees sources targets (levels_at g targets d d.lines) (levels_at g targets next next.lines) items (items ++ (record { time = t; item = i } ∷ [])) t
+        ((s : Sampler) (os : List Observed) → s.targets ≡ targets → s.glitch ≡ 0 → Stands g s.targets s.before.of d.past d.lines → Stands g s.targets s.after.of (i ∷ d.past) d.lines → Settles s os (seen_items os ++ (record { time = s.time; item = told_of i } ∷ []))) →
+        Sees sources targets (levels_at g targets d d.lines) (levels_at g targets next next.lines) items (items ++ (record { time = t; item = told_of i } ∷ [])) t
     ready_sees items t lines h s os e glitch time b a seen =
-        one_more s os items t i time seen
+        one_more s os items t (told_of i) time seen
         (h s os e glitch (standing s s.before.of d.past d.rule d.lines e none b) (subst (λ (l : Lines). Stands g s.targets s.after.of (i ∷ d.past) l) lines (standing_next s e a)))
 
     -- a line of the model that changes
@@ -131,7 +132,7 @@ module _ (g : Parts) (targets : ℕ) (fit : Fits targets g.luns) (few : targets 
   -- ---- 2. an item
 
   abbrev stamp : Drawing → Item → List Stamped
-  stamp d i = record { time = 10 * d.items + 6; item = i } ∷ []
+  stamp d i = record { time = 10 * d.items + 6; item = told_of i } ∷ []
 
   abbrev ItemGoes : Drawing → Item → Sampler → List Observed → List Stamped → Type 0
   ItemGoes d i s os items = Gone sources targets s os (item_events g targets d i) (levels_at g targets (after g targets d i) (after g targets d i).lines) (items ++ stamp d i) (10 * d.items + 6)
@@ -171,29 +172,29 @@ module _ (g : Parts) (targets : ℕ) (fit : Fits targets g.luns) (few : targets 
   named : (s : Sampler) (past : List Item) (busy : Bool) (ce lun : ℕ) → s.targets ≡ targets → Names g targets past busy ce lun → Names g s.targets past busy ce lun
   named s past busy ce lun e h = subst (λ (n : ℕ). Names g n past busy ce lun) (sym e) h
 
-  busy_goes : (d : Drawing) (ce lun : ℕ) (fail : Bool) (done : List Item) → d ≡ drawn_by g targets done → (after g targets d (Rdy ce lun fail)).rule ≡ 0 →
+  busy_goes : (d : Drawing) (ce lun : ℕ) (fail : Failures) (done : List Item) → d ≡ drawn_by g targets done → (after g targets d (Rdy ce lun fail)).rule ≡ 0 →
       (s : Sampler) (os : List Observed) (items : List Stamped) → Waits sources targets s os (levels_at g targets d d.lines) items → MayCome s (10 * d.items) → ItemGoes d (Rdy ce lun fail) s os items
   busy_goes d ce lun fail done is legal s os items waits may =
       let i = Rdy ce lun fail in
       let next = after g targets d i in
       let free = none d i done is legal in
       let name : Names g targets d.past true ce lun = names g targets d i free legal in
-      let settle : (s : Sampler) (os : List Observed) → s.targets ≡ targets → s.glitch ≡ 0 → Stands g s.targets s.before.of d.past d.lines → Stands g s.targets s.after.of (i ∷ d.past) d.lines → Settles s os (seen_items os ++ (record { time = s.time; item = i } ∷ [])) =
+      let settle : (s : Sampler) (os : List Observed) → s.targets ≡ targets → s.glitch ≡ 0 → Stands g s.targets s.before.of d.past d.lines → Stands g s.targets s.after.of (i ∷ d.past) d.lines → Settles s os (seen_items os ++ (record { time = s.time; item = told_of i } ∷ [])) =
       λ s os e glitch b a. busy_settles g s os d.past d.lines ce lun fail (moved d i done is legal s e) glitch few_luns (named s d.past true ce lun e name) b a in
       let falls : is_busy g (i ∷ d.past) ce lun ≡ false = (moved_at d i done is legal).busy ce lun name.target name.within name.works ∙ ap not (itself ce lun) in
       telling_frame sources fit.apart targets s os (levels_at g targets d d.lines) (levels_at g targets next next.lines) items (10 * d.items + 6) waits (as_long d next d.lines next.lines)
       (items ++ stamp d i) (comes_later s (10 * d.items) (10 * d.items + 6) may (omega arith)) (ready_sees d i done is legal items (10 * d.items + 6) refl settle)
       (told_differs d i done is legal 0 ce lun (omega arith) name.target name.within (ap bit name.works) (ap bit falls))
 
-  array_goes : (d : Drawing) (ce lun : ℕ) (done : List Item) → d ≡ drawn_by g targets done → (after g targets d (Ard ce lun)).rule ≡ 0 →
-      (s : Sampler) (os : List Observed) (items : List Stamped) → Waits sources targets s os (levels_at g targets d d.lines) items → MayCome s (10 * d.items) → ItemGoes d (Ard ce lun) s os items
-  array_goes d ce lun done is legal s os items waits may =
-      let i = Ard ce lun in
+  array_goes : (d : Drawing) (ce lun : ℕ) (fail : Bool) (done : List Item) → d ≡ drawn_by g targets done → (after g targets d (Ard ce lun fail)).rule ≡ 0 →
+      (s : Sampler) (os : List Observed) (items : List Stamped) → Waits sources targets s os (levels_at g targets d d.lines) items → MayCome s (10 * d.items) → ItemGoes d (Ard ce lun fail) s os items
+  array_goes d ce lun fail done is legal s os items waits may =
+      let i = Ard ce lun fail in
       let next = after g targets d i in
       let free = none d i done is legal in
       let name : Names g targets d.past false ce lun = names g targets d i free legal in
-      let settle : (s : Sampler) (os : List Observed) → s.targets ≡ targets → s.glitch ≡ 0 → Stands g s.targets s.before.of d.past d.lines → Stands g s.targets s.after.of (i ∷ d.past) d.lines → Settles s os (seen_items os ++ (record { time = s.time; item = i } ∷ [])) =
-      λ s os e glitch b a. array_settles g s os d.past d.lines ce lun (moved d i done is legal s e) glitch few_luns (named s d.past false ce lun e name) b a in
+      let settle : (s : Sampler) (os : List Observed) → s.targets ≡ targets → s.glitch ≡ 0 → Stands g s.targets s.before.of d.past d.lines → Stands g s.targets s.after.of (i ∷ d.past) d.lines → Settles s os (seen_items os ++ (record { time = s.time; item = told_of i } ∷ [])) =
+      λ s os e glitch b a. array_settles g s os d.past d.lines ce lun fail (moved d i done is legal s e) glitch few_luns (named s d.past false ce lun e name) b a in
       let falls : has_busy_array g (i ∷ d.past) ce lun ≡ false = (moved_at d i done is legal).array ce lun name.target name.within refl name.works ∙ ap not (itself ce lun) in
       telling_frame sources fit.apart targets s os (levels_at g targets d d.lines) (levels_at g targets next next.lines) items (10 * d.items + 6) waits (as_long d next d.lines next.lines)
       (items ++ stamp d i) (comes_later s (10 * d.items) (10 * d.items + 6) may (omega arith)) (ready_sees d i done is legal items (10 * d.items + 6) refl settle)
@@ -203,12 +204,12 @@ module _ (g : Parts) (targets : ℕ) (fit : Fits targets g.luns) (few : targets 
       (s : Sampler) (os : List Observed) (items : List Stamped) → Waits sources targets s os (levels_at g targets d d.lines) items → MayCome s (10 * d.items) → ItemGoes d i s os items
   item_goes d (Cyc c) done is legal byte high s os items waits may = cycle_goes d c done is legal (leb-true (suc c.byte) 256 byte) high s os items waits may
   item_goes d (Rdy ce lun fail) done is legal byte high s os items waits may = busy_goes d ce lun fail done is legal s os items waits may
-  item_goes d (Ard ce lun) done is legal byte high s os items waits may = array_goes d ce lun done is legal s os items waits may
+  item_goes d (Ard ce lun fail) done is legal byte high s os items waits may = array_goes d ce lun fail done is legal s os items waits may
 
   stays_high : (d : Drawing) (i : Item) → AreHigh d.lines → AreHigh (after g targets d i).lines
   stays_high d (Cyc c) h = record { we = refl; re = refl }
   stays_high d (Rdy ce lun fail) h = record { we = h.we; re = h.re }
-  stays_high d (Ard ce lun) h = record { we = h.we; re = h.re }
+  stays_high d (Ard ce lun fail) h = record { we = h.we; re = h.re }
 
   -- ---- 3. all items
 

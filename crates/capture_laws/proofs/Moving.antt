@@ -82,7 +82,7 @@ pub record Names (g : Parts) (targets : ℕ) (past : List Item) (busy : Bool) (c
 abbrev pub Name : Parts → ℕ → List Item → Item → Type 0
 Name g targets past (Cyc c) = c.ce < targets
 Name g targets past (Rdy ce lun fail) = Names g targets past true ce lun
-Name g targets past (Ard ce lun) = Names g targets past false ce lun
+Name g targets past (Ard ce lun fail) = Names g targets past false ce lun
 
 pub names : (g : Parts) (targets : ℕ) (d : Drawing) (i : Item) → d.rule ≡ 0 → (after g targets d i).rule ≡ 0 → Name g targets d.past i
 unfolding breaks_not_there
@@ -92,38 +92,40 @@ names g targets d (Rdy ce lun fail) none h =
     let there = lun_there g d.past ce (λ v. v.busy) g.luns 0 lun (is_not (lun_is (λ v. v.busy) (luns_of g d.past ce) lun) parts.1) in
     let same : 0 + lun ≡ lun = omega arith in
     record { target = leb-false targets ce parts.0; within = there.0; works = ap (λ (m : ℕ). is_busy g d.past ce m) (sym same) ∙ there.1 }
-names g targets d (Ard ce lun) none h =
-    let parts = neither (nat_le targets ce) (not (lun_is (λ v. v.array_busy) (luns_of g d.past ce) lun)) (is_there g targets d (Ard ce lun) none h) in
+names g targets d (Ard ce lun fail) none h =
+    let parts = neither (nat_le targets ce) (not (lun_is (λ v. v.array_busy) (luns_of g d.past ce) lun)) (is_there g targets d (Ard ce lun fail) none h) in
     let there = lun_there g d.past ce (λ v. v.array_busy) g.luns 0 lun (is_not (lun_is (λ v. v.array_busy) (luns_of g d.past ce) lun) parts.1) in
     let same : 0 + lun ≡ lun = omega arith in
     record { target = leb-false targets ce parts.0; within = there.0; works = ap (λ (m : ℕ). has_busy_array g d.past ce m) (sym same) ∙ there.1 }
 
 -- ---- 3. a LUN that is busy has no array that is
 
-not_both : (x : Effect) (busy caching array : Bool) → (array ≡ true → busy ≡ false) → array_busy_after x busy caching array ≡ true → busy_after x busy ≡ false
-not_both (e.BecameReady fail) busy caching array h k = refl
-not_both e.ArrayBecameReady busy caching array h k = absurd (false≢true k)
-not_both (e.ReadStarted _ _) busy caching array h k = absurd (false≢true k)
-not_both (e.ReadQueued _) busy caching array h k = absurd (false≢true k)
-not_both (e.CopybackReadStarted _ _ _) busy caching array h k = absurd (false≢true k)
-not_both (e.EraseStarted _ _) busy caching array h k = absurd (false≢true k)
-not_both (e.ProgramStarted _ _) busy caching array h k = absurd (false≢true k)
-not_both e.IdRead busy caching array h k = absurd (false≢true k)
-not_both (e.IdentityRead _) busy caching array h k = absurd (false≢true k)
-not_both e.ParameterPageReadStarted busy caching array h k = absurd (false≢true k)
-not_both e.UniqueIdReadStarted busy caching array h k = absurd (false≢true k)
-not_both (e.FeaturesReadStarted _) busy caching array h k = absurd (false≢true k)
-not_both (e.FeaturesSet _) busy caching array h k = absurd (false≢true k)
-not_both (e.CacheReadContinued _) busy caching array h k = absurd (false≢true k)
-not_both e.CacheReadEnded busy caching array h k = absurd (false≢true k)
-not_both e.ResetStarted busy caching array h k = absurd (false≢true k)
-not_both (e.TargetResetStarted _) busy caching array h k = absurd (false≢true k)
-not_both _ busy caching array h k = h k
+not_both : (x : Effect) (busy : Bool) (last : Option Command) (array : Bool) → (array ≡ true → busy ≡ false) → array_busy_after x busy last array ≡ true → busy_after x busy ≡ false
+not_both (e.BecameReady fail) busy last array h k = refl
+not_both (e.ArrayBecameReady _) busy last array h k = absurd (false≢true k)
+not_both (e.ReadStarted _ _) busy last array h k = absurd (false≢true k)
+not_both (e.ReadQueued _) busy last array h k = absurd (false≢true k)
+not_both (e.CopybackReadStarted _ _ _) busy last array h k = absurd (false≢true k)
+not_both (e.EraseStarted _ _) busy last array h k = absurd (false≢true k)
+not_both (e.ProgramStarted true _) busy last array h k = kept_busy (keeps_array_busy last) array k
+not_both (e.ProgramStarted false _) busy last array h k = absurd (false≢true k)
+not_both (e.CacheProgramStarted _) busy last array h k = absurd (false≢true k)
+not_both e.IdRead busy last array h k = absurd (false≢true k)
+not_both (e.IdentityRead _) busy last array h k = absurd (false≢true k)
+not_both e.ParameterPageReadStarted busy last array h k = absurd (false≢true k)
+not_both e.UniqueIdReadStarted busy last array h k = absurd (false≢true k)
+not_both (e.FeaturesReadStarted _) busy last array h k = absurd (false≢true k)
+not_both (e.FeaturesSet _) busy last array h k = absurd (false≢true k)
+not_both (e.CacheReadContinued _) busy last array h k = absurd (false≢true k)
+not_both e.CacheReadEnded busy last array h k = absurd (false≢true k)
+not_both e.ResetStarted busy last array h k = absurd (false≢true k)
+not_both (e.TargetResetStarted _) busy last array h k = absurd (false≢true k)
+not_both _ busy last array h k = h k
 
 pub array_alone : (g : Parts) (past : List Item) (ce lun : ℕ) → has_busy_array g past ce lun ≡ true → is_busy g past ce lun ≡ false
 array_alone g [] ce lun h = refl
 array_alone g (i ∷ past) ce lun h =
-    not_both (effect_on g past i (record { ce = ce; lun = lun })) (is_busy g past ce lun) (is_caching g past (record { ce = ce; lun = lun })) (has_busy_array g past ce lun) (array_alone g past ce lun) h
+    not_both (effect_on g past i (record { ce = ce; lun = lun })) (is_busy g past ce lun) (closer g past (record { ce = ce; lun = lun })) (has_busy_array g past ce lun) (array_alone g past ce lun) h
 
 -- ---- 4. and what becomes of them
 

@@ -6,6 +6,7 @@ use Rattle.nand_geometry.specs.declared.parts.Parts.{Parts}
 use Rattle.onfi_cycle.specs.declared.item.Cycle.{Cycle}
 use Rattle.onfi_cycle.specs.declared.item.Kind.{Kind}
 use Rattle.onfi_cycle.specs.declared.item.Kind.TheVariants.{Cmd, Adr, Din, Dout}
+use Rattle.onfi_cycle.specs.declared.item.Failures.{Failures}
 use Rattle.onfi_cycle.specs.declared.item.Item.{Item}
 use Rattle.onfi_cycle.specs.declared.item.Item.TheVariants.{Cyc, Rdy, Ard}
 use Rattle.bus_lines.specs.declared.lines.Lines.{Lines}
@@ -28,6 +29,7 @@ use Rattle.bus_capture.specs.Capturing.{with_readies}
 use Rattle.wave_laws.specs.Readies.{is_ready_of, is_array_ready_of}
 use Rattle.capture_laws.proofs.Standing.{lv, Stands}
 use Rattle.capture_laws.proofs.Moving.{Names, Moves, array_alone}
+use Rattle.capture_laws.specs.Drawn.{told_of}
 use Rattle.capture_laws.proofs.Settling.{seen_items, seen_at, seen_both, none_ready, one_ready, strobe_is, rising_strobe, rises_lv, strobe_quiet, Settles, settles}
 
 -- ---- 1. what is seen of a LUN
@@ -48,7 +50,7 @@ high_lv false = refl
 -- of a LUN, or its array, that was busy, and is it; with failure
 abbrev ready_by : (busy busy' array array' failed rising : Bool) → (ce lun : ℕ) → Option Item
 ready_by busy busy' array array' failed rising ce lun =
-    cond (busy && not busy') (Some (Rdy ce lun failed)) (cond (not busy && ((array && not array') && not rising)) (Some (Ard ce lun)) None)
+    cond (busy && not busy') (Some (Rdy ce lun (record { last = failed; before = false }))) (cond (not busy && ((array && not array') && not rising)) (Some (Ard ce lun failed)) None)
 
 abbrev rising_from : Lines → Lines → Bool
 rising_from l m = (not l.we && m.we) || (not l.re && m.re)
@@ -65,7 +67,7 @@ module _ (g : Parts) (targets : ℕ) (before after : List Level) (past past' : L
       (b.busy n few there) (a.busy n few there) (b.array n few there) (a.array n few there) (a.failed n few there) rising_is
     where
       by : (x x' y y' f : Level) (r : Bool) (u u' v v' w q : Bool) → x ≡ lv u → x' ≡ lv u' → y ≡ lv v → y' ≡ lv v' → f ≡ lv w → r ≡ q →
-          cond (falls x x') (Some (Rdy (n / 4) (n % 4) (is_high f))) (cond (is_low x && (falls y y' && not r)) (Some (Ard (n / 4) (n % 4))) None) ≡ ready_by u u' v v' w q (n / 4) (n % 4)
+          cond (falls x x') (Some (Rdy (n / 4) (n % 4) (record { last = is_high f; before = false }))) (cond (is_low x && (falls y y' && not r)) (Some (Ard (n / 4) (n % 4) (is_high f))) None) ≡ ready_by u u' v v' w q (n / 4) (n % 4)
       by x x' y y' f r u u' v v' w q e1 e2 e3 e4 e5 e6 = rw (e1, e2, e3, e4, e5, e6, falls_lv u u', high_lv w, low_lv u, falls_lv v v') refl
 
   ready_absent : (n : ℕ) → n < 4 * targets → nat_lt (n % 4) g.luns ≡ false → ready_of before after (n / 4) (n % 4) ≡ None
@@ -201,11 +203,11 @@ same_by false x' true true f r ce lun h k = refl
 same_by false x' true false f r ce lun h k = absurd (false≢true (k refl))
 same_by false x' false y' f r ce lun h k = refl
 
-ready_here : (x x' y y' f r : Bool) (ce lun : ℕ) (fail : Bool) → x ≡ true → x' ≡ false → f ≡ fail → ready_by x x' y y' f r ce lun ≡ Some (Rdy ce lun fail)
+ready_here : (x x' y y' f r : Bool) (ce lun : ℕ) (fail : Bool) → x ≡ true → x' ≡ false → f ≡ fail → ready_by x x' y y' f r ce lun ≡ Some (Rdy ce lun (record { last = fail; before = false }))
 ready_here x x' y y' f r ce lun fail h k e = rw (h, k, e) refl
 
-array_here : (x x' y y' f r : Bool) (ce lun : ℕ) → x ≡ false → y ≡ true → y' ≡ false → r ≡ false → ready_by x x' y y' f r ce lun ≡ Some (Ard ce lun)
-array_here x x' y y' f r ce lun h k e i = rw (h, k, e, i) refl
+array_here : (x x' y y' f r : Bool) (ce lun : ℕ) (fail : Bool) → x ≡ false → y ≡ true → y' ≡ false → r ≡ false → f ≡ fail → ready_by x x' y y' f r ce lun ≡ Some (Ard ce lun fail)
+array_here x x' y y' f r ce lun fail h k e i same = rw (h, k, e, i, same) refl
 
 not_and : (b : Bool) → (not b && b) ≡ false
 not_and true = refl
@@ -231,53 +233,53 @@ itself ce lun = rw (eq-eqb ce ce refl, eq-eqb lun lun refl) refl
 
 module _ (g : Parts) (s : Sampler) (os : List Observed) (past : List Item) (l : Lines) (i : Item) (moves : Moves g s.targets past i) (glitch : s.glitch ≡ 0) (four : g.luns ≤ 4)
     (b : Stands g s.targets s.before.of past l) (a : Stands g s.targets s.after.of (i ∷ past) l) (ready : is_ready i ≡ true) where
-  ready_settles : (ce lun : ℕ) → ce < s.targets → lun < g.luns → ready_of s.before.of s.after.of ((4 * ce + lun) / 4) ((4 * ce + lun) % 4) ≡ Some i →
+  ready_settles : (ce lun : ℕ) → ce < s.targets → lun < g.luns → ready_of s.before.of s.after.of ((4 * ce + lun) / 4) ((4 * ce + lun) % 4) ≡ Some (told_of i) →
       ((n : ℕ) → (n ≡ 4 * ce + lun → ⊥) → is_ready_of i (n / 4) (n % 4) ≡ false) → ((n : ℕ) → (n ≡ 4 * ce + lun → ⊥) → is_array_ready_of i (n / 4) (n % 4) ≡ false) →
-      Settles s os (seen_items os ++ (record { time = s.time; item = i } ∷ []))
-  ready_settles ce lun h k is none no_array = settles s os Nothing Nothing (seen_items os ++ (record { time = s.time; item = i } ∷ []))
+      Settles s os (seen_items os ++ (record { time = s.time; item = told_of i } ∷ []))
+  ready_settles ce lun h k is none no_array = settles s os Nothing Nothing (seen_items os ++ (record { time = s.time; item = told_of i } ∷ []))
       (strobe_is s Write s.we glitch ∙ strobe_quiet s.targets Write s.we.driven l.we l.we s.before.of s.after.of b.we a.we (not_and l.we))
       (strobe_is s Read s.re glitch ∙ strobe_quiet s.targets Read s.re.driven l.re l.re s.before.of s.after.of b.re a.re (not_and l.re))
-      (ap seen_items (one_ready s.time s.before.of s.after.of os (4 * s.targets) 0 (4 * ce + lun) i (omega arith) (omega (arith, h, k, four)) is
+      (ap seen_items (one_ready s.time s.before.of s.after.of os (4 * s.targets) 0 (4 * ce + lun) (told_of i) (omega arith) (omega (arith, h, k, four)) is
       (λ n ne from to. ready_if g s.targets s.before.of s.after.of past (i ∷ past) l l b a n (omega (arith, to)) None
       (λ there. same_by (is_busy g past (n / 4) (n % 4)) (is_busy g (i ∷ past) (n / 4) (n % 4)) (has_busy_array g past (n / 4) (n % 4)) (has_busy_array g (i ∷ past) (n / 4) (n % 4)) (tells_failure (i ∷ past) (n / 4) (n % 4))
       (rising_from l l) (n / 4) (n % 4)
       (λ is. moves.busy (n / 4) (n % 4) (omega (arith, to)) (leb-true (suc (n % 4)) g.luns there) is ∙ ap not (none n ne))
       (λ is. moves.array (n / 4) (n % 4) (omega (arith, to)) (leb-true (suc (n % 4)) g.luns there) ready is ∙ ap not (no_array n ne)))
       (λ none. refl)))
-      ∙ seen_both os (record { time = s.time; observation = observation.Item i } ∷ []))
+      ∙ seen_both os (record { time = s.time; observation = observation.Item (told_of i) } ∷ []))
 
   ready_from : (ce lun : ℕ) → ce < s.targets → lun < g.luns →
-      ready_by (is_busy g past ce lun) (is_busy g (i ∷ past) ce lun) (has_busy_array g past ce lun) (has_busy_array g (i ∷ past) ce lun) (tells_failure (i ∷ past) ce lun) (rising_from l l) ce lun ≡ Some i →
-      ready_of s.before.of s.after.of ((4 * ce + lun) / 4) ((4 * ce + lun) % 4) ≡ Some i
+      ready_by (is_busy g past ce lun) (is_busy g (i ∷ past) ce lun) (has_busy_array g past ce lun) (has_busy_array g (i ∷ past) ce lun) (tells_failure (i ∷ past) ce lun) (rising_from l l) ce lun ≡ Some (told_of i) →
+      ready_of s.before.of s.after.of ((4 * ce + lun) / 4) ((4 * ce + lun) % 4) ≡ Some (told_of i)
   ready_from ce lun h k is =
       let target : (4 * ce + lun) / 4 ≡ ce = omega (arith, k, four) in
       let which : (4 * ce + lun) % 4 ≡ lun = omega (arith, k, four) in
-      ready_if g s.targets s.before.of s.after.of past (i ∷ past) l l b a (4 * ce + lun) (omega (arith, h, k, four)) (Some i)
-      (λ there. subst (λ (n : ℕ). ready_by (is_busy g past n ((4 * ce + lun) % 4)) (is_busy g (i ∷ past) n ((4 * ce + lun) % 4)) (has_busy_array g past n ((4 * ce + lun) % 4)) (has_busy_array g (i ∷ past) n ((4 * ce + lun) % 4)) (tells_failure (i ∷ past) n ((4 * ce + lun) % 4)) (rising_from l l) n ((4 * ce + lun) % 4) ≡ Some i) (sym target)
-      (subst (λ (n : ℕ). ready_by (is_busy g past ce n) (is_busy g (i ∷ past) ce n) (has_busy_array g past ce n) (has_busy_array g (i ∷ past) ce n) (tells_failure (i ∷ past) ce n) (rising_from l l) ce n ≡ Some i) (sym which) is))
+      ready_if g s.targets s.before.of s.after.of past (i ∷ past) l l b a (4 * ce + lun) (omega (arith, h, k, four)) (Some (told_of i))
+      (λ there. subst (λ (n : ℕ). ready_by (is_busy g past n ((4 * ce + lun) % 4)) (is_busy g (i ∷ past) n ((4 * ce + lun) % 4)) (has_busy_array g past n ((4 * ce + lun) % 4)) (has_busy_array g (i ∷ past) n ((4 * ce + lun) % 4)) (tells_failure (i ∷ past) n ((4 * ce + lun) % 4)) (rising_from l l) n ((4 * ce + lun) % 4) ≡ Some (told_of i)) (sym target)
+      (subst (λ (n : ℕ). ready_by (is_busy g past ce n) (is_busy g (i ∷ past) ce n) (has_busy_array g past ce n) (has_busy_array g (i ∷ past) ce n) (tells_failure (i ∷ past) ce n) (rising_from l l) ce n ≡ Some (told_of i)) (sym which) is))
       (λ none. absurd (false≢true (sym none ∙ ap (λ (n : ℕ). nat_lt n g.luns) which ∙ le-leb (suc lun) g.luns k)))
 
-failure_told : (past : List Item) (ce lun : ℕ) (fail : Bool) → tells_failure (Rdy ce lun fail ∷ past) ce lun ≡ fail
-failure_told past ce lun fail =
+told_there : (ce lun : ℕ) (fail : Bool) → (ce == ce && lun == lun && fail) ≡ fail
+told_there ce lun fail =
     ap (λ (b : Bool). (b && (lun == lun)) && fail) (eq-eqb ce ce refl)
     ∙ ap (λ (b : Bool). b && fail) (eq-eqb lun lun refl)
 
 -- a ready is seen where it is told
-pub busy_settles : (g : Parts) (s : Sampler) (os : List Observed) (past : List Item) (l : Lines) (ce lun : ℕ) (fail : Bool) → Moves g s.targets past (Rdy ce lun fail) → s.glitch ≡ 0 → g.luns ≤ 4 → Names g s.targets past true ce lun →
-    Stands g s.targets s.before.of past l → Stands g s.targets s.after.of (Rdy ce lun fail ∷ past) l → Settles s os (seen_items os ++ (record { time = s.time; item = Rdy ce lun fail } ∷ []))
+pub busy_settles : (g : Parts) (s : Sampler) (os : List Observed) (past : List Item) (l : Lines) (ce lun : ℕ) (fail : Failures) → Moves g s.targets past (Rdy ce lun fail) → s.glitch ≡ 0 → g.luns ≤ 4 → Names g s.targets past true ce lun →
+    Stands g s.targets s.before.of past l → Stands g s.targets s.after.of (Rdy ce lun fail ∷ past) l → Settles s os (seen_items os ++ (record { time = s.time; item = told_of (Rdy ce lun fail) } ∷ []))
 busy_settles g s os past l ce lun fail moves glitch four named b a =
     ready_settles g s os past l (Rdy ce lun fail) moves glitch four b a refl ce lun named.target named.within
     (ready_from g s os past l (Rdy ce lun fail) moves glitch four b a refl ce lun named.target named.within
-    (ready_here (is_busy g past ce lun) (is_busy g (Rdy ce lun fail ∷ past) ce lun) (has_busy_array g past ce lun) (has_busy_array g (Rdy ce lun fail ∷ past) ce lun) (tells_failure (Rdy ce lun fail ∷ past) ce lun) (rising_from l l) ce lun fail
-    named.works (moves.busy ce lun named.target named.within named.works ∙ ap not (itself ce lun)) (failure_told past ce lun fail)))
+    (ready_here (is_busy g past ce lun) (is_busy g (Rdy ce lun fail ∷ past) ce lun) (has_busy_array g past ce lun) (has_busy_array g (Rdy ce lun fail ∷ past) ce lun) (tells_failure (Rdy ce lun fail ∷ past) ce lun) (rising_from l l) ce lun fail.last
+    named.works (moves.busy ce lun named.target named.within named.works ∙ ap not (itself ce lun)) (told_there ce lun fail.last)))
     (others ce lun) (λ n ne. refl)
 
 -- and that of an array
-pub array_settles : (g : Parts) (s : Sampler) (os : List Observed) (past : List Item) (l : Lines) (ce lun : ℕ) → Moves g s.targets past (Ard ce lun) → s.glitch ≡ 0 → g.luns ≤ 4 → Names g s.targets past false ce lun →
-    Stands g s.targets s.before.of past l → Stands g s.targets s.after.of (Ard ce lun ∷ past) l → Settles s os (seen_items os ++ (record { time = s.time; item = Ard ce lun } ∷ []))
-array_settles g s os past l ce lun moves glitch four named b a =
-    ready_settles g s os past l (Ard ce lun) moves glitch four b a refl ce lun named.target named.within
-    (ready_from g s os past l (Ard ce lun) moves glitch four b a refl ce lun named.target named.within
-    (array_here (is_busy g past ce lun) (is_busy g (Ard ce lun ∷ past) ce lun) (has_busy_array g past ce lun) (has_busy_array g (Ard ce lun ∷ past) ce lun) (tells_failure (Ard ce lun ∷ past) ce lun) (rising_from l l) ce lun
-    (array_alone g past ce lun named.works) named.works (moves.array ce lun named.target named.within refl named.works ∙ ap not (itself ce lun)) (stays l)))
+pub array_settles : (g : Parts) (s : Sampler) (os : List Observed) (past : List Item) (l : Lines) (ce lun : ℕ) (fail : Bool) → Moves g s.targets past (Ard ce lun fail) → s.glitch ≡ 0 → g.luns ≤ 4 → Names g s.targets past false ce lun →
+    Stands g s.targets s.before.of past l → Stands g s.targets s.after.of (Ard ce lun fail ∷ past) l → Settles s os (seen_items os ++ (record { time = s.time; item = Ard ce lun fail } ∷ []))
+array_settles g s os past l ce lun fail moves glitch four named b a =
+    ready_settles g s os past l (Ard ce lun fail) moves glitch four b a refl ce lun named.target named.within
+    (ready_from g s os past l (Ard ce lun fail) moves glitch four b a refl ce lun named.target named.within
+    (array_here (is_busy g past ce lun) (is_busy g (Ard ce lun fail ∷ past) ce lun) (has_busy_array g past ce lun) (has_busy_array g (Ard ce lun fail ∷ past) ce lun) (tells_failure (Ard ce lun fail ∷ past) ce lun) (rising_from l l) ce lun fail
+    (array_alone g past ce lun named.works) named.works (moves.array ce lun named.target named.within refl named.works ∙ ap not (itself ce lun)) (stays l) (told_there ce lun fail)))
     (λ n ne. refl) (others ce lun)

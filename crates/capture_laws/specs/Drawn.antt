@@ -1,5 +1,5 @@
 -- The dump of a legal trace is captured as this trace.
-use Rattle.std.specs.Prelude.{◌≡◌, ℕ, ◌+◌, ◌*◌, ◌^◌, ◌<◌, ◌≤◌, nat_lt, ◌&&◌, Bool, true, List, [], ◌∷◌, length, reverse, Ok}
+use Rattle.std.specs.Prelude.{◌≡◌, ℕ, ◌+◌, ◌*◌, ◌^◌, ◌<◌, ◌≤◌, nat_lt, ◌&&◌, Bool, true, false, List, [], ◌∷◌, length, reverse, Ok}
 use Rattle.onfi_cycle.specs.declared.item.Item.{Item}
 use Rattle.onfi_cycle.specs.declared.item.Item.TheVariants.{Cyc, Rdy, Ard}
 use Rattle.onfi_cycle.specs.Permitted.{is_legal}
@@ -13,16 +13,22 @@ use Rattle.bus_capture.specs.Inferring.{captured}
 abbrev pub carries_byte : Item → Bool
 carries_byte (Cyc c) = nat_lt c.byte 256
 carries_byte (Rdy _ _ _) = true
-carries_byte (Ard _ _) = true
+carries_byte (Ard _ _ _) = true
 
 abbrev pub carry_bytes : List Item → Bool
 carry_bytes [] = true
 carry_bytes (i ∷ items) = carries_byte i && carry_bytes items
 
+-- what the lines of a dump tell of an item: all but the failure of the page before, which its readies may tell
+abbrev pub told_of : Item → Item
+told_of (Cyc c) = Cyc c
+told_of (Rdy ce lun fail) = Rdy ce lun (record { last = fail.last; before = false })
+told_of (Ard ce lun fail) = Ard ce lun fail
+
 -- items one after the other, from number n on: each has ten units of time, and is seen at the sixth
 abbrev pub stamped_from : (n : ℕ) → List Item → List Stamped
 stamped_from n [] = []
-stamped_from n (i ∷ items) = record { time = 10 * n + 6; item = i } ∷ stamped_from (n + 1) items
+stamped_from n (i ∷ items) = record { time = 10 * n + 6; item = told_of i } ∷ stamped_from (n + 1) items
 
 -- a capture of a dump, of 1 to 4 targets of 1 to 4 LUNs, whose signals go by their names, and in which no change is too early
 pub record IsPlain (setup : Setup) : Type 0 where

@@ -13,8 +13,8 @@ use crate::record::{
     held_records, is_set, latch_code, latch_of, page_of, queued_of, queued_record, register_record,
 };
 use onfi_cycle::{
-    Command, Effect, Failures, HeldPages, Latch, MAX_PLANES, PageAddress, Queued, Register, RowQueue,
-    apply_to_held, has_reads, is_cache_program, is_cache_read, keeps_array_busy,
+    Command, Effect, Failures, HeldPages, Latch, MAX_PLANES, PageAddress, Queued, Register,
+    RowQueue, apply_to_held, has_reads, is_cache_program, is_cache_read, keeps_array_busy,
 };
 
 // Its next output gives this column of its register.
