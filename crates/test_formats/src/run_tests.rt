@@ -104,6 +104,7 @@ const FILES: &[Read] = &[
                     target: 1,
                     lun: 2,
                     ready: 1,
+                    before: false,
                 },
             },
             Numbered {
@@ -123,6 +124,7 @@ const FILES: &[Read] = &[
                     target: 1,
                     lun: 2,
                     ready: 1,
+                    before: false,
                 },
             },
             Numbered {
