@@ -39,6 +39,13 @@ calm true false = refl
 calm false true = refl
 calm false false = refl
 
+-- and no program of a 15 either
+pub calm_end : (read other : Bool) → (may_be_31 (closer_of read other) || false) ≡ false
+calm_end true true = refl
+calm_end true false = refl
+calm_end false true = refl
+calm_end false false = refl
+
 -- no cache read goes on, whatever else is asked
 pub calm_too : (asks read other : Bool) → (asks && may_be_31 (closer_of read other)) ≡ false
 calm_too true read other = calm read other
