@@ -551,13 +551,17 @@ struct onfiseq_step onfiseq_job_finish(struct onfiseq_live *live, struct onfiseq
                                        const uint8_t *taken, size_t count);
 
 /**
- * A LUN becomes ready, as R/B# tells, after work that failed or not: 0, or the code of the rule
- * against it, ONFISEQ_NOT_THERE where it isn't there or isn't busy, or ONFISEQ_DAMAGED.
+ * A LUN becomes ready, as R/B# tells, with the bits 1 (FAIL) and 2 (FAILC) of a status byte, or 0
+ * where nothing failed: 0, or the code of the rule against it, ONFISEQ_NOT_THERE where it isn't
+ * there or isn't busy, or ONFISEQ_DAMAGED.
  */
-uint32_t onfiseq_live_ready(struct onfiseq_live *live, uint8_t ce, uint8_t lun, bool failed);
+uint32_t onfiseq_live_ready(struct onfiseq_live *live, uint8_t ce, uint8_t lun, uint8_t failures);
 
-/** The array of a LUN does, after a cache read. The answers are those of onfiseq_live_ready. */
-uint32_t onfiseq_live_array_ready(struct onfiseq_live *live, uint8_t ce, uint8_t lun);
+/**
+ * The array of a LUN does, after a cache read, or after a cache program that failed or not. The
+ * answers are those of onfiseq_live_ready.
+ */
+uint32_t onfiseq_live_array_ready(struct onfiseq_live *live, uint8_t ce, uint8_t lun, bool failed);
 
 /**
  * A target is as at the start, as by onfiseq_begin_target, and lets the bus go where one of its

@@ -1,5 +1,6 @@
 -- What the record of a channel stands for.
-use Rattle.std.specs.Prelude.{◌≡◌, ℕ, ◌==◌, ◌&&◌, not, Bool, if◌then◌else◌, Option, Some, None}
+use Rattle.std.specs.Prelude.{◌≡◌, ℕ, ◌==◌, ◌&&◌, not, Bool, if◌then◌else◌, Option, Some, None, bit_and}
+use Rattle.onfi_cycle.specs.declared.item.Failures.{Failures}
 use Rattle.onfi_cycle.specs.declared.lun.Lun.{Lun}
 use Rattle.onfi_cycle.specs.State.{BusView}
 use Rattle.bus_record.specs.Bus.{are_sound, bus_view}
@@ -28,6 +29,10 @@ is_live v = v.magic == 0x4556494c && (not (v.bus.count == 0) && are_sound v.bus)
 -- both records are, and the job is one of the channel
 abbrev pub are_whole : OnfiseqLive → OnfiseqJob → Bool
 are_whole v j = is_live v && (is_whole j && is_on (state_of v) (lun_in j))
+
+-- what the bits FAIL and FAILC of a status byte tell
+abbrev pub failures_of : ℕ → Failures
+failures_of byte = record { last = bit_and byte 1 == 1; before = bit_and byte 2 == 2 }
 
 -- the LUN that has the bus is as it was, and the record is whole if it was
 pub record KeepsHolder (v later : OnfiseqLive) : Type 0 where
