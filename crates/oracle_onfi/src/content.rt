@@ -57,7 +57,6 @@ fn filled_after(
 }
 
 /// The bytes of the program that the tail of a target holds: those of its inputs, and elsewhere those that it began with.
-#[tactic(auto, using(crate::proofs::Filling::filled_more))]
 pub fn filled(alloc: Global, begun: &[u8], past: &[Item], ce: u8) -> Result<Vec<u8>, AllocError>
     ensures { IfOk result (λ v. v.items ≡ filled begun.now (tail past.now ce)) }
 {

@@ -23,7 +23,7 @@ pub(crate) fn layout_of(name: Name, fields: Fields<'_>) -> &'static str {
         (Name::Polls, Some("program")) => "polls program N",
         (Name::Polls, Some("erase")) => "polls erase N",
         (Name::Polls, Some("lun")) => "polls lun CE LUN N",
-        (Name::Fail, _) if fields.get(4).is_some() => "fail CE LUN K before",
+        (Name::Fail, _) if fields.get(4) == Some("before") => "fail CE LUN K before",
         _ => layout(name),
     }
 }
