@@ -3,7 +3,7 @@ use Rattle.std.proofs.Common.{◌≡◌, ℕ, ◌+◌, ◌==◌, Bool, true, fal
 use Rattle.std.proofs.lemmas.Bool.{and_parts, or_parts, not-true, not-false}
 use Rattle.nand_geometry.specs.declared.parts.Parts.{Parts}
 use Rattle.nand_geometry.specs.Limits.{planes}
-use Rattle.nand_geometry.specs.Optional.{has_plane_reads, has_copyback}
+use Rattle.nand_geometry.specs.Optional.{has_plane_reads}
 use Rattle.nand_geometry.specs.Row.{parts_of}
 use Rattle.onfi_cycle.specs.declared.command.Command.{Command}
 use Rattle.onfi_cycle.specs.declared.command.Command.TheVariants.{Read, ReadConfirm, ChangeReadColumn, ChangeReadColumnEnhanced, ChangeReadColumnConfirm, BlockErase, BlockEraseConfirm, BlockErasePlane, ReadStatus, ReadStatusEnhanced, PageProgram, ProgramConfirm, ProgramPlane, ReadPlane, ReadId, ReadParameterPage, Reset, ReadCacheSequential, ReadCacheEnd, ReadUniqueId, GetFeatures, SetFeatures, ResetLun, SynchronousReset, CopybackRead, ChangeWriteColumn, ProgramCache}
@@ -226,7 +226,7 @@ asks_address g plain u byte (Some o) n t s = asks_address_of g plain u byte o.op
 output_unseen : (p : Bool) (k : LunKnown) (t s : LunView) → s.latch ≡ Status → t.latch ≡ Data → Fits p k t s → Fits p k (view_after DataOutput t) s
 output_unseen p k t s status gives f =
     record {
-      below = record { busy = f.below.busy; queue = f.below.queue; latch = f.below.latch; calm = f.below.calm; spare = f.below.spare; spare_seen = f.below.spare_seen };
+      below = record { busy = f.below.busy; queue = f.below.queue; latch = f.below.latch; calm = f.below.calm; spare = record { closer = f.below.spare.closer; array = f.below.spare.array }; spare_seen = record { closer = f.below.spare_seen.closer; array = f.below.spare_seen.array } };
       queue = f.queue;
       begun = λ h.
           let b = f.begun h in

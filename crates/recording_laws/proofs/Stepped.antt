@@ -32,6 +32,7 @@ use Rattle.trace_faults.specs.Outside.{standings_after, opens_sequence}
 use Rattle.trace_faults.specs.Recovery.{all_inside, judged_here, gone_on, gone_on_by}
 use Rattle.trace_faults.specs.Middle.{Seen, nothing_known, known_of, knows, has_begun, doubts_ready, doubts, hangs_on_before, of_cycle, of_ready, looks_of, is_reset_cycle, is_reset, waits_for_reset, begins_here, learned, is_passed_over, granted_to, seen_by, verdict_here, verdict, seen_after, broken_in, stops_others}
 use Rattle.trace_faults.proofs.Judged.{standings_inside, is_inside, judged_inside}
+use Rattle.recording_laws.proofs.Luns.{IsNarrow}
 use Rattle.recording_laws.proofs.Never.{narrow_of}
 use Rattle.recording_laws.proofs.Changed.{IsLearned, under_each, below_each, known_each}
 use Rattle.recording_laws.proofs.Rules.{IsKnown, plain_clear, OnlyHangs, only_hangs, only_hangs_fresh, none_broken, none_broken_fresh}

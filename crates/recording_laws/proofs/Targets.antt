@@ -22,7 +22,7 @@ use Rattle.onfi_cycle.specs.declared.tail_facts.TailFacts.{TailFacts}
 use Rattle.onfi_cycle.specs.declared.target_cycle.TargetCycle.{TargetCycle}
 use Rattle.onfi_cycle.specs.declared.target_cycle.TargetCycle.TheVariants.{CommandCycle, AddressCycle, InputCycle, OutputCycle}
 use Rattle.onfi_cycle.specs.Bounds.{is_read, is_block_erase}
-use Rattle.nand_geometry.specs.Optional.{is_wide, has_enhanced_column, has_plane_reads, has_copyback}
+use Rattle.nand_geometry.specs.Optional.{is_wide, has_enhanced_column, has_plane_reads}
 use Rattle.onfi_cycle.specs.Command.{is_opener, closes, address_cycles, at_last_row, is_change_read_column, is_enhanced_column, begins_data}
 use Rattle.onfi_cycle.specs.Effect.{is_off, is_shared, names_lun, page_address, address_effect, opening_address_effect, cycle_effect}
 use Rattle.onfi_cycle.specs.Lun.{is_page_read, view_after}
