@@ -4,6 +4,7 @@ use Rattle.std.specs.Prelude.{slice_get, reverse, is_none}
 use Rattle.std.proofs.lemmas.Grind.{reverse_onto}
 use Rattle.std.proofs.lemmas.Bool.{leb-true, and_parts, false≢true}
 use Rattle.nand_geometry.specs.declared.parts.Parts.{Parts}
+use Rattle.nand_geometry.specs.Optional.{has_program_cache}
 use Rattle.onfi_cycle.specs.declared.item.Item.{Item}
 use Rattle.onfi_cycle.specs.declared.forbidden.Forbidden.{Forbidden}
 use Rattle.onfi_cycle.specs.Permitted.{broken, is_permitted, is_legal}
@@ -74,15 +75,15 @@ unknown_shown targets luns fit p few =
 -- ---- 2. it goes on to the end
 
 events_end : (g : Parts) (targets glitch : ℕ) (items : List Item) → glitch ≡ 0 → Fits targets g.luns → targets ≤ 4 → g.luns ≤ 4 → (drawn_by g targets items).rule ≡ 0 → carry_bytes items ≡ true →
-    Ends (lines_of targets g.luns) (blank targets glitch unknown) [] (events_of g targets items) (stamped_from 0 items)
+    Ends (lines_of targets g.luns) (blank targets glitch (has_program_cache g.optional) unknown) [] (events_of g targets items) (stamped_from 0 items)
 events_end g targets glitch items none fit few four legal bytes =
     let sources = lines_of targets g.luns in
-    let s = blank targets glitch unknown in
+    let s = blank targets glitch (has_program_cache g.optional) unknown in
     let first = levels g targets [] 0 idle in
     let long : length (unknowns (line_count targets g.luns)) ≡ length first = length_unknowns (line_count targets g.luns) ∙ sym (length_levels g targets [] 0 idle) in
     let c = settings_go sources fit.apart first (unknowns (line_count targets g.luns)) [] 33 s [] refl long (unknown_shown targets g.luns fit) in
     let fresh : IsFresh (with_levels s c.xs) = record { before = refl; we = refl; re = refl } in
-    let waits : Waits sources targets (with_levels s c.xs) [] first [] = record { of_targets = refl; glitch = none; shows = c.shows; settles = fresh_settles (with_levels s c.xs) [] fresh none } in
+    let waits : Waits sources targets (has_program_cache g.optional) (with_levels s c.xs) [] first [] = record { of_targets = refl; of_caches = refl; glitch = none; shows = c.shows; settles = fresh_settles (with_levels s c.xs) [] fresh none } in
     let rest = events_from g targets begun items ++ last_events g targets (after_all g targets begun items) in
     let e = items_end g targets fit few four items begun [] refl legal bytes (record { we = refl; re = refl }) (with_levels s c.xs) [] [] waits (IsFirst refl fresh) in
     record { all = e.all; is = c.goes rest ∙ e.is; seen = e.seen }
@@ -105,7 +106,7 @@ told_by_lines luns state stamped (o ∷ os) = by o.observation (λ state stamped
 -- ---- 4. the law
 
 captured_from : (setup : Setup) (text : List ℕ) (signals : List Variable) (events : List Event) (sources : List Source) (stamped : List Stamped) → setup.form ≡ Dump → Tells text signals events →
-    sources_of setup.targets (carriers_of setup.mappings.now signals) ≡ Ok sources → Ends sources (blank setup.targets setup.glitch unknown) [] events stamped → tells_readies sources ≡ true → captured setup text ≡ Ok stamped
+    sources_of setup.targets (carriers_of setup.mappings.now signals) ≡ Ok sources → Ends sources (blank setup.targets setup.glitch (has_program_cache setup.geometry.optional) unknown) [] events stamped → tells_readies sources ≡ true → captured setup text ≡ Ok stamped
 captured_from setup text signals events sources stamped form tells found ends ready =
     let there : sources_in setup tells.read ≡ Ok sources = ap (λ (vs : List Variable). in_roles (sources_of setup.targets (carriers_of setup.mappings.now vs))) tells.declared ∙ ap in_roles found in
     let body : body_items setup tells.read sources ≡ Ok ends.all = ap (told_items setup sources) tells.told ∙ ends.is in
