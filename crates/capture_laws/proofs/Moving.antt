@@ -1,5 +1,5 @@
 -- What an item that breaks no rule does to the LUNs, as a dump shows it.
-use Rattle.std.proofs.Common.{◌≡◌, ℕ, zero, suc, ◌+◌, ◌<◌, ◌==◌, ◌||◌, Bool, true, false, cond, not, List, [], ◌∷◌, ◌++◌, Some, refl, sym, ap, ◌∙◌, subst, arith}
+use Rattle.std.proofs.Common.{◌≡◌, ℕ, zero, suc, ◌+◌, ◌<◌, ◌==◌, ◌&&◌, ◌||◌, Bool, true, false, cond, not, List, [], ◌∷◌, ◌++◌, Option, Some, None, refl, sym, ap, ◌∙◌, subst, arith}
 use Rattle.std.specs.Prelude.{nat_le, is_none}
 use Rattle.std.proofs.lemmas.Bool.{eqb-true, leb-false, and_parts, false≢true}
 use Rattle.nand_geometry.specs.declared.parts.Parts.{Parts}
@@ -7,7 +7,7 @@ use Rattle.nand_geometry.specs.Optional.{has_program_cache}
 use Rattle.onfi_cycle.specs.declared.effect.Effect.{Effect}
 use Rattle.onfi_cycle.specs.declared.effect.Effect.TheVariants as e
 use Rattle.onfi_cycle.specs.declared.forbidden.Forbidden.{Forbidden}
-use Rattle.onfi_cycle.specs.declared.forbidden.Forbidden.TheVariants as f
+use Rattle.onfi_cycle.specs.declared.forbidden.Forbidden.TheVariants as F
 use Rattle.onfi_cycle.specs.declared.forbidden.Forbidden.TheVariants.{NotThere}
 use Rattle.onfi_cycle.specs.declared.item.Item.{Item}
 use Rattle.onfi_cycle.specs.declared.item.Item.TheVariants.{Cyc, Rdy, Ard}
@@ -107,10 +107,10 @@ names g targets d (Ard ce lun fail) none h =
 -- ---- 3. where a chip programs no caches, a LUN that is busy has no array that is
 
 -- an 11 keeps an array busy behind a 15, or behind an 11 that did
-none_kept : (v : LunView) → IsSpare v → keeps_array_busy v.closer && v.array_busy ≡ false
+none_kept : (v : LunView) → IsSpare v → (keeps_array_busy v.closer && v.array_busy) ≡ false
 none_kept v spare = by (is_cache_program v.closer) (is_plane_program v.closer) v.array_busy spare.closer spare.array
   where
-    by : (program plane array : Bool) → program ≡ false → (plane ≡ true → array ≡ false) → (program || plane) && array ≡ false
+    by : (program plane array : Bool) → program ≡ false → (plane ≡ true → array ≡ false) → ((program || plane) && array) ≡ false
     by true plane array none kept = absurd (false≢true (sym none))
     by false true array none kept = kept refl
     by false false array none kept = refl
@@ -125,8 +125,8 @@ not_both (e.EraseStarted _ _) v spare h k = absurd (false≢true k)
 not_both (e.ProgramStarted true _) v spare h k = absurd (false≢true (sym (none_kept v spare) ∙ k))
 not_both (e.ProgramStarted false _) v spare h k = absurd (false≢true k)
 not_both (e.CacheProgramStarted _) v spare h k = absurd (false≢true k)
-not_both (e.ParameterPageReadStarted) v spare h k = absurd (false≢true k)
-not_both (e.UniqueIdReadStarted) v spare h k = absurd (false≢true k)
+not_both e.ParameterPageReadStarted v spare h k = absurd (false≢true k)
+not_both e.UniqueIdReadStarted v spare h k = absurd (false≢true k)
 not_both (e.FeaturesReadStarted _) v spare h k = absurd (false≢true k)
 not_both (e.FeaturesSet _) v spare h k = absurd (false≢true k)
 not_both (e.CacheReadContinued _) v spare h k = absurd (false≢true k)
@@ -158,34 +158,34 @@ none_numbered None h = refl
 none_numbered (Some rule) h = absurd (numbered rule h)
   where
     numbered : (rule : Forbidden) → rule_number rule ≡ 0 → ⊥
-    numbered f.NotThere h = absurd (omega (arith, h))
-    numbered f.CommandUnknown h = absurd (omega (arith, h))
-    numbered f.SequenceOpen h = absurd (omega (arith, h))
-    numbered f.SeveralLuns h = absurd (omega (arith, h))
-    numbered f.NoColumnToChange h = absurd (omega (arith, h))
-    numbered f.CommandMisplaced h = absurd (omega (arith, h))
-    numbered f.AddressMisplaced h = absurd (omega (arith, h))
-    numbered f.RowOutside h = absurd (omega (arith, h))
-    numbered f.LunBusy h = absurd (omega (arith, h))
-    numbered f.QueueClash h = absurd (omega (arith, h))
-    numbered f.InputMisplaced h = absurd (omega (arith, h))
-    numbered f.NoSoleDriver h = absurd (omega (arith, h))
-    numbered f.DataNotReady h = absurd (omega (arith, h))
-    numbered f.ColumnOutside h = absurd (omega (arith, h))
-    numbered f.CacheReadMisplaced h = absurd (omega (arith, h))
-    numbered f.CacheProgramMisplaced h = absurd (omega (arith, h))
-    numbered f.CopybackMisplaced h = absurd (omega (arith, h))
-    numbered f.PlaneNotHeld h = absurd (omega (arith, h))
+    numbered F.NotThere h = absurd (omega (arith, h))
+    numbered F.CommandUnknown h = absurd (omega (arith, h))
+    numbered F.SequenceOpen h = absurd (omega (arith, h))
+    numbered F.SeveralLuns h = absurd (omega (arith, h))
+    numbered F.NoColumnToChange h = absurd (omega (arith, h))
+    numbered F.CommandMisplaced h = absurd (omega (arith, h))
+    numbered F.AddressMisplaced h = absurd (omega (arith, h))
+    numbered F.RowOutside h = absurd (omega (arith, h))
+    numbered F.LunBusy h = absurd (omega (arith, h))
+    numbered F.QueueClash h = absurd (omega (arith, h))
+    numbered F.InputMisplaced h = absurd (omega (arith, h))
+    numbered F.NoSoleDriver h = absurd (omega (arith, h))
+    numbered F.DataNotReady h = absurd (omega (arith, h))
+    numbered F.ColumnOutside h = absurd (omega (arith, h))
+    numbered F.CacheReadMisplaced h = absurd (omega (arith, h))
+    numbered F.CacheProgramMisplaced h = absurd (omega (arith, h))
+    numbered F.CopybackMisplaced h = absurd (omega (arith, h))
+    numbered F.PlaneNotHeld h = absurd (omega (arith, h))
 
 legal_next : (g : Parts) (targets : ℕ) (past : List Item) (i : Item) (free : Bool) (n rule : ℕ) → is_legal g targets past ≡ true → (n ≡ 0 → is_permitted g targets past i ≡ true) → (free ≡ false → rule == 0 ≡ false) →
     is_legal g targets (past_next past (cond free n rule) i) ≡ true
-legal_next g targets past i true zero rule h permitted broken = ap (λ (b : Bool). b && is_legal g targets past) (permitted refl) ∙ h
-legal_next g targets past i true (suc n) rule h permitted broken = h
-legal_next g targets past i false n rule h permitted broken = ap (λ (b : Bool). is_legal g targets (cond b (i ∷ past) past)) (broken refl) ∙ h
+legal_next g targets past i true zero rule h permitted kept = ap (λ (b : Bool). b && is_legal g targets past) (permitted refl) ∙ h
+legal_next g targets past i true (suc n) rule h permitted kept = h
+legal_next g targets past i false n rule h permitted kept = ap (λ (b : Bool). is_legal g targets (cond b (i ∷ past) past)) (kept refl) ∙ h
 
 next_legal : (g : Parts) (targets : ℕ) (d : Drawing) (i : Item) → is_legal g targets d.past ≡ true → is_legal g targets (after g targets d i).past ≡ true
 next_legal g targets d i h =
-    legal_next g targets d.past i (d.rule == 0) (number_of (broken g targets d.past i)) d.rule h (none_numbered (broken g targets d.past i)) (λ e. e)
+    legal_next g targets d.past i (d.rule == 0) (number_of (broken g targets d.past i)) d.rule h (none_numbered (broken g targets d.past i)) (λ k. k)
 
 pub drawn_legal : (g : Parts) (targets : ℕ) (items : List Item) (d : Drawing) → is_legal g targets d.past ≡ true → is_legal g targets (after_all g targets d items).past ≡ true
 drawn_legal g targets [] d h = h
