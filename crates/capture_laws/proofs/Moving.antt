@@ -179,8 +179,14 @@ none_numbered (Some rule) h = absurd (numbered rule h)
 
 legal_next : (g : Parts) (targets : ℕ) (past : List Item) (i : Item) (free : Bool) (n rule : ℕ) → is_legal g targets past ≡ true → (n ≡ 0 → is_permitted g targets past i ≡ true) → (free ≡ false → rule == 0 ≡ false) →
     is_legal g targets (past_next past (cond free n rule) i) ≡ true
-legal_next g targets past i true zero rule h permitted kept = ap (λ (b : Bool). b && is_legal g targets past) (permitted refl) ∙ h
-legal_next g targets past i true (suc n) rule h permitted kept = h
+legal_next g targets past i true n rule h permitted kept = by (n == 0) refl
+  where
+    by : (none : Bool) → n == 0 ≡ none → is_legal g targets (past_next past n i) ≡ true
+    by true is =
+        ap (λ (b : Bool). is_legal g targets (cond b (i ∷ past) past)) is
+        ∙ ap (λ (b : Bool). b && is_legal g targets past) (permitted (eqb-true n 0 is))
+        ∙ h
+    by false is = ap (λ (b : Bool). is_legal g targets (cond b (i ∷ past) past)) is ∙ h
 legal_next g targets past i false n rule h permitted kept = ap (λ (b : Bool). is_legal g targets (cond b (i ∷ past) past)) (kept refl) ∙ h
 
 next_legal : (g : Parts) (targets : ℕ) (d : Drawing) (i : Item) → is_legal g targets d.past ≡ true → is_legal g targets (after g targets d i).past ≡ true
