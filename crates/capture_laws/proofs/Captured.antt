@@ -1,11 +1,12 @@
 -- What is drawn comes back.
 use Rattle.std.proofs.Common.{◌≡◌, ℕ, zero, suc, ◌-◌, ◌<◌, ◌≤◌, ◌==◌, Bool, true, false, cond, not, List, [], ◌∷◌, ◌++◌, length, get_or, Option, Some, None, Ok, Result, refl, sym, ap, ◌∙◌, arith, append_assoc, append-nil}
-use Rattle.std.specs.Prelude.{slice_get, reverse, is_none}
+use Rattle.std.specs.Prelude.{slice_get, map, reverse, is_none}
 use Rattle.std.proofs.lemmas.Grind.{reverse_onto}
 use Rattle.std.proofs.lemmas.Bool.{leb-true, and_parts, false≢true}
 use Rattle.nand_geometry.specs.declared.parts.Parts.{Parts}
 use Rattle.nand_geometry.specs.Optional.{has_program_cache}
 use Rattle.onfi_cycle.specs.declared.item.Item.{Item}
+use Rattle.onfi_cycle.specs.declared.item.Item.TheVariants.{Cyc, Rdy, Ard}
 use Rattle.onfi_cycle.specs.declared.forbidden.Forbidden.{Forbidden}
 use Rattle.onfi_cycle.specs.Permitted.{broken, is_permitted, is_legal}
 use Rattle.bus_lines.specs.Lines.{idle}
@@ -35,7 +36,7 @@ use Rattle.wave_laws.specs.Lines.{lines_of}
 use Rattle.wave_laws.proofs.Dumps.{drawn}
 use Rattle.wave_laws.proofs.Levels.{line_count, length_levels}
 use Rattle.wave_laws.proofs.Named.{names_are_lines}
-use Rattle.capture_laws.specs.Drawn.{carry_bytes, stamped_from, DrawnIsCaptured}
+use Rattle.capture_laws.specs.Drawn.{carry_bytes, told_of, tells_all, tell_all, stamped_from, DrawnIsCaptured, DrawnComesBack}
 use Rattle.capture_laws.proofs.Placed.{Shows, code_at, held_level}
 use Rattle.capture_laws.proofs.Tables.{Fits, fits, is_among, size_at}
 use Rattle.capture_laws.proofs.Settling.{seen_items}
@@ -75,7 +76,7 @@ unknown_shown targets luns fit p few =
 -- ---- 2. it goes on to the end
 
 events_end : (g : Parts) (targets glitch : ℕ) (items : List Item) → glitch ≡ 0 → Fits targets g.luns → targets ≤ 4 → g.luns ≤ 4 → (drawn_by g targets items).rule ≡ 0 → carry_bytes items ≡ true →
-    Ends (lines_of targets g.luns) (blank targets glitch (has_program_cache g.optional) unknown) [] (events_of g targets items) (stamped_from 0 items)
+    Ends (lines_of targets g.luns) (blank targets glitch (has_program_cache g.optional) unknown) [] (events_of g targets items) (stamped_from 0 (map told_of items))
 events_end g targets glitch items none fit few four legal bytes =
     let sources = lines_of targets g.luns in
     let s = blank targets glitch (has_program_cache g.optional) unknown in
@@ -143,9 +144,30 @@ pub drawn_is_captured : DrawnIsCaptured
 drawn_is_captured setup items plain legal bytes short =
     let g = setup.geometry in
     let targets = setup.targets in
-    captured_from setup (dump g targets items) (signals_of targets g.luns) (events_of g targets items) (lines_of targets g.luns) (stamped_from 0 items) plain.form
+    captured_from setup (dump g targets items) (signals_of targets g.luns) (events_of g targets items) (lines_of targets g.luns) (stamped_from 0 (map told_of items)) plain.form
     (drawn g targets items plain.some plain.few plain.luns plain.few_luns short)
     (ap (λ (ms : List Mapping). sources_of targets (carriers_of ms (signals_of targets g.luns))) plain.names ∙ names_are_lines targets g.luns plain.some plain.few plain.luns plain.few_luns)
     (events_end g targets setup.glitch items plain.glitch (fits targets g.luns plain.some plain.few plain.luns plain.few_luns) plain.few plain.few_luns
     (legal_drawn g targets items begun refl (ap (is_legal g targets) (append-nil (reverse items)) ∙ legal)) bytes)
     (lines_tell targets g.luns plain.some plain.few plain.luns plain.few_luns)
+
+-- ---- 5. all comes back where no failure of the page before is told
+
+same_before : (b : Bool) → not b ≡ true → false ≡ b
+same_before true h = absurd (false≢true h)
+same_before false h = refl
+
+told_same : (i : Item) → tells_all i ≡ true → told_of i ≡ i
+told_same (Cyc c) h = refl
+told_same (Rdy ce lun fail) h = ap (λ (b : Bool). Rdy ce lun (record { last = fail.last; before = b })) (same_before fail.before h)
+told_same (Ard ce lun fail) h = refl
+
+all_same : (items : List Item) → tell_all items ≡ true → map told_of items ≡ items
+all_same [] h = refl
+all_same (i ∷ items) h =
+    let parts = and_parts (tells_all i) (tell_all items) h in
+    ap (λ (j : Item). j ∷ map told_of items) (told_same i parts.0) ∙ ap (λ (rest : List Item). i ∷ rest) (all_same items parts.1)
+
+pub drawn_comes_back : DrawnComesBack
+drawn_comes_back setup items plain legal bytes short all =
+    drawn_is_captured setup items plain legal bytes short ∙ ap (λ (told : List Item). Ok (stamped_from 0 told)) (all_same items all)

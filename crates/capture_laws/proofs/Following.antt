@@ -1,5 +1,6 @@
 -- A capture follows what is drawn, item by item.
 use Rattle.std.proofs.Common.{◌≡◌, ℕ, suc, ◌+◌, ◌*◌, ◌<◌, ◌≤◌, ◌==◌, ◌||◌, Bool, true, false, not, List, [], ◌∷◌, ◌++◌, length, Ok, refl, sym, ap, ◌∙◌, subst, arith, append_assoc, append-nil}
+use Rattle.std.specs.Prelude.{map}
 use Rattle.std.proofs.lemmas.Bool.{leb-true, and_parts}
 use Rattle.nand_geometry.specs.declared.parts.Parts.{Parts}
 use Rattle.nand_geometry.specs.Optional.{has_program_cache}
@@ -233,7 +234,7 @@ module _ (g : Parts) (targets : ℕ) (fit : Fits targets g.luns) (few : targets 
 
   pub items_end : (items : List Item) (d : Drawing) (done : List Item) → d ≡ drawn_by g targets done → (after_all g targets d items).rule ≡ 0 → carry_bytes items ≡ true → AreHigh d.lines →
       (s : Sampler) (os : List Observed) (stamped : List Stamped) → Waits sources targets caches s os (levels_at g targets d d.lines) stamped → MayCome s (10 * d.items) →
-      Ends sources s os (events_from g targets d items ++ last_events g targets (after_all g targets d items)) (stamped ++ stamped_from d.items items)
+      Ends sources s os (events_from g targets d items ++ last_events g targets (after_all g targets d items)) (stamped ++ stamped_from d.items (map told_of items))
   items_end [] d done is legal bytes high s os stamped waits may =
       subst (λ (is : List Stamped). Ends sources s os (last_events g targets d) is) (sym (append-nil stamped)) (last_ends d legal high s os stamped waits may)
   items_end (i ∷ items) d done is legal bytes high s os stamped waits may =
@@ -248,5 +249,5 @@ module _ (g : Parts) (targets : ℕ) (fit : Fits targets g.luns) (few : targets 
       record {
         all = rest.all;
         is = ap (λ (es : List Event). capturing sources s os (all_ok es)) (append_assoc (item_events g targets d i) (events_from g targets next items) last) ∙ one.goes (events_from g targets next items ++ last) ∙ rest.is;
-        seen = rest.seen ∙ append_assoc stamped (stamp d i) (stamped_from next.items items);
+        seen = rest.seen ∙ append_assoc stamped (stamp d i) (stamped_from next.items (map told_of items));
       }
