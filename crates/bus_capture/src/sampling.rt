@@ -341,13 +341,7 @@ fn array_is_done(caches: bool, before: &Levels, after: &Levels, ce: u8, lun: u8)
 
 /// The ready that lines of a model tell of a LUN, whose chip programs caches or not.
 #[inline(always)]
-pub fn ready_of(
-    caches: bool,
-    before: &Levels,
-    after: &Levels,
-    ce: u8,
-    lun: u8,
-) -> Option<Item>
+pub fn ready_of(caches: bool, before: &Levels, after: &Levels, ce: u8, lun: u8) -> Option<Item>
     ensures { result ≡ ready_of caches before.now.of after.now.of ce lun }
 {
     let was_busy = before.level(Role::Busy { ce, lun });
