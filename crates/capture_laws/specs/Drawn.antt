@@ -1,5 +1,5 @@
--- The dump of a legal trace is captured as this trace.
-use Rattle.std.specs.Prelude.{◌≡◌, ℕ, ◌+◌, ◌*◌, ◌^◌, ◌<◌, ◌≤◌, nat_lt, ◌&&◌, Bool, true, false, List, [], ◌∷◌, length, reverse, Ok}
+-- The dump of a legal trace is captured as this trace, without the failures of the page before: these have no line.
+use Rattle.std.specs.Prelude.{◌≡◌, ℕ, ◌+◌, ◌*◌, ◌^◌, ◌<◌, ◌≤◌, nat_lt, ◌&&◌, Bool, true, false, not, List, [], ◌∷◌, length, map, reverse, Ok}
 use Rattle.onfi_cycle.specs.declared.item.Item.{Item}
 use Rattle.onfi_cycle.specs.declared.item.Item.TheVariants.{Cyc, Rdy, Ard}
 use Rattle.onfi_cycle.specs.Permitted.{is_legal}
@@ -28,7 +28,7 @@ told_of (Ard ce lun fail) = Ard ce lun fail
 -- items one after the other, from number n on: each has ten units of time, and is seen at the sixth
 abbrev pub stamped_from : (n : ℕ) → List Item → List Stamped
 stamped_from n [] = []
-stamped_from n (i ∷ items) = record { time = 10 * n + 6; item = told_of i } ∷ stamped_from (n + 1) items
+stamped_from n (i ∷ items) = record { time = 10 * n + 6; item = i } ∷ stamped_from (n + 1) items
 
 -- a capture of a dump, of 1 to 4 targets of 1 to 4 LUNs, whose signals go by their names, and in which no change is too early
 pub record IsPlain (setup : Setup) : Type 0 where
@@ -40,8 +40,24 @@ pub record IsPlain (setup : Setup) : Type 0 where
   pub luns : 1 ≤ setup.geometry.luns
   pub few_luns : setup.geometry.luns ≤ 4
 
--- item after item, each at its time
+-- item after item, each at its time, without what no line tells
 abbrev pub DrawnIsCaptured : Type 0
 DrawnIsCaptured =
     (setup : Setup) (items : List Item) → IsPlain setup → is_legal setup.geometry setup.targets (reverse items) ≡ true → carry_bytes items ≡ true → 10 * length items < 10 ^ 18 →
+    captured setup (dump setup.geometry setup.targets items) ≡ Ok (stamped_from 0 (map told_of items))
+
+-- it tells no failure of the page before
+abbrev pub tells_all : Item → Bool
+tells_all (Cyc c) = true
+tells_all (Rdy ce lun fail) = not fail.before
+tells_all (Ard ce lun fail) = true
+
+abbrev pub tell_all : List Item → Bool
+tell_all [] = true
+tell_all (i ∷ items) = tells_all i && tell_all items
+
+-- then the trace comes back as it is
+abbrev pub DrawnComesBack : Type 0
+DrawnComesBack =
+    (setup : Setup) (items : List Item) → IsPlain setup → is_legal setup.geometry setup.targets (reverse items) ≡ true → carry_bytes items ≡ true → 10 * length items < 10 ^ 18 → tell_all items ≡ true →
     captured setup (dump setup.geometry setup.targets items) ≡ Ok (stamped_from 0 items)

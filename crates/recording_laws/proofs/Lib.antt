@@ -1,5 +1,5 @@
 pub mod Luns
-mod Never
+pub mod Never
 pub mod Lists
 pub mod Rules
 pub mod Unseen

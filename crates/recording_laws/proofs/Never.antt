@@ -116,6 +116,6 @@ spare_past g targets (i ∷ past) none legal l =
     let parts = and_parts (is_permitted g targets past i) (is_legal g targets past) legal in
     let latches : ℕ → Latch = λ m. (lun_view g past (record { ce = l.ce; lun = m })).latch in
     let after =
-        spare_after (effect_among g past latches i l) (lun_view g past l) (never_given g targets none past (alone g.luns latches l.lun) i l parts.0) (spare_past g targets past none parts.1 l)
+    spare_after (effect_among g past latches i l) (lun_view g past l) (never_given g targets none past (alone g.luns latches l.lun) i l parts.0) (spare_past g targets past none parts.1 l)
     in
     record { closer = after.closer; array = after.array }
