@@ -239,7 +239,7 @@ fn answer(bus: &mut Bus, item: Item) -> Result<Told, Fail> {
     let came = match item {
         Item::Cyc(cycle) => return answer_to_cycle(bus, cycle),
         Item::Rdy { ce, lun, fail } => bus.ready(Lun { ce, lun }, fail),
-        Item::Ard { ce, lun } => bus.array_ready(Lun { ce, lun }),
+        Item::Ard { ce, lun, fail } => bus.array_ready(Lun { ce, lun }, fail),
     };
     if came {
         Ok(Told::Came(item))

@@ -1,5 +1,5 @@
 //! Made items: operations at a random place, of which some are spoilt.
-use onfi_cycle::{Cycle, Item, Kind};
+use onfi_cycle::{Cycle, Failures, Item, Kind};
 use std::alloc::{AllocError, Global};
 
 /// A part of an operation.
@@ -762,14 +762,21 @@ fn push_part(
         Part::Input => items.push(cycle(ce, Kind::Din, INPUTS[(next(seed) % 8) as usize]))?,
         Part::Output => items.push(cycle(ce, Kind::Dout, 0))?,
         Part::Ready => {
-            let fail = next(seed) % 5 == 0;
+            let fail = Failures {
+                last: next(seed) % 5 == 0,
+                before: false,
+            };
             items.push(Item::Rdy { ce, lun, fail })?;
         }
-        Part::ArrayReady => items.push(Item::Ard { ce, lun })?,
-        Part::ReadyOf(lun) => items.push(Item::Rdy {
+        Part::ArrayReady => items.push(Item::Ard {
             ce,
             lun,
             fail: false,
+        })?,
+        Part::ReadyOf(lun) => items.push(Item::Rdy {
+            ce,
+            lun,
+            fail: Failures::default(),
         })?,
     }
     Ok(())
@@ -822,12 +829,16 @@ fn spoilt(seed: &mut u32, item: Item) -> Item {
                 lun: lun ^ 1,
                 fail,
             },
-            _ => Item::Ard { ce, lun },
+            _ => Item::Ard {
+                ce,
+                lun,
+                fail: false,
+            },
         },
-        Item::Ard { ce, lun } => Item::Rdy {
+        Item::Ard { ce, lun, .. } => Item::Rdy {
             ce,
             lun,
-            fail: false,
+            fail: Failures::default(),
         },
     }
 }

@@ -49,7 +49,7 @@ fn on_target(item: Item, ce: u8) -> Item {
             Item::Cyc(cycle)
         }
         Item::Rdy { lun, fail, .. } => Item::Rdy { ce, lun, fail },
-        Item::Ard { lun, .. } => Item::Ard { ce, lun },
+        Item::Ard { lun, fail, .. } => Item::Ard { ce, lun, fail },
     }
 }
 
