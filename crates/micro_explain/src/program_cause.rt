@@ -3,6 +3,7 @@
 use crate::command_at::CommandAt;
 use crate::queue_cause::queued_by;
 use crate::refused::Refused;
+use micro_claims::QueuedRows;
 use onfi_cycle::Forbidden;
 use std::fmt;
 
@@ -19,7 +20,7 @@ impl ProgramCause {
     pub(crate) fn of(refused: &Refused<'_>) -> Option<ProgramCause> {
         let optional = refused.geometry.parts().optional;
         let lun = &refused.state.lun;
-        if !optional.has_group_cache() && lun.queue.may_be_some() {
+        if !optional.has_group_cache() && !matches!(lun.queue, QueuedRows::NoRows) {
             Some(ProgramCause::Group(queued_by(refused)))
         } else if optional.has_copyback() && lun.copies.holds {
             Some(ProgramCause::Copy)
