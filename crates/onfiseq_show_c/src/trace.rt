@@ -8,7 +8,11 @@ use onfi_cycle::Item;
 use std::alloc::Global;
 
 // The items of a trace of the wider profile or the base one; the first numbers that are none, by their place.
-pub(crate) fn items_of(alloc: Global, wide: bool, numbers: &[OnfiseqItem]) -> Result<Vec<Item>, Failure>
+pub(crate) fn items_of(
+    alloc: Global,
+    wide: bool,
+    numbers: &[OnfiseqItem],
+) -> Result<Vec<Item>, Failure>
     ensures ok { IfOk result (λ v. no_item wide numbers.now 0 ≡ None) }
     ensures err { IfErr result (Fails (no_item wide numbers.now 0)) }
 {

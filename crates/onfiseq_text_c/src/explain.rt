@@ -5,7 +5,9 @@ ghost use Rattle.bus_record.specs.Bus.{FitsAt};
 ghost use Rattle.onfiseq_text_c.specs.Explained.{IsWritten, asked};
 
 use crate::words::{Words, shown, spelt, words_alone, words_of_record};
-use bus_record::{OnfiseqBus, OnfiseqItem, OnfiseqLun, OnfiseqTarget, ask, is_bus_at, is_wide, look_at_lun};
+use bus_record::{
+    OnfiseqBus, OnfiseqItem, OnfiseqLun, OnfiseqTarget, ask, is_bus_at, is_wide, look_at_lun,
+};
 use nand_geometry::Geometry;
 use onfi_cycle::{Command, Cycle, Forbidden, Item, LunState, Register};
 use placed_bytes::place_text;
