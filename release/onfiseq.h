@@ -150,7 +150,9 @@ enum onfiseq_kind {
 
 /**
  * What happens on a channel. ce is the target, kind one of enum onfiseq_kind, byte that of a cycle,
- * or the LUN that becomes ready. fail is 1 for a ready after work that failed, else 0.
+ * or the LUN that becomes ready. fail is 1 for a ready after work that failed, else 0. In the
+ * profile onfi a ready has 2 more where the page before failed, which a 15h left in the array, and
+ * the ready of an array ('Y') has 1 where its page failed.
  */
 struct onfiseq_item {
     uint8_t ce, kind, byte, fail;
@@ -205,8 +207,8 @@ uint32_t onfiseq_push_all(struct onfiseq_bus *bus, const struct onfiseq_item *it
 
 /**
  * Pushes an item of a bus whose R/B# isn't seen: where it is a status output, of the one LUN that
- * drives the bus, which shows that LUN ready that was busy (bit 6, and bit 0 for work that failed),
- * or its array (bit 5 besides), those readies are pushed in front of it. The answer is that of the
+ * drives the bus, which shows that LUN ready that was busy (bit 6, and bit 0 for work that failed,
+ * bit 1 for the page before), or its array (bit 5 besides), those readies are pushed in front of it. The answer is that of the
  * first that is refused, or 0, and *done says how many went.
  */
 uint32_t onfiseq_push_status(struct onfiseq_bus *bus, const struct onfiseq_item *item,
@@ -260,7 +262,8 @@ uint32_t onfiseq_ask(const struct onfiseq_bus *bus, const struct onfiseq_item *i
  * A look at a LUN. latch is what it drives the bus with: 0 nothing, 1 its status, 2 data. register_
  * is what its register holds: 0 nothing, 1 the page of block and page, 2 the parameter page, 3 the
  * identifier. column, where has_column, is the place in the register that the next output gives.
- * queued counts the rows of its queue. is_there is false where no such LUN is there, or the record
+ * queued counts the rows of its queue. programming: it programs behind a 15h, or its array does.
+ * is_there is false where no such LUN is there, or the record
  * is damaged.
  */
 struct onfiseq_look {
@@ -268,7 +271,7 @@ struct onfiseq_look {
     uint8_t latch;
     bool busy, array_busy, caching;
     uint8_t register_;
-    bool has_column;
+    bool has_column, programming;
     uint32_t block;
     onfiseq_u64 page, column;
     onfiseq_u64 queued;
@@ -380,7 +383,8 @@ struct onfiseq_placed onfiseq_disassemble(const uint8_t *file, size_t file_lengt
 
 /**
  * Reads the text of a trace, a line an item (docs/use/TRACES.md): in the strict form where recorded
- * is 0, else with comments, blanks and times. letter 0: its items stand at the front of room items,
+ * is 0, else with comments, blanks and times; of the profile onfi in the strict form where it is 2,
+ * and with comments, blanks and times where it is 3. letter 0: its items stand at the front of room items,
  * and length counts them. Else these are as they were: 'X' a fault of the text at the line at, 'U'
  * it isn't UTF-8, 'O' memory was refused, 'B' there is no room for length items.
  */
@@ -547,13 +551,17 @@ struct onfiseq_step onfiseq_job_finish(struct onfiseq_live *live, struct onfiseq
                                        const uint8_t *taken, size_t count);
 
 /**
- * A LUN becomes ready, as R/B# tells, after work that failed or not: 0, or the code of the rule
- * against it, ONFISEQ_NOT_THERE where it isn't there or isn't busy, or ONFISEQ_DAMAGED.
+ * A LUN becomes ready, as R/B# tells, with the bits 1 (FAIL) and 2 (FAILC) of a status byte, or 0
+ * where nothing failed: 0, or the code of the rule against it, ONFISEQ_NOT_THERE where it isn't
+ * there or isn't busy, or ONFISEQ_DAMAGED.
  */
-uint32_t onfiseq_live_ready(struct onfiseq_live *live, uint8_t ce, uint8_t lun, bool failed);
+uint32_t onfiseq_live_ready(struct onfiseq_live *live, uint8_t ce, uint8_t lun, uint8_t failures);
 
-/** The array of a LUN does, after a cache read. The answers are those of onfiseq_live_ready. */
-uint32_t onfiseq_live_array_ready(struct onfiseq_live *live, uint8_t ce, uint8_t lun);
+/**
+ * The array of a LUN does, after a cache read, or after a cache program that failed or not. The
+ * answers are those of onfiseq_live_ready.
+ */
+uint32_t onfiseq_live_array_ready(struct onfiseq_live *live, uint8_t ce, uint8_t lun, bool failed);
 
 /**
  * A target is as at the start, as by onfiseq_begin_target, and lets the bus go where one of its

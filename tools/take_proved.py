@@ -3,11 +3,12 @@ with them, where it would prove all below once more.
 
     python3 tools/take_proved.py
 
-at the root; it prints how many it took. A library that stands here and isn't kept stays.
+at the root, as often as one likes; it prints how many are here. A library that stands here and isn't kept stays.
 """
 import hashlib
 import json
 import os
+import shutil
 
 from kit_gate import load_gate
 
@@ -30,15 +31,35 @@ def mark_taken(work, crate):
         json.dump({"folder": crate.folder, "stamp": stamp}, it)
 
 
+def is_here(crate):
+    """A library of this very text stands in the crate's out/."""
+    try:
+        with open(crate.folder + "/out/rlib/stamp", encoding="utf-8") as it:
+            return it.read() == crate.stamp() and os.path.isfile("%s/out/rlib/%s.rlib/format" % (crate.folder, crate.name))
+    except OSError:
+        return False
+
+
+def take(gate, kept, crate):
+    """Brings in what is kept of the crate. What stood there goes first: the kit gives a file a second name, and where that name is taken it drops what it keeps."""
+    key = kept.key(crate)
+    if not kept.at or not os.path.isdir(kept.place(crate, False, key)):
+        return is_here(crate)
+    shutil.rmtree("%s/out/rlib/%s.rlib" % (crate.folder, crate.name), ignore_errors=True)
+    if not kept.give(crate, False, key):
+        return False
+    mark_taken(gate.WORK, crate)
+    return True
+
+
 def main():
     gate = load_gate()
     crates = crates_here(gate)
     kept, taken = gate.Kept(crates), set()
     for crate in crates:
         stands = all(below.name in taken for below in crate.below())
-        if stands and not crate.is_program and not crate.is_static and kept.give(crate, False, kept.key(crate)):
+        if stands and not crate.is_program and not crate.is_static and take(gate, kept, crate):
             kept.is_built(crate)
-            mark_taken(gate.WORK, crate)
             taken.add(crate.name)
     print("take_proved: %d of %d libraries" % (len(taken), len(crates)))
 

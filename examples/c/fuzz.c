@@ -385,8 +385,8 @@ static unsigned long play_jobs(void) {
         if (draw(500) == 0) ((uint8_t *)&jobs[which])[draw(sizeof jobs[which])] ^= (uint8_t)(1 << draw(8));
         if (jobs[which].buffer > sizeof buffer) jobs[which].buffer = sizeof buffer;
         play_step(&live, &jobs[which], files[which], lengths[which], -1);
-        if (draw(8) == 0) onfiseq_live_ready(&live, (uint8_t)draw(4), (uint8_t)draw(4), draw(2));
-        if (draw(16) == 0) onfiseq_live_array_ready(&live, (uint8_t)draw(4), (uint8_t)draw(4));
+        if (draw(8) == 0) onfiseq_live_ready(&live, (uint8_t)draw(4), (uint8_t)draw(4), (uint8_t)draw(4));
+        if (draw(16) == 0) onfiseq_live_array_ready(&live, (uint8_t)draw(4), (uint8_t)draw(4), draw(2));
     }
     ((uint8_t *)&live)[draw(4)] ^= (uint8_t)(1u << draw(8)); /* what stands first */
     must(onfiseq_job_next(&live, &jobs[0], files[0], lengths[0]).letter == 'D', "a damaged channel");
@@ -416,8 +416,8 @@ static unsigned long play_damaged_jobs(void) {
         bool goes = step.letter == 0 || step.letter == 'Y' || step.letter == 'W' || (step.letter == 'E' && turn.letter == 0);
         must(goes || (memcmp(&copy, &live, sizeof live) == 0 && memcmp(&old, &job, sizeof job) == 0), "finish wrote a damaged record");
         onfiseq_job_begin(&live, (uint8_t)draw(5), (uint8_t)draw(5), draw(8), file, length, 1024, &job);
-        onfiseq_live_ready(&live, (uint8_t)draw(5), (uint8_t)draw(5), draw(2));
-        onfiseq_live_array_ready(&live, (uint8_t)draw(5), (uint8_t)draw(5));
+        onfiseq_live_ready(&live, (uint8_t)draw(5), (uint8_t)draw(5), (uint8_t)draw(4));
+        onfiseq_live_array_ready(&live, (uint8_t)draw(5), (uint8_t)draw(5), draw(2));
         if (draw(4) == 0) onfiseq_live_begin_target(&live, (uint8_t)draw(5));
     }
     return 1200;

@@ -72,6 +72,7 @@ static void test_flags(void) {
     FLAG(look.array_busy);
     FLAG(look.caching);
     FLAG(look.has_column);
+    FLAG(look.programming);
 }
 
 /* The records that no sample holds: a page, and a channel, which another size or version doesn't begin. */

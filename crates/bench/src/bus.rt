@@ -8,7 +8,7 @@ ghost use Rattle.target_bus.specs.Bus.{is_output};
 
 use die_model::LunDie;
 use nand_geometry::{Geometry, Optional, Parts};
-use onfi_cycle::{Cycle, Kind, Lun};
+use onfi_cycle::{Cycle, Failures, Kind, Lun};
 use std::alloc::Global;
 use std::time::Instant;
 use target_bus::{Bus, BusRefusal};
@@ -63,7 +63,7 @@ fn status(bus: &mut Bus) -> Result<u8, BusRefusal> {
 
 // Whether the LUN says busy, becomes ready, and says ready.
 fn wait(bus: &mut Bus) -> Result<bool, BusRefusal> {
-    Ok(status(bus)? == 0x80 && bus.ready(LUN, false) && status(bus)? == 0xe0)
+    Ok(status(bus)? == 0x80 && bus.ready(LUN, Failures::default()) && status(bus)? == 0xe0)
 }
 
 fn program(bus: &mut Bus, row: u32) -> Result<bool, BusRefusal> {

@@ -8,7 +8,7 @@ use die_model::LunDie;
 use micro_verify::verify;
 use micro_word::{Text, Word};
 use nand_geometry::{Geometry, Optional, Parts};
-use onfi_cycle::{Kind, Lun};
+use onfi_cycle::{Failures, Kind, Lun};
 use seq_core::{Core, Job, Stepped};
 use seq_live::{Live, Pins, step_on};
 use std::alloc::Global;
@@ -113,7 +113,7 @@ fn run_on_die(core: &mut Core, turns: u16) -> anyhow::Result<bool> {
         match core.step(LUN)? {
             Stepped::Ended => return Ok(true),
             Stepped::NotReady => {
-                core.ready(LUN, false);
+                core.ready(LUN, Failures::default());
             }
             Stepped::Went | Stepped::Held | Stepped::HandedOver | Stepped::Empty => {}
         }

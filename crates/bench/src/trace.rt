@@ -5,7 +5,7 @@
 
 use anyhow::bail;
 use nand_geometry::{Geometry, Parts, SMALL_CHIP};
-use onfi_cycle::{Cycle, Item, Kind};
+use onfi_cycle::{Cycle, Failures, Item, Kind};
 use std::alloc::{AllocError, Global};
 use std::time::{Duration, Instant};
 use trace_text::{check, is_printable, parse, print};
@@ -16,7 +16,10 @@ const ONE_LUN: Parts = SMALL_CHIP;
 const READY: Item = Item::Rdy {
     ce: 0,
     lun: 0,
-    fail: false,
+    fail: Failures {
+        last: false,
+        before: false,
+    },
 };
 
 fn cycle(kind: Kind, byte: u8) -> Item {

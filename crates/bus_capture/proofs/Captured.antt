@@ -23,6 +23,7 @@ use Rattle.bus_capture.specs.declared.sampler.Strobing.{Strobing}
 use Rattle.bus_capture.specs.declared.inferring.Stamped.{Stamped}
 use Rattle.bus_capture.specs.Sampling.{level, with_enable, enabled_from, kind_of, byte_of, apart, cycle_of, cycle_if, rises, is_lost, lost_if, line_of, other_line, seen_of, is_short, steady, item_of, falls, is_high, array_is_done, ready_of}
 use Rattle.bus_capture.specs.Capturing.{with_item, with_release, with_releases, with_readies, at_time, with_seen, strobe_seen, settled}
+use Rattle.bus_capture.specs.Telling.{told_at}
 use Rattle.bus_capture.specs.Inferring.{stamps, with_shown, is_waiting, is_awaited, lun_fails, release_of, lun_release_of, rise_of, rise_stamps, fails_within}
 use Rattle.bus_capture.specs.Inside.{AreInside, IsSeenInside, AreSeenInside}
 
@@ -69,18 +70,18 @@ some_of false x i o h here rest = rest h
 none_is : (i : Item) → None ≡ Some i → IsInside i
 none_is i h = cc
 
-model_ready : (before after : List Level) (ce lun : ℕ) (i : Item) → ce ≤ 3 → lun ≤ 3 → ready_of before after ce lun ≡ Some i → IsInside i
-model_ready before after ce lun i few little h =
-    some_of (falls (level before (role.Busy ce lun)) (level after (role.Busy ce lun))) (Rdy ce lun (is_high (level after (role.Failed ce lun)))) i
-    (cond (array_is_done before after ce lun) (Some (Ard ce lun)) None)
+model_ready : (caches : Bool) (before after : List Level) (ce lun : ℕ) (i : Item) → ce ≤ 3 → lun ≤ 3 → ready_of caches before after ce lun ≡ Some i → IsInside i
+model_ready caches before after ce lun i few little h =
+    some_of (falls (level before (role.Busy ce lun)) (level after (role.Busy ce lun))) (Rdy ce lun (record { last = is_high (level after (role.Failed ce lun)); before = false })) i
+    (cond (array_is_done caches before after ce lun) (Some (Ard ce lun (is_high (level after (role.Failed ce lun))))) None)
     h (few, little)
-    (λ g. some_of (array_is_done before after ce lun) (Ard ce lun) i None g (few, little) (none_is i))
+    (λ g. some_of (array_is_done caches before after ce lun) (Ard ce lun (is_high (level after (role.Failed ce lun)))) i None g (few, little) (none_is i))
 
-fine_readies : (time : ℕ) (before after : List Level) (os : List Observed) (count n : ℕ) → n + count ≤ 16 → AreSeenInside os → AreSeenInside (with_readies time before after os count n)
-fine_readies time before after os zero n few rest = rest
-fine_readies time before after os (suc count) n few rest =
-    fine_readies time before after (with_item time (ready_of before after (n / 4) (n % 4)) os) count (n + 1) (omega (arith, few))
-    (fine_item time (ready_of before after (n / 4) (n % 4)) os (λ i is. model_ready before after (n / 4) (n % 4) i (quarter n (omega (arith, few))) (rest_of_four n) is) rest)
+fine_readies : (caches : Bool) (time : ℕ) (before after : List Level) (os : List Observed) (count n : ℕ) → n + count ≤ 16 → AreSeenInside os → AreSeenInside (with_readies caches time before after os count n)
+fine_readies caches time before after os zero n few rest = rest
+fine_readies caches time before after os (suc count) n few rest =
+    fine_readies caches time before after (with_item time (ready_of caches before after (n / 4) (n % 4)) os) count (n + 1) (omega (arith, few))
+    (fine_item time (ready_of caches before after (n / 4) (n % 4)) os (λ i is. model_ready caches before after (n / 4) (n % 4) i (quarter n (omega (arith, few))) (rest_of_four n) is) rest)
 
 -- ---- the chip that is enabled
 
@@ -162,8 +163,8 @@ settled_fine s os now few rest h =
     let written = strobe_fine s strobe.Write s.we w.0 few (at_time_ok s.time (strobe_seen s strobe.Write s.we) w.0 w.1) in
     let read = strobe_fine s strobe.Read s.re r.0 few (at_time_ok s.time (strobe_seen s strobe.Read s.re) r.0 r.1) in
     subst AreSeenInside (same_ok (with_seen s w.0 r.0 os) now r.2)
-    (fine_releases s.time s.before.of s.after.of (with_readies s.time s.before.of s.after.of (with_item s.time (item_of r.0) (with_item s.time (item_of w.0) os)) (4 * s.targets) 0) s.targets 0 (omega (arith, few))
-    (fine_readies s.time s.before.of s.after.of (with_item s.time (item_of r.0) (with_item s.time (item_of w.0) os)) (4 * s.targets) 0 (omega (arith, few))
+    (fine_releases s.time s.before.of s.after.of (with_readies s.caches s.time s.before.of s.after.of (with_item s.time (item_of r.0) (with_item s.time (item_of w.0) os)) (4 * s.targets) 0) s.targets 0 (omega (arith, few))
+    (fine_readies s.caches s.time s.before.of s.after.of (with_item s.time (item_of r.0) (with_item s.time (item_of w.0) os)) (4 * s.targets) 0 (omega (arith, few))
     (fine_item s.time (item_of r.0) (with_item s.time (item_of w.0) os) (λ i is. item_fine r.0 i read is)
     (fine_item s.time (item_of w.0) os (λ i is. item_fine w.0 i written is) rest))))
 
@@ -197,12 +198,12 @@ shown_inside true state time i stamped here rest =
 release_inside : (infers : Bool) (state : TraceState) (luns ce : ℕ) (os : List Observed) (i : Item) → ce ≤ 3 → release_of infers state luns ce os ≡ Some i → IsInside i
 release_inside false state luns ce os i few h = cc
 release_inside true state luns ce os i few h =
-    some_of (is_waiting state luns ce) (Rdy ce 0 (fails_within 65536 false ce os)) i None h (few, omega arith) (none_is i)
+    some_of (is_waiting state luns ce) (Rdy ce 0 (told_at state ce 0 (fails_within 65536 false ce os))) i None h (few, omega arith) (none_is i)
 
 lun_release_inside : (infers : Bool) (state : TraceState) (ce lun : ℕ) (os : List Observed) (i : Item) → ce ≤ 3 → lun ≤ 3 → lun_release_of infers state ce lun os ≡ Some i → IsInside i
 lun_release_inside false state ce lun os i few little h = cc
 lun_release_inside true state ce lun os i few little h =
-    some_of (is_awaited state ce lun) (Rdy ce lun (lun_fails state ce lun os)) i None h (few, little) (none_is i)
+    some_of (is_awaited state ce lun) (Rdy ce lun (told_at state ce lun (lun_fails state ce lun os))) i None h (few, little) (none_is i)
 
 lun_released_inside : (infers : Bool) (state : TraceState) (ce lun time : ℕ) (os : List Observed) → ce ≤ 3 → lun ≤ 3 → AreInside (stamps time (lun_release_of infers state ce lun os))
 lun_released_inside infers state ce lun time os few little =

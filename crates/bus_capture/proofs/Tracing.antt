@@ -57,11 +57,11 @@ item_front : (time : ℕ) (o : Option Item) (xs ys : List Observed) → with_ite
 item_front time None xs ys = refl
 item_front time (Some i) xs ys = append_assoc xs ys (record { time = time; observation = observation.Item i } ∷ [])
 
-readies_front : (time : ℕ) (before after : List Level) (xs ys : List Observed) (count n : ℕ) → with_readies time before after (xs ++ ys) count n ≡ xs ++ with_readies time before after ys count n
-readies_front time before after xs ys zero n = refl
-readies_front time before after xs ys (suc count) n =
-    ap (λ os. with_readies time before after os count (n + 1)) (item_front time (ready_of before after (n / 4) (n % 4)) xs ys)
-    ∙ readies_front time before after xs (with_item time (ready_of before after (n / 4) (n % 4)) ys) count (n + 1)
+readies_front : (caches : Bool) (time : ℕ) (before after : List Level) (xs ys : List Observed) (count n : ℕ) → with_readies caches time before after (xs ++ ys) count n ≡ xs ++ with_readies caches time before after ys count n
+readies_front caches time before after xs ys zero n = refl
+readies_front caches time before after xs ys (suc count) n =
+    ap (λ os. with_readies caches time before after os count (n + 1)) (item_front time (ready_of caches before after (n / 4) (n % 4)) xs ys)
+    ∙ readies_front caches time before after xs (with_item time (ready_of caches before after (n / 4) (n % 4)) ys) count (n + 1)
 
 release_front : (b : Bool) (o : Observed) (xs ys : List Observed) → cond b ((xs ++ ys) ++ o ∷ []) (xs ++ ys) ≡ xs ++ cond b (ys ++ o ∷ []) ys
 release_front true o xs ys = append_assoc xs ys (o ∷ [])
@@ -79,10 +79,10 @@ seen_front s written read xs ys =
     let w = item_front s.time (item_of written) xs ys in
     let r = item_front s.time (item_of read) xs (with_item s.time (item_of written) ys) in
     let both : with_item s.time (item_of read) (with_item s.time (item_of written) (xs ++ ys)) ≡ xs ++ with_item s.time (item_of read) (with_item s.time (item_of written) ys) = ap (with_item s.time (item_of read)) w ∙ r in
-    ap (λ os. with_releases s.time s.before.of s.after.of (with_readies s.time s.before.of s.after.of os (4 * s.targets) 0) s.targets 0) both
+    ap (λ os. with_releases s.time s.before.of s.after.of (with_readies s.caches s.time s.before.of s.after.of os (4 * s.targets) 0) s.targets 0) both
     ∙ (ap (λ os. with_releases s.time s.before.of s.after.of os s.targets 0)
-    (readies_front s.time s.before.of s.after.of xs (with_item s.time (item_of read) (with_item s.time (item_of written) ys)) (4 * s.targets) 0)
-    ∙ releases_front s.time s.before.of s.after.of xs (with_readies s.time s.before.of s.after.of (with_item s.time (item_of read) (with_item s.time (item_of written) ys)) (4 * s.targets) 0) s.targets 0)
+    (readies_front s.caches s.time s.before.of s.after.of xs (with_item s.time (item_of read) (with_item s.time (item_of written) ys)) (4 * s.targets) 0)
+    ∙ releases_front s.time s.before.of s.after.of xs (with_readies s.caches s.time s.before.of s.after.of (with_item s.time (item_of read) (with_item s.time (item_of written) ys)) (4 * s.targets) 0) s.targets 0)
 
 settled_front : (s : Sampler) (xs ys : List Observed) → settled s (xs ++ ys) ≡ in_front xs (settled s ys)
 settled_front s xs ys = at (at_time s.time (strobe_seen s strobe.Write s.we)) (at_time s.time (strobe_seen s strobe.Read s.re))

@@ -1,5 +1,5 @@
 -- Where the lines beside the bus stay as they are, they tell nothing.
-use Rattle.std.proofs.Common.{◌≡◌, ◌≤◌, ◌+◌, ◌-◌, ◌*◌, ◌/◌, ◌%◌, ◌&&◌, ℕ, zero, suc, Bool, true, false, List, [], ◌∷◌, drop, Some, None, not, refl, ap, sym, ◌∙◌, subst, arith, cond}
+use Rattle.std.proofs.Common.{◌≡◌, ◌≤◌, ◌+◌, ◌-◌, ◌*◌, ◌/◌, ◌%◌, ◌&&◌, ◌||◌, ℕ, zero, suc, Bool, true, false, List, [], ◌∷◌, drop, Some, None, not, refl, ap, sym, ◌∙◌, subst, arith, cond}
 use Rattle.std.specs.Prelude.{slice_get, slice_set, ◌<◌}
 use Rattle.std.specs.Option.{unwrap_or}
 use Rattle.onfi_cycle.specs.declared.item.Item.{Item}
@@ -51,17 +51,17 @@ none_falls true false true d x y h k = absurd cc
 none_falls false false c d x y h k = refl
 none_falls false true c d x y h k = absurd cc
 
-no_ready : (before after : List Level) (ce lun : ℕ) → drop 16 before ≡ drop 16 after → ready_of before after ce lun ≡ None
-no_ready before after ce lun still =
-    none_falls (is_low (level before (role.Busy ce lun))) (falls (level before (role.Busy ce lun)) (level after (role.Busy ce lun)))
-    (falls (level before (role.ArrayBusy ce lun)) (level after (role.ArrayBusy ce lun))) (not (strobe_rises before after)) (Rdy ce lun (is_high (level after (role.Failed ce lun)))) (Ard ce lun)
+no_ready : (caches : Bool) (before after : List Level) (ce lun : ℕ) → drop 16 before ≡ drop 16 after → ready_of caches before after ce lun ≡ None
+no_ready caches before after ce lun still =
+    none_falls (caches || is_low (level before (role.Busy ce lun))) (falls (level before (role.Busy ce lun)) (level after (role.Busy ce lun)))
+    (falls (level before (role.ArrayBusy ce lun)) (level after (role.ArrayBusy ce lun))) (not (strobe_rises before after)) (Rdy ce lun (record { last = is_high (level after (role.Failed ce lun)); before = false })) (Ard ce lun (is_high (level after (role.Failed ce lun))))
     (falls_not (level before (role.Busy ce lun)) (level after (role.Busy ce lun)) (same_level before after (role.Busy ce lun) (omega arith) still))
     (falls_not (level before (role.ArrayBusy ce lun)) (level after (role.ArrayBusy ce lun)) (same_level before after (role.ArrayBusy ce lun) (omega arith) still))
 
-no_readies : (time : ℕ) (before after : List Level) (os : List Observed) (count n : ℕ) → drop 16 before ≡ drop 16 after → with_readies time before after os count n ≡ os
-no_readies time before after os zero n still = refl
-no_readies time before after os (suc count) n still =
-    ap (λ o. with_readies time before after (with_item time o os) count (n + 1)) (no_ready before after (n / 4) (n % 4) still) ∙ no_readies time before after os count (n + 1) still
+no_readies : (caches : Bool) (time : ℕ) (before after : List Level) (os : List Observed) (count n : ℕ) → drop 16 before ≡ drop 16 after → with_readies caches time before after os count n ≡ os
+no_readies caches time before after os zero n still = refl
+no_readies caches time before after os (suc count) n still =
+    ap (λ o. with_readies caches time before after (with_item time o os) count (n + 1)) (no_ready caches before after (n / 4) (n % 4) still) ∙ no_readies caches time before after os count (n + 1) still
 
 no_release : (time : ℕ) (before after : List Level) (os : List Observed) (n : ℕ) → drop 16 before ≡ drop 16 after → with_release time before after n os ≡ os
 no_release time before after os n still =
@@ -73,9 +73,9 @@ no_releases time before after os (suc count) n still =
     ap (λ os. with_releases time before after os count (n + 1)) (no_release time before after os n still) ∙ no_releases time before after os count (n + 1) still
 
 pub nothing_beside : (s : Sampler) (os : List Observed) → IsStill s
-    → with_releases s.time s.before.of s.after.of (with_readies s.time s.before.of s.after.of os (4 * s.targets) 0) s.targets 0 ≡ os
+    → with_releases s.time s.before.of s.after.of (with_readies s.caches s.time s.before.of s.after.of os (4 * s.targets) 0) s.targets 0 ≡ os
 nothing_beside s os still =
-    ap (λ os. with_releases s.time s.before.of s.after.of os s.targets 0) (no_readies s.time s.before.of s.after.of os (4 * s.targets) 0 still)
+    ap (λ os. with_releases s.time s.before.of s.after.of os s.targets 0) (no_readies s.caches s.time s.before.of s.after.of os (4 * s.targets) 0 still)
     ∙ no_releases s.time s.before.of s.after.of os s.targets 0 still
 
 -- a line of the bus itself

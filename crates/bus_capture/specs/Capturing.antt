@@ -12,6 +12,7 @@ use Rattle.csv_text.specs.Rows.{rows}
 use Rattle.csv_text.specs.Table.{table_of}
 use Rattle.csv_text.specs.Body.{told}
 use Rattle.bus_signals.specs.declared.fault.RoleFault.{RoleFault}
+use Rattle.nand_geometry.specs.Optional.{has_program_cache}
 use Rattle.bus_capture.specs.declared.fault.BusFault.{BusFault}
 use Rattle.bus_capture.specs.declared.fault.CaptureFault.{CaptureFault}
 use Rattle.bus_capture.specs.declared.fault.CaptureFault.TheVariants.{File, Bus}
@@ -58,9 +59,9 @@ with_releases time before after observed zero n = observed
 with_releases time before after observed (suc count) n = with_releases time before after (with_release time before after n observed) count (n + 1)
 
 -- with the readies of so many LUNs from number n on, of which each target has four
-abbrev pub with_readies : ℕ → (before after : List Level) → List Observed → (count n : ℕ) → List Observed
-with_readies time before after observed zero n = observed
-with_readies time before after observed (suc count) n = with_readies time before after (with_item time (ready_of before after (n / 4) (n % 4)) observed) count (n + 1)
+abbrev pub with_readies : (caches : Bool) → ℕ → (before after : List Level) → List Observed → (count n : ℕ) → List Observed
+with_readies caches time before after observed zero n = observed
+with_readies caches time before after observed (suc count) n = with_readies caches time before after (with_item time (ready_of caches before after (n / 4) (n % 4)) observed) count (n + 1)
 
 abbrev pub at_time : {A : Type 0} → ℕ → Result A BusFault → Result A CaptureFault
 at_time time (Ok x) = Ok x
@@ -70,7 +71,7 @@ at_time time (Err fault) = Err (Bus fault time)
 abbrev pub with_seen : Sampler → (written read : Seen) → List Observed → List Observed
 with_seen s written read observed =
     with_releases s.time s.before.of s.after.of
-    (with_readies s.time s.before.of s.after.of (with_item s.time (item_of read) (with_item s.time (item_of written) observed)) (4 * s.targets) 0) s.targets 0
+    (with_readies s.caches s.time s.before.of s.after.of (with_item s.time (item_of read) (with_item s.time (item_of written) observed)) (4 * s.targets) 0) s.targets 0
 
 -- what is seen of a strobe of which this is known, where the levels before become those of now
 abbrev pub strobe_seen : Sampler → Strobe → Strobing → Result Seen BusFault
@@ -101,9 +102,9 @@ strobing_after known time before after =
     record { driven = known.driven || is_known after; since = if is_edge before after then Some time else known.since }
 
 -- nothing has been seen
-abbrev pub begun : ℕ → (glitch : ℕ) → List Level → Sampler
-begun targets glitch unknown =
-    record { targets = targets; glitch = glitch; time = 0; before = record { of = unknown }; after = record { of = unknown }; we = untouched; re = untouched }
+abbrev pub begun : ℕ → (glitch : ℕ) → (caches : Bool) → List Level → Sampler
+begun targets glitch caches unknown =
+    record { targets = targets; glitch = glitch; caches = caches; time = 0; before = record { of = unknown }; after = record { of = unknown }; we = untouched; re = untouched }
 
 -- at a later time
 abbrev pub later : Sampler → ℕ → Sampler
@@ -149,7 +150,7 @@ sources_in setup read = in_roles (sources_of setup.targets (carriers_of setup.ma
 
 -- the items of what is told
 abbrev pub told_items : Setup → List Source → List Told → Result (List Observed) CaptureFault
-told_items setup sources told = capturing sources (begun setup.targets setup.glitch unknown) [] told
+told_items setup sources told = capturing sources (begun setup.targets setup.glitch (has_program_cache setup.geometry.optional) unknown) [] told
 
 -- the items of a body
 abbrev pub body_items : Setup → Read → List Source → Result (List Observed) CaptureFault

@@ -10,7 +10,7 @@ use Rattle.onfi_cycle.specs.Effect.{is_shared}
 use Rattle.onfi_cycle.specs.Look.{looked, is_selected_in}
 use Rattle.trace_faults.specs.declared.trace_state.TraceState.{TraceState}
 use Rattle.trace_faults.specs.Recovery.{fresh, gone_on}
-use Rattle.trace_faults.specs.ShownReadies.{ready_before, array_ready_before, with_ready, with_readies, has_fail}
+use Rattle.trace_faults.specs.ShownReadies.{ready_before, array_ready_before, with_ready, with_readies}
 use Rattle.bus_capture.specs.declared.fault.CaptureFault.{CaptureFault}
 use Rattle.bus_capture.specs.declared.reading.Setup.{Setup}
 use Rattle.bus_capture.specs.declared.sampler.Observation.{Observation}
@@ -24,15 +24,17 @@ use Rattle.bus_capture.specs.declared.ahead.Ahead.{Ahead}
 use Rattle.bus_capture.specs.declared.ahead.Ahead.TheVariants.{Going, Known}
 use Rattle.vcd_text.specs.Tokens.{◌>>=◌}
 use Rattle.bus_capture.specs.Capturing.{Shown, shown_in, shown_in_csv}
+use Rattle.onfi_cycle.specs.declared.item.Failures.{Failures}
+use Rattle.bus_capture.specs.Telling.{no_failures, told_of, told_at}
 use Rattle.bus_capture.specs.Asking.{first_asking, lun_fails_within}
 
 -- ---- how the work ended that R/B# shows to be done: as the status says that the target is asked for next, by 70h; if it isn't, without failure
 
 abbrev pub ahead_by : Kind → (asked : Bool) → ℕ → Ahead
-ahead_by Cmd asked byte = if byte == 112 then Going true else Known false
+ahead_by Cmd asked byte = if byte == 112 then Going true else Known no_failures
 ahead_by Adr asked byte = Going asked
 ahead_by Din asked byte = Going asked
-ahead_by Dout asked byte = if asked then Known (has_fail byte) else Going asked
+ahead_by Dout asked byte = if asked then Known (told_of byte) else Going asked
 
 abbrev pub ahead_in : (asked : Bool) → ℕ → Cycle → Ahead
 ahead_in asked ce c = if c.ce == ce then ahead_by c.kind asked c.byte else Going asked
@@ -40,17 +42,17 @@ ahead_in asked ce c = if c.ce == ce then ahead_by c.kind asked c.byte else Going
 abbrev pub ahead_of : (asked : Bool) → ℕ → Observation → Ahead
 ahead_of asked ce (observation.Item (Cyc c)) = ahead_in asked ce c
 ahead_of asked ce (observation.Item (Rdy _ _ _)) = Going asked
-ahead_of asked ce (observation.Item (Ard _ _)) = Going asked
+ahead_of asked ce (observation.Item (Ard _ _ _)) = Going asked
 ahead_of asked ce (observation.Released n) = Going asked
 
-abbrev pub fails_by : Ahead → (Bool → Bool) → Bool
+abbrev pub fails_by : Ahead → (Bool → Failures) → Failures
 fails_by (Known fail) later = fail
 fails_by (Going asked) later = later asked
 
--- whether the status tells failure that the target of this number is asked for next, among so many of what is seen
-abbrev pub fails_within : (most : ℕ) → (asked : Bool) → ℕ → List Observed → Bool
-fails_within zero asked ce later = false
-fails_within (suc most) asked ce [] = false
+-- what failures the status tells that the target of this number is asked for next, among so many of what is seen
+abbrev pub fails_within : (most : ℕ) → (asked : Bool) → ℕ → List Observed → Failures
+fails_within zero asked ce later = no_failures
+fails_within (suc most) asked ce [] = no_failures
 fails_within (suc most) asked ce (o ∷ later) = fails_by (ahead_of asked ce o.observation) (λ asked. fails_within most asked ce later)
 
 -- ---- an item, with the readies that its byte shows, unless lines of a model tell them
@@ -81,20 +83,20 @@ is_waiting state luns ce = luns == 1 && is_busy (looked state.bus (record { ce =
 -- the ready that this shows
 abbrev pub release_of : (infers : Bool) → TraceState → (luns ce : ℕ) → List Observed → Option Item
 release_of false state luns ce later = None
-release_of true state luns ce later = if is_waiting state luns ce then Some (Rdy ce 0 (fails_within 65536 false ce later)) else None
+release_of true state luns ce later = if is_waiting state luns ce then Some (Rdy ce 0 (told_at state ce 0 (fails_within 65536 false ce later))) else None
 
 -- the LUN of this number is one of several of its target, in the wider profile, and is busy: R/B# of the target is high where all of them are ready
 abbrev pub is_awaited : TraceState → (ce lun : ℕ) → Bool
 is_awaited state ce lun = is_shared state.bus.geometry && is_busy (looked state.bus (record { ce = ce; lun = lun }))
 
-abbrev pub lun_fails : TraceState → (ce lun : ℕ) → List Observed → Bool
+abbrev pub lun_fails : TraceState → (ce lun : ℕ) → List Observed → Failures
 lun_fails state ce lun later =
     lun_fails_within state.bus.geometry (record { ce = ce; lun = lun }) 65536 (first_asking (is_selected_in state.bus (record { ce = ce; lun = lun }))) later
 
 -- the ready of it that this shows
 abbrev pub lun_release_of : (infers : Bool) → TraceState → (ce lun : ℕ) → List Observed → Option Item
 lun_release_of false state ce lun later = None
-lun_release_of true state ce lun later = if is_awaited state ce lun then Some (Rdy ce lun (lun_fails state ce lun later)) else None
+lun_release_of true state ce lun later = if is_awaited state ce lun then Some (Rdy ce lun (told_at state ce lun (lun_fails state ce lun later))) else None
 
 -- all that this shows
 abbrev pub rise_of : (infers : Bool) → TraceState → (luns ce : ℕ) → List Observed → Rise

@@ -9,3 +9,4 @@ pub mod Still
 pub mod Tracing
 pub mod Spans
 pub mod Fronts
+pub mod Telling

@@ -212,12 +212,13 @@ is_low Unknown = false
 abbrev pub strobe_rises : (before after : List Level) → Bool
 strobe_rises before after = rises (level before We) (level after We) || rises (level before Re) (level after Re)
 
--- the array's line of a LUN that wasn't busy falls, and not with a cycle: a command that starts work or a reset ends what the array did, and that is no ready
-abbrev pub array_is_done : (before after : List Level) → (ce lun : ℕ) → Bool
-array_is_done before after ce lun = is_low (level before (Busy ce lun)) && (falls (level before (ArrayBusy ce lun)) (level after (ArrayBusy ce lun)) && not (strobe_rises before after))
+-- the array's line of a LUN that wasn't busy falls, and not with a cycle: a command that starts work or a reset ends what the array did, and that is no ready.
+-- Where the chip programs caches, the LUN may be busy meanwhile with one plane of several
+abbrev pub array_is_done : (caches : Bool) → (before after : List Level) → (ce lun : ℕ) → Bool
+array_is_done caches before after ce lun = (caches || is_low (level before (Busy ce lun))) && (falls (level before (ArrayBusy ce lun)) (level after (ArrayBusy ce lun)) && not (strobe_rises before after))
 
--- busy falls: a ready, with failure if that is told then; the array is done: a ready of the array
-abbrev pub ready_of : (before after : List Level) → (ce lun : ℕ) → Option Item
-ready_of before after ce lun =
-    if falls (level before (Busy ce lun)) (level after (Busy ce lun)) then Some (Rdy ce lun (is_high (level after (Failed ce lun)))) else (
-    if array_is_done before after ce lun then Some (Ard ce lun) else None)
+-- busy falls: a ready, with failure if that is told then; the array is done: a ready of the array, and so is that. No line tells of the page before
+abbrev pub ready_of : (caches : Bool) → (before after : List Level) → (ce lun : ℕ) → Option Item
+ready_of caches before after ce lun =
+    if falls (level before (Busy ce lun)) (level after (Busy ce lun)) then Some (Rdy ce lun (record { last = is_high (level after (Failed ce lun)); before = false })) else (
+    if array_is_done caches before after ce lun then Some (Ard ce lun (is_high (level after (Failed ce lun)))) else None)

@@ -1,25 +1,28 @@
 //! How work ended that R/B# shows to be done.
 ghost use Rattle.std.specs.Prelude.{◌≡◌, false, List, [], ◌++◌, IfSome, IfNone};
-ghost use Rattle.trace_faults.specs.ShownReadies.{has_fail};
+ghost use Rattle.bus_capture.specs.Telling.{no_failures, told_of};
 ghost use Rattle.bus_capture.specs.Inferring.{ahead_by, ahead_in, ahead_of, fails_within};
 
 use crate::sampler::{Observation, Observed};
-use onfi_cycle::{Cycle, Item, Kind, Status};
+use onfi_cycle::{Cycle, Failures, Item, Kind, Status};
 
 // What is known of the status that a target is asked for next, after something that is seen.
 #[derive(Clone, Copy)]
 pub(crate) enum Ahead {
     // Nothing yet; whether it was asked for.
     Going(bool),
-    // Whether it tells failure.
-    Known(bool),
+    // The failures that it tells.
+    Known(Failures),
 }
 
-/// A status byte tells failure.
-pub(crate) fn has_fail(byte: u8) -> bool
-    ensures { result ≡ has_fail byte }
+/// The failures that a status byte tells: FAIL and FAILC.
+pub(crate) fn told_of(byte: u8) -> Failures
+    ensures { result ≡ told_of byte }
 {
-    Status(byte).has_failed()
+    Failures {
+        last: Status(byte).has_failed(),
+        before: byte & 2 == 2,
+    }
 }
 
 fn ahead_by(kind: Kind, asked: bool, byte: u8) -> Ahead
@@ -30,13 +33,13 @@ fn ahead_by(kind: Kind, asked: bool, byte: u8) -> Ahead
             if byte == 0x70 {
                 Ahead::Going(true)
             } else {
-                Ahead::Known(false)
+                Ahead::Known(Failures::default())
             }
         }
         Kind::Adr | Kind::Din => Ahead::Going(asked),
         Kind::Dout => {
             if asked {
-                Ahead::Known(has_fail(byte))
+                Ahead::Known(told_of(byte))
             } else {
                 Ahead::Going(asked)
             }
@@ -69,18 +72,18 @@ fn ahead_of(asked: bool, ce: u8, observation: Observation) -> Ahead
 /// The verdict among what is seen later hangs on no more than so much of it.
 pub(crate) const MOST_AHEAD: usize = 65_536;
 
-/// Whether the status tells failure that this target is asked for next, of what is seen later; None where that hangs on what is seen after that. If it isn't
-/// asked for, it doesn't.
-pub(crate) fn fails_ahead(ce: u8, later: &[Observed]) -> Option<bool>
+/// What failures the status tells that this target is asked for next, of what is seen later; None where that hangs on what is seen after that. If it isn't
+/// asked for, it tells none.
+pub(crate) fn fails_ahead(ce: u8, later: &[Observed]) -> Option<Failures>
     ensures some { IfSome result (λ fail. (more : List Observed) → fails_within 65536 false ce (later.now ++ more) ≡ fail) }
-    ensures none { IfNone result (fails_within 65536 false ce (later.now ++ []) ≡ false) }
+    ensures none { IfNone result (fails_within 65536 false ce (later.now ++ []) ≡ no_failures) }
 {
     let mut asked = false;
     let mut most = MOST_AHEAD;
     let mut rest = later;
     'rest: while let Some((first, others)) = rest.split_first() {
         if most == 0 {
-            return Some(false);
+            return Some(Failures::default());
         }
         match ahead_of(asked, ce, first.observation) {
             Ahead::Known(fail) => return Some(fail),

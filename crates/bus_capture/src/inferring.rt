@@ -5,13 +5,14 @@ ghost use Rattle.trace_faults.specs.ShownReadies.{with_readies};
 ghost use Rattle.trace_faults.specs.Recovery.{fresh};
 ghost use Rattle.bus_capture.specs.Inferring.{stamps, with_shown, state_after, is_busy, is_waiting, release_of, is_awaited, lun_fails, lun_release_of, rise_of, released, after_rise, rise_stamps};
 ghost use Rattle.bus_capture.specs.Inside.{AreInside, IsSeenInside, AreSeenInside};
+ghost use Rattle.bus_capture.specs.Telling.{told_by, told_at};
 ghost use Rattle.bus_capture.specs.Tracing.{MayFollow, inferred_on};
 
 use crate::ahead::fails_ahead;
 use crate::lun_ahead::{Asking, lun_fails_ahead};
 use crate::sampler::{Observation, Observed};
 use nand_geometry::Geometry;
-use onfi_cycle::{Item, Lun, LunState, is_shared};
+use onfi_cycle::{Failures, Item, Lun, LunState, is_shared};
 use std::alloc::{AllocError, Allocator};
 use trace_faults::{TraceState, go_on_by_readies};
 
@@ -88,6 +89,26 @@ fn is_waiting(state: &TraceState, luns: u8, ce: u8) -> bool
     luns == 1 && is_busy(state.bus.lun_state(Lun { ce, lun: 0 }))
 }
 
+// What failures are told by these bits of a status, of a LUN whose work they tell of.
+fn told_by(geometry: &Geometry, lun: Option<LunState>, fail: Failures) -> Failures
+    ensures { result ≡ told_by geometry.now lun fail }
+{
+    match lun {
+        None => Failures::default(),
+        Some(lun) => Failures {
+            last: fail.last && !lun.programming,
+            before: geometry.parts().optional.has_program_cache() && fail.before,
+        },
+    }
+}
+
+fn told_at(state: &TraceState, ce: u8, lun: u8, fail: Failures) -> Failures
+    ensures { result ≡ told_at state.now ce lun fail }
+{
+    let of = state.bus.lun_state(Lun { ce, lun });
+    told_by(&state.bus.geometry(), of, fail)
+}
+
 // The ready that a rise of R/B# shows, by what is seen later; None where that isn't known yet.
 fn release_of(
     state: &TraceState,
@@ -103,15 +124,16 @@ fn release_of(
     if !infers || !is_waiting(state, luns, ce) {
         return Some(None);
     }
-    let fail = match fails_ahead(ce, later) {
-        Some(fail) => fail,
+    let shown = match fails_ahead(ce, later) {
+        Some(shown) => shown,
         None => {
             if !is_last {
                 return None;
             }
-            false
+            Failures::default()
         }
     };
+    let fail = told_at(state, ce, 0, shown);
     Some(Some(Item::Rdy { ce, lun: 0, fail }))
 }
 
@@ -122,15 +144,21 @@ fn is_awaited(state: &TraceState, lun: Lun) -> bool
     is_shared(&state.bus.geometry()) && is_busy(state.bus.lun_state(lun))
 }
 
-// Whether its work failed, by what is seen later; None where that isn't known yet.
-fn lun_fails(state: &TraceState, lun: Lun, later: &[Observed], is_last: bool) -> Option<bool>
+// What failures of its work are told, by what is seen later; None where that isn't known yet.
+fn lun_fails(state: &TraceState, lun: Lun, later: &[Observed], is_last: bool) -> Option<Failures>
     ensures known { IfSome result (λ fail. (more : List Observed) → MayFollow is_last more → lun_fails state.now lun.ce lun.lun (later.now ++ more) ≡ fail) }
     ensures open { IfNone result (is_last ≡ false) }
 {
     let asking = Asking::first(state.bus.is_selected(lun));
     match lun_fails_ahead(&state.bus.geometry(), lun, asking, later) {
         Some(fail) => Some(fail),
-        None => { if is_last { Some(false) } else { None } }
+        None => {
+            if is_last {
+                Some(Failures::default())
+            } else {
+                None
+            }
+        }
     }
 }
 
@@ -149,10 +177,10 @@ fn lun_release_of(
         return Some(None);
     }
     match lun_fails(state, lun, later, is_last) {
-        Some(fail) => Some(Some(Item::Rdy {
+        Some(shown) => Some(Some(Item::Rdy {
             ce: lun.ce,
             lun: lun.lun,
-            fail,
+            fail: told_at(state, lun.ce, lun.lun, shown),
         })),
         None => None,
     }

@@ -2,12 +2,13 @@
 ghost use Rattle.std.specs.Prelude.{◌≡◌, false, List, [], ◌++◌, IfSome, IfNone};
 ghost use Rattle.nand_geometry.specs.Row.{row_of};
 ghost use Rattle.onfi_cycle.specs.Effect.{names_lun};
+ghost use Rattle.bus_capture.specs.Telling.{no_failures};
 ghost use Rattle.bus_capture.specs.Asking.{first_asking, answered, asking_address, asking_command, asking_by, asking_in, asking_of, lun_fails_within};
 
-use crate::ahead::{MOST_AHEAD, has_fail};
+use crate::ahead::{MOST_AHEAD, told_of};
 use crate::sampler::{Observation, Observed};
 use nand_geometry::Geometry;
-use onfi_cycle::{Cycle, Item, Kind, Lun, RowBytes};
+use onfi_cycle::{Cycle, Failures, Item, Kind, Lun, RowBytes};
 
 /// Whether the status of a LUN is asked for.
 #[derive(Clone, Copy)]
@@ -26,8 +27,8 @@ pub(crate) struct Asking {
 enum LunAhead {
     // Nothing yet.
     Going(Asking),
-    // Whether it tells failure.
-    Known(bool),
+    // What failures it tells.
+    Known(Failures),
 }
 
 impl Asking {
@@ -96,7 +97,7 @@ impl Asking {
                 left: 3,
                 ..self
             }),
-            _ => LunAhead::Known(false),
+            _ => LunAhead::Known(Failures::default()),
         }
     }
 
@@ -109,7 +110,7 @@ impl Asking {
             Kind::Din => LunAhead::Going(self),
             Kind::Dout => {
                 if self.asked {
-                    LunAhead::Known(has_fail(byte))
+                    LunAhead::Known(told_of(byte))
                 } else {
                     LunAhead::Going(self)
                 }
@@ -154,23 +155,23 @@ fn names_lun(geometry: &Geometry, row: u32, lun: u8) -> bool
     geometry.parts_of(row).lun == u32::from(lun)
 }
 
-/// Whether the status tells failure that this LUN is asked for next, of what is seen later; None where that hangs on what is seen after that. If it isn't
-/// asked for before the host goes on, it doesn't.
+/// What failures the status tells that this LUN is asked for next, of what is seen later; None where that hangs on what is seen after that. If it isn't
+/// asked for before the host goes on, it tells none.
 pub(crate) fn lun_fails_ahead(
     geometry: &Geometry,
     lun: Lun,
     first: Asking,
     later: &[Observed],
-) -> Option<bool>
+) -> Option<Failures>
     ensures some { IfSome result (λ fail. (more : List Observed) → lun_fails_within geometry.now lun 65536 first (later.now ++ more) ≡ fail) }
-    ensures none { IfNone result (lun_fails_within geometry.now lun 65536 first (later.now ++ []) ≡ false) }
+    ensures none { IfNone result (lun_fails_within geometry.now lun 65536 first (later.now ++ []) ≡ no_failures) }
 {
     let mut asking = first;
     let mut most = MOST_AHEAD;
     let mut rest = later;
     'rest: while let Some((seen, others)) = rest.split_first() {
         if most == 0 {
-            return Some(false);
+            return Some(Failures::default());
         }
         match asking.after_seen(geometry, lun, seen.observation) {
             LunAhead::Known(fail) => return Some(fail),

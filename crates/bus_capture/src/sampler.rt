@@ -36,11 +36,12 @@ pub(crate) struct Strobing {
 }
 
 // The bus of so many targets at a time: its levels before and after it, and what is known of the strobes before. A strobe that changes again before the time
-// of a glitch is one.
+// of a glitch is one. Its chips program caches or not.
 #[derive(Clone, Copy)]
 pub(crate) struct Sampler {
     pub(crate) targets: u8,
     pub(crate) glitch: u64,
+    pub(crate) caches: bool,
     pub(crate) time: u64,
     before: Levels,
     after: Levels,
@@ -171,6 +172,7 @@ fn push_releases<A: Allocator>(
 // Adds the readies of so many LUNs from this number on, of which each target has four.
 fn push_readies<A: Allocator>(
     observed: &mut Vec<Observed, A>,
+    caches: bool,
     time: u64,
     before: &Levels,
     after: &Levels,
@@ -178,7 +180,7 @@ fn push_readies<A: Allocator>(
     number: u8,
 ) -> Result<(), CaptureRefusal>
     requires few { count + number ≤ 16 }
-    ensures ok { OnOk result (observed.new.items ≡ with_readies time before.now.of after.now.of observed.old.items count number) }
+    ensures ok { OnOk result (observed.new.items ≡ with_readies caches time before.now.of after.now.of observed.old.items count number) }
     ensures err { IfErr result (λ e. e ≡ CaptureRefusal.OutOfMemory) }
 {
     if count == 0 {
@@ -187,9 +189,9 @@ fn push_readies<A: Allocator>(
     match push_item(
         observed,
         time,
-        ready_of(before, after, number / 4, number % 4),
+        ready_of(caches, before, after, number / 4, number % 4),
     ) {
-        Ok(()) => push_readies(observed, time, before, after, count - 1, number + 1),
+        Ok(()) => push_readies(observed, caches, time, before, after, count - 1, number + 1),
         Err(refusal) => Err(refusal),
     }
 }
@@ -223,13 +225,14 @@ impl Strobing {
 
 impl Sampler {
     /// Nothing has been seen of a bus of so many targets.
-    pub(crate) fn begun(targets: u8, glitch: u64) -> Sampler
-        ensures begun { result ≡ begun targets glitch unknown }
+    pub(crate) fn begun(targets: u8, glitch: u64, caches: bool) -> Sampler
+        ensures begun { result ≡ begun targets glitch caches unknown }
         ensures still { IsStill result }
     {
         Sampler {
             targets,
             glitch,
+            caches,
             time: 0,
             before: Levels::unknown(),
             after: Levels::unknown(),
@@ -284,11 +287,12 @@ impl Sampler {
     ) -> Result<(), CaptureRefusal>
         requires few { self.now.targets ≤ 4 }
         ensures ok { OnOk result (observed.new.items ≡ with_releases self.now.time self.now.before.of self.now.after.of
-            (with_readies self.now.time self.now.before.of self.now.after.of observed.old.items (4 * self.now.targets) 0) self.now.targets 0) }
+            (with_readies self.now.caches self.now.time self.now.before.of self.now.after.of observed.old.items (4 * self.now.targets) 0) self.now.targets 0) }
         ensures err { IfErr result (λ e. e ≡ CaptureRefusal.OutOfMemory) }
     {
         push_readies(
             observed,
+            self.caches,
             self.time,
             &self.before,
             &self.after,

@@ -5,7 +5,7 @@ ghost use Rattle.bus_capture.specs.Sampling.{level, with_enable, enabled_from, w
 use crate::fault::BusFault;
 use crate::levels::Levels;
 use bus_signals::Role;
-use onfi_cycle::{Cycle, Item, Kind};
+use onfi_cycle::{Cycle, Failures, Item, Kind};
 use vcd_text::Level;
 
 /// The strobes of a bus: WE#, and RE#.
@@ -328,10 +328,10 @@ fn strobe_rises(before: &Levels, after: &Levels) -> bool
 
 // The line of a LUN's array tells that it is done, and no cycle has ended what it did.
 #[inline(always)]
-fn array_is_done(before: &Levels, after: &Levels, ce: u8, lun: u8) -> bool
-    ensures { result ≡ array_is_done before.now.of after.now.of ce lun }
+fn array_is_done(caches: bool, before: &Levels, after: &Levels, ce: u8, lun: u8) -> bool
+    ensures { result ≡ array_is_done caches before.now.of after.now.of ce lun }
 {
-    is_low(before.level(Role::Busy { ce, lun }))
+    (caches || is_low(before.level(Role::Busy { ce, lun })))
         && falls(
             before.level(Role::ArrayBusy { ce, lun }),
             after.level(Role::ArrayBusy { ce, lun }),
@@ -339,21 +339,25 @@ fn array_is_done(before: &Levels, after: &Levels, ce: u8, lun: u8) -> bool
         && !strobe_rises(before, after)
 }
 
-/// The ready that lines of a model tell of a LUN.
+/// The ready that lines of a model tell of a LUN, whose chip programs caches or not.
 #[inline(always)]
-pub fn ready_of(before: &Levels, after: &Levels, ce: u8, lun: u8) -> Option<Item>
-    ensures { result ≡ ready_of before.now.of after.now.of ce lun }
+pub fn ready_of(caches: bool, before: &Levels, after: &Levels, ce: u8, lun: u8) -> Option<Item>
+    ensures { result ≡ ready_of caches before.now.of after.now.of ce lun }
 {
     let was_busy = before.level(Role::Busy { ce, lun });
     if falls(was_busy, after.level(Role::Busy { ce, lun })) {
         return Some(Item::Rdy {
             ce,
             lun,
-            fail: is_high(after.level(Role::Failed { ce, lun })),
+            fail: Failures {
+                last: is_high(after.level(Role::Failed { ce, lun })),
+                before: false,
+            },
         });
     }
-    if array_is_done(before, after, ce, lun) {
-        return Some(Item::Ard { ce, lun });
+    if array_is_done(caches, before, after, ce, lun) {
+        let fail = is_high(after.level(Role::Failed { ce, lun }));
+        return Some(Item::Ard { ce, lun, fail });
     }
     None
 }

@@ -82,7 +82,11 @@ impl<A: Allocator + Clone> Tracer<A> {
             alloc,
             sources,
             spans,
-            sampler: Sampler::begun(setup.targets, setup.glitch),
+            sampler: Sampler::begun(
+                setup.targets,
+                setup.glitch,
+                setup.geometry.parts().optional.has_program_cache(),
+            ),
             beside: false,
             observed: Vec::new(copy),
             inferring: Inferring::begun(&setup.geometry, setup.targets, tells),

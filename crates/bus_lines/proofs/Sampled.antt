@@ -22,7 +22,7 @@ sampled_again : (k : Lines) (items : List Item) → sampling (released k) (all_d
 sampled_again k [] = refl
 sampled_again k (Cyc c ∷ items) = sampled_cycle k c.ce c.byte c.kind (all_drawn (released (struck (set_up (released k) c) c)) items) (cycles_of items) (sampled_again (struck (set_up (released k) c) c) items)
 sampled_again k (Rdy ce lun fail ∷ items) = sampled_again k items
-sampled_again k (Ard ce lun ∷ items) = sampled_again k items
+sampled_again k (Ard ce lun fail ∷ items) = sampled_again k items
 
 pub sampling_gives_back : SamplingGivesBack
 sampling_gives_back items = sampled_again idle items

@@ -47,4 +47,4 @@ at_rest l = record l { enabled = None }
 abbrev pub lines_after : Lines → Item → Lines
 lines_after l (Cyc c) = released (struck (set_up l c) c)
 lines_after l (Rdy _ _ _) = l
-lines_after l (Ard _ _) = l
+lines_after l (Ard _ _ _) = l

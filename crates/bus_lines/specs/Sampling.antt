@@ -38,7 +38,7 @@ sampling a (b ∷ lines) = with_sample (sampled a b) (sampling b lines)
 abbrev pub drawn_for : Lines → Item → List Lines
 drawn_for l (Cyc c) = set_up l c ∷ struck (set_up l c) c ∷ released (struck (set_up l c) c) ∷ []
 drawn_for l (Rdy _ _ _) = []
-drawn_for l (Ard _ _) = []
+drawn_for l (Ard _ _ _) = []
 
 abbrev pub all_drawn : Lines → List Item → List Lines
 all_drawn l [] = []
@@ -48,7 +48,7 @@ abbrev pub cycles_of : List Item → List Cycle
 cycles_of [] = []
 cycles_of (Cyc c ∷ items) = c ∷ cycles_of items
 cycles_of (Rdy _ _ _ ∷ items) = cycles_of items
-cycles_of (Ard _ _ ∷ items) = cycles_of items
+cycles_of (Ard _ _ _ ∷ items) = cycles_of items
 
 -- the law: what is drawn is sampled as what it was
 abbrev pub SamplingGivesBack : Type 0

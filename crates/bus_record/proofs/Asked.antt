@@ -19,7 +19,7 @@ use Rattle.onfi_cycle.specs.Effect.{is_shared, status_effect}
 use Rattle.onfi_cycle.specs.Lun.{view_after}
 use Rattle.onfi_cycle.specs.LunView.{LunView}
 use Rattle.onfi_cycle.specs.Permitted.{judge}
-use Rattle.onfi_cycle.specs.Rules.{breaks_not_there, breaks_command_unknown, breaks_sequence_open, breaks_several_luns, breaks_no_column_to_change, breaks_command_misplaced, breaks_address_misplaced, breaks_row_outside, breaks_lun_busy, breaks_queue_clash, breaks_input_misplaced, breaks_no_sole_driver, breaks_data_not_ready, breaks_column_outside, breaks_cache_read_misplaced, breaks_copyback_misplaced, breaks_plane_not_held}
+use Rattle.onfi_cycle.specs.Rules.{breaks_not_there, breaks_command_unknown, breaks_sequence_open, breaks_several_luns, breaks_no_column_to_change, breaks_command_misplaced, breaks_address_misplaced, breaks_row_outside, breaks_lun_busy, breaks_queue_clash, breaks_input_misplaced, breaks_no_sole_driver, breaks_data_not_ready, breaks_column_outside, breaks_cache_read_misplaced, breaks_cache_program_misplaced, breaks_copyback_misplaced, breaks_plane_not_held}
 use Rattle.onfi_cycle.specs.Runs.{first_rule}
 use Rattle.onfi_cycle.specs.Sequence.{facts_after, target_cycle}
 use Rattle.onfi_cycle.specs.State.{TargetView, BusView, bus, bus_after, judged, judged_on, target, target_after}
@@ -35,7 +35,7 @@ use Rattle.bus_record.proofs.Runs.{no_target}
 
 -- a LUN that shows its status gives it
 shown_gives : (g : Parts) (n ce : ℕ) (t : TailFacts) (v : LunView) → nat_le n ce ≡ false → judge g n (facts_after (CommandCycle ReadStatus) t) (view_after StatusSelected v ∷ []) (cycle ce Dout 0) ≡ None
-unfolding breaks_not_there breaks_command_unknown breaks_sequence_open breaks_several_luns breaks_no_column_to_change breaks_command_misplaced breaks_address_misplaced breaks_row_outside breaks_lun_busy breaks_queue_clash breaks_input_misplaced breaks_no_sole_driver breaks_data_not_ready breaks_column_outside breaks_cache_read_misplaced breaks_copyback_misplaced breaks_plane_not_held
+unfolding breaks_not_there breaks_command_unknown breaks_sequence_open breaks_several_luns breaks_no_column_to_change breaks_command_misplaced breaks_address_misplaced breaks_row_outside breaks_lun_busy breaks_queue_clash breaks_input_misplaced breaks_no_sole_driver breaks_data_not_ready breaks_column_outside breaks_cache_read_misplaced breaks_cache_program_misplaced breaks_copyback_misplaced breaks_plane_not_held
 shown_gives g n ce t v h = rw h refl
 
 is_read_status : (ce : ℕ) → CommandCycle ReadStatus ≡ target_cycle Cmd 0x70

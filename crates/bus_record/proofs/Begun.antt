@@ -1,16 +1,16 @@
 -- A target that begins anew, or forgets its open sequence.
-use Rattle.std.proofs.Common.{◌≡◌, ℕ, zero, suc, ◌+◌, ◌<◌, ◌≤◌, ◌==◌, ◌&&◌, Bool, true, false, if◌then◌else◌, List, [], ◌∷◌, Option, Some, None, is_none, length, map, take, get_or, slice_set, refl, sym, ap, ◌∙◌, arith, subst}
-use Rattle.std.specs.List.{slice_get, All}
+use Rattle.std.proofs.Common.{◌≡◌, ℕ, zero, suc, ◌<◌, ◌≤◌, ◌==◌, ◌&&◌, Bool, true, false, if◌then◌else◌, List, [], ◌∷◌, Option, Some, None, is_none, length, map, take, get_or, slice_set, refl, sym, ap, ◌∙◌, arith, subst}
+use Rattle.std.specs.List.{slice_get}
 use Rattle.std.proofs.lemmas.Bool.Decides.{nat_tests}
 use Rattle.std.proofs.lemmas.List.{length-set}
 use Rattle.std.proofs.lemmas.List.Elements.{All-set}
 use Rattle.nand_geometry.specs.declared.parts.Parts.{Parts}
 use Rattle.onfi_cycle.specs.declared.item.Item.{Item}
 use Rattle.onfi_cycle.specs.declared.forbidden.Forbidden.{Forbidden}
-use Rattle.onfi_cycle.specs.Bounds.{BusFits, TargetFits}
+use Rattle.onfi_cycle.specs.Bounds.{BusFits}
 use Rattle.onfi_cycle.specs.Permitted.{broken, is_legal, is_permitted}
 use Rattle.onfi_cycle.specs.Sequence.{target_of as target_of_item}
-use Rattle.onfi_cycle.specs.State.{TargetView, BusView, Follows, bus, bus_after, bus_without, changed_at, judged, judged_on, target_after, target_view, targets_from, without_sequence}
+use Rattle.onfi_cycle.specs.State.{TargetView, BusView, Follows, bus, bus_after, changed_at, judged, judged_on, target_after, target_view, targets_from, without_sequence}
 use Rattle.onfi_cycle.proofs.Dropped.{dropped_fits}
 use Rattle.onfi_cycle.proofs.Following.{beginning, bus_goes_on, count_of, found_target, judged_is_broken, set_changes}
 use Rattle.onfi_cycle.proofs.Runs.{changed_length}

@@ -6,9 +6,9 @@ use Rattle.nand_geometry.specs.declared.parts.Parts.{Parts}
 use Rattle.nand_geometry.specs.Limits.{planes}
 use Rattle.nand_geometry.specs.Row.{parts_of}
 use Rattle.onfi_cycle.specs.declared.command.Command.{Command}
-use Rattle.onfi_cycle.specs.declared.command.Command.TheVariants.{Read, ReadConfirm, ReadPlane, CopybackRead, ChangeReadColumn, ChangeReadColumnConfirm, BlockErase, BlockEraseConfirm, BlockErasePlane, ReadStatus, ReadStatusEnhanced, PageProgram, ChangeWriteColumn, ProgramConfirm, ProgramPlane, ReadId, ReadParameterPage, Reset, ReadCacheSequential, ReadCacheEnd, ReadUniqueId, GetFeatures, SetFeatures, ResetLun, SynchronousReset, Unknown, ChangeReadColumnEnhanced}
+use Rattle.onfi_cycle.specs.declared.command.Command.TheVariants.{Read, ReadConfirm, ReadPlane, CopybackRead, ChangeReadColumn, ChangeReadColumnConfirm, BlockErase, BlockEraseConfirm, BlockErasePlane, ReadStatus, ReadStatusEnhanced, PageProgram, ChangeWriteColumn, ProgramConfirm, ProgramPlane, ProgramCache, ReadId, ReadParameterPage, Reset, ReadCacheSequential, ReadCacheEnd, ReadUniqueId, GetFeatures, SetFeatures, ResetLun, SynchronousReset, Unknown, ChangeReadColumnEnhanced}
 use Rattle.onfi_cycle.specs.declared.effect.Effect.{Effect}
-use Rattle.onfi_cycle.specs.declared.effect.Effect.TheVariants.{ProgramAddressed, Unaffected, DataOutputEnabled, StatusSelected, StatusRowAwaited, SelectedForStatus, Deselected, FeaturesReadStarted, FeaturesSet, UniqueIdReadStarted, ParameterPageReadStarted, CacheReadContinued, CacheReadEnded, ResetStarted, ReadColumnChanged, TargetResetStarted, AnotherAddressed, PlaneSelected}
+use Rattle.onfi_cycle.specs.declared.effect.Effect.TheVariants.{ProgramAddressed, Unaffected, DataOutputEnabled, StatusRowAwaited, SelectedForStatus, Deselected, FeaturesReadStarted, FeaturesSet, UniqueIdReadStarted, ParameterPageReadStarted, CacheReadContinued, CacheReadEnded, ResetStarted, ReadColumnChanged, TargetResetStarted, AnotherAddressed, PlaneSelected}
 use Rattle.onfi_cycle.specs.declared.latch.Latch.{Latch}
 use Rattle.onfi_cycle.specs.declared.latch.Latch.TheVariants.{Off, Status, Data}
 use Rattle.onfi_cycle.specs.declared.opening.Opening.{Opening}
@@ -224,6 +224,7 @@ command_left g t BlockEraseConfirm vs = closer_left g t BlockEraseConfirm vs ref
 command_left g t BlockErasePlane vs = closer_left g t BlockErasePlane vs refl (λ s m. refl)
 command_left g t ProgramConfirm vs = closer_left g t ProgramConfirm vs refl (λ s m. refl)
 command_left g t ProgramPlane vs = closer_left g t ProgramPlane vs refl (λ s m. refl)
+command_left g t ProgramCache vs = closer_left g t ProgramCache vs refl (λ s m. refl)
 command_left g t ChangeReadColumn vs = nothing_left g t (CommandCycle ChangeReadColumn) (λ s m. always_rests (wants_command t ChangeReadColumn && names_lun g (row t) m)) (has_driver vs) 0 vs
 command_left g t ChangeReadColumnEnhanced vs = nothing_left g t (CommandCycle ChangeReadColumnEnhanced) (λ s m. always_rests (wants_command t ChangeReadColumnEnhanced && names_lun g (row t) m)) (has_driver vs) 0 vs
 command_left g t BlockErase vs = nothing_left g t (CommandCycle BlockErase) (λ s m. always_rests (wants_command t BlockErase && names_lun g (row t) m)) (has_driver vs) 0 vs
@@ -296,6 +297,7 @@ opener_left g t byte PageProgram k vs is = at (k == 4) refl
 opener_left g t byte ChangeWriteColumn k vs is = nothing_left g t (AddressCycle byte) is (has_driver vs) 0 vs
 opener_left g t byte ProgramConfirm k vs is = nothing_left g t (AddressCycle byte) is (has_driver vs) 0 vs
 opener_left g t byte ProgramPlane k vs is = nothing_left g t (AddressCycle byte) is (has_driver vs) 0 vs
+opener_left g t byte ProgramCache k vs is = nothing_left g t (AddressCycle byte) is (has_driver vs) 0 vs
 opener_left g t byte Reset k vs is = nothing_left g t (AddressCycle byte) is (has_driver vs) 0 vs
 opener_left g t byte ReadCacheSequential k vs is = nothing_left g t (AddressCycle byte) is (has_driver vs) 0 vs
 opener_left g t byte ReadCacheEnd k vs is = nothing_left g t (AddressCycle byte) is (has_driver vs) 0 vs

@@ -16,7 +16,7 @@ use Rattle.onfi_cycle.specs.Bounds.{TargetFits}
 use Rattle.onfi_cycle.specs.Channel.{cycle}
 use Rattle.onfi_cycle.specs.Inputs.{against_inputs}
 use Rattle.onfi_cycle.specs.Permitted.{judge}
-use Rattle.onfi_cycle.specs.Rules.{breaks_not_there, breaks_command_unknown, breaks_sequence_open, breaks_several_luns, breaks_no_column_to_change, breaks_command_misplaced, breaks_address_misplaced, breaks_row_outside, breaks_lun_busy, breaks_queue_clash, breaks_input_misplaced, breaks_no_sole_driver, breaks_data_not_ready, breaks_column_outside, breaks_cache_read_misplaced, breaks_copyback_misplaced, breaks_plane_not_held}
+use Rattle.onfi_cycle.specs.Rules.{breaks_not_there, breaks_command_unknown, breaks_sequence_open, breaks_several_luns, breaks_no_column_to_change, breaks_command_misplaced, breaks_address_misplaced, breaks_row_outside, breaks_lun_busy, breaks_queue_clash, breaks_input_misplaced, breaks_no_sole_driver, breaks_data_not_ready, breaks_column_outside, breaks_cache_read_misplaced, breaks_cache_program_misplaced, breaks_copyback_misplaced, breaks_plane_not_held}
 use Rattle.onfi_cycle.specs.Sequence.{extended_facts, facts_after, input_column, phase_after_input, takes_data, takes_features, takes_inputs}
 use Rattle.onfi_cycle.specs.State.{TargetView, target_after}
 use Rattle.target_record.specs.declared.record.OnfiseqTarget.{OnfiseqTarget}
@@ -35,7 +35,7 @@ abbrev by_tail : Parts → (missing takes bytes : Bool) → (column : ℕ) → O
 by_tail g missing takes bytes column = cond missing (Some NotThere) (cond (not takes) (Some InputMisplaced) (cond (not bytes && leb (page_len g) column) (Some ColumnOutside) None))
 
 judged_by : (g : Parts) (n ce : ℕ) (t : TailFacts) (vs : List LunView) → judge g n t vs (cycle ce Din 0) ≡ by_tail g (leb n ce) (takes_inputs t.phase) (takes_features t.phase) (input_column t)
-unfolding breaks_not_there breaks_command_unknown breaks_sequence_open breaks_several_luns breaks_no_column_to_change breaks_command_misplaced breaks_address_misplaced breaks_row_outside breaks_lun_busy breaks_queue_clash breaks_input_misplaced breaks_no_sole_driver breaks_data_not_ready breaks_column_outside breaks_cache_read_misplaced breaks_copyback_misplaced breaks_plane_not_held
+unfolding breaks_not_there breaks_command_unknown breaks_sequence_open breaks_several_luns breaks_no_column_to_change breaks_command_misplaced breaks_address_misplaced breaks_row_outside breaks_lun_busy breaks_queue_clash breaks_input_misplaced breaks_no_sole_driver breaks_data_not_ready breaks_column_outside breaks_cache_read_misplaced breaks_cache_program_misplaced breaks_copyback_misplaced breaks_plane_not_held
 judged_by g n ce t vs = refl
 
 permitted : (g : Parts) (ce : ℕ) (t : TailFacts) (vs : List LunView) → takes_features t.phase ≡ true → judge g (ce + 1) t vs (cycle ce Din 0) ≡ None

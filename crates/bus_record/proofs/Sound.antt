@@ -1,18 +1,18 @@
 -- A channel whose numbers stand every test is sound, and the other way round.
-use Rattle.std.proofs.Common.{◌≡◌, ℕ, zero, suc, ◌<◌, ◌≤◌, Bool, true, false, ◌||◌, List, [], ◌∷◌, Option, Some, refl, ap, ◌∙◌, length, map, take, get_or, arith}
+use Rattle.std.proofs.Common.{◌≡◌, ℕ, zero, suc, ◌<◌, ◌≤◌, Bool, true, false, ◌||◌, List, [], ◌∷◌, refl, ap, ◌∙◌, length, map, take, get_or, arith}
 use Rattle.std.specs.Prelude.{nat_le}
 use Rattle.std.specs.List.{All, list_all, slice_get}
 use Rattle.std.proofs.lemmas.Bool.{and_from}
 use Rattle.std.proofs.lemmas.Bool.Decides.{nat_tests}
 use Rattle.std.proofs.lemmas.Option.{slice_get-get_or}
-use Rattle.onfi_cycle.specs.Bounds.{BusFits, TargetFits}
+use Rattle.onfi_cycle.specs.Bounds.{TargetFits}
 use Rattle.target_record.specs.Geometry.{parts_of}
 use Rattle.target_record.specs.Record.{IsTarget, target_of}
 use Rattle.target_record.specs.Whole.{IsWhole, are_numbers, is_whole}
 use Rattle.target_record.specs.declared.geometry.OnfiseqGeometry.{OnfiseqGeometry}
 use Rattle.target_record.specs.declared.record.OnfiseqTarget.{OnfiseqTarget}
 use Rattle.target_record.proofs.Fitting.{numbers_taken, whole_taken}
-use Rattle.bus_record.specs.Bus.{FitsAt, HasPlaces, IsSound, IsTaken, SoundAreTaken, are_sound, bus_view, fits_at, is_whole_there}
+use Rattle.bus_record.specs.Bus.{FitsAt, HasPlaces, IsSound, SoundAreTaken, are_sound, fits_at, is_whole_there}
 use Rattle.bus_record.specs.Kept.{Kept}
 use Rattle.bus_record.proofs.Pushed.{fits_each, views_count}
 use Rattle.bus_record.proofs.Runs.{no_target}

@@ -13,5 +13,6 @@ look_of l = if l.is_there then Some (record {
   column = given_of l.has_column l.column;
   queued = l.queued;
   caching = l.caching;
+  programming = l.programming;
   array_busy = l.array_busy;
 }) else None

@@ -1,7 +1,6 @@
 -- A whole operation on a target: its parts one after another, as far as none of their cycles breaks a rule.
 use Rattle.std.specs.Prelude.{◌≡◌, ◌<◌, ℕ, ◌+◌, ◌==◌, nat_le, slice_get, if◌then◌else◌, List, [], ◌∷◌, Option, Some, None, take, length, false}
 use Rattle.onfi_cycle.specs.declared.forbidden.Forbidden.{Forbidden}
-use Rattle.onfi_cycle.specs.declared.item.Item.{Item}
 use Rattle.onfi_cycle.specs.declared.item.Item.TheVariants.{Rdy}
 use Rattle.onfi_cycle.specs.declared.item.Kind.{Kind}
 use Rattle.onfi_cycle.specs.declared.item.Kind.TheVariants.{Cmd, Adr}
@@ -27,7 +26,7 @@ after_cycles kind ce (byte ∷ bytes) s = after_cycles kind ce bytes (bus_after 
 
 -- R/B# of the target has risen: each of its four LUNs is ready that is there and busy
 abbrev pub readied : ℕ → ℕ → BusView → BusView
-readied ce lun s = bus_pushed s (Some (Rdy ce lun false))
+readied ce lun s = bus_pushed s (Some (Rdy ce lun (record { last = false; before = false })))
 
 abbrev pub after_wait : ℕ → BusView → BusView
 after_wait ce s = readied ce 3 (readied ce 2 (readied ce 1 (readied ce 0 s)))

@@ -18,12 +18,13 @@ ghost use Rattle.bus_record.specs.Channel.{IsSameChannel};
 ghost use Rattle.target_record.specs.Record.{target_of};
 ghost use Rattle.onfi_cycle.specs.Bounds.{TargetFits};
 ghost use Rattle.nand_geometry.specs.Limits.{InLimits};
+ghost use Rattle.nand_geometry.specs.Optional.{is_wide, has_program_cache};
 
 use crate::item::OnfiseqItem;
 use crate::luns_change::{end_array_work_of, end_work_of};
 use crate::target_change::{apply_address, apply_command, apply_input, apply_output};
-use nand_geometry::{Geometry, PageFault};
-use onfi_cycle::{Command, Cycle, Forbidden, Item, Kind, READ_STATUS, TargetState};
+use nand_geometry::{Geometry, Optional, PageFault};
+use onfi_cycle::{Command, Cycle, Failures, Forbidden, Item, Kind, READ_STATUS, TargetState};
 use target_record::{
     NO_TARGET, OnfiseqGeometry, OnfiseqTarget, are_numbers, is_whole, judge_address_of,
     judge_command_of, judge_input_of, judge_output_of, judge_there, record_of,
@@ -372,7 +373,7 @@ fn step_ready(
     kept: &mut OnfiseqTarget,
     ce: u8,
     lun: u8,
-    fail: bool,
+    fail: Failures,
 ) -> Option<Forbidden>
     requires limits { InLimits (parts_of geometry.now) }
     requires numbers { IsTarget kept.old }
@@ -394,16 +395,17 @@ fn step_array_ready(
     kept: &mut OnfiseqTarget,
     ce: u8,
     lun: u8,
+    fail: bool,
 ) -> Option<Forbidden>
     requires limits { InLimits (parts_of geometry.now) }
     requires numbers { IsTarget kept.old }
     requires fits { TargetFits (parts_of geometry.now) (target_of kept.old) }
-    ensures { IsStep (parts_of geometry.now) targets kept.old kept.new (ItemValue.Ard ce lun) result }
+    ensures { IsStep (parts_of geometry.now) targets kept.old kept.new (ItemValue.Ard ce lun fail) result }
 {
-    if let Some(rule) = judge_there(geometry, targets, kept, Item::Ard { ce, lun }) {
+    if let Some(rule) = judge_there(geometry, targets, kept, Item::Ard { ce, lun, fail }) {
         return Some(rule);
     }
-    end_array_work_of(&mut kept.luns, kept.count, lun);
+    end_array_work_of(&mut kept.luns, kept.count, lun, fail);
     None
 }
 
@@ -428,7 +430,7 @@ pub(crate) fn step_target(
             Kind::Adr => step_address(geometry, targets, kept, cycle),
         },
         Item::Rdy { ce, lun, fail } => step_ready(geometry, targets, kept, ce, lun, fail),
-        Item::Ard { ce, lun } => step_array_ready(geometry, targets, kept, ce, lun),
+        Item::Ard { ce, lun, fail } => step_array_ready(geometry, targets, kept, ce, lun, fail),
     }
 }
 
@@ -502,12 +504,28 @@ fn push_cycle(bus: &mut OnfiseqBus, ce: u8, kind: Kind, byte: u8) -> u32
     }
 }
 
-/// The channel goes on by the item that numbers stand for, as [`push`] does; [`NO_ITEM`] where they are none.
+/// The chips of the channel are of the wider profile.
 #[inline(always)]
-pub fn push_numbers(bus: &mut OnfiseqBus, item: &OnfiseqItem) -> u32
+pub fn is_wide(bus: &OnfiseqBus) -> bool
+    ensures { result ≡ is_wide (bus_view bus.now).geometry.optional }
+{
+    Optional(bus.geometry.optional).is_wide()
+}
+
+/// The chips of the channel program caches.
+#[inline(always)]
+pub fn caches_programs(bus: &OnfiseqBus) -> bool
+    ensures { result ≡ has_program_cache (bus_view bus.now).geometry.optional }
+{
+    Optional(bus.geometry.optional).has_program_cache()
+}
+
+/// The channel goes on by the item that numbers stand for in the wider profile or the base one, as [`push`] does; [`NO_ITEM`] where they are none.
+#[inline(always)]
+pub fn push_numbers(bus: &mut OnfiseqBus, item: &OnfiseqItem, wide: bool) -> u32
     requires { FitsAt bus.old item.now.ce }
-    ensures answer { result ≡ pushed (bus_view bus.old) (item_of item.now) }
-    ensures state { bus_view bus.new ≡ bus_pushed (bus_view bus.old) (item_of item.now) }
+    ensures answer { result ≡ pushed (bus_view bus.old) (item_of wide item.now) }
+    ensures state { bus_view bus.new ≡ bus_pushed (bus_view bus.old) (item_of wide item.now) }
     ensures refused { (result ≡ 0 → ⊥) → bus.new ≡ bus.old }
     ensures count { bus.new.count ≡ bus.old.count }
     ensures magic { bus.new.magic ≡ bus.old.magic }
@@ -518,7 +536,7 @@ pub fn push_numbers(bus: &mut OnfiseqBus, item: &OnfiseqItem) -> u32
         b'I' if item.fail == 0 => push_cycle(bus, item.ce, Kind::Din, item.byte),
         b'C' if item.fail == 0 => push_cycle(bus, item.ce, Kind::Cmd, item.byte),
         b'A' if item.fail == 0 => push_cycle(bus, item.ce, Kind::Adr, item.byte),
-        _ => match item.item() {
+        _ => match item.item(wide) {
             Some(item) => push(bus, item),
             None => NO_ITEM,
         },

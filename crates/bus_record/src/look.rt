@@ -15,12 +15,13 @@ use crate::bus::{OnfiseqBus, code_of};
 use nand_geometry::Geometry;
 use onfi_cycle::{Forbidden, Item, Lun, is_cache_read};
 use target_record::{
-    OnfiseqGeometry, OnfiseqLun, OnfiseqTarget, closer_of, is_set, judge_there, output_column,
-    queue_len,
+    OnfiseqGeometry, OnfiseqLun, OnfiseqTarget, closer_of, is_programming, is_set, judge_there,
+    output_column, queue_len,
 };
 
 /// A look at a LUN. `latch`: what it drives the bus with, 0 nothing, 1 its status, 2 data. `register`: what its register holds, 0 nothing, 1 the page of `block`
 /// and `page`, 2 the parameter page, 3 the identifier. `column`, where `has_column`: the place that the next output gives. `queued`: the rows of its queue.
+/// `programming`: it programs behind a 15h, or its array does.
 #[repr(C)]
 #[derive(Clone, Copy)]
 pub struct OnfiseqLook {
@@ -31,6 +32,7 @@ pub struct OnfiseqLook {
     pub caching: bool,
     pub register: u8,
     pub has_column: bool,
+    pub programming: bool,
     pub block: u32,
     pub page: u64,
     pub column: u64,
@@ -46,6 +48,7 @@ const NO_LOOK: OnfiseqLook = OnfiseqLook {
     caching: false,
     register: 0,
     has_column: false,
+    programming: false,
     block: 0,
     page: 0,
     column: 0,
@@ -73,6 +76,7 @@ fn look_at(kept: &OnfiseqLun) -> OnfiseqLook
         caching: is_cache_read(closer_of(is_set(kept.has_closer), kept.closer)),
         register: kept.register,
         has_column: column.is_some(),
+        programming: is_programming(kept),
         block: kept.register_block,
         page: kept.register_page,
         column: column.unwrap_or(0),

@@ -13,7 +13,7 @@ ghost use Rattle.bus_record.specs.declared.target_effect.TargetEffect.{TargetEff
 ghost use Rattle.target_record.specs.Record.{HasRoom, IsRecord, lun_of, luns_of};
 
 use crate::target_effect::TargetEffect;
-use onfi_cycle::{Effect, Latch};
+use onfi_cycle::{Effect, Failures, Latch};
 use target_record::{
     OnfiseqLun, become_array_ready, become_ready, change, driver, flag, is_set, latch_code,
     latch_of,
@@ -212,26 +212,26 @@ fn change_luns(luns: &mut [OnfiseqLun], effect: TargetEffect)
 }
 
 // The LUN of this number becomes ready, if it is there.
-fn end_work(luns: &mut [OnfiseqLun], number: u8, failed: bool)
+fn end_work(luns: &mut [OnfiseqLun], number: u8, fail: Failures)
     requires { All IsRecord luns.old }
-    ensures value { luns_of luns.new ≡ one_after (EffectValue.BecameReady failed) number (luns_of luns.old) }
+    ensures value { luns_of luns.new ≡ one_after (EffectValue.BecameReady fail) number (luns_of luns.old) }
     ensures numbers { All IsRecord luns.new }
 {
     let place = usize::from(number);
     if place < luns.len() {
-        become_ready(&mut luns[place], failed);
+        become_ready(&mut luns[place], fail);
     }
 }
 
 // The array of the LUN of this number becomes ready, if it is there.
-fn end_array_work(luns: &mut [OnfiseqLun], number: u8)
+fn end_array_work(luns: &mut [OnfiseqLun], number: u8, fail: bool)
     requires { All IsRecord luns.old }
-    ensures value { luns_of luns.new ≡ one_after EffectValue.ArrayBecameReady number (luns_of luns.old) }
+    ensures value { luns_of luns.new ≡ one_after (EffectValue.ArrayBecameReady fail) number (luns_of luns.old) }
     ensures numbers { All IsRecord luns.new }
 {
     let place = usize::from(number);
     if place < luns.len() {
-        become_array_ready(&mut luns[place]);
+        become_array_ready(&mut luns[place], fail);
     }
 }
 
@@ -291,23 +291,23 @@ pub(crate) fn give_first(luns: &mut [OnfiseqLun; 4], count: usize)
 }
 
 /// One of them becomes ready, if it is there.
-pub(crate) fn end_work_of(luns: &mut [OnfiseqLun; 4], count: usize, number: u8, failed: bool)
+pub(crate) fn end_work_of(luns: &mut [OnfiseqLun; 4], count: usize, number: u8, fail: Failures)
     requires count { count ≤ 4 }
     requires numbers { All IsRecord luns.old }
-    ensures value { luns_of (take count luns.new) ≡ one_after (EffectValue.BecameReady failed) number (luns_of (take count luns.old)) }
+    ensures value { luns_of (take count luns.new) ≡ one_after (EffectValue.BecameReady fail) number (luns_of (take count luns.old)) }
     ensures numbers { All IsRecord luns.new }
 {
     let (first, _rest) = luns.split_at_mut(count);
-    end_work(first, number, failed);
+    end_work(first, number, fail);
 }
 
 /// The array of one of them becomes ready, if it is there.
-pub(crate) fn end_array_work_of(luns: &mut [OnfiseqLun; 4], count: usize, number: u8)
+pub(crate) fn end_array_work_of(luns: &mut [OnfiseqLun; 4], count: usize, number: u8, fail: bool)
     requires count { count ≤ 4 }
     requires numbers { All IsRecord luns.old }
-    ensures value { luns_of (take count luns.new) ≡ one_after EffectValue.ArrayBecameReady number (luns_of (take count luns.old)) }
+    ensures value { luns_of (take count luns.new) ≡ one_after (EffectValue.ArrayBecameReady fail) number (luns_of (take count luns.old)) }
     ensures numbers { All IsRecord luns.new }
 {
     let (first, _rest) = luns.split_at_mut(count);
-    end_array_work(first, number);
+    end_array_work(first, number, fail);
 }

@@ -8,7 +8,7 @@ ghost use Rattle.bus_record.specs.Trial.{IsTried, tried_view};
 
 use crate::bus::{NO_ITEM, OnfiseqBus, code_of};
 use crate::trial::{put_target, target_at, try_inputs, try_item, try_outputs};
-use onfi_cycle::{Cycle, Forbidden, Item, Kind};
+use onfi_cycle::{Cycle, Failures, Forbidden, Item, Kind};
 use target_record::OnfiseqTarget;
 
 /// A part of an operation. `kind` is a letter: C and A give the first `count` of the bytes as commands or addresses, seven at most; I gives so many bytes to the
@@ -81,7 +81,7 @@ fn try_ready(bus: &OnfiseqBus, kept: &mut OnfiseqTarget, ce: u8, lun: u8)
     ensures state { tried_view bus.now ce kept.new ≡ readied ce lun (tried_view bus.now ce kept.old) }
     ensures tried { IsTried bus.now ce kept.new }
 {
-    let fail = false;
+    let fail = Failures::default();
     // A ready that isn't due changes nothing.
     let _ = try_item(bus, kept, Item::Rdy { ce, lun, fail });
 }

@@ -67,6 +67,7 @@ fn confirm_effect(geometry: &Geometry, kept: &OnfiseqTarget, named: Command) -> 
             page,
         },
         Command::ProgramPlane => Effect::ProgramStarted { queued: true, page },
+        Command::ProgramCache => Effect::CacheProgramStarted { page },
         _ => Effect::Unaffected,
     }
 }
@@ -217,7 +218,8 @@ pub(crate) fn effect_of_command(
         | Command::BlockEraseConfirm
         | Command::BlockErasePlane
         | Command::ProgramConfirm
-        | Command::ProgramPlane => effect_of_closer(geometry, kept, named),
+        | Command::ProgramPlane
+        | Command::ProgramCache => effect_of_closer(geometry, kept, named),
         Command::ChangeReadColumn
         | Command::ChangeReadColumnEnhanced
         | Command::BlockErase

@@ -30,12 +30,16 @@ is_closer (Some other) byte = other == byte
 abbrev pub reads_page : Option ℕ → Bool
 reads_page closer = is_closer closer 0x30 || (is_closer closer 0x31 || is_closer closer 0x35)
 
+-- the closer of a program programs a page: 10 or 15
+abbrev pub programs_page : Option ℕ → Bool
+programs_page closer = is_closer closer 0x10 || is_closer closer 0x15
+
 -- a read, a cache read and the parameter page tR, a program tPROG, an erase tBERS, a reset tRST, a feature tFEAT
 abbrev pub bound_by : (opener : ℕ) → (closer : Option ℕ) → Option BusyTime
 bound_by opener closer =
     if opener == 0x31 || (opener == 0x3f || opener == 0xec) then Some busy.Read
     else (if opener == 0x00 && reads_page closer then Some busy.Read
-    else (if (opener == 0x80 || opener == 0x85) && is_closer closer 0x10 then Some busy.Program
+    else (if (opener == 0x80 || opener == 0x85) && programs_page closer then Some busy.Program
     else (if opener == 0x60 && is_closer closer 0xd0 then Some busy.Erase
     else (if opener == 0xff then Some busy.Reset
     else (if opener == 0xee || opener == 0xef then Some busy.Features else None)))))
@@ -92,7 +96,7 @@ is_ready_at (Some (Abandoned at)) n = false
 abbrev pub shows_work : List Operation → (mark : ℕ) → Operation → (n : ℕ) → Item → Bool
 shows_work ops mark worker n (Cyc c) = is_busy_output c.kind c.byte && asked_by ops mark worker
 shows_work ops mark worker n (Rdy ce lun fail) = is_ready_at worker.end n
-shows_work ops mark worker n (Ard ce lun) = false
+shows_work ops mark worker n (Ard ce lun fail) = false
 
 abbrev pub has_ended : Option Ending → ℕ → Bool
 has_ended None n = false

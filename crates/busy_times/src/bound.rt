@@ -1,6 +1,6 @@
 //! Which time bounds the work of an operation.
 ghost use Rattle.std.specs.Prelude.{◌≡◌};
-ghost use Rattle.busy_times.specs.Overruns.{is_closer, reads_page, bound_by, bound_of};
+ghost use Rattle.busy_times.specs.Overruns.{is_closer, reads_page, programs_page, bound_by, bound_of};
 
 use trace_ops::{Beginning, Operation};
 use trace_timing::BusyTime;
@@ -22,6 +22,13 @@ fn reads_page(closer: Option<u8>) -> bool
     is_closer(closer, 0x30) || is_closer(closer, 0x31) || is_closer(closer, 0x35)
 }
 
+// The command that closes a program programs a page: 10h or 15h.
+fn programs_page(closer: Option<u8>) -> bool
+    ensures { result ≡ programs_page closer }
+{
+    is_closer(closer, 0x10) || is_closer(closer, 0x15)
+}
+
 // The time that bounds the work of a sequence with this opener and this closer.
 fn bound_by(opener: u8, closer: Option<u8>) -> Option<BusyTime>
     ensures { result ≡ bound_by opener closer }
@@ -30,7 +37,7 @@ fn bound_by(opener: u8, closer: Option<u8>) -> Option<BusyTime>
         Some(BusyTime::Read)
     } else if opener == 0x00 && reads_page(closer) {
         Some(BusyTime::Read)
-    } else if (opener == 0x80 || opener == 0x85) && is_closer(closer, 0x10) {
+    } else if (opener == 0x80 || opener == 0x85) && programs_page(closer) {
         Some(BusyTime::Program)
     } else if opener == 0x60 && is_closer(closer, 0xd0) {
         Some(BusyTime::Erase)

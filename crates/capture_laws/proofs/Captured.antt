@@ -1,10 +1,12 @@
 -- What is drawn comes back.
 use Rattle.std.proofs.Common.{◌≡◌, ℕ, zero, suc, ◌-◌, ◌<◌, ◌≤◌, ◌==◌, Bool, true, false, cond, not, List, [], ◌∷◌, ◌++◌, length, get_or, Option, Some, None, Ok, Result, refl, sym, ap, ◌∙◌, arith, append_assoc, append-nil}
-use Rattle.std.specs.Prelude.{slice_get, reverse, is_none}
+use Rattle.std.specs.Prelude.{slice_get, map, reverse, is_none}
 use Rattle.std.proofs.lemmas.Grind.{reverse_onto}
 use Rattle.std.proofs.lemmas.Bool.{leb-true, and_parts, false≢true}
 use Rattle.nand_geometry.specs.declared.parts.Parts.{Parts}
+use Rattle.nand_geometry.specs.Optional.{has_program_cache}
 use Rattle.onfi_cycle.specs.declared.item.Item.{Item}
+use Rattle.onfi_cycle.specs.declared.item.Item.TheVariants.{Cyc, Rdy, Ard}
 use Rattle.onfi_cycle.specs.declared.forbidden.Forbidden.{Forbidden}
 use Rattle.onfi_cycle.specs.Permitted.{broken, is_permitted, is_legal}
 use Rattle.bus_lines.specs.Lines.{idle}
@@ -34,7 +36,7 @@ use Rattle.wave_laws.specs.Lines.{lines_of}
 use Rattle.wave_laws.proofs.Dumps.{drawn}
 use Rattle.wave_laws.proofs.Levels.{line_count, length_levels}
 use Rattle.wave_laws.proofs.Named.{names_are_lines}
-use Rattle.capture_laws.specs.Drawn.{carry_bytes, stamped_from, DrawnIsCaptured}
+use Rattle.capture_laws.specs.Drawn.{carry_bytes, told_of, tells_all, tell_all, stamped_from, DrawnIsCaptured, DrawnComesBack}
 use Rattle.capture_laws.proofs.Placed.{Shows, code_at, held_level}
 use Rattle.capture_laws.proofs.Tables.{Fits, fits, is_among, size_at}
 use Rattle.capture_laws.proofs.Settling.{seen_items}
@@ -74,15 +76,15 @@ unknown_shown targets luns fit p few =
 -- ---- 2. it goes on to the end
 
 events_end : (g : Parts) (targets glitch : ℕ) (items : List Item) → glitch ≡ 0 → Fits targets g.luns → targets ≤ 4 → g.luns ≤ 4 → (drawn_by g targets items).rule ≡ 0 → carry_bytes items ≡ true →
-    Ends (lines_of targets g.luns) (blank targets glitch unknown) [] (events_of g targets items) (stamped_from 0 items)
+    Ends (lines_of targets g.luns) (blank targets glitch (has_program_cache g.optional) unknown) [] (events_of g targets items) (stamped_from 0 (map told_of items))
 events_end g targets glitch items none fit few four legal bytes =
     let sources = lines_of targets g.luns in
-    let s = blank targets glitch unknown in
+    let s = blank targets glitch (has_program_cache g.optional) unknown in
     let first = levels g targets [] 0 idle in
     let long : length (unknowns (line_count targets g.luns)) ≡ length first = length_unknowns (line_count targets g.luns) ∙ sym (length_levels g targets [] 0 idle) in
     let c = settings_go sources fit.apart first (unknowns (line_count targets g.luns)) [] 33 s [] refl long (unknown_shown targets g.luns fit) in
     let fresh : IsFresh (with_levels s c.xs) = record { before = refl; we = refl; re = refl } in
-    let waits : Waits sources targets (with_levels s c.xs) [] first [] = record { of_targets = refl; glitch = none; shows = c.shows; settles = fresh_settles (with_levels s c.xs) [] fresh none } in
+    let waits : Waits sources targets (has_program_cache g.optional) (with_levels s c.xs) [] first [] = record { of_targets = refl; of_caches = refl; glitch = none; shows = c.shows; settles = fresh_settles (with_levels s c.xs) [] fresh none } in
     let rest = events_from g targets begun items ++ last_events g targets (after_all g targets begun items) in
     let e = items_end g targets fit few four items begun [] refl legal bytes (record { we = refl; re = refl }) (with_levels s c.xs) [] [] waits (IsFirst refl fresh) in
     record { all = e.all; is = c.goes rest ∙ e.is; seen = e.seen }
@@ -105,7 +107,7 @@ told_by_lines luns state stamped (o ∷ os) = by o.observation (λ state stamped
 -- ---- 4. the law
 
 captured_from : (setup : Setup) (text : List ℕ) (signals : List Variable) (events : List Event) (sources : List Source) (stamped : List Stamped) → setup.form ≡ Dump → Tells text signals events →
-    sources_of setup.targets (carriers_of setup.mappings.now signals) ≡ Ok sources → Ends sources (blank setup.targets setup.glitch unknown) [] events stamped → tells_readies sources ≡ true → captured setup text ≡ Ok stamped
+    sources_of setup.targets (carriers_of setup.mappings.now signals) ≡ Ok sources → Ends sources (blank setup.targets setup.glitch (has_program_cache setup.geometry.optional) unknown) [] events stamped → tells_readies sources ≡ true → captured setup text ≡ Ok stamped
 captured_from setup text signals events sources stamped form tells found ends ready =
     let there : sources_in setup tells.read ≡ Ok sources = ap (λ (vs : List Variable). in_roles (sources_of setup.targets (carriers_of setup.mappings.now vs))) tells.declared ∙ ap in_roles found in
     let body : body_items setup tells.read sources ≡ Ok ends.all = ap (told_items setup sources) tells.told ∙ ends.is in
@@ -142,9 +144,30 @@ pub drawn_is_captured : DrawnIsCaptured
 drawn_is_captured setup items plain legal bytes short =
     let g = setup.geometry in
     let targets = setup.targets in
-    captured_from setup (dump g targets items) (signals_of targets g.luns) (events_of g targets items) (lines_of targets g.luns) (stamped_from 0 items) plain.form
+    captured_from setup (dump g targets items) (signals_of targets g.luns) (events_of g targets items) (lines_of targets g.luns) (stamped_from 0 (map told_of items)) plain.form
     (drawn g targets items plain.some plain.few plain.luns plain.few_luns short)
     (ap (λ (ms : List Mapping). sources_of targets (carriers_of ms (signals_of targets g.luns))) plain.names ∙ names_are_lines targets g.luns plain.some plain.few plain.luns plain.few_luns)
     (events_end g targets setup.glitch items plain.glitch (fits targets g.luns plain.some plain.few plain.luns plain.few_luns) plain.few plain.few_luns
     (legal_drawn g targets items begun refl (ap (is_legal g targets) (append-nil (reverse items)) ∙ legal)) bytes)
     (lines_tell targets g.luns plain.some plain.few plain.luns plain.few_luns)
+
+-- ---- 5. all comes back where no failure of the page before is told
+
+same_before : (b : Bool) → not b ≡ true → false ≡ b
+same_before true h = absurd (false≢true h)
+same_before false h = refl
+
+told_same : (i : Item) → tells_all i ≡ true → told_of i ≡ i
+told_same (Cyc c) h = refl
+told_same (Rdy ce lun fail) h = ap (λ (b : Bool). Rdy ce lun (record { last = fail.last; before = b })) (same_before fail.before h)
+told_same (Ard ce lun fail) h = refl
+
+all_same : (items : List Item) → tell_all items ≡ true → map told_of items ≡ items
+all_same [] h = refl
+all_same (i ∷ items) h =
+    let parts = and_parts (tells_all i) (tell_all items) h in
+    ap (λ (j : Item). j ∷ map told_of items) (told_same i parts.0) ∙ ap (λ (rest : List Item). i ∷ rest) (all_same items parts.1)
+
+pub drawn_comes_back : DrawnComesBack
+drawn_comes_back setup items plain legal bytes short all =
+    drawn_is_captured setup items plain legal bytes short ∙ ap (λ (told : List Item). Ok (stamped_from 0 told)) (all_same items all)

@@ -1,12 +1,16 @@
 -- A capture follows what is drawn, item by item.
-use Rattle.std.proofs.Common.{◌≡◌, ℕ, suc, ◌+◌, ◌*◌, ◌<◌, ◌≤◌, ◌==◌, Bool, true, false, not, List, [], ◌∷◌, ◌++◌, length, Ok, refl, sym, ap, ◌∙◌, subst, arith, append_assoc, append-nil}
+use Rattle.std.proofs.Common.{◌≡◌, ℕ, suc, ◌+◌, ◌*◌, ◌<◌, ◌≤◌, ◌==◌, ◌||◌, Bool, true, false, not, List, [], ◌∷◌, ◌++◌, length, Ok, refl, sym, ap, ◌∙◌, subst, arith, append_assoc, append-nil}
+use Rattle.std.specs.Prelude.{map}
 use Rattle.std.proofs.lemmas.Bool.{leb-true, and_parts}
 use Rattle.nand_geometry.specs.declared.parts.Parts.{Parts}
+use Rattle.nand_geometry.specs.Optional.{has_program_cache}
 use Rattle.onfi_cycle.specs.declared.item.Cycle.{Cycle}
 use Rattle.onfi_cycle.specs.declared.item.Kind.{Kind}
 use Rattle.onfi_cycle.specs.declared.item.Kind.TheVariants.{Cmd, Adr, Din, Dout}
+use Rattle.onfi_cycle.specs.declared.item.Failures.{Failures}
 use Rattle.onfi_cycle.specs.declared.item.Item.{Item}
 use Rattle.onfi_cycle.specs.declared.item.Item.TheVariants.{Cyc, Rdy, Ard}
+use Rattle.onfi_cycle.specs.Permitted.{is_legal}
 use Rattle.bus_lines.specs.declared.lines.Lines.{Lines}
 use Rattle.bus_lines.specs.Lines.{set_up, struck, released, at_rest}
 use Rattle.trace_wave.specs.Levels.{bit, levels, is_busy, has_busy_array}
@@ -24,11 +28,11 @@ use Rattle.wave_laws.specs.Lines.{lines_of}
 use Rattle.wave_laws.specs.Readies.{held_of, busy_code}
 use Rattle.wave_laws.proofs.Followed.{drawn_on}
 use Rattle.wave_laws.proofs.Levels.{length_levels}
-use Rattle.capture_laws.specs.Drawn.{carries_byte, carry_bytes, stamped_from}
+use Rattle.capture_laws.specs.Drawn.{carries_byte, carry_bytes, told_of, stamped_from}
 use Rattle.capture_laws.proofs.Placed.{Shows}
 use Rattle.capture_laws.proofs.Tables.{Fits}
 use Rattle.capture_laws.proofs.Standing.{told, told_at, bus_at, Stands, stands}
-use Rattle.capture_laws.proofs.Moving.{stood, all_stood, Names, names, Moves, moves}
+use Rattle.capture_laws.proofs.Moving.{stood, all_stood, Names, names, array_seen, drawn_legal, Moves, moves}
 use Rattle.capture_laws.proofs.Settling.{seen_items, Settles}
 use Rattle.capture_laws.proofs.Seeing.{of_kind, itself, still_settles, cycle_settles, busy_settles, array_settles}
 use Rattle.capture_laws.proofs.Going.{all_ok, Waits, MayCome, IsLater, IsFirst, Gone, Sees, still_goes, still_frame, telling_frame, then_goes}
@@ -47,6 +51,9 @@ module _ (g : Parts) (targets : ℕ) (fit : Fits targets g.luns) (few : targets 
   abbrev sources : List Source
   sources = lines_of targets g.luns
 
+  abbrev caches : Bool
+  caches = has_program_cache g.optional
+
   as_long : (d e : Drawing) (l k : Lines) → length (levels_at g targets d l) ≡ length (levels_at g targets e k)
   as_long d e l k = length_levels g targets d.past d.rule l ∙ sym (length_levels g targets e.past e.rule k)
 
@@ -55,8 +62,8 @@ module _ (g : Parts) (targets : ℕ) (fit : Fits targets g.luns) (few : targets 
 
   -- ---- 1. what is seen at each time
 
-  still_sees : (d : Drawing) (l m : Lines) (items : List Stamped) (t : ℕ) → d.rule ≡ 0 → l.we ≡ true → l.re ≡ true → Sees sources targets (levels_at g targets d l) (levels_at g targets d m) items items t
-  still_sees d l m items t none we re s os e glitch time b a seen =
+  still_sees : (d : Drawing) (l m : Lines) (items : List Stamped) (t : ℕ) → d.rule ≡ 0 → l.we ≡ true → l.re ≡ true → Sees sources targets caches (levels_at g targets d l) (levels_at g targets d m) items items t
+  still_sees d l m items t none we re s os e same glitch time b a seen =
       subst (λ (is : List Stamped). Settles s os is) seen
       (still_settles g s os d.past l m glitch (standing s s.before.of d.past d.rule l e none b) (standing s s.after.of d.past d.rule m e none a) (rw we refl) (rw re refl))
 
@@ -85,11 +92,11 @@ module _ (g : Parts) (targets : ℕ) (fit : Fits targets g.luns) (few : targets 
     standing_next s e shows = subst (λ (past : List Item). Stands g s.targets s.after.of past next.lines) past_is (standing s s.after.of next.past next.rule next.lines e legal shows)
 
     ready_sees : (items : List Stamped) (t : ℕ) → next.lines ≡ d.lines →
-        ((s : Sampler) (os : List Observed) → s.targets ≡ targets → s.glitch ≡ 0 → Stands g s.targets s.before.of d.past d.lines → Stands g s.targets s.after.of (i ∷ d.past) d.lines → Settles s os (seen_items os ++ (record { time = s.time; item = i } ∷ []))) →
-        Sees sources targets (levels_at g targets d d.lines) (levels_at g targets next next.lines) items (items ++ (record { time = t; item = i } ∷ [])) t
-    ready_sees items t lines h s os e glitch time b a seen =
-        one_more s os items t i time seen
-        (h s os e glitch (standing s s.before.of d.past d.rule d.lines e none b) (subst (λ (l : Lines). Stands g s.targets s.after.of (i ∷ d.past) l) lines (standing_next s e a)))
+        ((s : Sampler) (os : List Observed) → s.targets ≡ targets → s.caches ≡ caches → s.glitch ≡ 0 → Stands g s.targets s.before.of d.past d.lines → Stands g s.targets s.after.of (i ∷ d.past) d.lines → Settles s os (seen_items os ++ (record { time = s.time; item = told_of i } ∷ []))) →
+        Sees sources targets caches (levels_at g targets d d.lines) (levels_at g targets next next.lines) items (items ++ (record { time = t; item = told_of i } ∷ [])) t
+    ready_sees items t lines h s os e same glitch time b a seen =
+        one_more s os items t (told_of i) time seen
+        (h s os e same glitch (standing s s.before.of d.past d.rule d.lines e none b) (subst (λ (l : Lines). Stands g s.targets s.after.of (i ∷ d.past) l) lines (standing_next s e a)))
 
     -- a line of the model that changes
     told_differs : (part ce lun : ℕ) → part < 3 → ce < targets → lun < g.luns → told true g d.past part ce lun ≡ bit true → told true g (i ∷ d.past) part ce lun ≡ bit false →
@@ -131,17 +138,17 @@ module _ (g : Parts) (targets : ℕ) (fit : Fits targets g.luns) (few : targets 
   -- ---- 2. an item
 
   abbrev stamp : Drawing → Item → List Stamped
-  stamp d i = record { time = 10 * d.items + 6; item = i } ∷ []
+  stamp d i = record { time = 10 * d.items + 6; item = told_of i } ∷ []
 
   abbrev ItemGoes : Drawing → Item → Sampler → List Observed → List Stamped → Type 0
-  ItemGoes d i s os items = Gone sources targets s os (item_events g targets d i) (levels_at g targets (after g targets d i) (after g targets d i).lines) (items ++ stamp d i) (10 * d.items + 6)
+  ItemGoes d i s os items = Gone sources targets caches s os (item_events g targets d i) (levels_at g targets (after g targets d i) (after g targets d i).lines) (items ++ stamp d i) (10 * d.items + 6)
 
   comes_later : (s : Sampler) (t u : ℕ) → MayCome s t → t < u → s.time < u
   comes_later s t u (IsLater after) h = omega (arith, after, h)
   comes_later s t u (IsFirst at fresh) h = omega (arith, at, h)
 
   cycle_goes : (d : Drawing) (c : Cycle) (done : List Item) → d ≡ drawn_by g targets done → (after g targets d (Cyc c)).rule ≡ 0 → c.byte < 256 → AreHigh d.lines →
-      (s : Sampler) (os : List Observed) (items : List Stamped) → Waits sources targets s os (levels_at g targets d d.lines) items → MayCome s (10 * d.items) → ItemGoes d (Cyc c) s os items
+      (s : Sampler) (os : List Observed) (items : List Stamped) → Waits sources targets caches s os (levels_at g targets d d.lines) items → MayCome s (10 * d.items) → ItemGoes d (Cyc c) s os items
   cycle_goes d c done is legal small high s os items waits may =
       let l = d.lines in
       let up = set_up l c in
@@ -149,21 +156,21 @@ module _ (g : Parts) (targets : ℕ) (fit : Fits targets g.luns) (few : targets 
       let t = 10 * d.items in
       let next = after g targets d (Cyc c) in
       let free = none d (Cyc c) done is legal in
-      let one = still_frame sources fit.apart targets s os (levels_at g targets d l) (levels_at g targets d up) items t waits (as_long d d l up) may (still_sees d l up items t free high.we high.re) in
+      let one = still_frame sources fit.apart targets caches s os (levels_at g targets d l) (levels_at g targets d up) items t waits (as_long d d l up) may (still_sees d l up items t free high.we high.re) in
       let before : one.to.time < t + 2 = (let h = one.time in omega (arith, h)) in
-      let two = still_frame sources fit.apart targets one.to one.now (levels_at g targets d up) (levels_at g targets d down) items (t + 2) one.waits (as_long d d up down) (IsLater before) (still_sees d up down items (t + 2) free high.we high.re) in
+      let two = still_frame sources fit.apart targets caches one.to one.now (levels_at g targets d up) (levels_at g targets d down) items (t + 2) one.waits (as_long d d up down) (IsLater before) (still_sees d up down items (t + 2) free high.we high.re) in
       let then' : two.to.time < t + 6 = (let h = two.time in omega (arith, h)) in
-      let three = telling_frame sources fit.apart targets two.to two.now (levels_at g targets d down) (levels_at g targets next (released down)) items (t + 6) two.waits
+      let three = telling_frame sources fit.apart targets caches two.to two.now (levels_at g targets d down) (levels_at g targets next (released down)) items (t + 6) two.waits
       (as_long d next down (released down)) (items ++ stamp d (Cyc c)) then' sees (cycle_differs d next l c c.kind refl) in
       let first = frame_events t (levels_at g targets d l) (levels_at g targets d up) in
       let second = frame_events (t + 2) (levels_at g targets d up) (levels_at g targets d down) in
       let third = frame_events (t + 6) (levels_at g targets d down) (levels_at g targets next (released down)) in
-      let both = then_goes sources targets one.to one.now second third (levels_at g targets d down) (levels_at g targets next (released down)) items (items ++ stamp d (Cyc c)) (t + 2) (t + 6) two three in
-      subst (λ (es : List Event). Gone sources targets s os es (levels_at g targets next (released down)) (items ++ stamp d (Cyc c)) (t + 6)) (sym (append_assoc first second third))
-      (then_goes sources targets s os first (second ++ third) (levels_at g targets d up) (levels_at g targets next (released down)) items (items ++ stamp d (Cyc c)) t (t + 6) one both)
+      let both = then_goes sources targets caches one.to one.now second third (levels_at g targets d down) (levels_at g targets next (released down)) items (items ++ stamp d (Cyc c)) (t + 2) (t + 6) two three in
+      subst (λ (es : List Event). Gone sources targets caches s os es (levels_at g targets next (released down)) (items ++ stamp d (Cyc c)) (t + 6)) (sym (append_assoc first second third))
+      (then_goes sources targets caches s os first (second ++ third) (levels_at g targets d up) (levels_at g targets next (released down)) items (items ++ stamp d (Cyc c)) t (t + 6) one both)
     where
-      sees : Sees sources targets (levels_at g targets d (struck (set_up d.lines c) c)) (levels_at g targets (after g targets d (Cyc c)) (released (struck (set_up d.lines c) c))) items (items ++ (record { time = 10 * d.items + 6; item = Cyc c } ∷ [])) (10 * d.items + 6)
-      sees s os e glitch time b a seen = one_more s os items (10 * d.items + 6) (Cyc c) time seen
+      sees : Sees sources targets caches (levels_at g targets d (struck (set_up d.lines c) c)) (levels_at g targets (after g targets d (Cyc c)) (released (struck (set_up d.lines c) c))) items (items ++ (record { time = 10 * d.items + 6; item = Cyc c } ∷ [])) (10 * d.items + 6)
+      sees s os e same glitch time b a seen = one_more s os items (10 * d.items + 6) (Cyc c) time seen
           (cycle_settles g s os d.past d.lines c (moved d (Cyc c) done is legal s e) glitch (subst (λ (n : ℕ). c.ce < n) (sym e) (names g targets d (Cyc c) (none d (Cyc c) done is legal) legal)) small high.we high.re
           (standing s s.before.of d.past d.rule (struck (set_up d.lines c) c) e (none d (Cyc c) done is legal) b) (standing_next d (Cyc c) done is legal s e a))
 
@@ -171,50 +178,53 @@ module _ (g : Parts) (targets : ℕ) (fit : Fits targets g.luns) (few : targets 
   named : (s : Sampler) (past : List Item) (busy : Bool) (ce lun : ℕ) → s.targets ≡ targets → Names g targets past busy ce lun → Names g s.targets past busy ce lun
   named s past busy ce lun e h = subst (λ (n : ℕ). Names g n past busy ce lun) (sym e) h
 
-  busy_goes : (d : Drawing) (ce lun : ℕ) (fail : Bool) (done : List Item) → d ≡ drawn_by g targets done → (after g targets d (Rdy ce lun fail)).rule ≡ 0 →
-      (s : Sampler) (os : List Observed) (items : List Stamped) → Waits sources targets s os (levels_at g targets d d.lines) items → MayCome s (10 * d.items) → ItemGoes d (Rdy ce lun fail) s os items
+  busy_goes : (d : Drawing) (ce lun : ℕ) (fail : Failures) (done : List Item) → d ≡ drawn_by g targets done → (after g targets d (Rdy ce lun fail)).rule ≡ 0 →
+      (s : Sampler) (os : List Observed) (items : List Stamped) → Waits sources targets caches s os (levels_at g targets d d.lines) items → MayCome s (10 * d.items) → ItemGoes d (Rdy ce lun fail) s os items
   busy_goes d ce lun fail done is legal s os items waits may =
       let i = Rdy ce lun fail in
       let next = after g targets d i in
       let free = none d i done is legal in
       let name : Names g targets d.past true ce lun = names g targets d i free legal in
-      let settle : (s : Sampler) (os : List Observed) → s.targets ≡ targets → s.glitch ≡ 0 → Stands g s.targets s.before.of d.past d.lines → Stands g s.targets s.after.of (i ∷ d.past) d.lines → Settles s os (seen_items os ++ (record { time = s.time; item = i } ∷ [])) =
-      λ s os e glitch b a. busy_settles g s os d.past d.lines ce lun fail (moved d i done is legal s e) glitch few_luns (named s d.past true ce lun e name) b a in
+      let settle : (s : Sampler) (os : List Observed) → s.targets ≡ targets → s.caches ≡ caches → s.glitch ≡ 0 → Stands g s.targets s.before.of d.past d.lines → Stands g s.targets s.after.of (i ∷ d.past) d.lines → Settles s os (seen_items os ++ (record { time = s.time; item = told_of i } ∷ [])) =
+      λ s os e same glitch b a. busy_settles g s os d.past d.lines ce lun fail (moved d i done is legal s e) glitch few_luns (named s d.past true ce lun e name) b a in
       let falls : is_busy g (i ∷ d.past) ce lun ≡ false = (moved_at d i done is legal).busy ce lun name.target name.within name.works ∙ ap not (itself ce lun) in
-      telling_frame sources fit.apart targets s os (levels_at g targets d d.lines) (levels_at g targets next next.lines) items (10 * d.items + 6) waits (as_long d next d.lines next.lines)
+      telling_frame sources fit.apart targets caches s os (levels_at g targets d d.lines) (levels_at g targets next next.lines) items (10 * d.items + 6) waits (as_long d next d.lines next.lines)
       (items ++ stamp d i) (comes_later s (10 * d.items) (10 * d.items + 6) may (omega arith)) (ready_sees d i done is legal items (10 * d.items + 6) refl settle)
       (told_differs d i done is legal 0 ce lun (omega arith) name.target name.within (ap bit name.works) (ap bit falls))
 
-  array_goes : (d : Drawing) (ce lun : ℕ) (done : List Item) → d ≡ drawn_by g targets done → (after g targets d (Ard ce lun)).rule ≡ 0 →
-      (s : Sampler) (os : List Observed) (items : List Stamped) → Waits sources targets s os (levels_at g targets d d.lines) items → MayCome s (10 * d.items) → ItemGoes d (Ard ce lun) s os items
-  array_goes d ce lun done is legal s os items waits may =
-      let i = Ard ce lun in
+  array_goes : (d : Drawing) (ce lun : ℕ) (fail : Bool) (done : List Item) → d ≡ drawn_by g targets done → (after g targets d (Ard ce lun fail)).rule ≡ 0 →
+      (s : Sampler) (os : List Observed) (items : List Stamped) → Waits sources targets caches s os (levels_at g targets d d.lines) items → MayCome s (10 * d.items) → ItemGoes d (Ard ce lun fail) s os items
+  array_goes d ce lun fail done is legal s os items waits may =
+      let i = Ard ce lun fail in
       let next = after g targets d i in
       let free = none d i done is legal in
       let name : Names g targets d.past false ce lun = names g targets d i free legal in
-      let settle : (s : Sampler) (os : List Observed) → s.targets ≡ targets → s.glitch ≡ 0 → Stands g s.targets s.before.of d.past d.lines → Stands g s.targets s.after.of (i ∷ d.past) d.lines → Settles s os (seen_items os ++ (record { time = s.time; item = i } ∷ [])) =
-      λ s os e glitch b a. array_settles g s os d.past d.lines ce lun (moved d i done is legal s e) glitch few_luns (named s d.past false ce lun e name) b a in
+      let past : is_legal g targets d.past ≡ true = ap (λ (d : Drawing). is_legal g targets d.past) is ∙ drawn_legal g targets done begun refl in
+      let shown : (s : Sampler) → s.caches ≡ caches → (s.caches || not (is_busy g d.past ce lun)) ≡ true =
+      λ s same. ap (λ (b : Bool). b || not (is_busy g d.past ce lun)) same ∙ array_seen g targets d.past past ce lun name.works in
+      let settle : (s : Sampler) (os : List Observed) → s.targets ≡ targets → s.caches ≡ caches → s.glitch ≡ 0 → Stands g s.targets s.before.of d.past d.lines → Stands g s.targets s.after.of (i ∷ d.past) d.lines → Settles s os (seen_items os ++ (record { time = s.time; item = told_of i } ∷ [])) =
+      λ s os e same glitch b a. array_settles g s os d.past d.lines ce lun fail (moved d i done is legal s e) glitch few_luns (named s d.past false ce lun e name) (shown s same) b a in
       let falls : has_busy_array g (i ∷ d.past) ce lun ≡ false = (moved_at d i done is legal).array ce lun name.target name.within refl name.works ∙ ap not (itself ce lun) in
-      telling_frame sources fit.apart targets s os (levels_at g targets d d.lines) (levels_at g targets next next.lines) items (10 * d.items + 6) waits (as_long d next d.lines next.lines)
+      telling_frame sources fit.apart targets caches s os (levels_at g targets d d.lines) (levels_at g targets next next.lines) items (10 * d.items + 6) waits (as_long d next d.lines next.lines)
       (items ++ stamp d i) (comes_later s (10 * d.items) (10 * d.items + 6) may (omega arith)) (ready_sees d i done is legal items (10 * d.items + 6) refl settle)
       (told_differs d i done is legal 1 ce lun (omega arith) name.target name.within (ap bit name.works) (ap bit falls))
 
   item_goes : (d : Drawing) (i : Item) (done : List Item) → d ≡ drawn_by g targets done → (after g targets d i).rule ≡ 0 → carries_byte i ≡ true → AreHigh d.lines →
-      (s : Sampler) (os : List Observed) (items : List Stamped) → Waits sources targets s os (levels_at g targets d d.lines) items → MayCome s (10 * d.items) → ItemGoes d i s os items
+      (s : Sampler) (os : List Observed) (items : List Stamped) → Waits sources targets caches s os (levels_at g targets d d.lines) items → MayCome s (10 * d.items) → ItemGoes d i s os items
   item_goes d (Cyc c) done is legal byte high s os items waits may = cycle_goes d c done is legal (leb-true (suc c.byte) 256 byte) high s os items waits may
   item_goes d (Rdy ce lun fail) done is legal byte high s os items waits may = busy_goes d ce lun fail done is legal s os items waits may
-  item_goes d (Ard ce lun) done is legal byte high s os items waits may = array_goes d ce lun done is legal s os items waits may
+  item_goes d (Ard ce lun fail) done is legal byte high s os items waits may = array_goes d ce lun fail done is legal s os items waits may
 
   stays_high : (d : Drawing) (i : Item) → AreHigh d.lines → AreHigh (after g targets d i).lines
   stays_high d (Cyc c) h = record { we = refl; re = refl }
   stays_high d (Rdy ce lun fail) h = record { we = h.we; re = h.re }
-  stays_high d (Ard ce lun) h = record { we = h.we; re = h.re }
+  stays_high d (Ard ce lun fail) h = record { we = h.we; re = h.re }
 
   -- ---- 3. all items
 
-  last_ends : (d : Drawing) → d.rule ≡ 0 → AreHigh d.lines → (s : Sampler) (os : List Observed) (items : List Stamped) → Waits sources targets s os (levels_at g targets d d.lines) items → MayCome s (10 * d.items) → Ends sources s os (last_events g targets d) items
+  last_ends : (d : Drawing) → d.rule ≡ 0 → AreHigh d.lines → (s : Sampler) (os : List Observed) (items : List Stamped) → Waits sources targets caches s os (levels_at g targets d d.lines) items → MayCome s (10 * d.items) → Ends sources s os (last_events g targets d) items
   last_ends d free high s os items waits may =
-      let one = still_goes sources fit.apart targets s os (levels_at g targets d d.lines) (levels_at g targets d (at_rest d.lines)) items (10 * d.items) waits (as_long d d d.lines (at_rest d.lines)) may
+      let one = still_goes sources fit.apart targets caches s os (levels_at g targets d d.lines) (levels_at g targets d (at_rest d.lines)) items (10 * d.items) waits (as_long d d d.lines (at_rest d.lines)) may
       (still_sees d d.lines (at_rest d.lines) items (10 * d.items) free high.we high.re) in
       record {
         all = one.waits.settles.now;
@@ -223,8 +233,8 @@ module _ (g : Parts) (targets : ℕ) (fit : Fits targets g.luns) (few : targets 
       }
 
   pub items_end : (items : List Item) (d : Drawing) (done : List Item) → d ≡ drawn_by g targets done → (after_all g targets d items).rule ≡ 0 → carry_bytes items ≡ true → AreHigh d.lines →
-      (s : Sampler) (os : List Observed) (stamped : List Stamped) → Waits sources targets s os (levels_at g targets d d.lines) stamped → MayCome s (10 * d.items) →
-      Ends sources s os (events_from g targets d items ++ last_events g targets (after_all g targets d items)) (stamped ++ stamped_from d.items items)
+      (s : Sampler) (os : List Observed) (stamped : List Stamped) → Waits sources targets caches s os (levels_at g targets d d.lines) stamped → MayCome s (10 * d.items) →
+      Ends sources s os (events_from g targets d items ++ last_events g targets (after_all g targets d items)) (stamped ++ stamped_from d.items (map told_of items))
   items_end [] d done is legal bytes high s os stamped waits may =
       subst (λ (is : List Stamped). Ends sources s os (last_events g targets d) is) (sym (append-nil stamped)) (last_ends d legal high s os stamped waits may)
   items_end (i ∷ items) d done is legal bytes high s os stamped waits may =
@@ -239,5 +249,5 @@ module _ (g : Parts) (targets : ℕ) (fit : Fits targets g.luns) (few : targets 
       record {
         all = rest.all;
         is = ap (λ (es : List Event). capturing sources s os (all_ok es)) (append_assoc (item_events g targets d i) (events_from g targets next items) last) ∙ one.goes (events_from g targets next items ++ last) ∙ rest.is;
-        seen = rest.seen ∙ append_assoc stamped (stamp d i) (stamped_from next.items items);
+        seen = rest.seen ∙ append_assoc stamped (stamp d i) (stamped_from next.items (map told_of items));
       }

@@ -8,7 +8,7 @@ use Rattle.vcd_text.specs.declared.tokens.Level.{Level}
 use Rattle.vcd_text.specs.declared.tokens.Level.TheVariants.{Low, High, Unknown}
 use Rattle.vcd_text.specs.Body.{Event, Told, Time, Change}
 use Rattle.bus_signals.specs.declared.role.Role.{Role}
-use Rattle.bus_signals.specs.declared.role.Role.TheVariants.{Busy}
+use Rattle.bus_signals.specs.declared.role.Role.TheVariants.{Busy, ArrayBusy}
 use Rattle.bus_signals.specs.declared.source.Source.{Source}
 use Rattle.bus_signals.specs.Roles.{place_of}
 use Rattle.bus_capture.specs.declared.sampling.Seen.TheVariants.{Nothing}
@@ -49,14 +49,16 @@ fresh_strobe s strobe driven h k =
     (ap (λ (x : Level). rises x (level s.after.of (line_of strobe))) (unknown_level (line_of strobe)))
     (ap (λ (x : Level). is_lost false x (level s.after.of (line_of strobe))) (unknown_level (line_of strobe)) ∙ unlost (level s.after.of (line_of strobe))))
 
-fresh_ready : (after : List Level) (ce lun : ℕ) → ready_of unknown after ce lun ≡ None
-fresh_ready after ce lun = rw (unknown_level (Busy ce lun)) refl
+fresh_ready : (caches : Bool) (after : List Level) (ce lun : ℕ) → ready_of caches unknown after ce lun ≡ None
+fresh_ready true after ce lun = rw (unknown_level (Busy ce lun), unknown_level (ArrayBusy ce lun)) refl
+fresh_ready false after ce lun = rw (unknown_level (Busy ce lun)) refl
 
 pub fresh_settles : (s : Sampler) (os : List Observed) → IsFresh s → s.glitch ≡ 0 → Settles s os (seen_items os)
 fresh_settles s os h glitch = settles s os Nothing Nothing (seen_items os)
     (strobe_is s Write s.we glitch ∙ fresh_strobe s Write s.we.driven h.before h.we)
     (strobe_is s Read s.re glitch ∙ fresh_strobe s Read s.re.driven h.before h.re)
-    (ap seen_items (none_ready s.time s.before.of s.after.of os (4 * s.targets) 0 (λ n from to. ap (λ (xs : List Level). ready_of xs s.after.of (n / 4) (n % 4)) h.before ∙ fresh_ready s.after.of (n / 4) (n % 4))))
+    (ap seen_items (none_ready s.caches s.time s.before.of s.after.of os (4 * s.targets) 0
+    (λ n from to. ap (λ (xs : List Level). ready_of s.caches xs s.after.of (n / 4) (n % 4)) h.before ∙ fresh_ready s.caches s.after.of (n / 4) (n % 4))))
 
 -- ---- 2. changes
 
@@ -124,8 +126,9 @@ none_changed (b ∷ before) (a ∷ after) code same h = by (b == a) refl h (none
 -- ---- 3. a time
 
 -- before the next time: what is seen up to now, and these levels are held
-pub record Waits (sources : List Source) (targets : ℕ) (s : Sampler) (os : List Observed) (held : List ℕ) (items : List Stamped) : Type 0 where
+pub record Waits (sources : List Source) (targets : ℕ) (caches : Bool) (s : Sampler) (os : List Observed) (held : List ℕ) (items : List Stamped) : Type 0 where
   pub of_targets : s.targets ≡ targets
+  pub of_caches : s.caches ≡ caches
   pub glitch : s.glitch ≡ 0
   pub shows : Shows sources s.after.of held
   pub settles : Settles s os items
@@ -135,21 +138,21 @@ pub data MayCome (s : Sampler) (t : ℕ) : Type 0 where
   IsLater : s.time < t → MayCome s t
   IsFirst : s.time ≡ t → IsFresh s → MayCome s t
 
-pub record Gone (sources : List Source) (targets : ℕ) (s : Sampler) (os : List Observed) (events : List Event) (held : List ℕ) (items : List Stamped) (t : ℕ) : Type 0 where
+pub record Gone (sources : List Source) (targets : ℕ) (caches : Bool) (s : Sampler) (os : List Observed) (events : List Event) (held : List ℕ) (items : List Stamped) (t : ℕ) : Type 0 where
   pub to : Sampler
   pub now : List Observed
   pub goes : Goes sources s os events to now
-  pub waits : Waits sources targets to now held items
+  pub waits : Waits sources targets caches to now held items
   pub time : to.time ≤ t
 
 -- what is seen where these levels become those
-abbrev pub Sees : List Source → ℕ → (held next : List ℕ) → (items more : List Stamped) → ℕ → Type 0
-Sees sources targets held next items more t =
-    (s : Sampler) (os : List Observed) → s.targets ≡ targets → s.glitch ≡ 0 → s.time ≡ t → Shows sources s.before.of held → Shows sources s.after.of next → seen_items os ≡ items → Settles s os more
+abbrev pub Sees : List Source → ℕ → (caches : Bool) → (held next : List ℕ) → (items more : List Stamped) → ℕ → Type 0
+Sees sources targets caches held next items more t =
+    (s : Sampler) (os : List Observed) → s.targets ≡ targets → s.caches ≡ caches → s.glitch ≡ 0 → s.time ≡ t → Shows sources s.before.of held → Shows sources s.after.of next → seen_items os ≡ items → Settles s os more
 
-module _ (sources : List Source) (apart : are_apart sources ≡ true) (targets : ℕ) (s : Sampler) (os : List Observed) (held next : List ℕ) (items : List Stamped) (t : ℕ)
-    (waits : Waits sources targets s os held items) (same : length held ≡ length next) where
-  time_goes : (more : List Stamped) → s.time < t → Sees sources targets held next items more t → Gone sources targets s os (Time t ∷ change_events 33 held next) next more t
+module _ (sources : List Source) (apart : are_apart sources ≡ true) (targets : ℕ) (caches : Bool) (s : Sampler) (os : List Observed) (held next : List ℕ) (items : List Stamped) (t : ℕ)
+    (waits : Waits sources targets caches s os held items) (same : length held ≡ length next) where
+  time_goes : (more : List Stamped) → s.time < t → Sees sources targets caches held next items more t → Gone sources targets caches s os (Time t ∷ change_events 33 held next) next more t
   time_goes more after sees =
       let c = changes_go sources apart held next [] 33 (later s t) waits.settles.now refl same waits.shows in
       record {
@@ -158,9 +161,10 @@ module _ (sources : List Source) (apart : are_apart sources ≡ true) (targets :
         goes = λ rest. begins (all_ok (change_events 33 held next ++ rest)) ∙ c.goes rest;
         waits = record {
           of_targets = waits.of_targets;
+          of_caches = waits.of_caches;
           glitch = waits.glitch;
           shows = c.shows;
-          settles = sees (with_levels (later s t) c.xs) waits.settles.now waits.of_targets waits.glitch refl waits.shows c.shows waits.settles.seen;
+          settles = sees (with_levels (later s t) c.xs) waits.settles.now waits.of_targets waits.of_caches waits.glitch refl waits.shows c.shows waits.settles.seen;
         };
         time = omega arith;
       }
@@ -175,7 +179,7 @@ module _ (sources : List Source) (apart : are_apart sources ≡ true) (targets :
       begins : (told : List Told) → capturing sources s os (Ok (Time t) ∷ told) ≡ capturing sources (later s t) waits.settles.now told
       begins told = rw other (rw waits.settles.is refl)
 
-  first_goes : s.time ≡ t → IsFresh s → Gone sources targets s os (Time t ∷ change_events 33 held next) next items t
+  first_goes : s.time ≡ t → IsFresh s → Gone sources targets caches s os (Time t ∷ change_events 33 held next) next items t
   first_goes at fresh =
       let c = changes_go sources apart held next [] 33 s os refl same waits.shows in
       record {
@@ -184,6 +188,7 @@ module _ (sources : List Source) (apart : are_apart sources ≡ true) (targets :
         goes = λ rest. begins (all_ok (change_events 33 held next ++ rest)) ∙ c.goes rest;
         waits = record {
           of_targets = waits.of_targets;
+          of_caches = waits.of_caches;
           glitch = waits.glitch;
           shows = c.shows;
           settles = subst (λ (is : List Stamped). Settles (with_levels s c.xs) os is) seen (fresh_settles (with_levels s c.xs) os (record { before = fresh.before; we = fresh.we; re = fresh.re }) waits.glitch);
@@ -207,39 +212,40 @@ module _ (sources : List Source) (apart : are_apart sources ≡ true) (targets :
   come_before (IsFirst at fresh) = omega (arith, at)
 
   -- a time at which nothing is seen
-  pub still_goes : MayCome s t → Sees sources targets held next items items t → Gone sources targets s os (Time t ∷ change_events 33 held next) next items t
+  pub still_goes : MayCome s t → Sees sources targets caches held next items items t → Gone sources targets caches s os (Time t ∷ change_events 33 held next) next items t
   still_goes (IsLater after) sees = time_goes items after sees
   still_goes (IsFirst at fresh) sees = first_goes at fresh
 
-  pub still_frame : MayCome s t → Sees sources targets held next items items t → Gone sources targets s os (frame_events t held next) next items t
+  pub still_frame : MayCome s t → Sees sources targets caches held next items items t → Gone sources targets caches s os (frame_events t held next) next items t
   still_frame may sees = by (change_events 33 held next) refl
     where
-      by : (es : List Event) → change_events 33 held next ≡ es → Gone sources targets s os (events_at t es) next items t
+      by : (es : List Event) → change_events 33 held next ≡ es → Gone sources targets caches s os (events_at t es) next items t
       by [] is = record {
         to = s;
         now = os;
         goes = λ rest. refl;
         waits = record {
           of_targets = waits.of_targets;
+          of_caches = waits.of_caches;
           glitch = waits.glitch;
           settles = waits.settles;
           shows = subst (λ (xs : List ℕ). Shows sources s.after.of xs) (none_changed held next 33 same is) waits.shows;
         };
         time = come_before may;
       }
-      by (x ∷ es) is = subst (λ (es : List Event). Gone sources targets s os (Time t ∷ es) next items t) is (still_goes may sees)
+      by (x ∷ es) is = subst (λ (es : List Event). Gone sources targets caches s os (Time t ∷ es) next items t) is (still_goes may sees)
 
   -- a time at which something is
-  pub telling_frame : (more : List Stamped) → s.time < t → Sees sources targets held next items more t → (held ≡ next → ⊥) → Gone sources targets s os (frame_events t held next) next more t
+  pub telling_frame : (more : List Stamped) → s.time < t → Sees sources targets caches held next items more t → (held ≡ next → ⊥) → Gone sources targets caches s os (frame_events t held next) next more t
   telling_frame more after sees differs = by (change_events 33 held next) refl
     where
-      by : (es : List Event) → change_events 33 held next ≡ es → Gone sources targets s os (events_at t es) next more t
+      by : (es : List Event) → change_events 33 held next ≡ es → Gone sources targets caches s os (events_at t es) next more t
       by [] is = absurd (differs (none_changed held next 33 same is))
-      by (x ∷ es) is = subst (λ (es : List Event). Gone sources targets s os (Time t ∷ es) next more t) is (time_goes more after sees)
+      by (x ∷ es) is = subst (λ (es : List Event). Gone sources targets caches s os (Time t ∷ es) next more t) is (time_goes more after sees)
 
-pub then_goes : (sources : List Source) (targets : ℕ) (s : Sampler) (os : List Observed) (es fs : List Event) (held next : List ℕ) (items more : List Stamped) (t u : ℕ) (one : Gone sources targets s os es held items t) →
-    Gone sources targets one.to one.now fs next more u → Gone sources targets s os (es ++ fs) next more u
-then_goes sources targets s os es fs held next items more t u one two = record {
+pub then_goes : (sources : List Source) (targets : ℕ) (caches : Bool) (s : Sampler) (os : List Observed) (es fs : List Event) (held next : List ℕ) (items more : List Stamped) (t u : ℕ) (one : Gone sources targets caches s os es held items t) →
+    Gone sources targets caches one.to one.now fs next more u → Gone sources targets caches s os (es ++ fs) next more u
+then_goes sources targets caches s os es fs held next items more t u one two = record {
   to = two.to;
   now = two.now;
   goes = λ rest. ap (λ (xs : List Event). capturing sources s os (all_ok xs)) (append_assoc es fs rest) ∙ one.goes (fs ++ rest) ∙ two.goes rest;

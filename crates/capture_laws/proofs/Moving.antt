@@ -1,26 +1,32 @@
 -- What an item that breaks no rule does to the LUNs, as a dump shows it.
-use Rattle.std.proofs.Common.{◌≡◌, ℕ, zero, suc, ◌+◌, ◌<◌, ◌==◌, ◌||◌, Bool, true, false, cond, not, List, [], ◌∷◌, ◌++◌, Some, refl, sym, ap, ◌∙◌, subst, arith}
-use Rattle.std.specs.Prelude.{nat_le}
-use Rattle.std.proofs.lemmas.Bool.{eqb-true, leb-false, false≢true}
+use Rattle.std.proofs.Common.{◌≡◌, ℕ, zero, suc, ◌+◌, ◌<◌, ◌==◌, ◌&&◌, ◌||◌, Bool, true, false, cond, not, List, [], ◌∷◌, ◌++◌, Option, Some, None, refl, sym, ap, ◌∙◌, subst, arith}
+use Rattle.std.specs.Prelude.{nat_le, is_none}
+use Rattle.std.proofs.lemmas.Bool.{eqb-true, leb-false, and_parts, false≢true}
 use Rattle.nand_geometry.specs.declared.parts.Parts.{Parts}
+use Rattle.nand_geometry.specs.Optional.{has_program_cache}
 use Rattle.onfi_cycle.specs.declared.effect.Effect.{Effect}
 use Rattle.onfi_cycle.specs.declared.effect.Effect.TheVariants as e
+use Rattle.onfi_cycle.specs.declared.forbidden.Forbidden.{Forbidden}
+use Rattle.onfi_cycle.specs.declared.forbidden.Forbidden.TheVariants as F
 use Rattle.onfi_cycle.specs.declared.forbidden.Forbidden.TheVariants.{NotThere}
 use Rattle.onfi_cycle.specs.declared.item.Item.{Item}
 use Rattle.onfi_cycle.specs.declared.item.Item.TheVariants.{Cyc, Rdy, Ard}
+use Rattle.onfi_cycle.specs.declared.lun.Lun.{Lun}
 use Rattle.onfi_cycle.specs.LunView.{LunView}
 use Rattle.onfi_cycle.specs.Sequence.{target_of, tail, facts_of}
 use Rattle.onfi_cycle.specs.Rules.{lun_is, breaks_not_there}
-use Rattle.onfi_cycle.specs.Lun.{lun_view, views_from, luns_of, effect_on, busy_after, array_busy_after, is_caching}
-use Rattle.onfi_cycle.specs.Permitted.{judge_item, broken}
+use Rattle.onfi_cycle.specs.Lun.{lun_view, views_from, luns_of, effect_on, busy_after, array_busy_after, keeps_array_busy, is_cache_program, is_plane_program}
+use Rattle.onfi_cycle.specs.Permitted.{judge_item, broken, is_permitted, is_legal}
 use Rattle.bus_lines.specs.Lines.{idle}
 use Rattle.trace_wave.specs.Levels.{bit, levels, is_busy, has_busy_array}
-use Rattle.trace_wave.specs.Wave.{Drawing, begun, after, after_all, number_of, levels_at, lines_struck, is_ready}
+use Rattle.trace_wave.specs.Wave.{Drawing, begun, after, after_all, past_next, rule_number, number_of, levels_at, lines_struck, is_ready}
 use Rattle.wave_laws.specs.Told.{strobe_events}
 use Rattle.wave_laws.specs.Heard.{all_heard, told_by, drawn_by}
 use Rattle.wave_laws.specs.Readies.{held_of, busy_code, is_ready_of, is_array_ready_of, AreSeen}
 use Rattle.wave_laws.proofs.Followed.{are_heard, drawn_on}
 use Rattle.wave_laws.proofs.Readies.{readies_are_seen}
+use Rattle.recording_laws.proofs.Luns.{IsSpare}
+use Rattle.recording_laws.proofs.Never.{spare_past}
 use Rattle.capture_laws.proofs.Standing.{told, told_at}
 
 -- ---- 1. no rule is broken before an item that breaks none
@@ -82,7 +88,7 @@ pub record Names (g : Parts) (targets : ℕ) (past : List Item) (busy : Bool) (c
 abbrev pub Name : Parts → ℕ → List Item → Item → Type 0
 Name g targets past (Cyc c) = c.ce < targets
 Name g targets past (Rdy ce lun fail) = Names g targets past true ce lun
-Name g targets past (Ard ce lun) = Names g targets past false ce lun
+Name g targets past (Ard ce lun fail) = Names g targets past false ce lun
 
 pub names : (g : Parts) (targets : ℕ) (d : Drawing) (i : Item) → d.rule ≡ 0 → (after g targets d i).rule ≡ 0 → Name g targets d.past i
 unfolding breaks_not_there
@@ -92,38 +98,104 @@ names g targets d (Rdy ce lun fail) none h =
     let there = lun_there g d.past ce (λ v. v.busy) g.luns 0 lun (is_not (lun_is (λ v. v.busy) (luns_of g d.past ce) lun) parts.1) in
     let same : 0 + lun ≡ lun = omega arith in
     record { target = leb-false targets ce parts.0; within = there.0; works = ap (λ (m : ℕ). is_busy g d.past ce m) (sym same) ∙ there.1 }
-names g targets d (Ard ce lun) none h =
-    let parts = neither (nat_le targets ce) (not (lun_is (λ v. v.array_busy) (luns_of g d.past ce) lun)) (is_there g targets d (Ard ce lun) none h) in
+names g targets d (Ard ce lun fail) none h =
+    let parts = neither (nat_le targets ce) (not (lun_is (λ v. v.array_busy) (luns_of g d.past ce) lun)) (is_there g targets d (Ard ce lun fail) none h) in
     let there = lun_there g d.past ce (λ v. v.array_busy) g.luns 0 lun (is_not (lun_is (λ v. v.array_busy) (luns_of g d.past ce) lun) parts.1) in
     let same : 0 + lun ≡ lun = omega arith in
     record { target = leb-false targets ce parts.0; within = there.0; works = ap (λ (m : ℕ). has_busy_array g d.past ce m) (sym same) ∙ there.1 }
 
--- ---- 3. a LUN that is busy has no array that is
+-- ---- 3. where a chip programs no caches, a LUN that is busy has no array that is
 
-not_both : (x : Effect) (busy caching array : Bool) → (array ≡ true → busy ≡ false) → array_busy_after x busy caching array ≡ true → busy_after x busy ≡ false
-not_both (e.BecameReady fail) busy caching array h k = refl
-not_both e.ArrayBecameReady busy caching array h k = absurd (false≢true k)
-not_both (e.ReadStarted _ _) busy caching array h k = absurd (false≢true k)
-not_both (e.ReadQueued _) busy caching array h k = absurd (false≢true k)
-not_both (e.CopybackReadStarted _ _ _) busy caching array h k = absurd (false≢true k)
-not_both (e.EraseStarted _ _) busy caching array h k = absurd (false≢true k)
-not_both (e.ProgramStarted _ _) busy caching array h k = absurd (false≢true k)
-not_both e.IdRead busy caching array h k = absurd (false≢true k)
-not_both (e.IdentityRead _) busy caching array h k = absurd (false≢true k)
-not_both e.ParameterPageReadStarted busy caching array h k = absurd (false≢true k)
-not_both e.UniqueIdReadStarted busy caching array h k = absurd (false≢true k)
-not_both (e.FeaturesReadStarted _) busy caching array h k = absurd (false≢true k)
-not_both (e.FeaturesSet _) busy caching array h k = absurd (false≢true k)
-not_both (e.CacheReadContinued _) busy caching array h k = absurd (false≢true k)
-not_both e.CacheReadEnded busy caching array h k = absurd (false≢true k)
-not_both e.ResetStarted busy caching array h k = absurd (false≢true k)
-not_both (e.TargetResetStarted _) busy caching array h k = absurd (false≢true k)
-not_both _ busy caching array h k = h k
+-- an 11 keeps an array busy behind a 15, or behind an 11 that did
+none_kept : (v : LunView) → IsSpare v → (keeps_array_busy v.closer && v.array_busy) ≡ false
+none_kept v spare = by (is_cache_program v.closer) (is_plane_program v.closer) v.array_busy spare.closer spare.array
+  where
+    by : (program plane array : Bool) → program ≡ false → (plane ≡ true → array ≡ false) → ((program || plane) && array) ≡ false
+    by true plane array none kept = absurd (false≢true (sym none))
+    by false true array none kept = kept refl
+    by false false array none kept = refl
 
-pub array_alone : (g : Parts) (past : List Item) (ce lun : ℕ) → has_busy_array g past ce lun ≡ true → is_busy g past ce lun ≡ false
-array_alone g [] ce lun h = refl
-array_alone g (i ∷ past) ce lun h =
-    not_both (effect_on g past i (record { ce = ce; lun = lun })) (is_busy g past ce lun) (is_caching g past (record { ce = ce; lun = lun })) (has_busy_array g past ce lun) (array_alone g past ce lun) h
+not_both : (x : Effect) (v : LunView) → IsSpare v → (v.array_busy ≡ true → v.busy ≡ false) → array_busy_after x v.busy v.closer v.array_busy ≡ true → busy_after x v.busy ≡ false
+not_both (e.BecameReady fail) v spare h k = refl
+not_both (e.ArrayBecameReady _) v spare h k = absurd (false≢true k)
+not_both (e.ReadStarted _ _) v spare h k = absurd (false≢true k)
+not_both (e.ReadQueued _) v spare h k = absurd (false≢true k)
+not_both (e.CopybackReadStarted _ _ _) v spare h k = absurd (false≢true k)
+not_both (e.EraseStarted _ _) v spare h k = absurd (false≢true k)
+not_both (e.ProgramStarted true _) v spare h k = absurd (false≢true (sym (none_kept v spare) ∙ k))
+not_both (e.ProgramStarted false _) v spare h k = absurd (false≢true k)
+not_both (e.CacheProgramStarted _) v spare h k = absurd (false≢true k)
+not_both e.ParameterPageReadStarted v spare h k = absurd (false≢true k)
+not_both e.UniqueIdReadStarted v spare h k = absurd (false≢true k)
+not_both (e.FeaturesReadStarted _) v spare h k = absurd (false≢true k)
+not_both (e.FeaturesSet _) v spare h k = absurd (false≢true k)
+not_both (e.CacheReadContinued _) v spare h k = absurd (false≢true k)
+not_both e.CacheReadEnded v spare h k = absurd (false≢true k)
+not_both e.ResetStarted v spare h k = absurd (false≢true k)
+not_both (e.TargetResetStarted _) v spare h k = absurd (false≢true k)
+not_both e.IdRead v spare h k = absurd (false≢true k)
+not_both (e.IdentityRead _) v spare h k = absurd (false≢true k)
+not_both _ v spare h k = h k
+
+array_alone : (g : Parts) (targets : ℕ) → has_program_cache g.optional ≡ false → (past : List Item) → is_legal g targets past ≡ true → (ce lun : ℕ) → has_busy_array g past ce lun ≡ true → is_busy g past ce lun ≡ false
+array_alone g targets none [] legal ce lun h = refl
+array_alone g targets none (i ∷ past) legal ce lun h =
+    let l : Lun = record { ce = ce; lun = lun } in
+    let before = (and_parts (is_permitted g targets past i) (is_legal g targets past) legal).1 in
+    not_both (effect_on g past i l) (lun_view g past l) (spare_past g targets past none before l) (array_alone g targets none past before ce lun) h
+
+-- so an array that becomes ready is seen
+pub array_seen : (g : Parts) (targets : ℕ) (past : List Item) → is_legal g targets past ≡ true → (ce lun : ℕ) → has_busy_array g past ce lun ≡ true → (has_program_cache g.optional || not (is_busy g past ce lun)) ≡ true
+array_seen g targets past legal ce lun h = by (has_program_cache g.optional) refl
+  where
+    by : (b : Bool) → has_program_cache g.optional ≡ b → (b || not (is_busy g past ce lun)) ≡ true
+    by true is = refl
+    by false is = ap not (array_alone g targets is past legal ce lun h)
+
+-- what is drawn before a first broken rule is legal
+none_numbered : (o : Option Forbidden) → number_of o ≡ 0 → is_none o ≡ true
+none_numbered None h = refl
+none_numbered (Some rule) h = absurd (numbered rule h)
+  where
+    numbered : (rule : Forbidden) → rule_number rule ≡ 0 → ⊥
+    numbered F.NotThere h = absurd (omega (arith, h))
+    numbered F.CommandUnknown h = absurd (omega (arith, h))
+    numbered F.SequenceOpen h = absurd (omega (arith, h))
+    numbered F.SeveralLuns h = absurd (omega (arith, h))
+    numbered F.NoColumnToChange h = absurd (omega (arith, h))
+    numbered F.CommandMisplaced h = absurd (omega (arith, h))
+    numbered F.AddressMisplaced h = absurd (omega (arith, h))
+    numbered F.RowOutside h = absurd (omega (arith, h))
+    numbered F.LunBusy h = absurd (omega (arith, h))
+    numbered F.QueueClash h = absurd (omega (arith, h))
+    numbered F.InputMisplaced h = absurd (omega (arith, h))
+    numbered F.NoSoleDriver h = absurd (omega (arith, h))
+    numbered F.DataNotReady h = absurd (omega (arith, h))
+    numbered F.ColumnOutside h = absurd (omega (arith, h))
+    numbered F.CacheReadMisplaced h = absurd (omega (arith, h))
+    numbered F.CacheProgramMisplaced h = absurd (omega (arith, h))
+    numbered F.CopybackMisplaced h = absurd (omega (arith, h))
+    numbered F.PlaneNotHeld h = absurd (omega (arith, h))
+
+legal_next : (g : Parts) (targets : ℕ) (past : List Item) (i : Item) (free : Bool) (n rule : ℕ) → is_legal g targets past ≡ true → (n ≡ 0 → is_permitted g targets past i ≡ true) → (free ≡ false → rule == 0 ≡ false) →
+    is_legal g targets (past_next past (cond free n rule) i) ≡ true
+legal_next g targets past i true n rule h permitted kept = by (n == 0) refl
+  where
+    by : (none : Bool) → n == 0 ≡ none → is_legal g targets (past_next past n i) ≡ true
+    by true is =
+        ap (λ (b : Bool). is_legal g targets (cond b (i ∷ past) past)) is
+        ∙ ap (λ (b : Bool). b && is_legal g targets past) (permitted (eqb-true n 0 is))
+        ∙ h
+    by false is = ap (λ (b : Bool). is_legal g targets (cond b (i ∷ past) past)) is ∙ h
+legal_next g targets past i false n rule h permitted kept = ap (λ (b : Bool). is_legal g targets (cond b (i ∷ past) past)) (kept refl) ∙ h
+
+next_legal : (g : Parts) (targets : ℕ) (d : Drawing) (i : Item) → is_legal g targets d.past ≡ true → is_legal g targets (after g targets d i).past ≡ true
+next_legal g targets d i h =
+    legal_next g targets d.past i (d.rule == 0) (number_of (broken g targets d.past i)) d.rule h (none_numbered (broken g targets d.past i)) (λ k. k)
+
+pub drawn_legal : (g : Parts) (targets : ℕ) (items : List Item) (d : Drawing) → is_legal g targets d.past ≡ true → is_legal g targets (after_all g targets d items).past ≡ true
+drawn_legal g targets [] d h = h
+drawn_legal g targets (i ∷ items) d h = drawn_legal g targets items (after g targets d i) (next_legal g targets d i h)
 
 -- ---- 4. and what becomes of them
 

@@ -6,6 +6,7 @@ use Rattle.nand_geometry.specs.declared.parts.Parts.{Parts}
 use Rattle.onfi_cycle.specs.declared.item.Cycle.{Cycle}
 use Rattle.onfi_cycle.specs.declared.item.Kind.{Kind}
 use Rattle.onfi_cycle.specs.declared.item.Kind.TheVariants.{Cmd, Adr, Din, Dout}
+use Rattle.onfi_cycle.specs.declared.item.Failures.{Failures}
 use Rattle.onfi_cycle.specs.declared.item.Item.{Item}
 use Rattle.onfi_cycle.specs.declared.item.Item.TheVariants.{Cyc, Rdy, Ard}
 use Rattle.bus_lines.specs.declared.lines.Lines.{Lines}
@@ -27,7 +28,8 @@ use Rattle.bus_capture.specs.Sampling.{level, enabled_from, with_enable, cycle_o
 use Rattle.bus_capture.specs.Capturing.{with_readies}
 use Rattle.wave_laws.specs.Readies.{is_ready_of, is_array_ready_of}
 use Rattle.capture_laws.proofs.Standing.{lv, Stands}
-use Rattle.capture_laws.proofs.Moving.{Names, Moves, array_alone}
+use Rattle.capture_laws.proofs.Moving.{Names, Moves}
+use Rattle.capture_laws.specs.Drawn.{told_of}
 use Rattle.capture_laws.proofs.Settling.{seen_items, seen_at, seen_both, none_ready, one_ready, strobe_is, rising_strobe, rises_lv, strobe_quiet, Settles, settles}
 
 -- ---- 1. what is seen of a LUN
@@ -46,47 +48,55 @@ high_lv true = refl
 high_lv false = refl
 
 -- of a LUN, or its array, that was busy, and is it; with failure
-abbrev ready_by : (busy busy' array array' failed rising : Bool) → (ce lun : ℕ) → Option Item
-ready_by busy busy' array array' failed rising ce lun =
-    cond (busy && not busy') (Some (Rdy ce lun failed)) (cond (not busy && ((array && not array') && not rising)) (Some (Ard ce lun)) None)
+abbrev ready_by : (caches busy busy' array array' failed rising : Bool) → (ce lun : ℕ) → Option Item
+ready_by caches busy busy' array array' failed rising ce lun =
+    cond (busy && not busy') (Some (Rdy ce lun (record { last = failed; before = false }))) (cond ((caches || not busy) && ((array && not array') && not rising)) (Some (Ard ce lun failed)) None)
 
 abbrev rising_from : Lines → Lines → Bool
 rising_from l m = (not l.we && m.we) || (not l.re && m.re)
 
-module _ (g : Parts) (targets : ℕ) (before after : List Level) (past past' : List Item) (l m : Lines) (b : Stands g targets before past l) (a : Stands g targets after past' m) where
+module _ (caches : Bool) (g : Parts) (targets : ℕ) (before after : List Level) (past past' : List Item) (l m : Lines) (b : Stands g targets before past l) (a : Stands g targets after past' m) where
   rising_is : strobe_rises before after ≡ rising_from l m
   rising_is = rw (b.we, a.we, b.re, a.re, rises_lv l.we m.we, rises_lv l.re m.re) refl
 
-  ready_there : (n : ℕ) → n < 4 * targets → nat_lt (n % 4) g.luns ≡ true → ready_of before after (n / 4) (n % 4)
-      ≡ ready_by (is_busy g past (n / 4) (n % 4)) (is_busy g past' (n / 4) (n % 4)) (has_busy_array g past (n / 4) (n % 4)) (has_busy_array g past' (n / 4) (n % 4)) (tells_failure past' (n / 4) (n % 4)) (rising_from l m) (n / 4) (n % 4)
+  ready_there : (n : ℕ) → n < 4 * targets → nat_lt (n % 4) g.luns ≡ true → ready_of caches before after (n / 4) (n % 4)
+      ≡ ready_by caches (is_busy g past (n / 4) (n % 4)) (is_busy g past' (n / 4) (n % 4)) (has_busy_array g past (n / 4) (n % 4)) (has_busy_array g past' (n / 4) (n % 4)) (tells_failure past' (n / 4) (n % 4)) (rising_from l m) (n / 4) (n % 4)
   ready_there n few there = by
       (level before (Busy (n / 4) (n % 4))) (level after (Busy (n / 4) (n % 4))) (level before (ArrayBusy (n / 4) (n % 4))) (level after (ArrayBusy (n / 4) (n % 4))) (level after (Failed (n / 4) (n % 4))) (strobe_rises before after)
       (is_busy g past (n / 4) (n % 4)) (is_busy g past' (n / 4) (n % 4)) (has_busy_array g past (n / 4) (n % 4)) (has_busy_array g past' (n / 4) (n % 4)) (tells_failure past' (n / 4) (n % 4)) (rising_from l m)
       (b.busy n few there) (a.busy n few there) (b.array n few there) (a.array n few there) (a.failed n few there) rising_is
     where
       by : (x x' y y' f : Level) (r : Bool) (u u' v v' w q : Bool) → x ≡ lv u → x' ≡ lv u' → y ≡ lv v → y' ≡ lv v' → f ≡ lv w → r ≡ q →
-          cond (falls x x') (Some (Rdy (n / 4) (n % 4) (is_high f))) (cond (is_low x && (falls y y' && not r)) (Some (Ard (n / 4) (n % 4))) None) ≡ ready_by u u' v v' w q (n / 4) (n % 4)
+          cond (falls x x') (Some (Rdy (n / 4) (n % 4) (record { last = is_high f; before = false }))) (cond ((caches || is_low x) && (falls y y' && not r)) (Some (Ard (n / 4) (n % 4) (is_high f))) None) ≡ ready_by caches u u' v v' w q (n / 4) (n % 4)
       by x x' y y' f r u u' v v' w q e1 e2 e3 e4 e5 e6 = rw (e1, e2, e3, e4, e5, e6, falls_lv u u', high_lv w, low_lv u, falls_lv v v') refl
 
-  ready_absent : (n : ℕ) → n < 4 * targets → nat_lt (n % 4) g.luns ≡ false → ready_of before after (n / 4) (n % 4) ≡ None
-  ready_absent n few none = rw (b.absent n few none) refl
+  ready_absent : (n : ℕ) → n < 4 * targets → nat_lt (n % 4) g.luns ≡ false → ready_of caches before after (n / 4) (n % 4) ≡ None
+  ready_absent n few none = by caches
+    where
+      by : (c : Bool) → ready_of c before after (n / 4) (n % 4) ≡ None
+      by true = rw (b.absent n few none, b.no_array n few none) refl
+      by false = rw (b.absent n few none) refl
 
   -- a LUN is there or not
   ready_if : (n : ℕ) → n < 4 * targets → (o : Option Item) →
-      (nat_lt (n % 4) g.luns ≡ true → ready_by (is_busy g past (n / 4) (n % 4)) (is_busy g past' (n / 4) (n % 4)) (has_busy_array g past (n / 4) (n % 4)) (has_busy_array g past' (n / 4) (n % 4)) (tells_failure past' (n / 4) (n % 4)) (rising_from l m) (n / 4) (n % 4) ≡ o) →
-      (nat_lt (n % 4) g.luns ≡ false → None ≡ o) → ready_of before after (n / 4) (n % 4) ≡ o
+      (nat_lt (n % 4) g.luns ≡ true → ready_by caches (is_busy g past (n / 4) (n % 4)) (is_busy g past' (n / 4) (n % 4)) (has_busy_array g past (n / 4) (n % 4)) (has_busy_array g past' (n / 4) (n % 4)) (tells_failure past' (n / 4) (n % 4)) (rising_from l m) (n / 4) (n % 4) ≡ o) →
+      (nat_lt (n % 4) g.luns ≡ false → None ≡ o) → ready_of caches before after (n / 4) (n % 4) ≡ o
   ready_if n few o h k = by (nat_lt (n % 4) g.luns) refl
     where
-      by : (x : Bool) → nat_lt (n % 4) g.luns ≡ x → ready_of before after (n / 4) (n % 4) ≡ o
+      by : (x : Bool) → nat_lt (n % 4) g.luns ≡ x → ready_of caches before after (n / 4) (n % 4) ≡ o
       by true is = ready_there n few is ∙ h is
       by false is = ready_absent n few is ∙ k is
 
 -- ---- 2. nothing
 
-still_by : (x y f r : Bool) (ce lun : ℕ) → ready_by x x y y f r ce lun ≡ None
-still_by true y f r ce lun = refl
-still_by false true f r ce lun = refl
-still_by false false f r ce lun = refl
+still_by : (c x y f r : Bool) (ce lun : ℕ) → ready_by c x x y y f r ce lun ≡ None
+still_by true true true f r ce lun = refl
+still_by true true false f r ce lun = refl
+still_by true false true f r ce lun = refl
+still_by true false false f r ce lun = refl
+still_by false true y f r ce lun = refl
+still_by false false true f r ce lun = refl
+still_by false false false f r ce lun = refl
 
 -- the model's lines stay, and no strobe rises
 pub still_settles : (g : Parts) (s : Sampler) (os : List Observed) (past : List Item) (l m : Lines) → s.glitch ≡ 0 → Stands g s.targets s.before.of past l → Stands g s.targets s.after.of past m →
@@ -95,9 +105,9 @@ still_settles g s os past l m glitch b a we re =
     settles s os Nothing Nothing (seen_items os)
     (strobe_is s Write s.we glitch ∙ strobe_quiet s.targets Write s.we.driven l.we m.we s.before.of s.after.of b.we a.we we)
     (strobe_is s Read s.re glitch ∙ strobe_quiet s.targets Read s.re.driven l.re m.re s.before.of s.after.of b.re a.re re)
-    (ap seen_items (none_ready s.time s.before.of s.after.of os (4 * s.targets) 0
-    (λ n from to. ready_if g s.targets s.before.of s.after.of past past l m b a n (omega (arith, to)) None
-    (λ there. still_by (is_busy g past (n / 4) (n % 4)) (has_busy_array g past (n / 4) (n % 4)) (tells_failure past (n / 4) (n % 4)) (rising_from l m) (n / 4) (n % 4)) (λ none. refl))))
+    (ap seen_items (none_ready s.caches s.time s.before.of s.after.of os (4 * s.targets) 0
+    (λ n from to. ready_if s.caches g s.targets s.before.of s.after.of past past l m b a n (omega (arith, to)) None
+    (λ there. still_by s.caches (is_busy g past (n / 4) (n % 4)) (has_busy_array g past (n / 4) (n % 4)) (tells_failure past (n / 4) (n % 4)) (rising_from l m) (n / 4) (n % 4)) (λ none. refl))))
 
 -- ---- 3. a cycle
 
@@ -137,27 +147,33 @@ cycle_is : (strobe : Strobe) (ce byte : ℕ) (kind : Kind) (xs : List Level) →
     cycle_of strobe ce xs ≡ Ok (Sampled (record { ce = ce; kind = kind; byte = byte }))
 cycle_is strobe ce byte kind xs h k e = rw h (rw k (rw e refl))
 
--- no LUN becomes ready where a strobe rises
-kept_by : (x x' y y' f r : Bool) (ce lun : ℕ) → r ≡ true → (x ≡ true → x' ≡ true) → ready_by x x' y y' f r ce lun ≡ None
-kept_by true true y y' f r ce lun h k = refl
-kept_by true false y y' f r ce lun h k = absurd (false≢true (k refl))
-kept_by false x' true true f r ce lun h k = refl
-kept_by false x' true false f r ce lun h k = rw h refl
-kept_by false x' false y' f r ce lun h k = refl
+-- no array is done where a strobe rises
+no_end : (y y' f r : Bool) (ce lun : ℕ) → r ≡ true → cond ((y && not y') && not r) (Some (Ard ce lun f)) None ≡ None
+no_end true true f r ce lun h = refl
+no_end true false f r ce lun h = rw h refl
+no_end false y' f r ce lun h = refl
+
+-- nor does a LUN become ready
+kept_by : (c x x' y y' f r : Bool) (ce lun : ℕ) → r ≡ true → (x ≡ true → x' ≡ true) → ready_by c x x' y y' f r ce lun ≡ None
+kept_by c true false y y' f r ce lun h k = absurd (false≢true (k refl))
+kept_by true true true y y' f r ce lun h k = no_end y y' f r ce lun h
+kept_by false true true y y' f r ce lun h k = refl
+kept_by true false x' y y' f r ce lun h k = no_end y y' f r ce lun h
+kept_by false false x' y y' f r ce lun h k = no_end y y' f r ce lun h
 
 module _ (g : Parts) (s : Sampler) (os : List Observed) (past : List Item) (l m : Lines) (c : Cycle) (moves : Moves g s.targets past (Cyc c)) (glitch : s.glitch ≡ 0) (there : c.ce < s.targets) (small : c.byte < 256)
     (b : Stands g s.targets s.before.of past l) (a : Stands g s.targets s.after.of (Cyc c ∷ past) m) where
-  no_ready : rising_from l m ≡ true → (xs : List Observed) → with_readies s.time s.before.of s.after.of xs (4 * s.targets) 0 ≡ xs
-  no_ready rises xs = none_ready s.time s.before.of s.after.of xs (4 * s.targets) 0
-      (λ n from to. ready_if g s.targets s.before.of s.after.of past (Cyc c ∷ past) l m b a n (omega (arith, to)) None
-      (λ there. kept_by (is_busy g past (n / 4) (n % 4)) (is_busy g (Cyc c ∷ past) (n / 4) (n % 4)) (has_busy_array g past (n / 4) (n % 4)) (has_busy_array g (Cyc c ∷ past) (n / 4) (n % 4)) (tells_failure (Cyc c ∷ past) (n / 4) (n % 4))
+  no_ready : rising_from l m ≡ true → (xs : List Observed) → with_readies s.caches s.time s.before.of s.after.of xs (4 * s.targets) 0 ≡ xs
+  no_ready rises xs = none_ready s.caches s.time s.before.of s.after.of xs (4 * s.targets) 0
+      (λ n from to. ready_if s.caches g s.targets s.before.of s.after.of past (Cyc c ∷ past) l m b a n (omega (arith, to)) None
+      (λ there. kept_by s.caches (is_busy g past (n / 4) (n % 4)) (is_busy g (Cyc c ∷ past) (n / 4) (n % 4)) (has_busy_array g past (n / 4) (n % 4)) (has_busy_array g (Cyc c ∷ past) (n / 4) (n % 4)) (tells_failure (Cyc c ∷ past) (n / 4) (n % 4))
       (rising_from l m) (n / 4) (n % 4) rises (moves.busy (n / 4) (n % 4) (omega (arith, to)) (leb-true (suc (n % 4)) g.luns there)))
       (λ none. refl))
 
   abbrev with_cycle : List Stamped
   with_cycle = seen_items os ++ (record { time = s.time; item = Cyc c } ∷ [])
 
-  cycle_seen : rising_from l m ≡ true → seen_items (with_readies s.time s.before.of s.after.of (seen_at s.time (Cyc c) os) (4 * s.targets) 0) ≡ with_cycle
+  cycle_seen : rising_from l m ≡ true → seen_items (with_readies s.caches s.time s.before.of s.after.of (seen_at s.time (Cyc c) os) (4 * s.targets) 0) ≡ with_cycle
   cycle_seen rises = ap seen_items (no_ready rises (seen_at s.time (Cyc c) os)) ∙ seen_both os (record { time = s.time; observation = observation.Item (Cyc c) } ∷ [])
 
   chip : l.enabled ≡ Some c.ce → enabled_from s.before.of s.targets 0 None ≡ Ok (Some c.ce)
@@ -194,18 +210,25 @@ cycle_settles g s os past l c moves glitch there small we re b a = by c.kind mov
 
 -- ---- 4. a ready
 
-same_by : (x x' y y' f r : Bool) (ce lun : ℕ) → (x ≡ true → x' ≡ true) → (y ≡ true → y' ≡ true) → ready_by x x' y y' f r ce lun ≡ None
-same_by true true y y' f r ce lun h k = refl
-same_by true false y y' f r ce lun h k = absurd (false≢true (h refl))
-same_by false x' true true f r ce lun h k = refl
-same_by false x' true false f r ce lun h k = absurd (false≢true (k refl))
-same_by false x' false y' f r ce lun h k = refl
+array_same : (y y' f r : Bool) (ce lun : ℕ) → (y ≡ true → y' ≡ true) → cond ((y && not y') && not r) (Some (Ard ce lun f)) None ≡ None
+array_same true true f r ce lun k = refl
+array_same true false f r ce lun k = absurd (false≢true (k refl))
+array_same false y' f r ce lun k = refl
 
-ready_here : (x x' y y' f r : Bool) (ce lun : ℕ) (fail : Bool) → x ≡ true → x' ≡ false → f ≡ fail → ready_by x x' y y' f r ce lun ≡ Some (Rdy ce lun fail)
-ready_here x x' y y' f r ce lun fail h k e = rw (h, k, e) refl
+same_by : (c x x' y y' f r : Bool) (ce lun : ℕ) → (x ≡ true → x' ≡ true) → (y ≡ true → y' ≡ true) → ready_by c x x' y y' f r ce lun ≡ None
+same_by c true false y y' f r ce lun h k = absurd (false≢true (h refl))
+same_by true true true y y' f r ce lun h k = array_same y y' f r ce lun k
+same_by false true true y y' f r ce lun h k = refl
+same_by true false x' y y' f r ce lun h k = array_same y y' f r ce lun k
+same_by false false x' y y' f r ce lun h k = array_same y y' f r ce lun k
 
-array_here : (x x' y y' f r : Bool) (ce lun : ℕ) → x ≡ false → y ≡ true → y' ≡ false → r ≡ false → ready_by x x' y y' f r ce lun ≡ Some (Ard ce lun)
-array_here x x' y y' f r ce lun h k e i = rw (h, k, e, i) refl
+ready_here : (c x x' y y' f r : Bool) (ce lun : ℕ) (fail : Bool) → x ≡ true → x' ≡ false → f ≡ fail → ready_by c x x' y y' f r ce lun ≡ Some (Rdy ce lun (record { last = fail; before = false }))
+ready_here c x x' y y' f r ce lun fail h k e = rw (h, k, e) refl
+
+array_here : (c x x' y y' f r : Bool) (ce lun : ℕ) (fail : Bool) → (x ≡ true → x' ≡ true) → (c || not x) ≡ true → y ≡ true → y' ≡ false → r ≡ false → f ≡ fail → ready_by c x x' y y' f r ce lun ≡ Some (Ard ce lun fail)
+array_here c true false y y' f r ce lun fail stays h k e i same = absurd (false≢true (stays refl))
+array_here c true true y y' f r ce lun fail stays h k e i same = rw (h, k, e, i, same) refl
+array_here c false x' y y' f r ce lun fail stays h k e i same = rw (h, k, e, i, same) refl
 
 not_and : (b : Bool) → (not b && b) ≡ false
 not_and true = refl
@@ -231,53 +254,53 @@ itself ce lun = rw (eq-eqb ce ce refl, eq-eqb lun lun refl) refl
 
 module _ (g : Parts) (s : Sampler) (os : List Observed) (past : List Item) (l : Lines) (i : Item) (moves : Moves g s.targets past i) (glitch : s.glitch ≡ 0) (four : g.luns ≤ 4)
     (b : Stands g s.targets s.before.of past l) (a : Stands g s.targets s.after.of (i ∷ past) l) (ready : is_ready i ≡ true) where
-  ready_settles : (ce lun : ℕ) → ce < s.targets → lun < g.luns → ready_of s.before.of s.after.of ((4 * ce + lun) / 4) ((4 * ce + lun) % 4) ≡ Some i →
+  ready_settles : (ce lun : ℕ) → ce < s.targets → lun < g.luns → ready_of s.caches s.before.of s.after.of ((4 * ce + lun) / 4) ((4 * ce + lun) % 4) ≡ Some (told_of i) →
       ((n : ℕ) → (n ≡ 4 * ce + lun → ⊥) → is_ready_of i (n / 4) (n % 4) ≡ false) → ((n : ℕ) → (n ≡ 4 * ce + lun → ⊥) → is_array_ready_of i (n / 4) (n % 4) ≡ false) →
-      Settles s os (seen_items os ++ (record { time = s.time; item = i } ∷ []))
-  ready_settles ce lun h k is none no_array = settles s os Nothing Nothing (seen_items os ++ (record { time = s.time; item = i } ∷ []))
+      Settles s os (seen_items os ++ (record { time = s.time; item = told_of i } ∷ []))
+  ready_settles ce lun h k is none no_array = settles s os Nothing Nothing (seen_items os ++ (record { time = s.time; item = told_of i } ∷ []))
       (strobe_is s Write s.we glitch ∙ strobe_quiet s.targets Write s.we.driven l.we l.we s.before.of s.after.of b.we a.we (not_and l.we))
       (strobe_is s Read s.re glitch ∙ strobe_quiet s.targets Read s.re.driven l.re l.re s.before.of s.after.of b.re a.re (not_and l.re))
-      (ap seen_items (one_ready s.time s.before.of s.after.of os (4 * s.targets) 0 (4 * ce + lun) i (omega arith) (omega (arith, h, k, four)) is
-      (λ n ne from to. ready_if g s.targets s.before.of s.after.of past (i ∷ past) l l b a n (omega (arith, to)) None
-      (λ there. same_by (is_busy g past (n / 4) (n % 4)) (is_busy g (i ∷ past) (n / 4) (n % 4)) (has_busy_array g past (n / 4) (n % 4)) (has_busy_array g (i ∷ past) (n / 4) (n % 4)) (tells_failure (i ∷ past) (n / 4) (n % 4))
+      (ap seen_items (one_ready s.caches s.time s.before.of s.after.of os (4 * s.targets) 0 (4 * ce + lun) (told_of i) (omega arith) (omega (arith, h, k, four)) is
+      (λ n ne from to. ready_if s.caches g s.targets s.before.of s.after.of past (i ∷ past) l l b a n (omega (arith, to)) None
+      (λ there. same_by s.caches (is_busy g past (n / 4) (n % 4)) (is_busy g (i ∷ past) (n / 4) (n % 4)) (has_busy_array g past (n / 4) (n % 4)) (has_busy_array g (i ∷ past) (n / 4) (n % 4)) (tells_failure (i ∷ past) (n / 4) (n % 4))
       (rising_from l l) (n / 4) (n % 4)
       (λ is. moves.busy (n / 4) (n % 4) (omega (arith, to)) (leb-true (suc (n % 4)) g.luns there) is ∙ ap not (none n ne))
       (λ is. moves.array (n / 4) (n % 4) (omega (arith, to)) (leb-true (suc (n % 4)) g.luns there) ready is ∙ ap not (no_array n ne)))
       (λ none. refl)))
-      ∙ seen_both os (record { time = s.time; observation = observation.Item i } ∷ []))
+      ∙ seen_both os (record { time = s.time; observation = observation.Item (told_of i) } ∷ []))
 
   ready_from : (ce lun : ℕ) → ce < s.targets → lun < g.luns →
-      ready_by (is_busy g past ce lun) (is_busy g (i ∷ past) ce lun) (has_busy_array g past ce lun) (has_busy_array g (i ∷ past) ce lun) (tells_failure (i ∷ past) ce lun) (rising_from l l) ce lun ≡ Some i →
-      ready_of s.before.of s.after.of ((4 * ce + lun) / 4) ((4 * ce + lun) % 4) ≡ Some i
+      ready_by s.caches (is_busy g past ce lun) (is_busy g (i ∷ past) ce lun) (has_busy_array g past ce lun) (has_busy_array g (i ∷ past) ce lun) (tells_failure (i ∷ past) ce lun) (rising_from l l) ce lun ≡ Some (told_of i) →
+      ready_of s.caches s.before.of s.after.of ((4 * ce + lun) / 4) ((4 * ce + lun) % 4) ≡ Some (told_of i)
   ready_from ce lun h k is =
       let target : (4 * ce + lun) / 4 ≡ ce = omega (arith, k, four) in
       let which : (4 * ce + lun) % 4 ≡ lun = omega (arith, k, four) in
-      ready_if g s.targets s.before.of s.after.of past (i ∷ past) l l b a (4 * ce + lun) (omega (arith, h, k, four)) (Some i)
-      (λ there. subst (λ (n : ℕ). ready_by (is_busy g past n ((4 * ce + lun) % 4)) (is_busy g (i ∷ past) n ((4 * ce + lun) % 4)) (has_busy_array g past n ((4 * ce + lun) % 4)) (has_busy_array g (i ∷ past) n ((4 * ce + lun) % 4)) (tells_failure (i ∷ past) n ((4 * ce + lun) % 4)) (rising_from l l) n ((4 * ce + lun) % 4) ≡ Some i) (sym target)
-      (subst (λ (n : ℕ). ready_by (is_busy g past ce n) (is_busy g (i ∷ past) ce n) (has_busy_array g past ce n) (has_busy_array g (i ∷ past) ce n) (tells_failure (i ∷ past) ce n) (rising_from l l) ce n ≡ Some i) (sym which) is))
+      ready_if s.caches g s.targets s.before.of s.after.of past (i ∷ past) l l b a (4 * ce + lun) (omega (arith, h, k, four)) (Some (told_of i))
+      (λ there. subst (λ (n : ℕ). ready_by s.caches (is_busy g past n ((4 * ce + lun) % 4)) (is_busy g (i ∷ past) n ((4 * ce + lun) % 4)) (has_busy_array g past n ((4 * ce + lun) % 4)) (has_busy_array g (i ∷ past) n ((4 * ce + lun) % 4)) (tells_failure (i ∷ past) n ((4 * ce + lun) % 4)) (rising_from l l) n ((4 * ce + lun) % 4) ≡ Some (told_of i)) (sym target)
+      (subst (λ (n : ℕ). ready_by s.caches (is_busy g past ce n) (is_busy g (i ∷ past) ce n) (has_busy_array g past ce n) (has_busy_array g (i ∷ past) ce n) (tells_failure (i ∷ past) ce n) (rising_from l l) ce n ≡ Some (told_of i)) (sym which) is))
       (λ none. absurd (false≢true (sym none ∙ ap (λ (n : ℕ). nat_lt n g.luns) which ∙ le-leb (suc lun) g.luns k)))
 
-failure_told : (past : List Item) (ce lun : ℕ) (fail : Bool) → tells_failure (Rdy ce lun fail ∷ past) ce lun ≡ fail
-failure_told past ce lun fail =
+told_there : (ce lun : ℕ) (fail : Bool) → (ce == ce && lun == lun && fail) ≡ fail
+told_there ce lun fail =
     ap (λ (b : Bool). (b && (lun == lun)) && fail) (eq-eqb ce ce refl)
     ∙ ap (λ (b : Bool). b && fail) (eq-eqb lun lun refl)
 
 -- a ready is seen where it is told
-pub busy_settles : (g : Parts) (s : Sampler) (os : List Observed) (past : List Item) (l : Lines) (ce lun : ℕ) (fail : Bool) → Moves g s.targets past (Rdy ce lun fail) → s.glitch ≡ 0 → g.luns ≤ 4 → Names g s.targets past true ce lun →
-    Stands g s.targets s.before.of past l → Stands g s.targets s.after.of (Rdy ce lun fail ∷ past) l → Settles s os (seen_items os ++ (record { time = s.time; item = Rdy ce lun fail } ∷ []))
+pub busy_settles : (g : Parts) (s : Sampler) (os : List Observed) (past : List Item) (l : Lines) (ce lun : ℕ) (fail : Failures) → Moves g s.targets past (Rdy ce lun fail) → s.glitch ≡ 0 → g.luns ≤ 4 → Names g s.targets past true ce lun →
+    Stands g s.targets s.before.of past l → Stands g s.targets s.after.of (Rdy ce lun fail ∷ past) l → Settles s os (seen_items os ++ (record { time = s.time; item = told_of (Rdy ce lun fail) } ∷ []))
 busy_settles g s os past l ce lun fail moves glitch four named b a =
     ready_settles g s os past l (Rdy ce lun fail) moves glitch four b a refl ce lun named.target named.within
     (ready_from g s os past l (Rdy ce lun fail) moves glitch four b a refl ce lun named.target named.within
-    (ready_here (is_busy g past ce lun) (is_busy g (Rdy ce lun fail ∷ past) ce lun) (has_busy_array g past ce lun) (has_busy_array g (Rdy ce lun fail ∷ past) ce lun) (tells_failure (Rdy ce lun fail ∷ past) ce lun) (rising_from l l) ce lun fail
-    named.works (moves.busy ce lun named.target named.within named.works ∙ ap not (itself ce lun)) (failure_told past ce lun fail)))
+    (ready_here s.caches (is_busy g past ce lun) (is_busy g (Rdy ce lun fail ∷ past) ce lun) (has_busy_array g past ce lun) (has_busy_array g (Rdy ce lun fail ∷ past) ce lun) (tells_failure (Rdy ce lun fail ∷ past) ce lun) (rising_from l l) ce lun fail.last
+    named.works (moves.busy ce lun named.target named.within named.works ∙ ap not (itself ce lun)) (told_there ce lun fail.last)))
     (others ce lun) (λ n ne. refl)
 
 -- and that of an array
-pub array_settles : (g : Parts) (s : Sampler) (os : List Observed) (past : List Item) (l : Lines) (ce lun : ℕ) → Moves g s.targets past (Ard ce lun) → s.glitch ≡ 0 → g.luns ≤ 4 → Names g s.targets past false ce lun →
-    Stands g s.targets s.before.of past l → Stands g s.targets s.after.of (Ard ce lun ∷ past) l → Settles s os (seen_items os ++ (record { time = s.time; item = Ard ce lun } ∷ []))
-array_settles g s os past l ce lun moves glitch four named b a =
-    ready_settles g s os past l (Ard ce lun) moves glitch four b a refl ce lun named.target named.within
-    (ready_from g s os past l (Ard ce lun) moves glitch four b a refl ce lun named.target named.within
-    (array_here (is_busy g past ce lun) (is_busy g (Ard ce lun ∷ past) ce lun) (has_busy_array g past ce lun) (has_busy_array g (Ard ce lun ∷ past) ce lun) (tells_failure (Ard ce lun ∷ past) ce lun) (rising_from l l) ce lun
-    (array_alone g past ce lun named.works) named.works (moves.array ce lun named.target named.within refl named.works ∙ ap not (itself ce lun)) (stays l)))
+pub array_settles : (g : Parts) (s : Sampler) (os : List Observed) (past : List Item) (l : Lines) (ce lun : ℕ) (fail : Bool) → Moves g s.targets past (Ard ce lun fail) → s.glitch ≡ 0 → g.luns ≤ 4 → Names g s.targets past false ce lun → (s.caches || not (is_busy g past ce lun)) ≡ true →
+    Stands g s.targets s.before.of past l → Stands g s.targets s.after.of (Ard ce lun fail ∷ past) l → Settles s os (seen_items os ++ (record { time = s.time; item = Ard ce lun fail } ∷ []))
+array_settles g s os past l ce lun fail moves glitch four named alone b a =
+    ready_settles g s os past l (Ard ce lun fail) moves glitch four b a refl ce lun named.target named.within
+    (ready_from g s os past l (Ard ce lun fail) moves glitch four b a refl ce lun named.target named.within
+    (array_here s.caches (is_busy g past ce lun) (is_busy g (Ard ce lun fail ∷ past) ce lun) (has_busy_array g past ce lun) (has_busy_array g (Ard ce lun fail ∷ past) ce lun) (tells_failure (Ard ce lun fail ∷ past) ce lun) (rising_from l l) ce lun fail
+    (λ is. moves.busy ce lun named.target named.within is) alone named.works (moves.array ce lun named.target named.within refl named.works ∙ ap not (itself ce lun)) (stays l) (told_there ce lun fail)))
     (λ n ne. refl) (others ce lun)

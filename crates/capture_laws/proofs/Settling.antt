@@ -50,29 +50,29 @@ releases_unseen time before after os (suc count) n =
 abbrev pub seen_at : ℕ → Item → List Observed → List Observed
 seen_at time i os = os ++ (record { time = time; observation = observation.Item i } ∷ [])
 
-pub none_ready : (time : ℕ) (before after : List Level) (os : List Observed) (count n : ℕ) → ((m : ℕ) → n ≤ m → m < n + count → ready_of before after (m / 4) (m % 4) ≡ None) →
-    with_readies time before after os count n ≡ os
-none_ready time before after os zero n h = refl
-none_ready time before after os (suc count) n h =
-    ap (λ (o : Option Item). with_readies time before after (with_item time o os) count (n + 1)) (h n (omega arith) (omega arith))
-    ∙ none_ready time before after os count (n + 1) (λ m from to. h m (omega (arith, from)) (omega (arith, to)))
+pub none_ready : (caches : Bool) (time : ℕ) (before after : List Level) (os : List Observed) (count n : ℕ) → ((m : ℕ) → n ≤ m → m < n + count → ready_of caches before after (m / 4) (m % 4) ≡ None) →
+    with_readies caches time before after os count n ≡ os
+none_ready caches time before after os zero n h = refl
+none_ready caches time before after os (suc count) n h =
+    ap (λ (o : Option Item). with_readies caches time before after (with_item time o os) count (n + 1)) (h n (omega arith) (omega arith))
+    ∙ none_ready caches time before after os count (n + 1) (λ m from to. h m (omega (arith, from)) (omega (arith, to)))
 
-pub one_ready : (time : ℕ) (before after : List Level) (os : List Observed) (count n k : ℕ) (i : Item) → n ≤ k → k < n + count → ready_of before after (k / 4) (k % 4) ≡ Some i →
-    ((m : ℕ) → (m ≡ k → ⊥) → n ≤ m → m < n + count → ready_of before after (m / 4) (m % 4) ≡ None) → with_readies time before after os count n ≡ seen_at time i os
-one_ready time before after os zero n k i from to is h = absurd (omega (arith, from, to))
-one_ready time before after os (suc count) n k i from to is h = by (n == k) refl (one_ready time before after os count (n + 1) k i)
+pub one_ready : (caches : Bool) (time : ℕ) (before after : List Level) (os : List Observed) (count n k : ℕ) (i : Item) → n ≤ k → k < n + count → ready_of caches before after (k / 4) (k % 4) ≡ Some i →
+    ((m : ℕ) → (m ≡ k → ⊥) → n ≤ m → m < n + count → ready_of caches before after (m / 4) (m % 4) ≡ None) → with_readies caches time before after os count n ≡ seen_at time i os
+one_ready caches time before after os zero n k i from to is h = absurd (omega (arith, from, to))
+one_ready caches time before after os (suc count) n k i from to is h = by (n == k) refl (one_ready caches time before after os count (n + 1) k i)
   where
     by : (b : Bool) → n == k ≡ b →
-        (n + 1 ≤ k → k < n + 1 + count → ready_of before after (k / 4) (k % 4) ≡ Some i → ((m : ℕ) → (m ≡ k → ⊥) → n + 1 ≤ m → m < n + 1 + count → ready_of before after (m / 4) (m % 4) ≡ None) → with_readies time before after os count (n + 1) ≡ seen_at time i os) →
-        with_readies time before after (with_item time (ready_of before after (n / 4) (n % 4)) os) count (n + 1) ≡ seen_at time i os
+        (n + 1 ≤ k → k < n + 1 + count → ready_of caches before after (k / 4) (k % 4) ≡ Some i → ((m : ℕ) → (m ≡ k → ⊥) → n + 1 ≤ m → m < n + 1 + count → ready_of caches before after (m / 4) (m % 4) ≡ None) → with_readies caches time before after os count (n + 1) ≡ seen_at time i os) →
+        with_readies caches time before after (with_item time (ready_of caches before after (n / 4) (n % 4)) os) count (n + 1) ≡ seen_at time i os
     by true e go =
         let same = eqb-true n k e in
-        ap (λ (m : ℕ). with_readies time before after (with_item time (ready_of before after (m / 4) (m % 4)) os) count (n + 1)) same
-        ∙ ap (λ (o : Option Item). with_readies time before after (with_item time o os) count (n + 1)) is
-        ∙ none_ready time before after (seen_at time i os) count (n + 1) (λ m from' to'. h m (λ e'. absurd (omega (arith, from', e', same))) (omega (arith, from')) (omega (arith, to')))
+        ap (λ (m : ℕ). with_readies caches time before after (with_item time (ready_of caches before after (m / 4) (m % 4)) os) count (n + 1)) same
+        ∙ ap (λ (o : Option Item). with_readies caches time before after (with_item time o os) count (n + 1)) is
+        ∙ none_ready caches time before after (seen_at time i os) count (n + 1) (λ m from' to'. h m (λ e'. absurd (omega (arith, from', e', same))) (omega (arith, from')) (omega (arith, to')))
     by false e go =
         let other = eqb-false n k e in
-        ap (λ (o : Option Item). with_readies time before after (with_item time o os) count (n + 1)) (h n other (omega arith) (omega arith))
+        ap (λ (o : Option Item). with_readies caches time before after (with_item time o os) count (n + 1)) (h n other (omega arith) (omega arith))
         ∙ go (omega (arith, from, other)) (omega (arith, to)) is (λ m ne from' to'. h m ne (omega (arith, from')) (omega (arith, to')))
 
 -- ---- 3. the strobes
@@ -117,9 +117,9 @@ pub record Settles (s : Sampler) (os : List Observed) (items : List Stamped) : T
   pub seen : seen_items now ≡ items
 
 pub settles : (s : Sampler) (os : List Observed) (written read : Seen) (items : List Stamped) → strobe_seen s Write s.we ≡ Ok written → strobe_seen s Read s.re ≡ Ok read →
-    seen_items (with_readies s.time s.before.of s.after.of (with_item s.time (item_of read) (with_item s.time (item_of written) os)) (4 * s.targets) 0) ≡ items → Settles s os items
+    seen_items (with_readies s.caches s.time s.before.of s.after.of (with_item s.time (item_of read) (with_item s.time (item_of written) os)) (4 * s.targets) 0) ≡ items → Settles s os items
 settles s os written read items w r h = record {
   now = with_seen s written read os;
   is = rw w (rw r refl);
-  seen = releases_unseen s.time s.before.of s.after.of (with_readies s.time s.before.of s.after.of (with_item s.time (item_of read) (with_item s.time (item_of written) os)) (4 * s.targets) 0) s.targets 0 ∙ h;
+  seen = releases_unseen s.time s.before.of s.after.of (with_readies s.caches s.time s.before.of s.after.of (with_item s.time (item_of read) (with_item s.time (item_of written) os)) (4 * s.targets) 0) s.targets 0 ∙ h;
 }

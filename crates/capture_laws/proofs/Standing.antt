@@ -187,6 +187,7 @@ pub record Stands (g : Parts) (targets : ℕ) (xs : List Level) (past : List Ite
   pub array : (n : ℕ) → n < 4 * targets → nat_lt (n % 4) g.luns ≡ true → level xs (ArrayBusy (n / 4) (n % 4)) ≡ lv (has_busy_array g past (n / 4) (n % 4))
   pub failed : (n : ℕ) → n < 4 * targets → nat_lt (n % 4) g.luns ≡ true → level xs (Failed (n / 4) (n % 4)) ≡ lv (tells_failure past (n / 4) (n % 4))
   pub absent : (n : ℕ) → n < 4 * targets → nat_lt (n % 4) g.luns ≡ false → level xs (Busy (n / 4) (n % 4)) ≡ Unknown
+  pub no_array : (n : ℕ) → n < 4 * targets → nat_lt (n % 4) g.luns ≡ false → level xs (ArrayBusy (n / 4) (n % 4)) ≡ Unknown
 
 module _ (g : Parts) (targets : ℕ) (xs : List Level) (past : List Item) (rule : ℕ) (l : Lines) (fit : Fits targets g.luns) (shows : Shows (lines_of targets g.luns) xs (levels g targets past rule l)) where
   abbrev lines : ℕ → Option ℕ
@@ -243,4 +244,7 @@ module _ (g : Parts) (targets : ℕ) (xs : List Level) (past : List Item) (rule 
     absent = λ n within k.
         level_shown (lines_of targets g.luns) xs (levels g targets past rule l) (Busy (n / 4) (n % 4)) shows (omega arith)
         ∙ ap (λ (o : Option ℕ). held_level o (levels g targets past rule l)) (fit.absent n within k);
+    no_array = λ n within k.
+        level_shown (lines_of targets g.luns) xs (levels g targets past rule l) (ArrayBusy (n / 4) (n % 4)) shows (omega arith)
+        ∙ ap (λ (o : Option ℕ). held_level o (levels g targets past rule l)) (fit.no_array n within k);
   }

@@ -81,6 +81,7 @@ pub record Fits (targets luns : ℕ) : Type 0 where
   pub array : (n : ℕ) → n < 4 * targets → nat_lt (n % 4) luns ≡ true → code_at (lines_of targets luns) (place_of (ArrayBusy (n / 4) (n % 4))) ≡ Some (busy_code luns targets (n / 4) (n % 4) + 1)
   pub failed : (n : ℕ) → n < 4 * targets → nat_lt (n % 4) luns ≡ true → code_at (lines_of targets luns) (place_of (Failed (n / 4) (n % 4))) ≡ Some (busy_code luns targets (n / 4) (n % 4) + 2)
   pub absent : (n : ℕ) → n < 4 * targets → nat_lt (n % 4) luns ≡ false → code_at (lines_of targets luns) (place_of (Busy (n / 4) (n % 4))) ≡ None
+  pub no_array : (n : ℕ) → n < 4 * targets → nat_lt (n % 4) luns ≡ false → code_at (lines_of targets luns) (place_of (ArrayBusy (n / 4) (n % 4))) ≡ None
 
 pub fits : (targets luns : ℕ) → 1 ≤ targets → targets ≤ 4 → 1 ≤ luns → luns ≤ 4 → Fits targets luns
 fits targets luns some few some_luns few_luns =
@@ -107,4 +108,5 @@ fits targets luns some few some_luns few_luns =
       array = there ArrayBusy 1 refl;
       failed = there Failed 2 refl;
       absent = λ n few k. lun_isnt (nat_lt (n % 4) luns) (code_at (lines_of targets luns) (place_of (Busy (n / 4) (n % 4)))) (busy_code luns targets (n / 4) (n % 4) + 0) (lun Busy 0 refl n few) k;
+      no_array = λ n few k. lun_isnt (nat_lt (n % 4) luns) (code_at (lines_of targets luns) (place_of (ArrayBusy (n / 4) (n % 4)))) (busy_code luns targets (n / 4) (n % 4) + 1) (lun ArrayBusy 1 refl n few) k;
     }

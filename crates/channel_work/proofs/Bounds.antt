@@ -26,7 +26,7 @@ few_polls many stands polls byte Dout = at (stands == poll_length many && not (i
     at false = omega arith
 
 few_more : (many : Bool) (row : List ℕ) (l : Lun) (k : LunCount) (i : Item) (n : ℕ) → IsFew k n → IsFew (count_after many row l k i) (n + 1)
-few_more many row l k (Ard ce lun) n h = let p = h.polls in let w = h.works in record { polls = omega (arith, p); works = omega (arith, w) }
+few_more many row l k (Ard ce lun fail) n h = let p = h.polls in let w = h.works in record { polls = omega (arith, p); works = omega (arith, w) }
 few_more many row l k (Rdy ce lun fail) n h = at (ce == l.ce && lun == l.lun)
   where
     at : (b : Bool) → IsFew (cond b (record { stands = k.stands; polls = 0; works = k.works + 1 }) k) (n + 1)

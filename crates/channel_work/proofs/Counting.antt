@@ -39,7 +39,7 @@ one_grows i before later (inr e) = (i ∷ [], e)
 own_grows : (s : Channel) (e : Event) (before later : List Item) → AddsItsOwn s e before later → Grows before later
 own_grows s (Step l) before later own = let g = cycles_grow own.new before in (g.0, own.is_new ∙ g.1)
 own_grows s (Ready l fail) before later own = one_grows (Rdy l.ce l.lun fail) before later own
-own_grows s (ArrayReady l) before later own = one_grows (Ard l.ce l.lun) before later own
+own_grows s (ArrayReady l fail) before later own = one_grows (Ard l.ce l.lun fail) before later own
 own_grows s (Load l j) before later own = ([], own)
 own_grows s (Unload l) before later own = ([], own)
 
@@ -91,7 +91,7 @@ last_turn l turn [] h = absurd h
 last_turn l turn (WasStepped m before ∷ past) h = ap (λ (n : ℕ). n + 1) h.1
 last_turn l turn (Loaded m n ∷ past) h = absurd h
 last_turn l turn (BecameReady m fail ∷ past) h = absurd h
-last_turn l turn (ArrayBecameReady m ∷ past) h = absurd h
+last_turn l turn (ArrayBecameReady m fail ∷ past) h = absurd h
 last_turn l turn (WasUnloaded m ∷ past) h = absurd h
 
 -- there are no more turns than events
@@ -104,5 +104,5 @@ few_turns (WasStepped l turn ∷ past) h = at h.0 (few_turns past h.1)
     at (inr t) r = let e = last_turn l turn past t in omega (arith, e, r)
 few_turns (Loaded l n ∷ past) h = let r = few_turns past h in omega (arith, r)
 few_turns (BecameReady l fail ∷ past) h = let r = few_turns past h in omega (arith, r)
-few_turns (ArrayBecameReady l ∷ past) h = let r = few_turns past h in omega (arith, r)
+few_turns (ArrayBecameReady l fail ∷ past) h = let r = few_turns past h in omega (arith, r)
 few_turns (WasUnloaded l ∷ past) h = let r = few_turns past h in omega (arith, r)

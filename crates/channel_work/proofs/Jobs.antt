@@ -32,7 +32,7 @@ one_wider : (taken more : List (QueuedJob Job)) (x : Stored) (e : Event) → IsS
 one_wider taken more (Loaded l n) e h = (h.0, Contains-append_left taken more h.0 h.1, h.2, h.3)
 one_wider taken more (WasStepped l turn) e h = h
 one_wider taken more (BecameReady l fail) e h = h
-one_wider taken more (ArrayBecameReady l) e h = h
+one_wider taken more (ArrayBecameReady l fail) e h = h
 one_wider taken more (WasUnloaded l) e h = h
 
 stored_wider : (taken more : List (QueuedJob Job)) (xs : List Stored) (es : List Event) → AreStoredAs taken xs es → AreStoredAs (taken ++ more) xs es

@@ -17,11 +17,11 @@ same_first (Steps l times turn) more (WasStepped m number) h = at (same_lun l m 
     at false e = cc
 same_first (Steps l times turn) more (Loaded m name) h = cc
 same_first (Steps l times turn) more (BecameReady m fail) h = cc
-same_first (Steps l times turn) more (ArrayBecameReady m) h = cc
+same_first (Steps l times turn) more (ArrayBecameReady m fail) h = cc
 same_first (Steps l times turn) more (WasUnloaded m) h = cc
 same_first (Load l host number) more event h = cc
 same_first (Ready l fail) more event h = cc
-same_first (ArrayReady l) more event h = cc
+same_first (ArrayReady l fail) more event h = cc
 same_first (Unload l) more event h = cc
 
 apart_from : (x last more : Kept) (xs : List Kept) → first_kept more ≡ first_kept last → IsApart x (xs ++ (last ∷ [])) → IsApart x (xs ++ (more ∷ []))

@@ -159,8 +159,8 @@ good_more taken s w past (Loaded l n) e a g h is = to_after s (Loaded l n ∷ pa
 good_more taken s w past (WasStepped l turn) e a g h is = step_good s w past l turn a g (subst (λ (d : Event). after s w d ≡ Some a) h is)
 good_more taken s w past (BecameReady l fail) e a g h is =
     to_after s (BecameReady l fail ∷ past) _ a (subst (λ (d : Event). after s w d ≡ Some a) h is) (item_good s w past (BecameReady l fail) (Rdy l.ce l.lun fail) ToReady (is_permitted s.geometry s.targets w.past (Rdy l.ce l.lun fail)) (λ m. refl) g)
-good_more taken s w past (ArrayBecameReady l) e a g h is =
-    to_after s (ArrayBecameReady l ∷ past) _ a (subst (λ (d : Event). after s w d ≡ Some a) h is) (item_good s w past (ArrayBecameReady l) (Ard l.ce l.lun) ToArrayReady (is_permitted s.geometry s.targets w.past (Ard l.ce l.lun)) (λ m. refl) g)
+good_more taken s w past (ArrayBecameReady l fail) e a g h is =
+    to_after s (ArrayBecameReady l fail ∷ past) _ a (subst (λ (d : Event). after s w d ≡ Some a) h is) (item_good s w past (ArrayBecameReady l fail) (Ard l.ce l.lun fail) ToArrayReady (is_permitted s.geometry s.targets w.past (Ard l.ce l.lun fail)) (λ m. refl) g)
 good_more taken s w past (WasUnloaded l) e a g h is = to_after s (WasUnloaded l ∷ past) _ a (subst (λ (d : Event). after s w d ≡ Some a) h is) (unload_good s w past l g)
 
 same_ran : (r q : Ran) → Some r ≡ Some q → r ≡ q

@@ -27,7 +27,7 @@ kept_passed : (l : Lun) (k : Kept) (before : List Stored) → IsNoLoad k → las
 kept_passed l (Load m host number) before none = absurd (none m host number refl)
 kept_passed l (Steps m times turn) before none = steps_passed l m turn times before
 kept_passed l (Ready m fail) before none = ap (last_started l) (reverse-append before (BecameReady m fail ∷ []))
-kept_passed l (ArrayReady m) before none = ap (last_started l) (reverse-append before (ArrayBecameReady m ∷ []))
+kept_passed l (ArrayReady m fail) before none = ap (last_started l) (reverse-append before (ArrayBecameReady m fail ∷ []))
 kept_passed l (Unload m) before none = ap (last_started l) (reverse-append before (WasUnloaded m ∷ []))
 
 -- so among what is kept

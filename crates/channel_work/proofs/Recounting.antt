@@ -32,7 +32,7 @@ other_target many row l k (Rdy ce lun fail) ne = at (ce == l.ce) (ne_eqb ce l.ce
     at : (b : Bool) → b ≡ false → cond (b && lun == l.lun) (record { stands = k.stands; polls = 0; works = k.works + 1 }) k ≡ k
     at true e = cc
     at false e = refl
-other_target many row l k (Ard ce lun) ne = refl
+other_target many row l k (Ard ce lun fail) ne = refl
 
 -- the LUN at a place of a target
 pub number_is : (g : Parts) (ce lun : ℕ) → lun < g.luns → record { ce = ce; lun = lun } ≡ numbered g (ce * g.luns + lun)
@@ -158,9 +158,9 @@ two_data many row l k ce (Cyc b) (Cyc c) h m =
     at true many x p Cmd q = cc
     at true many x p Adr q = cc
 two_data many row l k ce (Rdy a b c) i h m = cc
-two_data many row l k ce (Ard a b) i h m = cc
+two_data many row l k ce (Ard a b c) i h m = cc
 two_data many row l k ce (Cyc b) (Rdy x y z) h m = cc
-two_data many row l k ce (Cyc b) (Ard x y) h m = cc
+two_data many row l k ce (Cyc b) (Ard x y z) h m = cc
 
 turned_at : (trace : List Item) (at : ℕ) (d : Item) → at < length trace → reverse (take (at + 1) trace) ≡ get_or trace at d ∷ reverse (take at trace)
 turned_at trace at d low =
@@ -209,7 +209,7 @@ counted_behind g trace place to ce (suc n) counts few low size all are =
     let here_from : place ≤ place + 1 + n = omega arith in
     let here_to : place + 1 + n < to = omega (arith, few) in
     subst (λ (m : ℕ). AreCounts g counts (reverse (take m trace))) next
-    (repeated_counted g trace (place + 1 + n) ce (Rdy 0 0 false) counts some inside size (all (place + 1 + n - 1) (Rdy 0 0 false) before_from before_to) (all (place + 1 + n) (Rdy 0 0 false) here_from here_to)
+    (repeated_counted g trace (place + 1 + n) ce (Rdy 0 0 (record { last = false; before = false })) counts some inside size (all (place + 1 + n - 1) (Rdy 0 0 (record { last = false; before = false })) before_from before_to) (all (place + 1 + n) (Rdy 0 0 (record { last = false; before = false })) here_from here_to)
     (counted_behind g trace place to ce n counts fewer low size all are))
 
 -- a count with the item of a place is one with the data that repeats it

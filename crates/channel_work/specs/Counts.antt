@@ -33,7 +33,7 @@ abbrev pub count_after : Bool → List ℕ → Lun → LunCount → Item → Lun
 count_after many row l k (Cyc c) =
     if c.ce == l.ce then record { stands = stands_after many row k.stands c.kind c.byte; polls = polls_after many k.stands k.polls c.kind c.byte; works = k.works } else k
 count_after many row l k (Rdy ce lun fail) = if ce == l.ce && lun == l.lun then record { stands = k.stands; polls = 0; works = k.works + 1 } else k
-count_after many row l k (Ard ce lun) = k
+count_after many row l k (Ard ce lun fail) = k
 
 -- what is counted of a LUN in a trace
 abbrev pub count_in : Bool → List ℕ → Lun → List Item → LunCount
@@ -83,7 +83,7 @@ is_data_kind _ = false
 abbrev pub gives_data : ℕ → Item → Bool
 gives_data ce (Cyc c) = c.ce == ce && is_data_kind c.kind
 gives_data ce (Rdy _ _ _) = false
-gives_data ce (Ard _ _) = false
+gives_data ce (Ard _ _ _) = false
 
 -- the items from one place to another are data on the target
 abbrev pub AreDataFrom : ℕ → List Item → (from to : ℕ) → Type 0

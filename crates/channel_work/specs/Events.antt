@@ -16,7 +16,7 @@ abbrev pub kept_as : Kept → List Stored
 kept_as (Load l host number) = Loaded l (record { host = host; number = number }) ∷ []
 kept_as (Steps l times turn) = replicate times (WasStepped l turn)
 kept_as (Ready l fail) = BecameReady l fail ∷ []
-kept_as (ArrayReady l) = ArrayBecameReady l ∷ []
+kept_as (ArrayReady l fail) = ArrayBecameReady l fail ∷ []
 kept_as (Unload l) = WasUnloaded l ∷ []
 
 -- kept steps with a step more of the same LUN in the same turn; of any other event, or where no more can be counted, None
@@ -29,7 +29,7 @@ abbrev pub first_kept : Kept → Stored
 first_kept (Load l host number) = Loaded l (record { host = host; number = number })
 first_kept (Steps l times turn) = WasStepped l turn
 first_kept (Ready l fail) = BecameReady l fail
-first_kept (ArrayReady l) = ArrayBecameReady l
+first_kept (ArrayReady l fail) = ArrayBecameReady l fail
 first_kept (Unload l) = WasUnloaded l
 
 -- what follows couldn't be kept with it

@@ -1,5 +1,6 @@
 -- What lies under the lock of a channel, with its seats, its park and its workers' passes.
 use Rattle.std.specs.Prelude.{◌≡◌, ℕ, ◌+◌, ◌≤◌, Bool, true, false, List, Option, Some, None, sum_by}
+use Rattle.onfi_cycle.specs.declared.item.Failures.{Failures}
 use Rattle.onfi_cycle.specs.declared.lun.Lun.{Lun}
 use Rattle.target_bus.specs.Bus.{numbered}
 use Rattle.seq_core.specs.declared.stepped.Stepped.{Stepped}
@@ -73,9 +74,9 @@ came_of NotBusy = Some false
 came_of TooLittle = None
 
 -- what a ready answers
-abbrev pub IsReadied : HistoryView → Lun → Bool → Readied → HistoryView → Type 0
+abbrev pub IsReadied : HistoryView → Lun → Failures → Readied → HistoryView → Type 0
 IsReadied v l fail readied u = IsComing v (Ready l fail) ToReady (BecameReady l fail) (came_of readied) u
 
 -- what an array ready answers
-abbrev pub IsArrayReadied : HistoryView → Lun → Readied → HistoryView → Type 0
-IsArrayReadied v l readied u = IsComing v (ArrayReady l) ToArrayReady (ArrayBecameReady l) (came_of readied) u
+abbrev pub IsArrayReadied : HistoryView → Lun → Bool → Readied → HistoryView → Type 0
+IsArrayReadied v l fail readied u = IsComing v (ArrayReady l fail) ToArrayReady (ArrayBecameReady l fail) (came_of readied) u

@@ -20,7 +20,7 @@ abbrev pub IsStoredAs : List (QueuedJob Job) → Stored → Event → Type 0
 IsStoredAs taken (Loaded l n) e = (x : QueuedJob Job) × Contains taken x × (name_of x ≡ n) × (e ≡ Load l x.job)
 IsStoredAs taken (WasStepped l turn) e = e ≡ Step l
 IsStoredAs taken (BecameReady l fail) e = e ≡ Ready l fail
-IsStoredAs taken (ArrayBecameReady l) e = e ≡ ArrayReady l
+IsStoredAs taken (ArrayBecameReady l fail) e = e ≡ ArrayReady l fail
 IsStoredAs taken (WasUnloaded l) e = e ≡ Unload l
 
 -- the events that are stored so, in order
@@ -35,7 +35,7 @@ abbrev pub IsAnswered : Stored → Reply → Type 0
 IsAnswered (Loaded l n) r = r ≡ ToLoad IsLoaded
 IsAnswered (WasStepped l turn) r = (answer : Stepped) × (r ≡ ToStep answer)
 IsAnswered (BecameReady l fail) r = r ≡ ToReady true
-IsAnswered (ArrayBecameReady l) r = r ≡ ToArrayReady true
+IsAnswered (ArrayBecameReady l fail) r = r ≡ ToArrayReady true
 IsAnswered (WasUnloaded l) r = (job : Job) × (code : ℕ) × (r ≡ ToUnload (Unloaded job code))
 
 -- the stored events came, and were answered so, in order

@@ -24,7 +24,7 @@ use crate::worker_pass::{MAX_PASSES, Turns, WorkerPass};
 use job_queue::Taker;
 use lun_lease::{Lease, LeaseSeat, Loaded, SEATS};
 use nand_geometry::Geometry;
-use onfi_cycle::{Command, Item, Lun, MAX_CHANNEL_LUNS, starts_work};
+use onfi_cycle::{Command, Failures, Item, Lun, MAX_CHANNEL_LUNS, starts_work};
 use seq_core::{Core, Job};
 use std::alloc::Global;
 use std::marker::Model;
@@ -228,9 +228,9 @@ impl<L: Turns> ChannelState<L> {
         None
     }
 
-    /// A LUN becomes ready, with failure or without. `NotBusy`, with all as it was: it isn't there or isn't busy. `OutOfMemory`, with
+    /// A LUN becomes ready, with failures or without. `NotBusy`, with all as it was: it isn't there or isn't busy. `OutOfMemory`, with
     /// all as it was: it would become ready, and there is no memory to store that.
-    pub fn ready(&mut self, lun: Lun, fail: bool) -> Readied
+    pub fn ready(&mut self, lun: Lun, fail: Failures) -> Readied
         ensures ready { IsReadied self.old.history lun fail result self.new.history }
         ensures same { self.new ≡ record self.old { history = self.new.history } }
     {
@@ -239,11 +239,11 @@ impl<L: Turns> ChannelState<L> {
 
     /// The array of a LUN becomes ready after a cache read. `NotBusy`, with all as it was: the LUN isn't there or its array isn't busy.
     /// `OutOfMemory`, with all as it was: it would become ready, and there is no memory to store that.
-    pub fn array_ready(&mut self, lun: Lun) -> Readied
-        ensures ready { IsArrayReadied self.old.history lun result self.new.history }
+    pub fn array_ready(&mut self, lun: Lun, fail: bool) -> Readied
+        ensures ready { IsArrayReadied self.old.history lun fail result self.new.history }
         ensures same { self.new ≡ record self.old { history = self.new.history } }
     {
-        Readied::of(self.history.array_ready(lun))
+        Readied::of(self.history.array_ready(lun, fail))
     }
 
     /// Unloads the job of a lease's LUN, if it has ended. `NotEnded`, with all as it was: it hasn't. `OutOfMemory`, with all as it was:

@@ -6,7 +6,7 @@ ghost use Rattle.channel_work.specs.Stored.{last_started};
 ghost use Rattle.channel_work.specs.Events.{kept_as, one_more, first_kept, AreMerged};
 
 use crate::stored::{Name, Stored};
-use onfi_cycle::Lun;
+use onfi_cycle::{Failures, Lun};
 use std::alloc::{AllocError, Global};
 use std::marker::Model;
 
@@ -17,10 +17,10 @@ pub(crate) enum Kept {
     Load { lun: Lun, host: u32, number: u64 },
     /// The LUN was stepped so many times in a row, in the turn of this number.
     Steps { lun: Lun, times: u32, turn: u64 },
-    /// The LUN became ready, with failure or without.
-    Ready { lun: Lun, fail: bool },
+    /// The LUN became ready, with failures or without.
+    Ready { lun: Lun, fail: Failures },
     /// The array of the LUN became ready.
-    ArrayReady { lun: Lun },
+    ArrayReady { lun: Lun, fail: bool },
     /// The job of the LUN was taken away.
     Unload { lun: Lun },
 }
@@ -105,7 +105,7 @@ fn keep(event: Stored) -> Kept
             turn,
         },
         Stored::Ready(lun, fail) => Kept::Ready { lun, fail },
-        Stored::ArrayReady(lun) => Kept::ArrayReady { lun },
+        Stored::ArrayReady(lun, fail) => Kept::ArrayReady { lun, fail },
         Stored::Unload(lun) => Kept::Unload { lun },
     }
 }

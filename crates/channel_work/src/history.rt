@@ -30,7 +30,7 @@ use crate::tally::{LunCount, count_luns, find_lun};
 use crate::worker_pass::Turns;
 use job_queue::Taker;
 use nand_geometry::Geometry;
-use onfi_cycle::{Item, Lun, MAX_CHANNEL_LUNS};
+use onfi_cycle::{Failures, Item, Lun, MAX_CHANNEL_LUNS};
 use seq_core::laws::fresh_is_lawful;
 use seq_core::{Core, Job, Stepped};
 use std::alloc::Global;
@@ -78,9 +78,9 @@ impl<L: Turns> Model for History<L> {
 }
 
 impl<L: Turns> History<L> {
-    /// A LUN becomes ready, with failure or without, and is stored so; false, with all as it was, where it isn't there or isn't
+    /// A LUN becomes ready, with failures or without, and is stored so; false, with all as it was, where it isn't there or isn't
     /// busy. None, with all as it was, where it would become ready and there is no memory to store that.
-    pub(crate) fn ready(&mut self, lun: Lun, fail: bool) -> Option<bool>
+    pub(crate) fn ready(&mut self, lun: Lun, fail: Failures) -> Option<bool>
         ensures { IsComing self.old (Ready lun fail) ToReady (BecameReady lun fail) result self.new }
     {
         match self.events.reserve() {
@@ -99,17 +99,17 @@ impl<L: Turns> History<L> {
 
     /// The array of a LUN becomes ready, and is stored so; false, with all as it was, where it isn't there or isn't busy. None, with
     /// all as it was, where it would become ready and there is no memory to store that.
-    pub(crate) fn array_ready(&mut self, lun: Lun) -> Option<bool>
-        ensures { IsComing self.old (ArrayReady lun) ToArrayReady (ArrayBecameReady lun) result self.new }
+    pub(crate) fn array_ready(&mut self, lun: Lun, fail: bool) -> Option<bool>
+        ensures { IsComing self.old (ArrayReady lun fail) ToArrayReady (ArrayBecameReady lun fail) result self.new }
     {
         match self.events.reserve() {
-            Err(_) => refuse_array_ready(&self.core, lun),
+            Err(_) => refuse_array_ready(&self.core, lun, fail),
             Ok(()) => {
                 let from = self.core.trace().len();
-                let came = self.core.array_ready(lun);
+                let came = self.core.array_ready(lun, fail);
                 if came {
                     self.counts = count_luns(self.counts, &self.core, from);
-                    self.events.push_reserved(Stored::ArrayReady(lun));
+                    self.events.push_reserved(Stored::ArrayReady(lun, fail));
                 }
                 Some(came)
             }

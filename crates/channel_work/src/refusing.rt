@@ -8,11 +8,11 @@ ghost use Rattle.channel_work.specs.Finished.{IsRefusedFinish};
 
 use crate::events::EventLog;
 use crate::stored::NamedJob;
-use onfi_cycle::Lun;
+use onfi_cycle::{Failures, Lun};
 use seq_core::Core;
 
 /// A ready: false where no such LUN is, or none that works; otherwise None.
-pub(crate) fn refuse_ready(core: &Core, lun: Lun, fail: bool) -> Option<bool>
+pub(crate) fn refuse_ready(core: &Core, lun: Lun, fail: Failures) -> Option<bool>
     ensures { IsRefused core.now (Ready lun fail) ToReady result }
 {
     if core.admits_ready(lun, fail) {
@@ -23,10 +23,10 @@ pub(crate) fn refuse_ready(core: &Core, lun: Lun, fail: bool) -> Option<bool>
 }
 
 /// An array ready: false where the LUN isn't there or its array isn't busy, else None.
-pub(crate) fn refuse_array_ready(core: &Core, lun: Lun) -> Option<bool>
-    ensures { IsRefused core.now (ArrayReady lun) ToArrayReady result }
+pub(crate) fn refuse_array_ready(core: &Core, lun: Lun, fail: bool) -> Option<bool>
+    ensures { IsRefused core.now (ArrayReady lun fail) ToArrayReady result }
 {
-    if core.admits_array_ready(lun) {
+    if core.admits_array_ready(lun, fail) {
         None
     } else {
         Some(false)

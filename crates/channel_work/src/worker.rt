@@ -12,7 +12,7 @@ use crate::turn::Turn;
 use crate::worker_pass::{Turns, WorkerPass};
 use lun_lease::{Lease, Loaded};
 use nand_geometry::Geometry;
-use onfi_cycle::{Command, Lun};
+use onfi_cycle::{Command, Failures, Lun};
 use std::sync::{Mutex, Wait};
 use std::thread;
 
@@ -44,8 +44,8 @@ pub trait Gate {
     /// Whether this worker may take a turn now.
     fn may_turn(&self, worker: u32) -> bool;
 
-    /// Whether the LUN became ready after so many busy polls since its last ready, and so many readies; if so, whether with failure.
-    fn ready(&self, lun: Lun, busy_polls: u64, works: u64) -> Option<bool>;
+    /// Whether the LUN became ready after so many busy polls since its last ready, and so many readies; if so, with which failures.
+    fn ready(&self, lun: Lun, busy_polls: u64, works: u64) -> Option<Failures>;
 
     /// The same, where it is known with which command the LUN began its work. A gate to which that doesn't matter leaves this as it is.
     fn ready_after(
@@ -54,12 +54,12 @@ pub trait Gate {
         lun: Lun,
         busy_polls: u64,
         works: u64,
-    ) -> Option<bool> {
+    ) -> Option<Failures> {
         self.ready(lun, busy_polls, works)
     }
 
-    /// Whether the array of the LUN became ready after so many readies.
-    fn array_ready(&self, lun: Lun, works: u64) -> bool;
+    /// Whether the array of the LUN became ready after so many readies; if so, whether with failure.
+    fn array_ready(&self, lun: Lun, works: u64) -> Option<bool>;
 
     /// No more jobs come.
     ghost has_closed: { Self → Type 0 } = { λ _. ⊤ };
@@ -179,7 +179,10 @@ fn ask_array_ready<L: Turns, G: Gate, R: Wait>(
 {
     let lun = find_lun(&channel.geometry, number);
     let works = channel.state.lock(rt).count(number).works;
-    !gate.array_ready(lun, works) || channel.state.lock(rt).array_ready(lun) != Readied::OutOfMemory
+    match gate.array_ready(lun, works) {
+        None => true,
+        Some(fail) => channel.state.lock(rt).array_ready(lun, fail) != Readied::OutOfMemory,
+    }
 }
 
 // Goes on with a lease for one turn, if the gate gives one. The pass counts it.

@@ -65,7 +65,7 @@ pub record AreFound (files : Option Store) (check : CheckRequest) (images : List
   pub text : List ℕ
   pub judged : IsJudgedFile files files (uncopied check) g text told assumed
   pub items : List Item
-  pub is_text : IsTraceText check.form text items
+  pub is_text : IsTraceText check.form check.profile text items
   pub stopped : Option BrokenRule
   pub replayed : IsReplayed check.readies (channel_on g (count_of check.targets) (map pages_in opened)) known items whole found stopped dies
 
@@ -118,7 +118,7 @@ pub record IsFaulty (files : Option Store) (request : DataRequest) (fault : Reco
 -- what is found wrong with a trace, and what is printed then
 abbrev pub DataRefuses : Option Store → DataRequest → RecordingFault → (printed : List ℕ) → Type 0
 DataRefuses files request fault printed =
-    (FileIsRefused files request.check.form request.check.input.now fault × (printed ≡ fault_line fault)) ⊎ IsFaulty files request fault printed
+    (FileIsRefused files request.check.form request.check.profile request.check.input.now fault × (printed ≡ fault_line fault)) ⊎ IsFaulty files request fault printed
 
 -- the first of these is at this item
 abbrev pub IsFirst : List Difference → (item : ℕ) → Type 0

@@ -119,4 +119,4 @@ pub record TraceHasFault (files : Option Store) (request : ImageRequest) (fault 
 -- what is found wrong with the trace, and what is printed then
 abbrev pub ImageTells : Option Store → ImageRequest → RecordingFault → (printed : List ℕ) → Type 0
 ImageTells files request fault printed =
-    (FileIsRefused files request.form request.input.now fault × (printed ≡ fault_line fault)) ⊎ TraceHasFault files request fault printed
+    (FileIsRefused files request.form request.profile request.input.now fault × (printed ≡ fault_line fault)) ⊎ TraceHasFault files request fault printed

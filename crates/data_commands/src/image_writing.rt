@@ -158,7 +158,7 @@ fn write_at<'p, F: Files, P: CheckProgress>(
     ensures ok { IfOk result (λ t. IsWrittenAt (F.store files.old) (F.store files.new) request.entry images.now t.geometry
         t.checked.told.items t.checked.assumed.items t.judged.differences.items t.judged.dies.items t.whole.items) }
     ensures err { IfErr result (SaysOf (RefusesAt (F.store files.old) request.entry images.now)
-        (FileIsRefused (F.store files.old) request.entry.form request.entry.input.now)) }
+        (FileIsRefused (F.store files.old) request.entry.form request.entry.profile request.entry.input.now)) }
     ensures stays { OnErr result (F.store files.new ≡ F.store files.old) }
 {
     try_file(files, request.output)?;
@@ -182,7 +182,7 @@ fn write_on<'p, F: Files, P: CheckProgress>(
     ensures ok { IfOk result (λ t. IsWrittenAt (F.store files.old) (F.store files.new) request.entry (images_of request.entry) t.geometry
         t.checked.told.items t.checked.assumed.items t.judged.differences.items t.judged.dies.items t.whole.items) }
     ensures err { IfErr result (SaysOf (ImageRefuses (F.store files.old) request.entry)
-        (FileIsRefused (F.store files.old) request.entry.form request.entry.input.now)) }
+        (FileIsRefused (F.store files.old) request.entry.form request.entry.profile request.entry.input.now)) }
     ensures stays { OnErr result (F.store files.new ≡ F.store files.old) }
 {
     match request.on {

@@ -13,7 +13,7 @@ ghost use Rattle.data_commands.specs.Checked.{uncopied, IsReplayed, AreFound, In
 
 use crate::data_request::DataRequest;
 use crate::opening::open_channel;
-use nand_geometry::Geometry;
+use nand_geometry::{Geometry, Profile};
 use onfi_cycle::Item;
 use seq_files::Files;
 use seq_inputs::{Stop, text_of};
@@ -48,11 +48,12 @@ fn read_items<'p>(
     alloc: Global,
     text: &str,
     form: TraceForm,
+    profile: Profile,
 ) -> Result<Vec<Item>, RecordingStop<'p, Global>>
-    ensures ok { IfOk result (λ items. IsTraceText form text.now items.items) }
+    ensures ok { IfOk result (λ items. IsTraceText form profile text.now items.items) }
     ensures err { IfErr result (λ stop. SaysNothing stop) }
 {
-    match parse_as(alloc, text, form) {
+    match parse_as(alloc, text, form, profile) {
         Ok(items) => Ok(items),
         // A text that was read has no fault.
         Err(TraceRefusal::Fault { .. } | TraceRefusal::OutOfMemory) => {
@@ -155,14 +156,14 @@ pub(crate) fn replay_trace<'p, F: Files, P: CheckProgress>(
     ensures ok { IfOk result (λ t. AreFound (F.store files.old) request.entry.check request.entry.images.now request.entry.are_erased t.geometry
         t.checked.told.items t.checked.assumed.items t.judged.differences.items t.judged.dies.items t.whole.items) }
     ensures err { IfErr result (SaysOf (InputIsRefused (F.store files.old) request.entry.check request.entry.images.now)
-        (FileIsRefused (F.store files.old) request.entry.check.form request.entry.check.input.now)) }
+        (FileIsRefused (F.store files.old) request.entry.check.form request.entry.check.profile request.entry.check.input.now)) }
     ensures stays { F.store files.new ≡ F.store files.old }
 {
     let check = uncopied(request.check);
     let (geometry, dies) = open_channel(alloc, files, request)?;
     let checked = judge_file(alloc, files, progress, check, &geometry)?;
     let text = text_of(check.input, checked.text.as_slice())?;
-    let items = read_items(alloc, text, check.form)?;
+    let items = read_items(alloc, text, check.form, check.profile)?;
     let (judged, whole) = judge_items(alloc, check, &geometry, dies, items)?;
     Ok(ReplayedTrace {
         geometry,

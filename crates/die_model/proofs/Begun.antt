@@ -1,30 +1,33 @@
 -- What a work that begins, and one that ends, makes of a die's parts.
-use Rattle.std.proofs.Common.{◌≡◌, ℕ, ◌<◌, ◌==◌, Bool, true, false, ◌&&◌, ◌||◌, not, cond, eq-eqb, List, [], ◌∷◌, Option, Some, None, length, replicate, refl, sym, ap, subst, ◌∙◌}
+use Rattle.std.proofs.Common.{◌≡◌, ℕ, ◌<◌, ◌==◌, Bool, true, false, ◌&&◌, ◌||◌, not, cond, eq-eqb, List, [], ◌∷◌, Option, Some, None, length, replicate, refl, sym, ap, subst, ◌∙◌, suc, arith}
 use Rattle.std.proofs.lemmas.List.{length-replicate}
 use Rattle.std.specs.Option.{unwrap_or, is_some}
 use Rattle.std.proofs.lemmas.Bool.{and_from, not-true, or_left, or_parts as neither}
+use Rattle.std.proofs.lemmas.Bool.Decides.{nat_tests}
 use Rattle.nand_geometry.specs.declared.parts.Parts.{Parts}
 use Rattle.nand_geometry.specs.Limits.{page_len, planes}
+use Rattle.onfi_cycle.specs.declared.command.Command.{Command}
+use Rattle.onfi_cycle.specs.declared.item.Failures.{Failures}
 use Rattle.onfi_cycle.specs.declared.page_address.PageAddress.{PageAddress}
 use Rattle.onfi_cycle.specs.declared.queued.Queued.{Queued}
 use Rattle.onfi_cycle.specs.declared.queued.Queued.TheVariants.{Erase, Program, Read as QueuedRead}
-use Rattle.onfi_cycle.specs.declared.effect.Effect.TheVariants.{BecameReady}
+use Rattle.onfi_cycle.specs.declared.effect.Effect.TheVariants.{BecameReady, ArrayBecameReady}
 use Rattle.onfi_cycle.specs.declared.register.Register.{Register}
-use Rattle.onfi_cycle.specs.declared.register.Register.TheVariants.{Empty, Page}
-use Rattle.onfi_cycle.specs.Lun.{busy_after, queue_after, held_after, register_after, register_of_plane, page_in_plane}
-use Rattle.onfi_cycle.specs.Content.{ArrayWork, same_page, queued_work_after, pending_work_after, content_after, failed_after, is_some_work}
-use Rattle.onfi_cycle.specs.Rules.{some_queued_clashes, some_read_clashes}
+use Rattle.onfi_cycle.specs.declared.register.Register.TheVariants.{Page}
+use Rattle.onfi_cycle.specs.Lun.{busy_after, closer_after, is_cache_program, is_plane_program, queue_after, held_after, register_after}
+use Rattle.onfi_cycle.specs.Content.{ArrayWork, same_page, queued_work_after, pending_work_after, content_after, failed_after, is_some_work, array_work_after, before_failed_after, left_unless}
+use Rattle.onfi_cycle.specs.Rules.{has_some, some_queued_clashes, some_read_clashes}
 use Rattle.die_model.specs.declared.work.Work.{Work}
 use Rattle.die_model.specs.declared.work.Work.TheVariants as w
 use Rattle.die_model.specs.Pages.{kept, page_in, is_given}
 use Rattle.onfi_cycle.specs.Bounds.{is_row}
 use Rattle.die_model.specs.declared.activity.Activity.{Activity}
-use Rattle.die_model.specs.Die.{Die, die_with, bytes_taken, plane_bytes, works_of, effect_of, is_row_of, row_of_work, goes_with, is_reset, queue_with, closes, page_to_keep, AreKept, are_erases, are_programs, has_work, HasRows, IsDie, ShowsPage}
+use Rattle.die_model.specs.Die.{Die, die_with, bytes_taken, plane_bytes, works_of, effect_of, is_row_of, row_of_work, goes_with, is_reset, queue_with, closes, page_to_keep, AreKept, are_erases, are_programs, are_written, keeps_array, has_work, HasRows, HasArray, ClosedBy, IsDie, ShowsPage}
 use Rattle.die_model.proofs.Kept.{Entries, same_parts}
 
 -- the die with an activity
-abbrev pub die_of : Parts → Entries → List (List ℕ) → Activity → Die
-die_of g pages registers a = die_with g pages registers a.register a.held.items a.array_page a.busy a.caching a.copying a.array_busy a.queue.items a.closed a.failed
+abbrev pub die_of : Parts → Entries → (registers array_registers : List (List ℕ)) → Activity → Die
+die_of g pages registers array_registers a = die_with g pages registers a.register a.held.items a.array_page a.busy a.closer a.array_busy a.queue.items a.closed (works_of g array_registers a.in_array.items) a.failed a.failed_before
 
 pub not_closed : (reset closed busy : Bool) → (closed ≡ true → busy ≡ true) → (reset || not busy) ≡ true → reset ≡ false → closed ≡ false
 not_closed reset false busy h k r = refl
@@ -37,6 +40,7 @@ not_closed false true false h k r = let x : false ≡ true = h refl in cc
 pub queue_begun : (work : Work) (closed : Bool) (queue : List Queued) → (is_reset work ≡ false → closed ≡ false) → cond (closes work) [] (queue_with work queue) ≡ queue_after (effect_of work) (cond closed [] queue)
 queue_begun w.Reset closed queue h = refl
 queue_begun (w.Program at) closed queue h = refl
+queue_begun (w.CacheProgram at) closed queue h = refl
 queue_begun (w.Erase at) closed queue h = refl
 queue_begun (w.Queue (Erase at)) closed queue h = rw (h refl) refl
 queue_begun (w.Queue (Program at)) closed queue h = rw (h refl) refl
@@ -54,12 +58,14 @@ queue_begun w.CacheEnd closed queue h = rw (h refl) refl
 
 abbrev pub taken : Parts → List (List ℕ) → Work → List ℕ
 taken g registers (w.Program at) = plane_bytes g registers at
+taken g registers (w.CacheProgram at) = plane_bytes g registers at
 taken g registers (w.Queue (Program at)) = plane_bytes g registers at
 taken g registers _ = []
 
 pub queued_begun : (g : Parts) (registers : List (List ℕ)) (work : Work) (closed : Bool) (queue : List Queued) → (is_reset work ≡ false → closed ≡ false) → works_of g registers (cond (closes work) [] (queue_with work queue)) ≡ queued_work_after (effect_of work) (taken g registers work) (works_of g registers (cond closed [] queue))
 queued_begun g registers w.Reset closed queue h = refl
 queued_begun g registers (w.Program at) closed queue h = refl
+queued_begun g registers (w.CacheProgram at) closed queue h = refl
 queued_begun g registers (w.Erase at) closed queue h = refl
 queued_begun g registers (w.Queue (Erase at)) closed queue h = rw (h refl) refl
 queued_begun g registers (w.Queue (Program at)) closed queue h = rw (h refl) refl
@@ -78,6 +84,7 @@ queued_begun g registers w.CacheEnd closed queue h = rw (h refl) refl
 pub pending_begun : (g : Parts) (registers : List (List ℕ)) (work : Work) (closed : Bool) (queue : List Queued) → (is_reset work ≡ false → closed ≡ false) → works_of g registers (cond (closes work) (queue_with work queue) []) ≡ pending_work_after (effect_of work) (taken g registers work) (works_of g registers (cond closed [] queue)) (works_of g registers (cond closed queue []))
 pending_begun g registers w.Reset closed queue h = refl
 pending_begun g registers (w.Program at) closed queue h = rw (h refl) refl
+pending_begun g registers (w.CacheProgram at) closed queue h = rw (h refl) refl
 pending_begun g registers (w.Erase at) closed queue h = rw (h refl) refl
 pending_begun g registers (w.Queue (Erase at)) closed queue h = refl
 pending_begun g registers (w.Queue (Program at)) closed queue h = refl
@@ -95,41 +102,45 @@ pending_begun g registers w.CacheEnd closed queue h = refl
 
 -- 2. pages and failure stay
 
-pub content_begun : (g : Parts) (work : Work) (q : List ArrayWork) (p : PageAddress) (old : List ℕ) → content_after g (effect_of work) q p old ≡ old
-content_begun g (w.Queue (Erase at)) q p old = refl
-content_begun g (w.Queue (Program at)) q p old = refl
-content_begun g (w.Queue (QueuedRead at)) q p old = refl
-content_begun g w.Reset q p old = refl
-content_begun g (w.Program at) q p old = refl
-content_begun g (w.Erase at) q p old = refl
-content_begun g (w.Read at) q p old = refl
-content_begun g (w.Copyback at count) q p old = refl
-content_begun g w.Identifier q p old = refl
-content_begun g (w.Identity jedec) q p old = refl
-content_begun g w.Parameters q p old = refl
-content_begun g w.UniqueId q p old = refl
-content_begun g (w.Features address) q p old = refl
-content_begun g (w.SetFeatures address) q p old = refl
-content_begun g (w.Cache to) q p old = refl
-content_begun g w.CacheEnd q p old = refl
+pub content_begun : (g : Parts) (work : Work) (last : Option Command) (q r : List ArrayWork) (p : PageAddress) (old : List ℕ) → content_after g (effect_of work) last q r p old ≡ old
+content_begun g (w.Queue (Erase at)) last q r p old = refl
+content_begun g (w.Queue (Program at)) last q r p old = refl
+content_begun g (w.Queue (QueuedRead at)) last q r p old = refl
+content_begun g w.Reset last q r p old = refl
+content_begun g (w.Program at) last q r p old = refl
+content_begun g (w.CacheProgram at) last q r p old = refl
+content_begun g (w.Erase at) last q r p old = refl
+content_begun g (w.Read at) last q r p old = refl
+content_begun g (w.Copyback at count) last q r p old = refl
+content_begun g w.Identifier last q r p old = refl
+content_begun g (w.Identity jedec) last q r p old = refl
+content_begun g w.Parameters last q r p old = refl
+content_begun g w.UniqueId last q r p old = refl
+content_begun g (w.Features address) last q r p old = refl
+content_begun g (w.SetFeatures address) last q r p old = refl
+content_begun g (w.Cache to) last q r p old = refl
+content_begun g w.CacheEnd last q r p old = refl
 
-pub failed_begun : (work : Work) (q b : Bool) → failed_after (effect_of work) q b ≡ b
-failed_begun (w.Queue (Erase at)) q b = refl
-failed_begun (w.Queue (Program at)) q b = refl
-failed_begun (w.Queue (QueuedRead at)) q b = refl
-failed_begun w.Reset q b = refl
-failed_begun (w.Program at) q b = refl
-failed_begun (w.Erase at) q b = refl
-failed_begun (w.Read at) q b = refl
-failed_begun (w.Copyback at count) q b = refl
-failed_begun w.Identifier q b = refl
-failed_begun (w.Identity jedec) q b = refl
-failed_begun w.Parameters q b = refl
-failed_begun w.UniqueId q b = refl
-failed_begun (w.Features address) q b = refl
-failed_begun (w.SetFeatures address) q b = refl
-failed_begun (w.Cache to) q b = refl
-failed_begun w.CacheEnd q b = refl
+-- what the array goes on with
+pub array_begun : (g : Parts) (registers : List (List ℕ)) (work : Work) (last : Option Command) (pending : List ArrayWork) (rows : List Queued)
+    → works_of g registers (cond (keeps_array work) rows []) ≡ array_work_after (effect_of work) last pending (works_of g registers rows)
+array_begun g registers (w.Queue (Erase at)) last pending rows = refl
+array_begun g registers (w.Queue (Program at)) last pending rows = refl
+array_begun g registers (w.Queue (QueuedRead at)) last pending rows = refl
+array_begun g registers w.Reset last pending rows = refl
+array_begun g registers (w.Program at) last pending rows = refl
+array_begun g registers (w.CacheProgram at) last pending rows = refl
+array_begun g registers (w.Erase at) last pending rows = refl
+array_begun g registers (w.Read at) last pending rows = refl
+array_begun g registers (w.Copyback at count) last pending rows = refl
+array_begun g registers w.Identifier last pending rows = refl
+array_begun g registers (w.Identity jedec) last pending rows = refl
+array_begun g registers w.Parameters last pending rows = refl
+array_begun g registers w.UniqueId last pending rows = refl
+array_begun g registers (w.Features address) last pending rows = refl
+array_begun g registers (w.SetFeatures address) last pending rows = refl
+array_begun g registers (w.Cache to) last pending rows = refl
+array_begun g registers w.CacheEnd last pending rows = refl
 
 -- a page is kept that is read as before
 abbrev pub Keeps : ℕ → Option PageAddress → Entries → Entries → Type 0
@@ -187,6 +198,7 @@ placed len at old new k = ap is_some (k at) ∙ ap (λ (b : Bool). is_some (cond
 
 pub kept_begun : (len : ℕ) (work : Work) (old new : Entries) (queue : List Queued) → Keeps len (page_to_keep work) old new → AreKept old queue → AreKept new (queue_with work queue)
 kept_begun len (w.Program at) old new queue k h = (placed len at old new k, still len (page_to_keep (w.Program at)) old new k queue h)
+kept_begun len (w.CacheProgram at) old new queue k h = (placed len at old new k, still len (page_to_keep (w.CacheProgram at)) old new k queue h)
 kept_begun len (w.Erase at) old new queue k h = still len (page_to_keep (w.Erase at)) old new k queue h
 kept_begun len (w.Queue (Erase at)) old new queue k h = still len (page_to_keep (w.Queue (Erase at))) old new k queue h
 kept_begun len (w.Queue (QueuedRead at)) old new queue k h = still len (page_to_keep (w.Queue (QueuedRead at))) old new k queue h
@@ -223,6 +235,7 @@ all_reads g at (QueuedRead q ∷ queue) h = all_reads g at queue (neither _ _ h)
 
 pub alike_begun : (g : Parts) (work : Work) (queue : List Queued) → goes_with g work queue ≡ true → (are_erases queue || are_programs queue) ≡ true → (are_erases (queue_with work queue) || are_programs (queue_with work queue)) ≡ true
 alike_begun g (w.Program at) queue t h = all_programs g at queue (not-true _ t)
+alike_begun g (w.CacheProgram at) queue t h = all_programs g at queue (not-true _ t)
 alike_begun g (w.Erase at) queue t h = or_left _ _ (all_erases g at queue (not-true _ t))
 alike_begun g (w.Queue (Erase at)) queue t h = or_left _ _ (all_erases g at queue (not-true _ t))
 alike_begun g (w.Queue (Program at)) queue t h = all_programs g at queue (not-true _ t)
@@ -239,18 +252,46 @@ alike_begun g (w.SetFeatures address) queue t h = h
 alike_begun g (w.Cache to) queue t h = h
 alike_begun g w.CacheEnd queue t h = h
 
+all_written : (g : Parts) (at : PageAddress) (queue : List Queued) → some_queued_clashes g false at queue ≡ false → are_written queue ≡ true
+all_written g at [] h = refl
+all_written g at (Erase q ∷ queue) h = cc
+all_written g at (QueuedRead q ∷ queue) h = cc
+all_written g at (Program q ∷ queue) h = all_written g at queue (neither _ _ h).1
+
+closed_begun : (g : Parts) (work : Work) (last : Option Command) (queue : List Queued) → goes_with g work queue ≡ true → ClosedBy (closer_after (effect_of work) last) (queue_with work queue) (closes work)
+closed_begun g (w.Program at) last queue t = record { queued = λ h. cc; cached = λ h k. cc }
+closed_begun g (w.CacheProgram at) last queue t = record { queued = λ h. cc; cached = λ h k. all_written g at queue (not-true _ t) }
+closed_begun g (w.Erase at) last queue t = record { queued = λ h. cc; cached = λ h k. cc }
+closed_begun g (w.Queue (Erase at)) last queue t = record { queued = λ h. refl; cached = λ h k. cc }
+closed_begun g (w.Queue (Program at)) last queue t = record { queued = λ h. refl; cached = λ h k. cc }
+closed_begun g (w.Queue (QueuedRead at)) last queue t = record { queued = λ h. refl; cached = λ h k. cc }
+closed_begun g w.Reset last queue t = record { queued = λ h. refl; cached = λ h k. cc }
+closed_begun g (w.Read at) last queue t = record { queued = λ h. refl; cached = λ h k. cc }
+closed_begun g (w.Copyback at count) last queue t = record { queued = λ h. refl; cached = λ h k. cc }
+closed_begun g w.Identifier last queue t = record { queued = λ h. refl; cached = λ h k. cc }
+closed_begun g (w.Identity jedec) last queue t = record { queued = λ h. refl; cached = λ h k. cc }
+closed_begun g w.Parameters last queue t = record { queued = λ h. refl; cached = λ h k. cc }
+closed_begun g w.UniqueId last queue t = record { queued = λ h. refl; cached = λ h k. cc }
+closed_begun g (w.Features address) last queue t = record { queued = λ h. refl; cached = λ h k. cc }
+closed_begun g (w.SetFeatures address) last queue t = record { queued = λ h. refl; cached = λ h k. cc }
+closed_begun g (w.Cache to) last queue t = record { queued = λ h. refl; cached = λ h k. cc }
+closed_begun g w.CacheEnd last queue t = record { queued = λ h. refl; cached = λ h k. cc }
+
 closes_busy : (work : Work) (busy : Bool) → closes work ≡ true → busy_after (effect_of work) busy ≡ true
 closes_busy (w.Program at) busy h = refl
+closes_busy (w.CacheProgram at) busy h = refl
 closes_busy (w.Erase at) busy h = refl
 closes_busy _ busy h = cc
 
 closes_some : (work : Work) (queue : List Queued) → closes work ≡ true → has_work (queue_with work queue) ≡ true
 closes_some (w.Program at) queue h = refl
+closes_some (w.CacheProgram at) queue h = refl
 closes_some (w.Erase at) queue h = refl
 closes_some _ queue h = cc
 
 row_to_keep : (g : Parts) (work : Work) → is_row_of g (row_of_work work) ≡ true → is_row_of g (page_to_keep work) ≡ true
 row_to_keep g (w.Program at) h = h
+row_to_keep g (w.CacheProgram at) h = h
 row_to_keep g (w.Queue (Program at)) h = h
 row_to_keep g (w.Queue (Erase at)) h = refl
 row_to_keep g (w.Queue (QueuedRead at)) h = refl
@@ -280,6 +321,7 @@ goes_on g (w.SetFeatures address) closed queue h t = refl
 goes_on g (w.Cache to) closed queue h t = refl
 goes_on g w.CacheEnd closed queue h t = refl
 goes_on g (w.Program at) closed queue h t = sym (ap (λ (b : Bool). goes_with g (w.Program at) (cond b [] queue)) (h refl)) ∙ t
+goes_on g (w.CacheProgram at) closed queue h t = sym (ap (λ (b : Bool). goes_with g (w.CacheProgram at) (cond b [] queue)) (h refl)) ∙ t
 goes_on g (w.Erase at) closed queue h t = sym (ap (λ (b : Bool). goes_with g (w.Erase at) (cond b [] queue)) (h refl)) ∙ t
 goes_on g (w.Queue (Erase at)) closed queue h t = sym (ap (λ (b : Bool). goes_with g (w.Queue (Erase at)) (cond b [] queue)) (h refl)) ∙ t
 goes_on g (w.Queue (Program at)) closed queue h t = sym (ap (λ (b : Bool). goes_with g (w.Queue (Program at)) (cond b [] queue)) (h refl)) ∙ t
@@ -297,14 +339,46 @@ die_begun g work parameters old new registers queue after closed closing busy wo
       some = λ h. ap has_work ea ∙ closes_some work queue (sym ec ∙ h);
     }
 
+-- what the array goes on with stays in place
+pub array_goes_on : (g : Parts) (work : Work) (old new : Entries) (registers : List (List ℕ)) (rows after : List Queued) → HasArray g old registers rows → is_row_of g (row_of_work work) ≡ true → Keeps (page_len g) (page_to_keep work) old new → after ≡ cond (keeps_array work) rows [] → HasArray g new registers after
+array_goes_on g work old new registers rows after h row k is =
+    record {
+      rows = kept_rows g (page_to_keep work) registers old new (row_to_keep g work row) k h.rows;
+      there = subst (AreKept new) (sym is) (there (keeps_array work));
+      programs = ap are_written is ∙ programs (keeps_array work);
+    }
+  where
+    there : (b : Bool) → AreKept new (cond b rows [])
+    there true = still (page_len g) (page_to_keep work) old new k rows h.there
+    there false = tt
+
+    programs : (b : Bool) → are_written (cond b rows []) ≡ true
+    programs true = h.programs
+    programs false = refl
+
+-- behind which closer the rows of a work are closed
+pub closed_goes_on : (g : Parts) (work : Work) (last now : Option Command) (closed closing : Bool) (queue after : List Queued) → (is_reset work ≡ false → closed ≡ false) → goes_with g work (cond closed [] queue) ≡ true → now ≡ closer_after (effect_of work) last → after ≡ queue_with work queue → closing ≡ closes work → ClosedBy now after closing
+closed_goes_on g work last now closed closing queue after free together en ea ec =
+    subst (λ (c : Option Command). ClosedBy c after closing) (sym en) (subst (λ (q : List Queued). ClosedBy (closer_after (effect_of work) last) q closing) (sym ea)
+    (subst (ClosedBy (closer_after (effect_of work) last) (queue_with work queue)) (sym ec) (closed_begun g work last queue (goes_on g work closed queue free together))))
+
 -- 4. works that end
 
-pub ended_pages : (fail closed : Bool) (g parts : Parts) (planes ps : List (List ℕ)) (queue : List Queued) (old new : Entries) → parts ≡ g → ps ≡ planes
-    → ((p : PageAddress) → page_in (page_len parts) new p ≡ content_after parts (BecameReady fail) (works_of parts ps (cond closed queue [])) p (page_in (page_len parts) old p))
-    → (p : PageAddress) → page_in (page_len g) new p ≡ content_after g (BecameReady fail) (works_of g planes (cond closed queue [])) p (page_in (page_len g) old p)
-ended_pages fail closed g parts planes ps queue old new eg ep h p =
-    let at_g = subst (λ (k : Parts). page_in (page_len k) new p ≡ content_after k (BecameReady fail) (works_of k ps (cond closed queue [])) p (page_in (page_len k) old p)) eg (h p) in
-    subst (λ (q : List (List ℕ)). page_in (page_len g) new p ≡ content_after g (BecameReady fail) (works_of g q (cond closed queue [])) p (page_in (page_len g) old p)) ep at_g
+pub ended_pages : (fail : Failures) (last : Option Command) (closed : Bool) (g parts : Parts) (planes ps array_planes others : List (List ℕ)) (queue rows : List Queued) (old new : Entries) → parts ≡ g → ps ≡ planes → others ≡ array_planes
+    → ((p : PageAddress) → page_in (page_len parts) new p ≡ content_after parts (BecameReady fail) last (works_of parts ps (cond closed queue [])) (works_of parts others rows) p (page_in (page_len parts) old p))
+    → (p : PageAddress) → page_in (page_len g) new p ≡ content_after g (BecameReady fail) last (works_of g planes (cond closed queue [])) (works_of g array_planes rows) p (page_in (page_len g) old p)
+ended_pages fail last closed g parts planes ps array_planes others queue rows old new eg ep ea h p =
+    let at_g = subst (λ (k : Parts). page_in (page_len k) new p ≡ content_after k (BecameReady fail) last (works_of k ps (cond closed queue [])) (works_of k others rows) p (page_in (page_len k) old p)) eg (h p) in
+    let at_planes = subst (λ (q : List (List ℕ)). page_in (page_len g) new p ≡ content_after g (BecameReady fail) last (works_of g q (cond closed queue [])) (works_of g others rows) p (page_in (page_len g) old p)) ep at_g in
+    subst (λ (q : List (List ℕ)). page_in (page_len g) new p ≡ content_after g (BecameReady fail) last (works_of g planes (cond closed queue [])) (works_of g q rows) p (page_in (page_len g) old p)) ea at_planes
+
+-- those of the array alone
+pub array_pages : (fail : Bool) (last : Option Command) (g parts : Parts) (array_planes others : List (List ℕ)) (pending : List ArrayWork) (rows : List Queued) (old new : Entries) → parts ≡ g → others ≡ array_planes
+    → ((p : PageAddress) → page_in (page_len parts) new p ≡ left_unless fail (page_len parts) (works_of parts others rows) p (page_in (page_len parts) old p))
+    → (p : PageAddress) → page_in (page_len g) new p ≡ content_after g (ArrayBecameReady fail) last pending (works_of g array_planes rows) p (page_in (page_len g) old p)
+array_pages fail last g parts array_planes others pending rows old new eg ea h p =
+    let at_g = subst (λ (k : Parts). page_in (page_len k) new p ≡ left_unless fail (page_len k) (works_of k others rows) p (page_in (page_len k) old p)) eg (h p) in
+    subst (λ (q : List (List ℕ)). page_in (page_len g) new p ≡ left_unless fail (page_len g) (works_of g q rows) p (page_in (page_len g) old p)) ea at_g
 
 works_some : (g : Parts) (planes : List (List ℕ)) (queue : List Queued) → has_work queue ≡ true → is_some_work (works_of g planes queue) ≡ true
 works_some g planes [] h = h
@@ -312,35 +386,144 @@ works_some g planes (Erase q ∷ queue) h = refl
 works_some g planes (Program q ∷ queue) h = refl
 works_some g planes (QueuedRead q ∷ queue) h = works_some g planes queue h
 
-pub ended_failed : (g : Parts) (planes : List (List ℕ)) (fail closed : Bool) (queue : List Queued) → (closed ≡ true → has_work queue ≡ true) → (closed && fail) ≡ (fail && is_some_work (works_of g planes (cond closed queue [])))
-ended_failed g planes false true queue h = refl
-ended_failed g planes true true queue h = sym (works_some g planes queue (h refl))
-ended_failed g planes false false queue h = refl
-ended_failed g planes true false queue h = refl
+pub ended_failed : (g : Parts) (planes : List (List ℕ)) (fail : Failures) (last : Option Command) (before closed : Bool) (queue : List Queued) → (closed ≡ true → has_work queue ≡ true)
+    → cond (is_plane_program last) before (closed && (fail.last && not (is_cache_program last))) ≡ failed_after (BecameReady fail) last (is_some_work (works_of g planes (cond closed queue []))) before
+ended_failed g planes fail last before true queue h = ap (cond (is_plane_program last) before) (with_work (is_some_work (works_of g planes queue)) fail.last (not (is_cache_program last)) (works_some g planes queue (h refl)))
+  where
+    with_work : (some told other : Bool) → some ≡ true → (told && other) ≡ (told && (some && other))
+    with_work true told other e = refl
+    with_work false told other e = cc
+ended_failed g planes fail last before false queue h = ap (cond (is_plane_program last) before) (without fail.last)
+  where
+    without : (told : Bool) → false ≡ (told && (false && not (is_cache_program last)))
+    without true = refl
+    without false = refl
 
-pub die_ended : (g parts : Parts) (parameters : List ℕ) (old new : Entries) (registers ps : List (List ℕ)) (queue after : List Queued) (closed closing busy working : Bool) → IsDie g parameters old registers queue closed busy → parts ≡ g → ps ≡ registers → HasRows parts new ps → (closed ≡ false → new ≡ old) → after ≡ cond closed [] queue → closing ≡ false → IsDie g parameters new registers after closing working
-die_ended g parts parameters old new registers ps queue after closed closing busy working d eg ep rows same is over =
+-- a list of rows that has some isn't empty
+pub some_is_full : (rows : List Queued) → not (length rows == 0) ≡ has_some rows
+some_is_full [] = refl
+some_is_full (q ∷ rows) = ap not (isnt_zero (length rows))
+  where
+    isnt_zero : (n : ℕ) → (suc n == 0) ≡ false
+    isnt_zero n = grind (arith, nat_tests)
+
+pub array_some : (g : Parts) (planes : List (List ℕ)) (rows : List Queued) → are_written rows ≡ true → has_some rows ≡ is_some_work (works_of g planes rows)
+array_some g planes [] h = refl
+array_some g planes (Erase q ∷ rows) h = cc
+array_some g planes (Program q ∷ rows) h = refl
+array_some g planes (QueuedRead q ∷ rows) h = cc
+
+pub ended_before : (g : Parts) (array_planes : List (List ℕ)) (fail : Failures) (last : Option Command) (failed before : Bool) (rows : List Queued) → are_written rows ≡ true
+    → cond (has_some rows && not (is_plane_program last)) fail.before before ≡ before_failed_after (BecameReady fail) last (is_some_work (works_of g array_planes rows)) failed before
+ended_before g array_planes fail last failed before rows h = ap (λ (b : Bool). cond (b && not (is_plane_program last)) fail.before before) (array_some g array_planes rows h)
+
+-- the rows that the array goes on with behind a ready
+pub passed_on : (g : Parts) (planes array_planes : List (List ℕ)) (fail : Failures) (last : Option Command) (pending rows after : List Queued) (cache : Bool) → is_cache_program last ≡ cache → after ≡ cond (is_cache_program last) pending (cond (is_plane_program last) rows [])
+    → works_of g (cond cache planes array_planes) after ≡ array_work_after (BecameReady fail) last (works_of g planes pending) (works_of g array_planes rows)
+passed_on g planes array_planes fail last pending rows after true e is =
+    ap (works_of g planes) is ∙ of (is_cache_program last) e
+  where
+    of : (b : Bool) → b ≡ true → works_of g planes (cond b pending (cond (is_plane_program last) rows [])) ≡ cond b (works_of g planes pending) (cond (is_plane_program last) (works_of g array_planes rows) [])
+    of true e = refl
+    of false e = cc
+passed_on g planes array_planes fail last pending rows after false e is =
+    ap (works_of g array_planes) is ∙ of (is_cache_program last) (is_plane_program last) e
+  where
+    of : (b c : Bool) → b ≡ false → works_of g array_planes (cond b pending (cond c rows [])) ≡ cond b (works_of g planes pending) (cond c (works_of g array_planes rows) [])
+    of true c e = cc
+    of false true e = refl
+    of false false e = refl
+
+pub die_ended : (g parts : Parts) (parameters : List ℕ) (old new : Entries) (registers ps : List (List ℕ)) (queue after : List Queued) (closed closing busy working : Bool) → IsDie g parameters old registers queue closed busy → parts ≡ g → ps ≡ registers → HasRows parts new ps → AreKept new (cond closed [] queue) → after ≡ cond closed [] queue → closing ≡ false → IsDie g parameters new registers after closing working
+die_ended g parts parameters old new registers ps queue after closed closing busy working d eg ep rows there is over =
     record {
       limits = d.limits;
       copies = d.copies;
       rows = subst (λ (r : List (List ℕ)). HasRows g new r) ep (subst (λ (k : Parts). HasRows k new ps) eg rows);
-      there = subst (AreKept new) (sym is) (there closed same);
+      there = subst (AreKept new) (sym is) there;
       alike = ap (λ (q : List Queued). are_erases q || are_programs q) is ∙ alike closed;
       works = λ h. cc;
       some = λ h. cc;
     }
   where
-    there : (b : Bool) → (b ≡ false → new ≡ old) → AreKept new (cond b [] queue)
-    there true k = tt
-    there false k = subst (λ (e : Entries). AreKept e queue) (sym (k refl)) d.there
-
     alike : (b : Bool) → (are_erases (cond b [] queue) || are_programs (cond b [] queue)) ≡ true
     alike true = refl
     alike false = d.alike
 
+-- the rows of pages, beside other registers
+rows_beside : (g : Parts) (old new : Entries) (registers others : List (List ℕ)) → HasRows g new registers → HasRows g old others → HasRows g new others
+rows_beside g old new registers others a b = record { inside = a.inside; lengths = a.lengths; count = b.count; widths = b.widths }
+
+pub array_ended : (g : Parts) (old new : Entries) (registers array_registers : List (List ℕ)) (last : Option Command) (queue rows after : List Queued) (closed cache : Bool) → is_cache_program last ≡ cache → HasRows g new registers → HasArray g old array_registers rows → ClosedBy last queue closed
+    → (is_cache_program last ≡ true → AreKept new (cond closed queue [])) → (is_plane_program last ≡ true → AreKept new rows) → after ≡ cond (is_cache_program last) (cond closed queue []) (cond (is_plane_program last) rows [])
+    → HasArray g new (cond cache registers array_registers) after
+array_ended g old new registers array_registers last queue rows after closed cache e all h k cached queued is =
+    record {
+      rows = beside cache;
+      there = subst (AreKept new) (sym is) (there (is_cache_program last) refl (is_plane_program last) refl);
+      programs = ap are_written is ∙ programs (is_cache_program last) refl closed refl (is_plane_program last);
+    }
+  where
+    beside : (b : Bool) → HasRows g new (cond b registers array_registers)
+    beside true = all
+    beside false = rows_beside g old new registers array_registers all h.rows
+
+    there : (b : Bool) → is_cache_program last ≡ b → (c : Bool) → is_plane_program last ≡ c → AreKept new (cond b (cond closed queue []) (cond c rows []))
+    there true e c f = cached e
+    there false e true f = queued f
+    there false e false f = tt
+
+    programs : (b : Bool) → is_cache_program last ≡ b → (d : Bool) → closed ≡ d → (c : Bool) → are_written (cond b (cond d queue []) (cond c rows [])) ≡ true
+    programs true e true f c = k.cached e f
+    programs true e false f c = refl
+    programs false e d f true = h.programs
+    programs false e d f false = refl
+
+-- behind a ready no row is closed
+pub open_ended : (last : Option Command) (queue : List Queued) (closed : Bool) → closed ≡ false → ClosedBy last queue closed
+open_ended last queue closed e = record { queued = λ h. e; cached = λ h k. cc }
+
 pub fewer : (closed : Bool) (queue : List Queued) → closed ≡ false → length (cond closed [] queue) < 16 → length queue < 16
 fewer true queue h l = cc
 fewer false queue h l = l
+
+pub or_right_true : (a b : Bool) → b ≡ true → (a || b) ≡ true
+or_right_true true b h = refl
+or_right_true false b h = h
+
+-- the programs of the array are some that go together
+pub written_programs : (rows : List Queued) → are_written rows ≡ true → are_programs rows ≡ true
+written_programs [] h = refl
+written_programs (Erase q ∷ rows) h = cc
+written_programs (Program q ∷ rows) h = written_programs rows h
+written_programs (QueuedRead q ∷ rows) h = cc
+
+pub written_alike : (rows : List Queued) → are_written rows ≡ true → (are_erases rows || are_programs rows) ≡ true
+written_alike [] h = refl
+written_alike (Erase q ∷ rows) h = cc
+written_alike (Program q ∷ rows) h = written_programs rows h
+written_alike (QueuedRead q ∷ rows) h = cc
+
+-- a ready of the array leaves what waits, and nothing in the array
+pub die_rested : (g parts : Parts) (parameters : List ℕ) (old new : Entries) (registers array_registers others : List (List ℕ)) (queue : List Queued) (closed busy : Bool) → IsDie g parameters old registers queue closed busy → parts ≡ g → others ≡ array_registers → HasRows parts new others → AreKept new queue → IsDie g parameters new registers queue closed busy
+die_rested g parts parameters old new registers array_registers others queue closed busy d eg ep rows there =
+    record {
+      limits = d.limits;
+      copies = d.copies;
+      rows = rows_beside g old new array_registers registers (subst (λ (r : List (List ℕ)). HasRows g new r) ep (subst (λ (k : Parts). HasRows k new others) eg rows)) d.rows;
+      there = there;
+      alike = d.alike;
+      works = d.works;
+      some = d.some;
+    }
+
+pub array_rested : (g parts : Parts) (new : Entries) (array_registers others : List (List ℕ)) (after : List Queued) → parts ≡ g → others ≡ array_registers → HasRows parts new others → after ≡ [] → HasArray g new array_registers after
+array_rested g parts new array_registers others after eg ep rows is =
+    record {
+      rows = subst (λ (r : List (List ℕ)). HasRows g new r) ep (subst (λ (k : Parts). HasRows k new others) eg rows);
+      there = subst (AreKept new) (sym is) tt;
+      programs = ap are_written is;
+    }
 
 -- the same under the names of the code
 pub kept_so : (len n : ℕ) (at given : Option PageAddress) (old new : Entries) → n ≡ len → given ≡ at → ((p : PageAddress) → kept new p ≡ cond (is_given p given) (Some (page_in n old p)) (kept old p)) → Keeps len at old new
@@ -356,6 +539,7 @@ ends {c = c} {m = m} e f = ap (λ (x : Bool). cond x m []) e ∙ ap (λ (x : Lis
 pub taken_is : (d : Die) (work : Work) → taken d.geometry d.planes work ≡ bytes_taken d (effect_of work)
 taken_is d w.Reset = refl
 taken_is d (w.Program at) = refl
+taken_is d (w.CacheProgram at) = refl
 taken_is d (w.Erase at) = refl
 taken_is d (w.Queue (Erase at)) = refl
 taken_is d (w.Queue (Program at)) = refl
@@ -376,16 +560,6 @@ taken_is d w.CacheEnd = refl
 pub kept_lengths : (g : Parts) (work : Work) (old new : Entries) (registers : List (List ℕ)) (len : ℕ) → HasRows g old registers → is_row_of g (row_of_work work) ≡ true → Keeps (page_len g) (page_to_keep work) old new → len ≡ page_len g → (p : PageAddress) (bytes : List ℕ) → kept new p ≡ Some bytes → length bytes ≡ len
 kept_lengths g work old new registers len rows row k same p bytes is = (kept_rows g (page_to_keep work) registers old new (row_to_keep g work row) k rows).lengths p bytes is ∙ sym same
 
-closes_empty : (work : Work) (p : PageAddress) (q : List Queued) (held : List PageAddress) (r : Register) → closes work ≡ true → register_after (effect_of work) p q held r ≡ Empty
-closes_empty (w.Program at) p q held r h = refl
-closes_empty (w.Erase at) p q held r h = refl
-closes_empty work p q held r h = cc
-
-closes_frees : (work : Work) (c : Bool) (p : PageAddress) (q : List Queued) (held : List PageAddress) → closes work ≡ true → held_after (effect_of work) c p q held ≡ []
-closes_frees (w.Program at) c p q held h = refl
-closes_frees (w.Erase at) c p q held h = refl
-closes_frees work c p q held h = cc
-
 -- the rows that wait are queued where the work is no reset, and a reset asks for none
 pub register_begun : (work : Work) (p : PageAddress) (closed : Bool) (queue : List Queued) (held : List PageAddress) (r : Register) → (is_reset work ≡ false → closed ≡ false) → register_after (effect_of work) p queue held r ≡ register_after (effect_of work) p (cond closed [] queue) held r
 register_begun w.Reset p closed queue held r h = refl
@@ -405,34 +579,6 @@ held_begun (w.Queue (Program at)) c p closed queue held h = refl
 held_begun (w.Queue (QueuedRead at)) c p closed queue held h = refl
 held_begun work c p closed queue held h = refl
 
-pub shows_begun : (g : Parts) (work : Work) (c : Bool) (p : PageAddress) (queue : List Queued) (pages : Entries) (before after : List ℕ) (r now : Register) (held keeps : List PageAddress) (closing : Bool) → now ≡ register_after (effect_of work) p queue held r → keeps ≡ held_after (effect_of work) c p queue held → closing ≡ closes work → length before ≡ page_len g → length after ≡ length before → ((at : PageAddress) → now ≡ Page at → after ≡ page_in (length before) pages at) → ShowsPage g pages now keeps after closing
-shows_begun g work c p queue pages before after r now held keeps closing er eh ec was same f =
-    record {
-      page = λ at is. f at is ∙ ap (λ (n : ℕ). page_in n pages at) was;
-      width = same ∙ was;
-      ends = λ h. er ∙ closes_empty work p queue held r (sym ec ∙ h);
-      frees = λ h. eh ∙ closes_frees work c p queue held (sym ec ∙ h);
-    }
-
-shows_still : (g : Parts) (old new : Entries) (r : Register) (held : List PageAddress) (output : List ℕ) (closed : Bool) → (closed ≡ false → new ≡ old) → ShowsPage g old r held output closed → (at : PageAddress) → r ≡ Page at → output ≡ page_in (page_len g) new at
-shows_still g old new r held output true same h at is = let x = h.ends refl in cc
-shows_still g old new r held output false same h at is = h.page at is ∙ ap (λ (e : Entries). page_in (page_len g) e at) (sym (same refl))
-
-pub shows_ended : (g : Parts) (old new : Entries) (r now : Register) (held keeps : List PageAddress) (output : List ℕ) (closed closing : Bool) → now ≡ r → (closed ≡ false → new ≡ old) → closing ≡ false → ShowsPage g old r held output closed → ShowsPage g new now keeps output closing
-shows_ended g old new r now held keeps output closed closing er same over h =
-    record {
-      page = λ at is. shows_still g old new r held output closed same h at (sym er ∙ is);
-      width = h.width;
-      ends = λ c. cc;
-      frees = λ c. cc;
-    }
-
--- the page of a plane stands ready in place of the one before
-pub shows_plane : (g : Parts) (plane planes : ℕ) (pages : Entries) (before after : List ℕ) (r now : Register) (held : List PageAddress) (closed : Bool) → now ≡ register_of_plane (page_in_plane planes plane held) → ShowsPage g pages r held before closed → length after ≡ length before → ((at : PageAddress) → now ≡ Page at → after ≡ page_in (length before) pages at) → ShowsPage g pages now held after closed
-shows_plane g plane planes pages before after r now held closed is h same f =
-    record {
-      page = λ at page. f at page ∙ ap (λ (n : ℕ). page_in n pages at) h.width;
-      width = same ∙ h.width;
-      ends = λ c. is ∙ ap (λ (l : List PageAddress). register_of_plane (page_in_plane planes plane l)) (h.frees c);
-      frees = h.frees;
-    }
+-- the page that the register holds stands ready, once it is fetched
+pub shows_fetched : (g : Parts) (pages old : Entries) (before after : List ℕ) (r now : Register) → ShowsPage g old r before → length after ≡ length before → ((at : PageAddress) → now ≡ Page at → after ≡ page_in (length before) pages at) → ShowsPage g pages now after
+shows_fetched g pages old before after r now h same f = record { page = λ at is. f at is ∙ ap (λ (n : ℕ). page_in n pages at) h.width; width = same ∙ h.width }

@@ -1,11 +1,12 @@
 -- Writing and reading images, step by step.
-use Rattle.std.proofs.Common.{◌≡◌, ℕ, zero, suc, ◌+◌, ◌-◌, ◌*◌, ◌/◌, ◌%◌, ◌<◌, ◌≤◌, ◌==◌, Bool, true, false, ◌&&◌, cond, List, [], ◌∷◌, ◌++◌, Option, Some, None, length, drop, take, replicate, ltb, eqb, not, refl, sym, ap, ◌∙◌, arith, length-drop, length-take}
-use Rattle.std.specs.Option.{is_some, unwrap_or}
+use Rattle.std.proofs.Common.{◌≡◌, ℕ, zero, suc, ◌+◌, ◌-◌, ◌*◌, ◌/◌, ◌%◌, ◌<◌, ◌≤◌, ◌==◌, Bool, true, false, ◌&&◌, ◌||◌, cond, List, [], ◌∷◌, ◌++◌, Option, Some, None, length, drop, take, replicate, ltb, eqb, not, refl, sym, ap, ◌∙◌, arith, length-drop, length-take, subst}
+use Rattle.std.specs.Option.{is_some, is_none, unwrap_or}
 use Rattle.nand_geometry.specs.Row.{parts_of}
 use Rattle.nand_geometry.specs.declared.parts.Parts.{Parts}
-use Rattle.nand_geometry.specs.Limits.{page_len}
+use Rattle.nand_geometry.specs.Limits.{InLimits, page_len, planes}
+use Rattle.nand_geometry.specs.Page.{parameter_bytes}
 use Rattle.onfi_cycle.specs.declared.page_address.PageAddress.{PageAddress}
-use Rattle.onfi_cycle.specs.Content.{same_page}
+use Rattle.onfi_cycle.specs.Content.{same_page, is_some_work}
 use Rattle.onfi_cycle.specs.Bounds.{is_row}
 use Rattle.onfi_cycle.specs.Effect.{page_address}
 use Rattle.die_model.specs.declared.refusal.ImageFault.{ImageFault}
@@ -13,12 +14,15 @@ use Rattle.die_model.specs.declared.refusal.ImageFault.TheVariants.{Length, Magi
 use Rattle.die_model.specs.Pages.{kept, page_in}
 use Rattle.die_model.specs.Image.{four, is_written, count_of, header, magic}
 use Rattle.die_model.specs.Loading.{first_row, first_page, first_bytes, entry_len, is_page, row_fault, or_later, entries_fault, told, are_pages, ArePages, image_fault, count_told, entries_told, has_numbers}
-use Rattle.die_model.specs.Die.{AreKept, IsDie}
+use Rattle.die_model.specs.Die.{Die, is_new, are_none, AreKept, are_erases, are_programs, are_written, works_of, IsDie, HasArray, HasRows, KeepsDie}
 use Rattle.onfi_cycle.specs.declared.queued.Queued.{Queued}
+use Rattle.onfi_cycle.specs.declared.queued.Queued.TheVariants.{Erase, Program, Read as QueuedRead}
+use Rattle.die_model.proofs.Showing.{empty_is, none_is, no_works}
+use Rattle.std.proofs.lemmas.List.{length-replicate}
 use Rattle.onfi_cycle.specs.declared.register.Register.{Register}
-use Rattle.onfi_cycle.specs.declared.register.Register.TheVariants.{Empty, Page, ParameterPage, Identifier, Identity, JedecIdentity, UniqueId, Features}
+use Rattle.onfi_cycle.specs.declared.register.Register.TheVariants.{Empty, Page}
 use Rattle.onfi_cycle.specs.Rules.{has_some, is_empty}
-use Rattle.std.specs.List.{starts_with}
+use Rattle.std.specs.List.{starts_with, slice_get}
 use Rattle.std.proofs.lemmas.Bool.{and_parts as first_true}
 use Rattle.die_model.proofs.Kept.{Entries, ChangesAt, kept_after, same_parts}
 
@@ -237,18 +241,36 @@ faultless g bytes h = of (ltb (length bytes) 24) (starts_with eqb bytes magic) (
     of false true true false o h = cc
     of false true true true o h = h
 
--- nothing waits on a new die
-pub none_waits : (a b c k d e failed closed : Bool) (queue : List Queued) → (a && (b && (c && (k && (d && (e && (not (has_some (cond closed [] queue)) && (not (has_some (cond closed queue [])) && failed)))))))) ≡ true → (new : Entries) → AreKept new queue
-none_waits true true true true true true failed true [] h new = tt
-none_waits true true true true true true failed true (q ∷ queue) h new = cc
-none_waits true true true true true true failed false [] h new = tt
-none_waits true true true true true true failed false (q ∷ queue) h new = cc
-none_waits true true true true true false failed closed queue h new = cc
-none_waits true true true true false e failed closed queue h new = cc
-none_waits true true true false d e failed closed queue h new = cc
-none_waits true true false k d e failed closed queue h new = cc
-none_waits true false c k d e failed closed queue h new = cc
-none_waits false b c k d e failed closed queue h new = cc
+-- what a new die hasn't
+pub record IsFresh (d : Die) : Type 0 where
+  pub register : d.register ≡ Empty
+  pub queued : d.queued ≡ []
+  pub pending : d.pending ≡ []
+  pub in_array : d.in_array ≡ []
+
+pub fresh : (d : Die) → is_new d ≡ true → IsFresh d
+fresh d new =
+    let a = first_true (not d.busy) _ new in
+    let b = first_true (not d.array_busy) _ a.1 in
+    let c = first_true (is_none d.closer) _ b.1 in
+    let e = first_true (is_empty d.register) _ c.1 in
+    let n = first_true (are_none d.held) _ e.1 in
+    let f = first_true (not (has_some d.queued)) _ n.1 in
+    let h = first_true (not (has_some d.pending)) _ f.1 in
+    let k = first_true (not (is_some_work d.in_array)) _ h.1 in
+    record { register = empty_is d.register e.0; queued = none_is d.queued f.0; pending = none_is d.pending h.0; in_array = no_works d.in_array k.0 }
+
+-- nothing waits on it
+pub none_waits : (closed : Bool) (queue : List Queued) → cond closed [] queue ≡ [] → cond closed queue [] ≡ [] → queue ≡ []
+none_waits true queue a b = b
+none_waits false queue a b = a
+
+-- nor in its array
+pub none_in_array : (g : Parts) (registers : List (List ℕ)) (rows : List Queued) → are_written rows ≡ true → works_of g registers rows ≡ [] → rows ≡ []
+none_in_array g registers [] w h = refl
+none_in_array g registers (Erase q ∷ rows) w h = cc
+none_in_array g registers (Program q ∷ rows) w h = cc
+none_in_array g registers (QueuedRead q ∷ rows) w h = cc
 
 -- the die with other pages, where nothing waits
 pub loaded_is_die : (g : Parts) (parameters : List ℕ) (old new : Entries) (registers : List (List ℕ)) (queue : List Queued) (closed busy : Bool) → AreKept new queue → ArePages g new → IsDie g parameters old registers queue closed busy → IsDie g parameters new registers queue closed busy
@@ -263,17 +285,58 @@ loaded_is_die g parameters old new registers queue closed busy there are die =
       some = die.some;
     }
 
+-- and what its array goes on with
+pub loaded_array : (g : Parts) (old new : Entries) (registers : List (List ℕ)) (rows : List Queued) → rows ≡ [] → ArePages g new → HasArray g old registers rows → HasArray g new registers rows
+loaded_array g old new registers rows none are array =
+    record {
+      rows = record { inside = are.inside; lengths = are.lengths; count = array.rows.count; widths = array.rows.widths };
+      there = subst (AreKept new) (sym none) tt;
+      programs = array.programs;
+    }
+
 -- a new die shows no page
-pub shows_none : (a b c k d failed closed : Bool) (r : Register) (queue : List Queued) → (a && (b && (c && (k && (is_empty r && (d && (not (has_some (cond closed [] queue)) && (not (has_some (cond closed queue [])) && failed)))))))) ≡ true → (at : PageAddress) → r ≡ Page at → ⊥
-shows_none true true true true d failed closed Empty queue h at e = cc
-shows_none true true true true d failed closed (Page p) queue h at e = cc
-shows_none true true true true d failed closed ParameterPage queue h at e = cc
-shows_none true true true true d failed closed Identifier queue h at e = cc
-shows_none true true true true d failed closed Identity queue h at e = cc
-shows_none true true true true d failed closed JedecIdentity queue h at e = cc
-shows_none true true true true d failed closed UniqueId queue h at e = cc
-shows_none true true true true d failed closed (Features address) queue h at e = cc
-shows_none true true true false d failed closed r queue h at e = cc
-shows_none true true false k d failed closed r queue h at e = cc
-shows_none true false c k d failed closed r queue h at e = cc
-shows_none false b c k d failed closed r queue h at e = cc
+pub shows_none : (r : Register) → r ≡ Empty → (at : PageAddress) → r ≡ Page at → ⊥
+shows_none r empty at page = of (sym empty ∙ page)
+  where
+    of : Empty ≡ Page at → ⊥
+    of e = cc
+
+-- 3. a die fresh from the factory
+
+same_replicated : {A : Type 0} (n k : ℕ) (x y : A) → slice_get (replicate n x) k ≡ Some y → y ≡ x
+same_replicated zero k x y h = cc
+same_replicated (suc n) zero x y h = cc
+same_replicated (suc n) (suc k) x y h = same_replicated n k x y h
+
+blank_rows : (g : Parts) → HasRows g [] (replicate (planes g) (replicate (page_len g) 0xff))
+blank_rows g =
+    record {
+      inside = λ p h. refl;
+      lengths = λ p bytes h. cc;
+      count = length-replicate (planes g) (replicate (page_len g) 0xff);
+      widths = λ k bytes h. ap length (same_replicated (planes g) k (replicate (page_len g) 0xff) bytes h) ∙ length-replicate (page_len g) 0xff;
+    }
+
+-- its registers under the names of the code
+blank_so : (g : Parts) (n len : ℕ) (pages : Entries) (registers : List (List ℕ)) → n ≡ planes g → len ≡ page_len g → pages ≡ [] → registers ≡ replicate n (replicate len 0xff) → HasRows g pages registers
+blank_so g n len pages registers en el ep er =
+    subst (λ (e : Entries). HasRows g e registers) (sym ep)
+    (subst (HasRows g []) (sym (er ∙ (λ i. replicate (en i) (replicate (el i) 0xff)))) (blank_rows g))
+
+pub new_keeps : (g : Parts) (n len : ℕ) (parameters : List ℕ) (pages : Entries) (registers array_registers : List (List ℕ)) (queue in_array : List Queued) (output : List ℕ) → InLimits g → parameters ≡ parameter_bytes g → n ≡ planes g → len ≡ page_len g → pages ≡ [] → registers ≡ replicate n (replicate len 0xff) → array_registers ≡ replicate n (replicate len 0xff) → queue ≡ [] → in_array ≡ [] → output ≡ replicate len 0xff
+    → KeepsDie g parameters pages registers array_registers queue in_array false false None Empty output
+new_keeps g n len parameters pages registers array_registers queue in_array output limits copies en el ep er ea eq ei eo =
+    record {
+      die = record {
+        limits = limits;
+        copies = copies;
+        rows = blank_so g n len pages registers en el ep er;
+        there = subst (AreKept pages) (sym eq) tt;
+        alike = ap (λ (q : List Queued). are_erases q || are_programs q) eq;
+        works = λ h. cc;
+        some = λ h. cc;
+      };
+      array = record { rows = blank_so g n len pages array_registers en el ep ea; there = subst (AreKept pages) (sym ei) tt; programs = ap are_written ei };
+      closed_by = record { queued = λ h. refl; cached = λ h k. cc };
+      shows = record { page = λ at is. absurd (shows_none Empty refl at is); width = ap length eo ∙ (length-replicate len 0xff ∙ el) };
+    }

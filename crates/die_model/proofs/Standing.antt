@@ -26,12 +26,12 @@ use Rattle.onfi_cycle.specs.declared.target_cycle.TargetCycle.TheVariants.{Comma
 use Rattle.onfi_cycle.specs.Sequence.{opened, row_bytes, row_after_address, tail, with_cycle, begins_sequence, is_nil, input_column, opening, data_phase, phase_after_address, row_with, facts_of, filled, row, target_cycle, wants_command, wants_address, takes_data, wants_column, selects_plane}
 use Rattle.onfi_cycle.specs.Bounds.{names_program}
 use Rattle.onfi_cycle.specs.Effect.{is_shared, acts_for_target, of_target, other_effect, lun_reset_effect, names_lun, page_address, is_off, is_data, confirm_effect, command_effect, opening_address_effect, program_row_effect, address_effect, cycle_effect, id_effect, ends_features, input_effect, row_effect, cache_effect, plane_effect, column_effect, plane_of_row}
-use Rattle.onfi_cycle.specs.Lun.{luns_of, effect_on, latch_alone, is_busy, busy_after, is_caching, is_cache_read, closer, closer_after, is_array_busy, array_busy_after, array_page, array_page_after, register, register_after, held, held_after, queue, queue_after, lun_view, effect_among, page_in_plane, is_copyback_read}
-use Rattle.onfi_cycle.specs.Content.{ArrayWork, ProgramsPage, queued_work, queued_work_after, pending_work, pending_work_after, has_failed, failed_after, content, content_after, bytes_held, begun_with, changes_pages, is_some_work}
+use Rattle.onfi_cycle.specs.Lun.{luns_of, effect_on, latch_alone, is_busy, busy_after, is_cache_program, is_plane_program, closer, closer_after, is_array_busy, array_busy_after, array_page, array_page_after, register, register_after, held, held_after, queue, queue_after, lun_view, effect_among, page_in_plane, is_copyback_read}
+use Rattle.onfi_cycle.specs.Content.{ArrayWork, ProgramsPage, queued_work, queued_work_after, pending_work, pending_work_after, array_work, array_work_after, array_changes, has_failed, has_failed_before, failed_after, before_failed_after, left_unless, content, content_after, bytes_held, begun_with, is_some_work}
 use Rattle.onfi_cycle.proofs.Bytes.{work_changes_pages}
 use Rattle.onfi_cycle.specs.Permitted.{broken}
 use Rattle.onfi_cycle.specs.Channel.{Channel}
-use Rattle.die_model.specs.Die.{Die, IsAfter, page_of, plane_bytes, bytes_taken, caching_after, copying_after, queued_of, pending_of, works_of}
+use Rattle.die_model.specs.Die.{Die, IsAfter, page_of, plane_bytes, bytes_taken, queued_of, pending_of, works_of}
 use Rattle.onfi_cycle.specs.declared.filling.Filling.{Filling}
 use Rattle.onfi_cycle.specs.declared.filling.Filling.TheVariants.{Leaves, Clears, Copies, Fills}
 use Rattle.onfi_cycle.specs.Filling.{cycle_filling, filling, row_filling, copied, filled_by}
@@ -55,6 +55,7 @@ use Rattle.onfi_cycle.proofs.Steps.{goes_on as not_anew}
 
 abbrev Programs : Parts → TailFacts → ℕ → Effect → Type 0
 Programs g t lun (e.ProgramStarted queued at) = record { named : names_program t ≡ true; here : names_lun g (row t) lun ≡ true; page : at ≡ page_address g (row t) }
+Programs g t lun (e.CacheProgramStarted at) = record { named : names_program t ≡ true; here : names_lun g (row t) lun ≡ true; page : at ≡ page_address g (row t) }
 Programs g t lun _ = Unit {0}
 
 choice : (g : Parts) (t : TailFacts) (lun : ℕ) (b : Bool) (x y : Effect) → (b ≡ true → Programs g t lun x) → Programs g t lun y → Programs g t lun (cond b x y)
@@ -90,6 +91,9 @@ command_programs g t latch k.ProgramConfirm lun =
 command_programs g t latch k.ProgramPlane lun =
     choice g t lun (wants_command t k.ProgramPlane && names_lun g (row t) lun) (e.ProgramStarted true (page_address g (row t))) (other_effect g t k.ProgramPlane)
     (λ h. record { named = or_left (takes_data t.phase) (wants_column t.phase) (both _ _ h).0; here = (both _ _ h).1; page = refl }) (passed_programs g t k.ProgramPlane lun)
+command_programs g t latch k.ProgramCache lun =
+    choice g t lun (wants_command t k.ProgramCache && names_lun g (row t) lun) (e.CacheProgramStarted (page_address g (row t))) (other_effect g t k.ProgramCache)
+    (λ h. record { named = or_left (takes_data t.phase) (wants_column t.phase) (both _ _ h).0; here = (both _ _ h).1; page = refl }) (passed_programs g t k.ProgramCache lun)
 command_programs g t latch c lun = choice g t lun (wants_command t c && names_lun g (row t) lun) (confirm_effect g t c) (other_effect g t c) (λ _. tt) (passed_programs g t c lun)
 
 address_programs : (g : Parts) (t : TailFacts) (byte : ℕ) (c : Command) (n lun : ℕ) → Programs g t lun (address_effect g t byte c n lun)
@@ -125,7 +129,7 @@ effect_programs : (g : Parts) (past : List Item) (i : Item) (l : Lun) → Progra
 unfolding effect_among
 effect_programs g past (Cyc c) l = choice g (facts_of (tail past l.ce)) l.lun (c.ce == l.ce) _ e.Unaffected (λ _. cycle_programs g (facts_of (tail past l.ce)) (latch_alone g past l) (target_cycle c.kind c.byte) l.lun) tt
 effect_programs g past (Rdy ce lun fail) l = choice g (facts_of (tail past l.ce)) l.lun (ce == l.ce && lun == l.lun) (e.BecameReady fail) e.Unaffected (λ _. tt) tt
-effect_programs g past (Ard ce lun) l = choice g (facts_of (tail past l.ce)) l.lun (ce == l.ce && lun == l.lun) e.ArrayBecameReady e.Unaffected (λ _. tt) tt
+effect_programs g past (Ard ce lun fail) l = choice g (facts_of (tail past l.ce)) l.lun (ce == l.ce && lun == l.lun) (e.ArrayBecameReady fail) e.Unaffected (λ _. tt) tt
 
 -- so the register has the bytes that the effect takes
 queued_same : (g : Parts) (begun : List ℕ) (t : List TargetCycle) (lun : ℕ) (d : Die) (x : Effect) (q : List ArrayWork) → d.geometry ≡ g → Programs g (facts_of t) lun x → IsFilling g begun t lun d → queued_work_after x (bytes_taken d x) q ≡ queued_work_after x (filled begun t) q
@@ -135,22 +139,9 @@ queued_same g begun t lun d _ q eg p f = refl
 
 pending_same : (g : Parts) (begun : List ℕ) (t : List TargetCycle) (lun : ℕ) (d : Die) (x : Effect) (q r : List ArrayWork) → d.geometry ≡ g → Programs g (facts_of t) lun x → IsFilling g begun t lun d → pending_work_after x (bytes_taken d x) q r ≡ pending_work_after x (filled begun t) q r
 pending_same g begun t lun d (e.ProgramStarted queued at) q r eg p f = ap (λ (b : List ℕ). pending_work_after (e.ProgramStarted queued at) b q r) (ap (λ (h : Parts). plane_bytes h d.planes at) eg ∙ (ap (plane_bytes g d.planes) p.page ∙ (f p.named p.here).bytes))
+pending_same g begun t lun d (e.CacheProgramStarted at) q r eg p f = ap (λ (b : List ℕ). pending_work_after (e.CacheProgramStarted at) b q r) (ap (λ (h : Parts). plane_bytes h d.planes at) eg ∙ (ap (plane_bytes g d.planes) p.page ∙ (f p.named p.here).bytes))
 pending_same g begun t lun d (e.EraseStarted queued at) q r eg p f = refl
 pending_same g begun t lun d _ q r eg p f = refl
-
-caching_is : (x : Effect) (c : Option Command) → caching_after x (is_cache_read c) ≡ is_cache_read (closer_after x c)
-caching_is (e.EraseStarted true at) c = refl
-caching_is (e.EraseStarted false at) c = refl
-caching_is (e.ProgramStarted true at) c = refl
-caching_is (e.ProgramStarted false at) c = refl
-caching_is _ c = refl
-
-copying_is : (x : Effect) (c : Option Command) → copying_after x (is_copyback_read c) ≡ is_copyback_read (closer_after x c)
-copying_is (e.EraseStarted true at) c = refl
-copying_is (e.EraseStarted false at) c = refl
-copying_is (e.ProgramStarted true at) c = refl
-copying_is (e.ProgramStarted false at) c = refl
-copying_is _ c = refl
 
 -- 2. an effect
 
@@ -161,16 +152,14 @@ record Facts (s : Channel) (past : List Item) (l : Lun) (d : Die) : Type 0 where
   held : d.held ≡ held s.geometry past l
   array_page : d.array_page ≡ array_page s.geometry past l
   busy : d.busy ≡ is_busy s.geometry past l
-  caching : d.caching ≡ is_caching s.geometry past l
-  copying : d.copying ≡ is_copyback_read (closer s.geometry past l)
+  closer : d.closer ≡ closer s.geometry past l
   array_busy : d.array_busy ≡ is_array_busy s.geometry past l
   queue : d.queued ≡ queue s.geometry past l
   queued : queued_of d ≡ queued_work s.geometry s.opening past l
   pending : pending_of d ≡ pending_work s.geometry s.opening past l
+  in_array : d.in_array ≡ array_work s.geometry s.opening past l
   failed : d.failed ≡ has_failed s.geometry past l
-
-same_content : (g h : Parts) (x : Effect) (a b : List ArrayWork) (p : PageAddress) (m n : List ℕ) → g ≡ h → a ≡ b → m ≡ n → content_after g x a p m ≡ content_after h x b p n
-same_content g h x a b p m n eg ea em = ap (λ (k : Parts). content_after k x a p m) eg ∙ (ap (λ (w : List ArrayWork). content_after h x w p m) ea ∙ ap (content_after h x b p) em)
+  failed_before : d.failed_before ≡ has_failed_before s.geometry past l
 
 effect_goes_on : (s : Channel) (past : List Item) (i : Item) (l : Lun) (old new : Die) → IsDieOf s past l old → IsAfter (effect_on s.geometry past i l) old new → Facts s (i ∷ past) l new
 effect_goes_on s past i l old new f a =
@@ -182,20 +171,23 @@ effect_goes_on s past i l old new f a =
     let p = effect_programs g past i l in
     record {
       geometry = a.geometry ∙ f.geometry;
-      pages = λ at. a.pages at ∙ same_content old.geometry g x (pending_of old) (pending_work g o past l) at (page_of old at) (content g o past l at) f.geometry f.pending (f.pages at);
+      pages = λ at. a.pages at ∙ (λ j. content_after (f.geometry j) x (f.closer j) (f.pending j) (f.in_array j) at (f.pages at j));
       register = a.register ∙ (λ j. register_after x (f.array_page j) (f.queue j) (f.held j) (f.register j));
-      held = a.held ∙ (λ j. held_after x (f.copying j) (f.array_page j) (f.queue j) (f.held j));
+      held = a.held ∙ (λ j. held_after x (is_copyback_read (f.closer j)) (f.array_page j) (f.queue j) (f.held j));
       array_page = a.array_page ∙ ap (array_page_after x) f.array_page;
       busy = a.busy ∙ ap (busy_after x) f.busy;
-      caching = a.caching ∙ (ap (caching_after x) f.caching ∙ caching_is x (closer g past l));
-      copying = a.copying ∙ (ap (copying_after x) f.copying ∙ copying_is x (closer g past l));
-      array_busy = a.array_busy ∙ (ap (λ (b : Bool). array_busy_after x b old.caching old.array_busy) f.busy ∙ (ap (λ (b : Bool). array_busy_after x (is_busy g past l) b old.array_busy) f.caching ∙ ap (array_busy_after x (is_busy g past l) (is_caching g past l)) f.array_busy));
+      closer = a.closer ∙ ap (closer_after x) f.closer;
+      array_busy = a.array_busy ∙ (λ j. array_busy_after x (f.busy j) (f.closer j) (f.array_busy j));
       queue = a.queue ∙ ap (queue_after x) f.queue;
       queued = a.queued ∙ (ap (queued_work_after x (bytes_taken old x)) f.queued ∙ queued_same g begun t l.lun old x (queued_work g o past l) f.geometry p f.open_program);
       pending = a.pending ∙ (ap (λ (q : List ArrayWork). pending_work_after x (bytes_taken old x) q (pending_of old)) f.queued ∙ (ap (pending_work_after x (bytes_taken old x) (queued_work g o past l)) f.pending ∙ pending_same g begun t l.lun old x (queued_work g o past l) (pending_work g o past l) f.geometry p f.open_program));
+      in_array = a.in_array ∙ (λ j. array_work_after x (f.closer j) (f.pending j) (f.in_array j));
       failed =
-          a.failed ∙ (ap (λ (q : List ArrayWork). failed_after x (is_some_work q) old.failed) f.pending
-          ∙ (ap (λ (c : Bool). failed_after x c old.failed) (work_changes_pages g o past l) ∙ ap (failed_after x (changes_pages g past l)) f.failed));
+          a.failed ∙ ((λ j. failed_after x (f.closer j) (is_some_work (f.pending j)) (f.failed j))
+          ∙ ap (λ (c : Bool). failed_after x (closer g past l) c (has_failed g past l)) (work_changes_pages.lun g o past l));
+      failed_before =
+          a.failed_before ∙ ((λ j. before_failed_after x (f.closer j) (is_some_work (f.in_array j)) (f.failed j) (f.failed_before j))
+          ∙ ap (λ (c : Bool). before_failed_after x (closer g past l) c (has_failed g past l) (has_failed_before g past l)) (work_changes_pages.array g o past l));
     }
 
 -- 3. a program stays open
@@ -286,6 +278,7 @@ pending_step (e.ReadQueued at) bytes q p b f h = refl
 pending_step (e.CopybackReadStarted at from count) bytes q p b f h = refl
 pending_step (e.EraseStarted queued at) bytes q p b f h = cc
 pending_step (e.ProgramStarted queued at) bytes q p b f h = cc
+pending_step (e.CacheProgramStarted at) bytes q p b f h = cc
 pending_step e.ParameterPageReadStarted bytes q p b f h = refl
 pending_step e.UniqueIdReadStarted bytes q p b f h = refl
 pending_step (e.FeaturesReadStarted address) bytes q p b f h = refl
@@ -301,18 +294,37 @@ pending_idle : (g : Parts) (o : Lun → PageAddress → List ℕ) (past : List I
 pending_idle g o [] l h = refl
 pending_idle g o (i ∷ past) l h = pending_step (effect_on g past i l) _ (queued_work g o past l) (pending_work g o past l) (is_busy g past l) (pending_idle g o past l) h
 
-content_rests : (g : Parts) (x : Effect) (p : PageAddress) (old : List ℕ) → content_after g x [] p old ≡ old
-content_rests g (e.BecameReady true) p old = refl
-content_rests g (e.BecameReady false) p old = refl
-content_rests g _ p old = refl
+left_so : (b : Bool) (len : ℕ) (p : PageAddress) (old : List ℕ) → left_unless b len [] p old ≡ old
+left_so true len p old = refl
+left_so false len p old = refl
 
-content_idle : (g : Parts) (o : Lun → PageAddress → List ℕ) (past : List Item) (i : Item) (l : Lun) → is_busy g past l ≡ false → (p : PageAddress) → content g o (i ∷ past) l p ≡ content g o past l p
-content_idle g o past i l idle p =
-    ap (λ (w : List ArrayWork). content_after g (effect_on g past i l) w p (content g o past l p)) (pending_idle g o past l idle) ∙ content_rests g (effect_on g past i l) p (content g o past l p)
+content_rests : (g : Parts) (x : Effect) (last : Option Command) (p : PageAddress) (old : List ℕ) → content_after g x last [] [] p old ≡ old
+content_rests g (e.BecameReady fail) last p old = left_so (fail.last || is_cache_program last) (page_len g) p _ ∙ left_so (fail.before || is_plane_program last) (page_len g) p old
+content_rests g (e.ArrayBecameReady fail) last p old = left_so fail (page_len g) p old
+content_rests g _ last p old = refl
+
+no_works : (works : List ArrayWork) → is_some_work works ≡ false → works ≡ []
+no_works [] h = refl
+no_works (w ∷ works) h = cc
+
+content_idle : (g : Parts) (o : Lun → PageAddress → List ℕ) (past : List Item) (i : Item) (l : Lun) → is_busy g past l ≡ false → array_changes g past l ≡ false → (p : PageAddress) → content g o (i ∷ past) l p ≡ content g o past l p
+content_idle g o past i l idle still p =
+    let none : array_work g o past l ≡ [] = no_works (array_work g o past l) (work_changes_pages.array g o past l ∙ still) in
+    (λ j. content_after g (effect_on g past i l) (closer g past l) (pending_idle g o past l idle j) (none j) p (content g o past l p))
+    ∙ content_rests g (effect_on g past i l) (closer g past l) p (content g o past l p)
 
 same_held_bytes : (g : Parts) (f h : PageAddress → List ℕ) (there : Option PageAddress) → ((p : PageAddress) → f p ≡ h p) → bytes_held g f there ≡ bytes_held g h there
 same_held_bytes g f h None same = refl
 same_held_bytes g f h (Some p) same = same p
+
+-- the bytes of a page that is held stay while the LUN is ready, for while the array goes on with pages none is held
+held_content : (g : Parts) (o : Lun → PageAddress → List ℕ) (past : List Item) (i : Item) (l : Lun) (count plane : ℕ) (pages : List PageAddress) → is_busy g past l ≡ false → (array_changes g past l ≡ true → pages ≡ [])
+    → bytes_held g (content g o (i ∷ past) l) (page_in_plane count plane pages) ≡ bytes_held g (content g o past l) (page_in_plane count plane pages)
+held_content g o past i l count plane pages idle none = at (array_changes g past l) refl
+  where
+    at : (b : Bool) → array_changes g past l ≡ b → bytes_held g (content g o (i ∷ past) l) (page_in_plane count plane pages) ≡ bytes_held g (content g o past l) (page_in_plane count plane pages)
+    at true goes_on = subst (λ (held : List PageAddress). bytes_held g (content g o (i ∷ past) l) (page_in_plane count plane held) ≡ bytes_held g (content g o past l) (page_in_plane count plane held)) (sym (none goes_on)) refl
+    at false still = same_held_bytes g (content g o (i ∷ past) l) (content g o past l) (page_in_plane count plane pages) (content_idle g o past i l idle still)
 
 -- the bytes that the program of a LUN began with, after a past
 abbrev begun_at : Channel → List Item → Lun → List ℕ
@@ -323,7 +335,7 @@ begun_kept s past i l c idle same_row =
     let g = s.geometry in
     let o = s.opening in
     let same_held : held g (i ∷ past) l ≡ held g past l = c.held _ _ _ _ in
-    same_held_bytes g (content g o (i ∷ past) l) (content g o past l) _ (content_idle g o past i l idle)
+    held_content g o past i l (planes g) _ (held g (i ∷ past) l) idle (λ h. same_held ∙ work_changes_pages.held g past l h)
     ∙ (λ j. bytes_held g (content g o past l) (page_in_plane (planes g) (plane_of_row g (same_row j)) (same_held j)))
 
 carry : (g : Parts) (begun later : List ℕ) (t u : List TargetCycle) (x : Effect) (old new : Die) → IsAfter x old new → busy_after x false ≡ false → row (facts_of u) ≡ row (facts_of t) → filled later u ≡ filled begun t → HasBytes g begun t old → HasBytes g later u new
@@ -345,7 +357,7 @@ open_ready s past i l old new same c f a named here =
 open_leaves : (s : Channel) (past : List Item) (i : Item) (l : Lun) (old new : Die) → filling s.geometry (facts_of (tail past l.ce)) i l (held s.geometry past l) ≡ Leaves → IsDieOf s past l old → IsAfter (effect_on s.geometry past i l) old new → IsFilling s.geometry (begun_at s (i ∷ past) l) (tail (i ∷ past) l.ce) l.lun new
 unfolding effect_among
 open_leaves s past (Rdy ce lun fail) l old new leaves f a = open_ready s past (Rdy ce lun fail) l old new refl (calm_choice (ce == l.ce && lun == l.lun) (e.BecameReady fail) (record { busy = refl; held = λ c p q h. refl })) f a
-open_leaves s past (Ard ce lun) l old new leaves f a = open_ready s past (Ard ce lun) l old new refl (calm_choice (ce == l.ce && lun == l.lun) e.ArrayBecameReady (record { busy = refl; held = λ c p q h. refl })) f a
+open_leaves s past (Ard ce lun fail) l old new leaves f a = open_ready s past (Ard ce lun fail) l old new refl (calm_choice (ce == l.ce && lun == l.lun) (e.ArrayBecameReady fail) (record { busy = refl; held = λ c p q h. refl })) f a
 open_leaves s past (Cyc c) l old new leaves f a = of (c.ce == l.ce) refl leaves
   where
     t : List TargetCycle
@@ -380,13 +392,14 @@ leaves_goes_on s past i l old new leaves f a =
       held = x.held;
       array_page = x.array_page;
       busy = x.busy;
-      caching = x.caching;
-      copying = x.copying;
+      closer = x.closer;
       array_busy = x.array_busy;
       queue = x.queue;
       queued = x.queued;
       pending = x.pending;
+      in_array = x.in_array;
       failed = x.failed;
+      failed_before = x.failed_before;
       count = ap (λ (r : List (List ℕ)). length r) a.planes ∙ f.count;
       open_program = open_leaves s past i l old new leaves f a;
     }
@@ -402,8 +415,8 @@ abbrev released : Effect → Die → Die
 released x d = record d { held = kept_held x d.held }
 
 release : (x : Effect) (d : Die) → RowEffect x → IsAfter x d (released x d)
-release _ d nothing = record { geometry = refl; planes = refl; pages = λ p. refl; register = refl; held = refl; array_page = refl; busy = refl; caching = refl; copying = refl; array_busy = refl; queue = refl; queued = refl; pending = refl; failed = refl }
-release _ d addressed = record { geometry = refl; planes = refl; pages = λ p. refl; register = refl; held = refl; array_page = refl; busy = refl; caching = refl; copying = refl; array_busy = refl; queue = refl; queued = refl; pending = refl; failed = refl }
+release _ d nothing = record { geometry = refl; planes = refl; pages = λ p. refl; register = refl; held = refl; array_page = refl; busy = refl; closer = refl; array_busy = refl; queue = refl; queued = refl; pending = refl; in_array = refl; failed = refl; failed_before = refl }
+release _ d addressed = record { geometry = refl; planes = refl; pages = λ p. refl; register = refl; held = refl; array_page = refl; busy = refl; closer = refl; array_busy = refl; queue = refl; queued = refl; pending = refl; in_array = refl; failed = refl; failed_before = refl }
 
 works_nil : (g : Parts) (r q : List (List ℕ)) (rows : List Queued) → works_of g r rows ≡ [] → works_of g q rows ≡ []
 works_nil g r q [] h = refl
@@ -439,8 +452,7 @@ register_goes_on s past i l old at w is f idle apart filling =
       held = x.held;
       array_page = x.array_page;
       busy = x.busy;
-      caching = x.caching;
-      copying = x.copying;
+      closer = x.closer;
       array_busy = x.array_busy;
       queue = x.queue;
       queued =
@@ -448,7 +460,9 @@ register_goes_on s past i l old at w is f idle apart filling =
           ∙ (apart_works s.geometry old.planes at w old.queued (ap (some_queued_clashes s.geometry false at) f.queue ∙ apart)
           ∙ (ap (λ (g : Parts). works_of g old.planes old.queued) (sym f.geometry) ∙ x.queued));
       pending = works_nil old.geometry old.planes (set old.planes (at.block % planes s.geometry) w) old.pending none ∙ (sym none ∙ x.pending);
+      in_array = x.in_array;
       failed = x.failed;
+      failed_before = x.failed_before;
       count = length-set old.planes (at.block % planes s.geometry) w ∙ f.count;
       open_program = filling;
     }
@@ -477,7 +491,7 @@ no_fills true false false row there at column byte h = cc
 
 pub is_input : (g : Parts) (past : List Item) (i : Item) (l : Lun) (at : PageAddress) (column byte : ℕ) → filling g (facts_of (tail past l.ce)) i l (held g past l) ≡ Fills at column byte → IsInput g past i l at column byte
 is_input g past (Rdy ce lun fail) l at column byte h = cc
-is_input g past (Ard ce lun) l at column byte h = cc
+is_input g past (Ard ce lun fail) l at column byte h = cc
 is_input g past (Cyc c) l at column byte h = of (c.ce == l.ce) refl (target_cycle c.kind c.byte) refl h
   where
     of : (b : Bool) → (c.ce == l.ce) ≡ b → (k : TargetCycle) → target_cycle c.kind c.byte ≡ k → cond b (cycle_filling g (facts_of (tail past l.ce)) k l.lun (held g past l)) Leaves ≡ Fills at column byte → IsInput g past (Cyc c) l at column byte
@@ -573,7 +587,7 @@ record IsLastAddress (g : Parts) (past : List Item) (i : Item) (l : Lun) (x : Fi
 
 is_last_address : (g : Parts) (past : List Item) (i : Item) (l : Lun) (x : Filling) → filling g (facts_of (tail past l.ce)) i l (held g past l) ≡ x → changes_row x ≡ true → IsLastAddress g past i l x
 is_last_address g past (Rdy ce lun fail) l x h w = let no = ap changes_row h ∙ w in cc
-is_last_address g past (Ard ce lun) l x h w = let no = ap changes_row h ∙ w in cc
+is_last_address g past (Ard ce lun fail) l x h w = let no = ap changes_row h ∙ w in cc
 is_last_address g past (Cyc c) l x h w = subst (IsLastAddress g past (Cyc c) l) h (of (c.ce == l.ce) refl (target_cycle c.kind c.byte) refl (ap changes_row h ∙ w))
   where
     t : TailFacts
@@ -731,14 +745,16 @@ copyback_row_is g t byte n lun c b h = cc
 -- what is held in the plane of the row once it has come
 begun_is : (s : Channel) (past : List Item) (i : Item) (l : Lun) (x : Filling) (j : IsLastAddress s.geometry past i l x) (e : Effect) (there : Option PageAddress) → is_busy s.geometry past l ≡ false → effect_on s.geometry past i l ≡ e
     → page_in_plane (planes s.geometry) (plane_of_row s.geometry (row_with (facts_of (tail past l.ce)) j.byte)) (held_after e (is_copyback_read (closer s.geometry past l)) (array_page s.geometry past l) (queue s.geometry past l) (held s.geometry past l)) ≡ there
+    → held_after e (is_copyback_read (closer s.geometry past l)) (array_page s.geometry past l) (queue s.geometry past l) [] ≡ []
     → begun_at s (i ∷ past) l ≡ bytes_held s.geometry (content s.geometry s.opening past l) there
-begun_is s past i l x j e there idle is held_there =
+begun_is s past i l x j e there idle is held_there none =
     let g = s.geometry in
     let t = tail past l.ce in
     let same_tail : tail (i ∷ past) l.ce ≡ AddressCycle j.byte ∷ t = ap (λ (z : Item). tail (z ∷ past) l.ce) j.is ∙ tail_on past j.c l.ce (AddressCycle j.byte) j.ce j.cycle refl (opening_there t j.o j.opens) in
     let same_row : row (facts_of (tail (i ∷ past) l.ce)) ≡ row_with (facts_of t) j.byte = ap (λ (v : List TargetCycle). row (facts_of v)) same_tail ∙ ap (λ (o : Option Opening). row (record (facts_of t) { row = row_after_address o j.byte (row_bytes t) })) j.opens in
     let same_held : held g (i ∷ past) l ≡ held_after e (is_copyback_read (closer g past l)) (array_page g past l) (queue g past l) (held g past l) = ap (λ (z : Effect). held_after z (is_copyback_read (closer g past l)) (array_page g past l) (queue g past l) (held g past l)) is in
-    same_held_bytes g (content g s.opening (i ∷ past) l) (content g s.opening past l) _ (content_idle g s.opening past i l idle)
+    held_content g s.opening past i l (planes g) _ (held g (i ∷ past) l) idle
+    (λ h. same_held ∙ (ap (held_after e (is_copyback_read (closer g past l)) (array_page g past l) (queue g past l)) (work_changes_pages.held g past l h) ∙ none))
     ∙ ((λ q. bytes_held g (content g s.opening past l) (page_in_plane (planes g) (plane_of_row g (same_row q)) (same_held q)))
     ∙ ap (bytes_held g (content g s.opening past l)) held_there)
 
@@ -758,15 +774,15 @@ row_goes_on s past i l old x at changed j ok f = of x j.kind refl
     of _ (program ends) same =
         let is = row_effect_is s.geometry past i l x j ∙ program_row_is s.geometry (facts_of (tail past l.ce)) j.byte j.o.addresses l.lun j.o.opener ends j.here in
         address_goes_on s past i l old x at (bytes_put s.geometry old x) changed j ok (subst RowEffect (sym is) addressed) f
-        (begun_is s past i l x j e.ProgramAddressed None ok.ready is refl ∙ ap (bytes_put s.geometry old) same)
+        (begun_is s past i l x j e.ProgramAddressed None ok.ready is refl refl ∙ ap (bytes_put s.geometry old) same)
     of _ (blank_copy ends none) same =
         let is = row_effect_is s.geometry past i l x j ∙ copyback_row_is s.geometry (facts_of (tail past l.ce)) j.byte j.o.addresses l.lun j.o.opener _ ends in
         address_goes_on s past i l old x at (bytes_put s.geometry old x) changed j ok (subst RowEffect (sym is) nothing) f
-        (begun_is s past i l x j e.Unaffected None ok.ready is none ∙ ap (bytes_put s.geometry old) same)
+        (begun_is s past i l x j e.Unaffected None ok.ready is none refl ∙ ap (bytes_put s.geometry old) same)
     of _ (copy from ends there) same =
         let is = row_effect_is s.geometry past i l x j ∙ copyback_row_is s.geometry (facts_of (tail past l.ce)) j.byte j.o.addresses l.lun j.o.opener _ ends in
         address_goes_on s past i l old x at (bytes_put s.geometry old x) changed j ok (subst RowEffect (sym is) nothing) f
-        (begun_is s past i l x j e.Unaffected (Some from) ok.ready is there ∙ (sym (f.pages from) ∙ ap (bytes_put s.geometry old) same))
+        (begun_is s past i l x j e.Unaffected (Some from) ok.ready is there refl ∙ (sym (f.pages from) ∙ ap (bytes_put s.geometry old) same))
 
 pub dies_go_on : DiesGoOn
 dies_go_on s past i l old new h low fits f w = by (filling s.geometry (facts_of (tail past l.ce)) i l (held s.geometry past l)) refl w

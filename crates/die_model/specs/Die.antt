@@ -1,19 +1,21 @@
 -- One LUN's array and registers: what its pages hold, what it works on, and how its last work ended.
-use Rattle.std.specs.Prelude.{◌≡◌, ℕ, ◌%◌, ◌^◌, ◌<◌, Bool, true, false, ◌||◌, ◌&&◌, not, if◌then◌else◌, List, [], ◌∷◌, Option, Some, None, length, replicate, slice_get, slice_set, slice_index_or}
+use Rattle.std.specs.Prelude.{◌≡◌, ℕ, ◌%◌, ◌^◌, ◌<◌, Bool, true, false, ◌||◌, ◌&&◌, not, if◌then◌else◌, List, [], ◌∷◌, Option, Some, None, is_none, length, replicate, slice_get, slice_set, slice_index_or}
 use Rattle.std.specs.Option.{IsSome}
 use Rattle.nand_geometry.specs.declared.parts.Parts.{Parts}
 use Rattle.nand_geometry.specs.Limits.{InLimits, page_len, planes}
 use Rattle.nand_geometry.specs.Page.{parameter_bytes}
+use Rattle.onfi_cycle.specs.declared.command.Command.{Command}
+use Rattle.onfi_cycle.specs.declared.item.Failures.{Failures}
 use Rattle.onfi_cycle.specs.declared.page_address.PageAddress.{PageAddress}
 use Rattle.onfi_cycle.specs.declared.queued.Queued.{Queued}
 use Rattle.onfi_cycle.specs.declared.queued.Queued.TheVariants.{Erase, Program, Read as QueuedRead}
 use Rattle.onfi_cycle.specs.declared.register.Register.{Register}
 use Rattle.onfi_cycle.specs.declared.register.Register.TheVariants.{Empty, Page}
 use Rattle.onfi_cycle.specs.declared.effect.Effect.{Effect}
-use Rattle.onfi_cycle.specs.declared.effect.Effect.TheVariants.{ReadStarted, EraseStarted, ProgramStarted, IdRead, ParameterPageReadStarted, CacheReadContinued, CacheReadEnded, ResetStarted, TargetResetStarted, IdentityRead, UniqueIdReadStarted, FeaturesReadStarted, FeaturesSet, ReadQueued, CopybackReadStarted}
+use Rattle.onfi_cycle.specs.declared.effect.Effect.TheVariants.{ReadStarted, EraseStarted, ProgramStarted, CacheProgramStarted, IdRead, ParameterPageReadStarted, CacheReadContinued, CacheReadEnded, ResetStarted, TargetResetStarted, IdentityRead, UniqueIdReadStarted, FeaturesReadStarted, FeaturesSet, ReadQueued, CopybackReadStarted}
 use Rattle.onfi_cycle.specs.Effect.{HasPlanes}
-use Rattle.onfi_cycle.specs.Lun.{busy_after, array_busy_after, array_page_after, register_after, held_after, queue_after}
-use Rattle.onfi_cycle.specs.Content.{ArrayWork, ErasesBlock, ProgramsPage, queued_work_after, pending_work_after, content_after, failed_after, is_some_work, register_bytes, written}
+use Rattle.onfi_cycle.specs.Lun.{busy_after, closer_after, array_busy_after, array_page_after, register_after, held_after, queue_after, is_copyback_read, is_cache_program, is_plane_program}
+use Rattle.onfi_cycle.specs.Content.{ArrayWork, ErasesBlock, ProgramsPage, queued_work_after, pending_work_after, array_work_after, content_after, failed_after, before_failed_after, status_byte, is_some_work, register_bytes, written}
 use Rattle.onfi_cycle.specs.Bounds.{is_row}
 use Rattle.onfi_cycle.specs.Rules.{is_empty, has_some, some_queued_clashes, some_read_clashes}
 use Rattle.die_model.specs.declared.work.Work.{Work}
@@ -21,7 +23,8 @@ use Rattle.die_model.specs.declared.work.Work.TheVariants as w
 use Rattle.die_model.specs.Pages.{kept, page_in}
 
 -- a die: the pages that it keeps, the page register of each plane, what its register shows, the pages that its plane registers hold, the page
--- that its array was last told to read, what it is busy with, whether that reads a cache or was a read for a copyback, the rows that are queued (the newest first), and those that its next ready ends
+-- that its array was last told to read, what it is busy with, its last closer, the rows that are queued (the newest first), those that its next ready ends,
+-- the programs that its array goes on with behind the ready of a cache program, and what is told of failures
 pub record Die : Type 0 where
   pub geometry : Parts
   pub pages : List ((ℕ × ℕ) × List ℕ)
@@ -30,16 +33,17 @@ pub record Die : Type 0 where
   pub held : List PageAddress
   pub array_page : PageAddress
   pub busy : Bool
-  pub caching : Bool
-  pub copying : Bool
+  pub closer : Option Command
   pub array_busy : Bool
   pub queued : List Queued
   pub pending : List Queued
+  pub in_array : List ArrayWork
   pub failed : Bool
+  pub failed_before : Bool
 
 -- a die by what is kept of it: one list of rows, which are queued until they are closed
-abbrev pub die_with : Parts → List ((ℕ × ℕ) × List ℕ) → List (List ℕ) → Register → (held : List PageAddress) → PageAddress → (busy caching copying array_busy : Bool) → (queue : List Queued) → (closed failed : Bool) → Die
-die_with g pages registers register held array_page busy caching copying array_busy queue closed failed =
+abbrev pub die_with : Parts → List ((ℕ × ℕ) × List ℕ) → List (List ℕ) → Register → (held : List PageAddress) → PageAddress → (busy : Bool) → (closer : Option Command) → (array_busy : Bool) → (queue : List Queued) → (closed : Bool) → (in_array : List ArrayWork) → (failed failed_before : Bool) → Die
+die_with g pages registers register held array_page busy closer array_busy queue closed in_array failed failed_before =
     record {
       geometry = g;
       pages = pages;
@@ -48,12 +52,13 @@ die_with g pages registers register held array_page busy caching copying array_b
       held = held;
       array_page = array_page;
       busy = busy;
-      caching = caching;
-      copying = copying;
+      closer = closer;
       array_busy = array_busy;
       queued = if closed then [] else queue;
       pending = if closed then queue else [];
+      in_array = in_array;
       failed = failed;
+      failed_before = failed_before;
     }
 
 -- the bytes of a page
@@ -86,6 +91,7 @@ abbrev pub effect_of : Work → Effect
 effect_of (w.Read at) = ReadStarted at 0
 effect_of (w.Copyback at planes) = CopybackReadStarted at 0 planes
 effect_of (w.Program at) = ProgramStarted false at
+effect_of (w.CacheProgram at) = CacheProgramStarted at
 effect_of (w.Erase at) = EraseStarted false at
 effect_of (w.Queue (Erase at)) = EraseStarted true at
 effect_of (w.Queue (Program at)) = ProgramStarted true at
@@ -106,6 +112,7 @@ work_begun (ReadStarted at column) = Some (w.Read at)
 work_begun (ReadQueued at) = Some (w.Queue (QueuedRead at))
 work_begun (CopybackReadStarted at column planes) = Some (w.Copyback at planes)
 work_begun (ProgramStarted queued at) = Some (if queued then w.Queue (Program at) else w.Program at)
+work_begun (CacheProgramStarted at) = Some (w.CacheProgram at)
 work_begun (EraseStarted queued at) = Some (if queued then w.Queue (Erase at) else w.Erase at)
 work_begun IdRead = Some w.Identifier
 work_begun ParameterPageReadStarted = Some w.Parameters
@@ -119,67 +126,43 @@ work_begun (CacheReadContinued to) = Some (w.Cache to)
 work_begun CacheReadEnded = Some w.CacheEnd
 work_begun _ = None
 
-abbrev pub caching_after : Effect → Bool → Bool
-caching_after (CacheReadContinued _) caching = true
-caching_after (ReadStarted _ _) caching = false
-caching_after (ReadQueued _) caching = false
-caching_after (CopybackReadStarted _ _ _) caching = false
-caching_after (EraseStarted _ _) caching = false
-caching_after (ProgramStarted _ _) caching = false
-caching_after IdRead caching = false
-caching_after ParameterPageReadStarted caching = false
-caching_after (IdentityRead _) caching = false
-caching_after UniqueIdReadStarted caching = false
-caching_after (FeaturesReadStarted _) caching = false
-caching_after (FeaturesSet _) caching = false
-caching_after CacheReadEnded caching = false
-caching_after ResetStarted caching = false
-caching_after (TargetResetStarted _) caching = false
-caching_after _ caching = caching
-
--- the last work has read a page for a copyback
-abbrev pub copying_after : Effect → Bool → Bool
-copying_after (CopybackReadStarted _ _ _) copying = true
-copying_after (ReadStarted _ _) copying = false
-copying_after (ReadQueued _) copying = false
-copying_after (EraseStarted _ _) copying = false
-copying_after (ProgramStarted _ _) copying = false
-copying_after IdRead copying = false
-copying_after ParameterPageReadStarted copying = false
-copying_after (IdentityRead _) copying = false
-copying_after UniqueIdReadStarted copying = false
-copying_after (FeaturesReadStarted _) copying = false
-copying_after (FeaturesSet _) copying = false
-copying_after (CacheReadContinued _) copying = false
-copying_after CacheReadEnded copying = false
-copying_after ResetStarted copying = false
-copying_after (TargetResetStarted _) copying = false
-copying_after _ copying = copying
+-- the array goes on with its page where a program begins, and drops it at each other work
+abbrev pub keeps_array : Work → Bool
+keeps_array (w.Program at) = true
+keeps_array (w.CacheProgram at) = true
+keeps_array (w.Queue (Program at)) = true
+keeps_array _ = false
 
 -- the bytes that a program takes
 abbrev pub bytes_taken : Die → Effect → List ℕ
 bytes_taken d (ProgramStarted queued at) = plane_bytes d.geometry d.planes at
+bytes_taken d (CacheProgramStarted at) = plane_bytes d.geometry d.planes at
 bytes_taken d _ = []
 
 -- the die after an effect: each fact by the step that the definitions of a channel take
 pub record IsAfter (e : Effect) (old new : Die) : Type 0 where
   pub geometry : new.geometry ≡ old.geometry
   pub planes : new.planes ≡ old.planes
-  pub pages : (p : PageAddress) → page_of new p ≡ content_after old.geometry e (pending_of old) p (page_of old p)
+  pub pages : (p : PageAddress) → page_of new p ≡ content_after old.geometry e old.closer (pending_of old) old.in_array p (page_of old p)
   pub register : new.register ≡ register_after e old.array_page old.queued old.held old.register
-  pub held : new.held ≡ held_after e old.copying old.array_page old.queued old.held
+  pub held : new.held ≡ held_after e (is_copyback_read old.closer) old.array_page old.queued old.held
   pub array_page : new.array_page ≡ array_page_after e old.array_page
   pub busy : new.busy ≡ busy_after e old.busy
-  pub caching : new.caching ≡ caching_after e old.caching
-  pub copying : new.copying ≡ copying_after e old.copying
-  pub array_busy : new.array_busy ≡ array_busy_after e old.busy old.caching old.array_busy
+  pub closer : new.closer ≡ closer_after e old.closer
+  pub array_busy : new.array_busy ≡ array_busy_after e old.busy old.closer old.array_busy
   pub queue : new.queued ≡ queue_after e old.queued
   pub queued : queued_of new ≡ queued_work_after e (bytes_taken old e) (queued_of old)
   pub pending : pending_of new ≡ pending_work_after e (bytes_taken old e) (queued_of old) (pending_of old)
-  pub failed : new.failed ≡ failed_after e (is_some_work (pending_of old)) old.failed
+  pub in_array : new.in_array ≡ array_work_after e old.closer (pending_of old) old.in_array
+  pub failed : new.failed ≡ failed_after e old.closer (is_some_work (pending_of old)) old.failed
+  pub failed_before : new.failed_before ≡ before_failed_after e old.closer (is_some_work old.in_array) old.failed old.failed_before
+
+-- what a die tells of failures
+abbrev pub failures_of : Die → Failures
+failures_of d = record { last = d.failed && not (is_plane_program d.closer); before = d.failed_before }
 
 abbrev pub status_of : Die → ℕ
-status_of d = if d.busy then 0x80 else (if d.array_busy then 0xc0 else (if d.failed then 0xe1 else 0xe0))
+status_of d = status_byte d.busy d.array_busy (failures_of d).last (failures_of d).before
 
 -- the bytes of its register
 abbrev pub bytes_shown : Die → List ℕ
@@ -192,12 +175,13 @@ are_none (p ∷ held) = false
 -- nothing is going on, waits, is held or has failed
 abbrev pub is_new : Die → Bool
 is_new d =
-    not d.busy && (not d.array_busy && (not d.caching && (not d.copying && (is_empty d.register && (are_none d.held && (not (has_some d.queued) && (not (has_some d.pending) && not d.failed)))))))
+    not d.busy && (not d.array_busy && (is_none d.closer && (is_empty d.register && (are_none d.held && (not (has_some d.queued) && (not (has_some d.pending) && (not (is_some_work d.in_array) && (not d.failed && not d.failed_before))))))))
 
 abbrev pub row_of_work : Work → Option PageAddress
 row_of_work (w.Read at) = Some at
 row_of_work (w.Copyback at planes) = Some at
 row_of_work (w.Program at) = Some at
+row_of_work (w.CacheProgram at) = Some at
 row_of_work (w.Erase at) = Some at
 row_of_work (w.Queue (Erase at)) = Some at
 row_of_work (w.Queue (Program at)) = Some at
@@ -211,6 +195,7 @@ is_row_of g (Some p) = is_row g p
 -- the work goes together with the rows that are queued
 abbrev pub goes_with : Parts → Work → List Queued → Bool
 goes_with g (w.Program at) queue = not (some_queued_clashes g false at queue)
+goes_with g (w.CacheProgram at) queue = not (some_queued_clashes g false at queue)
 goes_with g (w.Erase at) queue = not (some_queued_clashes g true at queue)
 goes_with g (w.Queue (Erase at)) queue = not (some_queued_clashes g true at queue)
 goes_with g (w.Queue (Program at)) queue = not (some_queued_clashes g false at queue)
@@ -233,6 +218,7 @@ pub record CanBegin (work : Work) (d : Die) : Type 0 where
 -- what a work makes of the rows that wait
 abbrev pub queue_with : Work → List Queued → List Queued
 queue_with (w.Program at) queue = Program at ∷ queue
+queue_with (w.CacheProgram at) queue = Program at ∷ queue
 queue_with (w.Erase at) queue = Erase at ∷ queue
 queue_with (w.Queue q) queue = q ∷ queue
 queue_with (w.Read at) queue = []
@@ -243,17 +229,20 @@ queue_with _ queue = queue
 -- the rows that wait are those that the next ready ends
 abbrev pub closes : Work → Bool
 closes (w.Program at) = true
+closes (w.CacheProgram at) = true
 closes (w.Erase at) = true
 closes _ = false
 
 abbrev pub page_to_keep : Work → Option PageAddress
 page_to_keep (w.Program at) = Some at
+page_to_keep (w.CacheProgram at) = Some at
 page_to_keep (w.Queue (Program at)) = Some at
 page_to_keep _ = None
 
 -- the effect puts a page in place, which takes memory
 abbrev pub is_program : Effect → Bool
 is_program (ProgramStarted queued at) = true
+is_program (CacheProgramStarted at) = true
 is_program _ = false
 
 -- the programs of a list have their pages in place
@@ -277,6 +266,17 @@ abbrev pub are_programs : List Queued → Bool
 are_programs [] = true
 are_programs (q ∷ queue) = not (is_erase q) && are_programs queue
 
+-- the row programs a page
+abbrev pub is_written : Queued → Bool
+is_written (Program at) = true
+is_written (Erase at) = false
+is_written (QueuedRead at) = false
+
+-- each does
+abbrev pub are_written : List Queued → Bool
+are_written [] = true
+are_written (q ∷ queue) = is_written q && are_written queue
+
 -- some row changes pages
 abbrev pub has_work : List Queued → Bool
 has_work [] = false
@@ -291,6 +291,17 @@ pub record HasRows (g : Parts) (pages : List ((ℕ × ℕ) × List ℕ)) (regist
   pub count : length registers ≡ planes g
   pub widths : (k : ℕ) (bytes : List ℕ) → slice_get registers k ≡ Some bytes → length bytes ≡ page_len g
 
+-- the programs that the array goes on with: their pages are in place, and the register of each plane that they take their bytes from has the length of a page
+pub record HasArray (g : Parts) (pages : List ((ℕ × ℕ) × List ℕ)) (registers : List (List ℕ)) (queue : List Queued) : Type 0 where
+  pub rows : HasRows g pages registers
+  pub there : AreKept pages queue
+  pub programs : are_written queue ≡ true
+
+-- behind an 11 no row is closed, and behind a 15 none but programs
+pub record ClosedBy (last : Option Command) (queue : List Queued) (closed : Bool) : Type 0 where
+  pub queued : is_plane_program last ≡ true → closed ≡ false
+  pub cached : is_cache_program last ≡ true → closed ≡ true → are_written queue ≡ true
+
 -- what is true of every die, by its parts; queue are the rows queued, or where they are closed those that the next ready ends
 pub record IsDie (g : Parts) (parameters : List ℕ) (pages : List ((ℕ × ℕ) × List ℕ)) (registers : List (List ℕ)) (queue : List Queued) (closed busy : Bool) : Type 0 where
   pub limits : InLimits g
@@ -301,17 +312,17 @@ pub record IsDie (g : Parts) (parameters : List ℕ) (pages : List ((ℕ × ℕ)
   pub works : closed ≡ true → busy ≡ true
   pub some : closed ≡ true → has_work queue ≡ true
 
--- while its register holds a page the bytes of that page stand ready, and works that wait for their end leave no page in it, or held
-pub record ShowsPage (g : Parts) (pages : List ((ℕ × ℕ) × List ℕ)) (register : Register) (held : List PageAddress) (output : List ℕ) (closed : Bool) : Type 0 where
+-- while its register holds a page the bytes of that page stand ready
+pub record ShowsPage (g : Parts) (pages : List ((ℕ × ℕ) × List ℕ)) (register : Register) (output : List ℕ) : Type 0 where
   pub page : (at : PageAddress) → register ≡ Page at → output ≡ page_in (page_len g) pages at
   pub width : length output ≡ page_len g
-  pub ends : closed ≡ true → register ≡ Empty
-  pub frees : closed ≡ true → held ≡ []
 
--- what is true of every die, and of the bytes that stand ready
-pub record KeepsDie (g : Parts) (parameters : List ℕ) (pages : List ((ℕ × ℕ) × List ℕ)) (registers : List (List ℕ)) (queue : List Queued) (closed busy : Bool) (register : Register) (held : List PageAddress) (output : List ℕ) : Type 0 where
+-- what is true of every die, of what its array goes on with, and of the bytes that stand ready
+pub record KeepsDie (g : Parts) (parameters : List ℕ) (pages : List ((ℕ × ℕ) × List ℕ)) (registers array_registers : List (List ℕ)) (queue in_array : List Queued) (closed busy : Bool) (last : Option Command) (register : Register) (output : List ℕ) : Type 0 where
   pub die : IsDie g parameters pages registers queue closed busy
-  pub shows : ShowsPage g pages register held output closed
+  pub array : HasArray g pages array_registers in_array
+  pub closed_by : ClosedBy last queue closed
+  pub shows : ShowsPage g pages register output
 
 -- a die fresh from the factory: every byte of every page and register is FF
 abbrev pub new_die : Parts → Die
@@ -324,10 +335,11 @@ new_die g =
       held = [];
       array_page = record { block = 0; page = 0 };
       busy = false;
-      caching = false;
-      copying = false;
+      closer = None;
       array_busy = false;
       queued = [];
       pending = [];
+      in_array = [];
       failed = false;
+      failed_before = false;
     }

@@ -13,8 +13,8 @@ use Rattle.die_model.specs.declared.work.Work.{Work}
 use Rattle.onfi_cycle.specs.Sequence.{tail, facts_of, filled, row}
 use Rattle.onfi_cycle.specs.Bounds.{names_program, RowFits}
 use Rattle.onfi_cycle.specs.Effect.{names_lun, page_address, HasPlanes}
-use Rattle.onfi_cycle.specs.Lun.{effect_on, closer, is_copyback_read, is_busy, is_caching, is_array_busy, array_page, register, held, queue, lun_view}
-use Rattle.onfi_cycle.specs.Content.{queued_work, pending_work, has_failed, content, begun_with, status, register_bytes}
+use Rattle.onfi_cycle.specs.Lun.{effect_on, closer, is_busy, is_array_busy, array_page, register, held, queue, lun_view}
+use Rattle.onfi_cycle.specs.Content.{queued_work, pending_work, array_work, has_failed, has_failed_before, content, begun_with, status, register_bytes}
 use Rattle.onfi_cycle.specs.Permitted.{broken}
 use Rattle.onfi_cycle.specs.Channel.{Channel}
 use Rattle.die_model.specs.Die.{Die, CanBegin, work_begun, status_of, bytes_shown, is_new, IsAfter, page_of, plane_bytes, queued_of, pending_of}
@@ -38,13 +38,14 @@ pub record IsDieOf (s : Channel) (past : List Item) (l : Lun) (d : Die) : Type 0
   pub held : d.held ≡ held s.geometry past l
   pub array_page : d.array_page ≡ array_page s.geometry past l
   pub busy : d.busy ≡ is_busy s.geometry past l
-  pub caching : d.caching ≡ is_caching s.geometry past l
-  pub copying : d.copying ≡ is_copyback_read (closer s.geometry past l)
+  pub closer : d.closer ≡ closer s.geometry past l
   pub array_busy : d.array_busy ≡ is_array_busy s.geometry past l
   pub queue : d.queued ≡ queue s.geometry past l
   pub queued : queued_of d ≡ queued_work s.geometry s.opening past l
   pub pending : pending_of d ≡ pending_work s.geometry s.opening past l
+  pub in_array : d.in_array ≡ array_work s.geometry s.opening past l
   pub failed : d.failed ≡ has_failed s.geometry past l
+  pub failed_before : d.failed_before ≡ has_failed_before s.geometry past l
   pub count : length d.planes ≡ planes s.geometry
   pub open_program : IsFilling s.geometry (begun_with s.geometry (content s.geometry s.opening past l) past l) (tail past l.ce) l.lun d
 
@@ -67,7 +68,7 @@ CanBeginSome (Some work) d = CanBegin work d
 -- the effect isn't that of a ready
 abbrev pub is_no_ready : Effect → Bool
 is_no_ready (BecameReady fail) = false
-is_no_ready ArrayBecameReady = false
+is_no_ready (ArrayBecameReady fail) = false
 is_no_ready e = true
 
 -- what a caller of `work` sees to

@@ -8,13 +8,14 @@ ghost use Rattle.nand_geometry.specs.Page.{parameter_bytes};
 ghost use Rattle.onfi_cycle.specs.declared.page_address.PageAddress.{PageAddress as At};
 ghost use Rattle.die_model.specs.Die.{page_to_keep, is_program};
 ghost use Rattle.onfi_cycle.specs.declared.register.Register.{Register};
+ghost use Rattle.onfi_cycle.specs.Content.{is_some_work};
 ghost use Rattle.die_model.specs.Pages.{kept, page_in};
 ghost use Rattle.die_model.specs.Image.{image_of};
 ghost use Rattle.die_model.specs.Loading.{image_fault, IsJudgedBy, IsLoaded, Restores};
-ghost use Rattle.die_model.specs.Die.{CanBegin, IsAfter, effect_of, status_of, bytes_shown, is_new, new_die, page_of, filled_with};
+ghost use Rattle.die_model.specs.Die.{CanBegin, IsAfter, effect_of, failures_of, status_of, bytes_shown, is_new, new_die, page_of, filled_with};
 
 use crate::activity::Activity;
-use crate::effects::{end_works, plane_of};
+use crate::effects::{end_works, plane_of, take_unless};
 use crate::loading::{image_fault, keep_image};
 use crate::page::Page;
 use crate::pages::Pages;
@@ -23,7 +24,10 @@ use crate::unique_id::{unique_id, unique_id_byte};
 use crate::work::Work;
 use arrayvec::ArrayVec;
 use nand_geometry::Geometry;
-use onfi_cycle::{Effect, Filling, PageAddress, Queued, Register, Status};
+use onfi_cycle::{
+    Effect, Failures, Filling, PageAddress, Queued, Register, Status, is_cache_program,
+    is_plane_program,
+};
 use std::alloc::{AllocError, Allocator, Global};
 use std::marker::Model;
 
@@ -36,19 +40,21 @@ pub struct LunDie<A: Allocator = Global> {
     pages: Pages<A>,
     /// The page register of each plane.
     planes: Vec<Page<A>, A>,
+    /// The bytes of the programs that the array goes on with, of each plane.
+    array_planes: Vec<Page<A>, A>,
     /// The bytes of the page that the register holds, if it holds one.
     output: Page<A>,
     activity: Activity,
 }
 
 impl<A: Allocator> Model for LunDie<A> {
-    ghost use Rattle.die_model.specs.Die.{Die, KeepsDie, die_with};
+    ghost use Rattle.die_model.specs.Die.{Die, KeepsDie, die_with, works_of};
 
     ghost Value = { Die };
 
-    ghost view = { λ d. die_with d.geometry d.pages d.planes.items d.activity.register d.activity.held.items d.activity.array_page d.activity.busy d.activity.caching d.activity.copying d.activity.array_busy d.activity.queue.items d.activity.closed d.activity.failed };
+    ghost view = { λ d. die_with d.geometry d.pages d.planes.items d.activity.register d.activity.held.items d.activity.array_page d.activity.busy d.activity.closer d.activity.array_busy d.activity.queue.items d.activity.closed (works_of d.geometry d.array_planes.items d.activity.in_array.items) d.activity.failed d.activity.failed_before };
 
-    ghost invariant = { λ d. KeepsDie d.geometry d.parameters.items d.pages d.planes.items d.activity.queue.items d.activity.closed d.activity.busy d.activity.register d.activity.held.items d.output };
+    ghost invariant = { λ d. KeepsDie d.geometry d.parameters.items d.pages d.planes.items d.array_planes.items d.activity.queue.items d.activity.in_array.items d.activity.closed d.activity.busy d.activity.closer d.activity.register d.output };
 }
 
 /// How many copies of the parameter page its register holds.
@@ -116,6 +122,33 @@ fn fetch<A: Allocator + Copy>(output: &mut Page<A>, pages: &Pages<A>, register: 
     }
 }
 
+// Takes the bytes of other registers, each of its plane.
+fn copy_registers<A: Allocator + Copy>(into: &mut [Page<A>], from: &[Page<A>])
+    requires count { length into.old ≡ length from.now }
+    requires widths { (k : ℕ) (old new : List ℕ) → slice_get into.old k ≡ Some old → slice_get from.now k ≡ Some new → length old ≡ length new }
+    ensures { into.new ≡ from.now }
+{
+    match from {
+        [] => {}
+        [page, rest @ ..] => {
+            let (first, others) = into.split_at_mut(1);
+            first[0].copy_from(page.bytes());
+            copy_registers(others, rest);
+        }
+    }
+}
+
+// Takes the bytes of other registers, or keeps its own.
+fn take_registers<A: Allocator + Copy>(into: &mut [Page<A>], from: &[Page<A>], takes: bool)
+    requires count { length into.old ≡ length from.now }
+    requires widths { (k : ℕ) (old new : List ℕ) → slice_get into.old k ≡ Some old → slice_get from.now k ≡ Some new → length old ≡ length new }
+    ensures { into.new ≡ (if takes then from.now else into.old) }
+{
+    if takes {
+        copy_registers(into, from);
+    }
+}
+
 // Copies the bytes from a place on, where there are as many as in the slice.
 fn copy_part(bytes: &[u8], from: usize, into: &mut [u8])
     ensures { from + length into.old ≤ length bytes.now → into.new ≡ take (length into.old) (drop from bytes.now) }
@@ -141,18 +174,20 @@ impl<A: Allocator + Copy> LunDie<A> {
             geometry,
             pages: Pages::new(alloc),
             planes: registers(alloc, planes, len)?,
+            array_planes: registers(alloc, planes, len)?,
             output: Page::blank(alloc, len)?,
             activity: Activity {
                 register: Register::Empty,
                 held: ArrayVec::new(),
                 array_page: PageAddress { block: 0, page: 0 },
                 busy: false,
-                caching: false,
-                copying: false,
+                closer: None,
                 array_busy: false,
                 queue: ArrayVec::new(),
                 closed: false,
+                in_array: ArrayVec::new(),
                 failed: false,
+                failed_before: false,
             },
         })
     }
@@ -208,11 +243,14 @@ impl<A: Allocator + Copy> LunDie<A> {
         self.activity.busy
     }
 
-    /// The last work failed.
-    pub fn has_failed(&self) -> bool
-        ensures { result ≡ self.now.failed }
+    /// What it tells of failures.
+    pub fn failures(&self) -> Failures
+        ensures { result ≡ failures_of self.now }
     {
-        self.activity.failed
+        Failures {
+            last: self.activity.failed && !is_plane_program(self.activity.closer),
+            before: self.activity.failed_before,
+        }
     }
 
     /// A copy of its pages.
@@ -231,11 +269,19 @@ impl<A: Allocator + Copy> LunDie<A> {
         self.activity.array_page = PageAddress { block: 0, page: 0 };
     }
 
-    /// Its array becomes ready after a cache read.
-    pub fn array_ready(&mut self)
-        ensures { IsAfter ArrayBecameReady self.old self.new }
+    /// Its array becomes ready, with failure or without. Without failure the programs of a cache program have taken effect. It takes no memory.
+    pub fn finish_array(&mut self, fail: bool)
+        ensures { IsAfter (ArrayBecameReady fail) self.old self.new }
     {
-        self.activity.array_busy = false;
+        take_unless(
+            &mut self.pages,
+            self.geometry.parts(),
+            self.array_planes.as_slice(),
+            self.activity.in_array.as_slice(),
+            fail,
+        );
+        self.activity.finish_array(fail);
+        fetch(&mut self.output, &self.pages, self.activity.register);
     }
 
     /// The geometry of its target.
@@ -249,15 +295,18 @@ impl<A: Allocator + Copy> LunDie<A> {
     pub fn status(&self) -> Status
         ensures { result.0 ≡ status_of self.now }
     {
-        if self.activity.busy {
-            Status::BUSY
-        } else if self.activity.array_busy {
-            Status::ARRAY_BUSY
-        } else if self.activity.failed {
-            Status::FAILED
-        } else {
-            Status::READY
-        }
+        Status::of(
+            self.activity.busy,
+            self.activity.array_busy,
+            self.failures(),
+        )
+    }
+
+    // Its array goes on with programs behind the ready of a cache program.
+    fn has_array_work(&self) -> bool
+        ensures { result ≡ is_some_work self.now.in_array }
+    {
+        !self.activity.in_array.is_empty()
     }
 
     /// Nothing is going on, waits, is held or has failed.
@@ -266,26 +315,34 @@ impl<A: Allocator + Copy> LunDie<A> {
     {
         !self.activity.busy
             && !self.activity.array_busy
-            && !self.activity.caching
-            && !self.activity.copying
+            && self.activity.closer.is_none()
             && self.activity.register == Register::Empty
             && self.activity.held.is_empty()
             && self.activity.queue.is_empty()
+            && !self.has_array_work()
             && !self.activity.failed
+            && !self.activity.failed_before
     }
 
-    /// Becomes ready, with failure or without. Without failure the works have taken effect. It takes no memory.
-    pub fn finish(&mut self, fail: bool)
+    /// Becomes ready, with failures or without. Without failure the works have taken effect. It takes no memory.
+    pub fn finish(&mut self, fail: Failures)
         ensures { IsAfter (BecameReady fail) self.old self.new }
     {
         end_works(
             &mut self.pages,
             self.geometry.parts(),
             self.planes.as_slice(),
+            self.array_planes.as_slice(),
             &self.activity,
             fail,
         );
+        take_registers(
+            self.array_planes.as_mut_slice(),
+            self.planes.as_slice(),
+            is_cache_program(self.activity.closer),
+        );
         self.activity.finish(fail);
+        fetch(&mut self.output, &self.pages, self.activity.register);
     }
 
     /// Begins a work. Without memory for its end all stays as it was.

@@ -13,6 +13,8 @@ pub enum Work {
     Copyback { page: PageAddress, planes: u32 },
     /// The register of its plane goes into a page, and the queue with it.
     Program(PageAddress),
+    /// The same, and the array goes on with it behind the ready.
+    CacheProgram(PageAddress),
     /// The block of this row is erased, and the queue goes with it.
     Erase(PageAddress),
     /// A row waits for the last one of its queue.
@@ -56,6 +58,7 @@ impl Work {
             Effect::ProgramStarted { queued: true, page } => {
                 Some(Work::Queue(Queued::Program(page)))
             }
+            Effect::CacheProgramStarted { page } => Some(Work::CacheProgram(page)),
             Effect::EraseStarted { queued: false, row } => Some(Work::Erase(row)),
             Effect::EraseStarted { queued: true, row } => Some(Work::Queue(Queued::Erase(row))),
             Effect::IdRead => Some(Work::Identifier),
@@ -86,6 +89,7 @@ impl Work {
                 queued: false,
                 page,
             },
+            Work::CacheProgram(page) => Effect::CacheProgramStarted { page },
             Work::Erase(row) => Effect::EraseStarted { queued: false, row },
             Work::Queue(Queued::Erase(row)) => Effect::EraseStarted { queued: true, row },
             Work::Queue(Queued::Program(page)) => Effect::ProgramStarted { queued: true, page },
@@ -107,7 +111,9 @@ impl Work {
         ensures { result ≡ page_to_keep self }
     {
         match self {
-            Work::Program(at) | Work::Queue(Queued::Program(at)) => Some(at),
+            Work::Program(at) | Work::CacheProgram(at) | Work::Queue(Queued::Program(at)) => {
+                Some(at)
+            }
             _ => None,
         }
     }
@@ -119,7 +125,7 @@ impl Work {
         ensures closed { result ≡ closes self }
     {
         match self {
-            Work::Program(at) => {
+            Work::Program(at) | Work::CacheProgram(at) => {
                 queue.insert(0, Queued::Program(at));
                 true
             }

@@ -1,5 +1,5 @@
 -- What is judged in two goes is judged in one.
-use Rattle.std.proofs.Common.{◌≡◌, Result, Ok, sym, ap, Bool, false, ◌||◌, is_some, List, [], ◌∷◌, ◌++◌, Option, ℕ, zero, suc, ◌+◌, ◌-◌, arith, refl, subst, ◌∙◌}
+use Rattle.std.proofs.Common.{◌≡◌, Result, Ok, ap, Bool, ◌||◌, is_some, List, [], ◌∷◌, ◌++◌, Option, ℕ, zero, suc, ◌+◌, ◌-◌, arith, refl, subst, ◌∙◌}
 use Rattle.std.proofs.lemmas.List.{append_assoc}
 use Rattle.std.proofs.Math.Bool.{or_assoc}
 use Rattle.edge_timing.specs.declared.distance.Distance.{Distance}
@@ -11,7 +11,7 @@ use Rattle.edge_timing.specs.Judged.{short_of, shorts, is_any, IsJudging}
 use Rattle.edge_timing.specs.declared.strobed.Strobed.{Strobed}
 use Rattle.edge_timing.specs.declared.target_edges.TargetEdges.{TargetEdges}
 use Rattle.edge_timing.specs.Pauses.{pauses_of}
-use Rattle.edge_timing.specs.Watched.{target_at, strobe_distances, cycle_distances, hold_distances, after_holds, after_lines, Step, then_step, strobes_step, target_step, targets_step, changes_step, whole_step, looked, IsStepped}
+use Rattle.edge_timing.specs.Watched.{target_at, strobe_distances, cycle_distances, hold_distances, after_holds, after_lines, then_step, strobes_step, target_step, targets_step, changes_step, whole_step, looked, IsStepped}
 use Rattle.trace_timing.specs.declared.timings.Timings.{Timings}
 use Rattle.vcd_text.specs.Tokens.{◌>>=◌}
 use Rattle.bus_capture.specs.declared.fault.BusFault.{BusFault}

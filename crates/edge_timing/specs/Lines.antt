@@ -1,5 +1,5 @@
 -- One line of a bus, and two edges of which a time is wanted.
-use Rattle.std.specs.Prelude.{ℕ, ◌==◌, ◌&&◌, not, Bool, true, false, if◌then◌else◌, Option, Some, None}
+use Rattle.std.specs.Prelude.{ℕ, ◌==◌, ◌&&◌, not, Bool, if◌then◌else◌, Option, Some, None}
 use Rattle.vcd_text.specs.declared.tokens.Level.{Level}
 use Rattle.vcd_text.specs.declared.tokens.Level.TheVariants.{Low, High, Unknown}
 use Rattle.edge_timing.specs.declared.line.Line.{Line}

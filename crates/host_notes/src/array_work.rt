@@ -24,9 +24,14 @@ fn row_of(bytes: [u8; 3]) -> u32 {
     u32::from(low) + 256 * u32::from(middle) + 65_536 * u32::from(high)
 }
 
-// An operation of which the model knows nothing. A copyback is one where it isn't permitted.
+// A program that a 15h closed.
+fn is_cache_program(operation: Operation) -> bool {
+    operation.opener() == Some(0x80) && operation.closer == Some(0x15)
+}
+
+// An operation of which the model knows nothing. A copyback or a cache program is one where it isn't permitted.
 fn is_outside(operation: Operation) -> bool {
-    operation.is_foreign() && operation.opener() != Some(0x85)
+    operation.is_foreign() && operation.opener() != Some(0x85) && !is_cache_program(operation)
 }
 
 impl ArrayWork {

@@ -254,4 +254,4 @@ stays_within turns t u v w r q a b d =
     (and_from _ _ (free_within (span_at_heads any_number b.cached.index turns) (span_at_heads any_number a.cached.index turns) (heads_grown any_number b.cached.index turns) (heads_grown any_number a.cached.index turns))
     (and_from _ _ (free_within (span_at_heads any_number b.cached.page turns) (span_at_heads any_number a.cached.page turns) (heads_grown any_number b.cached.page turns) (heads_grown any_number a.cached.page turns))
     (and_from _ _ (none_within b.held) (and_from _ _ (none_within b.array)
-    (and_from _ _ (none_within b.copies.even) (and_from _ _ (none_within b.copies.odd) (and_from _ _ refl (and_from _ _ refl (any_held b.copies.holds))))))))))))))))
+    (and_from _ _ (and_from _ _ (none_within b.copies.even) (and_from _ _ (none_within b.copies.odd) (and_from _ _ refl (and_from _ _ refl (any_held b.copies.holds))))) refl))))))))))))

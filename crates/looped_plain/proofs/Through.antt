@@ -227,7 +227,8 @@ luns s t u h k =
     (pair _ _ _ _ _ _ (spans s.cached.index t.cached.index u.cached.index)
     (pair _ _ _ _ _ _ (spans s.cached.page t.cached.page u.cached.page)
     (pair _ _ _ _ _ _ (λ a b. sets u.held.0 t.held.0 s.held.0 b a)
-    (pair _ _ _ _ _ _ (λ a b. sets u.array.0 t.array.0 s.array.0 b a) (copies s.copies t.copies u.copies))))))))) h k
+    (pair _ _ _ _ _ _ (λ a b. sets u.array.0 t.array.0 s.array.0 b a)
+    (pair _ _ _ _ _ _ (copies s.copies t.copies u.copies) (mays s.programming t.programming u.programming)))))))))) h k
 
 pub within_through : (s t u : State) → is_state_within s t ≡ true → is_state_within t u ≡ true → is_state_within s u ≡ true
 unfolding is_state_within
@@ -310,7 +311,8 @@ copies_self c = and_from _ _ (has_self c.even.0) (and_from _ _ (has_self c.odd.0
 lun_self : (s : KnownLun) → is_lun_within s s ≡ true
 lun_self s =
     and_from _ _ (may_self s.busy) (and_from _ _ (held_self s.register) (and_from _ _ (output_self s.column) (and_from _ _ (rows_self s.queue)
-    (and_from _ _ (has_self s.last.0) (and_from _ _ (span_self s.cached.index) (and_from _ _ (span_self s.cached.page) (and_from _ _ (has_self s.held.0) (and_from _ _ (has_self s.array.0) (copies_self s.copies)))))))))
+    (and_from _ _ (has_self s.last.0) (and_from _ _ (span_self s.cached.index) (and_from _ _ (span_self s.cached.page) (and_from _ _ (has_self s.held.0) (and_from _ _ (has_self s.array.0)
+    (and_from _ _ (copies_self s.copies) (may_self s.programming))))))))))
 
 -- where its place is a known one
 pub within_itself : (s : State) → is_place_within s.target.tail s.target.tail ≡ true → is_state_within s s ≡ true

@@ -5,7 +5,7 @@ use Rattle.std.proofs.lemmas.Bool.{and_parts, or_parts}
 use Rattle.nand_geometry.specs.declared.parts.Parts.{Parts}
 use Rattle.nand_geometry.specs.Limits.{indices}
 use Rattle.onfi_cycle.specs.declared.command.Command.{Command}
-use Rattle.onfi_cycle.specs.declared.command.Command.TheVariants.{Read, ReadConfirm, ChangeReadColumn, ChangeReadColumnEnhanced, ChangeReadColumnConfirm, BlockErase, BlockEraseConfirm, PageProgram, ChangeWriteColumn, ProgramConfirm, BlockErasePlane, ProgramPlane, Reset, ReadId, ReadParameterPage, ReadCacheSequential, ReadCacheEnd, ReadUniqueId, GetFeatures, SetFeatures, ResetLun, SynchronousReset, ReadStatus as AskStatus, ReadStatusEnhanced, ReadPlane, CopybackRead}
+use Rattle.onfi_cycle.specs.declared.command.Command.TheVariants.{ProgramCache, Read, ReadConfirm, ChangeReadColumn, ChangeReadColumnEnhanced, ChangeReadColumnConfirm, BlockErase, BlockEraseConfirm, PageProgram, ChangeWriteColumn, ProgramConfirm, BlockErasePlane, ProgramPlane, Reset, ReadId, ReadParameterPage, ReadCacheSequential, ReadCacheEnd, ReadUniqueId, GetFeatures, SetFeatures, ResetLun, SynchronousReset, ReadStatus as AskStatus, ReadStatusEnhanced, ReadPlane, CopybackRead}
 use Rattle.onfi_cycle.specs.declared.item.Item.{Item}
 use Rattle.onfi_cycle.specs.Command.{command, wants_one_lun}
 use Rattle.onfi_cycle.specs.Sequence.{tail, facts_of, is_open}
@@ -35,6 +35,7 @@ use Rattle.micro_claims.proofs.Sounding.{KnownJob, Claims, knows_tail, NoReasons
 use Rattle.micro_claims.proofs.Commands.{sound_00, sound_30, sound_05, sound_e0, sound_60, sound_d0, sound_80, sound_85, sound_10}
 use Rattle.micro_claims.proofs.Identities.{sound_90, sound_ec, sound_ed, sound_ee, sound_ef, sound_any_address}
 use Rattle.micro_claims.proofs.PlaneCommands.{sound_06, sound_32, sound_35}
+use Rattle.micro_claims.proofs.CachePrograms.{sound_15}
 use Rattle.micro_claims.proofs.MoreCommands.{sound_d1, sound_11, sound_ff, sound_fa, sound_fc, sound_31, sound_3f}
 use Rattle.micro_claims.proofs.Words.{sound_get, sound_put}
 use Rattle.micro_claims.proofs.Controls.{sound_stat, sound_wait, sound_yield, sound_end, sound_jump, sound_branch}
@@ -72,6 +73,7 @@ data Taken (d : Command) : Type 0 where
   Is06 : (e : d ≡ ChangeReadColumnEnhanced) → Taken d
   Is32 : (e : d ≡ ReadPlane) → Taken d
   Is35 : (e : d ≡ CopybackRead) → Taken d
+  Is15 : (e : d ≡ ProgramCache) → Taken d
 
 asked : (a b : Bool) → (a || true || b) ≡ false → ⊥
 asked true b h = cc
@@ -104,6 +106,7 @@ which g ReadStatusEnhanced h = absurd (asked (is_unfit g ReadStatusEnhanced) (wa
 which g ChangeReadColumnEnhanced h = Is06 refl
 which g ReadPlane h = Is32 refl
 which g CopybackRead h = Is35 refl
+which g ProgramCache h = Is15 refl
 which g _ h = cc
 
 taken_command : (g : Parts) (text : Microprogram) (v : State) (byte : ℕ) → NoReasons g text v (CommandWord byte) → Taken (command byte)
@@ -138,6 +141,7 @@ command_sound s j k v past c done rest at byte scene f clear acc = by (taken_com
     by (Is06 e) = sound_06 s j k v past c done rest at byte e scene f clear acc
     by (Is32 e) = sound_32 s j k v past c done rest at byte e scene f clear acc
     by (Is35 e) = sound_35 s j k v past c done rest at byte e scene f clear acc
+    by (Is15 e) = sound_15 s j k v past c done rest at byte e scene f clear acc
 
 branch_sound : (s : Channel) (j : Job) (k : KnownJob s j) (v : State) (past : List Item) (c : Scene) (done : List Done) (rest : List Line) (at mask target : ℕ) → IsScene s j.lun past c → Fits s.geometry j v done c true → NoReasons s.geometry j.text v (BranchOnStatus mask target) → goes_on (BranchOnStatus mask target) (λ t. accepts s.geometry (bounds_of j.text) t (state_after s.geometry v (BranchOnStatus mask target)) rest) ≡ true → SoundWord s j past done rest at (BranchOnStatus mask target)
 branch_sound s j k v past c done rest at mask target scene f clear acc =
@@ -282,7 +286,7 @@ first_fits s j past idle accepted =
         tail = λ e. record { place = Closed; here = refl; address = no_address; is = open_not (ltb 1 s.geometry.luns) (is_open (facts_of (tail past j.lun.ce))) e; now = λ x. cc; column = λ x. cc; row = λ x. cc; named = λ x. cc; single = λ x. cc };
         free = λ e. record { tail = refl; shows = refl; unread = refl };
         shows = tt;
-        lun = record { ready = λ e. idle.ready; register = tt; column = tt; queue = idle.no_queue; last = other_there (closer s.geometry past j.lun) idle.no_cache; cached = λ base e. cc; held = λ e. cc; planes = no_pages s.geometry scene.view.held; array = no_pages s.geometry (scene.view.array_page ∷ []); copies = uncopied_fit s.geometry no_planes (index_now j.base []) scene.view.closer scene.view.held };
+        lun = record { ready = λ e. idle.ready; register = tt; column = tt; queue = idle.no_queue; last = other_there (closer s.geometry past j.lun) idle.no_cache; cached = λ base e. cc; held = λ e. cc; planes = no_pages s.geometry scene.view.held; array = no_pages s.geometry (scene.view.array_page ∷ []); copies = uncopied_fit s.geometry no_planes (index_now j.base []) scene.view.closer scene.view.held; programming = λ e. idle.no_program };
       };
       accepted = accepted;
     }

@@ -11,8 +11,8 @@ use Rattle.onfi_cycle.specs.declared.target_cycle.TargetCycle.TheVariants.{Addre
 use Rattle.onfi_cycle.specs.LunView.{LunView}
 use Rattle.onfi_cycle.specs.declared.effect.Effect.TheVariants.{ProgramAddressed}
 use Rattle.onfi_cycle.specs.Effect.{names_lun, page_address, program_row_effect}
-use Rattle.onfi_cycle.specs.Lun.{view_after}
-use Rattle.onfi_cycle.specs.Rules.{caching, refused_by, register_len, excludes_cache, holds_plane_of, may_copy, is_copying}
+use Rattle.onfi_cycle.specs.Lun.{view_after, programs}
+use Rattle.onfi_cycle.specs.Rules.{caching, refused_by, register_len, excludes_cache, excludes_program, holds_plane_of, may_copy, is_copying}
 use Rattle.micro_program.specs.Moves.{gives}
 use Rattle.micro_program.proofs.Scenes.{Scene, AddressAllowed, scene_behind}
 use Rattle.micro_program.proofs.SceneMoves.{MovesAllowed, scene_after}
@@ -66,6 +66,7 @@ pub record RowGoes (g : Parts) (lun : ℕ) (a : Address) (view : LunView) (o : C
   pub ready : view.busy ≡ false
   pub goes : refused_by g o (page_address g (row_of a.r1 a.r2 a.r3)) view.queue ≡ false
   pub no_cache : excludes_cache g o ≡ true → caching view ≡ false
+  pub no_program : excludes_program o ≡ true → programs view ≡ false
 
 abbrev pub scene_at : Command → Address → LunView → Bool → ℕ → Scene
 scene_at o a view sole n = record { facts = facts_behind (opener_facts o) (take n (bytes_of o a)); view = view; sole = sole }
@@ -82,7 +83,7 @@ read_steps g lun a view sole (suc (suc zero)) few column row = record { allowed 
 read_steps g lun a view sole (suc (suc (suc zero))) few column row = record { allowed = record { wanted = refl; profile = never (not (is_wide g.optional)); alone = λ e. cc; row = λ e. cc; column = λ e. cc; read_column = λ e. cc }; leads = refl }
 read_steps g lun a view sole (suc (suc (suc (suc zero)))) few column row =
     let r = row refl in
-    record { allowed = record { wanted = refl; profile = never (not (is_wide g.optional)); alone = λ e. cc; row = λ e. record { inside = r.inside; names = r.names; ready = λ x. r.ready; goes = r.goes; no_cache = λ x. r.no_cache (and_parts (excludes_cache g Read) true x).0; plane = λ x. cc; copy = λ x. cc; no_group = λ x. cc }; column = λ e. cc; read_column = λ e. cc }; leads = refl }
+    record { allowed = record { wanted = refl; profile = never (not (is_wide g.optional)); alone = λ e. cc; row = λ e. record { inside = r.inside; names = r.names; ready = λ x. r.ready; goes = r.goes; no_cache = λ x. r.no_cache (and_parts (excludes_cache g Read) true x).0; no_program = λ x. r.no_program refl; plane = λ x. cc; copy = λ x. cc; no_group = λ x. cc }; column = λ e. cc; read_column = λ e. cc }; leads = refl }
 read_steps g lun a view sole (suc (suc (suc (suc (suc n))))) few column row = absurd (omega (arith, few))
 
 pub enhanced_steps : (g : Parts) (lun : ℕ) (a : Address) (view : LunView) (sole : Bool) (n : ℕ) → n ≤ 4 → (n ≡ 1 → nat_le (page_len g) (carried a) ≡ false) → (n ≡ 4 → RowGoes g lun a view ChangeReadColumnEnhanced × (holds_plane_of g (page_address g (row_of a.r1 a.r2 a.r3)) view ≡ true)) → OneStep g lun (scene_at ChangeReadColumnEnhanced a view sole) (bytes_of ChangeReadColumnEnhanced a) n
@@ -93,7 +94,7 @@ enhanced_steps g lun a view sole (suc (suc (suc zero))) few column row = record 
 enhanced_steps g lun a view sole (suc (suc (suc (suc zero)))) few column row =
     let r = (row refl).0 in
     let held = (row refl).1 in
-    record { allowed = record { wanted = refl; profile = never (not (is_wide g.optional)); alone = λ e. cc; row = λ e. record { inside = r.inside; names = r.names; ready = λ x. r.ready; goes = r.goes; no_cache = λ x. cc; plane = λ x. held; copy = λ x. cc; no_group = λ x. cc }; column = λ e. cc; read_column = λ e. cc }; leads = refl }
+    record { allowed = record { wanted = refl; profile = never (not (is_wide g.optional)); alone = λ e. cc; row = λ e. record { inside = r.inside; names = r.names; ready = λ x. r.ready; goes = r.goes; no_cache = λ x. cc; no_program = λ x. r.no_program refl; plane = λ x. held; copy = λ x. cc; no_group = λ x. cc }; column = λ e. cc; read_column = λ e. cc }; leads = refl }
 enhanced_steps g lun a view sole (suc (suc (suc (suc (suc n))))) few column row = absurd (omega (arith, few))
 
 -- the last row cycle of 80h lets the LUN hold no page
@@ -111,7 +112,7 @@ program_steps g lun a view sole (suc (suc (suc zero))) few column row = record {
 program_steps g lun a view sole (suc (suc (suc (suc zero)))) few column row =
     let r = (row refl).0 in
     let alone = (row refl).1 in
-    record { allowed = record { wanted = refl; profile = never (not (is_wide g.optional)); alone = λ e. cc; row = λ e. record { inside = r.inside; names = r.names; ready = λ x. r.ready; goes = r.goes; no_cache = λ x. r.no_cache refl; plane = λ x. cc; copy = λ x. cc; no_group = λ x. alone }; column = λ e. cc; read_column = λ e. cc }; leads = ap (λ (b : Bool). record { facts = (program_scene a view sole 5).facts; view = view_after (program_row_effect b) view; sole = sole }) r.names }
+    record { allowed = record { wanted = refl; profile = never (not (is_wide g.optional)); alone = λ e. cc; row = λ e. record { inside = r.inside; names = r.names; ready = λ x. r.ready; goes = r.goes; no_cache = λ x. r.no_cache refl; no_program = λ x. cc; plane = λ x. cc; copy = λ x. cc; no_group = λ x. alone }; column = λ e. cc; read_column = λ e. cc }; leads = ap (λ (b : Bool). record { facts = (program_scene a view sole 5).facts; view = view_after (program_row_effect b) view; sole = sole }) r.names }
 program_steps g lun a view sole (suc (suc (suc (suc (suc n))))) few column row = absurd (omega (arith, few))
 
 -- 85h that begins a copy
@@ -123,7 +124,7 @@ copy_steps g lun a view sole (suc (suc (suc zero))) few column row = record { al
 copy_steps g lun a view sole (suc (suc (suc (suc zero)))) few column row =
     let r = (row refl).0 in
     let held = (row refl).1 in
-    record { allowed = record { wanted = refl; profile = never (not (is_wide g.optional)); alone = λ e. cc; row = λ e. record { inside = r.inside; names = r.names; ready = λ x. r.ready; goes = r.goes; no_cache = λ x. r.no_cache refl; plane = λ x. cc; copy = λ x. held; no_group = λ x. cc }; column = λ e. cc; read_column = λ e. cc }; leads = refl }
+    record { allowed = record { wanted = refl; profile = never (not (is_wide g.optional)); alone = λ e. cc; row = λ e. record { inside = r.inside; names = r.names; ready = λ x. r.ready; goes = r.goes; no_cache = λ x. r.no_cache refl; no_program = λ x. r.no_program refl; plane = λ x. cc; copy = λ x. held; no_group = λ x. cc }; column = λ e. cc; read_column = λ e. cc }; leads = refl }
 copy_steps g lun a view sole (suc (suc (suc (suc (suc n))))) few column row = absurd (omega (arith, few))
 
 pub erase_steps : (g : Parts) (lun : ℕ) (a : Address) (view : LunView) (sole : Bool) (n : ℕ) → n ≤ 2 → (n ≡ 2 → RowGoes g lun a view BlockErase) → OneStep g lun (scene_at BlockErase a view sole) (bytes_of BlockErase a) n
@@ -131,7 +132,7 @@ erase_steps g lun a view sole zero few row = record { allowed = record { wanted 
 erase_steps g lun a view sole (suc zero) few row = record { allowed = record { wanted = refl; profile = never (not (is_wide g.optional)); alone = λ e. cc; row = λ e. cc; column = λ e. cc; read_column = λ e. cc }; leads = refl }
 erase_steps g lun a view sole (suc (suc zero)) few row =
     let r = row refl in
-    record { allowed = record { wanted = refl; profile = never (not (is_wide g.optional)); alone = λ e. cc; row = λ e. record { inside = r.inside; names = r.names; ready = λ x. r.ready; goes = r.goes; no_cache = λ x. r.no_cache refl; plane = λ x. cc; copy = λ x. cc; no_group = λ x. cc }; column = λ e. cc; read_column = λ e. cc }; leads = refl }
+    record { allowed = record { wanted = refl; profile = never (not (is_wide g.optional)); alone = λ e. cc; row = λ e. record { inside = r.inside; names = r.names; ready = λ x. r.ready; goes = r.goes; no_cache = λ x. r.no_cache refl; no_program = λ x. r.no_program refl; plane = λ x. cc; copy = λ x. cc; no_group = λ x. cc }; column = λ e. cc; read_column = λ e. cc }; leads = refl }
 erase_steps g lun a view sole (suc (suc (suc n))) few row = absurd (omega (arith, few))
 
 pub column_steps : (g : Parts) (lun : ℕ) (a : Address) (view : LunView) (sole : Bool) (n : ℕ) → n ≤ 1 → (n ≡ 1 → (sole ≡ true) × (nat_le (register_len g view.register) (carried a) ≡ false)) → OneStep g lun (scene_at ChangeReadColumn a view sole) (bytes_of ChangeReadColumn a) n

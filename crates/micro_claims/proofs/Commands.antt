@@ -25,7 +25,7 @@ use Rattle.onfi_cycle.specs.LunView.{LunView}
 use Rattle.onfi_cycle.specs.Command.{command, is_opener, closes, address_cycles}
 use Rattle.onfi_cycle.specs.Sequence.{facts_after, is_open, selects_plane, wants_command, row, takes_data, input_column, begins_anew, is_proper_beginning, opened, takes_features, takes_inputs, wants_column}
 use Rattle.onfi_cycle.specs.Effect.{is_off, is_data, names_lun, page_address, plane_of_row, cycle_effect}
-use Rattle.onfi_cycle.specs.Lun.{resumed, column_at, view_after, is_cache_read, page_in_plane, register_of_plane}
+use Rattle.onfi_cycle.specs.Lun.{resumed, column_at, view_after, programs, is_cache_read, page_in_plane, register_of_plane}
 use Rattle.onfi_cycle.specs.Rules.{may_change_column, is_page_or_parameters}
 use Rattle.onfi_cycle.specs.Channel.{Channel}
 use Rattle.micro_word.specs.declared.word.Word.TheVariants.{Command as CommandWord}
@@ -75,7 +75,7 @@ command_sound s j k v past c done rest at byte d is scene f clear allowed same t
 
 -- another latch
 relatched : (g : Parts) (j : Job) (v : KnownLun) (i : ℕ) (view : LunView) (x : Latch) → LunFits g j v i view → LunFits g j v i (record view { latch = x })
-relatched g j v i view x f = record { ready = f.ready; register = f.register; column = f.column; queue = f.queue; last = f.last; cached = f.cached; held = f.held; planes = f.planes; array = f.array; copies = f.copies }
+relatched g j v i view x f = record { ready = f.ready; register = f.register; column = f.column; queue = f.queue; last = f.last; cached = f.cached; held = f.held; planes = f.planes; array = f.array; copies = f.copies; programming = f.programming }
 
 -- what shows is kept with the latch
 pub shows_kept : (o : Option Shown) (c d : Scene) → (c.sole ≡ true → d.sole ≡ true) → d.view.latch ≡ c.view.latch → ShowsFit o c → ShowsFit o d
@@ -195,8 +195,8 @@ wanted g text v byte d is fit closer clear =
     record { places = not-false _ both.0; not_refused = both.1 }
 
 -- work that leaves no register, and an empty queue
-started_fits : (g : Parts) (j : Job) (v : State) (i : ℕ) (view : LunView) → view.queue ≡ [] → view.held ≡ [] → closer_among other_closer view.closer ≡ true → LunFits g j (work_started NoRows v).lun i view
-started_fits g j v i view queue none last = record { ready = λ e. cc; register = tt; column = tt; queue = queue; last = last; cached = λ e f. cc; held = λ e. cc; planes = no_pages g view.held; array = no_pages g (view.array_page ∷ []); copies = subst (CopiesFit g no_copies no_planes i view.closer) (sym none) (no_copies_fit g no_planes i view.closer) }
+started_fits : (g : Parts) (j : Job) (v : State) (i : ℕ) (view : LunView) → view.queue ≡ [] → view.held ≡ [] → closer_among other_closer view.closer ≡ true → programs view ≡ false → LunFits g j (work_started NoRows v).lun i view
+started_fits g j v i view queue none last program = record { ready = λ e. cc; register = tt; column = tt; queue = queue; last = last; cached = λ e f. cc; held = λ e. cc; planes = no_pages g view.held; array = no_pages g (view.array_page ∷ []); copies = subst (CopiesFit g no_copies no_planes i view.closer) (sym none) (no_copies_fit g no_planes i view.closer); programming = λ e. program }
 
 -- D0h
 pub sound_d0 : (s : Channel) (j : Job) (k : KnownJob s j) (v : State) (past : List Item) (c : Scene) (done : List Done) (rest : List Line) (at byte : ℕ) → command byte ≡ BlockEraseConfirm → IsScene s j.lun past c → Fits s.geometry j v done c true → NoReasons s.geometry j.text v (CommandWord byte) → accepts s.geometry (bounds_of j.text) None (state_after s.geometry v (CommandWord byte)) rest ≡ true → SoundWord s j past done rest at (CommandWord byte)
@@ -209,7 +209,7 @@ sound_d0 s j k v past c done rest at byte is scene f clear acc =
     command_sound s j k v past c done rest at byte BlockEraseConfirm is scene f clear (wants, names) refl
     (closed_fits g j None None v.target.shows (now_of j done) _ (ap (λ (t : TailFacts). is_open (facts_after (CommandCycle BlockEraseConfirm) t)) w.facts))
     (shows_kept v.target.shows c (scene_behind g j.lun.lun (CommandCycle BlockEraseConfirm) c) (λ e. e) (ap (λ (e : Effect). (view_after e c.view).latch) effect) f.shows)
-    (subst (λ (e : Effect). LunFits g j (work_started NoRows v).lun (index_now j.base done) (view_after e c.view)) (sym effect) (started_fits g j v (index_now j.base done) (view_after (EraseStarted false (page_address g (row c.facts))) c.view) refl refl refl))
+    (subst (λ (e : Effect). LunFits g j (work_started NoRows v).lun (index_now j.base done) (view_after e c.view)) (sym effect) (started_fits g j v (index_now j.base done) (view_after (EraseStarted false (page_address g (row c.facts))) c.view) refl refl refl refl))
     acc
 
 -- 10h
@@ -241,7 +241,7 @@ sound_10 s j k v past c done rest at byte is scene f clear acc =
     command_sound s j k v past c done rest at byte ProgramConfirm is scene f clear (wants, names) refl
     (closed_fits g j None None v.target.shows (now_of j done) _ (rw p.program.begun refl))
     (shows_kept v.target.shows c (scene_behind g j.lun.lun (CommandCycle ProgramConfirm) c) (λ e. e) (ap (λ (e : Effect). (view_after e c.view).latch) effect) f.shows)
-    (subst (λ (e : Effect). LunFits g j (work_started NoRows v).lun (index_now j.base done) (view_after e c.view)) (sym effect) (started_fits g j v (index_now j.base done) (view_after (ProgramStarted false (page_address g (row c.facts))) c.view) refl refl refl))
+    (subst (λ (e : Effect). LunFits g j (work_started NoRows v).lun (index_now j.base done) (view_after e c.view)) (sym effect) (started_fits g j v (index_now j.base done) (view_after (ProgramStarted false (page_address g (row c.facts))) c.view) refl refl refl refl))
     acc
 
 -- 30h
@@ -304,6 +304,7 @@ sound_30 s j k v past c done rest at byte is scene f clear acc =
       planes = read_planes g k.limits j (index_now j.base done) v.lun.queue c.view.queue v.target.named w.address at_row (w.named refl) (w.row refl) page.1 f.lun.queue;
       array = read_array g j (index_now j.base done) v.target.named w.address at_row (w.named refl) (w.row refl) page.1;
       copies = uncopied_fit g (held_by_read v.lun.queue v.target.named) _ _ _;
+      programming = λ e. refl;
     }))
     acc
 
@@ -338,7 +339,7 @@ sound_column_e0 s j k v past c done rest at byte is scene f clear plainly acc =
     (shows_kept v.target.shows c (scene_behind g j.lun.lun (CommandCycle ChangeReadColumnConfirm) c) (λ e. or_right (selects_plane c.facts) c.sole e) (ap (λ (e : Effect). (view_after e c.view).latch) effect) f.shows))
     (subst (λ (x : State). LunFits g j x.lun (index_now j.base done) (view_after (cycle_effect g c.facts (shown_alone c) (CommandCycle ChangeReadColumnConfirm) j.lun.lun) c.view)) (sym leaves)
     (subst (λ (e : Effect). LunFits g j (record v.lun { column = given_at v.target.column }) (index_now j.base done) (view_after e c.view)) (sym effect)
-    (record { ready = f.lun.ready; register = f.lun.register; column = read_column_fits v.target.column c.facts (ap (λ (t : TailFacts). t.inputs) w.facts) (w.column refl); queue = f.lun.queue; last = f.lun.last; cached = f.lun.cached; held = f.lun.held; planes = f.lun.planes; array = f.lun.array; copies = f.lun.copies })))
+    (record { ready = f.lun.ready; register = f.lun.register; column = read_column_fits v.target.column c.facts (ap (λ (t : TailFacts). t.inputs) w.facts) (w.column refl); queue = f.lun.queue; last = f.lun.last; cached = f.lun.cached; held = f.lun.held; planes = f.lun.planes; array = f.lun.array; copies = f.lun.copies; programming = f.lun.programming })))
     acc
 
 -- behind 06h
@@ -385,6 +386,7 @@ sound_plane_e0 s j k v past c done rest at byte is scene f clear selects acc =
       planes = f.lun.planes;
       array = f.lun.array;
       copies = f.lun.copies;
+      programming = f.lun.programming;
     })))
     acc
 

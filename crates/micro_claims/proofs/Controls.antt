@@ -7,7 +7,7 @@ use Rattle.onfi_cycle.specs.declared.item.Kind.TheVariants.{Dout}
 use Rattle.onfi_cycle.specs.declared.read_column.ReadColumn.{ReadColumn}
 use Rattle.onfi_cycle.specs.LunView.{LunView}
 use Rattle.onfi_cycle.specs.Sequence.{is_open}
-use Rattle.onfi_cycle.specs.Lun.{is_busy, is_cache_read, output_column}
+use Rattle.onfi_cycle.specs.Lun.{is_busy, is_cache_read, programs, output_column}
 use Rattle.onfi_cycle.specs.Channel.{Channel, is_open_on, cycle}
 use Rattle.micro_word.specs.declared.word.Word.{Word}
 use Rattle.micro_word.specs.declared.word.Word.TheVariants.{End, Wait, Yield, ReadStatus, BranchOnStatus, Jump}
@@ -51,7 +51,7 @@ unread_kept (Some c) k f = at c.read refl
         kept false h = h
 
 poll_lun : (g : Parts) (j : Job) (l : KnownLun) (i : ℕ) (view : LunView) (selected overlapped : Bool) → LunFits g j l i view → LunFits g j (record l { column = unread l.column }) i (polled_view selected overlapped view)
-poll_lun g j l i view selected overlapped f = record { ready = f.ready; register = f.register; column = unread_kept l.column view.column f.column; queue = f.queue; last = f.last; cached = f.cached; held = f.held; planes = f.planes; array = f.array; copies = f.copies }
+poll_lun g j l i view selected overlapped f = record { ready = f.ready; register = f.register; column = unread_kept l.column view.column f.column; queue = f.queue; last = f.last; cached = f.cached; held = f.held; planes = f.planes; array = f.array; copies = f.copies; programming = f.programming }
 
 -- behind a poll the claim fits; `busy` may be claimed not to be where the poll said so
 poll_fits : (s : Channel) (j : Job) (v : State) (done new : List Done) (later : List Item) (c : Scene) (p : PolledScene s j.lun later c) (l : KnownLun) (r : Registers) → RegistersFit s.geometry j r new → LunFits s.geometry j l (index_now j.base new) (polled_view p.selected p.overlapped c.view) → Fits s.geometry j (record { registers = r; target = closed status_shown; lun = l }) new p.now true
@@ -65,10 +65,10 @@ poll_fits s j v done new later c p l r registers lun =
     }
 
 found_ready_lun : (g : Parts) (j : Job) (l : KnownLun) (i : ℕ) (view : LunView) → LunFits g j l i view → view.busy ≡ false → LunFits g j (record l { busy = false }) i view
-found_ready_lun g j l i view f ready = record { ready = λ e. ready; register = f.register; column = f.column; queue = f.queue; last = f.last; cached = f.cached; held = f.held; planes = f.planes; array = f.array; copies = f.copies }
+found_ready_lun g j l i view f ready = record { ready = λ e. ready; register = f.register; column = f.column; queue = f.queue; last = f.last; cached = f.cached; held = f.held; planes = f.planes; array = f.array; copies = f.copies; programming = f.programming }
 
 found_busy_lun : (g : Parts) (j : Job) (l : KnownLun) (i : ℕ) (view : LunView) → LunFits g j l i view → LunFits g j (record l { busy = true }) i view
-found_busy_lun g j l i view f = record { ready = λ e. cc; register = f.register; column = f.column; queue = f.queue; last = f.last; cached = f.cached; held = f.held; planes = f.planes; array = f.array; copies = f.copies }
+found_busy_lun g j l i view f = record { ready = λ e. cc; register = f.register; column = f.column; queue = f.queue; last = f.last; cached = f.cached; held = f.held; planes = f.planes; array = f.array; copies = f.copies; programming = f.programming }
 
 -- nothing is open on the target, as the scene says
 open_on : (s : Channel) (j : Job) (past : List Item) (c : Scene) → IsScene s j.lun past c → is_open c.facts ≡ false → is_open_on past j.lun.ce ≡ false
@@ -176,7 +176,7 @@ waiting_fits s j v done later c p f true e =
       lun =
           let polled_lun = poll_lun s.geometry j v.lun (index_now j.base done) c.view p.selected p.overlapped f.lun in
           subst (λ (w : LunView). LunFits s.geometry j (record v.lun { busy = true; column = unread (unread v.lun.column) }) (index_now j.base done) w) (sym p.view)
-          (record { ready = λ x. cc; register = f.lun.register; column = subst (λ (k : Option OutputColumn). OutputColumnFits k (lost c.view.column)) (sym (unread_twice v.lun.column)) polled_lun.column; queue = f.lun.queue; last = f.lun.last; cached = f.lun.cached; held = f.lun.held; planes = f.lun.planes; array = f.lun.array; copies = f.lun.copies });
+          (record { ready = λ x. cc; register = f.lun.register; column = subst (λ (k : Option OutputColumn). OutputColumnFits k (lost c.view.column)) (sym (unread_twice v.lun.column)) polled_lun.column; queue = f.lun.queue; last = f.lun.last; cached = f.lun.cached; held = f.lun.held; planes = f.lun.planes; array = f.lun.array; copies = f.lun.copies; programming = f.lun.programming });
     }
 waiting_fits s j v done later c p f false e =
     poll_fits s j v done done later c p (record v.lun { busy = true; column = unread v.lun.column }) v.registers f.registers
@@ -262,7 +262,7 @@ yield_fits s j v done answer c f clear true =
       tail = λ x. cc;
       free = λ x. record { tail = refl; shows = refl; unread = unread_is v.lun.column };
       shows = tt;
-      lun = record { ready = f.lun.ready; register = f.lun.register; column = yield_column v.lun.column c.view.column f.lun.column; queue = f.lun.queue; last = f.lun.last; cached = f.lun.cached; held = f.lun.held; planes = f.lun.planes; array = f.lun.array; copies = f.lun.copies };
+      lun = record { ready = f.lun.ready; register = f.lun.register; column = yield_column v.lun.column c.view.column f.lun.column; queue = f.lun.queue; last = f.lun.last; cached = f.lun.cached; held = f.lun.held; planes = f.lun.planes; array = f.lun.array; copies = f.lun.copies; programming = f.lun.programming };
     }
 yield_fits s j v done answer c f clear false =
     record {
@@ -310,7 +310,8 @@ no_rows g now AnyRows view h f = cc
 pub sound_end : (s : Channel) (j : Job) (k : KnownJob s j) (v : State) (past : List Item) (c : Scene) (done : List Done) (rest : List Line) (at code : ℕ) → IsScene s j.lun past c → Fits s.geometry j v done c true → NoReasons s.geometry j.text v (End code) → SoundWord s j past done rest at (End code)
 unfolding breaks_ends_too_soon
 sound_end s j k v past c done rest at code scene f clear =
-    let three = or_parts (v.lun.busy || may_be_open v || may_be_queued v.lun.queue) (may_be_31 v.lun.last) clear.no_ends_too_soon in
+    let four = or_parts (v.lun.busy || may_be_open v || may_be_queued v.lun.queue || may_be_31 v.lun.last) v.lun.programming clear.no_ends_too_soon in
+    let three = or_parts (v.lun.busy || may_be_open v || may_be_queued v.lun.queue) (may_be_31 v.lun.last) four.0 in
     let two = or_parts (v.lun.busy || may_be_open v) (may_be_queued v.lun.queue) three.0 in
     let one = or_parts v.lun.busy (may_be_open v) two.0 in
     let shut = closed_tail s.geometry j v.target (now_of j done) c.facts (f.tail refl) one.1 in
@@ -326,6 +327,7 @@ sound_end s j k v past c done rest at code scene f clear =
         idle = λ e. record {
           ready = ap (λ (w : LunView). w.busy) view ∙ f.lun.ready one.0;
           no_cache = ap (λ (w : LunView). is_cache_read w.closer) view ∙ not_caching v.lun.last c.view.closer f.lun.last three.1;
+          no_program = ap programs view ∙ f.lun.programming four.1;
           no_queue = ap (λ (w : LunView). w.queue) view ∙ no_rows s.geometry (index_now j.base done) v.lun.queue c.view two.1 f.lun.queue;
           free = scene.free;
         };

@@ -21,7 +21,7 @@ use Rattle.onfi_cycle.specs.declared.tail_facts.TailFacts.{TailFacts}
 use Rattle.onfi_cycle.specs.declared.target_cycle.TargetCycle.TheVariants.{CommandCycle, AddressCycle}
 use Rattle.onfi_cycle.specs.LunView.{LunView}
 use Rattle.onfi_cycle.specs.Sequence.{facts_of, facts_after, is_open, input_column}
-use Rattle.onfi_cycle.specs.Lun.{output_column, is_queued_read, is_copyback_read, pages_of_reads, page_in_plane}
+use Rattle.onfi_cycle.specs.Lun.{programs, output_column, is_queued_read, is_copyback_read, pages_of_reads, page_in_plane}
 use Rattle.onfi_cycle.specs.Rules.{keeps_copy}
 use Rattle.micro_claims.specs.Spans.{Span}
 use Rattle.micro_claims.specs.Planes.{Planes, has_plane}
@@ -352,6 +352,7 @@ pub record LunFits (g : Parts) (j : Job) (v : KnownLun) (index : ℕ) (view : Lu
   pub planes : HavePages g v.held view.held
   pub array : HavePages g v.array (view.array_page ∷ [])
   pub copies : CopiesFit g v.copies v.held index view.closer view.held
+  pub programming : v.programming ≡ false → programs view ≡ false
 
 -- 5. all of it
 

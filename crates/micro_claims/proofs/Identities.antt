@@ -43,16 +43,18 @@ use Rattle.micro_claims.proofs.SoundAddress.{resets_lun, sound_address}
 use Rattle.micro_claims.proofs.LunResets.{sound_lun_reset}
 use Rattle.micro_claims.proofs.Indices.{only_is}
 use Rattle.micro_claims.proofs.CopiedPages.{no_copies_fit}
+use Rattle.micro_claims.proofs.Programs.{identified_programs}
 use Rattle.micro_claims.specs.Planes.{no_planes}
 
 -- 1. the commands
 
--- the LUN is ready, has no queue and reads no cache where nothing is against such an opener
+-- the LUN is ready, has no queue, and neither reads a cache nor programs one where nothing is against such an opener
 identity_allowed : (s : Channel) (j : Job) (v : State) (c : Scene) (done : List Done) → Fits s.geometry j v done c true → ltb 1 s.geometry.luns ≡ false → (may_be_open v || identity_opener_refused s.geometry v) ≡ false → IdentityAllowed s.geometry c
 identity_allowed s j v c done f single h =
     let free = or_parts (may_be_open v) (identity_opener_refused s.geometry v) h in
-    let calm = subst (λ (b : Bool). (not b && (v.lun.busy || may_be_queued v.lun.queue || may_be_31 v.lun.last)) ≡ false) single free.1 in
-    let two = or_parts (v.lun.busy || may_be_queued v.lun.queue) (may_be_31 v.lun.last) calm in
+    let calm = subst (λ (b : Bool). (not b && (v.lun.busy || may_be_queued v.lun.queue || may_be_31 v.lun.last || v.lun.programming)) ≡ false) single free.1 in
+    let three = or_parts (v.lun.busy || may_be_queued v.lun.queue || may_be_31 v.lun.last) v.lun.programming calm in
+    let two = or_parts (v.lun.busy || may_be_queued v.lun.queue) (may_be_31 v.lun.last) three.0 in
     let one = or_parts v.lun.busy (may_be_queued v.lun.queue) two.0 in
     record {
       closed = closed_tail s.geometry j v.target (now_of j done) c.facts (f.tail refl) free.0;
@@ -60,6 +62,7 @@ identity_allowed s j v c done f single h =
       ready = f.lun.ready one.0;
       no_queue = none_queued s.geometry (index_now j.base done) v.lun.queue c.view.queue one.1 f.lun.queue;
       no_cache = not_caching v.lun.last c.view.closer f.lun.last two.1;
+      no_program = f.lun.programming three.1;
     }
 
 pub sound_90 : (s : Channel) (j : Job) (k : KnownJob s j) (v : State) (past : List Item) (c : Scene) (done : List Done) (rest : List Line) (at byte : ℕ) → command byte ≡ ReadId → IsScene s j.lun past c → Fits s.geometry j v done c true → NoReasons s.geometry j.text v (CommandWord byte) → accepts s.geometry (bounds_of j.text) None (state_after s.geometry v (CommandWord byte)) rest ≡ true → SoundWord s j past done rest at (CommandWord byte)
@@ -266,9 +269,9 @@ beside_fits s j v c done busy held next left is single sole shut latch lun =
 
 -- what 90h reads is what may be held
 id_lun : (g : Parts) (j : Job) (v : State) (i : ℕ) (view : LunView) (a b : Bool) → LunFits g j v.lun i view → LunFits g j (beside_read v.lun.busy (cond a (record { 0 = 4 }) (cond b (record { 0 = 16 }) (record { 0 = 8 }))) v).lun i (view_after (cond a IdRead (IdentityRead b)) view)
-id_lun g j v i view true b f = record { ready = f.ready; register = refl; column = record { at = 0; is = refl; below = (in_exactly 0).most; unread = λ e. refl }; queue = f.queue; last = refl; cached = λ e x. cc; held = λ e. cc; planes = no_pages g []; array = no_pages g (view.array_page ∷ []); copies = no_copies_fit g no_planes i _ }
-id_lun g j v i view false true f = record { ready = f.ready; register = refl; column = record { at = 0; is = refl; below = (in_exactly 0).most; unread = λ e. refl }; queue = f.queue; last = refl; cached = λ e x. cc; held = λ e. cc; planes = no_pages g []; array = no_pages g (view.array_page ∷ []); copies = no_copies_fit g no_planes i _ }
-id_lun g j v i view false false f = record { ready = f.ready; register = refl; column = record { at = 0; is = refl; below = (in_exactly 0).most; unread = λ e. refl }; queue = f.queue; last = refl; cached = λ e x. cc; held = λ e. cc; planes = no_pages g []; array = no_pages g (view.array_page ∷ []); copies = no_copies_fit g no_planes i _ }
+id_lun g j v i view true b f = record { ready = f.ready; register = refl; column = record { at = 0; is = refl; below = (in_exactly 0).most; unread = λ e. refl }; queue = f.queue; last = refl; cached = λ e x. cc; held = λ e. cc; planes = no_pages g []; array = no_pages g (view.array_page ∷ []); copies = no_copies_fit g no_planes i _; programming = λ e. identified_programs view.busy }
+id_lun g j v i view false true f = record { ready = f.ready; register = refl; column = record { at = 0; is = refl; below = (in_exactly 0).most; unread = λ e. refl }; queue = f.queue; last = refl; cached = λ e x. cc; held = λ e. cc; planes = no_pages g []; array = no_pages g (view.array_page ∷ []); copies = no_copies_fit g no_planes i _; programming = λ e. identified_programs view.busy }
+id_lun g j v i view false false f = record { ready = f.ready; register = refl; column = record { at = 0; is = refl; below = (in_exactly 0).most; unread = λ e. refl }; queue = f.queue; last = refl; cached = λ e x. cc; held = λ e. cc; planes = no_pages g []; array = no_pages g (view.array_page ∷ []); copies = no_copies_fit g no_planes i _; programming = λ e. identified_programs view.busy }
 
 id_latch : (a b : Bool) (view : LunView) → (view_after (cond a IdRead (IdentityRead b)) view).latch ≡ Data
 id_latch true b view = refl
@@ -303,7 +306,7 @@ identity_ec s j v past c done rest at from count h =
     let next = beside_scene s.geometry ReadParameterPage ParameterPageReadStarted byte c in
     at_identity s j h.k v past c done rest at from count ReadParameterPage next h.id (ec_step s j c byte h.start h.id.single h.id.takes)
     (beside_fits s j v c done true (record { 0 = 2 }) next (identity_read v from ReadParameterPage) refl h.id.single refl refl refl
-    (record { ready = λ e. cc; register = refl; column = record { at = 0; is = refl; below = (in_exactly 0).most; unread = λ e. refl }; queue = h.f.lun.queue; last = refl; cached = λ e x. cc; held = λ e. cc; planes = no_pages s.geometry []; array = no_pages s.geometry (c.view.array_page ∷ []); copies = no_copies_fit s.geometry no_planes _ _ }))
+    (record { ready = λ e. cc; register = refl; column = record { at = 0; is = refl; below = (in_exactly 0).most; unread = λ e. refl }; queue = h.f.lun.queue; last = refl; cached = λ e x. cc; held = λ e. cc; planes = no_pages s.geometry []; array = no_pages s.geometry (c.view.array_page ∷ []); copies = no_copies_fit s.geometry no_planes _ _; programming = λ e. refl }))
     h.left h.scene h.f h.clear h.acc
 
 identity_ed : (s : Channel) (j : Job) (v : State) (past : List Item) (c : Scene) (done : List Done) (rest : List Line) (at from count : ℕ) → AtOpener s j v past c done rest from count ReadUniqueId → SoundWord s j past done rest at (AddressWord from count)
@@ -312,7 +315,7 @@ identity_ed s j v past c done rest at from count h =
     let next = beside_scene s.geometry ReadUniqueId UniqueIdReadStarted byte c in
     at_identity s j h.k v past c done rest at from count ReadUniqueId next h.id (ed_step s j c byte h.start h.id.single h.id.takes)
     (beside_fits s j v c done true (record { 0 = 32 }) next (identity_read v from ReadUniqueId) refl h.id.single refl refl refl
-    (record { ready = λ e. cc; register = refl; column = record { at = 0; is = refl; below = (in_exactly 0).most; unread = λ e. refl }; queue = h.f.lun.queue; last = refl; cached = λ e x. cc; held = λ e. cc; planes = no_pages s.geometry []; array = no_pages s.geometry (c.view.array_page ∷ []); copies = no_copies_fit s.geometry no_planes _ _ }))
+    (record { ready = λ e. cc; register = refl; column = record { at = 0; is = refl; below = (in_exactly 0).most; unread = λ e. refl }; queue = h.f.lun.queue; last = refl; cached = λ e x. cc; held = λ e. cc; planes = no_pages s.geometry []; array = no_pages s.geometry (c.view.array_page ∷ []); copies = no_copies_fit s.geometry no_planes _ _; programming = λ e. refl }))
     h.left h.scene h.f h.clear h.acc
 
 identity_ee : (s : Channel) (j : Job) (v : State) (past : List Item) (c : Scene) (done : List Done) (rest : List Line) (at from count : ℕ) → AtOpener s j v past c done rest from count GetFeatures → SoundWord s j past done rest at (AddressWord from count)
@@ -321,7 +324,7 @@ identity_ee s j v past c done rest at from count h =
     let next = beside_scene s.geometry GetFeatures (FeaturesReadStarted byte) byte c in
     at_identity s j h.k v past c done rest at from count GetFeatures next h.id (ee_step s j c byte h.start h.id.single)
     (beside_fits s j v c done true (record { 0 = 64 }) next (identity_read v from GetFeatures) refl h.id.single refl refl refl
-    (record { ready = λ e. cc; register = refl; column = record { at = 0; is = refl; below = (in_exactly 0).most; unread = λ e. refl }; queue = h.f.lun.queue; last = refl; cached = λ e x. cc; held = λ e. cc; planes = no_pages s.geometry []; array = no_pages s.geometry (c.view.array_page ∷ []); copies = no_copies_fit s.geometry no_planes _ _ }))
+    (record { ready = λ e. cc; register = refl; column = record { at = 0; is = refl; below = (in_exactly 0).most; unread = λ e. refl }; queue = h.f.lun.queue; last = refl; cached = λ e x. cc; held = λ e. cc; planes = no_pages s.geometry []; array = no_pages s.geometry (c.view.array_page ∷ []); copies = no_copies_fit s.geometry no_planes _ _; programming = λ e. refl }))
     h.left h.scene h.f h.clear h.acc
 
 identity_ef : (s : Channel) (j : Job) (v : State) (past : List Item) (c : Scene) (done : List Done) (rest : List Line) (at from count : ℕ) → AtOpener s j v past c done rest from count SetFeatures → SoundWord s j past done rest at (AddressWord from count)

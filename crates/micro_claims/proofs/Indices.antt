@@ -84,7 +84,7 @@ tail_moved g j v n m move t none moves f =
 
 lun_moved : (g : Parts) (j : Job) (l : KnownLun) (old new : ℕ) (move : Drift → Option Drift) (view : LunView) → MovesDrifts old new move → LunFits g j l old view → LunFits g j (record l { queue = rows_moved move l.queue; copies = copies_moved (parity_of g.pages (move no_distance)) l.copies }) new view
 lun_moved g j l old new move view moves f =
-    record { ready = f.ready; register = f.register; column = f.column; queue = rows_fit g old new move l.queue view.queue moves f.queue; last = f.last; cached = f.cached; held = f.held; planes = f.planes; array = f.array; copies = moved_copies_fit g l.copies l.held old new (move no_distance) view.closer view.held (moves no_distance old refl) f.copies }
+    record { ready = f.ready; register = f.register; column = f.column; queue = rows_fit g old new move l.queue view.queue moves f.queue; last = f.last; cached = f.cached; held = f.held; planes = f.planes; array = f.array; copies = moved_copies_fit g l.copies l.held old new (move no_distance) view.closer view.held (moves no_distance old refl) f.copies; programming = f.programming }
 
 -- 2. rowadd
 

@@ -18,7 +18,7 @@ use Rattle.onfi_cycle.specs.declared.page_address.PageAddress.{PageAddress}
 use Rattle.onfi_cycle.specs.Effect.{is_off}
 use Rattle.onfi_cycle.specs.LunView.{LunView}
 use Rattle.onfi_cycle.specs.Sequence.{tail, facts_of}
-use Rattle.onfi_cycle.specs.Lun.{latch, latch_after, drivers, is_only, lun_view, busy_after, is_busy, is_array_busy, closer, closer_after, array_page, array_page_after, register, register_after, read_column, read_column_after, queue, queue_after, held, held_after, is_copyback_read, effect_among}
+use Rattle.onfi_cycle.specs.Lun.{latch, latch_after, drivers, is_only, lun_view, busy_after, is_busy, is_array_busy, closer, closer_after, array_page, array_page_after, register, register_after, read_column, read_column_after, queue, queue_after, held, held_after, is_copyback_read, effect_among, programs, is_programming, view_after}
 use Rattle.onfi_cycle.specs.OtherLun.{KeepsLun, KeepsTarget, IsSameOrLost}
 use Rattle.onfi_cycle.specs.Permitted.{is_legal}
 use Rattle.onfi_cycle.specs.Channel.{Channel, IsOwn, same_lun, is_there, is_cycle, is_serving}
@@ -30,6 +30,7 @@ use Rattle.micro_program.proofs.Basics.{there_lun}
 use Rattle.micro_program.proofs.Scenes.{Scene}
 use Rattle.micro_program.proofs.Stepping.{drivers_same}
 use Rattle.micro_claims.proofs.Fits.{RegisterFits, RowsFit, closer_among, latch_among, Below, ShowsFit, OutputFits, OutputColumnFits, HavePages, CopiesFit, LunFits, is_unread}
+use Rattle.micro_claims.proofs.Programs.{programs_same, ready_programs, array_ready_programs}
 use Rattle.micro_claims.proofs.Sounding.{KnownJob, Claims, knows_tail}
 
 -- 1. readies
@@ -44,6 +45,7 @@ record ReadyLeaves (g : Parts) (past : List Item) (i : Item) (l : Lun) : Type 0 
   column : read_column g (i ∷ past) l ≡ read_column g past l
   queue : queue g (i ∷ past) l ≡ queue g past l
   held : held g (i ∷ past) l ≡ held g past l
+  program : is_programming g past l ≡ false → is_programming g (i ∷ past) l ≡ false
 
 leaves_latch : (b : Bool) (e : Effect) (selected works : Bool) (x : Latch) → latch_after e selected works x ≡ x → latch_after (cond b e Unaffected) selected works x ≡ x
 leaves_latch true e selected works x h = h
@@ -62,6 +64,7 @@ ready_leaves g past (Rdy ce lun fail) l h =
       column = at_column (ce == l.ce && lun == l.lun);
       queue = at_queue (ce == l.ce && lun == l.lun);
       held = at_held (ce == l.ce && lun == l.lun);
+      program = λ e. at_program (ce == l.ce && lun == l.lun) e;
     }
   where
     at_busy : (b : Bool) → is_busy g past l ≡ false → busy_after (cond b (BecameReady fail) Unaffected) (is_busy g past l) ≡ false
@@ -91,9 +94,13 @@ ready_leaves g past (Rdy ce lun fail) l h =
     at_held : (b : Bool) → held_after (cond b (BecameReady fail) Unaffected) (is_copyback_read (closer g past l)) (array_page g past l) (queue g past l) (held g past l) ≡ held g past l
     at_held true = refl
     at_held false = refl
-ready_leaves g past (Ard ce lun) l h =
+
+    at_program : (b : Bool) → is_programming g past l ≡ false → programs (view_after (cond b (BecameReady fail) Unaffected) (lun_view g past l)) ≡ false
+    at_program true e = ready_programs (lun_view g past l) fail e
+    at_program false e = e
+ready_leaves g past (Ard ce lun fail) l h =
     record {
-      latches = λ m. leaves_latch (ce == l.ce && lun == m) ArrayBecameReady _ _ _ refl;
+      latches = λ m. leaves_latch (ce == l.ce && lun == m) (ArrayBecameReady fail) _ _ _ refl;
       busy = λ e. at_busy (ce == l.ce && lun == l.lun) e;
       closer = at_closer (ce == l.ce && lun == l.lun);
       array_page = at_page (ce == l.ce && lun == l.lun);
@@ -101,39 +108,44 @@ ready_leaves g past (Ard ce lun) l h =
       column = at_column (ce == l.ce && lun == l.lun);
       queue = at_queue (ce == l.ce && lun == l.lun);
       held = at_held (ce == l.ce && lun == l.lun);
+      program = λ e. at_program (ce == l.ce && lun == l.lun) e;
     }
   where
-    at_busy : (b : Bool) → is_busy g past l ≡ false → busy_after (cond b ArrayBecameReady Unaffected) (is_busy g past l) ≡ false
+    at_busy : (b : Bool) → is_busy g past l ≡ false → busy_after (cond b (ArrayBecameReady fail) Unaffected) (is_busy g past l) ≡ false
     at_busy true e = e
     at_busy false e = e
 
-    at_closer : (b : Bool) → closer_after (cond b ArrayBecameReady Unaffected) (closer g past l) ≡ closer g past l
+    at_closer : (b : Bool) → closer_after (cond b (ArrayBecameReady fail) Unaffected) (closer g past l) ≡ closer g past l
     at_closer true = refl
     at_closer false = refl
 
-    at_page : (b : Bool) → array_page_after (cond b ArrayBecameReady Unaffected) (array_page g past l) ≡ array_page g past l
+    at_page : (b : Bool) → array_page_after (cond b (ArrayBecameReady fail) Unaffected) (array_page g past l) ≡ array_page g past l
     at_page true = refl
     at_page false = refl
 
-    at_register : (b : Bool) → register_after (cond b ArrayBecameReady Unaffected) (array_page g past l) (queue g past l) (held g past l) (register g past l) ≡ register g past l
+    at_register : (b : Bool) → register_after (cond b (ArrayBecameReady fail) Unaffected) (array_page g past l) (queue g past l) (held g past l) (register g past l) ≡ register g past l
     at_register true = refl
     at_register false = refl
 
-    at_column : (b : Bool) → read_column_after (cond b ArrayBecameReady Unaffected) (read_column g past l) ≡ read_column g past l
+    at_column : (b : Bool) → read_column_after (cond b (ArrayBecameReady fail) Unaffected) (read_column g past l) ≡ read_column g past l
     at_column true = refl
     at_column false = refl
 
-    at_queue : (b : Bool) → queue_after (cond b ArrayBecameReady Unaffected) (queue g past l) ≡ queue g past l
+    at_queue : (b : Bool) → queue_after (cond b (ArrayBecameReady fail) Unaffected) (queue g past l) ≡ queue g past l
     at_queue true = refl
     at_queue false = refl
 
-    at_held : (b : Bool) → held_after (cond b ArrayBecameReady Unaffected) (is_copyback_read (closer g past l)) (array_page g past l) (queue g past l) (held g past l) ≡ held g past l
+    at_held : (b : Bool) → held_after (cond b (ArrayBecameReady fail) Unaffected) (is_copyback_read (closer g past l)) (array_page g past l) (queue g past l) (held g past l) ≡ held g past l
     at_held true = refl
     at_held false = refl
 
+    at_program : (b : Bool) → is_programming g past l ≡ false → programs (view_after (cond b (ArrayBecameReady fail) Unaffected) (lun_view g past l)) ≡ false
+    at_program true e = array_ready_programs (lun_view g past l) fail e
+    at_program false e = e
+
 -- what is claimed of a LUN holds of one that differs in its latch alone, and may have become ready
-moved_view : (g : Parts) (j : Job) (v : KnownLun) (i : ℕ) (old new : LunView) → (old.busy ≡ false → new.busy ≡ false) → new.closer ≡ old.closer → new.array_page ≡ old.array_page → new.register ≡ old.register → OutputColumnFits v.column new.column → new.queue ≡ old.queue → new.held ≡ old.held → LunFits g j v i old → LunFits g j v i new
-moved_view g j v i old new busy closer page register column queue held f =
+moved_view : (g : Parts) (j : Job) (v : KnownLun) (i : ℕ) (old new : LunView) → (old.busy ≡ false → new.busy ≡ false) → new.closer ≡ old.closer → new.array_page ≡ old.array_page → new.register ≡ old.register → OutputColumnFits v.column new.column → new.queue ≡ old.queue → new.held ≡ old.held → (programs old ≡ false → programs new ≡ false) → LunFits g j v i old → LunFits g j v i new
+moved_view g j v i old new busy closer page register column queue held program f =
     record {
       ready = λ e. busy (f.ready e);
       register = subst (λ (r : Register). RegisterFits v.register r) (sym register) f.register;
@@ -145,6 +157,7 @@ moved_view g j v i old new busy closer page register column queue held f =
       planes = subst (λ (pages : List PageAddress). HavePages g v.held pages) (sym held) f.planes;
       array = subst (λ (p : PageAddress). HavePages g v.array (p ∷ [])) (sym page) f.array;
       copies = subst (CopiesFit g v.copies v.held i new.closer) (sym held) (subst (λ (o : Option Command). CopiesFit g v.copies v.held i o old.held) (sym closer) f.copies);
+      programming = λ e. program (f.programming e);
     }
 
 shows_moved : (o : Option Shown) (c d : Scene) → d.sole ≡ c.sole → d.view.latch ≡ c.view.latch → ShowsFit o c → ShowsFit o d
@@ -181,6 +194,7 @@ ready_kept s j seat i c h =
             (subst (λ (k : ReadColumn). OutputColumnFits c.claim.lun.column k) (sym (left.column ∙ ap (λ (v : LunView). v.column) was)) c.fits.lun.column)
             (left.queue ∙ ap (λ (v : LunView). v.queue) was)
             (left.held ∙ ap (λ (v : LunView). v.held) was)
+            (λ e. left.program (ap programs was ∙ e))
             c.fits.lun;
       };
       accepted = c.accepted;
@@ -223,6 +237,7 @@ here_kept s j k seat c kept claims free several rests =
             (kept_column claims.claim.lun.column (read_column g seat.past l) (read_column g (Cyc c ∷ seat.past) l) is_free.unread kept.column (subst (λ (x : ReadColumn). OutputColumnFits claims.claim.lun.column x) (sym (ap (λ (v : LunView). v.column) was)) claims.fits.lun.column))
             (kept.queue ∙ ap (λ (v : LunView). v.queue) was)
             (kept.held ∙ ap (λ (v : LunView). v.held) was)
+            (λ e. programs_same (lun_view g (Cyc c ∷ seat.past) l) (lun_view g seat.past l) kept.busy kept.closer kept.array_busy ∙ (ap programs was ∙ e))
             claims.fits.lun;
       };
       accepted = claims.accepted;

@@ -1,6 +1,7 @@
 pub mod AcceptedLines
 pub mod AddressSteps
 pub mod Addressing
+pub mod CachePrograms
 pub mod Commands
 pub mod Controls
 pub mod CopiedPages
@@ -17,6 +18,7 @@ pub mod Numbered
 pub mod Numbers
 pub mod PlaneCommands
 pub mod PlaneSets
+pub mod Programs
 pub mod SafePrograms
 pub mod Sets
 pub mod Settings

@@ -52,7 +52,7 @@ reset_steps g j a view sole (suc (suc zero)) few row =
     let r = row refl in
     let names = names_it g j a r in
     record {
-      allowed = record { wanted = refl; profile = never (not (is_wide g.optional)); alone = λ e. cc; row = λ e. record { inside = r.inside; names = names; ready = λ x. cc; goes = refl; no_cache = λ x. cc; plane = λ x. cc; copy = λ x. cc; no_group = λ x. cc }; column = λ e. cc; read_column = λ e. cc };
+      allowed = record { wanted = refl; profile = never (not (is_wide g.optional)); alone = λ e. cc; row = λ e. record { inside = r.inside; names = names; ready = λ x. cc; goes = refl; no_cache = λ x. cc; no_program = λ x. cc; plane = λ x. cc; copy = λ x. cc; no_group = λ x. cc }; column = λ e. cc; read_column = λ e. cc };
       leads = ap (λ (b : Bool). record { facts = facts_behind (opener_facts ResetLun) (take 3 (bytes_of ResetLun a)); view = view_after (cond b ResetStarted (cond (is_shared g) (AnotherAddressed false) Unaffected)) view; sole = false }) names;
     }
 reset_steps g j a view sole (suc (suc (suc n))) few row = absurd (omega (arith, few))

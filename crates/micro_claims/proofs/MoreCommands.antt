@@ -42,6 +42,7 @@ use Rattle.micro_claims.proofs.Tails.{closed_tail, closed_fits, whole_erase_plan
 use Rattle.micro_claims.proofs.Sounding.{KnownJob, NoReasons, SoundWord}
 use Rattle.micro_claims.proofs.Commands.{command_sound, plain_opener, same_either, shows_kept, wanted, row_names, program_row, driven, out_of_place, page_of_row, page_below, read_shown}
 use Rattle.micro_claims.proofs.CopiedPages.{no_copies_fit, uncopied_fit, queued_copies_fit}
+use Rattle.micro_claims.proofs.Programs.{queued_programs}
 
 -- 1. what is declared
 
@@ -112,7 +113,7 @@ sound_d1 s j k v past c done rest at byte is scene f clear acc =
     (closed_fits g j None None v.target.shows (now_of j done) _ (ap (λ (t : TailFacts). is_open (facts_after (CommandCycle BlockErasePlane) t)) w.facts))
     (shows_kept v.target.shows c (scene_behind g j.lun.lun (CommandCycle BlockErasePlane) c) (λ e. e) (ap (λ (e : Effect). (view_after e c.view).latch) effect) f.shows)
     (subst (λ (e : Effect). LunFits g j (work_started (queued_more true v.lun.queue v.target.named) v).lun (index_now j.base done) (view_after e c.view)) (sym effect)
-    (record { ready = λ e. cc; register = tt; column = tt; queue = queued_fits g j (index_now j.base done) true v.lun.queue v.target.named w.address (Erase (page_address g (row c.facts))) c.view.queue (w.named refl) (w.row refl) refl page.0 page.1 f.lun.queue; last = refl; cached = λ e x. cc; held = λ e. cc; planes = no_pages g []; array = no_pages g (c.view.array_page ∷ []); copies = no_copies_fit g no_planes (index_now j.base done) _ }))
+    (record { ready = λ e. cc; register = tt; column = tt; queue = queued_fits g j (index_now j.base done) true v.lun.queue v.target.named w.address (Erase (page_address g (row c.facts))) c.view.queue (w.named refl) (w.row refl) refl page.0 page.1 f.lun.queue; last = refl; cached = λ e x. cc; held = λ e. cc; planes = no_pages g []; array = no_pages g (c.view.array_page ∷ []); copies = no_copies_fit g no_planes (index_now j.base done) _; programming = λ e. refl }))
     acc
 
 -- 11h
@@ -145,7 +146,7 @@ sound_11 s j k v past c done rest at byte is scene f clear acc =
     (closed_fits g j None None v.target.shows (now_of j done) _ (rw p.program.begun refl))
     (shows_kept v.target.shows c (scene_behind g j.lun.lun (CommandCycle ProgramPlane) c) (λ e. e) (ap (λ (e : Effect). (view_after e c.view).latch) effect) f.shows)
     (subst (λ (e : Effect). LunFits g j (program_queued v).lun (index_now j.base done) (view_after e c.view)) (sym effect)
-    (record { ready = λ e. cc; register = tt; column = tt; queue = queued_fits g j (index_now j.base done) false v.lun.queue v.target.named p.address (Program (page_address g (row c.facts))) c.view.queue p.named p.row refl page.0 page.1 f.lun.queue; last = refl; cached = λ e x. cc; held = λ e. cc; planes = f.lun.planes; array = no_pages g (c.view.array_page ∷ []); copies = queued_copies_fit g v.lun.copies v.lun.held (index_now j.base done) c.view.closer c.view.held f.lun.copies }))
+    (record { ready = λ e. cc; register = tt; column = tt; queue = queued_fits g j (index_now j.base done) false v.lun.queue v.target.named p.address (Program (page_address g (row c.facts))) c.view.queue p.named p.row refl page.0 page.1 f.lun.queue; last = refl; cached = λ e x. cc; held = λ e. cc; planes = f.lun.planes; array = no_pages g (c.view.array_page ∷ []); copies = queued_copies_fit g v.lun.copies v.lun.held (index_now j.base done) c.view.closer c.view.held f.lun.copies; programming = λ e. queued_programs c.view (page_address g (row c.facts)) (f.lun.programming e) }))
     acc
 
 -- 3. openers that are whole by themselves
@@ -177,7 +178,7 @@ reset_one g lun one = sym (ap (λ (b : Bool). cond (is_wide g.optional && b) (Ta
     none false = refl
 
 pub reset_fits : (g : Parts) (j : Job) (v : State) (i : ℕ) (view : LunView) → LunFits g j (reset_started v).lun i (view_after ResetStarted view)
-reset_fits g j v i view = record { ready = λ e. cc; register = tt; column = tt; queue = refl; last = refl; cached = λ e x. cc; held = λ e. cc; planes = no_pages g []; array = no_pages g (view.array_page ∷ []); copies = no_copies_fit g no_planes i _ }
+reset_fits g j v i view = record { ready = λ e. cc; register = tt; column = tt; queue = refl; last = refl; cached = λ e x. cc; held = λ e. cc; planes = no_pages g []; array = no_pages g (view.array_page ∷ []); copies = no_copies_fit g no_planes i _; programming = λ e. refl }
 
 resets_fit : (g : Parts) (j : Job) (v : State) (i lun : ℕ) (view : LunView) → ltb 1 g.luns ≡ false → LunFits g j (reset_started v).lun i (view_after (reset_effect g lun) view)
 resets_fit g j v i lun view one = subst (λ (e : Effect). LunFits g j (reset_started v).lun i (view_after e view)) (reset_one g lun one) (reset_fits g j v i view)
@@ -271,7 +272,7 @@ sound_lone_31 s j k v past c done rest at byte is scene f clear unplaced acc =
     (or_left c.sole (not (ltb 1 g.luns)) drive.0, ap (λ (e : Effect). latch_among (record { 0 = 2 }) (view_after e c.view).latch) effect))
     (subst (λ (x : State). LunFits g j x.lun (index_now j.base done) (view_after (cycle_effect g c.facts (shown_alone c) (CommandCycle ReadCacheSequential) j.lun.lun) c.view)) (sym leaves)
     (subst (λ (e : Effect). LunFits g j (cache_read (record { 0 = 2 }) (next_cached v.lun.cached) v.lun.array data_shown v).lun (index_now j.base done) (view_after e c.view)) (sym effect)
-    (record { ready = λ e. cc; register = refl; column = record { at = 0; is = refl; below = (in_exactly 0).most; unread = λ e. refl }; queue = f.lun.queue; last = refl; cached = λ e x. below_plus c.view.array_page.page v.lun.cached.page.hi 1 1 (f.lun.cached e two.1) (omega arith); held = λ e. refl; planes = f.lun.array; array = f.lun.array; copies = uncopied_fit g v.lun.array _ _ _ })))
+    (record { ready = λ e. cc; register = refl; column = record { at = 0; is = refl; below = (in_exactly 0).most; unread = λ e. refl }; queue = f.lun.queue; last = refl; cached = λ e x. below_plus c.view.array_page.page v.lun.cached.page.hi 1 1 (f.lun.cached e two.1) (omega arith); held = λ e. refl; planes = f.lun.array; array = f.lun.array; copies = uncopied_fit g v.lun.array _ _ _; programming = λ e. refl })))
     acc
 
 sound_row_31 : (s : Channel) (j : Job) (k : KnownJob s j) (v : State) (past : List Item) (c : Scene) (done : List Done) (rest : List Line) (at byte : ℕ) → command byte ≡ ReadCacheSequential → IsScene s j.lun past c → Fits s.geometry j v done c true → NoReasons s.geometry j.text v (CommandWord byte) → place_wants ReadCacheSequential v.target.tail ≡ true → accepts s.geometry (bounds_of j.text) None (state_after s.geometry v (CommandWord byte)) rest ≡ true → SoundWord s j past done rest at (CommandWord byte)
@@ -308,6 +309,7 @@ sound_row_31 s j k v past c done rest at byte is scene f clear placed acc =
       held = λ e. refl;
       planes = f.lun.array;
       copies = uncopied_fit g v.lun.array _ _ _;
+      programming = λ e. refl;
       array = read_array g j (index_now j.base done) v.target.named w.address (page_address g (row c.facts)) (w.named refl) (w.row refl) (page_of_row g j c.facts w.address row_is (w.row refl)).1;
     })))
     acc
@@ -336,5 +338,5 @@ sound_3f s j k v past c done rest at byte is scene f clear acc =
     (closed_fits g j None None data_shown (now_of j done) _ refl)
     (drive.0, ap (λ (e : Effect). latch_among (record { 0 = 2 }) (view_after e c.view).latch) effect)
     (subst (λ (e : Effect). LunFits g j (command_leaves g v ReadCacheEnd).lun (index_now j.base done) (view_after e c.view)) (sym effect)
-    (record { ready = λ e. cc; register = refl; column = record { at = 0; is = refl; below = (in_exactly 0).most; unread = λ e. refl }; queue = f.lun.queue; last = refl; cached = λ e x. cc; held = λ e. cc; planes = f.lun.array; array = f.lun.array; copies = uncopied_fit g v.lun.array _ _ _ }))
+    (record { ready = λ e. cc; register = refl; column = record { at = 0; is = refl; below = (in_exactly 0).most; unread = λ e. refl }; queue = f.lun.queue; last = refl; cached = λ e x. cc; held = λ e. cc; planes = f.lun.array; array = f.lun.array; copies = uncopied_fit g v.lun.array _ _ _; programming = λ e. refl }))
     acc

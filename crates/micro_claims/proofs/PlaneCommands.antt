@@ -81,6 +81,7 @@ sound_32 s j k v past c done rest at byte is scene f clear acc =
       planes = no_pages g [];
       array = no_pages g (c.view.array_page ∷ []);
       copies = no_copies_fit g no_planes (index_now j.base done) _;
+      programming = λ e. refl;
     }))
     acc
 
@@ -121,6 +122,7 @@ sound_35 s j k v past c done rest at byte is scene f clear acc =
       planes = first_there g (held_by_copy v.lun v.target.named) (count_of (held_by_copy v.lun v.target.named)) _ (copies.first (copying_is v.lun v.target.named));
       array = read_array g j (index_now j.base done) v.target.named w.address at_row (w.named refl) (w.row refl) page.1;
       copies = copies;
+      programming = λ e. refl;
     }))
     acc
   where

@@ -1,14 +1,14 @@
 -- Programs that are accepted, computed by the definitions; so they are safe. And some that aren't accepted.
 use Rattle.std.proofs.Common.{◌≡◌, true, false, refl, List, [], ◌∷◌, None, arith}
 use Rattle.micro_word.specs.declared.word.Word.{Word}
-use Rattle.micro_word.specs.declared.word.Word.TheVariants.{End, Command, Address, Get, Put, Plane, Wait, Yield, RowAdd}
+use Rattle.micro_word.specs.declared.word.Word.TheVariants.{End, Command, Address, Get, Put, Row, Plane, Wait, Yield, RowAdd}
 use Rattle.onfi_cycle.specs.Command.{command}
 use Rattle.micro_program.specs.Unsafe.{one_lun}
 use Rattle.micro_program.specs.Lines.{unrolled}
 use Rattle.micro_claims.specs.State.{first_state, bounds_of}
 use Rattle.micro_claims.specs.Reasons.{reason_against, breaks_cycle_forbidden, breaks_address_unaligned, breaks_handover_in_sequence, breaks_buffer_passed, breaks_row_or_plane_outside, breaks_column_too_large, breaks_no_status, breaks_ends_too_soon, breaks_over_budget, breaks_command_not_allowed}
 use Rattle.micro_claims.specs.Accepts.{accepts, state_after}
-use Rattle.micro_claims.specs.SafePrograms.{two_luns, some_text, read_words, handing_words, program_words, column_words, checked_words, parts_words, planes_words, blocks_words, cache_words, identity_words, identities_words, features_words, lun_reset_words, resets_words, plane_read_words, selecting_words, one_wide_lun, two_wide_luns, two_wide_planes, one_lun_with_cache, with_rows, SomeAreSafe, copy_words, copies_words}
+use Rattle.micro_claims.specs.SafePrograms.{two_luns, some_text, read_words, handing_words, program_words, column_words, checked_words, parts_words, planes_words, blocks_words, cache_words, identity_words, identities_words, features_words, lun_reset_words, resets_words, plane_read_words, selecting_words, one_wide_lun, two_wide_luns, two_wide_planes, one_lun_with_cache, with_rows, SomeAreSafe, copy_words, copies_words, two_cached_planes, cached_program_words, cached_pages_words, cached_group_words}
 use Rattle.micro_claims.proofs.AcceptedLines.{accepted_is_safe}
 
 read_is : accepts one_lun (bounds_of (some_text 528 536 read_words)) None first_state (unrolled read_words) ≡ true
@@ -189,6 +189,52 @@ amid_copies : accepts two_wide_planes (bounds_of (with_rows 3 1 29 amid_words)) 
 unfolding command unrolled state_after reason_against breaks_cycle_forbidden breaks_address_unaligned breaks_handover_in_sequence breaks_buffer_passed breaks_row_or_plane_outside breaks_column_too_large breaks_no_status breaks_ends_too_soon breaks_over_budget breaks_command_not_allowed amid_words
 amid_copies = refl
 
+cached_program_is : accepts one_wide_lun (bounds_of (with_rows 2 2 16 cached_program_words)) None first_state (unrolled cached_program_words) ≡ true
+unfolding command unrolled state_after reason_against breaks_cycle_forbidden breaks_address_unaligned breaks_handover_in_sequence breaks_buffer_passed breaks_row_or_plane_outside breaks_column_too_large breaks_no_status breaks_ends_too_soon breaks_over_budget breaks_command_not_allowed
+cached_program_is = refl
+
+cached_program_among_others_is : accepts two_wide_luns (bounds_of (with_rows 2 2 16 cached_program_words)) None first_state (unrolled cached_program_words) ≡ true
+unfolding command unrolled state_after reason_against breaks_cycle_forbidden breaks_address_unaligned breaks_handover_in_sequence breaks_buffer_passed breaks_row_or_plane_outside breaks_column_too_large breaks_no_status breaks_ends_too_soon breaks_over_budget breaks_command_not_allowed
+cached_program_among_others_is = refl
+
+cached_pages_is : accepts one_wide_lun (bounds_of (with_rows 4 4 32 cached_pages_words)) None first_state (unrolled cached_pages_words) ≡ true
+unfolding command unrolled state_after reason_against breaks_cycle_forbidden breaks_address_unaligned breaks_handover_in_sequence breaks_buffer_passed breaks_row_or_plane_outside breaks_column_too_large breaks_no_status breaks_ends_too_soon breaks_over_budget breaks_command_not_allowed
+cached_pages_is = refl
+
+cached_group_is : accepts two_cached_planes (bounds_of (with_rows 2 3 24 cached_group_words)) None first_state (unrolled cached_group_words) ≡ true
+unfolding command unrolled state_after reason_against breaks_cycle_forbidden breaks_address_unaligned breaks_handover_in_sequence breaks_buffer_passed breaks_row_or_plane_outside breaks_column_too_large breaks_no_status breaks_ends_too_soon breaks_over_budget breaks_command_not_allowed
+cached_group_is = refl
+
+-- an end while the array may program, a read then, a group where the chip caches none, a copy, and a cache program of the base profile
+ends_words : List Word
+ends_words = Command 0x80 ∷ (Address 0 5 ∷ (Put 1 ∷ (Command 0x15 ∷ (Wait ∷ (End 0 ∷ [])))))
+
+ends_programming : accepts one_wide_lun (bounds_of (with_rows 1 1 8 ends_words)) None first_state (unrolled ends_words) ≡ false
+unfolding command unrolled state_after reason_against breaks_cycle_forbidden breaks_address_unaligned breaks_handover_in_sequence breaks_buffer_passed breaks_row_or_plane_outside breaks_column_too_large breaks_no_status breaks_ends_too_soon breaks_over_budget breaks_command_not_allowed ends_words
+ends_programming = refl
+
+reads_words : List Word
+reads_words = Command 0x80 ∷ (Address 0 5 ∷ (Put 1 ∷ (Command 0x15 ∷ (Wait ∷ (Command 0x00 ∷ (Address 0 5 ∷ (Command 0x30 ∷ (Wait ∷ (End 0 ∷ [])))))))))
+
+reads_programming : accepts one_wide_lun (bounds_of (with_rows 1 1 15 reads_words)) None first_state (unrolled reads_words) ≡ false
+unfolding command unrolled state_after reason_against breaks_cycle_forbidden breaks_address_unaligned breaks_handover_in_sequence breaks_buffer_passed breaks_row_or_plane_outside breaks_column_too_large breaks_no_status breaks_ends_too_soon breaks_over_budget breaks_command_not_allowed reads_words
+reads_programming = refl
+
+uncached_group : accepts two_wide_planes (bounds_of (with_rows 2 3 24 cached_group_words)) None first_state (unrolled cached_group_words) ≡ false
+unfolding command unrolled state_after reason_against breaks_cycle_forbidden breaks_address_unaligned breaks_handover_in_sequence breaks_buffer_passed breaks_row_or_plane_outside breaks_column_too_large breaks_no_status breaks_ends_too_soon breaks_over_budget breaks_command_not_allowed
+uncached_group = refl
+
+copied_words : List Word
+copied_words = Command 0x00 ∷ (Address 0 5 ∷ (Command 0x35 ∷ (Wait ∷ (Row 4 ∷ (Command 0x85 ∷ (Address 0 5 ∷ (Command 0x15 ∷ (Wait ∷ (Row 0 ∷ (Command 0x80 ∷ (Address 0 5 ∷ (Command 0x10 ∷ (Wait ∷ (End 0 ∷ []))))))))))))))
+
+cached_copy : accepts one_wide_lun (bounds_of (with_rows 5 0 21 copied_words)) None first_state (unrolled copied_words) ≡ false
+unfolding command unrolled state_after reason_against breaks_cycle_forbidden breaks_address_unaligned breaks_handover_in_sequence breaks_buffer_passed breaks_row_or_plane_outside breaks_column_too_large breaks_no_status breaks_ends_too_soon breaks_over_budget breaks_command_not_allowed copied_words
+cached_copy = refl
+
+cached_of_base : accepts one_lun (bounds_of (with_rows 2 2 16 cached_program_words)) None first_state (unrolled cached_program_words) ≡ false
+unfolding command unrolled state_after reason_against breaks_cycle_forbidden breaks_address_unaligned breaks_handover_in_sequence breaks_buffer_passed breaks_row_or_plane_outside breaks_column_too_large breaks_no_status breaks_ends_too_soon breaks_over_budget breaks_command_not_allowed
+cached_of_base = refl
+
 pub some_are_safe : SomeAreSafe
 some_are_safe =
     record {
@@ -217,4 +263,8 @@ some_are_safe =
       copied = accepted_is_safe (with_rows 3 0 14 copy_words) one_wide_lun (omega arith) copied_is;
       copied_among_others = accepted_is_safe (with_rows 3 0 14 copy_words) two_wide_luns (omega arith) copied_among_others_is;
       copied_in_planes = accepted_is_safe (with_rows 3 1 29 copies_words) two_wide_planes (omega arith) copied_in_planes_is;
+      cached_program = accepted_is_safe (with_rows 2 2 16 cached_program_words) one_wide_lun (omega arith) cached_program_is;
+      cached_program_among_others = accepted_is_safe (with_rows 2 2 16 cached_program_words) two_wide_luns (omega arith) cached_program_among_others_is;
+      cached_pages = accepted_is_safe (with_rows 4 4 32 cached_pages_words) one_wide_lun (omega arith) cached_pages_is;
+      cached_group = accepted_is_safe (with_rows 2 3 24 cached_group_words) two_cached_planes (omega arith) cached_group_is;
     }

@@ -28,7 +28,7 @@ use Rattle.onfi_cycle.specs.Sequence.{opened, facts_after, column_with, input_co
 use Rattle.onfi_cycle.specs.Effect.{page_address}
 use Rattle.onfi_cycle.specs.declared.effect.Effect.TheVariants.{ProgramAddressed}
 use Rattle.onfi_cycle.specs.Lun.{is_queued_read, page_in_plane, view_after}
-use Rattle.onfi_cycle.specs.Rules.{planes_clash, queued_clashes, some_queued_clashes, read_clashes, some_read_clashes, has_some, holds_plane_of, holds_none, is_copying, may_copy, may_copy_to, keeps_copy, ends_row, second_of_page, second_column, refused_by, register_len, excludes_cache}
+use Rattle.onfi_cycle.specs.Rules.{planes_clash, queued_clashes, some_queued_clashes, read_clashes, some_read_clashes, has_some, holds_plane_of, holds_none, is_copying, may_copy, may_copy_to, keeps_copy, ends_row, second_of_page, second_column, refused_by, register_len, excludes_cache, excludes_program}
 use Rattle.onfi_cycle.specs.Channel.{Channel}
 use Rattle.micro_claims.specs.Spans.{bound_plus, is_at_most, copied}
 use Rattle.micro_claims.specs.Planes.{Planes, has_plane, share_a_plane, are_planes_within}
@@ -148,8 +148,9 @@ queue_goes g now (SomeRows erase queued d) queue regs o p plane f clear low amon
 
 row_goes : (g : Parts) (j : Job) (v : State) (done : List Done) (view : LunView) (a : Address) (o : Command) (n : ℕ) → RegistersFit g j v.registers done → a.index ≡ index_now j.base done → a.plane ≡ plane_now done → LunFits g j v.lun (index_now j.base done) view → RowIs g j a → addresses_the_array o ≡ true → row_refused g v (After o n) ≡ false → RowGoes g j.lun.lun a view o
 row_goes g j v done view a o n registers index plane f row array refused =
-    let clear = and_rest (addresses_the_array o) (v.lun.busy || (excludes_cache g o && may_be_31 v.lun.last) || queue_refuses v.lun.queue v.registers.planes o || plane_refused v o || copy_refused g v o) array refused in
-    let four = or_parts (v.lun.busy || (excludes_cache g o && may_be_31 v.lun.last) || queue_refuses v.lun.queue v.registers.planes o || plane_refused v o) (copy_refused g v o) clear in
+    let clear = and_rest (addresses_the_array o) (v.lun.busy || (excludes_cache g o && may_be_31 v.lun.last) || queue_refuses v.lun.queue v.registers.planes o || plane_refused v o || copy_refused g v o || (excludes_program o && v.lun.programming)) array refused in
+    let five = or_parts (v.lun.busy || (excludes_cache g o && may_be_31 v.lun.last) || queue_refuses v.lun.queue v.registers.planes o || plane_refused v o || copy_refused g v o) (excludes_program o && v.lun.programming) clear in
+    let four = or_parts (v.lun.busy || (excludes_cache g o && may_be_31 v.lun.last) || queue_refuses v.lun.queue v.registers.planes o || plane_refused v o) (copy_refused g v o) five.0 in
     let three = or_parts (v.lun.busy || (excludes_cache g o && may_be_31 v.lun.last) || queue_refuses v.lun.queue v.registers.planes o) (plane_refused v o) four.0 in
     let two = or_parts (v.lun.busy || (excludes_cache g o && may_be_31 v.lun.last)) (queue_refuses v.lun.queue v.registers.planes o) three.0 in
     let one = or_parts v.lun.busy (excludes_cache g o && may_be_31 v.lun.last) two.0 in
@@ -159,12 +160,14 @@ row_goes g j v done view a o n registers index plane f row array refused =
       ready = f.ready one.0;
       goes = queue_goes g (index_now j.base done) v.lun.queue view.queue v.registers.planes o (page_address g (row_of a.r1 a.r2 a.r3)) a.plane f.queue two.1 row.low (ap (λ (p : ℕ). has_plane p v.registers.planes) plane ∙ registers.plane) (ap (λ (p : RowParts). p.page) row.reads ∙ ap (λ (i : ℕ). i % g.pages) index) (ap (λ (p : RowParts). p.block) row.reads ∙ ap (λ (i : ℕ). i / g.pages * planes g + a.plane) index);
       no_cache = λ e. not_caching v.lun.last view.closer f.last (and_rest (excludes_cache g o) (may_be_31 v.lun.last) e one.1);
+      no_program = λ e. f.programming (and_rest (excludes_program o) v.lun.programming e five.1);
     }
 
 -- the row of 06h is of a plane that holds a page, and nothing is queued
 plane_held : (g : Parts) (j : Job) (v : State) (done : List Done) (view : LunView) (a : Address) (n : ℕ) → RegistersFit g j v.registers done → a.index ≡ index_now j.base done → a.plane ≡ plane_now done → LunFits g j v.lun (index_now j.base done) view → RowIs g j a → row_refused g v (After ChangeReadColumnEnhanced n) ≡ false → holds_plane_of g (page_address g (row_of a.r1 a.r2 a.r3)) view ≡ true
 plane_held g j v done view a n registers index plane f row refused =
-    let four = or_parts (v.lun.busy || false || queue_refuses v.lun.queue v.registers.planes ChangeReadColumnEnhanced || plane_refused v ChangeReadColumnEnhanced) false refused in
+    let five = or_parts (v.lun.busy || false || queue_refuses v.lun.queue v.registers.planes ChangeReadColumnEnhanced || plane_refused v ChangeReadColumnEnhanced || false) v.lun.programming refused in
+    let four = or_parts (v.lun.busy || false || queue_refuses v.lun.queue v.registers.planes ChangeReadColumnEnhanced || plane_refused v ChangeReadColumnEnhanced) false five.0 in
     let three = or_parts (v.lun.busy || false || queue_refuses v.lun.queue v.registers.planes ChangeReadColumnEnhanced) (plane_refused v ChangeReadColumnEnhanced) four.0 in
     let both = or_parts (may_be_queued v.lun.queue) (not (are_planes_within v.registers.planes v.lun.held)) three.1 in
     let within = not-false (are_planes_within v.registers.planes v.lun.held) both.1 in
@@ -178,7 +181,8 @@ plane_held g j v done view a n registers index plane f row refused =
 uncopied_row : (g : Parts) (v : State) (o : Command) (n : ℕ) → addresses_the_array o ≡ true → row_refused g v (After o n) ≡ false → copy_refused g v o ≡ false
 uncopied_row g v o n array refused =
     let clear = and_rest (addresses_the_array o) _ array refused in
-    (or_parts (v.lun.busy || (excludes_cache g o && may_be_31 v.lun.last) || queue_refuses v.lun.queue v.registers.planes o || plane_refused v o) (copy_refused g v o) clear).1
+    let five = or_parts (v.lun.busy || (excludes_cache g o && may_be_31 v.lun.last) || queue_refuses v.lun.queue v.registers.planes o || plane_refused v o || copy_refused g v o) (excludes_program o && v.lun.programming) clear in
+    (or_parts (v.lun.busy || (excludes_cache g o && may_be_31 v.lun.last) || queue_refuses v.lun.queue v.registers.planes o || plane_refused v o) (copy_refused g v o) five.0).1
 
 -- the row of 85h is of a plane that holds a page which may be copied there
 copied_row : (g : Parts) (j : Job) (v : State) (done : List Done) (view : LunView) (a : Address) → RegistersFit g j v.registers done → a.index ≡ index_now j.base done → a.plane ≡ plane_now done → LunFits g j v.lun (index_now j.base done) view → RowIs g j a → copy_refused g v ChangeWriteColumn ≡ false → may_copy g (page_address g (row_of a.r1 a.r2 a.r3)) view ≡ true
@@ -515,7 +519,7 @@ goes_program s j v c done from count n old w clear here is now column =
         let f = w.lun in
         subst (λ (b : Bool). LunFits g j (cond b (without_pages v.lun) v.lun) (index_now j.base done) (addressed_view (n + count) c.view)) (sym (ap (ends_program count) here ∙ e))
         (subst (λ (m : ℕ). LunFits g j (without_pages v.lun) (index_now j.base done) (addressed_view m c.view)) (sym five)
-        (record { ready = f.ready; register = f.register; column = f.column; queue = f.queue; last = f.last; cached = f.cached; held = λ x. refl; planes = no_pages g []; array = f.array; copies = cleared_fit g v.lun.copies v.lun.held (index_now j.base done) c.view.closer c.view.held f.copies }))
+        (record { ready = f.ready; register = f.register; column = f.column; queue = f.queue; last = f.last; cached = f.cached; held = λ x. refl; planes = no_pages g []; array = f.array; copies = cleared_fit g v.lun.copies v.lun.held (index_now j.base done) c.view.closer c.view.held f.copies; programming = f.programming }))
     lun_at false e =
         let four : n + count ≤ 4 = let f = few in grind (arith, nat_tests, e, f) in
         subst (λ (x : LunView). LunFits g j (lun_addressed v count) (index_now j.base done) x) (sym (early (n + count) four)) (kept_lun s j v done c.view count (After PageProgram n) here e w.lun)

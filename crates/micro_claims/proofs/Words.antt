@@ -210,7 +210,7 @@ get_goes g j l (Some w) i n c closed shows lun free small = by c.view.latch refl
           outputs = outs.0;
           shows = (outs.0.sole, ap (λ (v : LunView). latch_among w v.latch) outs.1 ∙ shows.1);
           lun = subst (λ (v : LunView). LunFits g j (record l { column = column_read (Some w) n l.column }) i v) (sym outs.1)
-              (record { ready = lun.ready; register = lun.register; column = data_column w n l.column c.view.column e lun.column; queue = lun.queue; last = lun.last; cached = lun.cached; held = lun.held; planes = lun.planes; array = lun.array; copies = lun.copies });
+              (record { ready = lun.ready; register = lun.register; column = data_column w n l.column c.view.column e lun.column; queue = lun.queue; last = lun.last; cached = lun.cached; held = lun.held; planes = lun.planes; array = lun.array; copies = lun.copies; programming = lun.programming });
         }
 
     by : (x : Latch) → c.view.latch ≡ x → latch_among w x ≡ true → GetGoes g j l (Some w) i n c
@@ -221,7 +221,7 @@ get_goes g j l (Some w) i n c closed shows lun free small = by c.view.latch refl
           outputs = outs.0;
           shows = (outs.0.sole, ap (λ (v : LunView). latch_among w v.latch) outs.1 ∙ shows.1);
           lun = subst (λ (v : LunView). LunFits g j (record l { column = column_read (Some w) n l.column }) i v) (sym outs.1)
-              (record { ready = lun.ready; register = lun.register; column = status_column w n l.column c.view.column lun.column; queue = lun.queue; last = lun.last; cached = lun.cached; held = lun.held; planes = lun.planes; array = lun.array; copies = lun.copies });
+              (record { ready = lun.ready; register = lun.register; column = status_column w n l.column c.view.column lun.column; queue = lun.queue; last = lun.last; cached = lun.cached; held = lun.held; planes = lun.planes; array = lun.array; copies = lun.copies; programming = lun.programming });
         }
     by Data latch among = with_column l.column refl lun.column (free.ready among).2 (free.inside among) latch among
 
@@ -393,7 +393,7 @@ features_goes s j v c done inputs n bytes one f here begun few count = by go.led
           shows = subst (λ (x : State). ShowsFit x.target.shows go.scene) (sym left) (shows_kept v.target.shows c go.scene (λ e. sole ∙ e) (ap (λ (w : LunView). w.latch) view) f.shows);
           lun = subst (λ (x : State). LunFits g j x.lun (index_now j.base done) go.scene.view) (sym left)
               (subst (λ (w : LunView). LunFits g j (work_started v.lun.queue v).lun (index_now j.base done) w) (sym view)
-              (record { ready = λ e. cc; register = tt; column = tt; queue = f.lun.queue; last = refl; cached = λ e x. cc; held = λ e. cc; planes = no_pages s.geometry []; array = no_pages s.geometry (c.view.array_page ∷ []); copies = no_copies_fit s.geometry no_planes _ _ }));
+              (record { ready = λ e. cc; register = tt; column = tt; queue = f.lun.queue; last = refl; cached = λ e x. cc; held = λ e. cc; planes = no_pages s.geometry []; array = no_pages s.geometry (c.view.array_page ∷ []); copies = no_copies_fit s.geometry no_planes _ _; programming = λ e. refl }));
         }
 
 put_goes : (s : Channel) (j : Job) (v : State) (c : Scene) (done : List Done) (n : ℕ) (bytes : List ℕ) → Fits s.geometry j v done c true → PutClear s.geometry v n j.text.buffer → length bytes ≡ n → PutGoes s j v c done n bytes

@@ -2,13 +2,13 @@
 use Rattle.std.specs.Prelude.{ℕ, ◌+◌, ◌-◌, ◌/◌, ◌%◌, ◌==◌, Bool, true, false, ◌&&◌, ◌||◌, not, nat_lt, nat_le, min, if◌then◌else◌, Option, Some, None}
 use Rattle.nand_geometry.specs.declared.parts.Parts.{Parts}
 use Rattle.nand_geometry.specs.Limits.{page_len, planes}
-use Rattle.nand_geometry.specs.Optional.{is_wide, has_copyback, has_odd_even}
+use Rattle.nand_geometry.specs.Optional.{is_wide, has_copyback, has_odd_even, has_group_cache}
 use Rattle.onfi_cycle.specs.declared.command.Command.{Command}
-use Rattle.onfi_cycle.specs.declared.command.Command.TheVariants.{Read, ReadConfirm, ChangeReadColumn, ChangeReadColumnEnhanced, ChangeReadColumnConfirm, BlockErase, ReadStatus, ReadStatusEnhanced, PageProgram, ChangeWriteColumn, ProgramConfirm, ProgramPlane, ReadId, ReadParameterPage, ReadCacheSequential, ReadCacheEnd, ReadUniqueId, GetFeatures, SetFeatures, ResetLun, ReadPlane, CopybackRead}
+use Rattle.onfi_cycle.specs.declared.command.Command.TheVariants.{Read, ReadConfirm, ChangeReadColumn, ChangeReadColumnEnhanced, ChangeReadColumnConfirm, BlockErase, ReadStatus, ReadStatusEnhanced, PageProgram, ChangeWriteColumn, ProgramConfirm, ProgramPlane, ReadId, ReadParameterPage, ReadCacheSequential, ReadCacheEnd, ReadUniqueId, GetFeatures, SetFeatures, ResetLun, ReadPlane, CopybackRead, ProgramCache}
 use Rattle.onfi_cycle.specs.Base.{is_of_base}
 use Rattle.onfi_cycle.specs.Command.{is_known, is_opener, is_reset, address_cycles, closes, addresses_the_array, reads_identity, wants_one_lun}
 use Rattle.onfi_cycle.specs.Sequence.{is_proper_beginning}
-use Rattle.onfi_cycle.specs.Rules.{is_undeclared, excludes_cache}
+use Rattle.onfi_cycle.specs.Rules.{is_undeclared, excludes_cache, excludes_program}
 use Rattle.micro_claims.specs.Spans.{bound_plus, is_at_most, only}
 use Rattle.micro_claims.specs.Planes.{share_a_plane, are_planes_within, are_below}
 use Rattle.micro_claims.specs.State.{State, KnownLun, Span, Planes, Place, Closed, After, InData, InColumn, InFeatures, Unknown, Shown, Held, OutputColumn, QueuedRows, NoRows, SomeRows, SomeReads, AnyRows, Bounds, shows_status, shows_register, holds_page, holds_parameters, holds_identifier, holds_identity, holds_jedec, holds_unique_id, holds_feature, may_be_30, may_be_31, may_be_other}
@@ -45,6 +45,7 @@ abbrev pub is_data_command : Command → Bool
 is_data_command ChangeWriteColumn = true
 is_data_command ProgramConfirm = true
 is_data_command ProgramPlane = true
+is_data_command ProgramCache = true
 is_data_command _ = false
 
 -- a command that is no opener goes on with the sequence
@@ -180,7 +181,7 @@ is_unfit g c = not (is_of_profile g c) || is_undeclared g c
 -- 90h, ECh, EDh, EEh or EFh may not come, though nothing is open: only a target of one LUN is asked, as another refuses them by a rule that
 -- comes first
 abbrev pub identity_opener_refused : Parts → State → Bool
-identity_opener_refused g s = not (nat_lt 1 g.luns) && (s.lun.busy || may_be_queued s.lun.queue || may_be_31 s.lun.last)
+identity_opener_refused g s = not (nat_lt 1 g.luns) && (s.lun.busy || may_be_queued s.lun.queue || may_be_31 s.lun.last || s.lun.programming)
 
 -- an opener may not come, though nothing is open
 abbrev pub opener_refused : Parts → State → Command → Bool
@@ -201,13 +202,15 @@ opener_refused g s ReadCacheEnd = not (drives s.target.shows) || s.lun.busy || m
 opener_refused g s _ = false
 
 -- a command that the tail wants may be refused: it works on the one driver, and there may be none, where no plane is selected; it reads, and a
--- cache read may go on; or it goes on with a cache read, and in the base profile none may there, and nothing may have been read
+-- cache read may go on; or it goes on with a cache read, and in the base profile none may there, and nothing may have been read; or it is a 15,
+-- of several planes, where the chip doesn't cache programs of those, or of a LUN that may hold a page
 abbrev pub closer_refused : Parts → State → Command → Bool
 closer_refused g s ChangeReadColumnConfirm = not (selects_plane_at s.target.tail) && not (drives s.target.shows)
 closer_refused g s ReadConfirm = is_wide g.optional && may_be_31 s.lun.last
 closer_refused g s ReadPlane = may_be_31 s.lun.last
 closer_refused g s CopybackRead = may_be_31 s.lun.last
 closer_refused g s ReadCacheSequential = not (is_wide g.optional) || may_be_other s.lun.last
+closer_refused g s ProgramCache = (not (has_group_cache g.optional) && may_be_queued s.lun.queue) || (has_copyback g.optional && s.lun.copies.holds)
 closer_refused g s _ = false
 
 -- an opener goes on with the sequence: a 31 or an 85 that the tail wants; where no copyback is declared no 85 begins a sequence
@@ -302,7 +305,8 @@ copy_refused g s _ = false
 abbrev pub row_refused : Parts → State → Place → Bool
 row_refused g s (After opener n) =
     addresses_the_array opener
-    && (s.lun.busy || (excludes_cache g opener && may_be_31 s.lun.last) || queue_refuses s.lun.queue s.registers.planes opener || plane_refused s opener || copy_refused g s opener)
+    && (s.lun.busy || (excludes_cache g opener && may_be_31 s.lun.last) || queue_refuses s.lun.queue s.registers.planes opener || plane_refused s opener || copy_refused g s opener
+    || (excludes_program opener && s.lun.programming))
 row_refused g s _ = false
 
 -- the column is surely past its limit, so that nothing is asked of the cycles after it
@@ -352,4 +356,4 @@ abbrev pub input_past : Parts → State → ℕ → Bool
 input_past g s n = not (is_in_features s.target.tail) && not (is_at_most (bound_plus (span_bound s.target.column) n) (page_len g))
 
 abbrev pub may_be_unready : State → Bool
-may_be_unready s = s.lun.busy || may_be_open s || may_be_queued s.lun.queue || may_be_31 s.lun.last
+may_be_unready s = s.lun.busy || may_be_open s || may_be_queued s.lun.queue || may_be_31 s.lun.last || s.lun.programming

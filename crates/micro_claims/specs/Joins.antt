@@ -114,6 +114,7 @@ joined_lun s t =
       held = common_planes s.held t.held;
       array = common_planes s.array t.array;
       copies = joined_copies s.copies t.copies;
+      programming = s.programming || t.programming;
     }
 
 -- what both claim

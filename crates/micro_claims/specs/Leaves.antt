@@ -2,7 +2,7 @@
 use Rattle.std.specs.Prelude.{ℕ, ◌+◌, ◌-◌, ◌/◌, ◌%◌, ◌==◌, Bool, true, false, ◌&&◌, not, nat_lt, nat_le, min, if◌then◌else◌, Option, Some, None}
 use Rattle.nand_geometry.specs.declared.parts.Parts.{Parts}
 use Rattle.onfi_cycle.specs.declared.command.Command.{Command}
-use Rattle.onfi_cycle.specs.declared.command.Command.TheVariants.{Read, ReadConfirm, ChangeReadColumn, ChangeReadColumnEnhanced, ChangeReadColumnConfirm, BlockErase, BlockEraseConfirm, BlockErasePlane, PageProgram, ChangeWriteColumn, ProgramConfirm, ProgramPlane, ReadId, ReadParameterPage, Reset, ReadCacheSequential, ReadCacheEnd, ReadUniqueId, GetFeatures, SetFeatures, ResetLun, SynchronousReset, ReadPlane, CopybackRead}
+use Rattle.onfi_cycle.specs.declared.command.Command.TheVariants.{Read, ReadConfirm, ChangeReadColumn, ChangeReadColumnEnhanced, ChangeReadColumnConfirm, BlockErase, BlockEraseConfirm, BlockErasePlane, PageProgram, ChangeWriteColumn, ProgramConfirm, ProgramPlane, ReadId, ReadParameterPage, Reset, ReadCacheSequential, ReadCacheEnd, ReadUniqueId, GetFeatures, SetFeatures, ResetLun, SynchronousReset, ReadPlane, CopybackRead, ProgramCache}
 use Rattle.micro_claims.specs.Spans.{copied, plus, plus_between, greatest_bound}
 use Rattle.micro_claims.specs.Planes.{no_planes, either_plane, share_a_plane, is_one_plane, sure_plane, are_planes_within}
 use Rattle.micro_claims.specs.State.{State, Registers, KnownTarget, KnownLun, Span, PageRange, Place, Closed, After, InData, InColumn, InFeatures, Unknown, Drift, IndexMove, On, To, NamedRow, Shown, Held, OutputColumn, QueuedRows, NoRows, SomeRows, SomeReads, AnyRows, LastCloser, CachedPage, Copies, Planes, exactly, not_cached, any_but_31, other_closer, no_copies, uncopied, closed, shows_status, shows_register}
@@ -144,7 +144,7 @@ work_started queue s =
     record {
       registers = s.registers;
       target = closed s.target.shows;
-      lun = record { busy = true; register = None; column = None; queue = queue; last = other_closer; cached = s.lun.cached; held = no_planes; array = no_planes; copies = no_copies };
+      lun = record { busy = true; register = None; column = None; queue = queue; last = other_closer; cached = s.lun.cached; held = no_planes; array = no_planes; copies = no_copies; programming = false };
     }
 
 -- the row of the tail joins the queue
@@ -225,6 +225,7 @@ read_queued g s =
         held = no_planes;
         array = no_planes;
         copies = no_copies;
+        programming = false;
       };
     }
 
@@ -244,6 +245,7 @@ read_started g s =
         held = held_by_read s.lun.queue s.target.named;
         array = named_plane s.target.named;
         copies = uncopied;
+        programming = false;
       };
     }
 
@@ -287,10 +289,11 @@ copy_started g s =
         held = held_by_copy s.lun s.target.named;
         array = named_plane s.target.named;
         copies = copies_read g.pages s.lun s.target.named;
+        programming = false;
       };
     }
 
--- an 11: the row is programmed later, and the pages that are held stay
+-- an 11: the row is programmed later; the pages that are held stay, and the array goes on with what a 15 gave it
 abbrev pub program_queued : State → State
 program_queued s =
     record {
@@ -306,6 +309,27 @@ program_queued s =
         held = s.lun.held;
         array = no_planes;
         copies = copies_queued s.lun.copies;
+        programming = s.lun.programming;
+      };
+    }
+
+-- a 15: as a 10, but that the array goes on behind the ready
+abbrev pub cache_programmed : State → State
+cache_programmed s =
+    record {
+      registers = s.registers;
+      target = closed s.target.shows;
+      lun = record {
+        busy = true;
+        register = None;
+        column = None;
+        queue = NoRows;
+        last = other_closer;
+        cached = s.lun.cached;
+        held = no_planes;
+        array = no_planes;
+        copies = no_copies;
+        programming = true;
       };
     }
 
@@ -325,6 +349,7 @@ cache_read last cached array shows s =
         held = s.lun.array;
         array = array;
         copies = uncopied;
+        programming = false;
       };
     }
 
@@ -344,7 +369,7 @@ reset_started s =
     record {
       registers = s.registers;
       target = closed None;
-      lun = record { busy = true; register = None; column = None; queue = NoRows; last = other_closer; cached = s.lun.cached; held = no_planes; array = no_planes; copies = no_copies };
+      lun = record { busy = true; register = None; column = None; queue = NoRows; last = other_closer; cached = s.lun.cached; held = no_planes; array = no_planes; copies = no_copies; programming = false };
     }
 
 -- the register is the page that the plane of the row holds
@@ -380,6 +405,7 @@ command_leaves g s BlockEraseConfirm = work_started NoRows s
 command_leaves g s ProgramConfirm = work_started NoRows s
 command_leaves g s BlockErasePlane = work_started (queued_more true s.lun.queue s.target.named) s
 command_leaves g s ProgramPlane = program_queued s
+command_leaves g s ProgramCache = cache_programmed s
 command_leaves g s Reset = reset_started s
 command_leaves g s SynchronousReset = reset_started s
 command_leaves g s ReadCacheSequential = cache_read_on g s
@@ -445,7 +471,7 @@ beside_read busy held s =
     record {
       registers = s.registers;
       target = closed data_shown;
-      lun = record s.lun { busy = busy; register = Some held; column = Some (record { at = exactly 0; read = false }); last = other_closer; held = no_planes; array = no_planes; copies = no_copies };
+      lun = record s.lun { busy = busy; register = Some held; column = Some (record { at = exactly 0; read = false }); last = other_closer; held = no_planes; array = no_planes; copies = no_copies; programming = false };
     }
 
 -- behind the address of EFh its four bytes come

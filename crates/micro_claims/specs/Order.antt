@@ -266,6 +266,7 @@ pub record LunAt (v s a : KnownLun) : Type 0 where
   pub held : AllAmong s.held a.held
   pub array : AllAmong s.array a.array
   pub copies : CopiesAt s.copies a.copies
+  pub programming : May a.programming s.programming
 
 -- `s` is claimed of the actual state `a`, in a turn that began with the actual state `v`
 pub record At (g : Parts) (v s a : State) : Type 0 where
@@ -329,7 +330,8 @@ abbrev pub is_lun_within : KnownLun → KnownLun → Bool
 is_lun_within s t =
     may_within s.busy t.busy && (is_register_within s.register t.register && (is_output_within s.column t.column && (are_rows_within s.queue t.queue
     && (has s.last.0 t.last.0 && (is_span_within s.cached.index t.cached.index && (is_span_within s.cached.page t.cached.page
-    && (are_planes_within t.held s.held && (are_planes_within t.array s.array && are_copies_within s.copies t.copies))))))))
+    && (are_planes_within t.held s.held && (are_planes_within t.array s.array && (are_copies_within s.copies t.copies
+    && may_within s.programming t.programming)))))))))
 
 -- the first claims at least what the second claims
 unfoldable pub is_state_within : State → State → Bool
@@ -381,6 +383,7 @@ state_by f s r =
         held = r.lun.held;
         array = r.lun.array;
         copies = r.lun.copies;
+        programming = r.lun.programming;
       };
     }
 

@@ -100,16 +100,38 @@ copies_words =
     Plane 0 ∷ (Command 0x85 ∷ (Address 0 5 ∷ (Command 0x11 ∷ (Wait ∷ (
     Plane 1 ∷ (Command 0x85 ∷ (Address 0 5 ∷ (Put 1 ∷ (Command 0x10 ∷ (Wait ∷ (End 0 ∷ [])))))))))))))))))))))
 
--- one LUN, or two, with all that the wider profile has
+-- two pages by a cache program
+abbrev pub cached_program_words : List Word
+cached_program_words =
+    Command 0x80 ∷ (Address 0 5 ∷ (Put 1 ∷ (Command 0x15 ∷ (Wait ∷ (Row 1 ∷ (Command 0x80 ∷ (Address 0 5 ∷ (Put 1 ∷ (Command 0x10 ∷ (Wait ∷ (
+    BranchOnStatus 0x03 13 ∷ (End 0 ∷ (End 1 ∷ [])))))))))))))
+
+-- four pages, the last one by a 10
+abbrev pub cached_pages_words : List Word
+cached_pages_words =
+    Loop 3 ∷ (Command 0x80 ∷ (Address 0 5 ∷ (Put 1 ∷ (Command 0x15 ∷ (Wait ∷ (RowAdd 1 ∷ (Next ∷ (
+    Command 0x80 ∷ (Address 0 5 ∷ (Put 1 ∷ (Command 0x10 ∷ (Wait ∷ (End 0 ∷ [])))))))))))))
+
+-- a page in each of two planes, and another one
+abbrev pub cached_group_words : List Word
+cached_group_words =
+    Command 0x80 ∷ (Address 0 5 ∷ (Put 1 ∷ (Command 0x11 ∷ (Wait ∷ (Plane 1 ∷ (Command 0x80 ∷ (Address 0 5 ∷ (Put 1 ∷ (Command 0x15 ∷ (Wait ∷ (
+    RowAdd 1 ∷ (Command 0x80 ∷ (Address 0 5 ∷ (Put 1 ∷ (Command 0x10 ∷ (Wait ∷ (End 0 ∷ [])))))))))))))))))
+
+-- one LUN, or two, with all that the wider profile has but cache programs of several planes
 abbrev pub one_wide_lun : Parts
-one_wide_lun = record { page_bytes = 512; spare_bytes = 16; pages = 4; blocks = 8; luns = 1; plane_bits = 0; enhanced = false; multi_plane = false; cache = false; optional = wide_with true true true true true true true true false }
+one_wide_lun = record { page_bytes = 512; spare_bytes = 16; pages = 4; blocks = 8; luns = 1; plane_bits = 0; enhanced = false; multi_plane = false; cache = false; optional = wide_with true true true true true true true true true false false }
 
 abbrev pub two_wide_luns : Parts
-two_wide_luns = record { page_bytes = 512; spare_bytes = 16; pages = 4; blocks = 8; luns = 2; plane_bits = 0; enhanced = true; multi_plane = false; cache = false; optional = wide_with true true true true true true true true false }
+two_wide_luns = record { page_bytes = 512; spare_bytes = 16; pages = 4; blocks = 8; luns = 2; plane_bits = 0; enhanced = true; multi_plane = false; cache = false; optional = wide_with true true true true true true true true true false false }
 
 -- one LUN of two planes
 abbrev pub two_wide_planes : Parts
-two_wide_planes = record { page_bytes = 512; spare_bytes = 16; pages = 4; blocks = 8; luns = 1; plane_bits = 1; enhanced = false; multi_plane = true; cache = false; optional = wide_with true true true true true true true true false }
+two_wide_planes = record { page_bytes = 512; spare_bytes = 16; pages = 4; blocks = 8; luns = 1; plane_bits = 1; enhanced = false; multi_plane = true; cache = false; optional = wide_with true true true true true true true true true false false }
+
+-- the same, which caches programs of both
+abbrev pub two_cached_planes : Parts
+two_cached_planes = record two_wide_planes { optional = wide_with true true true true true true true true true false true }
 
 abbrev pub one_lun_with_cache : Parts
 one_lun_with_cache = record { page_bytes = 512; spare_bytes = 16; pages = 4; blocks = 8; luns = 1; plane_bits = 0; enhanced = false; multi_plane = false; cache = true; optional = no_optional }
@@ -143,3 +165,7 @@ pub record SomeAreSafe : Type 0 where
   pub copied : IsSafe (with_rows 3 0 14 copy_words) one_wide_lun
   pub copied_among_others : IsSafe (with_rows 3 0 14 copy_words) two_wide_luns
   pub copied_in_planes : IsSafe (with_rows 3 1 29 copies_words) two_wide_planes
+  pub cached_program : IsSafe (with_rows 2 2 16 cached_program_words) one_wide_lun
+  pub cached_program_among_others : IsSafe (with_rows 2 2 16 cached_program_words) two_wide_luns
+  pub cached_pages : IsSafe (with_rows 4 4 32 cached_pages_words) one_wide_lun
+  pub cached_group : IsSafe (with_rows 2 3 24 cached_group_words) two_cached_planes

@@ -102,11 +102,11 @@ abbrev pub first_registers : Registers
 first_registers =
     record { column = exactly 0; planes = just_plane 0; index = exactly 0; page = record { lo = 0; hi = 0 }; place = exactly 0; cost = exactly 0; polled = false }
 
--- before the first word: the registers are 0; nothing is open, the LUN is ready, its queue is empty and it reads no cache; and no more
+-- before the first word: the registers are 0; nothing is open, the LUN is ready, its queue is empty, and it neither reads a cache nor programs one; and no more
 abbrev pub first_state : State
 first_state =
     record {
       registers = first_registers;
       target = closed None;
-      lun = record { busy = false; register = None; column = None; queue = NoRows; last = any_but_31; cached = not_cached; held = no_planes; array = no_planes; copies = uncopied };
+      lun = record { busy = false; register = None; column = None; queue = NoRows; last = any_but_31; cached = not_cached; held = no_planes; array = no_planes; copies = uncopied; programming = false };
     }

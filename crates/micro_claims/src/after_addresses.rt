@@ -85,6 +85,7 @@ impl State {
         self.lun.held = Planes::none();
         self.lun.array = Planes::none();
         self.lun.copies = Copies::none();
+        self.lun.programming = false;
     }
 
     // After the address of Read ID, which is a byte of the column.

@@ -3,7 +3,7 @@ ghost use Rattle.std.specs.Prelude.{◌≡◌};
 ghost use Rattle.std.specs.Prelude.{if◌then◌else◌, None, true};
 ghost use Rattle.onfi_cycle.specs.declared.command.Command.TheVariants.{ChangeWriteColumn};
 ghost use Rattle.micro_claims.specs.Against.{place_wants, selects_plane_at};
-ghost use Rattle.micro_claims.specs.Leaves.{may_be_reads, page_register, opened_by, work_started, queued_more, read_queued, read_started, copy_started, program_queued, cache_read, cache_read_on, column_changed, reset_started, command_leaves, with_target};
+ghost use Rattle.micro_claims.specs.Leaves.{may_be_reads, page_register, opened_by, work_started, queued_more, read_queued, read_started, copy_started, program_queued, cache_programmed, cache_read, cache_read_on, column_changed, reset_started, command_leaves, with_target};
 ghost use Rattle.micro_claims.specs.State.{InColumn, any_but_31};
 
 use crate::cached_page::CachedPage;
@@ -63,6 +63,7 @@ impl State {
             held: self.lun.queue.held_by_read(self.target.named),
             array: named_plane(self.target.named),
             copies: Copies::uncopied(),
+            programming: false,
         };
         self.target = KnownTarget::closed(self.target.shows_after_read(geometry));
     }
@@ -160,7 +161,7 @@ impl State {
         self.start_work(self.lun.queue.with(true, self.target.named));
     }
 
-    // After a plane's program, which leaves the pages that are held.
+    // After a plane's program, which leaves the pages that are held, and the array at what a 15h gave it.
     fn queue_program(&mut self)
         ensures { self.new ≡ program_queued self.old }
     {
@@ -168,7 +169,19 @@ impl State {
         self.lun = KnownLun {
             held: self.lun.held,
             copies: self.lun.copies.queued(),
+            programming: self.lun.programming,
             ..self.lun.at_work(queue)
+        };
+        self.target = KnownTarget::closed(self.target.shows);
+    }
+
+    // After a program behind which the next page may come while the array works.
+    fn program_cache(&mut self)
+        ensures { self.new ≡ cache_programmed self.old }
+    {
+        self.lun = KnownLun {
+            programming: true,
+            ..self.lun.at_work(QueuedRows::NoRows)
         };
         self.target = KnownTarget::closed(self.target.shows);
     }
@@ -199,6 +212,7 @@ impl State {
             }
             Command::BlockErasePlane => self.queue_erase(),
             Command::ProgramPlane => self.queue_program(),
+            Command::ProgramCache => self.program_cache(),
             Command::Reset | Command::SynchronousReset => self.reset(),
             Command::ReadCacheSequential => self.go_on_with_cache_read(geometry),
             Command::ReadCacheEnd => {

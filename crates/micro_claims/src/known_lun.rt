@@ -39,6 +39,8 @@ pub struct KnownLun {
     /// The plane of the page that the array reads, where it is sure.
     pub array: Planes,
     pub copies: Copies,
+    /// The array may be at a program that a 15h began.
+    pub programming: bool,
 }
 
 impl KnownLun {
@@ -90,6 +92,7 @@ impl KnownLun {
           held = no_planes;
           array = no_planes;
           copies = no_copies;
+          programming = false;
         } }
     {
         KnownLun {
@@ -102,6 +105,7 @@ impl KnownLun {
             held: Planes::none(),
             array: Planes::none(),
             copies: Copies::none(),
+            programming: false,
         }
     }
 
@@ -117,6 +121,7 @@ impl KnownLun {
           held = self.now.array;
           array = array;
           copies = uncopied;
+          programming = false;
         } }
     {
         KnownLun {
@@ -129,6 +134,7 @@ impl KnownLun {
             held: self.array,
             array,
             copies: Copies::uncopied(),
+            programming: false,
         }
     }
 
@@ -185,6 +191,7 @@ impl KnownLun {
           held = held_by_copy self.now target.now.named;
           array = named_plane target.now.named;
           copies = copies_read geometry.now.pages self.now target.now.named;
+          programming = false;
         } }
     {
         KnownLun {
@@ -197,6 +204,7 @@ impl KnownLun {
             held: self.held_by_copy(target.named),
             array: named_plane(target.named),
             copies: self.copies_read(geometry.parts().pages, target.named),
+            programming: false,
         }
     }
 
@@ -220,9 +228,12 @@ impl KnownLun {
 
     // An opener that reads what stands beside the array, or sets it, may be refused.
     pub(crate) fn may_work(&self) -> bool
-        ensures { result ≡ self.now.busy || may_be_queued self.now.queue || may_be_31 self.now.last }
+        ensures { result ≡ self.now.busy || may_be_queued self.now.queue || may_be_31 self.now.last || self.now.programming }
     {
-        self.busy || self.queue.may_be_some() || self.last.contains(LastCloser::CACHE)
+        self.busy
+            || self.queue.may_be_some()
+            || self.last.contains(LastCloser::CACHE)
+            || self.programming
     }
 
     pub(crate) fn is_within(&self, other: &KnownLun) -> bool
@@ -238,6 +249,7 @@ impl KnownLun {
             && other.held.are_within(self.held)
             && other.array.are_within(self.array)
             && self.copies.are_within(other.copies)
+            && may_within(self.programming, other.programming)
     }
 
     pub(crate) fn join(&self, other: &KnownLun) -> KnownLun
@@ -253,6 +265,7 @@ impl KnownLun {
             held: self.held.and(other.held),
             array: self.array.and(other.array),
             copies: self.copies.join(other.copies),
+            programming: self.programming || other.programming,
         }
     }
 

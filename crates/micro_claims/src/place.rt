@@ -30,7 +30,10 @@ fn is_data_command(command: Command) -> bool
 {
     matches!(
         command,
-        Command::ChangeWriteColumn | Command::ProgramConfirm | Command::ProgramPlane
+        Command::ChangeWriteColumn
+            | Command::ProgramConfirm
+            | Command::ProgramPlane
+            | Command::ProgramCache
     )
 }
 

@@ -210,7 +210,7 @@ impl QueuedRows {
         }
     }
 
-    pub(crate) fn may_be_some(self) -> bool
+    pub fn may_be_some(self) -> bool
         ensures { result ≡ may_be_queued self }
     {
         !matches!(self, QueuedRows::NoRows)

@@ -2,7 +2,7 @@
 ghost use Rattle.std.specs.Prelude.{◌≡◌, ◌^◌, ◌<◌, ◌==◌, ◌&&◌, not};
 ghost use Rattle.micro_claims.specs.Against.{next_address, is_of_profile, is_unfit, opener_refused, closer_refused, goes_on_at, may_end_sequence, command_out_of_place, command_past_rows, command_not_for_programs, has_second_column, column_limit, takes_any_byte, takes_identity, is_identity_byte, identity_refused, plane_refused, copied_planes, copy_refused, row_refused, surely_past, address_out_of_place, begins_elsewhere, column_past, row_outside, output_refused, output_past, input_past, may_be_unready};
 ghost use Rattle.nand_geometry.specs.Optional.{is_wide};
-ghost use Rattle.onfi_cycle.specs.Rules.{excludes_cache};
+ghost use Rattle.onfi_cycle.specs.Rules.{excludes_cache, excludes_program};
 ghost use Rattle.micro_claims.specs.Reasons.{breaks_cycle_forbidden, breaks_address_unaligned, breaks_handover_in_sequence, breaks_buffer_passed, breaks_row_or_plane_outside, breaks_column_too_large, breaks_no_status, breaks_ends_too_soon, breaks_over_budget, breaks_command_not_allowed, reason_against};
 ghost use Rattle.micro_claims.specs.Spans.{bound_plus, is_at_most};
 ghost use Rattle.micro_program.specs.Program.{cost};
@@ -78,6 +78,19 @@ fn excludes_cache(geometry: &Geometry, opener: Command) -> bool
         Command::ChangeReadColumnEnhanced => false,
         _ => opener.addresses_the_array(),
     }
+}
+
+// The opener's row names a LUN whose array is at no program of a 15h.
+fn excludes_program(opener: Command) -> bool
+    ensures { result ≡ excludes_program opener }
+{
+    matches!(
+        opener,
+        Command::Read
+            | Command::ChangeReadColumnEnhanced
+            | Command::BlockErase
+            | Command::ChangeWriteColumn
+    )
 }
 
 // A reset ends an open sequence in the wider profile.
@@ -198,7 +211,8 @@ impl State {
         }
     }
 
-    // A command that the tail wants may find no driver to work on, a cache read that goes on, or none that may.
+    // A command that the tail wants may find no driver to work on, a cache read that goes on, or none that may; a 15h may find rows that are
+    // queued, or a page that is held.
     fn refuses_closer(&self, geometry: &Geometry, closer: Command) -> bool
         ensures { result ≡ closer_refused geometry.now self.now closer }
     {
@@ -209,6 +223,10 @@ impl State {
             Command::ReadConfirm => is_wide(geometry) && self.lun.last.may_be_31(),
             Command::ReadPlane | Command::CopybackRead => self.lun.last.may_be_31(),
             Command::ReadCacheSequential => !is_wide(geometry) || self.lun.last.may_be_other(),
+            Command::ProgramCache => {
+                !geometry.parts().optional.has_group_cache() && self.lun.queue.may_be_some()
+                    || geometry.parts().optional.has_copyback() && self.lun.copies.holds
+            }
             _ => false,
         }
     }
@@ -320,7 +338,8 @@ impl State {
                         || excludes_cache(geometry, opener) && self.lun.last.may_be_31()
                         || self.lun.queue.refuses(self.registers.planes, opener)
                         || self.refuses_plane(opener)
-                        || self.refuses_copy(geometry, opener))
+                        || self.refuses_copy(geometry, opener)
+                        || excludes_program(opener) && self.lun.programming)
             }
             _ => false,
         }
@@ -429,7 +448,7 @@ impl State {
             )
     }
 
-    // The LUN may be busy, have rows queued or read a cache, or a sequence be open.
+    // The LUN may be busy, have rows queued, read a cache or program one, or a sequence be open.
     fn may_be_unready(&self) -> bool
         ensures { result ≡ may_be_unready self.now }
     {
@@ -437,6 +456,7 @@ impl State {
             || self.may_be_open()
             || self.lun.queue.may_be_some()
             || self.lun.last.contains(LastCloser::CACHE)
+            || self.lun.programming
     }
 
     #[tactic(auto, unfolding(crate::specs::Reasons::breaks_cycle_forbidden))]

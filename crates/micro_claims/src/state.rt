@@ -29,7 +29,8 @@ pub struct State {
 }
 
 impl State {
-    /// Before the first word: the registers are 0; nothing is open, the LUN is ready, its queue is empty and it reads no cache.
+    /// Before the first word: the registers are 0; nothing is open, the LUN is ready, its queue is empty, and it neither reads a cache nor
+    /// programs one.
     pub fn first() -> State
         ensures { result ≡ first_state }
     {
@@ -54,6 +55,7 @@ impl State {
                 held: Planes::none(),
                 array: Planes::none(),
                 copies: Copies::uncopied(),
+                programming: false,
             },
         }
     }
@@ -86,6 +88,7 @@ impl State {
                 held: Planes::none(),
                 array: Planes::none(),
                 copies: Copies::uncopied(),
+                programming: true,
             },
         }
     }

@@ -26,6 +26,8 @@ pub enum BarredCause {
     PlaneReads,
     /// The parameter page declares no copyback.
     Copyback,
+    /// The parameter page declares no cache program.
+    CacheProgram,
     /// The parameter page declares no reset of a LUN.
     LunReset,
     /// The parameter page declares no synchronous reset.
@@ -60,6 +62,9 @@ impl BarredCause {
             }
             Command::CopybackRead => {
                 BarredCause::of_optional(refused, command, byte, BarredCause::Copyback)
+            }
+            Command::ProgramCache => {
+                BarredCause::of_optional(refused, command, byte, BarredCause::CacheProgram)
             }
             Command::ReadStatus | Command::ReadStatusEnhanced => Some(BarredCause::Poll),
             Command::BlockErasePlane | Command::ProgramPlane => {
@@ -134,6 +139,9 @@ impl fmt::Display for BarredCause {
                 "the parameter page declares no reads of several planes",
             ),
             BarredCause::Copyback => f.write_str("the parameter page declares no copyback"),
+            BarredCause::CacheProgram => {
+                f.write_str("the parameter page declares no cache program")
+            }
             BarredCause::LunReset => f.write_str("the parameter page declares no reset of a LUN"),
             BarredCause::SynchronousReset => f.write_str(
                 "the parameter page declares no synchronous reset",

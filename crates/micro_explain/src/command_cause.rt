@@ -4,6 +4,7 @@ use crate::cache_cause::CacheCause;
 use crate::command_at::CommandAt;
 use crate::lun_cause::LunCause;
 use crate::open::Open;
+use crate::program_cause::ProgramCause;
 use crate::read_column_cause::ReadColumnCause;
 use crate::refused::Refused;
 use onfi_cycle::{Command, Forbidden};
@@ -24,6 +25,8 @@ pub enum CommandCause {
     Lun(LunCause),
     /// It goes on with a cache read, ends it, or comes amid it.
     Cache(CacheCause),
+    /// It is no closer of this program.
+    Program(ProgramCause),
 }
 
 // The command that begins what a command goes on with.
@@ -32,9 +35,10 @@ fn opener_of(closer: Command) -> Option<Command> {
         Command::ReadConfirm | Command::ReadPlane | Command::CopybackRead => Some(Command::Read),
         Command::ChangeReadColumnConfirm => Some(Command::ChangeReadColumn),
         Command::BlockEraseConfirm | Command::BlockErasePlane => Some(Command::BlockErase),
-        Command::ChangeWriteColumn | Command::ProgramConfirm | Command::ProgramPlane => {
-            Some(Command::PageProgram)
-        }
+        Command::ChangeWriteColumn
+        | Command::ProgramConfirm
+        | Command::ProgramPlane
+        | Command::ProgramCache => Some(Command::PageProgram),
         Command::Read
         | Command::ChangeReadColumn
         | Command::ChangeReadColumnEnhanced
@@ -105,6 +109,7 @@ impl CommandCause {
             | Command::ReadStatusEnhanced
             | Command::ProgramConfirm
             | Command::ProgramPlane
+            | Command::ProgramCache
             | Command::Reset
             | Command::ResetLun
             | Command::SynchronousReset
@@ -122,6 +127,7 @@ impl CommandCause {
                 Some(CommandCause::Cache(CacheCause::of_row(refused)?))
             }
             Command::ReadCacheSequential => Some(CommandCause::SequenceOpen(refused.open())),
+            Command::ProgramCache => Some(CommandCause::Program(ProgramCause::of(refused)?)),
             _ => Some(CommandCause::ReadColumn(ReadColumnCause::of(refused)?)),
         }
     }
@@ -147,6 +153,7 @@ impl CommandCause {
             }
             CommandCause::Lun(lun) => lun.rule(),
             CommandCause::Cache(_) => Forbidden::CacheReadMisplaced,
+            CommandCause::Program(cause) => cause.rule(),
         }
     }
 }
@@ -167,6 +174,7 @@ impl fmt::Display for CommandCause {
             }
             CommandCause::Lun(lun) => write!(f, "{lun}"),
             CommandCause::Cache(cause) => write!(f, "{cause}"),
+            CommandCause::Program(cause) => write!(f, "{cause}"),
         }
     }
 }

@@ -59,6 +59,7 @@ fn leaves_no_register(command: Command) -> bool {
             | Command::BlockErasePlane
             | Command::ProgramConfirm
             | Command::ProgramPlane
+            | Command::ProgramCache
             | Command::ReadPlane
             | Command::Reset
             | Command::SynchronousReset

@@ -18,6 +18,8 @@ pub enum LunCause {
     Queue(QueueCause),
     /// It reads a cache since this command.
     CacheRead(CommandAt),
+    /// Its array may be at the program of this command.
+    CacheProgram(CommandAt),
     /// The plane of the row can't be selected.
     Plane(PlaneCause),
     /// No page may be copied to the row, or it comes amid copies.
@@ -48,14 +50,25 @@ impl LunCause {
         }
     }
 
+    // Against what wants that the array programs nothing.
+    fn of_program(refused: &Refused<'_>) -> Option<LunCause> {
+        if refused.state.lun.programming {
+            Some(LunCause::CacheProgram(refused.last(Command::ProgramCache)))
+        } else {
+            None
+        }
+    }
+
     /// Against work that wants the LUN for itself.
     pub(crate) fn of_lone_work(refused: &Refused<'_>) -> Option<LunCause> {
         if let Some(busy) = LunCause::of_busy(refused) {
             Some(busy)
         } else if let Some(queue) = QueueCause::of_lone_work(refused) {
             Some(LunCause::Queue(queue))
+        } else if let Some(cache) = LunCause::of_cache(refused) {
+            Some(cache)
         } else {
-            LunCause::of_cache(refused)
+            LunCause::of_program(refused)
         }
     }
 
@@ -64,16 +77,36 @@ impl LunCause {
         if let Some(busy) = LunCause::of_busy(refused) {
             Some(busy)
         } else if opener == Command::ChangeReadColumnEnhanced {
-            Some(LunCause::Plane(PlaneCause::of(refused)?))
+            LunCause::of_selection(refused)
         } else if let Some(queue) = QueueCause::of_row(refused, opener) {
             Some(LunCause::Queue(queue))
-        } else if may_name_caching(refused, opener) {
-            None
-        } else if let Some(cache) = LunCause::of_cache(refused) {
-            Some(cache)
         } else {
-            Some(LunCause::Copy(CopyCause::of_row(refused, opener)?))
+            LunCause::of_array(refused, opener)
         }
+    }
+
+    // Against the row of `cmd 06`.
+    fn of_selection(refused: &Refused<'_>) -> Option<LunCause> {
+        if let Some(program) = LunCause::of_program(refused) {
+            Some(program)
+        } else {
+            Some(LunCause::Plane(PlaneCause::of(refused)?))
+        }
+    }
+
+    // Against the row of another opener, by what the array may do and which pages are held.
+    fn of_array(refused: &Refused<'_>, opener: Command) -> Option<LunCause> {
+        if !may_name_caching(refused, opener) {
+            if let Some(cache) = LunCause::of_cache(refused) {
+                return Some(cache);
+            }
+        }
+        if opener != Command::PageProgram {
+            if let Some(program) = LunCause::of_program(refused) {
+                return Some(program);
+            }
+        }
+        Some(LunCause::Copy(CopyCause::of_row(refused, opener)?))
     }
 
     /// The rule that this breaks.
@@ -82,6 +115,7 @@ impl LunCause {
             LunCause::Busy(_) => Forbidden::LunBusy,
             LunCause::Queue(_) => Forbidden::QueueClash,
             LunCause::CacheRead(_) => Forbidden::CacheReadMisplaced,
+            LunCause::CacheProgram(_) => Forbidden::CacheProgramMisplaced,
             LunCause::Plane(_) => Forbidden::PlaneNotHeld,
             LunCause::Copy(_) => Forbidden::CopybackMisplaced,
         }
@@ -98,6 +132,10 @@ impl fmt::Display for LunCause {
             LunCause::CacheRead(command) => write!(
                 f,
                 "the cache read of {command} goes on: `cmd 3f` and a `wait` must end it"
+            ),
+            LunCause::CacheProgram(command) => write!(
+                f,
+                "the array may be at the program of {command}: a program that `cmd 10` closes, and a `wait`, must come first"
             ),
         }
     }

@@ -19,6 +19,8 @@ pub struct Open {
     pub reads_planes: bool,
     /// Copybacks are declared.
     pub copies_pages: bool,
+    /// Cache programs are declared.
+    pub programs_cache: bool,
 }
 
 impl fmt::Display for Open {
@@ -29,6 +31,7 @@ impl fmt::Display for Open {
             reads_cache_at_rows: self.reads_cache_at_rows,
             reads_planes: self.reads_planes,
             copies_pages: self.copies_pages,
+            programs_cache: self.programs_cache,
         };
         match (self.place, self.command) {
             (Place::Closed, _) => f.write_str("no sequence is open"),

@@ -17,8 +17,8 @@ pub enum QueueCause {
     OtherIndex(CommandAt),
 }
 
-// The command by which the last row was queued.
-fn queued_by(refused: &Refused<'_>) -> CommandAt {
+/// The command by which the last row was queued.
+pub(crate) fn queued_by(refused: &Refused<'_>) -> CommandAt {
     match refused.state.lun.queue {
         QueuedRows::SomeRows { erase: true, .. } => refused.last(Command::BlockErasePlane),
         QueuedRows::SomeRows { erase: false, .. } => refused.last(Command::ProgramPlane),

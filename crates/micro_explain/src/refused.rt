@@ -91,6 +91,7 @@ impl Refused<'_> {
             reads_cache_at_rows: self.is_wide() && self.geometry.parts().cache,
             reads_planes: !is_undeclared(self.geometry, Command::ReadPlane),
             copies_pages: self.copies_pages(),
+            programs_cache: !is_undeclared(self.geometry, Command::ProgramCache),
         }
     }
 

@@ -16,6 +16,8 @@ pub(crate) struct Wanted {
     pub reads_planes: bool,
     /// Copybacks are declared.
     pub copies_pages: bool,
+    /// Cache programs are declared.
+    pub programs_cache: bool,
 }
 
 impl Wanted {
@@ -37,6 +39,7 @@ impl Wanted {
             | Command::ReadStatusEnhanced
             | Command::ProgramConfirm
             | Command::ProgramPlane
+            | Command::ProgramCache
             | Command::ReadId
             | Command::ReadParameterPage
             | Command::Reset
@@ -71,10 +74,11 @@ impl Wanted {
 
     // What comes in the data of a program.
     fn in_data(self) -> &'static str {
-        if self.multi_plane {
-            "`put`, `cmd 85`, `cmd 10` or `cmd 11`"
-        } else {
-            "`put`, `cmd 85` or `cmd 10`"
+        match (self.multi_plane, self.programs_cache) {
+            (true, true) => "`put`, `cmd 85`, `cmd 10`, `cmd 11` or `cmd 15`",
+            (true, false) => "`put`, `cmd 85`, `cmd 10` or `cmd 11`",
+            (false, true) => "`put`, `cmd 85`, `cmd 10` or `cmd 15`",
+            (false, false) => "`put`, `cmd 85` or `cmd 10`",
         }
     }
 

@@ -168,11 +168,12 @@ pub(crate) fn write_copies<W: fmt::Write>(
     Ok(())
 }
 
-/// Writes whether the LUN works.
+/// Writes whether the LUN works, and whether its array may.
 pub(crate) fn write_work<W: fmt::Write>(f: &mut fmt::Formatter<W>, lun: &KnownLun) -> fmt::Result {
-    f.write_str(if lun.busy {
-        "the LUN may be busy"
-    } else {
-        "the LUN is ready"
+    f.write_str(match (lun.busy, lun.programming) {
+        (true, false) => "the LUN may be busy",
+        (false, false) => "the LUN is ready",
+        (true, true) => "the LUN may be busy, and its array may program behind `cmd 15`",
+        (false, true) => "the LUN is ready, and its array may program behind `cmd 15`",
     })
 }

@@ -1,7 +1,7 @@
 -- Headers that are enough: more is enough too, and what each number allows alone, all allow together.
 use Rattle.std.proofs.Common.{◌≡◌, ℕ, ◌+◌, ◌^◌, ◌<◌, ◌≤◌, Bool, true, false, ◌&&◌, ◌||◌, cond, not, List, [], ◌∷◌, Option, Some, None, refl, sym, ap, ◌∙◌, arith}
-use Rattle.std.specs.Prelude.{nat_le, nat_lt}
-use Rattle.std.proofs.lemmas.Bool.{leb-true, le-leb, not-true, not-false, not_from_true, or_parts, or_from, and_left, and_right, and_cases, true≢false}
+use Rattle.std.specs.Prelude.{nat_lt}
+use Rattle.std.proofs.lemmas.Bool.{leb-true, le-leb, not-false, not_from_true, or_parts, or_from}
 use Rattle.nand_geometry.specs.declared.parts.Parts.{Parts}
 use Rattle.nand_geometry.specs.Limits.{planes}
 use Rattle.onfi_cycle.specs.declared.command.Command.{Command}
@@ -23,10 +23,9 @@ use Rattle.micro_claims.specs.Planes.{are_below}
 use Rattle.micro_claims.specs.Certificate.{claim}
 use Rattle.micro_walk.specs.Shape.{or_fault, shape_fault}
 use Rattle.micro_walk.specs.Faults.{led_from, known_first, reason_at, fault_or, followed, has_loop, fault_within}
-use Rattle.micro_explain.specs.declared.header_number.HeaderNumber.{HeaderNumber}
 use Rattle.micro_explain.specs.declared.header_number.HeaderNumber.TheVariants.{Rows, Buffer, Budget}
 use Rattle.micro_lint.specs.declared.header.Header.{Header}
-use Rattle.micro_lint.specs.Least.{bounds_with, IsEnough, IsLeast, IsBetween, IsLeastNumber, largest_but}
+use Rattle.micro_lint.specs.Least.{bounds_with, IsEnough, largest_but}
 
 -- 1. nothing is against a word: reason by reason
 

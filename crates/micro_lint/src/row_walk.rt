@@ -43,7 +43,10 @@ fn erases(command: Command) -> bool {
 
 // The command programs a page.
 fn programs(command: Command) -> bool {
-    matches!(command, Command::ProgramConfirm | Command::ProgramPlane)
+    matches!(
+        command,
+        Command::ProgramConfirm | Command::ProgramPlane | Command::ProgramCache
+    )
 }
 
 // A note of the word is there already.

@@ -33,7 +33,7 @@ is_calm _ = false
 record LeavesAll (e : Effect) : Type 0 where
   busy : (b : Bool) → busy_after e b ≡ b
   closer : (c : Option Command) → closer_after e c ≡ c
-  array_busy : (b c x : Bool) → array_busy_after e b c x ≡ x
+  array_busy : (b : Bool) (c : Option Command) (x : Bool) → array_busy_after e b c x ≡ x
   array_page : (p : PageAddress) → array_page_after e p ≡ p
   register : (p : PageAddress) (q : List Queued) (h : List PageAddress) (r : Register) → register_after e p q h r ≡ r
   queue : (q : List Queued) → queue_after e q ≡ q
@@ -69,7 +69,7 @@ calm g past i l h =
     record {
       busy = k.busy (is_busy g past l);
       closer = k.closer (closer g past l);
-      array_busy = k.array_busy (is_busy g past l) (is_caching g past l) (is_array_busy g past l);
+      array_busy = k.array_busy (is_busy g past l) (closer g past l) (is_array_busy g past l);
       array_page = k.array_page (array_page g past l);
       register = k.register (array_page g past l) (queue g past l) (held g past l) (register g past l);
       queue = k.queue (queue g past l);
@@ -90,7 +90,7 @@ calmer g p q r l x y =
     }
 
 pub calm_idle : (g : Parts) (before later : List Item) (l : Lun) → Calm g before later l → is_serving g later l.ce ≡ false → IsIdle g before l → IsIdle g later l
-calm_idle g before later l k free idle = record { ready = k.busy ∙ idle.ready; no_cache = ap is_cache_read k.closer ∙ idle.no_cache; no_queue = k.queue ∙ idle.no_queue; free = free }
+calm_idle g before later l k free idle = record { ready = k.busy ∙ idle.ready; no_cache = ap is_cache_read k.closer ∙ idle.no_cache; no_program = rw (k.busy, k.closer, k.array_busy) idle.no_program; no_queue = k.queue ∙ idle.no_queue; free = free }
 
 pub either_calm : (b : Bool) (x y : Effect) → is_calm x ≡ true → is_calm y ≡ true → is_calm (cond b x y) ≡ true
 either_calm true x y h k = h

@@ -20,8 +20,8 @@ use Rattle.onfi_cycle.specs.Command.{command, is_page_program, is_write_column, 
 use Rattle.onfi_cycle.specs.Sequence.{tail, facts_of, with_cycle, target_cycle, opened, is_open, row, row_with}
 use Rattle.onfi_cycle.specs.LunView.{LunView}
 use Rattle.onfi_cycle.specs.Effect.{is_data, is_shared, page_address, names_lun}
-use Rattle.onfi_cycle.specs.Lun.{luns_of}
-use Rattle.onfi_cycle.specs.Rules.{ends_row, named_lun_is, works_for_target, driver, caching, some_queued_clashes, breaks_not_there, breaks_command_unknown, breaks_sequence_open, breaks_several_luns, breaks_no_column_to_change, breaks_command_misplaced, breaks_address_misplaced, breaks_row_outside, breaks_lun_busy, breaks_queue_clash, breaks_input_misplaced, breaks_no_sole_driver, breaks_data_not_ready, breaks_column_outside, breaks_cache_read_misplaced, breaks_copyback_misplaced, breaks_plane_not_held}
+use Rattle.onfi_cycle.specs.Lun.{luns_of, programs}
+use Rattle.onfi_cycle.specs.Rules.{ends_row, named_lun_is, works_for_target, driver, caching, some_queued_clashes, breaks_not_there, breaks_command_unknown, breaks_sequence_open, breaks_several_luns, breaks_no_column_to_change, breaks_command_misplaced, breaks_address_misplaced, breaks_row_outside, breaks_lun_busy, breaks_queue_clash, breaks_input_misplaced, breaks_no_sole_driver, breaks_data_not_ready, breaks_column_outside, breaks_cache_read_misplaced, breaks_cache_program_misplaced, breaks_copyback_misplaced, breaks_plane_not_held}
 use Rattle.onfi_cycle.specs.Permitted.{broken, judge_cycle}
 use Rattle.onfi_cycle.specs.Channel.{Channel, IsIdle, IsOwn, is_there, is_open_on, is_serving, cycle}
 use Rattle.micro_program.proofs.Basics.{there_lun}
@@ -69,7 +69,7 @@ own_address s l past byte t there e judged named beside =
 -- 1. Block Erase
 
 judge_erase : (g : Parts) (t : TailFacts) (luns : List LunView) → is_open t ≡ false → list_any (λ v. not v.busy) luns ≡ true → judge_cycle g t luns (CommandCycle BlockErase) ≡ None
-unfolding breaks_command_unknown breaks_sequence_open breaks_several_luns breaks_no_column_to_change breaks_command_misplaced breaks_address_misplaced breaks_row_outside breaks_lun_busy breaks_queue_clash breaks_input_misplaced breaks_no_sole_driver breaks_data_not_ready breaks_column_outside breaks_cache_read_misplaced breaks_copyback_misplaced breaks_plane_not_held
+unfolding breaks_command_unknown breaks_sequence_open breaks_several_luns breaks_no_column_to_change breaks_command_misplaced breaks_address_misplaced breaks_row_outside breaks_lun_busy breaks_queue_clash breaks_input_misplaced breaks_no_sole_driver breaks_data_not_ready breaks_column_outside breaks_cache_read_misplaced breaks_cache_program_misplaced breaks_copyback_misplaced breaks_plane_not_held
 judge_erase g t luns closed ready = at (is_wide g.optional) (ltb 1 g.luns) refl refl
   where
     at : (w several : Bool) → is_wide g.optional ≡ w → ltb 1 g.luns ≡ several → judge_cycle g t luns (CommandCycle BlockErase) ≡ None
@@ -91,7 +91,7 @@ unfolding command
 tail_erase past ce = rw (eqb_self ce) refl
 
 pub judge_erase_1 : (g : Parts) (luns : List LunView) (b : ℕ) → judge_cycle g (facts_of (CommandCycle BlockErase ∷ [])) luns (AddressCycle b) ≡ None
-unfolding breaks_command_unknown breaks_sequence_open breaks_several_luns breaks_no_column_to_change breaks_command_misplaced breaks_address_misplaced breaks_row_outside breaks_lun_busy breaks_queue_clash breaks_input_misplaced breaks_no_sole_driver breaks_data_not_ready breaks_column_outside breaks_cache_read_misplaced breaks_plane_not_held
+unfolding breaks_command_unknown breaks_sequence_open breaks_several_luns breaks_no_column_to_change breaks_command_misplaced breaks_address_misplaced breaks_row_outside breaks_lun_busy breaks_queue_clash breaks_input_misplaced breaks_no_sole_driver breaks_data_not_ready breaks_column_outside breaks_cache_read_misplaced breaks_cache_program_misplaced breaks_plane_not_held
 judge_erase_1 g luns b = at (is_wide g.optional) refl
   where
     at : (w : Bool) → is_wide g.optional ≡ w → judge_cycle g (facts_of (CommandCycle BlockErase ∷ [])) luns (AddressCycle b) ≡ None
@@ -99,27 +99,27 @@ judge_erase_1 g luns b = at (is_wide g.optional) refl
     at false e = rw (no_copy g (facts_of (CommandCycle BlockErase ∷ [])) luns b refl refl, e, never) refl
 
 pub judge_erase_2 : (g : Parts) (luns : List LunView) (a b : ℕ) → judge_cycle g (facts_of (AddressCycle a ∷ (CommandCycle BlockErase ∷ []))) luns (AddressCycle b) ≡ None
-unfolding breaks_command_unknown breaks_sequence_open breaks_several_luns breaks_no_column_to_change breaks_command_misplaced breaks_address_misplaced breaks_row_outside breaks_lun_busy breaks_queue_clash breaks_input_misplaced breaks_no_sole_driver breaks_data_not_ready breaks_column_outside breaks_cache_read_misplaced breaks_plane_not_held
+unfolding breaks_command_unknown breaks_sequence_open breaks_several_luns breaks_no_column_to_change breaks_command_misplaced breaks_address_misplaced breaks_row_outside breaks_lun_busy breaks_queue_clash breaks_input_misplaced breaks_no_sole_driver breaks_data_not_ready breaks_column_outside breaks_cache_read_misplaced breaks_cache_program_misplaced breaks_plane_not_held
 judge_erase_2 g luns a b = at (is_wide g.optional) refl
   where
     at : (w : Bool) → is_wide g.optional ≡ w → judge_cycle g (facts_of (AddressCycle a ∷ (CommandCycle BlockErase ∷ []))) luns (AddressCycle b) ≡ None
     at true e = rw (no_copy g (facts_of (AddressCycle a ∷ (CommandCycle BlockErase ∷ []))) luns b refl refl, e, never) refl
     at false e = rw (no_copy g (facts_of (AddressCycle a ∷ (CommandCycle BlockErase ∷ []))) luns b refl refl, e, never) refl
 
-pub judge_erase_3 : (g : Parts) (luns : List LunView) (r1 r2 r3 : ℕ) → is_inside g (parts_of g (row_of r1 r2 r3)) ≡ true → named_lun_is g (row_of r1 r2 r3) (λ v. v.busy) luns ≡ false → named_lun_is g (row_of r1 r2 r3) (λ v. some_queued_clashes g true (page_address g (row_of r1 r2 r3)) v.queue) luns ≡ false → named_lun_is g (row_of r1 r2 r3) caching luns ≡ false → (is_shared g && list_any works_for_target luns) ≡ false → judge_cycle g (facts_of (AddressCycle r2 ∷ (AddressCycle r1 ∷ (CommandCycle BlockErase ∷ [])))) luns (AddressCycle r3) ≡ None
-unfolding breaks_command_unknown breaks_sequence_open breaks_several_luns breaks_no_column_to_change breaks_command_misplaced breaks_address_misplaced breaks_row_outside breaks_lun_busy breaks_queue_clash breaks_input_misplaced breaks_no_sole_driver breaks_data_not_ready breaks_column_outside breaks_cache_read_misplaced breaks_plane_not_held
-judge_erase_3 g luns r1 r2 r3 inside busy clash cache free = at (is_wide g.optional) refl
+pub judge_erase_3 : (g : Parts) (luns : List LunView) (r1 r2 r3 : ℕ) → is_inside g (parts_of g (row_of r1 r2 r3)) ≡ true → named_lun_is g (row_of r1 r2 r3) (λ v. v.busy) luns ≡ false → named_lun_is g (row_of r1 r2 r3) (λ v. some_queued_clashes g true (page_address g (row_of r1 r2 r3)) v.queue) luns ≡ false → named_lun_is g (row_of r1 r2 r3) caching luns ≡ false → named_lun_is g (row_of r1 r2 r3) programs luns ≡ false → (is_shared g && list_any works_for_target luns) ≡ false → judge_cycle g (facts_of (AddressCycle r2 ∷ (AddressCycle r1 ∷ (CommandCycle BlockErase ∷ [])))) luns (AddressCycle r3) ≡ None
+unfolding breaks_command_unknown breaks_sequence_open breaks_several_luns breaks_no_column_to_change breaks_command_misplaced breaks_address_misplaced breaks_row_outside breaks_lun_busy breaks_queue_clash breaks_input_misplaced breaks_no_sole_driver breaks_data_not_ready breaks_column_outside breaks_cache_read_misplaced breaks_cache_program_misplaced breaks_plane_not_held
+judge_erase_3 g luns r1 r2 r3 inside busy clash cache program free = at (is_wide g.optional) refl
   where
     at : (w : Bool) → is_wide g.optional ≡ w → judge_cycle g (facts_of (AddressCycle r2 ∷ (AddressCycle r1 ∷ (CommandCycle BlockErase ∷ [])))) luns (AddressCycle r3) ≡ None
-    at true e = rw (no_copy g (facts_of (AddressCycle r2 ∷ (AddressCycle r1 ∷ (CommandCycle BlockErase ∷ [])))) luns r3 refl refl, free, e, inside, busy, clash, cache) refl
-    at false e = rw (no_copy g (facts_of (AddressCycle r2 ∷ (AddressCycle r1 ∷ (CommandCycle BlockErase ∷ [])))) luns r3 refl refl, e, inside, busy, clash, cache) refl
+    at true e = rw (no_copy g (facts_of (AddressCycle r2 ∷ (AddressCycle r1 ∷ (CommandCycle BlockErase ∷ [])))) luns r3 refl refl, free, e, inside, busy, clash, cache, program) refl
+    at false e = rw (no_copy g (facts_of (AddressCycle r2 ∷ (AddressCycle r1 ∷ (CommandCycle BlockErase ∷ [])))) luns r3 refl refl, e, inside, busy, clash, cache, program) refl
 
 -- the tail of an erase with its row
 abbrev pub addressed_erase : ℕ → ℕ → ℕ → List TargetCycle
 addressed_erase r1 r2 r3 = AddressCycle r3 ∷ (AddressCycle r2 ∷ (AddressCycle r1 ∷ (CommandCycle BlockErase ∷ [])))
 
 judge_confirm : (g : Parts) (luns : List LunView) (r1 r2 r3 : ℕ) → judge_cycle g (facts_of (addressed_erase r1 r2 r3)) luns (CommandCycle BlockEraseConfirm) ≡ None
-unfolding breaks_command_unknown breaks_sequence_open breaks_several_luns breaks_no_column_to_change breaks_command_misplaced breaks_address_misplaced breaks_row_outside breaks_lun_busy breaks_queue_clash breaks_input_misplaced breaks_no_sole_driver breaks_data_not_ready breaks_column_outside breaks_cache_read_misplaced breaks_copyback_misplaced breaks_plane_not_held
+unfolding breaks_command_unknown breaks_sequence_open breaks_several_luns breaks_no_column_to_change breaks_command_misplaced breaks_address_misplaced breaks_row_outside breaks_lun_busy breaks_queue_clash breaks_input_misplaced breaks_no_sole_driver breaks_data_not_ready breaks_column_outside breaks_cache_read_misplaced breaks_cache_program_misplaced breaks_copyback_misplaced breaks_plane_not_held
 judge_confirm g luns r1 r2 r3 = at (is_wide g.optional) (ltb 1 g.luns) refl refl
   where
     at : (w several : Bool) → is_wide g.optional ≡ w → ltb 1 g.luns ≡ several → judge_cycle g (facts_of (addressed_erase r1 r2 r3)) luns (CommandCycle BlockEraseConfirm) ≡ None
@@ -139,7 +139,7 @@ own_confirm s l past r1 r2 r3 there e named =
 -- 2. Read Status and Read Status Enhanced
 
 judge_status : (g : Parts) (t : TailFacts) (luns : List LunView) → is_open t ≡ false → ltb 1 g.luns ≡ false → judge_cycle g t luns (CommandCycle ReadStatus) ≡ None
-unfolding breaks_command_unknown breaks_sequence_open breaks_several_luns breaks_no_column_to_change breaks_command_misplaced breaks_address_misplaced breaks_row_outside breaks_lun_busy breaks_queue_clash breaks_input_misplaced breaks_no_sole_driver breaks_data_not_ready breaks_column_outside breaks_cache_read_misplaced breaks_copyback_misplaced breaks_plane_not_held
+unfolding breaks_command_unknown breaks_sequence_open breaks_several_luns breaks_no_column_to_change breaks_command_misplaced breaks_address_misplaced breaks_row_outside breaks_lun_busy breaks_queue_clash breaks_input_misplaced breaks_no_sole_driver breaks_data_not_ready breaks_column_outside breaks_cache_read_misplaced breaks_cache_program_misplaced breaks_copyback_misplaced breaks_plane_not_held
 judge_status g t luns closed one = at (is_wide g.optional) refl
   where
     at : (w : Bool) → is_wide g.optional ≡ w → judge_cycle g t luns (CommandCycle ReadStatus) ≡ None
@@ -160,7 +160,7 @@ unfolding command
 tail_status past ce = rw (eqb_self ce) refl
 
 judge_enhanced : (g : Parts) (t : TailFacts) (luns : List LunView) → is_open t ≡ false → g.enhanced ≡ true → (is_shared g && list_any works_for_target luns) ≡ false → judge_cycle g t luns (CommandCycle ReadStatusEnhanced) ≡ None
-unfolding breaks_command_unknown breaks_sequence_open breaks_several_luns breaks_no_column_to_change breaks_command_misplaced breaks_address_misplaced breaks_row_outside breaks_lun_busy breaks_queue_clash breaks_input_misplaced breaks_no_sole_driver breaks_data_not_ready breaks_column_outside breaks_cache_read_misplaced breaks_copyback_misplaced breaks_plane_not_held
+unfolding breaks_command_unknown breaks_sequence_open breaks_several_luns breaks_no_column_to_change breaks_command_misplaced breaks_address_misplaced breaks_row_outside breaks_lun_busy breaks_queue_clash breaks_input_misplaced breaks_no_sole_driver breaks_data_not_ready breaks_column_outside breaks_cache_read_misplaced breaks_cache_program_misplaced breaks_copyback_misplaced breaks_plane_not_held
 judge_enhanced g t luns closed enhanced free = at (is_wide g.optional) (ltb 1 g.luns) refl refl
   where
     at : (w several : Bool) → is_wide g.optional ≡ w → ltb 1 g.luns ≡ several → judge_cycle g t luns (CommandCycle ReadStatusEnhanced) ≡ None
@@ -182,7 +182,7 @@ unfolding command
 tail_enhanced past ce = rw (eqb_self ce) refl
 
 pub judge_enhanced_1 : (g : Parts) (luns : List LunView) (b : ℕ) → judge_cycle g (facts_of (CommandCycle ReadStatusEnhanced ∷ [])) luns (AddressCycle b) ≡ None
-unfolding breaks_command_unknown breaks_sequence_open breaks_several_luns breaks_no_column_to_change breaks_command_misplaced breaks_address_misplaced breaks_row_outside breaks_lun_busy breaks_queue_clash breaks_input_misplaced breaks_no_sole_driver breaks_data_not_ready breaks_column_outside breaks_cache_read_misplaced breaks_plane_not_held
+unfolding breaks_command_unknown breaks_sequence_open breaks_several_luns breaks_no_column_to_change breaks_command_misplaced breaks_address_misplaced breaks_row_outside breaks_lun_busy breaks_queue_clash breaks_input_misplaced breaks_no_sole_driver breaks_data_not_ready breaks_column_outside breaks_cache_read_misplaced breaks_cache_program_misplaced breaks_plane_not_held
 judge_enhanced_1 g luns b = at (is_wide g.optional) refl
   where
     at : (w : Bool) → is_wide g.optional ≡ w → judge_cycle g (facts_of (CommandCycle ReadStatusEnhanced ∷ [])) luns (AddressCycle b) ≡ None
@@ -190,7 +190,7 @@ judge_enhanced_1 g luns b = at (is_wide g.optional) refl
     at false e = rw (no_copy g (facts_of (CommandCycle ReadStatusEnhanced ∷ [])) luns b refl refl, e, never) refl
 
 pub judge_enhanced_2 : (g : Parts) (luns : List LunView) (a b : ℕ) → judge_cycle g (facts_of (AddressCycle a ∷ (CommandCycle ReadStatusEnhanced ∷ []))) luns (AddressCycle b) ≡ None
-unfolding breaks_command_unknown breaks_sequence_open breaks_several_luns breaks_no_column_to_change breaks_command_misplaced breaks_address_misplaced breaks_row_outside breaks_lun_busy breaks_queue_clash breaks_input_misplaced breaks_no_sole_driver breaks_data_not_ready breaks_column_outside breaks_cache_read_misplaced breaks_plane_not_held
+unfolding breaks_command_unknown breaks_sequence_open breaks_several_luns breaks_no_column_to_change breaks_command_misplaced breaks_address_misplaced breaks_row_outside breaks_lun_busy breaks_queue_clash breaks_input_misplaced breaks_no_sole_driver breaks_data_not_ready breaks_column_outside breaks_cache_read_misplaced breaks_cache_program_misplaced breaks_plane_not_held
 judge_enhanced_2 g luns a b = at (is_wide g.optional) refl
   where
     at : (w : Bool) → is_wide g.optional ≡ w → judge_cycle g (facts_of (AddressCycle a ∷ (CommandCycle ReadStatusEnhanced ∷ []))) luns (AddressCycle b) ≡ None
@@ -198,7 +198,7 @@ judge_enhanced_2 g luns a b = at (is_wide g.optional) refl
     at false e = rw (no_copy g (facts_of (AddressCycle a ∷ (CommandCycle ReadStatusEnhanced ∷ []))) luns b refl refl, e, never) refl
 
 pub judge_enhanced_3 : (g : Parts) (luns : List LunView) (r1 r2 r3 : ℕ) → is_inside g (parts_of g (row_of r1 r2 r3)) ≡ true → judge_cycle g (facts_of (AddressCycle r2 ∷ (AddressCycle r1 ∷ (CommandCycle ReadStatusEnhanced ∷ [])))) luns (AddressCycle r3) ≡ None
-unfolding breaks_command_unknown breaks_sequence_open breaks_several_luns breaks_no_column_to_change breaks_command_misplaced breaks_address_misplaced breaks_row_outside breaks_lun_busy breaks_queue_clash breaks_input_misplaced breaks_no_sole_driver breaks_data_not_ready breaks_column_outside breaks_cache_read_misplaced breaks_plane_not_held
+unfolding breaks_command_unknown breaks_sequence_open breaks_several_luns breaks_no_column_to_change breaks_command_misplaced breaks_address_misplaced breaks_row_outside breaks_lun_busy breaks_queue_clash breaks_input_misplaced breaks_no_sole_driver breaks_data_not_ready breaks_column_outside breaks_cache_read_misplaced breaks_cache_program_misplaced breaks_plane_not_held
 judge_enhanced_3 g luns r1 r2 r3 inside = at (is_wide g.optional) refl
   where
     at : (w : Bool) → is_wide g.optional ≡ w → judge_cycle g (facts_of (AddressCycle r2 ∷ (AddressCycle r1 ∷ (CommandCycle ReadStatusEnhanced ∷ [])))) luns (AddressCycle r3) ≡ None
@@ -207,5 +207,5 @@ judge_enhanced_3 g luns r1 r2 r3 inside = at (is_wide g.optional) refl
 
 -- an output where nothing is open and one driver shows its status
 pub judge_output : (g : Parts) (t : TailFacts) (luns : List LunView) (v : LunView) → is_open t ≡ false → driver luns ≡ Some v → is_data v.latch ≡ false → judge_cycle g t luns OutputCycle ≡ None
-unfolding breaks_command_unknown breaks_sequence_open breaks_several_luns breaks_no_column_to_change breaks_command_misplaced breaks_address_misplaced breaks_row_outside breaks_lun_busy breaks_queue_clash breaks_input_misplaced breaks_no_sole_driver breaks_data_not_ready breaks_column_outside breaks_cache_read_misplaced breaks_copyback_misplaced breaks_plane_not_held
+unfolding breaks_command_unknown breaks_sequence_open breaks_several_luns breaks_no_column_to_change breaks_command_misplaced breaks_address_misplaced breaks_row_outside breaks_lun_busy breaks_queue_clash breaks_input_misplaced breaks_no_sole_driver breaks_data_not_ready breaks_column_outside breaks_cache_read_misplaced breaks_cache_program_misplaced breaks_copyback_misplaced breaks_plane_not_held
 judge_output g t luns v closed one shows = rw (closed, one, shows) refl

@@ -6,9 +6,9 @@ use Rattle.std.proofs.Math.Bool.{and-false}
 use Rattle.nand_geometry.specs.declared.parts.Parts.{Parts}
 use Rattle.nand_geometry.specs.Limits.{page_len}
 use Rattle.nand_geometry.specs.Row.{parts_of}
-use Rattle.nand_geometry.specs.Optional.{has_all, is_wide, has_features, has_unique_id, has_enhanced_column, has_lun_reset, has_plane_reads, has_synchronous_reset, has_copyback}
+use Rattle.nand_geometry.specs.Optional.{has_all, is_wide, has_features, has_unique_id, has_enhanced_column, has_lun_reset, has_plane_reads, has_synchronous_reset, has_copyback, has_program_cache, has_group_cache}
 use Rattle.onfi_cycle.specs.declared.command.Command.{Command}
-use Rattle.onfi_cycle.specs.declared.command.Command.TheVariants.{Read, ReadConfirm, ChangeReadColumn, ChangeReadColumnConfirm, BlockErase, BlockEraseConfirm, BlockErasePlane, ReadStatus, ReadStatusEnhanced, PageProgram, ChangeWriteColumn, ProgramConfirm, ProgramPlane, ReadId, ReadParameterPage, Reset, ReadCacheSequential, ReadCacheEnd, ReadUniqueId, GetFeatures, SetFeatures, ResetLun, SynchronousReset, Unknown, ChangeReadColumnEnhanced, ReadPlane, CopybackRead}
+use Rattle.onfi_cycle.specs.declared.command.Command.TheVariants.{Read, ReadConfirm, ChangeReadColumn, ChangeReadColumnConfirm, BlockErase, BlockEraseConfirm, BlockErasePlane, ReadStatus, ReadStatusEnhanced, PageProgram, ChangeWriteColumn, ProgramConfirm, ProgramPlane, ReadId, ReadParameterPage, Reset, ReadCacheSequential, ReadCacheEnd, ReadUniqueId, GetFeatures, SetFeatures, ResetLun, SynchronousReset, Unknown, ChangeReadColumnEnhanced, ReadPlane, CopybackRead, ProgramCache}
 use Rattle.onfi_cycle.specs.declared.lun.Lun.{Lun}
 use Rattle.onfi_cycle.specs.declared.item.Item.{Item}
 use Rattle.onfi_cycle.specs.declared.opening.Opening.{Opening}
@@ -20,8 +20,8 @@ use Rattle.onfi_cycle.specs.LunView.{LunView}
 use Rattle.onfi_cycle.specs.Command.{at_last_row, addresses_the_array, is_change_read_column, is_enhanced_column, is_page_program, is_write_column}
 use Rattle.onfi_cycle.specs.Sequence.{opened, is_open, takes_inputs, takes_features, wants_command, wants_address, row_with, column_with, input_column, row}
 use Rattle.onfi_cycle.specs.Effect.{is_shared, page_address, names_lun}
-use Rattle.onfi_cycle.specs.Lun.{lun_view, luns_of, views_from}
-use Rattle.onfi_cycle.specs.Rules.{ends_row, named_lun_is, works_for_target, is_some_and, driver, second_of_page, second_column, caching, has_read_one, continues_cache, ends_cache, may_change_column, has_some, may_copy, is_refused_by, register_len, has_no_byte, is_past_register, breaks_command_unknown, breaks_sequence_open, breaks_several_luns, breaks_no_column_to_change, breaks_command_misplaced, breaks_address_misplaced, breaks_row_outside, breaks_lun_busy, breaks_queue_clash, breaks_input_misplaced, breaks_no_sole_driver, breaks_data_not_ready, breaks_column_outside, breaks_cache_read_misplaced, breaks_copyback_misplaced, breaks_plane_not_held, excludes_cache, is_copying, holds_plane_of}
+use Rattle.onfi_cycle.specs.Lun.{lun_view, luns_of, views_from, programs}
+use Rattle.onfi_cycle.specs.Rules.{ends_row, named_lun_is, works_for_target, is_some_and, driver, second_of_page, second_column, caching, has_read_one, continues_cache, ends_cache, may_change_column, has_some, may_copy, is_refused_by, register_len, has_no_byte, is_past_register, breaks_command_unknown, breaks_sequence_open, breaks_several_luns, breaks_no_column_to_change, breaks_command_misplaced, breaks_address_misplaced, breaks_row_outside, breaks_lun_busy, breaks_queue_clash, breaks_input_misplaced, breaks_no_sole_driver, breaks_data_not_ready, breaks_column_outside, breaks_cache_read_misplaced, breaks_cache_program_misplaced, breaks_copyback_misplaced, breaks_plane_not_held, excludes_cache, is_copying, holds_plane_of, holds_none, excludes_program}
 use Rattle.onfi_cycle.specs.Permitted.{judge_cycle}
 use Rattle.onfi_cycle.specs.Channel.{Channel, is_there}
 use Rattle.micro_program.proofs.Below.{facts}
@@ -36,7 +36,7 @@ shared_by : (g : Parts) → is_wide g.optional ≡ true → ltb 1 g.luns ≡ tru
 shared_by g e f = rw (e, f) refl
 
 judge_read : (g : Parts) (t : TailFacts) (luns : List LunView) → is_open t ≡ false → list_any (λ v. not v.busy) luns ≡ true → judge_cycle g t luns (CommandCycle Read) ≡ None
-unfolding breaks_command_unknown breaks_sequence_open breaks_several_luns breaks_no_column_to_change breaks_command_misplaced breaks_address_misplaced breaks_row_outside breaks_lun_busy breaks_queue_clash breaks_input_misplaced breaks_no_sole_driver breaks_data_not_ready breaks_column_outside breaks_cache_read_misplaced breaks_copyback_misplaced breaks_plane_not_held
+unfolding breaks_command_unknown breaks_sequence_open breaks_several_luns breaks_no_column_to_change breaks_command_misplaced breaks_address_misplaced breaks_row_outside breaks_lun_busy breaks_queue_clash breaks_input_misplaced breaks_no_sole_driver breaks_data_not_ready breaks_column_outside breaks_cache_read_misplaced breaks_cache_program_misplaced breaks_copyback_misplaced breaks_plane_not_held
 judge_read g t luns closed ready = at (is_wide g.optional) (ltb 1 g.luns) refl refl
   where
     at : (w several : Bool) → is_wide g.optional ≡ w → ltb 1 g.luns ≡ several → judge_cycle g t luns (CommandCycle Read) ≡ None
@@ -45,7 +45,7 @@ judge_read g t luns closed ready = at (is_wide g.optional) (ltb 1 g.luns) refl r
     at false several e f = rw (e, closed, ready) refl
 
 judge_06 : (g : Parts) (t : TailFacts) (luns : List LunView) → is_open t ≡ false → list_any (λ v. not v.busy) luns ≡ true → has_enhanced_column g.optional ≡ true → judge_cycle g t luns (CommandCycle ChangeReadColumnEnhanced) ≡ None
-unfolding breaks_command_unknown breaks_sequence_open breaks_several_luns breaks_no_column_to_change breaks_command_misplaced breaks_address_misplaced breaks_row_outside breaks_lun_busy breaks_queue_clash breaks_input_misplaced breaks_no_sole_driver breaks_data_not_ready breaks_column_outside breaks_cache_read_misplaced breaks_copyback_misplaced breaks_plane_not_held
+unfolding breaks_command_unknown breaks_sequence_open breaks_several_luns breaks_no_column_to_change breaks_command_misplaced breaks_address_misplaced breaks_row_outside breaks_lun_busy breaks_queue_clash breaks_input_misplaced breaks_no_sole_driver breaks_data_not_ready breaks_column_outside breaks_cache_read_misplaced breaks_cache_program_misplaced breaks_copyback_misplaced breaks_plane_not_held
 judge_06 g t luns closed ready declared = at (is_wide g.optional) (ltb 1 g.luns) refl refl
   where
     at : (w several : Bool) → is_wide g.optional ≡ w → ltb 1 g.luns ≡ several → judge_cycle g t luns (CommandCycle ChangeReadColumnEnhanced) ≡ None
@@ -54,7 +54,7 @@ judge_06 g t luns closed ready declared = at (is_wide g.optional) (ltb 1 g.luns)
     at false several e f = rw (e, closed, ready, declared) refl
 
 judge_erase : (g : Parts) (t : TailFacts) (luns : List LunView) → is_open t ≡ false → list_any (λ v. not v.busy) luns ≡ true → judge_cycle g t luns (CommandCycle BlockErase) ≡ None
-unfolding breaks_command_unknown breaks_sequence_open breaks_several_luns breaks_no_column_to_change breaks_command_misplaced breaks_address_misplaced breaks_row_outside breaks_lun_busy breaks_queue_clash breaks_input_misplaced breaks_no_sole_driver breaks_data_not_ready breaks_column_outside breaks_cache_read_misplaced breaks_copyback_misplaced breaks_plane_not_held
+unfolding breaks_command_unknown breaks_sequence_open breaks_several_luns breaks_no_column_to_change breaks_command_misplaced breaks_address_misplaced breaks_row_outside breaks_lun_busy breaks_queue_clash breaks_input_misplaced breaks_no_sole_driver breaks_data_not_ready breaks_column_outside breaks_cache_read_misplaced breaks_cache_program_misplaced breaks_copyback_misplaced breaks_plane_not_held
 judge_erase g t luns closed ready = at (is_wide g.optional) (ltb 1 g.luns) refl refl
   where
     at : (w several : Bool) → is_wide g.optional ≡ w → ltb 1 g.luns ≡ several → judge_cycle g t luns (CommandCycle BlockErase) ≡ None
@@ -63,7 +63,7 @@ judge_erase g t luns closed ready = at (is_wide g.optional) (ltb 1 g.luns) refl 
     at false several e f = rw (e, closed, ready) refl
 
 judge_program : (g : Parts) (t : TailFacts) (luns : List LunView) → is_open t ≡ false → list_any (λ v. not v.busy) luns ≡ true → judge_cycle g t luns (CommandCycle PageProgram) ≡ None
-unfolding breaks_command_unknown breaks_sequence_open breaks_several_luns breaks_no_column_to_change breaks_command_misplaced breaks_address_misplaced breaks_row_outside breaks_lun_busy breaks_queue_clash breaks_input_misplaced breaks_no_sole_driver breaks_data_not_ready breaks_column_outside breaks_cache_read_misplaced breaks_copyback_misplaced breaks_plane_not_held
+unfolding breaks_command_unknown breaks_sequence_open breaks_several_luns breaks_no_column_to_change breaks_command_misplaced breaks_address_misplaced breaks_row_outside breaks_lun_busy breaks_queue_clash breaks_input_misplaced breaks_no_sole_driver breaks_data_not_ready breaks_column_outside breaks_cache_read_misplaced breaks_cache_program_misplaced breaks_copyback_misplaced breaks_plane_not_held
 judge_program g t luns closed ready = at (is_wide g.optional) (ltb 1 g.luns) refl refl
   where
     at : (w several : Bool) → is_wide g.optional ≡ w → ltb 1 g.luns ≡ several → judge_cycle g t luns (CommandCycle PageProgram) ≡ None
@@ -72,7 +72,7 @@ judge_program g t luns closed ready = at (is_wide g.optional) (ltb 1 g.luns) ref
     at false several e f = rw (e, closed, ready) refl
 
 judge_read_column : (g : Parts) (t : TailFacts) (luns : List LunView) (v : LunView) → is_open t ≡ false → list_any (λ w. not w.busy) luns ≡ true → driver luns ≡ Some v → may_change_column v ≡ true → judge_cycle g t luns (CommandCycle ChangeReadColumn) ≡ None
-unfolding breaks_command_unknown breaks_sequence_open breaks_several_luns breaks_no_column_to_change breaks_command_misplaced breaks_address_misplaced breaks_row_outside breaks_lun_busy breaks_queue_clash breaks_input_misplaced breaks_no_sole_driver breaks_data_not_ready breaks_column_outside breaks_cache_read_misplaced breaks_copyback_misplaced breaks_plane_not_held
+unfolding breaks_command_unknown breaks_sequence_open breaks_several_luns breaks_no_column_to_change breaks_command_misplaced breaks_address_misplaced breaks_row_outside breaks_lun_busy breaks_queue_clash breaks_input_misplaced breaks_no_sole_driver breaks_data_not_ready breaks_column_outside breaks_cache_read_misplaced breaks_cache_program_misplaced breaks_copyback_misplaced breaks_plane_not_held
 judge_read_column g t luns v closed ready one may = at (is_wide g.optional) (ltb 1 g.luns) refl refl
   where
     at : (w several : Bool) → is_wide g.optional ≡ w → ltb 1 g.luns ≡ several → judge_cycle g t luns (CommandCycle ChangeReadColumn) ≡ None
@@ -81,7 +81,7 @@ judge_read_column g t luns v closed ready one may = at (is_wide g.optional) (ltb
     at false several e f = rw (e, closed, ready, one, may) refl
 
 judge_status : (g : Parts) (t : TailFacts) (luns : List LunView) → is_open t ≡ false → ltb 1 g.luns ≡ false → judge_cycle g t luns (CommandCycle ReadStatus) ≡ None
-unfolding breaks_command_unknown breaks_sequence_open breaks_several_luns breaks_no_column_to_change breaks_command_misplaced breaks_address_misplaced breaks_row_outside breaks_lun_busy breaks_queue_clash breaks_input_misplaced breaks_no_sole_driver breaks_data_not_ready breaks_column_outside breaks_cache_read_misplaced breaks_copyback_misplaced breaks_plane_not_held
+unfolding breaks_command_unknown breaks_sequence_open breaks_several_luns breaks_no_column_to_change breaks_command_misplaced breaks_address_misplaced breaks_row_outside breaks_lun_busy breaks_queue_clash breaks_input_misplaced breaks_no_sole_driver breaks_data_not_ready breaks_column_outside breaks_cache_read_misplaced breaks_cache_program_misplaced breaks_copyback_misplaced breaks_plane_not_held
 judge_status g t luns closed one = at (is_wide g.optional) refl
   where
     at : (w : Bool) → is_wide g.optional ≡ w → judge_cycle g t luns (CommandCycle ReadStatus) ≡ None
@@ -89,7 +89,7 @@ judge_status g t luns closed one = at (is_wide g.optional) refl
     at false e = rw (e, closed, one) refl
 
 judge_enhanced : (g : Parts) (t : TailFacts) (luns : List LunView) → is_open t ≡ false → g.enhanced ≡ true → (is_shared g && list_any works_for_target luns) ≡ false → judge_cycle g t luns (CommandCycle ReadStatusEnhanced) ≡ None
-unfolding breaks_command_unknown breaks_sequence_open breaks_several_luns breaks_no_column_to_change breaks_command_misplaced breaks_address_misplaced breaks_row_outside breaks_lun_busy breaks_queue_clash breaks_input_misplaced breaks_no_sole_driver breaks_data_not_ready breaks_column_outside breaks_cache_read_misplaced breaks_copyback_misplaced breaks_plane_not_held
+unfolding breaks_command_unknown breaks_sequence_open breaks_several_luns breaks_no_column_to_change breaks_command_misplaced breaks_address_misplaced breaks_row_outside breaks_lun_busy breaks_queue_clash breaks_input_misplaced breaks_no_sole_driver breaks_data_not_ready breaks_column_outside breaks_cache_read_misplaced breaks_cache_program_misplaced breaks_copyback_misplaced breaks_plane_not_held
 judge_enhanced g t luns closed enhanced free = at (is_wide g.optional) (ltb 1 g.luns) refl refl
   where
     at : (w several : Bool) → is_wide g.optional ≡ w → ltb 1 g.luns ≡ several → judge_cycle g t luns (CommandCycle ReadStatusEnhanced) ≡ None
@@ -98,7 +98,7 @@ judge_enhanced g t luns closed enhanced free = at (is_wide g.optional) (ltb 1 g.
     at false several e f = rw (e, closed, enhanced) refl
 
 judge_reset : (g : Parts) (t : TailFacts) (luns : List LunView) → (is_open t && not (is_wide g.optional)) ≡ false → ltb 1 g.luns ≡ false → judge_cycle g t luns (CommandCycle Reset) ≡ None
-unfolding breaks_command_unknown breaks_sequence_open breaks_several_luns breaks_no_column_to_change breaks_command_misplaced breaks_address_misplaced breaks_row_outside breaks_lun_busy breaks_queue_clash breaks_input_misplaced breaks_no_sole_driver breaks_data_not_ready breaks_column_outside breaks_cache_read_misplaced breaks_copyback_misplaced breaks_plane_not_held
+unfolding breaks_command_unknown breaks_sequence_open breaks_several_luns breaks_no_column_to_change breaks_command_misplaced breaks_address_misplaced breaks_row_outside breaks_lun_busy breaks_queue_clash breaks_input_misplaced breaks_no_sole_driver breaks_data_not_ready breaks_column_outside breaks_cache_read_misplaced breaks_cache_program_misplaced breaks_copyback_misplaced breaks_plane_not_held
 judge_reset g t luns closed one = at (is_wide g.optional) refl
   where
     at : (w : Bool) → is_wide g.optional ≡ w → judge_cycle g t luns (CommandCycle Reset) ≡ None
@@ -106,7 +106,7 @@ judge_reset g t luns closed one = at (is_wide g.optional) refl
     at false e = rw (closed, e, one) refl
 
 judge_synchronous : (g : Parts) (t : TailFacts) (luns : List LunView) → (is_open t && not (is_wide g.optional)) ≡ false → ltb 1 g.luns ≡ false → has_synchronous_reset g.optional ≡ true → judge_cycle g t luns (CommandCycle SynchronousReset) ≡ None
-unfolding breaks_command_unknown breaks_sequence_open breaks_several_luns breaks_no_column_to_change breaks_command_misplaced breaks_address_misplaced breaks_row_outside breaks_lun_busy breaks_queue_clash breaks_input_misplaced breaks_no_sole_driver breaks_data_not_ready breaks_column_outside breaks_cache_read_misplaced breaks_copyback_misplaced breaks_plane_not_held
+unfolding breaks_command_unknown breaks_sequence_open breaks_several_luns breaks_no_column_to_change breaks_command_misplaced breaks_address_misplaced breaks_row_outside breaks_lun_busy breaks_queue_clash breaks_input_misplaced breaks_no_sole_driver breaks_data_not_ready breaks_column_outside breaks_cache_read_misplaced breaks_cache_program_misplaced breaks_copyback_misplaced breaks_plane_not_held
 judge_synchronous g t luns closed one declared = at (is_wide g.optional) refl
   where
     at : (w : Bool) → is_wide g.optional ≡ w → judge_cycle g t luns (CommandCycle SynchronousReset) ≡ None
@@ -114,7 +114,7 @@ judge_synchronous g t luns closed one declared = at (is_wide g.optional) refl
     at false e = rw (closed, e, one, declared) refl
 
 judge_lun_reset : (g : Parts) (t : TailFacts) (luns : List LunView) → is_open t ≡ false → has_lun_reset g.optional ≡ true → judge_cycle g t luns (CommandCycle ResetLun) ≡ None
-unfolding breaks_command_unknown breaks_sequence_open breaks_several_luns breaks_no_column_to_change breaks_command_misplaced breaks_address_misplaced breaks_row_outside breaks_lun_busy breaks_queue_clash breaks_input_misplaced breaks_no_sole_driver breaks_data_not_ready breaks_column_outside breaks_cache_read_misplaced breaks_copyback_misplaced breaks_plane_not_held
+unfolding breaks_command_unknown breaks_sequence_open breaks_several_luns breaks_no_column_to_change breaks_command_misplaced breaks_address_misplaced breaks_row_outside breaks_lun_busy breaks_queue_clash breaks_input_misplaced breaks_no_sole_driver breaks_data_not_ready breaks_column_outside breaks_cache_read_misplaced breaks_cache_program_misplaced breaks_copyback_misplaced breaks_plane_not_held
 judge_lun_reset g t luns closed declared = at (is_wide g.optional) (ltb 1 g.luns) refl refl
   where
     at : (w several : Bool) → is_wide g.optional ≡ w → ltb 1 g.luns ≡ several → judge_cycle g t luns (CommandCycle ResetLun) ≡ None
@@ -122,48 +122,48 @@ judge_lun_reset g t luns closed declared = at (is_wide g.optional) (ltb 1 g.luns
     at true false e f = rw (e, f, closed, declared) refl
     at false several e f = rw (e, closed, declared) refl
 
-judge_id : (g : Parts) (t : TailFacts) (luns : List LunView) → is_open t ≡ false → ltb 1 g.luns ≡ false → list_any (λ v. not v.busy) luns ≡ true → list_any (λ v. has_some v.queue) luns ≡ false → list_any caching luns ≡ false → judge_cycle g t luns (CommandCycle ReadId) ≡ None
-unfolding breaks_command_unknown breaks_sequence_open breaks_several_luns breaks_no_column_to_change breaks_command_misplaced breaks_address_misplaced breaks_row_outside breaks_lun_busy breaks_queue_clash breaks_input_misplaced breaks_no_sole_driver breaks_data_not_ready breaks_column_outside breaks_cache_read_misplaced breaks_copyback_misplaced breaks_plane_not_held
-judge_id g t luns closed one ready queue cache = at (is_wide g.optional) refl
+judge_id : (g : Parts) (t : TailFacts) (luns : List LunView) → is_open t ≡ false → ltb 1 g.luns ≡ false → list_any (λ v. not v.busy) luns ≡ true → list_any (λ v. has_some v.queue) luns ≡ false → list_any caching luns ≡ false → list_any programs luns ≡ false → judge_cycle g t luns (CommandCycle ReadId) ≡ None
+unfolding breaks_command_unknown breaks_sequence_open breaks_several_luns breaks_no_column_to_change breaks_command_misplaced breaks_address_misplaced breaks_row_outside breaks_lun_busy breaks_queue_clash breaks_input_misplaced breaks_no_sole_driver breaks_data_not_ready breaks_column_outside breaks_cache_read_misplaced breaks_cache_program_misplaced breaks_copyback_misplaced breaks_plane_not_held
+judge_id g t luns closed one ready queue cache program = at (is_wide g.optional) refl
   where
     at : (w : Bool) → is_wide g.optional ≡ w → judge_cycle g t luns (CommandCycle ReadId) ≡ None
-    at true e = rw (e, closed, one, ready, queue, cache) refl
-    at false e = rw (e, closed, one, ready, queue, cache) refl
+    at true e = rw (e, closed, one, ready, queue, cache, program) refl
+    at false e = rw (e, closed, one, ready, queue, cache, program) refl
 
-judge_parameters : (g : Parts) (t : TailFacts) (luns : List LunView) → is_open t ≡ false → ltb 1 g.luns ≡ false → list_any (λ v. not v.busy) luns ≡ true → list_any (λ v. has_some v.queue) luns ≡ false → list_any caching luns ≡ false → judge_cycle g t luns (CommandCycle ReadParameterPage) ≡ None
-unfolding breaks_command_unknown breaks_sequence_open breaks_several_luns breaks_no_column_to_change breaks_command_misplaced breaks_address_misplaced breaks_row_outside breaks_lun_busy breaks_queue_clash breaks_input_misplaced breaks_no_sole_driver breaks_data_not_ready breaks_column_outside breaks_cache_read_misplaced breaks_copyback_misplaced breaks_plane_not_held
-judge_parameters g t luns closed one ready queue cache = at (is_wide g.optional) refl
+judge_parameters : (g : Parts) (t : TailFacts) (luns : List LunView) → is_open t ≡ false → ltb 1 g.luns ≡ false → list_any (λ v. not v.busy) luns ≡ true → list_any (λ v. has_some v.queue) luns ≡ false → list_any caching luns ≡ false → list_any programs luns ≡ false → judge_cycle g t luns (CommandCycle ReadParameterPage) ≡ None
+unfolding breaks_command_unknown breaks_sequence_open breaks_several_luns breaks_no_column_to_change breaks_command_misplaced breaks_address_misplaced breaks_row_outside breaks_lun_busy breaks_queue_clash breaks_input_misplaced breaks_no_sole_driver breaks_data_not_ready breaks_column_outside breaks_cache_read_misplaced breaks_cache_program_misplaced breaks_copyback_misplaced breaks_plane_not_held
+judge_parameters g t luns closed one ready queue cache program = at (is_wide g.optional) refl
   where
     at : (w : Bool) → is_wide g.optional ≡ w → judge_cycle g t luns (CommandCycle ReadParameterPage) ≡ None
-    at true e = rw (e, closed, one, ready, queue, cache) refl
-    at false e = rw (e, closed, one, ready, queue, cache) refl
+    at true e = rw (e, closed, one, ready, queue, cache, program) refl
+    at false e = rw (e, closed, one, ready, queue, cache, program) refl
 
-judge_unique_id : (g : Parts) (t : TailFacts) (luns : List LunView) → is_open t ≡ false → ltb 1 g.luns ≡ false → list_any (λ v. not v.busy) luns ≡ true → list_any (λ v. has_some v.queue) luns ≡ false → list_any caching luns ≡ false → has_unique_id g.optional ≡ true → judge_cycle g t luns (CommandCycle ReadUniqueId) ≡ None
-unfolding breaks_command_unknown breaks_sequence_open breaks_several_luns breaks_no_column_to_change breaks_command_misplaced breaks_address_misplaced breaks_row_outside breaks_lun_busy breaks_queue_clash breaks_input_misplaced breaks_no_sole_driver breaks_data_not_ready breaks_column_outside breaks_cache_read_misplaced breaks_copyback_misplaced breaks_plane_not_held
-judge_unique_id g t luns closed one ready queue cache declared = at (is_wide g.optional) refl
+judge_unique_id : (g : Parts) (t : TailFacts) (luns : List LunView) → is_open t ≡ false → ltb 1 g.luns ≡ false → list_any (λ v. not v.busy) luns ≡ true → list_any (λ v. has_some v.queue) luns ≡ false → list_any caching luns ≡ false → list_any programs luns ≡ false → has_unique_id g.optional ≡ true → judge_cycle g t luns (CommandCycle ReadUniqueId) ≡ None
+unfolding breaks_command_unknown breaks_sequence_open breaks_several_luns breaks_no_column_to_change breaks_command_misplaced breaks_address_misplaced breaks_row_outside breaks_lun_busy breaks_queue_clash breaks_input_misplaced breaks_no_sole_driver breaks_data_not_ready breaks_column_outside breaks_cache_read_misplaced breaks_cache_program_misplaced breaks_copyback_misplaced breaks_plane_not_held
+judge_unique_id g t luns closed one ready queue cache program declared = at (is_wide g.optional) refl
   where
     at : (w : Bool) → is_wide g.optional ≡ w → judge_cycle g t luns (CommandCycle ReadUniqueId) ≡ None
-    at true e = rw (e, closed, one, ready, queue, cache, declared) refl
-    at false e = rw (e, closed, one, ready, queue, cache, declared) refl
+    at true e = rw (e, closed, one, ready, queue, cache, program, declared) refl
+    at false e = rw (e, closed, one, ready, queue, cache, program, declared) refl
 
-judge_features : (g : Parts) (t : TailFacts) (luns : List LunView) → is_open t ≡ false → ltb 1 g.luns ≡ false → list_any (λ v. not v.busy) luns ≡ true → list_any (λ v. has_some v.queue) luns ≡ false → list_any caching luns ≡ false → has_features g.optional ≡ true → judge_cycle g t luns (CommandCycle GetFeatures) ≡ None
-unfolding breaks_command_unknown breaks_sequence_open breaks_several_luns breaks_no_column_to_change breaks_command_misplaced breaks_address_misplaced breaks_row_outside breaks_lun_busy breaks_queue_clash breaks_input_misplaced breaks_no_sole_driver breaks_data_not_ready breaks_column_outside breaks_cache_read_misplaced breaks_copyback_misplaced breaks_plane_not_held
-judge_features g t luns closed one ready queue cache declared = at (is_wide g.optional) refl
+judge_features : (g : Parts) (t : TailFacts) (luns : List LunView) → is_open t ≡ false → ltb 1 g.luns ≡ false → list_any (λ v. not v.busy) luns ≡ true → list_any (λ v. has_some v.queue) luns ≡ false → list_any caching luns ≡ false → list_any programs luns ≡ false → has_features g.optional ≡ true → judge_cycle g t luns (CommandCycle GetFeatures) ≡ None
+unfolding breaks_command_unknown breaks_sequence_open breaks_several_luns breaks_no_column_to_change breaks_command_misplaced breaks_address_misplaced breaks_row_outside breaks_lun_busy breaks_queue_clash breaks_input_misplaced breaks_no_sole_driver breaks_data_not_ready breaks_column_outside breaks_cache_read_misplaced breaks_cache_program_misplaced breaks_copyback_misplaced breaks_plane_not_held
+judge_features g t luns closed one ready queue cache program declared = at (is_wide g.optional) refl
   where
     at : (w : Bool) → is_wide g.optional ≡ w → judge_cycle g t luns (CommandCycle GetFeatures) ≡ None
-    at true e = rw (e, closed, one, ready, queue, cache, declared) refl
-    at false e = rw (e, closed, one, ready, queue, cache, declared) refl
+    at true e = rw (e, closed, one, ready, queue, cache, program, declared) refl
+    at false e = rw (e, closed, one, ready, queue, cache, program, declared) refl
 
-judge_set_features : (g : Parts) (t : TailFacts) (luns : List LunView) → is_open t ≡ false → ltb 1 g.luns ≡ false → list_any (λ v. not v.busy) luns ≡ true → list_any (λ v. has_some v.queue) luns ≡ false → list_any caching luns ≡ false → has_features g.optional ≡ true → judge_cycle g t luns (CommandCycle SetFeatures) ≡ None
-unfolding breaks_command_unknown breaks_sequence_open breaks_several_luns breaks_no_column_to_change breaks_command_misplaced breaks_address_misplaced breaks_row_outside breaks_lun_busy breaks_queue_clash breaks_input_misplaced breaks_no_sole_driver breaks_data_not_ready breaks_column_outside breaks_cache_read_misplaced breaks_copyback_misplaced breaks_plane_not_held
-judge_set_features g t luns closed one ready queue cache declared = at (is_wide g.optional) refl
+judge_set_features : (g : Parts) (t : TailFacts) (luns : List LunView) → is_open t ≡ false → ltb 1 g.luns ≡ false → list_any (λ v. not v.busy) luns ≡ true → list_any (λ v. has_some v.queue) luns ≡ false → list_any caching luns ≡ false → list_any programs luns ≡ false → has_features g.optional ≡ true → judge_cycle g t luns (CommandCycle SetFeatures) ≡ None
+unfolding breaks_command_unknown breaks_sequence_open breaks_several_luns breaks_no_column_to_change breaks_command_misplaced breaks_address_misplaced breaks_row_outside breaks_lun_busy breaks_queue_clash breaks_input_misplaced breaks_no_sole_driver breaks_data_not_ready breaks_column_outside breaks_cache_read_misplaced breaks_cache_program_misplaced breaks_copyback_misplaced breaks_plane_not_held
+judge_set_features g t luns closed one ready queue cache program declared = at (is_wide g.optional) refl
   where
     at : (w : Bool) → is_wide g.optional ≡ w → judge_cycle g t luns (CommandCycle SetFeatures) ≡ None
-    at true e = rw (e, closed, one, ready, queue, cache, declared) refl
-    at false e = rw (e, closed, one, ready, queue, cache, declared) refl
+    at true e = rw (e, closed, one, ready, queue, cache, program, declared) refl
+    at false e = rw (e, closed, one, ready, queue, cache, program, declared) refl
 
 judge_cache : (g : Parts) (t : TailFacts) (luns : List LunView) (v : LunView) → is_open t ≡ false → g.cache ≡ true → driver luns ≡ Some v → continues_cache g v ≡ true → judge_cycle g t luns (CommandCycle ReadCacheSequential) ≡ None
-unfolding breaks_command_unknown breaks_sequence_open breaks_several_luns breaks_no_column_to_change breaks_command_misplaced breaks_address_misplaced breaks_row_outside breaks_lun_busy breaks_queue_clash breaks_input_misplaced breaks_no_sole_driver breaks_data_not_ready breaks_column_outside breaks_cache_read_misplaced breaks_copyback_misplaced breaks_plane_not_held
+unfolding breaks_command_unknown breaks_sequence_open breaks_several_luns breaks_no_column_to_change breaks_command_misplaced breaks_address_misplaced breaks_row_outside breaks_lun_busy breaks_queue_clash breaks_input_misplaced breaks_no_sole_driver breaks_data_not_ready breaks_column_outside breaks_cache_read_misplaced breaks_cache_program_misplaced breaks_copyback_misplaced breaks_plane_not_held
 judge_cache g t luns v closed declared one passes = at (is_wide g.optional) (ltb 1 g.luns) refl refl
   where
     at : (w several : Bool) → is_wide g.optional ≡ w → ltb 1 g.luns ≡ several → judge_cycle g t luns (CommandCycle ReadCacheSequential) ≡ None
@@ -172,7 +172,7 @@ judge_cache g t luns v closed declared one passes = at (is_wide g.optional) (ltb
     at false several e f = rw (e, closed, declared, closed_unwanted t closed, one, passes) refl
 
 judge_row_cache : (g : Parts) (t : TailFacts) (luns : List LunView) → wants_command t ReadCacheSequential ≡ true → is_wide g.optional ≡ true → g.cache ≡ true → named_lun_is g (row t) has_read_one luns ≡ true → judge_cycle g t luns (CommandCycle ReadCacheSequential) ≡ None
-unfolding breaks_command_unknown breaks_sequence_open breaks_several_luns breaks_no_column_to_change breaks_command_misplaced breaks_address_misplaced breaks_row_outside breaks_lun_busy breaks_queue_clash breaks_input_misplaced breaks_no_sole_driver breaks_data_not_ready breaks_column_outside breaks_cache_read_misplaced breaks_copyback_misplaced breaks_plane_not_held
+unfolding breaks_command_unknown breaks_sequence_open breaks_several_luns breaks_no_column_to_change breaks_command_misplaced breaks_address_misplaced breaks_row_outside breaks_lun_busy breaks_queue_clash breaks_input_misplaced breaks_no_sole_driver breaks_data_not_ready breaks_column_outside breaks_cache_read_misplaced breaks_cache_program_misplaced breaks_copyback_misplaced breaks_plane_not_held
 judge_row_cache g t luns wants wide declared read = at (is_open t) (ltb 1 g.luns) refl refl
   where
     at : (opens several : Bool) → is_open t ≡ opens → ltb 1 g.luns ≡ several → judge_cycle g t luns (CommandCycle ReadCacheSequential) ≡ None
@@ -182,7 +182,7 @@ judge_row_cache g t luns wants wide declared read = at (is_open t) (ltb 1 g.luns
     at false false e f = rw (e, f, wide, declared, wants, read) refl
 
 judge_cache_end : (g : Parts) (t : TailFacts) (luns : List LunView) (v : LunView) → is_open t ≡ false → g.cache ≡ true → driver luns ≡ Some v → ends_cache v ≡ true → judge_cycle g t luns (CommandCycle ReadCacheEnd) ≡ None
-unfolding breaks_command_unknown breaks_sequence_open breaks_several_luns breaks_no_column_to_change breaks_command_misplaced breaks_address_misplaced breaks_row_outside breaks_lun_busy breaks_queue_clash breaks_input_misplaced breaks_no_sole_driver breaks_data_not_ready breaks_column_outside breaks_cache_read_misplaced breaks_copyback_misplaced breaks_plane_not_held
+unfolding breaks_command_unknown breaks_sequence_open breaks_several_luns breaks_no_column_to_change breaks_command_misplaced breaks_address_misplaced breaks_row_outside breaks_lun_busy breaks_queue_clash breaks_input_misplaced breaks_no_sole_driver breaks_data_not_ready breaks_column_outside breaks_cache_read_misplaced breaks_cache_program_misplaced breaks_copyback_misplaced breaks_plane_not_held
 judge_cache_end g t luns v closed declared one passes = at (is_wide g.optional) (ltb 1 g.luns) refl refl
   where
     at : (w several : Bool) → is_wide g.optional ≡ w → ltb 1 g.luns ≡ several → judge_cycle g t luns (CommandCycle ReadCacheEnd) ≡ None
@@ -191,7 +191,7 @@ judge_cache_end g t luns v closed declared one passes = at (is_wide g.optional) 
     at false several e f = rw (e, closed, declared, one, passes) refl
 
 judge_30 : (g : Parts) (t : TailFacts) (luns : List LunView) → wants_command t ReadConfirm ≡ true → (is_wide g.optional && named_lun_is g (row t) caching luns) ≡ false → judge_cycle g t luns (CommandCycle ReadConfirm) ≡ None
-unfolding breaks_command_unknown breaks_sequence_open breaks_several_luns breaks_no_column_to_change breaks_command_misplaced breaks_address_misplaced breaks_row_outside breaks_lun_busy breaks_queue_clash breaks_input_misplaced breaks_no_sole_driver breaks_data_not_ready breaks_column_outside breaks_cache_read_misplaced breaks_copyback_misplaced breaks_plane_not_held
+unfolding breaks_command_unknown breaks_sequence_open breaks_several_luns breaks_no_column_to_change breaks_command_misplaced breaks_address_misplaced breaks_row_outside breaks_lun_busy breaks_queue_clash breaks_input_misplaced breaks_no_sole_driver breaks_data_not_ready breaks_column_outside breaks_cache_read_misplaced breaks_cache_program_misplaced breaks_copyback_misplaced breaks_plane_not_held
 judge_30 g t luns wants free = at (is_wide g.optional) (ltb 1 g.luns) refl refl
   where
     at : (w several : Bool) → is_wide g.optional ≡ w → ltb 1 g.luns ≡ several → judge_cycle g t luns (CommandCycle ReadConfirm) ≡ None
@@ -200,7 +200,7 @@ judge_30 g t luns wants free = at (is_wide g.optional) (ltb 1 g.luns) refl refl
     at false several e f = rw (e, wants) refl
 
 judge_32 : (g : Parts) (t : TailFacts) (luns : List LunView) → wants_command t ReadPlane ≡ true → named_lun_is g (row t) caching luns ≡ false → has_plane_reads g.optional ≡ true → judge_cycle g t luns (CommandCycle ReadPlane) ≡ None
-unfolding breaks_command_unknown breaks_sequence_open breaks_several_luns breaks_no_column_to_change breaks_command_misplaced breaks_address_misplaced breaks_row_outside breaks_lun_busy breaks_queue_clash breaks_input_misplaced breaks_no_sole_driver breaks_data_not_ready breaks_column_outside breaks_cache_read_misplaced breaks_copyback_misplaced breaks_plane_not_held
+unfolding breaks_command_unknown breaks_sequence_open breaks_several_luns breaks_no_column_to_change breaks_command_misplaced breaks_address_misplaced breaks_row_outside breaks_lun_busy breaks_queue_clash breaks_input_misplaced breaks_no_sole_driver breaks_data_not_ready breaks_column_outside breaks_cache_read_misplaced breaks_cache_program_misplaced breaks_copyback_misplaced breaks_plane_not_held
 judge_32 g t luns wants free declared = at (is_wide g.optional) (ltb 1 g.luns) refl refl
   where
     reads : has_all g.optional 1024 ≡ true
@@ -211,6 +211,26 @@ judge_32 g t luns wants free declared = at (is_wide g.optional) (ltb 1 g.luns) r
     at true false e f = rw (e, f, wants, free, reads) refl
     at false several e f = let wide : true ≡ false = sym (and_parts (is_wide g.optional) _ declared).0 ∙ e in cc
 
+judge_15 : (g : Parts) (t : TailFacts) (luns : List LunView) → wants_command t ProgramCache ≡ true → has_program_cache g.optional ≡ true → (not (has_group_cache g.optional) && named_lun_is g (row t) (λ v. has_some v.queue) luns) ≡ false → (has_copyback g.optional && named_lun_is g (row t) (λ v. not (holds_none v.held)) luns) ≡ false → judge_cycle g t luns (CommandCycle ProgramCache) ≡ None
+unfolding breaks_command_unknown breaks_sequence_open breaks_several_luns breaks_no_column_to_change breaks_command_misplaced breaks_address_misplaced breaks_row_outside breaks_lun_busy breaks_queue_clash breaks_input_misplaced breaks_no_sole_driver breaks_data_not_ready breaks_column_outside breaks_cache_read_misplaced breaks_cache_program_misplaced breaks_copyback_misplaced breaks_plane_not_held
+judge_15 g t luns wants declared alone none = at (ltb 1 g.luns) refl
+  where
+    wide : is_wide g.optional ≡ true
+    wide = (and_parts (is_wide g.optional) _ declared).0
+
+    caches : has_all g.optional 1 ≡ true
+    caches = (and_parts (is_wide g.optional) (has_all g.optional 1) declared).1
+
+    alone_wide : (not (true && has_all g.optional 16384) && named_lun_is g (row t) (λ v. has_some v.queue) luns) ≡ false
+    alone_wide = subst (λ (b : Bool). (not (b && has_all g.optional 16384) && named_lun_is g (row t) (λ v. has_some v.queue) luns) ≡ false) wide alone
+
+    none_wide : ((true && has_all g.optional 16) && named_lun_is g (row t) (λ v. not (holds_none v.held)) luns) ≡ false
+    none_wide = subst (λ (b : Bool). ((b && has_all g.optional 16) && named_lun_is g (row t) (λ v. not (holds_none v.held)) luns) ≡ false) wide none
+
+    at : (several : Bool) → ltb 1 g.luns ≡ several → judge_cycle g t luns (CommandCycle ProgramCache) ≡ None
+    at true f = rw (wide, f, wants, caches, alone_wide, none_wide) refl
+    at false f = rw (wide, f, wants, caches, alone_wide, none_wide) refl
+
 -- a chip with copybacks is one of the wider profile
 copies_wide : (g : Parts) → has_copyback g.optional ≡ true → is_wide g.optional ≡ true
 copies_wide g h = (and_parts (is_wide g.optional) _ h).0
@@ -219,7 +239,7 @@ copies_bit : (g : Parts) → has_copyback g.optional ≡ true → has_all g.opti
 copies_bit g h = (and_parts (is_wide g.optional) (has_all g.optional 16) h).1
 
 judge_35 : (g : Parts) (t : TailFacts) (luns : List LunView) → wants_command t CopybackRead ≡ true → named_lun_is g (row t) caching luns ≡ false → has_copyback g.optional ≡ true → judge_cycle g t luns (CommandCycle CopybackRead) ≡ None
-unfolding breaks_command_unknown breaks_sequence_open breaks_several_luns breaks_no_column_to_change breaks_command_misplaced breaks_address_misplaced breaks_row_outside breaks_lun_busy breaks_queue_clash breaks_input_misplaced breaks_no_sole_driver breaks_data_not_ready breaks_column_outside breaks_cache_read_misplaced breaks_copyback_misplaced breaks_plane_not_held
+unfolding breaks_command_unknown breaks_sequence_open breaks_several_luns breaks_no_column_to_change breaks_command_misplaced breaks_address_misplaced breaks_row_outside breaks_lun_busy breaks_queue_clash breaks_input_misplaced breaks_no_sole_driver breaks_data_not_ready breaks_column_outside breaks_cache_read_misplaced breaks_cache_program_misplaced breaks_copyback_misplaced breaks_plane_not_held
 judge_35 g t luns wants free declared = at (is_wide g.optional) (ltb 1 g.luns) refl refl
   where
     copies : has_all g.optional 16 ≡ true
@@ -231,7 +251,7 @@ judge_35 g t luns wants free declared = at (is_wide g.optional) (ltb 1 g.luns) r
     at false several e f = let wide : true ≡ false = sym (copies_wide g declared) ∙ e in cc
 
 judge_d0 : (g : Parts) (t : TailFacts) (luns : List LunView) → wants_command t BlockEraseConfirm ≡ true → judge_cycle g t luns (CommandCycle BlockEraseConfirm) ≡ None
-unfolding breaks_command_unknown breaks_sequence_open breaks_several_luns breaks_no_column_to_change breaks_command_misplaced breaks_address_misplaced breaks_row_outside breaks_lun_busy breaks_queue_clash breaks_input_misplaced breaks_no_sole_driver breaks_data_not_ready breaks_column_outside breaks_cache_read_misplaced breaks_copyback_misplaced breaks_plane_not_held
+unfolding breaks_command_unknown breaks_sequence_open breaks_several_luns breaks_no_column_to_change breaks_command_misplaced breaks_address_misplaced breaks_row_outside breaks_lun_busy breaks_queue_clash breaks_input_misplaced breaks_no_sole_driver breaks_data_not_ready breaks_column_outside breaks_cache_read_misplaced breaks_cache_program_misplaced breaks_copyback_misplaced breaks_plane_not_held
 judge_d0 g t luns wants = at (is_wide g.optional) (ltb 1 g.luns) refl refl
   where
     at : (w several : Bool) → is_wide g.optional ≡ w → ltb 1 g.luns ≡ several → judge_cycle g t luns (CommandCycle BlockEraseConfirm) ≡ None
@@ -240,7 +260,7 @@ judge_d0 g t luns wants = at (is_wide g.optional) (ltb 1 g.luns) refl refl
     at false several e f = rw (e, wants) refl
 
 judge_d1 : (g : Parts) (t : TailFacts) (luns : List LunView) → wants_command t BlockErasePlane ≡ true → g.multi_plane ≡ true → judge_cycle g t luns (CommandCycle BlockErasePlane) ≡ None
-unfolding breaks_command_unknown breaks_sequence_open breaks_several_luns breaks_no_column_to_change breaks_command_misplaced breaks_address_misplaced breaks_row_outside breaks_lun_busy breaks_queue_clash breaks_input_misplaced breaks_no_sole_driver breaks_data_not_ready breaks_column_outside breaks_cache_read_misplaced breaks_copyback_misplaced breaks_plane_not_held
+unfolding breaks_command_unknown breaks_sequence_open breaks_several_luns breaks_no_column_to_change breaks_command_misplaced breaks_address_misplaced breaks_row_outside breaks_lun_busy breaks_queue_clash breaks_input_misplaced breaks_no_sole_driver breaks_data_not_ready breaks_column_outside breaks_cache_read_misplaced breaks_cache_program_misplaced breaks_copyback_misplaced breaks_plane_not_held
 judge_d1 g t luns wants declared = at (is_wide g.optional) (ltb 1 g.luns) refl refl
   where
     at : (w several : Bool) → is_wide g.optional ≡ w → ltb 1 g.luns ≡ several → judge_cycle g t luns (CommandCycle BlockErasePlane) ≡ None
@@ -249,7 +269,7 @@ judge_d1 g t luns wants declared = at (is_wide g.optional) (ltb 1 g.luns) refl r
     at false several e f = rw (e, wants, declared) refl
 
 judge_10 : (g : Parts) (t : TailFacts) (luns : List LunView) → wants_command t ProgramConfirm ≡ true → judge_cycle g t luns (CommandCycle ProgramConfirm) ≡ None
-unfolding breaks_command_unknown breaks_sequence_open breaks_several_luns breaks_no_column_to_change breaks_command_misplaced breaks_address_misplaced breaks_row_outside breaks_lun_busy breaks_queue_clash breaks_input_misplaced breaks_no_sole_driver breaks_data_not_ready breaks_column_outside breaks_cache_read_misplaced breaks_copyback_misplaced breaks_plane_not_held
+unfolding breaks_command_unknown breaks_sequence_open breaks_several_luns breaks_no_column_to_change breaks_command_misplaced breaks_address_misplaced breaks_row_outside breaks_lun_busy breaks_queue_clash breaks_input_misplaced breaks_no_sole_driver breaks_data_not_ready breaks_column_outside breaks_cache_read_misplaced breaks_cache_program_misplaced breaks_copyback_misplaced breaks_plane_not_held
 judge_10 g t luns wants = at (is_wide g.optional) (ltb 1 g.luns) refl refl
   where
     at : (w several : Bool) → is_wide g.optional ≡ w → ltb 1 g.luns ≡ several → judge_cycle g t luns (CommandCycle ProgramConfirm) ≡ None
@@ -258,7 +278,7 @@ judge_10 g t luns wants = at (is_wide g.optional) (ltb 1 g.luns) refl refl
     at false several e f = rw (e, wants) refl
 
 judge_11 : (g : Parts) (t : TailFacts) (luns : List LunView) → wants_command t ProgramPlane ≡ true → g.multi_plane ≡ true → judge_cycle g t luns (CommandCycle ProgramPlane) ≡ None
-unfolding breaks_command_unknown breaks_sequence_open breaks_several_luns breaks_no_column_to_change breaks_command_misplaced breaks_address_misplaced breaks_row_outside breaks_lun_busy breaks_queue_clash breaks_input_misplaced breaks_no_sole_driver breaks_data_not_ready breaks_column_outside breaks_cache_read_misplaced breaks_copyback_misplaced breaks_plane_not_held
+unfolding breaks_command_unknown breaks_sequence_open breaks_several_luns breaks_no_column_to_change breaks_command_misplaced breaks_address_misplaced breaks_row_outside breaks_lun_busy breaks_queue_clash breaks_input_misplaced breaks_no_sole_driver breaks_data_not_ready breaks_column_outside breaks_cache_read_misplaced breaks_cache_program_misplaced breaks_copyback_misplaced breaks_plane_not_held
 judge_11 g t luns wants declared = at (is_wide g.optional) (ltb 1 g.luns) refl refl
   where
     at : (w several : Bool) → is_wide g.optional ≡ w → ltb 1 g.luns ≡ several → judge_cycle g t luns (CommandCycle ProgramPlane) ≡ None
@@ -267,7 +287,7 @@ judge_11 g t luns wants declared = at (is_wide g.optional) (ltb 1 g.luns) refl r
     at false several e f = rw (e, wants, declared) refl
 
 judge_e0 : (g : Parts) (t : TailFacts) (luns : List LunView) → wants_command t ChangeReadColumnConfirm ≡ true → judge_cycle g t luns (CommandCycle ChangeReadColumnConfirm) ≡ None
-unfolding breaks_command_unknown breaks_sequence_open breaks_several_luns breaks_no_column_to_change breaks_command_misplaced breaks_address_misplaced breaks_row_outside breaks_lun_busy breaks_queue_clash breaks_input_misplaced breaks_no_sole_driver breaks_data_not_ready breaks_column_outside breaks_cache_read_misplaced breaks_copyback_misplaced breaks_plane_not_held
+unfolding breaks_command_unknown breaks_sequence_open breaks_several_luns breaks_no_column_to_change breaks_command_misplaced breaks_address_misplaced breaks_row_outside breaks_lun_busy breaks_queue_clash breaks_input_misplaced breaks_no_sole_driver breaks_data_not_ready breaks_column_outside breaks_cache_read_misplaced breaks_cache_program_misplaced breaks_copyback_misplaced breaks_plane_not_held
 judge_e0 g t luns wants = at (is_wide g.optional) (ltb 1 g.luns) refl refl
   where
     at : (w several : Bool) → is_wide g.optional ≡ w → ltb 1 g.luns ≡ several → judge_cycle g t luns (CommandCycle ChangeReadColumnConfirm) ≡ None
@@ -291,7 +311,7 @@ unfolding breaks_command_misplaced
 placed_85 g t wants = ap (λ (b : Bool). not (has_copyback g.optional) && not b) wants ∙ and-false (not (has_copyback g.optional))
 
 judge_85 : (g : Parts) (t : TailFacts) (luns : List LunView) → wants_command t ChangeWriteColumn ≡ true → judge_cycle g t luns (CommandCycle ChangeWriteColumn) ≡ None
-unfolding breaks_command_unknown breaks_several_luns breaks_no_column_to_change breaks_address_misplaced breaks_row_outside breaks_lun_busy breaks_queue_clash breaks_input_misplaced breaks_no_sole_driver breaks_data_not_ready breaks_column_outside breaks_cache_read_misplaced breaks_copyback_misplaced breaks_plane_not_held
+unfolding breaks_command_unknown breaks_several_luns breaks_no_column_to_change breaks_address_misplaced breaks_row_outside breaks_lun_busy breaks_queue_clash breaks_input_misplaced breaks_no_sole_driver breaks_data_not_ready breaks_column_outside breaks_cache_read_misplaced breaks_cache_program_misplaced breaks_copyback_misplaced breaks_plane_not_held
 judge_85 g t luns wants = at (is_wide g.optional) (ltb 1 g.luns) refl refl
   where
     open_is : breaks_sequence_open g t (CommandCycle ChangeWriteColumn) ≡ false
@@ -307,7 +327,7 @@ judge_85 g t luns wants = at (is_wide g.optional) (ltb 1 g.luns) refl refl
 
 -- 85 begins a copyback where nothing is open
 judge_copy : (g : Parts) (t : TailFacts) (luns : List LunView) → is_open t ≡ false → list_any (λ v. not v.busy) luns ≡ true → has_copyback g.optional ≡ true → judge_cycle g t luns (CommandCycle ChangeWriteColumn) ≡ None
-unfolding breaks_command_unknown breaks_sequence_open breaks_several_luns breaks_no_column_to_change breaks_command_misplaced breaks_address_misplaced breaks_row_outside breaks_lun_busy breaks_queue_clash breaks_input_misplaced breaks_no_sole_driver breaks_data_not_ready breaks_column_outside breaks_cache_read_misplaced breaks_copyback_misplaced breaks_plane_not_held
+unfolding breaks_command_unknown breaks_sequence_open breaks_several_luns breaks_no_column_to_change breaks_command_misplaced breaks_address_misplaced breaks_row_outside breaks_lun_busy breaks_queue_clash breaks_input_misplaced breaks_no_sole_driver breaks_data_not_ready breaks_column_outside breaks_cache_read_misplaced breaks_cache_program_misplaced breaks_copyback_misplaced breaks_plane_not_held
 judge_copy g t luns closed ready declared = at (is_wide g.optional) (ltb 1 g.luns) refl refl
   where
     copies : has_all g.optional 16 ≡ true
@@ -356,8 +376,8 @@ command_judged s l past c there k d a = by d a
     by ChangeReadColumn a = judge_read_column s.geometry c.facts _ c.view a.0.0 (some_ready a.0.1) (the_driver a.1) a.2
     by ReadStatus a = judge_status s.geometry c.facts _ a.0 a.1
     by ReadStatusEnhanced a = judge_enhanced s.geometry c.facts _ a.0 a.1 k.free
-    by ReadId a = judge_id s.geometry c.facts _ a.closed a.one (some_ready a.ready) (none_of (λ v. has_some v.queue) a.one a.no_queue) (none_of caching a.one a.no_cache)
-    by ReadParameterPage a = judge_parameters s.geometry c.facts _ a.closed a.one (some_ready a.ready) (none_of (λ v. has_some v.queue) a.one a.no_queue) (none_of caching a.one a.no_cache)
+    by ReadId a = judge_id s.geometry c.facts _ a.closed a.one (some_ready a.ready) (none_of (λ v. has_some v.queue) a.one a.no_queue) (none_of caching a.one a.no_cache) (none_of programs a.one a.no_program)
+    by ReadParameterPage a = judge_parameters s.geometry c.facts _ a.closed a.one (some_ready a.ready) (none_of (λ v. has_some v.queue) a.one a.no_queue) (none_of caching a.one a.no_cache) (none_of programs a.one a.no_program)
     by Reset a = judge_reset s.geometry c.facts _ a.closed a.one
     by ReadCacheSequential (inl a) = judge_cache s.geometry c.facts _ c.view a.closed a.declared (the_driver a.sole) a.passes
     by ReadCacheSequential (inr a) = judge_row_cache s.geometry c.facts _ a.wants a.wide a.declared (named_as has_read_one a.names ∙ a.read)
@@ -367,13 +387,14 @@ command_judged s l past c there k d a = by d a
     by BlockErasePlane a = judge_d1 s.geometry c.facts _ a.0.0 a.1
     by ProgramConfirm a = judge_10 s.geometry c.facts _ a.0
     by ProgramPlane a = judge_11 s.geometry c.facts _ a.0.0 a.1
+    by ProgramCache a = judge_15 s.geometry c.facts _ a.wants a.declared (ap (λ (b : Bool). not (has_group_cache s.geometry.optional) && b) (named_as (λ v. has_some v.queue) a.names) ∙ a.no_group) (ap (λ (b : Bool). has_copyback s.geometry.optional && b) (named_as (λ v. not (holds_none v.held)) a.names) ∙ a.no_copy)
     by ChangeReadColumnConfirm (inl a) = judge_e0 s.geometry c.facts _ a.wants
     by ChangeReadColumnConfirm (inr a) = judge_e0 s.geometry c.facts _ a.wants
     by ChangeWriteColumn (inl a) = judge_85 s.geometry c.facts _ a
     by ChangeWriteColumn (inr a) = judge_copy s.geometry c.facts _ a.0.0 (some_ready a.0.1) a.1
-    by ReadUniqueId a = judge_unique_id s.geometry c.facts _ a.0.closed a.0.one (some_ready a.0.ready) (none_of (λ v. has_some v.queue) a.0.one a.0.no_queue) (none_of caching a.0.one a.0.no_cache) a.1
-    by GetFeatures a = judge_features s.geometry c.facts _ a.0.closed a.0.one (some_ready a.0.ready) (none_of (λ v. has_some v.queue) a.0.one a.0.no_queue) (none_of caching a.0.one a.0.no_cache) a.1
-    by SetFeatures a = judge_set_features s.geometry c.facts _ a.0.closed a.0.one (some_ready a.0.ready) (none_of (λ v. has_some v.queue) a.0.one a.0.no_queue) (none_of caching a.0.one a.0.no_cache) a.1
+    by ReadUniqueId a = judge_unique_id s.geometry c.facts _ a.0.closed a.0.one (some_ready a.0.ready) (none_of (λ v. has_some v.queue) a.0.one a.0.no_queue) (none_of caching a.0.one a.0.no_cache) (none_of programs a.0.one a.0.no_program) a.1
+    by GetFeatures a = judge_features s.geometry c.facts _ a.0.closed a.0.one (some_ready a.0.ready) (none_of (λ v. has_some v.queue) a.0.one a.0.no_queue) (none_of caching a.0.one a.0.no_cache) (none_of programs a.0.one a.0.no_program) a.1
+    by SetFeatures a = judge_set_features s.geometry c.facts _ a.0.closed a.0.one (some_ready a.0.ready) (none_of (λ v. has_some v.queue) a.0.one a.0.no_queue) (none_of caching a.0.one a.0.no_cache) (none_of programs a.0.one a.0.no_program) a.1
     by ResetLun a = judge_lun_reset s.geometry c.facts _ a.0 a.1
     by SynchronousReset a = judge_synchronous s.geometry c.facts _ a.0.closed a.0.one a.1
     by Unknown a = absurd a
@@ -399,9 +420,9 @@ no_lun : (test : LunView → Bool) (o : Option LunView) → ((v : LunView) → t
 no_lun test None h = refl
 no_lun test (Some v) h = h v
 
-judge_address : (g : Parts) (t : TailFacts) (luns : List LunView) (b : ℕ) → breaks_address_misplaced g t (AddressCycle b) ≡ false → breaks_row_outside g t (AddressCycle b) ≡ false → breaks_lun_busy g t luns (AddressCycle b) ≡ false → breaks_queue_clash g t luns (AddressCycle b) ≡ false → breaks_column_outside g t luns (AddressCycle b) ≡ false → breaks_cache_read_misplaced g t luns (AddressCycle b) ≡ false → breaks_copyback_misplaced g t luns (AddressCycle b) ≡ false → breaks_plane_not_held g t luns (AddressCycle b) ≡ false → judge_cycle g t luns (AddressCycle b) ≡ None
+judge_address : (g : Parts) (t : TailFacts) (luns : List LunView) (b : ℕ) → breaks_address_misplaced g t (AddressCycle b) ≡ false → breaks_row_outside g t (AddressCycle b) ≡ false → breaks_lun_busy g t luns (AddressCycle b) ≡ false → breaks_queue_clash g t luns (AddressCycle b) ≡ false → breaks_column_outside g t luns (AddressCycle b) ≡ false → breaks_cache_read_misplaced g t luns (AddressCycle b) ≡ false → breaks_cache_program_misplaced g t luns (AddressCycle b) ≡ false → breaks_copyback_misplaced g t luns (AddressCycle b) ≡ false → breaks_plane_not_held g t luns (AddressCycle b) ≡ false → judge_cycle g t luns (AddressCycle b) ≡ None
 unfolding breaks_command_unknown breaks_sequence_open breaks_several_luns breaks_no_column_to_change breaks_command_misplaced breaks_input_misplaced breaks_no_sole_driver breaks_data_not_ready
-judge_address g t luns b f7 f8 f9 f10 f14 f15 f17 f18 = rw (f7, f8, f9, f10, f14, f15, f17, f18) refl
+judge_address g t luns b f7 f8 f9 f10 f14 f15 f16 f17 f18 = rw (f7, f8, f9, f10, f14, f15, f16, f17, f18) refl
 
 -- both fail, or the first fails
 both_no : (a b : Bool) → (a ≡ true → b ≡ false) → (a && b) ≡ false
@@ -422,7 +443,7 @@ no_misplaced true false false x y h k = refl
 
 -- an address that a scene allows
 pub address_judged : (s : Channel) (l : Lun) (past : List Item) (c : Scene) (byte : ℕ) → is_there s l ≡ true → IsScene s l past c → AddressAllowed s.geometry l.lun c byte → judge_cycle s.geometry c.facts (luns_of s.geometry past l.ce) (AddressCycle byte) ≡ None
-unfolding breaks_address_misplaced breaks_row_outside breaks_lun_busy breaks_queue_clash breaks_column_outside breaks_cache_read_misplaced breaks_copyback_misplaced breaks_plane_not_held
+unfolding breaks_address_misplaced breaks_row_outside breaks_lun_busy breaks_queue_clash breaks_column_outside breaks_cache_read_misplaced breaks_cache_program_misplaced breaks_copyback_misplaced breaks_plane_not_held
 address_judged s l past c byte there k a = at (ends_row (λ d. true) c.facts) refl
   where
     g : Parts
@@ -462,6 +483,7 @@ address_judged s l past c byte there k a = at (ends_row (λ d. true) c.facts) re
         (named (row_with c.facts byte) (λ v. is_refused_by g c.facts.opening (page_address g (row_with c.facts byte)) v.queue) is r.goes)
         f14
         (both_no (ends_row (excludes_cache g) c.facts) _ (λ x. named (row_with c.facts byte) caching is (r.no_cache x)))
+        (both_no (ends_row excludes_program c.facts) _ (λ x. named (row_with c.facts byte) programs is (r.no_program x)))
         (no_misplaced (has_copyback g.optional) (ends_row is_write_column c.facts) (ends_row is_page_program c.facts) _ _
         (λ x. named (row_with c.facts byte) (λ v. not (may_copy g (page_address g (row_with c.facts byte)) v)) is (is_not _ (r.copy x)))
         (λ x. ap (λ (b : Bool). has_copyback g.optional && b) (named_as is_copying is) ∙ r.no_group x))
@@ -474,6 +496,7 @@ address_judged s l past c byte there k a = at (ends_row (λ d. true) c.facts) re
         (no_lun (λ v. is_refused_by g c.facts.opening (page_address g (row_with c.facts byte)) v.queue) _ (λ v. refused_none g (page_address g (row_with c.facts byte)) v.queue c.facts.opening e))
         f14
         (both_no (ends_row (excludes_cache g) c.facts) _ (λ x. clash x (ends_none (excludes_cache g) c.facts.opening e)))
+        (both_no (ends_row excludes_program c.facts) _ (λ x. clash x (ends_none excludes_program c.facts.opening e)))
         (no_misplaced (has_copyback g.optional) (ends_row is_write_column c.facts) (ends_row is_page_program c.facts) _ _
         (λ x. clash x (ends_none is_write_column c.facts.opening e))
         (λ x. let y : false ≡ true = sym (ends_none is_page_program c.facts.opening e) ∙ x in cc))
@@ -482,9 +505,9 @@ address_judged s l past c byte there k a = at (ends_row (λ d. true) c.facts) re
 -- 3. inputs and outputs
 
 pub input_judged : (g : Parts) (t : TailFacts) (luns : List LunView) (b : ℕ) → takes_inputs t.phase ≡ true → (not (takes_features t.phase) && nat_le (page_len g) (input_column t)) ≡ false → judge_cycle g t luns (InputCycle b) ≡ None
-unfolding breaks_command_unknown breaks_sequence_open breaks_several_luns breaks_no_column_to_change breaks_command_misplaced breaks_address_misplaced breaks_row_outside breaks_lun_busy breaks_queue_clash breaks_input_misplaced breaks_no_sole_driver breaks_data_not_ready breaks_column_outside breaks_cache_read_misplaced breaks_copyback_misplaced breaks_plane_not_held
+unfolding breaks_command_unknown breaks_sequence_open breaks_several_luns breaks_no_column_to_change breaks_command_misplaced breaks_address_misplaced breaks_row_outside breaks_lun_busy breaks_queue_clash breaks_input_misplaced breaks_no_sole_driver breaks_data_not_ready breaks_column_outside breaks_cache_read_misplaced breaks_cache_program_misplaced breaks_copyback_misplaced breaks_plane_not_held
 input_judged g t luns b takes inside = rw (takes, inside) refl
 
 pub output_judged : (g : Parts) (t : TailFacts) (luns : List LunView) (v : LunView) → is_open t ≡ false → driver luns ≡ Some v → has_no_byte v ≡ false → is_past_register g v ≡ false → judge_cycle g t luns OutputCycle ≡ None
-unfolding breaks_command_unknown breaks_sequence_open breaks_several_luns breaks_no_column_to_change breaks_command_misplaced breaks_address_misplaced breaks_row_outside breaks_lun_busy breaks_queue_clash breaks_input_misplaced breaks_no_sole_driver breaks_data_not_ready breaks_column_outside breaks_cache_read_misplaced breaks_copyback_misplaced breaks_plane_not_held
+unfolding breaks_command_unknown breaks_sequence_open breaks_several_luns breaks_no_column_to_change breaks_command_misplaced breaks_address_misplaced breaks_row_outside breaks_lun_busy breaks_queue_clash breaks_input_misplaced breaks_no_sole_driver breaks_data_not_ready breaks_column_outside breaks_cache_read_misplaced breaks_cache_program_misplaced breaks_copyback_misplaced breaks_plane_not_held
 output_judged g t luns v closed one byte inside = rw (closed, one, byte, inside) refl

@@ -23,7 +23,7 @@ use Rattle.onfi_cycle.specs.Sequence.{tail, facts_of, is_open}
 use Rattle.nand_geometry.specs.Optional.{is_wide}
 use Rattle.onfi_cycle.specs.Effect.{is_data, is_shared, names_lun, cycle_effect}
 use Rattle.onfi_cycle.specs.Lun.{latch, latch_after, works, latch_alone, drivers, drivers_from, is_only, is_busy, read_column, read_column_after, lun_view}
-use Rattle.onfi_cycle.specs.Content.{status, shown}
+use Rattle.onfi_cycle.specs.Content.{status, shown, status_byte}
 use Rattle.onfi_cycle.specs.Channel.{Channel, IsChannel, IsOwn, is_there, is_open_on, is_serving, cycle, byte_of_driver, bus_byte}
 use Rattle.micro_program.specs.Program.{Job, is_ready_status}
 use Rattle.micro_program.specs.Moves.{Move, Give, Take, poll}
@@ -281,16 +281,19 @@ one_answer ce polled (byte ∷ []) q e =
 one_answer ce polled (byte ∷ (b ∷ bytes)) q e = cc
 
 -- a status that says ready is that of a ready LUN
-ready_said : (busy array_busy failed : Bool) → is_ready_status (cond busy 0x80 (cond array_busy 0xc0 (cond failed 0xe1 0xe0))) ≡ true → busy ≡ false
-ready_said true a f h = cc
-ready_said false a f h = refl
+ready_said : (busy array_busy failed before : Bool) → is_ready_status (status_byte busy array_busy failed before) ≡ true → busy ≡ false
+ready_said true a f b h = cc
+ready_said false a f b h = refl
 
 -- and one that doesn't is that of a busy one
-unready_said : (busy array_busy failed : Bool) → is_ready_status (cond busy 0x80 (cond array_busy 0xc0 (cond failed 0xe1 0xe0))) ≡ false → busy ≡ true
-unready_said true a f h = refl
-unready_said false true f h = cc
-unready_said false false true h = cc
-unready_said false false false h = cc
+unready_said : (busy array_busy failed before : Bool) → is_ready_status (status_byte busy array_busy failed before) ≡ false → busy ≡ true
+unready_said true a f b h = refl
+unready_said false true f true h = cc
+unready_said false true f false h = cc
+unready_said false false true true h = cc
+unready_said false false true false h = cc
+unready_said false false false true h = cc
+unready_said false false false false h = cc
 
 -- on a model a poll shows the status
 pub record PollShows (s : Channel) (j : Job) (past : List Item) (p : Polling s j past) : Type 0 where
@@ -304,8 +307,8 @@ poll_shows s is j past there p =
     record {
       byte = b.0;
       is_played = p.plays ∙ rw b.1 refl;
-      says = λ t. sym p.leaves.busy ∙ ready_said _ _ _ (subst (λ (n : ℕ). is_ready_status n ≡ true) said t);
-      says_not = λ t. sym p.leaves.busy ∙ unready_said _ _ _ (subst (λ (n : ℕ). is_ready_status n ≡ false) said t);
+      says = λ t. sym p.leaves.busy ∙ ready_said _ _ _ _ (subst (λ (n : ℕ). is_ready_status n ≡ true) said t);
+      says_not = λ t. sym p.leaves.busy ∙ unready_said _ _ _ _ (subst (λ (n : ℕ). is_ready_status n ≡ false) said t);
     }
   where
     b : (n : ℕ) × (bus_byte s p.polled j.lun.ce ≡ Some n)

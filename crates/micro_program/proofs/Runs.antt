@@ -5,6 +5,7 @@ use Rattle.nand_geometry.specs.Optional.{no_optional}
 use Rattle.nand_geometry.specs.Limits.{width}
 use Rattle.onfi_cycle.specs.declared.item.Kind.TheVariants.{Cmd, Adr, Dout}
 use Rattle.onfi_cycle.specs.declared.item.Item.{Item}
+use Rattle.onfi_cycle.specs.declared.item.Failures.{Failures}
 use Rattle.onfi_cycle.specs.declared.item.Item.TheVariants.{Cyc, Rdy}
 use Rattle.onfi_cycle.specs.Command.{command}
 use Rattle.onfi_cycle.specs.Lun.{effect_among}
@@ -39,6 +40,10 @@ o byte = Cyc (record { ce = 0; kind = Dout; byte = byte })
 abbrev pub job : Parts → ℕ → ℕ → Microprogram → List ℕ → Job
 job g lun base text buffer = record { lun = record { ce = 0; lun = lun }; base = base; text = text; geometry = g; buffer = buffer }
 
+-- what a ready tells
+abbrev told : Bool → Failures
+told fail = record { last = fail; before = false }
+
 -- what happens in a run: the program makes a step, or a LUN becomes ready
 data Happening : Type 0 where
   S : Happening
@@ -58,7 +63,7 @@ with_step outcome r = Some (record { went = outcome ∷ r.went; last = r.last })
 abbrev run : Channel → Job → List Happening → Stride → Option Run
 run s j [] r = Some (record { went = []; last = r })
 run s j (S ∷ rest) r = and_then (next_step s j r.past r.ahead r.done) (λ q. and_then (run s j rest q) (with_step q.outcome))
-run s j (R fail ∷ rest) r = run s j rest (record r { past = Rdy 0 j.lun.lun fail ∷ r.past })
+run s j (R fail ∷ rest) r = run s j rest (record r { past = Rdy 0 j.lun.lun (told fail) ∷ r.past })
 
 -- what is looked at: how the steps went, the trace, the code, the buffer and the cost
 record Result : Type 0 where
@@ -79,11 +84,11 @@ line at word = record { at = at; word = word }
 abbrev erase : Microprogram
 erase = record { rows = 1; buffer = 0; budget = 5; words = Command 0x60 ∷ (Address 2 3 ∷ (Command 0xd0 ∷ (Wait ∷ (End 0 ∷ [])))) }
 
-erase_one_block : result one_lun (job one_lun 0 4 erase []) (S ∷ (S ∷ (S ∷ (S ∷ (R false ∷ (S ∷ (S ∷ []))))))) ≡ Some (record { went = Went ∷ (Went ∷ (Went ∷ (NotReady ∷ (Went ∷ (Ended ∷ []))))); trace = c 0x60 ∷ (a 4 ∷ (a 0 ∷ (a 0 ∷ (c 0xd0 ∷ (c 0x70 ∷ (o 0x80 ∷ (Rdy 0 0 false ∷ (c 0x70 ∷ (o 0xe0 ∷ []))))))))); code = Some 0; buffer = []; cost = 5 })
+erase_one_block : result one_lun (job one_lun 0 4 erase []) (S ∷ (S ∷ (S ∷ (S ∷ (R false ∷ (S ∷ (S ∷ []))))))) ≡ Some (record { went = Went ∷ (Went ∷ (Went ∷ (NotReady ∷ (Went ∷ (Ended ∷ []))))); trace = c 0x60 ∷ (a 4 ∷ (a 0 ∷ (a 0 ∷ (c 0xd0 ∷ (c 0x70 ∷ (o 0x80 ∷ (Rdy 0 0 (told false) ∷ (c 0x70 ∷ (o 0xe0 ∷ []))))))))); code = Some 0; buffer = []; cost = 5 })
 unfolding unrolled command width effect_among
 erase_one_block = refl
 
-erase_on_lun_one : result two_luns (job two_luns 1 0 erase []) (S ∷ (S ∷ (S ∷ (R false ∷ (S ∷ (S ∷ [])))))) ≡ Some (record { went = Went ∷ (Went ∷ (Went ∷ (Went ∷ (Ended ∷ [])))); trace = c 0x60 ∷ (a 0x20 ∷ (a 0 ∷ (a 0 ∷ (c 0xd0 ∷ (Rdy 0 1 false ∷ (c 0x78 ∷ (a 0x20 ∷ (a 0 ∷ (a 0 ∷ (o 0xe0 ∷ [])))))))))); code = Some 0; buffer = []; cost = 5 })
+erase_on_lun_one : result two_luns (job two_luns 1 0 erase []) (S ∷ (S ∷ (S ∷ (R false ∷ (S ∷ (S ∷ [])))))) ≡ Some (record { went = Went ∷ (Went ∷ (Went ∷ (Went ∷ (Ended ∷ [])))); trace = c 0x60 ∷ (a 0x20 ∷ (a 0 ∷ (a 0 ∷ (c 0xd0 ∷ (Rdy 0 1 (told false) ∷ (c 0x78 ∷ (a 0x20 ∷ (a 0 ∷ (a 0 ∷ (o 0xe0 ∷ [])))))))))); code = Some 0; buffer = []; cost = 5 })
 unfolding unrolled command width effect_among
 erase_on_lun_one = refl
 

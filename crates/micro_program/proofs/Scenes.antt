@@ -4,9 +4,9 @@ use Rattle.std.proofs.Common.{◌≡◌, ℕ, ◌==◌, Bool, true, false, ◌&&
 use Rattle.nand_geometry.specs.declared.parts.Parts.{Parts}
 use Rattle.nand_geometry.specs.Limits.{page_len}
 use Rattle.nand_geometry.specs.Row.{parts_of, is_inside}
-use Rattle.nand_geometry.specs.Optional.{is_wide, has_features, has_unique_id, has_enhanced_column, has_lun_reset, has_plane_reads, has_copyback, has_synchronous_reset}
+use Rattle.nand_geometry.specs.Optional.{is_wide, has_features, has_unique_id, has_enhanced_column, has_lun_reset, has_plane_reads, has_copyback, has_synchronous_reset, has_program_cache, has_group_cache}
 use Rattle.onfi_cycle.specs.declared.command.Command.{Command}
-use Rattle.onfi_cycle.specs.declared.command.Command.TheVariants.{Read, ReadConfirm, ChangeReadColumn, ChangeReadColumnConfirm, BlockErase, BlockEraseConfirm, BlockErasePlane, ReadStatus, ReadStatusEnhanced, PageProgram, ChangeWriteColumn, ProgramConfirm, ProgramPlane, ReadId, ReadParameterPage, Reset, ReadCacheSequential, ReadCacheEnd, ReadUniqueId, GetFeatures, SetFeatures, ResetLun, SynchronousReset, Unknown, ChangeReadColumnEnhanced, ReadPlane, CopybackRead}
+use Rattle.onfi_cycle.specs.declared.command.Command.TheVariants.{Read, ReadConfirm, ChangeReadColumn, ChangeReadColumnConfirm, BlockErase, BlockEraseConfirm, BlockErasePlane, ReadStatus, ReadStatusEnhanced, PageProgram, ChangeWriteColumn, ProgramConfirm, ProgramPlane, ReadId, ReadParameterPage, Reset, ReadCacheSequential, ReadCacheEnd, ReadUniqueId, GetFeatures, SetFeatures, ResetLun, SynchronousReset, Unknown, ChangeReadColumnEnhanced, ReadPlane, CopybackRead, ProgramCache}
 use Rattle.onfi_cycle.specs.declared.lun.Lun.{Lun}
 use Rattle.onfi_cycle.specs.declared.item.Item.{Item}
 use Rattle.onfi_cycle.specs.declared.latch.Latch.{Latch}
@@ -18,8 +18,8 @@ use Rattle.onfi_cycle.specs.declared.target_cycle.TargetCycle.TheVariants.{Comma
 use Rattle.onfi_cycle.specs.LunView.{LunView}
 use Rattle.onfi_cycle.specs.Sequence.{tail, facts_of, facts_after, opened, is_open, selects_plane, takes_features, takes_inputs, wants_command, wants_address, row, row_with, column_with, input_column}
 use Rattle.onfi_cycle.specs.Effect.{page_address, names_lun, cycle_effect}
-use Rattle.onfi_cycle.specs.Lun.{drivers, is_only, lun_view, view_after}
-use Rattle.onfi_cycle.specs.Rules.{ends_row, second_of_page, second_column, caching, has_read_one, continues_cache, ends_cache, may_change_column, has_some, is_refused_by, register_len, has_no_byte, is_past_register, is_undeclared_address, excludes_cache, holds_plane_of, may_copy, is_copying}
+use Rattle.onfi_cycle.specs.Lun.{drivers, is_only, lun_view, view_after, programs}
+use Rattle.onfi_cycle.specs.Rules.{ends_row, second_of_page, second_column, caching, has_read_one, continues_cache, ends_cache, may_change_column, has_some, is_refused_by, register_len, has_no_byte, is_past_register, is_undeclared_address, excludes_cache, holds_plane_of, may_copy, is_copying, holds_none, excludes_program}
 use Rattle.onfi_cycle.specs.Command.{addresses_the_array, is_change_read_column, is_enhanced_column, is_page_program, is_write_column, reads_identity}
 use Rattle.onfi_cycle.specs.Channel.{Channel, is_serving}
 use Rattle.onfi_cycle.proofs.TableLemmas.{command_opens}
@@ -50,6 +50,7 @@ pub record IdentityAllowed (g : Parts) (c : Scene) : Type 0 where
   pub ready : c.view.busy ≡ false
   pub no_queue : has_some c.view.queue ≡ false
   pub no_cache : caching c.view ≡ false
+  pub no_program : programs c.view ≡ false
 
 -- a reset of the whole target; in the wider profile it may come in an open sequence
 pub record ResetAllowed (g : Parts) (c : Scene) : Type 0 where
@@ -82,6 +83,14 @@ pub record PlaneAllowed (g : Parts) (lun : ℕ) (c : Scene) : Type 0 where
   pub plane : selects_plane c.facts ≡ true
   pub names : names_lun g (row c.facts) lun ≡ true
 
+-- 15 closes a program: of several planes where the chip may cache those, and of no copyback
+pub record CacheProgramAllowed (g : Parts) (lun : ℕ) (c : Scene) : Type 0 where
+  pub wants : wants_command c.facts ProgramCache ≡ true
+  pub names : names_lun g (row c.facts) lun ≡ true
+  pub declared : has_program_cache g.optional ≡ true
+  pub no_group : (not (has_group_cache g.optional) && has_some c.view.queue) ≡ false
+  pub no_copy : (has_copyback g.optional && not (holds_none c.view.held)) ≡ false
+
 -- where nothing is open no 31 is wanted
 pub closed_unwanted : (t : TailFacts) → is_open t ≡ false → wants_command t ReadCacheSequential ≡ false
 closed_unwanted t closed = at (wants_command t ReadCacheSequential) refl
@@ -107,6 +116,7 @@ CommandAllowed g lun c BlockEraseConfirm = CloserAllowed g lun c BlockEraseConfi
 CommandAllowed g lun c BlockErasePlane = CloserAllowed g lun c BlockErasePlane × (g.multi_plane ≡ true)
 CommandAllowed g lun c ProgramConfirm = CloserAllowed g lun c ProgramConfirm
 CommandAllowed g lun c ProgramPlane = CloserAllowed g lun c ProgramPlane × (g.multi_plane ≡ true)
+CommandAllowed g lun c ProgramCache = CacheProgramAllowed g lun c
 CommandAllowed g lun c ChangeReadColumnConfirm = ColumnAllowed c ⊎ PlaneAllowed g lun c
 CommandAllowed g lun c ChangeWriteColumn = (wants_command c.facts ChangeWriteColumn ≡ true) ⊎ (OpenerAllowed c × (has_copyback g.optional ≡ true))
 CommandAllowed g lun c ReadUniqueId = IdentityAllowed g c × (has_unique_id g.optional ≡ true)
@@ -126,6 +136,7 @@ pub record RowAllowed (g : Parts) (lun : ℕ) (c : Scene) (byte : ℕ) : Type 0 
   pub ready : ends_row addresses_the_array c.facts ≡ true → c.view.busy ≡ false
   pub goes : is_refused_by g c.facts.opening (page_address g (row_with c.facts byte)) c.view.queue ≡ false
   pub no_cache : ends_row (excludes_cache g) c.facts ≡ true → caching c.view ≡ false
+  pub no_program : ends_row excludes_program c.facts ≡ true → programs c.view ≡ false
   pub plane : ends_row is_enhanced_column c.facts ≡ true → holds_plane_of g (page_address g (row_with c.facts byte)) c.view ≡ true
   pub copy : ends_row is_write_column c.facts ≡ true → may_copy g (page_address g (row_with c.facts byte)) c.view ≡ true
   pub no_group : ends_row is_page_program c.facts ≡ true → (has_copyback g.optional && is_copying c.view) ≡ false

@@ -6,7 +6,7 @@ use Rattle.onfi_cycle.proofs.Booleans.{eqb_self}
 use Rattle.nand_geometry.specs.declared.parts.Parts.{Parts}
 use Rattle.nand_geometry.specs.Limits.{planes}
 use Rattle.onfi_cycle.specs.declared.command.Command.{Command}
-use Rattle.onfi_cycle.specs.declared.command.Command.TheVariants.{Read, ReadConfirm, ChangeReadColumnConfirm, BlockEraseConfirm, BlockErasePlane, ReadStatus, ReadStatusEnhanced, ProgramConfirm, ProgramPlane, ReadId, ReadParameterPage, Reset, ReadCacheSequential, ReadCacheEnd, ReadUniqueId, GetFeatures, SetFeatures, ResetLun, SynchronousReset, ReadPlane, CopybackRead, PageProgram}
+use Rattle.onfi_cycle.specs.declared.command.Command.TheVariants.{Read, ReadConfirm, ChangeReadColumnConfirm, BlockEraseConfirm, BlockErasePlane, ReadStatus, ReadStatusEnhanced, ProgramConfirm, ProgramPlane, ReadId, ReadParameterPage, Reset, ReadCacheSequential, ReadCacheEnd, ReadUniqueId, GetFeatures, SetFeatures, ResetLun, SynchronousReset, ReadPlane, CopybackRead, PageProgram, ProgramCache}
 use Rattle.onfi_cycle.specs.declared.lun.Lun.{Lun}
 use Rattle.onfi_cycle.specs.declared.item.Item.{Item}
 use Rattle.onfi_cycle.specs.declared.item.Kind.{Kind}
@@ -68,6 +68,7 @@ command_keeps_to s l past c k BlockEraseConfirm a = of_no_target (is_shared s.ge
 command_keeps_to s l past c k BlockErasePlane a = of_no_target (is_shared s.geometry) false _ refl (ap (λ (t : TailFacts). names_lun s.geometry (row t) l.lun) k.facts ∙ a.0.1)
 command_keeps_to s l past c k ProgramConfirm a = of_no_target (is_shared s.geometry) false _ refl (ap (λ (t : TailFacts). names_lun s.geometry (row t) l.lun) k.facts ∙ a.1)
 command_keeps_to s l past c k ProgramPlane a = of_no_target (is_shared s.geometry) false _ refl (ap (λ (t : TailFacts). names_lun s.geometry (row t) l.lun) k.facts ∙ a.0.1)
+command_keeps_to s l past c k ProgramCache a = of_no_target (is_shared s.geometry) false _ refl (ap (λ (t : TailFacts). names_lun s.geometry (row t) l.lun) k.facts ∙ a.names)
 command_keeps_to s l past c k ChangeReadColumnConfirm (inl a) =
     of_no_target (is_shared s.geometry) false _ refl
     (at_driver (selects_plane (facts_of (tail past l.ce))) _ _ (ap selects_plane k.facts ∙ a.no_plane) (k.sole a.sole))

@@ -53,7 +53,7 @@ refused budget words seat reaches may bad safe =
 
 -- at the beginning, on a fresh channel
 fresh : (t : Microprogram) → Reaches (on one_lun) (job_of t) (loaded (job_of t) [])
-fresh t = starts [] refl (record { ready = refl; no_cache = refl; no_queue = refl; free = refl })
+fresh t = starts [] refl (record { ready = refl; no_cache = refl; no_program = refl; no_queue = refl; free = refl })
 
 -- no word at all
 no_end_is_unsafe : IsUnsafe 0 []

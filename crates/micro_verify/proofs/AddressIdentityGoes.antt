@@ -3,7 +3,7 @@ use Rattle.std.proofs.lemmas.Bool.Decides.{nat_tests}
 use Rattle.std.proofs.Common.{◌≡◌, ℕ, ◌≤◌, ◌==◌, Bool, true, false, cond, nat_le, List, [], ◌∷◌, Option, Some, refl, sym, ap, ◌∙◌, subst, arith}
 use Rattle.nand_geometry.specs.declared.parts.Parts.{Parts}
 use Rattle.onfi_cycle.specs.declared.command.Command.{Command}
-use Rattle.onfi_cycle.specs.declared.command.Command.TheVariants.{ReadId, ReadParameterPage, ChangeWriteColumn, ProgramConfirm, ProgramPlane}
+use Rattle.onfi_cycle.specs.declared.command.Command.TheVariants.{ReadId, ReadParameterPage, ChangeWriteColumn, ProgramConfirm, ProgramPlane, ProgramCache}
 use Rattle.onfi_cycle.specs.declared.effect.Effect.{Effect}
 use Rattle.onfi_cycle.specs.declared.effect.Effect.TheVariants.{IdRead, ParameterPageReadStarted}
 use Rattle.onfi_cycle.specs.declared.item.Kind.TheVariants.{Adr}
@@ -30,6 +30,7 @@ use Rattle.micro_verify.proofs.Mirrors.{Mirrors, RegistersMirror, Shut}
 use Rattle.micro_verify.proofs.Causes.{Goes, IsFit}
 use Rattle.micro_verify.proofs.WordsExact.{goes_by, registers_exact, shut_tail}
 use Rattle.micro_verify.proofs.AddressIdentity.{asked, asks, base_identity, identity_judged}
+use Rattle.micro_claims.proofs.Programs.{identified_programs}
 
 id_shut : (byte : ℕ) → Shut (facts_after (AddressCycle byte) (opener_facts ReadId))
 id_shut byte = record { closed = refl; address = λ b. refl; command = none }
@@ -38,6 +39,7 @@ id_shut byte = record { closed = refl; address = λ b. refl; command = none }
     none ChangeWriteColumn = refl
     none ProgramConfirm = refl
     none ProgramPlane = refl
+    none ProgramCache = refl
     none _ = refl
 
 parameters_shut : (byte : ℕ) → Shut (facts_after (AddressCycle byte) (opener_facts ReadParameterPage))
@@ -47,6 +49,7 @@ parameters_shut byte = record { closed = refl; address = λ b. refl; command = n
     none ChangeWriteColumn = refl
     none ProgramConfirm = refl
     none ProgramPlane = refl
+    none ProgramCache = refl
     none _ = refl
 
 -- the one byte of the word
@@ -110,7 +113,7 @@ goes_id s text v r c from count n k is m here single one low takes =
       registers = registers_still s.geometry v r from count answer m.registers;
       tail = shut_tail s.geometry (lone_job s.geometry text) (beside_read v.lun.busy (record { 0 = 4 }) v) r.done (read_after ReadId IdRead (byte_now r from) c.view) refl (id_shut (byte_now r from));
       shows = refl;
-      lun = record { busy = m.lun.busy; register = refl; known = refl; column = λ e. record { at = 0; is = refl; bound = refl; read = refl }; no_column = λ e. cc; queue = m.lun.queue; last = refl; caching = refl; other = refl; read = λ e. cc; cached_page = λ e. cc; cached_index = λ e. cc; held = λ e. cc };
+      lun = record { busy = m.lun.busy; register = refl; known = refl; column = λ e. record { at = 0; is = refl; bound = refl; read = refl }; no_column = λ e. cc; queue = m.lun.queue; last = refl; caching = refl; other = refl; read = λ e. cc; cached_page = λ e. cc; cached_index = λ e. cc; held = λ e. cc; programming = refl; no_program = identified_programs c.view.busy };
       along = λ e. cc;
     })
 
@@ -121,6 +124,6 @@ goes_parameters s text v r c from count n k is m here single one low takes =
       registers = registers_still s.geometry v r from count answer m.registers;
       tail = shut_tail s.geometry (lone_job s.geometry text) (beside_read true (record { 0 = 2 }) v) r.done (read_after ReadParameterPage ParameterPageReadStarted (byte_now r from) c.view) refl (parameters_shut (byte_now r from));
       shows = refl;
-      lun = record { busy = refl; register = refl; known = refl; column = λ e. record { at = 0; is = refl; bound = refl; read = refl }; no_column = λ e. cc; queue = m.lun.queue; last = refl; caching = refl; other = refl; read = λ e. cc; cached_page = λ e. cc; cached_index = λ e. cc; held = λ e. cc };
+      lun = record { busy = refl; register = refl; known = refl; column = λ e. record { at = 0; is = refl; bound = refl; read = refl }; no_column = λ e. cc; queue = m.lun.queue; last = refl; caching = refl; other = refl; read = λ e. cc; cached_page = λ e. cc; cached_index = λ e. cc; held = λ e. cc; programming = refl; no_program = refl };
       along = λ e. cc;
     })

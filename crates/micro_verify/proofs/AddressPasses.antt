@@ -83,7 +83,7 @@ opener_passes s text v r c from count o n w x clear =
     let last = last_is o i x.carries e in
     let begins = x.begins in
     let five : 5 ≤ from + count = omega (arith, begins, last, most) in
-    sym (row_refused_is g j v r.done c.view o n a w.fit.base x.carries (last_of_row o i x.carries e) w.mirrors.registers w.mirrors.lun (x.now.row (let y : 2 < from + count = omega (arith, five) in grind (arith, nat_tests, y))) refl refl) ∙ clear.row (grind (arith, nat_tests, five))))
+    (sym (row_refused_is g j v r.done c.view o n a w.fit.base x.carries (last_of_row o i x.carries e) w.mirrors.registers w.mirrors.lun (x.now.row (let y : 2 < from + count = omega (arith, five) in grind (arith, nat_tests, y))) refl refl) ∙ clear.row (grind (arith, nat_tests, five)), w.mirrors.lun.no_program)))
   where
     g : Parts
     g = s.geometry

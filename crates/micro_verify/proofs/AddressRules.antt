@@ -9,10 +9,10 @@ use Rattle.nand_geometry.specs.Row.{row_of}
 use Rattle.onfi_cycle.specs.declared.command.Command.{Command}
 use Rattle.onfi_cycle.specs.declared.command.Command.TheVariants.{Read, ChangeReadColumn, BlockErase, PageProgram}
 use Rattle.onfi_cycle.specs.declared.forbidden.Forbidden.{Forbidden}
-use Rattle.onfi_cycle.specs.declared.forbidden.Forbidden.TheVariants.{LunBusy, QueueClash, ColumnOutside, CacheReadMisplaced}
+use Rattle.onfi_cycle.specs.declared.forbidden.Forbidden.TheVariants.{LunBusy, QueueClash, ColumnOutside, CacheReadMisplaced, CacheProgramMisplaced}
 use Rattle.onfi_cycle.specs.LunView.{LunView}
 use Rattle.onfi_cycle.specs.Effect.{page_address}
-use Rattle.onfi_cycle.specs.Rules.{caching, excludes_cache, refused_by}
+use Rattle.onfi_cycle.specs.Rules.{caching, excludes_cache, refused_by, excludes_program}
 use Rattle.micro_claims.specs.declared.state.State.{State}
 use Rattle.micro_claims.specs.declared.place.Place.TheVariants.{After}
 use Rattle.micro_claims.specs.declared.planes.Planes.{Planes}
@@ -26,11 +26,13 @@ use Rattle.micro_claims.proofs.Addressing.{carried_is}
 use Rattle.micro_verify.specs.Cause.{is_of_cycle_forbidden}
 use Rattle.micro_verify.proofs.Lone.{based}
 use Rattle.micro_verify.proofs.Mirrors.{RegistersMirror, LunMirror, exact_test}
-use Rattle.micro_verify.proofs.AddressesJudged.{row_rule, column_rule}
+use Rattle.micro_verify.proofs.AddressesJudged.{row_rule, column_rule, late_rule}
 use Rattle.micro_verify.proofs.AddressTests.{row_is_of_array}
 use Rattle.micro_verify.proofs.AddressCauses.{index_test}
 use Rattle.micro_verify.proofs.AddressesNow.{carries_registers}
 use Rattle.micro_verify.proofs.QueueExact.{refuses_is}
+use Rattle.onfi_cycle.specs.Lun.{programs}
+use Rattle.std.proofs.lemmas.Bool.{or_parts}
 
 -- 1. the last row cycle
 
@@ -46,7 +48,7 @@ row_refused_is g j v done view o n a base carries takes m lun row index plane =
     let queue : queue_refuses v.lun.queue v.registers.planes o ≡ refused_by (based g) o (page_address g (row_of a.r1 a.r2 a.r3)) view.queue =
     ap (λ (p : Planes). queue_refuses v.lun.queue p o) m.planes ∙ refuses_is g (index_now 0 done) v.lun.queue view.queue o (page_address g (row_of a.r1 a.r2 a.r3)) (plane_now done) carries takes lun.queue low m.plane_low page block in
     let cached : (excludes_cache g o && may_be_31 v.lun.last) ≡ caching view = ap (λ (b : Bool). b && may_be_31 v.lun.last) (excludes g o base carries takes) ∙ lun.caching in
-    (λ i. row_is_of_array o takes i && (lun.busy i || cached i || queue i || selects o carries i || copies o base carries i)) ∙ (or-false (view.busy || caching view || refused_by (based g) o (page_address g (row_of a.r1 a.r2 a.r3)) view.queue || false) ∙ or-false (view.busy || caching view || refused_by (based g) o (page_address g (row_of a.r1 a.r2 a.r3)) view.queue))
+    (λ i. row_is_of_array o takes i && (lun.busy i || cached i || queue i || selects o carries i || copies o base carries i || quiet o i)) ∙ (or-false (view.busy || caching view || refused_by (based g) o (page_address g (row_of a.r1 a.r2 a.r3)) view.queue || false || false) ∙ or-false (view.busy || caching view || refused_by (based g) o (page_address g (row_of a.r1 a.r2 a.r3)) view.queue || false) ∙ or-false (view.busy || caching view || refused_by (based g) o (page_address g (row_of a.r1 a.r2 a.r3)) view.queue))
   where
     -- in the base profile no row may name a LUN that is caching
     excludes : (g : Parts) (o : Command) → is_wide g.optional ≡ false → carries_registers o ≡ true → takes_row o ≡ true → excludes_cache g o ≡ true
@@ -55,6 +57,14 @@ row_refused_is g j v done view o n a base carries takes m lun row index plane =
     excludes g PageProgram base carries takes = refl
     excludes g ChangeReadColumn base carries takes = cc
     excludes g _ base carries takes = cc
+
+    -- none programs behind a 15
+    quiet : (o : Command) → (excludes_program o && v.lun.programming) ≡ false
+    quiet o = ap (λ (b : Bool). excludes_program o && b) lun.programming ∙ none (excludes_program o)
+      where
+        none : (b : Bool) → (b && false) ≡ false
+        none true = refl
+        none false = refl
 
     -- and none selects a plane
     selects : (o : Command) → carries_registers o ≡ true → plane_refused v o ≡ false
@@ -82,14 +92,22 @@ refused_breaks g o a view h = at view.busy refl (refused_by (based g) o (page_ad
     at false e false f true i = (CacheReadMisplaced, (rw (e, f, i) refl, refl))
     at false e false f false i = let none : is_refused g o a view ≡ false = rw (e, f, i) refl in let both : true ≡ false = sym h ∙ none in cc
 
-pub taken_breaks_none : (g : Parts) (o : Command) (a : Address) (view : LunView) → is_refused g o a view ≡ false → row_rule g o a view ≡ None
-taken_breaks_none g o a view h = at view.busy refl (caching view) refl (refused_by (based g) o (page_address g (row_of a.r1 a.r2 a.r3)) view.queue) refl
+-- where three tests fail what comes behind them is left
+three_fail : (b q k : Bool) (x y z : Forbidden) (o : Option Forbidden) → b ≡ false → q ≡ false → k ≡ false → cond b (Some x) (cond q (Some y) (cond k (Some z) o)) ≡ o
+three_fail b q k x y z o e f i = rw (e, f, i) refl
+
+none_late : (o : Command) (view : LunView) → programs view ≡ false → late_rule o view ≡ None
+none_late o view program = ap (λ (b : Bool). cond (excludes_program o && b) (Some CacheProgramMisplaced) None) program ∙ none (excludes_program o)
   where
-    at : (b : Bool) → view.busy ≡ b → (k : Bool) → caching view ≡ k → (q : Bool) → refused_by (based g) o (page_address g (row_of a.r1 a.r2 a.r3)) view.queue ≡ q → row_rule g o a view ≡ None
-    at true e k i q f = let some : is_refused g o a view ≡ true = rw e refl in let both : true ≡ false = sym some ∙ h in cc
-    at false e true i q f = let some : is_refused g o a view ≡ true = rw (e, i) refl in let both : true ≡ false = sym some ∙ h in cc
-    at false e false i true f = let some : is_refused g o a view ≡ true = rw (e, i, f) refl in let both : true ≡ false = sym some ∙ h in cc
-    at false e false i false f = rw (e, i, f) refl
+    none : (b : Bool) → cond (b && false) (Some CacheProgramMisplaced) None ≡ None
+    none true = refl
+    none false = refl
+
+pub taken_breaks_none : (g : Parts) (o : Command) (a : Address) (view : LunView) → (is_refused g o a view ≡ false) × (programs view ≡ false) → row_rule g o a view ≡ None
+taken_breaks_none g o a view h =
+    let two = or_parts (view.busy || caching view) (refused_by (based g) o (page_address g (row_of a.r1 a.r2 a.r3)) view.queue) h.0 in
+    let one = or_parts view.busy (caching view) two.0 in
+    three_fail view.busy (refused_by (based g) o (page_address g (row_of a.r1 a.r2 a.r3)) view.queue) (caching view) LunBusy QueueClash CacheReadMisplaced (late_rule o view) one.0 two.1 one.1 ∙ none_late o view h.1
 
 -- 2. the second column cycle
 

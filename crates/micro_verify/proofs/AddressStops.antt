@@ -28,6 +28,7 @@ use Rattle.micro_verify.proofs.Lone.{Lone, IsAlone, IsLone, MovesPass, lone_afte
 use Rattle.micro_verify.proofs.AddressesJudged.{cursor, address_rule, column_rule, row_rule, Passed, all_pass}
 use Rattle.micro_verify.proofs.AddressesNow.{carries_registers, changes_column, row_there, address_goes, Goes as CycleGoes}
 use Rattle.micro_verify.proofs.AddressRules.{is_refused, taken_breaks_none}
+use Rattle.onfi_cycle.specs.Lun.{programs}
 
 -- 1. the moves of the word
 
@@ -76,7 +77,7 @@ abbrev pub limit_of : Parts → Command → LunView → ℕ
 limit_of g ChangeReadColumn view = register_len g view.register
 limit_of g _ view = page_len g
 
-pub rule_none : (g : Parts) (o : Command) (a : Address) (view : LunView) (i : ℕ) → carries_registers o ≡ true → (takes_column o ≡ true → i ≡ 1 → nat_le (limit_of g o view) (carried a) ≡ false) → (at_last_row o i ≡ true → is_refused g o a view ≡ false) → address_rule g o a view i ≡ None
+pub rule_none : (g : Parts) (o : Command) (a : Address) (view : LunView) (i : ℕ) → carries_registers o ≡ true → (takes_column o ≡ true → i ≡ 1 → nat_le (limit_of g o view) (carried a) ≡ false) → (at_last_row o i ≡ true → (is_refused g o a view ≡ false) × (programs view ≡ false)) → address_rule g o a view i ≡ None
 rule_none g Read a view zero carries column row = refl
 rule_none g Read a view (suc zero) carries column row = ap (λ (b : Bool). cond b (Some ColumnOutside) None) (column refl refl)
 rule_none g Read a view (suc (suc zero)) carries column row = refl

@@ -11,7 +11,7 @@ use Rattle.onfi_cycle.specs.declared.tail_facts.TailFacts.{TailFacts}
 use Rattle.onfi_cycle.specs.declared.target_cycle.TargetCycle.TheVariants.{AddressCycle}
 use Rattle.onfi_cycle.specs.Command.{address_cycles, addresses_the_array, reads_identity}
 use Rattle.onfi_cycle.specs.Sequence.{facts_after, input_column}
-use Rattle.onfi_cycle.specs.Rules.{excludes_cache}
+use Rattle.onfi_cycle.specs.Rules.{excludes_cache, excludes_program}
 use Rattle.onfi_cycle.specs.Channel.{Channel}
 use Rattle.micro_word.specs.declared.word.Word.TheVariants.{Address as AddressWord}
 use Rattle.micro_word.specs.Text.{Microprogram}
@@ -51,7 +51,8 @@ use Rattle.micro_verify.proofs.AddressTails.{along_now, tail_after, tail_in_data
 along_led : (g : Parts) (v : State) (r : Run) (c : Lone) (j : Job) (from count : ℕ) (o : Command) (n : ℕ) → Mirrors g j v r.done c → addresses_the_array o ≡ true → 5 ≤ from + count → (nat_le 5 (from + count) ≡ true → row_refused g v (After o n) ≡ false) → row_goes_along (is_erase o) (target_after_addresses g v from count).named v.lun.queue ≡ true
 along_led g v r c j from count o n m array five clear =
     let last : nat_le 5 (from + count) ≡ true = grind (arith, nat_tests, five) in
-    let both = or_parts (v.lun.busy || (excludes_cache g o && may_be_31 v.lun.last) || queue_refuses v.lun.queue v.registers.planes o || plane_refused v o) (copy_refused g v o) (ap (λ (b : Bool). b && (v.lun.busy || (excludes_cache g o && may_be_31 v.lun.last) || queue_refuses v.lun.queue v.registers.planes o || plane_refused v o || copy_refused g v o)) (sym array) ∙ clear last) in
+    let more = or_parts (v.lun.busy || (excludes_cache g o && may_be_31 v.lun.last) || queue_refuses v.lun.queue v.registers.planes o || plane_refused v o || copy_refused g v o) (excludes_program o && v.lun.programming) (ap (λ (b : Bool). b && (v.lun.busy || (excludes_cache g o && may_be_31 v.lun.last) || queue_refuses v.lun.queue v.registers.planes o || plane_refused v o || copy_refused g v o || (excludes_program o && v.lun.programming))) (sym array) ∙ clear last) in
+    let both = or_parts (v.lun.busy || (excludes_cache g o && may_be_31 v.lun.last) || queue_refuses v.lun.queue v.registers.planes o || plane_refused v o) (copy_refused g v o) more.0 in
     let all = or_parts (v.lun.busy || (excludes_cache g o && may_be_31 v.lun.last) || queue_refuses v.lun.queue v.registers.planes o) (plane_refused v o) both.0 in
     let queue = (or_parts (v.lun.busy || (excludes_cache g o && may_be_31 v.lun.last)) (queue_refuses v.lun.queue v.registers.planes o) all.0).1 in
     subst (λ (b : Bool). row_goes_along (is_erase o) (cond b (Some (name_now g v.registers)) v.target.named) v.lun.queue ≡ true) (sym last) (along_now g (index_now 0 r.done) v.lun.queue c.view.queue v.registers.planes o m.lun.queue queue)
@@ -88,6 +89,8 @@ lun_at g v now view PageProgram n count here m few = at (n + count == 5) refl
           cached_page = m.cached_page;
           cached_index = m.cached_index;
           held = λ x. refl;
+          programming = m.programming;
+          no_program = m.no_program;
         }))
     at false e =
         let early : nat_le 5 (n + count) ≡ false = let f = few in grind (arith, nat_tests, e, f) in

@@ -6,7 +6,7 @@ use Rattle.nand_geometry.specs.Row.{row_of, parts_of, is_inside}
 use Rattle.onfi_cycle.specs.declared.command.Command.{Command}
 use Rattle.onfi_cycle.specs.declared.command.Command.TheVariants.{Read, ChangeReadColumn, BlockErase, PageProgram}
 use Rattle.onfi_cycle.specs.declared.forbidden.Forbidden.{Forbidden}
-use Rattle.onfi_cycle.specs.declared.forbidden.Forbidden.TheVariants.{LunBusy, QueueClash, ColumnOutside, CacheReadMisplaced}
+use Rattle.onfi_cycle.specs.declared.forbidden.Forbidden.TheVariants.{LunBusy, QueueClash, ColumnOutside, CacheReadMisplaced, CacheProgramMisplaced}
 use Rattle.onfi_cycle.specs.declared.item.Kind.TheVariants.{Adr}
 use Rattle.onfi_cycle.specs.declared.latch.Latch.{Latch}
 use Rattle.onfi_cycle.specs.declared.target_cycle.TargetCycle.TheVariants.{AddressCycle}
@@ -17,9 +17,9 @@ use Rattle.onfi_cycle.specs.declared.queued.Queued.{Queued}
 use Rattle.onfi_cycle.specs.Command.{addresses_the_array, is_change_read_column, is_enhanced_column, is_read_id}
 use Rattle.onfi_cycle.specs.Sequence.{wants_address, opened, row_with, column_with}
 use Rattle.onfi_cycle.specs.LunView.{LunView}
-use Rattle.onfi_cycle.specs.Lun.{view_after}
+use Rattle.onfi_cycle.specs.Lun.{view_after, programs}
 use Rattle.onfi_cycle.specs.Effect.{is_off, page_address, program_row_effect}
-use Rattle.onfi_cycle.specs.Rules.{named_lun_is, ends_row, second_of_page, second_column, driver_is, is_some_and, is_refused_by, refused_by, caching, register_len, breaks_command_unknown, breaks_sequence_open, breaks_several_luns, breaks_no_column_to_change, breaks_command_misplaced, breaks_address_misplaced, breaks_row_outside, breaks_lun_busy, breaks_queue_clash, breaks_input_misplaced, breaks_no_sole_driver, breaks_data_not_ready, breaks_column_outside, breaks_cache_read_misplaced, breaks_copyback_misplaced, breaks_plane_not_held, excludes_cache}
+use Rattle.onfi_cycle.specs.Rules.{named_lun_is, ends_row, second_of_page, second_column, driver_is, is_some_and, is_refused_by, refused_by, caching, register_len, breaks_command_unknown, breaks_sequence_open, breaks_several_luns, breaks_no_column_to_change, breaks_command_misplaced, breaks_address_misplaced, breaks_row_outside, breaks_lun_busy, breaks_queue_clash, breaks_input_misplaced, breaks_no_sole_driver, breaks_data_not_ready, breaks_column_outside, breaks_cache_read_misplaced, breaks_cache_program_misplaced, breaks_copyback_misplaced, breaks_plane_not_held, excludes_cache, excludes_program}
 use Rattle.micro_program.specs.Moves.{gives}
 use Rattle.micro_claims.proofs.Fits.{Address, bytes_of, opener_facts, facts_behind}
 use Rattle.micro_claims.proofs.AddressSteps.{nth, carried, addressed_view}
@@ -43,11 +43,14 @@ named_none (Some v) test h = h v
 
 -- an address that is wanted and isn't the last of a row breaks F14 or no rule
 pub plain_judged : (g : Parts) (c : Lone) (byte : ℕ) → wants_address c.facts byte ≡ true → ends_row (λ d. true) c.facts ≡ false → ends_row addresses_the_array c.facts ≡ false → (opened (λ o n. is_read_id o) c.facts.opening && not (byte == 0x20)) ≡ false → ((p : PageAddress) (q : List Queued) → is_refused_by (based g) c.facts.opening p q ≡ false) → judged g c (AddressCycle byte) ≡ cond ((second_of_page c.facts && nat_le (page_len g) (column_with c.facts byte)) || (second_column is_change_read_column c.facts && driver_is (λ v. nat_le (register_len g v.register) (column_with c.facts byte)) (c.view ∷ []))) (Some ColumnOutside) None
-unfolding breaks_command_unknown breaks_sequence_open breaks_several_luns breaks_no_column_to_change breaks_command_misplaced breaks_address_misplaced breaks_row_outside breaks_lun_busy breaks_queue_clash breaks_input_misplaced breaks_no_sole_driver breaks_data_not_ready breaks_column_outside breaks_cache_read_misplaced breaks_copyback_misplaced breaks_plane_not_held
-plain_judged g c byte wanted ends array id refuses = rw (wanted, id, ends, array, cached, planes_held, none) refl
+unfolding breaks_command_unknown breaks_sequence_open breaks_several_luns breaks_no_column_to_change breaks_command_misplaced breaks_address_misplaced breaks_row_outside breaks_lun_busy breaks_queue_clash breaks_input_misplaced breaks_no_sole_driver breaks_data_not_ready breaks_column_outside breaks_cache_read_misplaced breaks_cache_program_misplaced breaks_copyback_misplaced breaks_plane_not_held
+plain_judged g c byte wanted ends array id refuses = rw (wanted, id, ends, array, cached, programmed, planes_held, none) refl
   where
     cached : ends_row (excludes_cache (based g)) c.facts ≡ false
     cached = ends_none (excludes_cache (based g)) c.facts.opening ends
+
+    programmed : ends_row excludes_program c.facts ≡ false
+    programmed = ends_none excludes_program c.facts.opening ends
 
     planes_held : ends_row is_enhanced_column c.facts ≡ false
     planes_held = ends_none is_enhanced_column c.facts.opening ends
@@ -63,9 +66,13 @@ pub record RowThere (g : Parts) (a : Address) : Type 0 where
 abbrev pub column_rule : ℕ → ℕ → Option Forbidden
 column_rule len column = cond (nat_le len column) (Some ColumnOutside) None
 
+-- the rule of a LUN that programs behind a 15, which in the base profile none does
+abbrev pub late_rule : Command → LunView → Option Forbidden
+late_rule o view = cond (excludes_program o && programs view) (Some CacheProgramMisplaced) None
+
 abbrev pub row_rule : Parts → Command → Address → LunView → Option Forbidden
 row_rule g o a view =
-    cond view.busy (Some LunBusy) (cond (refused_by (based g) o (page_address g (row_of a.r1 a.r2 a.r3)) view.queue) (Some QueueClash) (cond (caching view) (Some CacheReadMisplaced) None))
+    cond view.busy (Some LunBusy) (cond (refused_by (based g) o (page_address g (row_of a.r1 a.r2 a.r3)) view.queue) (Some QueueClash) (cond (caching view) (Some CacheReadMisplaced) (late_rule o view)))
 
 -- the rule that the next address breaks, if any
 abbrev pub address_rule : Parts → Command → Address → LunView → ℕ → Option Forbidden
@@ -81,7 +88,7 @@ abbrev pub IsJudged : Parts → Command → Address → LunView → ℕ → Type
 IsJudged g o a view i = judged g (cursor o a view i) (AddressCycle (nth i (bytes_of o a))) ≡ address_rule g o a view i
 
 pub read_judged : (g : Parts) (a : Address) (view : LunView) (i : ℕ) → i ≤ 4 → (i ≡ 4 → RowThere g a) → IsJudged g Read a view i
-unfolding breaks_command_unknown breaks_sequence_open breaks_several_luns breaks_no_column_to_change breaks_command_misplaced breaks_address_misplaced breaks_row_outside breaks_lun_busy breaks_queue_clash breaks_input_misplaced breaks_no_sole_driver breaks_data_not_ready breaks_column_outside breaks_cache_read_misplaced breaks_copyback_misplaced breaks_plane_not_held
+unfolding breaks_command_unknown breaks_sequence_open breaks_several_luns breaks_no_column_to_change breaks_command_misplaced breaks_address_misplaced breaks_row_outside breaks_lun_busy breaks_queue_clash breaks_input_misplaced breaks_no_sole_driver breaks_data_not_ready breaks_column_outside breaks_cache_read_misplaced breaks_cache_program_misplaced breaks_copyback_misplaced breaks_plane_not_held
 read_judged g a view zero few row = plain_judged g (cursor Read a view 0) (nth 0 (bytes_of Read a)) refl refl refl refl (λ p q. refl)
 read_judged g a view (suc zero) few row = plain_judged g (cursor Read a view 1) (nth 1 (bytes_of Read a)) refl refl refl refl (λ p q. refl) ∙ ap (λ (b : Bool). cond b (Some ColumnOutside) None) (or-false (nat_le (page_len g) (carried a)))
 read_judged g a view (suc (suc zero)) few row = plain_judged g (cursor Read a view 2) (nth 2 (bytes_of Read a)) refl refl refl refl (λ p q. refl)
@@ -98,7 +105,7 @@ read_judged g a view (suc (suc (suc (suc zero)))) few row =
 read_judged g a view (suc (suc (suc (suc (suc i))))) few row = absurd (omega (arith, few))
 
 pub program_judged : (g : Parts) (a : Address) (view : LunView) (i : ℕ) → i ≤ 4 → (i ≡ 4 → RowThere g a) → IsJudged g PageProgram a view i
-unfolding breaks_command_unknown breaks_sequence_open breaks_several_luns breaks_no_column_to_change breaks_command_misplaced breaks_address_misplaced breaks_row_outside breaks_lun_busy breaks_queue_clash breaks_input_misplaced breaks_no_sole_driver breaks_data_not_ready breaks_column_outside breaks_cache_read_misplaced breaks_copyback_misplaced breaks_plane_not_held
+unfolding breaks_command_unknown breaks_sequence_open breaks_several_luns breaks_no_column_to_change breaks_command_misplaced breaks_address_misplaced breaks_row_outside breaks_lun_busy breaks_queue_clash breaks_input_misplaced breaks_no_sole_driver breaks_data_not_ready breaks_column_outside breaks_cache_read_misplaced breaks_cache_program_misplaced breaks_copyback_misplaced breaks_plane_not_held
 program_judged g a view zero few row = plain_judged g (cursor PageProgram a view 0) (nth 0 (bytes_of PageProgram a)) refl refl refl refl (λ p q. refl)
 program_judged g a view (suc zero) few row = plain_judged g (cursor PageProgram a view 1) (nth 1 (bytes_of PageProgram a)) refl refl refl refl (λ p q. refl) ∙ ap (λ (b : Bool). cond b (Some ColumnOutside) None) (or-false (nat_le (page_len g) (carried a)))
 program_judged g a view (suc (suc zero)) few row = plain_judged g (cursor PageProgram a view 2) (nth 2 (bytes_of PageProgram a)) refl refl refl refl (λ p q. refl)
@@ -115,7 +122,7 @@ program_judged g a view (suc (suc (suc (suc zero)))) few row =
 program_judged g a view (suc (suc (suc (suc (suc i))))) few row = absurd (omega (arith, few))
 
 pub erase_judged : (g : Parts) (a : Address) (view : LunView) (i : ℕ) → i ≤ 2 → (i ≡ 2 → RowThere g a) → IsJudged g BlockErase a view i
-unfolding breaks_command_unknown breaks_sequence_open breaks_several_luns breaks_no_column_to_change breaks_command_misplaced breaks_address_misplaced breaks_row_outside breaks_lun_busy breaks_queue_clash breaks_input_misplaced breaks_no_sole_driver breaks_data_not_ready breaks_column_outside breaks_cache_read_misplaced breaks_copyback_misplaced breaks_plane_not_held
+unfolding breaks_command_unknown breaks_sequence_open breaks_several_luns breaks_no_column_to_change breaks_command_misplaced breaks_address_misplaced breaks_row_outside breaks_lun_busy breaks_queue_clash breaks_input_misplaced breaks_no_sole_driver breaks_data_not_ready breaks_column_outside breaks_cache_read_misplaced breaks_cache_program_misplaced breaks_copyback_misplaced breaks_plane_not_held
 erase_judged g a view zero few row = plain_judged g (cursor BlockErase a view 0) (nth 0 (bytes_of BlockErase a)) refl refl refl refl (λ p q. refl)
 erase_judged g a view (suc zero) few row = plain_judged g (cursor BlockErase a view 1) (nth 1 (bytes_of BlockErase a)) refl refl refl refl (λ p q. refl)
 erase_judged g a view (suc (suc zero)) few row =
@@ -130,7 +137,7 @@ erase_judged g a view (suc (suc zero)) few row =
 erase_judged g a view (suc (suc (suc i))) few row = absurd (omega (arith, few))
 
 pub change_judged : (g : Parts) (a : Address) (view : LunView) (i : ℕ) → i ≤ 1 → is_off view.latch ≡ false → IsJudged g ChangeReadColumn a view i
-unfolding breaks_command_unknown breaks_sequence_open breaks_several_luns breaks_no_column_to_change breaks_command_misplaced breaks_address_misplaced breaks_row_outside breaks_lun_busy breaks_queue_clash breaks_input_misplaced breaks_no_sole_driver breaks_data_not_ready breaks_column_outside breaks_cache_read_misplaced breaks_copyback_misplaced breaks_plane_not_held
+unfolding breaks_command_unknown breaks_sequence_open breaks_several_luns breaks_no_column_to_change breaks_command_misplaced breaks_address_misplaced breaks_row_outside breaks_lun_busy breaks_queue_clash breaks_input_misplaced breaks_no_sole_driver breaks_data_not_ready breaks_column_outside breaks_cache_read_misplaced breaks_cache_program_misplaced breaks_copyback_misplaced breaks_plane_not_held
 change_judged g a view zero few shown = plain_judged g (cursor ChangeReadColumn a view 0) (nth 0 (bytes_of ChangeReadColumn a)) refl refl refl refl (λ p q. refl)
 change_judged g a view (suc zero) few shown = plain_judged g (cursor ChangeReadColumn a view 1) (nth 1 (bytes_of ChangeReadColumn a)) refl refl refl refl (λ p q. refl) ∙ ap (λ (b : Bool). cond b (Some ColumnOutside) None) (shown_alone view.latch shown)
   where

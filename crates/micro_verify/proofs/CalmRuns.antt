@@ -11,7 +11,7 @@ use Rattle.micro_word.specs.declared.word.Word.{Word}
 use Rattle.micro_program.specs.Program.{Job}
 use Rattle.micro_program.specs.Moves.{Move, Give, Take, moves, and_then, is_wait}
 use Rattle.micro_program.specs.Played.{Played, played, with_byte}
-use Rattle.micro_verify.specs.Lazy.{the_lun, Run, run_with, run_word, run_words, awaited, counter_in, counter_at}
+use Rattle.micro_verify.specs.Lazy.{the_lun, Run, run_with, run_word, run_words, awaited, counter_in, counter_at, no_failures}
 use Rattle.micro_verify.specs.Calm.{calm_word, calm_words}
 use Rattle.micro_verify.proofs.CountersThere.{legal_before, permitted_before, any_byte, same_played}
 
@@ -63,8 +63,8 @@ calm_step s j word r next h legal =
 
 -- 2. the words of a run
 
-tail_legal : (s : Channel) (b : Bool) (past : List Item) → is_legal s.geometry s.targets (cond b (Rdy 0 0 false ∷ past) past) ≡ true → is_legal s.geometry s.targets past ≡ true
-tail_legal s true past h = (and_parts (is_permitted s.geometry s.targets past (Rdy 0 0 false)) (is_legal s.geometry s.targets past) h).1
+tail_legal : (s : Channel) (b : Bool) (past : List Item) → is_legal s.geometry s.targets (cond b (Rdy 0 0 no_failures ∷ past) past) ≡ true → is_legal s.geometry s.targets past ≡ true
+tail_legal s true past h = (and_parts (is_permitted s.geometry s.targets past (Rdy 0 0 no_failures)) (is_legal s.geometry s.targets past) h).1
 tail_legal s false past h = h
 
 legal_step : (s : Channel) (j : Job) (word : Word) (r next : Run) → run_word s j word r ≡ Some next → is_legal s.geometry s.targets next.past ≡ true → is_legal s.geometry s.targets r.past ≡ true

@@ -5,7 +5,7 @@ use Rattle.nand_geometry.specs.declared.parts.Parts.{Parts}
 use Rattle.nand_geometry.specs.Optional.{is_wide}
 use Rattle.nand_geometry.specs.Limits.{indices}
 use Rattle.onfi_cycle.specs.declared.command.Command.{Command}
-use Rattle.onfi_cycle.specs.declared.command.Command.TheVariants.{ChangeWriteColumn, ProgramConfirm, ProgramPlane}
+use Rattle.onfi_cycle.specs.declared.command.Command.TheVariants.{ChangeWriteColumn, ProgramConfirm, ProgramPlane, ProgramCache}
 use Rattle.onfi_cycle.specs.LunView.{LunView}
 use Rattle.onfi_cycle.specs.Sequence.{facts_of, is_open, wants_command}
 use Rattle.onfi_cycle.specs.Lun.{lun_view, is_cache_read}
@@ -34,6 +34,7 @@ use Rattle.micro_verify.specs.Cause.{Cause, no_end, ends_unready, costs_too_much
 use Rattle.micro_claims.proofs.Tails.{no_address}
 use Rattle.micro_verify.proofs.Lone.{Lone, IsAlone, IsLone}
 use Rattle.micro_verify.proofs.Mirrors.{Mirrors, RegistersMirror, Shut, exact_test, open_same, queue_same}
+use Rattle.std.proofs.Math.Bool.{or-false}
 
 -- 1. the shape
 
@@ -138,6 +139,7 @@ empty_shut = record { closed = refl; address = λ b. refl; command = none }
     none ChangeWriteColumn = refl
     none ProgramConfirm = refl
     none ProgramPlane = refl
+    none ProgramCache = refl
     none _ = refl
 
 abbrev pub first_lone : Parts → Lone
@@ -150,7 +152,7 @@ first_mirrors g text pages =
       tail = record { place = _; single = refl; address = no_address; is = empty_shut; now = λ e. cc; column = λ e. cc; row = λ e. cc; named = λ e. cc; base = refl; changes = λ e. cc };
       shows = refl;
       along = λ e. cc;
-      lun = record { busy = refl; register = refl; known = refl; column = λ e. cc; no_column = λ e. refl; last = refl; queue = refl; caching = refl; other = refl; read = λ e. cc; cached_page = λ e. cc; cached_index = λ e. cc; held = λ e. cc };
+      lun = record { busy = refl; register = refl; known = refl; column = λ e. cc; no_column = λ e. refl; last = refl; queue = refl; caching = refl; other = refl; read = λ e. cc; cached_page = λ e. cc; cached_index = λ e. cc; held = λ e. cc; programming = refl; no_program = refl };
     }
   where
     zero_is : 0 % g.pages ≡ 0
@@ -215,7 +217,7 @@ end_exact s text v r c code is m =
     g = s.geometry
 
     unready : may_be_unready v ≡ ends_unready g r (End code)
-    unready = λ i. (m.lun.busy ∙ sym (ap (λ (w : LunView). w.busy) is.view)) i || (open_same g (lone_job g text) v r.done c m ∙ sym (ap is_open is.facts)) i || (queue_same g _ v.lun.queue c.view.queue m.lun.queue ∙ sym (ap (λ (w : LunView). has_some w.queue) is.view)) i || (m.lun.caching ∙ sym (ap (λ (w : LunView). is_cache_read w.closer) is.view)) i
+    unready = (λ i. (m.lun.busy ∙ sym (ap (λ (w : LunView). w.busy) is.view)) i || (open_same g (lone_job g text) v r.done c m ∙ sym (ap is_open is.facts)) i || (queue_same g _ v.lun.queue c.view.queue m.lun.queue ∙ sym (ap (λ (w : LunView). has_some w.queue) is.view)) i || (m.lun.caching ∙ sym (ap (λ (w : LunView). is_cache_read w.closer) is.view)) i || m.lun.programming i) ∙ or-false (ends_unready g r (End code))
 
     by : (reason : Reason) → reason_holds g text v (End code) reason ≡ true → Cause s (lone_job g text) r (End code) reason
     by EndsTooSoon h = sym unready ∙ h

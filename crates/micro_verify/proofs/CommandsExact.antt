@@ -5,12 +5,12 @@ use Rattle.std.proofs.Math.Nat.{div-add-mod, mul-add-div_right}
 use Rattle.std.proofs.Common.{◌≡◌, ℕ, zero, suc, ◌+◌, ◌-◌, ◌*◌, ◌/◌, ◌%◌, ◌≤◌, ◌<◌, ◌==◌, Bool, true, false, ◌&&◌, ◌||◌, cond, not, ltb, nat_le, List, [], ◌∷◌, Option, Some, None, refl, sym, ap, ◌∙◌, subst, arith, eqb-true, take}
 use Rattle.std.proofs.lemmas.Bool.{not-true, and_parts, or_parts}
 use Rattle.nand_geometry.specs.declared.parts.Parts.{Parts}
-use Rattle.nand_geometry.specs.Optional.{is_wide, has_features, has_unique_id, has_enhanced_column, has_lun_reset, has_plane_reads, has_copyback, has_synchronous_reset, has_all}
+use Rattle.nand_geometry.specs.Optional.{is_wide, has_features, has_unique_id, has_enhanced_column, has_lun_reset, has_plane_reads, has_copyback, has_program_cache, has_synchronous_reset, has_all}
 use Rattle.nand_geometry.specs.declared.row_parts.RowParts.{RowParts}
 use Rattle.nand_geometry.specs.Limits.{planes}
 use Rattle.nand_geometry.specs.Row.{parts_of, row_of}
 use Rattle.onfi_cycle.specs.declared.command.Command.{Command}
-use Rattle.onfi_cycle.specs.declared.command.Command.TheVariants.{Read, ReadConfirm, ReadPlane, ChangeReadColumn, ChangeReadColumnEnhanced, ChangeReadColumnConfirm, BlockErase, BlockEraseConfirm, BlockErasePlane, ReadStatus as StatusCommand, ReadStatusEnhanced, PageProgram, ChangeWriteColumn, ProgramConfirm, ProgramPlane, ReadId, ReadParameterPage, Reset, ReadCacheSequential, ReadCacheEnd, Unknown as UnknownCommand, ReadUniqueId, GetFeatures, SetFeatures, ResetLun, SynchronousReset, CopybackRead}
+use Rattle.onfi_cycle.specs.declared.command.Command.TheVariants.{Read, ReadConfirm, ReadPlane, ChangeReadColumn, ChangeReadColumnEnhanced, ChangeReadColumnConfirm, BlockErase, BlockEraseConfirm, BlockErasePlane, ReadStatus as StatusCommand, ReadStatusEnhanced, PageProgram, ChangeWriteColumn, ProgramConfirm, ProgramPlane, ReadId, ReadParameterPage, Reset, ReadCacheSequential, ReadCacheEnd, Unknown as UnknownCommand, ReadUniqueId, GetFeatures, SetFeatures, ResetLun, SynchronousReset, CopybackRead, ProgramCache}
 use Rattle.onfi_cycle.specs.declared.data_phase.DataPhase.TheVariants.{Outside, Inputs}
 use Rattle.onfi_cycle.specs.declared.effect.Effect.{Effect}
 use Rattle.onfi_cycle.specs.declared.effect.Effect.TheVariants.{EraseStarted, ProgramStarted, ReadStarted, ReadColumnChanged, CacheReadContinued, CacheReadEnded, Unaffected}
@@ -73,6 +73,7 @@ use Rattle.micro_verify.proofs.Mirrors.{Mirrors, RegistersMirror, TailMirror, Lu
 use Rattle.micro_verify.proofs.Told.{told_command, barred, wants_by, closes_none, selects_none}
 use Rattle.micro_verify.proofs.Causes.{Goes, ExactWord, IsFit, reason_holds, reason_is, cost_cause, lowest_row_or_plane_outside}
 use Rattle.micro_verify.proofs.WordsExact.{goes_by, registers_exact, shut_tail, told_breaks, told_none}
+use Rattle.micro_claims.proofs.Programs.{queued_programs}
 
 -- 1. causes
 
@@ -244,7 +245,7 @@ goes_00 s text v r c byte k is_d is m clear =
     command_goes s text v r c byte Read k is_d refl is m clear refl
     (record { place = After Read 0; single = refl; address = no_address; is = record { place = refl; facts = refl }; now = λ e. cc; column = λ e. cc; row = λ e. cc; named = λ e. cc; base = refl; changes = λ e. cc })
     (ap resumed_shows m.shows ∙ resumed_exact c.view.latch)
-    (record { busy = m.lun.busy; register = m.lun.register; known = m.lun.known; column = m.lun.column; no_column = m.lun.no_column; last = m.lun.last; queue = m.lun.queue; caching = m.lun.caching; other = m.lun.other; read = m.lun.read; cached_page = m.lun.cached_page; cached_index = m.lun.cached_index; held = m.lun.held })
+    (record { busy = m.lun.busy; register = m.lun.register; known = m.lun.known; column = m.lun.column; no_column = m.lun.no_column; last = m.lun.last; queue = m.lun.queue; caching = m.lun.caching; other = m.lun.other; read = m.lun.read; cached_page = m.lun.cached_page; cached_index = m.lun.cached_index; held = m.lun.held; programming = m.lun.programming; no_program = m.lun.no_program })
     (λ e. cc)
 
 -- 4. closers
@@ -339,7 +340,7 @@ goes_d0 s text v r c byte k is_d is m clear =
     (shut_tail g j (command_leaves g v BlockEraseConfirm) r.done (lone_behind g (CommandCycle BlockEraseConfirm) c) refl (shut_facts (facts_after (CommandCycle BlockEraseConfirm) c.facts) (rw begun refl) (rw begun refl)))
     (m.shows ∙ ap (λ (e : Effect). shows_of (view_after e c.view).latch) (sym effect))
     (subst (λ (e : Effect). LunMirror g (command_leaves g v BlockEraseConfirm).lun (index_now 0 r.done) (view_after e c.view)) (sym effect)
-    (record { busy = refl; register = refl; known = refl; column = λ e. cc; no_column = λ e. refl; last = refl; queue = refl; caching = refl; other = refl; read = λ e. cc; cached_page = λ e. cc; cached_index = λ e. cc; held = λ e. cc }))
+    (record { busy = refl; register = refl; known = refl; column = λ e. cc; no_column = λ e. refl; last = refl; queue = refl; caching = refl; other = refl; read = λ e. cc; cached_page = λ e. cc; cached_index = λ e. cc; held = λ e. cc; programming = refl; no_program = refl }))
     (λ e. cc)
 
 -- 10h
@@ -356,7 +357,7 @@ goes_10 s text v r c byte k is_d is m clear =
     (shut_tail g j (command_leaves g v ProgramConfirm) r.done (lone_behind g (CommandCycle ProgramConfirm) c) refl (shut_facts (facts_after (CommandCycle ProgramConfirm) c.facts) (rw begun refl) (rw begun refl)))
     (m.shows ∙ ap (λ (e : Effect). shows_of (view_after e c.view).latch) (sym effect))
     (subst (λ (e : Effect). LunMirror g (command_leaves g v ProgramConfirm).lun (index_now 0 r.done) (view_after e c.view)) (sym effect)
-    (record { busy = refl; register = refl; known = refl; column = λ e. cc; no_column = λ e. refl; last = refl; queue = refl; caching = refl; other = refl; read = λ e. cc; cached_page = λ e. cc; cached_index = λ e. cc; held = λ e. cc }))
+    (record { busy = refl; register = refl; known = refl; column = λ e. cc; no_column = λ e. refl; last = refl; queue = refl; caching = refl; other = refl; read = λ e. cc; cached_page = λ e. cc; cached_index = λ e. cc; held = λ e. cc; programming = refl; no_program = refl }))
     (λ e. cc)
 
 -- FFh
@@ -367,7 +368,7 @@ goes_ff s text v r c byte k is_d is m clear =
     command_goes s text v r c byte Reset k is_d refl is m clear refl
     (record { place = Closed; single = refl; address = no_address; is = reset_shut; now = λ e. cc; column = λ e. cc; row = λ e. cc; named = λ e. cc; base = refl; changes = λ e. cc })
     refl
-    (record { busy = refl; register = refl; known = refl; column = λ e. cc; no_column = λ e. refl; last = refl; queue = refl; caching = refl; other = refl; read = λ e. cc; cached_page = λ e. cc; cached_index = λ e. cc; held = λ e. cc })
+    (record { busy = refl; register = refl; known = refl; column = λ e. cc; no_column = λ e. refl; last = refl; queue = refl; caching = refl; other = refl; read = λ e. cc; cached_page = λ e. cc; cached_index = λ e. cc; held = λ e. cc; programming = refl; no_program = refl })
     (λ e. cc)
   where
     reset_shut : Shut (facts_after (CommandCycle Reset) c.facts)
@@ -377,6 +378,7 @@ goes_ff s text v r c byte k is_d is m clear =
         none ChangeWriteColumn = refl
         none ProgramConfirm = refl
         none ProgramPlane = refl
+        none ProgramCache = refl
         none _ = refl
 
 -- 85h
@@ -469,6 +471,8 @@ goes_e0 s text v r c byte k is_d is m clear =
       cached_page = m.lun.cached_page;
       cached_index = m.lun.cached_index;
       held = m.lun.held;
+      programming = m.lun.programming;
+      no_program = m.lun.no_program;
     })))
     (λ e. let none : place_queues (command_leaves g v ChangeReadColumnConfirm).target.tail ≡ false = ap (λ (x : State). place_queues x.target.tail) leaves in let both : true ≡ false = sym e ∙ none in cc)
 
@@ -567,6 +571,8 @@ goes_30 s text v r c byte k is_d is m clear =
       cached_page = λ e. cached_page_is g w.address (index_now 0 r.done) v.target.named some k.pages (w.named refl) ∙ ap kept (sym page.0);
       cached_index = λ e. cached_index_is g w.address (index_now 0 r.done) v.target.named (w.named refl) ∙ ap kept (sym (index_is g (page_address g (row c.facts)) w.address.index w.address.plane (w.row refl).low page.0 page.1));
       held = λ e. one_page (page_address g (row c.facts)) c.view.queue none;
+      programming = refl;
+      no_program = refl;
     }))
     (λ e. cc)
 
@@ -650,6 +656,8 @@ goes_d1 s text v r c byte k is_d is m clear =
       cached_page = λ e. cc;
       cached_index = λ e. cc;
       held = λ e. cc;
+      programming = refl;
+      no_program = refl;
     }))
     (λ e. cc)
 
@@ -684,6 +692,8 @@ goes_11 s text v r c byte k is_d is m clear =
       cached_page = λ e. cc;
       cached_index = λ e. cc;
       held = λ e. cc;
+      programming = m.lun.programming;
+      no_program = queued_programs c.view (page_address g (row c.facts)) m.lun.no_program;
     }))
     (λ e. cc)
 
@@ -701,6 +711,7 @@ cache_shut t e = subst (λ (x : TailFacts). Shut x) (sym e) (shut_opener ReadCac
     none ChangeWriteColumn = refl
     none ProgramConfirm = refl
     none ProgramPlane = refl
+    none ProgramCache = refl
     none _ = refl
 
     shut_opener : (o : Command) → ((d : Command) → wants_command (opener_facts ReadCacheSequential) d ≡ false) → Shut (opener_facts ReadCacheSequential)
@@ -713,6 +724,7 @@ end_shut = record { closed = refl; address = λ b. refl; command = none }
     none ChangeWriteColumn = refl
     none ProgramConfirm = refl
     none ProgramPlane = refl
+    none ProgramCache = refl
     none _ = refl
 
 -- in the base profile a 31h that goes is wanted by no tail
@@ -762,6 +774,8 @@ goes_31 s text v r c byte k is_d is m clear =
       cached_page = λ e. ap (λ (o : Option ℕ). bound_plus o 1) (m.lun.cached_page two.1) ∙ kept_plus c.view.array_page.page 1;
       cached_index = λ e. ap (λ (o : Option ℕ). bound_plus o 1) (m.lun.cached_index two.1) ∙ (kept_plus (index_of g c.view.array_page) 1 ∙ ap kept (next_index (c.view.array_page.block / planes g * g.pages) c.view.array_page.page));
       held = λ e. refl;
+      programming = refl;
+      no_program = refl;
     })))
     (λ e. absurd (queues_none e))
   where
@@ -790,7 +804,7 @@ goes_3f s text v r c byte k is_d is m clear =
     (shut_tail g j (command_leaves g v ReadCacheEnd) r.done (lone_behind g (CommandCycle ReadCacheEnd) c) refl end_shut)
     (ap (λ (e : Effect). shows_of (view_after e c.view).latch) (sym effect))
     (subst (λ (e : Effect). LunMirror g (command_leaves g v ReadCacheEnd).lun (index_now 0 r.done) (view_after e c.view)) (sym effect)
-    (record { busy = refl; register = refl; known = refl; column = λ e. record { at = 0; is = refl; bound = refl; read = refl }; no_column = λ e. cc; last = refl; queue = m.lun.queue; caching = refl; other = refl; read = λ e. cc; cached_page = λ e. cc; cached_index = λ e. cc; held = λ e. cc }))
+    (record { busy = refl; register = refl; known = refl; column = λ e. record { at = 0; is = refl; bound = refl; read = refl }; no_column = λ e. cc; last = refl; queue = m.lun.queue; caching = refl; other = refl; read = λ e. cc; cached_page = λ e. cc; cached_index = λ e. cc; held = λ e. cc; programming = refl; no_program = refl }))
     (λ e. cc)
 
 -- 7. each command
@@ -823,6 +837,7 @@ command_exact s text v r c byte k seen is m =
     by ChangeWriteColumn is_d clear = goes_85 s text v r c byte k is_d is m clear
     by ProgramConfirm is_d clear = goes_10 s text v r c byte k is_d is m clear
     by ProgramPlane is_d clear = goes_11 s text v r c byte k is_d is m clear
+    by ProgramCache is_d clear = absurd (barred (is_wide s.geometry.optional) (not (has_program_cache s.geometry.optional)) k.base (declared s.geometry text v byte ProgramCache is_d clear).fit)
     by ReadId is_d clear = goes_90 s text v r c byte k is_d is m clear
     by ReadParameterPage is_d clear = goes_ec s text v r c byte k is_d is m clear
     by Reset is_d clear = goes_ff s text v r c byte k is_d is m clear

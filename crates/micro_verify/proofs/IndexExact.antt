@@ -139,6 +139,8 @@ lun_moved g l old new move view moves m =
       cached_page = m.cached_page;
       cached_index = m.cached_index;
       held = m.held;
+      programming = m.programming;
+      no_program = m.no_program;
     }
 
 -- a row that goes along with the queue goes on doing so

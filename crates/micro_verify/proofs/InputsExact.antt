@@ -13,7 +13,7 @@ use Rattle.onfi_cycle.specs.declared.target_cycle.TargetCycle.TheVariants.{Input
 use Rattle.onfi_cycle.specs.LunView.{LunView}
 use Rattle.onfi_cycle.specs.Command.{closes, address_cycles, is_opener, takes_address}
 use Rattle.onfi_cycle.specs.Sequence.{facts_after, is_proper_beginning, takes_inputs, wants_column, opened, input_column}
-use Rattle.onfi_cycle.specs.Rules.{breaks_command_unknown, breaks_sequence_open, breaks_several_luns, breaks_no_column_to_change, breaks_command_misplaced, breaks_address_misplaced, breaks_row_outside, breaks_lun_busy, breaks_queue_clash, breaks_input_misplaced, breaks_no_sole_driver, breaks_data_not_ready, breaks_column_outside, breaks_cache_read_misplaced, breaks_copyback_misplaced, breaks_plane_not_held}
+use Rattle.onfi_cycle.specs.Rules.{breaks_command_unknown, breaks_sequence_open, breaks_several_luns, breaks_no_column_to_change, breaks_command_misplaced, breaks_address_misplaced, breaks_row_outside, breaks_lun_busy, breaks_queue_clash, breaks_input_misplaced, breaks_no_sole_driver, breaks_data_not_ready, breaks_column_outside, breaks_cache_read_misplaced, breaks_cache_program_misplaced, breaks_copyback_misplaced, breaks_plane_not_held}
 use Rattle.onfi_cycle.specs.Channel.{Channel}
 use Rattle.micro_word.specs.declared.word.Word.TheVariants.{Put}
 use Rattle.micro_word.specs.Text.{Microprogram}
@@ -45,11 +45,11 @@ use Rattle.micro_verify.proofs.WordsExact.{goes_by, registers_moved}
 -- 1. what an input is judged
 
 astray : (g : Parts) (c : Lone) (byte : ℕ) → takes_inputs c.facts.phase ≡ false → judged g c (InputCycle byte) ≡ Some InputMisplaced
-unfolding breaks_command_unknown breaks_sequence_open breaks_several_luns breaks_no_column_to_change breaks_command_misplaced breaks_address_misplaced breaks_row_outside breaks_lun_busy breaks_queue_clash breaks_input_misplaced breaks_no_sole_driver breaks_data_not_ready breaks_column_outside breaks_cache_read_misplaced breaks_copyback_misplaced breaks_plane_not_held
+unfolding breaks_command_unknown breaks_sequence_open breaks_several_luns breaks_no_column_to_change breaks_command_misplaced breaks_address_misplaced breaks_row_outside breaks_lun_busy breaks_queue_clash breaks_input_misplaced breaks_no_sole_driver breaks_data_not_ready breaks_column_outside breaks_cache_read_misplaced breaks_cache_program_misplaced breaks_copyback_misplaced breaks_plane_not_held
 astray g c byte h = rw h refl
 
 in_place : (g : Parts) (c : Lone) (byte : ℕ) → c.facts.phase ≡ Inputs → judged g c (InputCycle byte) ≡ cond (nat_le (page_len g) (input_column c.facts)) (Some ColumnOutside) None
-unfolding breaks_command_unknown breaks_sequence_open breaks_several_luns breaks_no_column_to_change breaks_command_misplaced breaks_address_misplaced breaks_row_outside breaks_lun_busy breaks_queue_clash breaks_input_misplaced breaks_no_sole_driver breaks_data_not_ready breaks_column_outside breaks_cache_read_misplaced breaks_copyback_misplaced breaks_plane_not_held
+unfolding breaks_command_unknown breaks_sequence_open breaks_several_luns breaks_no_column_to_change breaks_command_misplaced breaks_address_misplaced breaks_row_outside breaks_lun_busy breaks_queue_clash breaks_input_misplaced breaks_no_sole_driver breaks_data_not_ready breaks_column_outside breaks_cache_read_misplaced breaks_cache_program_misplaced breaks_copyback_misplaced breaks_plane_not_held
 in_place g c byte h = rw h refl
 
 -- inputs are taken where the claim is in data

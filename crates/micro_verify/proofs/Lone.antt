@@ -6,7 +6,7 @@ use Rattle.nand_geometry.specs.declared.parts.Parts.{Parts}
 use Rattle.nand_geometry.specs.Optional.{is_wide, no_optional}
 use Rattle.nand_geometry.specs.Row.{parts_of}
 use Rattle.onfi_cycle.specs.declared.command.Command.{Command}
-use Rattle.onfi_cycle.specs.declared.command.Command.TheVariants.{Read, ReadConfirm, ReadStatus, ReadStatusEnhanced, Reset, SynchronousReset, ReadCacheSequential, ReadCacheEnd, ChangeReadColumnConfirm, BlockEraseConfirm, BlockErasePlane, ProgramConfirm, ProgramPlane, ReadId, ReadParameterPage, ReadUniqueId, GetFeatures, ResetLun, ChangeReadColumnEnhanced, BlockErase, PageProgram, ChangeWriteColumn, ReadPlane, CopybackRead}
+use Rattle.onfi_cycle.specs.declared.command.Command.TheVariants.{Read, ReadConfirm, ReadStatus, ReadStatusEnhanced, Reset, SynchronousReset, ReadCacheSequential, ReadCacheEnd, ChangeReadColumnConfirm, BlockEraseConfirm, BlockErasePlane, ProgramConfirm, ProgramPlane, ReadId, ReadParameterPage, ReadUniqueId, GetFeatures, ResetLun, ChangeReadColumnEnhanced, BlockErase, PageProgram, ChangeWriteColumn, ReadPlane, CopybackRead, ProgramCache}
 use Rattle.onfi_cycle.specs.declared.forbidden.Forbidden.{Forbidden}
 use Rattle.onfi_cycle.specs.declared.forbidden.Forbidden.TheVariants.{CommandUnknown, NoSoleDriver}
 use Rattle.onfi_cycle.specs.declared.item.Item.{Item}
@@ -26,14 +26,14 @@ use Rattle.onfi_cycle.specs.LunView.{LunView}
 use Rattle.onfi_cycle.specs.Sequence.{target_cycle, tail, facts_of, facts_after, is_open, opened, row_with}
 use Rattle.std.specs.List.{list_any, slice_get}
 use Rattle.onfi_cycle.specs.Effect.{page_address, cycle_effect, command_effect, address_effect, opening_address_effect}
-use Rattle.onfi_cycle.specs.Lun.{latch, latch_alone, alone, drivers_from, drivers, is_only, lun_view, luns_of, views_from, view_after, effect_on, is_cache_read}
+use Rattle.onfi_cycle.specs.Lun.{latch, latch_alone, alone, drivers_from, drivers, is_only, lun_view, luns_of, views_from, view_after, effect_on, is_cache_read, leaves_array_busy}
 use Rattle.onfi_cycle.specs.Command.{at_last_row}
-use Rattle.onfi_cycle.specs.Rules.{ends_row, excludes_cache, planes_clash, queued_clashes, read_clashes, refused_by, is_refused_by, breaks_not_there, breaks_command_unknown, breaks_sequence_open, breaks_several_luns, breaks_no_column_to_change, breaks_command_misplaced, breaks_address_misplaced, breaks_row_outside, breaks_lun_busy, breaks_queue_clash, breaks_input_misplaced, breaks_no_sole_driver, breaks_data_not_ready, breaks_column_outside, breaks_cache_read_misplaced, breaks_copyback_misplaced, breaks_plane_not_held}
+use Rattle.onfi_cycle.specs.Rules.{ends_row, excludes_cache, planes_clash, queued_clashes, read_clashes, refused_by, is_refused_by, breaks_not_there, breaks_command_unknown, breaks_sequence_open, breaks_several_luns, breaks_no_column_to_change, breaks_command_misplaced, breaks_address_misplaced, breaks_row_outside, breaks_lun_busy, breaks_queue_clash, breaks_input_misplaced, breaks_no_sole_driver, breaks_data_not_ready, breaks_column_outside, breaks_cache_read_misplaced, breaks_cache_program_misplaced, breaks_copyback_misplaced, breaks_plane_not_held}
 use Rattle.onfi_cycle.specs.Permitted.{broken, judge_cycle, judge_known_cycle, is_legal}
 use Rattle.onfi_cycle.specs.Channel.{Channel, IsChannel, cycle}
 use Rattle.micro_program.specs.Moves.{Move, Give, Take, and_then}
 use Rattle.micro_program.specs.Played.{Played, played, with_byte}
-use Rattle.micro_verify.specs.Lazy.{the_lun, item_of}
+use Rattle.micro_verify.specs.Lazy.{the_lun, item_of, no_failures}
 use Rattle.micro_verify.specs.Cause.{Stops}
 use Rattle.micro_program.proofs.Below.{facts, readies, outputs}
 use Rattle.micro_program.proofs.Calm.{own_effect}
@@ -107,7 +107,7 @@ refused_same g base (Some o) p queue = ap (λ (b : Bool). at_last_row o.opener o
 
 -- and nothing else is asked
 known_same : (g : Parts) (t : TailFacts) (vs : List LunView) (d : TargetCycle) → is_wide g.optional ≡ false → judge_known_cycle g t vs d ≡ judge_known_cycle (based g) t vs d
-unfolding breaks_sequence_open breaks_several_luns breaks_no_column_to_change breaks_command_misplaced breaks_address_misplaced breaks_row_outside breaks_lun_busy breaks_queue_clash breaks_input_misplaced breaks_no_sole_driver breaks_data_not_ready breaks_column_outside breaks_cache_read_misplaced breaks_copyback_misplaced breaks_plane_not_held
+unfolding breaks_sequence_open breaks_several_luns breaks_no_column_to_change breaks_command_misplaced breaks_address_misplaced breaks_row_outside breaks_lun_busy breaks_queue_clash breaks_input_misplaced breaks_no_sole_driver breaks_data_not_ready breaks_column_outside breaks_cache_read_misplaced breaks_cache_program_misplaced breaks_copyback_misplaced breaks_plane_not_held
 known_same g t vs (CommandCycle ReadConfirm) base = rw base refl
 known_same g t vs (CommandCycle ReadCacheSequential) base = rw base refl
 known_same g t vs (CommandCycle ReadCacheEnd) base = rw base refl
@@ -139,6 +139,7 @@ command_same g t la ProgramConfirm lun base = rw base refl
 command_same g t la ProgramPlane lun base = rw base refl
 command_same g t la ReadPlane lun base = rw base refl
 command_same g t la CopybackRead lun base = rw base refl
+command_same g t la ProgramCache lun base = rw base refl
 command_same g t la c lun base = refl
 
 address_same : (g : Parts) (t : TailFacts) (byte : ℕ) (c : Command) (n lun : ℕ) → is_wide g.optional ≡ false → address_effect g t byte c n lun ≡ address_effect (based g) t byte c n lun
@@ -261,15 +262,15 @@ stops_there s first next rest past c sort k is pass rule breaks sorted =
 
 -- 3. the ready before a wait
 
-may_come : (s : Channel) (past : List Item) (c : Lone) → IsAlone s → IsLone s past c → c.view.busy ≡ true → broken s.geometry s.targets past (Rdy 0 0 false) ≡ None
+may_come : (s : Channel) (past : List Item) (c : Lone) → IsAlone s → IsLone s past c → c.view.busy ≡ true → broken s.geometry s.targets past (Rdy 0 0 no_failures) ≡ None
 unfolding breaks_not_there
 may_come s past c k is busy = rw (k.target, luns_are s past c k is, busy) refl
 
-pub ready_next : (s : Channel) (past : List Item) (c : Lone) → IsAlone s → IsLone s past c → c.view.busy ≡ true → IsLone s (Rdy 0 0 false ∷ past) (record { facts = c.facts; view = record c.view { busy = false; array_busy = c.view.array_busy || (true && is_cache_read c.view.closer) } })
+pub ready_next : (s : Channel) (past : List Item) (c : Lone) → IsAlone s → IsLone s past c → c.view.busy ≡ true → IsLone s (Rdy 0 0 no_failures ∷ past) (record { facts = c.facts; view = record c.view { busy = false; array_busy = c.view.array_busy || (c.view.busy && leaves_array_busy c.view.closer) } })
 ready_next s past c k is busy =
-    let permitted : broken s.geometry s.targets past (Rdy 0 0 false) ≡ None = may_come s past c k is busy in
+    let permitted : broken s.geometry s.targets past (Rdy 0 0 no_failures) ≡ None = may_come s past c k is busy in
     record {
-      legal = facts.legal s.geometry s.targets past (Rdy 0 0 false) is.legal permitted;
+      legal = facts.legal s.geometry s.targets past (Rdy 0 0 no_failures) is.legal permitted;
       facts = is.facts;
-      view = readies.own s.geometry past the_lun false ∙ (ap (λ (v : LunView). record v { busy = false; array_busy = v.array_busy || (v.busy && is_cache_read v.closer) }) is.view ∙ rw busy refl);
+      view = readies.own s.geometry past the_lun no_failures ∙ ap (λ (v : LunView). record v { busy = false; array_busy = v.array_busy || (v.busy && leaves_array_busy v.closer) }) is.view;
     }

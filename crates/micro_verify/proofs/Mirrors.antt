@@ -19,7 +19,7 @@ use Rattle.onfi_cycle.specs.declared.tail_facts.TailFacts.{TailFacts}
 use Rattle.onfi_cycle.specs.LunView.{LunView}
 use Rattle.onfi_cycle.specs.Base.{is_of_base}
 use Rattle.onfi_cycle.specs.Sequence.{is_open, is_proper_beginning, wants_address, wants_command, takes_inputs, opened, wants_column, input_column}
-use Rattle.onfi_cycle.specs.Lun.{output_column, is_cache_read, is_page_read}
+use Rattle.onfi_cycle.specs.Lun.{output_column, is_cache_read, is_page_read, programs}
 use Rattle.onfi_cycle.specs.Rules.{has_some, may_change_column}
 use Rattle.micro_program.specs.Program.{Job, Done, column_now, plane_now, index_now, place_now, cost_now}
 use Rattle.micro_claims.specs.Spans.{Span}
@@ -235,6 +235,8 @@ pub record LunMirror (g : Parts) (v : KnownLun) (now : ℕ) (view : LunView) : T
   pub cached_page : may_be_other v.last ≡ false → v.cached.page.hi ≡ kept view.array_page.page
   pub cached_index : may_be_other v.last ≡ false → v.cached.index.hi ≡ kept (index_of g view.array_page)
   pub held : may_be_other v.last ≡ false → nat_le (length view.held) 1 ≡ true
+  pub programming : v.programming ≡ false
+  pub no_program : programs view ≡ false
 
 -- a row that is to be queued goes along with the queue
 abbrev pub place_erases : Place → Bool

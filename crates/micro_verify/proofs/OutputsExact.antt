@@ -15,7 +15,7 @@ use Rattle.onfi_cycle.specs.declared.target_cycle.TargetCycle.TheVariants.{Addre
 use Rattle.onfi_cycle.specs.LunView.{LunView}
 use Rattle.onfi_cycle.specs.Sequence.{facts_after, extended_facts, is_open}
 use Rattle.onfi_cycle.specs.Lun.{output_column, option_plus}
-use Rattle.onfi_cycle.specs.Rules.{register_len, is_empty, lacks, breaks_command_unknown, breaks_sequence_open, breaks_several_luns, breaks_no_column_to_change, breaks_command_misplaced, breaks_address_misplaced, breaks_row_outside, breaks_lun_busy, breaks_queue_clash, breaks_input_misplaced, breaks_no_sole_driver, breaks_data_not_ready, breaks_column_outside, breaks_cache_read_misplaced, breaks_copyback_misplaced, breaks_plane_not_held}
+use Rattle.onfi_cycle.specs.Rules.{register_len, is_empty, lacks, breaks_command_unknown, breaks_sequence_open, breaks_several_luns, breaks_no_column_to_change, breaks_command_misplaced, breaks_address_misplaced, breaks_row_outside, breaks_lun_busy, breaks_queue_clash, breaks_input_misplaced, breaks_no_sole_driver, breaks_data_not_ready, breaks_column_outside, breaks_cache_read_misplaced, breaks_cache_program_misplaced, breaks_copyback_misplaced, breaks_plane_not_held}
 use Rattle.onfi_cycle.specs.Channel.{Channel}
 use Rattle.micro_word.specs.declared.word.Word.TheVariants.{Get}
 use Rattle.micro_word.specs.Text.{Microprogram}
@@ -55,7 +55,7 @@ abbrev pub OutputStops : Parts → Lone → Type 0
 OutputStops g c = (rule : Forbidden) × ((judged g c OutputCycle ≡ Some rule) × (is_of_cycle_forbidden rule ≡ true))
 
 unseen_stops : (g : Parts) (c : Lone) → is_unseen c ≡ true → OutputStops g c
-unfolding breaks_command_unknown breaks_sequence_open breaks_several_luns breaks_no_column_to_change breaks_command_misplaced breaks_address_misplaced breaks_row_outside breaks_lun_busy breaks_queue_clash breaks_input_misplaced breaks_no_sole_driver breaks_data_not_ready breaks_column_outside breaks_cache_read_misplaced breaks_copyback_misplaced breaks_plane_not_held
+unfolding breaks_command_unknown breaks_sequence_open breaks_several_luns breaks_no_column_to_change breaks_command_misplaced breaks_address_misplaced breaks_row_outside breaks_lun_busy breaks_queue_clash breaks_input_misplaced breaks_no_sole_driver breaks_data_not_ready breaks_column_outside breaks_cache_read_misplaced breaks_cache_program_misplaced breaks_copyback_misplaced breaks_plane_not_held
 unseen_stops g c h = at (is_open c.facts) refl c.view.latch refl (c.view.busy || is_empty c.view.register || lacks (output_column c.view.column)) refl
   where
     at : (o : Bool) → is_open c.facts ≡ o → (x : Latch) → c.view.latch ≡ x → (b : Bool) → (c.view.busy || is_empty c.view.register || lacks (output_column c.view.column)) ≡ b → OutputStops g c
@@ -79,11 +79,11 @@ record ShowsData (c : Lone) (at : ℕ) : Type 0 where
   column : output_column c.view.column ≡ Some at
 
 status_judged : (g : Parts) (c : Lone) → ShowsStatus c → judged g c OutputCycle ≡ None
-unfolding breaks_command_unknown breaks_sequence_open breaks_several_luns breaks_no_column_to_change breaks_command_misplaced breaks_address_misplaced breaks_row_outside breaks_lun_busy breaks_queue_clash breaks_input_misplaced breaks_no_sole_driver breaks_data_not_ready breaks_column_outside breaks_cache_read_misplaced breaks_copyback_misplaced breaks_plane_not_held
+unfolding breaks_command_unknown breaks_sequence_open breaks_several_luns breaks_no_column_to_change breaks_command_misplaced breaks_address_misplaced breaks_row_outside breaks_lun_busy breaks_queue_clash breaks_input_misplaced breaks_no_sole_driver breaks_data_not_ready breaks_column_outside breaks_cache_read_misplaced breaks_cache_program_misplaced breaks_copyback_misplaced breaks_plane_not_held
 status_judged g c k = rw (k.closed, k.latch) refl
 
 data_judged : (g : Parts) (c : Lone) (at : ℕ) → ShowsData c at → judged g c OutputCycle ≡ cond (nat_le (register_len g c.view.register) at) (Some ColumnOutside) None
-unfolding breaks_command_unknown breaks_sequence_open breaks_several_luns breaks_no_column_to_change breaks_command_misplaced breaks_address_misplaced breaks_row_outside breaks_lun_busy breaks_queue_clash breaks_input_misplaced breaks_no_sole_driver breaks_data_not_ready breaks_column_outside breaks_cache_read_misplaced breaks_copyback_misplaced breaks_plane_not_held
+unfolding breaks_command_unknown breaks_sequence_open breaks_several_luns breaks_no_column_to_change breaks_command_misplaced breaks_address_misplaced breaks_row_outside breaks_lun_busy breaks_queue_clash breaks_input_misplaced breaks_no_sole_driver breaks_data_not_ready breaks_column_outside breaks_cache_read_misplaced breaks_cache_program_misplaced breaks_copyback_misplaced breaks_plane_not_held
 data_judged g c at k = rw (k.closed, k.latch, k.ready, k.held, k.column) refl
 
 -- 2. so many outputs
@@ -387,6 +387,8 @@ get_exact s text v r c n some k is m =
           cached_page = m.lun.cached_page;
           cached_index = m.lun.cached_index;
           held = m.lun.held;
+          programming = m.lun.programming;
+          no_program = m.lun.no_program;
         }))
       where
         some_read : (k : ℕ) → true ≡ ltb 0 (k + n)

@@ -40,17 +40,21 @@ no_rows AnyRows r hq hr = absurd cc
 pub ready_joined : (s t : State) → may_be_unready s ≡ false → may_be_unready t ≡ false → may_be_unready (joined s t) ≡ false
 unfolding joined
 ready_joined s t hs ht =
-    let s1 = neither (s.lun.busy || is_open_place s.target.tail || may_be_queued s.lun.queue) (may_be_31 s.lun.last) hs in
+    let s0 = neither (s.lun.busy || is_open_place s.target.tail || may_be_queued s.lun.queue || may_be_31 s.lun.last) s.lun.programming hs in
+    let s1 = neither (s.lun.busy || is_open_place s.target.tail || may_be_queued s.lun.queue) (may_be_31 s.lun.last) s0.0 in
     let s2 = neither (s.lun.busy || is_open_place s.target.tail) (may_be_queued s.lun.queue) s1.0 in
     let s3 = neither s.lun.busy (is_open_place s.target.tail) s2.0 in
-    let t1 = neither (t.lun.busy || is_open_place t.target.tail || may_be_queued t.lun.queue) (may_be_31 t.lun.last) ht in
+    let t0 = neither (t.lun.busy || is_open_place t.target.tail || may_be_queued t.lun.queue || may_be_31 t.lun.last) t.lun.programming ht in
+    let t1 = neither (t.lun.busy || is_open_place t.target.tail || may_be_queued t.lun.queue) (may_be_31 t.lun.last) t0.0 in
     let t2 = neither (t.lun.busy || is_open_place t.target.tail) (may_be_queued t.lun.queue) t1.0 in
     let t3 = neither t.lun.busy (is_open_place t.target.tail) t2.0 in
     or_from _ _
     (or_from _ _
+    (or_from _ _
     (or_from _ _ (or_from _ _ s3.0 t3.0) (closed_place s.target.tail t.target.tail (same_place s.target.tail t.target.tail) s3.1 t3.1))
     (no_rows s.lun.queue t.lun.queue s2.1 t2.1))
-    (has_either 1 s.lun.last.0 t.lun.last.0 ∙ or_from _ _ s1.1 t1.1)
+    (has_either 1 s.lun.last.0 t.lun.last.0 ∙ or_from _ _ s1.1 t1.1))
+    (or_from _ _ s0.1 t0.1)
 
 pub met_may_end : (f : Option State) (t : State) → may_end f ≡ true → may_be_unready t ≡ false → may_end (Some (met f t)) ≡ true
 met_may_end None t h k = ap not k

@@ -1,5 +1,5 @@
 -- From rest to rest: over each operation nothing is against the words.
-use Rattle.std.proofs.Common.{◌≡◌, ℕ, ◌+◌, ◌^◌, ◌≤◌, ◌<◌, ◌==◌, Bool, true, false, ◌&&◌, cond, not, nat_le, nat_lt, List, ◌∷◌, Option, Some, refl, arith}
+use Rattle.std.proofs.Common.{◌≡◌, ℕ, ◌+◌, ◌^◌, ◌≤◌, ◌<◌, ◌==◌, Bool, true, false, ◌&&◌, ◌||◌, cond, not, nat_le, nat_lt, List, ◌∷◌, Option, Some, refl, arith}
 use Rattle.nand_geometry.specs.declared.parts.Parts.{Parts}
 use Rattle.nand_geometry.specs.Limits.{page_len, planes}
 use Rattle.nand_geometry.specs.Optional.{is_wide, has_copyback}
@@ -39,18 +39,25 @@ calm true false = refl
 calm false true = refl
 calm false false = refl
 
+-- and no program of a 15 either
+pub calm_end : (read other : Bool) → (may_be_31 (closer_of read other) || false) ≡ false
+calm_end true true = refl
+calm_end true false = refl
+calm_end false true = refl
+calm_end false false = refl
+
 -- no cache read goes on, whatever else is asked
 pub calm_too : (asks read other : Bool) → (asks && may_be_31 (closer_of read other)) ≡ false
 calm_too true read other = calm read other
 calm_too false read other = refl
 
--- nothing is open, the LUN is ready, its queue empty and no cache read, so many cycles being paid at most; the rest may be anything
+-- nothing is open, the LUN is ready, its queue empty, no cache is read or programmed, so many cycles being paid at most; the rest may be anything
 abbrev pub at_rest : (column : Span) (planes : Planes) (index : Span) (page : PageRange) (place : Span) (least : ℕ) (grown : Option Growth) (polled : Bool) (shows : Option Shown) (register : Option Held) (output : Option OutputColumn) (read other : Bool) (cached : CachedPage) (held array : Planes) (copies : Copies) (paid : ℕ) → State
 at_rest column planes index page place least grown polled shows register output read other cached held array copies paid =
     record {
       registers = record { column = column; planes = planes; index = index; page = page; place = place; cost = record { lo = least; hi = Some paid; grown = grown }; polled = polled };
       target = closed shows;
-      lun = record { busy = false; register = register; column = output; queue = NoRows; last = closer_of read other; cached = cached; held = held; array = array; copies = copies };
+      lun = record { busy = false; register = register; column = output; queue = NoRows; last = closer_of read other; cached = cached; held = held; array = array; copies = copies; programming = false };
     }
 
 -- from every state at rest, so many cycles being paid, all goes well

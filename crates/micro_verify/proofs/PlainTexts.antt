@@ -20,7 +20,7 @@ use Rattle.micro_verify.specs.declared.plain_op.PlainOp.TheVariants.{Read, Progr
 use Rattle.micro_verify.specs.Plain.{operations_len, rows_of, buffer_of, budget_of, words_from, plain_text, PlainTextsAreFaultless, PlainTextsAreAccepted}
 use Rattle.micro_verify.proofs.PlainFollowing.{Stands, well_followed}
 use Rattle.micro_verify.proofs.PlainFailures.{may_end, met_may_end, end_is_fine}
-use Rattle.micro_verify.proofs.PlainOperations.{calm, at_rest, FromRest, read_goes_well, program_goes_well, erase_goes_well}
+use Rattle.micro_verify.proofs.PlainOperations.{calm_end, calm, at_rest, FromRest, read_goes_well, program_goes_well, erase_goes_well}
 use Rattle.micro_verify.proofs.PlainShapes.{words_long, are_led, no_loop, well_shaped}
 use Rattle.micro_verify.proofs.PlainInsides.{AllInside, row_fits, part_fits, few_planes, short_page, plane_below, rows_parts, buffer_parts, rows_fit, buffer_fits, budget_fits, are_fine}
 
@@ -68,7 +68,7 @@ rest_goes_well g l x failure (Program row plane column place len ∷ ops) f paid
     fits.1.some fits.1.page (short_page g l) (buffer_parts (Program row plane column place len) ops x.buffer d.buffer).0 d.short_buffer (omega (arith, budget)) d.small_budget
     (λ column planes index page place least grown polled shows register output read other cached held array copies.
     rest_goes_well g l x failure ops (Some (met f (at_rest column planes index page place least grown polled shows register output read other cached held array copies (paid + 1 + 5 + len + 1)))) (paid + 1 + 5 + len + 1) inside.1 (behind x paid _ _ ops d (omega (arith, budget)))
-    (met_may_end f (at_rest column planes index page place least grown polled shows register output read other cached held array copies (paid + 1 + 5 + len + 1)) e (calm read other))
+    (met_may_end f (at_rest column planes index page place least grown polled shows register output read other cached held array copies (paid + 1 + 5 + len + 1)) e (calm_end read other))
     column planes index page place least grown polled shows register output read other cached held array copies)
 rest_goes_well g l x failure (Erase row plane ∷ ops) f paid inside d e =
     let fits = row_fits g row plane inside.0 in
@@ -79,7 +79,7 @@ rest_goes_well g l x failure (Erase row plane ∷ ops) f paid inside d e =
     (omega (arith, there, planes)) (plane_below _ plane there) (rows_parts (Erase row plane) ops x.rows d.rows).0 d.few_rows (omega (arith, budget)) d.small_budget
     (λ column planes index page place least grown polled shows register output read other cached held array copies.
     rest_goes_well g l x failure ops (Some (met f (at_rest column planes index page place least grown polled shows register output read other cached held array copies (paid + 1 + 3 + 1)))) (paid + 1 + 3 + 1) inside.1 (behind x paid _ _ ops d (omega (arith, budget)))
-    (met_may_end f (at_rest column planes index page place least grown polled shows register output read other cached held array copies (paid + 1 + 3 + 1)) e (calm read other))
+    (met_may_end f (at_rest column planes index page place least grown polled shows register output read other cached held array copies (paid + 1 + 3 + 1)) e (calm_end read other))
     column planes index page place least grown polled shows register output read other cached held array copies)
 
 -- ---- the whole text

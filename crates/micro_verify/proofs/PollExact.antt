@@ -3,7 +3,7 @@ use Rattle.std.proofs.Common.{◌≡◌, Bool, true, false, ◌||◌, cond, ltb,
 use Rattle.std.proofs.Math.Bool.{or-false, or-true}
 use Rattle.nand_geometry.specs.declared.parts.Parts.{Parts}
 use Rattle.onfi_cycle.specs.declared.command.Command.{Command}
-use Rattle.onfi_cycle.specs.declared.command.Command.TheVariants.{ReadStatus as StatusCommand, ChangeWriteColumn, ProgramConfirm, ProgramPlane}
+use Rattle.onfi_cycle.specs.declared.command.Command.TheVariants.{ReadStatus as StatusCommand, ChangeWriteColumn, ProgramConfirm, ProgramPlane, ProgramCache}
 use Rattle.onfi_cycle.specs.declared.item.Kind.TheVariants.{Cmd}
 use Rattle.onfi_cycle.specs.declared.read_column.ReadColumn.{ReadColumn}
 use Rattle.onfi_cycle.specs.declared.tail_facts.TailFacts.{TailFacts}
@@ -11,7 +11,7 @@ use Rattle.onfi_cycle.specs.declared.target_cycle.TargetCycle.TheVariants.{Comma
 use Rattle.onfi_cycle.specs.Command.{command}
 use Rattle.onfi_cycle.specs.Sequence.{facts_of, facts_after, is_open, wants_command}
 use Rattle.onfi_cycle.specs.Lun.{option_plus}
-use Rattle.onfi_cycle.specs.Rules.{breaks_command_unknown, breaks_sequence_open, breaks_several_luns, breaks_no_column_to_change, breaks_command_misplaced, breaks_address_misplaced, breaks_row_outside, breaks_lun_busy, breaks_queue_clash, breaks_input_misplaced, breaks_no_sole_driver, breaks_data_not_ready, breaks_column_outside, breaks_cache_read_misplaced, breaks_copyback_misplaced, breaks_plane_not_held}
+use Rattle.onfi_cycle.specs.Rules.{breaks_command_unknown, breaks_sequence_open, breaks_several_luns, breaks_no_column_to_change, breaks_command_misplaced, breaks_address_misplaced, breaks_row_outside, breaks_lun_busy, breaks_queue_clash, breaks_input_misplaced, breaks_no_sole_driver, breaks_data_not_ready, breaks_column_outside, breaks_cache_read_misplaced, breaks_cache_program_misplaced, breaks_copyback_misplaced, breaks_plane_not_held}
 use Rattle.micro_program.specs.Moves.{Move, Give, Take}
 use Rattle.micro_claims.specs.declared.output_column.OutputColumn.{OutputColumn}
 use Rattle.micro_claims.specs.Leaves.{unread}
@@ -34,17 +34,18 @@ polled_shut = record { closed = refl; address = λ b. refl; command = none }
     none ChangeWriteColumn = refl
     none ProgramConfirm = refl
     none ProgramPlane = refl
+    none ProgramCache = refl
     none _ = refl
 
 abbrev pub polled_lone : Lone → Lone
 polled_lone c = record { facts = polled_facts; view = polled_view c.view.selected c.view.overlapped c.view }
 
 judge_70 : (g : Parts) (c : Lone) → ltb 1 g.luns ≡ false → is_open c.facts ≡ false → judged g c (CommandCycle StatusCommand) ≡ None
-unfolding breaks_command_unknown breaks_sequence_open breaks_several_luns breaks_no_column_to_change breaks_command_misplaced breaks_address_misplaced breaks_row_outside breaks_lun_busy breaks_queue_clash breaks_input_misplaced breaks_no_sole_driver breaks_data_not_ready breaks_column_outside breaks_cache_read_misplaced breaks_copyback_misplaced breaks_plane_not_held
+unfolding breaks_command_unknown breaks_sequence_open breaks_several_luns breaks_no_column_to_change breaks_command_misplaced breaks_address_misplaced breaks_row_outside breaks_lun_busy breaks_queue_clash breaks_input_misplaced breaks_no_sole_driver breaks_data_not_ready breaks_column_outside breaks_cache_read_misplaced breaks_cache_program_misplaced breaks_copyback_misplaced breaks_plane_not_held
 judge_70 g c one closed = rw (closed, one) refl
 
 judge_shown : (g : Parts) (c : Lone) → judged g (lone_behind g (CommandCycle StatusCommand) c) OutputCycle ≡ None
-unfolding breaks_command_unknown breaks_sequence_open breaks_several_luns breaks_no_column_to_change breaks_command_misplaced breaks_address_misplaced breaks_row_outside breaks_lun_busy breaks_queue_clash breaks_input_misplaced breaks_no_sole_driver breaks_data_not_ready breaks_column_outside breaks_cache_read_misplaced breaks_copyback_misplaced breaks_plane_not_held
+unfolding breaks_command_unknown breaks_sequence_open breaks_several_luns breaks_no_column_to_change breaks_command_misplaced breaks_address_misplaced breaks_row_outside breaks_lun_busy breaks_queue_clash breaks_input_misplaced breaks_no_sole_driver breaks_data_not_ready breaks_column_outside breaks_cache_read_misplaced breaks_cache_program_misplaced breaks_copyback_misplaced breaks_plane_not_held
 judge_shown g c = refl
 
 pub poll_passes : (g : Parts) (c : Lone) → ltb 1 g.luns ≡ false → is_open c.facts ≡ false → MovesPass g poll_moves c

@@ -4,9 +4,9 @@ use Rattle.std.proofs.Common.{◌≡◌, ℕ, ◌+◌, ◌≤◌, ◌==◌, Bool
 use Rattle.std.proofs.Math.Bool.{or-false}
 use Rattle.std.proofs.lemmas.Bool.{not-false}
 use Rattle.nand_geometry.specs.declared.parts.Parts.{Parts}
-use Rattle.nand_geometry.specs.Optional.{is_wide, has_features, has_unique_id, has_enhanced_column, has_lun_reset, has_plane_reads, has_copyback, has_synchronous_reset, has_all}
+use Rattle.nand_geometry.specs.Optional.{is_wide, has_features, has_unique_id, has_enhanced_column, has_lun_reset, has_plane_reads, has_copyback, has_synchronous_reset, has_all, has_program_cache}
 use Rattle.onfi_cycle.specs.declared.command.Command.{Command}
-use Rattle.onfi_cycle.specs.declared.command.Command.TheVariants.{Read, ReadConfirm, ReadPlane, ChangeReadColumn, ChangeReadColumnEnhanced, ChangeReadColumnConfirm, BlockErase, BlockEraseConfirm, BlockErasePlane, ReadStatus, ReadStatusEnhanced, PageProgram, ChangeWriteColumn, ProgramConfirm, ProgramPlane, ReadId, ReadParameterPage, Reset, ReadCacheSequential, ReadCacheEnd, ReadUniqueId, GetFeatures, SetFeatures, ResetLun, SynchronousReset, Unknown, CopybackRead}
+use Rattle.onfi_cycle.specs.declared.command.Command.TheVariants.{Read, ReadConfirm, ReadPlane, ChangeReadColumn, ChangeReadColumnEnhanced, ChangeReadColumnConfirm, BlockErase, BlockEraseConfirm, BlockErasePlane, ReadStatus, ReadStatusEnhanced, PageProgram, ChangeWriteColumn, ProgramConfirm, ProgramPlane, ReadId, ReadParameterPage, Reset, ReadCacheSequential, ReadCacheEnd, ReadUniqueId, GetFeatures, SetFeatures, ResetLun, SynchronousReset, Unknown, CopybackRead, ProgramCache}
 use Rattle.onfi_cycle.specs.declared.data_phase.DataPhase.TheVariants.{FirstColumn, SecondColumn}
 use Rattle.onfi_cycle.specs.declared.forbidden.Forbidden.{Forbidden}
 use Rattle.onfi_cycle.specs.declared.latch.Latch.{Latch}
@@ -17,12 +17,12 @@ use Rattle.onfi_cycle.specs.declared.tail_facts.TailFacts.{TailFacts}
 use Rattle.onfi_cycle.specs.declared.target_cycle.TargetCycle.TheVariants.{CommandCycle}
 use Rattle.onfi_cycle.specs.Command.{closes, address_cycles, is_opener}
 use Rattle.onfi_cycle.specs.Sequence.{is_open, wants_command, takes_data, opened}
-use Rattle.onfi_cycle.specs.Lun.{is_cache_read, is_page_read}
+use Rattle.onfi_cycle.specs.Lun.{is_cache_read, is_page_read, programs}
 use Rattle.onfi_cycle.specs.LunView.{LunView}
 use Rattle.onfi_cycle.specs.Effect.{is_data}
 use Rattle.micro_claims.specs.State.{may_be_31, may_be_other}
 use Rattle.micro_claims.specs.Spans.{greatest_bound, bound_plus, is_at_most}
-use Rattle.onfi_cycle.specs.Rules.{has_some, may_change_column, is_page_or_parameters, breaks_command_unknown, breaks_sequence_open, breaks_several_luns, breaks_no_column_to_change, breaks_command_misplaced, breaks_address_misplaced, breaks_row_outside, breaks_lun_busy, breaks_queue_clash, breaks_input_misplaced, breaks_no_sole_driver, breaks_data_not_ready, breaks_column_outside, breaks_cache_read_misplaced, breaks_copyback_misplaced, breaks_plane_not_held}
+use Rattle.onfi_cycle.specs.Rules.{has_some, may_change_column, is_page_or_parameters, breaks_command_unknown, breaks_sequence_open, breaks_several_luns, breaks_no_column_to_change, breaks_command_misplaced, breaks_address_misplaced, breaks_row_outside, breaks_lun_busy, breaks_queue_clash, breaks_input_misplaced, breaks_no_sole_driver, breaks_data_not_ready, breaks_column_outside, breaks_cache_read_misplaced, breaks_cache_program_misplaced, breaks_copyback_misplaced, breaks_plane_not_held}
 use Rattle.micro_program.specs.Program.{Job, Done}
 use Rattle.micro_program.proofs.Scenes.{closed_unwanted}
 use Rattle.micro_claims.specs.declared.state.State.{State}
@@ -47,7 +47,7 @@ told_by x y o e h = subst (λ (b : Bool). Told b o) (sym e) h
 -- 1. openers
 
 told_read : (g : Parts) (c : Lone) → Told (is_open c.facts || c.view.busy) (judged g c (CommandCycle Read))
-unfolding breaks_command_unknown breaks_sequence_open breaks_several_luns breaks_no_column_to_change breaks_command_misplaced breaks_address_misplaced breaks_row_outside breaks_lun_busy breaks_queue_clash breaks_input_misplaced breaks_no_sole_driver breaks_data_not_ready breaks_column_outside breaks_cache_read_misplaced breaks_copyback_misplaced breaks_plane_not_held
+unfolding breaks_command_unknown breaks_sequence_open breaks_several_luns breaks_no_column_to_change breaks_command_misplaced breaks_address_misplaced breaks_row_outside breaks_lun_busy breaks_queue_clash breaks_input_misplaced breaks_no_sole_driver breaks_data_not_ready breaks_column_outside breaks_cache_read_misplaced breaks_cache_program_misplaced breaks_copyback_misplaced breaks_plane_not_held
 told_read g c = at (is_open c.facts) refl c.view.busy refl
   where
     at : (o : Bool) → is_open c.facts ≡ o → (b : Bool) → c.view.busy ≡ b → Told (is_open c.facts || c.view.busy) (judged g c (CommandCycle Read))
@@ -56,7 +56,7 @@ told_read g c = at (is_open c.facts) refl c.view.busy refl
     at false e false f = rw (e, f) tt
 
 told_erase : (g : Parts) (c : Lone) → Told (is_open c.facts || c.view.busy) (judged g c (CommandCycle BlockErase))
-unfolding breaks_command_unknown breaks_sequence_open breaks_several_luns breaks_no_column_to_change breaks_command_misplaced breaks_address_misplaced breaks_row_outside breaks_lun_busy breaks_queue_clash breaks_input_misplaced breaks_no_sole_driver breaks_data_not_ready breaks_column_outside breaks_cache_read_misplaced breaks_copyback_misplaced breaks_plane_not_held
+unfolding breaks_command_unknown breaks_sequence_open breaks_several_luns breaks_no_column_to_change breaks_command_misplaced breaks_address_misplaced breaks_row_outside breaks_lun_busy breaks_queue_clash breaks_input_misplaced breaks_no_sole_driver breaks_data_not_ready breaks_column_outside breaks_cache_read_misplaced breaks_cache_program_misplaced breaks_copyback_misplaced breaks_plane_not_held
 told_erase g c = at (is_open c.facts) refl c.view.busy refl
   where
     at : (o : Bool) → is_open c.facts ≡ o → (b : Bool) → c.view.busy ≡ b → Told (is_open c.facts || c.view.busy) (judged g c (CommandCycle BlockErase))
@@ -65,7 +65,7 @@ told_erase g c = at (is_open c.facts) refl c.view.busy refl
     at false e false f = rw (e, f) tt
 
 told_program : (g : Parts) (c : Lone) → Told (is_open c.facts || c.view.busy) (judged g c (CommandCycle PageProgram))
-unfolding breaks_command_unknown breaks_sequence_open breaks_several_luns breaks_no_column_to_change breaks_command_misplaced breaks_address_misplaced breaks_row_outside breaks_lun_busy breaks_queue_clash breaks_input_misplaced breaks_no_sole_driver breaks_data_not_ready breaks_column_outside breaks_cache_read_misplaced breaks_copyback_misplaced breaks_plane_not_held
+unfolding breaks_command_unknown breaks_sequence_open breaks_several_luns breaks_no_column_to_change breaks_command_misplaced breaks_address_misplaced breaks_row_outside breaks_lun_busy breaks_queue_clash breaks_input_misplaced breaks_no_sole_driver breaks_data_not_ready breaks_column_outside breaks_cache_read_misplaced breaks_cache_program_misplaced breaks_copyback_misplaced breaks_plane_not_held
 told_program g c = at (is_open c.facts) refl c.view.busy refl
   where
     at : (o : Bool) → is_open c.facts ≡ o → (b : Bool) → c.view.busy ≡ b → Told (is_open c.facts || c.view.busy) (judged g c (CommandCycle PageProgram))
@@ -74,7 +74,7 @@ told_program g c = at (is_open c.facts) refl c.view.busy refl
     at false e false f = rw (e, f) tt
 
 pub told_status : (g : Parts) (c : Lone) → ltb 1 g.luns ≡ false → Told (is_open c.facts || false) (judged g c (CommandCycle ReadStatus))
-unfolding breaks_command_unknown breaks_sequence_open breaks_several_luns breaks_no_column_to_change breaks_command_misplaced breaks_address_misplaced breaks_row_outside breaks_lun_busy breaks_queue_clash breaks_input_misplaced breaks_no_sole_driver breaks_data_not_ready breaks_column_outside breaks_cache_read_misplaced breaks_copyback_misplaced breaks_plane_not_held
+unfolding breaks_command_unknown breaks_sequence_open breaks_several_luns breaks_no_column_to_change breaks_command_misplaced breaks_address_misplaced breaks_row_outside breaks_lun_busy breaks_queue_clash breaks_input_misplaced breaks_no_sole_driver breaks_data_not_ready breaks_column_outside breaks_cache_read_misplaced breaks_cache_program_misplaced breaks_copyback_misplaced breaks_plane_not_held
 told_status g c one = at (is_open c.facts) refl
   where
     at : (o : Bool) → is_open c.facts ≡ o → Told (is_open c.facts || false) (judged g c (CommandCycle ReadStatus))
@@ -82,7 +82,7 @@ told_status g c one = at (is_open c.facts) refl
     at false e = rw (e, one) tt
 
 told_reset : (g : Parts) (c : Lone) → ltb 1 g.luns ≡ false → is_wide g.optional ≡ false → Told (is_open c.facts || false) (judged g c (CommandCycle Reset))
-unfolding breaks_command_unknown breaks_sequence_open breaks_several_luns breaks_no_column_to_change breaks_command_misplaced breaks_address_misplaced breaks_row_outside breaks_lun_busy breaks_queue_clash breaks_input_misplaced breaks_no_sole_driver breaks_data_not_ready breaks_column_outside breaks_cache_read_misplaced breaks_copyback_misplaced breaks_plane_not_held
+unfolding breaks_command_unknown breaks_sequence_open breaks_several_luns breaks_no_column_to_change breaks_command_misplaced breaks_address_misplaced breaks_row_outside breaks_lun_busy breaks_queue_clash breaks_input_misplaced breaks_no_sole_driver breaks_data_not_ready breaks_column_outside breaks_cache_read_misplaced breaks_cache_program_misplaced breaks_copyback_misplaced breaks_plane_not_held
 told_reset g c one base = at (is_open c.facts) refl
   where
     at : (o : Bool) → is_open c.facts ≡ o → Told (is_open c.facts || false) (judged g c (CommandCycle Reset))
@@ -90,7 +90,7 @@ told_reset g c one base = at (is_open c.facts) refl
     at false e = rw (e, one) tt
 
 told_enhanced : (g : Parts) (c : Lone) → g.enhanced ≡ true → Told (is_open c.facts || false) (judged g c (CommandCycle ReadStatusEnhanced))
-unfolding breaks_command_unknown breaks_sequence_open breaks_several_luns breaks_no_column_to_change breaks_command_misplaced breaks_address_misplaced breaks_row_outside breaks_lun_busy breaks_queue_clash breaks_input_misplaced breaks_no_sole_driver breaks_data_not_ready breaks_column_outside breaks_cache_read_misplaced breaks_copyback_misplaced breaks_plane_not_held
+unfolding breaks_command_unknown breaks_sequence_open breaks_several_luns breaks_no_column_to_change breaks_command_misplaced breaks_address_misplaced breaks_row_outside breaks_lun_busy breaks_queue_clash breaks_input_misplaced breaks_no_sole_driver breaks_data_not_ready breaks_column_outside breaks_cache_read_misplaced breaks_cache_program_misplaced breaks_copyback_misplaced breaks_plane_not_held
 told_enhanced g c enhanced = at (is_open c.facts) refl
   where
     at : (o : Bool) → is_open c.facts ≡ o → Told (is_open c.facts || false) (judged g c (CommandCycle ReadStatusEnhanced))
@@ -99,7 +99,7 @@ told_enhanced g c enhanced = at (is_open c.facts) refl
 
 -- 05h
 told_change : (g : Parts) (c : Lone) → is_modelled c.view.register ≡ true → Told (is_open c.facts || (not (shows_only_data (shows_of c.view.latch)) || c.view.busy || not (has_page_or_parameters (held_of c.view.register)))) (judged g c (CommandCycle ChangeReadColumn))
-unfolding breaks_command_unknown breaks_sequence_open breaks_several_luns breaks_no_column_to_change breaks_command_misplaced breaks_address_misplaced breaks_row_outside breaks_lun_busy breaks_queue_clash breaks_input_misplaced breaks_no_sole_driver breaks_data_not_ready breaks_column_outside breaks_cache_read_misplaced breaks_copyback_misplaced breaks_plane_not_held
+unfolding breaks_command_unknown breaks_sequence_open breaks_several_luns breaks_no_column_to_change breaks_command_misplaced breaks_address_misplaced breaks_row_outside breaks_lun_busy breaks_queue_clash breaks_input_misplaced breaks_no_sole_driver breaks_data_not_ready breaks_column_outside breaks_cache_read_misplaced breaks_cache_program_misplaced breaks_copyback_misplaced breaks_plane_not_held
 told_change g c known = at (is_open c.facts) refl c.view.latch refl c.view.busy refl c.view.register refl known
   where
     at : (o : Bool) → is_open c.facts ≡ o → (x : Latch) → c.view.latch ≡ x → (b : Bool) → c.view.busy ≡ b → (r : Register) → c.view.register ≡ r → is_modelled c.view.register ≡ true → Told (is_open c.facts || (not (shows_only_data (shows_of c.view.latch)) || c.view.busy || not (has_page_or_parameters (held_of c.view.register)))) (judged g c (CommandCycle ChangeReadColumn))
@@ -114,27 +114,27 @@ told_change g c known = at (is_open c.facts) refl c.view.latch refl c.view.busy 
     at false e Data k false f _ h m = let known = ap is_modelled (sym h) ∙ m in cc
 
 -- 90h and ECh
-told_identity : (g : Parts) (c : Lone) → ltb 1 g.luns ≡ false → Told (is_open c.facts || (c.view.busy || has_some c.view.queue || is_cache_read c.view.closer)) (judged g c (CommandCycle ReadId))
-unfolding breaks_command_unknown breaks_sequence_open breaks_several_luns breaks_no_column_to_change breaks_command_misplaced breaks_address_misplaced breaks_row_outside breaks_lun_busy breaks_queue_clash breaks_input_misplaced breaks_no_sole_driver breaks_data_not_ready breaks_column_outside breaks_cache_read_misplaced breaks_copyback_misplaced breaks_plane_not_held
-told_identity g c one = at (is_open c.facts) refl c.view.busy refl (has_some c.view.queue) refl (is_cache_read c.view.closer) refl
+told_identity : (g : Parts) (c : Lone) → ltb 1 g.luns ≡ false → programs c.view ≡ false → Told (is_open c.facts || (c.view.busy || has_some c.view.queue || is_cache_read c.view.closer || false)) (judged g c (CommandCycle ReadId))
+unfolding breaks_command_unknown breaks_sequence_open breaks_several_luns breaks_no_column_to_change breaks_command_misplaced breaks_address_misplaced breaks_row_outside breaks_lun_busy breaks_queue_clash breaks_input_misplaced breaks_no_sole_driver breaks_data_not_ready breaks_column_outside breaks_cache_read_misplaced breaks_cache_program_misplaced breaks_copyback_misplaced breaks_plane_not_held
+told_identity g c one program = at (is_open c.facts) refl c.view.busy refl (has_some c.view.queue) refl (is_cache_read c.view.closer) refl
   where
-    at : (o : Bool) → is_open c.facts ≡ o → (b : Bool) → c.view.busy ≡ b → (q : Bool) → has_some c.view.queue ≡ q → (k : Bool) → is_cache_read c.view.closer ≡ k → Told (is_open c.facts || (c.view.busy || has_some c.view.queue || is_cache_read c.view.closer)) (judged g c (CommandCycle ReadId))
+    at : (o : Bool) → is_open c.facts ≡ o → (b : Bool) → c.view.busy ≡ b → (q : Bool) → has_some c.view.queue ≡ q → (k : Bool) → is_cache_read c.view.closer ≡ k → Told (is_open c.facts || (c.view.busy || has_some c.view.queue || is_cache_read c.view.closer || false)) (judged g c (CommandCycle ReadId))
     at true e b f q h k i = rw e refl
     at false e true f q h k i = rw (e, one, f) refl
     at false e false f true h k i = rw (e, one, f, h) refl
     at false e false f false h true i = rw (e, one, f, h, i) refl
-    at false e false f false h false i = rw (e, one, f, h, i) tt
+    at false e false f false h false i = rw (program, e, one, f, h, i) tt
 
-told_parameters : (g : Parts) (c : Lone) → ltb 1 g.luns ≡ false → Told (is_open c.facts || (c.view.busy || has_some c.view.queue || is_cache_read c.view.closer)) (judged g c (CommandCycle ReadParameterPage))
-unfolding breaks_command_unknown breaks_sequence_open breaks_several_luns breaks_no_column_to_change breaks_command_misplaced breaks_address_misplaced breaks_row_outside breaks_lun_busy breaks_queue_clash breaks_input_misplaced breaks_no_sole_driver breaks_data_not_ready breaks_column_outside breaks_cache_read_misplaced breaks_copyback_misplaced breaks_plane_not_held
-told_parameters g c one = at (is_open c.facts) refl c.view.busy refl (has_some c.view.queue) refl (is_cache_read c.view.closer) refl
+told_parameters : (g : Parts) (c : Lone) → ltb 1 g.luns ≡ false → programs c.view ≡ false → Told (is_open c.facts || (c.view.busy || has_some c.view.queue || is_cache_read c.view.closer || false)) (judged g c (CommandCycle ReadParameterPage))
+unfolding breaks_command_unknown breaks_sequence_open breaks_several_luns breaks_no_column_to_change breaks_command_misplaced breaks_address_misplaced breaks_row_outside breaks_lun_busy breaks_queue_clash breaks_input_misplaced breaks_no_sole_driver breaks_data_not_ready breaks_column_outside breaks_cache_read_misplaced breaks_cache_program_misplaced breaks_copyback_misplaced breaks_plane_not_held
+told_parameters g c one program = at (is_open c.facts) refl c.view.busy refl (has_some c.view.queue) refl (is_cache_read c.view.closer) refl
   where
-    at : (o : Bool) → is_open c.facts ≡ o → (b : Bool) → c.view.busy ≡ b → (q : Bool) → has_some c.view.queue ≡ q → (k : Bool) → is_cache_read c.view.closer ≡ k → Told (is_open c.facts || (c.view.busy || has_some c.view.queue || is_cache_read c.view.closer)) (judged g c (CommandCycle ReadParameterPage))
+    at : (o : Bool) → is_open c.facts ≡ o → (b : Bool) → c.view.busy ≡ b → (q : Bool) → has_some c.view.queue ≡ q → (k : Bool) → is_cache_read c.view.closer ≡ k → Told (is_open c.facts || (c.view.busy || has_some c.view.queue || is_cache_read c.view.closer || false)) (judged g c (CommandCycle ReadParameterPage))
     at true e b f q h k i = rw e refl
     at false e true f q h k i = rw (e, one, f) refl
     at false e false f true h k i = rw (e, one, f, h) refl
     at false e false f false h true i = rw (e, one, f, h, i) refl
-    at false e false f false h false i = rw (e, one, f, h, i) tt
+    at false e false f false h false i = rw (program, e, one, f, h, i) tt
 
 -- 2. closers
 
@@ -142,15 +142,19 @@ pub closes_none : (o d : Command) → is_data_command d ≡ true → closes o d 
 closes_none Read ChangeWriteColumn h = refl
 closes_none Read ProgramConfirm h = refl
 closes_none Read ProgramPlane h = refl
+closes_none Read ProgramCache h = refl
 closes_none ChangeReadColumn ChangeWriteColumn h = refl
 closes_none ChangeReadColumn ProgramConfirm h = refl
 closes_none ChangeReadColumn ProgramPlane h = refl
+closes_none ChangeReadColumn ProgramCache h = refl
 closes_none BlockErase ChangeWriteColumn h = refl
 closes_none BlockErase ProgramConfirm h = refl
 closes_none BlockErase ProgramPlane h = refl
+closes_none BlockErase ProgramCache h = refl
 closes_none ChangeReadColumnEnhanced ChangeWriteColumn h = refl
 closes_none ChangeReadColumnEnhanced ProgramConfirm h = refl
 closes_none ChangeReadColumnEnhanced ProgramPlane h = refl
+closes_none ChangeReadColumnEnhanced ProgramCache h = refl
 closes_none Read _ h = cc
 closes_none ChangeReadColumn _ h = cc
 closes_none BlockErase _ h = cc
@@ -165,6 +169,7 @@ pub wants_by : (t : TailFacts) (d : Command) → WantsBy t d
 wants_by t ChangeWriteColumn = (λ e. refl, λ e. cc)
 wants_by t ProgramConfirm = (λ e. refl, λ e. cc)
 wants_by t ProgramPlane = (λ e. refl, λ e. cc)
+wants_by t ProgramCache = (λ e. refl, λ e. cc)
 wants_by t _ = (λ e. cc, λ e. refl)
 
 pub wants_same : (p : Place) (a : Address) (t : TailFacts) (d : Command) → PlaceMirror p a t → place_wants d p ≡ wants_command t d
@@ -192,7 +197,7 @@ wants_same (InFeatures n) a t d is = absurd is
 wants_same UnknownPlace a t d is = absurd is
 
 told_30 : (g : Parts) (c : Lone) → Told (not (wants_command c.facts ReadConfirm)) (judged g c (CommandCycle ReadConfirm))
-unfolding breaks_command_unknown breaks_sequence_open breaks_several_luns breaks_no_column_to_change breaks_command_misplaced breaks_address_misplaced breaks_row_outside breaks_lun_busy breaks_queue_clash breaks_input_misplaced breaks_no_sole_driver breaks_data_not_ready breaks_column_outside breaks_cache_read_misplaced breaks_copyback_misplaced breaks_plane_not_held
+unfolding breaks_command_unknown breaks_sequence_open breaks_several_luns breaks_no_column_to_change breaks_command_misplaced breaks_address_misplaced breaks_row_outside breaks_lun_busy breaks_queue_clash breaks_input_misplaced breaks_no_sole_driver breaks_data_not_ready breaks_column_outside breaks_cache_read_misplaced breaks_cache_program_misplaced breaks_copyback_misplaced breaks_plane_not_held
 told_30 g c = at (wants_command c.facts ReadConfirm) refl
   where
     at : (b : Bool) → wants_command c.facts ReadConfirm ≡ b → Told (not (wants_command c.facts ReadConfirm)) (judged g c (CommandCycle ReadConfirm))
@@ -200,7 +205,7 @@ told_30 g c = at (wants_command c.facts ReadConfirm) refl
     at false e = rw e refl
 
 told_d0 : (g : Parts) (c : Lone) → Told (not (wants_command c.facts BlockEraseConfirm)) (judged g c (CommandCycle BlockEraseConfirm))
-unfolding breaks_command_unknown breaks_sequence_open breaks_several_luns breaks_no_column_to_change breaks_command_misplaced breaks_address_misplaced breaks_row_outside breaks_lun_busy breaks_queue_clash breaks_input_misplaced breaks_no_sole_driver breaks_data_not_ready breaks_column_outside breaks_cache_read_misplaced breaks_copyback_misplaced breaks_plane_not_held
+unfolding breaks_command_unknown breaks_sequence_open breaks_several_luns breaks_no_column_to_change breaks_command_misplaced breaks_address_misplaced breaks_row_outside breaks_lun_busy breaks_queue_clash breaks_input_misplaced breaks_no_sole_driver breaks_data_not_ready breaks_column_outside breaks_cache_read_misplaced breaks_cache_program_misplaced breaks_copyback_misplaced breaks_plane_not_held
 told_d0 g c = at (wants_command c.facts BlockEraseConfirm) refl
   where
     at : (b : Bool) → wants_command c.facts BlockEraseConfirm ≡ b → Told (not (wants_command c.facts BlockEraseConfirm)) (judged g c (CommandCycle BlockEraseConfirm))
@@ -208,7 +213,7 @@ told_d0 g c = at (wants_command c.facts BlockEraseConfirm) refl
     at false e = rw e refl
 
 told_10 : (g : Parts) (c : Lone) → Told (not (wants_command c.facts ProgramConfirm)) (judged g c (CommandCycle ProgramConfirm))
-unfolding breaks_command_unknown breaks_sequence_open breaks_several_luns breaks_no_column_to_change breaks_command_misplaced breaks_address_misplaced breaks_row_outside breaks_lun_busy breaks_queue_clash breaks_input_misplaced breaks_no_sole_driver breaks_data_not_ready breaks_column_outside breaks_cache_read_misplaced breaks_copyback_misplaced breaks_plane_not_held
+unfolding breaks_command_unknown breaks_sequence_open breaks_several_luns breaks_no_column_to_change breaks_command_misplaced breaks_address_misplaced breaks_row_outside breaks_lun_busy breaks_queue_clash breaks_input_misplaced breaks_no_sole_driver breaks_data_not_ready breaks_column_outside breaks_cache_read_misplaced breaks_cache_program_misplaced breaks_copyback_misplaced breaks_plane_not_held
 told_10 g c = at (wants_command c.facts ProgramConfirm) refl
   where
     at : (b : Bool) → wants_command c.facts ProgramConfirm ≡ b → Told (not (wants_command c.facts ProgramConfirm)) (judged g c (CommandCycle ProgramConfirm))
@@ -216,7 +221,7 @@ told_10 g c = at (wants_command c.facts ProgramConfirm) refl
     at false e = rw e refl
 
 told_85 : (g : Parts) (c : Lone) → Told (not (wants_command c.facts ChangeWriteColumn)) (judged g c (CommandCycle ChangeWriteColumn))
-unfolding breaks_command_unknown breaks_sequence_open breaks_several_luns breaks_no_column_to_change breaks_command_misplaced breaks_address_misplaced breaks_row_outside breaks_lun_busy breaks_queue_clash breaks_input_misplaced breaks_no_sole_driver breaks_data_not_ready breaks_column_outside breaks_cache_read_misplaced breaks_copyback_misplaced breaks_plane_not_held
+unfolding breaks_command_unknown breaks_sequence_open breaks_several_luns breaks_no_column_to_change breaks_command_misplaced breaks_address_misplaced breaks_row_outside breaks_lun_busy breaks_queue_clash breaks_input_misplaced breaks_no_sole_driver breaks_data_not_ready breaks_column_outside breaks_cache_read_misplaced breaks_cache_program_misplaced breaks_copyback_misplaced breaks_plane_not_held
 told_85 g c = at (wants_command c.facts ChangeWriteColumn) refl
   where
     at : (b : Bool) → wants_command c.facts ChangeWriteColumn ≡ b → Told (not (wants_command c.facts ChangeWriteColumn)) (judged g c (CommandCycle ChangeWriteColumn))
@@ -226,7 +231,7 @@ told_85 g c = at (wants_command c.facts ChangeWriteColumn) refl
 -- 3. by the claim
 -- E0h
 told_e0 : (g : Parts) (c : Lone) → Told (not (wants_command c.facts ChangeReadColumnConfirm)) (judged g c (CommandCycle ChangeReadColumnConfirm))
-unfolding breaks_command_unknown breaks_sequence_open breaks_several_luns breaks_no_column_to_change breaks_command_misplaced breaks_address_misplaced breaks_row_outside breaks_lun_busy breaks_queue_clash breaks_input_misplaced breaks_no_sole_driver breaks_data_not_ready breaks_column_outside breaks_cache_read_misplaced breaks_copyback_misplaced breaks_plane_not_held
+unfolding breaks_command_unknown breaks_sequence_open breaks_several_luns breaks_no_column_to_change breaks_command_misplaced breaks_address_misplaced breaks_row_outside breaks_lun_busy breaks_queue_clash breaks_input_misplaced breaks_no_sole_driver breaks_data_not_ready breaks_column_outside breaks_cache_read_misplaced breaks_cache_program_misplaced breaks_copyback_misplaced breaks_plane_not_held
 told_e0 g c = at (wants_command c.facts ChangeReadColumnConfirm) refl
   where
     at : (b : Bool) → wants_command c.facts ChangeReadColumnConfirm ≡ b → Told (not (wants_command c.facts ChangeReadColumnConfirm)) (judged g c (CommandCycle ChangeReadColumnConfirm))
@@ -235,7 +240,7 @@ told_e0 g c = at (wants_command c.facts ChangeReadColumnConfirm) refl
 
 -- D1h and 11h, where they are declared
 told_d1 : (g : Parts) (c : Lone) → not g.multi_plane ≡ false → Told (not (wants_command c.facts BlockErasePlane)) (judged g c (CommandCycle BlockErasePlane))
-unfolding breaks_command_unknown breaks_sequence_open breaks_several_luns breaks_no_column_to_change breaks_command_misplaced breaks_address_misplaced breaks_row_outside breaks_lun_busy breaks_queue_clash breaks_input_misplaced breaks_no_sole_driver breaks_data_not_ready breaks_column_outside breaks_cache_read_misplaced breaks_copyback_misplaced breaks_plane_not_held
+unfolding breaks_command_unknown breaks_sequence_open breaks_several_luns breaks_no_column_to_change breaks_command_misplaced breaks_address_misplaced breaks_row_outside breaks_lun_busy breaks_queue_clash breaks_input_misplaced breaks_no_sole_driver breaks_data_not_ready breaks_column_outside breaks_cache_read_misplaced breaks_cache_program_misplaced breaks_copyback_misplaced breaks_plane_not_held
 told_d1 g c fit = at (wants_command c.facts BlockErasePlane) refl
   where
     at : (b : Bool) → wants_command c.facts BlockErasePlane ≡ b → Told (not (wants_command c.facts BlockErasePlane)) (judged g c (CommandCycle BlockErasePlane))
@@ -243,7 +248,7 @@ told_d1 g c fit = at (wants_command c.facts BlockErasePlane) refl
     at false e = rw (fit, e) refl
 
 told_11 : (g : Parts) (c : Lone) → not g.multi_plane ≡ false → Told (not (wants_command c.facts ProgramPlane)) (judged g c (CommandCycle ProgramPlane))
-unfolding breaks_command_unknown breaks_sequence_open breaks_several_luns breaks_no_column_to_change breaks_command_misplaced breaks_address_misplaced breaks_row_outside breaks_lun_busy breaks_queue_clash breaks_input_misplaced breaks_no_sole_driver breaks_data_not_ready breaks_column_outside breaks_cache_read_misplaced breaks_copyback_misplaced breaks_plane_not_held
+unfolding breaks_command_unknown breaks_sequence_open breaks_several_luns breaks_no_column_to_change breaks_command_misplaced breaks_address_misplaced breaks_row_outside breaks_lun_busy breaks_queue_clash breaks_input_misplaced breaks_no_sole_driver breaks_data_not_ready breaks_column_outside breaks_cache_read_misplaced breaks_cache_program_misplaced breaks_copyback_misplaced breaks_plane_not_held
 told_11 g c fit = at (wants_command c.facts ProgramPlane) refl
   where
     at : (b : Bool) → wants_command c.facts ProgramPlane ≡ b → Told (not (wants_command c.facts ProgramPlane)) (judged g c (CommandCycle ProgramPlane))
@@ -252,7 +257,7 @@ told_11 g c fit = at (wants_command c.facts ProgramPlane) refl
 
 -- 31h and 3Fh, where they are declared; a 31h that the tail wants comes amid a sequence
 told_row_31 : (g : Parts) (c : Lone) → not g.cache ≡ false → wants_command c.facts ReadCacheSequential ≡ true → Told true (judged g c (CommandCycle ReadCacheSequential))
-unfolding breaks_command_unknown breaks_sequence_open breaks_several_luns breaks_no_column_to_change breaks_command_misplaced breaks_address_misplaced breaks_row_outside breaks_lun_busy breaks_queue_clash breaks_input_misplaced breaks_no_sole_driver breaks_data_not_ready breaks_column_outside breaks_cache_read_misplaced breaks_copyback_misplaced breaks_plane_not_held
+unfolding breaks_command_unknown breaks_sequence_open breaks_several_luns breaks_no_column_to_change breaks_command_misplaced breaks_address_misplaced breaks_row_outside breaks_lun_busy breaks_queue_clash breaks_input_misplaced breaks_no_sole_driver breaks_data_not_ready breaks_column_outside breaks_cache_read_misplaced breaks_cache_program_misplaced breaks_copyback_misplaced breaks_plane_not_held
 told_row_31 g c fit wants = at (is_open c.facts) refl
   where
     at : (o : Bool) → is_open c.facts ≡ o → Told true (judged g c (CommandCycle ReadCacheSequential))
@@ -260,7 +265,7 @@ told_row_31 g c fit wants = at (is_open c.facts) refl
     at false e = let none = closed_unwanted c.facts e in let both : true ≡ false = sym wants ∙ none in cc
 
 told_31 : (g : Parts) (c : Lone) → not g.cache ≡ false → wants_command c.facts ReadCacheSequential ≡ false → (is_page_read c.view.closer ≡ true → nat_le (length c.view.held) 1 ≡ true) → Told (is_open c.facts || (not (drives (shows_of c.view.latch)) || c.view.busy || not (is_page_read c.view.closer) || not (nat_le (c.view.array_page.page + 2) g.pages))) (judged g c (CommandCycle ReadCacheSequential))
-unfolding breaks_command_unknown breaks_sequence_open breaks_several_luns breaks_no_column_to_change breaks_command_misplaced breaks_address_misplaced breaks_row_outside breaks_lun_busy breaks_queue_clash breaks_input_misplaced breaks_no_sole_driver breaks_data_not_ready breaks_column_outside breaks_cache_read_misplaced breaks_copyback_misplaced breaks_plane_not_held
+unfolding breaks_command_unknown breaks_sequence_open breaks_several_luns breaks_no_column_to_change breaks_command_misplaced breaks_address_misplaced breaks_row_outside breaks_lun_busy breaks_queue_clash breaks_input_misplaced breaks_no_sole_driver breaks_data_not_ready breaks_column_outside breaks_cache_read_misplaced breaks_cache_program_misplaced breaks_copyback_misplaced breaks_plane_not_held
 told_31 g c fit unwanted held = at (is_open c.facts) refl c.view.latch refl c.view.busy refl (is_page_read c.view.closer) refl (nat_le (c.view.array_page.page + 2) g.pages) refl
   where
     next : (b : Bool) → nat_le (c.view.array_page.page + 2) g.pages ≡ b → ltb (c.view.array_page.page + 1) g.pages ≡ b
@@ -286,7 +291,7 @@ caches_a_page (Some ReadCacheSequential) h = cc
 caches_a_page (Some _) h = refl
 
 told_3f : (g : Parts) (c : Lone) → not g.cache ≡ false → Told (is_open c.facts || (not (drives (shows_of c.view.latch)) || c.view.busy || not (is_page_read c.view.closer) || not (is_cache_read c.view.closer))) (judged g c (CommandCycle ReadCacheEnd))
-unfolding breaks_command_unknown breaks_sequence_open breaks_several_luns breaks_no_column_to_change breaks_command_misplaced breaks_address_misplaced breaks_row_outside breaks_lun_busy breaks_queue_clash breaks_input_misplaced breaks_no_sole_driver breaks_data_not_ready breaks_column_outside breaks_cache_read_misplaced breaks_copyback_misplaced breaks_plane_not_held
+unfolding breaks_command_unknown breaks_sequence_open breaks_several_luns breaks_no_column_to_change breaks_command_misplaced breaks_address_misplaced breaks_row_outside breaks_lun_busy breaks_queue_clash breaks_input_misplaced breaks_no_sole_driver breaks_data_not_ready breaks_column_outside breaks_cache_read_misplaced breaks_cache_program_misplaced breaks_copyback_misplaced breaks_plane_not_held
 told_3f g c fit = at (is_open c.facts) refl c.view.latch refl c.view.busy refl (is_page_read c.view.closer) refl (is_cache_read c.view.closer) refl
   where
     at : (o : Bool) → is_open c.facts ≡ o → (x : Latch) → c.view.latch ≡ x → (b : Bool) → c.view.busy ≡ b → (q : Bool) → is_page_read c.view.closer ≡ q → (n : Bool) → is_cache_read c.view.closer ≡ n → Told (is_open c.facts || (not (drives (shows_of c.view.latch)) || c.view.busy || not (is_page_read c.view.closer) || not (is_cache_read c.view.closer))) (judged g c (CommandCycle ReadCacheEnd))
@@ -383,8 +388,8 @@ told_command g j v done c d one base low m h = by d h
     by ReadStatus h = told_by _ _ _ (λ i. shut i || false) (told_status g c one)
     by Reset h = told_by _ _ _ (λ i. (not (base i) && shut i) || false) (told_reset g c one base)
     by ChangeReadColumn h = told_by _ _ _ (λ i. shut i || (not (shows_only_data (m.shows i)) || m.lun.busy i || not (has_page_or_parameters (m.lun.register i)))) (told_change g c m.lun.known)
-    by ReadId h = told_by _ _ _ (λ i. shut i || (not (one i) && (m.lun.busy i || queue_same g _ v.lun.queue c.view.queue m.lun.queue i || m.lun.caching i))) (told_identity g c one)
-    by ReadParameterPage h = told_by _ _ _ (λ i. shut i || (not (one i) && (m.lun.busy i || queue_same g _ v.lun.queue c.view.queue m.lun.queue i || m.lun.caching i))) (told_parameters g c one)
+    by ReadId h = told_by _ _ _ (λ i. shut i || (not (one i) && (m.lun.busy i || queue_same g _ v.lun.queue c.view.queue m.lun.queue i || m.lun.caching i || m.lun.programming i))) (told_identity g c one m.lun.no_program)
+    by ReadParameterPage h = told_by _ _ _ (λ i. shut i || (not (one i) && (m.lun.busy i || queue_same g _ v.lun.queue c.view.queue m.lun.queue i || m.lun.caching i || m.lun.programming i))) (told_parameters g c one m.lun.no_program)
     by ReadConfirm h = told_by _ _ _ (ap (λ (w : Bool). not (place_wants ReadConfirm v.target.tail) || (w && may_be_31 v.lun.last)) base ∙ (or-false _ ∙ wanted ReadConfirm)) (told_30 g c)
     by BlockEraseConfirm h = told_by _ _ _ (or-false _ ∙ wanted BlockEraseConfirm) (told_d0 g c)
     by ProgramConfirm h = told_by _ _ _ (or-false _ ∙ wanted ProgramConfirm) (told_10 g c)
@@ -419,6 +424,7 @@ told_command g j v done c d one base low m h = by d h
     by ChangeReadColumnEnhanced h = absurd (barred (is_wide g.optional) (not (has_enhanced_column g.optional)) base h)
     by ReadPlane h = absurd (barred (is_wide g.optional) (not (has_plane_reads g.optional)) base h)
     by CopybackRead h = absurd (barred (is_wide g.optional) (not (has_copyback g.optional)) base h)
+    by ProgramCache h = absurd (barred (is_wide g.optional) (not (has_program_cache g.optional)) base h)
     by ReadUniqueId h = absurd (barred (is_wide g.optional) (not (has_unique_id g.optional)) base h)
     by GetFeatures h = absurd (barred (is_wide g.optional) (not (has_features g.optional)) base h)
     by SetFeatures h = absurd (barred (is_wide g.optional) (not (has_features g.optional)) base h)

@@ -8,7 +8,7 @@ use Rattle.onfi_cycle.specs.declared.item.Kind.TheVariants.{Cmd}
 use Rattle.onfi_cycle.specs.LunView.{LunView}
 use Rattle.onfi_cycle.specs.Command.{command}
 use Rattle.onfi_cycle.specs.Sequence.{is_open}
-use Rattle.onfi_cycle.specs.Lun.{is_cache_read, is_busy}
+use Rattle.onfi_cycle.specs.Lun.{is_cache_read, is_busy, leaves_array_busy, programs}
 use Rattle.onfi_cycle.specs.Channel.{Channel}
 use Rattle.micro_word.specs.declared.word.Word.{Word}
 use Rattle.micro_word.specs.declared.word.Word.TheVariants.{Wait, ReadStatus}
@@ -30,7 +30,7 @@ use Rattle.micro_claims.specs.declared.planes.Planes.{Planes}
 use Rattle.micro_claims.specs.Planes.{just_plane}
 use Rattle.micro_claims.specs.Reasons.{breaks_cycle_forbidden, breaks_address_unaligned, breaks_handover_in_sequence, breaks_buffer_passed, breaks_row_or_plane_outside, breaks_column_too_large, breaks_no_status, breaks_ends_too_soon, breaks_over_budget, breaks_command_not_allowed}
 use Rattle.micro_claims.specs.Accepts.{state_after}
-use Rattle.micro_verify.specs.Lazy.{the_lun, lone_job, Run, run_with, awaited, answer_of}
+use Rattle.micro_verify.specs.Lazy.{the_lun, lone_job, Run, run_with, awaited, answer_of, no_failures}
 use Rattle.micro_verify.specs.Cause.{Cause, WordStops, is_of_cycle_forbidden}
 use Rattle.micro_claims.proofs.Fits.{now_of}
 use Rattle.micro_claims.proofs.Tails.{no_address}
@@ -41,6 +41,7 @@ use Rattle.micro_verify.proofs.Mirrors.{Mirrors, RegistersMirror, TailMirror, Lu
 use Rattle.micro_verify.proofs.Told.{Told, told_status}
 use Rattle.micro_verify.proofs.PollExact.{poll_moves, polled_lone, polled_shut, poll_passes, poll_leaves_lone, unread_exact}
 use Rattle.micro_verify.proofs.Causes.{Goes, ExactWord, reason_holds, reason_is, cost_cause}
+use Rattle.micro_claims.proofs.Programs.{ready_programs}
 
 -- 1. what serves all of them
 
@@ -113,13 +114,15 @@ lun_polled g l now view m =
       cached_page = m.cached_page;
       cached_index = m.cached_index;
       held = m.held;
+      programming = m.programming;
+      no_program = m.no_program;
     }
 
-lun_ready : (g : Parts) (l : KnownLun) (now : ℕ) (view : LunView) (x : Bool) → LunMirror g l now view → LunMirror g (record l { busy = false }) now (record view { busy = false; array_busy = x })
-lun_ready g l now view x m = record { busy = refl; register = m.register; known = m.known; column = m.column; no_column = m.no_column; last = m.last; queue = m.queue; caching = m.caching; other = m.other; read = m.read; cached_page = m.cached_page; cached_index = m.cached_index; held = m.held }
+lun_ready : (g : Parts) (l : KnownLun) (now : ℕ) (view : LunView) (x : Bool) → programs (record view { busy = false; array_busy = x }) ≡ false → LunMirror g l now view → LunMirror g (record l { busy = false }) now (record view { busy = false; array_busy = x })
+lun_ready g l now view x program m = record { busy = refl; register = m.register; known = m.known; column = m.column; no_column = m.no_column; last = m.last; queue = m.queue; caching = m.caching; other = m.other; read = m.read; cached_page = m.cached_page; cached_index = m.cached_index; held = m.held; programming = m.programming; no_program = program }
 
 lun_is_ready : (g : Parts) (l : KnownLun) (now : ℕ) (view : LunView) → view.busy ≡ false → LunMirror g l now view → LunMirror g (record l { busy = false }) now view
-lun_is_ready g l now view e m = record { busy = sym e; register = m.register; known = m.known; column = m.column; no_column = m.no_column; last = m.last; queue = m.queue; caching = m.caching; other = m.other; read = m.read; cached_page = m.cached_page; cached_index = m.cached_index; held = m.held }
+lun_is_ready g l now view e m = record { busy = sym e; register = m.register; known = m.known; column = m.column; no_column = m.no_column; last = m.last; queue = m.queue; caching = m.caching; other = m.other; read = m.read; cached_page = m.cached_page; cached_index = m.cached_index; held = m.held; programming = m.programming; no_program = m.no_program }
 
 pub shut_tail : (g : Parts) (j : Job) (v : State) (done : List Done) (c : Lone) → v.target.tail ≡ Closed → Shut c.facts → TailMirror g j v.target (now_of j done) c
 shut_tail g j v done c single shut = record { place = Closed; single = single; address = no_address; is = shut; now = λ e. cc; column = λ e. cc; row = λ e. cc; named = λ e. cc; base = refl; changes = λ e. cc }
@@ -165,8 +168,8 @@ wait_exact s text v r c k one is m =
       where
         at : (b : Bool) → c.view.busy ≡ b → Goes s text (state_after g v Wait) r Wait
         at true e =
-            goes_from (Rdy 0 0 false ∷ r.past) (record { facts = c.facts; view = record c.view { busy = false; array_busy = c.view.array_busy || (true && is_cache_read c.view.closer) } })
-            (rw (busy_is, e) refl) (ready_next s r.past c k is e) closed (lun_ready g v.lun (index_now 0 r.done) c.view _ m.lun)
+            goes_from (Rdy 0 0 no_failures ∷ r.past) (record { facts = c.facts; view = record c.view { busy = false; array_busy = c.view.array_busy || (c.view.busy && leaves_array_busy c.view.closer) } })
+            (rw (busy_is, e) refl) (ready_next s r.past c k is e) closed (lun_ready g v.lun (index_now 0 r.done) c.view _ (ready_programs c.view no_failures m.lun.no_program) m.lun)
         at false e = goes_from r.past c (rw (busy_is, e) refl) is closed (lun_is_ready g v.lun (index_now 0 r.done) c.view e m.lun)
 
 -- 3. what a test tells

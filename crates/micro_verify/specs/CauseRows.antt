@@ -18,7 +18,7 @@ use Rattle.micro_program.specs.Unsafe.{one_lun}
 use Rattle.micro_claims.specs.SafePrograms.{some_text}
 use Rattle.micro_walk.specs.Faults.{fault_of}
 use Rattle.micro_program.specs.Moves.{and_then}
-use Rattle.micro_verify.specs.Lazy.{lone_channel, lone_job, lazy, Counter, counter_at}
+use Rattle.micro_verify.specs.Lazy.{lone_channel, lone_job, lazy, Counter, counter_at, no_failures}
 use Rattle.micro_verify.specs.Cause.{HasCause}
 
 abbrev pub alone : Channel
@@ -56,7 +56,7 @@ queued = some_text 0 20 (Command 0x60 ∷ (Address 2 3 ∷ (Command 0xd1 ∷ (Wa
 
 -- the trace up to the last row cycle, which the queue doesn't take
 abbrev pub queued_items : List Item
-queued_items = cycle 0 Cmd 0x60 ∷ (cycle 0 Adr 0x00 ∷ (cycle 0 Adr 0x00 ∷ (cycle 0 Adr 0x00 ∷ (cycle 0 Cmd 0xd1 ∷ (Rdy 0 0 false ∷ (cycle 0 Cmd 0x70 ∷ (cycle 0 Dout 0xe0 ∷ (cycle 0 Cmd 0x60 ∷ (cycle 0 Adr 0x00 ∷ (cycle 0 Adr 0x00 ∷ []))))))))))
+queued_items = cycle 0 Cmd 0x60 ∷ (cycle 0 Adr 0x00 ∷ (cycle 0 Adr 0x00 ∷ (cycle 0 Adr 0x00 ∷ (cycle 0 Cmd 0xd1 ∷ (Rdy 0 0 no_failures ∷ (cycle 0 Cmd 0x70 ∷ (cycle 0 Dout 0xe0 ∷ (cycle 0 Cmd 0x60 ∷ (cycle 0 Adr 0x00 ∷ (cycle 0 Adr 0x00 ∷ []))))))))))
 
 -- a column past the page
 abbrev pub wide : Microprogram

@@ -16,6 +16,7 @@ use Rattle.micro_program.specs.Program.{Job, Done, Answer, Nothing, Polled, Got}
 use Rattle.micro_program.specs.Moves.{Move, Give, Take, moves, and_then, is_wait}
 use Rattle.micro_program.specs.Played.{Played, played}
 use Rattle.micro_program.specs.Step.{first_byte}
+use Rattle.onfi_cycle.specs.declared.item.Failures.{Failures}
 
 -- the only LUN
 abbrev pub the_lun : Lun
@@ -37,9 +38,13 @@ pub record Run : Type 0 where
 abbrev pub new_run : Run
 new_run = record { past = []; done = [] }
 
+-- a ready that tells of no failure
+abbrev pub no_failures : Failures
+no_failures = record { last = false; before = false }
+
 -- what the cycles of a word come after: a `wait` that finds the LUN busy comes after its ready
 abbrev pub awaited : Parts → List Item → Word → List Item
-awaited g past word = if is_wait word && is_busy g past the_lun then Rdy 0 0 false ∷ past else past
+awaited g past word = if is_wait word && is_busy g past the_lun then Rdy 0 0 no_failures ∷ past else past
 
 abbrev pub answer_of : Word → List ℕ → Answer
 answer_of (Get len) bytes = Got bytes

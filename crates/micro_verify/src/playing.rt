@@ -12,7 +12,7 @@ ghost use Rattle.target_bus.specs.Bus.{channel_of};
 use crate::moves::{Move, moves_of};
 use crate::registers::Registers;
 use micro_word::Word;
-use onfi_cycle::{Cycle, Lun};
+use onfi_cycle::{Cycle, Failures, Lun};
 use std::alloc::{AllocError, Allocator};
 use target_bus::{Bus, BusRefusal};
 
@@ -128,7 +128,13 @@ fn await_ready<A: Allocator + Copy>(bus: &mut Bus<A>, word: Word)
     ensures past { bus.new.past ≡ awaited bus.old.geometry bus.old.past word }
 {
     if let Word::Wait = word {
-        bus.ready(THE_LUN, false);
+        bus.ready(
+            THE_LUN,
+            Failures {
+                last: false,
+                before: false,
+            },
+        );
     }
 }
 

@@ -215,7 +215,7 @@ beside_at g v s a b c held busy is d =
     record {
       registers = d.registers;
       target = one_place g v.target Closed data_shown data_shown data_is;
-      lun = record { busy = busy; register = is; has_column = k.has; column = k.at; queue = f.queue; last_read = λ h. h; last_cache = λ h. h; last_other = λ h. h; cached_index = f.cached_index; cached_page = f.cached_page; held = among_self no_planes; array = among_self no_planes; copies = copies_self no_copies };
+      lun = record { busy = busy; register = is; has_column = k.has; column = k.at; queue = f.queue; last_read = λ h. h; last_cache = λ h. h; last_other = λ h. h; cached_index = f.cached_index; cached_page = f.cached_page; held = among_self no_planes; array = among_self no_planes; copies = copies_self no_copies; programming = λ h. h };
     }
 
 -- what 90h reads is one of three
@@ -248,7 +248,7 @@ program_at g l v s a from count n d same = record { registers = d.registers; tar
     at : (b : Bool) → LunAt v.lun (cond b (without_pages s.lun) s.lun) (cond b (without_pages a.lun) a.lun)
     at true =
         let f = d.lun in
-        record { busy = f.busy; register = f.register; has_column = f.has_column; column = f.column; queue = f.queue; last_read = f.last_read; last_cache = f.last_cache; last_other = f.last_other; cached_index = f.cached_index; cached_page = f.cached_page; held = among_self no_planes; array = f.array; copies = cleared_copies s.lun.copies a.lun.copies f.copies }
+        record { busy = f.busy; register = f.register; has_column = f.has_column; column = f.column; queue = f.queue; last_read = f.last_read; last_cache = f.last_cache; last_other = f.last_other; cached_index = f.cached_index; cached_page = f.cached_page; held = among_self no_planes; array = f.array; copies = cleared_copies s.lun.copies a.lun.copies f.copies; programming = f.programming }
     at false = d.lun
 
 -- at one place both leave what is claimed

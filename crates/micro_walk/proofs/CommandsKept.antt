@@ -5,7 +5,7 @@ use Rattle.std.proofs.lemmas.Bool.{and_parts, and_from}
 use Rattle.nand_geometry.specs.declared.parts.Parts.{Parts}
 use Rattle.nand_geometry.specs.Limits.{InLimits}
 use Rattle.onfi_cycle.specs.declared.command.Command.{Command}
-use Rattle.onfi_cycle.specs.declared.command.Command.TheVariants.{Read, ReadConfirm, ReadPlane, ChangeReadColumn, ChangeReadColumnEnhanced, ChangeReadColumnConfirm, BlockErase, BlockEraseConfirm, BlockErasePlane, PageProgram, ChangeWriteColumn, ProgramConfirm, ProgramPlane, ReadId, ReadParameterPage, Reset, ReadCacheSequential, ReadCacheEnd, ReadUniqueId, GetFeatures, SetFeatures, ResetLun, SynchronousReset, CopybackRead}
+use Rattle.onfi_cycle.specs.declared.command.Command.TheVariants.{Read, ReadConfirm, ReadPlane, ProgramCache, ChangeReadColumn, ChangeReadColumnEnhanced, ChangeReadColumnConfirm, BlockErase, BlockEraseConfirm, BlockErasePlane, PageProgram, ChangeWriteColumn, ProgramConfirm, ProgramPlane, ReadId, ReadParameterPage, Reset, ReadCacheSequential, ReadCacheEnd, ReadUniqueId, GetFeatures, SetFeatures, ResetLun, SynchronousReset, CopybackRead}
 use Rattle.micro_claims.specs.Spans.{Span}
 use Rattle.micro_claims.specs.Spans.{plus, plus_between}
 use Rattle.micro_claims.specs.declared.planes.Planes.{Planes}
@@ -274,7 +274,7 @@ started_at : (g : Parts) (v s a : State) (q r : QueuedRows) → RowsAre q r → 
 started_at g v s a q r h d = record {
   registers = d.registers;
   target = one_place g v.target Closed s.target.shows a.target.shows d.target.shows;
-  lun = record { busy = λ e. e; register = tt; has_column = tt; column = any_free _; queue = h; last_read = λ e. e; last_cache = λ e. e; last_other = λ e. e; cached_index = d.lun.cached_index; cached_page = d.lun.cached_page; held = among_self no_planes; array = among_self no_planes; copies = copies_self no_copies };
+  lun = record { busy = λ e. e; register = tt; has_column = tt; column = any_free _; queue = h; last_read = λ e. e; last_cache = λ e. e; last_other = λ e. e; cached_index = d.lun.cached_index; cached_page = d.lun.cached_page; held = among_self no_planes; array = among_self no_planes; copies = copies_self no_copies; programming = λ e. e };
 }
 
 features_on : (g : Parts) (v s a : State) (inputs : ℕ) → At g v s a → At g v (features_put s inputs) (features_put a inputs)
@@ -303,14 +303,14 @@ cache_at : (g : Parts) (v s a : State) (last : LastCloser) (x y : CachedPage) (p
 cache_at g v s a last x y ps ms p q h k array shows d = record {
   registers = d.registers;
   target = one_place g v.target Closed p q shows;
-  lun = record { busy = λ e. e; register = page_is; has_column = (first_output v.lun.column).has; column = (first_output v.lun.column).at; queue = d.lun.queue; last_read = λ e. e; last_cache = λ e. e; last_other = λ e. e; cached_index = h; cached_page = k; held = d.lun.array; array = array; copies = copies_self uncopied };
+  lun = record { busy = λ e. e; register = page_is; has_column = (first_output v.lun.column).has; column = (first_output v.lun.column).at; queue = d.lun.queue; last_read = λ e. e; last_cache = λ e. e; last_other = λ e. e; cached_index = h; cached_page = k; held = d.lun.array; array = array; copies = copies_self uncopied; programming = λ e. e };
 }
 
 pub reset_at : (g : Parts) (v s a : State) → At g v s a → At g v (reset_started s) (reset_started a)
 reset_at g v s a d = record {
   registers = d.registers;
   target = one_place g v.target Closed None None tt;
-  lun = record { busy = λ e. e; register = tt; has_column = tt; column = any_free _; queue = refl; last_read = λ e. e; last_cache = λ e. e; last_other = λ e. e; cached_index = d.lun.cached_index; cached_page = d.lun.cached_page; held = among_self no_planes; array = among_self no_planes; copies = copies_self no_copies };
+  lun = record { busy = λ e. e; register = tt; has_column = tt; column = any_free _; queue = refl; last_read = λ e. e; last_cache = λ e. e; last_other = λ e. e; cached_index = d.lun.cached_index; cached_page = d.lun.cached_page; held = among_self no_planes; array = among_self no_planes; copies = copies_self no_copies; programming = λ e. e };
 }
 
 pub command_at : (g : Parts) → InLimits g → (v s a : State) → At g v s a → (c : Command) → ((c ≡ ReadCacheSequential → place_wants ReadCacheSequential s.target.tail ≡ place_wants ReadCacheSequential a.target.tail) × (c ≡ ChangeWriteColumn → place_wants ChangeWriteColumn s.target.tail ≡ place_wants ChangeWriteColumn a.target.tail)) → (c ≡ ChangeReadColumnConfirm → selects_plane_at s.target.tail ≡ selects_plane_at a.target.tail) → At g v (command_leaves g s c) (command_leaves g a c)
@@ -359,6 +359,7 @@ command_at g l v s a d ReadConfirm same plane =
         held = held_read g s.lun.queue a.lun.queue s.target.named a.target.named d.lun.queue d.target.named d.target.fine;
         array = plane_is g s.target.named a.target.named d.target.named d.target.fine;
         copies = copies_self uncopied;
+        programming = λ e. e;
       };
     }
 command_at g l v s a d ReadPlane same plane = record {
@@ -378,6 +379,7 @@ command_at g l v s a d ReadPlane same plane = record {
     held = among_self no_planes;
     array = among_self no_planes;
     copies = copies_self no_copies;
+    programming = λ e. e;
   };
 }
 command_at g l v s a d CopybackRead same plane =
@@ -400,6 +402,7 @@ command_at g l v s a d CopybackRead same plane =
         held = held_copy g v.lun s.lun a.lun s.target.named a.target.named d.lun d.target.named d.target.fine;
         array = plane_is g s.target.named a.target.named d.target.named d.target.fine;
         copies = copies_copy g g.pages v.lun s.lun a.lun s.target.named a.target.named d.lun d.target.named d.target.fine;
+        programming = λ e. e;
       };
     }
 command_at g l v s a d ChangeReadColumnConfirm same plane = at (selects_plane_at s.target.tail) (selects_plane_at a.target.tail) (plane refl)
@@ -430,6 +433,7 @@ command_at g l v s a d ChangeReadColumnConfirm same plane = at (selects_plane_at
             held = f.held;
             array = f.array;
             copies = f.copies;
+            programming = f.programming;
           }
           );
     }
@@ -460,6 +464,27 @@ command_at g l v s a d ProgramPlane same plane = record {
     held = d.lun.held;
     array = among_self no_planes;
     copies = queued_copies s.lun.copies a.lun.copies d.lun.copies;
+    programming = d.lun.programming;
+  };
+}
+command_at g l v s a d ProgramCache same plane = record {
+  registers = d.registers;
+  target = one_place g v.target Closed s.target.shows a.target.shows d.target.shows;
+  lun = record {
+    busy = λ e. e;
+    register = tt;
+    has_column = tt;
+    column = any_free _;
+    queue = refl;
+    last_read = λ e. e;
+    last_cache = λ e. e;
+    last_other = λ e. e;
+    cached_index = d.lun.cached_index;
+    cached_page = d.lun.cached_page;
+    held = among_self no_planes;
+    array = among_self no_planes;
+    copies = copies_self no_copies;
+    programming = λ e. e;
   };
 }
 command_at g l v s a d Reset same plane = reset_at g v s a d

@@ -35,7 +35,7 @@ at_rest polled last shows cached copies n =
     record {
       registers = record first_registers { cost = record { lo = n; hi = Some n; grown = None }; polled = polled };
       target = closed shows;
-      lun = record { busy = false; register = None; column = None; queue = NoRows; last = last; cached = cached; held = no_planes; array = no_planes; copies = copies };
+      lun = record { busy = false; register = None; column = None; queue = NoRows; last = last; cached = cached; held = no_planes; array = no_planes; copies = copies; programming = false };
     }
 
 -- each erase leaves all as it found it, but for five cycles that are paid, and a status that was asked for

@@ -245,7 +245,8 @@ luns_join s t =
     (both_and _ _ _ _ (queues_join s.queue t.queue)
     (both_and _ _ _ _ (sets_join s.last.0 t.last.0)
     (both_and _ _ _ _ (spans_join s.cached.index t.cached.index)
-    (both_and _ _ _ _ (spans_join s.cached.page t.cached.page) (both_and _ _ _ _ (common_join s.held t.held) (both_and _ _ _ _ (common_join s.array t.array) (copies_join s.copies t.copies)))))))))
+    (both_and _ _ _ _ (spans_join s.cached.page t.cached.page) (both_and _ _ _ _ (common_join s.held t.held) (both_and _ _ _ _ (common_join s.array t.array)
+    (both_and _ _ _ _ (copies_join s.copies t.copies) (either_may s.programming t.programming))))))))))
 
 -- 6. states
 

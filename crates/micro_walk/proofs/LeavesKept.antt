@@ -225,7 +225,7 @@ cached_page_is g l v (Some n) (Some m) e f =
 -- 5. polls and hand-overs
 
 pub lun_with_output : (v s a : KnownLun) (k m : Option OutputColumn) → OutputAt v.column k m → LunAt v s a → LunAt v (record s { column = k }) (record a { column = m })
-lun_with_output v s a k m h f = record { busy = f.busy; register = f.register; has_column = h.has; column = h.at; queue = f.queue; last_read = f.last_read; last_cache = f.last_cache; last_other = f.last_other; cached_index = f.cached_index; cached_page = f.cached_page; held = f.held; array = f.array; copies = f.copies }
+lun_with_output v s a k m h f = record { busy = f.busy; register = f.register; has_column = h.has; column = h.at; queue = f.queue; last_read = f.last_read; last_cache = f.last_cache; last_other = f.last_other; cached_index = f.cached_index; cached_page = f.cached_page; held = f.held; array = f.array; copies = f.copies; programming = f.programming }
 
 pub output_of : (v s a : KnownLun) → LunAt v s a → OutputAt v.column s.column a.column
 output_of v s a f = record { has = f.has_column; at = f.column }
@@ -241,7 +241,7 @@ pub ready_at : (g : Parts) (v s a : State) → At g v s a → At g v (found_read
 ready_at g v s a d = record {
   registers = d.registers;
   target = d.target;
-  lun = (let f = d.lun in record { busy = λ h. h; register = f.register; has_column = f.has_column; column = f.column; queue = f.queue; last_read = f.last_read; last_cache = f.last_cache; last_other = f.last_other; cached_index = f.cached_index; cached_page = f.cached_page; held = f.held; array = f.array; copies = f.copies });
+  lun = (let f = d.lun in record { busy = λ h. h; register = f.register; has_column = f.has_column; column = f.column; queue = f.queue; last_read = f.last_read; last_cache = f.last_cache; last_other = f.last_other; cached_index = f.cached_index; cached_page = f.cached_page; held = f.held; array = f.array; copies = f.copies; programming = f.programming });
 }
 
 pub handed_at : (g : Parts) (v s a : State) → At g v s a → At g v (handed_over g s) (handed_over g a)
@@ -259,5 +259,5 @@ pub moved_at : (g : Parts) (v s a : State) (f h : Drift → Option Drift) (x y :
 moved_at g v s a f h x y p q d alike i r = record {
   registers = with_index g v.registers s.registers a.registers x y p q i r d.registers;
   target = (let t = d.target in record { tail = t.tail; has_column = t.has_column; column = t.column; named = named_alike g f h s.target.named a.target.named alike t.named; fine = fine_moved g h a.target.named t.fine; shows = t.shows });
-  lun = (let t = d.lun in record { busy = t.busy; register = t.register; has_column = t.has_column; column = t.column; queue = rows_alike f h s.lun.queue a.lun.queue alike t.queue; last_read = t.last_read; last_cache = t.last_cache; last_other = t.last_other; cached_index = t.cached_index; cached_page = t.cached_page; held = t.held; array = t.array; copies = moved_copies (parity_of g.pages (f no_distance)) (parity_of g.pages (h no_distance)) s.lun.copies a.lun.copies (parity_is g.pages (f no_distance) (h no_distance) (alike no_distance)) t.copies });
+  lun = (let t = d.lun in record { busy = t.busy; register = t.register; has_column = t.has_column; column = t.column; queue = rows_alike f h s.lun.queue a.lun.queue alike t.queue; last_read = t.last_read; last_cache = t.last_cache; last_other = t.last_other; cached_index = t.cached_index; cached_page = t.cached_page; held = t.held; array = t.array; copies = moved_copies (parity_of g.pages (f no_distance)) (parity_of g.pages (h no_distance)) s.lun.copies a.lun.copies (parity_is g.pages (f no_distance) (h no_distance) (alike no_distance)) t.copies; programming = t.programming });
 }

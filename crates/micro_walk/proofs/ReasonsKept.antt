@@ -5,7 +5,7 @@ use Rattle.std.proofs.lemmas.Bool.Decides.{nat_tests}
 use Rattle.nand_geometry.specs.declared.parts.Parts.{Parts}
 use Rattle.nand_geometry.specs.Limits.{InLimits, planes}
 use Rattle.onfi_cycle.specs.declared.command.Command.{Command}
-use Rattle.onfi_cycle.specs.declared.command.Command.TheVariants.{Read, ReadPlane, ChangeReadColumn, ChangeReadColumnEnhanced, ChangeReadColumnConfirm, BlockErase, PageProgram, ChangeWriteColumn, ReadId, ReadParameterPage, ReadUniqueId, GetFeatures, SetFeatures, ReadCacheSequential, ReadCacheEnd, ReadConfirm, CopybackRead}
+use Rattle.onfi_cycle.specs.declared.command.Command.TheVariants.{Read, ReadPlane, ProgramCache, ChangeReadColumn, ChangeReadColumnEnhanced, ChangeReadColumnConfirm, BlockErase, PageProgram, ChangeWriteColumn, ReadId, ReadParameterPage, ReadUniqueId, GetFeatures, SetFeatures, ReadCacheSequential, ReadCacheEnd, ReadConfirm, CopybackRead}
 use Rattle.onfi_cycle.specs.Command.{command, is_opener, addresses_the_array}
 use Rattle.micro_word.specs.declared.word.Word.{Word}
 use Rattle.micro_word.specs.declared.word.Word.TheVariants.{End, Address, Get, Put, Column, RowAdd, Row, Plane, Wait, Yield, ReadStatus, BranchOnStatus}
@@ -23,8 +23,8 @@ use Rattle.micro_claims.specs.Reasons.{breaks_cycle_forbidden, breaks_address_un
 use Rattle.micro_claims.specs.Order.{top, May, column_number, output_number, At, PlaceIs, Anywhere, NothingOpen, Exactly, AllAmong}
 use Rattle.micro_walk.proofs.Shapes.{and_on, or_on, not_on, same_on, no_too, one_within}
 use Rattle.micro_walk.proofs.TestsKept.{Clear, cond_on, most_on, only_data_on, drives_on, show_on, has_register_on, has_page_on, has_column_on, queued_on, length_on, queue_on, identity_byte_on, span_is, open_too, wants_too, selects_too, inputs_too, features_too, inside_too, known_place, planes_on, closed_unwanted, data_closed}
-use Rattle.nand_geometry.specs.Optional.{is_wide, has_copyback, has_odd_even}
-use Rattle.onfi_cycle.specs.Rules.{excludes_cache}
+use Rattle.nand_geometry.specs.Optional.{is_wide, has_copyback, has_odd_even, has_group_cache}
+use Rattle.onfi_cycle.specs.Rules.{excludes_cache, excludes_program}
 
 -- 1. parts of reasons, each by the combinators
 
@@ -35,7 +35,7 @@ not_drives_on : (g : Parts) (v s a : State) → At g v s a → May (not (drives 
 not_drives_on g v s a d = not_on _ _ (drives_on s.target.shows a.target.shows d.target.shows)
 
 identity_opener_on : (g : Parts) (v s a : State) → At g v s a → May (identity_opener_refused g a) (identity_opener_refused g s)
-identity_opener_on g v s a d = and_on _ _ _ _ (same_on _) (or_on _ _ _ _ (or_on _ _ _ _ d.lun.busy (queued_on s.lun.queue a.lun.queue d.lun.queue)) d.lun.last_cache)
+identity_opener_on g v s a d = and_on _ _ _ _ (same_on _) (or_on _ _ _ _ (or_on _ _ _ _ (or_on _ _ _ _ d.lun.busy (queued_on s.lun.queue a.lun.queue d.lun.queue)) d.lun.last_cache) d.lun.programming)
 
 opener_on : (g : Parts) (v s a : State) → At g v s a → (c : Command) → May (opener_refused g a c) (opener_refused g s c)
 opener_on g v s a d ChangeReadColumn =
@@ -62,6 +62,8 @@ closer_on g v s a d ReadPlane = d.lun.last_cache
 closer_on g v s a d CopybackRead = d.lun.last_cache
 closer_on g v s a d ReadConfirm = and_on _ _ _ _ (same_on (is_wide g.optional)) d.lun.last_cache
 closer_on g v s a d ReadCacheSequential = or_on _ _ _ _ (same_on (not (is_wide g.optional))) d.lun.last_other
+closer_on g v s a d ProgramCache =
+    or_on _ _ _ _ (and_on _ _ _ _ (same_on (not (has_group_cache g.optional))) (queued_on s.lun.queue a.lun.queue d.lun.queue)) (and_on _ _ _ _ (same_on (has_copyback g.optional)) d.lun.copies.holds)
 closer_on g v s a d _ = same_on _
 
 command_on : (g : Parts) (v s a : State) → At g v s a → (c : Command) → May (command_out_of_place g a c) (command_out_of_place g s c)
@@ -202,8 +204,9 @@ row_on g v s a d (InFeatures n) = same_on _
 row_on g v s a d Unknown = same_on _
 row_on g v s a d (After opener n) =
     and_on _ _ _ _ (same_on (addresses_the_array opener))
-    (or_on _ _ _ _ (or_on _ _ _ _ (or_on _ _ _ _ (or_on _ _ _ _ d.lun.busy (and_on _ _ _ _ (same_on (excludes_cache g opener)) d.lun.last_cache)) (queue_on s.lun.queue a.lun.queue s.registers.planes a.registers.planes opener d.lun.queue d.registers.planes)) (plane_on g v s a d opener))
+    (or_on _ _ _ _ (or_on _ _ _ _ (or_on _ _ _ _ (or_on _ _ _ _ (or_on _ _ _ _ d.lun.busy (and_on _ _ _ _ (same_on (excludes_cache g opener)) d.lun.last_cache)) (queue_on s.lun.queue a.lun.queue s.registers.planes a.registers.planes opener d.lun.queue d.registers.planes)) (plane_on g v s a d opener))
     (copy_on g v s a d opener))
+    (and_on _ _ _ _ (same_on (excludes_program opener)) d.lun.programming))
 
 identity_on : (g : Parts) (v s a : State) (from count : ℕ) → At g v s a → (p : Place) → May (identity_refused g a from count p) (identity_refused g s from count p)
 identity_on g v s a from count d Closed = same_on _
@@ -316,7 +319,7 @@ no_no_status g text v s a d word c = refl
 
 no_ends_too_soon : (g : Parts) (text : Bounds) (v s a : State) → At g v s a → (word : Word) → Clear g text s word → breaks_ends_too_soon a word ≡ false
 unfolding breaks_ends_too_soon
-no_ends_too_soon g text v s a d (End code) c = no_too _ _ (or_on _ _ _ _ (or_on _ _ _ _ (or_on _ _ _ _ d.lun.busy (open_on g v s a d)) (queued_on s.lun.queue a.lun.queue d.lun.queue)) d.lun.last_cache) c.no_ends_too_soon
+no_ends_too_soon g text v s a d (End code) c = no_too _ _ (or_on _ _ _ _ (or_on _ _ _ _ (or_on _ _ _ _ (or_on _ _ _ _ d.lun.busy (open_on g v s a d)) (queued_on s.lun.queue a.lun.queue d.lun.queue)) d.lun.last_cache) d.lun.programming) c.no_ends_too_soon
 no_ends_too_soon g text v s a d word c = refl
 
 no_over_budget : (g : Parts) (text : Bounds) (v s a : State) → At g v s a → (word : Word) → Clear g text s word → breaks_over_budget g text.budget a word ≡ false

@@ -67,6 +67,7 @@ begins g l =
         held = among_self no_planes;
         array = among_self no_planes;
         copies = copies_self uncopied;
+        programming = λ h. h;
       };
     }
 
@@ -256,6 +257,7 @@ lun_eased v s t a h f =
     let p7 = and_parts _ _ p6.1 in
     let p8 = and_parts _ _ p7.1 in
     let p9 = and_parts _ _ p8.1 in
+    let p10 = and_parts _ _ p9.1 in
     record {
       busy = may_too s.busy t.busy a.busy p1.0 f.busy;
       register = register_eased s.register t.register a.register p2.0 f.register;
@@ -269,7 +271,8 @@ lun_eased v s t a h f =
       cached_page = numbers.eased v.cached.page s.cached.page t.cached.page a.cached.page p7.0 f.cached_page;
       held = λ n here. f.held n (within_among t.held s.held p8.0 n here);
       array = λ n here. f.array n (within_among t.array s.array p9.0 n here);
-      copies = copies_eased s.copies t.copies a.copies p9.1 f.copies;
+      copies = copies_eased s.copies t.copies a.copies p10.0 f.copies;
+      programming = may_too s.programming t.programming a.programming p10.1 f.programming;
     }
 
 pub eases : (g : Parts) (v s t a : State) → is_state_within s t ≡ true → At g v s a → At g v t a
@@ -309,6 +312,7 @@ pub record Stands (g : Parts) (r a : State) : Type 0 where
   pub held : AllAmong r.lun.held a.lun.held
   pub array : AllAmong r.lun.array a.lun.array
   pub copies : CopiesAt r.lun.copies a.lun.copies
+  pub programming : May a.lun.programming r.lun.programming
 
 pub stands : (g : Parts) (v s a : State) → At g v s a → Stands g s a
 stands g v s a d = record {
@@ -334,6 +338,7 @@ stands g v s a d = record {
   held = d.lun.held;
   array = d.lun.array;
   copies = d.lun.copies;
+  programming = d.lun.programming;
 }
 
 -- the numbers of a claim
@@ -415,6 +420,7 @@ made g f v s r a n x = record {
     held = x.held;
     array = x.array;
     copies = x.copies;
+    programming = x.programming;
   };
 }
 

@@ -203,8 +203,8 @@ same_optional copy other same =
     let commands : slice_index copy 8 ≡ slice_index other 8 = same 8 refl in
     let more_commands : slice_index copy 9 ≡ slice_index other 9 = same 9 refl in
     let planes : slice_index copy 114 ≡ slice_index other 114 = same 114 refl in
-    λ i. wide_with (has_bit (commands i) 2) (has_bit (commands i) 4) (has_bit (commands i) 5) (has_bit (commands i) 6) (has_bit (more_commands i) 1)
-    (has_bit (features i) 6) (has_bit (features i) 5 || (has_bit (more_features i) 2 || has_bit (more_features i) 5)) (has_bit (planes i) 1) (has_bit (features i) 4)
+    λ i. wide_with (has_bit (commands i) 0) (has_bit (commands i) 2) (has_bit (commands i) 4) (has_bit (commands i) 5) (has_bit (commands i) 6) (has_bit (more_commands i) 1)
+    (has_bit (features i) 6) (has_bit (features i) 5 || (has_bit (more_features i) 2 || has_bit (more_features i) 5)) (has_bit (planes i) 1) (has_bit (features i) 4) (has_bit (planes i) 2)
 
 same_declared : (profile : Profile) (copy other : List ℕ) → declared_by copy ≡ declared_by other → optional_by copy ≡ optional_by other → declared_as profile copy ≡ declared_as profile other
 same_declared Base copy other numbers optional = numbers

@@ -7,33 +7,41 @@ use Rattle.nand_geometry.specs.Limits.{fault_of, InLimits}
 use Rattle.nand_geometry.specs.declared.optional.Profile.{Profile}
 use Rattle.nand_geometry.specs.declared.optional.Profile.TheVariants.{Base, Onfi}
 use Rattle.nand_geometry.specs.Flag.{flag}
-use Rattle.nand_geometry.specs.Optional.{no_optional, has_features, has_copyback, has_unique_id, has_enhanced_column, has_lun_reset, has_plane_reads, has_synchronous_reset, has_free_blocks, has_odd_even, wide_with, kept_optional, as_read}
-use Rattle.nand_geometry.specs.Page.{features, page_body, crc, page, parameter_bytes}
+use Rattle.nand_geometry.specs.Optional.{no_optional, has_features, has_copyback, has_unique_id, has_enhanced_column, has_lun_reset, has_plane_reads, has_synchronous_reset, has_free_blocks, has_odd_even, has_program_cache, has_group_cache, wide_with, kept_optional, as_read}
+use Rattle.nand_geometry.specs.Page.{features, plane_operations, page_body, crc, page, parameter_bytes}
 use Rattle.nand_geometry.specs.Reading.{whole_copies, has_bit, is_signed, is_sound, optional_by, declared_by, declared_as, has_lun_operations, copy_fault, IsDamaged, PagesReadBack, ParametersReadBack}
 use Rattle.nand_geometry.proofs.ChecksumLemmas.{crc_fits}
 use Rattle.nand_geometry.proofs.LimitLemmas.{faultless}
 use Rattle.nand_geometry.proofs.ReadingLemmas.{scan, read_copy, copies_of_append, no_copy_fault, scan_reads}
 
--- a number of two parts: bits 1, 2 and 3 of one are its own, and the bits of the other stand from bit 4 on
+-- a number of two parts: bits 0 to 3 of one are its own, and the bits of the other stand from bit 4 on
 abbrev number_of : (low high : ℕ) → ℕ
 number_of low high = low + 16 * high
 
-record LowRead (one two three : Bool) (low : ℕ) : Type 0 where
+record LowRead (base one two three : Bool) (low : ℕ) : Type 0 where
   small : low < 16
-  bit_0 : has_bit low 0 ≡ false
+  bit_0 : has_bit low 0 ≡ base
   bit_1 : has_bit low 1 ≡ one
   bit_2 : has_bit low 2 ≡ two
   bit_3 : has_bit low 3 ≡ three
 
-low_read : (one two three : Bool) → LowRead one two three (flag 1 one + flag 2 two + flag 3 three)
-low_read true true true = record { small = omega arith; bit_0 = refl; bit_1 = refl; bit_2 = refl; bit_3 = refl }
-low_read true true false = record { small = omega arith; bit_0 = refl; bit_1 = refl; bit_2 = refl; bit_3 = refl }
-low_read true false true = record { small = omega arith; bit_0 = refl; bit_1 = refl; bit_2 = refl; bit_3 = refl }
-low_read true false false = record { small = omega arith; bit_0 = refl; bit_1 = refl; bit_2 = refl; bit_3 = refl }
-low_read false true true = record { small = omega arith; bit_0 = refl; bit_1 = refl; bit_2 = refl; bit_3 = refl }
-low_read false true false = record { small = omega arith; bit_0 = refl; bit_1 = refl; bit_2 = refl; bit_3 = refl }
-low_read false false true = record { small = omega arith; bit_0 = refl; bit_1 = refl; bit_2 = refl; bit_3 = refl }
-low_read false false false = record { small = omega arith; bit_0 = refl; bit_1 = refl; bit_2 = refl; bit_3 = refl }
+low_read : (base one two three : Bool) → LowRead base one two three (flag 0 base + flag 1 one + flag 2 two + flag 3 three)
+low_read true true true true = record { small = omega arith; bit_0 = refl; bit_1 = refl; bit_2 = refl; bit_3 = refl }
+low_read true true true false = record { small = omega arith; bit_0 = refl; bit_1 = refl; bit_2 = refl; bit_3 = refl }
+low_read true true false true = record { small = omega arith; bit_0 = refl; bit_1 = refl; bit_2 = refl; bit_3 = refl }
+low_read true true false false = record { small = omega arith; bit_0 = refl; bit_1 = refl; bit_2 = refl; bit_3 = refl }
+low_read true false true true = record { small = omega arith; bit_0 = refl; bit_1 = refl; bit_2 = refl; bit_3 = refl }
+low_read true false true false = record { small = omega arith; bit_0 = refl; bit_1 = refl; bit_2 = refl; bit_3 = refl }
+low_read true false false true = record { small = omega arith; bit_0 = refl; bit_1 = refl; bit_2 = refl; bit_3 = refl }
+low_read true false false false = record { small = omega arith; bit_0 = refl; bit_1 = refl; bit_2 = refl; bit_3 = refl }
+low_read false true true true = record { small = omega arith; bit_0 = refl; bit_1 = refl; bit_2 = refl; bit_3 = refl }
+low_read false true true false = record { small = omega arith; bit_0 = refl; bit_1 = refl; bit_2 = refl; bit_3 = refl }
+low_read false true false true = record { small = omega arith; bit_0 = refl; bit_1 = refl; bit_2 = refl; bit_3 = refl }
+low_read false true false false = record { small = omega arith; bit_0 = refl; bit_1 = refl; bit_2 = refl; bit_3 = refl }
+low_read false false true true = record { small = omega arith; bit_0 = refl; bit_1 = refl; bit_2 = refl; bit_3 = refl }
+low_read false false true false = record { small = omega arith; bit_0 = refl; bit_1 = refl; bit_2 = refl; bit_3 = refl }
+low_read false false false true = record { small = omega arith; bit_0 = refl; bit_1 = refl; bit_2 = refl; bit_3 = refl }
+low_read false false false false = record { small = omega arith; bit_0 = refl; bit_1 = refl; bit_2 = refl; bit_3 = refl }
 
 record HighRead (four five six nine : Bool) (high : ℕ) : Type 0 where
   bit_4 : has_bit high 0 ≡ four
@@ -66,8 +74,8 @@ same_bit : (m n : ℕ) (is : Bool) → m ≡ n → (n == 1) ≡ is → (m == 1) 
 same_bit m n is same of = ap (λ (k : ℕ). k == 1) same ∙ of
 
 -- the bits of both bytes of such a number, read again
-record BothRead (one two three four five six nine : Bool) (number : ℕ) : Type 0 where
-  bit_0 : has_bit (number % 256) 0 ≡ false
+record BothRead (base one two three four five six nine : Bool) (number : ℕ) : Type 0 where
+  bit_0 : has_bit (number % 256) 0 ≡ base
   bit_1 : has_bit (number % 256) 1 ≡ one
   bit_2 : has_bit (number % 256) 2 ≡ two
   bit_3 : has_bit (number % 256) 3 ≡ three
@@ -78,12 +86,12 @@ record BothRead (one two three four five six nine : Bool) (number : ℕ) : Type 
   bit_10 : has_bit (number / 256 % 256) 2 ≡ false
   bit_13 : has_bit (number / 256 % 256) 5 ≡ false
 
-both_read : {one two three four five six nine : Bool} (low high : ℕ) → LowRead one two three low → HighRead four five six nine high
-    → BothRead one two three four five six nine (number_of low high)
-both_read {one} {two} {three} {four} {five} {six} {nine} low high l h =
+both_read : {base one two three four five six nine : Bool} (low high : ℕ) → LowRead base one two three low → HighRead four five six nine high
+    → BothRead base one two three four five six nine (number_of low high)
+both_read {base} {one} {two} {three} {four} {five} {six} {nine} low high l h =
     let small = l.small in
     record {
-      bit_0 = same_bit _ (low / 2 ^ 0 % 2) false (omega (arith, small)) l.bit_0;
+      bit_0 = same_bit _ (low / 2 ^ 0 % 2) base (omega (arith, small)) l.bit_0;
       bit_1 = same_bit _ (low / 2 ^ 1 % 2) one (omega (arith, small)) l.bit_1;
       bit_2 = same_bit _ (low / 2 ^ 2 % 2) two (omega (arith, small)) l.bit_2;
       bit_3 = same_bit _ (low / 2 ^ 3 % 2) three (omega (arith, small)) l.bit_3;
@@ -95,12 +103,12 @@ both_read {one} {two} {three} {four} {five} {six} {nine} low high l h =
       bit_13 = same_bit _ (high / 2 ^ 9 % 2) false (omega (arith, small)) h.bit_13;
     }
 
-abbrev flags_of : (one two three four five six nine : Bool) → ℕ
-flags_of one two three four five six nine = number_of (flag 1 one + flag 2 two + flag 3 three) (flag 0 four + flag 1 five + flag 2 six + flag 5 nine)
+abbrev flags_of : (base one two three four five six nine : Bool) → ℕ
+flags_of base one two three four five six nine = number_of (flag 0 base + flag 1 one + flag 2 two + flag 3 three) (flag 0 four + flag 1 five + flag 2 six + flag 5 nine)
 
-flags_read : (one two three four five six nine : Bool) → BothRead one two three four five six nine (flags_of one two three four five six nine)
-flags_read one two three four five six nine =
-    both_read (flag 1 one + flag 2 two + flag 3 three) (flag 0 four + flag 1 five + flag 2 six + flag 5 nine) (low_read one two three) (high_read four five six nine)
+flags_read : (base one two three four five six nine : Bool) → BothRead base one two three four five six nine (flags_of base one two three four five six nine)
+flags_read base one two three four five six nine =
+    both_read (flag 0 base + flag 1 one + flag 2 two + flag 3 three) (flag 0 four + flag 1 five + flag 2 six + flag 5 nine) (low_read base one two three) (high_read four five six nine)
 
 -- a flag sixteen times as high
 raised_4 : (b : Bool) → 16 * flag 0 b ≡ flag 4 b
@@ -119,22 +127,22 @@ raised_9 : (b : Bool) → 16 * flag 5 b ≡ flag 9 b
 raised_9 true = refl
 raised_9 false = refl
 
-features_number : (several planes odd rate reads : Bool) → flags_of several false planes odd rate reads false ≡ flag 1 several + flag 3 planes + flag 4 odd + flag 5 rate + flag 6 reads
+features_number : (several planes odd rate reads : Bool) → flags_of false several false planes odd rate reads false ≡ flag 1 several + flag 3 planes + flag 4 odd + flag 5 rate + flag 6 reads
 features_number several planes odd rate reads = omega (arith, raised_4 odd, raised_5 rate, raised_6 reads)
 
-commands_number : (cache setting enhanced copyback unique column reset : Bool)
-    → flags_of cache setting enhanced copyback unique column reset ≡ flag 1 cache + flag 2 setting + flag 3 enhanced + flag 4 copyback + flag 5 unique + flag 6 column + flag 9 reset
-commands_number cache setting enhanced copyback unique column reset = omega (arith, raised_4 copyback, raised_5 unique, raised_6 column, raised_9 reset)
+commands_number : (programs cache setting enhanced copyback unique column reset : Bool)
+    → flags_of programs cache setting enhanced copyback unique column reset ≡ flag 0 programs + flag 1 cache + flag 2 setting + flag 3 enhanced + flag 4 copyback + flag 5 unique + flag 6 column + flag 9 reset
+commands_number programs cache setting enhanced copyback unique column reset = omega (arith, raised_4 copyback, raised_5 unique, raised_6 column, raised_9 reset)
 
 -- the bits of the features, and those of the optional commands
-features_read : (several planes odd rate reads : Bool) → BothRead several false planes odd rate reads false (flag 1 several + flag 3 planes + flag 4 odd + flag 5 rate + flag 6 reads)
+features_read : (several planes odd rate reads : Bool) → BothRead false several false planes odd rate reads false (flag 1 several + flag 3 planes + flag 4 odd + flag 5 rate + flag 6 reads)
 features_read several planes odd rate reads =
-    subst (BothRead several false planes odd rate reads false) (features_number several planes odd rate reads) (flags_read several false planes odd rate reads false)
+    subst (BothRead false several false planes odd rate reads false) (features_number several planes odd rate reads) (flags_read false several false planes odd rate reads false)
 
-commands_read : (cache setting enhanced copyback unique column reset : Bool)
-    → BothRead cache setting enhanced copyback unique column reset (flag 1 cache + flag 2 setting + flag 3 enhanced + flag 4 copyback + flag 5 unique + flag 6 column + flag 9 reset)
-commands_read cache setting enhanced copyback unique column reset =
-    subst (BothRead cache setting enhanced copyback unique column reset) (commands_number cache setting enhanced copyback unique column reset) (flags_read cache setting enhanced copyback unique column reset)
+commands_read : (programs cache setting enhanced copyback unique column reset : Bool)
+    → BothRead programs cache setting enhanced copyback unique column reset (flag 0 programs + flag 1 cache + flag 2 setting + flag 3 enhanced + flag 4 copyback + flag 5 unique + flag 6 column + flag 9 reset)
+commands_read programs cache setting enhanced copyback unique column reset =
+    subst (BothRead programs cache setting enhanced copyback unique column reset) (commands_number programs cache setting enhanced copyback unique column reset) (flags_read programs cache setting enhanced copyback unique column reset)
 
 -- an interface of double data rate is declared by one of three bits
 double_rate_read : (rate : Bool) (number : ℕ) → has_bit (number % 256) 5 ≡ rate → has_bit (number / 256 % 256) 2 ≡ false → has_bit (number / 256 % 256) 5 ≡ false
@@ -142,9 +150,15 @@ double_rate_read : (rate : Bool) (number : ℕ) → has_bit (number % 256) 5 ≡
 double_rate_read true number five ten thirteen = rw five refl
 double_rate_read false number five ten thirteen = rw (five, ten, thirteen) refl
 
-free_read : (free : Bool) → has_bit (flag 1 free) 1 ≡ free
-free_read true = refl
-free_read false = refl
+record PlanesRead (free group : Bool) (number : ℕ) : Type 0 where
+  bit_1 : has_bit number 1 ≡ free
+  bit_2 : has_bit number 2 ≡ group
+
+planes_read : (free group : Bool) → PlanesRead free group (flag 1 free + flag 2 group)
+planes_read true true = record { bit_1 = refl; bit_2 = refl }
+planes_read true false = record { bit_1 = refl; bit_2 = refl }
+planes_read false true = record { bit_1 = refl; bit_2 = refl }
+planes_read false false = record { bit_1 = refl; bit_2 = refl }
 
 -- a number in its bytes, read again
 two_bytes : (n : ℕ) → n < 65536 → n % 256 + 256 * (n / 256 % 256) ≡ n
@@ -165,11 +179,11 @@ unfolding is_sound
 page_sound g = eq-eqb _ _ (two_bytes (crc (page_body g)) (crc_fits (page_body g)))
 
 page_optional : (g : Parts) → optional_by (page g) ≡ kept_optional Onfi g.optional
-unfolding optional_by
+unfolding optional_by plane_operations
 page_optional g =
     let o = g.optional in
     let f = features_read (nat_lt 1 g.luns) g.multi_plane (has_odd_even o) (has_synchronous_reset o) (has_plane_reads o) in
-    let k = commands_read g.cache (has_features o) g.enhanced (has_copyback o) (has_unique_id o) (has_enhanced_column o) (has_lun_reset o) in
+    let k = commands_read (has_program_cache o) g.cache (has_features o) g.enhanced (has_copyback o) (has_unique_id o) (has_enhanced_column o) (has_lun_reset o) in
     let set_features = k.bit_2 in
     let copyback = k.bit_4 in
     let unique_id = k.bit_5 in
@@ -178,15 +192,18 @@ page_optional g =
     let odd_even = f.bit_4 in
     let plane_reads = f.bit_6 in
     let double_rate = double_rate_read (has_synchronous_reset o) (features g) f.bit_5 f.bit_10 f.bit_13 in
-    let free_blocks = free_read (has_free_blocks o) in
-    λ i. wide_with (set_features i) (copyback i) (unique_id i) (enhanced_column i) (lun_reset i) (plane_reads i) (double_rate i) (free_blocks i) (odd_even i)
+    let p = planes_read (has_free_blocks o) (has_group_cache o) in
+    let free_blocks = p.bit_1 in
+    let group_cache = p.bit_2 in
+    let program_cache = k.bit_0 in
+    λ i. wide_with (program_cache i) (set_features i) (copyback i) (unique_id i) (enhanced_column i) (lun_reset i) (plane_reads i) (double_rate i) (free_blocks i) (odd_even i) (group_cache i)
 
 page_numbers : (g : Parts) → InLimits g → declared_by (page g) ≡ as_read Base g
 unfolding declared_by
 page_numbers g limits =
     let o = g.optional in
     let f = features_read (nat_lt 1 g.luns) g.multi_plane (has_odd_even o) (has_synchronous_reset o) (has_plane_reads o) in
-    let k = commands_read g.cache (has_features o) g.enhanced (has_copyback o) (has_unique_id o) (has_enhanced_column o) (has_lun_reset o) in
+    let k = commands_read (has_program_cache o) g.cache (has_features o) g.enhanced (has_copyback o) (has_unique_id o) (has_enhanced_column o) (has_lun_reset o) in
     let page_bytes = four_bytes g.page_bytes (omega (arith, limits.page_bytes_most)) in
     let spare_bytes = two_bytes g.spare_bytes (omega (arith, limits.spare_bytes_most)) in
     let pages = four_bytes g.pages (omega (arith, limits.pages_most)) in

@@ -4,7 +4,7 @@ use Rattle.nand_geometry.specs.declared.parts.Parts.{Parts}
 use Rattle.nand_geometry.specs.declared.page_fault.PageFault.TheVariants.{TooShort, NoSignature, WrongChecksum, LunsOutOfRange, PlanesOutOfRange, LunCommandsMissing}
 use Rattle.nand_geometry.specs.Limits.{width, page_len, planes, indices, fault_of}
 use Rattle.nand_geometry.specs.Optional.{no_optional}
-use Rattle.nand_geometry.specs.Page.{crc_bits, page}
+use Rattle.nand_geometry.specs.Page.{crc_bits, plane_operations, page}
 use Rattle.nand_geometry.specs.Reading.{is_signed, is_sound, declared_by, copy_fault, page_fault, read_of}
 use Rattle.nand_geometry.specs.Row.{row_bytes_of, row_parts_of, row_of}
 
@@ -87,15 +87,15 @@ abbrev damaged : List ℕ
 damaged = slice_set (page one_lun) 80 1
 
 damaged_page : page_fault damaged ≡ Some WrongChecksum
-unfolding crc_bits is_signed is_sound
+unfolding crc_bits plane_operations is_signed is_sound
 damaged_page = refl
 
 -- a good copy behind it is read
 good_copy_behind : read_of (damaged ++ page one_lun) ≡ Ok one_lun
-unfolding crc_bits is_signed is_sound declared_by copy_fault width
+unfolding crc_bits plane_operations is_signed is_sound declared_by copy_fault width
 good_copy_behind = refl
 
 -- a first copy without the signature isn't used
 unsigned_page : page_fault (slice_set (page two_luns) 0 0) ≡ Some NoSignature
-unfolding crc_bits is_signed is_sound
+unfolding crc_bits plane_operations is_signed is_sound
 unsigned_page = refl

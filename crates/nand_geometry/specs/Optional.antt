@@ -40,6 +40,12 @@ has_copyback o = is_wide o && has_all o 16
 abbrev pub has_plane_reads : Optional → Bool
 has_plane_reads o = is_wide o && has_all o 1024
 
+abbrev pub has_program_cache : Optional → Bool
+has_program_cache o = is_wide o && has_all o 1
+
+abbrev pub has_group_cache : Optional → Bool
+has_group_cache o = is_wide o && has_all o 16384
+
 abbrev pub has_free_blocks : Optional → Bool
 has_free_blocks o = is_wide o && has_all o 4096
 
@@ -47,18 +53,18 @@ abbrev pub has_odd_even : Optional → Bool
 has_odd_even o = is_wide o && has_all o 8192
 
 -- the set of a chip that is read as one of the wider profile, by what it declares
-abbrev pub wide_with : (features copyback unique_id enhanced_column lun_reset plane_reads synchronous_reset free_blocks odd_even : Bool) → Optional
-wide_with features copyback unique_id enhanced_column lun_reset plane_reads synchronous_reset free_blocks odd_even =
+abbrev pub wide_with : (program_cache features copyback unique_id enhanced_column lun_reset plane_reads synchronous_reset free_blocks odd_even group_cache : Bool) → Optional
+wide_with program_cache features copyback unique_id enhanced_column lun_reset plane_reads synchronous_reset free_blocks odd_even group_cache =
     record {
-      0 = 32768 + flag 2 features + flag 4 copyback + flag 5 unique_id + flag 6 enhanced_column + flag 9 lun_reset + flag 10 plane_reads
-          + flag 11 synchronous_reset + flag 12 free_blocks + flag 13 odd_even;
+      0 = 32768 + flag 0 program_cache + flag 2 features + flag 4 copyback + flag 5 unique_id + flag 6 enhanced_column + flag 9 lun_reset + flag 10 plane_reads
+          + flag 11 synchronous_reset + flag 12 free_blocks + flag 13 odd_even + flag 14 group_cache;
     }
 
 -- what is left of a set where a page that declares it is read for a profile
 abbrev pub kept_optional : Profile → Optional → Optional
 kept_optional Base o = no_optional
-kept_optional Onfi o = wide_with (has_features o) (has_copyback o) (has_unique_id o) (has_enhanced_column o) (has_lun_reset o) (has_plane_reads o)
-    (has_synchronous_reset o) (has_free_blocks o) (has_odd_even o)
+kept_optional Onfi o = wide_with (has_program_cache o) (has_features o) (has_copyback o) (has_unique_id o) (has_enhanced_column o) (has_lun_reset o) (has_plane_reads o)
+    (has_synchronous_reset o) (has_free_blocks o) (has_odd_even o) (has_group_cache o)
 
 -- a geometry as its own page is read for a profile
 abbrev pub as_read : Profile → Parts → Parts

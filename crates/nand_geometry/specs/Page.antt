@@ -2,7 +2,7 @@
 use Rattle.std.specs.Prelude.{◌≡◌, ℕ, zero, suc, ◌+◌, ◌*◌, ◌/◌, ◌%◌, ◌^◌, ◌==◌, nat_lt, if◌then◌else◌, List, [], ◌∷◌, ◌++◌, replicate, bit_xor, length}
 use Rattle.nand_geometry.specs.declared.parts.Parts.{Parts}
 use Rattle.nand_geometry.specs.Flag.{flag}
-use Rattle.nand_geometry.specs.Optional.{has_features, has_copyback, has_unique_id, has_enhanced_column, has_lun_reset, has_plane_reads, has_synchronous_reset, has_free_blocks, has_odd_even}
+use Rattle.nand_geometry.specs.Optional.{has_features, has_copyback, has_unique_id, has_enhanced_column, has_lun_reset, has_plane_reads, has_synchronous_reset, has_free_blocks, has_odd_even, has_program_cache, has_group_cache}
 
 -- so many bytes of a number, the least significant first
 abbrev pub low_bytes : ℕ → ℕ → List ℕ
@@ -15,11 +15,15 @@ abbrev pub features : Parts → ℕ
 features g =
     flag 1 (nat_lt 1 g.luns) + flag 3 g.multi_plane + flag 4 (has_odd_even g.optional) + flag 5 (has_synchronous_reset g.optional) + flag 6 (has_plane_reads g.optional)
 
--- read cache is bit 1, Get and Set Features bit 2, Read Status Enhanced bit 3, Copyback bit 4, Read Unique ID bit 5,
+-- Page Cache Program is bit 0, read cache bit 1, Get and Set Features bit 2, Read Status Enhanced bit 3, Copyback bit 4, Read Unique ID bit 5,
 -- Change Read Column Enhanced bit 6, and Reset LUN bit 9
 abbrev pub optional_commands : Parts → ℕ
 optional_commands g =
-    flag 1 g.cache + flag 2 (has_features g.optional) + flag 3 g.enhanced + flag 4 (has_copyback g.optional) + flag 5 (has_unique_id g.optional) + flag 6 (has_enhanced_column g.optional) + flag 9 (has_lun_reset g.optional)
+    flag 0 (has_program_cache g.optional) + flag 1 g.cache + flag 2 (has_features g.optional) + flag 3 g.enhanced + flag 4 (has_copyback g.optional) + flag 5 (has_unique_id g.optional) + flag 6 (has_enhanced_column g.optional) + flag 9 (has_lun_reset g.optional)
+
+-- bit 1: the blocks of one group of planes may have any bits above those of the plane; bit 2: cache programs of several planes
+unfoldable pub plane_operations : Parts → ℕ
+plane_operations g = flag 1 (has_free_blocks g.optional) + flag 2 (has_group_cache g.optional)
 
 abbrev zeros : ℕ → List ℕ
 zeros count = replicate count 0
@@ -29,7 +33,7 @@ abbrev pub page_body : Parts → List ℕ
 page_body g =
     (0x4f ∷ (0x4e ∷ (0x46 ∷ (0x49 ∷ [])))) ++ (zeros 2 ++ (low_bytes 2 (features g) ++ (low_bytes 2 (optional_commands g) ++ (zeros 70
     ++ (low_bytes 4 g.page_bytes ++ (low_bytes 2 g.spare_bytes ++ (zeros 6 ++ (low_bytes 4 g.pages ++ (low_bytes 4 g.blocks
-    ++ ((g.luns ∷ (0x23 ∷ [])) ++ (zeros 11 ++ ((g.plane_bits ∷ (flag 1 (has_free_blocks g.optional) ∷ [])) ++ zeros 139))))))))))))
+    ++ ((g.luns ∷ (0x23 ∷ [])) ++ (zeros 11 ++ ((g.plane_bits ∷ (plane_operations g ∷ [])) ++ zeros 139))))))))))))
 
 -- the checksum's shift register takes one bit in; 8005h is XORed in unless it equals the bit that leaves
 abbrev pub crc_bit : ℕ → ℕ → ℕ

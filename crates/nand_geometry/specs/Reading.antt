@@ -53,8 +53,9 @@ has_double_rate copy = has_bit (slice_index copy 6) 5 || (has_bit (slice_index c
 
 -- what a copy declares beyond the base profile
 unfoldable pub optional_by : List ℕ → Optional
-optional_by copy = wide_with (has_bit (slice_index copy 8) 2) (has_bit (slice_index copy 8) 4) (has_bit (slice_index copy 8) 5) (has_bit (slice_index copy 8) 6)
+optional_by copy = wide_with (has_bit (slice_index copy 8) 0) (has_bit (slice_index copy 8) 2) (has_bit (slice_index copy 8) 4) (has_bit (slice_index copy 8) 5) (has_bit (slice_index copy 8) 6)
     (has_bit (slice_index copy 9) 1) (has_bit (slice_index copy 6) 6) (has_double_rate copy) (has_bit (slice_index copy 114) 1) (has_bit (slice_index copy 6) 4)
+    (has_bit (slice_index copy 114) 2)
 
 -- the numbers that a copy declares, in the base profile
 unfoldable pub declared_by : List ℕ → Parts

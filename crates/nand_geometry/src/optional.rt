@@ -1,6 +1,6 @@
 //! The commands beyond the base profile that a chip has.
 ghost use Rattle.std.specs.Prelude.{⊤, ◌≡◌, [], ◌∷◌, codes};
-ghost use Rattle.nand_geometry.specs.Optional.{no_optional, is_wide, has_features, has_copyback, has_unique_id, has_enhanced_column, has_lun_reset, has_plane_reads, has_synchronous_reset, has_free_blocks, has_odd_even};
+ghost use Rattle.nand_geometry.specs.Optional.{no_optional, is_wide, has_features, has_copyback, has_unique_id, has_enhanced_column, has_lun_reset, has_plane_reads, has_synchronous_reset, has_free_blocks, has_odd_even, has_program_cache, has_group_cache};
 
 use bitflags::{Flag, Flags, bitflag_items};
 
@@ -19,7 +19,9 @@ pub struct Optional(pub u16);
 
 bitflag_items! {
     impl Optional: u16 {
-        /// EEh and EFh, Get Features and Set Features (byte 8 bit 2 of the parameter page).
+        /// 15h, Page Cache Program (byte 8 bit 0 of the parameter page).
+        const PROGRAM_CACHE = 1;
+        /// EEh and EFh, Get Features and Set Features (byte 8 bit 2).
         const FEATURES = 4;
         /// 35h and 85h with five addresses, Copyback Read and Copyback Program (byte 8 bit 4).
         const COPYBACK = 16;
@@ -37,6 +39,8 @@ bitflag_items! {
         const FREE_BLOCKS = 4096;
         /// A copyback may go from an odd page to an even one, or back (byte 6 bit 4).
         const ODD_EVEN = 8192;
+        /// 15h may close the program of several planes too (byte 114 bit 2).
+        const GROUP_CACHE = 16_384;
         /// What each chip of the profile has: 90h with the addresses 00h and 40h, and FFh in an open sequence.
         const WIDE = 32_768;
     }
@@ -47,7 +51,7 @@ impl Flags for Optional {
 
     ghost exact = { ⊤ };
 
-    ghost table = { (codes "FEATURES", 4) ∷ (codes "COPYBACK", 16) ∷ (codes "UNIQUE_ID", 32) ∷ (codes "ENHANCED_COLUMN", 64) ∷ (codes "RESET_LUN", 512) ∷ (codes "PLANE_READS", 1024) ∷ (codes "SYNCHRONOUS_RESET", 2048) ∷ (codes "FREE_BLOCKS", 4096) ∷ (codes "ODD_EVEN", 8192) ∷ (codes "WIDE", 32768) ∷ [] };
+    ghost table = { (codes "PROGRAM_CACHE", 1) ∷ (codes "FEATURES", 4) ∷ (codes "COPYBACK", 16) ∷ (codes "UNIQUE_ID", 32) ∷ (codes "ENHANCED_COLUMN", 64) ∷ (codes "RESET_LUN", 512) ∷ (codes "PLANE_READS", 1024) ∷ (codes "SYNCHRONOUS_RESET", 2048) ∷ (codes "FREE_BLOCKS", 4096) ∷ (codes "ODD_EVEN", 8192) ∷ (codes "GROUP_CACHE", 16384) ∷ (codes "WIDE", 32768) ∷ [] };
 
     ghost set_of = { λ o. o.0 };
 
@@ -73,6 +77,20 @@ impl Optional {
         ensures { result ≡ is_wide self }
     {
         self.contains(Optional::WIDE)
+    }
+
+    /// The chip has Page Cache Program.
+    pub fn has_program_cache(self) -> bool
+        ensures { result ≡ has_program_cache self }
+    {
+        self.is_wide() && self.contains(Optional::PROGRAM_CACHE)
+    }
+
+    /// Page Cache Program may close the program of several planes.
+    pub fn has_group_cache(self) -> bool
+        ensures { result ≡ has_group_cache self }
+    {
+        self.is_wide() && self.contains(Optional::GROUP_CACHE)
     }
 
     /// The chip has Get Features and Set Features.

@@ -96,6 +96,7 @@ fn optional_by(copy: &[u8]) -> Optional
 {
     Optional(
         Optional::WIDE.0
+            + flag(0, has_bit(copy[8], 0))
             + flag(2, has_bit(copy[8], 2))
             + flag(4, has_bit(copy[8], 4))
             + flag(5, has_bit(copy[8], 5))
@@ -104,7 +105,8 @@ fn optional_by(copy: &[u8]) -> Optional
             + flag(10, has_bit(copy[6], 6))
             + flag(11, has_double_rate(copy))
             + flag(12, has_bit(copy[114], 1))
-            + flag(13, has_bit(copy[6], 4)),
+            + flag(13, has_bit(copy[6], 4))
+            + flag(14, has_bit(copy[114], 2)),
     )
 }
 

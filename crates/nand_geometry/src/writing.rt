@@ -1,8 +1,8 @@
 //! The blocks of a parameter page (ONFI 4.x, Parameter Page Data Structure Definition), all but its checksum.
 
-ghost use Rattle.std.specs.Prelude.{◌≡◌, ◌<◌, take, slice_range};
+ghost use Rattle.std.specs.Prelude.{◌≡◌, ◌<◌, ◌≤◌, ◌^◌, take, slice_range};
 ghost use Rattle.nand_geometry.specs.Flag.{flag};
-ghost use Rattle.nand_geometry.specs.Page.{low_bytes, features, optional_commands, page_body};
+ghost use Rattle.nand_geometry.specs.Page.{low_bytes, features, optional_commands, plane_operations, page_body};
 
 use crate::Parts;
 use byteorder::{ByteOrder, LittleEndian};
@@ -18,9 +18,9 @@ fn u32_bytes(number: u32) -> [u8; 4]
 
 /// A bit of a field, where it is set.
 pub(crate) fn flag(bit: u32, set: bool) -> u16
-    requires { bit < 14 }
+    requires { bit < 15 }
     ensures value { result ≡ flag bit set }
-    ensures small { result < 16384 }
+    ensures small { result ≤ 2 ^ bit }
 {
     if set { 1 << bit } else { 0 }
 }
@@ -38,19 +38,29 @@ fn features(parts: Parts) -> u16
         + flag(6, optional.has_plane_reads())
 }
 
-/// Read cache is bit 1, Get and Set Features bit 2, Read Status Enhanced bit 3, Copyback bit 4, Read Unique ID bit 5,
+/// Page Cache Program is bit 0, read cache bit 1, Get and Set Features bit 2, Read Status Enhanced bit 3, Copyback bit 4, Read Unique ID bit 5,
 /// Change Read Column Enhanced bit 6, Reset LUN bit 9.
 fn optional_commands(parts: Parts) -> u16
     ensures { result ≡ optional_commands parts }
 {
     let optional = parts.optional;
-    flag(1, parts.cache)
+    flag(0, optional.has_program_cache())
+        + flag(1, parts.cache)
         + flag(2, optional.has_features())
         + flag(3, parts.enhanced)
         + flag(4, optional.has_copyback())
         + flag(5, optional.has_unique_id())
         + flag(6, optional.has_enhanced_column())
         + flag(9, optional.has_lun_reset())
+}
+
+/// Bit 1: the blocks of one group of planes may have any bits above those of the plane; bit 2: cache programs of several planes.
+#[tactic(auto, unfolding(crate::specs::Page::plane_operations))]
+fn plane_operations(parts: Parts) -> u16
+    ensures value { result ≡ plane_operations parts }
+    ensures small { result < 256 }
+{
+    flag(1, parts.optional.has_free_blocks()) + flag(2, parts.optional.has_group_cache())
 }
 
 /// Bytes 0 to 31: the revision information and features block, whose revision bytes are zero.
@@ -76,6 +86,6 @@ pub fn organization_block(parts: Parts) -> [u8; 48]
     block[20] = parts.luns;
     block[21] = 0x23;
     block[33] = parts.plane_bits;
-    block[34] = flag(1, parts.optional.has_free_blocks()) as u8;
+    block[34] = plane_operations(parts) as u8;
     block
 }

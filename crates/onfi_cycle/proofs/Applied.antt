@@ -5,10 +5,11 @@ use Rattle.std.proofs.lemmas.Bool.Decides.{nat_tests}
 use Rattle.nand_geometry.specs.declared.parts.Parts.{Parts}
 use Rattle.onfi_cycle.specs.declared.command.Command.{Command}
 use Rattle.onfi_cycle.specs.declared.opening.Opening.{Opening}
-use Rattle.onfi_cycle.specs.declared.command.Command.TheVariants.{Read, ReadConfirm, ChangeReadColumn, ChangeReadColumnConfirm, BlockErase, BlockEraseConfirm, BlockErasePlane, ReadStatus, ReadStatusEnhanced, PageProgram, ChangeWriteColumn, ProgramConfirm, ProgramPlane, ReadId, ReadParameterPage, Reset, ReadCacheSequential, ReadCacheEnd, ReadUniqueId, GetFeatures, SetFeatures, ResetLun, SynchronousReset, Unknown, ChangeReadColumnEnhanced, ReadPlane, CopybackRead}
+use Rattle.onfi_cycle.specs.declared.command.Command.TheVariants.{Read, ReadConfirm, ChangeReadColumn, ChangeReadColumnConfirm, BlockErase, BlockEraseConfirm, BlockErasePlane, ReadStatus, ReadStatusEnhanced, PageProgram, ChangeWriteColumn, ProgramConfirm, ProgramPlane, ReadId, ReadParameterPage, Reset, ReadCacheSequential, ReadCacheEnd, ReadUniqueId, GetFeatures, SetFeatures, ResetLun, SynchronousReset, Unknown, ChangeReadColumnEnhanced, ReadPlane, CopybackRead, ProgramCache}
 use Rattle.onfi_cycle.specs.declared.item.Cycle.{Cycle}
 use Rattle.onfi_cycle.specs.declared.effect.Effect.{Effect}
 use Rattle.onfi_cycle.specs.declared.effect.Effect.TheVariants.{Unaffected, BecameReady, ArrayBecameReady}
+use Rattle.onfi_cycle.specs.declared.item.Failures.{Failures}
 use Rattle.onfi_cycle.specs.declared.item.Item.{Item}
 use Rattle.onfi_cycle.specs.declared.item.Item.TheVariants.{Cyc, Rdy, Ard}
 use Rattle.onfi_cycle.specs.declared.latch.Latch.{Latch}
@@ -52,6 +53,7 @@ command_rests g t s PageProgram n h = rw h refl
 command_rests g t s ChangeWriteColumn n h = rw h refl
 command_rests g t s ProgramConfirm n h = rw h refl
 command_rests g t s ProgramPlane n h = rw h refl
+command_rests g t s ProgramCache n h = rw h refl
 command_rests g t s ReadId n h = rw h refl
 command_rests g t s ReadParameterPage n h = rw h refl
 command_rests g t s Reset n h = cc
@@ -81,6 +83,7 @@ address_rests g t byte PageProgram k n h = rw h refl
 address_rests g t byte ChangeWriteColumn k n h = refl
 address_rests g t byte ProgramConfirm k n h = refl
 address_rests g t byte ProgramPlane k n h = refl
+address_rests g t byte ProgramCache k n h = refl
 address_rests g t byte ReadId k n h = cc
 address_rests g t byte ReadParameterPage k n h = cc
 address_rests g t byte Reset k n h = refl
@@ -146,11 +149,11 @@ one_on_luns g t sole i a lun is (suc k) n at (v ∷ vs) =
     ap (λ (e : Effect). view_after e v ∷ one_after a k vs) (sym here) ∙
     ap (λ (ws : List LunView). view_after (effect_alone g t sole i n v) v ∷ ws) (one_on_luns g t sole i a lun is k (n + 1) (omega arith) vs)
 
-pub ready_on_luns : (g : Parts) (t : TailFacts) (sole : Bool) (ce lun : ℕ) (fail : Bool) (vs : List LunView) → one_after (BecameReady fail) lun vs ≡ luns_after g t sole (Rdy ce lun fail) 0 vs
+pub ready_on_luns : (g : Parts) (t : TailFacts) (sole : Bool) (ce lun : ℕ) (fail : Failures) (vs : List LunView) → one_after (BecameReady fail) lun vs ≡ luns_after g t sole (Rdy ce lun fail) 0 vs
 ready_on_luns g t sole ce lun fail vs = one_on_luns g t sole (Rdy ce lun fail) (BecameReady fail) lun (λ m v. rw (eqb_self ce) refl) lun 0 (omega arith) vs
 
-pub array_ready_on_luns : (g : Parts) (t : TailFacts) (sole : Bool) (ce lun : ℕ) (vs : List LunView) → one_after ArrayBecameReady lun vs ≡ luns_after g t sole (Ard ce lun) 0 vs
-array_ready_on_luns g t sole ce lun vs = one_on_luns g t sole (Ard ce lun) ArrayBecameReady lun (λ m v. rw (eqb_self ce) refl) lun 0 (omega arith) vs
+pub array_ready_on_luns : (g : Parts) (t : TailFacts) (sole : Bool) (ce lun : ℕ) (fail : Bool) (vs : List LunView) → one_after (ArrayBecameReady fail) lun vs ≡ luns_after g t sole (Ard ce lun fail) 0 vs
+array_ready_on_luns g t sole ce lun fail vs = one_on_luns g t sole (Ard ce lun fail) (ArrayBecameReady fail) lun (λ m v. rw (eqb_self ce) refl) lun 0 (omega arith) vs
 
 -- as the code does it, by a place in a list
 pub one_is_set : (a : Effect) (vs : List LunView) (k : ℕ) (d : LunView) → set vs k (view_after a (get_or vs k d)) ≡ one_after a k vs
@@ -173,10 +176,10 @@ target_cycled g c cycle s u is tail luns =
     ap (λ (t : TailFacts). target t u.luns) (tail ∙ ap (λ (d : TargetCycle). facts_after d s.tail) is) ∙
     ap (target (facts_after (target_cycle c.kind c.byte) s.tail)) (luns ∙ (ap (λ (d : TargetCycle). luns_after_cycle g s.tail (has_driver s.luns) d 0 s.luns) is ∙ cycle_on_luns g s.tail (has_driver s.luns) c 0 s.luns))
 
-pub target_readied : (g : Parts) (ce lun : ℕ) (fail : Bool) (t : TailFacts) (vs ws : List LunView) (s : TargetView) → ws ≡ one_after (BecameReady fail) lun vs → target t vs ≡ s → target t ws ≡ target_after g (Rdy ce lun fail) s
+pub target_readied : (g : Parts) (ce lun : ℕ) (fail : Failures) (t : TailFacts) (vs ws : List LunView) (s : TargetView) → ws ≡ one_after (BecameReady fail) lun vs → target t vs ≡ s → target t ws ≡ target_after g (Rdy ce lun fail) s
 target_readied g ce lun fail t vs ws s is whole =
     ap (target t) (is ∙ ready_on_luns g t (has_driver vs) ce lun fail vs) ∙ ap (λ (u : TargetView). target_after g (Rdy ce lun fail) u) whole
 
-pub target_array_readied : (g : Parts) (ce lun : ℕ) (t : TailFacts) (vs ws : List LunView) (s : TargetView) → ws ≡ one_after ArrayBecameReady lun vs → target t vs ≡ s → target t ws ≡ target_after g (Ard ce lun) s
-target_array_readied g ce lun t vs ws s is whole =
-    ap (target t) (is ∙ array_ready_on_luns g t (has_driver vs) ce lun vs) ∙ ap (λ (u : TargetView). target_after g (Ard ce lun) u) whole
+pub target_array_readied : (g : Parts) (ce lun : ℕ) (fail : Bool) (t : TailFacts) (vs ws : List LunView) (s : TargetView) → ws ≡ one_after (ArrayBecameReady fail) lun vs → target t vs ≡ s → target t ws ≡ target_after g (Ard ce lun fail) s
+target_array_readied g ce lun fail t vs ws s is whole =
+    ap (target t) (is ∙ array_ready_on_luns g t (has_driver vs) ce lun fail vs) ∙ ap (λ (u : TargetView). target_after g (Ard ce lun fail) u) whole

@@ -1,7 +1,7 @@
 -- Commands and their bytes.
 use Rattle.std.proofs.Common.{◌≡◌, ◌≢◌, ℕ, ◌==◌, Bool, true, false, cond, Some, refl, sym, ap, ◌∙◌, eqb-true}
 use Rattle.onfi_cycle.specs.declared.command.Command.{Command}
-use Rattle.onfi_cycle.specs.declared.command.Command.TheVariants.{Read, ReadConfirm, ChangeReadColumn, ChangeReadColumnConfirm, BlockErase, BlockEraseConfirm, BlockErasePlane, ReadStatus, ReadStatusEnhanced, PageProgram, ChangeWriteColumn, ProgramConfirm, ProgramPlane, ReadId, ReadParameterPage, Reset, ReadCacheSequential, ReadCacheEnd, ReadUniqueId, GetFeatures, SetFeatures, ResetLun, SynchronousReset, Unknown, ChangeReadColumnEnhanced, ReadPlane, CopybackRead}
+use Rattle.onfi_cycle.specs.declared.command.Command.TheVariants.{Read, ReadConfirm, ChangeReadColumn, ChangeReadColumnConfirm, BlockErase, BlockEraseConfirm, BlockErasePlane, ReadStatus, ReadStatusEnhanced, PageProgram, ChangeWriteColumn, ProgramConfirm, ProgramPlane, ReadId, ReadParameterPage, Reset, ReadCacheSequential, ReadCacheEnd, ReadUniqueId, GetFeatures, SetFeatures, ResetLun, SynchronousReset, Unknown, ChangeReadColumnEnhanced, ReadPlane, CopybackRead, ProgramCache}
 use Rattle.onfi_cycle.specs.Command.{command, opcode, CommandsHaveBytes}
 
 command_of_byte : (c : Command) (byte : ℕ) → opcode c ≡ Some byte → command byte ≡ c
@@ -9,6 +9,7 @@ unfolding command
 command_of_byte Read byte h = let e : 0x00 ≡ byte = cc in ap command (sym e)
 command_of_byte ReadConfirm byte h = let e : 0x30 ≡ byte = cc in ap command (sym e)
 command_of_byte CopybackRead byte h = let e : 0x35 ≡ byte = cc in ap command (sym e)
+command_of_byte ProgramCache byte h = let e : 0x15 ≡ byte = cc in ap command (sym e)
 command_of_byte ReadPlane byte h = let e : 0x32 ≡ byte = cc in ap command (sym e)
 command_of_byte ChangeReadColumn byte h = let e : 0x05 ≡ byte = cc in ap command (sym e)
 command_of_byte ChangeReadColumnEnhanced byte h = let e : 0x06 ≡ byte = cc in ap command (sym e)
@@ -71,7 +72,8 @@ byte_of_command byte =
     (one_test byte 0x06 ChangeReadColumnEnhanced _ refl
     (one_test byte 0x32 ReadPlane _ refl
     (one_test byte 0x35 CopybackRead _ refl
-    (λ known. absurd (known refl)))))))))))))))))))))))))))
+    (one_test byte 0x15 ProgramCache _ refl
+    (λ known. absurd (known refl))))))))))))))))))))))))))))
 
 pub commands_have_bytes : CommandsHaveBytes
 commands_have_bytes = record { command_of_byte = command_of_byte; byte_of_command = byte_of_command }

@@ -13,12 +13,12 @@ use Rattle.onfi_cycle.specs.declared.register.Register.{Register}
 use Rattle.onfi_cycle.specs.declared.register.Register.TheVariants.{Empty, Page, Features}
 use Rattle.onfi_cycle.specs.declared.read_column.ReadColumn.{ReadColumn}
 use Rattle.onfi_cycle.specs.declared.effect.Effect.{Effect}
-use Rattle.onfi_cycle.specs.declared.effect.Effect.TheVariants.{StatusSelected, StatusOfSelected, StatusRowAwaited, IdRead, IdentityRead, UniqueIdReadStarted, FeaturesReadStarted, ParameterPageReadStarted, CacheReadContinued, CacheReadEnded, DataOutput, BecameReady, ReadStarted, EraseStarted, ProgramStarted, ReadColumnChanged, PlaneSelected, ReadQueued, CopybackReadStarted, ProgramAddressed}
+use Rattle.onfi_cycle.specs.declared.effect.Effect.TheVariants.{StatusSelected, StatusOfSelected, StatusRowAwaited, IdRead, IdentityRead, UniqueIdReadStarted, FeaturesReadStarted, ParameterPageReadStarted, CacheReadContinued, CacheReadEnded, DataOutput, BecameReady, ReadStarted, EraseStarted, ProgramStarted, ReadColumnChanged, PlaneSelected, ReadQueued, CopybackReadStarted, ProgramAddressed, CacheProgramStarted}
 use Rattle.onfi_cycle.specs.declared.tail_facts.TailFacts.{TailFacts}
 use Rattle.onfi_cycle.specs.declared.command.Command.TheVariants.{ReadCacheSequential}
 use Rattle.onfi_cycle.specs.Sequence.{row, wants_command}
 use Rattle.onfi_cycle.specs.Effect.{page_address, plane_of_row}
-use Rattle.onfi_cycle.specs.Lun.{effect_on, busy_after, closer_after, array_busy_after, array_page_after, next_page, register_after, read_column_after, queue_after, is_busy, is_caching, closer, is_array_busy, array_page, register, read_column, queue, held, held_after, has_reads, page_in_plane, register_of_plane, pages_of_reads, held_on, is_copyback_read}
+use Rattle.onfi_cycle.specs.Lun.{effect_on, busy_after, closer_after, array_busy_after, array_page_after, next_page, register_after, read_column_after, queue_after, is_busy, leaves_array_busy, keeps_array_busy, closer, is_array_busy, array_page, register, read_column, queue, held, held_after, has_reads, page_in_plane, register_of_plane, pages_of_reads, held_on, is_copyback_read}
 use Rattle.onfi_cycle.specs.Decides.{or_before, last_decided, count_since, some_since, with_some, all_since, tail_of, closing, work_of, busy_decided, ends_array_work, array_busy_decided, reads_page, reads_its_row, reads_on, page_read, pages_on, first_page, page_of_array, byte_of, register_of, register_decided, changes_column, column_of, column_decided, is_given, gives_column, outputs_data, outputs_since, loses_column, is_status_command, is_cycle_of, empties_queue, queued_row, held_of, held_decided}
 use Rattle.onfi_cycle.proofs.Meaning.{means, closer_of, is_ready, is_array_ready, is_column_change, is_data_output, is_status, Carries, is_plane_selected, is_program_addressed}
 
@@ -34,6 +34,7 @@ closer_step (EraseStarted true row) before = refl
 closer_step (EraseStarted false row) before = refl
 closer_step (ProgramStarted true page) before = refl
 closer_step (ProgramStarted false page) before = refl
+closer_step (CacheProgramStarted page) before = refl
 closer_step _ before = refl
 
 pub closer_decided : (g : Parts) (past : List Item) (l : Lun) → closer g past l ≡ last_decided (closing g l) past
@@ -49,6 +50,7 @@ busy_step (EraseStarted true row) before = refl
 busy_step (EraseStarted false row) before = refl
 busy_step (ProgramStarted true page) before = refl
 busy_step (ProgramStarted false page) before = refl
+busy_step (CacheProgramStarted page) before = refl
 busy_step _ before = refl
 
 pub busy_is_decided : (g : Parts) (past : List Item) (l : Lun) → is_busy g past l ≡ unwrap_or (last_decided (busy_decided g l) past) false
@@ -60,23 +62,27 @@ busy_is_decided g (i ∷ past) l =
 
 -- 3. the array
 
-array_busy_table : (array ready : Bool) → Option Command → (busy caching : Bool) → Option Bool
-array_busy_table array ready c busy caching = cond array (Some false) (cond ready (cond (busy && caching) (Some true) None) (ends_array_work c))
+array_busy_table : (array ready : Bool) → Option Command → (busy : Bool) → Option Command → Option Bool
+array_busy_table array ready c busy last = cond array (Some false) (cond ready (cond (busy && leaves_array_busy last) (Some true) None) (ends_array_work last c))
 
-array_busy_step : (e : Effect) (busy caching before : Bool) → array_busy_after e busy caching before ≡ unwrap_or (array_busy_table (is_array_ready e) (is_ready e) (closer_of e) busy caching) before
+array_busy_step : (e : Effect) (busy : Bool) (last : Option Command) (before : Bool) → array_busy_after e busy last before ≡ unwrap_or (array_busy_table (is_array_ready e) (is_ready e) (closer_of e) busy last) before
 unfolding array_busy_table
-array_busy_step (EraseStarted true row) busy caching before = refl
-array_busy_step (EraseStarted false row) busy caching before = refl
-array_busy_step (ProgramStarted true page) busy caching before = refl
-array_busy_step (ProgramStarted false page) busy caching before = refl
-array_busy_step (BecameReady failed) busy caching before = at (busy && caching) before
+array_busy_step (EraseStarted true row) busy last before = refl
+array_busy_step (EraseStarted false row) busy last before = refl
+array_busy_step (ProgramStarted true page) busy last before = of (keeps_array_busy last) before
+  where
+    of : (keeps before : Bool) → (keeps && before) ≡ unwrap_or (cond keeps None (Some false)) before
+    of true before = refl
+    of false before = refl
+array_busy_step (ProgramStarted false page) busy last before = refl
+array_busy_step (BecameReady fail) busy last before = at (busy && leaves_array_busy last) before
   where
     at : (b before : Bool) → (before || b) ≡ unwrap_or (cond b (Some true) None) before
     at true true = refl
     at true false = refl
     at false true = refl
     at false false = refl
-array_busy_step _ busy caching before = refl
+array_busy_step _ busy last before = refl
 
 pub array_busy_is_decided : (g : Parts) (past : List Item) (l : Lun) → is_array_busy g past l ≡ unwrap_or (last_decided (array_busy_decided g l) past) false
 unfolding array_busy_table
@@ -84,8 +90,8 @@ array_busy_is_decided g [] l = refl
 array_busy_is_decided g (i ∷ past) l =
     let m = means g past i l in
     let before = is_array_busy g past l in
-    let decided : array_busy_table (is_array_ready (effect_on g past i l)) (is_ready (effect_on g past i l)) (closer_of (effect_on g past i l)) (is_busy g past l) (is_caching g past l) ≡ array_busy_decided g l past i = rw (m.array_ready, m.ready, m.closes) refl in
-    array_busy_step (effect_on g past i l) (is_busy g past l) (is_caching g past l) before ∙ (ap (λ x. unwrap_or x before) decided ∙ (ap (unwrap_or (array_busy_decided g l past i)) (array_busy_is_decided g past l) ∙ sym (unwrap_before (array_busy_decided g l past i) (last_decided (array_busy_decided g l) past) false)))
+    let decided : array_busy_table (is_array_ready (effect_on g past i l)) (is_ready (effect_on g past i l)) (closer_of (effect_on g past i l)) (is_busy g past l) (closer g past l) ≡ array_busy_decided g l past i = rw (m.array_ready, m.ready, m.closes) refl in
+    array_busy_step (effect_on g past i l) (is_busy g past l) (closer g past l) before ∙ (ap (λ x. unwrap_or x before) decided ∙ (ap (unwrap_or (array_busy_decided g l past i)) (array_busy_is_decided g past l) ∙ sym (unwrap_before (array_busy_decided g l past i) (last_decided (array_busy_decided g l) past) false)))
 
 -- 4. the page of the array, and the register
 
@@ -113,6 +119,7 @@ array_page_step g t byte (EraseStarted true row) q n carries = refl
 array_page_step g t byte (EraseStarted false row) q n carries = refl
 array_page_step g t byte (ProgramStarted true page) q n carries = refl
 array_page_step g t byte (ProgramStarted false page) q n carries = refl
+array_page_step g t byte (CacheProgramStarted page) q n carries = refl
 array_page_step g t byte _ q n carries = refl
 
 -- the page so far, with one item more
@@ -141,6 +148,7 @@ register_step g past l byte (EraseStarted true row) before carries = refl
 register_step g past l byte (EraseStarted false row) before carries = refl
 register_step g past l byte (ProgramStarted true page) before carries = refl
 register_step g past l byte (ProgramStarted false page) before carries = refl
+register_step g past l byte (CacheProgramStarted page) before carries = refl
 register_step g past l byte IdRead before carries = sym carries
 register_step g past l byte (IdentityRead jedec) before carries = sym carries
 register_step g past l byte (FeaturesReadStarted address) before carries = ap Features carries
@@ -163,6 +171,7 @@ held_step g past l byte (EraseStarted true row) carries = refl
 held_step g past l byte (EraseStarted false row) carries = refl
 held_step g past l byte (ProgramStarted true page) carries = refl
 held_step g past l byte (ProgramStarted false page) carries = refl
+held_step g past l byte (CacheProgramStarted page) carries = refl
 held_step g past l byte _ carries = refl
 
 pub held_is_decided : (g : Parts) (past : List Item) (l : Lun) → held g past l ≡ unwrap_or (last_decided (held_decided g l) past) []
@@ -191,6 +200,7 @@ column_step past l g byte (EraseStarted true row) k carries = λ i. record { giv
 column_step past l g byte (EraseStarted false row) k carries = λ i. record { given = k.given; outputs = k.outputs; lost = sym (or-false k.lost) i }
 column_step past l g byte (ProgramStarted true page) k carries = λ i. record { given = k.given; outputs = k.outputs; lost = sym (or-false k.lost) i }
 column_step past l g byte (ProgramStarted false page) k carries = λ i. record { given = k.given; outputs = k.outputs; lost = sym (or-false k.lost) i }
+column_step past l g byte (CacheProgramStarted page) k carries = λ i. record { given = k.given; outputs = k.outputs; lost = sym (or-false k.lost) i }
 column_step past l g byte IdRead k carries = refl
 column_step past l g byte (IdentityRead jedec) k carries = refl
 column_step past l g byte UniqueIdReadStarted k carries = refl
@@ -235,6 +245,7 @@ queue_step g t byte (EraseStarted true at) q carries = ap (λ p. Erase p ∷ q) 
 queue_step g t byte (EraseStarted false at) q carries = refl
 queue_step g t byte (ProgramStarted true at) q carries = ap (λ p. Program p ∷ q) carries
 queue_step g t byte (ProgramStarted false at) q carries = refl
+queue_step g t byte (CacheProgramStarted at) q carries = refl
 queue_step g t byte _ q carries = refl
 
 pub queue_is_decided : (g : Parts) (past : List Item) (l : Lun) → queue g past l ≡ all_since (λ past i. empties_queue (closing g l past i)) (λ past i. queued_row (page_address g (row (tail_of past l))) (closing g l past i)) past

@@ -7,11 +7,12 @@ use Rattle.std.proofs.lemmas.Bool.{not-false, or_left, or_right, and_parts as bo
 use Rattle.nand_geometry.specs.declared.parts.Parts.{Parts}
 use Rattle.nand_geometry.specs.Limits.{planes}
 use Rattle.onfi_cycle.specs.declared.command.Command.{Command}
-use Rattle.onfi_cycle.specs.declared.command.Command.TheVariants.{Read, ChangeReadColumnConfirm, ReadStatus, ReadStatusEnhanced, ReadConfirm, BlockEraseConfirm, BlockErasePlane, ProgramConfirm, ProgramPlane, ReadId, ReadParameterPage, Reset, ReadCacheSequential, ReadCacheEnd, ReadUniqueId, GetFeatures, SetFeatures, ResetLun, SynchronousReset, ReadPlane, CopybackRead, PageProgram}
+use Rattle.onfi_cycle.specs.declared.command.Command.TheVariants.{Read, ChangeReadColumnConfirm, ReadStatus, ReadStatusEnhanced, ReadConfirm, BlockEraseConfirm, BlockErasePlane, ProgramConfirm, ProgramPlane, ReadId, ReadParameterPage, Reset, ReadCacheSequential, ReadCacheEnd, ReadUniqueId, GetFeatures, SetFeatures, ResetLun, SynchronousReset, ReadPlane, CopybackRead, PageProgram, ProgramCache}
 use Rattle.onfi_cycle.specs.declared.item.Cycle.{Cycle}
 use Rattle.onfi_cycle.specs.declared.effect.Effect.{Effect}
 use Rattle.onfi_cycle.specs.declared.effect.Effect.TheVariants.{Unaffected, StatusSelected, StatusOfSelected, AnotherAddressed, SelectedForStatus, Deselected, IdRead, ParameterPageReadStarted, ReadColumnChanged, DataOutput, BecameReady, ArrayBecameReady, IdentityRead, UniqueIdReadStarted, FeaturesReadStarted, FeaturesSet, ResetStarted, PlaneSelected, ProgramAddressed}
 use Rattle.onfi_cycle.specs.declared.forbidden.Forbidden.TheVariants.{NotThere}
+use Rattle.onfi_cycle.specs.declared.item.Failures.{Failures}
 use Rattle.onfi_cycle.specs.declared.item.Item.{Item}
 use Rattle.onfi_cycle.specs.declared.item.Item.TheVariants.{Cyc, Rdy, Ard}
 use Rattle.onfi_cycle.specs.declared.latch.Latch.{Latch}
@@ -26,7 +27,7 @@ use Rattle.onfi_cycle.specs.LunView.{LunView}
 use Rattle.onfi_cycle.specs.Command.{closes_row, reads_row, address_cycles, is_opener, takes_address, is_set_features}
 use Rattle.onfi_cycle.specs.Sequence.{target_of, target_cycle, begins_anew, facts_of, facts_after, extended_facts, opened, one_address_more, wants_command, wants_address, wants_column, row, row_with, takes_features, phase_after_command, phase_after_address, phase_after_input, selects_plane}
 use Rattle.onfi_cycle.specs.Effect.{is_off, is_data, is_shared, acts_for_target, other_effect, names_lun, confirm_effect, command_effect, address_effect, opening_address_effect, cycle_effect, ends_features, input_effect, plane_effect, column_effect, plane_of_row, program_row_effect}
-use Rattle.onfi_cycle.specs.Lun.{busy_after, array_busy_after, closer_after, is_cache_read, view_after}
+use Rattle.onfi_cycle.specs.Lun.{busy_after, array_busy_after, closer_after, leaves_array_busy, view_after}
 use Rattle.onfi_cycle.specs.Applied.{one_after}
 use Rattle.onfi_cycle.specs.Rules.{lun_is, breaks_not_there}
 use Rattle.onfi_cycle.specs.Channel.{is_cycle}
@@ -45,7 +46,7 @@ use Rattle.onfi_cycle.proofs.Working.{target_fits_at}
 
 record Keeps (e : Effect) : Type 0 where
   busy : (b : Bool) → busy_after e b ≡ b
-  array : (b c a : Bool) → array_busy_after e b c a ≡ a
+  array : (b : Bool) (c : Option Command) (a : Bool) → array_busy_after e b c a ≡ a
   closer : (c : Option Command) → closer_after e c ≡ c
 
 unaffected : Keeps Unaffected
@@ -64,6 +65,7 @@ confirm_keeps g t BlockEraseConfirm h = cc
 confirm_keeps g t BlockErasePlane h = cc
 confirm_keeps g t ProgramConfirm h = cc
 confirm_keeps g t ProgramPlane h = cc
+confirm_keeps g t ProgramCache h = cc
 confirm_keeps g t c h = unaffected
 
 other_keeps : (g : Parts) (t : TailFacts) (c : Command) → Keeps (other_effect g t c)
@@ -166,16 +168,16 @@ awaits_no_more t cycle s = at (begins_anew t cycle) refl
 -- ---- one LUN
 
 keeps_due : (t u : TailFacts) (e : Effect) (v : LunView) → Keeps e → one_if (awaits_start u) ≤ one_if (awaits_start t) → due_at u (view_after e v) ≤ due_at t v
-keeps_due t u e v k less = rw (k.busy v.busy, k.array v.busy (is_cache_read v.closer) v.array_busy, k.closer v.closer) (omega (arith, less))
+keeps_due t u e v k less = rw (k.busy v.busy, k.array v.busy v.closer v.array_busy, k.closer v.closer) (omega (arith, less))
 
 -- an effect that shows what stands beside the array ends a cache read, and brings no ready
 record Shows (e : Effect) : Type 0 where
   busy : (b : Bool) → busy_after e b ≡ b
-  array : (b c a : Bool) → array_busy_after e b c a ≡ false
-  closer : (c : Option Command) → is_cache_read (closer_after e c) ≡ false
+  array : (b : Bool) (c : Option Command) (a : Bool) → array_busy_after e b c a ≡ false
+  closer : (c : Option Command) → leaves_array_busy (closer_after e c) ≡ false
 
 shows_due : (t u : TailFacts) (e : Effect) (v : LunView) → Shows e → one_if (awaits_start u) ≤ one_if (awaits_start t) → due_at u (view_after e v) ≤ due_at t v
-shows_due t u e v k less = rw (k.busy v.busy, k.array v.busy (is_cache_read v.closer) v.array_busy, k.closer v.closer) (of v.busy v.array_busy (v.busy && is_cache_read v.closer))
+shows_due t u e v k less = rw (k.busy v.busy, k.array v.busy v.closer v.array_busy, k.closer v.closer) (of v.busy v.array_busy (v.busy && leaves_array_busy v.closer))
   where
     of : (b a c : Bool) → one_if b + (0 + (one_if (b && false) + one_if (awaits_start u))) ≤ one_if b + (one_if a + (one_if c + one_if (awaits_start t)))
     of true a c = omega (arith, less)
@@ -184,11 +186,11 @@ shows_due t u e v k less = rw (k.busy v.busy, k.array v.busy (is_cache_read v.cl
 -- work that an address or an input starts brings the ready that was awaited
 record Starts (e : Effect) : Type 0 where
   busy : (b : Bool) → busy_after e b ≡ true
-  array : (b c a : Bool) → array_busy_after e b c a ≡ false
-  closer : (c : Option Command) → is_cache_read (closer_after e c) ≡ false
+  array : (b : Bool) (c : Option Command) (a : Bool) → array_busy_after e b c a ≡ false
+  closer : (c : Option Command) → leaves_array_busy (closer_after e c) ≡ false
 
 started_due : (t u : TailFacts) (e : Effect) (v : LunView) → Starts e → awaits_start t ≡ true → awaits_start u ≡ false → due_at u (view_after e v) ≤ due_at t v
-started_due t u e v k was is = rw (k.busy v.busy, k.array v.busy (is_cache_read v.closer) v.array_busy, k.closer v.closer, was, is) (of v.busy v.array_busy (v.busy && is_cache_read v.closer))
+started_due t u e v k was is = rw (k.busy v.busy, k.array v.busy v.closer v.array_busy, k.closer v.closer, was, is) (of v.busy v.array_busy (v.busy && leaves_array_busy v.closer))
   where
     of : (b a c : Bool) → 1 + (0 + (0 + 0)) ≤ one_if b + (one_if a + (one_if c + 1))
     of b a c = omega arith
@@ -345,8 +347,8 @@ luns_due g t sole c n (v ∷ vs) tf s =
     first false e = let same : (c.ce == c.ce) ≡ true = grind (arith, nat_tests) in cc
 
 -- one LUN that becomes ready
-ready_due : (t : TailFacts) (fail : Bool) (v : LunView) → v.busy ≡ true → due_at t (view_after (BecameReady fail) v) + 1 ≤ due_at t v
-ready_due t fail v busy = rw busy (of v.array_busy (is_cache_read v.closer))
+ready_due : (t : TailFacts) (fail : Failures) (v : LunView) → v.busy ≡ true → due_at t (view_after (BecameReady fail) v) + 1 ≤ due_at t v
+ready_due t fail v busy = rw busy (of v.array_busy (leaves_array_busy v.closer))
   where
     of : (a c : Bool) → 0 + (one_if (a || c) + (0 + one_if (awaits_start t))) + 1 ≤ 1 + (one_if a + (one_if c + one_if (awaits_start t)))
     of true true = omega arith
@@ -354,8 +356,8 @@ ready_due t fail v busy = rw busy (of v.array_busy (is_cache_read v.closer))
     of false true = omega arith
     of false false = omega arith
 
-array_ready_due : (t : TailFacts) (v : LunView) → v.array_busy ≡ true → due_at t (view_after ArrayBecameReady v) + 1 ≤ due_at t v
-array_ready_due t v busy = rw busy (of v.busy (v.busy && is_cache_read v.closer))
+array_ready_due : (t : TailFacts) (fail : Bool) (v : LunView) → v.array_busy ≡ true → due_at t (view_after (ArrayBecameReady fail) v) + 1 ≤ due_at t v
+array_ready_due t fail v busy = rw busy (of v.busy (v.busy && leaves_array_busy v.closer))
   where
     of : (b c : Bool) → one_if b + (0 + (one_if c + one_if (awaits_start t))) + 1 ≤ one_if b + (1 + (one_if c + one_if (awaits_start t)))
     of b c = omega arith
@@ -365,13 +367,13 @@ one_due t e test [] k less h = cc
 one_due t e test (v ∷ vs) zero less h = let here = less v h in omega (arith, here)
 one_due t e test (v ∷ vs) (suc k) less h = let rest = one_due t e test vs k less h in omega (arith, rest)
 
-is_busy_there : (g : Parts) (targets : ℕ) (s : TargetView) (ce lun : ℕ) (fail : Bool) → judge g targets s.tail s.luns (Rdy ce lun fail) ≡ None → lun_is (λ v. v.busy) s.luns lun ≡ true
+is_busy_there : (g : Parts) (targets : ℕ) (s : TargetView) (ce lun : ℕ) (fail : Failures) → judge g targets s.tail s.luns (Rdy ce lun fail) ≡ None → lun_is (λ v. v.busy) s.luns lun ≡ true
 unfolding breaks_not_there
 is_busy_there g targets s ce lun fail h = not-false _ (neither (leb targets ce) _ (first_passed (breaks_not_there targets s.luns (Rdy ce lun fail)) NotThere None h).0).1
 
-is_array_busy_there : (g : Parts) (targets : ℕ) (s : TargetView) (ce lun : ℕ) → judge g targets s.tail s.luns (Ard ce lun) ≡ None → lun_is (λ v. v.array_busy) s.luns lun ≡ true
+is_array_busy_there : (g : Parts) (targets : ℕ) (s : TargetView) (ce lun : ℕ) (fail : Bool) → judge g targets s.tail s.luns (Ard ce lun fail) ≡ None → lun_is (λ v. v.array_busy) s.luns lun ≡ true
 unfolding breaks_not_there
-is_array_busy_there g targets s ce lun h = not-false _ (neither (leb targets ce) _ (first_passed (breaks_not_there targets s.luns (Ard ce lun)) NotThere None h).0).1
+is_array_busy_there g targets s ce lun fail h = not-false _ (neither (leb targets ce) _ (first_passed (breaks_not_there targets s.luns (Ard ce lun fail)) NotThere None h).0).1
 
 -- ---- a channel
 
@@ -433,14 +435,14 @@ readies_are_due =
           ready_less s (Rdy ce lun fail) h (λ t j.
           let one = one_due t.tail (BecameReady fail) (λ v. v.busy) t.luns lun (ready_due t.tail fail) (is_busy_there s.geometry (length s.targets) t ce lun fail j) in
           subst (λ (vs : List LunView). due_of t.tail vs + 1 ≤ due_of t.tail t.luns) (ready_on_luns s.geometry t.tail (has_driver t.luns) ce lun fail t.luns) one);
-      array_readies = λ s ce lun h.
-          ready_less s (Ard ce lun) h (λ t j.
-          let one = one_due t.tail ArrayBecameReady (λ v. v.array_busy) t.luns lun (array_ready_due t.tail) (is_array_busy_there s.geometry (length s.targets) t ce lun j) in
-          subst (λ (vs : List LunView). due_of t.tail vs + 1 ≤ due_of t.tail t.luns) (array_ready_on_luns s.geometry t.tail (has_driver t.luns) ce lun t.luns) one);
+      array_readies = λ s ce lun fail h.
+          ready_less s (Ard ce lun fail) h (λ t j.
+          let one = one_due t.tail (ArrayBecameReady fail) (λ v. v.array_busy) t.luns lun (array_ready_due t.tail fail) (is_array_busy_there s.geometry (length s.targets) t ce lun fail j) in
+          subst (λ (vs : List LunView). due_of t.tail vs + 1 ≤ due_of t.tail t.luns) (array_ready_on_luns s.geometry t.tail (has_driver t.luns) ce lun fail t.luns) one);
       elsewhere = λ s i. changed_due (target_after s.geometry i) s.targets (target_of i);
     }
   where
     cycle : (s : BusView) (i : Item) → BusFits s → is_cycle i ≡ true → starts_work i ≡ false → bus_due (bus_after i s) ≤ bus_due s
     cycle s (Cyc c) f is idle = cycles_due s c f idle
     cycle s (Rdy ce lun fail) f is idle = cc
-    cycle s (Ard ce lun) f is idle = cc
+    cycle s (Ard ce lun fail) f is idle = cc

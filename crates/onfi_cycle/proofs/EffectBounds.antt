@@ -9,7 +9,7 @@ use Rattle.onfi_cycle.proofs.Booleans.{and_rest}
 use Rattle.nand_geometry.specs.declared.parts.Parts.{Parts}
 use Rattle.nand_geometry.specs.Limits.{InLimits, page_bits, planes}
 use Rattle.onfi_cycle.specs.declared.command.Command.{Command}
-use Rattle.onfi_cycle.specs.declared.command.Command.TheVariants.{Read, ReadConfirm, ChangeReadColumnConfirm, BlockErase, BlockEraseConfirm, BlockErasePlane, ReadStatus, ReadStatusEnhanced, ProgramConfirm, ProgramPlane, ReadId, ReadParameterPage, Reset, ReadCacheSequential, ReadCacheEnd, ReadUniqueId, GetFeatures, SetFeatures, ResetLun, SynchronousReset, ReadPlane, CopybackRead, PageProgram}
+use Rattle.onfi_cycle.specs.declared.command.Command.TheVariants.{Read, ReadConfirm, ChangeReadColumnConfirm, BlockErase, BlockEraseConfirm, BlockErasePlane, ReadStatus, ReadStatusEnhanced, ProgramConfirm, ProgramPlane, ReadId, ReadParameterPage, Reset, ReadCacheSequential, ReadCacheEnd, ReadUniqueId, GetFeatures, SetFeatures, ResetLun, SynchronousReset, ReadPlane, CopybackRead, PageProgram, ProgramCache}
 use Rattle.onfi_cycle.specs.declared.item.Item.{Item}
 use Rattle.onfi_cycle.specs.declared.item.Item.TheVariants.{Cyc, Rdy, Ard}
 use Rattle.onfi_cycle.specs.declared.forbidden.Forbidden.TheVariants.{NotThere}
@@ -176,6 +176,7 @@ confirm_fits g limits t n v tf rf rs BlockEraseConfirm h = let parts = both (wan
 confirm_fits g limits t n v tf rf rs BlockErasePlane h = let parts = both (wants_command t BlockErasePlane) _ h in erase_fits g t n v rf rs parts.1 (opened_too _ _ wants_plane_erase t.opening parts.0)
 confirm_fits g limits t n v tf rf rs ProgramConfirm h = let parts = both (wants_command t ProgramConfirm) _ h in program_fits g t n v rf rs parts.1 parts.0
 confirm_fits g limits t n v tf rf rs ProgramPlane h = let parts = both (wants_command t ProgramPlane) _ h in program_fits g t n v rf rs parts.1 parts.0
+confirm_fits g limits t n v tf rf rs ProgramCache h = let parts = both (wants_command t ProgramCache) _ h in program_fits g t n v rf rs parts.1 parts.0
 confirm_fits g limits t n v tf rf rs c h = tt
 
 -- a cache read goes on inside its block
@@ -314,4 +315,4 @@ effect_fits g limits targets t luns (Cyc c) n v h tf rf rs found =
     let keeps = keeps_rules g t luns cycle (first_passed (breaks_not_there targets luns (Cyc c)) NotThere (judge_cycle g t luns cycle) h).1 in
     choice g v (c.ce == c.ce) (cycle_effect g t (cond (has_driver luns) v.latch Off) cycle n) Unaffected (λ e. cycle_fits g limits t luns n v tf rf rs found cycle keeps) (λ e. tt)
 effect_fits g limits targets t luns (Rdy ce lun fail) n v h tf rf rs found = choice g v (ce == ce && lun == n) (BecameReady fail) Unaffected (λ e. tt) (λ e. tt)
-effect_fits g limits targets t luns (Ard ce lun) n v h tf rf rs found = choice g v (ce == ce && lun == n) ArrayBecameReady Unaffected (λ e. tt) (λ e. tt)
+effect_fits g limits targets t luns (Ard ce lun fail) n v h tf rf rs found = choice g v (ce == ce && lun == n) (ArrayBecameReady fail) Unaffected (λ e. tt) (λ e. tt)

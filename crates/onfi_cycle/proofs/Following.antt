@@ -84,7 +84,7 @@ luns_go_on g targets past i h (suc count) n low =
 tail_goes_on : (past : List Item) (i : Item) → facts_of (tail (i ∷ past) (target_of i)) ≡ tail_after i (facts_of (tail past (target_of i)))
 tail_goes_on past (Cyc c) = facts_of_cycle c past c.ce refl
 tail_goes_on past (Rdy ce lun fail) = refl
-tail_goes_on past (Ard ce lun) = refl
+tail_goes_on past (Ard ce lun fail) = refl
 
 pub target_goes_on : (g : Parts) (targets : ℕ) (past : List Item) (i : Item) → broken g targets past i ≡ None → target_after g i (target_view g past (target_of i)) ≡ target_view g (i ∷ past) (target_of i)
 target_goes_on g targets past i h =
@@ -189,7 +189,7 @@ beyond_not_there : (n : ℕ) (luns : List LunView) (i : Item) → leb n (target_
 unfolding breaks_not_there
 beyond_not_there n luns (Cyc c) h = h
 beyond_not_there n luns (Rdy ce lun fail) h = rw h refl
-beyond_not_there n luns (Ard ce lun) h = rw h refl
+beyond_not_there n luns (Ard ce lun fail) h = rw h refl
 
 -- the state judges as the definition does
 pub judged_is_broken : (g : Parts) (n : ℕ) (s : BusView) (past : List Item) (i : Item) → Follows g n s past → judged s i ≡ broken g n past i

@@ -1,10 +1,13 @@
 -- What one item more changes, and what it keeps.
-use Rattle.std.proofs.Common.{◌≡◌, ◌≢◌, ℕ, zero, suc, ◌+◌, ◌<◌, ◌==◌, Bool, true, false, ◌&&◌, ◌||◌, cond, List, [], ◌∷◌, length, Some, None, refl, sym, ap, ◌∙◌, arith, ltb, eqb-true, eq-eqb, ltb-true}
+use Rattle.std.proofs.Common.{◌≡◌, ◌≢◌, ℕ, zero, suc, ◌+◌, ◌<◌, ◌==◌, Bool, true, false, ◌&&◌, ◌||◌, cond, List, [], ◌∷◌, length, Option, Some, None, subst, refl, sym, ap, ◌∙◌, arith, ltb, eqb-true, eq-eqb, ltb-true}
 use Rattle.std.specs.List.{slice_get}
 use Rattle.std.proofs.lemmas.Bool.{and_parts, and_from}
+use Rattle.onfi_cycle.specs.LunView.{LunView}
 use Rattle.onfi_cycle.proofs.Booleans.{eqb_self}
+use Rattle.std.proofs.Math.Bool.{or-false}
 use Rattle.nand_geometry.specs.declared.parts.Parts.{Parts}
 use Rattle.onfi_cycle.specs.declared.lun.Lun.{Lun}
+use Rattle.onfi_cycle.specs.declared.item.Failures.{Failures}
 use Rattle.onfi_cycle.specs.declared.item.Item.{Item}
 use Rattle.onfi_cycle.specs.declared.item.Item.TheVariants.{Cyc, Rdy, Ard}
 use Rattle.onfi_cycle.specs.declared.item.Cycle.{Cycle}
@@ -13,7 +16,7 @@ use Rattle.onfi_cycle.specs.declared.effect.Effect.TheVariants.{Unaffected, Beca
 use Rattle.onfi_cycle.specs.declared.latch.Latch.{Latch}
 use Rattle.onfi_cycle.specs.Sequence.{tail}
 use Rattle.onfi_cycle.specs.Effect.{effect_given}
-use Rattle.onfi_cycle.specs.Lun.{effect_on, effect_among, latch, shown_after, busy_after, closer_after, queue_after, is_busy, closer, is_cache_read, queue, lun_view, view_after, views_from, luns_of}
+use Rattle.onfi_cycle.specs.Lun.{effect_on, effect_among, latch, shown_after, busy_after, closer_after, queue_after, is_busy, closer, is_cache_read, queue, lun_view, view_after, views_from, luns_of, programs, leaves_array_busy, keeps_array_busy, is_cache_program, array_busy_after}
 use Rattle.onfi_cycle.specs.Permitted.{broken, is_legal}
 use Rattle.onfi_cycle.specs.OtherLun.{KeepsLun, is_of}
 use Rattle.onfi_cycle.specs.Decides.{readies, readies_array}
@@ -65,7 +68,7 @@ facts_go_on =
 ready_tail : (past : List Item) (i : Item) (ce : ℕ) → is_cycle i ≡ false → tail (i ∷ past) ce ≡ tail past ce
 ready_tail past (Cyc c) ce h = cc
 ready_tail past (Rdy a b f) ce h = refl
-ready_tail past (Ard a b) ce h = refl
+ready_tail past (Ard a b f) ce h = refl
 
 -- the view after an item whose effect is this, whatever the LUN shows
 pub view_with : (g : Parts) (past : List Item) (i : Item) (l : Lun) (e : Effect) → effect_on g past i l ≡ e → effect_given g past (latch g past l) i l ≡ e → lun_view g (i ∷ past) l ≡ view_after e (lun_view g past l)
@@ -73,25 +76,30 @@ view_with g past i l e on given =
     ap (λ (x : Effect). record (view_after x (lun_view g past l)) { latch = shown_after (effect_given g past (latch g past l) i l) (lun_view g past l) }) on ∙
     ap (λ (x : Effect). record (view_after e (lun_view g past l)) { latch = shown_after x (lun_view g past l) }) given
 
-own_ready : (g : Parts) (past : List Item) (l : Lun) (fail : Bool) → let v = lun_view g past l in lun_view g (Rdy l.ce l.lun fail ∷ past) l ≡ record v { busy = false; array_busy = v.array_busy || (v.busy && is_cache_read v.closer) }
+own_ready : (g : Parts) (past : List Item) (l : Lun) (fail : Failures) → let v = lun_view g past l in lun_view g (Rdy l.ce l.lun fail ∷ past) l ≡ record v { busy = false; array_busy = v.array_busy || (v.busy && leaves_array_busy v.closer) }
 unfolding effect_among
 own_ready g past l fail = view_with g past (Rdy l.ce l.lun fail) l (BecameReady fail) (rw (eqb_self l.ce, eqb_self l.lun) refl) (rw (eqb_self l.ce, eqb_self l.lun) refl)
 
-own_array_ready : (g : Parts) (past : List Item) (l : Lun) → let v = lun_view g past l in lun_view g (Ard l.ce l.lun ∷ past) l ≡ record v { array_busy = false }
+own_array_ready : (g : Parts) (past : List Item) (l : Lun) (fail : Bool) → let v = lun_view g past l in lun_view g (Ard l.ce l.lun fail ∷ past) l ≡ record v { array_busy = false }
 unfolding effect_among
-own_array_ready g past l = view_with g past (Ard l.ce l.lun) l ArrayBecameReady (rw (eqb_self l.ce, eqb_self l.lun) refl) (rw (eqb_self l.ce, eqb_self l.lun) refl)
+own_array_ready g past l fail = view_with g past (Ard l.ce l.lun fail) l (ArrayBecameReady fail) (rw (eqb_self l.ce, eqb_self l.lun) refl) (rw (eqb_self l.ce, eqb_self l.lun) refl)
 
 other_ready : (g : Parts) (past : List Item) (i : Item) (l : Lun) → is_cycle i ≡ false → readies l i ≡ false → readies_array l i ≡ false → lun_view g (i ∷ past) l ≡ lun_view g past l
 unfolding effect_among
 other_ready g past (Cyc c) l h r a = cc
 other_ready g past (Rdy ce lun fail) l h r a = view_with g past (Rdy ce lun fail) l Unaffected (rw r refl) (rw r refl)
-other_ready g past (Ard ce lun) l h r a = view_with g past (Ard ce lun) l Unaffected (rw a refl) (rw a refl)
+other_ready g past (Ard ce lun fail) l h r a = view_with g past (Ard ce lun fail) l Unaffected (rw a refl) (rw a refl)
 
-idle_by : (g : Parts) (past : List Item) (i : Item) (l : Lun) → (e : Effect) → effect_on g past i l ≡ e → busy_after e (is_busy g past l) ≡ false → is_cache_read (closer_after e (closer g past l)) ≡ false → queue_after e (queue g past l) ≡ [] → is_serving g (i ∷ past) l.ce ≡ false → IsIdle g (i ∷ past) l
-idle_by g past i l e is not_busy not_caching not_queued free =
+-- whether a LUN programs behind a 15, after an effect
+abbrev programs_after : Effect → LunView → Bool
+programs_after e v = (busy_after e v.busy && is_cache_program (closer_after e v.closer)) || (array_busy_after e v.busy v.closer v.array_busy && keeps_array_busy (closer_after e v.closer))
+
+idle_by : (g : Parts) (past : List Item) (i : Item) (l : Lun) → (e : Effect) → effect_on g past i l ≡ e → busy_after e (is_busy g past l) ≡ false → is_cache_read (closer_after e (closer g past l)) ≡ false → programs_after e (lun_view g past l) ≡ false → queue_after e (queue g past l) ≡ [] → is_serving g (i ∷ past) l.ce ≡ false → IsIdle g (i ∷ past) l
+idle_by g past i l e is not_busy not_caching not_programming not_queued free =
     record {
       ready = ap (λ (x : Effect). busy_after x (is_busy g past l)) is ∙ not_busy;
       no_cache = ap (λ (x : Effect). is_cache_read (closer_after x (closer g past l))) is ∙ not_caching;
+      no_program = ap (λ (x : Effect). programs_after x (lun_view g past l)) is ∙ not_programming;
       no_queue = ap (λ (x : Effect). queue_after x (queue g past l)) is ∙ not_queued;
       free = free;
     }
@@ -100,13 +108,17 @@ idle_by g past i l e is not_busy not_caching not_queued free =
 abbrev is_harmless : Effect → Bool
 is_harmless Unaffected = true
 is_harmless (BecameReady failed) = true
-is_harmless ArrayBecameReady = true
+is_harmless (ArrayBecameReady fail) = true
 is_harmless _ = false
 
+-- a ready of a LUN that isn't busy
+ready_programs_none : (v : LunView) → v.busy ≡ false → programs v ≡ false → (false || ((v.array_busy || (v.busy && leaves_array_busy v.closer)) && keeps_array_busy v.closer)) ≡ false
+ready_programs_none v busy none = rw (busy, or-false v.array_busy) (subst (λ (b : Bool). ((b && is_cache_program v.closer) || (v.array_busy && keeps_array_busy v.closer)) ≡ false) busy none)
+
 idle_after : (g : Parts) (past : List Item) (i : Item) (l : Lun) (e : Effect) → effect_on g past i l ≡ e → is_harmless e ≡ true → is_serving g (i ∷ past) l.ce ≡ false → IsIdle g past l → IsIdle g (i ∷ past) l
-idle_after g past i l Unaffected is h free idle = idle_by g past i l Unaffected is idle.ready idle.no_cache idle.no_queue free
-idle_after g past i l (BecameReady failed) is h free idle = idle_by g past i l (BecameReady failed) is refl idle.no_cache idle.no_queue free
-idle_after g past i l ArrayBecameReady is h free idle = idle_by g past i l ArrayBecameReady is idle.ready idle.no_cache idle.no_queue free
+idle_after g past i l Unaffected is h free idle = idle_by g past i l Unaffected is idle.ready idle.no_cache idle.no_program idle.no_queue free
+idle_after g past i l (BecameReady fail) is h free idle = idle_by g past i l (BecameReady fail) is refl idle.no_cache (ready_programs_none (lun_view g past l) idle.ready idle.no_program) idle.no_queue free
+idle_after g past i l (ArrayBecameReady fail) is h free idle = idle_by g past i l (ArrayBecameReady fail) is idle.ready idle.no_cache (rw idle.ready refl) idle.no_queue free
 idle_after g past i l _ is h free idle = cc
 
 either_harmless : (b : Bool) (x : Effect) → is_harmless x ≡ true → is_harmless (cond b x Unaffected) ≡ true
@@ -117,7 +129,7 @@ pub ready_keeps_idle : (g : Parts) (past : List Item) (i : Item) (l : Lun) → i
 unfolding effect_among
 ready_keeps_idle g past (Cyc c) l h idle = cc
 ready_keeps_idle g past (Rdy ce lun fail) l h idle = idle_after g past (Rdy ce lun fail) l _ refl (either_harmless (ce == l.ce && lun == l.lun) (BecameReady fail) refl) (ready_serves g past (Rdy ce lun fail) l.ce refl idle.free) idle
-ready_keeps_idle g past (Ard ce lun) l h idle = idle_after g past (Ard ce lun) l _ refl (either_harmless (ce == l.ce && lun == l.lun) ArrayBecameReady refl) (ready_serves g past (Ard ce lun) l.ce refl idle.free) idle
+ready_keeps_idle g past (Ard ce lun fail) l h idle = idle_after g past (Ard ce lun fail) l _ refl (either_harmless (ce == l.ce && lun == l.lun) (ArrayBecameReady fail) refl) (ready_serves g past (Ard ce lun fail) l.ce refl idle.free) idle
 
 pub readies_change : ReadiesChange
 readies_change = record { tails = ready_tail; own = own_ready; own_array = own_array_ready; others = other_ready; idle = ready_keeps_idle }
@@ -164,6 +176,7 @@ idle_kept g past i l m of k idle =
     record {
       ready = k.busy ∙ idle.ready;
       no_cache = ap is_cache_read k.closer ∙ idle.no_cache;
+      no_program = rw (k.busy, k.closer, k.array_busy) idle.no_program;
       no_queue = k.queue ∙ idle.no_queue;
       free = own_serves g past i l m.ce of idle.free;
     }

@@ -4,7 +4,7 @@ use Rattle.std.proofs.lemmas.Bool.Decides.{nat_tests}
 use Rattle.std.proofs.lemmas.Bool.{not-false, and_parts as both_true}
 use Rattle.nand_geometry.specs.declared.parts.Parts.{Parts}
 use Rattle.onfi_cycle.specs.declared.command.Command.{Command}
-use Rattle.onfi_cycle.specs.declared.command.Command.TheVariants.{Read, ReadConfirm, ChangeReadColumnConfirm, BlockEraseConfirm, BlockErasePlane, ReadStatus, ReadStatusEnhanced, ProgramConfirm, ProgramPlane, ReadId, ReadParameterPage, Reset, ReadCacheSequential, ReadCacheEnd, ReadUniqueId, GetFeatures, SetFeatures, ResetLun, SynchronousReset, ReadPlane, CopybackRead, PageProgram}
+use Rattle.onfi_cycle.specs.declared.command.Command.TheVariants.{Read, ReadConfirm, ChangeReadColumnConfirm, BlockEraseConfirm, BlockErasePlane, ReadStatus, ReadStatusEnhanced, ProgramConfirm, ProgramPlane, ReadId, ReadParameterPage, Reset, ReadCacheSequential, ReadCacheEnd, ReadUniqueId, GetFeatures, SetFeatures, ResetLun, SynchronousReset, ReadPlane, CopybackRead, PageProgram, ProgramCache}
 use Rattle.onfi_cycle.specs.declared.lun.Lun.{Lun}
 use Rattle.onfi_cycle.specs.declared.latch.Latch.{Latch}
 use Rattle.onfi_cycle.specs.declared.latch.Latch.TheVariants.{Off, Status, Data}
@@ -200,6 +200,7 @@ command_step g past l la BlockEraseConfirm cache = row_step (wants_command (tail
 command_step g past l la BlockErasePlane cache = row_step (wants_command (tail_of past l) BlockErasePlane) (names_lun g (row (tail_of past l)) l.lun) (is_shared g) false (is_selected g past l) (is_busy g past l || is_array_busy g past l) (latch g past l) _ (Some BlockErasePlane) refl
 command_step g past l la ProgramConfirm cache = row_step (wants_command (tail_of past l) ProgramConfirm) (names_lun g (row (tail_of past l)) l.lun) (is_shared g) false (is_selected g past l) (is_busy g past l || is_array_busy g past l) (latch g past l) _ (Some ProgramConfirm) refl
 command_step g past l la ProgramPlane cache = row_step (wants_command (tail_of past l) ProgramPlane) (names_lun g (row (tail_of past l)) l.lun) (is_shared g) false (is_selected g past l) (is_busy g past l || is_array_busy g past l) (latch g past l) _ (Some ProgramPlane) refl
+command_step g past l la ProgramCache cache = row_step (wants_command (tail_of past l) ProgramCache) (names_lun g (row (tail_of past l)) l.lun) (is_shared g) false (is_selected g past l) (is_busy g past l || is_array_busy g past l) (latch g past l) _ (Some ProgramCache) refl
 command_step g past l la c cache = same_either_way (wants_command (tail_of past l) c && names_lun g (row (tail_of past l)) l.lun) (is_selected g past l) (is_busy g past l || is_array_busy g past l) (latch g past l) Unaffected refl
 
 -- what reads what stands beside the array; w: its address is wanted; a: the LUN acts for its target
@@ -283,7 +284,7 @@ latch_step g n past (Cyc c) l h low = at (c.ce == l.ce) refl (cache_finds_driver
     at true e cache = cycle_step g past l (latch g past l) (target_cycle c.kind c.byte) (cache (eqb-true c.ce l.ce e) low)
     at false e cache = refl
 latch_step g n past (Rdy ce lun fail) l h low = same_either_way (ce == l.ce && lun == l.lun) (is_selected g past l) (is_busy g past l || is_array_busy g past l) (latch g past l) (BecameReady fail) refl
-latch_step g n past (Ard ce lun) l h low = same_either_way (ce == l.ce && lun == l.lun) (is_selected g past l) (is_busy g past l || is_array_busy g past l) (latch g past l) ArrayBecameReady refl
+latch_step g n past (Ard ce lun fail) l h low = same_either_way (ce == l.ce && lun == l.lun) (is_selected g past l) (is_busy g past l || is_array_busy g past l) (latch g past l) (ArrayBecameReady fail) refl
 
 unwrap_before : (x y : Option Latch) → unwrap_or (or_before x y) Off ≡ unwrap_or x (unwrap_or y Off)
 unwrap_before (Some a) y = refl
@@ -305,7 +306,7 @@ alone_step g past (Cyc c) l = at (c.ce == l.ce)
     at true = cycle_step g past l (latch_alone g past l) (target_cycle c.kind c.byte) (λ cache. alone_off g past l)
     at false = refl
 alone_step g past (Rdy ce lun fail) l = same_either_way (ce == l.ce && lun == l.lun) (is_selected g past l) (is_busy g past l || is_array_busy g past l) (latch g past l) (BecameReady fail) refl
-alone_step g past (Ard ce lun) l = same_either_way (ce == l.ce && lun == l.lun) (is_selected g past l) (is_busy g past l || is_array_busy g past l) (latch g past l) ArrayBecameReady refl
+alone_step g past (Ard ce lun fail) l = same_either_way (ce == l.ce && lun == l.lun) (is_selected g past l) (is_busy g past l || is_array_busy g past l) (latch g past l) (ArrayBecameReady fail) refl
 
 -- the latch goes on by the effect of a permitted item, as every other fact does
 pub latch_by_effect : (g : Parts) (n : ℕ) (past : List Item) (i : Item) (l : Lun) → broken g n past i ≡ None → l.lun < g.luns → latch g (i ∷ past) l ≡ shown_after (effect_on g past i l) (lun_view g past l)

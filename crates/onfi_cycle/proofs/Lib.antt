@@ -28,6 +28,7 @@ pub mod Steps
 pub mod TableLemmas
 pub mod TailBounds
 pub mod Worked
+pub mod WorkedPrograms
 pub mod Working
 pub mod Written
 pub mod Selected

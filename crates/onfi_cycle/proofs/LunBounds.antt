@@ -9,7 +9,7 @@ use Rattle.onfi_cycle.specs.declared.page_address.PageAddress.{PageAddress}
 use Rattle.onfi_cycle.specs.declared.queued.Queued.{Queued}
 use Rattle.onfi_cycle.specs.declared.queued.Queued.TheVariants.{Erase, Program, Read as QueuedRead}
 use Rattle.onfi_cycle.specs.declared.effect.Effect.{Effect}
-use Rattle.onfi_cycle.specs.declared.effect.Effect.TheVariants.{Unaffected, DataOutputEnabled, StatusSelected, StatusRowAwaited, SelectedForStatus, Deselected, ReadStarted, EraseStarted, ProgramStarted, IdRead, IdentityRead, UniqueIdReadStarted, FeaturesReadStarted, FeaturesSet, ParameterPageReadStarted, CacheReadContinued, CacheReadEnded, ReadColumnChanged, DataOutput, ResetStarted, TargetResetStarted, StatusOfSelected, AnotherAddressed, BecameReady, ArrayBecameReady, PlaneSelected, ReadQueued, CopybackReadStarted, ProgramAddressed}
+use Rattle.onfi_cycle.specs.declared.effect.Effect.TheVariants.{Unaffected, DataOutputEnabled, StatusSelected, StatusRowAwaited, SelectedForStatus, Deselected, ReadStarted, EraseStarted, ProgramStarted, IdRead, IdentityRead, UniqueIdReadStarted, FeaturesReadStarted, FeaturesSet, ParameterPageReadStarted, CacheReadContinued, CacheReadEnded, ReadColumnChanged, DataOutput, ResetStarted, TargetResetStarted, StatusOfSelected, AnotherAddressed, BecameReady, ArrayBecameReady, PlaneSelected, ReadQueued, CopybackReadStarted, ProgramAddressed, CacheProgramStarted}
 use Rattle.onfi_cycle.specs.LunView.{LunView}
 use Rattle.onfi_cycle.specs.Lun.{view_after, pages_of_reads, held_on, is_copyback_read}
 use Rattle.onfi_cycle.specs.Rules.{planes_clash, blocks_clash, queued_clashes, some_queued_clashes, read_clashes, some_read_clashes}
@@ -105,6 +105,7 @@ lun_fits g limits (EraseStarted false at) v h f = record { outputs = f.outputs; 
 lun_fits g limits (ProgramStarted true at) v h f =
     record { outputs = f.outputs; given = f.given; array_page = f.array_page; queue = queue_fits g limits (Program at) v.queue (not_in_use g false at v.queue h.0) (four_planes g.plane_bits at.block limits.plane_bits_most) f.queue; held = f.held }
 lun_fits g limits (ProgramStarted false at) v h f = record { outputs = f.outputs; given = f.given; array_page = f.array_page; queue = omega arith; held = omega arith }
+lun_fits g limits (CacheProgramStarted at) v h f = record { outputs = f.outputs; given = f.given; array_page = f.array_page; queue = omega arith; held = omega arith }
 lun_fits g limits IdRead v h f = record { outputs = omega arith; given = omega arith; array_page = f.array_page; queue = f.queue; held = omega arith }
 lun_fits g limits (IdentityRead jedec) v h f = record { outputs = omega arith; given = omega arith; array_page = f.array_page; queue = f.queue; held = omega arith }
 lun_fits g limits UniqueIdReadStarted v h f = record { outputs = omega arith; given = omega arith; array_page = f.array_page; queue = f.queue; held = omega arith }
@@ -128,4 +129,4 @@ lun_fits g limits Deselected v h f = record { outputs = f.outputs; given = f.giv
 lun_fits g limits StatusOfSelected v h f = record { outputs = f.outputs; given = f.given; array_page = f.array_page; queue = f.queue; held = f.held }
 lun_fits g limits (AnotherAddressed reads) v h f = record { outputs = f.outputs; given = f.given; array_page = f.array_page; queue = f.queue; held = f.held }
 lun_fits g limits (BecameReady failed) v h f = record { outputs = f.outputs; given = f.given; array_page = f.array_page; queue = f.queue; held = f.held }
-lun_fits g limits ArrayBecameReady v h f = record { outputs = f.outputs; given = f.given; array_page = f.array_page; queue = f.queue; held = f.held }
+lun_fits g limits (ArrayBecameReady fail) v h f = record { outputs = f.outputs; given = f.given; array_page = f.array_page; queue = f.queue; held = f.held }

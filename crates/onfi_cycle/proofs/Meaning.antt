@@ -5,7 +5,7 @@ use Rattle.onfi_cycle.proofs.Booleans.{and_rest}
 use Rattle.nand_geometry.specs.declared.parts.Parts.{Parts}
 use Rattle.nand_geometry.specs.Limits.{planes}
 use Rattle.onfi_cycle.specs.declared.command.Command.{Command}
-use Rattle.onfi_cycle.specs.declared.command.Command.TheVariants.{Read, ReadConfirm, ChangeReadColumnConfirm, BlockEraseConfirm, BlockErasePlane, ReadStatus, ReadStatusEnhanced, ProgramConfirm, ProgramPlane, ReadId, ReadParameterPage, Reset, ReadCacheSequential, ReadCacheEnd, ReadUniqueId, GetFeatures, SetFeatures, ResetLun, SynchronousReset, ReadPlane, CopybackRead, PageProgram}
+use Rattle.onfi_cycle.specs.declared.command.Command.TheVariants.{Read, ReadConfirm, ChangeReadColumnConfirm, BlockEraseConfirm, BlockErasePlane, ReadStatus, ReadStatusEnhanced, ProgramConfirm, ProgramPlane, ReadId, ReadParameterPage, Reset, ReadCacheSequential, ReadCacheEnd, ReadUniqueId, GetFeatures, SetFeatures, ResetLun, SynchronousReset, ReadPlane, CopybackRead, PageProgram, ProgramCache}
 use Rattle.onfi_cycle.specs.Command.{command, closes_row, reads_row, is_page_program}
 use Rattle.onfi_cycle.specs.declared.lun.Lun.{Lun}
 use Rattle.onfi_cycle.specs.declared.latch.Latch.{Latch}
@@ -19,7 +19,7 @@ use Rattle.onfi_cycle.specs.declared.opening.Opening.{Opening}
 use Rattle.onfi_cycle.specs.declared.target_cycle.TargetCycle.{TargetCycle}
 use Rattle.onfi_cycle.specs.declared.target_cycle.TargetCycle.TheVariants.{CommandCycle, AddressCycle, InputCycle, OutputCycle}
 use Rattle.onfi_cycle.specs.declared.effect.Effect.{Effect}
-use Rattle.onfi_cycle.specs.declared.effect.Effect.TheVariants.{Unaffected, AnotherAddressed, StatusOfSelected, TargetResetStarted, StatusSelected, StatusRowAwaited, SelectedForStatus, Deselected, IdRead, IdentityRead, UniqueIdReadStarted, FeaturesReadStarted, FeaturesSet, ParameterPageReadStarted, CacheReadContinued, CacheReadEnded, DataOutput, ResetStarted, BecameReady, ArrayBecameReady, ReadStarted, EraseStarted, ProgramStarted, ReadColumnChanged, PlaneSelected, ReadQueued, CopybackReadStarted, ProgramAddressed}
+use Rattle.onfi_cycle.specs.declared.effect.Effect.TheVariants.{Unaffected, AnotherAddressed, StatusOfSelected, TargetResetStarted, StatusSelected, StatusRowAwaited, SelectedForStatus, Deselected, IdRead, IdentityRead, UniqueIdReadStarted, FeaturesReadStarted, FeaturesSet, ParameterPageReadStarted, CacheReadContinued, CacheReadEnded, DataOutput, ResetStarted, BecameReady, ArrayBecameReady, ReadStarted, EraseStarted, ProgramStarted, ReadColumnChanged, PlaneSelected, ReadQueued, CopybackReadStarted, ProgramAddressed, CacheProgramStarted}
 use Rattle.onfi_cycle.specs.declared.tail_facts.TailFacts.{TailFacts}
 use Rattle.onfi_cycle.specs.Sequence.{target_cycle, row, row_with, wants_command, wants_address, selects_plane}
 use Rattle.onfi_cycle.specs.Effect.{is_off, is_data, is_shared, acts_for_target, other_effect, row_effect, cache_effect, page_address, names_lun, command_effect, address_effect, opening_address_effect, program_row_effect, cycle_effect, ends_features, plane_effect, column_effect, plane_of_row}
@@ -33,6 +33,7 @@ closer_of (ReadQueued page) = Some ReadPlane
 closer_of (CopybackReadStarted page column count) = Some CopybackRead
 closer_of (EraseStarted queued row) = cond queued (Some BlockErasePlane) (Some BlockEraseConfirm)
 closer_of (ProgramStarted queued page) = cond queued (Some ProgramPlane) (Some ProgramConfirm)
+closer_of (CacheProgramStarted page) = Some ProgramCache
 closer_of IdRead = Some ReadId
 closer_of (IdentityRead jedec) = Some ReadId
 closer_of ParameterPageReadStarted = Some ReadParameterPage
@@ -50,7 +51,7 @@ is_ready (BecameReady failed) = true
 is_ready _ = false
 
 abbrev pub is_array_ready : Effect → Bool
-is_array_ready ArrayBecameReady = true
+is_array_ready (ArrayBecameReady fail) = true
 is_array_ready _ = false
 
 abbrev pub is_column_change : Effect → Bool
@@ -81,6 +82,7 @@ abbrev pub Carries : Parts → TailFacts → ℕ → Effect → Type 0
 Carries g t byte (ReadStarted page column) = (page ≡ page_address g (row t)) × (column ≡ t.column)
 Carries g t byte (EraseStarted queued at) = at ≡ page_address g (row t)
 Carries g t byte (ProgramStarted queued page) = page ≡ page_address g (row t)
+Carries g t byte (CacheProgramStarted page) = page ≡ page_address g (row t)
 Carries g t byte (ReadColumnChanged column) = column ≡ t.column
 Carries g t byte (PlaneSelected plane count column) = (plane ≡ plane_of_row g (row t)) × (count ≡ planes g) × (column ≡ t.column)
 Carries g t byte (ReadQueued page) = page ≡ page_address g (row t)
@@ -244,6 +246,10 @@ command_means g past l byte ProgramPlane =
     either_means g past l byte (CommandCycle ProgramPlane) (wants_command (tail_of past l) ProgramPlane && names_lun g (row (tail_of past l)) l.lun) _ _
     (λ h. record { closes = rw h refl; changes = refl; selects = refl; clears = refl; outputs = refl; status = refl; no_ready = refl; no_array_ready = refl; carries = refl })
     (λ h. other_means g past l byte ProgramPlane (rw h refl) refl refl)
+command_means g past l byte ProgramCache =
+    either_means g past l byte (CommandCycle ProgramCache) (wants_command (tail_of past l) ProgramCache && names_lun g (row (tail_of past l)) l.lun) _ _
+    (λ h. record { closes = rw h refl; changes = refl; selects = refl; clears = refl; outputs = refl; status = refl; no_ready = refl; no_array_ready = refl; carries = refl })
+    (λ h. other_means g past l byte ProgramCache (rw h refl) refl refl)
 command_means g past l byte c =
     either_means g past l byte (CommandCycle c) (wants_command (tail_of past l) c && names_lun g (row (tail_of past l)) l.lun) Unaffected Unaffected
     (λ h. nothing_means g past l byte (CommandCycle c) refl refl refl refl refl)
@@ -325,8 +331,8 @@ means g past (Rdy ce lun fail) l = at (ce == l.ce && lun == l.lun) refl
     at : (b : Bool) → (ce == l.ce && lun == l.lun) ≡ b → Means g past (Rdy ce lun fail) l (cond b (BecameReady fail) Unaffected)
     at true h = record { closes = refl; ready = h; array_ready = refl; changes = refl; selects = refl; clears = refl; outputs = refl; status = refl; carries = tt }
     at false h = record { closes = refl; ready = h; array_ready = refl; changes = refl; selects = refl; clears = refl; outputs = refl; status = refl; carries = tt }
-means g past (Ard ce lun) l = at (ce == l.ce && lun == l.lun) refl
+means g past (Ard ce lun fail) l = at (ce == l.ce && lun == l.lun) refl
   where
-    at : (b : Bool) → (ce == l.ce && lun == l.lun) ≡ b → Means g past (Ard ce lun) l (cond b ArrayBecameReady Unaffected)
+    at : (b : Bool) → (ce == l.ce && lun == l.lun) ≡ b → Means g past (Ard ce lun fail) l (cond b (ArrayBecameReady fail) Unaffected)
     at true h = record { closes = refl; ready = refl; array_ready = h; changes = refl; selects = refl; clears = refl; outputs = refl; status = refl; carries = tt }
     at false h = record { closes = refl; ready = refl; array_ready = h; changes = refl; selects = refl; clears = refl; outputs = refl; status = refl; carries = tt }

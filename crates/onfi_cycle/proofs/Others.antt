@@ -10,7 +10,7 @@ use Rattle.onfi_cycle.specs.declared.item.Item.TheVariants.{Cyc, Rdy, Ard}
 use Rattle.onfi_cycle.specs.declared.latch.Latch.{Latch}
 use Rattle.onfi_cycle.specs.declared.latch.Latch.TheVariants.{Off}
 use Rattle.onfi_cycle.specs.declared.command.Command.{Command}
-use Rattle.onfi_cycle.specs.declared.command.Command.TheVariants.{Read, ProgramConfirm, ProgramPlane, PageProgram, CopybackRead, ReadConfirm, ReadPlane, ReadCacheSequential, ReadCacheEnd, ReadStatus, ReadStatusEnhanced, ReadId, BlockEraseConfirm, BlockErasePlane, ChangeReadColumnConfirm, ReadParameterPage, Reset, ChangeWriteColumn, ReadUniqueId, GetFeatures, SetFeatures, ResetLun, SynchronousReset}
+use Rattle.onfi_cycle.specs.declared.command.Command.TheVariants.{Read, ProgramConfirm, ProgramPlane, PageProgram, CopybackRead, ReadConfirm, ReadPlane, ReadCacheSequential, ReadCacheEnd, ReadStatus, ReadStatusEnhanced, ReadId, BlockEraseConfirm, BlockErasePlane, ChangeReadColumnConfirm, ReadParameterPage, Reset, ChangeWriteColumn, ReadUniqueId, GetFeatures, SetFeatures, ResetLun, SynchronousReset, ProgramCache}
 use Rattle.onfi_cycle.specs.Command.{closes_row, reads_row, begins_data, is_set_features, at_last_row, reads_identity, is_of_target, wants_one_lun}
 use Rattle.onfi_cycle.specs.declared.data_phase.DataPhase.{DataPhase}
 use Rattle.onfi_cycle.specs.declared.data_phase.DataPhase.TheVariants.{Outside, Inputs, FirstColumn, SecondColumn, FeatureInputs}
@@ -87,6 +87,7 @@ quiet_command g t s BlockEraseConfirm l m ne one named driver = quiet_named (wan
 quiet_command g t s BlockErasePlane l m ne one named driver = quiet_named (wants_command t BlockErasePlane) (names_lun g (row t) l) _ _ (not_both _ l m ne (named refl)) (other_is_quiet g t BlockErasePlane)
 quiet_command g t s ProgramConfirm l m ne one named driver = quiet_named (wants_command t ProgramConfirm) (names_lun g (row t) l) _ _ (not_both _ l m ne (named refl)) (other_is_quiet g t ProgramConfirm)
 quiet_command g t s ProgramPlane l m ne one named driver = quiet_named (wants_command t ProgramPlane) (names_lun g (row t) l) _ _ (not_both _ l m ne (named refl)) (other_is_quiet g t ProgramPlane)
+quiet_command g t s ProgramCache l m ne one named driver = quiet_named (wants_command t ProgramCache) (names_lun g (row t) l) _ _ (not_both _ l m ne (named refl)) (other_is_quiet g t ProgramCache)
 quiet_command g t s c l m ne one named driver = quiet_choice (wants_command t c && names_lun g (row t) l) Unaffected Unaffected refl refl
 
 -- an address of another LUN
@@ -245,7 +246,7 @@ other_openings g n (Cyc c ∷ past) ce narrow several h =
         }
     at false before f4 = before
 other_openings g n (Rdy a b f ∷ past) ce narrow several h = other_openings g n past ce narrow several (both_true (is_permitted g n past (Rdy a b f)) (is_legal g n past) h).1
-other_openings g n (Ard a b ∷ past) ce narrow several h = other_openings g n past ce narrow several (both_true (is_permitted g n past (Ard a b)) (is_legal g n past) h).1
+other_openings g n (Ard a b f ∷ past) ce narrow several h = other_openings g n past ce narrow several (both_true (is_permitted g n past (Ard a b f)) (is_legal g n past) h).1
 
 -- the one driver is one
 only_one : (ds : List ℕ) (l m : ℕ) → l ≢ m → is_only ds m ≡ true → is_only ds l ≡ false
@@ -322,7 +323,7 @@ quiet_item g n past (Cyc c) ce l m legal h of ne several =
     (quiet_cycle g past (luns_of g past c.ce) ce l m (target_cycle c.kind c.byte) ne several (keeps_several_luns g n past c h) (λ e. other_openings g n past ce e several legal) (both_true (c.ce == ce) _ of).1)
     refl
 quiet_item g n past (Rdy a b f) ce l m legal h of ne several = quiet_ready (a == ce) (b == m) (b == l) (BecameReady f) of (not_both b l m ne)
-quiet_item g n past (Ard a b) ce l m legal h of ne several = quiet_ready (a == ce) (b == m) (b == l) ArrayBecameReady of (not_both b l m ne)
+quiet_item g n past (Ard a b f) ce l m legal h of ne several = quiet_ready (a == ce) (b == m) (b == l) (ArrayBecameReady f) of (not_both b l m ne)
 
 -- two LUNs are several
 several_of : (a b n : ℕ) → a ≢ b → a < n → b < n → ltb 1 n ≡ true
@@ -341,12 +342,12 @@ eq_false a b ne = grind (arith, nat_tests)
 pub rests_elsewhere : (g : Parts) (past : List Item) (s : Latch) (i : Item) (l : Lun) → target_of i ≢ l.ce → effect_given g past s i l ≡ Unaffected
 rests_elsewhere g past s (Cyc c) l ne = rw (eq_false c.ce l.ce ne) refl
 rests_elsewhere g past s (Rdy a b f) l ne = rw (eq_false a l.ce ne) refl
-rests_elsewhere g past s (Ard a b) l ne = rw (eq_false a l.ce ne) refl
+rests_elsewhere g past s (Ard a b f) l ne = rw (eq_false a l.ce ne) refl
 
 tail_elsewhere : (past : List Item) (i : Item) (ce : ℕ) → target_of i ≢ ce → tail (i ∷ past) ce ≡ tail past ce
 tail_elsewhere past (Cyc c) ce ne = rw (eq_false c.ce ce ne) refl
 tail_elsewhere past (Rdy a b f) ce ne = refl
-tail_elsewhere past (Ard a b) ce ne = refl
+tail_elsewhere past (Ard a b f) ce ne = refl
 
 pub targets_keep : TargetsKeep
 unfolding effect_among

@@ -15,7 +15,7 @@ use Rattle.onfi_cycle.specs.LunView.{LunView}
 use Rattle.onfi_cycle.specs.Sequence.{facts_after, is_open}
 use Rattle.onfi_cycle.specs.Effect.{is_off, is_data}
 use Rattle.onfi_cycle.specs.Lun.{view_after, output_column, option_plus}
-use Rattle.onfi_cycle.specs.Rules.{driving, only, driver, is_some_and, driver_is, register_len, is_past, lacks, is_empty, has_no_byte, is_past_register, breaks_not_there, breaks_command_unknown, breaks_sequence_open, breaks_several_luns, breaks_no_column_to_change, breaks_command_misplaced, breaks_address_misplaced, breaks_row_outside, breaks_lun_busy, breaks_queue_clash, breaks_input_misplaced, breaks_no_sole_driver, breaks_data_not_ready, breaks_column_outside, breaks_cache_read_misplaced, breaks_copyback_misplaced, breaks_plane_not_held}
+use Rattle.onfi_cycle.specs.Rules.{driving, only, driver, is_some_and, driver_is, register_len, is_past, lacks, is_empty, has_no_byte, is_past_register, breaks_not_there, breaks_command_unknown, breaks_sequence_open, breaks_several_luns, breaks_no_column_to_change, breaks_command_misplaced, breaks_address_misplaced, breaks_row_outside, breaks_lun_busy, breaks_queue_clash, breaks_input_misplaced, breaks_no_sole_driver, breaks_data_not_ready, breaks_column_outside, breaks_cache_read_misplaced, breaks_cache_program_misplaced, breaks_copyback_misplaced, breaks_plane_not_held}
 use Rattle.onfi_cycle.specs.Permitted.{judge}
 use Rattle.onfi_cycle.specs.Channel.{cycle}
 use Rattle.onfi_cycle.specs.Applied.{luns_after_cycle}
@@ -89,7 +89,7 @@ by_driver g missing opens o =
     cond missing (Some NotThere) (cond (opens || not (is_some_and (λ v. true) o)) (Some NoSoleDriver) (cond (is_some_and has_no_byte o) (Some DataNotReady) (cond (is_some_and (is_past_register g) o) (Some ColumnOutside) None)))
 
 judged_by : (g : Parts) (n : ℕ) (t : TailFacts) (vs : List LunView) (ce byte : ℕ) → judge g n t vs (cycle ce Dout byte) ≡ by_driver g (leb n ce) (is_open t) (driver vs)
-unfolding breaks_not_there breaks_command_unknown breaks_sequence_open breaks_several_luns breaks_no_column_to_change breaks_command_misplaced breaks_address_misplaced breaks_row_outside breaks_lun_busy breaks_queue_clash breaks_input_misplaced breaks_no_sole_driver breaks_data_not_ready breaks_column_outside breaks_cache_read_misplaced breaks_copyback_misplaced breaks_plane_not_held
+unfolding breaks_not_there breaks_command_unknown breaks_sequence_open breaks_several_luns breaks_no_column_to_change breaks_command_misplaced breaks_address_misplaced breaks_row_outside breaks_lun_busy breaks_queue_clash breaks_input_misplaced breaks_no_sole_driver breaks_data_not_ready breaks_column_outside breaks_cache_read_misplaced breaks_cache_program_misplaced breaks_copyback_misplaced breaks_plane_not_held
 judged_by g n t vs ce byte = refl
 
 -- what a permitted output tells of its target

@@ -324,4 +324,4 @@ row_fits g targets t luns (Cyc c) n v h found tf f =
     at true e h = h
     at false e h = let same : (c.ce == c.ce) ≡ true = grind (arith, nat_tests) in cc
 row_fits g targets t luns (Rdy ce lun fail) n v h found tf f = same_queue g t n v _ (either_keeps (ce == ce && lun == n) (BecameReady fail) Unaffected v.queue refl refl) f
-row_fits g targets t luns (Ard ce lun) n v h found tf f = same_queue g t n v _ (either_keeps (ce == ce && lun == n) ArrayBecameReady Unaffected v.queue refl refl) f
+row_fits g targets t luns (Ard ce lun fail) n v h found tf f = same_queue g t n v _ (either_keeps (ce == ce && lun == n) (ArrayBecameReady fail) Unaffected v.queue refl refl) f

@@ -372,8 +372,8 @@ row_stands g targets t luns (Rdy ce lun fail) n v h count found tf f = stays_rea
     either : (b : Bool) → v.busy ≡ false → busy_after (cond b (BecameReady fail) Unaffected) v.busy ≡ false
     either true h = refl
     either false h = h
-row_stands g targets t luns (Ard ce lun) n v h count found tf f = stays_ready g t n v _ (either (ce == ce && lun == n)) f
+row_stands g targets t luns (Ard ce lun fail) n v h count found tf f = stays_ready g t n v _ (either (ce == ce && lun == n)) f
   where
-    either : (b : Bool) → v.busy ≡ false → busy_after (cond b ArrayBecameReady Unaffected) v.busy ≡ false
+    either : (b : Bool) → v.busy ≡ false → busy_after (cond b (ArrayBecameReady fail) Unaffected) v.busy ≡ false
     either true h = h
     either false h = h

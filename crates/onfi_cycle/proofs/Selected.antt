@@ -3,7 +3,7 @@ use Rattle.std.proofs.Common.{◌≡◌, ℕ, ◌==◌, Bool, true, false, ◌&&
 use Rattle.std.proofs.Math.Bool.{or-false, or-true}
 use Rattle.nand_geometry.specs.declared.parts.Parts.{Parts}
 use Rattle.onfi_cycle.specs.declared.command.Command.{Command}
-use Rattle.onfi_cycle.specs.declared.command.Command.TheVariants.{Read, ReadConfirm, ChangeReadColumnConfirm, BlockEraseConfirm, BlockErasePlane, ReadStatus, ReadStatusEnhanced, ProgramConfirm, ProgramPlane, ReadId, ReadParameterPage, Reset, ReadCacheSequential, ReadCacheEnd, ReadUniqueId, GetFeatures, SetFeatures, ResetLun, SynchronousReset, ReadPlane, CopybackRead, PageProgram}
+use Rattle.onfi_cycle.specs.declared.command.Command.TheVariants.{Read, ReadConfirm, ChangeReadColumnConfirm, BlockEraseConfirm, BlockErasePlane, ReadStatus, ReadStatusEnhanced, ProgramConfirm, ProgramPlane, ReadId, ReadParameterPage, Reset, ReadCacheSequential, ReadCacheEnd, ReadUniqueId, GetFeatures, SetFeatures, ResetLun, SynchronousReset, ReadPlane, CopybackRead, PageProgram, ProgramCache}
 use Rattle.onfi_cycle.specs.declared.lun.Lun.{Lun}
 use Rattle.onfi_cycle.specs.declared.latch.Latch.{Latch}
 use Rattle.onfi_cycle.specs.declared.item.Item.{Item}
@@ -68,6 +68,7 @@ command_selected g past l la BlockEraseConfirm p = row_selected (wants_command (
 command_selected g past l la BlockErasePlane p = row_selected (wants_command (tail_of past l) BlockErasePlane) (names_lun g (row (tail_of past l)) l.lun) (is_shared g) false p _ refl
 command_selected g past l la ProgramConfirm p = row_selected (wants_command (tail_of past l) ProgramConfirm) (names_lun g (row (tail_of past l)) l.lun) (is_shared g) false p _ refl
 command_selected g past l la ProgramPlane p = row_selected (wants_command (tail_of past l) ProgramPlane) (names_lun g (row (tail_of past l)) l.lun) (is_shared g) false p _ refl
+command_selected g past l la ProgramCache p = row_selected (wants_command (tail_of past l) ProgramCache) (names_lun g (row (tail_of past l)) l.lun) (is_shared g) false p _ refl
 command_selected g past l la c p = same_selected (wants_command (tail_of past l) c && names_lun g (row (tail_of past l)) l.lun) p Unaffected Unaffected refl refl
 
 -- what is read for the whole target; w: its address is wanted; a: the LUN acts for the target
@@ -140,7 +141,7 @@ item_selected g past (Cyc c) l = at (c.ce == l.ce)
     at true = cycle_selected g past l (latch_alone g past l) (target_cycle c.kind c.byte) (is_selected g past l)
     at false = refl
 item_selected g past (Rdy ce lun fail) l = same_selected (ce == l.ce && lun == l.lun) (is_selected g past l) (BecameReady fail) Unaffected refl refl
-item_selected g past (Ard ce lun) l = same_selected (ce == l.ce && lun == l.lun) (is_selected g past l) ArrayBecameReady Unaffected refl refl
+item_selected g past (Ard ce lun fail) l = same_selected (ce == l.ce && lun == l.lun) (is_selected g past l) (ArrayBecameReady fail) Unaffected refl refl
 
 pub selected_is_decided : (g : Parts) (past : List Item) (l : Lun) → is_selected g past l ≡ unwrap_or (last_decided (selected_decided g l) past) (l.lun == 0)
 selected_is_decided g [] l = refl
@@ -194,6 +195,7 @@ command_overlapped g past l la BlockEraseConfirm p = row_overlapped (wants_comma
 command_overlapped g past l la BlockErasePlane p = row_overlapped (wants_command (tail_of past l) BlockErasePlane) (names_lun g (row (tail_of past l)) l.lun) (is_shared g) false _ p _ refl
 command_overlapped g past l la ProgramConfirm p = row_overlapped (wants_command (tail_of past l) ProgramConfirm) (names_lun g (row (tail_of past l)) l.lun) (is_shared g) false _ p _ refl
 command_overlapped g past l la ProgramPlane p = row_overlapped (wants_command (tail_of past l) ProgramPlane) (names_lun g (row (tail_of past l)) l.lun) (is_shared g) false _ p _ refl
+command_overlapped g past l la ProgramCache p = row_overlapped (wants_command (tail_of past l) ProgramCache) (names_lun g (row (tail_of past l)) l.lun) (is_shared g) false _ p _ refl
 command_overlapped g past l la c p = same_overlapped (wants_command (tail_of past l) c && names_lun g (row (tail_of past l)) l.lun) _ p Unaffected Unaffected refl refl
 
 served_overlapped : (w a q p : Bool) (e : Effect) → overlapped_after e q p ≡ false → overlapped_after (cond w (cond a e Deselected) Unaffected) q p ≡ unwrap_or (cond (true && (w && not false)) (Some false) None) p
@@ -264,7 +266,7 @@ item_overlapped g past (Cyc c) l = at (c.ce == l.ce)
     at true = cycle_overlapped g past l (latch_alone g past l) (target_cycle c.kind c.byte) (is_overlapped g past l)
     at false = refl
 item_overlapped g past (Rdy ce lun fail) l = same_overlapped (ce == l.ce && lun == l.lun) _ (is_overlapped g past l) (BecameReady fail) Unaffected refl refl
-item_overlapped g past (Ard ce lun) l = same_overlapped (ce == l.ce && lun == l.lun) _ (is_overlapped g past l) ArrayBecameReady Unaffected refl refl
+item_overlapped g past (Ard ce lun fail) l = same_overlapped (ce == l.ce && lun == l.lun) _ (is_overlapped g past l) (ArrayBecameReady fail) Unaffected refl refl
 
 pub overlapped_is_decided : (g : Parts) (past : List Item) (l : Lun) → is_overlapped g past l ≡ unwrap_or (last_decided (overlapped_decided g l) past) false
 overlapped_is_decided g [] l = refl

@@ -5,9 +5,9 @@ use Rattle.std.proofs.lemmas.Bool.{and_parts, or_from, or_parts as neither}
 use Rattle.nand_geometry.specs.declared.parts.Parts.{Parts}
 use Rattle.nand_geometry.specs.Limits.{planes}
 use Rattle.onfi_cycle.specs.declared.command.Command.{Command}
-use Rattle.onfi_cycle.specs.declared.command.Command.TheVariants.{Read, ReadConfirm, ChangeReadColumn, ChangeReadColumnConfirm, BlockErase, BlockEraseConfirm, BlockErasePlane, ReadStatus, ReadStatusEnhanced, PageProgram, ChangeWriteColumn, ProgramConfirm, ProgramPlane, ReadId, ReadParameterPage, Reset, ReadCacheSequential, ReadCacheEnd, ReadUniqueId, GetFeatures, SetFeatures, ResetLun, SynchronousReset, Unknown, ChangeReadColumnEnhanced, ReadPlane, CopybackRead}
+use Rattle.onfi_cycle.specs.declared.command.Command.TheVariants.{Read, ReadConfirm, ChangeReadColumn, ChangeReadColumnConfirm, BlockErase, BlockEraseConfirm, BlockErasePlane, ReadStatus, ReadStatusEnhanced, PageProgram, ChangeWriteColumn, ProgramConfirm, ProgramPlane, ReadId, ReadParameterPage, Reset, ReadCacheSequential, ReadCacheEnd, ReadUniqueId, GetFeatures, SetFeatures, ResetLun, SynchronousReset, Unknown, ChangeReadColumnEnhanced, ReadPlane, CopybackRead, ProgramCache}
 use Rattle.onfi_cycle.specs.declared.effect.Effect.{Effect}
-use Rattle.onfi_cycle.specs.declared.effect.Effect.TheVariants.{Unaffected, DataOutputEnabled, StatusSelected, StatusRowAwaited, SelectedForStatus, Deselected, IdRead, IdentityRead, UniqueIdReadStarted, FeaturesReadStarted, FeaturesSet, ParameterPageReadStarted, CacheReadContinued, CacheReadEnded, DataOutput, ResetStarted, BecameReady, ArrayBecameReady, ReadStarted, EraseStarted, ProgramStarted, ReadColumnChanged, AnotherAddressed, StatusOfSelected, TargetResetStarted, PlaneSelected, ReadQueued, CopybackReadStarted, ProgramAddressed}
+use Rattle.onfi_cycle.specs.declared.effect.Effect.TheVariants.{Unaffected, DataOutputEnabled, StatusSelected, StatusRowAwaited, SelectedForStatus, Deselected, IdRead, IdentityRead, UniqueIdReadStarted, FeaturesReadStarted, FeaturesSet, ParameterPageReadStarted, CacheReadContinued, CacheReadEnded, DataOutput, ResetStarted, BecameReady, ArrayBecameReady, ReadStarted, EraseStarted, ProgramStarted, ReadColumnChanged, AnotherAddressed, StatusOfSelected, TargetResetStarted, PlaneSelected, ReadQueued, CopybackReadStarted, ProgramAddressed, CacheProgramStarted}
 use Rattle.onfi_cycle.specs.declared.item.Item.{Item}
 use Rattle.onfi_cycle.specs.declared.item.Item.TheVariants.{Cyc, Rdy, Ard}
 use Rattle.onfi_cycle.specs.declared.latch.Latch.{Latch}
@@ -53,6 +53,7 @@ serves_no_more (EraseStarted true page) b c h k = refl
 serves_no_more (EraseStarted false page) b c h k = refl
 serves_no_more (ProgramStarted true page) b c h k = refl
 serves_no_more (ProgramStarted false page) b c h k = refl
+serves_no_more (CacheProgramStarted page) b c h k = refl
 serves_no_more IdRead b c h k = no_service b
 serves_no_more (IdentityRead jedec) b c h k = no_service b
 serves_no_more UniqueIdReadStarted b c h k = cc
@@ -69,7 +70,7 @@ serves_no_more (TargetResetStarted first) b c h k = refl
 serves_no_more StatusOfSelected b c h k = k
 serves_no_more (AnotherAddressed reads) b c h k = k
 serves_no_more (BecameReady failed) b c h k = refl
-serves_no_more ArrayBecameReady b c h k = k
+serves_no_more (ArrayBecameReady fail) b c h k = k
 
 -- ---- 2. what a cycle does that is no command of a whole target
 
@@ -100,6 +101,7 @@ command_serves g t la PageProgram n = closer_serves (wants_command t PageProgram
 command_serves g t la ChangeWriteColumn n = closer_serves (wants_command t ChangeWriteColumn && names_lun g (row t) n) (closes_row ChangeWriteColumn && (wants_command t ChangeWriteColumn && is_shared g)) (reads_row ChangeWriteColumn) (confirm_effect g t ChangeWriteColumn) refl
 command_serves g t la ProgramConfirm n = closer_serves (wants_command t ProgramConfirm && names_lun g (row t) n) (closes_row ProgramConfirm && (wants_command t ProgramConfirm && is_shared g)) (reads_row ProgramConfirm) (confirm_effect g t ProgramConfirm) refl
 command_serves g t la ProgramPlane n = closer_serves (wants_command t ProgramPlane && names_lun g (row t) n) (closes_row ProgramPlane && (wants_command t ProgramPlane && is_shared g)) (reads_row ProgramPlane) (confirm_effect g t ProgramPlane) refl
+command_serves g t la ProgramCache n = closer_serves (wants_command t ProgramCache && names_lun g (row t) n) (closes_row ProgramCache && (wants_command t ProgramCache && is_shared g)) (reads_row ProgramCache) (confirm_effect g t ProgramCache) refl
 command_serves g t la ReadId n = closer_serves (wants_command t ReadId && names_lun g (row t) n) (closes_row ReadId && (wants_command t ReadId && is_shared g)) (reads_row ReadId) (confirm_effect g t ReadId) refl
 command_serves g t la ReadParameterPage n = closer_serves (wants_command t ReadParameterPage && names_lun g (row t) n) (closes_row ReadParameterPage && (wants_command t ReadParameterPage && is_shared g)) (reads_row ReadParameterPage) (confirm_effect g t ReadParameterPage) refl
 command_serves g t la Reset n = either (is_shared g) (TargetResetStarted (n == 0)) ResetStarted refl refl
@@ -132,6 +134,7 @@ address_serves g t byte PageProgram k n none = either (k == 4) (program_row_effe
 address_serves g t byte ChangeWriteColumn k n none = refl
 address_serves g t byte ProgramConfirm k n none = refl
 address_serves g t byte ProgramPlane k n none = refl
+address_serves g t byte ProgramCache k n none = refl
 address_serves g t byte ReadId k n none = cc
 address_serves g t byte ReadParameterPage k n none = cc
 address_serves g t byte Reset k n none = refl
@@ -185,10 +188,10 @@ ready_serves g past (Rdy a lun fail) ce h none = stays_free g past (Rdy a lun fa
   where
     rests : (l : Lun) → begins_service (effect_on g past (Rdy a lun fail) l) ≡ false
     rests l = either (a == l.ce && lun == l.lun) (BecameReady fail) Unaffected refl refl
-ready_serves g past (Ard a lun) ce h none = stays_free g past (Ard a lun) ce (λ shared. rests) none
+ready_serves g past (Ard a lun fail) ce h none = stays_free g past (Ard a lun fail) ce (λ shared. rests) none
   where
-    rests : (l : Lun) → begins_service (effect_on g past (Ard a lun) l) ≡ false
-    rests l = either (a == l.ce && lun == l.lun) ArrayBecameReady Unaffected refl refl
+    rests : (l : Lun) → begins_service (effect_on g past (Ard a lun fail) l) ≡ false
+    rests l = either (a == l.ce && lun == l.lun) (ArrayBecameReady fail) Unaffected refl refl
 
 -- a cycle that is of a LUN is of no whole target
 of_none : (shared serves : Bool) (keeps : Bool) → shared ≡ true → (not (shared && serves) && keeps) ≡ true → serves ≡ false
@@ -199,7 +202,7 @@ of_none false serves keeps e h = cc
 effect_rests : (g : Parts) (past : List Item) (i : Item) (m l : Lun) → is_shared g ≡ true → is_of g past m i ≡ true → begins_service (effect_on g past i l) ≡ false
 unfolding effect_among
 effect_rests g past (Rdy a lun fail) m l shared of = either (a == l.ce && lun == l.lun) (BecameReady fail) Unaffected refl refl
-effect_rests g past (Ard a lun) m l shared of = either (a == l.ce && lun == l.lun) ArrayBecameReady Unaffected refl refl
+effect_rests g past (Ard a lun fail) m l shared of = either (a == l.ce && lun == l.lun) (ArrayBecameReady fail) Unaffected refl refl
 effect_rests g past (Cyc c) m l shared of = at (c.ce == l.ce) refl
   where
     la : Latch

@@ -5,7 +5,7 @@ use Rattle.std.proofs.lemmas.List.{reverse-append, reverse-reverse}
 use Rattle.std.proofs.lemmas.Bool.{or_cases, or_right, and_parts, and_from, or_left}
 use Rattle.onfi_cycle.proofs.Booleans.{clash}
 use Rattle.onfi_cycle.specs.declared.command.Command.{Command}
-use Rattle.onfi_cycle.specs.declared.command.Command.TheVariants.{Read, ReadConfirm, ChangeReadColumn, ChangeReadColumnConfirm, BlockErase, BlockEraseConfirm, BlockErasePlane, ReadStatusEnhanced, PageProgram, ChangeWriteColumn, ProgramConfirm, ProgramPlane, ReadId, ReadParameterPage, ReadUniqueId, GetFeatures, SetFeatures, ResetLun, ReadCacheSequential, ChangeReadColumnEnhanced, ReadPlane, CopybackRead}
+use Rattle.onfi_cycle.specs.declared.command.Command.TheVariants.{Read, ReadConfirm, ChangeReadColumn, ChangeReadColumnConfirm, BlockErase, BlockEraseConfirm, BlockErasePlane, ReadStatusEnhanced, PageProgram, ChangeWriteColumn, ProgramConfirm, ProgramPlane, ReadId, ReadParameterPage, ReadUniqueId, GetFeatures, SetFeatures, ResetLun, ReadCacheSequential, ChangeReadColumnEnhanced, ReadPlane, CopybackRead, ProgramCache}
 use Rattle.onfi_cycle.specs.declared.opening.Opening.{Opening}
 use Rattle.onfi_cycle.specs.declared.data_phase.DataPhase.{DataPhase}
 use Rattle.onfi_cycle.specs.declared.data_phase.DataPhase.TheVariants.{Outside, Inputs, FirstColumn, SecondColumn, FeatureInputs}
@@ -14,7 +14,7 @@ use Rattle.onfi_cycle.specs.declared.target_cycle.TargetCycle.{TargetCycle}
 use Rattle.onfi_cycle.specs.declared.target_cycle.TargetCycle.TheVariants.{CommandCycle, AddressCycle, InputCycle, OutputCycle}
 use Rattle.onfi_cycle.specs.Command.{is_opener, address_cycles, takes_address, closes, begins_data, is_set_features}
 use Rattle.onfi_cycle.specs.Sequence.{begins_sequence, one_address_more, opening, opened, data_phase, phase_after_command, phase_after_address, phase_after_input, phase_after_last_address, facts_of, extended_facts, wants, wants_command, wants_address, is_proper_beginning, is_open, takes_inputs, wants_column, takes_data, takes_features, inputs}
-use Rattle.onfi_cycle.specs.Table.{IsProgramData, IsProgramOpener, IsProgramCloser, IsSequence, IsBeginning, IsProperBeginning, TailsFollowTheTable}
+use Rattle.onfi_cycle.specs.Table.{IsProgramData, IsProgramOpener, IsProgramCloser, IsSequence, IsBeginning, IsProperBeginning, TailsFollowTheTable, cache}
 use Rattle.onfi_cycle.specs.Table.IsProgramData.{nothing, input, column}
 use Rattle.onfi_cycle.specs.Table.IsProgramOpener.{write, copy}
 use Rattle.onfi_cycle.specs.Table.IsProgramCloser.{whole, plane}
@@ -45,6 +45,7 @@ scans (c ∷ cs) = begins_sequence c && wanted_along (facts_of (c ∷ [])) cs
 data_scans : (f : TailFacts) (bytes : List TargetCycle) (closer : Command) → IsProgramData bytes → IsProgramCloser closer → f.phase ≡ Inputs → wanted_along f (bytes ++ (CommandCycle closer ∷ [])) ≡ true
 data_scans f _ _ nothing whole h = and_from (takes_data f.phase) true (ap takes_data h) refl
 data_scans f _ _ nothing plane h = and_from (takes_data f.phase) true (ap takes_data h) refl
+data_scans f _ _ nothing cache h = and_from (takes_data f.phase) true (ap takes_data h) refl
 data_scans f _ closer (input byte more rest) k h =
     and_from (takes_inputs f.phase) _ (ap takes_inputs h) (data_scans (extended_facts (InputCycle byte) f) more closer rest k (ap (phase_after_input f.inputs) h))
 data_scans f _ closer (column c1 c2 more rest) k h =
@@ -589,6 +590,7 @@ wanted_command : (t : List TargetCycle) (c : Command) → wants_command (facts_o
 wanted_command t ChangeWriteColumn h = data_command t ChangeWriteColumn (data_phase t) (phase_shape t) h (change_write_begins t)
 wanted_command t ProgramConfirm h = data_command t ProgramConfirm (data_phase t) (phase_shape t) h (program_ends t ProgramConfirm whole)
 wanted_command t ProgramPlane h = data_command t ProgramPlane (data_phase t) (phase_shape t) h (program_ends t ProgramPlane plane)
+wanted_command t ProgramCache h = data_command t ProgramCache (data_phase t) (phase_shape t) h (program_ends t ProgramCache cache)
 wanted_command t c h = opened_command t c (opening t) (opening_shape t) h
 
 opened_address : (t : List TargetCycle) (b : ℕ) (x : Option Opening) → ((p : Opening) → x ≡ Some p → IsOpening p t) → opened (λ c n. is_opener c && ltb n (address_cycles c) && takes_address c b) x ≡ true → IsBeginning (reverse (AddressCycle b ∷ t))
@@ -736,6 +738,7 @@ pub command_opens : (x : TailFacts) (c : Command) → wants_command x c ≡ true
 command_opens x ChangeWriteColumn h = middle_true (opened is_proper_beginning x.opening) (takes_inputs x.phase) (wants_column x.phase) (or_left (takes_data x.phase) (takes_features x.phase) h)
 command_opens x ProgramConfirm h = middle_true (opened is_proper_beginning x.opening) (takes_inputs x.phase) (wants_column x.phase) (or_left (takes_data x.phase) (takes_features x.phase) h)
 command_opens x ProgramPlane h = middle_true (opened is_proper_beginning x.opening) (takes_inputs x.phase) (wants_column x.phase) (or_left (takes_data x.phase) (takes_features x.phase) h)
+command_opens x ProgramCache h = middle_true (opened is_proper_beginning x.opening) (takes_inputs x.phase) (wants_column x.phase) (or_left (takes_data x.phase) (takes_features x.phase) h)
 command_opens x c h = left_true (opened is_proper_beginning x.opening) (takes_inputs x.phase) (wants_column x.phase) (opened_by_command x.opening c h)
 
 -- the command 00 with no address

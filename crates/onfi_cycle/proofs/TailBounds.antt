@@ -199,7 +199,7 @@ tail_fits g n luns (Cyc c) t h small f =
     let keeps = keeps_rules g t luns cycle (first_passed (breaks_not_there n luns (Cyc c)) NotThere (judge_cycle g t luns cycle) h).1 in
     cycle_fits g luns cycle t keeps.f7 keeps.f14 small f
 tail_fits g n luns (Rdy _ _ _) t h small f = f
-tail_fits g n luns (Ard _ _) t h small f = f
+tail_fits g n luns (Ard _ _ _) t h small f = f
 
 -- what is kept of a target that has seen nothing
 pub no_tail_fits : (g : Parts) → TailFits g (facts_of [])

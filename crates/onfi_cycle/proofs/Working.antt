@@ -301,9 +301,9 @@ ready_rests g past (Rdy ce lun fail) l h = let no = of (ce == l.ce && lun == l.l
     of : (b : Bool) → begins (cond b (BecameReady fail) Unaffected) ≡ true → false ≡ true
     of true h = h
     of false h = h
-ready_rests g past (Ard ce lun) l h = let no = of (ce == l.ce && lun == l.lun) h in cc
+ready_rests g past (Ard ce lun fail) l h = let no = of (ce == l.ce && lun == l.lun) h in cc
   where
-    of : (b : Bool) → begins (cond b ArrayBecameReady Unaffected) ≡ true → false ≡ true
+    of : (b : Bool) → begins (cond b (ArrayBecameReady fail) Unaffected) ≡ true → false ≡ true
     of true h = h
     of false h = h
 

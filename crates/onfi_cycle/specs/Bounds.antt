@@ -13,7 +13,7 @@ use Rattle.onfi_cycle.specs.declared.data_phase.DataPhase.TheVariants.{Outside}
 use Rattle.onfi_cycle.specs.LunView.{LunView}
 use Rattle.onfi_cycle.specs.Sequence.{opened, takes_data, takes_features, wants_column, row}
 use Rattle.onfi_cycle.specs.declared.effect.Effect.{Effect}
-use Rattle.onfi_cycle.specs.declared.effect.Effect.TheVariants.{DataOutput, EraseStarted, ProgramStarted, ReadStarted, ReadColumnChanged, PlaneSelected, IdRead, IdentityRead, UniqueIdReadStarted, FeaturesReadStarted, FeaturesSet, ParameterPageReadStarted, CacheReadContinued, CacheReadEnded, ReadQueued, CopybackReadStarted}
+use Rattle.onfi_cycle.specs.declared.effect.Effect.TheVariants.{DataOutput, EraseStarted, ProgramStarted, ReadStarted, ReadColumnChanged, PlaneSelected, IdRead, IdentityRead, UniqueIdReadStarted, FeaturesReadStarted, FeaturesSet, ParameterPageReadStarted, CacheReadContinued, CacheReadEnded, ReadQueued, CopybackReadStarted, CacheProgramStarted}
 use Rattle.onfi_cycle.specs.Effect.{is_shared, names_lun, page_address}
 use Rattle.onfi_cycle.specs.Rules.{some_queued_clashes, some_read_clashes}
 use Rattle.onfi_cycle.specs.State.{TargetView, BusView}
@@ -122,6 +122,7 @@ abbrev pub EffectFits : Parts → LunView → Effect → Type 0
 EffectFits g v DataOutput = v.column.outputs < 2 ^ 16
 EffectFits g v (EraseStarted queued at) = (some_queued_clashes g true at v.queue ≡ false) × CanStart g v at
 EffectFits g v (ProgramStarted queued at) = (some_queued_clashes g false at v.queue ≡ false) × CanStart g v at
+EffectFits g v (CacheProgramStarted at) = (some_queued_clashes g false at v.queue ≡ false) × CanStart g v at
 EffectFits g v (ReadQueued at) = (some_read_clashes g at v.queue ≡ false) × CanStart g v at
 EffectFits g v (ReadStarted page column) = (page.page < 2 ^ 32) × (column < 2 ^ 16) × CanStart g v page
 EffectFits g v (CopybackReadStarted page column planes) = (page.page < 2 ^ 32) × (column < 2 ^ 16) × (0 < planes) × CanStart g v page

@@ -10,7 +10,7 @@ use Rattle.onfi_cycle.specs.declared.item.Item.TheVariants.{Cyc, Rdy, Ard}
 use Rattle.onfi_cycle.specs.Sequence.{tail, facts_of, is_open}
 use Rattle.std.specs.List.{list_any}
 use Rattle.onfi_cycle.specs.Effect.{is_shared}
-use Rattle.onfi_cycle.specs.Lun.{drivers, is_busy, is_caching, queue, luns_of}
+use Rattle.onfi_cycle.specs.Lun.{drivers, is_busy, is_caching, is_programming, queue, luns_of}
 use Rattle.onfi_cycle.specs.Rules.{works_for_target}
 use Rattle.onfi_cycle.specs.Content.{shown}
 use Rattle.onfi_cycle.specs.Permitted.{broken}
@@ -40,7 +40,7 @@ is_there s l = nat_lt l.ce s.targets && nat_lt l.lun s.geometry.luns
 abbrev pub is_cycle : Item → Bool
 is_cycle (Cyc c) = true
 is_cycle (Rdy ce lun fail) = false
-is_cycle (Ard ce lun) = false
+is_cycle (Ard ce lun fail) = false
 
 -- a cycle on a target
 abbrev pub cycle : ℕ → Kind → ℕ → Item
@@ -54,10 +54,11 @@ is_open_on past ce = is_open (facts_of (tail past ce))
 abbrev pub is_serving : Parts → List Item → ℕ → Bool
 is_serving g past ce = is_shared g && list_any works_for_target (luns_of g past ce)
 
--- the LUN is ready, reads no cache and has nothing queued, and no work of its whole target goes on
+-- the LUN is ready, reads no cache, programs none and has nothing queued, and no work of its whole target goes on
 pub record IsIdle (g : Parts) (past : List Item) (l : Lun) : Type 0 where
   pub ready : is_busy g past l ≡ false
   pub no_cache : is_caching g past l ≡ false
+  pub no_program : is_programming g past l ≡ false
   pub no_queue : queue g past l ≡ []
   pub free : is_serving g past l.ce ≡ false
 

@@ -1,7 +1,7 @@
 -- The codes under which faults are told.
 use Rattle.std.specs.Prelude.{◌≡◌, ℕ, ◌==◌, if◌then◌else◌, List, codes, Option, Some, None}
 use Rattle.onfi_cycle.specs.declared.forbidden.Forbidden.{Forbidden}
-use Rattle.onfi_cycle.specs.declared.forbidden.Forbidden.TheVariants.{NotThere, CommandUnknown, SequenceOpen, SeveralLuns, NoColumnToChange, CommandMisplaced, AddressMisplaced, RowOutside, LunBusy, QueueClash, InputMisplaced, NoSoleDriver, DataNotReady, ColumnOutside, CacheReadMisplaced, CopybackMisplaced, PlaneNotHeld}
+use Rattle.onfi_cycle.specs.declared.forbidden.Forbidden.TheVariants.{NotThere, CommandUnknown, SequenceOpen, SeveralLuns, NoColumnToChange, CommandMisplaced, AddressMisplaced, RowOutside, LunBusy, QueueClash, InputMisplaced, NoSoleDriver, DataNotReady, ColumnOutside, CacheReadMisplaced, CacheProgramMisplaced, CopybackMisplaced, PlaneNotHeld}
 
 -- the code under which a broken rule is told
 abbrev pub forbidden_code : Forbidden → List ℕ
@@ -20,6 +20,7 @@ forbidden_code NoSoleDriver = codes "F12"
 forbidden_code DataNotReady = codes "F13"
 forbidden_code ColumnOutside = codes "F14"
 forbidden_code CacheReadMisplaced = codes "F15"
+forbidden_code CacheProgramMisplaced = codes "F16"
 forbidden_code CopybackMisplaced = codes "F17"
 forbidden_code PlaneNotHeld = codes "F18"
 
@@ -40,6 +41,7 @@ rule_number NoSoleDriver = 12
 rule_number DataNotReady = 13
 rule_number ColumnOutside = 14
 rule_number CacheReadMisplaced = 15
+rule_number CacheProgramMisplaced = 16
 rule_number CopybackMisplaced = 17
 rule_number PlaneNotHeld = 18
 
@@ -61,8 +63,9 @@ rule_of n =
     if n == 13 then Some DataNotReady else (
     if n == 14 then Some ColumnOutside else (
     if n == 15 then Some CacheReadMisplaced else (
+    if n == 16 then Some CacheProgramMisplaced else (
     if n == 17 then Some CopybackMisplaced else (
-    if n == 18 then Some PlaneNotHeld else None))))))))))))))))
+    if n == 18 then Some PlaneNotHeld else None)))))))))))))))))
 
 -- the law: each rule is that of its number
 abbrev pub RulesAreNumbered : Type 0

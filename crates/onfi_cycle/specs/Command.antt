@@ -1,7 +1,7 @@
 -- The commands of the profiles: their bytes, and what each asks of its sequence.
 use Rattle.std.specs.Prelude.{◌≡◌, ◌≢◌, ℕ, ◌==◌, Bool, true, false, ◌||◌, if◌then◌else◌, Option, Some, None}
 use Rattle.onfi_cycle.specs.declared.command.Command.{Command}
-use Rattle.onfi_cycle.specs.declared.command.Command.TheVariants.{Read, ReadConfirm, ChangeReadColumn, ChangeReadColumnEnhanced, ChangeReadColumnConfirm, BlockErase, BlockEraseConfirm, BlockErasePlane, ReadStatus, ReadStatusEnhanced, PageProgram, ChangeWriteColumn, ProgramConfirm, ProgramPlane, ReadId, ReadParameterPage, Reset, ReadCacheSequential, ReadCacheEnd, ReadUniqueId, GetFeatures, SetFeatures, ResetLun, SynchronousReset, Unknown, ReadPlane, CopybackRead}
+use Rattle.onfi_cycle.specs.declared.command.Command.TheVariants.{Read, ReadConfirm, ChangeReadColumn, ChangeReadColumnEnhanced, ChangeReadColumnConfirm, BlockErase, BlockEraseConfirm, BlockErasePlane, ReadStatus, ReadStatusEnhanced, PageProgram, ChangeWriteColumn, ProgramConfirm, ProgramPlane, ReadId, ReadParameterPage, Reset, ReadCacheSequential, ReadCacheEnd, ReadUniqueId, GetFeatures, SetFeatures, ResetLun, SynchronousReset, Unknown, ReadPlane, CopybackRead, ProgramCache}
 
 -- the command of a byte
 unfoldable pub command : ℕ → Command
@@ -32,7 +32,8 @@ command byte =
     else (if byte == 0x06 then ChangeReadColumnEnhanced
     else (if byte == 0x32 then ReadPlane
     else (if byte == 0x35 then CopybackRead
-    else Unknown)))))))))))))))))))))))))
+    else (if byte == 0x15 then ProgramCache
+    else Unknown))))))))))))))))))))))))))
 
 -- the byte of a command
 abbrev pub opcode : Command → Option ℕ
@@ -52,6 +53,7 @@ opcode PageProgram = Some 0x80
 opcode ChangeWriteColumn = Some 0x85
 opcode ProgramConfirm = Some 0x10
 opcode ProgramPlane = Some 0x11
+opcode ProgramCache = Some 0x15
 opcode ReadId = Some 0x90
 opcode ReadParameterPage = Some 0xec
 opcode Reset = Some 0xff
@@ -84,6 +86,7 @@ is_opener BlockEraseConfirm = false
 is_opener BlockErasePlane = false
 is_opener ProgramConfirm = false
 is_opener ProgramPlane = false
+is_opener ProgramCache = false
 is_opener Unknown = false
 is_opener _ = true
 
@@ -143,6 +146,7 @@ closes_row BlockEraseConfirm = true
 closes_row BlockErasePlane = true
 closes_row ProgramConfirm = true
 closes_row ProgramPlane = true
+closes_row ProgramCache = true
 closes_row _ = false
 
 -- those that read it

@@ -1,7 +1,8 @@
 -- What the pages of a LUN contain, and what a LUN shows.
-use Rattle.std.specs.Prelude.{◌≡◌, ℕ, zero, suc, ◌+◌, ◌==◌, Bool, true, false, ◌&&◌, not, if◌then◌else◌, List, [], ◌∷◌, ◌++◌, Option, Some, None, bit_and, replicate, slice_get, slice_set}
+use Rattle.std.specs.Prelude.{◌≡◌, ℕ, zero, suc, ◌+◌, ◌==◌, Bool, true, false, ◌&&◌, ◌||◌, not, if◌then◌else◌, List, [], ◌∷◌, ◌++◌, Option, Some, None, bit_and, replicate, slice_get, slice_set}
 use Rattle.nand_geometry.specs.declared.parts.Parts.{Parts}
 use Rattle.nand_geometry.specs.Limits.{page_len, planes}
+use Rattle.onfi_cycle.specs.declared.command.Command.{Command}
 use Rattle.onfi_cycle.specs.declared.lun.Lun.{Lun}
 use Rattle.onfi_cycle.specs.declared.latch.Latch.{Latch}
 use Rattle.onfi_cycle.specs.declared.latch.Latch.TheVariants.{Off, Status, Data}
@@ -10,10 +11,10 @@ use Rattle.onfi_cycle.specs.declared.page_address.PageAddress.{PageAddress}
 use Rattle.onfi_cycle.specs.declared.register.Register.{Register}
 use Rattle.onfi_cycle.specs.declared.register.Register.TheVariants.{Empty, Page, ParameterPage, Identifier, Identity, JedecIdentity, UniqueId, Features}
 use Rattle.onfi_cycle.specs.declared.effect.Effect.{Effect}
-use Rattle.onfi_cycle.specs.declared.effect.Effect.TheVariants.{ParameterPageReadStarted, UniqueIdReadStarted, FeaturesReadStarted, FeaturesSet, CacheReadContinued, CacheReadEnded, ResetStarted, TargetResetStarted, BecameReady, ReadStarted, EraseStarted, ProgramStarted, ReadQueued, CopybackReadStarted}
+use Rattle.onfi_cycle.specs.declared.effect.Effect.TheVariants.{ParameterPageReadStarted, UniqueIdReadStarted, FeaturesReadStarted, FeaturesSet, CacheReadContinued, CacheReadEnded, ResetStarted, TargetResetStarted, BecameReady, ArrayBecameReady, ReadStarted, EraseStarted, ProgramStarted, ReadQueued, CopybackReadStarted, CacheProgramStarted, IdRead, IdentityRead}
 use Rattle.onfi_cycle.specs.Sequence.{tail, facts_of, filled, row}
 use Rattle.onfi_cycle.specs.Effect.{plane_of_row}
-use Rattle.onfi_cycle.specs.Lun.{effect_on, latch, is_busy, is_array_busy, read_column, output_column, register, held, page_in_plane}
+use Rattle.onfi_cycle.specs.Lun.{effect_on, closer, is_cache_program, is_plane_program, keeps_array_busy, latch, is_busy, is_array_busy, read_column, output_column, register, held, page_in_plane}
 
 -- a list with these bytes written over it from a place on, the first byte first
 abbrev pub written : List ℕ → ℕ → List ℕ → List ℕ
@@ -46,6 +47,7 @@ left_by_all len (work ∷ works) p old = left_by len work p (left_by_all len wor
 abbrev pub queued_work_after : Effect → List ℕ → List ArrayWork → List ArrayWork
 queued_work_after (EraseStarted queued at) bytes works = if queued then ErasesBlock at ∷ works else []
 queued_work_after (ProgramStarted queued at) bytes works = if queued then ProgramsPage at bytes ∷ works else []
+queued_work_after (CacheProgramStarted _) bytes works = []
 queued_work_after (ReadStarted _ _) bytes works = []
 queued_work_after (CopybackReadStarted _ _ _) bytes works = []
 queued_work_after ResetStarted bytes works = []
@@ -55,6 +57,7 @@ queued_work_after _ bytes works = works
 abbrev pub pending_work_after : Effect → List ℕ → List ArrayWork → List ArrayWork → List ArrayWork
 pending_work_after (EraseStarted queued at) bytes works pending = if queued then [] else ErasesBlock at ∷ works
 pending_work_after (ProgramStarted queued at) bytes works pending = if queued then [] else ProgramsPage at bytes ∷ works
+pending_work_after (CacheProgramStarted at) bytes works pending = ProgramsPage at bytes ∷ works
 pending_work_after (ReadStarted _ _) bytes works pending = []
 pending_work_after (ReadQueued _) bytes works pending = []
 pending_work_after (CopybackReadStarted _ _ _) bytes works pending = []
@@ -69,14 +72,44 @@ pending_work_after (TargetResetStarted _) bytes works pending = []
 pending_work_after (BecameReady _) bytes works pending = []
 pending_work_after _ bytes works pending = pending
 
-abbrev pub content_after : Parts → Effect → List ArrayWork → PageAddress → List ℕ → List ℕ
-content_after g (BecameReady failed) pending p old = if failed then old else left_by_all (page_len g) pending p old
-content_after g _ pending p old = old
+-- what the array goes on with: behind the ready of a 15 what that closed; a ready of it ends that, and so does each ready of the LUN but that of an 11;
+-- each other work than a program drops it
+abbrev pub array_work_after : Effect → Option Command → (pending works : List ArrayWork) → List ArrayWork
+array_work_after (BecameReady _) last pending works = if is_cache_program last then pending else (if is_plane_program last then works else [])
+array_work_after (ArrayBecameReady _) last pending works = []
+array_work_after (ReadStarted _ _) last pending works = []
+array_work_after (ReadQueued _) last pending works = []
+array_work_after (CopybackReadStarted _ _ _) last pending works = []
+array_work_after (EraseStarted _ _) last pending works = []
+array_work_after IdRead last pending works = []
+array_work_after (IdentityRead _) last pending works = []
+array_work_after ParameterPageReadStarted last pending works = []
+array_work_after UniqueIdReadStarted last pending works = []
+array_work_after (FeaturesReadStarted _) last pending works = []
+array_work_after (FeaturesSet _) last pending works = []
+array_work_after (CacheReadContinued _) last pending works = []
+array_work_after CacheReadEnded last pending works = []
+array_work_after ResetStarted last pending works = []
+array_work_after (TargetResetStarted _) last pending works = []
+array_work_after _ last pending works = works
 
--- the pages of a LUN, and the works on them that are to come
+-- what works leave that take effect, or don't
+abbrev pub left_unless : Bool → ℕ → List ArrayWork → PageAddress → List ℕ → List ℕ
+left_unless not_so len works p old = if not_so then old else left_by_all len works p old
+
+-- a ready tells of what the array went on with, and of what the last closer closed: that takes effect, behind a 15 not yet, and behind an 11 nothing
+-- does; a ready of the array tells of what that went on with
+abbrev pub content_after : Parts → Effect → Option Command → (pending works : List ArrayWork) → PageAddress → List ℕ → List ℕ
+content_after g (BecameReady fail) last pending works p old =
+    left_unless (fail.last || is_cache_program last) (page_len g) pending p (left_unless (fail.before || is_plane_program last) (page_len g) works p old)
+content_after g (ArrayBecameReady fail) last pending works p old = left_unless fail (page_len g) works p old
+content_after g _ last pending works p old = old
+
+-- the pages of a LUN, and the works on them that are to come: queued, behind a closer, and behind the ready of a 15
 pub record LunPages : Type 0 where
   pub queued : List ArrayWork
   pub pending : List ArrayWork
+  pub in_array : List ArrayWork
   pub content : PageAddress → List ℕ
 
 -- the bytes of a page that is held, and FF where none is
@@ -92,36 +125,42 @@ begun_with g content past l = bytes_held g content (page_in_plane (planes g) (pl
 abbrev pub program_bytes : Parts → (PageAddress → List ℕ) → List Item → Lun → List ℕ
 program_bytes g content past l = filled (begun_with g content past l) (tail past l.ce)
 
-abbrev pub pages_after : Parts → Effect → List ℕ → LunPages → LunPages
-pages_after g a bytes s =
+abbrev pub pages_after : Parts → Effect → Option Command → List ℕ → LunPages → LunPages
+pages_after g a last bytes s =
     record {
       queued = queued_work_after a bytes s.queued;
       pending = pending_work_after a bytes s.queued s.pending;
-      content = λ p. content_after g a s.pending p (s.content p);
+      in_array = array_work_after a last s.pending s.in_array;
+      content = λ p. content_after g a last s.pending s.in_array p (s.content p);
     }
 
 -- the pages of the LUN after a past, from what they had at the opening
 abbrev pub pages_of : Parts → (Lun → PageAddress → List ℕ) → List Item → Lun → LunPages
-pages_of g opening [] l = record { queued = []; pending = []; content = opening l }
+pages_of g opening [] l = record { queued = []; pending = []; in_array = []; content = opening l }
 pages_of g opening (i ∷ past) l =
-    let before = pages_of g opening past l in pages_after g (effect_on g past i l) (program_bytes g before.content past l) before
+    let before = pages_of g opening past l in pages_after g (effect_on g past i l) (closer g past l) (program_bytes g before.content past l) before
 
 -- the queue with its bytes, the newest first
 abbrev pub queued_work : Parts → (Lun → PageAddress → List ℕ) → List Item → Lun → List ArrayWork
 queued_work g opening past l = (pages_of g opening past l).queued
 
--- what takes effect at the next ready of the LUN, if that is without failure: what 10 or D0 closed, and its queue
+-- what takes effect at the next ready of the LUN, if that is without failure: what 10 or D0 closed, and its queue; what 15 closed goes on in the array
 abbrev pub pending_work : Parts → (Lun → PageAddress → List ℕ) → List Item → Lun → List ArrayWork
 pending_work g opening past l = (pages_of g opening past l).pending
+
+-- what the array goes on with behind the ready of a 15
+abbrev pub array_work : Parts → (Lun → PageAddress → List ℕ) → List Item → Lun → List ArrayWork
+array_work g opening past l = (pages_of g opening past l).in_array
 
 -- the bytes of a page
 abbrev pub content : Parts → (Lun → PageAddress → List ℕ) → List Item → Lun → PageAddress → List ℕ
 content g opening past l = (pages_of g opening past l).content
 
--- whether the work that goes on changes pages: 10 or D0 closed it
+-- whether the work that goes on changes pages: 10, 15 or D0 closed it
 abbrev pub changes_after : Effect → Bool → Bool
 changes_after (EraseStarted queued at) changes = not queued
 changes_after (ProgramStarted queued at) changes = not queued
+changes_after (CacheProgramStarted _) changes = true
 changes_after (ReadStarted _ _) changes = false
 changes_after (ReadQueued _) changes = false
 changes_after (CopybackReadStarted _ _ _) changes = false
@@ -140,31 +179,92 @@ abbrev pub changes_pages : Parts → List Item → Lun → Bool
 changes_pages g [] l = false
 changes_pages g (i ∷ past) l = changes_after (effect_on g past i l) (changes_pages g past l)
 
-abbrev pub failed_after : Effect → (changes : Bool) → Bool → Bool
-failed_after (BecameReady fail) changes failed = fail && changes
-failed_after _ changes failed = failed
+-- whether the array goes on with pages, behind the ready of a 15
+abbrev pub array_changes_after : Effect → Option Command → (changes array_changes : Bool) → Bool
+array_changes_after (BecameReady _) last changes array_changes = if is_cache_program last then changes else is_plane_program last && array_changes
+array_changes_after (ArrayBecameReady _) last changes array_changes = false
+array_changes_after (ReadStarted _ _) last changes array_changes = false
+array_changes_after (ReadQueued _) last changes array_changes = false
+array_changes_after (CopybackReadStarted _ _ _) last changes array_changes = false
+array_changes_after (EraseStarted _ _) last changes array_changes = false
+array_changes_after IdRead last changes array_changes = false
+array_changes_after (IdentityRead _) last changes array_changes = false
+array_changes_after ParameterPageReadStarted last changes array_changes = false
+array_changes_after UniqueIdReadStarted last changes array_changes = false
+array_changes_after (FeaturesReadStarted _) last changes array_changes = false
+array_changes_after (FeaturesSet _) last changes array_changes = false
+array_changes_after (CacheReadContinued _) last changes array_changes = false
+array_changes_after CacheReadEnded last changes array_changes = false
+array_changes_after ResetStarted last changes array_changes = false
+array_changes_after (TargetResetStarted _) last changes array_changes = false
+array_changes_after _ last changes array_changes = array_changes
 
--- the newest work is over, it was a program or an erase, and its ready brought a failure
+abbrev pub array_changes : Parts → List Item → Lun → Bool
+array_changes g [] l = false
+array_changes g (i ∷ past) l = array_changes_after (effect_on g past i l) (closer g past l) (changes_pages g past l) (array_changes g past l)
+
+-- the ready of a 10 or D0 tells of its work, that of a 15 doesn't: the array's does; 11s leave what that told
+abbrev pub failed_after : Effect → Option Command → (changes : Bool) → Bool → Bool
+failed_after (BecameReady fail) last changes failed = if is_plane_program last then failed else fail.last && (changes && not (is_cache_program last))
+failed_after (ArrayBecameReady fail) last changes failed = if keeps_array_busy last then fail else failed
+failed_after (ProgramStarted queued _) last changes failed = if queued then keeps_array_busy last && failed else failed
+failed_after (CacheProgramStarted _) last changes failed = false
+failed_after _ last changes failed = failed
+
+-- the newest work, 11s behind a 15 left out, was a program or an erase, and what is told of it is a failure
 abbrev pub has_failed : Parts → List Item → Lun → Bool
 has_failed g [] l = false
-has_failed g (i ∷ past) l = failed_after (effect_on g past i l) (changes_pages g past l) (has_failed g past l)
+has_failed g (i ∷ past) l = failed_after (effect_on g past i l) (closer g past l) (changes_pages g past l) (has_failed g past l)
+
+-- behind a 15 the closer of a program asks what is told of the page before, which the array's ready may have told; else its own ready tells
+abbrev pub before_failed_after : Effect → Option Command → (array_changes failed before : Bool) → Bool
+before_failed_after (BecameReady fail) last array_changes failed before = if array_changes && not (is_plane_program last) then fail.before else before
+before_failed_after (ProgramStarted queued _) last array_changes failed before = not queued && (keeps_array_busy last && failed)
+before_failed_after (CacheProgramStarted _) last array_changes failed before = keeps_array_busy last && failed
+before_failed_after (ReadStarted _ _) last array_changes failed before = false
+before_failed_after (ReadQueued _) last array_changes failed before = false
+before_failed_after (CopybackReadStarted _ _ _) last array_changes failed before = false
+before_failed_after (EraseStarted _ _) last array_changes failed before = false
+before_failed_after ParameterPageReadStarted last array_changes failed before = false
+before_failed_after UniqueIdReadStarted last array_changes failed before = false
+before_failed_after (FeaturesReadStarted _) last array_changes failed before = false
+before_failed_after (FeaturesSet _) last array_changes failed before = false
+before_failed_after (CacheReadContinued _) last array_changes failed before = false
+before_failed_after CacheReadEnded last array_changes failed before = false
+before_failed_after ResetStarted last array_changes failed before = false
+before_failed_after (TargetResetStarted _) last array_changes failed before = false
+before_failed_after _ last array_changes failed before = before
+
+-- the newest work is a program behind a 15, 11s left out, and what is told of the page of that is a failure
+abbrev pub has_failed_before : Parts → List Item → Lun → Bool
+has_failed_before g [] l = false
+has_failed_before g (i ∷ past) l = before_failed_after (effect_on g past i l) (closer g past l) (array_changes g past l) (has_failed g past l) (has_failed_before g past l)
 
 abbrev pub is_some_work : List ArrayWork → Bool
 is_some_work [] = false
 is_some_work (work ∷ works) = true
 
--- the law: the work that goes on changes pages exactly where something takes effect at its end
-abbrev pub WorkChangesPages : Type 0
-WorkChangesPages =
-    (g : Parts) (opening : Lun → PageAddress → List ℕ) (past : List Item) (l : Lun) → is_some_work (pending_work g opening past l) ≡ changes_pages g past l
+-- the law: the work that goes on changes pages exactly where something takes effect at its end, and the array's where something does at the end of that
+-- and while it does, no page is held
+pub record WorkChangesPages : Type 0 where
+  pub lun : (g : Parts) (opening : Lun → PageAddress → List ℕ) (past : List Item) (l : Lun) → is_some_work (pending_work g opening past l) ≡ changes_pages g past l
+  pub array : (g : Parts) (opening : Lun → PageAddress → List ℕ) (past : List Item) (l : Lun) → is_some_work (array_work g opening past l) ≡ array_changes g past l
+  pub held : (g : Parts) (past : List Item) (l : Lun) → array_changes g past l ≡ true → held g past l ≡ []
 
--- the status byte: WP_N alone while the LUN is busy; with RDY while its array still is; else with ARDY too, and FAIL if its last work failed
+-- the last work failed; that of an 11 tells nothing
+abbrev pub shows_failure : Parts → List Item → Lun → Bool
+shows_failure g past l = has_failed g past l && not (is_plane_program (closer g past l))
+
+-- the status byte: WP_N alone while the LUN is busy; with RDY while its array still is; else with ARDY too, and FAIL if its last work failed; with FAILC
+-- if the page before did
+abbrev pub status_byte : (busy array_busy failed before : Bool) → ℕ
+status_byte true array_busy failed before = 0x80
+status_byte false true failed before = if before then 0xc2 else 0xc0
+status_byte false false true before = if before then 0xe3 else 0xe1
+status_byte false false false before = if before then 0xe2 else 0xe0
+
 abbrev pub status : Parts → List Item → Lun → ℕ
-status g past l =
-    if is_busy g past l then 0x80
-    else (if is_array_busy g past l then 0xc0
-    else (if has_failed g past l then 0xe1
-    else 0xe0))
+status g past l = status_byte (is_busy g past l) (is_array_busy g past l) (shows_failure g past l) (has_failed_before g past l)
 
 -- so many times sixteen zeros and their complement
 abbrev pub identifiers : ℕ → List ℕ

@@ -3,7 +3,7 @@ use Rattle.std.specs.Prelude.{◌≡◌, ℕ, ◌+◌, ◌<◌, ◌==◌, Bool, 
 use Rattle.nand_geometry.specs.declared.parts.Parts.{Parts}
 use Rattle.nand_geometry.specs.Limits.{planes}
 use Rattle.onfi_cycle.specs.declared.command.Command.{Command}
-use Rattle.onfi_cycle.specs.declared.command.Command.TheVariants.{Read, ReadConfirm, ChangeReadColumnConfirm, BlockEraseConfirm, BlockErasePlane, ReadStatus, ReadStatusEnhanced, ProgramConfirm, ProgramPlane, ReadId, ReadParameterPage, Reset, ReadCacheSequential, ReadCacheEnd, ReadUniqueId, GetFeatures, SetFeatures, ResetLun, SynchronousReset, ReadPlane, CopybackRead}
+use Rattle.onfi_cycle.specs.declared.command.Command.TheVariants.{Read, ReadConfirm, ChangeReadColumnConfirm, BlockEraseConfirm, BlockErasePlane, ReadStatus, ReadStatusEnhanced, ProgramConfirm, ProgramPlane, ReadId, ReadParameterPage, Reset, ReadCacheSequential, ReadCacheEnd, ReadUniqueId, GetFeatures, SetFeatures, ResetLun, SynchronousReset, ReadPlane, CopybackRead, ProgramCache}
 use Rattle.onfi_cycle.specs.declared.lun.Lun.{Lun}
 use Rattle.onfi_cycle.specs.declared.latch.Latch.{Latch}
 use Rattle.onfi_cycle.specs.declared.latch.Latch.TheVariants.{Off, Status, Data}
@@ -21,7 +21,7 @@ use Rattle.onfi_cycle.specs.declared.tail_facts.TailFacts.{TailFacts}
 use Rattle.onfi_cycle.specs.Command.{closes_row, reads_row, is_set_features, is_page_program, reads_identity}
 use Rattle.onfi_cycle.specs.Sequence.{target_cycle, tail, facts_of, row, row_with, selects_plane, wants_command, wants_address}
 use Rattle.onfi_cycle.specs.Effect.{is_data, is_shared, acts_for_target, page_address, names_lun, ends_features, plane_of_row}
-use Rattle.onfi_cycle.specs.Lun.{latch, drivers, is_only, is_selected, is_overlapped, is_busy, is_caching, closer, is_array_busy, array_page, register, read_column, queue, held, has_reads, pages_of_reads, page_in_plane, register_of_plane, held_on, is_copyback_read}
+use Rattle.onfi_cycle.specs.Lun.{latch, drivers, is_only, is_selected, is_overlapped, is_busy, leaves_array_busy, keeps_array_busy, closer, is_array_busy, array_page, register, read_column, queue, held, has_reads, pages_of_reads, page_in_plane, register_of_plane, held_on, is_copyback_read}
 use Rattle.onfi_cycle.specs.Permitted.{is_legal}
 
 -- 1. the newest item that decides, and what stands since
@@ -76,6 +76,7 @@ row_closer named BlockEraseConfirm = if named then Some BlockEraseConfirm else N
 row_closer named BlockErasePlane = if named then Some BlockErasePlane else None
 row_closer named ProgramConfirm = if named then Some ProgramConfirm else None
 row_closer named ProgramPlane = if named then Some ProgramPlane else None
+row_closer named ProgramCache = if named then Some ProgramCache else None
 row_closer named _ = None
 
 -- a command that closes something on the LUN: a closer of a row that names it, a reset of the target, and a cache read of the one driver
@@ -114,24 +115,24 @@ closing_cycle g past l OutputCycle = None
 abbrev pub closing : Parts → Lun → List Item → Item → Option Command
 closing g l past (Cyc c) = if c.ce == l.ce then closing_cycle g past l (target_cycle c.kind c.byte) else None
 closing g l past (Rdy ce lun fail) = None
-closing g l past (Ard ce lun) = None
+closing g l past (Ard ce lun fail) = None
 
 -- the item makes the LUN ready, or its array
 abbrev pub readies : Lun → Item → Bool
 readies l (Cyc c) = false
 readies l (Rdy ce lun fail) = ce == l.ce && lun == l.lun
-readies l (Ard ce lun) = false
+readies l (Ard ce lun fail) = false
 
 abbrev pub readies_array : Lun → Item → Bool
 readies_array l (Cyc c) = false
 readies_array l (Rdy ce lun fail) = false
-readies_array l (Ard ce lun) = ce == l.ce && lun == l.lun
+readies_array l (Ard ce lun fail) = ce == l.ce && lun == l.lun
 
 -- a cycle on the LUN's target that passes
 abbrev pub is_cycle_of : (TargetCycle → Bool) → Lun → Item → Bool
 is_cycle_of test l (Cyc c) = c.ce == l.ce && test (target_cycle c.kind c.byte)
 is_cycle_of test l (Rdy ce lun fail) = false
-is_cycle_of test l (Ard ce lun) = false
+is_cycle_of test l (Ard ce lun fail) = false
 
 abbrev pub is_output : TargetCycle → Bool
 is_output OutputCycle = true
@@ -160,16 +161,18 @@ work_of (Some c) = starts_work c
 abbrev pub busy_decided : Parts → Lun → List Item → Item → Option Bool
 busy_decided g l past i = if readies l i then Some false else work_of (closing g l past i)
 
-abbrev pub ends_array_work : Option Command → Option Bool
-ends_array_work None = None
-ends_array_work (Some c) = Some false
+-- a closer ends the work of the array; behind this last one an 11 leaves it
+abbrev pub ends_array_work : Option Command → Option Command → Option Bool
+ends_array_work last None = None
+ends_array_work last (Some ProgramPlane) = if keeps_array_busy last then None else Some false
+ends_array_work last (Some c) = Some false
 
--- the ready of a Read Cache Sequential leaves the array busy; its own ready ends that, and so does each closer
+-- the ready of a Read Cache Sequential, or of a Program Cache, leaves the array busy; its own ready ends that, and so does each closer, but an 11 where it programs
 abbrev pub array_busy_decided : Parts → Lun → List Item → Item → Option Bool
 array_busy_decided g l past i =
     if readies_array l i then Some false
-    else (if readies l i then (if is_busy g past l && is_caching g past l then Some true else None)
-    else ends_array_work (closing g l past i))
+    else (if readies l i then (if is_busy g past l && leaves_array_busy (closer g past l) then Some true else None)
+    else ends_array_work (closer g past l) (closing g l past i))
 
 -- 4. the register and the page of the array
 
@@ -209,7 +212,7 @@ page_of_array g l past =
 abbrev pub byte_of : Item → ℕ
 byte_of (Cyc c) = c.byte
 byte_of (Rdy ce lun fail) = 0
-byte_of (Ard ce lun) = 0
+byte_of (Ard ce lun fail) = 0
 
 -- what the address of a Read ID asks for
 abbrev pub id_register : ℕ → Register
@@ -266,7 +269,7 @@ clears_by_cycle g l t _ = false
 abbrev pub clears_here : Parts → Lun → List Item → Item → Bool
 clears_here g l past (Cyc c) = c.ce == l.ce && clears_by_cycle g l (tail_of past l) (target_cycle c.kind c.byte)
 clears_here g l past (Rdy ce lun fail) = false
-clears_here g l past (Ard ce lun) = false
+clears_here g l past (Ard ce lun fail) = false
 
 abbrev pub held_decided : Parts → Lun → List Item → Item → Option (List PageAddress)
 held_decided g l past i = if clears_here g l past i then Some [] else held_of g past l (closing g l past i)
@@ -327,6 +330,7 @@ is_queueing _ = false
 abbrev pub empties_queue : Option Command → Bool
 empties_queue (Some BlockEraseConfirm) = true
 empties_queue (Some ProgramConfirm) = true
+empties_queue (Some ProgramCache) = true
 empties_queue (Some Reset) = true
 empties_queue (Some ReadConfirm) = true
 empties_queue (Some CopybackRead) = true
@@ -411,7 +415,7 @@ latch_cycle g past l OutputCycle = None
 abbrev pub latch_decided : Parts → Lun → List Item → Item → Option Latch
 latch_decided g l past (Cyc c) = if c.ce == l.ce then latch_cycle g past l (target_cycle c.kind c.byte) else None
 latch_decided g l past (Rdy ce lun fail) = None
-latch_decided g l past (Ard ce lun) = None
+latch_decided g l past (Ard ce lun fail) = None
 
 -- 8. which LUN of a target is selected, and which is overlapped
 
@@ -449,7 +453,7 @@ selected_cycle g past l OutputCycle = None
 abbrev pub selected_decided : Parts → Lun → List Item → Item → Option Bool
 selected_decided g l past (Cyc c) = if c.ce == l.ce then selected_cycle g past l (target_cycle c.kind c.byte) else None
 selected_decided g l past (Rdy ce lun fail) = None
-selected_decided g l past (Ard ce lun) = None
+selected_decided g l past (Ard ce lun fail) = None
 
 -- the work of another LUN overlaps one that works
 abbrev pub overlapped_by_row : (begun named shared works : Bool) → Option Bool
@@ -479,7 +483,7 @@ overlapped_cycle g past l OutputCycle = None
 abbrev pub overlapped_decided : Parts → Lun → List Item → Item → Option Bool
 overlapped_decided g l past (Cyc c) = if c.ce == l.ce then overlapped_cycle g past l (target_cycle c.kind c.byte) else None
 overlapped_decided g l past (Rdy ce lun fail) = None
-overlapped_decided g l past (Ard ce lun) = None
+overlapped_decided g l past (Ard ce lun fail) = None
 
 -- 9. each fact of a LUN is what the newest item says that says something of it
 pub record FactsAreDecided : Type 0 where

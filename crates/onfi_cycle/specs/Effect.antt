@@ -5,7 +5,7 @@ use Rattle.nand_geometry.specs.Optional.{is_wide}
 use Rattle.nand_geometry.specs.Limits.{planes}
 use Rattle.nand_geometry.specs.Row.{parts_of}
 use Rattle.onfi_cycle.specs.declared.command.Command.{Command}
-use Rattle.onfi_cycle.specs.declared.command.Command.TheVariants.{Read, ProgramConfirm, ProgramPlane, ReadConfirm, ReadCacheSequential, ReadCacheEnd, ReadStatus, ReadStatusEnhanced, ReadId, BlockEraseConfirm, BlockErasePlane, ChangeReadColumnConfirm, ReadParameterPage, Reset, ReadUniqueId, GetFeatures, ResetLun, SynchronousReset, ReadPlane, CopybackRead, PageProgram}
+use Rattle.onfi_cycle.specs.declared.command.Command.TheVariants.{Read, ProgramConfirm, ProgramPlane, ReadConfirm, ReadCacheSequential, ReadCacheEnd, ReadStatus, ReadStatusEnhanced, ReadId, BlockEraseConfirm, BlockErasePlane, ChangeReadColumnConfirm, ReadParameterPage, Reset, ReadUniqueId, GetFeatures, ResetLun, SynchronousReset, ReadPlane, CopybackRead, ProgramCache, PageProgram}
 use Rattle.onfi_cycle.specs.declared.lun.Lun.{Lun}
 use Rattle.onfi_cycle.specs.declared.latch.Latch.{Latch}
 use Rattle.onfi_cycle.specs.declared.latch.Latch.TheVariants.{Off, Status, Data}
@@ -15,7 +15,7 @@ use Rattle.onfi_cycle.specs.declared.target_cycle.TargetCycle.{TargetCycle}
 use Rattle.onfi_cycle.specs.declared.target_cycle.TargetCycle.TheVariants.{CommandCycle, AddressCycle, InputCycle, OutputCycle}
 use Rattle.onfi_cycle.specs.declared.page_address.PageAddress.{PageAddress}
 use Rattle.onfi_cycle.specs.declared.effect.Effect.{Effect}
-use Rattle.onfi_cycle.specs.declared.effect.Effect.TheVariants.{Unaffected, DataOutputEnabled, StatusSelected, StatusRowAwaited, SelectedForStatus, Deselected, PlaneSelected, IdRead, IdentityRead, UniqueIdReadStarted, FeaturesReadStarted, FeaturesSet, ParameterPageReadStarted, CacheReadContinued, CacheReadEnded, DataOutput, ResetStarted, BecameReady, ArrayBecameReady, ReadStarted, EraseStarted, ProgramStarted, ReadColumnChanged, AnotherAddressed, StatusOfSelected, TargetResetStarted, ReadQueued, CopybackReadStarted, ProgramAddressed}
+use Rattle.onfi_cycle.specs.declared.effect.Effect.TheVariants.{Unaffected, DataOutputEnabled, StatusSelected, StatusRowAwaited, SelectedForStatus, Deselected, PlaneSelected, IdRead, IdentityRead, UniqueIdReadStarted, FeaturesReadStarted, FeaturesSet, ParameterPageReadStarted, CacheReadContinued, CacheReadEnded, DataOutput, ResetStarted, BecameReady, ArrayBecameReady, ReadStarted, EraseStarted, ProgramStarted, ReadColumnChanged, AnotherAddressed, StatusOfSelected, TargetResetStarted, ReadQueued, CopybackReadStarted, CacheProgramStarted, ProgramAddressed}
 use Rattle.onfi_cycle.specs.declared.opening.Opening.{Opening}
 use Rattle.onfi_cycle.specs.declared.tail_facts.TailFacts.{TailFacts}
 use Rattle.onfi_cycle.specs.Command.{closes_row, reads_row}
@@ -45,6 +45,7 @@ confirm_effect g t BlockEraseConfirm = EraseStarted false (page_address g (row t
 confirm_effect g t BlockErasePlane = EraseStarted true (page_address g (row t))
 confirm_effect g t ProgramConfirm = ProgramStarted false (page_address g (row t))
 confirm_effect g t ProgramPlane = ProgramStarted true (page_address g (row t))
+confirm_effect g t ProgramCache = CacheProgramStarted (page_address g (row t))
 confirm_effect g t _ = Unaffected
 
 -- a row names this LUN
@@ -154,7 +155,7 @@ cycle_effect g t latch_alone OutputCycle lun = if is_data latch_alone then DataO
 abbrev pub item_effect : Parts → TailFacts → Latch → Item → Lun → Effect
 item_effect g t latch_alone (Cyc c) l = if c.ce == l.ce then cycle_effect g t latch_alone (target_cycle c.kind c.byte) l.lun else Unaffected
 item_effect g t latch_alone (Rdy ce lun fail) l = if ce == l.ce && lun == l.lun then BecameReady fail else Unaffected
-item_effect g t latch_alone (Ard ce lun) l = if ce == l.ce && lun == l.lun then ArrayBecameReady else Unaffected
+item_effect g t latch_alone (Ard ce lun fail) l = if ce == l.ce && lun == l.lun then ArrayBecameReady fail else Unaffected
 
 -- what an item does to a LUN after this past
 abbrev pub effect_given : Parts → List Item → Latch → Item → Lun → Effect

@@ -40,7 +40,7 @@ cycle_filling g t OutputCycle lun held = Leaves
 abbrev pub filling : Parts → TailFacts → Item → Lun → List PageAddress → Filling
 filling g t (Cyc c) l held = if c.ce == l.ce then cycle_filling g t (target_cycle c.kind c.byte) l.lun held else Leaves
 filling g t (Rdy ce lun fail) l held = Leaves
-filling g t (Ard ce lun) l held = Leaves
+filling g t (Ard ce lun fail) l held = Leaves
 
 -- the pages that a LUN holds, if it is there
 abbrev pub held_by : Option LunView → List PageAddress

@@ -5,7 +5,7 @@ use Rattle.onfi_cycle.specs.declared.item.Item.{Item}
 use Rattle.onfi_cycle.specs.declared.lun.Lun.{Lun}
 use Rattle.onfi_cycle.specs.declared.lun_state.LunState.{LunState}
 use Rattle.onfi_cycle.specs.LunView.{LunView}
-use Rattle.onfi_cycle.specs.Lun.{output_column, is_cache_read, lun_view}
+use Rattle.onfi_cycle.specs.Lun.{output_column, is_cache_read, programs, lun_view}
 use Rattle.std.specs.List.{list_any}
 use Rattle.onfi_cycle.specs.Rules.{lun_is, works_for_target}
 use Rattle.onfi_cycle.specs.State.{TargetView, BusView}
@@ -20,6 +20,7 @@ look_at v =
       column = output_column v.column;
       queued = length v.queue;
       caching = is_cache_read v.closer;
+      programming = programs v;
       array_busy = v.array_busy;
     }
 

@@ -3,7 +3,7 @@ use Rattle.std.specs.Prelude.{ℕ, zero, suc, ◌+◌, ◌%◌, ◌==◌, Bool, 
 use Rattle.std.specs.List.{list_any}
 use Rattle.nand_geometry.specs.declared.parts.Parts.{Parts}
 use Rattle.onfi_cycle.specs.declared.command.Command.{Command}
-use Rattle.onfi_cycle.specs.declared.command.Command.TheVariants.{ProgramConfirm, ProgramPlane, ReadConfirm, ReadCacheSequential, ReadCacheEnd, ReadId, BlockEraseConfirm, BlockErasePlane, ReadParameterPage, Reset, ReadUniqueId, GetFeatures, SetFeatures, ReadPlane, CopybackRead}
+use Rattle.onfi_cycle.specs.declared.command.Command.TheVariants.{ProgramConfirm, ProgramPlane, ReadConfirm, ReadCacheSequential, ReadCacheEnd, ReadId, BlockEraseConfirm, BlockErasePlane, ReadParameterPage, Reset, ReadUniqueId, GetFeatures, SetFeatures, ReadPlane, CopybackRead, ProgramCache}
 use Rattle.onfi_cycle.specs.declared.lun.Lun.{Lun}
 use Rattle.onfi_cycle.specs.declared.latch.Latch.{Latch}
 use Rattle.onfi_cycle.specs.declared.latch.Latch.TheVariants.{Off, Status, Data}
@@ -16,7 +16,7 @@ use Rattle.onfi_cycle.specs.declared.register.Register.TheVariants.{Empty, Page,
 use Rattle.onfi_cycle.specs.declared.read_column.ReadColumn.{ReadColumn}
 use Rattle.onfi_cycle.specs.LunView.{LunView}
 use Rattle.onfi_cycle.specs.declared.effect.Effect.{Effect}
-use Rattle.onfi_cycle.specs.declared.effect.Effect.TheVariants.{DataOutputEnabled, StatusSelected, StatusRowAwaited, SelectedForStatus, Deselected, PlaneSelected, IdRead, IdentityRead, UniqueIdReadStarted, FeaturesReadStarted, FeaturesSet, ParameterPageReadStarted, CacheReadContinued, CacheReadEnded, DataOutput, ResetStarted, BecameReady, ArrayBecameReady, ReadStarted, EraseStarted, ProgramStarted, ReadColumnChanged, AnotherAddressed, StatusOfSelected, TargetResetStarted, ReadQueued, CopybackReadStarted, ProgramAddressed}
+use Rattle.onfi_cycle.specs.declared.effect.Effect.TheVariants.{DataOutputEnabled, StatusSelected, StatusRowAwaited, SelectedForStatus, Deselected, PlaneSelected, IdRead, IdentityRead, UniqueIdReadStarted, FeaturesReadStarted, FeaturesSet, ParameterPageReadStarted, CacheReadContinued, CacheReadEnded, DataOutput, ResetStarted, BecameReady, ArrayBecameReady, ReadStarted, EraseStarted, ProgramStarted, ReadColumnChanged, AnotherAddressed, StatusOfSelected, TargetResetStarted, ReadQueued, CopybackReadStarted, CacheProgramStarted, ProgramAddressed}
 use Rattle.onfi_cycle.specs.Effect.{effect_given, is_off}
 
 -- of so many LUNs from number n on, those that a latch has on
@@ -74,6 +74,7 @@ selected_after (CopybackReadStarted _ _ _) selected = true
 selected_after (CacheReadContinued (Some _)) selected = true
 selected_after (EraseStarted _ _) selected = true
 selected_after (ProgramStarted _ _) selected = true
+selected_after (CacheProgramStarted _) selected = true
 selected_after IdRead selected = true
 selected_after (IdentityRead _) selected = true
 selected_after ParameterPageReadStarted selected = true
@@ -106,6 +107,7 @@ busy_after (ReadQueued _) busy = true
 busy_after (CopybackReadStarted _ _ _) busy = true
 busy_after (EraseStarted _ _) busy = true
 busy_after (ProgramStarted _ _) busy = true
+busy_after (CacheProgramStarted _) busy = true
 busy_after ParameterPageReadStarted busy = true
 busy_after UniqueIdReadStarted busy = true
 busy_after (FeaturesReadStarted _) busy = true
@@ -123,6 +125,7 @@ closer_after (ReadQueued _) last = Some ReadPlane
 closer_after (CopybackReadStarted _ _ _) last = Some CopybackRead
 closer_after (EraseStarted queued _) last = Some (if queued then BlockErasePlane else BlockEraseConfirm)
 closer_after (ProgramStarted queued _) last = Some (if queued then ProgramPlane else ProgramConfirm)
+closer_after (CacheProgramStarted _) last = Some ProgramCache
 closer_after IdRead last = Some ReadId
 closer_after (IdentityRead _) last = Some ReadId
 closer_after ParameterPageReadStarted last = Some ReadParameterPage
@@ -138,6 +141,24 @@ closer_after _ last = last
 abbrev pub is_cache_read : Option Command → Bool
 is_cache_read (Some ReadCacheSequential) = true
 is_cache_read _ = false
+
+-- a page is programmed while the next one may come
+abbrev pub is_cache_program : Option Command → Bool
+is_cache_program (Some ProgramCache) = true
+is_cache_program _ = false
+
+-- one plane of several is programmed
+abbrev pub is_plane_program : Option Command → Bool
+is_plane_program (Some ProgramPlane) = true
+is_plane_program _ = false
+
+-- the array goes on with its work behind the ready of these closers
+abbrev pub leaves_array_busy : Option Command → Bool
+leaves_array_busy last = is_cache_read last || is_cache_program last
+
+-- an 11 leaves the array at the work of a 15: the last closer is one, or an 11 behind it
+abbrev pub keeps_array_busy : Option Command → Bool
+keeps_array_busy last = is_cache_program last || is_plane_program last
 
 abbrev pub is_page_read : Option Command → Bool
 is_page_read (Some ReadConfirm) = true
@@ -157,25 +178,26 @@ is_target_work (Some GetFeatures) = true
 is_target_work (Some SetFeatures) = true
 is_target_work _ = false
 
-abbrev pub array_busy_after : Effect → (busy caching array_busy : Bool) → Bool
-array_busy_after (BecameReady _) busy caching array_busy = array_busy || (busy && caching)
-array_busy_after ArrayBecameReady busy caching array_busy = false
-array_busy_after (ReadStarted _ _) busy caching array_busy = false
-array_busy_after (ReadQueued _) busy caching array_busy = false
-array_busy_after (CopybackReadStarted _ _ _) busy caching array_busy = false
-array_busy_after (EraseStarted _ _) busy caching array_busy = false
-array_busy_after (ProgramStarted _ _) busy caching array_busy = false
-array_busy_after IdRead busy caching array_busy = false
-array_busy_after (IdentityRead _) busy caching array_busy = false
-array_busy_after ParameterPageReadStarted busy caching array_busy = false
-array_busy_after UniqueIdReadStarted busy caching array_busy = false
-array_busy_after (FeaturesReadStarted _) busy caching array_busy = false
-array_busy_after (FeaturesSet _) busy caching array_busy = false
-array_busy_after (CacheReadContinued _) busy caching array_busy = false
-array_busy_after CacheReadEnded busy caching array_busy = false
-array_busy_after ResetStarted busy caching array_busy = false
-array_busy_after (TargetResetStarted _) busy caching array_busy = false
-array_busy_after _ busy caching array_busy = array_busy
+abbrev pub array_busy_after : Effect → (busy : Bool) → Option Command → (array_busy : Bool) → Bool
+array_busy_after (BecameReady _) busy last array_busy = array_busy || (busy && leaves_array_busy last)
+array_busy_after (ArrayBecameReady _) busy last array_busy = false
+array_busy_after (ReadStarted _ _) busy last array_busy = false
+array_busy_after (ReadQueued _) busy last array_busy = false
+array_busy_after (CopybackReadStarted _ _ _) busy last array_busy = false
+array_busy_after (EraseStarted _ _) busy last array_busy = false
+array_busy_after (ProgramStarted queued _) busy last array_busy = queued && (keeps_array_busy last && array_busy)
+array_busy_after (CacheProgramStarted _) busy last array_busy = false
+array_busy_after IdRead busy last array_busy = false
+array_busy_after (IdentityRead _) busy last array_busy = false
+array_busy_after ParameterPageReadStarted busy last array_busy = false
+array_busy_after UniqueIdReadStarted busy last array_busy = false
+array_busy_after (FeaturesReadStarted _) busy last array_busy = false
+array_busy_after (FeaturesSet _) busy last array_busy = false
+array_busy_after (CacheReadContinued _) busy last array_busy = false
+array_busy_after CacheReadEnded busy last array_busy = false
+array_busy_after ResetStarted busy last array_busy = false
+array_busy_after (TargetResetStarted _) busy last array_busy = false
+array_busy_after _ busy last array_busy = array_busy
 
 abbrev pub next_page : PageAddress → PageAddress
 next_page p = record { block = p.block; page = p.page + 1 }
@@ -229,6 +251,7 @@ held_after CacheReadEnded copyback p queue held = p ∷ []
 held_after (ReadQueued _) copyback p queue held = []
 held_after (EraseStarted _ _) copyback p queue held = []
 held_after (ProgramStarted queued _) copyback p queue held = if queued then held else []
+held_after (CacheProgramStarted _) copyback p queue held = []
 held_after IdRead copyback p queue held = []
 held_after (IdentityRead _) copyback p queue held = []
 held_after ParameterPageReadStarted copyback p queue held = []
@@ -246,6 +269,7 @@ register_after (ReadQueued _) p queue held r = Empty
 register_after (PlaneSelected plane planes _) p queue held r = register_of_plane (page_in_plane planes plane held)
 register_after (EraseStarted _ _) p queue held r = Empty
 register_after (ProgramStarted _ _) p queue held r = Empty
+register_after (CacheProgramStarted _) p queue held r = Empty
 register_after IdRead p queue held r = Identifier
 register_after (IdentityRead jedec) p queue held r = if jedec then JedecIdentity else Identity
 register_after ParameterPageReadStarted p queue held r = ParameterPage
@@ -293,6 +317,7 @@ queue_after (CopybackReadStarted _ _ _) queue = []
 queue_after (ReadQueued at) queue = Read at ∷ queue
 queue_after (EraseStarted queued at) queue = if queued then Erase at ∷ queue else []
 queue_after (ProgramStarted queued at) queue = if queued then Program at ∷ queue else []
+queue_after (CacheProgramStarted _) queue = []
 queue_after ResetStarted queue = []
 queue_after (TargetResetStarted _) queue = []
 queue_after _ queue = queue
@@ -314,7 +339,7 @@ view_after a v =
       overlapped = overlapped_after a (works v) v.overlapped;
       busy = busy_after a v.busy;
       closer = closer_after a v.closer;
-      array_busy = array_busy_after a v.busy (is_cache_read v.closer) v.array_busy;
+      array_busy = array_busy_after a v.busy v.closer v.array_busy;
       array_page = array_page_after a v.array_page;
       register = register_after a v.array_page v.queue v.held v.register;
       column = read_column_after a v.column;
@@ -389,9 +414,16 @@ closer g past l = (lun_view g past l).closer
 abbrev pub is_caching : Parts → List Item → Lun → Bool
 is_caching g past l = is_cache_read (closer g past l)
 
--- the 31 that the LUN does last has had its ready, and its array has had none since
+-- the 31 that the LUN does last has had its ready, or the 15 that it does last, 11s left out, and its array has had none since
 abbrev pub is_array_busy : Parts → List Item → Lun → Bool
 is_array_busy g past l = (lun_view g past l).array_busy
+
+-- a LUN programs behind a 15, 11s left out, and no ready of its array came since
+abbrev pub programs : LunView → Bool
+programs v = (v.busy && is_cache_program v.closer) || (v.array_busy && keeps_array_busy v.closer)
+
+abbrev pub is_programming : Parts → List Item → Lun → Bool
+is_programming g past l = programs (lun_view g past l)
 
 -- the page that the array was last told to read: that of the last 30 or 31 behind a row, and one more for each other 31 since
 abbrev pub array_page : Parts → List Item → Lun → PageAddress

@@ -16,7 +16,7 @@ use Rattle.onfi_cycle.specs.Effect.{is_shared, names_lun}
 use Rattle.onfi_cycle.specs.Lun.{latch, drivers, is_only, is_busy, closer, is_array_busy, array_page, register, read_column, queue, held}
 use Rattle.onfi_cycle.specs.Rules.{ends_row}
 use Rattle.onfi_cycle.specs.Permitted.{broken, is_legal}
-use Rattle.onfi_cycle.specs.Content.{queued_work, pending_work, has_failed, content}
+use Rattle.onfi_cycle.specs.Content.{queued_work, pending_work, array_work, has_failed, has_failed_before, content}
 
 -- the commands that work on the one driver, where they work on no row
 abbrev pub needs_driver : Command → Bool
@@ -50,7 +50,7 @@ keeps_to g past m cycle = not (is_shared g && serves_target past m.ce cycle) && 
 abbrev pub is_of : Parts → List Item → Lun → Item → Bool
 is_of g past m (Cyc c) = c.ce == m.ce && keeps_to g past m (target_cycle c.kind c.byte)
 is_of g past m (Rdy ce lun fail) = ce == m.ce && lun == m.lun
-is_of g past m (Ard ce lun) = ce == m.ce && lun == m.lun
+is_of g past m (Ard ce lun fail) = ce == m.ce && lun == m.lun
 
 -- the column is as it was; or data was read since it was given, and it is now lost
 abbrev pub IsSameOrLost : ReadColumn → ReadColumn → Type 0
@@ -67,7 +67,9 @@ pub record KeepsLun (g : Parts) (past : List Item) (i : Item) (l : Lun) : Type 0
   pub held : held g (i ∷ past) l ≡ held g past l
   pub queued_work : (opening : Lun → PageAddress → List ℕ) → queued_work g opening (i ∷ past) l ≡ queued_work g opening past l
   pub pending_work : (opening : Lun → PageAddress → List ℕ) → pending_work g opening (i ∷ past) l ≡ pending_work g opening past l
+  pub array_work : (opening : Lun → PageAddress → List ℕ) → array_work g opening (i ∷ past) l ≡ array_work g opening past l
   pub failed : has_failed g (i ∷ past) l ≡ has_failed g past l
+  pub failed_before : has_failed_before g (i ∷ past) l ≡ has_failed_before g past l
   pub content : (opening : Lun → PageAddress → List ℕ) (p : PageAddress) → content g opening (i ∷ past) l p ≡ content g opening past l p
   pub column : IsSameOrLost (read_column g past l) (read_column g (i ∷ past) l)
 

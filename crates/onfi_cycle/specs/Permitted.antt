@@ -6,11 +6,11 @@ use Rattle.onfi_cycle.specs.declared.item.Item.TheVariants.{Cyc, Rdy, Ard}
 use Rattle.onfi_cycle.specs.declared.target_cycle.TargetCycle.{TargetCycle}
 use Rattle.onfi_cycle.specs.declared.tail_facts.TailFacts.{TailFacts}
 use Rattle.onfi_cycle.specs.declared.forbidden.Forbidden.{Forbidden}
-use Rattle.onfi_cycle.specs.declared.forbidden.Forbidden.TheVariants.{NotThere, CommandUnknown, SequenceOpen, SeveralLuns, NoColumnToChange, CommandMisplaced, AddressMisplaced, RowOutside, LunBusy, QueueClash, InputMisplaced, NoSoleDriver, DataNotReady, ColumnOutside, CacheReadMisplaced, CopybackMisplaced, PlaneNotHeld}
+use Rattle.onfi_cycle.specs.declared.forbidden.Forbidden.TheVariants.{NotThere, CommandUnknown, SequenceOpen, SeveralLuns, NoColumnToChange, CommandMisplaced, AddressMisplaced, RowOutside, LunBusy, QueueClash, InputMisplaced, NoSoleDriver, DataNotReady, ColumnOutside, CacheReadMisplaced, CacheProgramMisplaced, CopybackMisplaced, PlaneNotHeld}
 use Rattle.onfi_cycle.specs.LunView.{LunView}
 use Rattle.onfi_cycle.specs.Sequence.{target_of, target_cycle, tail, facts_of}
 use Rattle.onfi_cycle.specs.Lun.{luns_of}
-use Rattle.onfi_cycle.specs.Rules.{breaks_not_there, breaks_command_unknown, breaks_sequence_open, breaks_several_luns, breaks_no_column_to_change, breaks_command_misplaced, breaks_address_misplaced, breaks_row_outside, breaks_lun_busy, breaks_queue_clash, breaks_input_misplaced, breaks_no_sole_driver, breaks_data_not_ready, breaks_column_outside, breaks_cache_read_misplaced, breaks_copyback_misplaced, breaks_plane_not_held}
+use Rattle.onfi_cycle.specs.Rules.{breaks_not_there, breaks_command_unknown, breaks_sequence_open, breaks_several_luns, breaks_no_column_to_change, breaks_command_misplaced, breaks_address_misplaced, breaks_row_outside, breaks_lun_busy, breaks_queue_clash, breaks_input_misplaced, breaks_no_sole_driver, breaks_data_not_ready, breaks_column_outside, breaks_cache_read_misplaced, breaks_cache_program_misplaced, breaks_copyback_misplaced, breaks_plane_not_held}
 
 -- the first of F3 to F18 that a cycle breaks
 abbrev pub judge_known_cycle : Parts → TailFacts → List LunView → TargetCycle → Option Forbidden
@@ -28,9 +28,10 @@ judge_known_cycle g t luns cycle =
     else (if breaks_data_not_ready luns cycle then Some DataNotReady
     else (if breaks_column_outside g t luns cycle then Some ColumnOutside
     else (if breaks_cache_read_misplaced g t luns cycle then Some CacheReadMisplaced
+    else (if breaks_cache_program_misplaced g t luns cycle then Some CacheProgramMisplaced
     else (if breaks_copyback_misplaced g t luns cycle then Some CopybackMisplaced
     else (if breaks_plane_not_held g t luns cycle then Some PlaneNotHeld
-    else None))))))))))))))
+    else None)))))))))))))))
 
 -- the first of F2 to F18 that a cycle breaks
 abbrev pub judge_cycle : Parts → TailFacts → List LunView → TargetCycle → Option Forbidden
@@ -39,7 +40,7 @@ judge_cycle g t luns cycle = if breaks_command_unknown g cycle then Some Command
 abbrev pub judge_item : Parts → TailFacts → List LunView → Item → Option Forbidden
 judge_item g t luns (Cyc c) = judge_cycle g t luns (target_cycle c.kind c.byte)
 judge_item g t luns (Rdy _ _ _) = None
-judge_item g t luns (Ard _ _) = None
+judge_item g t luns (Ard _ _ _) = None
 
 -- the first rule that an item breaks, by the facts of its target
 abbrev pub judge : Parts → ℕ → TailFacts → List LunView → Item → Option Forbidden

@@ -1,16 +1,17 @@
 -- How many readies are still to come on a channel, and which items bring more: those that start work.
 use Rattle.std.specs.Prelude.{◌≡◌, ℕ, ◌+◌, ◌≤◌, Bool, true, false, ◌&&◌, ◌||◌, nat_lt, if◌then◌else◌, List, [], ◌∷◌, Option, Some, None, slice_get}
 use Rattle.onfi_cycle.specs.declared.command.Command.{Command}
-use Rattle.onfi_cycle.specs.declared.command.Command.TheVariants.{ReadConfirm, BlockEraseConfirm, BlockErasePlane, ProgramConfirm, ProgramPlane, ReadParameterPage, Reset, ReadCacheSequential, ReadCacheEnd, ReadUniqueId, GetFeatures, SetFeatures, ResetLun, SynchronousReset, ReadPlane, CopybackRead}
+use Rattle.onfi_cycle.specs.declared.command.Command.TheVariants.{ReadConfirm, BlockEraseConfirm, BlockErasePlane, ProgramConfirm, ProgramPlane, ReadParameterPage, Reset, ReadCacheSequential, ReadCacheEnd, ReadUniqueId, GetFeatures, SetFeatures, ResetLun, SynchronousReset, ReadPlane, CopybackRead, ProgramCache}
 use Rattle.onfi_cycle.specs.declared.tail_facts.TailFacts.{TailFacts}
 use Rattle.onfi_cycle.specs.declared.target_cycle.TargetCycle.{TargetCycle}
 use Rattle.onfi_cycle.specs.declared.target_cycle.TargetCycle.TheVariants.{CommandCycle}
+use Rattle.onfi_cycle.specs.declared.item.Failures.{Failures}
 use Rattle.onfi_cycle.specs.declared.item.Item.{Item}
 use Rattle.onfi_cycle.specs.declared.item.Item.TheVariants.{Cyc, Rdy, Ard}
 use Rattle.onfi_cycle.specs.LunView.{LunView}
 use Rattle.onfi_cycle.specs.Command.{address_cycles}
 use Rattle.onfi_cycle.specs.Sequence.{target_of, target_cycle, opened, takes_features}
-use Rattle.onfi_cycle.specs.Lun.{is_cache_read}
+use Rattle.onfi_cycle.specs.Lun.{leaves_array_busy}
 use Rattle.onfi_cycle.specs.Channel.{is_cycle}
 use Rattle.onfi_cycle.specs.State.{TargetView, BusView, judged, bus_after}
 use Rattle.onfi_cycle.specs.Bounds.{BusFits}
@@ -24,6 +25,7 @@ starts BlockEraseConfirm = true
 starts BlockErasePlane = true
 starts ProgramConfirm = true
 starts ProgramPlane = true
+starts ProgramCache = true
 starts ReadParameterPage = true
 starts Reset = true
 starts ReadCacheSequential = true
@@ -43,7 +45,7 @@ cycle_starts _ = false
 abbrev pub starts_work : Item → Bool
 starts_work (Cyc c) = cycle_starts (target_cycle c.kind c.byte)
 starts_work (Rdy ce lun fail) = false
-starts_work (Ard ce lun) = false
+starts_work (Ard ce lun fail) = false
 
 -- the openers whose work an address or an input starts
 abbrev pub starts_later : Command → Bool
@@ -64,7 +66,7 @@ one_if b = if b then 1 else 0
 -- the readies still to come of a LUN: of its work, of its array, of the array once the work of a cache read ends, and of work whose opener
 -- has come and whose address or input, which starts it, hasn't
 abbrev pub due_at : TailFacts → LunView → ℕ
-due_at t v = one_if v.busy + (one_if v.array_busy + (one_if (v.busy && is_cache_read v.closer) + one_if (awaits_start t)))
+due_at t v = one_if v.busy + (one_if v.array_busy + (one_if (v.busy && leaves_array_busy v.closer) + one_if (awaits_start t)))
 
 abbrev pub due_of : TailFacts → List LunView → ℕ
 due_of t [] = 0
@@ -89,6 +91,6 @@ bus_due state = targets_due state.targets
 -- the law: a cycle that starts no work brings no ready, a ready that comes is one of those, and an item changes those of its target alone
 pub record ReadiesAreDue : Type 0 where
   pub cycles : (s : BusView) (i : Item) → BusFits s → is_cycle i ≡ true → starts_work i ≡ false → bus_due (bus_after i s) ≤ bus_due s
-  pub readies : (s : BusView) (ce lun : ℕ) (fail : Bool) → judged s (Rdy ce lun fail) ≡ None → bus_due (bus_after (Rdy ce lun fail) s) + 1 ≤ bus_due s
-  pub array_readies : (s : BusView) (ce lun : ℕ) → judged s (Ard ce lun) ≡ None → bus_due (bus_after (Ard ce lun) s) + 1 ≤ bus_due s
+  pub readies : (s : BusView) (ce lun : ℕ) (fail : Failures) → judged s (Rdy ce lun fail) ≡ None → bus_due (bus_after (Rdy ce lun fail) s) + 1 ≤ bus_due s
+  pub array_readies : (s : BusView) (ce lun : ℕ) (fail : Bool) → judged s (Ard ce lun fail) ≡ None → bus_due (bus_after (Ard ce lun fail) s) + 1 ≤ bus_due s
   pub elsewhere : (s : BusView) (i : Item) → bus_due (bus_after i s) + due_there (slice_get s.targets (target_of i)) ≡ bus_due s + due_there (slice_get (bus_after i s).targets (target_of i))

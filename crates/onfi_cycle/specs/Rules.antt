@@ -1,14 +1,14 @@
--- The rules F1 to F15, F17 and F18: what each forbids, by the facts of the tail and of the LUNs of one target.
+-- The rules F1 to F18: what each forbids, by the facts of the tail and of the LUNs of one target.
 use Rattle.std.specs.Prelude.{ℕ, ◌+◌, ◌/◌, ◌%◌, ◌==◌, Bool, true, false, ◌||◌, ◌&&◌, not, nat_lt, nat_le, if◌then◌else◌, List, [], ◌∷◌, Option, Some, None, slice_get, length}
 use Rattle.std.specs.List.{list_any}
 use Rattle.nand_geometry.specs.declared.parts.Parts.{Parts}
 use Rattle.nand_geometry.specs.Limits.{page_len, planes}
 use Rattle.nand_geometry.specs.Row.{parts_of, is_inside}
 use Rattle.onfi_cycle.specs.declared.command.Command.{Command}
-use Rattle.onfi_cycle.specs.declared.command.Command.TheVariants.{Read, ReadConfirm, ChangeReadColumn, ChangeReadColumnEnhanced, BlockErase, BlockErasePlane, ReadStatus, ReadStatusEnhanced, PageProgram, ProgramPlane, ReadCacheSequential, ReadCacheEnd, ReadUniqueId, GetFeatures, SetFeatures, ResetLun, SynchronousReset, ReadPlane, ChangeWriteColumn, CopybackRead}
+use Rattle.onfi_cycle.specs.declared.command.Command.TheVariants.{Read, ReadConfirm, ChangeReadColumn, ChangeReadColumnEnhanced, BlockErase, BlockErasePlane, ReadStatus, ReadStatusEnhanced, PageProgram, ProgramPlane, ReadCacheSequential, ReadCacheEnd, ReadUniqueId, GetFeatures, SetFeatures, ResetLun, SynchronousReset, ReadPlane, ChangeWriteColumn, CopybackRead, ProgramCache}
 use Rattle.onfi_cycle.specs.declared.item.Item.{Item}
 use Rattle.onfi_cycle.specs.declared.item.Item.TheVariants.{Cyc, Rdy, Ard}
-use Rattle.nand_geometry.specs.Optional.{is_wide, has_features, has_unique_id, has_enhanced_column, has_lun_reset, has_plane_reads, has_free_blocks, has_synchronous_reset, has_copyback, has_odd_even}
+use Rattle.nand_geometry.specs.Optional.{is_wide, has_features, has_unique_id, has_enhanced_column, has_lun_reset, has_plane_reads, has_free_blocks, has_synchronous_reset, has_copyback, has_odd_even, has_program_cache, has_group_cache}
 use Rattle.onfi_cycle.specs.Command.{is_known, is_opener, is_read_id, is_reset, at_last_row, is_change_read_column, is_enhanced_column, is_page_program, is_write_column, addresses_the_array, addresses_a_page, reads_identity, wants_ready, wants_one_lun}
 use Rattle.onfi_cycle.specs.declared.target_cycle.TargetCycle.{TargetCycle}
 use Rattle.onfi_cycle.specs.declared.target_cycle.TargetCycle.TheVariants.{CommandCycle, AddressCycle, InputCycle, OutputCycle}
@@ -22,7 +22,7 @@ use Rattle.onfi_cycle.specs.declared.tail_facts.TailFacts.{TailFacts}
 use Rattle.onfi_cycle.specs.Sequence.{opened, takes_features, takes_inputs, wants_second_column, wants_command, wants_address, goes_on_with, is_open, row, row_with, column_with, input_column}
 use Rattle.onfi_cycle.specs.Effect.{is_off, is_data, is_shared, page_address}
 use Rattle.onfi_cycle.specs.LunView.{LunView}
-use Rattle.onfi_cycle.specs.Lun.{is_cache_read, is_page_read, is_target_work, output_column, page_in_plane, is_copyback_read}
+use Rattle.onfi_cycle.specs.Lun.{is_cache_read, is_page_read, is_target_work, output_column, page_in_plane, is_copyback_read, programs}
 
 -- the LUNs of a target that aren't off
 abbrev pub driving : List LunView → List LunView
@@ -73,6 +73,7 @@ is_undeclared g ReadUniqueId = not (has_unique_id g.optional)
 is_undeclared g ChangeReadColumnEnhanced = not (has_enhanced_column g.optional)
 is_undeclared g ReadPlane = not (has_plane_reads g.optional)
 is_undeclared g CopybackRead = not (has_copyback g.optional)
+is_undeclared g ProgramCache = not (has_program_cache g.optional)
 is_undeclared g GetFeatures = not (has_features g.optional)
 is_undeclared g SetFeatures = not (has_features g.optional)
 is_undeclared g ResetLun = not (has_lun_reset g.optional)
@@ -142,7 +143,7 @@ has_some (c ∷ cs) = true
 unfoldable pub breaks_not_there : ℕ → List LunView → Item → Bool
 breaks_not_there targets luns (Cyc c) = nat_le targets c.ce
 breaks_not_there targets luns (Rdy ce lun fail) = nat_le targets ce || not (lun_is (λ v. v.busy) luns lun)
-breaks_not_there targets luns (Ard ce lun) = nat_le targets ce || not (lun_is (λ v. v.array_busy) luns lun)
+breaks_not_there targets luns (Ard ce lun fail) = nat_le targets ce || not (lun_is (λ v. v.array_busy) luns lun)
 
 -- F2: a byte that is no command, or one that needs what isn't declared
 unfoldable pub breaks_command_unknown : Parts → TargetCycle → Bool
@@ -314,6 +315,22 @@ breaks_cache_read_misplaced g t luns (CommandCycle c) = reads_identity c && list
 breaks_cache_read_misplaced g t luns (AddressCycle byte) = ends_row (excludes_cache g) t && named_lun_is g (row_with t byte) caching luns
 breaks_cache_read_misplaced g t luns _ = false
 
+-- the openers whose row names a LUN that programs no cache
+abbrev pub excludes_program : Command → Bool
+excludes_program Read = true
+excludes_program ChangeReadColumnEnhanced = true
+excludes_program BlockErase = true
+excludes_program ChangeWriteColumn = true
+excludes_program _ = false
+
+-- F16: the last row cycle of 00, 06, 60 or 85 of a LUN that programs behind a 15; what reads or sets what stands beside the array, where some
+-- LUN does; 15 of a LUN with a queue, where the chip doesn't cache programs of several planes
+unfoldable pub breaks_cache_program_misplaced : Parts → TailFacts → List LunView → TargetCycle → Bool
+breaks_cache_program_misplaced g t luns (CommandCycle ProgramCache) = not (has_group_cache g.optional) && named_lun_is g (row t) (λ v. has_some v.queue) luns
+breaks_cache_program_misplaced g t luns (CommandCycle c) = reads_identity c && list_any programs luns
+breaks_cache_program_misplaced g t luns (AddressCycle byte) = ends_row excludes_program t && named_lun_is g (row_with t byte) programs luns
+breaks_cache_program_misplaced g t luns _ = false
+
 -- a program may take what is held: the last closer is a 35, or an 11 behind one
 abbrev pub keeps_copy : Option Command → Bool
 keeps_copy (Some CopybackRead) = true
@@ -337,8 +354,10 @@ holds_none (p ∷ held) = false
 abbrev pub is_copying : LunView → Bool
 is_copying v = has_some v.queue && not (holds_none v.held)
 
--- F17: the last row cycle of 85, where its LUN holds no page that may be copied to its row; that of 80 in a group of copybacks
+-- F17: the last row cycle of 85, where its LUN holds no page that may be copied to its row; that of 80 in a group of copybacks; 15 of a LUN that
+-- holds a page
 unfoldable pub breaks_copyback_misplaced : Parts → TailFacts → List LunView → TargetCycle → Bool
+breaks_copyback_misplaced g t luns (CommandCycle ProgramCache) = has_copyback g.optional && named_lun_is g (row t) (λ v. not (holds_none v.held)) luns
 breaks_copyback_misplaced g t luns (AddressCycle byte) =
     has_copyback g.optional
     && ((ends_row is_write_column t && named_lun_is g (row_with t byte) (λ v. not (may_copy g (page_address g (row_with t byte)) v)) luns)

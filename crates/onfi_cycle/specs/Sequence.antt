@@ -10,7 +10,7 @@ use Rattle.onfi_cycle.specs.declared.data_phase.DataPhase.{DataPhase}
 use Rattle.onfi_cycle.specs.declared.data_phase.DataPhase.TheVariants.{Outside, Inputs, FirstColumn, SecondColumn, FeatureInputs}
 use Rattle.onfi_cycle.specs.declared.tail_facts.TailFacts.{TailFacts}
 use Rattle.onfi_cycle.specs.declared.command.Command.{Command}
-use Rattle.onfi_cycle.specs.declared.command.Command.TheVariants.{Read, ChangeReadColumnConfirm, ChangeWriteColumn, ProgramConfirm, ProgramPlane, ReadCacheSequential}
+use Rattle.onfi_cycle.specs.declared.command.Command.TheVariants.{Read, ChangeReadColumnConfirm, ChangeWriteColumn, ProgramConfirm, ProgramPlane, ProgramCache, ReadCacheSequential}
 use Rattle.onfi_cycle.specs.declared.item.Kind.{Kind}
 use Rattle.onfi_cycle.specs.declared.item.Kind.TheVariants.{Cmd, Adr, Din, Dout}
 use Rattle.onfi_cycle.specs.declared.item.Item.{Item}
@@ -21,7 +21,7 @@ use Rattle.onfi_cycle.specs.Command.{command, is_opener, address_cycles, wants_c
 abbrev pub target_of : Item → ℕ
 target_of (Cyc c) = c.ce
 target_of (Rdy ce lun fail) = ce
-target_of (Ard ce lun) = ce
+target_of (Ard ce lun fail) = ce
 
 -- a cycle without its chip enable; the byte of an output isn't looked at
 abbrev pub target_cycle : Kind → ℕ → TargetCycle
@@ -184,6 +184,7 @@ abbrev pub wants_command : TailFacts → Command → Bool
 wants_command t ChangeWriteColumn = takes_data t.phase
 wants_command t ProgramConfirm = takes_data t.phase
 wants_command t ProgramPlane = takes_data t.phase
+wants_command t ProgramCache = takes_data t.phase
 wants_command t d = opened (λ c n. closes c d && n == address_cycles c) t.opening
 
 -- the sequence is a Change Read Column Enhanced with its row, which E0 closes
@@ -218,7 +219,7 @@ abbrev pub tail : List Item → ℕ → List TargetCycle
 tail [] ce = []
 tail (Cyc c ∷ past) ce = if c.ce == ce then with_cycle (target_cycle c.kind c.byte) (tail past ce) else tail past ce
 tail (Rdy _ _ _ ∷ past) ce = tail past ce
-tail (Ard _ _ ∷ past) ce = tail past ce
+tail (Ard _ _ _ ∷ past) ce = tail past ce
 
 -- the tail with this cycle is a beginning of a sequence
 abbrev pub wants : TailFacts → TargetCycle → Bool

@@ -52,7 +52,7 @@ judged state i = judged_on state.geometry (length state.targets) (slice_get stat
 abbrev pub tail_after : Item → TailFacts → TailFacts
 tail_after (Cyc c) t = facts_after (target_cycle c.kind c.byte) t
 tail_after (Rdy _ _ _) t = t
-tail_after (Ard _ _) t = t
+tail_after (Ard _ _ _) t = t
 
 -- what an item does to the LUN of number n of its target; sole tells whether its target has one driver
 abbrev pub effect_alone : Parts → TailFacts → (sole : Bool) → Item → ℕ → LunView → Effect

@@ -4,10 +4,11 @@ use Rattle.nand_geometry.specs.declared.parts.Parts.{Parts}
 use Rattle.onfi_cycle.specs.declared.item.Cycle.{Cycle}
 use Rattle.onfi_cycle.specs.declared.item.Kind.TheVariants.{Dout}
 use Rattle.onfi_cycle.specs.declared.lun.Lun.{Lun}
+use Rattle.onfi_cycle.specs.declared.item.Failures.{Failures}
 use Rattle.onfi_cycle.specs.declared.item.Item.{Item}
 use Rattle.onfi_cycle.specs.declared.item.Item.TheVariants.{Cyc, Rdy, Ard}
 use Rattle.onfi_cycle.specs.Sequence.{target_cycle, tail, facts_of, facts_after}
-use Rattle.onfi_cycle.specs.Lun.{effect_on, drivers, is_only, is_cache_read, lun_view, luns_of, view_after}
+use Rattle.onfi_cycle.specs.Lun.{effect_on, drivers, is_only, leaves_array_busy, lun_view, luns_of, view_after}
 use Rattle.onfi_cycle.specs.Rules.{driver}
 use Rattle.onfi_cycle.specs.Permitted.{broken, is_legal}
 use Rattle.onfi_cycle.specs.OtherLun.{KeepsLun, is_of}
@@ -26,8 +27,8 @@ pub record FactsGoOn : Type 0 where
 -- a ready ends the work of its LUN, and an array ready that of its array; nothing else changes, on no target
 pub record ReadiesChange : Type 0 where
   pub tails : (past : List Item) (i : Item) (ce : ℕ) → is_cycle i ≡ false → tail (i ∷ past) ce ≡ tail past ce
-  pub own : (g : Parts) (past : List Item) (l : Lun) (fail : Bool) → let v = lun_view g past l in lun_view g (Rdy l.ce l.lun fail ∷ past) l ≡ record v { busy = false; array_busy = v.array_busy || (v.busy && is_cache_read v.closer) }
-  pub own_array : (g : Parts) (past : List Item) (l : Lun) → let v = lun_view g past l in lun_view g (Ard l.ce l.lun ∷ past) l ≡ record v { array_busy = false }
+  pub own : (g : Parts) (past : List Item) (l : Lun) (fail : Failures) → let v = lun_view g past l in lun_view g (Rdy l.ce l.lun fail ∷ past) l ≡ record v { busy = false; array_busy = v.array_busy || (v.busy && leaves_array_busy v.closer) }
+  pub own_array : (g : Parts) (past : List Item) (l : Lun) (fail : Bool) → let v = lun_view g past l in lun_view g (Ard l.ce l.lun fail ∷ past) l ≡ record v { array_busy = false }
   pub others : (g : Parts) (past : List Item) (i : Item) (l : Lun) → is_cycle i ≡ false → readies l i ≡ false → readies_array l i ≡ false → lun_view g (i ∷ past) l ≡ lun_view g past l
   pub idle : (g : Parts) (past : List Item) (i : Item) (l : Lun) → is_cycle i ≡ false → IsIdle g past l → IsIdle g (i ∷ past) l
 

@@ -3,7 +3,7 @@ use Rattle.std.specs.Prelude.{◌≡◌, ℕ, ◌<◌, Bool, true, false, ◌||�
 use Rattle.nand_geometry.specs.declared.parts.Parts.{Parts}
 use Rattle.nand_geometry.specs.Limits.{InLimits}
 use Rattle.onfi_cycle.specs.declared.effect.Effect.{Effect}
-use Rattle.onfi_cycle.specs.declared.effect.Effect.TheVariants.{ReadStarted, EraseStarted, ProgramStarted, IdRead, IdentityRead, UniqueIdReadStarted, FeaturesReadStarted, FeaturesSet, ParameterPageReadStarted, CacheReadContinued, CacheReadEnded, ResetStarted, TargetResetStarted, ReadQueued, PlaneSelected, CopybackReadStarted}
+use Rattle.onfi_cycle.specs.declared.effect.Effect.TheVariants.{ReadStarted, EraseStarted, ProgramStarted, IdRead, IdentityRead, UniqueIdReadStarted, FeaturesReadStarted, FeaturesSet, ParameterPageReadStarted, CacheReadContinued, CacheReadEnded, ResetStarted, TargetResetStarted, ReadQueued, PlaneSelected, CopybackReadStarted, CacheProgramStarted}
 use Rattle.onfi_cycle.specs.declared.filling.Filling.{Filling}
 use Rattle.onfi_cycle.specs.declared.filling.Filling.TheVariants.{Leaves, Clears, Copies, Fills}
 use Rattle.onfi_cycle.specs.declared.item.Item.{Item}
@@ -32,6 +32,7 @@ begins (ReadQueued _) = true
 begins (CopybackReadStarted _ _ _) = true
 begins (EraseStarted _ _) = true
 begins (ProgramStarted _ _) = true
+begins (CacheProgramStarted _) = true
 begins IdRead = true
 begins (IdentityRead _) = true
 begins UniqueIdReadStarted = true
@@ -59,7 +60,7 @@ is_reset_cycle OutputCycle = false
 abbrev pub resets_several : Parts → Item → Bool
 resets_several g (Cyc c) = is_shared g && is_reset_cycle (target_cycle c.kind c.byte)
 resets_several g (Rdy ce lun fail) = false
-resets_several g (Ard ce lun) = false
+resets_several g (Ard ce lun fail) = false
 
 -- a LUN of a channel with so many targets
 pub record IsLun (g : Parts) (targets : ℕ) (l : Lun) : Type 0 where

@@ -47,6 +47,8 @@ pub enum Command {
     ProgramConfirm,
     /// 11h, Multi-plane Page Program.
     ProgramPlane,
+    /// 15h, Page Cache Program Definition.
+    ProgramCache,
     /// 90h, Read ID Definition.
     ReadId,
     /// ECh, Read Parameter Page Definition.
@@ -104,6 +106,7 @@ impl Command {
             0x06 => Command::ChangeReadColumnEnhanced,
             0x32 => Command::ReadPlane,
             0x35 => Command::CopybackRead,
+            0x15 => Command::ProgramCache,
             _ => Command::Unknown,
         }
     }
@@ -129,6 +132,7 @@ impl Command {
             Command::ChangeWriteColumn => Some(0x85),
             Command::ProgramConfirm => Some(0x10),
             Command::ProgramPlane => Some(0x11),
+            Command::ProgramCache => Some(0x15),
             Command::ReadId => Some(0x90),
             Command::ReadParameterPage => Some(0xec),
             Command::Reset => Some(0xff),
@@ -159,6 +163,7 @@ impl Command {
             Command::ChangeReadColumnEnhanced
                 | Command::ReadPlane
                 | Command::CopybackRead
+                | Command::ProgramCache
                 | Command::ReadUniqueId
                 | Command::GetFeatures
                 | Command::SetFeatures
@@ -182,6 +187,7 @@ impl Command {
                 | Command::BlockErasePlane
                 | Command::ProgramConfirm
                 | Command::ProgramPlane
+                | Command::ProgramCache
                 | Command::Unknown
         )
     }
@@ -328,6 +334,7 @@ impl Command {
                 | Command::BlockErasePlane
                 | Command::ProgramConfirm
                 | Command::ProgramPlane
+                | Command::ProgramCache
         )
     }
 

@@ -4,7 +4,8 @@ ghost use Rattle.onfi_cycle.specs.Effect.{IsSmallEffect, HasPlanes};
 ghost use Rattle.onfi_cycle.specs.Lun.{latch_after, selected_after, overlapped_after, busy_after, closer_after, array_busy_after, array_page_after, register_after, read_column_after};
 
 use crate::held::{has_reads, page_in_plane};
-use crate::{Command, Latch, PageAddress, Queued, ReadColumn, Register};
+use crate::lun_facts::{keeps_array_busy, leaves_array_busy};
+use crate::{Command, Failures, Latch, PageAddress, Queued, ReadColumn, Register};
 
 /// What an item does to a LUN.
 #[derive(Clone, Copy, Debug, PartialEq, Eq)]
@@ -46,6 +47,10 @@ pub enum Effect {
     /// 10h, or 11h if queued.
     ProgramStarted {
         queued: bool,
+        page: PageAddress,
+    },
+    /// 15h: it programs a page, and its array goes on with that behind its ready.
+    CacheProgramStarted {
         page: PageAddress,
     },
     /// The address 20h of 90h: its register is the identifier.
@@ -96,12 +101,14 @@ pub enum Effect {
     AnotherAddressed {
         reads: bool,
     },
-    /// It becomes ready, with failure or without.
+    /// It becomes ready, with failures or without.
     BecameReady {
-        failed: bool,
+        fail: Failures,
     },
-    /// Its array becomes ready.
-    ArrayBecameReady,
+    /// Its array becomes ready, with failure or without.
+    ArrayBecameReady {
+        fail: bool,
+    },
 }
 
 impl Effect {
@@ -150,6 +157,7 @@ impl Effect {
             | Effect::CacheReadContinued { to: Some(_) }
             | Effect::EraseStarted { .. }
             | Effect::ProgramStarted { .. }
+            | Effect::CacheProgramStarted { .. }
             | Effect::IdRead
             | Effect::IdentityRead { .. }
             | Effect::ParameterPageReadStarted
@@ -192,6 +200,7 @@ impl Effect {
             | Effect::CopybackReadStarted { .. }
             | Effect::EraseStarted { .. }
             | Effect::ProgramStarted { .. }
+            | Effect::CacheProgramStarted { .. }
             | Effect::ParameterPageReadStarted
             | Effect::UniqueIdReadStarted
             | Effect::FeaturesReadStarted { .. }
@@ -217,6 +226,7 @@ impl Effect {
             Effect::EraseStarted { queued: false, .. } => Some(Command::BlockEraseConfirm),
             Effect::ProgramStarted { queued: true, .. } => Some(Command::ProgramPlane),
             Effect::ProgramStarted { queued: false, .. } => Some(Command::ProgramConfirm),
+            Effect::CacheProgramStarted { .. } => Some(Command::ProgramCache),
             Effect::IdRead | Effect::IdentityRead { .. } => Some(Command::ReadId),
             Effect::ParameterPageReadStarted => Some(Command::ReadParameterPage),
             Effect::UniqueIdReadStarted => Some(Command::ReadUniqueId),
@@ -229,18 +239,21 @@ impl Effect {
         }
     }
 
-    /// Whether the array is busy after an effect on a LUN that was busy, and was caching, or not.
-    pub fn array_busy_after(self, busy: bool, caching: bool, before: bool) -> bool
-        ensures { result ≡ array_busy_after self busy caching before }
+    /// Whether the array is busy after an effect on a LUN that was busy, or not, and whose last closer was this one.
+    #[inline(always)]
+    pub fn array_busy_after(self, busy: bool, last: Option<Command>, before: bool) -> bool
+        ensures { result ≡ array_busy_after self busy last before }
     {
         match self {
-            Effect::BecameReady { .. } => before || busy && caching,
-            Effect::ArrayBecameReady
+            Effect::BecameReady { .. } => before || busy && leaves_array_busy(last),
+            Effect::ProgramStarted { queued: true, .. } => keeps_array_busy(last) && before,
+            Effect::ArrayBecameReady { .. }
             | Effect::ReadStarted { .. }
             | Effect::ReadQueued { .. }
             | Effect::CopybackReadStarted { .. }
             | Effect::EraseStarted { .. }
-            | Effect::ProgramStarted { .. }
+            | Effect::ProgramStarted { queued: false, .. }
+            | Effect::CacheProgramStarted { .. }
             | Effect::IdRead
             | Effect::IdentityRead { .. }
             | Effect::ParameterPageReadStarted
@@ -256,6 +269,7 @@ impl Effect {
     }
 
     /// The page that the array was last told to read, after an effect.
+    #[inline(always)]
     pub fn array_page_after(self, before: PageAddress) -> PageAddress
         requires { before.page < 2 ^ 63 + 2 ^ 32 }
         ensures value { result ≡ array_page_after self before }
@@ -275,6 +289,7 @@ impl Effect {
 
     /// What the register holds after an effect, `array_page` being the page that the array was told to read before it, `queue` the rows that
     /// were queued and `held` the pages that the plane registers held.
+    #[inline(always)]
     pub fn register_after(
         self,
         array_page: PageAddress,
@@ -299,6 +314,7 @@ impl Effect {
             | Effect::CopybackReadStarted { .. }
             | Effect::EraseStarted { .. }
             | Effect::ProgramStarted { .. }
+            | Effect::CacheProgramStarted { .. }
             | Effect::FeaturesSet { .. }
             | Effect::ResetStarted
             | Effect::TargetResetStarted { .. } => Register::Empty,
@@ -316,6 +332,7 @@ impl Effect {
     }
 
     /// The read column after an effect.
+    #[inline(always)]
     pub fn read_column_after(self, before: ReadColumn) -> ReadColumn
         requires { before.outputs < 2 ^ 63 }
         ensures value { result ≡ read_column_after self before }

@@ -37,6 +37,8 @@ pub enum Forbidden {
     ColumnOutside,
     #[error("the cache read doesn't stand so")]
     CacheReadMisplaced,
+    #[error("the LUN programs a page behind a cache program")]
+    CacheProgramMisplaced,
     #[error("the LUN holds no page to copy there, or copies a group")]
     CopybackMisplaced,
     #[error("the LUN holds no page of the plane, or has a queue")]
@@ -44,7 +46,7 @@ pub enum Forbidden {
 }
 
 impl Forbidden {
-    /// Its code, `F1` to `F15`, `F17` or `F18`.
+    /// Its code, `F1` to `F18`.
     pub fn code(self) -> &'static str
         ensures { result.now ≡ forbidden_code self }
     {
@@ -64,12 +66,13 @@ impl Forbidden {
             Forbidden::DataNotReady => "F13",
             Forbidden::ColumnOutside => "F14",
             Forbidden::CacheReadMisplaced => "F15",
+            Forbidden::CacheProgramMisplaced => "F16",
             Forbidden::CopybackMisplaced => "F17",
             Forbidden::PlaneNotHeld => "F18",
         }
     }
 
-    /// The number of its code, 1 to 15, 17 or 18.
+    /// The number of its code, 1 to 18.
     pub fn number(self) -> u32
         ensures { result ≡ rule_number self }
     {
@@ -89,6 +92,7 @@ impl Forbidden {
             Forbidden::DataNotReady => 13,
             Forbidden::ColumnOutside => 14,
             Forbidden::CacheReadMisplaced => 15,
+            Forbidden::CacheProgramMisplaced => 16,
             Forbidden::CopybackMisplaced => 17,
             Forbidden::PlaneNotHeld => 18,
         }
@@ -115,6 +119,7 @@ impl Forbidden {
             13 => Some(Forbidden::DataNotReady),
             14 => Some(Forbidden::ColumnOutside),
             15 => Some(Forbidden::CacheReadMisplaced),
+            16 => Some(Forbidden::CacheProgramMisplaced),
             17 => Some(Forbidden::CopybackMisplaced),
             18 => Some(Forbidden::PlaneNotHeld),
             _ => None,

@@ -156,6 +156,7 @@ pub fn apply_to_held(
         | Effect::ProgramAddressed
         | Effect::EraseStarted { .. }
         | Effect::ProgramStarted { queued: false, .. }
+        | Effect::CacheProgramStarted { .. }
         | Effect::IdRead
         | Effect::IdentityRead { .. }
         | Effect::ParameterPageReadStarted

@@ -24,15 +24,24 @@ pub struct Cycle {
     pub byte: u8,
 }
 
+/// What a ready tells of failures.
+#[derive(Clone, Copy, Debug, Default, PartialEq, Eq)]
+pub struct Failures {
+    /// The work that ends failed (FAIL).
+    pub last: bool,
+    /// The page before it failed, which a Page Cache Program left in the array (FAILC).
+    pub before: bool,
+}
+
 /// What happens on a channel. A trace is a list of items.
 #[derive(Clone, Copy, Debug, PartialEq, Eq)]
 pub enum Item {
     /// A cycle on the bus.
     Cyc(Cycle),
-    /// A busy LUN becomes ready (RDY), with failure or without.
-    Rdy { ce: u8, lun: u8, fail: bool },
-    /// The array of a LUN becomes ready (ARDY) after a cache read.
-    Ard { ce: u8, lun: u8 },
+    /// A busy LUN becomes ready (RDY), with failures or without.
+    Rdy { ce: u8, lun: u8, fail: Failures },
+    /// The array of a LUN becomes ready (ARDY) after a cache read, or after a cache program, which failed or not.
+    Ard { ce: u8, lun: u8, fail: bool },
 }
 
 impl Item {

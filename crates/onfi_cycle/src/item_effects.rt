@@ -113,6 +113,7 @@ fn confirm_effect(geometry: &Geometry, tail: TailFacts, command: Command) -> Eff
             queued: true,
             page: at,
         },
+        Command::ProgramCache => Effect::CacheProgramStarted { page: at },
         _ => Effect::Unaffected,
     }
 }
@@ -361,9 +362,12 @@ pub fn item_effect(
             ce,
             lun: number,
             fail,
-        } if (Lun { ce, lun: number }) == lun => Effect::BecameReady { failed: fail },
-        Item::Ard { ce, lun: number } if (Lun { ce, lun: number }) == lun =>
-            Effect::ArrayBecameReady,
+        } if (Lun { ce, lun: number }) == lun => Effect::BecameReady { fail },
+        Item::Ard {
+            ce,
+            lun: number,
+            fail,
+        } if (Lun { ce, lun: number }) == lun => Effect::ArrayBecameReady { fail },
         _ => Effect::Unaffected,
     }
 }

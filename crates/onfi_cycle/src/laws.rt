@@ -64,7 +64,7 @@ pub fn service_begins()
     ensures { ServiceBegins }
 {}
 
-/// The work that goes on changes pages exactly where something takes effect at its end.
+/// The work that goes on changes pages exactly where something takes effect at its end, and so does the array; while that does, no page is held.
 pub fn work_changes_pages()
     ensures { WorkChangesPages }
 {}

@@ -46,12 +46,13 @@ pub use effect::Effect;
 pub use filling::Filling;
 pub use forbidden::Forbidden;
 pub use held::{HeldPages, MAX_PLANES, apply_to_held, has_reads, page_in_plane};
-pub use item::{Cycle, Item, Kind};
+pub use item::{Cycle, Failures, Item, Kind};
 pub use item_effects::{acts_for_target, cycle_effect, is_shared, item_effect};
 pub use latch::Latch;
 pub use lun::{Lun, MAX_CHANNEL_LUNS, MAX_TARGETS};
 pub use lun_facts::{
-    LunFacts, is_cache_read, is_copyback_read, is_page_read, is_target_work, keeps_copy,
+    LunFacts, is_cache_program, is_cache_read, is_copyback_read, is_page_read, is_plane_program,
+    is_target_work, keeps_array_busy, keeps_copy,
 };
 pub use lun_state::LunState;
 pub use opening::Opening;

@@ -1,6 +1,6 @@
 //! What the rules see of a LUN.
 ghost use Rattle.std.specs.Prelude.{◌≡◌, ◌^◌, ◌<◌, ◌≤◌};
-ghost use Rattle.onfi_cycle.specs.Lun.{is_cache_read, is_page_read, is_copyback_read, is_target_work, works};
+ghost use Rattle.onfi_cycle.specs.Lun.{is_cache_read, is_cache_program, is_plane_program, leaves_array_busy, keeps_array_busy, programs, is_page_read, is_copyback_read, is_target_work, works};
 ghost use Rattle.onfi_cycle.specs.Outputs.{has_fewer};
 ghost use Rattle.onfi_cycle.specs.Rules.{works_for_target, caching, may_change_column, has_no_byte, is_past_register, continues_cache, ends_cache, has_read_one, holds_plane_of, keeps_copy, may_copy_to, may_copy, is_copying};
 
@@ -14,6 +14,34 @@ pub fn is_cache_read(closer: Option<Command>) -> bool
     ensures { result ≡ is_cache_read closer }
 {
     closer == Some(Command::ReadCacheSequential)
+}
+
+/// A page is programmed while the next one may come: the last closer is Page Cache Program.
+pub fn is_cache_program(closer: Option<Command>) -> bool
+    ensures { result ≡ is_cache_program closer }
+{
+    closer == Some(Command::ProgramCache)
+}
+
+/// One plane of several is programmed: the last closer is that of a queued program.
+pub fn is_plane_program(closer: Option<Command>) -> bool
+    ensures { result ≡ is_plane_program closer }
+{
+    closer == Some(Command::ProgramPlane)
+}
+
+/// The array goes on with its work behind the ready of this closer.
+pub(crate) fn leaves_array_busy(closer: Option<Command>) -> bool
+    ensures { result ≡ leaves_array_busy closer }
+{
+    is_cache_read(closer) || is_cache_program(closer)
+}
+
+/// A queued program leaves the array at the work of a Page Cache Program: the last closer is that, or a queued program behind it.
+pub fn keeps_array_busy(closer: Option<Command>) -> bool
+    ensures { result ≡ keeps_array_busy closer }
+{
+    is_cache_program(closer) || is_plane_program(closer)
 }
 
 /// The last closer has read a page of the array, so that a cache read may go on from it.
@@ -104,6 +132,14 @@ impl<Q: WorkQueue> LunFacts<Q> {
         ensures { result ≡ works self.now }
     {
         self.busy || self.array_busy
+    }
+
+    /// It programs behind a Page Cache Program, queued programs left out, and no ready of its array came since.
+    pub(crate) fn programs(&self) -> bool
+        ensures { result ≡ programs self.now }
+    {
+        self.busy && is_cache_program(self.closer)
+            || self.array_busy && keeps_array_busy(self.closer)
     }
 
     /// Work of its whole target goes on at it.

@@ -19,7 +19,9 @@ pub struct LunState {
     pub queued: usize,
     /// A cache read goes on.
     pub caching: bool,
-    /// The array works on after a cache read.
+    /// It programs behind a Page Cache Program, or its array does.
+    pub programming: bool,
+    /// The array works on after a cache read or a cache program.
     pub array_busy: bool,
 }
 
@@ -37,6 +39,7 @@ impl LunState {
             column: lun.column.output_column().map(|column| column as u32),
             queued: lun.queue.len(),
             caching: is_cache_read(lun.closer),
+            programming: lun.programs(),
             array_busy: lun.array_busy,
         }
     }

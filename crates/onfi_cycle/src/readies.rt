@@ -2,6 +2,7 @@
 ghost use Rattle.std.specs.Prelude.{◌≡◌, ◌≤◌, ◌*◌, length};
 ghost use Rattle.onfi_cycle.specs.Readies.{starts, starts_work, starts_later, awaits_start, due_at, due_of, ReadiesAreDue};
 
+use crate::lun_facts::leaves_array_busy;
 use crate::{Command, Item, LunFacts, RowQueue, TailFacts, TargetCycle};
 
 // The command starts work, or its address or input does.
@@ -17,6 +18,7 @@ fn starts(command: Command) -> bool
             | Command::BlockErasePlane
             | Command::ProgramConfirm
             | Command::ProgramPlane
+            | Command::ProgramCache
             | Command::ReadParameterPage
             | Command::Reset
             | Command::ReadCacheSequential
@@ -75,7 +77,7 @@ fn due_at(tail: &TailFacts, lun: &LunFacts<RowQueue>) -> usize
     ensures value { result ≡ due_at tail.now lun.now }
     ensures most { result ≤ 4 }
 {
-    let of_cache = lun.busy && lun.is_caching();
+    let of_cache = lun.busy && leaves_array_busy(lun.closer);
     usize::from(lun.busy)
         + (usize::from(lun.array_busy) + (usize::from(of_cache) + usize::from(awaits_start(tail))))
 }

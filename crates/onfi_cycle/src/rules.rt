@@ -5,7 +5,8 @@ ghost use Rattle.std.specs.Option.{option_copied};
 ghost use Rattle.nand_geometry.specs.Row.{parts_of};
 ghost use Rattle.onfi_cycle.specs.declared.target_cycle.TargetCycle.{TargetCycle};
 ghost use Rattle.onfi_cycle.specs.Effect.{is_off, page_address};
-ghost use Rattle.onfi_cycle.specs.Rules.{breaks_not_there, breaks_command_unknown, breaks_sequence_open, breaks_several_luns, breaks_no_column_to_change, breaks_command_misplaced, breaks_address_misplaced, breaks_row_outside, breaks_lun_busy, breaks_queue_clash, breaks_input_misplaced, breaks_no_sole_driver, breaks_data_not_ready, breaks_column_outside, breaks_cache_read_misplaced, breaks_copyback_misplaced, breaks_plane_not_held, may_copy, is_copying, opens_here, begins_on_ready, holds_plane_of, blocks_clash, read_clashes, some_read_clashes, has_read_one, driving, are_none, driver, is_undeclared, is_undeclared_address, planes_clash, queued_clashes, some_queued_clashes, refused_by, is_refused_by, caching, has_some, is_unclear, works_for_target, named_lun_is, driver_is, continues_cache, ends_row, excludes_cache, finds_no_cache_read};
+ghost use Rattle.onfi_cycle.specs.Lun.{programs};
+ghost use Rattle.onfi_cycle.specs.Rules.{breaks_not_there, breaks_command_unknown, breaks_sequence_open, breaks_several_luns, breaks_no_column_to_change, breaks_command_misplaced, breaks_address_misplaced, breaks_row_outside, breaks_lun_busy, breaks_queue_clash, breaks_input_misplaced, breaks_no_sole_driver, breaks_data_not_ready, breaks_column_outside, breaks_cache_read_misplaced, breaks_cache_program_misplaced, breaks_copyback_misplaced, breaks_plane_not_held, holds_none, excludes_program, may_copy, is_copying, opens_here, begins_on_ready, holds_plane_of, blocks_clash, read_clashes, some_read_clashes, has_read_one, driving, are_none, driver, is_undeclared, is_undeclared_address, planes_clash, queued_clashes, some_queued_clashes, refused_by, is_refused_by, caching, has_some, is_unclear, works_for_target, named_lun_is, driver_is, continues_cache, ends_row, excludes_cache, finds_no_cache_read};
 ghost use Rattle.onfi_cycle.specs.Permitted.{judge, judge_cycle, judge_known_cycle};
 
 use crate::{
@@ -63,7 +64,7 @@ fn breaks_not_there<Q: WorkQueue>(targets: u8, luns: &[LunFacts<Q>], item: Item)
                     Some(lun) => !lun.busy,
                 }
         }
-        Item::Ard { ce, lun } => {
+        Item::Ard { ce, lun, .. } => {
             targets <= ce
                 || match luns.get(lun as usize) {
                     None => true,
@@ -85,6 +86,7 @@ pub fn is_undeclared(geometry: &Geometry, command: Command) -> bool
         Command::ChangeReadColumnEnhanced => !parts.optional.has_enhanced_column(),
         Command::ReadPlane => !parts.optional.has_plane_reads(),
         Command::CopybackRead => !parts.optional.has_copyback(),
+        Command::ProgramCache => !parts.optional.has_program_cache(),
         Command::ReadUniqueId => !parts.optional.has_unique_id(),
         Command::GetFeatures | Command::SetFeatures => !parts.optional.has_features(),
         Command::ResetLun => !parts.optional.has_lun_reset(),
@@ -578,6 +580,88 @@ fn breaks_cache_read_misplaced<Q: WorkQueue>(
     }
 }
 
+fn some_programs<Q: WorkQueue>(luns: &[LunFacts<Q>]) -> bool
+    ensures { result ≡ list_any programs luns.now }
+{
+    luns.iter().any(|lun| lun.programs())
+}
+
+/// The LUN that a row names is there, and programs behind a Page Cache Program.
+fn named_programs<Q: WorkQueue>(geometry: &Geometry, row: u32, luns: &[LunFacts<Q>]) -> bool
+    ensures { result ≡ named_lun_is geometry.now row programs luns.now }
+{
+    match find_named(geometry, row, luns) {
+        None => false,
+        Some(lun) => lun.programs(),
+    }
+}
+
+/// The LUN that a row names is there, and has a queue.
+fn named_has_queue<Q: WorkQueue>(geometry: &Geometry, row: u32, luns: &[LunFacts<Q>]) -> bool
+    ensures { result ≡ named_lun_is geometry.now row (λ v. has_some v.queue) luns.now }
+{
+    match find_named(geometry, row, luns) {
+        None => false,
+        Some(lun) => !lun.queue.works().is_empty(),
+    }
+}
+
+/// The LUN that a row names is there, and holds a page.
+fn named_holds_some<Q: WorkQueue>(geometry: &Geometry, row: u32, luns: &[LunFacts<Q>]) -> bool
+    ensures { result ≡ named_lun_is geometry.now row (λ v. not (holds_none v.held)) luns.now }
+{
+    match find_named(geometry, row, luns) {
+        None => false,
+        Some(lun) => !lun.held.is_empty(),
+    }
+}
+
+/// The openers whose row names a LUN that programs no cache.
+fn excludes_program(opener: Command) -> bool
+    ensures { result ≡ excludes_program opener }
+{
+    matches!(
+        opener,
+        Command::Read
+            | Command::ChangeReadColumnEnhanced
+            | Command::BlockErase
+            | Command::ChangeWriteColumn
+    )
+}
+
+/// The next address is the last row cycle of such an opener.
+fn ends_row_without_program(tail: TailFacts) -> bool
+    ensures { result ≡ ends_row excludes_program tail }
+{
+    match tail.opening {
+        None => false,
+        Some(opening) => excludes_program(opening.opener) && opening.is_at_last_row(),
+    }
+}
+
+#[inline(always)]
+#[tactic(auto, unfolding(crate::specs::Rules::breaks_cache_program_misplaced))]
+fn breaks_cache_program_misplaced<Q: WorkQueue>(
+    geometry: &Geometry,
+    tail: TailFacts,
+    luns: &[LunFacts<Q>],
+    cycle: TargetCycle,
+) -> bool
+    ensures { result ≡ breaks_cache_program_misplaced geometry.now tail luns.now cycle }
+{
+    match cycle {
+        TargetCycle::CommandCycle(Command::ProgramCache) => {
+            !geometry.parts().optional.has_group_cache()
+                && named_has_queue(geometry, tail.named_row(), luns)
+        }
+        TargetCycle::CommandCycle(command) => command.reads_identity() && some_programs(luns),
+        TargetCycle::AddressCycle(byte) => {
+            ends_row_without_program(tail) && named_programs(geometry, tail.row_with(byte), luns)
+        }
+        _ => false,
+    }
+}
+
 /// The LUN that a row names is there, and holds no page that may be copied to that row.
 fn named_may_not_copy<Q: WorkQueue>(geometry: &Geometry, row: u32, luns: &[LunFacts<Q>]) -> bool
     ensures { result ≡ named_lun_is geometry.now row (λ v. not (may_copy geometry.now (page_address geometry.now row) v)) luns.now }
@@ -612,6 +696,10 @@ fn breaks_copyback_misplaced<Q: WorkQueue>(
     ensures { result ≡ breaks_copyback_misplaced geometry.now tail luns.now cycle }
 {
     match cycle {
+        TargetCycle::CommandCycle(Command::ProgramCache) => {
+            geometry.parts().optional.has_copyback()
+                && named_holds_some(geometry, tail.named_row(), luns)
+        }
         TargetCycle::AddressCycle(byte) => {
             let row = tail.row_with(byte);
             geometry.parts().optional.has_copyback()
@@ -652,8 +740,8 @@ fn breaks_plane_not_held<Q: WorkQueue>(
     }
 }
 
-/// The first of F3 to F18 that a command breaks. A closer can break F6 and F15 alone.
-#[tactic(auto, using(crate::proofs::Closers::closer_misplaced, crate::proofs::Closers::closer_reads, crate::proofs::Closers::closer_passes), unfolding(crate::specs::Rules::breaks_sequence_open, crate::specs::Rules::breaks_several_luns, crate::specs::Rules::breaks_no_column_to_change, crate::specs::Rules::breaks_command_misplaced, crate::specs::Rules::breaks_address_misplaced, crate::specs::Rules::breaks_row_outside, crate::specs::Rules::breaks_lun_busy, crate::specs::Rules::breaks_queue_clash, crate::specs::Rules::breaks_input_misplaced, crate::specs::Rules::breaks_no_sole_driver, crate::specs::Rules::breaks_data_not_ready, crate::specs::Rules::breaks_column_outside, crate::specs::Rules::breaks_cache_read_misplaced, crate::specs::Rules::breaks_copyback_misplaced, crate::specs::Rules::breaks_plane_not_held))]
+/// The first of F3 to F18 that a command breaks. A closer can break F6 and F15 to F17 alone.
+#[tactic(auto, using(crate::proofs::Closers::closer_misplaced, crate::proofs::Closers::closer_reads, crate::proofs::Closers::closer_programs, crate::proofs::Closers::closer_copies, crate::proofs::Closers::closer_passes), unfolding(crate::specs::Rules::breaks_sequence_open, crate::specs::Rules::breaks_several_luns, crate::specs::Rules::breaks_no_column_to_change, crate::specs::Rules::breaks_command_misplaced, crate::specs::Rules::breaks_address_misplaced, crate::specs::Rules::breaks_row_outside, crate::specs::Rules::breaks_lun_busy, crate::specs::Rules::breaks_queue_clash, crate::specs::Rules::breaks_input_misplaced, crate::specs::Rules::breaks_no_sole_driver, crate::specs::Rules::breaks_data_not_ready, crate::specs::Rules::breaks_column_outside, crate::specs::Rules::breaks_cache_read_misplaced, crate::specs::Rules::breaks_cache_program_misplaced, crate::specs::Rules::breaks_copyback_misplaced, crate::specs::Rules::breaks_plane_not_held))]
 fn judge_command<Q: WorkQueue>(
     geometry: &Geometry,
     tail: TailFacts,
@@ -668,6 +756,10 @@ fn judge_command<Q: WorkQueue>(
             Some(Forbidden::CommandMisplaced)
         } else if breaks_cache_read_misplaced(geometry, tail, luns, cycle) {
             Some(Forbidden::CacheReadMisplaced)
+        } else if breaks_cache_program_misplaced(geometry, tail, luns, cycle) {
+            Some(Forbidden::CacheProgramMisplaced)
+        } else if breaks_copyback_misplaced(geometry, tail, luns, cycle) {
+            Some(Forbidden::CopybackMisplaced)
         } else {
             None
         }
@@ -683,6 +775,8 @@ fn judge_command<Q: WorkQueue>(
         Some(Forbidden::QueueClash)
     } else if breaks_cache_read_misplaced(geometry, tail, luns, cycle) {
         Some(Forbidden::CacheReadMisplaced)
+    } else if breaks_cache_program_misplaced(geometry, tail, luns, cycle) {
+        Some(Forbidden::CacheProgramMisplaced)
     } else {
         None
     }
@@ -711,6 +805,8 @@ fn judge_end_of_row<Q: WorkQueue>(
         Some(Forbidden::ColumnOutside)
     } else if breaks_cache_read_misplaced(geometry, tail, luns, cycle) {
         Some(Forbidden::CacheReadMisplaced)
+    } else if breaks_cache_program_misplaced(geometry, tail, luns, cycle) {
+        Some(Forbidden::CacheProgramMisplaced)
     } else if breaks_copyback_misplaced(geometry, tail, luns, cycle) {
         Some(Forbidden::CopybackMisplaced)
     } else if breaks_plane_not_held(geometry, tail, luns, cycle) {
@@ -721,7 +817,7 @@ fn judge_end_of_row<Q: WorkQueue>(
 }
 
 /// The first of F3 to F18 that an address breaks. One that isn't the last of a row can break F7 and F14 alone.
-#[tactic(auto, using(crate::proofs::NoRow::no_copyback), unfolding(crate::specs::Rules::breaks_sequence_open, crate::specs::Rules::breaks_several_luns, crate::specs::Rules::breaks_no_column_to_change, crate::specs::Rules::breaks_command_misplaced, crate::specs::Rules::breaks_row_outside, crate::specs::Rules::breaks_lun_busy, crate::specs::Rules::breaks_queue_clash, crate::specs::Rules::breaks_input_misplaced, crate::specs::Rules::breaks_no_sole_driver, crate::specs::Rules::breaks_data_not_ready, crate::specs::Rules::breaks_cache_read_misplaced, crate::specs::Rules::breaks_plane_not_held))]
+#[tactic(auto, using(crate::proofs::NoRow::no_copyback), unfolding(crate::specs::Rules::breaks_sequence_open, crate::specs::Rules::breaks_several_luns, crate::specs::Rules::breaks_no_column_to_change, crate::specs::Rules::breaks_command_misplaced, crate::specs::Rules::breaks_row_outside, crate::specs::Rules::breaks_lun_busy, crate::specs::Rules::breaks_queue_clash, crate::specs::Rules::breaks_input_misplaced, crate::specs::Rules::breaks_no_sole_driver, crate::specs::Rules::breaks_data_not_ready, crate::specs::Rules::breaks_cache_read_misplaced, crate::specs::Rules::breaks_cache_program_misplaced, crate::specs::Rules::breaks_plane_not_held))]
 fn judge_address<Q: WorkQueue>(
     geometry: &Geometry,
     tail: TailFacts,
@@ -744,7 +840,7 @@ fn judge_address<Q: WorkQueue>(
 }
 
 /// The first of F3 to F18 that an input breaks.
-#[tactic(auto, unfolding(crate::specs::Rules::breaks_sequence_open, crate::specs::Rules::breaks_several_luns, crate::specs::Rules::breaks_no_column_to_change, crate::specs::Rules::breaks_command_misplaced, crate::specs::Rules::breaks_address_misplaced, crate::specs::Rules::breaks_row_outside, crate::specs::Rules::breaks_lun_busy, crate::specs::Rules::breaks_queue_clash, crate::specs::Rules::breaks_no_sole_driver, crate::specs::Rules::breaks_data_not_ready, crate::specs::Rules::breaks_cache_read_misplaced, crate::specs::Rules::breaks_copyback_misplaced, crate::specs::Rules::breaks_plane_not_held))]
+#[tactic(auto, unfolding(crate::specs::Rules::breaks_sequence_open, crate::specs::Rules::breaks_several_luns, crate::specs::Rules::breaks_no_column_to_change, crate::specs::Rules::breaks_command_misplaced, crate::specs::Rules::breaks_address_misplaced, crate::specs::Rules::breaks_row_outside, crate::specs::Rules::breaks_lun_busy, crate::specs::Rules::breaks_queue_clash, crate::specs::Rules::breaks_no_sole_driver, crate::specs::Rules::breaks_data_not_ready, crate::specs::Rules::breaks_cache_read_misplaced, crate::specs::Rules::breaks_cache_program_misplaced, crate::specs::Rules::breaks_copyback_misplaced, crate::specs::Rules::breaks_plane_not_held))]
 fn judge_input<Q: WorkQueue>(
     geometry: &Geometry,
     tail: TailFacts,
@@ -765,7 +861,7 @@ fn judge_input<Q: WorkQueue>(
 }
 
 /// The first of F3 to F18 that an output breaks.
-#[tactic(auto, unfolding(crate::specs::Rules::breaks_sequence_open, crate::specs::Rules::breaks_several_luns, crate::specs::Rules::breaks_no_column_to_change, crate::specs::Rules::breaks_command_misplaced, crate::specs::Rules::breaks_address_misplaced, crate::specs::Rules::breaks_row_outside, crate::specs::Rules::breaks_lun_busy, crate::specs::Rules::breaks_queue_clash, crate::specs::Rules::breaks_input_misplaced, crate::specs::Rules::breaks_cache_read_misplaced, crate::specs::Rules::breaks_copyback_misplaced, crate::specs::Rules::breaks_plane_not_held))]
+#[tactic(auto, unfolding(crate::specs::Rules::breaks_sequence_open, crate::specs::Rules::breaks_several_luns, crate::specs::Rules::breaks_no_column_to_change, crate::specs::Rules::breaks_command_misplaced, crate::specs::Rules::breaks_address_misplaced, crate::specs::Rules::breaks_row_outside, crate::specs::Rules::breaks_lun_busy, crate::specs::Rules::breaks_queue_clash, crate::specs::Rules::breaks_input_misplaced, crate::specs::Rules::breaks_cache_read_misplaced, crate::specs::Rules::breaks_cache_program_misplaced, crate::specs::Rules::breaks_copyback_misplaced, crate::specs::Rules::breaks_plane_not_held))]
 fn judge_output<Q: WorkQueue>(
     geometry: &Geometry,
     tail: TailFacts,

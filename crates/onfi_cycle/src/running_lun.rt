@@ -10,8 +10,8 @@ ghost use Rattle.onfi_cycle.specs.Outputs.{given_on};
 
 use crate::held::apply_to_held;
 use crate::{
-    Effect, Latch, LunFacts, PageAddress, Queued, ReadColumn, Register, RowQueue, TailFacts,
-    TargetCycle, cycle_effect, is_cache_read, is_copyback_read,
+    Effect, Failures, Latch, LunFacts, PageAddress, Queued, ReadColumn, Register, RowQueue,
+    TailFacts, TargetCycle, cycle_effect, is_copyback_read,
 };
 use arrayvec::ArrayVec;
 use nand_geometry::Geometry;
@@ -30,6 +30,7 @@ fn apply_to_queue(queue: &mut RowQueue, effect: Effect)
         | Effect::CopybackReadStarted { .. }
         | Effect::EraseStarted { .. }
         | Effect::ProgramStarted { .. }
+        | Effect::CacheProgramStarted { .. }
         | Effect::ResetStarted
         | Effect::TargetResetStarted { .. } => queue.clear(),
         _ => {}
@@ -85,8 +86,7 @@ impl LunFacts<RowQueue> {
         );
         apply_to_queue(&mut self.queue, effect);
         self.array_page = effect.array_page_after(self.array_page);
-        let caching = is_cache_read(self.closer);
-        self.array_busy = effect.array_busy_after(self.busy, caching, self.array_busy);
+        self.array_busy = effect.array_busy_after(self.busy, self.closer, self.array_busy);
         self.closer = effect.closer_after(self.closer);
         self.busy = effect.busy_after(self.busy);
         self.latch = latch;
@@ -174,21 +174,21 @@ impl LunFacts<RowQueue> {
         }
     }
 
-    /// It becomes ready, with failure or without.
-    pub(crate) fn become_ready(&mut self, failed: bool)
-        ensures { self.new ≡ view_after (Effect.BecameReady failed) self.old }
+    /// It becomes ready, with failures or without.
+    pub(crate) fn become_ready(&mut self, fail: Failures)
+        ensures { self.new ≡ view_after (Effect.BecameReady fail) self.old }
     {
-        let effect = Effect::BecameReady { failed };
-        let caching = is_cache_read(self.closer);
-        self.array_busy = effect.array_busy_after(self.busy, caching, self.array_busy);
+        let effect = Effect::BecameReady { fail };
+        self.array_busy = effect.array_busy_after(self.busy, self.closer, self.array_busy);
         self.busy = effect.busy_after(self.busy);
     }
 
-    /// Its array becomes ready.
-    pub(crate) fn become_array_ready(&mut self)
-        ensures { self.new ≡ view_after Effect.ArrayBecameReady self.old }
+    /// Its array becomes ready, with failure or without.
+    pub(crate) fn become_array_ready(&mut self, fail: bool)
+        ensures { self.new ≡ view_after (Effect.ArrayBecameReady fail) self.old }
     {
-        self.array_busy = false;
+        let effect = Effect::ArrayBecameReady { fail };
+        self.array_busy = effect.array_busy_after(self.busy, self.closer, self.array_busy);
     }
 }
 

@@ -1,7 +1,9 @@
 //! The status byte of a LUN (ONFI 4.x, Status Field Definition).
 ghost use Rattle.std.specs.Prelude.{⊤, ◌≡◌, ◌==◌, [], ◌∷◌, codes};
 ghost use Rattle.std.specs.Int.RustNames.{bit_and};
+ghost use Rattle.onfi_cycle.specs.Content.{status_byte};
 
+use crate::Failures;
 use bitflags::{Flag, Flags, bitflag_items};
 
 /// The status byte of a LUN.
@@ -43,12 +45,38 @@ impl Flags for Status {
 impl Status {
     /// The status of a LUN that is busy: WP_N alone.
     pub const BUSY: Status = Status(128);
-    /// RDY too: the array alone is busy, after a cache read.
+    /// RDY too: the array alone is busy, after a cache read or a cache program.
     pub const ARRAY_BUSY: Status = Status(192);
     /// ARDY too.
     pub const READY: Status = Status(224);
     /// FAIL too: the last work failed.
     pub const FAILED: Status = Status(225);
+
+    /// The status of a LUN that is busy or whose array is, or neither, and that tells of these failures.
+    pub fn of(busy: bool, array_busy: bool, fail: Failures) -> Status
+        ensures { result.0 ≡ status_byte busy array_busy fail.last fail.before }
+    {
+        let told = if fail.before { Status::FAILC.0 } else { 0 };
+        if busy {
+            Status::BUSY
+        } else if array_busy {
+            Status(Status::ARRAY_BUSY.0 + told)
+        } else if fail.last {
+            Status(Status::FAILED.0 + told)
+        } else {
+            Status(Status::READY.0 + told)
+        }
+    }
+
+    /// What it tells of failures (FAIL and FAILC).
+    pub fn failures(self) -> Failures
+        ensures { result ≡ record { last = bit_and self.0 1 == 1; before = bit_and self.0 2 == 2 } }
+    {
+        Failures {
+            last: self.contains(Status::FAIL),
+            before: self.contains(Status::FAILC),
+        }
+    }
 
     /// The LUN is ready for another command (RDY).
     pub fn is_ready(self) -> bool

@@ -190,9 +190,10 @@ impl TailFacts {
         ensures { result ≡ wants_command self command }
     {
         match command {
-            Command::ChangeWriteColumn | Command::ProgramConfirm | Command::ProgramPlane => {
-                self.phase.takes_data()
-            }
+            Command::ChangeWriteColumn
+            | Command::ProgramConfirm
+            | Command::ProgramPlane
+            | Command::ProgramCache => { self.phase.takes_data() }
             _ => match self.opening {
                 None => false,
                 Some(opening) => opening.is_closed_by(command),

@@ -21,8 +21,8 @@ use crate::item_effects::ends_features;
 use crate::readies::due_of;
 use crate::rules::some_works_for_target;
 use crate::{
-    Command, Effect, Filling, Forbidden, Item, Latch, Lun, LunFacts, LunState, RowQueue, TailFacts,
-    TargetCycle, driver, item_effect,
+    Command, Effect, Failures, Filling, Forbidden, Item, Latch, Lun, LunFacts, LunState, RowQueue,
+    TailFacts, TargetCycle, driver, item_effect,
 };
 use arrayvec::ArrayVec;
 use nand_geometry::{Geometry, MAX_LUNS};
@@ -175,22 +175,22 @@ fn give_from(luns: &mut [LunFacts<RowQueue>], count: usize)
 }
 
 // The LUN of this number becomes ready, if it is there.
-fn end_work(luns: &mut [LunFacts<RowQueue>], number: u8, failed: bool)
-    ensures { luns.new ≡ one_after (Effect.BecameReady failed) number luns.old }
+fn end_work(luns: &mut [LunFacts<RowQueue>], number: u8, fail: Failures)
+    ensures { luns.new ≡ one_after (Effect.BecameReady fail) number luns.old }
 {
     let place = usize::from(number);
     if place < luns.len() {
-        luns[place].become_ready(failed);
+        luns[place].become_ready(fail);
     }
 }
 
 // The array of the LUN of this number becomes ready, if it is there.
-fn end_array_work(luns: &mut [LunFacts<RowQueue>], number: u8)
-    ensures { luns.new ≡ one_after Effect.ArrayBecameReady number luns.old }
+fn end_array_work(luns: &mut [LunFacts<RowQueue>], number: u8, fail: bool)
+    ensures { luns.new ≡ one_after (Effect.ArrayBecameReady fail) number luns.old }
 {
     let place = usize::from(number);
     if place < luns.len() {
-        luns[place].become_array_ready();
+        luns[place].become_array_ready(fail);
     }
 }
 
@@ -247,7 +247,7 @@ impl TargetState {
         match item {
             Item::Cyc(cycle) => self.apply_cycle(geometry, TargetCycle::of(cycle.kind, cycle.byte)),
             Item::Rdy { lun, fail, .. } => end_work(self.luns.as_mut_slice(), lun, fail),
-            Item::Ard { lun, .. } => end_array_work(self.luns.as_mut_slice(), lun),
+            Item::Ard { lun, fail, .. } => end_array_work(self.luns.as_mut_slice(), lun, fail),
         }
     }
 

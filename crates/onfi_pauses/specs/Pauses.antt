@@ -1,7 +1,7 @@
 -- The pauses that a datasheet asks for before a cycle, by the last cycle of its target and whether a ready came since. Nothing is said of how long they are.
 use Rattle.std.specs.Prelude.{ℕ, ◌+◌, ◌==◌, Bool, true, false, ◌&&◌, not, nat_lt, Option, Some, None, if◌then◌else◌}
 use Rattle.onfi_cycle.specs.declared.command.Command.{Command}
-use Rattle.onfi_cycle.specs.declared.command.Command.TheVariants.{ReadConfirm, ReadPlane, CopybackRead, ChangeReadColumnConfirm, BlockEraseConfirm, BlockErasePlane, ChangeWriteColumn, ProgramConfirm, ProgramPlane, ReadParameterPage, Reset, ReadCacheSequential, ReadCacheEnd, ReadUniqueId, GetFeatures, SetFeatures, ResetLun, SynchronousReset, Unknown}
+use Rattle.onfi_cycle.specs.declared.command.Command.TheVariants.{ReadConfirm, ReadPlane, CopybackRead, ChangeReadColumnConfirm, BlockEraseConfirm, BlockErasePlane, ChangeWriteColumn, ProgramConfirm, ProgramPlane, ProgramCache, ReadParameterPage, Reset, ReadCacheSequential, ReadCacheEnd, ReadUniqueId, GetFeatures, SetFeatures, ResetLun, SynchronousReset, Unknown}
 use Rattle.onfi_cycle.specs.Command.{command}
 use Rattle.onfi_cycle.specs.declared.item.Kind.{Kind}
 use Rattle.onfi_cycle.specs.declared.item.Kind.TheVariants.{Cmd, Adr, Din, Dout}
@@ -20,6 +20,7 @@ starts BlockEraseConfirm = true
 starts BlockErasePlane = true
 starts ProgramConfirm = true
 starts ProgramPlane = true
+starts ProgramCache = true
 starts Reset = true
 starts SynchronousReset = true
 starts ReadCacheSequential = true

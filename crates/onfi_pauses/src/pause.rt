@@ -61,6 +61,7 @@ impl LastCycle {
                     | Command::BlockErasePlane
                     | Command::ProgramConfirm
                     | Command::ProgramPlane
+                    | Command::ProgramCache
                     | Command::Reset
                     | Command::SynchronousReset
                     | Command::ReadCacheSequential

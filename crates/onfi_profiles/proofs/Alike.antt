@@ -9,6 +9,7 @@ use Rattle.onfi_cycle.specs.declared.command.Command.TheVariants.{ChangeReadColu
 use Rattle.onfi_cycle.specs.declared.effect.Effect.{Effect}
 use Rattle.onfi_cycle.specs.declared.effect.Effect.TheVariants.{Unaffected, BecameReady, ArrayBecameReady}
 use Rattle.onfi_cycle.specs.declared.item.Cycle.{Cycle}
+use Rattle.onfi_cycle.specs.declared.item.Failures.{Failures}
 use Rattle.onfi_cycle.specs.declared.item.Item.{Item}
 use Rattle.onfi_cycle.specs.declared.item.Item.TheVariants.{Cyc, Rdy, Ard}
 use Rattle.onfi_cycle.specs.declared.latch.Latch.{Latch}
@@ -127,7 +128,7 @@ ready_like : (b : Bool) (e : Effect) → Like e e → Like (cond b e Unaffected)
 ready_like true e h = h
 ready_like false e h = equal refl refl
 
-ready_step : (g : Parts) (past : List Item) (a b ce : ℕ) (f : Bool) → AreAlike g past ce → AreAlike g (Rdy a b f ∷ past) ce
+ready_step : (g : Parts) (past : List Item) (a b ce : ℕ) (f : Failures) → AreAlike g past ce → AreAlike g (Rdy a b f ∷ past) ce
 unfolding effect_among
 ready_step g past a b ce f before =
     record {
@@ -136,13 +137,13 @@ ready_step g past a b ce f before =
       calm = λ m low. calm_on _ _ (closer (in_base g) past (lun_at ce m)) (ready_like (a == ce && b == m) (BecameReady f) (equal refl refl)) (before.calm m low);
     }
 
-array_ready_step : (g : Parts) (past : List Item) (a b ce : ℕ) → AreAlike g past ce → AreAlike g (Ard a b ∷ past) ce
+array_ready_step : (g : Parts) (past : List Item) (a b ce : ℕ) (fail : Bool) → AreAlike g past ce → AreAlike g (Ard a b fail ∷ past) ce
 unfolding effect_among
-array_ready_step g past a b ce before =
+array_ready_step g past a b ce fail before =
     record {
-      shows = shows_on g.luns _ _ _ _ (kept_turn g.luns (λ k. latch (in_base g) past (lun_at ce k)) (λ k. latch g past (lun_at ce k)) (a == ce) ArrayBecameReady (λ m. is_selected (in_base g) past (lun_at ce m)) (λ m. is_busy (in_base g) past (lun_at ce m) || is_array_busy (in_base g) past (lun_at ce m)) (λ m. is_selected g past (lun_at ce m)) (λ m. is_busy g past (lun_at ce m) || is_array_busy g past (lun_at ce m)) (λ s w l. refl) (λ m. b == m)) before.shows;
-      rest = λ m low. core_on _ _ (lun_view (in_base g) past (lun_at ce m)) (lun_view g past (lun_at ce m)) (ready_like (a == ce && b == m) ArrayBecameReady (equal refl refl)) (before.rest m low);
-      calm = λ m low. calm_on _ _ (closer (in_base g) past (lun_at ce m)) (ready_like (a == ce && b == m) ArrayBecameReady (equal refl refl)) (before.calm m low);
+      shows = shows_on g.luns _ _ _ _ (kept_turn g.luns (λ k. latch (in_base g) past (lun_at ce k)) (λ k. latch g past (lun_at ce k)) (a == ce) (ArrayBecameReady fail) (λ m. is_selected (in_base g) past (lun_at ce m)) (λ m. is_busy (in_base g) past (lun_at ce m) || is_array_busy (in_base g) past (lun_at ce m)) (λ m. is_selected g past (lun_at ce m)) (λ m. is_busy g past (lun_at ce m) || is_array_busy g past (lun_at ce m)) (λ s w l. refl) (λ m. b == m)) before.shows;
+      rest = λ m low. core_on _ _ (lun_view (in_base g) past (lun_at ce m)) (lun_view g past (lun_at ce m)) (ready_like (a == ce && b == m) (ArrayBecameReady fail) (equal refl refl)) (before.rest m low);
+      calm = λ m low. calm_on _ _ (closer (in_base g) past (lun_at ce m)) (ready_like (a == ce && b == m) (ArrayBecameReady fail) (equal refl refl)) (before.calm m low);
     }
 
 -- a cycle, here or on another target
@@ -176,7 +177,7 @@ cycle_step g targets past c ce shared legal h before =
 pub are_alike : (g : Parts) (targets : ℕ) (past : List Item) (ce : ℕ) → is_shared g ≡ true → is_legal (in_base g) targets past ≡ true → AreAlike g past ce
 are_alike g targets [] ce shared legal = record { shows = λ m low. alike refl; rest = λ m low. refl; calm = λ m low. refl }
 are_alike g targets (Rdy a b f ∷ past) ce shared legal = ready_step g past a b ce f (are_alike g targets past ce shared (both_legal (in_base g) targets past (Rdy a b f) legal).1)
-are_alike g targets (Ard a b ∷ past) ce shared legal = array_ready_step g past a b ce (are_alike g targets past ce shared (both_legal (in_base g) targets past (Ard a b) legal).1)
+are_alike g targets (Ard a b fail ∷ past) ce shared legal = array_ready_step g past a b ce fail (are_alike g targets past ce shared (both_legal (in_base g) targets past (Ard a b fail) legal).1)
 are_alike g targets (Cyc c ∷ past) ce shared legal =
     let parts = both_legal (in_base g) targets past (Cyc c) legal in
     cycle_step g targets past c ce shared parts.1 parts.0 (are_alike g targets past ce shared parts.1)
@@ -185,7 +186,7 @@ are_alike g targets (Cyc c ∷ past) ce shared legal =
 pub effects_like : (g : Parts) (targets : ℕ) (past : List Item) (i : Item) (l : Lun) → is_shared g ≡ true → is_legal (in_base g) targets past ≡ true → broken (in_base g) targets past i ≡ None → l.lun < g.luns → Like (effect_on (in_base g) past i l) (effect_on g past i l)
 unfolding effect_among
 effects_like g targets past (Rdy a b f) l shared legal h low = ready_like (a == l.ce && b == l.lun) (BecameReady f) (equal refl refl)
-effects_like g targets past (Ard a b) l shared legal h low = ready_like (a == l.ce && b == l.lun) ArrayBecameReady (equal refl refl)
+effects_like g targets past (Ard a b fail) l shared legal h low = ready_like (a == l.ce && b == l.lun) (ArrayBecameReady fail) (equal refl refl)
 effects_like g targets past (Cyc c) l shared legal h low =
     like_or_not (c.ce == l.ce) _ _
     (λ e. cycle_like g (facts_of (tail past l.ce)) (target_cycle c.kind c.byte) l.lun (latch_alone (in_base g) past (lun_at l.ce l.lun)) (latch_alone g past (lun_at l.ce l.lun)) (plain g targets past c l.ce shared legal h (eqb-true c.ce l.ce e))

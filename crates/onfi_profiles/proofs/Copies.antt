@@ -6,12 +6,11 @@ use Rattle.std.specs.List.{slice_get}
 use Rattle.nand_geometry.specs.declared.parts.Parts.{Parts}
 use Rattle.nand_geometry.specs.Row.{parts_of, row_of}
 use Rattle.onfi_cycle.specs.declared.command.Command.{Command}
-use Rattle.onfi_cycle.specs.declared.command.Command.TheVariants.{Read, ReadConfirm, ReadPlane, CopybackRead, PageProgram, ChangeWriteColumn, ReadStatus, ReadStatusEnhanced, Reset, SynchronousReset, ReadCacheSequential, ReadCacheEnd, ChangeReadColumnConfirm, BlockEraseConfirm, BlockErasePlane, ProgramConfirm, ProgramPlane, ReadId, ReadParameterPage, ReadUniqueId, GetFeatures, ResetLun}
+use Rattle.onfi_cycle.specs.declared.command.Command.TheVariants.{Read, ReadConfirm, ReadPlane, CopybackRead, PageProgram, ChangeWriteColumn, ReadStatus, ReadStatusEnhanced, Reset, SynchronousReset, ReadCacheSequential, ReadCacheEnd, ChangeReadColumnConfirm, BlockEraseConfirm, BlockErasePlane, ProgramConfirm, ProgramPlane, ReadId, ReadParameterPage, ReadUniqueId, GetFeatures, ResetLun, ProgramCache}
 use Rattle.onfi_cycle.specs.declared.data_phase.DataPhase.{DataPhase}
 use Rattle.onfi_cycle.specs.declared.data_phase.DataPhase.TheVariants.{Outside, Inputs, FirstColumn, SecondColumn, FeatureInputs}
 use Rattle.onfi_cycle.specs.declared.effect.Effect.{Effect}
-use Rattle.onfi_cycle.specs.declared.effect.Effect.TheVariants.{Unaffected, StatusSelected, StatusOfSelected, SelectedForStatus, Deselected, ReadStarted, ReadQueued, CopybackReadStarted, ProgramAddressed, EraseStarted, ProgramStarted, IdRead, IdentityRead, UniqueIdReadStarted, FeaturesReadStarted, FeaturesSet, ParameterPageReadStarted, CacheReadContinued, CacheReadEnded, ReadColumnChanged, PlaneSelected, DataOutput, ResetStarted, TargetResetStarted, BecameReady, ArrayBecameReady, AnotherAddressed}
-use Rattle.onfi_cycle.specs.declared.item.Cycle.{Cycle}
+use Rattle.onfi_cycle.specs.declared.effect.Effect.TheVariants.{Unaffected, StatusSelected, StatusOfSelected, SelectedForStatus, Deselected, ReadStarted, ReadQueued, CopybackReadStarted, ProgramAddressed, EraseStarted, ProgramStarted, IdRead, IdentityRead, UniqueIdReadStarted, FeaturesReadStarted, FeaturesSet, ParameterPageReadStarted, CacheReadContinued, CacheReadEnded, ReadColumnChanged, PlaneSelected, DataOutput, ResetStarted, TargetResetStarted, BecameReady, ArrayBecameReady, AnotherAddressed, CacheProgramStarted}
 use Rattle.onfi_cycle.specs.declared.item.Item.{Item}
 use Rattle.onfi_cycle.specs.declared.item.Item.TheVariants.{Cyc, Rdy, Ard}
 use Rattle.onfi_cycle.specs.declared.latch.Latch.{Latch}
@@ -26,21 +25,21 @@ use Rattle.onfi_cycle.specs.declared.target_cycle.TargetCycle.TheVariants.{Comma
 use Rattle.onfi_cycle.specs.LunView.{LunView}
 use Rattle.onfi_cycle.specs.Base.{is_of_base}
 use Rattle.onfi_cycle.specs.Bounds.{names_program}
-use Rattle.onfi_cycle.specs.Command.{closes_row, reads_row, is_page_program, is_write_column}
-use Rattle.onfi_cycle.specs.Sequence.{target_cycle, tail, facts_of, opened, takes_data, takes_features, wants_column, wants_command, wants_address, row, row_with, row_after_address, selects_plane, phase_after_command}
+use Rattle.onfi_cycle.specs.Command.{closes_row, reads_row, is_page_program}
+use Rattle.onfi_cycle.specs.Sequence.{target_cycle, tail, facts_of, takes_data, wants_column, wants_command, wants_address, row, row_with, row_after_address, selects_plane, phase_after_command}
 use Rattle.onfi_cycle.specs.Effect.{program_row_effect, is_off, is_data, is_shared, acts_for_target, of_target, id_effect, lun_reset_effect, names_lun, ends_features, plane_of_row, plane_effect, column_effect, cache_effect, confirm_effect, other_effect, row_effect, command_effect, input_effect, address_effect, opening_address_effect, cycle_effect}
-use Rattle.onfi_cycle.specs.Lun.{is_page_read, is_copyback_read, is_cache_read, closer, closer_after, queue_after, held_after, queue, held, latch, latch_alone, effect_on, effect_among, lun_view, luns_of}
-use Rattle.onfi_cycle.specs.Rules.{named_lun_is, driver_is, is_some_and, continues_cache, ends_cache, has_some, has_read_one, caching, is_copying, holds_none, breaks_cache_read_misplaced, breaks_sequence_open}
+use Rattle.onfi_cycle.specs.Lun.{is_page_read, is_copyback_read, is_cache_read, closer_after, queue_after, held_after, queue, held, latch_alone, effect_on, effect_among, lun_view, luns_of}
+use Rattle.onfi_cycle.specs.Rules.{named_lun_is, is_some_and, continues_cache, ends_cache, has_some, has_read_one, is_copying, holds_none, breaks_cache_read_misplaced, breaks_sequence_open}
 use Rattle.onfi_cycle.specs.State.{has_driver}
 use Rattle.onfi_cycle.specs.Permitted.{broken, is_legal}
 use Rattle.onfi_cycle.proofs.Booleans.{clash}
-use Rattle.onfi_cycle.proofs.EffectBounds.{IsDriver, alone_drives, driver_passes}
+use Rattle.onfi_cycle.proofs.EffectBounds.{alone_drives, driver_passes}
 use Rattle.onfi_cycle.proofs.Following.{alone_by_views, lun_beyond}
 use Rattle.onfi_cycle.proofs.Keeping.{view_at}
 use Rattle.onfi_cycle.proofs.Others.{chosen_else}
 use Rattle.onfi_cycle.proofs.Passed.{KeepsRules, permitted_keeps}
 use Rattle.onfi_profiles.specs.Widening.{in_base}
-use Rattle.onfi_profiles.specs.Tails.{base_opened, base_begins_sequence, base_phase_after_address, base_phase_after_last_address, base_phase_after_input, base_extended_facts, base_facts_after, base_facts}
+use Rattle.onfi_profiles.specs.Tails.{base_begins_sequence, base_phase_after_address, base_phase_after_input, base_extended_facts, base_facts_after, base_facts}
 use Rattle.onfi_profiles.proofs.OldTails.{AreOfBase, is_base_cycle, base_cycle, facts_base, tails_kept}
 use Rattle.onfi_profiles.proofs.Few.{brings_pages, item_queues}
 use Rattle.onfi_profiles.proofs.Pasts.{both_legal}
@@ -74,6 +73,7 @@ left_by : (e : Effect) (copyback : Bool) (v : LunView) → brings_pages e ≡ fa
 left_by (ReadStarted at from) copyback v b r p a = (λ h. refl, λ h. cc)
 left_by (ReadQueued at) copyback v b r p a = cc
 left_by (CopybackReadStarted at from count) copyback v b r p a = cc
+left_by (CacheProgramStarted at) copyback v b r p a = cc
 left_by ProgramAddressed copyback v b r p a = (a.read, λ h. refl)
 left_by (EraseStarted true at) copyback v b r p a = (λ h. cc, λ h. refl)
 left_by (EraseStarted false at) copyback v b r p a = (λ h. refl, λ h. cc)
@@ -151,6 +151,7 @@ command_may g t luns n v found ChangeReadColumnConfirm b alone f15 =
 command_may g t luns n v found ReadConfirm b alone f15 = row_may g t n v ReadConfirm (λ h. idle g t n v _ refl refl)
 command_may g t luns n v found ReadPlane b alone f15 = cc
 command_may g t luns n v found CopybackRead b alone f15 = cc
+command_may g t luns n v found ProgramCache b alone f15 = cc
 command_may g t luns n v found BlockEraseConfirm b alone f15 = row_may g t n v BlockEraseConfirm (λ h. idle g t n v _ refl refl)
 command_may g t luns n v found BlockErasePlane b alone f15 = row_may g t n v BlockErasePlane (λ h. idle g t n v _ refl refl)
 command_may g t luns n v found ProgramConfirm b alone f15 =
@@ -317,7 +318,7 @@ item_may g targets past (Cyc c) l h low =
         (cycle_may (in_base g) (facts_of (tail past l.ce)) (luns_of (in_base g) past l.ce) l.lun (lun_view (in_base g) past l) (view_at (in_base g) past l low) k (base_cycle g k keeps.f2)
         (λ is. unwanted (in_base g) (facts_of (tail past l.ce)) refl (subst (λ (x : TargetCycle). breaks_sequence_open (in_base g) (facts_of (tail past l.ce)) x ≡ false) is f3)) f15)
 item_may g targets past (Rdy a b f) l h low = either (in_base g) _ l.lun _ (a == l.ce && b == l.lun) (BecameReady f) Unaffected (λ e. idle (in_base g) _ l.lun _ _ refl refl) (λ e. rests (in_base g) _ l.lun _)
-item_may g targets past (Ard a b) l h low = either (in_base g) _ l.lun _ (a == l.ce && b == l.lun) ArrayBecameReady Unaffected (λ e. idle (in_base g) _ l.lun _ _ refl refl) (λ e. rests (in_base g) _ l.lun _)
+item_may g targets past (Ard a b fail) l h low = either (in_base g) _ l.lun _ (a == l.ce && b == l.lun) (ArrayBecameReady fail) Unaffected (λ e. idle (in_base g) _ l.lun _ _ refl refl) (λ e. rests (in_base g) _ l.lun _)
 
 still_held : (b : Bool) (e : Effect) (copyback : Bool) (p : PageAddress) (q : List Queued) (h : List PageAddress) → held_after e copyback p q h ≡ h → held_after (cond b e Unaffected) copyback p q h ≡ h
 still_held true e copyback p q h k = k
@@ -326,7 +327,7 @@ still_held false e copyback p q h k = refl
 item_holds : (g : Parts) (targets : ℕ) (past : List Item) (i : Item) (l : Lun) → is_legal (in_base g) targets past ≡ true → HoldsNone (in_base g) (base_facts past l.ce) l.lun (held (in_base g) past l) → HoldsNone (in_base g) (base_facts (i ∷ past) l.ce) l.lun (held (in_base g) (i ∷ past) l)
 unfolding effect_among
 item_holds g targets past (Rdy a b f) l legal before = λ named here. still_held (a == l.ce && b == l.lun) (BecameReady f) _ _ _ _ refl ∙ before named here
-item_holds g targets past (Ard a b) l legal before = λ named here. still_held (a == l.ce && b == l.lun) ArrayBecameReady _ _ _ _ refl ∙ before named here
+item_holds g targets past (Ard a b fail) l legal before = λ named here. still_held (a == l.ce && b == l.lun) (ArrayBecameReady fail) _ _ _ _ refl ∙ before named here
 item_holds g targets past (Cyc c) l legal before = at (c.ce == l.ce)
   where
     v : LunView

@@ -1,7 +1,7 @@
 -- The decoder gives the commands of the base profile as it did.
 use Rattle.std.proofs.Common.{◌≡◌, ◌==◌, Bool, true, false, cond, refl}
 use Rattle.onfi_cycle.specs.declared.command.Command.{Command}
-use Rattle.onfi_cycle.specs.declared.command.Command.TheVariants.{Read, ReadConfirm, ReadPlane, CopybackRead, ChangeReadColumn, ChangeReadColumnConfirm, BlockErase, BlockEraseConfirm, BlockErasePlane, ReadStatus, ReadStatusEnhanced, PageProgram, ChangeWriteColumn, ProgramConfirm, ProgramPlane, ReadId, ReadParameterPage, Reset, ReadCacheSequential, ReadCacheEnd, ReadUniqueId, GetFeatures, SetFeatures, ResetLun, SynchronousReset, Unknown, ChangeReadColumnEnhanced}
+use Rattle.onfi_cycle.specs.declared.command.Command.TheVariants.{Read, ReadConfirm, ReadPlane, CopybackRead, ChangeReadColumn, ChangeReadColumnConfirm, BlockErase, BlockEraseConfirm, BlockErasePlane, ReadStatus, ReadStatusEnhanced, PageProgram, ChangeWriteColumn, ProgramConfirm, ProgramPlane, ReadId, ReadParameterPage, Reset, ReadCacheSequential, ReadCacheEnd, ReadUniqueId, GetFeatures, SetFeatures, ResetLun, SynchronousReset, Unknown, ChangeReadColumnEnhanced, ProgramCache}
 use Rattle.onfi_cycle.specs.Command.{command}
 use Rattle.onfi_profiles.specs.Decoding.{as_base, base_command, DecodesBase}
 
@@ -43,4 +43,5 @@ decodes byte =
     (other (byte == 0xfc) SynchronousReset _ refl
     (other (byte == 0x06) ChangeReadColumnEnhanced _ refl
     (other (byte == 0x32) ReadPlane _ refl
-    (other (byte == 0x35) CopybackRead _ refl refl)))))))))))))))))))))))))
+    (other (byte == 0x35) CopybackRead _ refl
+    (other (byte == 0x15) ProgramCache _ refl refl))))))))))))))))))))))))))

@@ -8,11 +8,11 @@ use Rattle.nand_geometry.specs.Row.{parts_of, is_inside}
 use Rattle.std.proofs.lemmas.Bool.{not-false}
 use Rattle.onfi_cycle.proofs.Booleans.{by_case}
 use Rattle.onfi_cycle.specs.declared.command.Command.{Command}
-use Rattle.onfi_cycle.specs.declared.command.Command.TheVariants.{ChangeWriteColumn, ProgramConfirm, ProgramPlane, ReadId, ReadUniqueId, GetFeatures, SetFeatures, ResetLun, SynchronousReset, Unknown, ReadCacheSequential, ChangeReadColumnEnhanced, ReadPlane, CopybackRead, Read, BlockErase, PageProgram}
+use Rattle.onfi_cycle.specs.declared.command.Command.TheVariants.{ChangeWriteColumn, ProgramConfirm, ProgramPlane, ReadId, ReadUniqueId, GetFeatures, SetFeatures, ResetLun, SynchronousReset, Unknown, ReadCacheSequential, ChangeReadColumnEnhanced, ReadPlane, CopybackRead, Read, BlockErase, PageProgram, ProgramCache}
 use Rattle.onfi_cycle.specs.declared.data_phase.DataPhase.{DataPhase}
 use Rattle.onfi_cycle.specs.declared.data_phase.DataPhase.TheVariants.{Outside, Inputs, FirstColumn, SecondColumn, FeatureInputs}
 use Rattle.onfi_cycle.specs.declared.forbidden.Forbidden.{Forbidden}
-use Rattle.onfi_cycle.specs.declared.forbidden.Forbidden.TheVariants.{NotThere, CommandUnknown, SequenceOpen, SeveralLuns, NoColumnToChange, CommandMisplaced, AddressMisplaced, RowOutside, LunBusy, QueueClash, InputMisplaced, NoSoleDriver, DataNotReady, ColumnOutside, CacheReadMisplaced, CopybackMisplaced, PlaneNotHeld}
+use Rattle.onfi_cycle.specs.declared.forbidden.Forbidden.TheVariants.{NotThere, CommandUnknown, SequenceOpen, SeveralLuns, NoColumnToChange, CommandMisplaced, AddressMisplaced, RowOutside, LunBusy, QueueClash, InputMisplaced, NoSoleDriver, DataNotReady, ColumnOutside, CacheReadMisplaced, CacheProgramMisplaced, CopybackMisplaced, PlaneNotHeld}
 use Rattle.onfi_cycle.specs.declared.item.Item.{Item}
 use Rattle.onfi_cycle.specs.declared.item.Item.TheVariants.{Cyc, Rdy, Ard}
 use Rattle.onfi_cycle.specs.declared.opening.Opening.{Opening}
@@ -28,13 +28,13 @@ use Rattle.onfi_cycle.specs.Command.{is_known, is_opener, is_write_column, is_ch
 use Rattle.onfi_cycle.specs.Sequence.{target_of, target_cycle, opened, takes_data, takes_features, takes_inputs, wants_column, wants_command, wants_address, is_open, is_proper_beginning, row_with, input_column, column_with, wants_second_column, goes_on_with, row}
 use Rattle.onfi_cycle.specs.Effect.{page_address}
 use Rattle.onfi_cycle.specs.Lun.{luns_of}
-use Rattle.onfi_cycle.specs.Rules.{opens_here, second_column, register_len, is_refused_by, breaks_copyback_misplaced, driver_is, ends_row, named_lun_is, is_undeclared, breaks_not_there, breaks_command_unknown, breaks_sequence_open, breaks_several_luns, breaks_no_column_to_change, breaks_command_misplaced, breaks_address_misplaced, breaks_row_outside, breaks_lun_busy, breaks_queue_clash, breaks_input_misplaced, breaks_no_sole_driver, breaks_data_not_ready, breaks_column_outside, breaks_cache_read_misplaced, continues_cache, caching, has_read_one, has_some, queued_clashes, refused_by, some_read_clashes}
+use Rattle.onfi_cycle.specs.Rules.{opens_here, second_column, register_len, is_refused_by, breaks_copyback_misplaced, driver_is, named_lun_is, is_undeclared, breaks_not_there, breaks_command_unknown, breaks_sequence_open, breaks_several_luns, breaks_no_column_to_change, breaks_command_misplaced, breaks_address_misplaced, breaks_row_outside, breaks_lun_busy, breaks_queue_clash, breaks_input_misplaced, breaks_no_sole_driver, breaks_data_not_ready, breaks_column_outside, breaks_cache_read_misplaced, continues_cache, caching, has_read_one, has_some, queued_clashes, refused_by, some_read_clashes}
 use Rattle.onfi_cycle.specs.Permitted.{judge_cycle, judge_item, judge}
 use Rattle.onfi_profiles.specs.Widening.{in_base}
 use Rattle.onfi_profiles.specs.Tails.{base_is_opener, base_takes_inputs, base_takes_address, base_wants_command, base_wants_address, base_is_open, base_facts}
 use Rattle.onfi_profiles.specs.Judging.{base_row_outside, base_undeclared, base_command_unknown, base_sequence_open, base_command_misplaced, base_several_luns, base_lun_busy, base_address_misplaced, base_input_misplaced, base_no_sole_driver, base_column_outside, base_judge_cycle, base_judge_item, JudgesBase, base_cache_read_misplaced, base_continues_cache, base_queued_clashes, base_refused_by, base_queue_clash}
 use Rattle.onfi_profiles.proofs.OldTails.{AreOfBase, is_base_cycle, base_cycle, facts_base, tails_kept}
-use Rattle.onfi_profiles.proofs.Few.{driver_same}
+use Rattle.onfi_profiles.proofs.Few.{driver_same, NonePrograms, none_of_base, program_kept}
 use Rattle.onfi_profiles.proofs.Unwanted.{unwanted, unwritten, excluded_same, plane_kept}
 
 -- 1. parts of rules
@@ -53,6 +53,7 @@ unknown_same : (g : Parts) (c : Command) → (not (is_known c) || is_undeclared 
 unknown_same g ChangeReadColumnEnhanced = refl
 unknown_same g ReadPlane = refl
 unknown_same g CopybackRead = refl
+unknown_same g ProgramCache = refl
 unknown_same g ReadUniqueId = refl
 unknown_same g GetFeatures = refl
 unknown_same g SetFeatures = refl
@@ -68,11 +69,12 @@ data_same FirstColumn = refl
 data_same SecondColumn = refl
 data_same FeatureInputs = refl
 
-wants_same : (t : TailFacts) (c : Command) → wants_command t c ≡ base_wants_command t c
-wants_same t ChangeWriteColumn = data_same t.phase
-wants_same t ProgramConfirm = data_same t.phase
-wants_same t ProgramPlane = data_same t.phase
-wants_same t c = refl
+wants_same : (t : TailFacts) (c : Command) → is_of_base c ≡ true → wants_command t c ≡ base_wants_command t c
+wants_same t ChangeWriteColumn b = data_same t.phase
+wants_same t ProgramConfirm b = data_same t.phase
+wants_same t ProgramPlane b = data_same t.phase
+wants_same t ProgramCache b = cc
+wants_same t c b = refl
 
 -- the addresses of 90h that came with the wider profile are forbidden
 id_address : (l a z w : Bool) → w ≡ false → (not ((l && (a || z)) || w) || (true && not a)) ≡ not ((l && a) || w)
@@ -132,12 +134,12 @@ f3 g t (AddressCycle byte) a = refl
 f3 g t (InputCycle byte) a = refl
 f3 g t OutputCycle a = refl
 
-f6 : (g : Parts) (t : TailFacts) (k : TargetCycle) → breaks_command_misplaced (in_base g) t k ≡ base_command_misplaced t k
+f6 : (g : Parts) (t : TailFacts) (k : TargetCycle) → is_base_cycle k ≡ true → breaks_command_misplaced (in_base g) t k ≡ base_command_misplaced t k
 unfolding breaks_command_misplaced
-f6 g t (CommandCycle c) = λ i. not (opens_same g c i) && not (wants_same t c i)
-f6 g t (AddressCycle byte) = refl
-f6 g t (InputCycle byte) = refl
-f6 g t OutputCycle = refl
+f6 g t (CommandCycle c) b = λ i. not (opens_same g c i) && not (wants_same t c b i)
+f6 g t (AddressCycle byte) b = refl
+f6 g t (InputCycle byte) b = refl
+f6 g t OutputCycle b = refl
 
 f7 : (g : Parts) (t : TailFacts) (k : TargetCycle) → AreOfBase t → breaks_address_misplaced (in_base g) t k ≡ base_address_misplaced t k
 unfolding breaks_address_misplaced
@@ -230,6 +232,7 @@ unfolding breaks_cache_read_misplaced
 f15 g t luns (CommandCycle ReadCacheSequential) a b go h = ap (λ (w : Bool). cond w (not (named_lun_is (in_base g) (row t) has_read_one luns)) (not (driver_is (continues_cache (in_base g)) luns))) (unwanted (in_base g) t refl h) ∙ ap not go
 f15 g t luns (CommandCycle ReadPlane) a b go h = cc
 f15 g t luns (CommandCycle CopybackRead) a b go h = cc
+f15 g t luns (CommandCycle ProgramCache) a b go h = cc
 f15 g t luns (CommandCycle c) a b go h = refl
 f15 g t luns (AddressCycle byte) a b go h = ap (λ (b : Bool). b && named_lun_is (in_base g) (row_with t byte) caching luns) (excluded_same g t a.opener ∙ unwritten (λ c n. addresses_the_array c && at_last_row c n) t.opening a.written)
 f15 g t luns (InputCycle byte) a b go h = refl
@@ -239,19 +242,20 @@ f15 g t luns OutputCycle a b go h = refl
 copy_kept : (g : Parts) (t : TailFacts) (luns : List LunView) (k : TargetCycle) → breaks_copyback_misplaced (in_base g) t luns k ≡ false
 unfolding breaks_copyback_misplaced
 copy_kept g t luns (AddressCycle byte) = refl
+copy_kept g t luns (CommandCycle ProgramCache) = refl
 copy_kept g t luns (CommandCycle c) = refl
 copy_kept g t luns (InputCycle byte) = refl
 copy_kept g t luns OutputCycle = refl
 
 -- 3. all of them
 
-cycle_same : (g : Parts) (t : TailFacts) (luns : List LunView) (k : TargetCycle) → AreOfBase t → GoesOn g luns → judge_cycle (in_base g) t luns k ≡ base_judge_cycle (in_base g) t luns k
-cycle_same g t luns k a go = by (breaks_command_unknown (in_base g) k) refl
+cycle_same : (g : Parts) (t : TailFacts) (luns : List LunView) (k : TargetCycle) → AreOfBase t → GoesOn g luns → NonePrograms luns → judge_cycle (in_base g) t luns k ≡ base_judge_cycle (in_base g) t luns k
+cycle_same g t luns k a go none = by (breaks_command_unknown (in_base g) k) refl
   where
     -- a misplaced command
-    misplaced : breaks_sequence_open (in_base g) t k ≡ false → breaks_command_misplaced (in_base g) t k ≡ true → judge_cycle (in_base g) t luns k ≡ base_judge_cycle (in_base g) t luns k
-    misplaced e m =
-        rw (e, sym (f3 g t k a) ∙ e, m, sym (f6 g t k) ∙ m)
+    misplaced : is_base_cycle k ≡ true → breaks_sequence_open (in_base g) t k ≡ false → breaks_command_misplaced (in_base g) t k ≡ true → judge_cycle (in_base g) t luns k ≡ base_judge_cycle (in_base g) t luns k
+    misplaced base e m =
+        rw (e, sym (f3 g t k a) ∙ e, m, sym (f6 g t k base) ∙ m)
         (λ i.
         cond (f2 g k i) (Some CommandUnknown)
         (cond (f4 g luns k i) (Some SeveralLuns)
@@ -263,7 +267,7 @@ cycle_same g t luns k a go = by (breaks_command_unknown (in_base g) k) refl
         (cond (f3 g t k a i) (Some SequenceOpen)
         (cond (f4 g luns k i) (Some SeveralLuns)
         (cond (breaks_no_column_to_change luns k) (Some NoColumnToChange)
-        (cond (f6 g t k i) (Some CommandMisplaced)
+        (cond (f6 g t k base i) (Some CommandMisplaced)
         (cond (f7 g t k a i) (Some AddressMisplaced)
         (cond (f8 g t k a i) (Some RowOutside)
         (cond (f9 g t luns k a m i) (Some LunBusy)
@@ -273,24 +277,25 @@ cycle_same g t luns k a go = by (breaks_command_unknown (in_base g) k) refl
         (cond (breaks_data_not_ready luns k) (Some DataNotReady)
         (cond (f14 g t luns k a i) (Some ColumnOutside)
         (cond (f15 g t luns k a base go e i) (Some CacheReadMisplaced)
+        (cond (program_kept (in_base g) t luns k none base i) (Some CacheProgramMisplaced)
         (cond (copy_kept g t luns k i) (Some CopybackMisplaced)
-        (cond (plane_kept (in_base g) t luns k a.opener i) (Some PlaneNotHeld) None)))))))))))))))
+        (cond (plane_kept (in_base g) t luns k a.opener i) (Some PlaneNotHeld) None))))))))))))))))
 
     at : is_base_cycle k ≡ true → (b : Bool) → breaks_sequence_open (in_base g) t k ≡ b → judge_cycle (in_base g) t luns k ≡ base_judge_cycle (in_base g) t luns k
     at base true e = rw (f2 g k, e, sym (f3 g t k a) ∙ e) refl
-    at base false e = by_case (breaks_command_misplaced (in_base g) t k) (misplaced e) (placed base e)
+    at base false e = by_case (breaks_command_misplaced (in_base g) t k) (misplaced base e) (placed base e)
 
     by : (b : Bool) → breaks_command_unknown (in_base g) k ≡ b → judge_cycle (in_base g) t luns k ≡ base_judge_cycle (in_base g) t luns k
     by true u = rw (u, sym (f2 g k) ∙ u) refl
     by false u = at (base_cycle g k u) (breaks_sequence_open (in_base g) t k) refl
 
-item_same : (g : Parts) (t : TailFacts) (luns : List LunView) (i : Item) → AreOfBase t → GoesOn g luns → judge_item (in_base g) t luns i ≡ base_judge_item (in_base g) t luns i
-item_same g t luns (Cyc c) a go = cycle_same g t luns (target_cycle c.kind c.byte) a go
-item_same g t luns (Rdy ce lun fail) a go = refl
-item_same g t luns (Ard ce lun) a go = refl
+item_same : (g : Parts) (t : TailFacts) (luns : List LunView) (i : Item) → AreOfBase t → GoesOn g luns → NonePrograms luns → judge_item (in_base g) t luns i ≡ base_judge_item (in_base g) t luns i
+item_same g t luns (Cyc c) a go none = cycle_same g t luns (target_cycle c.kind c.byte) a go none
+item_same g t luns (Rdy ce lun fail) a go none = refl
+item_same g t luns (Ard ce lun fail) a go none = refl
 
 pub judged_so : JudgesBase
 judged_so g targets past i h =
     let luns = luns_of (in_base g) past (target_of i) in
     ap (λ (t : TailFacts). judge (in_base g) targets t luns i) (tails_kept g targets past (target_of i) h)
-    ∙ ap (λ (o : Option Forbidden). cond (breaks_not_there targets luns i) (Some NotThere) o) (item_same g (base_facts past (target_of i)) luns i (facts_base g targets past (target_of i) h) (driver_same g targets past (target_of i) h))
+    ∙ ap (λ (o : Option Forbidden). cond (breaks_not_there targets luns i) (Some NotThere) o) (item_same g (base_facts past (target_of i)) luns i (facts_base g targets past (target_of i) h) (driver_same g targets past (target_of i) h) (none_of_base g targets past (target_of i) h))

@@ -3,7 +3,7 @@ use Rattle.std.proofs.Common.{◌≡◌, ℕ, ◌+◌, ◌==◌, Bool, true, fal
 use Rattle.std.proofs.lemmas.Bool.{and_parts, not-true}
 use Rattle.nand_geometry.specs.declared.parts.Parts.{Parts}
 use Rattle.onfi_cycle.specs.declared.command.Command.{Command}
-use Rattle.onfi_cycle.specs.declared.command.Command.TheVariants.{ChangeWriteColumn, ReadUniqueId, GetFeatures, SetFeatures, ResetLun, SynchronousReset, Unknown, ChangeReadColumnEnhanced, ReadPlane, CopybackRead}
+use Rattle.onfi_cycle.specs.declared.command.Command.TheVariants.{ChangeWriteColumn, ReadUniqueId, GetFeatures, SetFeatures, ResetLun, SynchronousReset, Unknown, ChangeReadColumnEnhanced, ReadPlane, CopybackRead, ProgramCache}
 use Rattle.onfi_cycle.specs.declared.data_phase.DataPhase.{DataPhase}
 use Rattle.onfi_cycle.specs.declared.data_phase.DataPhase.TheVariants.{Outside, Inputs, FirstColumn, SecondColumn, FeatureInputs}
 use Rattle.onfi_cycle.specs.declared.item.Item.{Item}
@@ -48,6 +48,7 @@ base_command : (g : Parts) (c : Command) → (not (is_known c) || is_undeclared 
 base_command g ChangeReadColumnEnhanced h = let no : true ≡ false = h in cc
 base_command g ReadPlane h = let no : true ≡ false = h in cc
 base_command g CopybackRead h = let no : true ≡ false = h in cc
+base_command g ProgramCache h = let no : true ≡ false = h in cc
 base_command g ReadUniqueId h = let no : true ≡ false = h in cc
 base_command g GetFeatures h = let no : true ≡ false = h in cc
 base_command g SetFeatures h = let no : true ≡ false = h in cc
@@ -204,7 +205,7 @@ step k t a h anew =
 tails : (g : Parts) (targets : ℕ) (past : List Item) (ce : ℕ) → is_legal (in_base g) targets past ≡ true → IsStep (facts_of (tail past ce)) (base_facts past ce)
 tails g targets [] ce h = record { same = refl; base = nothing_yet }
 tails g targets (Rdy c lun fail ∷ past) ce h = tails g targets past ce (and_parts (is_permitted (in_base g) targets past (Rdy c lun fail)) (is_legal (in_base g) targets past) h).1
-tails g targets (Ard c lun ∷ past) ce h = tails g targets past ce (and_parts (is_permitted (in_base g) targets past (Ard c lun)) (is_legal (in_base g) targets past) h).1
+tails g targets (Ard c lun fail ∷ past) ce h = tails g targets past ce (and_parts (is_permitted (in_base g) targets past (Ard c lun fail)) (is_legal (in_base g) targets past) h).1
 tails g targets (Cyc c ∷ past) ce h = at (c.ce == ce) refl (tails g targets past ce both.1)
   where
     both : (is_permitted (in_base g) targets past (Cyc c) ≡ true) × (is_legal (in_base g) targets past ≡ true)

@@ -114,9 +114,9 @@ column_driver g targets [] ce legal h = cc
 column_driver g targets (Rdy a b f ∷ past) ce legal h =
     one_kept g past (Rdy a b f) ce (λ m. rests (a == ce && b == m) (BecameReady f) (is_selected g past (lun_at ce m)) (is_busy g past (lun_at ce m) || is_array_busy g past (lun_at ce m)) (latch g past (lun_at ce m)) refl)
     (column_driver g targets past ce (both_legal g targets past (Rdy a b f) legal).1 h)
-column_driver g targets (Ard a b ∷ past) ce legal h =
-    one_kept g past (Ard a b) ce (λ m. rests (a == ce && b == m) ArrayBecameReady (is_selected g past (lun_at ce m)) (is_busy g past (lun_at ce m) || is_array_busy g past (lun_at ce m)) (latch g past (lun_at ce m)) refl)
-    (column_driver g targets past ce (both_legal g targets past (Ard a b) legal).1 h)
+column_driver g targets (Ard a b fail ∷ past) ce legal h =
+    one_kept g past (Ard a b fail) ce (λ m. rests (a == ce && b == m) (ArrayBecameReady fail) (is_selected g past (lun_at ce m)) (is_busy g past (lun_at ce m) || is_array_busy g past (lun_at ce m)) (latch g past (lun_at ce m)) refl)
+    (column_driver g targets past ce (both_legal g targets past (Ard a b fail) legal).1 h)
 column_driver g targets (Cyc c ∷ past) ce legal h =
     let parts = both_legal g targets past (Cyc c) legal in
     at parts.0 (column_driver g targets past ce parts.1) (c.ce == ce) refl h
@@ -201,7 +201,7 @@ read_by g targets past c ce h here whole = at (target_cycle c.kind c.byte) (tail
 pub read_inside : (g : Parts) (targets : ℕ) (past : List Item) (ce : ℕ) → is_legal g targets past ≡ true → whole_read (opening (tail past ce)) ≡ true → (parts_of g (row (facts_of (tail past ce)))).lun < g.luns
 read_inside g targets [] ce legal h = cc
 read_inside g targets (Rdy a b f ∷ past) ce legal h = read_inside g targets past ce (both_legal g targets past (Rdy a b f) legal).1 h
-read_inside g targets (Ard a b ∷ past) ce legal h = read_inside g targets past ce (both_legal g targets past (Ard a b) legal).1 h
+read_inside g targets (Ard a b fail ∷ past) ce legal h = read_inside g targets past ce (both_legal g targets past (Ard a b fail) legal).1 h
 read_inside g targets (Cyc c ∷ past) ce legal h =
     let parts = both_legal g targets past (Cyc c) legal in
     at parts.0 (read_inside g targets past ce parts.1) (c.ce == ce) refl h
@@ -263,9 +263,9 @@ read_uncached g targets [] ce narrow legal h = cc
 read_uncached g targets (Rdy a b f ∷ past) ce narrow legal h =
     let n = (parts_of g (row (facts_of (tail past ce)))).lun in
     ap is_cache_read (same_closer (a == ce && b == n) (BecameReady f) (closer g past (lun_at ce n)) refl) ∙ read_uncached g targets past ce narrow (both_legal g targets past (Rdy a b f) legal).1 h
-read_uncached g targets (Ard a b ∷ past) ce narrow legal h =
+read_uncached g targets (Ard a b fail ∷ past) ce narrow legal h =
     let n = (parts_of g (row (facts_of (tail past ce)))).lun in
-    ap is_cache_read (same_closer (a == ce && b == n) ArrayBecameReady (closer g past (lun_at ce n)) refl) ∙ read_uncached g targets past ce narrow (both_legal g targets past (Ard a b) legal).1 h
+    ap is_cache_read (same_closer (a == ce && b == n) (ArrayBecameReady fail) (closer g past (lun_at ce n)) refl) ∙ read_uncached g targets past ce narrow (both_legal g targets past (Ard a b fail) legal).1 h
 read_uncached g targets (Cyc c ∷ past) ce narrow legal h =
     let parts = both_legal g targets past (Cyc c) legal in
     at parts.0 (read_uncached g targets past ce narrow parts.1) (c.ce == ce) refl h (read_inside g targets (Cyc c ∷ past) ce legal h)

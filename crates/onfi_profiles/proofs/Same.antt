@@ -2,7 +2,7 @@
 use Rattle.std.proofs.Common.{◌≡◌, ℕ, zero, suc, ◌+◌, ◌==◌, false, cond, List, [], ◌∷◌, Option, Some, None, refl, ap, ◌∙◌}
 use Rattle.nand_geometry.specs.declared.parts.Parts.{Parts}
 use Rattle.onfi_cycle.specs.declared.command.Command.{Command}
-use Rattle.onfi_cycle.specs.declared.command.Command.TheVariants.{Read, ReadConfirm, ReadPlane, CopybackRead, ReadStatus, ReadStatusEnhanced, Reset, SynchronousReset, ReadCacheSequential, ReadCacheEnd, ChangeReadColumnConfirm, BlockEraseConfirm, BlockErasePlane, ProgramConfirm, ProgramPlane, ReadId, ReadParameterPage, ReadUniqueId, GetFeatures, ResetLun}
+use Rattle.onfi_cycle.specs.declared.command.Command.TheVariants.{Read, ReadConfirm, ReadPlane, CopybackRead, ReadStatus, ReadStatusEnhanced, Reset, SynchronousReset, ReadCacheSequential, ReadCacheEnd, ChangeReadColumnConfirm, BlockEraseConfirm, BlockErasePlane, ProgramConfirm, ProgramPlane, ReadId, ReadParameterPage, ReadUniqueId, GetFeatures, ResetLun, ProgramCache}
 use Rattle.onfi_cycle.specs.declared.effect.Effect.{Effect}
 use Rattle.onfi_cycle.specs.declared.effect.Effect.TheVariants.{Unaffected}
 use Rattle.onfi_cycle.specs.declared.item.Item.{Item}
@@ -32,6 +32,7 @@ command_same g narrow t la ChangeReadColumnConfirm lun = refl
 command_same g narrow t la ReadConfirm lun = rw narrow refl
 command_same g narrow t la ReadPlane lun = rw narrow refl
 command_same g narrow t la CopybackRead lun = rw narrow refl
+command_same g narrow t la ProgramCache lun = rw narrow refl
 command_same g narrow t la BlockEraseConfirm lun = rw narrow refl
 command_same g narrow t la BlockErasePlane lun = rw narrow refl
 command_same g narrow t la ProgramConfirm lun = rw narrow refl
@@ -60,7 +61,7 @@ cycle_same g narrow t la OutputCycle lun = refl
 item_same : (g : Parts) → is_shared g ≡ false → (t : TailFacts) (la : Latch) (i : Item) (l : Lun) → item_effect (in_base g) t la i l ≡ item_effect g t la i l
 item_same g narrow t la (Cyc c) l = ap (λ (e : Effect). cond (c.ce == l.ce) e Unaffected) (cycle_same g narrow t la (target_cycle c.kind c.byte) l.lun)
 item_same g narrow t la (Rdy ce lun fail) l = refl
-item_same g narrow t la (Ard ce lun) l = refl
+item_same g narrow t la (Ard ce lun fail) l = refl
 
 -- 2. what the rules see of a LUN
 

@@ -3,7 +3,7 @@ use Rattle.std.proofs.Common.{◌≡◌, ℕ, ◌<◌, ◌==◌, ◌⊎◌, inl,
 use Rattle.nand_geometry.specs.declared.parts.Parts.{Parts}
 use Rattle.nand_geometry.specs.Row.{parts_of}
 use Rattle.onfi_cycle.specs.declared.command.Command.{Command}
-use Rattle.onfi_cycle.specs.declared.command.Command.TheVariants.{Read, ReadConfirm, ReadPlane, CopybackRead, PageProgram, ReadStatus, ReadStatusEnhanced, Reset, SynchronousReset, ReadCacheSequential, ReadCacheEnd, ChangeReadColumnConfirm, BlockEraseConfirm, BlockErasePlane, ProgramConfirm, ProgramPlane, ReadId, ReadParameterPage, ReadUniqueId, GetFeatures, ResetLun}
+use Rattle.onfi_cycle.specs.declared.command.Command.TheVariants.{Read, ReadConfirm, ReadPlane, CopybackRead, PageProgram, ReadStatus, ReadStatusEnhanced, Reset, SynchronousReset, ReadCacheSequential, ReadCacheEnd, ChangeReadColumnConfirm, BlockEraseConfirm, BlockErasePlane, ProgramConfirm, ProgramPlane, ReadId, ReadParameterPage, ReadUniqueId, GetFeatures, ResetLun, ProgramCache}
 use Rattle.onfi_cycle.specs.declared.effect.Effect.{Effect}
 use Rattle.onfi_cycle.specs.declared.effect.Effect.TheVariants.{ProgramAddressed, Unaffected, DataOutputEnabled, StatusRowAwaited, SelectedForStatus, Deselected, ReadStarted, EraseStarted, ProgramStarted, CacheReadContinued, CacheReadEnded, ReadColumnChanged, DataOutput, BecameReady, ArrayBecameReady, AnotherAddressed}
 use Rattle.onfi_cycle.specs.declared.latch.Latch.{Latch}
@@ -115,6 +115,7 @@ command_turn g t ReadConfirm shared p lb lw la law sb wb sw ww asked = at (wants
     at false low = kept (λ x. x) refl (λ x on. on) (λ m less. refl) (λ m less. refl)
 command_turn g t ReadPlane shared p lb lw la law sb wb sw ww asked = let never = p.base in cc
 command_turn g t CopybackRead shared p lb lw la law sb wb sw ww asked = let never = p.base in cc
+command_turn g t ProgramCache shared p lb lw la law sb wb sw ww asked = let never = p.base in cc
 command_turn g t BlockEraseConfirm shared p lb lw la law sb wb sw ww asked =
     kept (λ x. x) refl (λ x on. on)
     (λ m low. still (wants_command t BlockEraseConfirm && names_lun g (row t) m) _ _ (sb m) (wb m) (lb m) refl (still (wants_command t BlockEraseConfirm && false) (AnotherAddressed false) Unaffected (sb m) (wb m) (lb m) refl refl))
@@ -186,7 +187,7 @@ is_plain (ReadColumnChanged _) = true
 is_plain DataOutput = true
 is_plain ProgramAddressed = true
 is_plain (BecameReady _) = true
-is_plain ArrayBecameReady = true
+is_plain (ArrayBecameReady fail) = true
 is_plain _ = false
 
 abbrev pub is_passed : Effect → Bool
@@ -225,6 +226,7 @@ command_like g t ChangeReadColumnConfirm m la law one base alone plane asked =
 command_like g t ReadConfirm m la law one base alone plane asked = row_like (wants_command t ReadConfirm) (names_lun g (row t) m) (is_shared g) true _ refl
 command_like g t ReadPlane m la law one base alone plane asked = cc
 command_like g t CopybackRead m la law one base alone plane asked = cc
+command_like g t ProgramCache m la law one base alone plane asked = cc
 command_like g t BlockEraseConfirm m la law one base alone plane asked = row_like (wants_command t BlockEraseConfirm) (names_lun g (row t) m) (is_shared g) false _ refl
 command_like g t BlockErasePlane m la law one base alone plane asked = row_like (wants_command t BlockErasePlane) (names_lun g (row t) m) (is_shared g) false _ refl
 command_like g t ProgramConfirm m la law one base alone plane asked = row_like (wants_command t ProgramConfirm) (names_lun g (row t) m) (is_shared g) false _ refl
@@ -280,7 +282,7 @@ calm_by CacheReadEnded c p h = refl
 calm_by (ReadColumnChanged column) c p h = h
 calm_by DataOutput c p h = h
 calm_by (BecameReady failed) c p h = h
-calm_by ArrayBecameReady c p h = h
+calm_by (ArrayBecameReady fail) c p h = h
 calm_by _ c p h = cc
 
 pub calm_on : (e e' : Effect) (c : Option Command) → Like e e' → is_target_work c ≡ false → is_target_work (closer_after e c) ≡ false

@@ -9,7 +9,7 @@ use Rattle.nand_geometry.specs.Optional.{is_wide, has_free_blocks, has_copyback}
 use Rattle.nand_geometry.specs.Limits.{page_len, planes}
 use Rattle.nand_geometry.specs.Row.{parts_of}
 use Rattle.onfi_cycle.specs.declared.command.Command.{Command}
-use Rattle.onfi_cycle.specs.declared.command.Command.TheVariants.{Read, ChangeReadColumn, ReadStatus, ReadId, ReadParameterPage, BlockErase, PageProgram, ReadStatusEnhanced, BlockErasePlane, ProgramPlane, ReadCacheSequential, ReadCacheEnd, ReadUniqueId, GetFeatures, SetFeatures, ResetLun, SynchronousReset, ReadConfirm, ChangeReadColumnEnhanced, ReadPlane, CopybackRead, ChangeWriteColumn}
+use Rattle.onfi_cycle.specs.declared.command.Command.TheVariants.{Read, ChangeReadColumn, ReadStatus, ReadId, ReadParameterPage, BlockErase, PageProgram, ReadStatusEnhanced, BlockErasePlane, ProgramPlane, ReadCacheSequential, ReadCacheEnd, ReadUniqueId, GetFeatures, SetFeatures, ResetLun, SynchronousReset, ReadConfirm, ChangeReadColumnEnhanced, ReadPlane, CopybackRead, ChangeWriteColumn, ProgramCache}
 use Rattle.onfi_cycle.specs.declared.item.Item.{Item}
 use Rattle.onfi_cycle.specs.declared.item.Item.TheVariants.{Cyc, Rdy, Ard}
 use Rattle.onfi_cycle.specs.declared.lun.Lun.{Lun}
@@ -20,18 +20,18 @@ use Rattle.onfi_cycle.specs.declared.queued.Queued.TheVariants.{Erase, Program, 
 use Rattle.onfi_cycle.specs.declared.register.Register.{Register}
 use Rattle.onfi_cycle.specs.declared.register.Register.TheVariants.{Empty, Page, ParameterPage, Identifier, Identity, JedecIdentity, UniqueId, Features}
 use Rattle.onfi_cycle.specs.declared.effect.Effect.{Effect}
-use Rattle.onfi_cycle.specs.declared.effect.Effect.TheVariants.{Unaffected, BecameReady, AnotherAddressed}
+use Rattle.onfi_cycle.specs.declared.effect.Effect.TheVariants.{Unaffected, BecameReady, ArrayBecameReady, AnotherAddressed}
 use Rattle.onfi_cycle.specs.declared.forbidden.Forbidden.{Forbidden}
 use Rattle.onfi_cycle.specs.declared.forbidden.Forbidden.TheVariants.{NotThere}
 use Rattle.onfi_cycle.specs.declared.tail_facts.TailFacts.{TailFacts}
 use Rattle.onfi_cycle.specs.declared.target_cycle.TargetCycle.{TargetCycle}
 use Rattle.onfi_cycle.specs.declared.target_cycle.TargetCycle.TheVariants.{CommandCycle, AddressCycle, InputCycle, OutputCycle}
 use Rattle.onfi_cycle.specs.LunView.{LunView}
-use Rattle.onfi_cycle.specs.Command.{is_known, is_opener, is_read_id, is_reset, at_last_row, is_change_read_column, addresses_the_array, reads_identity, wants_ready, wants_one_lun, is_enhanced_column, is_page_program, is_write_column}
+use Rattle.onfi_cycle.specs.Command.{is_known, is_opener, is_read_id, is_reset, at_last_row, is_change_read_column, addresses_the_array, reads_identity, wants_one_lun, is_enhanced_column, is_page_program, is_write_column}
 use Rattle.onfi_cycle.specs.Sequence.{opened, opening, filled, tail, facts_of, target_of, target_cycle, is_open, wants_address, row_with, column_with, goes_on_with, wants_command, row}
 use Rattle.onfi_cycle.specs.Effect.{is_off, is_data, is_shared, page_address, plane_of_row}
-use Rattle.onfi_cycle.specs.Lun.{held, page_in_plane, output_column, effect_on, drivers, drivers_from, is_only, closer, is_target_work, is_busy, lun_view, views_from, luns_of}
-use Rattle.onfi_cycle.specs.Content.{bytes_held, program_bytes, changes_after, changes_pages, ArrayWork, queued_work_after, queued_work, pending_work_after, pending_work, content_after, content, failed_after, has_failed, register_bytes, byte_at, shown_by, shown}
+use Rattle.onfi_cycle.specs.Lun.{programs, is_plane_program, held, page_in_plane, output_column, effect_on, drivers, drivers_from, is_only, closer, is_target_work, is_busy, lun_view, views_from, luns_of}
+use Rattle.onfi_cycle.specs.Content.{bytes_held, program_bytes, changes_after, changes_pages, ArrayWork, queued_work_after, queued_work, pending_work_after, pending_work, array_work_after, array_work, array_changes_after, array_changes, content_after, content, failed_after, has_failed, before_failed_after, has_failed_before, status_byte, register_bytes, byte_at, shown_by, shown}
 use Rattle.onfi_cycle.specs.Rules.{is_copying, begins_on_ready, breaks_command_misplaced, breaks_copyback_misplaced, has_some, has_read_one, planes_clash, read_clashes, driving, only, is_some_and, lun_is, ends_row, works_for_target, is_unclear, may_change_column, has_no_byte, caching, continues_cache, ends_cache, driver_is, named_lun_is, register_len, is_past, is_past_register, queued_clashes, refused_by, is_refused_by, is_undeclared, second_of_page, second_column, breaks_not_there, breaks_command_unknown, breaks_sequence_open, breaks_several_luns, breaks_no_column_to_change, breaks_address_misplaced, breaks_row_outside, breaks_lun_busy, breaks_queue_clash, breaks_no_sole_driver, breaks_data_not_ready, breaks_column_outside, breaks_cache_read_misplaced, excludes_cache, breaks_plane_not_held, holds_plane_of}
 use Rattle.onfi_cycle.specs.Permitted.{judge_cycle, judge_item, judge, broken, is_permitted, is_legal}
 use Rattle.onfi_cycle.proofs.Others.{first_passed, chosen_else}
@@ -43,6 +43,8 @@ use Rattle.onfi_profiles.proofs.Same.{view_same, effect_same, luns_same}
 use Rattle.onfi_profiles.proofs.Shared.{Like, equal, passes, is_passed, core, one_lun_cycle}
 use Rattle.onfi_profiles.proofs.Pasts.{lun_at, both_legal, in_column, driver_one, column_driver, confirm_uncached}
 use Rattle.onfi_profiles.proofs.Alike.{AreAlike, base_tail, plain, same_latches, same_drivers, are_alike, effects_like}
+use Rattle.onfi_profiles.proofs.OldTails.{base_cycle, is_base_cycle}
+use Rattle.onfi_profiles.proofs.Few.{NonePrograms, none_of_base, program_kept}
 use Rattle.onfi_profiles.proofs.Copies.{none_copying}
 use Rattle.onfi_profiles.proofs.Unwanted.{unwanted, excluded_less}
 
@@ -57,6 +59,7 @@ fits g ReadCacheEnd h = h
 fits g ChangeReadColumnEnhanced h = let no : true ≡ false = h in cc
 fits g ReadPlane h = let no : true ≡ false = h in cc
 fits g CopybackRead h = let no : true ≡ false = h in cc
+fits g ProgramCache h = let no : true ≡ false = h in cc
 fits g ReadUniqueId h = let no : true ≡ false = h in cc
 fits g GetFeatures h = let no : true ≡ false = h in cc
 fits g SetFeatures h = let no : true ≡ false = h in cc
@@ -237,10 +240,11 @@ cache_wider g t luns (AddressCycle byte) free h =
 cache_wider g t luns (InputCycle byte) free h = refl
 cache_wider g t luns OutputCycle free h = refl
 
--- no sequence is begun by 85, and no group of copybacks has begun
+-- no sequence is begun by 85, no group of copybacks has begun, and no LUN programs behind a 15
 record OfBase (g : Parts) (t : TailFacts) (luns : List LunView) : Type 0 where
   written : opened (λ c n. is_write_column c) t.opening ≡ false
   none : (r : ℕ) → named_lun_is g r is_copying luns ≡ false
+  programs : NonePrograms luns
 
 not_ended : (o : Option Opening) → opened (λ c n. is_write_column c) o ≡ false → opened (λ c n. is_write_column c && at_last_row c n) o ≡ false
 not_ended None h = refl
@@ -250,9 +254,9 @@ not_ended (Some o) h = of (is_write_column o.opener) (at_last_row o.opener o.add
     of true b h = cc
     of false b h = refl
 
-copy_wider : (g : Parts) (t : TailFacts) (luns : List LunView) (k : TargetCycle) → OfBase g t luns → breaks_copyback_misplaced g t luns k ≡ false
+copy_wider : (g : Parts) (t : TailFacts) (luns : List LunView) (k : TargetCycle) → OfBase g t luns → is_base_cycle k ≡ true → breaks_copyback_misplaced g t luns k ≡ false
 unfolding breaks_copyback_misplaced
-copy_wider g t luns (AddressCycle byte) s =
+copy_wider g t luns (AddressCycle byte) s b =
     of (has_copyback g.optional) (ends_row is_write_column t) _ (ends_row is_page_program t) (named_lun_is g (row_with t byte) is_copying luns) (not_ended t.opening s.written) (s.none (row_with t byte))
   where
     of : (d w x p c : Bool) → w ≡ false → c ≡ false → (d && ((w && x) || (p && c))) ≡ false
@@ -261,14 +265,15 @@ copy_wider g t luns (AddressCycle byte) s =
     of true false x true false h k = refl
     of true false x false false h k = refl
     of false false x p false h k = refl
-copy_wider g t luns (CommandCycle c) s = refl
-copy_wider g t luns (InputCycle byte) s = refl
-copy_wider g t luns OutputCycle s = refl
+copy_wider g t luns (CommandCycle ProgramCache) s b = cc
+copy_wider g t luns (CommandCycle c) s b = refl
+copy_wider g t luns (InputCycle byte) s b = refl
+copy_wider g t luns OutputCycle s b = refl
 
 -- 3. all of them
 
 kept : (g : Parts) (t : TailFacts) (luns : List LunView) (k : TargetCycle) → KeepsRules g t luns k → judge_cycle g t luns k ≡ None
-kept g t luns k r = rw (r.f2, r.f3, r.f4, r.f5, r.f6, r.f7, r.f8, r.f9, r.f10, r.f11, r.f12, r.f13, r.f14, r.f15, r.f17, r.f18) refl
+kept g t luns k r = rw (r.f2, r.f3, r.f4, r.f5, r.f6, r.f7, r.f8, r.f9, r.f10, r.f11, r.f12, r.f13, r.f14, r.f15, r.f16, r.f17, r.f18) refl
 
 wider : (g : Parts) → is_shared g ≡ false → (t : TailFacts) (luns : List LunView) (k : TargetCycle) → NamesUncached g t luns k → OfBase g t luns → judge_cycle (in_base g) t luns k ≡ None → judge_cycle g t luns k ≡ None
 wider g narrow t luns k free old h =
@@ -289,7 +294,8 @@ wider g narrow t luns k free old h =
       f13 = r.f13;
       f14 = sym (column_same_too g t luns k) ∙ r.f14;
       f15 = cache_wider g t luns k free r.f15;
-      f17 = copy_wider g t luns k old;
+      f16 = program_kept g t luns k old.programs (base_cycle g k r.f2);
+      f17 = copy_wider g t luns k old (base_cycle g k r.f2);
       f18 = sym (plane_same g t luns k) ∙ r.f18;
     })
 
@@ -473,7 +479,15 @@ plane_too g t bs ws (InputCycle byte) s h = refl
 plane_too g t bs ws OutputCycle s h = refl
 
 old_too : (g : Parts) (t : TailFacts) (bs ws : List LunView) (k : TargetCycle) → BothSee g t k bs ws → OfBase g t ws
-old_too g t bs ws k s = record { written = s.old.written; none = λ r. lun_by core is_copying (λ v. refl) bs ws s.cores (parts_of g r).lun ∙ s.old.none r }
+old_too g t bs ws k s =
+    record {
+      written = s.old.written;
+      none = λ r. lun_by core is_copying (λ v. refl) bs ws s.cores (parts_of g r).lun ∙ s.old.none r;
+      programs = record {
+        any = any_by core programs (λ v. refl) bs ws s.cores ∙ s.old.programs.any;
+        at = λ n. lun_by core programs (λ v. refl) bs ws s.cores n ∙ s.old.programs.at n;
+      };
+    }
 
 wider_shared : (g : Parts) → is_shared g ≡ true → (t : TailFacts) (bs ws : List LunView) (k : TargetCycle) → KeepsRules (in_base g) t bs k → BothSee g t k bs ws → judge_cycle g t ws k ≡ None
 wider_shared g shared t bs ws k r s =
@@ -493,7 +507,8 @@ wider_shared g shared t bs ws k r s =
       f13 = ready_too g t bs ws k s r.f13;
       f14 = column_too g t bs ws k s (sym (column_same_too g t bs k) ∙ r.f14);
       f15 = cache_too g t bs ws k s (cache_wider g t bs k s.free r.f15);
-      f17 = copy_wider g t ws k (old_too g t bs ws k s);
+      f16 = program_kept g t ws k (old_too g t bs ws k s).programs (base_cycle g k r.f2);
+      f17 = copy_wider g t ws k (old_too g t bs ws k s) (base_cycle g k r.f2);
       f18 = plane_too g t bs ws k s (sym (plane_same g t bs k) ∙ r.f18);
     })
 
@@ -547,7 +562,7 @@ one_looked g targets past ce (InputCycle byte) narrow legal r e = cc
 one_looked g targets past ce OutputCycle narrow legal r e = driver_one g past ce (λ v. true) (not-false _ (or_parts (is_open (facts_of (tail past ce))) _ r.f12).1)
 
 of_base : (g : Parts) (targets : ℕ) (past : List Item) (ce : ℕ) → is_legal (in_base g) targets past ≡ true → OfBase g (facts_of (tail past ce)) (luns_of (in_base g) past ce)
-of_base g targets past ce legal = record { written = (base_tail g targets past ce legal).written; none = none_copying g targets past ce legal }
+of_base g targets past ce legal = record { written = (base_tail g targets past ce legal).written; none = none_copying g targets past ce legal; programs = none_of_base g targets past ce legal }
 
 permitted_shared : (g : Parts) → is_shared g ≡ true → (targets : ℕ) (past : List Item) (i : Item) → is_legal (in_base g) targets past ≡ true → broken (in_base g) targets past i ≡ None → broken g targets past i ≡ None
 unfolding breaks_not_there
@@ -572,7 +587,7 @@ permitted_shared g shared targets past (Rdy ce lun fail) legal h = rw same h
   where
     same : lun_is (λ v. v.busy) (luns_of g past ce) lun ≡ lun_is (λ v. v.busy) (luns_of (in_base g) past ce) lun
     same = lun_by core (λ v. v.busy) (λ v. refl) (luns_of (in_base g) past ce) (luns_of g past ce) (all_cores g past ce (are_alike g targets past ce shared legal)) lun
-permitted_shared g shared targets past (Ard ce lun) legal h = rw same h
+permitted_shared g shared targets past (Ard ce lun fail) legal h = rw same h
   where
     same : lun_is (λ v. v.array_busy) (luns_of g past ce) lun ≡ lun_is (λ v. v.array_busy) (luns_of (in_base g) past ce) lun
     same = lun_by core (λ v. v.array_busy) (λ v. refl) (luns_of (in_base g) past ce) (luns_of g past ce) (all_cores g past ce (are_alike g targets past ce shared legal)) lun
@@ -582,12 +597,12 @@ permitted_shared g shared targets past (Ard ce lun) legal h = rw same h
 abbrev ItemUncached : Parts → TailFacts → List LunView → Item → Type 0
 ItemUncached g t luns (Cyc c) = NamesUncached g t luns (target_cycle c.kind c.byte) × OfBase g t luns
 ItemUncached g t luns (Rdy ce lun fail) = Unit {0}
-ItemUncached g t luns (Ard ce lun) = Unit {0}
+ItemUncached g t luns (Ard ce lun fail) = Unit {0}
 
 item_wider : (g : Parts) → is_shared g ≡ false → (t : TailFacts) (luns : List LunView) (i : Item) → ItemUncached g t luns i → judge_item (in_base g) t luns i ≡ None → judge_item g t luns i ≡ None
 item_wider g narrow t luns (Cyc c) free h = wider g narrow t luns (target_cycle c.kind c.byte) free.0 free.1 h
 item_wider g narrow t luns (Rdy ce lun fail) free h = refl
-item_wider g narrow t luns (Ard ce lun) free h = refl
+item_wider g narrow t luns (Ard ce lun fail) free h = refl
 
 judged_wider : (g : Parts) → is_shared g ≡ false → (targets : ℕ) (t : TailFacts) (luns : List LunView) (i : Item) → ItemUncached g t luns i → judge (in_base g) targets t luns i ≡ None → judge g targets t luns i ≡ None
 judged_wider g narrow targets t luns i free h =
@@ -600,7 +615,7 @@ item_uncached g narrow targets past (Cyc c) legal h = (
   subst (OfBase g (facts_of (tail past c.ce))) (luns_same g narrow past c.ce) (of_base g targets past c.ce legal),
 )
 item_uncached g narrow targets past (Rdy ce lun fail) legal h = tt
-item_uncached g narrow targets past (Ard ce lun) legal h = tt
+item_uncached g narrow targets past (Ard ce lun fail) legal h = tt
 
 permitted_narrow : (g : Parts) → is_shared g ≡ false → (targets : ℕ) (past : List Item) (i : Item) → is_legal (in_base g) targets past ≡ true → broken (in_base g) targets past i ≡ None → broken g targets past i ≡ None
 permitted_narrow g narrow targets past i legal h =
@@ -627,8 +642,11 @@ record AreSame (e e' : Effect) : Type 0 where
   queued : (bytes : List ℕ) (works : List ArrayWork) → queued_work_after e bytes works ≡ queued_work_after e' bytes works
   pending : (bytes : List ℕ) (works pending : List ArrayWork) → pending_work_after e bytes works pending ≡ pending_work_after e' bytes works pending
   changes : (changes : Bool) → changes_after e changes ≡ changes_after e' changes
-  failed : (changes failed : Bool) → failed_after e changes failed ≡ failed_after e' changes failed
-  content : (g : Parts) (pending : List ArrayWork) (p : PageAddress) (old : List ℕ) → content_after g e pending p old ≡ content_after g e' pending p old
+  array : (last : Option Command) (pending works : List ArrayWork) → array_work_after e last pending works ≡ array_work_after e' last pending works
+  array_changes : (last : Option Command) (changes array_changes : Bool) → array_changes_after e last changes array_changes ≡ array_changes_after e' last changes array_changes
+  failed : (last : Option Command) (changes failed : Bool) → failed_after e last changes failed ≡ failed_after e' last changes failed
+  failed_before : (last : Option Command) (array_changes failed before : Bool) → before_failed_after e last array_changes failed before ≡ before_failed_after e' last array_changes failed before
+  content : (g : Parts) (last : Option Command) (pending works : List ArrayWork) (p : PageAddress) (old : List ℕ) → content_after g e last pending works p old ≡ content_after g e' last pending works p old
 
 same_by_path : (e e' : Effect) → e ≡ e' → AreSame e e'
 same_by_path e e' h =
@@ -636,8 +654,11 @@ same_by_path e e' h =
       queued = λ b w. ap (λ (x : Effect). queued_work_after x b w) h;
       pending = λ b w p. ap (λ (x : Effect). pending_work_after x b w p) h;
       changes = λ c. ap (λ (x : Effect). changes_after x c) h;
-      failed = λ c f. ap (λ (x : Effect). failed_after x c f) h;
-      content = λ g p a o. ap (λ (x : Effect). content_after g x p a o) h;
+      array = λ l p w. ap (λ (x : Effect). array_work_after x l p w) h;
+      array_changes = λ l c a. ap (λ (x : Effect). array_changes_after x l c a) h;
+      failed = λ l c f. ap (λ (x : Effect). failed_after x l c f) h;
+      failed_before = λ l a f b. ap (λ (x : Effect). before_failed_after x l a f b) h;
+      content = λ g l p w a o. ap (λ (x : Effect). content_after g x l p w a o) h;
     }
 
 same_by_passed : (e e' : Effect) → e ≡ Unaffected → is_passed e' ≡ true → AreSame e e'
@@ -649,8 +670,11 @@ same_by_passed e (AnotherAddressed reads) none h = same_by_passed_reads e reads 
           queued = λ b w. ap (λ (x : Effect). queued_work_after x b w) none;
           pending = λ b w p. ap (λ (x : Effect). pending_work_after x b w p) none;
           changes = λ c. ap (λ (x : Effect). changes_after x c) none;
-          failed = λ c f. ap (λ (x : Effect). failed_after x c f) none;
-          content = λ g p a o. ap (λ (x : Effect). content_after g x p a o) none;
+          array = λ l p w. ap (λ (x : Effect). array_work_after x l p w) none;
+          array_changes = λ l c a. ap (λ (x : Effect). array_changes_after x l c a) none;
+          failed = λ l c f. ap (λ (x : Effect). failed_after x l c f) none;
+          failed_before = λ l a f b. ap (λ (x : Effect). before_failed_after x l a f b) none;
+          content = λ g l p w a o. ap (λ (x : Effect). content_after g x l p w a o) none;
         }
 same_by_passed e e' none h = cc
 
@@ -661,9 +685,12 @@ same_by_like e e' (passes none is) = same_by_passed e e' none is
 -- the effects of a past that is legal in the base profile are the same, but for the work of other LUNs
 record Goes (g : Parts) (past : List Item) (l : Lun) : Type 0 where
   changes : changes_pages (in_base g) past l ≡ changes_pages g past l
+  array_changes : array_changes (in_base g) past l ≡ array_changes g past l
   failed : has_failed (in_base g) past l ≡ has_failed g past l
+  failed_before : has_failed_before (in_base g) past l ≡ has_failed_before g past l
   queued : (opening : Lun → PageAddress → List ℕ) → queued_work (in_base g) opening past l ≡ queued_work g opening past l
   pending : (opening : Lun → PageAddress → List ℕ) → pending_work (in_base g) opening past l ≡ pending_work g opening past l
+  array : (opening : Lun → PageAddress → List ℕ) → array_work (in_base g) opening past l ≡ array_work g opening past l
   content : (opening : Lun → PageAddress → List ℕ) (p : PageAddress) → content (in_base g) opening past l p ≡ content g opening past l p
 
 -- a program begins with the same bytes
@@ -677,24 +704,28 @@ program_same g past l opening same before =
     (bytes_same g (content (in_base g) opening past l) (content g opening past l) (before.content opening) (page_in_plane (planes g) (plane_of_row g (row (facts_of (tail past l.ce)))) (held (in_base g) past l))
     ∙ ap (λ (pages : List PageAddress). bytes_held g (content g opening past l) (page_in_plane (planes g) (plane_of_row g (row (facts_of (tail past l.ce)))) pages)) same)
 
-after_same : (g : Parts) (e : Effect) (pending : List ArrayWork) (p : PageAddress) (old : List ℕ) → content_after (in_base g) e pending p old ≡ content_after g e pending p old
-after_same g (BecameReady failed) pending p old = refl
-after_same g e pending p old = refl
+after_same : (g : Parts) (e : Effect) (last : Option Command) (pending works : List ArrayWork) (p : PageAddress) (old : List ℕ) → content_after (in_base g) e last pending works p old ≡ content_after g e last pending works p old
+after_same g (BecameReady fail) last pending works p old = refl
+after_same g (ArrayBecameReady fail) last pending works p old = refl
+after_same g e last pending works p old = refl
 
-goes_on : (g : Parts) (past : List Item) (i : Item) (l : Lun) → AreSame (effect_on (in_base g) past i l) (effect_on g past i l) → held (in_base g) past l ≡ held g past l → Goes g past l → Goes g (i ∷ past) l
-goes_on g past i l s same before =
+goes_on : (g : Parts) (past : List Item) (i : Item) (l : Lun) → AreSame (effect_on (in_base g) past i l) (effect_on g past i l) → held (in_base g) past l ≡ held g past l → closer (in_base g) past l ≡ closer g past l → Goes g past l → Goes g (i ∷ past) l
+goes_on g past i l s same last before =
     record {
       changes = s.changes _ ∙ ap (changes_after (effect_on g past i l)) before.changes;
-      failed = s.failed _ _ ∙ (λ k. failed_after (effect_on g past i l) (before.changes k) (before.failed k));
+      array_changes = s.array_changes _ _ _ ∙ (λ k. array_changes_after (effect_on g past i l) (last k) (before.changes k) (before.array_changes k));
+      failed = s.failed _ _ _ ∙ (λ k. failed_after (effect_on g past i l) (last k) (before.changes k) (before.failed k));
+      failed_before = s.failed_before _ _ _ _ ∙ (λ k. before_failed_after (effect_on g past i l) (last k) (before.array_changes k) (before.failed k) (before.failed_before k));
       queued = λ opening. s.queued _ _ ∙ (λ k. queued_work_after (effect_on g past i l) (program_same g past l opening same before k) (before.queued opening k));
       pending = λ opening. s.pending _ _ _ ∙ (λ k. pending_work_after (effect_on g past i l) (program_same g past l opening same before k) (before.queued opening k) (before.pending opening k));
+      array = λ opening. s.array _ _ _ ∙ (λ k. array_work_after (effect_on g past i l) (last k) (before.pending opening k) (before.array opening k));
       content = λ opening p.
-          after_same g (effect_on (in_base g) past i l) (pending_work (in_base g) opening past l) p (content (in_base g) opening past l p)
-          ∙ (s.content g _ p _ ∙ (λ k. content_after g (effect_on g past i l) (before.pending opening k) p (before.content opening p k)));
+          after_same g (effect_on (in_base g) past i l) (closer (in_base g) past l) (pending_work (in_base g) opening past l) (array_work (in_base g) opening past l) p (content (in_base g) opening past l p)
+          ∙ (s.content g _ _ _ p _ ∙ (λ k. content_after g (effect_on g past i l) (last k) (before.pending opening k) (before.array opening k) p (before.content opening p k)));
     }
 
 goes : (g : Parts) (targets : ℕ) (past : List Item) (l : Lun) → is_legal (in_base g) targets past ≡ true → l.lun < g.luns → Goes g past l
-goes g targets [] l legal low = record { changes = refl; failed = refl; queued = λ opening. refl; pending = λ opening. refl; content = λ opening p. refl }
+goes g targets [] l legal low = record { changes = refl; array_changes = refl; failed = refl; failed_before = refl; queued = λ opening. refl; pending = λ opening. refl; array = λ opening. refl; content = λ opening p. refl }
 goes g targets (i ∷ past) l legal low =
     let parts = both_legal (in_base g) targets past i legal in
     goes_on g past i l
@@ -704,6 +735,9 @@ goes g targets (i ∷ past) l legal low =
     (by_case (is_shared g)
     (λ shared. ap (λ (v : LunView). v.held) ((are_alike g targets past l.ce shared parts.1).rest l.lun low))
     (λ narrow. ap (λ (v : LunView). v.held) (view_same g narrow past l)))
+    (by_case (is_shared g)
+    (λ shared. ap (λ (v : LunView). v.closer) ((are_alike g targets past l.ce shared parts.1).rest l.lun low))
+    (λ narrow. ap (λ (v : LunView). v.closer) (view_same g narrow past l)))
     (goes g targets past l parts.1 low)
 
 one_of_only : (ds : List ℕ) (n : ℕ) → is_only ds n ≡ true → IsOne ds
@@ -731,7 +765,7 @@ drives_too g targets past l legal here low only = by_case (is_shared g) shared n
 
 shown_same : (g : Parts) (targets : ℕ) (parameters : List ℕ) (opening : Lun → PageAddress → List ℕ) (past : List Item) (l : Lun) → is_legal (in_base g) targets past ≡ true → l.ce < targets → l.lun < g.luns → is_only (drivers (in_base g) past l.ce) l.lun ≡ true → shown (in_base g) parameters opening past l ≡ shown g parameters opening past l
 shown_same g targets parameters opening past l legal here low only = λ k.
-    shown_by (view k).latch (cond (view k).busy 0x80 (cond (view k).array_busy 0xc0 (cond (went.failed k) 0xe1 0xe0))) (byte_at (register_bytes parameters (λ p. went.content opening p k) (view k).register) (output_column (view k).column))
+    shown_by (view k).latch (status_byte (view k).busy (view k).array_busy (went.failed k && not (is_plane_program (view k).closer)) (went.failed_before k)) (byte_at (register_bytes parameters (λ p. went.content opening p k) (view k).register) (output_column (view k).column))
   where
     view : shown_facts (lun_view (in_base g) past l) ≡ shown_facts (lun_view g past l)
     view = view_shown g targets past l legal low only

@@ -155,7 +155,7 @@ base_judge_cycle g t luns cycle =
 abbrev pub base_judge_item : Parts → TailFacts → List LunView → Item → Option Forbidden
 base_judge_item g t luns (Cyc c) = base_judge_cycle g t luns (target_cycle c.kind c.byte)
 base_judge_item g t luns (Rdy _ _ _) = None
-base_judge_item g t luns (Ard _ _) = None
+base_judge_item g t luns (Ard _ _ _) = None
 
 abbrev pub base_judge : Parts → ℕ → TailFacts → List LunView → Item → Option Forbidden
 base_judge g targets t luns i = if breaks_not_there targets luns i then Some NotThere else base_judge_item g t luns i

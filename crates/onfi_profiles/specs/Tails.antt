@@ -106,7 +106,7 @@ abbrev pub base_facts : List Item → ℕ → TailFacts
 base_facts [] ce = facts_of []
 base_facts (Cyc c ∷ past) ce = if c.ce == ce then base_facts_after (target_cycle c.kind c.byte) (base_facts past ce) else base_facts past ce
 base_facts (Rdy _ _ _ ∷ past) ce = base_facts past ce
-base_facts (Ard _ _ ∷ past) ce = base_facts past ce
+base_facts (Ard _ _ _ ∷ past) ce = base_facts past ce
 
 -- the law: after a past that is legal in the base profile a tail is what it was
 abbrev pub TailsBase : Type 0

@@ -3,6 +3,7 @@ use Rattle.std.specs.Prelude.{ℕ, ◌+◌, ◌||◌, nat_lt, if◌then◌else�
 use Rattle.nand_geometry.specs.declared.parts.Parts.{Parts}
 use Rattle.nand_geometry.specs.declared.page_fault.PageFault.{PageFault}
 use Rattle.nand_geometry.specs.Limits.{fault_of}
+use Rattle.nand_geometry.specs.Optional.{is_wide}
 use Rattle.onfi_cycle.specs.declared.item.Item.{Item}
 use Rattle.onfi_cycle.specs.Permitted.{broken}
 use Rattle.bus_record.specs.Rule.{by_option}
@@ -19,7 +20,7 @@ answer letter number at = record { letter = letter; number = number; at = at }
 unfoldable pub checked : Parts → ℕ → List Item → List OnfiseqItem → ℕ → OnfiseqAnswer
 checked g targets past [] at = answer 0 0 at
 checked g targets past (i ∷ items) at =
-    by_option (item_of i) (answer 73 0 at)
+    by_option (item_of (is_wide g.optional) i) (answer 73 0 at)
     (λ item. by_option (broken g targets past item) (checked g targets (item ∷ past) items (at + 1)) (λ rule. answer 70 (rule_number rule) at))
 
 -- the answer where the numbers have this fault

@@ -1,5 +1,6 @@
 -- The readies that a status output shows, on a bus whose R/B# isn't seen.
-use Rattle.std.specs.Prelude.{ℕ, ◌==◌, ◌&&◌, ◌||◌, Bool, true, false, if◌then◌else◌, List, [], ◌∷◌, ◌++◌, Option, Some, None, bit_and}
+use Rattle.std.specs.Prelude.{ℕ, ◌+◌, ◌==◌, ◌&&◌, ◌||◌, Bool, true, false, if◌then◌else◌, List, [], ◌∷◌, ◌++◌, Option, Some, None, bit_and}
+use Rattle.nand_geometry.specs.Optional.{has_program_cache}
 use Rattle.onfi_cycle.specs.declared.latch.Latch.{Latch}
 use Rattle.onfi_cycle.specs.declared.latch.Latch.TheVariants.{Off, Status, Data}
 use Rattle.onfi_cycle.specs.declared.lun_state.LunState.{LunState}
@@ -41,32 +42,36 @@ driving_lun bus ce = only_one (lun_drives bus ce 0) (lun_drives bus ce 1) (lun_d
 abbrev pub shows_bit : OnfiseqItem → ℕ → Bool
 shows_bit i bit = i.kind == 79 && (i.fail == 0 && bit_and i.byte bit == bit)
 
--- a LUN is ready, and its work has failed where the byte has bit 0
-abbrev pub ready_item : OnfiseqItem → ℕ → OnfiseqItem
-ready_item i lun = record { ce = i.ce; kind = 82; byte = lun; fail = bit_and i.byte 1 }
+-- the failures that the byte tells of a LUN that is ready: bit 0, unless its array goes on with what was programmed; and bit 1, where the chip programs caches
+abbrev pub ready_fail : (caches : Bool) → LunState → ℕ → ℕ
+ready_fail caches l byte = (if l.programming then 0 else bit_and byte 1) + (if caches then bit_and byte 2 else 0)
 
--- the array of a LUN is ready
-abbrev pub array_item : OnfiseqItem → ℕ → OnfiseqItem
-array_item i lun = record { ce = i.ce; kind = 89; byte = lun; fail = 0 }
+abbrev pub ready_item : (caches : Bool) → OnfiseqItem → ℕ → LunState → OnfiseqItem
+ready_item caches i lun l = record { ce = i.ce; kind = 82; byte = lun; fail = ready_fail caches l i.byte }
+
+-- the array of a LUN is ready, and has failed where it programs and the byte has bit 0
+abbrev pub array_item : OnfiseqItem → ℕ → LunState → OnfiseqItem
+array_item i lun l = record { ce = i.ce; kind = 89; byte = lun; fail = if l.programming then bit_and i.byte 1 else 0 }
 
 -- the LUN gives its status, is busy, and shows RDY
 abbrev pub becomes_ready : OnfiseqItem → Option LunState → Bool
 becomes_ready i None = false
 becomes_ready i (Some l) = is_status l.latch && (l.busy && shows_bit i 64)
 
--- it gives its status, its array works, or works on once a cache read is ready, and it shows RDY and ARDY
+-- it gives its status, its array works, or works on once a cache read or a cache program is ready, and it shows RDY and ARDY
 abbrev pub array_becomes_ready : OnfiseqItem → Option LunState → Bool
 array_becomes_ready i None = false
-array_becomes_ready i (Some l) = is_status l.latch && ((l.array_busy || (l.busy && l.caching)) && (shows_bit i 64 && shows_bit i 32))
+array_becomes_ready i (Some l) = is_status l.latch && ((l.array_busy || (l.busy && (l.caching || l.programming))) && (shows_bit i 64 && shows_bit i 32))
 
-abbrev pub readies_of : OnfiseqItem → ℕ → Option LunState → List OnfiseqItem
-readies_of i lun look =
-    (if becomes_ready i look then ready_item i lun ∷ [] else []) ++ (if array_becomes_ready i look then array_item i lun ∷ [] else [])
+abbrev pub readies_of : (caches : Bool) → OnfiseqItem → ℕ → Option LunState → List OnfiseqItem
+readies_of caches i lun None = []
+readies_of caches i lun (Some l) =
+    (if becomes_ready i (Some l) then ready_item caches i lun l ∷ [] else []) ++ (if array_becomes_ready i (Some l) then array_item i lun l ∷ [] else [])
 
 -- the readies that an item shows of the one LUN that drives the bus
 abbrev pub readies_at : BusView → OnfiseqItem → Option ℕ → List OnfiseqItem
 readies_at bus i None = []
-readies_at bus i (Some lun) = readies_of i lun (looked bus (record { ce = i.ce; lun = lun }))
+readies_at bus i (Some lun) = readies_of (has_program_cache bus.geometry.optional) i lun (looked bus (record { ce = i.ce; lun = lun }))
 
 -- those readies, and then the item itself
 abbrev pub completed : BusView → OnfiseqItem → List OnfiseqItem

@@ -83,6 +83,7 @@ fn sample_look(flags: u32) -> OnfiseqLook {
         caching: is_set(flags, 0x8),
         register: 11,
         has_column: is_set(flags, 0x10),
+        programming: is_set(flags, 0x20),
         block: 12,
         page: 13,
         column: 14,

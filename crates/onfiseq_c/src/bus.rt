@@ -1,6 +1,7 @@
 //! The check of a trace item by item, its state in the caller's memory.
 ghost use Rattle.std.specs.Prelude.{◌≡◌, ◌==◌, ◌&&◌, ℕ, List, [], Some, true, if◌then◌else◌};
 ghost use Rattle.nand_geometry.specs.declared.parts.Parts.{Parts};
+ghost use Rattle.nand_geometry.specs.Optional.{is_wide};
 ghost use Rattle.onfi_cycle.specs.declared.item.Item.{Item as ItemValue};
 ghost use Rattle.onfi_cycle.specs.State.{Follows};
 ghost use Rattle.target_record.specs.Geometry.{parts_of};
@@ -9,7 +10,7 @@ ghost use Rattle.bus_record.specs.Item.{item_of};
 
 use bus_record::{
     DAMAGED, OTHER_VERSION, OnfiseqBus, OnfiseqGeometry, OnfiseqItem, begin, begin_code, is_bus_at,
-    push_numbers,
+    is_wide, push_numbers,
 };
 
 // How many bytes the record of a channel has, and the version of the calls and records.
@@ -49,17 +50,18 @@ pub extern "C" fn onfiseq_begin_sized(
 /// stands first and the target of the item are judged before anything is done.
 #[unsafe(no_mangle)]
 pub extern "C" fn onfiseq_push(bus: &mut OnfiseqBus, item: &OnfiseqItem) -> u32
-    ensures answer { result ≡ (if is_bus_at item.now.ce bus.old then pushed (bus_view bus.old) (item_of item.now) else 0x4400) }
-    ensures state { bus_view bus.new ≡ (if is_bus_at item.now.ce bus.old then bus_pushed (bus_view bus.old) (item_of item.now) else bus_view bus.old) }
+    ensures answer { result ≡ (if is_bus_at item.now.ce bus.old then pushed (bus_view bus.old) (item_of (is_wide (bus_view bus.old).geometry.optional) item.now) else 0x4400) }
+    ensures state { bus_view bus.new ≡ (if is_bus_at item.now.ce bus.old then bus_pushed (bus_view bus.old) (item_of (is_wide (bus_view bus.old).geometry.optional) item.now) else bus_view bus.old) }
     ensures refused { (result ≡ 0 → ⊥) → bus.new ≡ bus.old }
     ensures magic { bus.new.magic ≡ bus.old.magic }
     ensures sound { IsSound bus.old → IsSound bus.new }
-    ensures past { (g : Parts) (n : ℕ) (past : List ItemValue) (i : ItemValue) → is_bus_at item.now.ce bus.old ≡ true → item_of item.now ≡ Some i
+    ensures past { (g : Parts) (n : ℕ) (past : List ItemValue) (i : ItemValue) → is_bus_at item.now.ce bus.old ≡ true → item_of (is_wide (bus_view bus.old).geometry.optional) item.now ≡ Some i
         → Follows g n (bus_view bus.old) past
         → GoesOn g n past i result (bus_view bus.new) }
 {
     if !is_bus_at(bus, item.ce) {
         return DAMAGED;
     }
-    push_numbers(bus, item)
+    let wide = is_wide(bus);
+    push_numbers(bus, item, wide)
 }

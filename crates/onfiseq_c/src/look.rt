@@ -1,12 +1,14 @@
 //! A look at a LUN, and whether an item would be permitted: questions that change nothing.
 ghost use Rattle.std.specs.Prelude.{◌≡◌, None, if◌then◌else◌};
+ghost use Rattle.nand_geometry.specs.Optional.{is_wide};
 ghost use Rattle.onfi_cycle.specs.Look.{looked};
 ghost use Rattle.bus_record.specs.Bus.{bus_view, is_bus_at, pushed};
 ghost use Rattle.bus_record.specs.Look.{look_of};
 ghost use Rattle.bus_record.specs.Item.{item_of};
 
 use bus_record::{
-    DAMAGED, NO_ITEM, OnfiseqBus, OnfiseqItem, OnfiseqLook, ask, is_bus_at, look_at_lun, no_look,
+    DAMAGED, NO_ITEM, OnfiseqBus, OnfiseqItem, OnfiseqLook, ask, is_bus_at, is_wide, look_at_lun,
+    no_look,
 };
 
 /// A look at a LUN; `is_there` is false, and all is zero, where no such LUN is there, or the record of the channel is none.
@@ -23,12 +25,13 @@ pub extern "C" fn onfiseq_look_at(bus: &OnfiseqBus, ce: u8, lun: u8) -> OnfiseqL
 /// What `onfiseq_push` would answer to this item; nothing changes.
 #[unsafe(no_mangle)]
 pub extern "C" fn onfiseq_ask(bus: &OnfiseqBus, item: &OnfiseqItem) -> u32
-    ensures { result ≡ (if is_bus_at item.now.ce bus.now then pushed (bus_view bus.now) (item_of item.now) else 0x4400) }
+    ensures { result ≡ (if is_bus_at item.now.ce bus.now then pushed (bus_view bus.now) (item_of (is_wide (bus_view bus.now).geometry.optional) item.now) else 0x4400) }
 {
     if !is_bus_at(bus, item.ce) {
         return DAMAGED;
     }
-    match item.item() {
+    let wide = is_wide(bus);
+    match item.item(wide) {
         Some(item) => ask(bus, item),
         None => NO_ITEM,
     }

@@ -3,6 +3,7 @@ ghost use Rattle.std.specs.Prelude.{◌≡◌, ℕ, List, if◌then◌else◌};
 ghost use Rattle.nand_geometry.specs.declared.parts.Parts.{Parts};
 ghost use Rattle.onfi_cycle.specs.declared.item.Item.{Item as ItemValue};
 ghost use Rattle.onfi_cycle.specs.State.{Follows};
+ghost use Rattle.nand_geometry.specs.Optional.{is_wide};
 ghost use Rattle.bus_record.specs.Bus.{IsSound, bus_view, is_sound_bus};
 ghost use Rattle.bus_record.specs.Many.{all_pushed, went, with_items};
 
@@ -16,9 +17,9 @@ pub extern "C" fn onfiseq_push_all(
     items: &[OnfiseqItem],
     done: &mut usize,
 ) -> u32
-    ensures went { went result done.new (bus_view bus.new) ≡ (if is_sound_bus bus.old then all_pushed (bus_view bus.old) items.now 0 else went 0x4400 0 (bus_view bus.old)) }
+    ensures went { went result done.new (bus_view bus.new) ≡ (if is_sound_bus bus.old then all_pushed (is_wide (bus_view bus.old).geometry.optional) (bus_view bus.old) items.now 0 else went 0x4400 0 (bus_view bus.old)) }
     ensures past { (g : Parts) (n : ℕ) (past : List ItemValue) → Follows g n (bus_view bus.old) past
-        → Follows g n (bus_view bus.new) (with_items done.new items.now past) }
+        → Follows g n (bus_view bus.new) (with_items (is_wide (bus_view bus.old).geometry.optional) done.new items.now past) }
     ensures sound { IsSound bus.old → IsSound bus.new }
     ensures magic { bus.new.magic ≡ bus.old.magic }
     ensures still { done.new ≡ 0 → bus.new ≡ bus.old }

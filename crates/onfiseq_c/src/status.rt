@@ -1,13 +1,15 @@
 //! The readies that a status output shows, on a bus whose R/B# isn't seen.
-ghost use Rattle.std.specs.Prelude.{◌≡◌, ◌≤◌, length, if◌then◌else◌};
+ghost use Rattle.std.specs.Prelude.{◌≡◌, ◌≤◌, IfSome, length, if◌then◌else◌};
 ghost use Rattle.bus_record.specs.Bus.{FitsAt, IsSound, bus_view, is_sound_bus};
 ghost use Rattle.bus_record.specs.Look.{look_of};
 ghost use Rattle.bus_record.specs.Many.{all_pushed, went};
-ghost use Rattle.onfiseq_c.specs.Status.{array_becomes_ready, array_item, becomes_ready, completed, drives, driving_lun, lun_drives, readies_at, readies_of, ready_item, shows_bit};
+ghost use Rattle.onfiseq_c.specs.Status.{array_becomes_ready, array_item, becomes_ready, completed, drives, driving_lun, lun_drives, readies_at, readies_of, ready_fail, ready_item, shows_bit};
+ghost use Rattle.nand_geometry.specs.Optional.{is_wide};
 
 use arrayvec::ArrayVec;
 use bus_record::{
-    DAMAGED, OnfiseqBus, OnfiseqItem, OnfiseqLook, is_sound_bus, look_at_lun, push_all,
+    DAMAGED, OnfiseqBus, OnfiseqItem, OnfiseqLook, caches_programs, is_sound_bus, look_at_lun,
+    push_all,
 };
 
 // A ready, that of an array, and the item itself.
@@ -52,25 +54,34 @@ fn shows_bit(item: &OnfiseqItem, bit: u8) -> bool
     item.kind == b'O' && item.fail == 0 && item.byte & bit == bit
 }
 
-fn ready_item(item: &OnfiseqItem, lun: u8) -> OnfiseqItem
-    ensures { result ≡ ready_item item.now lun }
+// The failures that a status byte tells of a LUN that is ready.
+fn ready_fail(caches: bool, look: OnfiseqLook, byte: u8) -> u8
+    ensures { IfSome (look_of look) (λ l. result ≡ ready_fail caches l byte) }
+{
+    let last = if look.programming { 0 } else { byte & 1 };
+    let before = if caches { byte & 2 } else { 0 };
+    last + before
+}
+
+fn ready_item(caches: bool, item: &OnfiseqItem, lun: u8, look: OnfiseqLook) -> OnfiseqItem
+    ensures { IfSome (look_of look) (λ l. result ≡ ready_item caches item.now lun l) }
 {
     OnfiseqItem {
         ce: item.ce,
         kind: b'R',
         byte: lun,
-        fail: item.byte & 1,
+        fail: ready_fail(caches, look, item.byte),
     }
 }
 
-fn array_item(item: &OnfiseqItem, lun: u8) -> OnfiseqItem
-    ensures { result ≡ array_item item.now lun }
+fn array_item(item: &OnfiseqItem, lun: u8, look: OnfiseqLook) -> OnfiseqItem
+    ensures { IfSome (look_of look) (λ l. result ≡ array_item item.now lun l) }
 {
     OnfiseqItem {
         ce: item.ce,
         kind: b'Y',
         byte: lun,
-        fail: 0,
+        fail: if look.programming { item.byte & 1 } else { 0 },
     }
 }
 
@@ -85,21 +96,21 @@ fn becomes_ready(item: &OnfiseqItem, look: OnfiseqLook) -> bool
 fn array_becomes_ready(item: &OnfiseqItem, look: OnfiseqLook) -> bool
     ensures { result ≡ array_becomes_ready item.now (look_of look) }
 {
-    let works = look.array_busy || (look.busy && look.caching);
+    let works = look.array_busy || (look.busy && (look.caching || look.programming));
     look.is_there && look.latch == 1 && works && shows_bit(item, 0x40) && shows_bit(item, 0x20)
 }
 
 // The readies that an item shows of a LUN.
-fn readies_of(item: &OnfiseqItem, lun: u8, look: OnfiseqLook) -> Completed
-    ensures value { result.items ≡ readies_of item.now lun (look_of look) }
+fn readies_of(caches: bool, item: &OnfiseqItem, lun: u8, look: OnfiseqLook) -> Completed
+    ensures value { result.items ≡ readies_of caches item.now lun (look_of look) }
     ensures few { length result.items ≤ 2 }
 {
     let mut items: Completed = ArrayVec::new();
     if becomes_ready(item, look) {
-        items.push(ready_item(item, lun));
+        items.push(ready_item(caches, item, lun, look));
     }
     if array_becomes_ready(item, look) {
-        items.push(array_item(item, lun));
+        items.push(array_item(item, lun, look));
     }
     items
 }
@@ -112,12 +123,15 @@ fn readies(bus: &OnfiseqBus, item: &OnfiseqItem) -> Completed
 {
     match driving_lun(bus, item.ce) {
         None => ArrayVec::new(),
-        Some(lun) => readies_of(item, lun, look_at_lun(bus, item.ce, lun)),
+        Some(lun) => {
+            let look = look_at_lun(bus, item.ce, lun);
+            readies_of(caches_programs(bus), item, lun, look)
+        }
     }
 }
 
 /// Pushes an item of a bus whose R/B# isn't seen: where it is a status output, of the one LUN that drives the bus, which shows that LUN ready that was busy (bit 6,
-/// with bit 0 for work that failed), or its array (bit 5 besides), those readies are pushed in front of it. The answer is that of the first that is refused,
+/// with bit 0 for work that failed, and bit 1 for the page before), or its array (bit 5 besides), those readies are pushed in front of it. The answer is that of the first that is refused,
 /// or 0, and `done` says how many went.
 #[unsafe(no_mangle)]
 pub extern "C" fn onfiseq_push_status(
@@ -125,7 +139,7 @@ pub extern "C" fn onfiseq_push_status(
     item: &OnfiseqItem,
     done: &mut usize,
 ) -> u32
-    ensures went { went result done.new (bus_view bus.new) ≡ (if is_sound_bus bus.old then all_pushed (bus_view bus.old) (completed (bus_view bus.old) item.now) 0
+    ensures went { went result done.new (bus_view bus.new) ≡ (if is_sound_bus bus.old then all_pushed (is_wide (bus_view bus.old).geometry.optional) (bus_view bus.old) (completed (bus_view bus.old) item.now) 0
         else went 0x4400 0 (bus_view bus.old)) }
     ensures sound { IsSound bus.old → IsSound bus.new }
     ensures magic { bus.new.magic ≡ bus.old.magic }

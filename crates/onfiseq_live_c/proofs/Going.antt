@@ -33,11 +33,11 @@ readies_go_along =
           let came = is_none (judged kept.state i) in
           let s : BusView = bus_pushed kept.state (Some i) in
           along kept (Ready l fail) (ToReady came) s k (pushed_keeps kept.state i) (ready_ran kept s l fail came k (went_on kept.state i));
-      array = λ kept l k.
-          let i = Ard l.ce l.lun in
+      array = λ kept l fail k.
+          let i = Ard l.ce l.lun fail in
           let came = is_none (judged kept.state i) in
           let s : BusView = bus_pushed kept.state (Some i) in
-          along kept (ArrayReady l) (ToArrayReady came) s k (pushed_keeps kept.state i) (array_ready_ran kept s l came k (went_on kept.state i));
+          along kept (ArrayReady l fail) (ToArrayReady came) s k (pushed_keeps kept.state i) (array_ready_ran kept s l fail came k (went_on kept.state i));
     }
 
 pub ended_jobs_go : (kept : LiveView) (l : Lun) (p : Progress) (code : ℕ) → IsLive kept → live_slot kept l ≡ Some p → p.code ≡ Some code → EndsAlong kept l p code

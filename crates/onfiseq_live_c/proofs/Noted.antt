@@ -19,7 +19,7 @@ use Rattle.seq_core.specs.Progress.{status_of}
 use Rattle.seq_core.specs.Reply.{ToReady, ToArrayReady}
 use Rattle.seq_live.specs.Event.{Ready, ArrayReady}
 use Rattle.seq_live.specs.Kept.{LiveView, IsLive}
-use Rattle.seq_live.specs.Calls.{IsLiveEvent, IsReadyNow, is_poll, has_array_ready, has_fail, shown, shown_by, ends_with}
+use Rattle.seq_live.specs.Calls.{IsLiveEvent, IsReadyNow, is_poll, has_array_ready, has_fail, told_by, shown, shown_by, ends_with}
 use Rattle.seq_live.proofs.Lives.{WentOnIf, ready_ran, array_ready_ran, live_after}
 use Rattle.seq_live.proofs.Shown.{Shows, shows_both, shows_ready, shows_none, shows_poll, shows_nothing, ends_ready}
 use Rattle.seq_live.proofs.Truth.{ready_truth, array_truth}
@@ -50,40 +50,40 @@ noted_status : (kept : LiveView) (l : Lun) (status : ℕ) → IsLive kept → No
 noted_status kept l status k = at (is_ready_status status) refl (has_array_ready status) refl
   where
     s1 : BusView
-    s1 = bus_pushed kept.state (Some (Rdy l.ce l.lun (has_fail status)))
+    s1 = bus_pushed kept.state (Some (Rdy l.ce l.lun (told_by status)))
 
     came : Bool
-    came = is_none (judged kept.state (Rdy l.ce l.lun (has_fail status)))
+    came = is_none (judged kept.state (Rdy l.ce l.lun (told_by status)))
 
-    first : IsLiveEvent kept (Ready l (has_fail status)) (ToReady came) (with_state kept s1)
-    first = ready_ran kept s1 l (has_fail status) came k (went_on kept.state (Rdy l.ce l.lun (has_fail status)))
+    first : IsLiveEvent kept (Ready l (told_by status)) (ToReady came) (with_state kept s1)
+    first = ready_ran kept s1 l (told_by status) came k (went_on kept.state (Rdy l.ce l.lun (told_by status)))
 
     live1 : IsLive (with_state kept s1)
-    live1 = live_after kept (with_state kept s1) (Ready l (has_fail status) ∷ []) (ToReady came ∷ []) k first
+    live1 = live_after kept (with_state kept s1) (Ready l (told_by status) ∷ []) (ToReady came ∷ []) k first
 
     true1 : IsReadyNow s1 l
-    true1 = ready_truth kept s1 l (has_fail status) came k (went_on kept.state (Rdy l.ce l.lun (has_fail status)))
+    true1 = ready_truth kept s1 l (told_by status) came k (went_on kept.state (Rdy l.ce l.lun (told_by status)))
 
     s2 : BusView
-    s2 = bus_pushed s1 (Some (Ard l.ce l.lun))
+    s2 = bus_pushed s1 (Some (Ard l.ce l.lun (has_fail status)))
 
     array : Bool
-    array = is_none (judged s1 (Ard l.ce l.lun))
+    array = is_none (judged s1 (Ard l.ce l.lun (has_fail status)))
 
-    second : IsLiveEvent (with_state kept s1) (ArrayReady l) (ToArrayReady array) (with_state kept s2)
-    second = array_ready_ran (with_state kept s1) s2 l array live1 (went_on s1 (Ard l.ce l.lun))
+    second : IsLiveEvent (with_state kept s1) (ArrayReady l (has_fail status)) (ToArrayReady array) (with_state kept s2)
+    second = array_ready_ran (with_state kept s1) s2 l (has_fail status) array live1 (went_on s1 (Ard l.ce l.lun (has_fail status)))
 
     at : (r : Bool) → is_ready_status status ≡ r → (a : Bool) → has_array_ready status ≡ a → NotedStatus kept l status (cond r (cond a s2 s1) kept.state)
     at false e a d = record { live = k; shows = shows_none kept l status e; truth = λ t. absurd (differs (is_ready_status status) t e) }
     at true e false d =
         let other : bit_and status 32 ≡ 32 → ⊥ = λ h. differs (has_array_ready status) (grind (arith, nat_tests, h)) d in
-        record { live = live1; shows = shows_ready kept (with_state kept s1) l status (has_fail status) came e refl other first; truth = λ t. true1 }
+        record { live = live1; shows = shows_ready kept (with_state kept s1) l status (told_by status) came e refl other first; truth = λ t. true1 }
     at true e true d =
         let bit : bit_and status 32 ≡ 32 = grind (arith, nat_tests, d) in
         record {
-          live = live_after (with_state kept s1) (with_state kept s2) (ArrayReady l ∷ []) (ToArrayReady array ∷ []) live1 second;
-          shows = shows_both kept (with_state kept s1) (with_state kept s2) l status (has_fail status) came array e refl bit first second;
-          truth = λ t. array_truth (with_state kept s1) s2 l array live1 (went_on s1 (Ard l.ce l.lun)) true1;
+          live = live_after (with_state kept s1) (with_state kept s2) (ArrayReady l (has_fail status) ∷ []) (ToArrayReady array ∷ []) live1 second;
+          shows = shows_both kept (with_state kept s1) (with_state kept s2) l status (told_by status) came array e refl bit first second;
+          truth = λ t. array_truth (with_state kept s1) s2 l (has_fail status) array live1 (went_on s1 (Ard l.ce l.lun (has_fail status))) true1;
         }
 
 poll_status : (w : Word) (bytes : List ℕ) → is_poll w ≡ true → status_of w bytes ≡ first_byte bytes

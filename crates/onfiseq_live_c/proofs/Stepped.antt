@@ -29,7 +29,7 @@ use Rattle.seq_live.specs.declared.burst.Burst.{Burst}
 use Rattle.seq_live.specs.Burst.{bursts_at, taken_by, all_moves}
 use Rattle.seq_live.specs.Event.{Step}
 use Rattle.seq_live.specs.Kept.{LiveView, IsLive, channel_at, core_at}
-use Rattle.seq_live.specs.Calls.{IsLiveEvent, IsLiveRun, live_slot, HasMoved, is_poll, has_array_ready, has_fail, shown}
+use Rattle.seq_live.specs.Calls.{IsLiveEvent, IsLiveRun, live_slot, HasMoved, is_poll, has_array_ready, has_fail, told_by, shown}
 use Rattle.seq_live.proofs.Bursts.{AreBursts, bursts_are_moves, bursts_there}
 use Rattle.seq_live.proofs.Lives.{live_core, live_after}
 use Rattle.seq_live.proofs.Shown.{stepped_after}
@@ -83,13 +83,13 @@ readies_keep : (l : Lun) (w : Word) (bytes : List ℕ) (s : BusView) → IsSameC
 readies_keep l w bytes s = at (is_poll w) (is_ready_status (status_of w bytes)) (has_array_ready (status_of w bytes))
   where
     s1 : BusView
-    s1 = bus_pushed s (Some (Rdy l.ce l.lun (has_fail (status_of w bytes))))
+    s1 = bus_pushed s (Some (Rdy l.ce l.lun (told_by (status_of w bytes))))
 
-    at : (b r a : Bool) → IsSameChannel s (cond b (cond r (cond a (bus_pushed s1 (Some (Ard l.ce l.lun))) s1) s) s)
+    at : (b r a : Bool) → IsSameChannel s (cond b (cond r (cond a (bus_pushed s1 (Some (Ard l.ce l.lun (has_fail (status_of w bytes))))) s1) s) s)
     at false r a = same_channel s
     at true false a = same_channel s
-    at true true false = pushed_keeps s (Rdy l.ce l.lun (has_fail (status_of w bytes)))
-    at true true true = then_same s s1 (bus_pushed s1 (Some (Ard l.ce l.lun))) (pushed_keeps s (Rdy l.ce l.lun (has_fail (status_of w bytes)))) (pushed_keeps s1 (Ard l.ce l.lun))
+    at true true false = pushed_keeps s (Rdy l.ce l.lun (told_by (status_of w bytes)))
+    at true true true = then_same s s1 (bus_pushed s1 (Some (Ard l.ce l.lun (has_fail (status_of w bytes))))) (pushed_keeps s (Rdy l.ce l.lun (told_by (status_of w bytes)))) (pushed_keeps s1 (Ard l.ce l.lun (has_fail (status_of w bytes))))
 
 moves_keep : (ce : ℕ) (moved : List Move) (s : BusView) → IsSameChannel s (after_moves ce moved s)
 moves_keep ce [] s = same_channel s

@@ -12,7 +12,7 @@ use Rattle.seq_core.specs.Progress.{status_of, outcome_of}
 use Rattle.seq_core.specs.Calls.{holder_after}
 use Rattle.seq_live.specs.declared.burst.Burst.{Burst}
 use Rattle.seq_live.specs.Burst.{bursts_at, taken_by}
-use Rattle.seq_live.specs.Calls.{is_poll, has_array_ready, has_fail}
+use Rattle.seq_live.specs.Calls.{is_poll, has_array_ready, has_fail, told_by}
 use Rattle.bus_record.specs.Bus.{bus_pushed}
 use Rattle.onfiseq_live_c.specs.declared.stop.Stop.{Stop}
 use Rattle.onfiseq_live_c.specs.declared.stop.Stop.TheVariants as stop
@@ -27,13 +27,13 @@ use Rattle.onfiseq_live_c.specs.Due.{and_do, due}
 
 -- ---- the readies that a poll shows
 
--- RDY that its LUN has become ready, with failure where FAIL is shown, and ARDY besides that its array has; a ready of a LUN that was ready before
+-- RDY that its LUN has become ready, with the failures of FAIL and FAILC, and ARDY besides that its array has, with that of FAIL; a ready of a LUN that was ready before
 -- changes nothing
 abbrev pub with_array : Lun → ℕ → BusView → BusView
-with_array l status s = if has_array_ready status then bus_pushed s (Some (Ard l.ce l.lun)) else s
+with_array l status s = if has_array_ready status then bus_pushed s (Some (Ard l.ce l.lun (has_fail status))) else s
 
 abbrev pub with_status : Lun → ℕ → BusView → BusView
-with_status l status s = if is_ready_status status then with_array l status (bus_pushed s (Some (Rdy l.ce l.lun (has_fail status)))) else s
+with_status l status s = if is_ready_status status then with_array l status (bus_pushed s (Some (Rdy l.ce l.lun (told_by status)))) else s
 
 -- those of a word whose outputs gave these bytes
 abbrev pub with_readies : Lun → Word → List ℕ → BusView → BusView

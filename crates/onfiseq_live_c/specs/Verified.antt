@@ -2,6 +2,7 @@
 use Rattle.std.specs.Prelude.{◌*◌, ◌^◌, ◌<◌, ◌≤◌, replicate, None, [], ◌∷◌, ◌++◌, ◌≡◌, ℕ, true, false, List, Some, Ok, length, slice_get, Bool}
 use Rattle.nand_geometry.specs.declared.parts.Parts.{Parts}
 use Rattle.nand_geometry.specs.Limits.{InLimits}
+use Rattle.onfi_cycle.specs.declared.item.Failures.{Failures}
 use Rattle.onfi_cycle.specs.declared.lun.Lun.{Lun}
 use Rattle.onfi_cycle.specs.Channel.{same_lun}
 use Rattle.onfi_cycle.specs.State.{BusView, Follows}
@@ -120,8 +121,8 @@ pub record ReadiesAlong (kept : LiveView) (e : LiveEvent) (s : BusView) : Type 0
 
 -- the law: of both
 pub record ReadiesGoAlong : Type 0 where
-  pub ready : (kept : LiveView) (l : Lun) (fail : Bool) → IsLive kept → ReadiesAlong kept (Ready l fail) (bus_pushed kept.state (Some (Rdy l.ce l.lun fail)))
-  pub array : (kept : LiveView) (l : Lun) → IsLive kept → ReadiesAlong kept (ArrayReady l) (bus_pushed kept.state (Some (Ard l.ce l.lun)))
+  pub ready : (kept : LiveView) (l : Lun) (fail : Failures) → IsLive kept → ReadiesAlong kept (Ready l fail) (bus_pushed kept.state (Some (Rdy l.ce l.lun fail)))
+  pub array : (kept : LiveView) (l : Lun) (fail : Bool) → IsLive kept → ReadiesAlong kept (ArrayReady l fail) (bus_pushed kept.state (Some (Ard l.ce l.lun fail)))
 
 -- a program that has ended is taken away: the channel and the LUN that has the bus are as they were, and its LUN is free
 pub record EndsAlong (kept : LiveView) (l : Lun) (p : Progress) (code : ℕ) : Type 0 where

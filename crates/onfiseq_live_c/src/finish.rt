@@ -98,9 +98,13 @@ fn show_array(bus: &OnfiseqBus, kept: &mut OnfiseqTarget, lun: Lun, status: u8)
     ensures tried { IsTried bus.now lun.ce kept.new }
 {
     if status & ARRAY_READY == ARRAY_READY {
-        let (ce, lun) = (lun.ce, lun.lun);
+        let ready = Item::Ard {
+            ce: lun.ce,
+            lun: lun.lun,
+            fail: Status(status).has_failed(),
+        };
         // A ready that isn't due changes nothing.
-        let _ = try_item(bus, kept, Item::Ard { ce, lun });
+        let _ = try_item(bus, kept, ready);
     }
 }
 
@@ -111,11 +115,10 @@ fn show_status(bus: &OnfiseqBus, kept: &mut OnfiseqTarget, lun: Lun, status: u8)
     ensures tried { IsTried bus.now lun.ce kept.new }
 {
     if is_ready_status(status) {
-        let fail = Status(status).has_failed();
         let ready = Item::Rdy {
             ce: lun.ce,
             lun: lun.lun,
-            fail,
+            fail: Status(status).failures(),
         };
         // A ready that isn't due changes nothing.
         let _ = try_item(bus, kept, ready);

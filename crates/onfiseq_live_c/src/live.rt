@@ -5,6 +5,7 @@ ghost use Rattle.onfi_cycle.specs.declared.item.Item.TheVariants.{Rdy, Ard};
 ghost use Rattle.bus_record.specs.Bus.{IsSound, begin_code, bus_pushed, pushed};
 ghost use Rattle.target_record.specs.Geometry.{parts_of};
 ghost use Rattle.onfiseq_live_c.specs.Live.{state_of, holder_of, is_live, are_whole, KeepsHolder};
+ghost use Rattle.seq_live.specs.Calls.{told_by};
 
 use crate::job::OnfiseqJob;
 use bus_record::{
@@ -12,7 +13,7 @@ use bus_record::{
     has_lun, push,
 };
 use nand_geometry::Geometry;
-use onfi_cycle::{Item, Lun};
+use onfi_cycle::{Item, Lun, Status};
 
 // What stands first in a record that a call left: `LIVE`.
 const MAGIC: u32 = 0x4556_494c;
@@ -142,24 +143,30 @@ fn go_on(live: &mut OnfiseqLive, item: Item) -> u32
     push(&mut live.bus, item)
 }
 
-/// A LUN becomes ready, with failure or without, as R/B# tells. 0, or the code of the rule that speaks against it: 4601h where the LUN isn't there or isn't
+/// A LUN becomes ready, as R/B# tells, with the bits FAIL (1) and FAILC (2) of a status byte, or without failure. 0, or the code of the rule that speaks against it: 4601h where the LUN isn't there or isn't
 /// busy. 4400h where the record is none. What a poll shows needs no call.
 #[unsafe(no_mangle)]
-pub extern "C" fn onfiseq_live_ready(live: &mut OnfiseqLive, ce: u8, lun: u8, failed: bool) -> u32
-    ensures answer { result ≡ (if is_live live.old then pushed (state_of live.old) (Some (Rdy ce lun failed)) else 0x4400) }
-    ensures state { state_of live.new ≡ (if is_live live.old then bus_pushed (state_of live.old) (Some (Rdy ce lun failed)) else state_of live.old) }
+pub extern "C" fn onfiseq_live_ready(live: &mut OnfiseqLive, ce: u8, lun: u8, failures: u8) -> u32
+    ensures answer { result ≡ (if is_live live.old then pushed (state_of live.old) (Some (Rdy ce lun (told_by failures))) else 0x4400) }
+    ensures state { state_of live.new ≡ (if is_live live.old then bus_pushed (state_of live.old) (Some (Rdy ce lun (told_by failures))) else state_of live.old) }
     ensures holder { KeepsHolder live.old live.new }
 {
-    let fail = failed;
+    let fail = Status(failures).failures();
     go_on(live, Item::Rdy { ce, lun, fail })
 }
 
-/// The array of a LUN becomes ready after a cache read. The answers are those of `onfiseq_live_ready`.
+/// The array of a LUN becomes ready after a cache read, or after a cache program, which failed or not. The answers are those of `onfiseq_live_ready`.
 #[unsafe(no_mangle)]
-pub extern "C" fn onfiseq_live_array_ready(live: &mut OnfiseqLive, ce: u8, lun: u8) -> u32
-    ensures answer { result ≡ (if is_live live.old then pushed (state_of live.old) (Some (Ard ce lun)) else 0x4400) }
-    ensures state { state_of live.new ≡ (if is_live live.old then bus_pushed (state_of live.old) (Some (Ard ce lun)) else state_of live.old) }
+pub extern "C" fn onfiseq_live_array_ready(
+    live: &mut OnfiseqLive,
+    ce: u8,
+    lun: u8,
+    failed: bool,
+) -> u32
+    ensures answer { result ≡ (if is_live live.old then pushed (state_of live.old) (Some (Ard ce lun failed)) else 0x4400) }
+    ensures state { state_of live.new ≡ (if is_live live.old then bus_pushed (state_of live.old) (Some (Ard ce lun failed)) else state_of live.old) }
     ensures holder { KeepsHolder live.old live.new }
 {
-    go_on(live, Item::Ard { ce, lun })
+    let fail = failed;
+    go_on(live, Item::Ard { ce, lun, fail })
 }

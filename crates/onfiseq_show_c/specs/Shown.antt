@@ -1,7 +1,8 @@
 -- What comes of drawing a trace and of noting a microprogram.
-use Rattle.std.specs.Prelude.{◌≡◌, ℕ, ◌+◌, ◌||◌, nat_lt, if◌then◌else◌, List, [], ◌∷◌, Option, Some, None, Result, Ok, Err, IsOk, MatchResult}
+use Rattle.std.specs.Prelude.{◌≡◌, ℕ, Bool, ◌+◌, ◌||◌, nat_lt, if◌then◌else◌, List, [], ◌∷◌, Option, Some, None, Result, Ok, Err, IsOk, MatchResult}
 use Rattle.nand_geometry.specs.declared.parts.Parts.{Parts}
 use Rattle.nand_geometry.specs.Limits.{fault_of}
+use Rattle.nand_geometry.specs.Optional.{is_wide}
 use Rattle.micro_word.specs.Text.{Microprogram, IsFileOf}
 use Rattle.micro_word.specs.Reading.{reading}
 use Rattle.bus_record.specs.declared.item.OnfiseqItem.{OnfiseqItem}
@@ -21,13 +22,13 @@ told_of F.File = refusal 77 0 0
 told_of F.OutOfMemory = refusal 79 0 0
 
 -- the first numbers that are no item, where the first of all stand at place at
-unfoldable pub no_item : List OnfiseqItem → ℕ → Option Failure
-no_item [] at = None
-no_item (i ∷ items) at = by_option (item_of i) (Some (F.Item at)) (λ item. no_item items (at + 1))
+unfoldable pub no_item : (wide : Bool) → List OnfiseqItem → ℕ → Option Failure
+no_item wide [] at = None
+no_item wide (i ∷ items) at = by_option (item_of wide i) (Some (F.Item at)) (λ item. no_item wide items (at + 1))
 
 -- what is wrong with a trace that is to be drawn: its targets, then its geometry, then the first numbers that are no item
 abbrev pub trace_fault : Parts → ℕ → List OnfiseqItem → Option Failure
-trace_fault g targets items = if nat_lt targets 1 || nat_lt 4 targets then Some F.Targets else by_option (fault_of g) (no_item items 0) (λ fault. Some F.Geometry)
+trace_fault g targets items = if nat_lt targets 1 || nat_lt 4 targets then Some F.Targets else by_option (fault_of g) (no_item (is_wide g.optional) items 0) (λ fault. Some F.Geometry)
 
 -- this is wrong, or memory was refused
 abbrev pub Fails : Option Failure → Failure → Type 0

@@ -27,7 +27,7 @@ fn picture_of(
     let Ok(geometry) = Geometry::of(geometry.parts()) else {
         return Err(Failure::Geometry);
     };
-    let items = items_of(alloc, numbers)?;
+    let items = items_of(alloc, geometry.parts().optional.is_wide(), numbers)?;
     match draw(alloc, &geometry, targets, items.as_slice()) {
         Ok(picture) => Ok(picture),
         Err(_) => Err(Failure::OutOfMemory),

@@ -7,16 +7,20 @@ use bus_record::OnfiseqItem;
 use onfi_cycle::Item;
 use std::alloc::Global;
 
-// The items of a trace; the first numbers that are none, by their place.
-pub(crate) fn items_of(alloc: Global, numbers: &[OnfiseqItem]) -> Result<Vec<Item>, Failure>
-    ensures ok { IfOk result (λ v. no_item numbers.now 0 ≡ None) }
-    ensures err { IfErr result (Fails (no_item numbers.now 0)) }
+// The items of a trace of the wider profile or the base one; the first numbers that are none, by their place.
+pub(crate) fn items_of(
+    alloc: Global,
+    wide: bool,
+    numbers: &[OnfiseqItem],
+) -> Result<Vec<Item>, Failure>
+    ensures ok { IfOk result (λ v. no_item wide numbers.now 0 ≡ None) }
+    ensures err { IfErr result (Fails (no_item wide numbers.now 0)) }
 {
     let mut items = Vec::new(alloc);
     let mut rest = numbers;
     let mut at = 0;
     'items: while let Some((first, behind)) = rest.split_first() {
-        let Some(item) = first.item() else {
+        let Some(item) = first.item(wide) else {
             return Err(Failure::Item(at));
         };
         if items.push(item).is_err() {

@@ -1,6 +1,8 @@
 -- What comes of reading the text of a trace.
-use Rattle.std.specs.Prelude.{◌≡◌, ◌==◌, ℕ, nat_lt, if◌then◌else◌, List, [], ◌∷◌, Result, Ok, Err, IsOk, MatchResult, map, length}
+use Rattle.std.specs.Prelude.{◌≡◌, ◌==◌, ◌||◌, Bool, true, false, ℕ, nat_lt, if◌then◌else◌, List, [], ◌∷◌, Result, Ok, Err, IsOk, MatchResult, map, length}
 use Rattle.std.specs.Str.{IsUtf8}
+use Rattle.nand_geometry.specs.declared.optional.Profile.{Profile}
+use Rattle.nand_geometry.specs.declared.optional.Profile.TheVariants.{Base, Onfi}
 use Rattle.onfi_cycle.specs.declared.item.Kind.{Kind}
 use Rattle.onfi_cycle.specs.declared.item.Kind.TheVariants.{Cmd, Adr, Din, Dout}
 use Rattle.onfi_cycle.specs.declared.item.Item.{Item}
@@ -17,11 +19,21 @@ use Rattle.placed_bytes.specs.Placed.{refusal as told_refusal}
 use Rattle.onfiseq_text_c.specs.declared.trace.TraceFailure.{TraceFailure}
 use Rattle.onfiseq_text_c.specs.declared.trace.TraceFailure.TheVariants as F
 
--- 0 for the strict form, and anything else for that of recordings
+-- 0 for the strict form, 2 for that of the wider profile, and anything else for that of recordings
 abbrev pub form_of : ℕ → TraceForm
-form_of recorded = if recorded == 0 then Strict else Recorded
+form_of recorded = if recorded == 0 || recorded == 2 then Strict else Recorded
 
--- ---- items as numbers: a cycle by its letter, R with its failure, or Y
+-- 2 and 3 for the wider profile, and anything else for the base one
+abbrev pub profile_of : ℕ → Profile
+profile_of recorded = if recorded == 2 || recorded == 3 then Onfi else Base
+
+-- ---- items as numbers: a cycle by its letter, R with its failures, or Y with its
+
+abbrev pub fail_number : (last before : Bool) → ℕ
+fail_number false false = 0
+fail_number true false = 1
+fail_number false true = 2
+fail_number true true = 3
 
 abbrev pub letter_of : Kind → ℕ
 letter_of Cmd = 67
@@ -31,8 +43,8 @@ letter_of Dout = 79
 
 abbrev pub numbers_of : Item → OnfiseqItem
 numbers_of (Cyc c) = record { ce = c.ce; kind = letter_of c.kind; byte = c.byte; fail = 0 }
-numbers_of (Rdy ce lun fail) = record { ce = ce; kind = 82; byte = lun; fail = if fail then 1 else 0 }
-numbers_of (Ard ce lun) = record { ce = ce; kind = 89; byte = lun; fail = 0 }
+numbers_of (Rdy ce lun fail) = record { ce = ce; kind = 82; byte = lun; fail = fail_number fail.last fail.before }
+numbers_of (Ard ce lun fail) = record { ce = ce; kind = 89; byte = lun; fail = if fail then 1 else 0 }
 
 -- the caller's items with these in front, as many as fit
 abbrev pub in_front : (made items : List OnfiseqItem) → List OnfiseqItem
@@ -67,14 +79,14 @@ left (Ok made) items = if nat_lt (length items) (length made) then items else in
 left (Err failure) items = items
 
 -- the text has a fault, isn't UTF-8, or memory was refused and nothing else
-abbrev pub FailsTrace : TraceForm → List ℕ → TraceFailure → Type 0
-FailsTrace form text (F.Text fault line) = read_as form text ≡ Err (refusal.Fault fault line)
-FailsTrace form text F.NotText = IsUtf8 text → ⊥
-FailsTrace form text F.OutOfMemory = IsOk (read_as form text)
+abbrev pub FailsTrace : TraceForm → Profile → List ℕ → TraceFailure → Type 0
+FailsTrace form p text (F.Text fault line) = read_as form p text ≡ Err (refusal.Fault fault line)
+FailsTrace form p text F.NotText = IsUtf8 text → ⊥
+FailsTrace form p text F.OutOfMemory = IsOk (read_as form p text)
 
 -- items are read that the text has, or it fails for this; they, or the failure, are told and placed
-pub record ReadsTrace (form : TraceForm) (text : List ℕ) (old new : List OnfiseqItem) (w : OnfiseqPlaced) : Type 0 where
+pub record ReadsTrace (form : TraceForm) (p : Profile) (text : List ℕ) (old new : List OnfiseqItem) (w : OnfiseqPlaced) : Type 0 where
   pub made : Result (List Item) TraceFailure
-  pub is : MatchResult made (IsTraceText form text) (FailsTrace form text)
+  pub is : MatchResult made (IsTraceText form p text) (FailsTrace form p text)
   pub told : w ≡ told made old
   pub left : new ≡ left made old

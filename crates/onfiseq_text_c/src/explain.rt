@@ -5,7 +5,9 @@ ghost use Rattle.bus_record.specs.Bus.{FitsAt};
 ghost use Rattle.onfiseq_text_c.specs.Explained.{IsWritten, asked};
 
 use crate::words::{Words, shown, spelt, words_alone, words_of_record};
-use bus_record::{OnfiseqBus, OnfiseqItem, OnfiseqLun, OnfiseqTarget, ask, is_bus_at, look_at_lun};
+use bus_record::{
+    OnfiseqBus, OnfiseqItem, OnfiseqLun, OnfiseqTarget, ask, is_bus_at, is_wide, look_at_lun,
+};
 use nand_geometry::Geometry;
 use onfi_cycle::{Command, Cycle, Forbidden, Item, LunState, Register};
 use placed_bytes::place_text;
@@ -33,6 +35,7 @@ fn lun_of(bus: &OnfiseqBus, ce: u8, number: u8) -> Option<LunState>
         column: if look.has_column { column } else { None },
         queued: look.queued,
         caching: look.caching,
+        programming: look.programming,
         array_busy: look.array_busy,
     })
 }
@@ -128,7 +131,7 @@ fn explain(bus: &OnfiseqBus, numbers: &OnfiseqItem) -> Words
     if !is_bus_at(bus, numbers.ce) {
         return spelt(words_of_record(0));
     }
-    let Some(item) = numbers.item() else {
+    let Some(item) = numbers.item(is_wide(bus)) else {
         return spelt(words_alone(b'I'));
     };
     match ask(bus, item) {

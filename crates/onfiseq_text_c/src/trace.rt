@@ -1,9 +1,10 @@
 //! The text of a trace as items.
 ghost use Rattle.std.specs.Prelude.{◌≡◌, IfOk, IfErr, if◌then◌else◌, length, map, nat_lt, slice_set};
 ghost use Rattle.trace_text.specs.Forms.{IsTraceText};
-ghost use Rattle.onfiseq_text_c.specs.Trace.{FailsTrace, ReadsTrace, fault_number, form_of, in_front, letter_of, numbers_of, told_count, told_of};
+ghost use Rattle.onfiseq_text_c.specs.Trace.{FailsTrace, ReadsTrace, fail_number, fault_number, form_of, profile_of, in_front, letter_of, numbers_of, told_count, told_of};
 
 use bus_record::OnfiseqItem;
+use nand_geometry::Profile;
 use onfi_cycle::{Cycle, Item, Kind};
 use placed_bytes::{OnfiseqPlaced, refused};
 use std::alloc::Global;
@@ -46,21 +47,38 @@ impl TraceFailure {
 fn form_of(recorded: u8) -> TraceForm
     ensures { result ≡ form_of recorded }
 {
-    match recorded {
-        0 => TraceForm::Strict,
-        _ => TraceForm::Recorded,
+    if recorded == 0 || recorded == 2 {
+        TraceForm::Strict
+    } else {
+        TraceForm::Recorded
+    }
+}
+
+// The profile that it names.
+fn profile_of(recorded: u8) -> Profile
+    ensures { result ≡ profile_of recorded }
+{
+    if recorded == 2 || recorded == 3 {
+        Profile::Onfi
+    } else {
+        Profile::Base
     }
 }
 
 // The items of a text.
-fn items_of(alloc: Global, text: &[u8], form: TraceForm) -> Result<Vec<Item>, TraceFailure>
-    ensures ok { IfOk result (λ v. IsTraceText form text.now v.items) }
-    ensures err { IfErr result (FailsTrace form text.now) }
+fn items_of(
+    alloc: Global,
+    text: &[u8],
+    form: TraceForm,
+    profile: Profile,
+) -> Result<Vec<Item>, TraceFailure>
+    ensures ok { IfOk result (λ v. IsTraceText form profile text.now v.items) }
+    ensures err { IfErr result (FailsTrace form profile text.now) }
 {
     let Ok(text) = str::from_utf8(text) else {
         return Err(TraceFailure::NotText);
     };
-    match parse_as(alloc, text, form) {
+    match parse_as(alloc, text, form, profile) {
         Ok(items) => Ok(items),
         Err(TraceRefusal::Fault { fault, line }) => Err(TraceFailure::Text { fault, line }),
         Err(TraceRefusal::OutOfMemory) => Err(TraceFailure::OutOfMemory),
@@ -79,6 +97,18 @@ fn letter_of(kind: Kind) -> u8
     }
 }
 
+// The number of the failures of a ready.
+fn fail_number(last: bool, before: bool) -> u8
+    ensures { result ≡ fail_number last before }
+{
+    match (last, before) {
+        (false, false) => 0,
+        (true, false) => 1,
+        (false, true) => 2,
+        (true, true) => 3,
+    }
+}
+
 // An item as numbers.
 fn numbers_of(item: Item) -> OnfiseqItem
     ensures { result ≡ numbers_of item }
@@ -94,13 +124,13 @@ fn numbers_of(item: Item) -> OnfiseqItem
             ce,
             kind: b'R',
             byte: lun,
-            fail: u8::from(fail),
+            fail: fail_number(fail.last, fail.before),
         },
-        Item::Ard { ce, lun } => OnfiseqItem {
+        Item::Ard { ce, lun, fail } => OnfiseqItem {
             ce,
             kind: b'Y',
             byte: lun,
-            fail: 0,
+            fail: u8::from(fail),
         },
     }
 }
@@ -146,7 +176,7 @@ fn place_all(items: &mut [OnfiseqItem], made: &[Item]) -> OnfiseqPlaced
     }
 }
 
-/// Reads the text of a trace, in the strict form for 0, else in that of recordings: its items stand in front of the caller's, and `length` counts them. Else the
+/// Reads the text of a trace, in the strict form for 0, and else in that of recordings; for 2 and 3 it is the strict form and that of recordings of the profile onfi: its items stand in front of the caller's, and `length` counts them. Else the
 /// caller's items are as they were: X is a fault of the text at the line `at`, U says that it isn't UTF-8, O that memory was refused, and B that there is no
 /// room for so many items.
 #[unsafe(no_mangle)]
@@ -156,9 +186,9 @@ pub extern "C" fn onfiseq_trace(
     recorded: u8,
     items: &mut [OnfiseqItem],
 ) -> OnfiseqPlaced
-    ensures { ReadsTrace (form_of recorded) text.now items.old items.new result }
+    ensures { ReadsTrace (form_of recorded) (profile_of recorded) text.now items.old items.new result }
 {
-    match items_of(alloc, text, form_of(recorded)) {
+    match items_of(alloc, text, form_of(recorded), profile_of(recorded)) {
         Ok(made) => place_all(items, made.as_slice()),
         Err(failure) => failure.told(),
     }

@@ -1,5 +1,5 @@
 -- The run of a refusal, in the caller's memory.
-use Rattle.std.specs.Prelude.{◌≡◌, ◌⊎◌, ℕ, if◌then◌else◌, List, [], ◌∷◌, ◌++◌, Option, Some, None, Ok, map, length, reverse}
+use Rattle.std.specs.Prelude.{◌≡◌, ◌⊎◌, ℕ, Bool, true, false, if◌then◌else◌, List, [], ◌∷◌, ◌++◌, Option, Some, None, Ok, map, length, reverse}
 use Rattle.nand_geometry.specs.declared.parts.Parts.{Parts}
 use Rattle.onfi_cycle.specs.declared.item.Kind.{Kind}
 use Rattle.onfi_cycle.specs.declared.item.Kind.TheVariants.{Cmd, Adr, Din, Dout}
@@ -28,11 +28,18 @@ letter_of Adr = 65
 letter_of Din = 73
 letter_of Dout = 79
 
--- an item as numbers: a cycle, R with its failure, or Y
+-- FAIL is 1, and FAILC 2
+abbrev pub fail_number : (last before : Bool) → ℕ
+fail_number false false = 0
+fail_number true false = 1
+fail_number false true = 2
+fail_number true true = 3
+
+-- an item as numbers: a cycle, R with its failures, or Y with that of the array
 abbrev pub numbers_of : Item → OnfiseqItem
 numbers_of (Cyc c) = record { ce = c.ce; kind = letter_of c.kind; byte = c.byte; fail = 0 }
-numbers_of (Rdy ce lun fail) = record { ce = ce; kind = 82; byte = lun; fail = if fail then 1 else 0 }
-numbers_of (Ard ce lun) = record { ce = ce; kind = 89; byte = lun; fail = 0 }
+numbers_of (Rdy ce lun fail) = record { ce = ce; kind = 82; byte = lun; fail = fail_number fail.last fail.before }
+numbers_of (Ard ce lun fail) = record { ce = ce; kind = 89; byte = lun; fail = if fail then 1 else 0 }
 
 -- what is told of a run: its items, and the cycle that isn't permitted last
 abbrev pub told : Option Counter → List OnfiseqItem

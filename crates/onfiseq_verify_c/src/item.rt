@@ -4,13 +4,14 @@ ghost use Rattle.onfi_cycle.specs.declared.item.Item.TheVariants.{Cyc};
 ghost use Rattle.micro_verify.specs.Lazy.{Counter as RunValue};
 ghost use Rattle.micro_verify.specs.Playing.{Shown};
 ghost use Rattle.refused_run.specs.Course.{last_item};
-ghost use Rattle.onfiseq_verify_c.specs.Run.{letter_of, numbers_of, told, placed};
+ghost use Rattle.onfiseq_verify_c.specs.Run.{letter_of, fail_number, numbers_of, told, placed};
 
 use micro_verify::Counter;
 use onfi_cycle::{Cycle, Item, Kind};
 
 /// An item of a trace, as a line of its text has it: `kind` is the letter C, A, I, O, R or Y, and `byte` the byte of a cycle or the LUN that becomes ready.
-/// `fail` is 1 for a ready after work that failed, else 0.
+/// `fail` is 1 for a ready after work that failed, else 0. In the profile onfi a ready has 2 more where the page before failed, and the array ready of a cache
+/// program that failed has 1.
 #[repr(C)]
 #[derive(Clone, Copy)]
 pub struct OnfiseqItem {
@@ -32,6 +33,18 @@ fn letter_of(kind: Kind) -> u8
     }
 }
 
+// The failures of a ready as a number: FAIL is 1, and FAILC 2.
+fn fail_number(last: bool, before: bool) -> u8
+    ensures { result ≡ fail_number last before }
+{
+    match (last, before) {
+        (false, false) => 0,
+        (true, false) => 1,
+        (false, true) => 2,
+        (true, true) => 3,
+    }
+}
+
 impl OnfiseqItem {
     // An item as numbers.
     fn of(item: Item) -> OnfiseqItem
@@ -48,13 +61,13 @@ impl OnfiseqItem {
                 ce,
                 kind: b'R',
                 byte: lun,
-                fail: u8::from(fail),
+                fail: fail_number(fail.last, fail.before),
             },
-            Item::Ard { ce, lun } => OnfiseqItem {
+            Item::Ard { ce, lun, fail } => OnfiseqItem {
                 ce,
                 kind: b'Y',
                 byte: lun,
-                fail: 0,
+                fail: u8::from(fail),
             },
         }
     }

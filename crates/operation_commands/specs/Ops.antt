@@ -2,6 +2,7 @@
 use Rattle.std.specs.Prelude.{◌≡◌, ℕ, List, Option, Ok, Err}
 use Rattle.seq_files.specs.Store.{Store, Holds}
 use Rattle.nand_geometry.specs.declared.parts.Parts.{Parts}
+use Rattle.nand_geometry.specs.declared.optional.Profile.{Profile}
 use Rattle.trace_text.specs.declared.recorded_item.RecordedItem.{RecordedItem}
 use Rattle.trace_text.specs.declared.refusal.TraceRefusal.TheVariants.{Fault as TraceFaultAt}
 use Rattle.trace_text.specs.Recorded.{recorded_items}
@@ -17,14 +18,14 @@ pub record CanBeListed (files : Option Store) (request : OpsRequest) : Type 0 wh
   pub text : List ℕ
   pub is_there : Holds files request.input.now text
   pub items : List RecordedItem
-  pub is_read : recorded_items text ≡ Ok items
+  pub is_read : recorded_items request.profile text ≡ Ok items
 
 -- the first fault of a recorded text
-abbrev pub RefusesText : List ℕ → RecordingFault → Type 0
-RefusesText text (Trace fault line) = recorded_items text ≡ Err (TraceFaultAt fault line)
-RefusesText text _ = ⊥
+abbrev pub RefusesText : Profile → List ℕ → RecordingFault → Type 0
+RefusesText p text (Trace fault line) = recorded_items p text ≡ Err (TraceFaultAt fault line)
+RefusesText p text _ = ⊥
 
-pub record IsNoTrace (files : Option Store) (input : List ℕ) (fault : RecordingFault) : Type 0 where
+pub record IsNoTrace (files : Option Store) (profile : Profile) (input : List ℕ) (fault : RecordingFault) : Type 0 where
   pub text : List ℕ
   pub is_there : Holds files input text
-  pub refuses : RefusesText text fault
+  pub refuses : RefusesText profile text fault

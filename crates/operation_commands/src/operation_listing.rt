@@ -23,7 +23,7 @@ use crate::op_row::{NAMES, push_csv, push_json};
 use crate::ops_request::{OpsForm, OpsRequest, OpsText};
 use crate::overlap::Overlap;
 use crate::summary::Summary;
-use nand_geometry::Geometry;
+use nand_geometry::{Geometry, Profile};
 use onfi_cycle::Item;
 use seq_files::Files;
 use seq_inputs::{
@@ -41,14 +41,23 @@ fn read_items<'p, A: Allocator + Clone>(
     alloc: A,
     path: &'p str,
     text: &str,
+    profile: Profile,
 ) -> Result<Vec<RecordedItem, A>, RecordingStop<'p, A>>
-    ensures ok { IfOk result (λ items. recorded_items text.now ≡ Ok items.items) }
-    ensures err { IfErr result (SaysOf (λ _. ⊥) (RefusesText text.now)) }
+    ensures ok { IfOk result (λ items. recorded_items profile text.now ≡ Ok items.items) }
+    ensures err { IfErr result (SaysOf (λ _. ⊥) (RefusesText profile text.now)) }
 {
-    match parse_timed(alloc.clone()?, text) {
+    match parse_timed(alloc.clone()?, text, profile) {
         Ok(items) => Ok(items),
         Err(TraceRefusal::Fault { fault, line }) => {
-            let words = words_of_trace(alloc, path, text, TraceForm::Recorded, fault, line);
+            let words = words_of_trace(
+                alloc,
+                path,
+                text,
+                TraceForm::Recorded,
+                profile,
+                fault,
+                line,
+            );
             Err(RecordingStop::Faulty {
                 fault: RecordingFault::Trace { fault, line },
                 words,
@@ -201,13 +210,13 @@ fn list_at<'p, A: Allocator + Clone, F: Files>(
     request: OpsRequest<'p>,
 ) -> Result<String<A>, RecordingStop<'p, A>>
     ensures ok { IfOk result (λ _. CanBeListed (F.store files.old) request.entry) }
-    ensures err { IfErr result (SaysOf (PageIsRefused (F.store files.old) request.entry.page.now) (IsNoTrace (F.store files.old) request.entry.input.now)) }
+    ensures err { IfErr result (SaysOf (PageIsRefused (F.store files.old) request.entry.page.now) (IsNoTrace (F.store files.old) request.entry.profile request.entry.input.now)) }
     ensures stays { F.store files.new ≡ F.store files.old }
 {
     let geometry = geometry_as(alloc.clone()?, files, request.profile, request.page)?;
     let bytes = read_file(alloc.clone()?, files, request.input)?;
     let text = text_of(request.input, bytes.as_slice())?;
-    let items = read_items(alloc.clone()?, request.input, text)?;
+    let items = read_items(alloc.clone()?, request.input, text, request.profile)?;
     let trace = list_items(alloc.clone()?, request, &geometry, items)?;
     Ok(text_of_trace(alloc, request, &trace)?)
 }
@@ -230,7 +239,7 @@ pub fn list_operations<A: Allocator + Clone, F: Files, W: Write, E: Write, P>(
         → Tells (PageIsRefused (F.store files.old) request.entry.page.now) refusal
         × Appends (W.contents console.old.output) (W.contents console.new.output) (line_of refusal) }
     ensures faulty { (fault : RecordingFault) → result ≡ Ending.Faulty fault
-        → IsNoTrace (F.store files.old) request.entry.input.now fault
+        → IsNoTrace (F.store files.old) request.entry.profile request.entry.input.now fault
         × Appends (W.contents console.old.output) (W.contents console.new.output) (fault_line fault) }
     ensures stays { F.store files.new ≡ F.store files.old }
 {

@@ -1,3 +1,4 @@
 pub mod AndBytes
 pub mod Copied
 pub mod Stepping
+pub mod Filling

@@ -4,7 +4,7 @@ ghost use Rattle.std.specs.List.{zip};
 ghost use Rattle.nand_geometry.specs.Limits.{page_len};
 ghost use Rattle.onfi_cycle.specs.Sequence.{AreSmall, filled, tail};
 ghost use Rattle.onfi_cycle.specs.Lun.{output_column, read_column, register};
-ghost use Rattle.onfi_cycle.specs.Content.{and_bytes, byte_at, changes_after, changes_pages, content, content_after, has_failed, identifiers, left_by, left_by_all, pending_work, queued_work, register_bytes, same_page, shown, status};
+ghost use Rattle.onfi_cycle.specs.Content.{and_bytes, byte_at, array_changes, array_changes_after, array_work, before_failed_after, changes_after, changes_pages, content, content_after, failed_after, has_failed, has_failed_before, left_unless, identifiers, left_by, left_by_all, pending_work, queued_work, register_bytes, same_page, shown, status};
 ghost use Rattle.oracle_onfi.specs.Driven.{driven_byte};
 ghost use Rattle.oracle_onfi.specs.Filled.{filled_after};
 ghost use Rattle.oracle_onfi.specs.Copied.{page_begun_with, page_copied};
@@ -12,12 +12,14 @@ ghost use Rattle.oracle_onfi.specs.Opening.{opening_of, same_lun};
 
 use crate::WrittenPage;
 use crate::past::{
-    drivers, effect_on, is_array_busy, is_busy, latch, lun_facts, read_column, register, tail_facts,
+    closer, drivers, effect_on, is_array_busy, is_busy, latch, lun_facts, read_column, register,
+    tail_facts,
 };
 use crate::works::{ArrayWork, WorkKind, Works};
 use nand_geometry::Geometry;
 use onfi_cycle::{
-    Effect, Item, Latch, Lun, PageAddress, Register, Status, TailFacts, TargetCycle, page_in_plane,
+    Command, Effect, Failures, Item, Latch, Lun, PageAddress, Register, Status, TailFacts,
+    TargetCycle, is_cache_program, is_plane_program, keeps_array_busy, page_in_plane,
 };
 use std::alloc::{AllocError, Global};
 
@@ -156,19 +158,46 @@ fn opening_of(
     }
 }
 
-/// What an effect leaves of a page; the works are those that are pending before it.
+/// What works leave of a page that take effect, or don't.
+fn left_unless(
+    alloc: Global,
+    geometry: &Geometry,
+    is_lost: bool,
+    works: &[ArrayWork],
+    page: PageAddress,
+    old: Vec<u8>,
+) -> Result<Vec<u8>, AllocError>
+    ensures { IfOk result (λ v. v.items ≡ left_unless is_lost (page_len geometry.now) works.now page old.items) }
+{
+    if is_lost {
+        Ok(old)
+    } else {
+        left_by_all(alloc, geometry, works, page, old)
+    }
+}
+
+/// What an effect leaves of a page, behind this last closer; the works are those that go on before it.
 fn content_after(
     alloc: Global,
     geometry: &Geometry,
     effect: Effect,
-    pending: &[ArrayWork],
+    last: Option<Command>,
+    works: &Works,
     page: PageAddress,
     old: Vec<u8>,
 ) -> Result<Vec<u8>, AllocError>
-    ensures { IfOk result (λ v. v.items ≡ content_after geometry.now effect pending.now page old.items) }
+    ensures { IfOk result (λ v. v.items ≡ content_after geometry.now effect last works.now.pending.items works.now.in_array.items page old.items) }
 {
     match effect {
-        Effect::BecameReady { failed: false } => left_by_all(alloc, geometry, pending, page, old),
+        Effect::BecameReady { fail } => {
+            let is_lost = fail.before || is_plane_program(last);
+            let before = left_unless(alloc, geometry, is_lost, &works.in_array, page, old)?;
+            let is_lost = fail.last || is_cache_program(last);
+            left_unless(alloc, geometry, is_lost, &works.pending, page, before)
+        }
+        Effect::ArrayBecameReady { fail } => {
+            left_unless(alloc, geometry, fail, &works.in_array, page, old)
+        }
         _ => Ok(old),
     }
 }
@@ -200,7 +229,9 @@ fn page_copied(
     ensures { IfOk result (λ p. p ≡ page_copied effect (page_begun_with geometry.now past.now lun)) }
 {
     match effect {
-        Effect::ProgramStarted { .. } => page_begun_with(alloc, geometry, past, lun),
+        Effect::ProgramStarted { .. } | Effect::CacheProgramStarted { .. } => {
+            page_begun_with(alloc, geometry, past, lun)
+        }
         _ => Ok(None),
     }
 }
@@ -223,6 +254,7 @@ fn page_state(
 ) -> Result<PageState, AllocError>
     ensures queued { IfOk result (λ s. s.works.queued.items ≡ queued_work geometry.now (opening_of (page_len geometry.now) opening.now) past.now lun) }
     ensures pending { IfOk result (λ s. s.works.pending.items ≡ pending_work geometry.now (opening_of (page_len geometry.now) opening.now) past.now lun) }
+    ensures array { IfOk result (λ s. s.works.in_array.items ≡ array_work geometry.now (opening_of (page_len geometry.now) opening.now) past.now lun) }
     ensures bytes { IfOk result (λ s. s.bytes.items ≡ content geometry.now (opening_of (page_len geometry.now) opening.now) past.now lun page) }
 {
     match past {
@@ -239,8 +271,9 @@ fn page_state(
             };
             let program = filled(alloc, &begun, rest, lun.ce)?;
             let PageState { works, bytes } = before;
-            let bytes = content_after(alloc, geometry, effect, &works.pending, page, bytes)?;
-            let works = works.after(alloc, effect, program)?;
+            let last = closer(alloc, geometry, rest, lun)?;
+            let bytes = content_after(alloc, geometry, effect, last, &works, page, bytes)?;
+            let works = works.after(alloc, effect, last, program)?;
             Ok(PageState { works, bytes })
         }
     }
@@ -266,7 +299,25 @@ pub fn queued_work(
     )
 }
 
-/// The works that take effect at the next ready of the LUN, if that is without failure, the newest first.
+/// The works that the array of the LUN goes on with behind the ready of a Page Cache Program, the newest first.
+pub fn array_work(
+    alloc: Global,
+    geometry: &Geometry,
+    opening: &[WrittenPage],
+    past: &[Item],
+    lun: Lun,
+) -> Result<Vec<ArrayWork>, AllocError>
+    ensures { IfOk result (λ v. v.items ≡ array_work geometry.now (opening_of (page_len geometry.now) opening.now) past.now lun) }
+{
+    Ok(
+        page_state(alloc, geometry, opening, past, lun, SOME_PAGE)?
+            .works
+            .in_array,
+    )
+}
+
+/// The works that the next ready of the LUN ends: they take effect at it, if that is without failure, and behind a Page
+/// Cache Program the array goes on with them. The newest first.
 pub fn pending_work(
     alloc: Global,
     geometry: &Geometry,
@@ -298,12 +349,33 @@ pub fn content(
     Ok(page_state(alloc, geometry, opening, past, lun, page)?.bytes)
 }
 
-/// Whether the work that goes on changes pages, once it did or did not before this effect.
+/// What is told of the works of a LUN.
+#[derive(Clone, Copy, Debug)]
+struct Told {
+    /// The work that goes on changes pages.
+    changes: bool,
+    /// The array goes on with pages, behind the ready of a Page Cache Program.
+    array_changes: bool,
+    /// The last work failed.
+    failed: bool,
+    /// The page before it failed.
+    before: bool,
+}
+
+/// Nothing has happened.
+const NOTHING_TOLD: Told = Told {
+    changes: false,
+    array_changes: false,
+    failed: false,
+    before: false,
+};
+
 fn changes_after(effect: Effect, before: bool) -> bool
     ensures { result ≡ changes_after effect before }
 {
     match effect {
         Effect::EraseStarted { queued, .. } | Effect::ProgramStarted { queued, .. } => !queued,
+        Effect::CacheProgramStarted { .. } => true,
         Effect::ReadStarted { .. }
         | Effect::ReadQueued { .. }
         | Effect::CopybackReadStarted { .. }
@@ -320,7 +392,115 @@ fn changes_after(effect: Effect, before: bool) -> bool
     }
 }
 
-/// The work that goes on changes pages: Program Confirm or Block Erase Confirm closed it.
+fn array_changes_after(effect: Effect, last: Option<Command>, before: Told) -> bool
+    ensures { result ≡ array_changes_after effect last before.changes before.array_changes }
+{
+    match effect {
+        Effect::BecameReady { .. } => {
+            if is_cache_program(last) {
+                before.changes
+            } else {
+                is_plane_program(last) && before.array_changes
+            }
+        }
+        Effect::ArrayBecameReady { .. }
+        | Effect::ReadStarted { .. }
+        | Effect::ReadQueued { .. }
+        | Effect::CopybackReadStarted { .. }
+        | Effect::EraseStarted { .. }
+        | Effect::IdRead
+        | Effect::IdentityRead { .. }
+        | Effect::ParameterPageReadStarted
+        | Effect::UniqueIdReadStarted
+        | Effect::FeaturesReadStarted { .. }
+        | Effect::FeaturesSet { .. }
+        | Effect::CacheReadContinued { .. }
+        | Effect::CacheReadEnded
+        | Effect::ResetStarted
+        | Effect::TargetResetStarted { .. } => false,
+        _ => before.array_changes,
+    }
+}
+
+fn failed_after(effect: Effect, last: Option<Command>, before: Told) -> bool
+    ensures { result ≡ failed_after effect last before.changes before.failed }
+{
+    match effect {
+        Effect::BecameReady { fail } => {
+            if is_plane_program(last) {
+                before.failed
+            } else {
+                fail.last && before.changes && !is_cache_program(last)
+            }
+        }
+        Effect::ArrayBecameReady { fail } => {
+            if keeps_array_busy(last) {
+                fail
+            } else {
+                before.failed
+            }
+        }
+        Effect::ProgramStarted { queued: true, .. } => keeps_array_busy(last) && before.failed,
+        Effect::CacheProgramStarted { .. } => false,
+        _ => before.failed,
+    }
+}
+
+fn before_failed_after(effect: Effect, last: Option<Command>, before: Told) -> bool
+    ensures { result ≡ before_failed_after effect last before.array_changes before.failed before.before }
+{
+    match effect {
+        Effect::BecameReady { fail } => {
+            if before.array_changes && !is_plane_program(last) {
+                fail.before
+            } else {
+                before.before
+            }
+        }
+        Effect::ProgramStarted { queued: false, .. } | Effect::CacheProgramStarted { .. } => {
+            keeps_array_busy(last) && before.failed
+        }
+        Effect::ProgramStarted { .. }
+        | Effect::ReadStarted { .. }
+        | Effect::ReadQueued { .. }
+        | Effect::CopybackReadStarted { .. }
+        | Effect::EraseStarted { .. }
+        | Effect::ParameterPageReadStarted
+        | Effect::UniqueIdReadStarted
+        | Effect::FeaturesReadStarted { .. }
+        | Effect::FeaturesSet { .. }
+        | Effect::CacheReadContinued { .. }
+        | Effect::CacheReadEnded
+        | Effect::ResetStarted
+        | Effect::TargetResetStarted { .. } => false,
+        _ => before.before,
+    }
+}
+
+/// What is told of the works of a LUN after a past.
+fn tell(alloc: Global, geometry: &Geometry, past: &[Item], lun: Lun) -> Result<Told, AllocError>
+    ensures changes { IfOk result (λ t. t.changes ≡ changes_pages geometry.now past.now lun) }
+    ensures array { IfOk result (λ t. t.array_changes ≡ array_changes geometry.now past.now lun) }
+    ensures failed { IfOk result (λ t. t.failed ≡ has_failed geometry.now past.now lun) }
+    ensures before { IfOk result (λ t. t.before ≡ has_failed_before geometry.now past.now lun) }
+{
+    match past {
+        [] => Ok(NOTHING_TOLD),
+        [item, rest @ ..] => {
+            let before = tell(alloc, geometry, rest, lun)?;
+            let effect = effect_on(alloc, geometry, rest, *item, lun)?;
+            let last = closer(alloc, geometry, rest, lun)?;
+            Ok(Told {
+                changes: changes_after(effect, before.changes),
+                array_changes: array_changes_after(effect, last, before),
+                failed: failed_after(effect, last, before),
+                before: before_failed_after(effect, last, before),
+            })
+        }
+    }
+}
+
+/// The work that goes on changes pages: Program Confirm, Page Cache Program or Block Erase Confirm closed it.
 pub fn changes_pages(
     alloc: Global,
     geometry: &Geometry,
@@ -329,17 +509,10 @@ pub fn changes_pages(
 ) -> Result<bool, AllocError>
     ensures { IfOk result (λ a. a ≡ changes_pages geometry.now past.now lun) }
 {
-    match past {
-        [] => Ok(false),
-        [item, rest @ ..] => {
-            let before = changes_pages(alloc, geometry, rest, lun)?;
-            let effect = effect_on(alloc, geometry, rest, *item, lun)?;
-            Ok(changes_after(effect, before))
-        }
-    }
+    Ok(tell(alloc, geometry, past, lun)?.changes)
 }
 
-/// The last work of the LUN was closed by Program Confirm or Block Erase Confirm, and its ready said failure.
+/// The last work of the LUN was a program or an erase, and what is told of it is a failure.
 pub fn has_failed(
     alloc: Global,
     geometry: &Geometry,
@@ -348,15 +521,7 @@ pub fn has_failed(
 ) -> Result<bool, AllocError>
     ensures { IfOk result (λ a. a ≡ has_failed geometry.now past.now lun) }
 {
-    match past {
-        [] => Ok(false),
-        [item, rest @ ..] => match effect_on(alloc, geometry, rest, *item, lun)? {
-            Effect::BecameReady { failed } => {
-                Ok(failed && changes_pages(alloc, geometry, rest, lun)?)
-            }
-            _ => has_failed(alloc, geometry, rest, lun),
-        },
-    }
+    Ok(tell(alloc, geometry, past, lun)?.failed)
 }
 
 /// The status byte of the LUN.
@@ -368,15 +533,14 @@ pub fn status(
 ) -> Result<Status, AllocError>
     ensures { IfOk result (λ s. s.0 ≡ status geometry.now past.now lun) }
 {
-    if is_busy(alloc, geometry, past, lun)? {
-        Ok(Status::BUSY)
-    } else if is_array_busy(alloc, geometry, past, lun)? {
-        Ok(Status::ARRAY_BUSY)
-    } else if has_failed(alloc, geometry, past, lun)? {
-        Ok(Status::FAILED)
-    } else {
-        Ok(Status::READY)
-    }
+    let busy = is_busy(alloc, geometry, past, lun)?;
+    let array_busy = is_array_busy(alloc, geometry, past, lun)?;
+    let told = tell(alloc, geometry, past, lun)?;
+    let fail = Failures {
+        last: told.failed && !is_plane_program(closer(alloc, geometry, past, lun)?),
+        before: told.before,
+    };
+    Ok(Status::of(busy, array_busy, fail))
 }
 
 /// The bytes of the LUN's register; `parameters` are those of the parameter page, three copies.

@@ -89,6 +89,7 @@ fn queue_after(alloc: Global, effect: Effect, before: &[Queued]) -> Result<Vec<Q
         | Effect::CopybackReadStarted { .. }
         | Effect::EraseStarted { .. }
         | Effect::ProgramStarted { .. }
+        | Effect::CacheProgramStarted { .. }
         | Effect::ResetStarted
         | Effect::TargetResetStarted { .. } => {
             return Ok(Vec::new(alloc));
@@ -131,14 +132,13 @@ fn facts_after(
     ensures short { IfOk result (IsShort (most + 1)) }
 {
     let works = before.busy || before.array_busy;
-    let caching = is_cache_read(before.closer);
     Ok(LunFacts {
         latch: given.latch_after(before.selected, works, before.latch),
         selected: effect.selected_after(before.selected),
         overlapped: effect.overlapped_after(works, before.overlapped),
         busy: effect.busy_after(before.busy),
         closer: effect.closer_after(before.closer),
-        array_busy: effect.array_busy_after(before.busy, caching, before.array_busy),
+        array_busy: effect.array_busy_after(before.busy, before.closer, before.array_busy),
         array_page: effect.array_page_after(before.array_page),
         register: effect.register_after(
             before.array_page,
@@ -402,7 +402,7 @@ pub fn is_caching(
     Ok(is_cache_read(last))
 }
 
-/// The last Read Cache Sequential of the LUN has had its ready, and its array has had none since.
+/// The last Read Cache Sequential or Page Cache Program of the LUN has had its ready, and its array has had none since.
 pub fn is_array_busy(
     alloc: Global,
     geometry: &Geometry,

@@ -256,10 +256,10 @@ module _ (s : Channel) (j : Job) (ops : List PlainOp) (before : List Item) (plai
     counts = was.counts;
     ahead_is = was.ahead_is;
   }
-  ready_stands seat (Ard x lun) h was = record {
+  ready_stands seat (Ard x lun fail) h was = record {
     doing = was.doing;
     works = was.works;
-    has = has_other j.lun.ce (first_of j before) seat.past was.doing was.works (Ard x lun) was.has refl refl;
+    has = has_other j.lun.ce (first_of j before) seat.past was.doing was.works (Ard x lun fail) was.has refl refl;
     counts = was.counts;
     ahead_is = was.ahead_is;
   }
@@ -288,7 +288,7 @@ stands s j ops _ (steps seat bytes r run may is truthful still) plain small =
     (small_before s.geometry j (first_of j (began s j seat run)) (failure_of ops) (map (sequence_of s.geometry j) ops) plain.one_lun bytes seat.past seat.ahead seat.done r is small))
 stands s j ops _ (readies seat (Cyc c) run ready permitted) plain small = cc
 stands s j ops _ (readies seat (Rdy x lun fail) run ready permitted) plain small = ready_stands s j ops (began s j seat run) plain seat (Rdy x lun fail) ready (stands s j ops seat run plain small)
-stands s j ops _ (readies seat (Ard x lun) run ready permitted) plain small = ready_stands s j ops (began s j seat run) plain seat (Ard x lun) ready (stands s j ops seat run plain small)
+stands s j ops _ (readies seat (Ard x lun fail) run ready permitted) plain small = ready_stands s j ops (began s j seat run) plain seat (Ard x lun fail) ready (stands s j ops seat run plain small)
 stands s j ops _ (others seat c m run free own there apart) plain small = other_stands s j ops (began s j seat run) plain seat c m own there apart (stands s j ops seat run plain small.1)
 
 -- ---- and the operations of its trace

@@ -61,7 +61,7 @@ abbrev pub AreBytes : List Item → Type 0
 AreBytes [] = Unit {0}
 AreBytes (Cyc c ∷ past) = (c.byte < 256) × AreBytes past
 AreBytes (Rdy ce lun fail ∷ past) = AreBytes past
-AreBytes (Ard ce lun ∷ past) = AreBytes past
+AreBytes (Ard ce lun fail ∷ past) = AreBytes past
 
 -- a program of these operations, on a channel of the base profile whose targets have one LUN each; before it came, the host of its target polled,
 -- or it has had none

@@ -14,7 +14,7 @@ use Rattle.trace_faults.specs.declared.known.Known.{Known}
 use Rattle.trace_faults.specs.declared.lun_known.LunKnown.{LunKnown}
 use Rattle.trace_faults.specs.declared.lun_known.LunKnown.TheVariants.{Nothing, Queue, Work, All}
 use Rattle.trace_faults.specs.Middle.{knows, nothing_known, learned_lun, is_all, has_begun}
-use Rattle.recording_laws.proofs.Luns.{IsUnder, IsBelow, is_under, Fits, IsHarmless, unseen_after}
+use Rattle.recording_laws.proofs.Luns.{IsUnder, IsBelow, is_under, Fits, IsHarmless, NoCacheProgram, unseen_after}
 use Rattle.recording_laws.proofs.Lists.{Each, each_more}
 use Rattle.recording_laws.proofs.Rules.{IsKnown}
 use Rattle.recording_laws.proofs.Unseen.{nothing_fits}
@@ -140,14 +140,14 @@ learns_each planes i k later es ss few l =
 
 -- ---- 5. an item that isn't
 
-harmless_from : (et : ℕ → LunView → Effect) (n : ℕ) (ts ss : List LunView) → Each IsBelow ts ss → AtEach (λ m s. (t : LunView) → IsHarmless (et m t) s) n ss → Each IsBelow (changed et n ts) ss
-harmless_from et n [] [] e h = tt
-harmless_from et n (t ∷ ts) (s ∷ ss) e h = (unseen_after (et n t) t s e.0 (h.0 t), harmless_from et (n + 1) ts ss e.1 h.1)
-harmless_from et n [] (s ∷ ss) e h = e
-harmless_from et n (t ∷ ts) [] e h = e
+harmless_from : (et : ℕ → LunView → Effect) (n : ℕ) (ts ss : List LunView) → Each IsBelow ts ss → ((m : ℕ) (t : LunView) → NoCacheProgram (et m t)) → AtEach (λ m s. (t : LunView) → IsHarmless (et m t) s) n ss → Each IsBelow (changed et n ts) ss
+harmless_from et n [] [] e never h = tt
+harmless_from et n (t ∷ ts) (s ∷ ss) e never h = (unseen_after (et n t) t s e.0 (never n t) (h.0 t), harmless_from et (n + 1) ts ss e.1 never h.1)
+harmless_from et n [] (s ∷ ss) e never h = e
+harmless_from et n (t ∷ ts) [] e never h = e
 
-pub below_unseen : (et : ℕ → LunView → Effect) (ts ss : List LunView) → Each IsBelow ts ss → ((m : ℕ) (s : LunView) → slice_get ss m ≡ Some s → (t : LunView) → IsHarmless (et m t) s) → Each IsBelow (changed et 0 ts) ss
-below_unseen et ts ss e h = harmless_from et 0 ts ss e (at_each (λ m s. (t : LunView) → IsHarmless (et m t) s) ss h)
+pub below_unseen : (et : ℕ → LunView → Effect) (ts ss : List LunView) → Each IsBelow ts ss → ((m : ℕ) (t : LunView) → NoCacheProgram (et m t)) → ((m : ℕ) (s : LunView) → slice_get ss m ≡ Some s → (t : LunView) → IsHarmless (et m t) s) → Each IsBelow (changed et 0 ts) ss
+below_unseen et ts ss e never h = harmless_from et 0 ts ss e never (at_each (λ m s. (t : LunView) → IsHarmless (et m t) s) ss h)
 
 pub knows_nothing : (n : ℕ) → n < 4 → knows nothing_known n ≡ Nothing
 knows_nothing zero h = refl

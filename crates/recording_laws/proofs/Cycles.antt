@@ -3,10 +3,10 @@ use Rattle.std.proofs.Common.{◌≡◌, ℕ, ◌+◌, ◌==◌, Bool, true, fal
 use Rattle.std.proofs.lemmas.Bool.{and_parts, or_parts, not-true, not-false}
 use Rattle.nand_geometry.specs.declared.parts.Parts.{Parts}
 use Rattle.nand_geometry.specs.Limits.{planes}
-use Rattle.nand_geometry.specs.Optional.{has_plane_reads, has_copyback}
+use Rattle.nand_geometry.specs.Optional.{has_plane_reads}
 use Rattle.nand_geometry.specs.Row.{parts_of}
 use Rattle.onfi_cycle.specs.declared.command.Command.{Command}
-use Rattle.onfi_cycle.specs.declared.command.Command.TheVariants.{Read, ReadConfirm, ChangeReadColumn, ChangeReadColumnEnhanced, ChangeReadColumnConfirm, BlockErase, BlockEraseConfirm, BlockErasePlane, ReadStatus, ReadStatusEnhanced, PageProgram, ProgramConfirm, ProgramPlane, ReadPlane, ReadId, ReadParameterPage, Reset, ReadCacheSequential, ReadCacheEnd, ReadUniqueId, GetFeatures, SetFeatures, ResetLun, SynchronousReset, CopybackRead, ChangeWriteColumn}
+use Rattle.onfi_cycle.specs.declared.command.Command.TheVariants.{Read, ReadConfirm, ChangeReadColumn, ChangeReadColumnEnhanced, ChangeReadColumnConfirm, BlockErase, BlockEraseConfirm, BlockErasePlane, ReadStatus, ReadStatusEnhanced, PageProgram, ProgramConfirm, ProgramPlane, ReadPlane, ReadId, ReadParameterPage, Reset, ReadCacheSequential, ReadCacheEnd, ReadUniqueId, GetFeatures, SetFeatures, ResetLun, SynchronousReset, CopybackRead, ChangeWriteColumn, ProgramCache}
 use Rattle.onfi_cycle.specs.declared.effect.Effect.{Effect}
 use Rattle.onfi_cycle.specs.declared.effect.Effect.TheVariants.{Unaffected, SelectedForStatus, Deselected, IdRead, IdentityRead, UniqueIdReadStarted, FeaturesReadStarted, FeaturesSet, ParameterPageReadStarted, CacheReadContinued, CacheReadEnded, ReadColumnChanged, PlaneSelected, DataOutput, ResetStarted, AnotherAddressed, ProgramAddressed}
 use Rattle.onfi_cycle.specs.declared.item.Cycle.{Cycle}
@@ -33,7 +33,7 @@ use Rattle.onfi_cycle.proofs.Passed.{KeepsRules}
 use Rattle.trace_faults.specs.declared.known.Known.{Known}
 use Rattle.trace_faults.specs.declared.lun_known.LunKnown.{LunKnown}
 use Rattle.trace_faults.specs.Middle.{knows, is_all, has_begun, is_reset_cycle, is_reset, learned_lun}
-use Rattle.recording_laws.proofs.Luns.{Shows, IsBelow, Fits, Asks, fits_after}
+use Rattle.recording_laws.proofs.Luns.{IsNarrow, Shows, IsBelow, Fits, Asks, fits_after}
 use Rattle.recording_laws.proofs.Lists.{Each, SameOff, same_driver, AllOn, driver_on}
 use Rattle.recording_laws.proofs.Changed.{changed, luns_are_changed, same_changed, AtEach, at_each, Goes, GoEach, go_each}
 use Rattle.recording_laws.proofs.Unseen.{other_plain, target_plain}
@@ -128,7 +128,7 @@ asks_plane g u n t s selects z = of (names_lun g (row u) n) refl
     of true names = z selects names
     of false names = tt
 
-asks_command : (g : Parts) → is_shared g ≡ false → has_copyback g.optional ≡ false → (u : TailFacts) (la : Latch) (c : Command) (n : ℕ) (t s : LunView) → breaks_command_unknown g (CommandCycle c) ≡ false → asks_driver (CommandCycle c) ≡ false → ReadsClear g u n t → Asks (has_plane_reads g.optional) (command_effect g u la c n) t s
+asks_command : (g : Parts) → is_shared g ≡ false → IsNarrow g → (u : TailFacts) (la : Latch) (c : Command) (n : ℕ) (t s : LunView) → breaks_command_unknown g (CommandCycle c) ≡ false → asks_driver (CommandCycle c) ≡ false → ReadsClear g u n t → Asks (has_plane_reads g.optional) (command_effect g u la c n) t s
 unfolding breaks_command_unknown
 asks_command g plain copyless u la Read n t s f2 h z = tt
 asks_command g plain copyless u la ReadStatus n t s f2 h z = rw plain tt
@@ -141,7 +141,8 @@ asks_command g plain copyless u la ChangeReadColumnConfirm n t s f2 h z = cc
 asks_command g plain copyless u la ReadConfirm n t s f2 h z =
     asks_or (has_plane_reads g.optional) (wants_command u ReadConfirm && names_lun g (row u) n) (confirm_effect g u ReadConfirm) (other_effect g u ReadConfirm) t s
     (λ b single. let a = and_parts (wants_command u ReadConfirm) (names_lun g (row u) n) b in z single (read_opened u.opening a.0) a.1) (asks_other g u ReadConfirm t s plain)
-asks_command g plain copyless u la CopybackRead n t s f2 h z = let none : true ≡ false = rw copyless at f2 in cc
+asks_command g plain copyless u la CopybackRead n t s f2 h z = let none : true ≡ false = rw copyless.copyback at f2 in cc
+asks_command g plain copyless u la ProgramCache n t s f2 h z = let none : true ≡ false = rw copyless.cache at f2 in cc
 asks_command g plain copyless u la c n t s f2 h z = asks_or (has_plane_reads g.optional) (wants_command u c && names_lun g (row u) n) (confirm_effect g u c) (other_effect g u c) t s (λ b. tt) (asks_other g u c t s plain)
 
 resets_command : (g : Parts) → is_shared g ≡ false → (u : TailFacts) (la : Latch) (c : Command) (n : ℕ) → is_reset_cycle (CommandCycle c) ≡ true → command_effect g u la c n ≡ ResetStarted
@@ -202,6 +203,7 @@ asks_opener g plain lb ReadPlane n t s o h = cc
 asks_opener g plain lb CopybackRead n t s o h = cc
 asks_opener g plain lb ProgramConfirm n t s o h = cc
 asks_opener g plain lb ProgramPlane n t s o h = cc
+asks_opener g plain lb ProgramCache n t s o h = cc
 asks_opener g plain lb c n t s o h = tt
 
 -- ---- 4. addresses and outputs
@@ -224,7 +226,7 @@ asks_address g plain u byte (Some o) n t s = asks_address_of g plain u byte o.op
 output_unseen : (p : Bool) (k : LunKnown) (t s : LunView) → s.latch ≡ Status → t.latch ≡ Data → Fits p k t s → Fits p k (view_after DataOutput t) s
 output_unseen p k t s status gives f =
     record {
-      below = record { busy = f.below.busy; queue = f.below.queue; latch = f.below.latch; calm = f.below.calm };
+      below = record { busy = f.below.busy; queue = f.below.queue; latch = f.below.latch; calm = f.below.calm; spare = record { closer = f.below.spare.closer; array = f.below.spare.array }; spare_seen = record { closer = f.below.spare_seen.closer; array = f.below.spare_seen.array } };
       queue = f.queue;
       begun = λ h.
           let b = f.begun h in
@@ -259,7 +261,7 @@ cache_read_on g u h la n = ap (λ (b : Bool). cond b (row_effect g u ReadCacheSe
 abbrev ReadsPages : Parts → TailFacts → ℕ → LunView → Type 0
 ReadsPages g u n s = names_lun g (row u) n ≡ true → is_page_read s.closer ≡ true
 
-module _ (g : Parts) (plain : is_shared g ≡ false) (copyless : has_copyback g.optional ≡ false) (i : Item) (k : Known) (ts ss : List LunView) (each : Each IsBelow ts ss) where
+module _ (g : Parts) (plain : is_shared g ≡ false) (copyless : IsNarrow g) (i : Item) (k : Known) (ts ss : List LunView) (each : Each IsBelow ts ss) where
   -- 31h and 3Fh, whatever the tails
   go_cache : (u w : TailFacts) (test : LunView → Bool) (c : Command) (x : Effect) → ((la : Latch) (n : ℕ) → command_effect g u la c n ≡ cond (is_off la) Unaffected x) → ((la : Latch) (n : ℕ) → command_effect g w la c n ≡ cond (is_off la) Unaffected x) →
       ((t s : LunView) → test s ≡ true → Asks (has_plane_reads g.optional) x t s) → (is_reset i ≡ true → ⊥) → driver_is test ts ≡ true → driver_is test ss ≡ true →

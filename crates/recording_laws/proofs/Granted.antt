@@ -14,7 +14,7 @@ use Rattle.onfi_cycle.specs.declared.opening.Opening.{Opening}
 use Rattle.onfi_cycle.specs.declared.tail_facts.TailFacts.{TailFacts}
 use Rattle.onfi_cycle.specs.declared.target_cycle.TargetCycle.{TargetCycle}
 use Rattle.onfi_cycle.specs.declared.target_cycle.TargetCycle.TheVariants.{CommandCycle, AddressCycle, InputCycle, OutputCycle}
-use Rattle.nand_geometry.specs.Optional.{is_wide, has_copyback}
+use Rattle.nand_geometry.specs.Optional.{is_wide}
 use Rattle.onfi_cycle.specs.Command.{begins_data, is_set_features, at_last_row, is_change_read_column, is_enhanced_column, reads_identity}
 use Rattle.onfi_cycle.specs.Effect.{is_off, is_data, is_shared, names_lun, confirm_effect, other_effect, row_effect, cache_effect, command_effect, address_effect, opening_address_effect, cycle_effect, program_row_effect}
 use Rattle.onfi_cycle.specs.Lun.{is_page_read}
@@ -22,7 +22,7 @@ use Rattle.onfi_cycle.specs.LunView.{LunView}
 use Rattle.onfi_cycle.specs.Rules.{is_some_and, named_lun_is, ends_row, excludes_cache, second_column, second_of_page, caching, breaks_no_column_to_change, breaks_no_sole_driver, breaks_data_not_ready, breaks_column_outside, breaks_cache_read_misplaced, breaks_plane_not_held, breaks_command_unknown}
 use Rattle.onfi_cycle.specs.Sequence.{facts_of, begins_anew, opened, phase_after_address, phase_after_last_address, phase_after_command, one_address_more, row, row_with, wants_command, extended_facts, facts_after}
 use Rattle.onfi_cycle.proofs.Passed.{KeepsRules}
-use Rattle.recording_laws.proofs.Luns.{IsBelow, IsHarmless, reads_on}
+use Rattle.recording_laws.proofs.Luns.{IsBelow, IsHarmless, IsNarrow, reads_on}
 use Rattle.recording_laws.proofs.Lists.{Each}
 use Rattle.recording_laws.proofs.Rules.{six, six_of}
 use Rattle.recording_laws.proofs.Unseen.{is_led, is_quiet_by, is_named_by, is_plane_by, NoneQueued, AllNamed, MayCome, quiet, named, selecting, quiet_command, harmless_if, harmless_or, other_harmless, harmless_unless}
@@ -116,11 +116,11 @@ is_granted g t ss c rule h = at (grants c) refl
     at false e = let none = none_granted g t ss c e in cc
 
 -- where a chip has no copyback, no 35h is permitted
-pub no_copyback : (g : Parts) → has_copyback g.optional ≡ false → (c : Command) → breaks_command_unknown g (CommandCycle c) ≡ false → c ≡ CopybackRead → ⊥
+pub no_copyback : (g : Parts) → IsNarrow g → (c : Command) → breaks_command_unknown g (CommandCycle c) ≡ false → c ≡ CopybackRead → ⊥
 unfolding breaks_command_unknown
 no_copyback g copyless c f2 same =
     let known : breaks_command_unknown g (CommandCycle CopybackRead) ≡ false = sym (ap (λ (x : Command). breaks_command_unknown g (CommandCycle x)) same) ∙ f2 in
-    let none : true ≡ false = rw copyless at known in
+    let none : true ≡ false = rw copyless.copyback at known in
     cc
 
 -- it ends the data of a program

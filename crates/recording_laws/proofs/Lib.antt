@@ -1,4 +1,5 @@
 pub mod Luns
+pub mod Never
 pub mod Lists
 pub mod Rules
 pub mod Unseen

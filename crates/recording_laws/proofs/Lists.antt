@@ -6,7 +6,7 @@ use Rattle.onfi_cycle.specs.Effect.{is_off}
 use Rattle.onfi_cycle.specs.LunView.{LunView}
 use Rattle.onfi_cycle.specs.Rules.{driving, are_none, only, driver, is_some_and, driver_is, lun_is}
 use Rattle.onfi_cycle.specs.State.{has_driver}
-use Rattle.recording_laws.proofs.Luns.{IsBelow, shows_on}
+use Rattle.recording_laws.proofs.Luns.{IsBelow, IsSpare, shows_on}
 
 -- each LUN and what is seen of it
 abbrev pub Each : (LunView → LunView → Type 0) → List LunView → List LunView → Type 0
@@ -24,6 +24,13 @@ each_more R Q f (t ∷ ts) [] e = e
 pub either_of : {A : Type 0} (a b : Bool) → (a || b) ≡ true → (a ≡ true → A) → (b ≡ true → A) → A
 either_of true b h f k = f refl
 either_of false b h f k = k h
+
+-- of each that is seen: no page is programmed behind its ready
+abbrev pub SpareSeen : LunView → LunView → Type 0
+SpareSeen t s = IsSpare s
+
+pub spare_each : (ts ss : List LunView) → Each IsBelow ts ss → Each SpareSeen ts ss
+spare_each ts ss e = each_more IsBelow SpareSeen (λ t s b. b.spare_seen) ts ss e
 
 -- ---- a test of some LUN
 

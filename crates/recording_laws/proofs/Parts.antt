@@ -6,6 +6,7 @@ use Rattle.std.proofs.lemmas.Option.{slice_get_within}
 use Rattle.nand_geometry.specs.declared.parts.Parts.{Parts}
 use Rattle.nand_geometry.specs.Optional.{has_plane_reads}
 use Rattle.onfi_cycle.specs.declared.effect.Effect.TheVariants.{BecameReady, ArrayBecameReady}
+use Rattle.onfi_cycle.specs.declared.item.Failures.{Failures}
 use Rattle.onfi_cycle.specs.declared.item.Item.{Item}
 use Rattle.onfi_cycle.specs.declared.item.Item.TheVariants.{Cyc, Rdy, Ard}
 use Rattle.onfi_cycle.specs.declared.lun.Lun.{Lun}
@@ -22,7 +23,8 @@ use Rattle.trace_faults.specs.declared.readies.Readies.TheVariants.{Written}
 use Rattle.trace_faults.specs.Middle.{Seen, nothing_known, first_known, all_first_known, known_of, waits_for_reset, first_seen, seen_after, verdicts_from, all_broken}
 use Rattle.trace_faults.proofs.Judged.{onto, before, nothing}
 use Rattle.recording_laws.specs.FromMiddle.{PartsHaveNoFaults}
-use Rattle.recording_laws.proofs.Luns.{IsBelow, IsBlank}
+use Rattle.recording_laws.proofs.Never.{narrow_of, spare_past}
+use Rattle.recording_laws.proofs.Luns.{IsBelow, IsBlank, IsSpare}
 use Rattle.recording_laws.proofs.Lists.{Each}
 use Rattle.recording_laws.proofs.Changed.{all_nothing}
 use Rattle.recording_laws.proofs.Unseen.{blank}
@@ -35,13 +37,13 @@ use Rattle.recording_laws.proofs.Stepped.{Stepped, here_of, cycle_step, ready_st
 
 -- ---- 1. each item
 
-ready_there : (ce lun : ℕ) (fail : Bool) (n : ℕ) (luns : List LunView) → breaks_not_there n luns (Rdy ce lun fail) ≡ (leb n ce || not (lun_is (λ v. v.busy) luns lun))
+ready_there : (ce lun : ℕ) (fail : Failures) (n : ℕ) (luns : List LunView) → breaks_not_there n luns (Rdy ce lun fail) ≡ (leb n ce || not (lun_is (λ v. v.busy) luns lun))
 unfolding breaks_not_there
 ready_there ce lun fail n luns = refl
 
-array_ready_there : (ce lun n : ℕ) (luns : List LunView) → breaks_not_there n luns (Ard ce lun) ≡ (leb n ce || not (lun_is (λ v. v.array_busy) luns lun))
+array_ready_there : (ce lun : ℕ) (fail : Bool) (n : ℕ) (luns : List LunView) → breaks_not_there n luns (Ard ce lun fail) ≡ (leb n ce || not (lun_is (λ v. v.array_busy) luns lun))
 unfolding breaks_not_there
-array_ready_there ce lun n luns = refl
+array_ready_there ce lun fail n luns = refl
 
 or_nothing : (b : Bool) → (b || false) ≡ b
 or_nothing true = refl
@@ -59,15 +61,15 @@ stepped g bus seen (Cyc c) later f h = cycle_step g bus seen c later f (here_of 
 stepped g bus seen (Rdy ce lun fail) later f h =
     ready_step g bus seen (Rdy ce lun fail) later f (here_of g bus seen (Rdy ce lun fail) f h) lun (BecameReady fail) (λ v. v.busy) (ready_is ce lun fail)
     (ready_there ce lun fail) (λ t. refl) refl refl (λ rule. refl) (λ x y. opens_nothing seen.state.bus.geometry (known_of seen.known ce).opened)
-stepped g bus seen (Ard ce lun) later f h =
-    ready_step g bus seen (Ard ce lun) later f (here_of g bus seen (Ard ce lun) f h) lun ArrayBecameReady (λ v. v.array_busy) (array_ready_is ce lun)
-    (array_ready_there ce lun) (λ t. refl) refl refl (λ rule. refl) (λ x y. opens_nothing seen.state.bus.geometry (known_of seen.known ce).opened)
+stepped g bus seen (Ard ce lun fail) later f h =
+    ready_step g bus seen (Ard ce lun fail) later f (here_of g bus seen (Ard ce lun fail) f h) lun (ArrayBecameReady fail) (λ v. v.array_busy) (array_ready_is ce lun fail)
+    (array_ready_there ce lun fail) (λ t. refl) refl refl (λ rule. refl) (λ x y. opens_nothing seen.state.bus.geometry (known_of seen.known ce).opened)
 
 -- ---- 2. where the recording begins
 
-first_below : (g : Parts) (past : List Item) (ce count n : ℕ) → Each IsBelow (views_from g past ce count n) (views_from g [] ce count n)
-first_below g past ce zero n = tt
-first_below g past ce (suc count) n = (record { busy = λ h. cc; queue = λ test h. cc; latch = tt; calm = λ h. refl }, first_below g past ce count (n + 1))
+first_below : (g : Parts) (past : List Item) → ((l : Lun) → IsSpare (lun_view g past l)) → (ce count n : ℕ) → Each IsBelow (views_from g past ce count n) (views_from g [] ce count n)
+first_below g past spare ce zero n = tt
+first_below g past spare ce (suc count) n = (record { busy = λ h. cc; queue = λ test h. cc; latch = tt; calm = λ h. refl; spare = spare (record { ce = ce; lun = n }); spare_seen = record { closer = refl; array = λ h. refl } }, first_below g past spare ce count (n + 1))
 
 blank_from : (g : Parts) (ce count n m : ℕ) (s : LunView) → slice_get (views_from g [] ce count n) m ≡ Some s → IsBlank s
 blank_from g ce zero n m s h = cc
@@ -84,13 +86,13 @@ first_is_known targets (suc (suc zero)) h few = ap first_known (lt-ltb 2 targets
 first_is_known targets (suc (suc (suc zero))) h few = ap first_known (lt-ltb 3 targets h)
 first_is_known targets (suc (suc (suc (suc ce)))) h few = absurd (omega (arith, h, few))
 
-first_plain : (g : Parts) (past : List Item) (ce : ℕ) → g.luns ≤ 4 → FitsTarget g nothing_known (target_view g past ce) (target_view g [] ce)
-first_plain g past ce few =
+first_plain : (g : Parts) (past : List Item) (ce : ℕ) → g.luns ≤ 4 → ((l : Lun) → IsSpare (lun_view g past l)) → FitsTarget g nothing_known (target_view g past ce) (target_view g [] ce)
+first_plain g past ce few spare =
     let short : length (luns_of g [] ce) ≤ 4 = let len = views_length g [] ce g.luns 0 in omega (arith, len, few) in
     record {
       few = short;
       count = let len = views_length g [] ce g.luns 0 in omega (arith, len);
-      luns = all_nothing (has_plane_reads g.optional) (luns_of g past ce) (luns_of g [] ce) short (first_below g past ce g.luns 0);
+      luns = all_nothing (has_plane_reads g.optional) (luns_of g past ce) (luns_of g [] ce) short (first_below g past spare ce g.luns 0);
       opened = λ h. cc;
       closed = λ h. record { tail = refl; nothing = refl; comes = blank (λ m s found. blank_from g ce g.luns 0 m s found) };
     }
@@ -99,14 +101,14 @@ beside_from : (g : Parts) (past : List Item) (ce count n : ℕ) → Each Beside 
 beside_from g past ce zero n = tt
 beside_from g past ce (suc count) n = (tt, beside_from g past ce count (n + 1))
 
-first_target : (g : Parts) (past : List Item) (ce : ℕ) → g.luns ≤ 4 → FitsEither g nothing_known (target_view g past ce) (target_view g [] ce)
-first_target g past ce few =
-    let plain = first_plain g past ce few in
+first_target : (g : Parts) (past : List Item) (ce : ℕ) → g.luns ≤ 4 → (waits_for_reset g ≡ false → (l : Lun) → IsSpare (lun_view g past l)) → FitsEither g nothing_known (target_view g past ce) (target_view g [] ce)
+first_target g past ce few spare =
+    let short : length (luns_of g [] ce) ≤ 4 = let len = views_length g [] ce g.luns 0 in omega (arith, len, few) in
     record {
-      plain = λ h. plain;
+      plain = λ h. first_plain g past ce few (spare h);
       shared = λ h.
           record {
-            few = plain.few;
+            few = short;
             beside = beside_from g past ce g.luns 0;
             opened = λ y. cc;
             closed = λ y. record { tail = refl; nothing = refl; blank = λ m s found. blank_from g ce g.luns 0 m s found };
@@ -131,7 +133,7 @@ begins_fitting g targets past items few luns legal =
           let same_t : target_view g past ce ≡ t = cc in
           let same_s : target_view g [] ce ≡ s = cc in
           subst (λ (k : Known). FitsEither g k t s) (sym (first_is_known targets ce there few))
-          (subst (λ (u : TargetView). FitsEither g nothing_known u s) same_t (subst (λ (u : TargetView). FitsEither g nothing_known (target_view g past ce) u) same_s (first_target g past ce luns)));
+          (subst (λ (u : TargetView). FitsEither g nothing_known u s) same_t (subst (λ (u : TargetView). FitsEither g nothing_known (target_view g past ce) u) same_s (first_target g past ce luns (λ h. spare_past g targets past (narrow_of g h).cache legal))));
     }
   where
     follows : Follows g targets (bus g (targets_from g past targets 0)) past

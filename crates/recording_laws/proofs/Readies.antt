@@ -5,6 +5,7 @@ use Rattle.nand_geometry.specs.declared.parts.Parts.{Parts}
 use Rattle.nand_geometry.specs.Optional.{has_plane_reads}
 use Rattle.onfi_cycle.specs.declared.effect.Effect.{Effect}
 use Rattle.onfi_cycle.specs.declared.effect.Effect.TheVariants.{Unaffected, BecameReady, ArrayBecameReady}
+use Rattle.onfi_cycle.specs.declared.item.Failures.{Failures}
 use Rattle.onfi_cycle.specs.declared.item.Item.{Item}
 use Rattle.onfi_cycle.specs.declared.item.Item.TheVariants.{Rdy, Ard}
 use Rattle.onfi_cycle.specs.declared.tail_facts.TailFacts.{TailFacts}
@@ -22,7 +23,7 @@ use Rattle.trace_faults.specs.declared.known.Known.{Known}
 use Rattle.trace_faults.specs.declared.lun_known.LunKnown.{LunKnown}
 use Rattle.trace_faults.specs.declared.lun_known.LunKnown.TheVariants.{Nothing, Queue, Work, All}
 use Rattle.trace_faults.specs.Middle.{knows, nothing_known, is_reset, is_page, has_begun, learned_by, learned_lun}
-use Rattle.recording_laws.proofs.Luns.{IsBegun, Fits, Asks, IsHarmless, IsBlank, unseen_after}
+use Rattle.recording_laws.proofs.Luns.{IsBegun, Fits, Asks, IsHarmless, IsBlank, NoCacheProgram, unseen_after}
 use Rattle.recording_laws.proofs.Lists.{Each, SameOff, driver_up}
 use Rattle.recording_laws.proofs.Changed.{changed, changed_found, changed_length, luns_are_changed, same_changed, AtEach, at_each, AllFit, GoEach, all_fit_on, IsLearned, learns_each}
 use Rattle.recording_laws.proofs.Cycles.{go_same}
@@ -46,8 +47,9 @@ pub record IsReady (i : Item) (lun : ℕ) (x : Effect) (works : LunView → Bool
   pub begun : (t s : LunView) → IsBegun t s → works t ≡ works s
   pub blank : (s : LunView) → IsBlank s → works s ≡ false
   pub goes : (s : LunView) → GoesOn x s
+  pub never : NoCacheProgram x
 
-pub ready_is : (ce lun : ℕ) (fail : Bool) → IsReady (Rdy ce lun fail) lun (BecameReady fail) (λ v. v.busy)
+pub ready_is : (ce lun : ℕ) (fail : Failures) → IsReady (Rdy ce lun fail) lun (BecameReady fail) (λ v. v.busy)
 ready_is ce lun fail =
     record {
       effect = λ g u sole n v. rw (eqb_self ce) refl;
@@ -57,14 +59,15 @@ ready_is ce lun fail =
       queue = λ v. refl;
       busy = λ v h. cc;
       asks = λ p t s. tt;
+      never = tt;
       harmless = λ s h. h;
       begun = λ t s b. b.busy;
       blank = λ s b. b.busy;
       goes = λ s. tt;
     }
 
-pub array_ready_is : (ce lun : ℕ) → IsReady (Ard ce lun) lun ArrayBecameReady (λ v. v.array_busy)
-array_ready_is ce lun =
+pub array_ready_is : (ce lun : ℕ) (fail : Bool) → IsReady (Ard ce lun fail) lun (ArrayBecameReady fail) (λ v. v.array_busy)
+array_ready_is ce lun fail =
     record {
       effect = λ g u sole n v. rw (eqb_self ce) refl;
       tail = λ g s. refl;
@@ -73,6 +76,7 @@ array_ready_is ce lun =
       queue = λ v. refl;
       busy = λ v h. h;
       asks = λ p t s. tt;
+      never = tt;
       harmless = λ s h. tt;
       begun = λ t s b. b.array_busy;
       blank = λ s b. b.array_busy;
@@ -235,9 +239,9 @@ module _ (i : Item) (lun : ℕ) (x : Effect) (works : LunView → Bool) (is : Is
     -- ---- 4. a ready that is taken for granted
 
     unseen_fits : (y : LunKnown) (a b : LunView) → Fits (has_plane_reads g.optional) y a b → has_begun y ≡ false → works b ≡ false → Fits (has_plane_reads g.optional) y (view_after x a) b
-    unseen_fits Nothing a b e none idle = record { below = unseen_after x a b e.below (is.harmless b idle); queue = λ p h. cc; begun = λ h. cc; same = λ h. cc; off = λ h m. cc }
+    unseen_fits Nothing a b e none idle = record { below = unseen_after x a b e.below is.never (is.harmless b idle); queue = λ p h. cc; begun = λ h. cc; same = λ h. cc; off = λ h m. cc }
     unseen_fits Queue a b e none idle =
-        record { below = unseen_after x a b e.below (is.harmless b idle); queue = λ p h. ap pages_of_reads (is.queue a) ∙ e.queue p h; begun = λ h. cc; same = λ h. cc; off = λ h m. cc }
+        record { below = unseen_after x a b e.below is.never (is.harmless b idle); queue = λ p h. ap pages_of_reads (is.queue a) ∙ e.queue p h; begun = λ h. cc; same = λ h. cc; off = λ h m. cc }
     unseen_fits Work a b e none idle = cc
     unseen_fits All a b e none idle = cc
 

@@ -5,7 +5,7 @@ use Rattle.std.proofs.lemmas.Bool.{and_parts, and_from, and_right, or_left, or_r
 use Rattle.nand_geometry.specs.declared.parts.Parts.{Parts}
 use Rattle.nand_geometry.specs.Limits.{planes}
 use Rattle.onfi_cycle.specs.declared.command.Command.{Command}
-use Rattle.onfi_cycle.specs.declared.command.Command.TheVariants.{Read, ChangeReadColumn, BlockErase, PageProgram, ChangeWriteColumn, ReadStatus, ReadStatusEnhanced, ReadConfirm, ReadPlane, CopybackRead, ReadCacheSequential, ReadCacheEnd}
+use Rattle.onfi_cycle.specs.declared.command.Command.TheVariants.{Read, ChangeReadColumn, BlockErase, PageProgram, ChangeWriteColumn, ReadStatus, ReadStatusEnhanced, ReadConfirm, ReadPlane, CopybackRead, ReadCacheSequential, ReadCacheEnd, ProgramCache}
 use Rattle.onfi_cycle.specs.declared.forbidden.Forbidden.{Forbidden}
 use Rattle.onfi_cycle.specs.declared.forbidden.Forbidden.TheVariants.{NoColumnToChange, NoSoleDriver, DataNotReady, ColumnOutside, CacheReadMisplaced, PlaneNotHeld}
 use Rattle.onfi_cycle.specs.declared.latch.Latch.{Latch}
@@ -18,18 +18,18 @@ use Rattle.onfi_cycle.specs.declared.register.Register.TheVariants.{Empty, Page,
 use Rattle.onfi_cycle.specs.declared.tail_facts.TailFacts.{TailFacts}
 use Rattle.onfi_cycle.specs.declared.target_cycle.TargetCycle.{TargetCycle}
 use Rattle.onfi_cycle.specs.declared.target_cycle.TargetCycle.TheVariants.{CommandCycle, AddressCycle, InputCycle, OutputCycle}
-use Rattle.nand_geometry.specs.Optional.{is_wide, has_copyback}
+use Rattle.nand_geometry.specs.Optional.{is_wide, has_copyback, has_program_cache, has_group_cache}
 use Rattle.onfi_cycle.specs.Command.{is_opener, reads_identity, at_last_row, addresses_the_array, is_change_read_column, is_enhanced_column, is_page_program, is_write_column}
 use Rattle.onfi_cycle.specs.Effect.{is_off, is_data, is_shared, page_address}
-use Rattle.onfi_cycle.specs.Lun.{is_cache_read, is_page_read, output_column}
+use Rattle.onfi_cycle.specs.Lun.{is_cache_read, is_page_read, output_column, programs}
 use Rattle.onfi_cycle.specs.LunView.{LunView}
 use Rattle.onfi_cycle.specs.Permitted.{judge_cycle}
-use Rattle.onfi_cycle.specs.Rules.{is_some_and, driver_is, named_lun_is, ends_row, excludes_cache, holds_plane_of, register_len, is_page_or_parameters, is_empty, lacks, is_past, queued_clashes, read_clashes, has_some, has_read_one, may_change_column, refused_by, is_refused_by, works_for_target, is_unclear, has_no_byte, is_past_register, second_column, second_of_page, caching, continues_cache, ends_cache, breaks_sequence_open, breaks_several_luns, breaks_no_column_to_change, breaks_command_misplaced, breaks_address_misplaced, breaks_row_outside, breaks_lun_busy, breaks_queue_clash, breaks_input_misplaced, breaks_no_sole_driver, breaks_data_not_ready, breaks_column_outside, breaks_cache_read_misplaced, breaks_plane_not_held, opens_here, begins_on_ready, breaks_copyback_misplaced, may_copy, is_copying}
+use Rattle.onfi_cycle.specs.Rules.{is_some_and, driver_is, named_lun_is, ends_row, excludes_cache, holds_plane_of, register_len, is_page_or_parameters, is_empty, lacks, is_past, queued_clashes, read_clashes, has_some, has_read_one, may_change_column, refused_by, is_refused_by, works_for_target, is_unclear, has_no_byte, is_past_register, second_column, second_of_page, caching, continues_cache, ends_cache, breaks_command_unknown, breaks_cache_program_misplaced, excludes_program, holds_none, breaks_sequence_open, breaks_several_luns, breaks_no_column_to_change, breaks_command_misplaced, breaks_address_misplaced, breaks_row_outside, breaks_lun_busy, breaks_queue_clash, breaks_input_misplaced, breaks_no_sole_driver, breaks_data_not_ready, breaks_column_outside, breaks_cache_read_misplaced, breaks_plane_not_held, opens_here, begins_on_ready, breaks_copyback_misplaced, may_copy, is_copying}
 use Rattle.onfi_cycle.specs.Sequence.{facts_of, begins_anew, wants_command, row, row_with, column_with, is_open}
 use Rattle.onfi_cycle.proofs.Passed.{KeepsRules}
 use Rattle.trace_faults.specs.Middle.{hangs_on_before}
-use Rattle.recording_laws.proofs.Luns.{Within, Shows, IsUnder, IsBegun, IsSame}
-use Rattle.recording_laws.proofs.Lists.{Each, each_more, either_of, any_up, any_down, lun_up, lun_down, driver_up, driver_down}
+use Rattle.recording_laws.proofs.Luns.{Within, Shows, IsUnder, IsBegun, IsSame, IsNarrow, spare_programs}
+use Rattle.recording_laws.proofs.Lists.{Each, SpareSeen, each_more, either_of, any_up, any_down, lun_up, lun_down, driver_up, driver_down}
 
 -- ---- 1. Booleans
 
@@ -180,18 +180,42 @@ six_of g t ss cycle = six (breaks_no_column_to_change ss cycle) (breaks_no_sole_
 -- where a chip has no copyback
 copyless_kept : (g : Parts) (t : TailFacts) (ss : List LunView) (cycle : TargetCycle) → has_copyback g.optional ≡ false → breaks_copyback_misplaced g t ss cycle ≡ false
 unfolding breaks_copyback_misplaced
+copyless_kept g t ss (CommandCycle ProgramCache) h = rw h refl
 copyless_kept g t ss (CommandCycle c) h = refl
 copyless_kept g t ss (AddressCycle byte) h = rw h refl
 copyless_kept g t ss (InputCycle byte) h = refl
 copyless_kept g t ss OutputCycle h = refl
 
-pub judged_six : (g : Parts) → has_copyback g.optional ≡ false → (t : TailFacts) (ts ss : List LunView) (cycle : TargetCycle) → Each IsUnder ts ss → (is_shared g ≡ true → IsClear ts ss) → KeepsRules g t ts cycle → judge_cycle g t ss cycle ≡ six_of g t ss cycle
-judged_six g copyless t ts ss cycle each clear k = rw (copyless_kept g t ss cycle copyless, k.f2, k.f3, several_kept g ts ss each clear cycle k.f4, k.f6, k.f7, k.f8, busy_kept g ts ss each clear t cycle k.f9, queue_kept g ts ss each clear t cycle k.f10, k.f11) refl
+-- where a chip programs no caches
+none_any : (vs : List LunView) → list_any (λ v. false) vs ≡ false
+none_any [] = refl
+none_any (v ∷ vs) = none_any vs
+
+none_some : (o : Option LunView) → is_some_and (λ v. false) o ≡ false
+none_some None = refl
+none_some (Some v) = refl
+
+spare_down : (t s : LunView) → SpareSeen t s → programs s ≡ true → false ≡ true
+spare_down t s p h = sym (spare_programs s p) ∙ h
+
+uncached_kept : (g : Parts) (t : TailFacts) (ts ss : List LunView) (cycle : TargetCycle) → has_program_cache g.optional ≡ false → Each SpareSeen ts ss → breaks_command_unknown g cycle ≡ false → breaks_cache_program_misplaced g t ss cycle ≡ false
+unfolding breaks_cache_program_misplaced breaks_command_unknown
+uncached_kept g t ts ss (CommandCycle ProgramCache) none spare f2 = let known : true ≡ false = rw none at f2 in cc
+uncached_kept g t ts ss (CommandCycle c) none spare f2 =
+    and_right (reads_identity c) (list_any programs ss) (less (list_any (λ v. false) ts) (list_any programs ss) (any_down SpareSeen (λ v. false) programs spare_down ts ss spare) (none_any ts))
+uncached_kept g t ts ss (AddressCycle byte) none spare f2 =
+    and_right (ends_row excludes_program t) (named_lun_is g (row_with t byte) programs ss)
+    (less (named_lun_is g (row_with t byte) (λ v. false) ts) (named_lun_is g (row_with t byte) programs ss) (lun_down SpareSeen (λ v. false) programs spare_down ts ss _ spare) (none_some _))
+uncached_kept g t ts ss (InputCycle byte) none spare f2 = refl
+uncached_kept g t ts ss OutputCycle none spare f2 = refl
+
+pub judged_six : (g : Parts) → IsNarrow g → (t : TailFacts) (ts ss : List LunView) (cycle : TargetCycle) → Each IsUnder ts ss → (is_shared g ≡ true → IsClear ts ss) → Each SpareSeen ts ss → KeepsRules g t ts cycle → judge_cycle g t ss cycle ≡ six_of g t ss cycle
+judged_six g copyless t ts ss cycle each clear spare k = rw (uncached_kept g t ts ss cycle copyless.cache spare k.f2, copyless_kept g t ss cycle copyless.copyback, k.f2, k.f3, several_kept g ts ss each clear cycle k.f4, k.f6, k.f7, k.f8, busy_kept g ts ss each clear t cycle k.f9, queue_kept g ts ss each clear t cycle k.f10, k.f11) refl
 
 -- the tail is the same, or an opener comes and no tail was seen
-pub only_hangs : (g : Parts) → has_copyback g.optional ≡ false → (t : TailFacts) (ts ss : List LunView) (cycle : TargetCycle) → Each IsUnder ts ss → (is_shared g ≡ true → IsClear ts ss) → KeepsRules g t ts cycle → OnlyHangs (judge_cycle g t ss cycle)
-only_hangs g copyless t ts ss cycle each clear k =
-    rw (copyless_kept g t ss cycle copyless, k.f2, k.f3, several_kept g ts ss each clear cycle k.f4, k.f6, k.f7, k.f8, busy_kept g ts ss each clear t cycle k.f9, queue_kept g ts ss each clear t cycle k.f10, k.f11)
+pub only_hangs : (g : Parts) → IsNarrow g → (t : TailFacts) (ts ss : List LunView) (cycle : TargetCycle) → Each IsUnder ts ss → (is_shared g ≡ true → IsClear ts ss) → Each SpareSeen ts ss → KeepsRules g t ts cycle → OnlyHangs (judge_cycle g t ss cycle)
+only_hangs g copyless t ts ss cycle each clear spare k =
+    rw (uncached_kept g t ts ss cycle copyless.cache spare k.f2, copyless_kept g t ss cycle copyless.copyback, k.f2, k.f3, several_kept g ts ss each clear cycle k.f4, k.f6, k.f7, k.f8, busy_kept g ts ss each clear t cycle k.f9, queue_kept g ts ss each clear t cycle k.f10, k.f11)
     (only_six (breaks_no_column_to_change ss cycle) (breaks_no_sole_driver t ss cycle) (breaks_data_not_ready ss cycle) (breaks_column_outside g t ss cycle) (breaks_cache_read_misplaced g t ss cycle) (breaks_plane_not_held g t ss cycle))
 
 fresh_open : (g : Parts) (c : Command) → breaks_sequence_open g (facts_of []) (CommandCycle c) ≡ false
@@ -208,8 +232,8 @@ opens_is g ChangeWriteColumn h = refl
 opens_is g c h = h
 
 -- an opener that wants a ready LUN behind no tail does so behind each, where 85 begins nothing
-fresh_ready : (g : Parts) (u : TailFacts) (c : Command) → has_copyback g.optional ≡ false → opens_here g c ≡ true → begins_on_ready (facts_of []) c ≡ true → begins_on_ready u c ≡ true
-fresh_ready g u ChangeWriteColumn copyless h x = absurd (true≢false (sym h ∙ copyless))
+fresh_ready : (g : Parts) (u : TailFacts) (c : Command) → IsNarrow g → opens_here g c ≡ true → begins_on_ready (facts_of []) c ≡ true → begins_on_ready u c ≡ true
+fresh_ready g u ChangeWriteColumn copyless h x = absurd (true≢false (sym h ∙ copyless.copyback))
 fresh_ready g u ReadCacheSequential copyless h x = cc
 fresh_ready g u c copyless h x = x
 
@@ -225,14 +249,14 @@ fresh_input : (c : Command) → breaks_input_misplaced (facts_of []) (CommandCyc
 unfolding breaks_input_misplaced
 fresh_input c = refl
 
-pub only_hangs_fresh : (g : Parts) → has_copyback g.optional ≡ false → (t : TailFacts) (ts ss : List LunView) (c : Command) → opens_here g c ≡ true → Each IsUnder ts ss → (is_shared g ≡ true → IsClear ts ss) → KeepsRules g t ts (CommandCycle c) → OnlyHangs (judge_cycle g (facts_of []) ss (CommandCycle c))
-only_hangs_fresh g copyless t ts ss c opener each clear k =
-    rw (copyless_kept g (facts_of []) ss (CommandCycle c) copyless, k.f2, fresh_open g c, several_kept g ts ss each clear (CommandCycle c) k.f4, fresh_placed g c opener, fresh_address g c, fresh_row g c, busy_command g ts ss each clear t (facts_of []) c (fresh_ready g t c copyless opener) k.f9, queue_command g ts ss each clear t (facts_of []) c k.f10, fresh_input c)
+pub only_hangs_fresh : (g : Parts) → IsNarrow g → (t : TailFacts) (ts ss : List LunView) (c : Command) → opens_here g c ≡ true → Each IsUnder ts ss → (is_shared g ≡ true → IsClear ts ss) → Each SpareSeen ts ss → KeepsRules g t ts (CommandCycle c) → OnlyHangs (judge_cycle g (facts_of []) ss (CommandCycle c))
+only_hangs_fresh g copyless t ts ss c opener each clear spare k =
+    rw (uncached_kept g (facts_of []) ts ss (CommandCycle c) copyless.cache spare k.f2, copyless_kept g (facts_of []) ss (CommandCycle c) copyless.copyback, k.f2, fresh_open g c, several_kept g ts ss each clear (CommandCycle c) k.f4, fresh_placed g c opener, fresh_address g c, fresh_row g c, busy_command g ts ss each clear t (facts_of []) c (fresh_ready g t c copyless opener) k.f9, queue_command g ts ss each clear t (facts_of []) c k.f10, fresh_input c)
     (only_six (breaks_no_column_to_change ss (CommandCycle c)) (breaks_no_sole_driver (facts_of []) ss (CommandCycle c)) (breaks_data_not_ready ss (CommandCycle c)) (breaks_column_outside g (facts_of []) ss (CommandCycle c)) (breaks_cache_read_misplaced g (facts_of []) ss (CommandCycle c)) (breaks_plane_not_held g (facts_of []) ss (CommandCycle c)))
 
-pub judged_six_fresh : (g : Parts) → has_copyback g.optional ≡ false → (t : TailFacts) (ts ss : List LunView) (c : Command) → opens_here g c ≡ true → Each IsUnder ts ss → (is_shared g ≡ true → IsClear ts ss) → KeepsRules g t ts (CommandCycle c) → judge_cycle g (facts_of []) ss (CommandCycle c) ≡ six_of g (facts_of []) ss (CommandCycle c)
-judged_six_fresh g copyless t ts ss c opener each clear k =
-    rw (copyless_kept g (facts_of []) ss (CommandCycle c) copyless, k.f2, fresh_open g c, several_kept g ts ss each clear (CommandCycle c) k.f4, fresh_placed g c opener, fresh_address g c, fresh_row g c, busy_command g ts ss each clear t (facts_of []) c (fresh_ready g t c copyless opener) k.f9, queue_command g ts ss each clear t (facts_of []) c k.f10, fresh_input c) refl
+pub judged_six_fresh : (g : Parts) → IsNarrow g → (t : TailFacts) (ts ss : List LunView) (c : Command) → opens_here g c ≡ true → Each IsUnder ts ss → (is_shared g ≡ true → IsClear ts ss) → Each SpareSeen ts ss → KeepsRules g t ts (CommandCycle c) → judge_cycle g (facts_of []) ss (CommandCycle c) ≡ six_of g (facts_of []) ss (CommandCycle c)
+judged_six_fresh g copyless t ts ss c opener each clear spare k =
+    rw (uncached_kept g (facts_of []) ts ss (CommandCycle c) copyless.cache spare k.f2, copyless_kept g (facts_of []) ss (CommandCycle c) copyless.copyback, k.f2, fresh_open g c, several_kept g ts ss each clear (CommandCycle c) k.f4, fresh_placed g c opener, fresh_address g c, fresh_row g c, busy_command g ts ss each clear t (facts_of []) c (fresh_ready g t c copyless opener) k.f9, queue_command g ts ss each clear t (facts_of []) c k.f10, fresh_input c) refl
 
 -- ---- 4. where all is known of each LUN
 
@@ -342,6 +366,12 @@ ends_up t s k h =
     let a = and_parts (not t.busy) (is_cache_read t.closer) h in
     and_from (not s.busy) (is_cache_read s.closer) (ap not (sym k.begun.busy) ∙ a.0) (ap is_cache_read (sym k.begun.closer) ∙ a.1)
 
+programs_down : (t s : LunView) → IsKnown t s → programs s ≡ true → programs t ≡ true
+programs_down t s k h = rw (k.begun.busy, k.begun.closer, k.begun.array_busy) h
+
+held_down : (t s : LunView) → IsCopied t s → not (holds_none s.held) ≡ true → not (holds_none t.held) ≡ true
+held_down t s k h = rw k.held h
+
 caching_down : (t s : LunView) → IsKnown t s → caching s ≡ true → caching t ≡ true
 caching_down t s k h = ap is_cache_read k.begun.closer ∙ h
 
@@ -444,9 +474,23 @@ module _ (g : Parts) (ts ss : List LunView) (each : Each IsKnown ts ss) (clear :
   plane_kept t (InputCycle byte) h = refl
   plane_kept t OutputCycle h = refl
 
+  pub program_kept : (t : TailFacts) (c : TargetCycle) → breaks_cache_program_misplaced g t ts c ≡ false → breaks_cache_program_misplaced g t ss c ≡ false
+  unfolding breaks_cache_program_misplaced
+  program_kept t (CommandCycle ProgramCache) h =
+      and_less (not (has_group_cache g.optional)) (named_lun_is g (row t) (λ v. has_some v.queue) ts) (named_lun_is g (row t) (λ v. has_some v.queue) ss)
+      (lun_down IsKnown (λ v. has_some v.queue) (λ v. has_some v.queue) (λ x y k r. queue_down x y k.below r) ts ss _ each) h
+  program_kept t (CommandCycle c) h = and_less (reads_identity c) (list_any programs ts) (list_any programs ss) (any_down IsKnown programs programs programs_down ts ss each) h
+  program_kept t (AddressCycle byte) h =
+      and_less (ends_row excludes_program t) (named_lun_is g (row_with t byte) programs ts) (named_lun_is g (row_with t byte) programs ss) (lun_down IsKnown programs programs programs_down ts ss _ each) h
+  program_kept t (InputCycle byte) h = refl
+  program_kept t OutputCycle h = refl
+
   -- where a chip has a copyback
   copyback_kept : (has_copyback g.optional ≡ true → Each IsCopied ts ss) → (t : TailFacts) (c : TargetCycle) → breaks_copyback_misplaced g t ts c ≡ false → breaks_copyback_misplaced g t ss c ≡ false
   unfolding breaks_copyback_misplaced
+  copyback_kept copies t (CommandCycle ProgramCache) h =
+      when_less (has_copyback g.optional) (named_lun_is g (row t) (λ v. not (holds_none v.held)) ts) (named_lun_is g (row t) (λ v. not (holds_none v.held)) ss)
+      (λ has x. lun_down IsCopied (λ v. not (holds_none v.held)) (λ v. not (holds_none v.held)) held_down ts ss _ (copies has) x) h
   copyback_kept copies t (CommandCycle c) h = refl
   copyback_kept copies t (AddressCycle byte) h = when_less (has_copyback g.optional) (Broken ts) (Broken ss) (λ has x. down (copies has) x) h
     where
@@ -484,10 +528,10 @@ module _ (g : Parts) (ts ss : List LunView) (each : Each IsKnown ts ss) (clear :
 
   pub none_broken : (has_copyback g.optional ≡ true → Each IsCopied ts ss) → (t : TailFacts) (cycle : TargetCycle) → KeepsRules g t ts cycle → judge_cycle g t ss cycle ≡ None
   none_broken copies t cycle k =
-      rw (copyback_kept copies t cycle k.f17, k.f2, k.f3, several_kept g ts ss below_each clear cycle k.f4, column_kept cycle k.f5, k.f6, k.f7, k.f8, busy_kept g ts ss below_each clear t cycle k.f9, queue_kept g ts ss below_each clear t cycle k.f10, k.f11, driver_kept t cycle k.f12, data_kept cycle k.f13, outside_kept t cycle k.f13 k.f14, cache_kept t cycle k.f15, plane_kept t cycle k.f18) refl
+      rw (program_kept t cycle k.f16, copyback_kept copies t cycle k.f17, k.f2, k.f3, several_kept g ts ss below_each clear cycle k.f4, column_kept cycle k.f5, k.f6, k.f7, k.f8, busy_kept g ts ss below_each clear t cycle k.f9, queue_kept g ts ss below_each clear t cycle k.f10, k.f11, driver_kept t cycle k.f12, data_kept cycle k.f13, outside_kept t cycle k.f13 k.f14, cache_kept t cycle k.f15, plane_kept t cycle k.f18) refl
 
-  pub none_broken_fresh : has_copyback g.optional ≡ false → (u : TailFacts) (c : Command) → opens_here g c ≡ true → begins_anew u (CommandCycle c) ≡ true → KeepsRules g u ts (CommandCycle c) → judge_cycle g (facts_of []) ss (CommandCycle c) ≡ None
+  pub none_broken_fresh : IsNarrow g → Each SpareSeen ts ss → (u : TailFacts) (c : Command) → opens_here g c ≡ true → begins_anew u (CommandCycle c) ≡ true → KeepsRules g u ts (CommandCycle c) → judge_cycle g (facts_of []) ss (CommandCycle c) ≡ None
   unfolding breaks_no_sole_driver breaks_data_not_ready breaks_column_outside breaks_plane_not_held
-  none_broken_fresh copyless u c opener anew k =
-      judged_six_fresh g copyless u ts ss c opener below_each clear k
+  none_broken_fresh copyless spare u c opener anew k =
+      judged_six_fresh g copyless u ts ss c opener below_each clear spare k
       ∙ (rw (column_kept (CommandCycle c) k.f5, cache_fresh u c anew k.f15) refl)

@@ -7,7 +7,7 @@ use Rattle.nand_geometry.specs.Limits.{planes}
 use Rattle.nand_geometry.specs.Optional.{has_plane_reads}
 use Rattle.nand_geometry.specs.Row.{parts_of}
 use Rattle.onfi_cycle.specs.declared.command.Command.{Command}
-use Rattle.onfi_cycle.specs.declared.command.Command.TheVariants.{Read, ReadStatus, ReadStatusEnhanced, Reset, SynchronousReset, ReadCacheSequential, ReadCacheEnd, ChangeReadColumnConfirm, ReadConfirm, ReadPlane, BlockEraseConfirm, BlockErasePlane, ProgramConfirm, ProgramPlane, ReadId, ReadParameterPage, ReadUniqueId, GetFeatures, ResetLun, CopybackRead, PageProgram}
+use Rattle.onfi_cycle.specs.declared.command.Command.TheVariants.{Read, ReadStatus, ReadStatusEnhanced, Reset, SynchronousReset, ReadCacheSequential, ReadCacheEnd, ChangeReadColumnConfirm, ReadConfirm, ReadPlane, BlockEraseConfirm, BlockErasePlane, ProgramConfirm, ProgramPlane, ReadId, ReadParameterPage, ReadUniqueId, GetFeatures, ResetLun, CopybackRead, PageProgram, ProgramCache}
 use Rattle.onfi_cycle.specs.declared.effect.Effect.{Effect}
 use Rattle.onfi_cycle.specs.declared.effect.Effect.TheVariants.{Unaffected, StatusSelected, StatusOfSelected, SelectedForStatus, Deselected, IdRead, IdentityRead, UniqueIdReadStarted, FeaturesReadStarted, FeaturesSet, ParameterPageReadStarted, CacheReadContinued, CacheReadEnded, ReadColumnChanged, PlaneSelected, DataOutput, ResetStarted, TargetResetStarted, AnotherAddressed, ProgramAddressed}
 use Rattle.onfi_cycle.specs.declared.item.Cycle.{Cycle}
@@ -88,6 +88,7 @@ confirm_goes g u BlockEraseConfirm s h = tt
 confirm_goes g u BlockErasePlane s h = tt
 confirm_goes g u ProgramConfirm s h = tt
 confirm_goes g u ProgramPlane s h = tt
+confirm_goes g u ProgramCache s h = tt
 confirm_goes g u c s h = tt
 
 other_goes : (g : Parts) (u : TailFacts) (c : Command) (s : LunView) → GoesOn (other_effect g u c) s

@@ -4,7 +4,7 @@ use Rattle.std.proofs.lemmas.Bool.{ltb-false, or_parts, not-false, not_from_true
 use Rattle.std.proofs.lemmas.List.{set-get_or}
 use Rattle.std.proofs.lemmas.Option.{slice_get-get_or}
 use Rattle.nand_geometry.specs.declared.parts.Parts.{Parts}
-use Rattle.nand_geometry.specs.Optional.{has_enhanced_column, has_plane_reads, has_copyback}
+use Rattle.nand_geometry.specs.Optional.{has_enhanced_column, has_plane_reads, has_copyback, has_program_cache}
 use Rattle.onfi_cycle.specs.declared.forbidden.Forbidden.{Forbidden}
 use Rattle.onfi_cycle.specs.declared.forbidden.Forbidden.TheVariants.{NotThere}
 use Rattle.onfi_cycle.specs.declared.item.Cycle.{Cycle}
@@ -32,9 +32,11 @@ use Rattle.trace_faults.specs.Outside.{standings_after, opens_sequence}
 use Rattle.trace_faults.specs.Recovery.{all_inside, judged_here, gone_on, gone_on_by}
 use Rattle.trace_faults.specs.Middle.{Seen, nothing_known, known_of, knows, has_begun, doubts_ready, doubts, hangs_on_before, of_cycle, of_ready, looks_of, is_reset_cycle, is_reset, waits_for_reset, begins_here, learned, is_passed_over, granted_to, seen_by, verdict_here, verdict, seen_after, broken_in, stops_others}
 use Rattle.trace_faults.proofs.Judged.{standings_inside, is_inside, judged_inside}
+use Rattle.recording_laws.proofs.Luns.{IsNarrow}
+use Rattle.recording_laws.proofs.Never.{narrow_of}
 use Rattle.recording_laws.proofs.Changed.{IsLearned, under_each, below_each, known_each}
 use Rattle.recording_laws.proofs.Rules.{IsKnown, plain_clear, OnlyHangs, only_hangs, only_hangs_fresh, none_broken, none_broken_fresh}
-use Rattle.recording_laws.proofs.Lists.{Each}
+use Rattle.recording_laws.proofs.Lists.{spare_each, Each}
 use Rattle.recording_laws.proofs.Targets.{FitsTarget, IsAlone, seen_opened, seen_fresh, granted_opened, granted_fresh, passed_over, known_anew}
 use Rattle.recording_laws.proofs.Readies.{IsReady}
 use Rattle.recording_laws.proofs.Twins.{reset_judged}
@@ -163,13 +165,13 @@ unfold_there n luns c = refl
 
 module _ (g : Parts) (bus : BusView) (seen : Seen) (c : Cycle) (later : List Item) (f : FitsBus g bus seen) (x : Here g bus seen (Cyc c)) (narrow : waits_for_reset g ≡ false) where
   still : stops_others g ≡ false
-  still = (or_parts (stops_others g) (has_copyback g.optional) narrow).0
+  still = (or_parts (stops_others g) (has_copyback g.optional || has_program_cache g.optional) narrow).0
 
   plain : is_shared g ≡ false
   plain = (or_parts (is_shared g) (has_enhanced_column g.optional && ltb 1 g.luns) still).0
 
-  copyless : has_copyback g.optional ≡ false
-  copyless = (or_parts (stops_others g) (has_copyback g.optional) narrow).1
+  copyless : IsNarrow g
+  copyless = narrow_of g narrow
 
   one : IsAlone g
   one = at (has_enhanced_column g.optional) refl (or_parts (is_shared g) (has_enhanced_column g.optional && ltb 1 g.luns) still).1
@@ -261,20 +263,20 @@ module _ (g : Parts) (bus : BusView) (seen : Seen) (c : Cycle) (later : List Ite
       opened_known : at.opened ≡ true → doubts seen.state.bus at c.ce ≡ false → judge_cycle g x.shown.tail x.shown.luns d ≡ None
       opened_known e h =
           let o = own.opened e in
-          ap (λ w. judge_cycle g w x.shown.luns d) (sym o.tail) ∙ none_broken g x.is.luns x.shown.luns (known_luns h) (plain_clear g x.is.luns x.shown.luns plain) (λ has. absurd (true≢false (sym has ∙ copyless))) x.is.tail d (keeps_rules g x.is.tail x.is.luns d kept)
+          ap (λ w. judge_cycle g w x.shown.luns d) (sym o.tail) ∙ none_broken g x.is.luns x.shown.luns (known_luns h) (plain_clear g x.is.luns x.shown.luns plain) (λ has. absurd (true≢false (sym has ∙ copyless.copyback))) x.is.tail d (keeps_rules g x.is.tail x.is.luns d kept)
 
       opened_step : at.opened ≡ true → (r : Option Forbidden) → judge_cycle g x.shown.tail x.shown.luns d ≡ r → Stepped g bus seen (Cyc c) later
       opened_step e None h = permitted_step (inl e) h (seen_opened g plain copyless at learned_own x.is x.shown c own e (open_later (inl e)) kept h learned_now)
       opened_step e (Some rule) h =
           let o = own.opened e in
           granted_step rule h (open_now (inl e))
-          (hangs_of rule (judge_cycle g x.is.tail x.shown.luns d) (only_hangs g copyless x.is.tail x.is.luns x.shown.luns d (under_each x.is.luns x.shown.luns (below_each (has_plane_reads g.optional) at 0 x.is.luns x.shown.luns own.luns)) (plain_clear g x.is.luns x.shown.luns plain) (keeps_rules g x.is.tail x.is.luns d kept)) (ap (λ w. judge_cycle g w x.shown.luns d) o.tail ∙ h))
+          (hangs_of rule (judge_cycle g x.is.tail x.shown.luns d) (only_hangs g copyless x.is.tail x.is.luns x.shown.luns d (under_each x.is.luns x.shown.luns (below_each (has_plane_reads g.optional) at 0 x.is.luns x.shown.luns own.luns)) (plain_clear g x.is.luns x.shown.luns plain) (spare_each x.is.luns x.shown.luns (below_each (has_plane_reads g.optional) at 0 x.is.luns x.shown.luns own.luns)) (keeps_rules g x.is.tail x.is.luns d kept)) (ap (λ w. judge_cycle g w x.shown.luns d) o.tail ∙ h))
           (opened_known e) (granted_opened g plain copyless one at x.is x.shown c own rule e kept h)
 
       fresh_hangs : (e : TargetCycle) → e ≡ d → opens_sequence g e ≡ true → at.opened ≡ false → OnlyHangs (judge_cycle g x.shown.tail x.shown.luns e)
       fresh_hangs (CommandCycle y) e b h =
           subst (λ w. OnlyHangs (judge_cycle g w x.shown.luns (CommandCycle y))) (sym (own.closed h).tail)
-          (only_hangs_fresh g copyless x.is.tail x.is.luns x.shown.luns y b (under_each x.is.luns x.shown.luns (below_each (has_plane_reads g.optional) at 0 x.is.luns x.shown.luns own.luns)) (plain_clear g x.is.luns x.shown.luns plain) (keeps_rules g x.is.tail x.is.luns (CommandCycle y) (ap (judge_cycle g x.is.tail x.is.luns) e ∙ kept)))
+          (only_hangs_fresh g copyless x.is.tail x.is.luns x.shown.luns y b (under_each x.is.luns x.shown.luns (below_each (has_plane_reads g.optional) at 0 x.is.luns x.shown.luns own.luns)) (plain_clear g x.is.luns x.shown.luns plain) (spare_each x.is.luns x.shown.luns (below_each (has_plane_reads g.optional) at 0 x.is.luns x.shown.luns own.luns)) (keeps_rules g x.is.tail x.is.luns (CommandCycle y) (ap (judge_cycle g x.is.tail x.is.luns) e ∙ kept)))
       fresh_hangs (AddressCycle byte) e b h = cc
       fresh_hangs (InputCycle byte) e b h = cc
       fresh_hangs OutputCycle e b h = cc
@@ -282,7 +284,7 @@ module _ (g : Parts) (bus : BusView) (seen : Seen) (c : Cycle) (later : List Ite
       fresh_known : (e : TargetCycle) → e ≡ d → opens_sequence g e ≡ true → at.opened ≡ false → doubts seen.state.bus at c.ce ≡ false → judge_cycle g x.shown.tail x.shown.luns e ≡ None
       fresh_known (CommandCycle y) e b h doubt =
           ap (λ w. judge_cycle g w x.shown.luns (CommandCycle y)) (own.closed h).tail
-          ∙ none_broken_fresh g x.is.luns x.shown.luns (known_luns doubt) (plain_clear g x.is.luns x.shown.luns plain) copyless x.is.tail y b
+          ∙ none_broken_fresh g x.is.luns x.shown.luns (known_luns doubt) (plain_clear g x.is.luns x.shown.luns plain) copyless (spare_each x.is.luns x.shown.luns (below_each (has_plane_reads g.optional) at 0 x.is.luns x.shown.luns own.luns)) x.is.tail y b
           (known_anew g copyless x.is.tail x.is.luns x.shown.luns y b (keeps_rules g x.is.tail x.is.luns (CommandCycle y) (ap (judge_cycle g x.is.tail x.is.luns) e ∙ kept)) (own.closed h).comes (known_luns doubt))
           (keeps_rules g x.is.tail x.is.luns (CommandCycle y) (ap (judge_cycle g x.is.tail x.is.luns) e ∙ kept))
       fresh_known (AddressCycle byte) e b h doubt = cc

@@ -4,7 +4,7 @@ use Rattle.std.proofs.lemmas.Bool.{ltb-true, and_parts, or_left, or_right, not-f
 use Rattle.nand_geometry.specs.declared.parts.Parts.{Parts}
 use Rattle.nand_geometry.specs.Row.{parts_of, is_inside}
 use Rattle.onfi_cycle.specs.declared.command.Command.{Command}
-use Rattle.onfi_cycle.specs.declared.command.Command.TheVariants.{Read, ReadConfirm, ChangeReadColumn, ChangeReadColumnEnhanced, BlockErase, BlockEraseConfirm, BlockErasePlane, PageProgram, ProgramConfirm, ProgramPlane, ReadCacheSequential, ReadPlane, CopybackRead, ChangeWriteColumn}
+use Rattle.onfi_cycle.specs.declared.command.Command.TheVariants.{Read, ReadConfirm, ChangeReadColumn, ChangeReadColumnEnhanced, BlockErase, BlockEraseConfirm, BlockErasePlane, PageProgram, ProgramConfirm, ProgramPlane, ReadCacheSequential, ReadPlane, CopybackRead, ChangeWriteColumn, ProgramCache}
 use Rattle.onfi_cycle.specs.declared.data_phase.DataPhase.{DataPhase}
 use Rattle.onfi_cycle.specs.declared.data_phase.DataPhase.TheVariants.{Outside, Inputs, FirstColumn, SecondColumn, FeatureInputs}
 use Rattle.onfi_cycle.specs.declared.effect.Effect.{Effect}
@@ -22,7 +22,7 @@ use Rattle.onfi_cycle.specs.declared.tail_facts.TailFacts.{TailFacts}
 use Rattle.onfi_cycle.specs.declared.target_cycle.TargetCycle.{TargetCycle}
 use Rattle.onfi_cycle.specs.declared.target_cycle.TargetCycle.TheVariants.{CommandCycle, AddressCycle, InputCycle, OutputCycle}
 use Rattle.onfi_cycle.specs.Bounds.{is_read, is_block_erase}
-use Rattle.nand_geometry.specs.Optional.{is_wide, has_enhanced_column, has_plane_reads, has_copyback}
+use Rattle.nand_geometry.specs.Optional.{is_wide, has_enhanced_column, has_plane_reads}
 use Rattle.onfi_cycle.specs.Command.{is_opener, closes, address_cycles, at_last_row, is_change_read_column, is_enhanced_column, begins_data}
 use Rattle.onfi_cycle.specs.Effect.{is_off, is_shared, names_lun, page_address, address_effect, opening_address_effect, cycle_effect}
 use Rattle.onfi_cycle.specs.Lun.{is_page_read, view_after}
@@ -37,8 +37,9 @@ use Rattle.onfi_cycle.proofs.TableLemmas.{command_opens}
 use Rattle.trace_faults.specs.declared.known.Known.{Known}
 use Rattle.trace_faults.specs.Outside.{opens_sequence}
 use Rattle.trace_faults.specs.Middle.{nothing_known, is_reset_cycle}
-use Rattle.recording_laws.proofs.Luns.{IsBelow, IsHarmless}
-use Rattle.recording_laws.proofs.Lists.{Each, lun_up}
+use Rattle.recording_laws.proofs.Luns.{IsBelow, IsHarmless, IsNarrow}
+use Rattle.recording_laws.proofs.Never.{never_cycle}
+use Rattle.recording_laws.proofs.Lists.{SpareSeen, spare_each, Each, lun_up}
 use Rattle.recording_laws.proofs.Rules.{six_of, IsKnown, IsClear, plain_clear, judged_six, judged_six_fresh, opens_is}
 use Rattle.recording_laws.proofs.Changed.{changed, changed_length, AtEach, at_each, AllFit, under_each, below_each, GoEach, all_fit_on, IsLearned, learns_each, below_unseen, all_nothing}
 use Rattle.recording_laws.proofs.Cycles.{by_cycle, luns_by_cycle, ReadsClear, PlaneClear, go_command, go_opener, go_address, go_input, go_output}
@@ -298,7 +299,7 @@ plane_clear g u ss h = at_each (PlaneClear g u) ss (λ m s found r names. h r m 
 
 -- ---- 3. a cycle that is seen
 
-module _ (g : Parts) (plain : is_shared g ≡ false) (copyless : has_copyback g.optional ≡ false) (k later : Known) (t s : TargetView) (c : Cycle) (f : FitsTarget g k t s) where
+module _ (g : Parts) (plain : is_shared g ≡ false) (copyless : IsNarrow g) (k later : Known) (t s : TargetView) (c : Cycle) (f : FitsTarget g k t s) where
   abbrev cycle : TargetCycle
   cycle = target_cycle c.kind c.byte
 
@@ -382,20 +383,22 @@ opens_nothing ReadPlane h = cc
 opens_nothing CopybackRead h = cc
 opens_nothing ProgramConfirm h = cc
 opens_nothing ProgramPlane h = cc
+opens_nothing ProgramCache h = cc
 opens_nothing ReadCacheSequential h = refl
 opens_nothing ChangeWriteColumn h = refl
 opens_nothing c h = h
 
 -- so does each behind another, but a 31h that it wants, where an 85h begins none
-anew_by : (g : Parts) → has_copyback g.optional ≡ false → (t : TailFacts) (c : Command) → opens_here g c ≡ true → (c ≡ ReadCacheSequential → wants_command t ReadCacheSequential ≡ false) → begins_anew t (CommandCycle c) ≡ true
+anew_by : (g : Parts) → IsNarrow g → (t : TailFacts) (c : Command) → opens_here g c ≡ true → (c ≡ ReadCacheSequential → wants_command t ReadCacheSequential ≡ false) → begins_anew t (CommandCycle c) ≡ true
 anew_by g copyless t ReadConfirm h w = cc
 anew_by g copyless t BlockEraseConfirm h w = cc
 anew_by g copyless t BlockErasePlane h w = cc
 anew_by g copyless t ReadPlane h w = cc
 anew_by g copyless t CopybackRead h w = cc
-anew_by g copyless t ChangeWriteColumn h w = absurd (true≢false (sym h ∙ copyless))
+anew_by g copyless t ChangeWriteColumn h w = absurd (true≢false (sym h ∙ copyless.copyback))
 anew_by g copyless t ProgramConfirm h w = cc
 anew_by g copyless t ProgramPlane h w = cc
+anew_by g copyless t ProgramCache h w = cc
 anew_by g copyless t ReadCacheSequential h w = ap not (w refl)
 anew_by g copyless t c h w = h
 
@@ -478,7 +481,7 @@ blank_reader (v ∷ vs) zero b h = let none : is_page_read None ≡ true = ap is
 blank_reader (v ∷ vs) (suc n) b h = blank_reader vs n (λ m s found. b (suc m) s found) h
 
 -- an opener that is seen to be permitted behind what wasn't seen begins a tail
-fresh_anew : (g : Parts) → has_copyback g.optional ≡ false → (t : TailFacts) (ts ss : List LunView) (c : Command) → opens_here g c ≡ true → KeepsRules g t ts (CommandCycle c) → KeepsRules g (facts_of []) ss (CommandCycle c) → MayCome g t ss → begins_anew t (CommandCycle c) ≡ true
+fresh_anew : (g : Parts) → IsNarrow g → (t : TailFacts) (ts ss : List LunView) (c : Command) → opens_here g c ≡ true → KeepsRules g t ts (CommandCycle c) → KeepsRules g (facts_of []) ss (CommandCycle c) → MayCome g t ss → begins_anew t (CommandCycle c) ≡ true
 unfolding breaks_cache_read_misplaced
 fresh_anew g copyless t ts ss ReadCacheSequential h a b (blank e) = absurd (blank_driver ss (continues_cache g) e (not-false (driver_is (continues_cache g) ss) b.f15))
 fresh_anew g copyless t ts ss ReadCacheSequential h a b (quiet e) = ap not (quiet_read g t e)
@@ -489,13 +492,14 @@ fresh_anew g copyless t ts ss BlockEraseConfirm h a b m = cc
 fresh_anew g copyless t ts ss BlockErasePlane h a b m = cc
 fresh_anew g copyless t ts ss ReadPlane h a b m = cc
 fresh_anew g copyless t ts ss CopybackRead h a b m = cc
-fresh_anew g copyless t ts ss ChangeWriteColumn h a b m = absurd (true≢false (sym h ∙ copyless))
+fresh_anew g copyless t ts ss ChangeWriteColumn h a b m = absurd (true≢false (sym h ∙ copyless.copyback))
 fresh_anew g copyless t ts ss ProgramConfirm h a b m = cc
 fresh_anew g copyless t ts ss ProgramPlane h a b m = cc
+fresh_anew g copyless t ts ss ProgramCache h a b m = cc
 fresh_anew g copyless t ts ss c h a b m = h
 
 -- so does one where all is known of each LUN
-pub known_anew : (g : Parts) → has_copyback g.optional ≡ false → (t : TailFacts) (ts ss : List LunView) (c : Command) → opens_here g c ≡ true → KeepsRules g t ts (CommandCycle c) → MayCome g t ss → Each IsKnown ts ss → begins_anew t (CommandCycle c) ≡ true
+pub known_anew : (g : Parts) → IsNarrow g → (t : TailFacts) (ts ss : List LunView) (c : Command) → opens_here g c ≡ true → KeepsRules g t ts (CommandCycle c) → MayCome g t ss → Each IsKnown ts ss → begins_anew t (CommandCycle c) ≡ true
 unfolding breaks_cache_read_misplaced
 known_anew g copyless t ts ss ReadCacheSequential h a (blank e) each = ap not (at (wants_command t ReadCacheSequential) refl a.f15)
   where
@@ -513,13 +517,14 @@ known_anew g copyless t ts ss BlockEraseConfirm h a m each = cc
 known_anew g copyless t ts ss BlockErasePlane h a m each = cc
 known_anew g copyless t ts ss ReadPlane h a m each = cc
 known_anew g copyless t ts ss CopybackRead h a m each = cc
-known_anew g copyless t ts ss ChangeWriteColumn h a m each = absurd (true≢false (sym h ∙ copyless))
+known_anew g copyless t ts ss ChangeWriteColumn h a m each = absurd (true≢false (sym h ∙ copyless.copyback))
 known_anew g copyless t ts ss ProgramConfirm h a m each = cc
 known_anew g copyless t ts ss ProgramPlane h a m each = cc
+known_anew g copyless t ts ss ProgramCache h a m each = cc
 known_anew g copyless t ts ss c h a m each = h
 
 -- what comes behind one that is taken for granted
-fresh_comes_on : (g : Parts) → has_copyback g.optional ≡ false → (t : TailFacts) (ts ss : List LunView) (c : Command) → opens_here g c ≡ true → grants c ≡ true → KeepsRules g t ts (CommandCycle c) → MayCome g t ss → MayCome g (facts_after (CommandCycle c) t) ss
+fresh_comes_on : (g : Parts) → IsNarrow g → (t : TailFacts) (ts ss : List LunView) (c : Command) → opens_here g c ≡ true → grants c ≡ true → KeepsRules g t ts (CommandCycle c) → MayCome g t ss → MayCome g (facts_after (CommandCycle c) t) ss
 fresh_comes_on g copyless t ts ss c h grant a (blank e) = blank e
 fresh_comes_on g copyless t ts ss c h grant a (quiet e) = command_comes g t ss c (inr (anew_by g copyless t c h (λ same. quiet_read g t e))) grant
 fresh_comes_on g copyless t ts ss c h grant a (selecting e n) = command_comes g t ss c (inr (anew_by g copyless t c h (λ same. selecting_read g t e))) grant
@@ -541,7 +546,7 @@ fresh_of g (AddressCycle byte) u h = cc
 fresh_of g (InputCycle byte) u h = cc
 fresh_of g OutputCycle u h = cc
 
-module _ (g : Parts) (plain : is_shared g ≡ false) (copyless : has_copyback g.optional ≡ false) (k later : Known) (t s : TargetView) (c : Cycle) (f : FitsTarget g k t s) where
+module _ (g : Parts) (plain : is_shared g ≡ false) (copyless : IsNarrow g) (k later : Known) (t s : TargetView) (c : Cycle) (f : FitsTarget g k t s) where
   go_fresh : (u : TailFacts) (d : TargetCycle) → d ≡ target_cycle c.kind c.byte → opens_sequence g d ≡ true → begins_anew u d ≡ true → KeepsRules g u t.luns d → KeepsRules g (facts_of []) s.luns d →
       GoEach (has_plane_reads g.optional) (Cyc c) k (by_cycle g u (has_driver t.luns) d) (by_cycle g (facts_of []) (has_driver s.luns) d) 0 t.luns s.luns
   go_fresh u (CommandCycle x) e h anew a b = go_opener g plain copyless (Cyc c) k t.luns s.luns (each g plain copyless k later t s c f) u x (opens_is g x h) anew (λ y. ap is_reset_cycle e ∙ y) a b
@@ -597,25 +602,28 @@ module _ (g : Parts) (plain : is_shared g ≡ false) (copyless : has_copyback g.
 
 -- ---- 5. a cycle that is taken for granted, or passed over
 
-module _ (g : Parts) (plain : is_shared g ≡ false) (copyless : has_copyback g.optional ≡ false) (one : IsAlone g) (k : Known) (t s : TargetView) (c : Cycle) (f : FitsTarget g k t s) where
+module _ (g : Parts) (plain : is_shared g ≡ false) (copyless : IsNarrow g) (one : IsAlone g) (k : Known) (t s : TargetView) (c : Cycle) (f : FitsTarget g k t s) where
   abbrev clear : is_shared g ≡ true → IsClear t.luns s.luns
   clear = plain_clear g t.luns s.luns plain
 
   below : Each IsBelow t.luns s.luns
   below = below_each (has_plane_reads g.optional) k 0 t.luns s.luns f.luns
 
-  left_below : ((la : Latch) (n : ℕ) (v : LunView) → slice_get s.luns n ≡ Some v → IsHarmless (cycle_effect g t.tail la (target_cycle c.kind c.byte) n) v) → AllFit (has_plane_reads g.optional) nothing_known 0 (target_after g (Cyc c) t).luns s.luns
-  left_below h =
+  spare : Each SpareSeen t.luns s.luns
+  spare = spare_each t.luns s.luns below
+
+  left_below : breaks_command_unknown g (target_cycle c.kind c.byte) ≡ false → ((la : Latch) (n : ℕ) (v : LunView) → slice_get s.luns n ≡ Some v → IsHarmless (cycle_effect g t.tail la (target_cycle c.kind c.byte) n) v) → AllFit (has_plane_reads g.optional) nothing_known 0 (target_after g (Cyc c) t).luns s.luns
+  left_below f2 h =
       all_nothing (has_plane_reads g.optional) (target_after g (Cyc c) t).luns s.luns f.few
       (subst (λ (vs : List LunView). Each IsBelow vs s.luns) (sym (luns_by_cycle g t.tail (has_driver t.luns) c t.luns))
-      (below_unseen (by_cycle g t.tail (has_driver t.luns) (target_cycle c.kind c.byte)) t.luns s.luns below (λ m v found x. h (cond (has_driver t.luns) x.latch Off) m v found)))
+      (below_unseen (by_cycle g t.tail (has_driver t.luns) (target_cycle c.kind c.byte)) t.luns s.luns below (λ m x. never_cycle g copyless.cache t.tail (cond (has_driver t.luns) x.latch Off) (target_cycle c.kind c.byte) m f2) (λ m v found x. h (cond (has_driver t.luns) x.latch Off) m v found)))
 
-  by_comes : Comes g t.tail s.luns (target_cycle c.kind c.byte) → FitsTarget g nothing_known (target_after g (Cyc c) t) (without_sequence s)
-  by_comes x =
+  by_comes : breaks_command_unknown g (target_cycle c.kind c.byte) ≡ false → Comes g t.tail s.luns (target_cycle c.kind c.byte) → FitsTarget g nothing_known (target_after g (Cyc c) t) (without_sequence s)
+  by_comes f2 x =
       record {
         few = f.few;
         count = f.count;
-        luns = left_below (λ la n v found. x.harmless la n v found);
+        luns = left_below f2 (λ la n v found. x.harmless la n v found);
         opened = λ h. cc;
         closed = λ h. record { tail = refl; nothing = refl; comes = x.comes };
       }
@@ -627,21 +635,21 @@ module _ (g : Parts) (plain : is_shared g ≡ false) (copyless : has_copyback g.
 
   open_comes : (d : TargetCycle) (rule : Forbidden) → KeepsRules g t.tail t.luns d → IsOpened g t s → judge_cycle g t.tail s.luns d ≡ Some rule → Comes g t.tail s.luns d
   open_comes (CommandCycle x) rule a o h =
-      let six = sym (judged_six g copyless t.tail t.luns s.luns (CommandCycle x) (under_each t.luns s.luns below) clear a) ∙ h in
+      let six = sym (judged_six g copyless t.tail t.luns s.luns (CommandCycle x) (under_each t.luns s.luns below) clear spare a) ∙ h in
       by_command t.tail x rule (no_copyback g copyless x a.f2) (λ same. granted_row g t.tail t.luns s.luns rule below (sym (ap (λ (y : Command). six_of g t.tail s.luns (CommandCycle y)) same) ∙ six)) six (command_comes g t.tail s.luns x (inl o.some))
-  open_comes (AddressCycle byte) rule a o h = address_granted g t.tail t.luns s.luns byte rule below a o.some o.sound (alone_named g t.tail s.luns byte one f.count o.declared a.f8) (sym (judged_six g copyless t.tail t.luns s.luns (AddressCycle byte) (under_each t.luns s.luns below) clear a) ∙ h)
-  open_comes (InputCycle byte) rule a o h = absurd (input_granted g t.tail t.luns s.luns byte rule a (sym (judged_six g copyless t.tail t.luns s.luns (InputCycle byte) (under_each t.luns s.luns below) clear a) ∙ h))
+  open_comes (AddressCycle byte) rule a o h = address_granted g t.tail t.luns s.luns byte rule below a o.some o.sound (alone_named g t.tail s.luns byte one f.count o.declared a.f8) (sym (judged_six g copyless t.tail t.luns s.luns (AddressCycle byte) (under_each t.luns s.luns below) clear spare a) ∙ h)
+  open_comes (InputCycle byte) rule a o h = absurd (input_granted g t.tail t.luns s.luns byte rule a (sym (judged_six g copyless t.tail t.luns s.luns (InputCycle byte) (under_each t.luns s.luns below) clear spare a) ∙ h))
   open_comes OutputCycle rule a o h = output_granted g t.tail s.luns o.some
 
   pub granted_opened : (rule : Forbidden) → k.opened ≡ true → judge_cycle g t.tail t.luns (target_cycle c.kind c.byte) ≡ None → judge_cycle g s.tail s.luns (target_cycle c.kind c.byte) ≡ Some rule →
       FitsTarget g nothing_known (target_after g (Cyc c) t) (without_sequence s)
   granted_opened rule was permitted h =
       let o = f.opened was in
-      by_comes (open_comes (target_cycle c.kind c.byte) rule (keeps_rules g t.tail t.luns (target_cycle c.kind c.byte) permitted) o (ap (λ (w : TailFacts). judge_cycle g w s.luns (target_cycle c.kind c.byte)) o.tail ∙ h))
+      by_comes (keeps_rules g t.tail t.luns (target_cycle c.kind c.byte) permitted).f2 (open_comes (target_cycle c.kind c.byte) rule (keeps_rules g t.tail t.luns (target_cycle c.kind c.byte) permitted) o (ap (λ (w : TailFacts). judge_cycle g w s.luns (target_cycle c.kind c.byte)) o.tail ∙ h))
 
   fresh_comes : (d : TargetCycle) (rule : Forbidden) → opens_sequence g d ≡ true → KeepsRules g t.tail t.luns d → MayCome g t.tail s.luns → judge_cycle g (facts_of []) s.luns d ≡ Some rule → Comes g t.tail s.luns d
   fresh_comes (CommandCycle x) rule begins a m h =
-      by_command (facts_of []) x rule (no_copyback g copyless x a.f2) (λ same. let opens : false ≡ true = sym (ap (opens_here g) same) ∙ begins in cc) (sym (judged_six_fresh g copyless t.tail t.luns s.luns x begins (under_each t.luns s.luns below) clear a) ∙ h) (λ grant. fresh_comes_on g copyless t.tail t.luns s.luns x begins grant a m)
+      by_command (facts_of []) x rule (no_copyback g copyless x a.f2) (λ same. let opens : false ≡ true = sym (ap (opens_here g) same) ∙ begins in cc) (sym (judged_six_fresh g copyless t.tail t.luns s.luns x begins (under_each t.luns s.luns below) clear spare a) ∙ h) (λ grant. fresh_comes_on g copyless t.tail t.luns s.luns x begins grant a m)
   fresh_comes (AddressCycle byte) rule begins a m h = cc
   fresh_comes (InputCycle byte) rule begins a m h = cc
   fresh_comes OutputCycle rule begins a m h = cc
@@ -650,7 +658,7 @@ module _ (g : Parts) (plain : is_shared g ≡ false) (copyless : has_copyback g.
       FitsTarget g nothing_known (target_after g (Cyc c) t) (without_sequence s)
   granted_fresh rule was begins permitted h =
       let q = f.closed was in
-      by_comes (fresh_comes (target_cycle c.kind c.byte) rule begins (keeps_rules g t.tail t.luns (target_cycle c.kind c.byte) permitted) q.comes (ap (λ (w : TailFacts). judge_cycle g w s.luns (target_cycle c.kind c.byte)) (sym q.tail) ∙ h))
+      by_comes (keeps_rules g t.tail t.luns (target_cycle c.kind c.byte) permitted).f2 (fresh_comes (target_cycle c.kind c.byte) rule begins (keeps_rules g t.tail t.luns (target_cycle c.kind c.byte) permitted) q.comes (ap (λ (w : TailFacts). judge_cycle g w s.luns (target_cycle c.kind c.byte)) (sym q.tail) ∙ h))
 
   pub passed_over : k.opened ≡ false → opens_sequence g (target_cycle c.kind c.byte) ≡ false → judge_cycle g t.tail t.luns (target_cycle c.kind c.byte) ≡ None → FitsTarget g k (target_after g (Cyc c) t) s
   passed_over was begins permitted =
@@ -659,7 +667,7 @@ module _ (g : Parts) (plain : is_shared g ≡ false) (copyless : has_copyback g.
       record {
         few = f.few;
         count = f.count;
-        luns = subst (λ (x : Known). AllFit (has_plane_reads g.optional) x 0 (target_after g (Cyc c) t).luns s.luns) (sym q.nothing) (left_below (λ la n v found. unseen_harmless g plain t.tail t.luns s.luns (target_cycle c.kind c.byte) begins a q.comes n v found la));
+        luns = subst (λ (x : Known). AllFit (has_plane_reads g.optional) x 0 (target_after g (Cyc c) t).luns s.luns) (sym q.nothing) (left_below a.f2 (λ la n v found. unseen_harmless g plain t.tail t.luns s.luns (target_cycle c.kind c.byte) begins a q.comes n v found la));
         opened = λ h. cc;
         closed = λ h. record { tail = q.tail; nothing = q.nothing; comes = may_come_on g t.tail t.luns s.luns (target_cycle c.kind c.byte) begins a q.comes };
       }

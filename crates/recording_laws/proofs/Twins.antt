@@ -3,7 +3,7 @@ use Rattle.std.proofs.Common.{◌≡◌, ◌⊎◌, inl, inr, true≢false, ◌+
 use Rattle.nand_geometry.specs.declared.parts.Parts.{Parts}
 use Rattle.onfi_cycle.specs.declared.command.Command.TheVariants.{Reset}
 use Rattle.onfi_cycle.specs.declared.effect.Effect.{Effect}
-use Rattle.onfi_cycle.specs.declared.effect.Effect.TheVariants.{ReadStarted, ReadQueued, EraseStarted, ProgramStarted, IdRead, IdentityRead, UniqueIdReadStarted, FeaturesReadStarted, FeaturesSet, ParameterPageReadStarted, CacheReadContinued, CacheReadEnded, PlaneSelected, ResetStarted, TargetResetStarted, StatusOfSelected, AnotherAddressed, CopybackReadStarted, ProgramAddressed}
+use Rattle.onfi_cycle.specs.declared.effect.Effect.TheVariants.{ReadStarted, ReadQueued, EraseStarted, ProgramStarted, IdRead, IdentityRead, UniqueIdReadStarted, FeaturesReadStarted, FeaturesSet, ParameterPageReadStarted, CacheReadContinued, CacheReadEnded, PlaneSelected, ResetStarted, TargetResetStarted, StatusOfSelected, AnotherAddressed, CopybackReadStarted, CacheProgramStarted, ProgramAddressed}
 use Rattle.onfi_cycle.specs.declared.latch.Latch.{Latch}
 use Rattle.onfi_cycle.specs.declared.latch.Latch.TheVariants.{Off, Status, Data}
 use Rattle.onfi_cycle.specs.declared.page_address.PageAddress.{PageAddress}
@@ -16,7 +16,7 @@ use Rattle.onfi_cycle.specs.Effect.{is_off, is_shared, reset_effect}
 use Rattle.onfi_cycle.specs.Lun.{is_cache_read, is_page_read, pages_of_reads, has_reads, page_in_plane, register_of_plane, held_after, works, latch_after, selected_after, overlapped_after, queue_after, read_column_after, view_after, held_on, is_copyback_read}
 use Rattle.onfi_cycle.specs.LunView.{LunView}
 use Rattle.onfi_cycle.specs.Permitted.{judge_cycle}
-use Rattle.onfi_cycle.specs.Rules.{is_some_and, driver, works_for_target, breaks_command_unknown, breaks_sequence_open, breaks_several_luns, breaks_no_column_to_change, breaks_command_misplaced, breaks_address_misplaced, breaks_row_outside, breaks_lun_busy, breaks_queue_clash, breaks_input_misplaced, breaks_no_sole_driver, breaks_data_not_ready, breaks_column_outside, breaks_cache_read_misplaced, breaks_plane_not_held, breaks_copyback_misplaced}
+use Rattle.onfi_cycle.specs.Rules.{is_some_and, driver, works_for_target, breaks_command_unknown, breaks_sequence_open, breaks_several_luns, breaks_no_column_to_change, breaks_command_misplaced, breaks_address_misplaced, breaks_row_outside, breaks_lun_busy, breaks_queue_clash, breaks_input_misplaced, breaks_no_sole_driver, breaks_data_not_ready, breaks_column_outside, breaks_cache_read_misplaced, breaks_cache_program_misplaced, breaks_plane_not_held, breaks_copyback_misplaced}
 use Rattle.onfi_cycle.specs.Sequence.{facts_of}
 use Rattle.onfi_cycle.specs.State.{has_driver}
 use Rattle.onfi_cycle.proofs.Passed.{KeepsRules}
@@ -104,6 +104,7 @@ begun_on g (CopybackReadStarted at from count) t s k on =
       column = λ h. refl;
       held = λ h. copy_held g at count t s k;
     }
+begun_on g (CacheProgramStarted at) t s k on = record { busy = refl; closer = refl; array_busy = refl; page = λ h. cc; register = refl; column = λ h. cc; held = λ h. refl }
 begun_on g (PlaneSelected plane count from) t s k on =
     let b = k.begun in
     record {
@@ -134,6 +135,7 @@ held_alike g (CopybackReadStarted at from count) t s k on = copy_held g at count
 held_alike g ProgramAddressed t s k on = refl
 held_alike g (ReadQueued at) t s k on = refl
 held_alike g (EraseStarted queued at) t s k on = refl
+held_alike g (CacheProgramStarted at) t s k on = refl
 held_alike g IdRead t s k on = refl
 held_alike g (IdentityRead jedec) t s k on = refl
 held_alike g ParameterPageReadStarted t s k on = refl
@@ -223,7 +225,7 @@ resets_twins g f h a b n (t ∷ ts) [] e = e
 
 -- it is permitted whatever was
 pub reset_judged : (g : Parts) (ss : List LunView) → (is_shared g ≡ true) ⊎ ((is_shared g ≡ false) × (ltb 1 g.luns ≡ false)) → judge_cycle g (facts_of []) ss (CommandCycle Reset) ≡ None
-unfolding breaks_command_unknown breaks_sequence_open breaks_several_luns breaks_no_column_to_change breaks_command_misplaced breaks_address_misplaced breaks_row_outside breaks_lun_busy breaks_queue_clash breaks_input_misplaced breaks_no_sole_driver breaks_data_not_ready breaks_column_outside breaks_cache_read_misplaced breaks_copyback_misplaced breaks_plane_not_held
+unfolding breaks_command_unknown breaks_sequence_open breaks_several_luns breaks_no_column_to_change breaks_command_misplaced breaks_address_misplaced breaks_row_outside breaks_lun_busy breaks_queue_clash breaks_input_misplaced breaks_no_sole_driver breaks_data_not_ready breaks_column_outside breaks_cache_read_misplaced breaks_cache_program_misplaced breaks_copyback_misplaced breaks_plane_not_held
 reset_judged g ss (inl shared) = rw shared refl
 reset_judged g ss (inr alone) = rw (alone.0, alone.1) refl
 

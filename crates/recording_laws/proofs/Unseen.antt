@@ -7,7 +7,7 @@ use Rattle.nand_geometry.specs.Limits.{planes}
 use Rattle.nand_geometry.specs.Optional.{is_wide}
 use Rattle.nand_geometry.specs.Row.{row_of}
 use Rattle.onfi_cycle.specs.declared.command.Command.{Command}
-use Rattle.onfi_cycle.specs.declared.command.Command.TheVariants.{Read, ReadConfirm, ChangeReadColumnEnhanced, ChangeReadColumnConfirm, BlockErase, BlockEraseConfirm, BlockErasePlane, ReadPlane, CopybackRead, ReadStatusEnhanced, PageProgram, ChangeWriteColumn, ProgramConfirm, ProgramPlane, ReadId, ReadParameterPage, ReadUniqueId, GetFeatures, SetFeatures, ResetLun, Unknown}
+use Rattle.onfi_cycle.specs.declared.command.Command.TheVariants.{Read, ReadConfirm, ChangeReadColumnEnhanced, ChangeReadColumnConfirm, BlockErase, BlockEraseConfirm, BlockErasePlane, ReadPlane, CopybackRead, ReadStatusEnhanced, PageProgram, ChangeWriteColumn, ProgramConfirm, ProgramPlane, ProgramCache, ReadId, ReadParameterPage, ReadUniqueId, GetFeatures, SetFeatures, ResetLun, Unknown}
 use Rattle.onfi_cycle.specs.declared.data_phase.DataPhase.{DataPhase}
 use Rattle.onfi_cycle.specs.declared.data_phase.DataPhase.TheVariants.{Outside, Inputs, FirstColumn, SecondColumn, FeatureInputs}
 use Rattle.onfi_cycle.specs.declared.effect.Effect.{Effect}
@@ -517,6 +517,7 @@ module _ (g : Parts) (t : TailFacts) (la : Latch) (ss : List LunView) (m : ℕ) 
   command_harmless ChangeWriteColumn o w = harmless_if (wants_command t ChangeWriteColumn && names_lun g (row t) m) Unaffected s (λ b. tt)
   command_harmless ProgramConfirm o w = closes_nothing (wants_command t ProgramConfirm) (confirm_effect g t ProgramConfirm) ProgramConfirm refl (program_loud t.opening t.phase) (program_beside t.opening t.phase)
   command_harmless ProgramPlane o w = closes_nothing (wants_command t ProgramPlane) (confirm_effect g t ProgramPlane) ProgramPlane refl (program_loud t.opening t.phase) (program_beside t.opening t.phase)
+  command_harmless ProgramCache o w = closes_nothing (wants_command t ProgramCache) (confirm_effect g t ProgramCache) ProgramCache refl (program_loud t.opening t.phase) (program_beside t.opening t.phase)
   command_harmless Unknown o w = harmless_if (wants_command t Unknown && names_lun g (row t) m) Unaffected s (λ b. tt)
   command_harmless c o w = cc
 

@@ -73,7 +73,7 @@ undoubted (Some lun) true h = refl
 said_plain : (t : TraceState) (k : Known) (i : Item) → is_whole k ≡ true → is_plain (verdict_on t k i) ≡ true
 said_plain t k (Cyc c) h = cycle_plain (doubts t.bus k c.ce) (judged_here t (Cyc c)) (no_doubts t.bus k c.ce h)
 said_plain t k (Rdy ce lun fail) h = ready_plain (doubts_ready t.bus k ce lun) (judged_here t (Rdy ce lun fail)) (undoubted (looked t.bus (record { ce = ce; lun = lun })) (has_begun (knows k lun)) (each_begun k lun h))
-said_plain t k (Ard ce lun) h = ready_plain (doubts_ready t.bus k ce lun) (judged_here t (Ard ce lun)) (undoubted (looked t.bus (record { ce = ce; lun = lun })) (has_begun (knows k lun)) (each_begun k lun h))
+said_plain t k (Ard ce lun fail) h = ready_plain (doubts_ready t.bus k ce lun) (judged_here t (Ard ce lun fail)) (undoubted (looked t.bus (record { ce = ce; lun = lun })) (has_begun (knows k lun)) (each_begun k lun h))
 
 taken_plain : (o : Option UnshownReady) (v : Verdict) → is_plain v ≡ true → is_plain (with_ready_taken o v) ≡ true
 unfolding is_plain
@@ -87,7 +87,7 @@ taken_plain (Some ready) (NotShown other) h = refl
 never_passed : (g : Parts) (k : Known) (i : Item) → is_whole k ≡ true → is_passed_over g k i ≡ false
 never_passed g k (Cyc c) h = let open_now = (and_parts k.opened _ h).0 in rw open_now refl
 never_passed g k (Rdy ce lun fail) h = refl
-never_passed g k (Ard ce lun) h = refl
+never_passed g k (Ard ce lun fail) h = refl
 
 -- ---- 2. what is left
 

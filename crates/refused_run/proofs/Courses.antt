@@ -1,5 +1,5 @@
 -- A run goes on, or ends.
-use Rattle.std.proofs.Common.{◌≡◌, ℕ, Bool, true, false, List, [], ◌∷◌, Option, Some, None, refl, sym, ap, subst, slice_get, is_some}
+use Rattle.std.proofs.Common.{◌≡◌, ℕ, true, false, List, [], ◌∷◌, Option, Some, None, refl, sym, ap, subst, slice_get, is_some}
 use Rattle.nand_geometry.specs.declared.parts.Parts.{Parts}
 use Rattle.nand_geometry.specs.Row.{row_bytes_of}
 use Rattle.onfi_cycle.specs.declared.item.Item.{Item}
@@ -18,6 +18,7 @@ use Rattle.refused_run.specs.declared.other_work.OtherWork.{OtherWork}
 use Rattle.refused_run.specs.declared.stand.Stand.{Stand}
 use Rattle.refused_run.specs.Stand.{first_stand}
 use Rattle.refused_run.specs.Course.{Scene, State, Task, HasPlayed, HasPushed, CyclesAre, cycles_of, listed, the_lun, is_wrong, reason_of, may_step, work_items, other_items, WordComes, OtherComes, StopsAt, StandsAgainst, IsBroken, Reached, IsRun, IsRunOn, MayGoOn, task_on, state_of}
+use Rattle.onfi_cycle.specs.declared.item.Failures.{Failures}
 
 pub fresh_run : (words : List Word) (b : Bounds) (scene : Scene) (p : Progress) → scene.past ≡ [] → p ≡ record { stand = first_stand; end = None } → IsRunOn words b scene p
 fresh_run words b scene p none is =
@@ -28,7 +29,7 @@ pub no_end : (o : Option Ended) → is_some o ≡ false → o ≡ None
 no_end None h = refl
 no_end (Some e) h = absurd cc
 
-pub ready_run : (words : List Word) (b : Bounds) (old new : Scene) (p : Progress) (failed : Bool) → p.end ≡ None → HasPushed old new (Rdy 0 0 failed) None → IsRunOn words b old p → IsRunOn words b new p
+pub ready_run : (words : List Word) (b : Bounds) (old new : Scene) (p : Progress) (failed : Failures) → p.end ≡ None → HasPushed old new (Rdy 0 0 failed) None → IsRunOn words b old p → IsRunOn words b new p
 ready_run words b old new p failed none gone run =
     let k = task_on words b old in
     let x : State = record { stand = p.stand; past = old.past } in

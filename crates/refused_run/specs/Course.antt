@@ -44,6 +44,7 @@ use Rattle.refused_run.specs.declared.course.Progress.{Progress}
 use Rattle.refused_run.specs.declared.loops.LoopTurn.{LoopTurn}
 use Rattle.refused_run.specs.declared.stand.Stand.{Stand}
 use Rattle.refused_run.specs.Stand.{first_stand, stand_after}
+use Rattle.onfi_cycle.specs.declared.item.Failures.{Failures}
 
 -- ---- items that come
 
@@ -193,10 +194,10 @@ abbrev pub is_outside : Parts → Bounds → Registers → Word → Bool
 is_outside g b r (Address from count) = nat_lt 2 (from + count) && (nat_le b.rows r.index || nat_le (planes g) r.plane)
 is_outside g b r _ = false
 
--- the LUN is busy, has a row queued, or reads a cache
+-- the LUN is busy, has a row queued, reads a cache, or programs one
 abbrev pub is_working : Option LunState → Bool
 is_working None = false
-is_working (Some look) = look.busy || (nat_lt 0 look.queued || look.caching)
+is_working (Some look) = look.busy || (nat_lt 0 look.queued || (look.caching || look.programming))
 
 abbrev pub is_end : Word → Bool
 is_end (End code) = true
@@ -329,7 +330,7 @@ pub data Reached (k : Task) : State → Type 0 where
   begins : Reached k first_state
   word_comes : (x : State) (word : Word) (status : ℕ) (later : State) → Reached k x → WordComes k x word status later → Reached k later
   ready_comes :
-      (x : State) (failed : Bool) → Reached k x → is_permitted k.geometry 1 x.past (Rdy 0 0 failed) ≡ true
+      (x : State) (failed : Failures) → Reached k x → is_permitted k.geometry 1 x.past (Rdy 0 0 failed) ≡ true
       → Reached k (record { stand = x.stand; past = Rdy 0 0 failed ∷ x.past })
   other_comes : (x : State) (work : OtherWork) (later : State) → Reached k x → OtherComes k x work later → Reached k later
 

@@ -14,7 +14,7 @@ use crate::wrong::{fits_in, is_end, is_wrong};
 use micro_claims::{Bounds, Reason};
 use micro_program::is_ready_status;
 use micro_word::{MAX_WORDS, Word};
-use onfi_cycle::{Forbidden, Item, LunState};
+use onfi_cycle::{Failures, Forbidden, Item, LunState};
 use std::alloc::{AllocError, Allocator};
 use std::marker::Model;
 
@@ -80,6 +80,7 @@ fn reason_of(rule: Forbidden) -> Reason
         | Forbidden::NoSoleDriver
         | Forbidden::DataNotReady
         | Forbidden::CacheReadMisplaced
+        | Forbidden::CacheProgramMisplaced
         | Forbidden::CopybackMisplaced
         | Forbidden::PlaneNotHeld => Reason::CycleForbidden,
     }
@@ -163,7 +164,7 @@ fn begin_anew<A: Allocator>(bench: &mut Bench<A>, progress: &mut Progress)
 fn ready_on<A: Allocator>(
     bench: &mut Bench<A>,
     progress: Progress,
-    failed: bool,
+    failed: Failures,
 ) -> Result<bool, AllocError>
     ensures same { bench.new.geometry ≡ bench.old.geometry }
     ensures run { (words : List WordValue) (bounds : BoundsValue) → IsRunOn words bounds bench.old progress → IsRunOn words bounds bench.new progress }
@@ -390,7 +391,7 @@ impl<A: Allocator> Course<A> {
     }
 
     /// The LUN of the program becomes ready, with failure or without; whether it could.
-    pub(crate) fn become_ready(&mut self, failed: bool) -> Result<bool, AllocError>
+    pub(crate) fn become_ready(&mut self, failed: Failures) -> Result<bool, AllocError>
         ensures { self.new.task ≡ self.old.task }
     {
         match ready_on(&mut self.bench, self.progress, failed) {

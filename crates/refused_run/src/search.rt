@@ -14,7 +14,7 @@ use micro_claims::{Bounds, Fault, Reason};
 use micro_program::continues_cache_read;
 use micro_word::{Text, Word};
 use nand_geometry::Geometry;
-use onfi_cycle::Item;
+use onfi_cycle::{Failures, Item};
 use std::alloc::{AllocError, Allocator};
 
 /// A run of a refused text.
@@ -191,7 +191,10 @@ fn act<A: Allocator>(
         Act::Come { ready, status } => {
             if let Some(failed) = ready {
                 search.has_failed = failed;
-                if !course.become_ready(failed)? {
+                if !course.become_ready(Failures {
+                    last: failed,
+                    before: false,
+                })? {
                     return Ok(false);
                 }
             }

@@ -120,13 +120,13 @@ fn is_outside(geometry: &Geometry, bounds: &Bounds, registers: Registers, word: 
     }
 }
 
-// The LUN is busy, has a row queued, or reads a cache.
+// The LUN is busy, has a row queued, reads a cache, or programs one.
 fn is_working(look: Option<LunState>) -> bool
     ensures { result ≡ is_working look }
 {
     match look {
         None => false,
-        Some(look) => look.busy || 0 < look.queued || look.caching,
+        Some(look) => look.busy || 0 < look.queued || look.caching || look.programming,
     }
 }
 

@@ -11,7 +11,7 @@ use Rattle.run_file.specs.declared.polled.Polled.{Polled}
 use Rattle.run_file.specs.declared.polled.Polled.TheVariants as polled
 use Rattle.run_file.specs.declared.refusal.RunFault.{RunFault}
 use Rattle.run_file.specs.declared.refusal.RunFault.TheVariants.{UnknownLine, BadNumber, OutOfOrder}
-use Rattle.run_file.specs.Line.{Statement, Page, Targets, Image, Job, Polls, Fail, is_named, name_of, path_of, number_in, page_line, targets_line, image_line, job_files, job_line, polled_of, each_polls, work_polls, lun_polls, polls_line, fail_line, named_line, fields_line, spelled}
+use Rattle.run_file.specs.Line.{Statement, Page, Targets, Image, Job, Polls, Fail, is_named, name_of, path_of, number_in, page_line, targets_line, image_line, job_files, job_line, polled_of, each_polls, work_polls, lun_polls, polls_line, fail_line, tells_before, named_line, fields_line, spelled}
 use Rattle.run_file.specs.Told.{Numbered, Told, is_page, is_targets, is_job, stands_once, repeats, stands_before, is_in_order, jobs_in, placed, judged, stopped, ended, after_line, told_from, told}
 use Rattle.run_file.specs.Run.{IsInRange, HasNumbersInRange, HasHead, HasNoneTwice, IsOrderly, IsRun}
 use Rattle.run_file.proofs.Steps.{one_job_more, no_job_more}
@@ -105,11 +105,10 @@ unfolding fail_line
 fail_fits [] = tt
 fail_fits (a ∷ []) = tt
 fail_fits (a ∷ b ∷ []) = tt
-fail_fits (target ∷ lun ∷ ready ∷ []) =
+fail_fits (target ∷ lun ∷ ready ∷ rest) =
     let from_one = number_fits 1 4294967295 ready in
-    then_number IsInRange target _ (λ t. then_number IsInRange lun _ (λ l.
-    then_given (IsBetween 1 4294967295) IsInRange (number_in 1 4294967295 ready) _ from_one (λ n h. h.0)))
-fail_fits (a ∷ b ∷ c ∷ d ∷ rest) = tt
+    then_all IsInRange (tells_before rest) _ (λ e. then_number IsInRange target _ (λ t. then_number IsInRange lun _ (λ l.
+    then_given (IsBetween 1 4294967295) IsInRange (number_in 1 4294967295 ready) _ from_one (λ n h. h.0))))
 
 named_fits : (n : Name) (rest : List (List ℕ)) → IfOk (named_line n rest) IsInRange
 unfolding named_line
@@ -179,16 +178,16 @@ free_again (Job target lun base text input output) free b = at b
     at (Image t l path) = refl
     at (Job t l r x i o) = refl
     at (Polls work count) = refl
-    at (Fail t l ready) = refl
-free_again (Fail target lun ready) free b = at b
+    at (Fail t l ready e) = refl
+free_again (Fail target lun ready before) free b = at b
   where
-    at : (b : Statement) → repeats b (Fail target lun ready) ≡ false
+    at : (b : Statement) → repeats b (Fail target lun ready before) ≡ false
     at (Page path) = refl
     at (Targets count) = refl
     at (Image t l path) = refl
     at (Job t l r x i o) = refl
     at (Polls work count) = refl
-    at (Fail t l k) = refl
+    at (Fail t l k e) = refl
 
 none_of_free : (s : Statement) (before : List Numbered) → stands_once s ≡ false → stands_before s before ≡ false
 unfolding stands_before
@@ -207,12 +206,12 @@ targets_after_page (Page path) (Page other) first second = absurd cc
 targets_after_page (Page path) (Image t l other) first second = absurd cc
 targets_after_page (Page path) (Job t l r x i o) first second = absurd cc
 targets_after_page (Page path) (Polls work count) first second = absurd cc
-targets_after_page (Page path) (Fail t l k) first second = absurd cc
+targets_after_page (Page path) (Fail t l k e) first second = absurd cc
 targets_after_page (Targets n) s first second = absurd cc
 targets_after_page (Image t l path) s first second = absurd cc
 targets_after_page (Job t l r x i o) s first second = absurd cc
 targets_after_page (Polls work n) s first second = absurd cc
-targets_after_page (Fail t l k) s first second = absurd cc
+targets_after_page (Fail t l k e) s first second = absurd cc
 
 none_before : (before : List Numbered) (s : Statement) → HasHead before → is_in_order before s ≡ true → stands_before s before ≡ false
 unfolding is_in_order stands_before

@@ -1,5 +1,5 @@
 -- What a line of a run file says: nothing, a statement, or its fault.
-use Rattle.std.specs.Prelude.{ℕ, Bool, ◌&&◌, nat_le, if◌then◌else◌, List, [], ◌∷◌, codes, Option, Some, None, Result, Ok, Err, ok_or}
+use Rattle.std.specs.Prelude.{ℕ, Bool, true, false, ◌&&◌, nat_le, if◌then◌else◌, List, [], ◌∷◌, codes, Option, Some, None, Result, Ok, Err, ok_or}
 use Rattle.std.specs.Char.{is_ascii}
 use Rattle.std.specs.List.{list_all}
 use Rattle.std.specs.Str.{bytes_eq}
@@ -26,7 +26,7 @@ pub data Statement : Type 0 where
   Image : (target : ℕ) (lun : ℕ) (path : List ℕ) → Statement
   Job : (target : ℕ) (lun : ℕ) (base : ℕ) (text : List ℕ) (input : Option (List ℕ)) (output : Option (List ℕ)) → Statement
   Polls : (work : Polled) (count : ℕ) → Statement
-  Fail : (target : ℕ) (lun : ℕ) (ready : ℕ) → Statement
+  Fail : (target : ℕ) (lun : ℕ) (ready : ℕ) (before : Bool) → Statement
 
 -- ---- fields
 
@@ -132,12 +132,19 @@ polls_line (work ∷ count ∷ []) = work_polls work count
 polls_line (word ∷ target ∷ lun ∷ count ∷ []) = lun_polls word target lun count
 polls_line _ = Err UnknownLine
 
+-- the ready tells that the page before it failed, where these fields are the word for that
+unfoldable pub tells_before : List (List ℕ) → Result Bool RunFault
+tells_before [] = Ok false
+tells_before (word ∷ []) = if is_named word (codes "before") then Ok true else Err UnknownLine
+tells_before _ = Err UnknownLine
+
 unfoldable pub fail_line : List (List ℕ) → Result Statement RunFault
-fail_line (target ∷ lun ∷ ready ∷ []) = do
+fail_line (target ∷ lun ∷ ready ∷ rest) = do
+  before ← tells_before rest
   target ← number_in 0 4294967295 target
   lun ← number_in 0 4294967295 lun
   ready ← number_in 1 4294967295 ready
-  Ok (Fail target lun ready)
+  Ok (Fail target lun ready before)
 fail_line _ = Err UnknownLine
 
 -- the line of a name and the fields after it

@@ -11,7 +11,7 @@ IsInRange (Targets count) = (1 ≤ count) × (count ≤ 4)
 IsInRange (Image target lun path) = Unit {0}
 IsInRange (Job target lun base text input output) = Unit {0}
 IsInRange (Polls work count) = (1 ≤ count) × (count ≤ 1000)
-IsInRange (Fail target lun ready) = 1 ≤ ready
+IsInRange (Fail target lun ready before) = 1 ≤ ready
 
 abbrev pub HasNumbersInRange : Numbered → Type 0
 HasNumbersInRange s = IsInRange s.1

@@ -18,7 +18,7 @@ shown_statement (statement.Image target lun path) = line.Image target lun path.n
 shown_statement (statement.Job target lun base text input output) =
     line.Job target lun base text.now (option_copied input) (option_copied output)
 shown_statement (statement.Polls work count) = line.Polls work count
-shown_statement (statement.Fail target lun ready) = line.Fail target lun ready
+shown_statement (statement.Fail target lun ready before) = line.Fail target lun ready before
 
 abbrev pub shown_files : Files → List ℕ × Option (List ℕ) × Option (List ℕ)
 shown_files f = (f.text.now, option_copied f.input, option_copied f.output)

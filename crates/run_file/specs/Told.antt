@@ -49,7 +49,7 @@ is_job _ = false
 -- page, targets, the polls of some work and the image of a die stand once
 abbrev pub stands_once : Statement → Bool
 stands_once (Job target lun base text input output) = false
-stands_once (Fail target lun ready) = false
+stands_once (Fail target lun ready before) = false
 stands_once _ = true
 
 -- the first of two statements stands once, and the second is the same again
@@ -59,7 +59,7 @@ repeats (Targets count) s = is_targets s
 repeats (Polls work count) s = is_polls_of work s
 repeats (Image target lun path) s = is_image_of target lun s
 repeats (Job target lun base text input output) s = false
-repeats (Fail target lun ready) s = false
+repeats (Fail target lun ready before) s = false
 
 -- some statement is repeated by this one
 unfoldable pub stands_before : Statement → List Numbered → Bool

@@ -2,7 +2,7 @@
 
 ghost use Rattle.std.specs.Prelude.{◌≡◌, IfOk, IfErr, Ok, Err};
 ghost use Rattle.micro_asm.specs.Line.{fields, before_comment};
-ghost use Rattle.run_file.specs.Line.{page_line, targets_line, image_line, job_files, job_line, each_polls, work_polls, lun_polls, polls_line, fail_line, named_line, spelled};
+ghost use Rattle.run_file.specs.Line.{page_line, targets_line, image_line, job_files, job_line, each_polls, work_polls, lun_polls, polls_line, tells_before, fail_line, named_line, spelled};
 ghost use Rattle.run_file.specs.Shown.{shown_statement, shown_files, IsLine, IsSpelled};
 
 use crate::fields::{field, last_field};
@@ -145,17 +145,38 @@ fn polls_line<'a>(rest: &[u8]) -> Result<Statement<'a>, RunFault>
     lun_polls(first, second, third, last_field(after)?)
 }
 
+// The ready tells that the page before it failed.
+#[tactic(auto, unfolding(crate::specs::Line::tells_before))]
+fn tells_before(rest: &[u8]) -> Result<bool, RunFault>
+    ensures ok { IfOk result (λ b. tells_before (fields rest.now) ≡ Ok b) }
+    ensures err { IfErr result (λ e. tells_before (fields rest.now) ≡ Err e) }
+{
+    let Some((word, after)) = next_field(rest) else {
+        return Ok(false);
+    };
+    if let Some(_) = next_field(after) {
+        return Err(RunFault::UnknownLine);
+    }
+    if is_named(word, "before") {
+        Ok(true)
+    } else {
+        Err(RunFault::UnknownLine)
+    }
+}
+
 #[tactic(auto, unfolding(crate::specs::Line::fail_line))]
 fn fail_line<'a>(rest: &[u8]) -> Result<Statement<'a>, RunFault>
     ensures { IsLine result (fail_line (fields rest.now)) }
 {
     let (target, rest) = field(rest)?;
     let (lun, rest) = field(rest)?;
-    let ready = last_field(rest)?;
+    let (ready, rest) = field(rest)?;
+    let before = tells_before(rest)?;
     Ok(Statement::Fail {
         target: any_number(target)?,
         lun: any_number(lun)?,
         ready: number_in(1, u32::MAX, ready)?,
+        before,
     })
 }
 

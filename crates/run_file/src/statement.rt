@@ -33,11 +33,12 @@ pub enum Statement<'a> {
         of: Polled,
         count: u32,
     },
-    /// The ready of this number of the LUN, from 1, is with failure.
+    /// The ready of this number of the LUN, from 1, is with failure: of its work (FAIL), or of the page before it (FAILC).
     Fail {
         target: u32,
         lun: u32,
         ready: u32,
+        before: bool,
     },
 }
 

@@ -23,6 +23,7 @@ pub(crate) fn layout_of(name: Name, fields: Fields<'_>) -> &'static str {
         (Name::Polls, Some("program")) => "polls program N",
         (Name::Polls, Some("erase")) => "polls erase N",
         (Name::Polls, Some("lun")) => "polls lun CE LUN N",
+        (Name::Fail, _) if fields.get(4) == Some("before") => "fail CE LUN K before",
         _ => layout(name),
     }
 }
@@ -44,6 +45,7 @@ pub(crate) fn count_fields(name: Name, fields: Fields<'_>) -> usize {
     match (name, fields.get(1)) {
         (Name::Polls, Some("read" | "program" | "erase")) => 2,
         (Name::Polls, Some("lun")) => 4,
+        (Name::Fail, _) if fields.get(4) == Some("before") => 4,
         _ => count_plain(name),
     }
 }

@@ -11,7 +11,7 @@ use Rattle.seq_core.specs.After.{After, after}
 use Rattle.seq_core.specs.Lawful.{LawfulWorld}
 use Rattle.seq_core.specs.Shows.{CoreView, IsAt, channel_in}
 use Rattle.seq_core.specs.Calls.{Came, IsEvent}
-use Rattle.seq_core.specs.Alone.{alone_on, alone_behind}
+use Rattle.seq_core.specs.Alone.{alone_on, alone_behind, no_failures}
 use Rattle.run_once.specs.Once.{the_lun}
 use Rattle.run_once.specs.Runs.{Turned, TookTurn, EndsWithin, HasRun}
 
@@ -42,13 +42,13 @@ more_turn c later answer event not_ended not_waits w at law =
     let k = event w at law in
     (k.next.world, k.is_at, record { lawful = k.lawful; goes = λ turns. behind_step (channel_in c) w k.next (ToStep answer) turns k.is_next k.replied ∙ more answer not_ended not_waits (channel_in c) turns k.next.world }, k.channel)
 
-pub ready_turn : (c mid later : CoreView) (came : Bool) → IsEvent c (Step the_lun) (ToStep NotReady) mid → IsEvent mid (Ready the_lun false) (ToReady came) later → TookTurn c false later
+pub ready_turn : (c mid later : CoreView) (came : Bool) → IsEvent c (Step the_lun) (ToStep NotReady) mid → IsEvent mid (Ready the_lun no_failures) (ToReady came) later → TookTurn c false later
 ready_turn c mid later came event ready w at law = turned (event w at law)
   where
     turned : Came c w (Step the_lun) (ToStep NotReady) mid → (behind : World) × IsAt later behind × Turned (channel_in c) w behind false × (channel_in later ≡ channel_in c)
     turned k =
         let m = ready k.next.world k.is_at (subst (λ (s : Channel). LawfulWorld s k.next.world) (sym k.channel) k.lawful) in
-        let here : after (channel_in c) k.next.world (Ready the_lun false) ≡ Some m.next = subst (λ (s : Channel). after s k.next.world (Ready the_lun false) ≡ Some m.next) k.channel m.is_next in (
+        let here : after (channel_in c) k.next.world (Ready the_lun no_failures) ≡ Some m.next = subst (λ (s : Channel). after s k.next.world (Ready the_lun no_failures) ≡ Some m.next) k.channel m.is_next in (
           m.next.world,
           m.is_at,
           record {

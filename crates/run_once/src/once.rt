@@ -7,6 +7,7 @@ ghost use Rattle.micro_program.specs.Lines.{unrolled};
 ghost use Rattle.seq_inputs.specs.declared.refusal.Refusal.{Refusal};
 ghost use Rattle.seq_inputs.specs.Refusals.{line_of};
 ghost use Rattle.seq_core.specs.World.{fresh};
+ghost use Rattle.seq_core.specs.Alone.{no_failures};
 ghost use Rattle.seq_core.specs.Calls.{IsEvent};
 ghost use Rattle.seq_core.specs.Event.{Ready};
 ghost use Rattle.seq_core.specs.Reply.{ToReady};
@@ -20,7 +21,7 @@ ghost use Rattle.trace_text.specs.Line.{text, IsPrintable};
 use die_model::LunDie;
 use micro_word::Text;
 use nand_geometry::{Geometry, Parts, SMALL_CHIP};
-use onfi_cycle::{Item, Lun};
+use onfi_cycle::{Failures, Item, Lun};
 use seq_core::{Core, Job, Stepped, UnloadedJob};
 use seq_files::read_all;
 use seq_inputs::{
@@ -103,9 +104,13 @@ fn new_core<A: Allocator + Copy>(alloc: A) -> Result<Core<A>, AllocError>
 
 // The LUN becomes ready, without failure.
 fn become_ready<A: Allocator + Copy>(core: &mut Core<A>) -> bool
-    ensures { IsEvent core.old (Ready the_lun false) (ToReady result) core.new }
+    ensures { IsEvent core.old (Ready the_lun no_failures) (ToReady result) core.new }
 {
-    core.ready(THE_LUN, false)
+    let fail = Failures {
+        last: false,
+        before: false,
+    };
+    core.ready(THE_LUN, fail)
 }
 
 // The code with which a job has ended.

@@ -1,5 +1,5 @@
 -- What is refused may be: the stop that is told of a fault, an image, the line of a job.
-use Rattle.std.proofs.Common.{◌≡◌, ℕ, true, List, Option, Some, None, Result, Ok, Err, IfErr, refl, ap, subst, inr}
+use Rattle.std.proofs.Common.{◌≡◌, ℕ, Bool, true, false, List, Option, Some, None, Result, Ok, Err, IfErr, refl, ap, subst, inl, inr}
 use Rattle.seq_files.specs.Store.{Store, Holds}
 use Rattle.nand_geometry.specs.declared.parts.Parts.{Parts}
 use Rattle.onfi_cycle.specs.declared.lun.Lun.{Lun}
@@ -8,16 +8,17 @@ use Rattle.die_model.specs.declared.refusal.ImageRefusal.{ImageRefusal}
 use Rattle.die_model.specs.declared.refusal.ImageRefusal.TheVariants.{Fault as ImageFaultAt}
 use Rattle.die_model.specs.Die.{Die, new_die}
 use Rattle.die_model.specs.Loading.{image_fault, IsJudgedBy}
+use Rattle.run_file.specs.declared.refusal.RunFault.TheVariants.{UnknownLine}
 use Rattle.run_file.specs.Line.{Job as JobLine}
 use Rattle.seq_inputs.specs.declared.fault.Fault.{Fault}
-use Rattle.seq_inputs.specs.declared.fault.Fault.TheVariants.{Image}
+use Rattle.seq_inputs.specs.declared.fault.Fault.TheVariants.{Image, Statement as Line}
 use Rattle.seq_inputs.specs.declared.refusal.Refusal.{Refusal}
 use Rattle.seq_inputs.specs.declared.stop.Stop.{Stop}
 use Rattle.seq_inputs.specs.declared.stop.Stop.TheVariants.{Refused, FileFault, ReaderGone, BuffersTooLarge, OutOfMemory}
 use Rattle.seq_inputs.specs.Refusals.{refusal_of}
 use Rattle.seq_inputs.specs.Stops.{IsRefusal, Says, Tells}
 use Rattle.seq_inputs.proofs.Verifieds.{said_more}
-use Rattle.run_plan.specs.Judged.{has_lun, lun_at, ImageIsRefused, JobLineIsRefused, IsRefused}
+use Rattle.run_plan.specs.Judged.{has_lun, lun_at, LunIsRefused, may_tell, FailIsRefused, ImageIsRefused, JobLineIsRefused, IsRefused}
 
 some_same : (r s : Refusal) → Some r ≡ Some s → s ≡ r
 some_same r s h = cc
@@ -54,3 +55,12 @@ job_line_said files g targets target lun base l text input output (Ok x) there s
 job_line_said files g targets target lun base l text input output (Err e) there same h =
     said_more (JobLineIsRefused files g targets l base text input) (IsRefused files g targets (JobLine target lun base text input output)) e
     (λ f k. inr (there, subst (λ (m : Lun). JobLineIsRefused files g targets m base text input f) same k)) h
+
+-- a ready tells of the page before it, where it may not
+pub before_said : {A : Type 0} (g : Parts) (targets target lun : ℕ) (before : Bool) (e : Stop A) → IsRefusal (Line UnknownLine) e → may_tell g before ≡ false → Says (FailIsRefused g targets target lun before) e
+before_said g targets target lun before e is h = said (FailIsRefused g targets target lun before) (Line UnknownLine) e is (inl (h, refl))
+
+-- it tells what it may, of a LUN that isn't there
+pub failing_said : {A : Type 0} (g : Parts) (targets target lun : ℕ) (before : Bool) (e : Stop A) → Says (LunIsRefused g targets target lun) e → may_tell g before ≡ true → Says (FailIsRefused g targets target lun before) e
+failing_said g targets target lun before e says h =
+    said_more (LunIsRefused g targets target lun) (FailIsRefused g targets target lun before) e (λ f k. inr (h, k)) says

@@ -1,5 +1,5 @@
 -- What the lines of a run file set up is what is planned.
-use Rattle.std.proofs.Common.{◌≡◌, ℕ, ◌+◌, ◌*◌, ◌<◌, ◌≤◌, List, [], ◌∷◌, ◌++◌, length, drop, get_or, set, Option, refl, sym, ap, ◌∙◌, subst}
+use Rattle.std.proofs.Common.{◌≡◌, ℕ, Bool, ◌+◌, ◌*◌, ◌<◌, ◌≤◌, List, [], ◌∷◌, ◌++◌, length, drop, get_or, set, Option, refl, sym, ap, ◌∙◌, subst}
 use Rattle.seq_files.specs.Store.{Store}
 use Rattle.nand_geometry.specs.declared.parts.Parts.{Parts}
 use Rattle.onfi_cycle.specs.declared.lun.Lun.{Lun}
@@ -64,8 +64,8 @@ stays old new setup dies jobs was = record {
 pub polls_set : (files : Option Store) (g : Parts) (work : Polled) (count : ℕ) (old new : RunPlan) → new.dies ≡ old.dies → new.jobs ≡ old.jobs → PlansOne files g (PollsLine work count) old new
 polls_set files g work count old new dies jobs setup was = (setup, refl, stays old new setup dies jobs was)
 
-pub fail_set : (files : Option Store) (g : Parts) (target lun ready : ℕ) (old new : RunPlan) → new.dies ≡ old.dies → new.jobs ≡ old.jobs → PlansOne files g (FailLine target lun ready) old new
-fail_set files g target lun ready old new dies jobs setup was = (setup, refl, stays old new setup dies jobs was)
+pub fail_set : (files : Option Store) (g : Parts) (target lun ready : ℕ) (before : Bool) (old new : RunPlan) → new.dies ≡ old.dies → new.jobs ≡ old.jobs → PlansOne files g (FailLine target lun ready before) old new
+fail_set files g target lun ready before old new dies jobs setup was = (setup, refl, stays old new setup dies jobs was)
 
 -- ---- statement by statement
 

@@ -1,8 +1,9 @@
 -- What a run file and the files that it names are refused for: the first statement that doesn't pass, by its line.
-use Rattle.std.specs.Prelude.{◌≡◌, ℕ, ◌≤◌, ◌<◌, ◌&&◌, Bool, true, false, nat_lt, nat_le, if◌then◌else◌, drop, ⊤, ◌⊎◌, List, [], ◌∷◌, ◌++◌, length, Option, Some, None, replicate, ◌-◌}
+use Rattle.std.specs.Prelude.{◌≡◌, ℕ, ◌≤◌, ◌<◌, ◌&&◌, ◌||◌, not, Bool, true, false, nat_lt, nat_le, if◌then◌else◌, drop, ⊤, ◌⊎◌, List, [], ◌∷◌, ◌++◌, length, Option, Some, None, replicate, ◌-◌}
 use Rattle.seq_files.specs.Store.{Store, Holds}
 use Rattle.nand_geometry.specs.declared.optional.Profile.{Profile}
 use Rattle.nand_geometry.specs.declared.parts.Parts.{Parts}
+use Rattle.nand_geometry.specs.Optional.{has_program_cache}
 use Rattle.onfi_cycle.specs.declared.lun.Lun.{Lun}
 use Rattle.die_model.specs.Loading.{image_fault}
 use Rattle.micro_word.specs.Text.{Microprogram}
@@ -11,7 +12,7 @@ use Rattle.seq_core.specs.declared.job_fault.JobFault.{JobFault}
 use Rattle.seq_inputs.specs.Inputs.{HasPageAs, PageIsRefused, HasText, FileOrTextIsRefused}
 use Rattle.run_file.specs.declared.polled.Polled.{Polled}
 use Rattle.run_file.specs.declared.polled.Polled.TheVariants as polled
-use Rattle.run_file.specs.declared.refusal.RunFault.TheVariants.{OutOfOrder, NoSuchLun, InputTooLong}
+use Rattle.run_file.specs.declared.refusal.RunFault.TheVariants.{UnknownLine, OutOfOrder, NoSuchLun, InputTooLong}
 use Rattle.run_file.specs.declared.refusal.RunRefusal.{RunRefusal}
 use Rattle.run_file.specs.Line.{Statement}
 use Rattle.run_file.specs.Line.{Page as PageLine, Targets as TargetsLine, Image as ImageLine, Job as JobLine, Polls as PollsLine, Fail as FailLine}
@@ -93,12 +94,23 @@ abbrev pub JobLineIsRefused : Option Store → Parts → ℕ → Lun → ℕ →
 JobLineIsRefused files g targets l base text input fault =
     FileOrTextIsRefused files g text fault ⊎ (InputRefuses files g text input fault ⊎ JobRefuses files g targets l base text input fault)
 
+-- a ready tells of the page before it where the chip programs caches; elsewhere the line is unknown
+abbrev pub may_tell : Parts → (before : Bool) → Bool
+may_tell g before = not before || has_program_cache g.optional
+
+abbrev pub FailPasses : Parts → (targets target lun : ℕ) → (before : Bool) → Type 0
+FailPasses g targets target lun before = (may_tell g before ≡ true) × (has_lun g targets target lun ≡ true)
+
+abbrev pub FailIsRefused : Parts → (targets target lun : ℕ) → (before : Bool) → Fault → Type 0
+FailIsRefused g targets target lun before fault =
+    ((may_tell g before ≡ false) × (fault ≡ Line UnknownLine)) ⊎ ((may_tell g before ≡ true) × LunIsRefused g targets target lun fault)
+
 -- the statement has no fault, and the files that it names have none; page and targets stand before all others
 abbrev pub Passes : Option Store → Parts → ℕ → Statement → Type 0
 Passes files g targets (ImageLine target lun path) = (has_lun g targets target lun ≡ true) × HasImage files g path
 Passes files g targets (JobLine target lun base text input output) = (has_lun g targets target lun ≡ true) × JobPasses files g targets (lun_at target lun) base text input
 Passes files g targets (PollsLine work count) = PollsPass g targets work
-Passes files g targets (FailLine target lun ready) = has_lun g targets target lun ≡ true
+Passes files g targets (FailLine target lun ready before) = FailPasses g targets target lun before
 Passes files g targets _ = ⊥
 
 -- the statement's first fault; the LUN is judged before a file is read
@@ -108,7 +120,7 @@ IsRefused files g targets (ImageLine target lun path) fault =
 IsRefused files g targets (JobLine target lun base text input output) fault =
     LunIsRefused g targets target lun fault ⊎ ((has_lun g targets target lun ≡ true) × JobLineIsRefused files g targets (lun_at target lun) base text input fault)
 IsRefused files g targets (PollsLine work count) fault = PollsAreRefused g targets work fault
-IsRefused files g targets (FailLine target lun ready) fault = LunIsRefused g targets target lun fault
+IsRefused files g targets (FailLine target lun ready before) fault = FailIsRefused g targets target lun before fault
 IsRefused files g targets _ fault = fault ≡ Line OutOfOrder
 
 -- ---- all statements, and the fault of the text after them

@@ -8,9 +8,9 @@ ghost use Rattle.run_plan.specs.Setup.{IsJobOf};
 ghost use Rattle.run_plan.specs.Plans.{PlansOne, PlansJob, PlansAll, IsSetUpFrom};
 ghost use Rattle.seq_inputs.specs.Stops.{IsRefusal, Says, SaysAt};
 ghost use Rattle.seq_inputs.specs.declared.fault.Fault.TheVariants.{Statement as StatementFault};
-ghost use Rattle.run_file.specs.declared.refusal.RunFault.TheVariants.{NoSuchLun};
+ghost use Rattle.run_file.specs.declared.refusal.RunFault.TheVariants.{NoSuchLun, UnknownLine};
 ghost use Rattle.run_plan.specs.Plans.{line_refused};
-ghost use Rattle.run_plan.specs.Judged.{has_lun, lun_at, LunIsRefused, PollsPass, PollsAreRefused, JobPasses, JobLineIsRefused, Passes, IsRefused, IsRefusedAt, RestPasses, RestIsRefused, EndIsRefused, page_of, targets_of, PlanPasses, PlanIsRefused};
+ghost use Rattle.run_plan.specs.Judged.{has_lun, lun_at, LunIsRefused, PollsPass, PollsAreRefused, may_tell, FailPasses, FailIsRefused, JobPasses, JobLineIsRefused, Passes, IsRefused, IsRefusedAt, RestPasses, RestIsRefused, EndIsRefused, page_of, targets_of, PlanPasses, PlanIsRefused};
 
 use crate::failing::Failing;
 use crate::plan::{PlannedImage, RunPlan};
@@ -55,6 +55,25 @@ fn refuse_lun<'a>(
     Stop::refused(Fault::Statement { fault }, Words::of(words))
 }
 
+// No ready of a chip without Page Cache Program tells of the page before.
+fn refuse_before<'a>(alloc: Global) -> Stop<'a>
+    ensures { IsRefusal (StatementFault UnknownLine) result }
+{
+    let fault = RunFault::UnknownLine;
+    let words = format!(in alloc;
+        "{fault}: `before` is of chips with Page Cache Program, with `--profile onfi` ({})",
+        fault.code()
+    );
+    Stop::refused(Fault::Statement { fault }, Words::of(words))
+}
+
+// A ready of this geometry may tell of the page before.
+fn may_tell(geometry: &Geometry, before: bool) -> bool
+    ensures { result ≡ may_tell geometry.now before }
+{
+    !before || geometry.parts().optional.has_program_cache()
+}
+
 // The LUN of a channel that has these numbers.
 fn find_lun<'a>(
     alloc: Global,
@@ -73,6 +92,28 @@ fn find_lun<'a>(
         ce: target as u8,
         lun: lun as u8,
     })
+}
+
+// The LUN of a ready that is with failure, which may tell of the page before.
+#[tactic(auto, using(crate::proofs::Refusing::before_said, crate::proofs::Refusing::failing_said))]
+fn find_failing<'a>(
+    alloc: Global,
+    geometry: &Geometry,
+    targets: u8,
+    target: u32,
+    lun: u32,
+    before: bool,
+) -> Result<Lun, Stop<'a>>
+    ensures ok { OnOk result (FailPasses geometry.now targets target lun before) }
+    ensures err { IfErr result (Says (FailIsRefused geometry.now targets target lun before)) }
+{
+    if !may_tell(geometry, before) {
+        return Err(refuse_before(alloc));
+    }
+    match find_lun(alloc, geometry, targets, target, lun) {
+        Ok(found) => Ok(found),
+        Err(stop) => Err(stop),
+    }
 }
 
 // A job, and the header that was counted for its program, if one was.
@@ -155,7 +196,12 @@ impl<'a> RunPlan<'a> {
                 self.add_job(alloc, files, line, lun, base, text, input, output)
             }
             Statement::Polls { of, count } => self.set_polls(alloc, of, count),
-            Statement::Fail { target, lun, ready } => self.add_failing(alloc, target, lun, ready),
+            Statement::Fail {
+                target,
+                lun,
+                ready,
+                before,
+            } => self.add_failing(alloc, target, lun, ready, before),
         }
     }
 
@@ -253,19 +299,22 @@ impl<'a> RunPlan<'a> {
         target: u32,
         lun: u32,
         ready: u32,
+        before: bool,
     ) -> Result<(), Stop<'a>>
-        ensures ok { OnOk result (has_lun self.old.dies.geometry self.old.dies.targets target lun ≡ true) }
-        ensures err { IfErr result (Says (LunIsRefused self.old.dies.geometry self.old.dies.targets target lun)) }
+        ensures ok { OnOk result (FailPasses self.old.dies.geometry self.old.dies.targets target lun before) }
+        ensures err { IfErr result (Says (FailIsRefused self.old.dies.geometry self.old.dies.targets target lun before)) }
         ensures channel { (self.new.dies.geometry ≡ self.old.dies.geometry) × (self.new.dies.targets ≡ self.old.dies.targets) }
         ensures dies { self.new.dies ≡ self.old.dies }
         ensures jobs { self.new.jobs ≡ self.old.jobs }
         ensures images { self.new.images ≡ self.old.images }
     {
-        let lun = find_lun(alloc, &self.dies.geometry, self.dies.targets, target, lun)?;
+        let (geometry, targets) = (self.dies.geometry, self.dies.targets);
+        let lun = find_failing(alloc, &geometry, targets, target, lun, before)?;
         self.fails.push(Failing {
             target: lun.ce,
             lun: lun.lun,
             ready: u64::from(ready),
+            before,
         })?;
         Ok(())
     }

@@ -128,7 +128,7 @@ MayTell (CheckTimes request) files later fault printed = TimesRefuse files reque
 MayTell (CheckData request) files later fault printed = DataRefuses files request fault printed × (later ≡ files)
 MayTell (Timing request) files later fault printed = EdgesTell files request fault printed × (later ≡ files)
 MayTell (WriteImage request) files later fault printed = ImageTells files request fault printed × (later ≡ files)
-MayTell (ListOperations request) files later fault printed = IsNoTrace files request.input.now fault × (later ≡ files) × (printed ≡ fault_line fault)
+MayTell (ListOperations request) files later fault printed = IsNoTrace files request.profile request.input.now fault × (later ≡ files) × (printed ≡ fault_line fault)
 MayTell (Draw request) files later fault printed =
     TraceIsRefused files request.lines request.page.now request.input.now fault × (later ≡ files) × (printed ≡ fault_line fault)
 MayTell (DrawVendor request) files later fault printed = VendorDrawIsRefused files request fault × (later ≡ files) × (printed ≡ fault_line fault)

@@ -20,7 +20,7 @@ use Rattle.micro_program.specs.Moves.{Move, Give, Take, moves, and_then, is_wait
 use Rattle.micro_program.specs.Played.{Played, played, with_byte}
 use Rattle.trace_text.specs.Line.{IsPrintable}
 use Rattle.micro_verify.specs.declared.showing.Counter.{Counter as Counted}
-use Rattle.micro_verify.specs.Lazy.{the_lun, lone_channel, lone_job, Run, new_run, run_with, run_word, awaited, item_of, Counter, counter_in, counter_at}
+use Rattle.micro_verify.specs.Lazy.{the_lun, lone_channel, lone_job, Run, new_run, run_with, run_word, awaited, item_of, Counter, counter_in, counter_at, no_failures}
 use Rattle.micro_verify.specs.Cause.{lacks_bytes}
 use Rattle.micro_verify.specs.Calm.{calm_word, calm_words, counter_after, counter_before, counter_of, may_show}
 use Rattle.micro_verify.specs.Playing.{Shown}
@@ -66,7 +66,7 @@ played_printable s (Take ∷ rest) past h =
     step (λ (p : Played). ArePrintable p.past) (λ (p : Played). ArePrintable p.past) (played s 0 rest (cycle 0 Dout byte ∷ past)) (with_byte byte)
     (played_printable s rest (cycle 0 Dout byte ∷ past) (omega arith, h)) (λ p k. k))
 
-awaited_past : (b : Bool) (past : List Item) → ArePrintable past → ArePrintable (cond b (Rdy 0 0 false ∷ past) past)
+awaited_past : (b : Bool) (past : List Item) → ArePrintable past → ArePrintable (cond b (Rdy 0 0 no_failures ∷ past) past)
 awaited_past true past h = ((omega arith, omega arith), h)
 awaited_past false past h = h
 

@@ -2,6 +2,7 @@
 use Rattle.std.proofs.Common.{◌≡◌, ℕ, zero, suc, ◌+◌, ◌*◌, ◌≤◌, ◌==◌, Bool, true, false, cond, leb, List, [], ◌∷◌, Option, Some, None, refl, sym, ap, ◌∙◌, subst, arith, length}
 use Rattle.std.proofs.lemmas.Bool.Decides.{nat_tests}
 use Rattle.nand_geometry.specs.declared.parts.Parts.{Parts}
+use Rattle.onfi_cycle.specs.declared.item.Failures.{Failures}
 use Rattle.onfi_cycle.specs.LunView.{LunView}
 use Rattle.onfi_cycle.specs.declared.lun.Lun.{Lun}
 use Rattle.onfi_cycle.specs.declared.item.Item.{Item}
@@ -24,7 +25,7 @@ use Rattle.seq_core.specs.Reply.{ToStep, ToReady, answer_of}
 use Rattle.seq_core.specs.After.{After, after, after_stride, after_slot_step, is_held}
 use Rattle.seq_core.specs.Lawful.{LawfulSlot, LawfulWorld, has_bus}
 use Rattle.seq_core.specs.Headline.{EventGoesWell}
-use Rattle.seq_core.specs.Alone.{alone_on, alone_behind, HasEndedAlone, AloneProgramsEnd}
+use Rattle.seq_core.specs.Alone.{alone_on, alone_behind, HasEndedAlone, AloneProgramsEnd, no_failures}
 use Rattle.seq_core.specs.Live.{ReadiesMakeTruth}
 use Rattle.seq_core.proofs.Below.{step_parts, unready_busy, readies_leave, view_at, there_lun}
 use Rattle.seq_core.proofs.Slots.{there_ce, same_lun_self, there_of_slot, slot_same}
@@ -70,13 +71,13 @@ stride_leaves line rest done p _ = (refl, omega arith)
 
 -- 2. a busy LUN becomes ready
 
-pub busy_is_permitted : (s : Channel) (past : List Item) (l : Lun) (fail : Bool) → is_there s l ≡ true → is_busy s.geometry past l ≡ true → is_permitted s.geometry s.targets past (Rdy l.ce l.lun fail) ≡ true
+pub busy_is_permitted : (s : Channel) (past : List Item) (l : Lun) (fail : Failures) → is_there s l ≡ true → is_busy s.geometry past l ≡ true → is_permitted s.geometry s.targets past (Rdy l.ce l.lun fail) ≡ true
 unfolding breaks_not_there
 busy_is_permitted s past l fail there busy =
     let target : leb s.targets l.ce ≡ false = let b = there_ce s l there in grind (arith, nat_tests) in
     rw (target, view_at s.geometry past l (there_lun s l there), busy) refl
 
-pub ready_at : (g : Parts) (past : List Item) (l : Lun) (fail : Bool) → is_busy g (Rdy l.ce l.lun fail ∷ past) l ≡ false
+pub ready_at : (g : Parts) (past : List Item) (l : Lun) (fail : Failures) → is_busy g (Rdy l.ce l.lun fail ∷ past) l ≡ false
 ready_at g past l fail = ap (λ (v : LunView). v.busy) (readies_leave.own g past l fail)
 
 -- 3. turns
@@ -196,16 +197,16 @@ ends s is (suc turns) w l x may few = at t.r.outcome refl t.leaves (ends s is tu
     at HasGone e h again = goes_on HasGone e (λ v. refl) h again
     at WasNotReady e h again =
         let busy = t.unready e in
-        let i : Item = Rdy l.ce l.lun false in
-        let permitted = busy_is_permitted s w1.past l false (there_of_slot s w l x may.is) busy.1 in
+        let i : Item = Rdy l.ce l.lun no_failures in
+        let permitted = busy_is_permitted s w1.past l no_failures (there_of_slot s w l x may.is) busy.1 in
         let w2 : World = record { past = i ∷ w1.past; slots = w1.slots; holder = w1.holder } in
-        let k = events_go_well s w1 (Ready l false) is t.lawful tt in
-        let came : after s w1 (Ready l false) ≡ Some (record { world = w2; reply = ToReady true }) = rw permitted refl in
+        let k = events_go_well s w1 (Ready l no_failures) is t.lawful tt in
+        let came : after s w1 (Ready l no_failures) ≡ Some (record { world = w2; reply = ToReady true }) = rw permitted refl in
         let same : k.then ≡ record { world = w2; reply = ToReady true } = some_same k.then (record { world = w2; reply = ToReady true }) (sym k.is_then ∙ came) in
         let law : LawfulWorld s w2 = subst (λ (a : After). LawfulWorld s a.world) same k.lawful in
         let low : weight s w2.past l x1.ahead ≤ turns =
         subst (λ (ls : List Line). weight s w2.past l ls ≤ turns) (sym h.1)
-        (subst (λ (b : Bool). 2 * length (t.line ∷ t.rest) + busy_weight b ≤ turns) (sym (ready_at s.geometry w1.past l false))
+        (subst (λ (b : Bool). 2 * length (t.line ∷ t.rest) + busy_weight b ≤ turns) (sym (ready_at s.geometry w1.past l no_failures))
         (let was : 2 * length (t.line ∷ t.rest) + 1 ≤ suc turns = subst (λ (b : Bool). 2 * length (t.line ∷ t.rest) + busy_weight b ≤ suc turns) busy.0 few_now in omega (arith, was))) in
         let m = again w2 l x1 (record { lawful = law; is = is_slot; running = h.0; free = not_held (keeps_bus t.r.outcome) l }) low in
         record { end = m.end; is_end = behind WasNotReady e ∙ (ap (λ (o : Option After). and_then o (λ a. alone_on s l turns a.world)) came ∙ m.is_end); lawful = m.lawful; slot = m.slot; is_slot = m.is_slot; code = m.code; is_code = m.is_code }

@@ -2,6 +2,7 @@
 use Rattle.std.proofs.Common.{◌≡◌, ℕ, zero, suc, ◌+◌, ◌*◌, ◌^◌, ◌<◌, ◌≤◌, ◌↔◌, Bool, true, false, not, cond, List, [], ◌∷◌, ◌++◌, Option, Some, None, is_some, is_none, refl, sym, ap, ◌∙◌, subst, arith, length, get_or, set, replicate, IfSome, IsTrue}
 use Rattle.std.proofs.lemmas.Nat.{mul-le}
 use Rattle.nand_geometry.specs.declared.parts.Parts.{Parts}
+use Rattle.onfi_cycle.specs.declared.item.Failures.{Failures}
 use Rattle.onfi_cycle.specs.declared.lun.Lun.{Lun}
 use Rattle.onfi_cycle.specs.declared.item.Item.{Item}
 use Rattle.onfi_cycle.specs.declared.item.Item.TheVariants.{Rdy, Ard}
@@ -267,13 +268,13 @@ came_event b d slots holder i e reply true does stays event =
 came_event b d slots holder i e reply false does stays event =
     subst (λ (x : Traced). IsEvent (view_of b slots holder) e reply (view_of x slots holder)) (sym (stays refl)) event
 
-pub ready_now : (b d : Traced) (slots : List (Option Progress)) (holder : Option Lun) (l : Lun) (fail came : Bool) → IsCore (view_of b slots holder) → came ≡ is_permitted b.geometry b.targets b.past (Rdy l.ce l.lun fail) → (IsTrue came → IsNext b d (Rdy l.ce l.lun fail)) → (came ≡ false → d ≡ b) → IsEvent (view_of b slots holder) (Ready l fail) (ToReady came) (view_of d slots holder)
+pub ready_now : (b d : Traced) (slots : List (Option Progress)) (holder : Option Lun) (l : Lun) (fail : Failures) (came : Bool) → IsCore (view_of b slots holder) → came ≡ is_permitted b.geometry b.targets b.past (Rdy l.ce l.lun fail) → (IsTrue came → IsNext b d (Rdy l.ce l.lun fail)) → (came ≡ false → d ≡ b) → IsEvent (view_of b slots holder) (Ready l fail) (ToReady came) (view_of d slots holder)
 ready_now b d slots holder l fail came core h does stays =
     came_event b d slots holder (Rdy l.ce l.lun fail) (Ready l fail) (ToReady came) came does stays (ready_event (view_of b slots holder) l fail came core.is_channel h)
 
-pub array_ready_now : (b d : Traced) (slots : List (Option Progress)) (holder : Option Lun) (l : Lun) (came : Bool) → IsCore (view_of b slots holder) → came ≡ is_permitted b.geometry b.targets b.past (Ard l.ce l.lun) → (IsTrue came → IsNext b d (Ard l.ce l.lun)) → (came ≡ false → d ≡ b) → IsEvent (view_of b slots holder) (ArrayReady l) (ToArrayReady came) (view_of d slots holder)
-array_ready_now b d slots holder l came core h does stays =
-    came_event b d slots holder (Ard l.ce l.lun) (ArrayReady l) (ToArrayReady came) came does stays (array_ready_event (view_of b slots holder) l came core.is_channel h)
+pub array_ready_now : (b d : Traced) (slots : List (Option Progress)) (holder : Option Lun) (l : Lun) (fail came : Bool) → IsCore (view_of b slots holder) → came ≡ is_permitted b.geometry b.targets b.past (Ard l.ce l.lun fail) → (IsTrue came → IsNext b d (Ard l.ce l.lun fail)) → (came ≡ false → d ≡ b) → IsEvent (view_of b slots holder) (ArrayReady l fail) (ToArrayReady came) (view_of d slots holder)
+array_ready_now b d slots holder l fail came core h does stays =
+    came_event b d slots holder (Ard l.ce l.lun fail) (ArrayReady l fail) (ToArrayReady came) came does stays (array_ready_event (view_of b slots holder) l fail came core.is_channel h)
 
 came_of : (rule : Option Forbidden) (came : Bool) → is_some rule ≡ not came → came ≡ is_none rule
 came_of None true h = refl
@@ -282,11 +283,11 @@ came_of (Some r) true h = cc
 came_of (Some r) false h = refl
 
 -- what a ready would answer, by the rule that it breaks first
-pub ready_admitted : (b : Traced) (slots : List (Option Progress)) (holder : Option Lun) (l : Lun) (fail : Bool) (rule : Option Forbidden) (came : Bool) → IsCore (view_of b slots holder) → rule ≡ broken b.geometry b.targets b.past (Rdy l.ce l.lun fail) → is_some rule ≡ not came → IsEvent (view_of b slots holder) (Ready l fail) (ToReady came) (with_item (view_of b slots holder) (Rdy l.ce l.lun fail) came)
+pub ready_admitted : (b : Traced) (slots : List (Option Progress)) (holder : Option Lun) (l : Lun) (fail : Failures) (rule : Option Forbidden) (came : Bool) → IsCore (view_of b slots holder) → rule ≡ broken b.geometry b.targets b.past (Rdy l.ce l.lun fail) → is_some rule ≡ not came → IsEvent (view_of b slots holder) (Ready l fail) (ToReady came) (with_item (view_of b slots holder) (Rdy l.ce l.lun fail) came)
 ready_admitted b slots holder l fail rule came core first is = ready_event (view_of b slots holder) l fail came core.is_channel (came_of rule came is ∙ ap is_none first)
 
-pub array_ready_admitted : (b : Traced) (slots : List (Option Progress)) (holder : Option Lun) (l : Lun) (rule : Option Forbidden) (came : Bool) → IsCore (view_of b slots holder) → rule ≡ broken b.geometry b.targets b.past (Ard l.ce l.lun) → is_some rule ≡ not came → IsEvent (view_of b slots holder) (ArrayReady l) (ToArrayReady came) (with_item (view_of b slots holder) (Ard l.ce l.lun) came)
-array_ready_admitted b slots holder l rule came core first is = array_ready_event (view_of b slots holder) l came core.is_channel (came_of rule came is ∙ ap is_none first)
+pub array_ready_admitted : (b : Traced) (slots : List (Option Progress)) (holder : Option Lun) (l : Lun) (fail : Bool) (rule : Option Forbidden) (came : Bool) → IsCore (view_of b slots holder) → rule ≡ broken b.geometry b.targets b.past (Ard l.ce l.lun fail) → is_some rule ≡ not came → IsEvent (view_of b slots holder) (ArrayReady l fail) (ToArrayReady came) (with_item (view_of b slots holder) (Ard l.ce l.lun fail) came)
+array_ready_admitted b slots holder l fail rule came core first is = array_ready_event (view_of b slots holder) l fail came core.is_channel (came_of rule came is ∙ ap is_none first)
 
 -- where the bus is as it was, all is
 pub none_came : (b d : Traced) (slots : List (Option Progress)) (holder : Option Lun) (v : CoreView) (came : Bool) → (came ≡ false → d ≡ b) → view_of b slots holder ≡ v → came ≡ false → view_of d slots holder ≡ v

@@ -43,8 +43,8 @@ events_go_well s w (Step l) is law v =
     let k = step_lawful s is w law l (slot_of s w l) refl in record { then = k.a; is_then = k.is_a; own = k.own; lawful = k.lawful }
 events_go_well s w (Ready l fail) is law v =
     record { then = _; is_then = refl; own = item_adds w (Rdy l.ce l.lun fail) ToReady (is_permitted s.geometry s.targets w.past (Rdy l.ce l.lun fail)); lawful = item_lawful s w (Rdy l.ce l.lun fail) ToReady (is_permitted s.geometry s.targets w.past (Rdy l.ce l.lun fail)) law refl refl }
-events_go_well s w (ArrayReady l) is law v =
-    record { then = _; is_then = refl; own = item_adds w (Ard l.ce l.lun) ToArrayReady (is_permitted s.geometry s.targets w.past (Ard l.ce l.lun)); lawful = item_lawful s w (Ard l.ce l.lun) ToArrayReady (is_permitted s.geometry s.targets w.past (Ard l.ce l.lun)) law refl refl }
+events_go_well s w (ArrayReady l fail) is law v =
+    record { then = _; is_then = refl; own = item_adds w (Ard l.ce l.lun fail) ToArrayReady (is_permitted s.geometry s.targets w.past (Ard l.ce l.lun fail)); lawful = item_lawful s w (Ard l.ce l.lun fail) ToArrayReady (is_permitted s.geometry s.targets w.past (Ard l.ce l.lun fail)) law refl refl }
 events_go_well s w (Unload l) is law v =
     record { then = _; is_then = refl; own = unload_adds s w l (slot_of s w l); lawful = unload_lawful s w l (slot_of s w l) law refl }
 
@@ -72,7 +72,7 @@ fresh_is_lawful s =
     record {
       legal = refl;
       size = length-replicate (s.targets * s.geometry.luns) None;
-      slots = λ m there. subst (λ (o : Option Slot). LawfulAt s [] false m o) (sym (none_of_fresh s [] None (s.targets * s.geometry.luns) m)) (record { ready = refl; no_cache = refl; no_queue = refl; free = service.first s.geometry m.ce }, refl);
+      slots = λ m there. subst (λ (o : Option Slot). LawfulAt s [] false m o) (sym (none_of_fresh s [] None (s.targets * s.geometry.luns) m)) (record { ready = refl; no_cache = refl; no_program = refl; no_queue = refl; free = service.first s.geometry m.ce }, refl);
       holder = λ l e. cc;
       closed = λ ce h. refl;
     }

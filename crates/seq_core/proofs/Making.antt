@@ -211,9 +211,9 @@ event_made s w l (Step m) a r is there size h = step_made s w m l (slot_of s w m
 event_made s w l (Ready m fail) a r is there size h =
     subst (λ (x : After). MakesAsTold s (slot_of s x.world l) r) (same_after _ a is)
     (subst (λ (o : Option Slot). MakesAsTold s o r) (sym (item_slots s w l (Rdy m.ce m.lun fail) ToReady (is_permitted s.geometry s.targets w.past (Rdy m.ce m.lun fail)))) h)
-event_made s w l (ArrayReady m) a r is there size h =
+event_made s w l (ArrayReady m fail) a r is there size h =
     subst (λ (x : After). MakesAsTold s (slot_of s x.world l) r) (same_after _ a is)
-    (subst (λ (o : Option Slot). MakesAsTold s o r) (sym (item_slots s w l (Ard m.ce m.lun) ToArrayReady (is_permitted s.geometry s.targets w.past (Ard m.ce m.lun)))) h)
+    (subst (λ (o : Option Slot). MakesAsTold s o r) (sym (item_slots s w l (Ard m.ce m.lun fail) ToArrayReady (is_permitted s.geometry s.targets w.past (Ard m.ce m.lun fail)))) h)
 event_made s w l (Unload m) a r is there size h =
     subst (λ (x : After). MakesAsTold s (slot_of s x.world l) (told (same_lun m l) (Unload m) w x r)) (same_after _ a is) (unload_made s w m l (slot_of s w m) r (same_lun m l) refl refl there size h)
 
@@ -254,7 +254,7 @@ pub event_size : (s : Channel) (w : World) (e : Event) (a : After) → after s w
 event_size s w (Load m j) a is = sym (ap (λ (x : After). length x.world.slots) (same_after _ a is)) ∙ load_size s w m j (load_fault s w m j)
 event_size s w (Step m) a is = step_size s w m (slot_of s w m) a is
 event_size s w (Ready m fail) a is = sym (ap (λ (x : After). length x.world.slots) (same_after _ a is)) ∙ item_size w (Rdy m.ce m.lun fail) ToReady _
-event_size s w (ArrayReady m) a is = sym (ap (λ (x : After). length x.world.slots) (same_after _ a is)) ∙ item_size w (Ard m.ce m.lun) ToArrayReady _
+event_size s w (ArrayReady m fail) a is = sym (ap (λ (x : After). length x.world.slots) (same_after _ a is)) ∙ item_size w (Ard m.ce m.lun fail) ToArrayReady _
 event_size s w (Unload m) a is = sym (ap (λ (x : After). length x.world.slots) (same_after _ a is)) ∙ unload_size s w m (slot_of s w m)
 
 -- 4. a run

@@ -66,6 +66,6 @@ refusals_change_nothing s w (Load l j) a e = from_some w _ a e (load_stays s w l
 refusals_change_nothing s w (Step l) a e = step_stays s w l (slot_of s w l) a e
 refusals_change_nothing s w (Ready l fail) a e =
     from_some w _ a e (item_stays w (Rdy l.ce l.lun fail) (is_permitted s.geometry s.targets w.past (Rdy l.ce l.lun fail))).0
-refusals_change_nothing s w (ArrayReady l) a e =
-    from_some w _ a e (item_stays w (Ard l.ce l.lun) (is_permitted s.geometry s.targets w.past (Ard l.ce l.lun))).1
+refusals_change_nothing s w (ArrayReady l fail) a e =
+    from_some w _ a e (item_stays w (Ard l.ce l.lun fail) (is_permitted s.geometry s.targets w.past (Ard l.ce l.lun fail))).1
 refusals_change_nothing s w (Unload l) a e = from_some w _ a e (unload_stays s w l (slot_of s w l))

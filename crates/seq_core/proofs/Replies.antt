@@ -1,6 +1,7 @@
 -- Loads, readies and unloads are events of the world that is kept; and where a slot goes on, its next word can be played.
 use Rattle.std.proofs.Common.{◌≡◌, ℕ, ◌^◌, ◌<◌, Bool, true, false, ◌||◌, not, List, [], ◌∷◌, Option, Some, None, is_some, refl, sym, ap, ◌∙◌, subst, arith, length}
 use Rattle.std.specs.List.{slice_get}
+use Rattle.onfi_cycle.specs.declared.item.Failures.{Failures}
 use Rattle.onfi_cycle.specs.declared.lun.Lun.{Lun}
 use Rattle.onfi_cycle.specs.declared.item.Item.{Item}
 use Rattle.onfi_cycle.specs.declared.item.Item.TheVariants.{Rdy, Ard}
@@ -80,13 +81,13 @@ item_event c w i reply b a at is e =
     let same : after_item w i reply b ≡ a = ap (after_item w i reply) (is ∙ sym (permitted_here c w i at)) ∙ some_same (after_item w i reply (is_permitted c.geometry c.targets w.past i)) a e in
     subst (λ (x : After). (x.reply ≡ reply b) × IsAt (with_item c i b) x.world) same (item_came c w i reply b at)
 
-pub ready_event : (c : CoreView) (l : Lun) (fail came_now : Bool) → IsChannel (channel_in c) → came_now ≡ is_permitted c.geometry c.targets c.past (Rdy l.ce l.lun fail) → IsEvent c (Ready l fail) (ToReady came_now) (with_item c (Rdy l.ce l.lun fail) came_now)
+pub ready_event : (c : CoreView) (l : Lun) (fail : Failures) (came_now : Bool) → IsChannel (channel_in c) → came_now ≡ is_permitted c.geometry c.targets c.past (Rdy l.ce l.lun fail) → IsEvent c (Ready l fail) (ToReady came_now) (with_item c (Rdy l.ce l.lun fail) came_now)
 ready_event c l fail b is h w at law =
     came c w (Ready l fail) (ToReady b) (with_item c (Rdy l.ce l.lun fail) b) is law tt refl (λ a e. item_event c w (Rdy l.ce l.lun fail) ToReady b a at h e)
 
-pub array_ready_event : (c : CoreView) (l : Lun) (came_now : Bool) → IsChannel (channel_in c) → came_now ≡ is_permitted c.geometry c.targets c.past (Ard l.ce l.lun) → IsEvent c (ArrayReady l) (ToArrayReady came_now) (with_item c (Ard l.ce l.lun) came_now)
-array_ready_event c l b is h w at law =
-    came c w (ArrayReady l) (ToArrayReady b) (with_item c (Ard l.ce l.lun) b) is law tt refl (λ a e. item_event c w (Ard l.ce l.lun) ToArrayReady b a at h e)
+pub array_ready_event : (c : CoreView) (l : Lun) (fail came_now : Bool) → IsChannel (channel_in c) → came_now ≡ is_permitted c.geometry c.targets c.past (Ard l.ce l.lun fail) → IsEvent c (ArrayReady l fail) (ToArrayReady came_now) (with_item c (Ard l.ce l.lun fail) came_now)
+array_ready_event c l fail b is h w at law =
+    came c w (ArrayReady l fail) (ToArrayReady b) (with_item c (Ard l.ce l.lun fail) b) is law tt refl (λ a e. item_event c w (Ard l.ce l.lun fail) ToArrayReady b a at h e)
 
 -- 3. unloads
 

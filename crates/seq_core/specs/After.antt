@@ -104,8 +104,8 @@ after s w (Load l j) = Some (after_load s w l j (load_fault s w l j))
 after s w (Step l) = after_step s w l (slot_of s w l)
 after s w (Ready l fail) =
     Some (after_item w (Rdy l.ce l.lun fail) ToReady (is_permitted s.geometry s.targets w.past (Rdy l.ce l.lun fail)))
-after s w (ArrayReady l) =
-    Some (after_item w (Ard l.ce l.lun) ToArrayReady (is_permitted s.geometry s.targets w.past (Ard l.ce l.lun)))
+after s w (ArrayReady l fail) =
+    Some (after_item w (Ard l.ce l.lun fail) ToArrayReady (is_permitted s.geometry s.targets w.past (Ard l.ce l.lun fail)))
 after s w (Unload l) = Some (after_unload s w l (slot_of s w l))
 
 -- the world that a list of events leaves, and its answers

@@ -1,5 +1,6 @@
 -- A program that runs alone, and that it ends.
 use Rattle.std.specs.Prelude.{◌≡◌, ℕ, zero, suc, ◌+◌, ◌*◌, ◌≤◌, false, Option, Some, None, length}
+use Rattle.onfi_cycle.specs.declared.item.Failures.{Failures}
 use Rattle.onfi_cycle.specs.declared.lun.Lun.{Lun}
 use Rattle.onfi_cycle.specs.Channel.{Channel, IsChannel}
 use Rattle.micro_program.specs.Moves.{and_then}
@@ -10,10 +11,14 @@ use Rattle.seq_core.specs.Reply.{Reply, ToStep}
 use Rattle.seq_core.specs.After.{after, is_held}
 use Rattle.seq_core.specs.Lawful.{LawfulWorld}
 
+-- a ready that tells of no failure
+abbrev pub no_failures : Failures
+no_failures = record { last = false; before = false }
+
 -- behind a step: the program has ended, or its LUN becomes ready without failure where it wasn't, and it goes on
 abbrev pub alone_behind : Channel → Lun → (World → Option World) → World → Reply → Option World
 alone_behind s l goes_on w (ToStep Ended) = Some w
-alone_behind s l goes_on w (ToStep NotReady) = and_then (after s w (Ready l false)) (λ a. goes_on a.world)
+alone_behind s l goes_on w (ToStep NotReady) = and_then (after s w (Ready l no_failures)) (λ a. goes_on a.world)
 alone_behind s l goes_on w _ = goes_on w
 
 -- the world in which the program of a LUN has ended, stepped alone in so many turns at most

@@ -1,5 +1,6 @@
 -- What happens on a channel that runs programs.
 use Rattle.std.specs.Prelude.{Bool, List, [], ◌∷◌}
+use Rattle.onfi_cycle.specs.declared.item.Failures.{Failures}
 use Rattle.onfi_cycle.specs.declared.lun.Lun.{Lun}
 use Rattle.micro_program.specs.Program.{Job}
 use Rattle.micro_program.specs.Safe.{IsMade, IsSafe}
@@ -8,8 +9,8 @@ use Rattle.micro_program.specs.Safe.{IsMade, IsSafe}
 pub data Event : Type 0 where
   Load : (lun : Lun) (job : Job) → Event
   Step : (lun : Lun) → Event
-  Ready : (lun : Lun) (fail : Bool) → Event
-  ArrayReady : (lun : Lun) → Event
+  Ready : (lun : Lun) (fail : Failures) → Event
+  ArrayReady : (lun : Lun) (fail : Bool) → Event
   Unload : (lun : Lun) → Event
 
 -- a job that was checked when it was made, of a text that is safe on its geometry

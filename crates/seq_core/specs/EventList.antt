@@ -23,7 +23,7 @@ abbrev pub event_of : {A : Type 0} → Asked A → Event
 event_of (AskLoad l j) = Load l j
 event_of (AskStep l) = Step l
 event_of (AskReady l fail) = Ready l fail
-event_of (AskArrayReady l) = ArrayReady l
+event_of (AskArrayReady l fail) = ArrayReady l fail
 event_of (AskUnload l) = Unload l
 
 abbrev pub loading_of : {A : Type 0} → Result (Unit {0}) (LoadRefused A) → Loading

@@ -25,7 +25,7 @@ AddsAtMost i before later = (later ≡ before) ⊎ (later ≡ i ∷ before)
 abbrev pub AddsItsOwn : Channel → Event → List Item → List Item → Type 0
 AddsItsOwn s (Step l) before later = AddsOwn s l before later
 AddsItsOwn s (Ready l fail) before later = AddsAtMost (Rdy l.ce l.lun fail) before later
-AddsItsOwn s (ArrayReady l) before later = AddsAtMost (Ard l.ce l.lun) before later
+AddsItsOwn s (ArrayReady l fail) before later = AddsAtMost (Ard l.ce l.lun fail) before later
 AddsItsOwn s (Load l j) before later = later ≡ before
 AddsItsOwn s (Unload l) before later = later ≡ before
 

@@ -1,6 +1,7 @@
 -- A step on a real bus, whose chips give whatever bytes they give.
 use Rattle.std.specs.Prelude.{◌≡◌, ℕ, Bool, true, false, List, [], ◌∷◌, Option, Some, None, length}
 use Rattle.nand_geometry.specs.declared.parts.Parts.{Parts}
+use Rattle.onfi_cycle.specs.declared.item.Failures.{Failures}
 use Rattle.onfi_cycle.specs.declared.lun.Lun.{Lun}
 use Rattle.onfi_cycle.specs.declared.item.Item.{Item}
 use Rattle.onfi_cycle.specs.declared.item.Item.TheVariants.{Rdy}
@@ -42,5 +43,5 @@ LiveStepsGoWell =
 -- the law: truth can be had. Where a poll says ready of a LUN that is busy in the trace, a ready is permitted before it, and then the LUN isn't busy
 abbrev pub ReadiesMakeTruth : Type 0
 ReadiesMakeTruth =
-    (s : Channel) (past : List Item) (l : Lun) (fail : Bool) → is_there s l ≡ true → is_busy s.geometry past l ≡ true
+    (s : Channel) (past : List Item) (l : Lun) (fail : Failures) → is_there s l ≡ true → is_busy s.geometry past l ≡ true
     → (is_permitted s.geometry s.targets past (Rdy l.ce l.lun fail) ≡ true) × (is_busy s.geometry (Rdy l.ce l.lun fail ∷ past) l ≡ false)

@@ -8,7 +8,7 @@ use crate::job::Job;
 use crate::sequencer::{Core, LoadRefused, UnloadedJob};
 use crate::stepped::Stepped;
 use crate::unload_fault::UnloadFault;
-use onfi_cycle::Lun;
+use onfi_cycle::{Failures, Lun};
 use std::alloc::{Allocator, Global};
 
 /// What happens on a channel.
@@ -18,10 +18,10 @@ pub enum Event<A: Allocator = Global> {
     Load(Lun, Job<A>),
     /// The next word of a LUN's program is stepped.
     Step(Lun),
-    /// A LUN becomes ready, with failure or without.
-    Ready(Lun, bool),
-    /// The array of a LUN becomes ready after a cache read.
-    ArrayReady(Lun),
+    /// A LUN becomes ready, with failures or without.
+    Ready(Lun, Failures),
+    /// The array of a LUN becomes ready after a cache read, or after a cache program, which failed or not.
+    ArrayReady(Lun, bool),
     /// The job of a LUN is taken away.
     Unload(Lun),
 }
@@ -78,7 +78,7 @@ pub fn do_event<A: Allocator + Copy>(
             Err(_) => Err(Event::Step(lun)),
         },
         Event::Ready(lun, fail) => Ok(Reply::Ready(core.ready(lun, fail))),
-        Event::ArrayReady(lun) => Ok(Reply::ArrayReady(core.array_ready(lun))),
+        Event::ArrayReady(lun, fail) => Ok(Reply::ArrayReady(core.array_ready(lun, fail))),
         Event::Unload(lun) => Ok(Reply::Unload(core.unload(lun))),
     }
 }

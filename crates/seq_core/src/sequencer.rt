@@ -28,7 +28,7 @@ use crate::stepped::Stepped;
 use crate::unload_fault::UnloadFault;
 use arrayvec::ArrayVec;
 use nand_geometry::Geometry;
-use onfi_cycle::{Item, Lun, MAX_CHANNEL_LUNS};
+use onfi_cycle::{Failures, Item, Lun, MAX_CHANNEL_LUNS};
 use std::alloc::{AllocError, Allocator, Global};
 use std::marker::Model;
 use target_bus::Bus;
@@ -261,7 +261,7 @@ impl<A: Allocator + Copy> Core<A> {
     }
 
     /// What [`ready`](Core::ready) would answer.
-    pub fn admits_ready(&self, lun: Lun, fail: bool) -> bool
+    pub fn admits_ready(&self, lun: Lun, fail: Failures) -> bool
         ensures { IsEvent self.now (Ready lun fail) (ToReady result) (with_item self.now (Rdy lun.ce lun.lun fail) result) }
     {
         let item = Item::Rdy {
@@ -273,12 +273,13 @@ impl<A: Allocator + Copy> Core<A> {
     }
 
     /// What [`array_ready`](Core::array_ready) would answer.
-    pub fn admits_array_ready(&self, lun: Lun) -> bool
-        ensures { IsEvent self.now (ArrayReady lun) (ToArrayReady result) (with_item self.now (Ard lun.ce lun.lun) result) }
+    pub fn admits_array_ready(&self, lun: Lun, fail: bool) -> bool
+        ensures { IsEvent self.now (ArrayReady lun fail) (ToArrayReady result) (with_item self.now (Ard lun.ce lun.lun fail) result) }
     {
         let item = Item::Ard {
             ce: lun.ce,
             lun: lun.lun,
+            fail,
         };
         self.bus.state().judge(item).is_none()
     }
@@ -296,9 +297,9 @@ impl<A: Allocator + Copy> Core<A> {
         }
     }
 
-    /// A LUN becomes ready, with failure or without; false, with all as it was, where it isn't there or isn't busy. Takes no
+    /// A LUN becomes ready, with failures or without; false, with all as it was, where it isn't there or isn't busy. Takes no
     /// memory.
-    pub fn ready(&mut self, lun: Lun, fail: bool) -> bool
+    pub fn ready(&mut self, lun: Lun, fail: Failures) -> bool
         ensures came { IsEvent self.old (Ready lun fail) (ToReady result) self.new }
         ensures no { result ≡ false → self.new ≡ self.old }
     {
@@ -306,11 +307,11 @@ impl<A: Allocator + Copy> Core<A> {
     }
 
     /// The array of a LUN becomes ready after a cache read; false, with all as it was, where none goes on. Takes no memory.
-    pub fn array_ready(&mut self, lun: Lun) -> bool
-        ensures came { IsEvent self.old (ArrayReady lun) (ToArrayReady result) self.new }
+    pub fn array_ready(&mut self, lun: Lun, fail: bool) -> bool
+        ensures came { IsEvent self.old (ArrayReady lun fail) (ToArrayReady result) self.new }
         ensures no { result ≡ false → self.new ≡ self.old }
     {
-        self.bus.array_ready(lun)
+        self.bus.array_ready(lun, fail)
     }
 
     /// Takes a job that has ended from its LUN, with its buffer as the program left it. Errors, with all as it was: `U1` the

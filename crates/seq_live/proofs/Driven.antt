@@ -5,6 +5,7 @@ use Rattle.std.proofs.lemmas.List.{append-nil, append_assoc}
 use Rattle.std.proofs.lemmas.Bool.{and_parts}
 use Rattle.nand_geometry.specs.declared.parts.Parts.{Parts}
 use Rattle.nand_geometry.specs.Row.{row_bytes_of}
+use Rattle.onfi_cycle.specs.declared.item.Failures.{Failures}
 use Rattle.onfi_cycle.specs.declared.lun.Lun.{Lun}
 use Rattle.onfi_cycle.specs.declared.item.Kind.{Kind}
 use Rattle.onfi_cycle.specs.declared.item.Kind.TheVariants.{Cmd, Adr, Din, Dout}
@@ -44,7 +45,7 @@ use Rattle.seq_live.specs.Burst.{all_moves, BurstFits, AllFit, poll_bursts, burs
 use Rattle.seq_live.specs.Event.{LiveEvent, Load, Step, Ready, ArrayReady, Unload, is_quiet, is_ready}
 use Rattle.seq_live.specs.After.{after_live, after_answers, after_slot_answers, with_first, run_live}
 use Rattle.seq_live.specs.Kept.{LiveView, channel_at, core_at, IsLiveAt, IsLive}
-use Rattle.seq_live.specs.Calls.{IsLiveRun, MayStep, IsNextWord, AreNextBursts, HasBuffer, live_slot, shown, has_fail, has_array_ready, is_poll}
+use Rattle.seq_live.specs.Calls.{IsLiveRun, MayStep, IsNextWord, AreNextBursts, HasBuffer, live_slot, shown, has_fail, has_array_ready, is_poll, told_by}
 use Rattle.seq_live.specs.Driven.{cycles_in, with_bytes, with_burst, with_bursts, with_word, Grows, HaveCome, Bring, HasCome, shown_next, shown_slot, shown_in, AreShown, ShowReadies}
 use Rattle.micro_program.specs.Program.{is_ready_status}
 use Rattle.micro_program.specs.Step.{first_byte}
@@ -302,7 +303,7 @@ shown_are_ready l y bytes = at (is_poll y) (is_ready_status status) (has_array_r
     status : ℕ
     status = first_byte bytes
 
-    at : (poll ready array : Bool) → list_all is_ready (cond poll (cond ready (Ready l (has_fail status) ∷ cond array (ArrayReady l ∷ []) []) []) []) ≡ true
+    at : (poll ready array : Bool) → list_all is_ready (cond poll (cond ready (Ready l (told_by status) ∷ cond array (ArrayReady l (has_fail status) ∷ []) []) []) []) ≡ true
     at false ready array = refl
     at true false array = refl
     at true true false = refl
@@ -316,20 +317,20 @@ record AddsNoCycle (w later : World) : Type 0 where
 no_cycle_more : (w u t : World) → AddsNoCycle w u → AddsNoCycle u t → AddsNoCycle w t
 no_cycle_more w u t a b = record { cycles = b.cycles ∙ a.cycles; slots = b.slots ∙ a.slots; holder = b.holder ∙ a.holder }
 
-ready_adds : (w : World) (l : Lun) (fail came : Bool) (a : After) → Some (after_item w (Rdy l.ce l.lun fail) ToReady came) ≡ Some a → AddsNoCycle w a.world
+ready_adds : (w : World) (l : Lun) (fail : Failures) (came : Bool) (a : After) → Some (after_item w (Rdy l.ce l.lun fail) ToReady came) ≡ Some a → AddsNoCycle w a.world
 ready_adds w l fail true a h = subst (λ (b : After). AddsNoCycle w b.world) (some_same (after_item w (Rdy l.ce l.lun fail) ToReady true) a h) (record { cycles = refl; slots = refl; holder = refl })
 ready_adds w l fail false a h = subst (λ (b : After). AddsNoCycle w b.world) (some_same (after_item w (Rdy l.ce l.lun fail) ToReady false) a h) (record { cycles = refl; slots = refl; holder = refl })
 
-array_adds : (w : World) (l : Lun) (came : Bool) (a : After) → Some (after_item w (Ard l.ce l.lun) ToArrayReady came) ≡ Some a → AddsNoCycle w a.world
-array_adds w l true a h = subst (λ (b : After). AddsNoCycle w b.world) (some_same (after_item w (Ard l.ce l.lun) ToArrayReady true) a h) (record { cycles = refl; slots = refl; holder = refl })
-array_adds w l false a h = subst (λ (b : After). AddsNoCycle w b.world) (some_same (after_item w (Ard l.ce l.lun) ToArrayReady false) a h) (record { cycles = refl; slots = refl; holder = refl })
+array_adds : (w : World) (l : Lun) (fail came : Bool) (a : After) → Some (after_item w (Ard l.ce l.lun fail) ToArrayReady came) ≡ Some a → AddsNoCycle w a.world
+array_adds w l fail true a h = subst (λ (b : After). AddsNoCycle w b.world) (some_same (after_item w (Ard l.ce l.lun fail) ToArrayReady true) a h) (record { cycles = refl; slots = refl; holder = refl })
+array_adds w l fail false a h = subst (λ (b : After). AddsNoCycle w b.world) (some_same (after_item w (Ard l.ce l.lun fail) ToArrayReady false) a h) (record { cycles = refl; slots = refl; holder = refl })
 
 one_adds : (s : Channel) (w : World) (e : LiveEvent) (a : After) → is_ready e ≡ true → after_live s w e ≡ Some a → AddsNoCycle w a.world
 one_adds s w (Load l j) a ready h = cc
 one_adds s w (Step l bytes) a ready h = cc
 one_adds s w (Unload l) a ready h = cc
 one_adds s w (Ready l fail) a ready h = ready_adds w l fail (is_permitted s.geometry s.targets w.past (Rdy l.ce l.lun fail)) a h
-one_adds s w (ArrayReady l) a ready h = array_adds w l (is_permitted s.geometry s.targets w.past (Ard l.ce l.lun)) a h
+one_adds s w (ArrayReady l fail) a ready h = array_adds w l fail (is_permitted s.geometry s.targets w.past (Ard l.ce l.lun fail)) a h
 
 one_is_lawful : (s : Channel) (w : World) (e : LiveEvent) (a : After) → IsChannel s → LawfulWorld s w → is_ready e ≡ true → after_live s w e ≡ Some a → LawfulWorld s a.world
 one_is_lawful s w (Load l j) a channel law ready h = cc
@@ -338,8 +339,8 @@ one_is_lawful s w (Unload l) a channel law ready h = cc
 one_is_lawful s w (Ready l fail) a channel law ready h =
     let g = live_events_go_well s w (Ready l fail) channel law tt tt in
     subst (λ (b : After). LawfulWorld s b.world) (some_same g.then a (sym g.is_then ∙ h)) g.lawful
-one_is_lawful s w (ArrayReady l) a channel law ready h =
-    let g = live_events_go_well s w (ArrayReady l) channel law tt tt in
+one_is_lawful s w (ArrayReady l fail) a channel law ready h =
+    let g = live_events_go_well s w (ArrayReady l fail) channel law tt tt in
     subst (λ (b : After). LawfulWorld s b.world) (some_same g.then a (sym g.is_then ∙ h)) g.lawful
 
 -- readies and then a step
@@ -453,7 +454,7 @@ still_past s w (Load l j) a loud h = load_adds s w l j (load_fault s w l j) a h
 still_past s w (Unload l) a loud h = unload_adds s w l (slot_of s w l) a h
 still_past s w (Step l bytes) a loud h = cc
 still_past s w (Ready l fail) a loud h = cc
-still_past s w (ArrayReady l) a loud h = cc
+still_past s w (ArrayReady l fail) a loud h = cc
 
 -- a load and an unload bring nothing
 pub loud_come : (v : LiveView) (e : LiveEvent) (o : Option (List Item)) → is_quiet e ≡ false → HasCome v (e ∷ []) o o
@@ -469,7 +470,7 @@ loud_shows v (Load l j) loud w at law = (refl, λ a is. refl)
 loud_shows v (Unload l) loud w at law = (refl, λ a is. refl)
 loud_shows v (Step l bytes) loud w at law = cc
 loud_shows v (Ready l fail) loud w at law = cc
-loud_shows v (ArrayReady l) loud w at law = cc
+loud_shows v (ArrayReady l fail) loud w at law = cc
 
 -- 8. one after another
 
@@ -502,7 +503,7 @@ shown_more s readies [] fs w first later = subst (λ (rs : List LiveEvent). AreS
 shown_more s readies (Load l j ∷ es) fs w first later = (first.0, λ a is. shown_more s [] es fs a.world (first.1 a is) (shown_then s (Load l j) es fs w a is later))
 shown_more s readies (Unload l ∷ es) fs w first later = (first.0, λ a is. shown_more s [] es fs a.world (first.1 a is) (shown_then s (Unload l) es fs w a is later))
 shown_more s readies (Ready l fail ∷ es) fs w first later = λ a is. shown_more s (readies ++ (Ready l fail ∷ [])) es fs a.world (first a is) (shown_then s (Ready l fail) es fs w a is later)
-shown_more s readies (ArrayReady l ∷ es) fs w first later = λ a is. shown_more s (readies ++ (ArrayReady l ∷ [])) es fs a.world (first a is) (shown_then s (ArrayReady l) es fs w a is later)
+shown_more s readies (ArrayReady l fail ∷ es) fs w first later = λ a is. shown_more s (readies ++ (ArrayReady l fail ∷ [])) es fs a.world (first a is) (shown_then s (ArrayReady l fail) es fs w a is later)
 shown_more s readies (Step l bytes ∷ es) fs w first later = (first.0, λ a is. shown_more s [] es fs a.world (first.1 a is) (shown_then s (Step l bytes) es fs w a is later))
 
 pub show_more : (v u : LiveView) (es fs : List LiveEvent) (rs : List Reply) → IsLiveRun v es rs u → ShowReadies v es → ShowReadies u fs → ShowReadies v (es ++ fs)
@@ -530,12 +531,12 @@ ready_then_step s l bytes (Ready m fail ∷ rs) pending w ready is =
     on : ((u : World) → shown_in w l bytes (slot_of s w l) ≡ shown_in u l bytes (slot_of s u l) → AreShown s (pending ++ (Ready m fail ∷ [])) (rs ++ (Step l bytes ∷ [])) u) → (came : Bool) (a : After) → Some (after_item w (Rdy m.ce m.lun fail) ToReady came) ≡ Some a → AreShown s (pending ++ (Ready m fail ∷ [])) (rs ++ (Step l bytes ∷ [])) a.world
     on rest true a h = subst (λ (b : After). AreShown s (pending ++ (Ready m fail ∷ [])) (rs ++ (Step l bytes ∷ [])) b.world) (some_same (after_item w (Rdy m.ce m.lun fail) ToReady true) a h) (rest (record w { past = Rdy m.ce m.lun fail ∷ w.past }) refl)
     on rest false a h = subst (λ (b : After). AreShown s (pending ++ (Ready m fail ∷ [])) (rs ++ (Step l bytes ∷ [])) b.world) (some_same (after_item w (Rdy m.ce m.lun fail) ToReady false) a h) (rest w refl)
-ready_then_step s l bytes (ArrayReady m ∷ rs) pending w ready is =
-    λ a after. on (λ u there. ready_then_step s l bytes rs (pending ++ (ArrayReady m ∷ [])) u (and_parts true (list_all is_ready rs) ready).1 (append_assoc pending (ArrayReady m ∷ []) rs ∙ (is ∙ there))) (is_permitted s.geometry s.targets w.past (Ard m.ce m.lun)) a after
+ready_then_step s l bytes (ArrayReady m fail ∷ rs) pending w ready is =
+    λ a after. on (λ u there. ready_then_step s l bytes rs (pending ++ (ArrayReady m fail ∷ [])) u (and_parts true (list_all is_ready rs) ready).1 (append_assoc pending (ArrayReady m fail ∷ []) rs ∙ (is ∙ there))) (is_permitted s.geometry s.targets w.past (Ard m.ce m.lun fail)) a after
   where
-    on : ((u : World) → shown_in w l bytes (slot_of s w l) ≡ shown_in u l bytes (slot_of s u l) → AreShown s (pending ++ (ArrayReady m ∷ [])) (rs ++ (Step l bytes ∷ [])) u) → (came : Bool) (a : After) → Some (after_item w (Ard m.ce m.lun) ToArrayReady came) ≡ Some a → AreShown s (pending ++ (ArrayReady m ∷ [])) (rs ++ (Step l bytes ∷ [])) a.world
-    on rest true a h = subst (λ (b : After). AreShown s (pending ++ (ArrayReady m ∷ [])) (rs ++ (Step l bytes ∷ [])) b.world) (some_same (after_item w (Ard m.ce m.lun) ToArrayReady true) a h) (rest (record w { past = Ard m.ce m.lun ∷ w.past }) refl)
-    on rest false a h = subst (λ (b : After). AreShown s (pending ++ (ArrayReady m ∷ [])) (rs ++ (Step l bytes ∷ [])) b.world) (some_same (after_item w (Ard m.ce m.lun) ToArrayReady false) a h) (rest w refl)
+    on : ((u : World) → shown_in w l bytes (slot_of s w l) ≡ shown_in u l bytes (slot_of s u l) → AreShown s (pending ++ (ArrayReady m fail ∷ [])) (rs ++ (Step l bytes ∷ [])) u) → (came : Bool) (a : After) → Some (after_item w (Ard m.ce m.lun fail) ToArrayReady came) ≡ Some a → AreShown s (pending ++ (ArrayReady m fail ∷ [])) (rs ++ (Step l bytes ∷ [])) a.world
+    on rest true a h = subst (λ (b : After). AreShown s (pending ++ (ArrayReady m fail ∷ [])) (rs ++ (Step l bytes ∷ [])) b.world) (some_same (after_item w (Ard m.ce m.lun fail) ToArrayReady true) a h) (rest (record w { past = Ard m.ce m.lun fail ∷ w.past }) refl)
+    on rest false a h = subst (λ (b : After). AreShown s (pending ++ (ArrayReady m fail ∷ [])) (rs ++ (Step l bytes ∷ [])) b.world) (some_same (after_item w (Ard m.ce m.lun fail) ToArrayReady false) a h) (rest w refl)
 
 -- of a LUN that may step: those of its next word
 next_shown : (v : LiveView) (l : Lun) (y : Word) (bytes : List ℕ) (w : World) → MayStep v l → IsNextWord v l y → IsLiveAt v w → LawfulWorld (channel_at v) w → shown_in w l bytes (slot_of (channel_at v) w l) ≡ shown l y bytes

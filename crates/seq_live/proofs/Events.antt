@@ -51,8 +51,8 @@ live_events_go_well s w (Step l bytes) is law v answered =
     let k = step_well s w l bytes (slot_of s w l) law refl answered in record { then = k.a; is_then = k.is_a; own = k.own; lawful = k.lawful }
 live_events_go_well s w (Ready l fail) is law v answered =
     let k = events_go_well s w (AReady l fail) is law v in record { then = k.then; is_then = k.is_then; own = k.own; lawful = k.lawful }
-live_events_go_well s w (ArrayReady l) is law v answered =
-    let k = events_go_well s w (AnArrayReady l) is law v in record { then = k.then; is_then = k.is_then; own = k.own; lawful = k.lawful }
+live_events_go_well s w (ArrayReady l fail) is law v answered =
+    let k = events_go_well s w (AnArrayReady l fail) is law v in record { then = k.then; is_then = k.is_then; own = k.own; lawful = k.lawful }
 live_events_go_well s w (Unload l) is law v answered =
     let k = events_go_well s w (AnUnload l) is law v in record { then = k.then; is_then = k.is_then; own = k.own; lawful = k.lawful }
 

@@ -2,6 +2,7 @@
 use Rattle.std.proofs.Common.{◌≡◌, ℕ, ◌*◌, ◌^◌, ◌<◌, ◌≤◌, Bool, true, false, cond, List, [], ◌∷◌, Option, Some, None, is_some, refl, sym, ap, ◌∙◌, subst, length, get_or, set, replicate}
 use Rattle.nand_geometry.specs.declared.parts.Parts.{Parts}
 use Rattle.nand_geometry.specs.Limits.{InLimits}
+use Rattle.onfi_cycle.specs.declared.item.Failures.{Failures}
 use Rattle.onfi_cycle.specs.declared.lun.Lun.{Lun}
 use Rattle.onfi_cycle.specs.declared.item.Item.{Item}
 use Rattle.onfi_cycle.specs.declared.item.Item.TheVariants.{Rdy, Ard}
@@ -193,7 +194,7 @@ with_state_channel : (v : LiveView) (s : BusView) (w : World) (i : Item) (came :
 with_state_channel v s w i came at h =
     same_channel v.state.geometry (length v.state.targets) s (cond came (i ∷ w.past) w.past) (h v.state.geometry (length v.state.targets) w.past at.follows).1
 
-pub ready_ran : (v : LiveView) (s : BusView) (l : Lun) (fail came : Bool) → IsLive v → WentOnIf v.state s (Rdy l.ce l.lun fail) came → IsLiveEvent v (Ready l fail) (ToReady came) (record v { state = s })
+pub ready_ran : (v : LiveView) (s : BusView) (l : Lun) (fail : Failures) (came : Bool) → IsLive v → WentOnIf v.state s (Rdy l.ce l.lun fail) came → IsLiveEvent v (Ready l fail) (ToReady came) (record v { state = s })
 ready_ran v s l fail came k h w at law =
     let i : Item = Rdy l.ce l.lun fail in
     let now = h v.state.geometry (length v.state.targets) w.past at.follows in
@@ -202,12 +203,12 @@ ready_ran v s l fail came k h w at law =
     (λ next there. at_world (record v { state = s }) (with_item (core_at v w.past) i came) v.state.geometry (length v.state.targets) next refl refl there now.1)
     (with_state_channel v s w i came at h)
 
-pub array_ready_ran : (v : LiveView) (s : BusView) (l : Lun) (came : Bool) → IsLive v → WentOnIf v.state s (Ard l.ce l.lun) came → IsLiveEvent v (ArrayReady l) (ToArrayReady came) (record v { state = s })
-array_ready_ran v s l came k h w at law =
-    let i : Item = Ard l.ce l.lun in
+pub array_ready_ran : (v : LiveView) (s : BusView) (l : Lun) (fail came : Bool) → IsLive v → WentOnIf v.state s (Ard l.ce l.lun fail) came → IsLiveEvent v (ArrayReady l fail) (ToArrayReady came) (record v { state = s })
+array_ready_ran v s l fail came k h w at law =
+    let i : Item = Ard l.ce l.lun fail in
     let now = h v.state.geometry (length v.state.targets) w.past at.follows in
-    ran_plain v (record v { state = s }) w (ArrayReady l) (ToArrayReady came) (with_item (core_at v w.past) i came) at law tt refl
-    (array_ready_event (core_at v w.past) l came k.is_channel now.0)
+    ran_plain v (record v { state = s }) w (ArrayReady l fail) (ToArrayReady came) (with_item (core_at v w.past) i came) at law tt refl
+    (array_ready_event (core_at v w.past) l fail came k.is_channel now.0)
     (λ next there. at_world (record v { state = s }) (with_item (core_at v w.past) i came) v.state.geometry (length v.state.targets) next refl refl there now.1)
     (with_state_channel v s w i came at h)
 

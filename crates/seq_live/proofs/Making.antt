@@ -43,7 +43,7 @@ live_event_made : (s : Channel) (w : World) (l : Lun) (e : LiveEvent) (a : After
 live_event_made s w l (Load m j) a r is there size h = event_made s w l (ALoad m j) a r is there size h
 live_event_made s w l (Step m bytes) a r is there size h = step_made s bytes w m l (slot_of s w m) a r (same_lun m l) refl is refl there size h
 live_event_made s w l (Ready m fail) a r is there size h = event_made s w l (AReady m fail) a r is there size h
-live_event_made s w l (ArrayReady m) a r is there size h = event_made s w l (AnArrayReady m) a r is there size h
+live_event_made s w l (ArrayReady m fail) a r is there size h = event_made s w l (AnArrayReady m fail) a r is there size h
 live_event_made s w l (Unload m) a r is there size h = event_made s w l (AnUnload m) a r is there size h
 
 -- the slots stay as many
@@ -67,7 +67,7 @@ live_event_size : (s : Channel) (w : World) (e : LiveEvent) (a : After) → afte
 live_event_size s w (Load m j) a is = event_size s w (ALoad m j) a is
 live_event_size s w (Step m bytes) a is = step_size s bytes w m (slot_of s w m) a is
 live_event_size s w (Ready m fail) a is = event_size s w (AReady m fail) a is
-live_event_size s w (ArrayReady m) a is = event_size s w (AnArrayReady m) a is
+live_event_size s w (ArrayReady m fail) a is = event_size s w (AnArrayReady m fail) a is
 live_event_size s w (Unload m) a is = event_size s w (AnUnload m) a is
 
 -- 2. a run

@@ -104,7 +104,7 @@ event_so : (s : Channel) (w : World) (e : Event) (a : After) → IsChannel s →
 event_so s w (ALoad l j) a is law h = record { live = Load l j; same = refl; answered = tt; is_after = h }
 event_so s w (AStep l) a is law h = let k = step_so s w l a (slot_of s w l) is law refl h in record { live = Step l k.bytes; same = refl; answered = k.answers; is_after = k.is_after }
 event_so s w (AReady l fail) a is law h = record { live = Ready l fail; same = refl; answered = tt; is_after = h }
-event_so s w (AnArrayReady l) a is law h = record { live = ArrayReady l; same = refl; answered = tt; is_after = h }
+event_so s w (AnArrayReady l fail) a is law h = record { live = ArrayReady l fail; same = refl; answered = tt; is_after = h }
 event_so s w (AnUnload l) a is law h = record { live = Unload l; same = refl; answered = tt; is_after = h }
 
 -- 3. a run

@@ -88,7 +88,7 @@ quiet_event s w (Load l j) a quiet h = cc
 quiet_event s w (Unload l) a quiet h = cc
 quiet_event s w (Step l bytes) a quiet h = step_leaves s w l bytes a h
 quiet_event s w (Ready l fail) a quiet h = item_leaves w (Rdy l.ce l.lun fail) ToReady (is_permitted s.geometry s.targets w.past (Rdy l.ce l.lun fail)) a h
-quiet_event s w (ArrayReady l) a quiet h = item_leaves w (Ard l.ce l.lun) ToArrayReady (is_permitted s.geometry s.targets w.past (Ard l.ce l.lun)) a h
+quiet_event s w (ArrayReady l fail) a quiet h = item_leaves w (Ard l.ce l.lun fail) ToArrayReady (is_permitted s.geometry s.targets w.past (Ard l.ce l.lun fail)) a h
 
 pub quiet_run : (s : Channel) (es : List LiveEvent) (w : World) (ran : Ran) → list_all is_quiet es ≡ true → run_live s es w ≡ Some ran → jobs_in ran.world ≡ jobs_in w
 quiet_run s [] w ran quiet h = ap (λ (r : Ran). jobs_in r.world) (sym (some_same (record { world = w; replies = [] }) ran h))

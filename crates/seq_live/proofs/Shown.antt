@@ -1,6 +1,7 @@
 -- The readies that a status shows, as runs.
 use Rattle.std.proofs.Common.{◌≡◌, ℕ, ◌==◌, Bool, true, false, cond, List, [], ◌∷◌, ◌++◌, Option, Some, None, refl, sym, ap, ◌∙◌, subst, eqb-true, eq-eqb, IfSome, is_some, ◌<◌, length, length-append, take, inl, inr, arith}
 use Rattle.std.specs.Int.RustNames.{bit_and}
+use Rattle.onfi_cycle.specs.declared.item.Failures.{Failures}
 use Rattle.onfi_cycle.specs.declared.lun.Lun.{Lun}
 use Rattle.micro_word.specs.declared.word.Word.{Word}
 use Rattle.micro_program.specs.Program.{is_ready_status}
@@ -11,7 +12,7 @@ use Rattle.seq_live.specs.declared.live.StepGoingOn.{StepGoingOn}
 use Rattle.seq_live.specs.declared.burst.Burst.{Burst}
 use Rattle.seq_live.specs.Event.{LiveEvent, Step, Ready, ArrayReady, is_quiet}
 use Rattle.seq_live.specs.Kept.{LiveView, IsLive}
-use Rattle.seq_live.specs.Calls.{IsLiveRun, IsLiveEvent, MayStep, IsNextWord, AreNextBursts, IsNextBurst, HasBuffer, HasFinished, shown_by, shown, has_fail, has_array_ready, is_poll, ends_with, live_slot, NextWordIs, AreFewDone, IsStepFault}
+use Rattle.seq_live.specs.Calls.{IsLiveRun, IsLiveEvent, MayStep, IsNextWord, AreNextBursts, IsNextBurst, HasBuffer, HasFinished, shown_by, shown, has_fail, told_by, has_array_ready, is_poll, ends_with, live_slot, NextWordIs, AreFewDone, IsStepFault}
 use Rattle.seq_live.specs.Driven.{Grows, HasStepped, with_word}
 use Rattle.seq_live.specs.Burst.{AllFit}
 use Rattle.onfi_cycle.specs.declared.item.Item.{Item}
@@ -37,10 +38,10 @@ array_not_ready status differs = at (bit_and status 32 == 32) refl
     at false e = e
     at true e = absurd (differs (eqb-true (bit_and status 32) 32 e))
 
-both_shown : (l : Lun) (status : ℕ) → is_ready_status status ≡ true → bit_and status 32 ≡ 32 → shown_by l status ≡ Ready l (has_fail status) ∷ (ArrayReady l ∷ [])
+both_shown : (l : Lun) (status : ℕ) → is_ready_status status ≡ true → bit_and status 32 ≡ 32 → shown_by l status ≡ Ready l (told_by status) ∷ (ArrayReady l (has_fail status) ∷ [])
 both_shown l status ready array = rw (ready, eq-eqb (bit_and status 32) 32 array) refl
 
-one_shown : (l : Lun) (status : ℕ) → is_ready_status status ≡ true → (bit_and status 32 ≡ 32 → ⊥) → shown_by l status ≡ Ready l (has_fail status) ∷ []
+one_shown : (l : Lun) (status : ℕ) → is_ready_status status ≡ true → (bit_and status 32 ≡ 32 → ⊥) → shown_by l status ≡ Ready l (told_by status) ∷ []
 one_shown l status ready differs = rw (ready, array_not_ready status differs) refl
 
 none_shown : (l : Lun) (status : ℕ) → is_ready_status status ≡ false → shown_by l status ≡ []
@@ -51,15 +52,16 @@ none_shown l status busy = rw busy refl
 abbrev pub Shows : LiveView → List LiveEvent → LiveView → Type 0
 Shows v events later = (replies : List Reply) × IsLiveRun v events replies later
 
-pub shows_both : (v u t : LiveView) (l : Lun) (status : ℕ) (fail came array : Bool) → is_ready_status status ≡ true → fail ≡ has_fail status → bit_and status 32 ≡ 32 → IsLiveEvent v (Ready l fail) (ToReady came) u → IsLiveEvent u (ArrayReady l) (ToArrayReady array) t → Shows v (shown_by l status) t
+pub shows_both : (v u t : LiveView) (l : Lun) (status : ℕ) (fail : Failures) (came array : Bool) → is_ready_status status ≡ true → fail ≡ told_by status → bit_and status 32 ≡ 32 → IsLiveEvent v (Ready l fail) (ToReady came) u → IsLiveEvent u (ArrayReady l fail.last) (ToArrayReady array) t → Shows v (shown_by l status) t
 shows_both v u t l status fail came array ready is bit first second =
-    let here : IsLiveEvent v (Ready l (has_fail status)) (ToReady came) u = subst (λ (b : Bool). IsLiveEvent v (Ready l b) (ToReady came) u) is first in
+    let here : IsLiveEvent v (Ready l (told_by status)) (ToReady came) u = subst (λ (b : Failures). IsLiveEvent v (Ready l b) (ToReady came) u) is first in
+    let there : IsLiveEvent u (ArrayReady l (has_fail status)) (ToArrayReady array) t = subst (λ (b : Failures). IsLiveEvent u (ArrayReady l b.last) (ToArrayReady array) t) is second in
     subst (λ (es : List LiveEvent). Shows v es t) (sym (both_shown l status ready bit))
-    (ToReady came ∷ (ToArrayReady array ∷ []), runs_more v u t (Ready l (has_fail status) ∷ []) (ArrayReady l ∷ []) (ToReady came ∷ []) (ToArrayReady array ∷ []) here second)
+    (ToReady came ∷ (ToArrayReady array ∷ []), runs_more v u t (Ready l (told_by status) ∷ []) (ArrayReady l (has_fail status) ∷ []) (ToReady came ∷ []) (ToArrayReady array ∷ []) here there)
 
-pub shows_ready : (v u : LiveView) (l : Lun) (status : ℕ) (fail came : Bool) → is_ready_status status ≡ true → fail ≡ has_fail status → (bit_and status 32 ≡ 32 → ⊥) → IsLiveEvent v (Ready l fail) (ToReady came) u → Shows v (shown_by l status) u
+pub shows_ready : (v u : LiveView) (l : Lun) (status : ℕ) (fail : Failures) (came : Bool) → is_ready_status status ≡ true → fail ≡ told_by status → (bit_and status 32 ≡ 32 → ⊥) → IsLiveEvent v (Ready l fail) (ToReady came) u → Shows v (shown_by l status) u
 shows_ready v u l status fail came ready is differs first =
-    subst (λ (es : List LiveEvent). Shows v es u) (sym (one_shown l status ready differs)) (ToReady came ∷ [], subst (λ (b : Bool). IsLiveEvent v (Ready l b) (ToReady came) u) is first)
+    subst (λ (es : List LiveEvent). Shows v es u) (sym (one_shown l status ready differs)) (ToReady came ∷ [], subst (λ (b : Failures). IsLiveEvent v (Ready l b) (ToReady came) u) is first)
 
 pub shows_none : (v : LiveView) (l : Lun) (status : ℕ) → is_ready_status status ≡ false → Shows v (shown_by l status) v
 shows_none v l status busy = subst (λ (es : List LiveEvent). Shows v es v) (sym (none_shown l status busy)) ([], no_run v)
@@ -88,7 +90,7 @@ shown_quiet l word bytes = at (is_poll word) (is_ready_status status) (has_array
     status : ℕ
     status = first_byte bytes
 
-    at : (poll ready array : Bool) → list_all is_quiet (cond poll (cond ready (Ready l (has_fail status) ∷ cond array (ArrayReady l ∷ []) []) []) []) ≡ true
+    at : (poll ready array : Bool) → list_all is_quiet (cond poll (cond ready (Ready l (told_by status) ∷ cond array (ArrayReady l (has_fail status) ∷ []) []) []) []) ≡ true
     at false ready array = refl
     at true false array = refl
     at true true false = refl

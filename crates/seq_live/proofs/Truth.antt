@@ -1,6 +1,7 @@
 -- Readies make truth: after the ready that a status shows its LUN isn't busy.
 use Rattle.std.proofs.Common.{◌≡◌, ℕ, Bool, true, false, cond, List, [], ◌∷◌, Option, Some, None, refl, sym, ap, ◌∙◌, subst, length}
 use Rattle.nand_geometry.specs.declared.parts.Parts.{Parts}
+use Rattle.onfi_cycle.specs.declared.item.Failures.{Failures}
 use Rattle.onfi_cycle.specs.declared.lun.Lun.{Lun}
 use Rattle.onfi_cycle.specs.declared.lun_state.LunState.{LunState}
 use Rattle.onfi_cycle.specs.declared.item.Item.{Item}
@@ -38,7 +39,7 @@ ready_by g n s past l f ready h m other k there =
     busy_by h m s other l k there ∙ (sym (busy_by g n s past l f there_too) ∙ ready there_too)
 
 -- after a ready, whether it came or not
-pub ready_truth : (v : LiveView) (s : BusView) (l : Lun) (fail came : Bool) → IsLive v → WentOnIf v.state s (Rdy l.ce l.lun fail) came → IsReadyNow s l
+pub ready_truth : (v : LiveView) (s : BusView) (l : Lun) (fail : Failures) (came : Bool) → IsLive v → WentOnIf v.state s (Rdy l.ce l.lun fail) came → IsReadyNow s l
 ready_truth v s l fail came k h = at came (h v.state.geometry (length v.state.targets) k.world.past k.is_at.follows)
   where
     g : Parts
@@ -62,8 +63,8 @@ ready_truth v s l fail came k h = at came (h v.state.geometry (length v.state.ta
     at false f = ready_by g n s past l f.1 (not_busy (is_busy g past l) refl f.0)
 
 -- a ready of its array leaves it ready
-pub array_truth : (v : LiveView) (s : BusView) (l : Lun) (came : Bool) → IsLive v → WentOnIf v.state s (Ard l.ce l.lun) came → IsReadyNow v.state l → IsReadyNow s l
-array_truth v s l came k h ready = at came (h v.state.geometry (length v.state.targets) k.world.past k.is_at.follows)
+pub array_truth : (v : LiveView) (s : BusView) (l : Lun) (fail came : Bool) → IsLive v → WentOnIf v.state s (Ard l.ce l.lun fail) came → IsReadyNow v.state l → IsReadyNow s l
+array_truth v s l fail came k h ready = at came (h v.state.geometry (length v.state.targets) k.world.past k.is_at.follows)
   where
     g : Parts
     g = v.state.geometry
@@ -74,6 +75,6 @@ array_truth v s l came k h ready = at came (h v.state.geometry (length v.state.t
     past : List Item
     past = k.world.past
 
-    at : (b : Bool) → (b ≡ is_permitted g n past (Ard l.ce l.lun)) × Follows g n s (cond b (Ard l.ce l.lun ∷ past) past) → IsReadyNow s l
-    at true f = ready_by g n s (Ard l.ce l.lun ∷ past) l f.1 (λ there. ap (λ (x : LunView). x.busy) (readies_leave.own_array g past l) ∙ ready g n past k.is_at.follows there)
+    at : (b : Bool) → (b ≡ is_permitted g n past (Ard l.ce l.lun fail)) × Follows g n s (cond b (Ard l.ce l.lun fail ∷ past) past) → IsReadyNow s l
+    at true f = ready_by g n s (Ard l.ce l.lun fail ∷ past) l f.1 (λ there. ap (λ (x : LunView). x.busy) (readies_leave.own_array g past l fail) ∙ ready g n past k.is_at.follows there)
     at false f = ready_by g n s past l f.1 (λ there. ready g n past k.is_at.follows there)

@@ -105,7 +105,7 @@ polls_ready l n (t ∷ log) ready =
     same (Step m bytes) h = cc
     same (Unload m) h = cc
     same (Ready m fail) h = refl
-    same (ArrayReady m) h = refl
+    same (ArrayReady m fail) h = refl
 
 -- 3. a step on pins, as such a run
 
@@ -122,7 +122,7 @@ ready_quiet (Load l j ∷ es) ready = cc
 ready_quiet (Step l bytes ∷ es) ready = cc
 ready_quiet (Unload l ∷ es) ready = cc
 ready_quiet (Ready l fail ∷ es) ready = ready_quiet es ready
-ready_quiet (ArrayReady l ∷ es) ready = ready_quiet es ready
+ready_quiet (ArrayReady l fail ∷ es) ready = ready_quiet es ready
 
 quiet_more : (es : List LiveEvent) (l : Lun) (bytes : List ℕ) → list_all is_quiet es ≡ true → list_all is_quiet (es ++ (Step l bytes ∷ [])) ≡ true
 quiet_more [] l bytes quiet = refl
@@ -137,7 +137,7 @@ quiet_loads_none (Load l j ∷ es) quiet = cc
 quiet_loads_none (Unload l ∷ es) quiet = cc
 quiet_loads_none (Step l bytes ∷ es) quiet = (tt, quiet_loads_none es quiet)
 quiet_loads_none (Ready l fail ∷ es) quiet = (tt, quiet_loads_none es quiet)
-quiet_loads_none (ArrayReady l ∷ es) quiet = (tt, quiet_loads_none es quiet)
+quiet_loads_none (ArrayReady l fail ∷ es) quiet = (tt, quiet_loads_none es quiet)
 
 pub stepped_run : (v u : LiveView) (l : Lun) (taken : List ℕ) (answer : Stepped) (before after : Option (List Item)) → HasStepped v l taken answer u before after → SteppedRun v u l answer before after
 stepped_run v u l taken answer before after h =

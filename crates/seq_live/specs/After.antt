@@ -29,7 +29,7 @@ abbrev pub after_live : Channel → World → LiveEvent → Option After
 after_live s w (Load l j) = after s w (ALoad l j)
 after_live s w (Step l bytes) = after_answers s w l bytes (slot_of s w l)
 after_live s w (Ready l fail) = after s w (AReady l fail)
-after_live s w (ArrayReady l) = after s w (AnArrayReady l)
+after_live s w (ArrayReady l fail) = after s w (AnArrayReady l fail)
 after_live s w (Unload l) = after s w (AnUnload l)
 
 -- what a first event makes of the run after it
@@ -51,7 +51,7 @@ abbrev pub IsAnswered : Channel → World → LiveEvent → Type 0
 IsAnswered s w (Step l bytes) = Answers s w l bytes
 IsAnswered s w (Load l j) = Unit {0}
 IsAnswered s w (Ready l fail) = Unit {0}
-IsAnswered s w (ArrayReady l) = Unit {0}
+IsAnswered s w (ArrayReady l fail) = Unit {0}
 IsAnswered s w (Unload l) = Unit {0}
 
 -- each step of a list of events is answered so where it comes, from this world on

@@ -3,6 +3,7 @@ use Rattle.std.specs.Prelude.{◌≡◌, ℕ, ◌+◌, ◌<◌, ◌==◌, ◌⊎
 use Rattle.std.specs.List.{list_all}
 use Rattle.std.specs.Int.RustNames.{bit_and}
 use Rattle.nand_geometry.specs.declared.parts.Parts.{Parts}
+use Rattle.onfi_cycle.specs.declared.item.Failures.{Failures}
 use Rattle.onfi_cycle.specs.declared.lun.Lun.{Lun}
 use Rattle.onfi_cycle.specs.declared.item.Item.{Item}
 use Rattle.onfi_cycle.specs.Lun.{is_busy}
@@ -124,11 +125,15 @@ has_array_ready status = bit_and status 32 == 32
 abbrev pub has_fail : ℕ → Bool
 has_fail status = bit_and status 1 == 1
 
+-- the failures that a status tells of: that of the last work, and that of the page before
+abbrev pub told_by : ℕ → Failures
+told_by status = record { last = has_fail status; before = bit_and status 2 == 2 }
+
 -- the readies that a poll shows: RDY that its LUN has become ready, with failure where FAIL is shown, and ARDY besides that its array has. A ready of
 -- a LUN that was ready before changes nothing
 abbrev pub shown_by : Lun → ℕ → List LiveEvent
 shown_by l status =
-    if is_ready_status status then Ready l (has_fail status) ∷ (if has_array_ready status then ArrayReady l ∷ [] else []) else []
+    if is_ready_status status then Ready l (told_by status) ∷ (if has_array_ready status then ArrayReady l (has_fail status) ∷ [] else []) else []
 
 abbrev pub shown : Lun → Word → List ℕ → List LiveEvent
 shown l word bytes = if is_poll word then shown_by l (first_byte bytes) else []

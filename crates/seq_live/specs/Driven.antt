@@ -27,7 +27,7 @@ abbrev pub cycles_in : List Item → List Item
 cycles_in [] = []
 cycles_in (Cyc c ∷ past) = Cyc c ∷ cycles_in past
 cycles_in (Rdy ce lun fail ∷ past) = cycles_in past
-cycles_in (Ard ce lun ∷ past) = cycles_in past
+cycles_in (Ard ce lun fail ∷ past) = cycles_in past
 
 -- what came on the pins, the newest first as in a past, and then these bytes by cycles of one kind
 abbrev pub with_bytes : ℕ → Kind → List ℕ → List Item → List Item
@@ -91,7 +91,7 @@ AreShown s readies [] w = readies ≡ []
 AreShown s readies (Load l j ∷ events) w = (readies ≡ []) × ((a : After) → after_live s w (Load l j) ≡ Some a → AreShown s [] events a.world)
 AreShown s readies (Unload l ∷ events) w = (readies ≡ []) × ((a : After) → after_live s w (Unload l) ≡ Some a → AreShown s [] events a.world)
 AreShown s readies (Ready l fail ∷ events) w = (a : After) → after_live s w (Ready l fail) ≡ Some a → AreShown s (readies ++ (Ready l fail ∷ [])) events a.world
-AreShown s readies (ArrayReady l ∷ events) w = (a : After) → after_live s w (ArrayReady l) ≡ Some a → AreShown s (readies ++ (ArrayReady l ∷ [])) events a.world
+AreShown s readies (ArrayReady l fail ∷ events) w = (a : After) → after_live s w (ArrayReady l fail) ≡ Some a → AreShown s (readies ++ (ArrayReady l fail ∷ [])) events a.world
 AreShown s readies (Step l bytes ∷ events) w = (readies ≡ shown_in w l bytes (slot_of s w l)) × ((a : After) → after_live s w (Step l bytes) ≡ Some a → AreShown s [] events a.world)
 
 -- the readies of these events are those that their polls show, in every lawful world that is kept

@@ -1,5 +1,6 @@
 -- What happens on a real bus, whose chips answer what they answer.
 use Rattle.std.specs.Prelude.{ℕ, Bool, true, false, List, [], ◌∷◌}
+use Rattle.onfi_cycle.specs.declared.item.Failures.{Failures}
 use Rattle.onfi_cycle.specs.declared.lun.Lun.{Lun}
 use Rattle.micro_program.specs.Program.{Job}
 use Rattle.seq_core.specs.Event.{Event, Load as ALoad, Step as AStep, Ready as AReady, ArrayReady as AnArrayReady, Unload as AnUnload, LoadsVerified}
@@ -8,8 +9,8 @@ use Rattle.seq_core.specs.Event.{Event, Load as ALoad, Step as AStep, Ready as A
 pub data LiveEvent : Type 0 where
   Load : (lun : Lun) (job : Job) → LiveEvent
   Step : (lun : Lun) (bytes : List ℕ) → LiveEvent
-  Ready : (lun : Lun) (fail : Bool) → LiveEvent
-  ArrayReady : (lun : Lun) → LiveEvent
+  Ready : (lun : Lun) (fail : Failures) → LiveEvent
+  ArrayReady : (lun : Lun) (fail : Bool) → LiveEvent
   Unload : (lun : Lun) → LiveEvent
 
 -- the event without its bytes
@@ -17,7 +18,7 @@ abbrev pub plain : LiveEvent → Event
 plain (Load l j) = ALoad l j
 plain (Step l bytes) = AStep l
 plain (Ready l fail) = AReady l fail
-plain (ArrayReady l) = AnArrayReady l
+plain (ArrayReady l fail) = AnArrayReady l fail
 plain (Unload l) = AnUnload l
 
 -- an event that loads and unloads nothing
@@ -25,7 +26,7 @@ abbrev pub is_quiet : LiveEvent → Bool
 is_quiet (Load l j) = false
 is_quiet (Step l bytes) = true
 is_quiet (Ready l fail) = true
-is_quiet (ArrayReady l) = true
+is_quiet (ArrayReady l fail) = true
 is_quiet (Unload l) = false
 
 -- a ready, of a LUN or of its array
@@ -33,7 +34,7 @@ abbrev pub is_ready : LiveEvent → Bool
 is_ready (Load l j) = false
 is_ready (Step l bytes) = false
 is_ready (Ready l fail) = true
-is_ready (ArrayReady l) = true
+is_ready (ArrayReady l fail) = true
 is_ready (Unload l) = false
 
 -- each job that is loaded is verified

@@ -99,7 +99,7 @@ abbrev pub polls_then : Lun → ℕ → LiveEvent → Reply → ℕ
 polls_then l n (Load m j) reply = if is_lun l m then after_load n reply else n
 polls_then l n (Step m bytes) reply = if is_lun l m then after_reply n reply else n
 polls_then l n (Ready m fail) reply = n
-polls_then l n (ArrayReady m) reply = n
+polls_then l n (ArrayReady m fail) reply = n
 polls_then l n (Unload m) reply = n
 
 -- how many polls of a LUN have said busy since its last other step, where so many had before

@@ -21,7 +21,7 @@ use arrayvec::ArrayVec;
 use micro_program::is_ready_status;
 use micro_word::Word;
 use nand_geometry::Geometry;
-use onfi_cycle::{BusState, Item, Lun, MAX_CHANNEL_LUNS, Status};
+use onfi_cycle::{BusState, Failures, Item, Lun, MAX_CHANNEL_LUNS, Status};
 use seq_core::lun_slots::{
     empty_slots, holder_after, is_held, load_fault, lun_count, number_of, put_in, state_in, take_in,
 };
@@ -245,9 +245,9 @@ impl<A: Allocator> Live<A> {
         }
     }
 
-    /// A LUN becomes ready, with failure or without, as R/B# may tell; false, with all as it was, where it isn't there or isn't busy. What a poll shows
+    /// A LUN becomes ready, with failures or without, as R/B# may tell; false, with all as it was, where it isn't there or isn't busy. What a poll shows
     /// needs no call: [`finish`](Live::finish) sees it.
-    pub fn ready(&mut self, lun: Lun, fail: bool) -> bool
+    pub fn ready(&mut self, lun: Lun, fail: Failures) -> bool
         ensures came { IsLiveEvent self.old (Ready lun fail) (ToReady result) self.new }
         ensures truth { IsReadyNow self.new.state lun }
         ensures stays { KeepsSlots self.old self.new }
@@ -262,9 +262,10 @@ impl<A: Allocator> Live<A> {
         )
     }
 
-    /// The array of a LUN becomes ready after a cache read; false, with all as it was, where none goes on.
-    pub fn array_ready(&mut self, lun: Lun) -> bool
-        ensures came { IsLiveEvent self.old (ArrayReady lun) (ToArrayReady result) self.new }
+    /// The array of a LUN becomes ready after a cache read, or after a cache program, which failed or not; false, with all as it was, where none
+    /// goes on.
+    pub fn array_ready(&mut self, lun: Lun, fail: bool) -> bool
+        ensures came { IsLiveEvent self.old (ArrayReady lun fail) (ToArrayReady result) self.new }
         ensures truth { IsReadyNow self.old.state lun → IsReadyNow self.new.state lun }
         ensures stays { KeepsSlots self.old self.new }
     {
@@ -273,6 +274,7 @@ impl<A: Allocator> Live<A> {
             Item::Ard {
                 ce: lun.ce,
                 lun: lun.lun,
+                fail,
             },
         )
     }
@@ -366,9 +368,10 @@ impl<A: Allocator> Live<A> {
         ensures stays { KeepsSlots self.old self.new }
     {
         if is_ready_status(status) {
-            self.ready(lun, Status(status).has_failed());
+            let fail = Status(status).failures();
+            self.ready(lun, fail);
             if status & ARRAY_READY == ARRAY_READY {
-                self.array_ready(lun);
+                self.array_ready(lun, fail.last);
             }
         }
     }

@@ -38,7 +38,7 @@ of_few g targets past (Rdy ce lun fail) luns few h =
     let k = neither (nat_le targets ce) _ h in
     let l = there (λ v. v.busy) g past ce g.luns 0 lun k.1 in
     (below_four targets ce few k.0, omega arith)
-of_few g targets past (Ard ce lun) luns few h =
+of_few g targets past (Ard ce lun fail) luns few h =
     let k = neither (nat_le targets ce) _ h in
     let l = there (λ v. v.array_busy) g past ce g.luns 0 lun k.1 in
     (below_four targets ce few k.0, omega arith)

@@ -1,7 +1,7 @@
 //! What the workers of a run ask: whether a LUN became ready, and whether all jobs are stored.
 
 use channel_work::Gate;
-use onfi_cycle::{Command, Lun};
+use onfi_cycle::{Command, Failures, Lun};
 use run_plan::{Failing, Polls};
 use std::sync::atomic::{AtomicU64, Ordering};
 use trace_timing::BusyTime;
@@ -44,14 +44,23 @@ impl RunGate {
         self.stopped.load(Ordering::SeqCst) == 1
     }
 
-    // Whether the next ready of a LUN is with failure.
-    fn fails_next(&self, lun: Lun, works: u64) -> bool {
+    // Whether the next ready of a LUN is with this failure.
+    fn fails_next(&self, lun: Lun, works: u64, before: bool) -> bool {
         let failing = Failing {
             target: lun.ce,
             lun: lun.lun,
             ready: works.saturating_add(1),
+            before,
         };
         self.fails.as_slice().binary_search(&failing).is_ok()
+    }
+
+    // What the next ready of a LUN tells of failures.
+    fn next_failures(&self, lun: Lun, works: u64) -> Failures {
+        Failures {
+            last: self.fails_next(lun, works, false),
+            before: self.fails_next(lun, works, true),
+        }
     }
 }
 
@@ -60,7 +69,7 @@ impl Gate for RunGate {
         true
     }
 
-    fn ready(&self, lun: Lun, busy_polls: u64, works: u64) -> Option<bool> {
+    fn ready(&self, lun: Lun, busy_polls: u64, works: u64) -> Option<Failures> {
         self.ready_after(None, lun, busy_polls, works)
     }
 
@@ -70,7 +79,7 @@ impl Gate for RunGate {
         lun: Lun,
         busy_polls: u64,
         works: u64,
-    ) -> Option<bool> {
+    ) -> Option<Failures> {
         let work = match begun {
             Some(command) => BusyTime::of(command),
             None => None,
@@ -78,12 +87,17 @@ impl Gate for RunGate {
         if busy_polls < self.polls.count(lun, work) {
             None
         } else {
-            Some(self.fails_next(lun, works))
+            Some(self.next_failures(lun, works))
         }
     }
 
-    fn array_ready(&self, _lun: Lun, _works: u64) -> bool {
-        true
+    // Where the next ready tells of the page before it, the array is at that page until then.
+    fn array_ready(&self, lun: Lun, works: u64) -> Option<bool> {
+        if self.fails_next(lun, works, true) {
+            None
+        } else {
+            Some(false)
+        }
     }
 
     fn closed(&self) -> bool {

@@ -13,7 +13,13 @@ fn say_unmet<E: Write>(
     numbered: Numbered<'_>,
     summary: Summary,
 ) -> io::Result<()> {
-    let Statement::Fail { target, lun, ready } = numbered.statement else {
+    let Statement::Fail {
+        target,
+        lun,
+        ready,
+        ..
+    } = numbered.statement
+    else {
         return Ok(());
     };
     let count = summary.readies_of(target, lun);

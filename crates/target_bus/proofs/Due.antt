@@ -35,4 +35,4 @@ counts law s next i due before after fits h is b a enough =
     by : (i : Item) → judged s i ≡ None → next ≡ bus_after i s → is_cycle i ≡ false → bus_due next + 1 ≤ bus_due s
     by (Cyc c) h is cyc = cc
     by (Rdy ce lun fail) h is cyc = subst (λ (x : BusView). bus_due x + 1 ≤ bus_due s) (sym is) (law.readies s ce lun fail h)
-    by (Ard ce lun) h is cyc = subst (λ (x : BusView). bus_due x + 1 ≤ bus_due s) (sym is) (law.array_readies s ce lun h)
+    by (Ard ce lun fail) h is cyc = subst (λ (x : BusView). bus_due x + 1 ≤ bus_due s) (sym is) (law.array_readies s ce lun fail h)

@@ -12,7 +12,7 @@ use Rattle.onfi_cycle.proofs.Booleans.{clash}
 use Rattle.nand_geometry.specs.declared.parts.Parts.{Parts}
 use Rattle.nand_geometry.specs.Limits.{InLimits, page_len, planes}
 use Rattle.onfi_cycle.specs.declared.command.Command.{Command}
-use Rattle.onfi_cycle.specs.declared.command.Command.TheVariants.{Read, ReadConfirm, ChangeReadColumnConfirm, BlockEraseConfirm, BlockErasePlane, ReadStatus, ReadStatusEnhanced, ProgramConfirm, ProgramPlane, ReadId, ReadParameterPage, Reset, ReadCacheSequential, ReadCacheEnd, ReadUniqueId, GetFeatures, ResetLun, SynchronousReset, CopybackRead, PageProgram}
+use Rattle.onfi_cycle.specs.declared.command.Command.TheVariants.{Read, ReadConfirm, ChangeReadColumnConfirm, BlockEraseConfirm, BlockErasePlane, ReadStatus, ReadStatusEnhanced, ProgramConfirm, ProgramPlane, ProgramCache, ReadId, ReadParameterPage, Reset, ReadCacheSequential, ReadCacheEnd, ReadUniqueId, GetFeatures, ResetLun, SynchronousReset, CopybackRead, PageProgram}
 use Rattle.onfi_cycle.specs.declared.item.Cycle.{Cycle}
 use Rattle.onfi_cycle.specs.declared.data_phase.DataPhase.{DataPhase}
 use Rattle.onfi_cycle.specs.declared.data_phase.DataPhase.TheVariants.{Outside, Inputs, FirstColumn, SecondColumn, FeatureInputs}
@@ -22,6 +22,7 @@ use Rattle.onfi_cycle.specs.declared.filling.Filling.{Filling}
 use Rattle.onfi_cycle.specs.declared.filling.Filling.TheVariants.{Leaves, Clears, Copies, Fills}
 use Rattle.onfi_cycle.specs.declared.forbidden.Forbidden.TheVariants.{NotThere}
 use Rattle.onfi_cycle.specs.declared.item.Item.{Item}
+use Rattle.onfi_cycle.specs.declared.item.Failures.{Failures}
 use Rattle.onfi_cycle.specs.declared.item.Item.TheVariants.{Cyc, Rdy, Ard}
 use Rattle.onfi_cycle.specs.declared.latch.Latch.{Latch}
 use Rattle.onfi_cycle.specs.declared.lun.Lun.{Lun}
@@ -69,16 +70,16 @@ abbrev IsQuiet : Bool → Effect → Type 0
 IsQuiet changes x = (is_no_ready x && (not (is_addressed x) || changes)) ≡ true
 
 pub rests : (x : Effect) (d : Die) → begins x ≡ false → IsQuiet false x → IsAfter x d d
-rests e.Unaffected d b r = record { geometry = refl; planes = refl; pages = λ p. refl; register = refl; held = refl; array_page = refl; busy = refl; caching = refl; array_busy = refl; queue = refl; queued = refl; pending = refl; copying = refl; failed = refl }
-rests e.DataOutputEnabled d b r = record { geometry = refl; planes = refl; pages = λ p. refl; register = refl; held = refl; array_page = refl; busy = refl; caching = refl; array_busy = refl; queue = refl; queued = refl; pending = refl; copying = refl; failed = refl }
-rests e.StatusSelected d b r = record { geometry = refl; planes = refl; pages = λ p. refl; register = refl; held = refl; array_page = refl; busy = refl; caching = refl; array_busy = refl; queue = refl; queued = refl; pending = refl; copying = refl; failed = refl }
-rests e.StatusRowAwaited d b r = record { geometry = refl; planes = refl; pages = λ p. refl; register = refl; held = refl; array_page = refl; busy = refl; caching = refl; array_busy = refl; queue = refl; queued = refl; pending = refl; copying = refl; failed = refl }
-rests e.SelectedForStatus d b r = record { geometry = refl; planes = refl; pages = λ p. refl; register = refl; held = refl; array_page = refl; busy = refl; caching = refl; array_busy = refl; queue = refl; queued = refl; pending = refl; copying = refl; failed = refl }
-rests e.Deselected d b r = record { geometry = refl; planes = refl; pages = λ p. refl; register = refl; held = refl; array_page = refl; busy = refl; caching = refl; array_busy = refl; queue = refl; queued = refl; pending = refl; copying = refl; failed = refl }
-rests e.StatusOfSelected d b r = record { geometry = refl; planes = refl; pages = λ p. refl; register = refl; held = refl; array_page = refl; busy = refl; caching = refl; array_busy = refl; queue = refl; queued = refl; pending = refl; copying = refl; failed = refl }
-rests (e.AnotherAddressed reads) d b r = record { geometry = refl; planes = refl; pages = λ p. refl; register = refl; held = refl; array_page = refl; busy = refl; caching = refl; array_busy = refl; queue = refl; queued = refl; pending = refl; copying = refl; failed = refl }
-rests (e.ReadColumnChanged column) d b r = record { geometry = refl; planes = refl; pages = λ p. refl; register = refl; held = refl; array_page = refl; busy = refl; caching = refl; array_busy = refl; queue = refl; queued = refl; pending = refl; copying = refl; failed = refl }
-rests e.DataOutput d b r = record { geometry = refl; planes = refl; pages = λ p. refl; register = refl; held = refl; array_page = refl; busy = refl; caching = refl; array_busy = refl; queue = refl; queued = refl; pending = refl; copying = refl; failed = refl }
+rests e.Unaffected d b r = record { geometry = refl; planes = refl; pages = λ p. refl; register = refl; held = refl; array_page = refl; busy = refl; closer = refl; array_busy = refl; queue = refl; queued = refl; pending = refl; in_array = refl; failed = refl; failed_before = refl }
+rests e.DataOutputEnabled d b r = record { geometry = refl; planes = refl; pages = λ p. refl; register = refl; held = refl; array_page = refl; busy = refl; closer = refl; array_busy = refl; queue = refl; queued = refl; pending = refl; in_array = refl; failed = refl; failed_before = refl }
+rests e.StatusSelected d b r = record { geometry = refl; planes = refl; pages = λ p. refl; register = refl; held = refl; array_page = refl; busy = refl; closer = refl; array_busy = refl; queue = refl; queued = refl; pending = refl; in_array = refl; failed = refl; failed_before = refl }
+rests e.StatusRowAwaited d b r = record { geometry = refl; planes = refl; pages = λ p. refl; register = refl; held = refl; array_page = refl; busy = refl; closer = refl; array_busy = refl; queue = refl; queued = refl; pending = refl; in_array = refl; failed = refl; failed_before = refl }
+rests e.SelectedForStatus d b r = record { geometry = refl; planes = refl; pages = λ p. refl; register = refl; held = refl; array_page = refl; busy = refl; closer = refl; array_busy = refl; queue = refl; queued = refl; pending = refl; in_array = refl; failed = refl; failed_before = refl }
+rests e.Deselected d b r = record { geometry = refl; planes = refl; pages = λ p. refl; register = refl; held = refl; array_page = refl; busy = refl; closer = refl; array_busy = refl; queue = refl; queued = refl; pending = refl; in_array = refl; failed = refl; failed_before = refl }
+rests e.StatusOfSelected d b r = record { geometry = refl; planes = refl; pages = λ p. refl; register = refl; held = refl; array_page = refl; busy = refl; closer = refl; array_busy = refl; queue = refl; queued = refl; pending = refl; in_array = refl; failed = refl; failed_before = refl }
+rests (e.AnotherAddressed reads) d b r = record { geometry = refl; planes = refl; pages = λ p. refl; register = refl; held = refl; array_page = refl; busy = refl; closer = refl; array_busy = refl; queue = refl; queued = refl; pending = refl; in_array = refl; failed = refl; failed_before = refl }
+rests (e.ReadColumnChanged column) d b r = record { geometry = refl; planes = refl; pages = λ p. refl; register = refl; held = refl; array_page = refl; busy = refl; closer = refl; array_busy = refl; queue = refl; queued = refl; pending = refl; in_array = refl; failed = refl; failed_before = refl }
+rests e.DataOutput d b r = record { geometry = refl; planes = refl; pages = λ p. refl; register = refl; held = refl; array_page = refl; busy = refl; closer = refl; array_busy = refl; queue = refl; queued = refl; pending = refl; in_array = refl; failed = refl; failed_before = refl }
 rests x d b r = cc
 
 rests_worked : (g : Parts) (x : Filling) (k : Effect) (d : Die) → (fills x || begins k) ≡ false → IsQuiet (fills x) k → WorkedBy g x k d d
@@ -107,6 +108,7 @@ confirm_quiet b g t BlockEraseConfirm = refl
 confirm_quiet b g t BlockErasePlane = refl
 confirm_quiet b g t ProgramConfirm = refl
 confirm_quiet b g t ProgramPlane = refl
+confirm_quiet b g t ProgramCache = refl
 confirm_quiet b g t CopybackRead = refl
 confirm_quiet b g t c = refl
 
@@ -218,6 +220,7 @@ can_begin g v d (e.EraseStarted true at) s f h = record { row = row_there g v d 
 can_begin g v d (e.EraseStarted false at) s f h = record { row = row_there g v d at s h.1.inside; together = apart g v d true at s h.0; ready = is_ready g v d s h.1.ready; room = small_queue g v d s f; next = small_page g v d s f; planes = tt }
 can_begin g v d (e.ProgramStarted true at) s f h = record { row = row_there g v d at s h.1.inside; together = apart g v d false at s h.0; ready = is_ready g v d s h.1.ready; room = small_queue g v d s f; next = small_page g v d s f; planes = tt }
 can_begin g v d (e.ProgramStarted false at) s f h = record { row = row_there g v d at s h.1.inside; together = apart g v d false at s h.0; ready = is_ready g v d s h.1.ready; room = small_queue g v d s f; next = small_page g v d s f; planes = tt }
+can_begin g v d (e.CacheProgramStarted at) s f h = record { row = row_there g v d at s h.1.inside; together = apart g v d false at s h.0; ready = is_ready g v d s h.1.ready; room = small_queue g v d s f; next = small_page g v d s f; planes = tt }
 can_begin g v d e.IdRead s f h = record { row = refl; together = refl; ready = is_ready g v d s h; room = small_queue g v d s f; next = small_page g v d s f; planes = tt }
 can_begin g v d (e.IdentityRead jedec) s f h = record { row = refl; together = refl; ready = is_ready g v d s h; room = small_queue g v d s f; next = small_page g v d s f; planes = tt }
 can_begin g v d e.UniqueIdReadStarted s f h = record { row = refl; together = refl; ready = is_ready g v d s h; room = small_queue g v d s f; next = small_page g v d s f; planes = tt }
@@ -272,6 +275,7 @@ confirm_programs g t BlockEraseConfirm h = refl
 confirm_programs g t BlockErasePlane h = refl
 confirm_programs g t ProgramConfirm h = cc
 confirm_programs g t ProgramPlane h = cc
+confirm_programs g t ProgramCache h = cc
 confirm_programs g t CopybackRead h = refl
 confirm_programs g t c h = refl
 
@@ -441,7 +445,7 @@ finds_later g past i ce n (Some x) none f = f
 
 -- 5. readies
 
-ready_at : (g : Parts) (past : List Item) (l : Lun) (fail : Bool) → effect_on g past (Rdy l.ce l.lun fail) l ≡ e.BecameReady fail
+ready_at : (g : Parts) (past : List Item) (l : Lun) (fail : Failures) → effect_on g past (Rdy l.ce l.lun fail) l ≡ e.BecameReady fail
 unfolding effect_among
 ready_at g past l fail = at (l.ce == l.ce) (l.lun == l.lun) (eq-eqb l.ce l.ce refl) (eq-eqb l.lun l.lun refl)
   where
@@ -450,11 +454,11 @@ ready_at g past l fail = at (l.ce == l.ce) (l.lun == l.lun) (eq-eqb l.ce l.ce re
     at true false h k = cc
     at false b h k = cc
 
-array_ready_at : (g : Parts) (past : List Item) (l : Lun) → effect_on g past (Ard l.ce l.lun) l ≡ e.ArrayBecameReady
+array_ready_at : (g : Parts) (past : List Item) (l : Lun) (fail : Bool) → effect_on g past (Ard l.ce l.lun fail) l ≡ e.ArrayBecameReady fail
 unfolding effect_among
-array_ready_at g past l = at (l.ce == l.ce) (l.lun == l.lun) (eq-eqb l.ce l.ce refl) (eq-eqb l.lun l.lun refl)
+array_ready_at g past l fail = at (l.ce == l.ce) (l.lun == l.lun) (eq-eqb l.ce l.ce refl) (eq-eqb l.lun l.lun refl)
   where
-    at : (a b : Bool) → a ≡ true → b ≡ true → cond (a && b) e.ArrayBecameReady e.Unaffected ≡ e.ArrayBecameReady
+    at : (a b : Bool) → a ≡ true → b ≡ true → cond (a && b) (e.ArrayBecameReady fail) e.Unaffected ≡ e.ArrayBecameReady fail
     at true true h k = refl
     at true false h k = cc
     at false b h k = cc
@@ -470,13 +474,13 @@ elsewhere l m x ne = at (l.ce == m.ce) refl (l.lun == m.lun) refl
     at true q false d = refl
     at false q b d = refl
 
-ready_elsewhere : (g : Parts) (past : List Item) (l m : Lun) (fail : Bool) → m ≢ l → effect_on g past (Rdy l.ce l.lun fail) m ≡ e.Unaffected
+ready_elsewhere : (g : Parts) (past : List Item) (l m : Lun) (fail : Failures) → m ≢ l → effect_on g past (Rdy l.ce l.lun fail) m ≡ e.Unaffected
 unfolding effect_among
 ready_elsewhere g past l m fail ne = elsewhere l m (e.BecameReady fail) ne
 
-array_ready_elsewhere : (g : Parts) (past : List Item) (l m : Lun) → m ≢ l → effect_on g past (Ard l.ce l.lun) m ≡ e.Unaffected
+array_ready_elsewhere : (g : Parts) (past : List Item) (l m : Lun) (fail : Bool) → m ≢ l → effect_on g past (Ard l.ce l.lun fail) m ≡ e.Unaffected
 unfolding effect_among
-array_ready_elsewhere g past l m ne = elsewhere l m e.ArrayBecameReady ne
+array_ready_elsewhere g past l m fail ne = elsewhere l m (e.ArrayBecameReady fail) ne
 
 -- a LUN that may become ready is there
 lun_there_by : (g : Parts) (past : List Item) (l : Lun) (test : LunView → Bool) → lun_is test (luns_of g past l.ce) l.lun ≡ true → l.lun < g.luns
@@ -489,7 +493,7 @@ lun_there_by g past l test h = at (ltb l.lun g.luns) refl
         let none : false ≡ true = sym (ap (is_some_and test) (slice_get_past (luns_of g past l.ce) l.lun beyond)) ∙ h in
         cc
 
-pub ready_there : (g : Parts) (n : ℕ) (past : List Item) (l : Lun) (fail : Bool) → broken g n past (Rdy l.ce l.lun fail) ≡ None → IsLun g n l
+pub ready_there : (g : Parts) (n : ℕ) (past : List Item) (l : Lun) (fail : Failures) → broken g n past (Rdy l.ce l.lun fail) ≡ None → IsLun g n l
 unfolding breaks_not_there
 ready_there g n past l fail h =
     let f1 : breaks_not_there n (luns_of g past l.ce) (Rdy l.ce l.lun fail) ≡ false = (first_passed (breaks_not_there n (luns_of g past l.ce) (Rdy l.ce l.lun fail)) NotThere None h).0 in
@@ -497,15 +501,15 @@ ready_there g n past l fail h =
     let below : leb n l.ce ≡ false = parts.0 in
     record { target = grind (arith, nat_tests); lun = lun_there_by g past l (λ v. v.busy) (not-false _ parts.1) }
 
-pub array_ready_there : (g : Parts) (n : ℕ) (past : List Item) (l : Lun) → broken g n past (Ard l.ce l.lun) ≡ None → IsLun g n l
+pub array_ready_there : (g : Parts) (n : ℕ) (past : List Item) (l : Lun) (fail : Bool) → broken g n past (Ard l.ce l.lun fail) ≡ None → IsLun g n l
 unfolding breaks_not_there
-array_ready_there g n past l h =
-    let f1 : breaks_not_there n (luns_of g past l.ce) (Ard l.ce l.lun) ≡ false = (first_passed (breaks_not_there n (luns_of g past l.ce) (Ard l.ce l.lun)) NotThere None h).0 in
+array_ready_there g n past l fail h =
+    let f1 : breaks_not_there n (luns_of g past l.ce) (Ard l.ce l.lun fail) ≡ false = (first_passed (breaks_not_there n (luns_of g past l.ce) (Ard l.ce l.lun fail)) NotThere None h).0 in
     let parts = neither (leb n l.ce) _ f1 in
     let below : leb n l.ce ≡ false = parts.0 in
     record { target = grind (arith, nat_tests); lun = lun_there_by g past l (λ v. v.array_busy) (not-false _ parts.1) }
 
-pub stands_ready : (state : BusView) (opened : List Entries) (dies : List Die) (past : List Item) (l : Lun) (fail : Bool) (k : ℕ) (old new : Die) → IsStanding state opened dies past → broken state.geometry (length state.targets) past (Rdy l.ce l.lun fail) ≡ None → FactsFit state.geometry (length state.targets) past → k ≡ number_of state.geometry l → slice_get dies k ≡ Some old → IsAfter (e.BecameReady fail) old new → StandFor (channel_on state.geometry (length state.targets) opened) (Rdy l.ce l.lun fail ∷ past) (set dies k new)
+pub stands_ready : (state : BusView) (opened : List Entries) (dies : List Die) (past : List Item) (l : Lun) (fail : Failures) (k : ℕ) (old new : Die) → IsStanding state opened dies past → broken state.geometry (length state.targets) past (Rdy l.ce l.lun fail) ≡ None → FactsFit state.geometry (length state.targets) past → k ≡ number_of state.geometry l → slice_get dies k ≡ Some old → IsAfter (e.BecameReady fail) old new → StandFor (channel_on state.geometry (length state.targets) opened) (Rdy l.ce l.lun fail ∷ past) (set dies k new)
 stands_ready state opened dies past l fail k old new f h facts place here b =
     let g = state.geometry in
     let is : numbered g k ≡ l = ap (numbered g) place ∙ numbered_number g l (ready_there g (length state.targets) past l fail h).lun in
@@ -514,14 +518,14 @@ stands_ready state opened dies past l fail k old new f h facts place here b =
     here
     (subst (λ (x : Effect). IsAfter x old new) (sym (ap (effect_on g past (Rdy l.ce l.lun fail)) is ∙ ready_at g past l fail)) b)
 
-pub stands_array_ready : (state : BusView) (opened : List Entries) (dies : List Die) (past : List Item) (l : Lun) (k : ℕ) (old new : Die) → IsStanding state opened dies past → broken state.geometry (length state.targets) past (Ard l.ce l.lun) ≡ None → FactsFit state.geometry (length state.targets) past → k ≡ number_of state.geometry l → slice_get dies k ≡ Some old → IsAfter e.ArrayBecameReady old new → StandFor (channel_on state.geometry (length state.targets) opened) (Ard l.ce l.lun ∷ past) (set dies k new)
-stands_array_ready state opened dies past l k old new f h facts place here b =
+pub stands_array_ready : (state : BusView) (opened : List Entries) (dies : List Die) (past : List Item) (l : Lun) (fail : Bool) (k : ℕ) (old new : Die) → IsStanding state opened dies past → broken state.geometry (length state.targets) past (Ard l.ce l.lun fail) ≡ None → FactsFit state.geometry (length state.targets) past → k ≡ number_of state.geometry l → slice_get dies k ≡ Some old → IsAfter (e.ArrayBecameReady fail) old new → StandFor (channel_on state.geometry (length state.targets) opened) (Ard l.ce l.lun fail ∷ past) (set dies k new)
+stands_array_ready state opened dies past l fail k old new f h facts place here b =
     let g = state.geometry in
-    let is : numbered g k ≡ l = ap (numbered g) place ∙ numbered_number g l (array_ready_there g (length state.targets) past l h).lun in
-    stand_changed state opened dies past (Ard l.ce l.lun) k old new f h facts
-    (λ m d low other. subst (λ (x : Effect). IsAfter x d d) (sym (array_ready_elsewhere g past l (numbered g m) (λ q. other (number_apart g m k (q ∙ sym is))))) (rests e.Unaffected d refl refl))
+    let is : numbered g k ≡ l = ap (numbered g) place ∙ numbered_number g l (array_ready_there g (length state.targets) past l fail h).lun in
+    stand_changed state opened dies past (Ard l.ce l.lun fail) k old new f h facts
+    (λ m d low other. subst (λ (x : Effect). IsAfter x d d) (sym (array_ready_elsewhere g past l (numbered g m) fail (λ q. other (number_apart g m k (q ∙ sym is))))) (rests e.Unaffected d refl refl))
     here
-    (subst (λ (x : Effect). IsAfter x old new) (sym (ap (effect_on g past (Ard l.ce l.lun)) is ∙ array_ready_at g past l)) b)
+    (subst (λ (x : Effect). IsAfter x old new) (sym (ap (effect_on g past (Ard l.ce l.lun fail)) is ∙ array_ready_at g past l fail)) b)
 
 pub on_ok : {T E : Type 0} (r : Result T E) (P Q : T → Type 0) → IfOk r P → ((x : T) → P x → Q x) → IfOk r Q
 on_ok (Ok x) P Q h f = f x h

@@ -24,7 +24,7 @@ use crate::showing::{copy_shown, shown_byte};
 use crate::working::{end_work, work, work_inputs};
 use die_model::{LunDie, Pages};
 use nand_geometry::Geometry;
-use onfi_cycle::{BusState, Cycle, Item, Kind, Lun, LunState, MAX_CHANNEL_LUNS};
+use onfi_cycle::{BusState, Cycle, Failures, Item, Kind, Lun, LunState, MAX_CHANNEL_LUNS};
 use std::alloc::{AllocError, Allocator, Global};
 use std::marker::Model;
 
@@ -265,8 +265,8 @@ impl<A: Allocator + Copy> Bus<A> {
         Ok(())
     }
 
-    /// A LUN becomes ready, with failure or without; false where it isn't there or isn't busy. It takes no memory.
-    pub fn ready(&mut self, lun: Lun, fail: bool) -> bool
+    /// A LUN becomes ready, with failures or without; false where it isn't there or isn't busy. It takes no memory.
+    pub fn ready(&mut self, lun: Lun, fail: Failures) -> bool
         ensures came { result ≡ is_permitted self.old.geometry self.old.targets self.old.past (Rdy lun.ce lun.lun fail) }
         ensures yes { IsTrue result → IsNext self.old self.new (Rdy lun.ce lun.lun fail) }
         ensures no { result ≡ false → self.new ≡ self.old }
@@ -279,17 +279,18 @@ impl<A: Allocator + Copy> Bus<A> {
         })
     }
 
-    /// The array of a LUN becomes ready after a cache read; false where the LUN isn't there or its array isn't busy. It takes no
-    /// memory.
-    pub fn array_ready(&mut self, lun: Lun) -> bool
-        ensures came { result ≡ is_permitted self.old.geometry self.old.targets self.old.past (Ard lun.ce lun.lun) }
-        ensures yes { IsTrue result → IsNext self.old self.new (Ard lun.ce lun.lun) }
+    /// The array of a LUN becomes ready after a cache read, or after a cache program, which failed or not; false where the LUN isn't
+    /// there or its array isn't busy. It takes no memory.
+    pub fn array_ready(&mut self, lun: Lun, fail: bool) -> bool
+        ensures came { result ≡ is_permitted self.old.geometry self.old.targets self.old.past (Ard lun.ce lun.lun fail) }
+        ensures yes { IsTrue result → IsNext self.old self.new (Ard lun.ce lun.lun fail) }
         ensures no { result ≡ false → self.new ≡ self.old }
         ensures room { self.new.room ≡ self.old.room }
     {
         self.take_ready(Item::Ard {
             ce: lun.ce,
             lun: lun.lun,
+            fail,
         })
     }
 

@@ -20,8 +20,8 @@ ghost use Rattle.target_bus.specs.Bus.{FindsWork, FindsFilled, Permits, PermitsI
 
 use die_model::LunDie;
 use onfi_cycle::{
-    BusState, Cycle, Effect, FEATURE_BYTES, Filling, Item, Kind, Lun, PageAddress, TailFacts,
-    TargetCycle, is_shared,
+    BusState, Cycle, Effect, FEATURE_BYTES, Failures, Filling, Item, Kind, Lun, PageAddress,
+    TailFacts, TargetCycle, is_shared,
 };
 use std::alloc::{AllocError, Allocator};
 
@@ -47,6 +47,7 @@ fn begins(effect: Effect) -> bool
             | Effect::PlaneSelected { .. }
             | Effect::EraseStarted { .. }
             | Effect::ProgramStarted { .. }
+            | Effect::CacheProgramStarted { .. }
             | Effect::IdRead
             | Effect::IdentityRead { .. }
             | Effect::UniqueIdReadStarted
@@ -172,7 +173,7 @@ fn work_in<A: Allocator + Copy>(
 }
 
 // Ends the work of the die of a number.
-fn finish_in<A: Allocator + Copy>(dies: &mut [LunDie<A>], place: usize, fail: bool)
+fn finish_in<A: Allocator + Copy>(dies: &mut [LunDie<A>], place: usize, fail: Failures)
     requires inside { place < length dies.old }
     ensures { (old : Die) × (new : Die) × (slice_get dies.old place ≡ Some old) × IsAfter (BecameReady fail) old new
         × (dies.new ≡ slice_set dies.old place new) }
@@ -181,12 +182,12 @@ fn finish_in<A: Allocator + Copy>(dies: &mut [LunDie<A>], place: usize, fail: bo
 }
 
 // Ends the work of the array of the die of a number.
-fn finish_array_in<A: Allocator + Copy>(dies: &mut [LunDie<A>], place: usize)
+fn finish_array_in<A: Allocator + Copy>(dies: &mut [LunDie<A>], place: usize, fail: bool)
     requires inside { place < length dies.old }
-    ensures { (old : Die) × (new : Die) × (slice_get dies.old place ≡ Some old) × IsAfter ArrayBecameReady old new
+    ensures { (old : Die) × (new : Die) × (slice_get dies.old place ≡ Some old) × IsAfter (ArrayBecameReady fail) old new
         × (dies.new ≡ slice_set dies.old place new) }
 {
-    dies[place].array_ready();
+    dies[place].finish_array(fail);
 }
 
 // Works a permitted input of a Page Program on the dies: it changes a page register of one of them.
@@ -464,6 +465,6 @@ pub fn end_work<A: Allocator + Copy>(state: &BusState, dies: &mut [LunDie<A>], r
     match ready {
         Item::Cyc(_) => unreachable!(),
         Item::Rdy { ce, lun, fail } => finish_in(dies, Lun { ce, lun }.place(luns), fail),
-        Item::Ard { ce, lun } => finish_array_in(dies, Lun { ce, lun }.place(luns)),
+        Item::Ard { ce, lun, fail } => finish_array_in(dies, Lun { ce, lun }.place(luns), fail),
     }
 }

@@ -13,7 +13,7 @@ use Rattle.onfi_cycle.specs.Command.{wants_ready, reads_identity}
 use Rattle.onfi_cycle.specs.Effect.{is_shared}
 use Rattle.onfi_cycle.specs.LunView.{LunView}
 use Rattle.onfi_cycle.specs.Permitted.{judge_known_cycle}
-use Rattle.onfi_cycle.specs.Rules.{opens_here, breaks_sequence_open, breaks_several_luns, breaks_no_column_to_change, breaks_command_misplaced, breaks_address_misplaced, breaks_row_outside, breaks_lun_busy, breaks_queue_clash, breaks_input_misplaced, breaks_no_sole_driver, breaks_data_not_ready, breaks_column_outside, breaks_cache_read_misplaced, breaks_copyback_misplaced, breaks_plane_not_held}
+use Rattle.onfi_cycle.specs.Rules.{opens_here, breaks_sequence_open, breaks_several_luns, breaks_no_column_to_change, breaks_command_misplaced, breaks_address_misplaced, breaks_row_outside, breaks_lun_busy, breaks_queue_clash, breaks_input_misplaced, breaks_no_sole_driver, breaks_data_not_ready, breaks_column_outside, breaks_cache_read_misplaced, breaks_cache_program_misplaced, breaks_copyback_misplaced, breaks_plane_not_held}
 use Rattle.onfi_cycle.specs.Sequence.{goes_on_with, is_open, wants_command}
 
 pub busy_for : (g : Parts) (t : TailFacts) (luns : List LunView) (c : Command) → goes_on_with t c ≡ false → breaks_lun_busy g t luns (CommandCycle c) ≡ (wants_ready c && not (list_any (λ v. not v.busy) luns)) || (is_shared g && (reads_identity c && list_any (λ v. v.busy) luns))
@@ -35,7 +35,7 @@ column false true true true true r h i j = refl
 column false true true true false r h i j = refl
 
 column_goes_on : (g : Parts) (t : TailFacts) (luns : List LunView) → has_copyback g.optional ≡ true → wants_command t ChangeWriteColumn ≡ true → None ≡ judge_known_cycle g t luns (CommandCycle ChangeWriteColumn)
-unfolding breaks_sequence_open breaks_several_luns breaks_no_column_to_change breaks_command_misplaced breaks_address_misplaced breaks_row_outside breaks_lun_busy breaks_queue_clash breaks_input_misplaced breaks_no_sole_driver breaks_data_not_ready breaks_column_outside breaks_cache_read_misplaced breaks_copyback_misplaced breaks_plane_not_held
+unfolding breaks_sequence_open breaks_several_luns breaks_no_column_to_change breaks_command_misplaced breaks_address_misplaced breaks_row_outside breaks_lun_busy breaks_queue_clash breaks_input_misplaced breaks_no_sole_driver breaks_data_not_ready breaks_column_outside breaks_cache_read_misplaced breaks_cache_program_misplaced breaks_copyback_misplaced breaks_plane_not_held
 column_goes_on g t luns h wanted =
     column (is_open t) (wants_command t ChangeWriteColumn) (has_copyback g.optional) (is_wide g.optional) (ltb 1 g.luns) (not (list_any (λ v. not v.busy) luns)) wanted h (and_parts (is_wide g.optional) _ h).0
 

@@ -1,4 +1,4 @@
-//! The rules F1 to F15, F17 and F18 by the record of a target: of its LUNs only what a rule looks at is read, so nothing is taken out of the record.
+//! The rules F1 to F18 by the record of a target: of its LUNs only what a rule looks at is read, so nothing is taken out of the record.
 ghost use Rattle.std.specs.Prelude.{◌≡◌, ℕ, ◌%◌, ◌==◌, length, List, ◌^◌, ◌<◌, ◌≤◌, IfSome, true, false, not, slice_get};
 ghost use Rattle.std.specs.List.{All, list_all, list_any};
 ghost use Rattle.std.specs.Option.{option_copied, option_map};
@@ -9,12 +9,12 @@ ghost use Rattle.onfi_cycle.specs.declared.item.Kind.{Kind as KindValue};
 ghost use Rattle.onfi_cycle.specs.declared.tail_facts.TailFacts.{TailFacts as TailValue};
 ghost use Rattle.onfi_cycle.specs.declared.target_cycle.TargetCycle.{TargetCycle};
 ghost use Rattle.onfi_cycle.specs.Effect.{is_off, is_data, is_shared, page_address};
-ghost use Rattle.onfi_cycle.specs.Lun.{output_column, is_copyback_read, page_in_plane};
+ghost use Rattle.onfi_cycle.specs.Lun.{output_column, is_copyback_read, page_in_plane, programs};
 ghost use Rattle.nand_geometry.specs.Optional.{has_copyback};
 ghost use Rattle.onfi_cycle.specs.LunView.{LunView};
 ghost use Rattle.onfi_cycle.specs.Sequence.{is_open, target_cycle, goes_on_with, wants_command, row};
 ghost use Rattle.onfi_cycle.specs.Permitted.{judge, judge_cycle, judge_known_cycle};
-ghost use Rattle.onfi_cycle.specs.Rules.{has_read_one, opens_here, keeps_copy, may_copy_to, may_copy, is_copying, blocks_clash, read_clashes, some_read_clashes, are_none, is_undeclared_address, breaks_address_misplaced, breaks_cache_read_misplaced, breaks_column_outside, breaks_command_unknown, breaks_lun_busy, breaks_no_column_to_change, breaks_several_luns, is_unclear, works_for_target, caching, continues_cache, driver, driving, ends_cache, ends_row, excludes_cache, named_lun_is, has_no_byte, holds_plane_of, has_some, is_past_register, lun_is, is_refused_by, is_undeclared, may_change_column, planes_clash, queued_clashes, refused_by, register_len, second_column, second_of_page, some_queued_clashes};
+ghost use Rattle.onfi_cycle.specs.Rules.{breaks_command_misplaced, breaks_cache_program_misplaced, breaks_copyback_misplaced, excludes_program, holds_none, has_read_one, opens_here, keeps_copy, may_copy_to, may_copy, is_copying, blocks_clash, read_clashes, some_read_clashes, are_none, is_undeclared_address, breaks_address_misplaced, breaks_cache_read_misplaced, breaks_column_outside, breaks_command_unknown, breaks_lun_busy, breaks_no_column_to_change, breaks_several_luns, is_unclear, works_for_target, caching, continues_cache, driver, driving, ends_cache, ends_row, excludes_cache, named_lun_is, has_no_byte, holds_plane_of, has_some, is_past_register, lun_is, is_refused_by, is_undeclared, may_change_column, planes_clash, queued_clashes, refused_by, register_len, second_column, second_of_page, some_queued_clashes};
 ghost use Rattle.onfi_cycle.specs.Command.{command, addresses_the_array, is_change_read_column, is_enhanced_column, is_page_program, is_write_column};
 ghost use Rattle.onfi_cycle.specs.Bounds.{TargetFits};
 ghost use Rattle.target_record.specs.Geometry.{parts_of};
@@ -31,7 +31,8 @@ use crate::record::{
 use nand_geometry::{Geometry, Optional};
 use onfi_cycle::{
     Command, Cycle, DataPhase, Forbidden, Item, Kind, PageAddress, Queued, ReadColumn, Register,
-    TailFacts, is_cache_read, is_page_read, is_target_work, keeps_copy,
+    TailFacts, is_cache_program, is_cache_read, is_page_read, is_target_work, keeps_array_busy,
+    keeps_copy,
 };
 
 // ---- what a record says of its LUN
@@ -99,6 +100,15 @@ pub fn is_caching(lun: &OnfiseqLun) -> bool
     ensures { result ≡ caching (lun_of lun.now) }
 {
     is_cache_read(closer(lun))
+}
+
+/// It programs behind a Page Cache Program, queued programs left out, and no ready of its array came since.
+pub fn is_programming(lun: &OnfiseqLun) -> bool
+    ensures { result ≡ programs (lun_of lun.now) }
+{
+    let closer = closer(lun);
+    is_set(lun.busy) && is_cache_program(closer)
+        || is_set(lun.array_busy) && keeps_array_busy(closer)
 }
 
 fn may_change_column(lun: &OnfiseqLun) -> bool
@@ -277,6 +287,15 @@ fn some_caching(luns: &[OnfiseqLun]) -> bool
     }
 }
 
+fn some_programs(luns: &[OnfiseqLun]) -> bool
+    ensures { result ≡ list_any programs (luns_of luns.now) }
+{
+    match luns {
+        [] => false,
+        [first, rest @ ..] => is_programming(first) || some_programs(rest),
+    }
+}
+
 // ---- the tail of a target
 
 // A sequence is open on the target.
@@ -297,9 +316,10 @@ pub fn wants_command(kept: &OnfiseqTarget, command: Command) -> bool
     ensures { result ≡ wants_command (tail_of kept.now) command }
 {
     match command {
-        Command::ChangeWriteColumn | Command::ProgramConfirm | Command::ProgramPlane => {
-            phase_of(kept.phase).takes_data()
-        }
+        Command::ChangeWriteColumn
+        | Command::ProgramConfirm
+        | Command::ProgramPlane
+        | Command::ProgramCache => phase_of(kept.phase).takes_data(),
         _ => match opening_of(is_set(kept.is_open), kept.opener, kept.addresses) {
             None => false,
             Some(opening) => {
@@ -323,6 +343,7 @@ fn is_undeclared(geometry: &OnfiseqGeometry, command: Command) -> bool
         Command::ChangeReadColumnEnhanced => { !Optional(geometry.optional).has_enhanced_column() }
         Command::ReadPlane => !Optional(geometry.optional).has_plane_reads(),
         Command::CopybackRead => !Optional(geometry.optional).has_copyback(),
+        Command::ProgramCache => !Optional(geometry.optional).has_program_cache(),
         Command::ReadUniqueId => !Optional(geometry.optional).has_unique_id(),
         Command::GetFeatures | Command::SetFeatures => {
             !Optional(geometry.optional).has_features()
@@ -375,6 +396,20 @@ fn breaks_cache_read_misplaced(
         },
         _ => command.reads_identity() && some_caching(luns),
     }
+}
+
+#[tactic(auto, unfolding(onfi_cycle::specs::Rules::breaks_cache_program_misplaced))]
+fn breaks_cache_program_misplaced(
+    geometry: &OnfiseqGeometry,
+    luns: &[OnfiseqLun],
+    command: Command,
+) -> bool
+    requires opener { opens_here (parts_of geometry.now) command ≡ true }
+    requires numbers { All IsRecord luns.now }
+    ensures { (t : TailValue) → result ≡ breaks_cache_program_misplaced (parts_of geometry.now) t (luns_of luns.now) (TargetCycle.CommandCycle command) }
+{
+    let _geometry = geometry;
+    command.reads_identity() && some_programs(luns)
 }
 
 // In the wider profile: the target has several LUNs, and commands that are of all of them.
@@ -439,6 +474,8 @@ fn judge_opener(
         Some(Forbidden::QueueClash)
     } else if breaks_cache_read_misplaced(geometry, luns, command) {
         Some(Forbidden::CacheReadMisplaced)
+    } else if breaks_cache_program_misplaced(geometry, luns, command) {
+        Some(Forbidden::CacheProgramMisplaced)
     } else {
         None
     }
@@ -474,7 +511,7 @@ fn named_has_read_one(geometry: &OnfiseqGeometry, kept: &OnfiseqTarget) -> bool
 
 // The first of F3 to F18 that a 31h breaks which the tail wants.
 #[inline(never)]
-#[tactic(auto, unfolding(onfi_cycle::specs::Rules::breaks_sequence_open, onfi_cycle::specs::Rules::breaks_several_luns, onfi_cycle::specs::Rules::breaks_no_column_to_change, onfi_cycle::specs::Rules::breaks_command_misplaced, onfi_cycle::specs::Rules::breaks_address_misplaced, onfi_cycle::specs::Rules::breaks_row_outside, onfi_cycle::specs::Rules::breaks_lun_busy, onfi_cycle::specs::Rules::breaks_queue_clash, onfi_cycle::specs::Rules::breaks_input_misplaced, onfi_cycle::specs::Rules::breaks_no_sole_driver, onfi_cycle::specs::Rules::breaks_data_not_ready, onfi_cycle::specs::Rules::breaks_column_outside, onfi_cycle::specs::Rules::breaks_cache_read_misplaced, onfi_cycle::specs::Rules::breaks_copyback_misplaced, onfi_cycle::specs::Rules::breaks_plane_not_held))]
+#[tactic(auto, unfolding(onfi_cycle::specs::Rules::breaks_sequence_open, onfi_cycle::specs::Rules::breaks_several_luns, onfi_cycle::specs::Rules::breaks_no_column_to_change, onfi_cycle::specs::Rules::breaks_command_misplaced, onfi_cycle::specs::Rules::breaks_address_misplaced, onfi_cycle::specs::Rules::breaks_row_outside, onfi_cycle::specs::Rules::breaks_lun_busy, onfi_cycle::specs::Rules::breaks_queue_clash, onfi_cycle::specs::Rules::breaks_input_misplaced, onfi_cycle::specs::Rules::breaks_no_sole_driver, onfi_cycle::specs::Rules::breaks_data_not_ready, onfi_cycle::specs::Rules::breaks_column_outside, onfi_cycle::specs::Rules::breaks_cache_read_misplaced, onfi_cycle::specs::Rules::breaks_cache_program_misplaced, onfi_cycle::specs::Rules::breaks_copyback_misplaced, onfi_cycle::specs::Rules::breaks_plane_not_held))]
 fn judge_random_cache_read(geometry: &OnfiseqGeometry, kept: &OnfiseqTarget) -> Option<Forbidden>
     requires limits { InLimits (parts_of geometry.now) }
     requires numbers { IsTarget kept.now }
@@ -529,8 +566,110 @@ fn is_kept_from_cache(geometry: &OnfiseqGeometry, command: Command) -> bool
     }
 }
 
-// The first of F6 to F15 that a closer breaks.
-#[tactic(auto, unfolding(onfi_cycle::specs::Rules::breaks_sequence_open, onfi_cycle::specs::Rules::breaks_several_luns, onfi_cycle::specs::Rules::breaks_no_column_to_change, onfi_cycle::specs::Rules::breaks_command_misplaced, onfi_cycle::specs::Rules::breaks_address_misplaced, onfi_cycle::specs::Rules::breaks_row_outside, onfi_cycle::specs::Rules::breaks_lun_busy, onfi_cycle::specs::Rules::breaks_queue_clash, onfi_cycle::specs::Rules::breaks_input_misplaced, onfi_cycle::specs::Rules::breaks_no_sole_driver, onfi_cycle::specs::Rules::breaks_data_not_ready, onfi_cycle::specs::Rules::breaks_column_outside, onfi_cycle::specs::Rules::breaks_cache_read_misplaced, onfi_cycle::specs::Rules::breaks_copyback_misplaced, onfi_cycle::specs::Rules::breaks_plane_not_held))]
+// The LUN that the row of the tail names is there, and has a queue.
+fn named_has_queue(geometry: &OnfiseqGeometry, kept: &OnfiseqTarget) -> bool
+    requires limits { InLimits (parts_of geometry.now) }
+    requires numbers { IsTarget kept.now }
+    ensures { result ≡ named_lun_is (parts_of geometry.now) (row (tail_of kept.now)) (λ v. has_some v.queue) (target_of kept.now).luns }
+{
+    let named = geometry.known().parts_of(tail_of(kept).named_row()).lun;
+    match lun_at(&kept.luns[..kept.count], named as usize) {
+        None => false,
+        Some(lun) => has_queue(lun),
+    }
+}
+
+// The LUN holds a page.
+fn holds_some(lun: &OnfiseqLun) -> bool
+    requires { IsRecord lun.now }
+    ensures { result ≡ not (holds_none (lun_of lun.now).held) }
+{
+    lun.holds > 0
+}
+
+// The LUN that the row of the tail names is there, and holds a page.
+fn named_holds_some(geometry: &OnfiseqGeometry, kept: &OnfiseqTarget) -> bool
+    requires limits { InLimits (parts_of geometry.now) }
+    requires numbers { IsTarget kept.now }
+    ensures { result ≡ named_lun_is (parts_of geometry.now) (row (tail_of kept.now)) (λ v. not (holds_none v.held)) (target_of kept.now).luns }
+{
+    let named = geometry.known().parts_of(tail_of(kept).named_row()).lun;
+    match lun_at(&kept.luns[..kept.count], named as usize) {
+        None => false,
+        Some(lun) => holds_some(lun),
+    }
+}
+
+// The tail doesn't want the closer.
+#[tactic(auto, unfolding(onfi_cycle::specs::Rules::breaks_command_misplaced))]
+fn closer_breaks_sequence(
+    geometry: &OnfiseqGeometry,
+    kept: &OnfiseqTarget,
+    command: Command,
+) -> bool
+    requires closer { opens_here (parts_of geometry.now) command ≡ false }
+    ensures { result ≡ breaks_command_misplaced (parts_of geometry.now) (tail_of kept.now) (TargetCycle.CommandCycle command) }
+{
+    let _geometry = geometry;
+    !wants_command(kept, command)
+}
+
+// The closer comes while a cache read goes on at the LUN of its row, and may not then.
+#[tactic(auto, unfolding(onfi_cycle::specs::Rules::breaks_cache_read_misplaced))]
+fn closer_breaks_cache_read(
+    geometry: &OnfiseqGeometry,
+    kept: &OnfiseqTarget,
+    command: Command,
+) -> bool
+    requires closer { opens_here (parts_of geometry.now) command ≡ false }
+    requires limits { InLimits (parts_of geometry.now) }
+    requires numbers { IsTarget kept.now }
+    ensures { result ≡ breaks_cache_read_misplaced (parts_of geometry.now) (tail_of kept.now) (target_of kept.now).luns (TargetCycle.CommandCycle command) }
+{
+    is_kept_from_cache(geometry, command) && named_is_caching(geometry, kept)
+}
+
+// The closer is a 15h of a LUN with a queue, whose chip caches no program of several planes.
+#[tactic(auto, unfolding(onfi_cycle::specs::Rules::breaks_cache_program_misplaced))]
+fn closer_breaks_cache_program(
+    geometry: &OnfiseqGeometry,
+    kept: &OnfiseqTarget,
+    command: Command,
+) -> bool
+    requires closer { opens_here (parts_of geometry.now) command ≡ false }
+    requires limits { InLimits (parts_of geometry.now) }
+    requires numbers { IsTarget kept.now }
+    ensures { result ≡ breaks_cache_program_misplaced (parts_of geometry.now) (tail_of kept.now) (target_of kept.now).luns (TargetCycle.CommandCycle command) }
+{
+    match command {
+        Command::ProgramCache => {
+            !Optional(geometry.optional).has_group_cache() && named_has_queue(geometry, kept)
+        }
+        _ => false,
+    }
+}
+
+// The closer is a 15h of a LUN that holds a page.
+#[tactic(auto, unfolding(onfi_cycle::specs::Rules::breaks_copyback_misplaced))]
+fn closer_breaks_copyback(
+    geometry: &OnfiseqGeometry,
+    kept: &OnfiseqTarget,
+    command: Command,
+) -> bool
+    requires limits { InLimits (parts_of geometry.now) }
+    requires numbers { IsTarget kept.now }
+    ensures { result ≡ breaks_copyback_misplaced (parts_of geometry.now) (tail_of kept.now) (target_of kept.now).luns (TargetCycle.CommandCycle command) }
+{
+    match command {
+        Command::ProgramCache => {
+            Optional(geometry.optional).has_copyback() && named_holds_some(geometry, kept)
+        }
+        _ => false,
+    }
+}
+
+// The first of F6 to F17 that a closer breaks.
+#[tactic(auto, using(onfi_cycle::proofs::Closers::closer_misplaced, onfi_cycle::proofs::Closers::closer_reads, onfi_cycle::proofs::Closers::closer_programs, onfi_cycle::proofs::Closers::closer_copies, onfi_cycle::proofs::Closers::closer_passes))]
 fn judge_closer(
     geometry: &OnfiseqGeometry,
     kept: &OnfiseqTarget,
@@ -541,10 +680,14 @@ fn judge_closer(
     requires numbers { IsTarget kept.now }
     ensures { result ≡ judge_known_cycle (parts_of geometry.now) (tail_of kept.now) (target_of kept.now).luns (TargetCycle.CommandCycle command) }
 {
-    if !wants_command(kept, command) {
+    if closer_breaks_sequence(geometry, kept, command) {
         Some(Forbidden::CommandMisplaced)
-    } else if is_kept_from_cache(geometry, command) && named_is_caching(geometry, kept) {
+    } else if closer_breaks_cache_read(geometry, kept, command) {
         Some(Forbidden::CacheReadMisplaced)
+    } else if closer_breaks_cache_program(geometry, kept, command) {
+        Some(Forbidden::CacheProgramMisplaced)
+    } else if closer_breaks_copyback(geometry, kept, command) {
+        Some(Forbidden::CopybackMisplaced)
     } else {
         None
     }
@@ -822,6 +965,30 @@ fn copies_badly(geometry: &Geometry, tail: TailFacts, page: PageAddress, lun: &O
             || ends_program_row(tail) && is_copying(lun))
 }
 
+// The openers whose row names a LUN that programs no cache.
+fn excludes_program(opener: Command) -> bool
+    ensures { result ≡ excludes_program opener }
+{
+    matches!(
+        opener,
+        Command::Read
+            | Command::ChangeReadColumnEnhanced
+            | Command::BlockErase
+            | Command::ChangeWriteColumn
+    )
+}
+
+// The next address is the last row cycle of such an opener.
+fn ends_row_without_program(tail: TailFacts) -> bool
+    ensures { result ≡ ends_row excludes_program tail }
+{
+    match tail.opening {
+        None => false,
+        Some(opening) => excludes_program(opening.opener)
+            && opening.opener.at_last_row(opening.addresses),
+    }
+}
+
 // The column is outside the page, or outside the register of the LUN that drives.
 #[tactic(auto, unfolding(onfi_cycle::specs::Rules::breaks_column_outside))]
 fn breaks_column_outside(
@@ -865,6 +1032,8 @@ fn judge_named(
         Some(Forbidden::ColumnOutside)
     } else if ends_row_without_cache(geometry, tail) && is_caching(lun) {
         Some(Forbidden::CacheReadMisplaced)
+    } else if ends_row_without_program(tail) && is_programming(lun) {
+        Some(Forbidden::CacheProgramMisplaced)
     } else if copies_badly(geometry, tail, page, lun) {
         Some(Forbidden::CopybackMisplaced)
     } else if ends_plane_row(tail) && !holds_plane_of(geometry, page, lun) {
@@ -888,7 +1057,7 @@ fn judge_nobody(tail: TailFacts, is_outside: bool, target_works: bool) -> Option
 }
 
 // The first of F8 to F18 that the last address of a row breaks.
-#[tactic(auto, unfolding(onfi_cycle::specs::Rules::breaks_sequence_open, onfi_cycle::specs::Rules::breaks_several_luns, onfi_cycle::specs::Rules::breaks_no_column_to_change, onfi_cycle::specs::Rules::breaks_command_misplaced, onfi_cycle::specs::Rules::breaks_input_misplaced, onfi_cycle::specs::Rules::breaks_no_sole_driver, onfi_cycle::specs::Rules::breaks_data_not_ready, onfi_cycle::specs::Rules::breaks_row_outside, onfi_cycle::specs::Rules::breaks_lun_busy, onfi_cycle::specs::Rules::breaks_queue_clash, onfi_cycle::specs::Rules::breaks_cache_read_misplaced, onfi_cycle::specs::Rules::breaks_copyback_misplaced, onfi_cycle::specs::Rules::breaks_plane_not_held))]
+#[tactic(auto, unfolding(onfi_cycle::specs::Rules::breaks_sequence_open, onfi_cycle::specs::Rules::breaks_several_luns, onfi_cycle::specs::Rules::breaks_no_column_to_change, onfi_cycle::specs::Rules::breaks_command_misplaced, onfi_cycle::specs::Rules::breaks_input_misplaced, onfi_cycle::specs::Rules::breaks_no_sole_driver, onfi_cycle::specs::Rules::breaks_data_not_ready, onfi_cycle::specs::Rules::breaks_row_outside, onfi_cycle::specs::Rules::breaks_lun_busy, onfi_cycle::specs::Rules::breaks_queue_clash, onfi_cycle::specs::Rules::breaks_cache_read_misplaced, onfi_cycle::specs::Rules::breaks_cache_program_misplaced, onfi_cycle::specs::Rules::breaks_copyback_misplaced, onfi_cycle::specs::Rules::breaks_plane_not_held))]
 #[inline(never)]
 fn judge_end_of_row(
     geometry: &OnfiseqGeometry,
@@ -936,7 +1105,7 @@ fn is_undeclared_address(geometry: &OnfiseqGeometry, tail: TailFacts, byte: u8) 
 }
 
 // The first of F3 to F18 that an address breaks. One that isn't the last of a row can break F7 and F14 alone.
-#[tactic(auto, using(onfi_cycle::proofs::NoRow::no_copyback), unfolding(onfi_cycle::specs::Rules::breaks_sequence_open, onfi_cycle::specs::Rules::breaks_several_luns, onfi_cycle::specs::Rules::breaks_no_column_to_change, onfi_cycle::specs::Rules::breaks_command_misplaced, onfi_cycle::specs::Rules::breaks_row_outside, onfi_cycle::specs::Rules::breaks_lun_busy, onfi_cycle::specs::Rules::breaks_queue_clash, onfi_cycle::specs::Rules::breaks_input_misplaced, onfi_cycle::specs::Rules::breaks_no_sole_driver, onfi_cycle::specs::Rules::breaks_data_not_ready, onfi_cycle::specs::Rules::breaks_cache_read_misplaced, onfi_cycle::specs::Rules::breaks_plane_not_held))]
+#[tactic(auto, using(onfi_cycle::proofs::NoRow::no_copyback), unfolding(onfi_cycle::specs::Rules::breaks_sequence_open, onfi_cycle::specs::Rules::breaks_several_luns, onfi_cycle::specs::Rules::breaks_no_column_to_change, onfi_cycle::specs::Rules::breaks_command_misplaced, onfi_cycle::specs::Rules::breaks_row_outside, onfi_cycle::specs::Rules::breaks_lun_busy, onfi_cycle::specs::Rules::breaks_queue_clash, onfi_cycle::specs::Rules::breaks_input_misplaced, onfi_cycle::specs::Rules::breaks_no_sole_driver, onfi_cycle::specs::Rules::breaks_data_not_ready, onfi_cycle::specs::Rules::breaks_cache_read_misplaced, onfi_cycle::specs::Rules::breaks_cache_program_misplaced, onfi_cycle::specs::Rules::breaks_plane_not_held))]
 #[inline(always)]
 fn judge_address(
     geometry: &OnfiseqGeometry,
@@ -963,7 +1132,7 @@ fn judge_address(
 
 // The first of F3 to F18 that an input breaks.
 #[inline(always)]
-#[tactic(auto, unfolding(onfi_cycle::specs::Rules::breaks_sequence_open, onfi_cycle::specs::Rules::breaks_several_luns, onfi_cycle::specs::Rules::breaks_no_column_to_change, onfi_cycle::specs::Rules::breaks_command_misplaced, onfi_cycle::specs::Rules::breaks_address_misplaced, onfi_cycle::specs::Rules::breaks_row_outside, onfi_cycle::specs::Rules::breaks_lun_busy, onfi_cycle::specs::Rules::breaks_queue_clash, onfi_cycle::specs::Rules::breaks_input_misplaced, onfi_cycle::specs::Rules::breaks_no_sole_driver, onfi_cycle::specs::Rules::breaks_data_not_ready, onfi_cycle::specs::Rules::breaks_column_outside, onfi_cycle::specs::Rules::breaks_cache_read_misplaced, onfi_cycle::specs::Rules::breaks_copyback_misplaced, onfi_cycle::specs::Rules::breaks_plane_not_held))]
+#[tactic(auto, unfolding(onfi_cycle::specs::Rules::breaks_sequence_open, onfi_cycle::specs::Rules::breaks_several_luns, onfi_cycle::specs::Rules::breaks_no_column_to_change, onfi_cycle::specs::Rules::breaks_command_misplaced, onfi_cycle::specs::Rules::breaks_address_misplaced, onfi_cycle::specs::Rules::breaks_row_outside, onfi_cycle::specs::Rules::breaks_lun_busy, onfi_cycle::specs::Rules::breaks_queue_clash, onfi_cycle::specs::Rules::breaks_input_misplaced, onfi_cycle::specs::Rules::breaks_no_sole_driver, onfi_cycle::specs::Rules::breaks_data_not_ready, onfi_cycle::specs::Rules::breaks_column_outside, onfi_cycle::specs::Rules::breaks_cache_read_misplaced, onfi_cycle::specs::Rules::breaks_cache_program_misplaced, onfi_cycle::specs::Rules::breaks_copyback_misplaced, onfi_cycle::specs::Rules::breaks_plane_not_held))]
 fn judge_input(geometry: &OnfiseqGeometry, kept: &OnfiseqTarget) -> Option<Forbidden>
     requires { (kept.now.column < 2 ^ 16) × (kept.now.inputs < 2 ^ 63) }
     ensures { (luns : List LunView) (byte : ℕ) → result ≡ judge_known_cycle (parts_of geometry.now) (tail_of kept.now) luns (TargetCycle.InputCycle byte) }
@@ -982,7 +1151,7 @@ fn judge_input(geometry: &OnfiseqGeometry, kept: &OnfiseqTarget) -> Option<Forbi
 
 // The first of F3 to F18 that an output breaks.
 #[inline(always)]
-#[tactic(auto, unfolding(onfi_cycle::specs::Rules::breaks_sequence_open, onfi_cycle::specs::Rules::breaks_several_luns, onfi_cycle::specs::Rules::breaks_no_column_to_change, onfi_cycle::specs::Rules::breaks_command_misplaced, onfi_cycle::specs::Rules::breaks_address_misplaced, onfi_cycle::specs::Rules::breaks_row_outside, onfi_cycle::specs::Rules::breaks_lun_busy, onfi_cycle::specs::Rules::breaks_queue_clash, onfi_cycle::specs::Rules::breaks_input_misplaced, onfi_cycle::specs::Rules::breaks_no_sole_driver, onfi_cycle::specs::Rules::breaks_data_not_ready, onfi_cycle::specs::Rules::breaks_column_outside, onfi_cycle::specs::Rules::breaks_cache_read_misplaced, onfi_cycle::specs::Rules::breaks_copyback_misplaced, onfi_cycle::specs::Rules::breaks_plane_not_held))]
+#[tactic(auto, unfolding(onfi_cycle::specs::Rules::breaks_sequence_open, onfi_cycle::specs::Rules::breaks_several_luns, onfi_cycle::specs::Rules::breaks_no_column_to_change, onfi_cycle::specs::Rules::breaks_command_misplaced, onfi_cycle::specs::Rules::breaks_address_misplaced, onfi_cycle::specs::Rules::breaks_row_outside, onfi_cycle::specs::Rules::breaks_lun_busy, onfi_cycle::specs::Rules::breaks_queue_clash, onfi_cycle::specs::Rules::breaks_input_misplaced, onfi_cycle::specs::Rules::breaks_no_sole_driver, onfi_cycle::specs::Rules::breaks_data_not_ready, onfi_cycle::specs::Rules::breaks_column_outside, onfi_cycle::specs::Rules::breaks_cache_read_misplaced, onfi_cycle::specs::Rules::breaks_cache_program_misplaced, onfi_cycle::specs::Rules::breaks_copyback_misplaced, onfi_cycle::specs::Rules::breaks_plane_not_held))]
 fn judge_output(geometry: &OnfiseqGeometry, kept: &OnfiseqTarget) -> Option<Forbidden>
     requires { IsTarget kept.now }
     ensures { result ≡ judge_known_cycle (parts_of geometry.now) (tail_of kept.now) (target_of kept.now).luns TargetCycle.OutputCycle }
@@ -1028,7 +1197,7 @@ fn is_array_not_busy(luns: &[OnfiseqLun], number: u8) -> bool
     }
 }
 
-// The first of F3 to F18 that a command breaks. A closer can break F6 and F15 alone.
+// The first of F3 to F18 that a command breaks. A closer can break F6 and F15 to F17 alone.
 #[inline(always)]
 fn judge_command(
     geometry: &OnfiseqGeometry,

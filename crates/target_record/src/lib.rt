@@ -11,9 +11,9 @@ mod whole;
 
 pub use geometry::OnfiseqGeometry;
 pub use judging::{
-    driver, is_caching, is_shared, judge_address_of, judge_command_of, judge_input_of,
-    judge_output_of, judge_there, output_column, queue_len, register_len, shows_data,
-    wants_command,
+    driver, is_caching, is_programming, is_shared, judge_address_of, judge_command_of,
+    judge_input_of, judge_output_of, judge_there, output_column, queue_len, register_len,
+    shows_data, wants_command,
 };
 pub use lun_change::{become_array_ready, become_ready, change};
 pub use record::{

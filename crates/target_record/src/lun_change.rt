@@ -4,17 +4,17 @@ ghost use Rattle.onfi_cycle.specs.declared.command.Command.{Command as CommandVa
 ghost use Rattle.onfi_cycle.specs.declared.effect.Effect.{Effect as EffectValue};
 ghost use Rattle.onfi_cycle.specs.declared.latch.Latch.{Latch as LatchValue};
 ghost use Rattle.onfi_cycle.specs.declared.register.Register.{Register as RegisterValue};
-ghost use Rattle.onfi_cycle.specs.Lun.{column_at, has_reads, latch_after, selected_after, overlapped_after, works, queue_after, view_after, page_in_plane, register_of_plane, of_other_planes, held_on, pages_of_reads, is_copyback_read};
+ghost use Rattle.onfi_cycle.specs.Lun.{column_at, has_reads, latch_after, selected_after, overlapped_after, works, queue_after, view_after, page_in_plane, register_of_plane, of_other_planes, held_on, pages_of_reads, is_copyback_read, leaves_array_busy};
 ghost use Rattle.target_record.specs.Record.{IsRecord, lun_of, pages_of, queue_of};
 
-use crate::judging::{closer, is_caching};
+use crate::judging::closer;
 use crate::record::{
     NO_PAGE, NO_ROW, OnfiseqHeld, OnfiseqLun, OnfiseqQueued, closer_byte, flag, held_record,
     held_records, is_set, latch_code, latch_of, page_of, queued_of, queued_record, register_record,
 };
 use onfi_cycle::{
-    Command, Effect, HeldPages, Latch, MAX_PLANES, PageAddress, Queued, Register, RowQueue,
-    apply_to_held, has_reads,
+    Command, Effect, Failures, HeldPages, Latch, MAX_PLANES, PageAddress, Queued, Register,
+    RowQueue, apply_to_held, has_reads, is_cache_program, is_cache_read, keeps_array_busy,
 };
 
 // Its next output gives this column of its register.
@@ -388,6 +388,18 @@ fn queue_work(kept: &mut OnfiseqLun, closer: Command, row: Queued)
     queue_row(kept, row);
 }
 
+// It programs one plane of several: its array goes on with the page of a Page Cache Program before it.
+fn queue_program(kept: &mut OnfiseqLun, page: PageAddress)
+    requires numbers { IsRecord kept.old }
+    requires room { kept.old.queued ≤ 3 }
+    ensures value { lun_of kept.new ≡ view_after (EffectValue.ProgramStarted true page) (lun_of kept.old) }
+    ensures numbers { IsRecord kept.new }
+{
+    let goes_on = keeps_array_busy(closer(kept)) && is_set(kept.array_busy);
+    queue_work(kept, Command::ProgramPlane, Queued::Program(page));
+    kept.array_busy = flag(goes_on);
+}
+
 // Its array works for this closer, which empties its queue.
 #[inline(always)]
 fn start_work(kept: &mut OnfiseqLun, closer: Command)
@@ -585,11 +597,12 @@ pub fn change(kept: &mut OnfiseqLun, effect: Effect)
             start_work(kept, Command::BlockEraseConfirm);
         }
         Effect::ProgramStarted { queued: true, page } => {
-            queue_work(kept, Command::ProgramPlane, Queued::Program(page));
+            queue_program(kept, page);
         }
         Effect::ProgramStarted { queued: false, .. } => {
             start_work(kept, Command::ProgramConfirm);
         }
+        Effect::CacheProgramStarted { .. } => start_work(kept, Command::ProgramCache),
         Effect::IdRead => give_identity(kept, Register::Identifier),
         Effect::IdentityRead { jedec: true } => give_identity(kept, Register::JedecIdentity),
         Effect::IdentityRead { jedec: false } => give_identity(kept, Register::Identity),
@@ -616,28 +629,36 @@ pub fn change(kept: &mut OnfiseqLun, effect: Effect)
         Effect::DataOutput => kept.outputs += 1,
         Effect::ResetStarted => reset(kept),
         Effect::TargetResetStarted { first } => reset_of_target(kept, first),
-        Effect::BecameReady { failed } => become_ready(kept, failed),
-        Effect::ArrayBecameReady => become_array_ready(kept),
+        Effect::BecameReady { fail } => become_ready(kept, fail),
+        Effect::ArrayBecameReady { fail } => become_array_ready(kept, fail),
     }
 }
 
-/// It becomes ready, with failure or without.
-pub fn become_ready(kept: &mut OnfiseqLun, failed: bool)
+// The array goes on with its work behind the ready of this closer.
+fn leaves_array_busy(closer: Option<Command>) -> bool
+    ensures { result ≡ leaves_array_busy closer }
+{
+    is_cache_read(closer) || is_cache_program(closer)
+}
+
+/// It becomes ready, with failures or without.
+pub fn become_ready(kept: &mut OnfiseqLun, fail: Failures)
     requires { IsRecord kept.old }
-    ensures value { lun_of kept.new ≡ view_after (EffectValue.BecameReady failed) (lun_of kept.old) }
+    ensures value { lun_of kept.new ≡ view_after (EffectValue.BecameReady fail) (lun_of kept.old) }
     ensures numbers { IsRecord kept.new }
 {
-    let _failed = failed;
-    let caching = is_caching(kept);
-    kept.array_busy = flag(is_set(kept.array_busy) || is_set(kept.busy) && caching);
+    let _fail = fail;
+    let goes_on = leaves_array_busy(closer(kept));
+    kept.array_busy = flag(is_set(kept.array_busy) || is_set(kept.busy) && goes_on);
     kept.busy = 0;
 }
 
-/// Its array becomes ready.
-pub fn become_array_ready(kept: &mut OnfiseqLun)
+/// Its array becomes ready, with failure or without.
+pub fn become_array_ready(kept: &mut OnfiseqLun, fail: bool)
     requires { IsRecord kept.old }
-    ensures value { lun_of kept.new ≡ view_after EffectValue.ArrayBecameReady (lun_of kept.old) }
+    ensures value { lun_of kept.new ≡ view_after (EffectValue.ArrayBecameReady fail) (lun_of kept.old) }
     ensures numbers { IsRecord kept.new }
 {
+    let _fail = fail;
     kept.array_busy = 0;
 }

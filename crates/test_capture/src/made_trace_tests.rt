@@ -2,7 +2,7 @@
 use crate::reading::items_of;
 use bus_capture::{CaptureForm, CaptureRefusal, Setup, read_capture};
 use nand_geometry::{Geometry, Parts, SMALL_CHIP};
-use onfi_cycle::{BusState, Cycle, Item, Kind};
+use onfi_cycle::{BusState, Cycle, Failures, Item, Kind};
 use std::alloc::Global;
 use std::process::Abort;
 use std::test::Fail;
@@ -42,9 +42,16 @@ fn any_item(seed: &mut u32, targets: u8, luns: u8) -> Item {
         13 | 14 => Item::Rdy {
             ce,
             lun,
-            fail: number % 4 == 0,
+            fail: Failures {
+                last: number % 4 == 0,
+                before: false,
+            },
         },
-        _ => Item::Ard { ce, lun },
+        _ => Item::Ard {
+            ce,
+            lun,
+            fail: false,
+        },
     }
 }
 

@@ -1,7 +1,7 @@
 //! Legal traces of whole sequences, drawn at random: they work on each LUN, which traces of single items seldom do.
 use crate::made_trace_tests::{next, permitted_item};
 use nand_geometry::Geometry;
-use onfi_cycle::{BusState, Cycle, Item, Kind};
+use onfi_cycle::{BusState, Cycle, Failures, Item, Kind};
 use std::alloc::Global;
 use std::test::Fail;
 
@@ -95,11 +95,22 @@ fn become_ready(
     for lun in 0..4u8 {
         let number = next(seed);
         if number % 3 > 0 {
-            let fail = number / 3 % 4 == 0;
+            let fail = Failures {
+                last: number / 3 % 4 == 0,
+                before: false,
+            };
             go_on(items, state, Item::Rdy { ce, lun, fail })?;
         }
         if number / 12 % 3 == 0 {
-            go_on(items, state, Item::Ard { ce, lun })?;
+            go_on(
+                items,
+                state,
+                Item::Ard {
+                    ce,
+                    lun,
+                    fail: false,
+                },
+            )?;
         }
     }
     Ok(())

@@ -5,7 +5,7 @@ ghost use Rattle.std.specs.Prelude.{◌≡◌, None};
 use crate::tests::TWO_ERASES;
 use channel_work::{ChannelState, Finished, Gathered, Readied, Started, Turn, Turns, WorkerPass};
 use lun_lease::{Lease, Loaded};
-use onfi_cycle::{Cycle, Item, Kind, Lun};
+use onfi_cycle::{Cycle, Failures, Item, Kind, Lun};
 use std::marker::Brand;
 use std::sync::Wait;
 use std::sync::ledger::Blank;
@@ -135,8 +135,14 @@ fn make_call<L: Turns, R: Wait>(
     match call {
         Call::Start => start(rt, state, held),
         Call::Turn => turn(state, pass, held),
-        Call::Ready { lun, fail } => tell_readied(state.ready(lun, fail)),
-        Call::ArrayReady { lun } => tell_readied(state.array_ready(lun)),
+        Call::Ready { lun, fail } => tell_readied(state.ready(
+            lun,
+            Failures {
+                last: fail,
+                before: false,
+            },
+        )),
+        Call::ArrayReady { lun } => tell_readied(state.array_ready(lun, false)),
         Call::Park => park(state, held),
         Call::Unpark => unpark(state, held),
         Call::Finish => finish(state, held),
@@ -160,8 +166,8 @@ fn number_of(item: Item) -> u32 {
             Kind::Din => [ce, 2, byte],
             Kind::Dout => [ce, 3, byte],
         },
-        Item::Rdy { ce, lun, fail } => [ce, 4, 2 * (lun % 4) + u8::from(fail)],
-        Item::Ard { ce, lun } => [ce, 5, lun],
+        Item::Rdy { ce, lun, fail } => [ce, 4, 2 * (lun % 4) + u8::from(fail.last)],
+        Item::Ard { ce, lun, .. } => [ce, 5, lun],
     };
     u32::from_be_bytes([0, first, second, third])
 }

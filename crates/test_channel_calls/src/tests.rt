@@ -2,7 +2,7 @@
 ghost use Rattle.std.specs.Prelude.{◌≡◌, None};
 
 use channel_work::{ChannelState, Gate, GatherRefused, Gathered, NamedJob, Turns, WorkerPass};
-use onfi_cycle::Lun;
+use onfi_cycle::{Failures, Lun};
 use std::alloc::Global;
 use std::cell::Cell;
 use std::marker::Brand;
@@ -23,12 +23,16 @@ impl Gate for Open {
         true
     }
 
-    fn ready(&self, _lun: Lun, busy_polls: u64, _works: u64) -> Option<bool> {
-        if busy_polls < 1 { None } else { Some(false) }
+    fn ready(&self, _lun: Lun, busy_polls: u64, _works: u64) -> Option<Failures> {
+        if busy_polls < 1 {
+            None
+        } else {
+            Some(Failures::default())
+        }
     }
 
-    fn array_ready(&self, _lun: Lun, _works: u64) -> bool {
-        true
+    fn array_ready(&self, _lun: Lun, _works: u64) -> Option<bool> {
+        Some(false)
     }
 
     fn closed(&self) -> bool {
@@ -235,11 +239,11 @@ impl Gate for Late {
         left == 0
     }
 
-    fn ready(&self, lun: Lun, busy_polls: u64, works: u64) -> Option<bool> {
+    fn ready(&self, lun: Lun, busy_polls: u64, works: u64) -> Option<Failures> {
         Open.ready(lun, busy_polls, works)
     }
 
-    fn array_ready(&self, lun: Lun, works: u64) -> bool {
+    fn array_ready(&self, lun: Lun, works: u64) -> Option<bool> {
         Open.array_ready(lun, works)
     }
 

@@ -1,6 +1,7 @@
 //! What came of a run, as tests compare it.
 ghost use Rattle.std.specs.Prelude.{◌≡◌, IfOk, slice_get};
 ghost use Rattle.std.specs.Option.{option_map};
+ghost use Rattle.nand_geometry.specs.declared.optional.Profile.TheVariants.{Base};
 ghost use Rattle.trace_text.specs.Trace.{IsTextOf};
 ghost use Rattle.test_channel_scenes.specs.Telling.{told_of};
 
@@ -12,7 +13,7 @@ use trace_text::parse;
 
 /// The items of a text.
 pub fn read_trace(alloc: Global, text: &str) -> Result<Vec<Item>, Fail>
-    ensures { IfOk result (λ trace. IsTextOf text.now trace.items) }
+    ensures { IfOk result (λ trace. IsTextOf Base text.now trace.items) }
 {
     Ok(parse(alloc, text)?)
 }

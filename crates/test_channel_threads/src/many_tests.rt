@@ -193,7 +193,9 @@ fn are_in_order(done: &[NamedJob], count: u64) -> bool {
 fn count_failures(trace: &[Item]) -> u64 {
     let mut failures: u64 = 0;
     for item in trace {
-        if let Item::Rdy { fail: true, .. } = item {
+        if let Item::Rdy { fail, .. } = item
+            && fail.last
+        {
             failures = failures.saturating_add(1);
         }
     }

@@ -2,7 +2,7 @@
 ghost use Rattle.std.specs.Prelude.{◌≡◌, None};
 
 use channel_work::{Channel, ChannelState, Gate, Gathered, NamedJob, Turns, work};
-use onfi_cycle::{Cycle, Item, Kind, Lun};
+use onfi_cycle::{Cycle, Failures, Item, Kind, Lun};
 use std::alloc::Global;
 use std::marker::Brand;
 use std::process::Abort;
@@ -48,12 +48,12 @@ impl Gate for Turnstile {
         true
     }
 
-    fn ready(&self, _lun: Lun, _polls: u64, _works: u64) -> Option<bool> {
-        Some(false)
+    fn ready(&self, _lun: Lun, _polls: u64, _works: u64) -> Option<Failures> {
+        Some(Failures::default())
     }
 
-    fn array_ready(&self, _lun: Lun, _works: u64) -> bool {
-        true
+    fn array_ready(&self, _lun: Lun, _works: u64) -> Option<bool> {
+        Some(false)
     }
 
     fn closed(&self) -> bool {
@@ -141,16 +141,19 @@ impl Gate for Chance {
         self.refused <= self.draw()
     }
 
-    fn ready(&self, _lun: Lun, _polls: u64, _works: u64) -> Option<bool> {
+    fn ready(&self, _lun: Lun, _polls: u64, _works: u64) -> Option<Failures> {
         if self.draw() < self.refused {
             None
         } else {
-            Some(self.draw() < self.failed)
+            Some(Failures {
+                last: self.draw() < self.failed,
+                before: false,
+            })
         }
     }
 
-    fn array_ready(&self, _lun: Lun, _works: u64) -> bool {
-        true
+    fn array_ready(&self, _lun: Lun, _works: u64) -> Option<bool> {
+        Some(false)
     }
 
     fn closed(&self) -> bool {

@@ -3,7 +3,9 @@ ghost use Rattle.std.specs.Prelude.{◌<◌, IfOk};
 use die_model::LunDie;
 use linked_list_allocator::LocalHeap;
 use nand_geometry::{Geometry, Parts, SMALL_CHIP};
-use onfi_cycle::{Cycle, Forbidden, Item, Kind, Latch, Lun, LunState, PageAddress, Register};
+use onfi_cycle::{
+    Cycle, Failures, Forbidden, Item, Kind, Latch, Lun, LunState, PageAddress, Register,
+};
 use std::alloc::{AllocError, Allocator, Global};
 use std::process::Abort;
 use std::test::Fail;
@@ -114,12 +116,17 @@ fn cycle(ce: u8, kind: Kind, high: u8, low: u8) -> Result<Item, Fail> {
 
 fn ready(ce: u8, lun: u8, fail: bool) -> Result<Item, Fail> {
     let lun = digit(lun)?;
+    let fail = Failures {
+        last: fail,
+        before: false,
+    };
     Ok(Item::Rdy { ce, lun, fail })
 }
 
 fn array_ready(ce: u8, lun: u8) -> Result<Item, Fail> {
     let lun = digit(lun)?;
-    Ok(Item::Ard { ce, lun })
+    let fail = false;
+    Ok(Item::Ard { ce, lun, fail })
 }
 
 // `C60` is a command, `A04` an address, `Ia5` an input, `Oe0` an output, `R0` a ready of LUN 0, `F0` one with failure, and `Y0`
@@ -217,7 +224,7 @@ fn answer<A: Allocator + Copy>(bus: &mut Bus<A>, item: Item) -> Told {
     let came = match item {
         Item::Cyc(cycle) => return answer_to_cycle(bus, cycle),
         Item::Rdy { ce, lun, fail } => bus.ready(Lun { ce, lun }, fail),
-        Item::Ard { ce, lun } => bus.array_ready(Lun { ce, lun }),
+        Item::Ard { ce, lun, fail } => bus.array_ready(Lun { ce, lun }, fail),
     };
     if came {
         Told::Came(item)
@@ -699,6 +706,7 @@ const RESTING: LunState = LunState {
     column: None,
     queued: 0,
     caching: false,
+    programming: false,
     array_busy: false,
 };
 
@@ -815,7 +823,7 @@ fn what_a_bus_tells(rt: HostRuntime) -> Result<(), Fail> {
     let failed = bus
         .into_dies()
         .iter()
-        .map(LunDie::has_failed)
+        .map(|die| die.failures().last)
         .collect::<Vec<bool>>(rt.alloc())?;
     assert_eq!(rt; failed.as_slice(), [false, true, false, false].as_slice());
     Ok(())

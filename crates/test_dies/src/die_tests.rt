@@ -5,7 +5,7 @@ ghost use Rattle.onfi_cycle.specs.Rules.{planes_clash};
 
 use die_model::{ImageFault, ImageRefusal, LunDie, Work};
 use nand_geometry::{Geometry, Parts, SMALL_CHIP};
-use onfi_cycle::{PageAddress, Queued, Status};
+use onfi_cycle::{Failures, PageAddress, Queued, Status};
 use std::alloc::{AllocError, Allocator, Global};
 use std::process::Abort;
 use std::test::Fail;
@@ -137,7 +137,10 @@ fn put<A: Allocator + Copy>(
 // Works through to the ready.
 fn end<A: Allocator + Copy>(die: &mut LunDie<A>, work: Work, fail: bool) -> Result<(), Fail> {
     begin(die, work)?;
-    die.finish(fail);
+    die.finish(Failures {
+        last: fail,
+        before: false,
+    });
     Ok(())
 }
 
@@ -252,8 +255,12 @@ enum Try {
     // The register of a plane is filled with FF and one byte.
     Put(usize, usize, u8),
     Begin(Work),
-    // The ready, with failure or without.
+    // The ready, with failure of its own work or without.
     Finish(bool),
+    // The ready, with failure of the page before.
+    FinishBefore,
+    // The ready of the array, with failure or without.
+    FinishArray(bool),
     // A page is read, and the byte of a column is this.
     Read(PageAddress, usize, Option<u8>),
     // The byte of a page that isn't read.
@@ -272,7 +279,15 @@ fn is_done<A: Allocator + Copy>(die: &mut LunDie<A>, wanted: Try) -> Result<bool
         Try::Program(at, column, byte) => program(die, at, column, byte)?,
         Try::Put(plane, column, byte) => put(die, plane, column, byte)?,
         Try::Begin(work) => begin(die, work)?,
-        Try::Finish(fail) => die.finish(fail),
+        Try::Finish(fail) => die.finish(Failures {
+            last: fail,
+            before: false,
+        }),
+        Try::FinishBefore => die.finish(Failures {
+            last: false,
+            before: true,
+        }),
+        Try::FinishArray(fail) => die.finish_array(fail),
         Try::ProgramBlock(block) => program_block(die, block)?,
         _ => return Ok(false),
     }
@@ -356,6 +371,38 @@ const FAILED_ERASE: [Try; 5] = [
     Try::Finish(true),
     Try::Status(0xe1),
     Try::BlockHas(1, 0x11),
+];
+
+// A cache program takes effect at the ready of its array, unless that says that it failed.
+const CACHED_PROGRAM: [Try; 15] = [
+    Try::Put(0, 3, 0x0f),
+    Try::Begin(Work::CacheProgram(ROW_4)),
+    Try::Status(0x80),
+    Try::Finish(false),
+    Try::Status(0xc0),
+    Try::Holds(ROW_4, 3, Some(0xff)),
+    Try::FinishArray(false),
+    Try::Status(0xe0),
+    Try::Holds(ROW_4, 3, Some(0x0f)),
+    Try::Put(0, 3, 0x00),
+    Try::Begin(Work::CacheProgram(ROW_4)),
+    Try::Finish(false),
+    Try::FinishArray(true),
+    Try::Status(0xe1),
+    Try::Holds(ROW_4, 3, Some(0x0f)),
+];
+
+// The ready of the last program says that the page before it failed.
+const FAILED_BEFORE: [Try; 9] = [
+    Try::Put(0, 3, 0x0f),
+    Try::Begin(Work::CacheProgram(ROW_4)),
+    Try::Finish(false),
+    Try::Put(0, 3, 0x33),
+    Try::Begin(Work::Program(ROW_0)),
+    Try::FinishBefore,
+    Try::Status(0xe2),
+    Try::Holds(ROW_4, 3, Some(0xff)),
+    Try::Holds(ROW_0, 3, Some(0x33)),
 ];
 
 const RESET_PROGRAM: [Try; 5] = [
@@ -451,6 +498,8 @@ const WORKS: &[&[Try]] = &[
     &FAILED_PROGRAM,
     &ERASED_BLOCK,
     &FAILED_ERASE,
+    &CACHED_PROGRAM,
+    &FAILED_BEFORE,
     &RESET_PROGRAM,
     &RESET_ERASE,
 ];

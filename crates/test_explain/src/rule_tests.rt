@@ -1,4 +1,4 @@
-use crate::table::{COPIES, PLANE_READS, TWO_LUNS, TWO_PLANES};
+use crate::table::{CACHES, COPIES, GROUP_CACHES, PLANE_READS, TWO_LUNS, TWO_PLANES};
 use micro_asm::assemble;
 use micro_claims::{Fault, Reason};
 use micro_explain::explain;
@@ -50,6 +50,22 @@ const COPY_PROGRAMS: &[&str] = &[
     "cmd 00\naddr 0 5\ncmd 35\nwait\nplane 1\ncmd 00\naddr 0 5\ncmd 35\nwait\nrow 2\ncmd 85\naddr 0 5\ncmd 11\nwait\nplane 0\ncmd 85\naddr 0 5\ncmd 10\nwait\nend 0",
     // A program between two reads, and a copy behind them.
     "cmd 00\naddr 0 5\ncmd 35\nwait\ncmd 80\naddr 0 5\nput 1\ncmd 10\nwait\ncmd 00\naddr 0 5\ncmd 32\nwait\nplane 1\ncmd 00\naddr 0 5\ncmd 35\nwait\ncmd 85\naddr 0 5\ncmd 10\nwait\nend 0",
+];
+
+// Programs for a LUN whose array programs while the next page comes, which the verifier takes.
+const CACHE_PROGRAMS: &[&str] = &[
+    // A read, two pages, of which the first is programmed while the second comes, and an erase.
+    "cmd 00\naddr 0 5\ncmd 30\nwait\ncmd 80\naddr 0 5\nput 1\ncmd 15\nwait\nrow 1\ncmd 80\naddr 0 5\nput 1\ncmd 10\nwait\ncmd 60\naddr 2 3\ncmd d0\nwait\nend 0",
+    // A page, and one of each plane behind it.
+    "cmd 80\naddr 0 5\nput 1\ncmd 15\nwait\nrow 1\ncmd 80\naddr 0 5\nput 1\ncmd 11\nwait\nplane 1\ncmd 80\naddr 0 5\nput 1\ncmd 10\nwait\ncmd 90\naddr 0 1\nend 0",
+    // A copy, and two pages.
+    "cmd 00\naddr 0 5\ncmd 35\nwait\nrow 2\ncmd 85\naddr 0 5\ncmd 10\nwait\ncmd 80\naddr 0 5\nput 1\ncmd 15\nwait\ncmd 80\naddr 0 5\nput 1\ncmd 10\nwait\nend 0",
+];
+
+// The same of a LUN whose array programs pages of both planes so.
+const GROUP_PROGRAMS: &[&str] = &[
+    // A page of each plane, and one behind them.
+    "cmd 80\naddr 0 5\nput 1\ncmd 11\nwait\nplane 1\ncmd 80\naddr 0 5\nput 1\ncmd 15\nwait\nrow 1\ncmd 80\naddr 0 5\nput 1\ncmd 10\nwait\nend 0",
 ];
 
 // How many programs were refused by V7, and of how many the rule was compared.
@@ -220,6 +236,23 @@ fn rules_of_copies_are_those_of_the_model(rt: HostRuntime) -> Result<(), Fail> {
     };
     for program in COPY_PROGRAMS {
         compare_all(rt.alloc(), COPIES, program, &mut counted)?;
+    }
+    assert!(rt; counted.compared >= 100);
+    Ok(())
+}
+
+#[test]
+fn rules_of_cache_programs_are_those_of_the_model(rt: HostRuntime) -> Result<(), Fail> {
+    let mut counted = Counted {
+        refused: 0,
+        compared: 0,
+    };
+    for program in CACHE_PROGRAMS {
+        compare_all(rt.alloc(), CACHES, program, &mut counted)?;
+    }
+    for program in GROUP_PROGRAMS {
+        compare_all(rt.alloc(), CACHES, program, &mut counted)?;
+        compare_all(rt.alloc(), GROUP_CACHES, program, &mut counted)?;
     }
     assert!(rt; counted.compared >= 100);
     Ok(())

@@ -31,3 +31,15 @@ pub(crate) const COPIES: Parts = Parts {
     optional: Optional(0x8e74),
     ..TWO_PLANES
 };
+
+/// The same, whose array programs a page of one plane while the next one comes.
+pub(crate) const CACHES: Parts = Parts {
+    optional: Optional(0x8e75),
+    ..TWO_PLANES
+};
+
+/// The same, whose array programs pages of both planes so.
+pub(crate) const GROUP_CACHES: Parts = Parts {
+    optional: Optional(0xce75),
+    ..TWO_PLANES
+};

@@ -1,5 +1,5 @@
 use linked_list_allocator::LocalHeap;
-use onfi_cycle::{Cycle, Item, Kind};
+use onfi_cycle::{Cycle, Failures, Item, Kind};
 use std::alloc::{AllocError, Allocator};
 use std::test::Fail;
 use trace_text::{
@@ -68,10 +68,20 @@ fn items_with_times(rt: HostRuntime) -> Result<(), Fail> {
             Item::Rdy {
                 ce: 2,
                 lun: 3,
-                fail: true,
+                fail: Failures {
+                    last: true,
+                    before: false,
+                },
             },
         ),
-        timed(18_446_744_073_709_551_615, Item::Ard { ce: 0, lun: 1 }),
+        timed(
+            18_446_744_073_709_551_615,
+            Item::Ard {
+                ce: 0,
+                lun: 1,
+                fail: false,
+            },
+        ),
     ];
     let text = printed(rt.alloc(), &items).ok_or("a chip enable or a LUN above 3")??;
     assert_eq!(rt;
@@ -87,8 +97,26 @@ fn items_with_times(rt: HostRuntime) -> Result<(), Fail> {
 
 #[test]
 fn what_can_be_printed(rt: HostRuntime) {
-    assert!(rt; is_recording_printable(&[timed(9, Item::Ard { ce: 3, lun: 3 })]));
-    assert!(rt; !is_recording_printable(&[timed(9, Item::Ard { ce: 3, lun: 4 })]));
+    assert!(rt;
+        is_recording_printable(&[timed(
+            9,
+            Item::Ard {
+                ce: 3,
+                lun: 3,
+                fail: false
+            }
+        )])
+    );
+    assert!(rt;
+        !is_recording_printable(&[timed(
+            9,
+            Item::Ard {
+                ce: 3,
+                lun: 4,
+                fail: false
+            }
+        )])
+    );
     assert!(rt; !is_recording_printable(&[timed(9, cycle(4, Kind::Cmd, 0x60))]));
 }
 

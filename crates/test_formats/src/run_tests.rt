@@ -9,7 +9,7 @@ const TWO_JOBS: &str = "page g2\ntargets 1\npolls 1\njob 0 0 0 erase - -\njob 0 
 // Each statement, among comments and lines of blanks, and no line feed at the end.
 const EVERYTHING: &str =
     "; a run of \u{e4}\n\n  page\tdata/page.bin ; of the die\ntargets 0000000004\n \t\n\
-    image 3 0 die.img;here\nfail 1 2 1\njob 2 1 4294967295 a.words in.bin out.bin\nfail 1 2 1\n\
+    image 3 0 die.img;here\nfail 1 2 1\njob 2 1 4294967295 a.words in.bin out.bin\nfail 1 2 1 before\n\
     polls 1000\nimage 0 3 die.img\njob 0 0 16 a.words - out.bin";
 
 // The first fault and its line, None where there is none.
@@ -104,6 +104,7 @@ const FILES: &[Read] = &[
                     target: 1,
                     lun: 2,
                     ready: 1,
+                    before: false,
                 },
             },
             Numbered {
@@ -123,6 +124,7 @@ const FILES: &[Read] = &[
                     target: 1,
                     lun: 2,
                     ready: 1,
+                    before: true,
                 },
             },
             Numbered {

@@ -1,9 +1,21 @@
 use linked_list_allocator::LocalHeap;
-use onfi_cycle::{Cycle, Item, Kind};
+use nand_geometry::Profile;
+use onfi_cycle::{Cycle, Failures, Item, Kind};
 use std::alloc::{AllocError, Global};
 use std::process::Abort;
 use std::test::Fail;
-use trace_text::{TraceFault, TraceRefusal, is_printable, parse, print};
+use trace_text::{TraceFault, TraceRefusal, is_printable, parse, parse_in, print};
+
+// What a ready tells.
+const FINE: Failures = Failures {
+    last: false,
+    before: false,
+};
+
+const FAILED: Failures = Failures {
+    last: true,
+    before: false,
+};
 
 // The erase of a block, asked for its status until it is ready.
 const ERASE: &str =
@@ -102,14 +114,18 @@ const WRITTEN: &[(&[Item], &str)] = &[
             Item::Rdy {
                 ce: 2,
                 lun: 3,
-                fail: true,
+                fail: FAILED,
             },
             Item::Rdy {
                 ce: 0,
                 lun: 1,
+                fail: FINE,
+            },
+            Item::Ard {
+                ce: 3,
+                lun: 2,
                 fail: false,
             },
-            Item::Ard { ce: 3, lun: 2 },
             CE_2_OUTPUT,
         ],
         "0 C 80\n3 A 0a\n1 I ff\n2 R 3 1\n0 R 1 0\n3 Y 2\n2 O 09\n",
@@ -126,7 +142,7 @@ const WRITTEN: &[(&[Item], &str)] = &[
             Item::Rdy {
                 ce: 0,
                 lun: 0,
-                fail: false,
+                fail: FINE,
             },
             ASKS,
             IS_READY,
@@ -134,7 +150,14 @@ const WRITTEN: &[(&[Item], &str)] = &[
         ERASE,
     ),
     (&[], ""),
-    (&[Item::Ard { ce: 0, lun: 1 }], "0 Y 1\n"),
+    (
+        &[Item::Ard {
+            ce: 0,
+            lun: 1,
+            fail: false,
+        }],
+        "0 Y 1\n",
+    ),
 ];
 
 fn is_written(rt: &impl Abort, alloc: Global, items: &[Item], text: &str) -> Result<(), Fail> {
@@ -147,6 +170,54 @@ fn is_written(rt: &impl Abort, alloc: Global, items: &[Item], text: &str) -> Res
 fn items_are_read_and_written(rt: HostRuntime) -> Result<(), Fail> {
     for (items, text) in WRITTEN {
         is_written(&rt, rt.alloc(), items, text)?;
+    }
+    Ok(())
+}
+
+// Texts that the profile onfi alone reads, and how the base refuses them.
+const TOLD_MORE: &[(Item, &str, TraceFault)] = &[
+    (
+        Item::Rdy {
+            ce: 0,
+            lun: 1,
+            fail: Failures {
+                last: false,
+                before: true,
+            },
+        },
+        "0 R 1 2\n",
+        TraceFault::BadNumber,
+    ),
+    (
+        Item::Rdy {
+            ce: 3,
+            lun: 0,
+            fail: Failures {
+                last: true,
+                before: true,
+            },
+        },
+        "3 R 0 3\n",
+        TraceFault::BadNumber,
+    ),
+    (
+        Item::Ard {
+            ce: 0,
+            lun: 1,
+            fail: true,
+        },
+        "0 Y 1 1\n",
+        TraceFault::BadShape,
+    ),
+];
+
+#[test]
+fn two_failures_are_read_in_the_profile_onfi(rt: HostRuntime) -> Result<(), Fail> {
+    for (item, text, refused) in TOLD_MORE {
+        let read = parse_in(rt.alloc(), text, Profile::Onfi)?;
+        assert_eq!(rt; read.as_slice(), [*item].as_slice(), "{text}");
+        assert_eq!(rt; printed(rt.alloc(), &[*item])?.as_str(), *text);
+        assert!(rt; parse(rt.alloc(), text).err() == fault(*refused, 1));
     }
     Ok(())
 }
@@ -167,15 +238,23 @@ const FAR: &[Item] = &[
     Item::Rdy {
         ce: 4,
         lun: 0,
-        fail: false,
+        fail: FINE,
     },
     Item::Rdy {
         ce: 0,
         lun: 4,
+        fail: FINE,
+    },
+    Item::Ard {
+        ce: 255,
+        lun: 0,
         fail: false,
     },
-    Item::Ard { ce: 255, lun: 0 },
-    Item::Ard { ce: 0, lun: 4 },
+    Item::Ard {
+        ce: 0,
+        lun: 4,
+        fail: false,
+    },
 ];
 
 #[test]
@@ -183,7 +262,13 @@ fn what_can_be_printed(rt: HostRuntime) {
     for item in FAR {
         assert!(rt; !is_printable(&[CE_3_COMMAND, *item]));
     }
-    assert!(rt; is_printable(&[Item::Ard { ce: 3, lun: 3 }]));
+    assert!(rt;
+        is_printable(&[Item::Ard {
+            ce: 3,
+            lun: 3,
+            fail: false
+        }])
+    );
 }
 
 const MESSAGES: &[(TraceRefusal, &str)] = &[

@@ -3,7 +3,7 @@
 ghost use Rattle.std.specs.Prelude.{◌≡◌, None};
 
 use channel_work::{Gate, Turns};
-use onfi_cycle::Lun;
+use onfi_cycle::{Failures, Lun};
 use std::cell::Cell;
 use std::marker::Brand;
 use std::process::Abort;
@@ -57,18 +57,18 @@ impl Gate for Recorder {
         true
     }
 
-    fn ready(&self, lun: Lun, busy_polls: u64, works: u64) -> Option<bool> {
+    fn ready(&self, lun: Lun, busy_polls: u64, works: u64) -> Option<Failures> {
         self.keep(Asked::Ready(lun, busy_polls, works));
         if busy_polls < self.polls {
             None
         } else {
-            Some(false)
+            Some(Failures::default())
         }
     }
 
-    fn array_ready(&self, lun: Lun, works: u64) -> bool {
+    fn array_ready(&self, lun: Lun, works: u64) -> Option<bool> {
         self.keep(Asked::Array(lun, works));
-        true
+        Some(false)
     }
 
     fn closed(&self) -> bool {

@@ -5,7 +5,7 @@ use die_model::LunDie;
 use micro_verify::verify;
 use micro_word::{Text, Word};
 use nand_geometry::{Geometry, Parts, SMALL_CHIP};
-use onfi_cycle::Lun;
+use onfi_cycle::{Failures, Lun};
 use seq_core::{Core, Job, Stepped};
 use std::alloc::Global;
 use std::process::Abort;
@@ -85,7 +85,7 @@ fn run(core: &mut Core) -> Result<bool, Fail> {
         match core.step(ZERO)? {
             Stepped::Ended => return Ok(true),
             Stepped::NotReady => {
-                core.ready(ZERO, false);
+                core.ready(ZERO, Failures::default());
             }
             _ => {}
         }

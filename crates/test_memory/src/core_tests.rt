@@ -4,7 +4,7 @@ use crate::turns::{Call, Memory, refuse_in_turn};
 use die_model::LunDie;
 use micro_verify::{PlainOp, plain};
 use nand_geometry::{Geometry, SMALL_CHIP};
-use onfi_cycle::{Item, Lun};
+use onfi_cycle::{Failures, Item, Lun};
 use seq_core::{Core, Event, Job, Ran, Reply, Shortage, Stepped, run_events};
 use std::alloc::Global;
 use std::process::Abort;
@@ -118,7 +118,7 @@ fn run_to_end(alloc: Global, core: &mut Core<Memory<'_>>) -> Result<bool, Fail> 
         match answer {
             Stepped::Ended => return Ok(is_short),
             Stepped::NotReady => {
-                if !core.ready(LUN_0, false) {
+                if !core.ready(LUN_0, Failures::default()) {
                     return Err("a LUN that is busy becomes ready".into());
                 }
             }
@@ -251,7 +251,7 @@ fn push_events<'h>(
     events.push(Event::Load(LUN_0, job))?;
     for (place, steps) in STEPS.iter().enumerate() {
         if place > 0 {
-            events.push(Event::Ready(LUN_0, false))?;
+            events.push(Event::Ready(LUN_0, Failures::default()))?;
         }
         for _ in 0..*steps {
             events.push(Event::Step(LUN_0))?;
@@ -371,7 +371,7 @@ fn step_until_short(core: &mut Core<Memory<'_>>) -> u32 {
         if core.step(LUN_0).is_err() {
             return done;
         }
-        core.ready(LUN_0, false);
+        core.ready(LUN_0, Failures::default());
     }
     32
 }
@@ -380,7 +380,7 @@ fn step_until_short(core: &mut Core<Memory<'_>>) -> u32 {
 fn step_so_often(core: &mut Core<Memory<'_>>, count: u32) -> Result<(), Fail> {
     for _ in 0..count {
         core.step(LUN_0)?;
-        core.ready(LUN_0, false);
+        core.ready(LUN_0, Failures::default());
     }
     Ok(())
 }

@@ -9,7 +9,7 @@ use micro_program::Verified;
 use micro_verify::verify;
 use micro_word::{Text, Word};
 use nand_geometry::{Geometry, Parts, SMALL_CHIP};
-use onfi_cycle::{Cycle, Kind, Lun};
+use onfi_cycle::{Cycle, Failures, Kind, Lun};
 use seq_core::{Core, Job, JobFault, JobRefused, LoadFault, Stepped, UnloadFault};
 use std::process::Abort;
 use std::test::Fail;
@@ -151,8 +151,9 @@ fn begins(heap: Memory<'_>, core: &mut Core<Memory<'_>>) -> Result<bool, Fail> {
 // It still runs, and its LUN becomes ready once.
 fn becomes_ready(core: &mut Core<Memory<'_>>) -> bool {
     let still_runs = matches!(core.unload(LUN_0), Err(UnloadFault::StillRunning));
-    let is_ready = core.ready(LUN_0, false) && !core.ready(LUN_0, false);
-    still_runs && is_ready && !core.array_ready(LUN_0)
+    let is_ready = core.ready(LUN_0, Failures::default())
+        && !core.ready(LUN_0, Failures::default());
+    still_runs && is_ready && !core.array_ready(LUN_0, false)
 }
 
 // It ends, and gives its job back.
@@ -218,7 +219,7 @@ fn read_into_cache(bus: &mut Bus<Memory<'_>>, heap: Memory<'_>) -> Result<bool, 
     open_page(bus, 0x00, 0)?;
     bus.put(command(0x30))?;
     heap.refuse(Refusal::Always);
-    let is_ready = bus.ready(LUN_0, false) && !bus.ready(LUN_0, false);
+    let is_ready = bus.ready(LUN_0, Failures::default()) && !bus.ready(LUN_0, Failures::default());
     heap.refuse(Refusal::Never);
     bus.put(command(0x31))?;
     heap.refuse(Refusal::Always);
@@ -229,7 +230,7 @@ fn read_into_cache(bus: &mut Bus<Memory<'_>>, heap: Memory<'_>) -> Result<bool, 
 fn program_two_planes(bus: &mut Bus<Memory<'_>>) -> Result<bool, Fail> {
     open_page(bus, 0x80, 0)?;
     bus.put(command(0x11))?;
-    let is_ready = bus.ready(LUN_0, false);
+    let is_ready = bus.ready(LUN_0, Failures::default());
     open_page(bus, 0x80, 4)?;
     bus.put(command(0x10))?;
     Ok(is_ready)
@@ -246,7 +247,7 @@ fn ends_programs(heap: Memory<'_>) -> Result<bool, Fail> {
     let mut bus = new_bus(heap, TWO_PLANES)?;
     let is_queued = program_two_planes(&mut bus)?;
     heap.refuse(Refusal::Always);
-    Ok(is_queued && bus.ready(LUN_0, false) && !bus.ready(LUN_0, false))
+    Ok(is_queued && bus.ready(LUN_0, Failures::default()) && !bus.ready(LUN_0, Failures::default()))
 }
 
 // A die ends the programs of two planes without memory.
@@ -267,16 +268,16 @@ const CACHED: Parts = Parts {
 fn cache_is_ready(heap: Memory<'_>) -> Result<bool, Fail> {
     let mut bus = new_bus(heap, CACHED)?;
     let is_read = read_into_cache(&mut bus, heap)?;
-    let is_ready = bus.ready(LUN_0, false);
-    Ok(is_read && is_ready && bus.array_ready(LUN_0) && !bus.array_ready(LUN_0))
+    let is_ready = bus.ready(LUN_0, Failures::default());
+    Ok(is_read && is_ready && bus.array_ready(LUN_0, false) && !bus.array_ready(LUN_0, false))
 }
 
 // Whether a new die has no work to end.
 fn die_is_ready(heap: Memory<'_>) -> Result<bool, Fail> {
     let mut die = LunDie::new(heap, Geometry::of(SMALL_CHIP)?)?;
     heap.refuse(Refusal::Always);
-    die.finish(false);
-    die.array_ready();
+    die.finish(Failures::default());
+    die.finish_array(false);
     Ok(die.is_new())
 }
 

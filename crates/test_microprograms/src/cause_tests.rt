@@ -5,7 +5,9 @@ use micro_claims::Reason;
 use micro_verify::{TextRefused, VerifyRefusal, verify};
 use micro_word::{Text, Word};
 use nand_geometry::{Geometry, Parts, SMALL_CHIP};
-use onfi_cycle::{Command, Cycle, DataPhase, Forbidden, Item, Kind, Lun, Opening, TailFacts};
+use onfi_cycle::{
+    Command, Cycle, DataPhase, Failures, Forbidden, Item, Kind, Lun, Opening, TailFacts,
+};
 use oracle_onfi::broken;
 use oracle_onfi::past::{array_page, is_busy, is_caching, queue, tail_facts};
 use std::alloc::{AllocError, Global};
@@ -128,7 +130,7 @@ fn wait(alloc: Global, geometry: &Geometry, run: &mut Run, word: Word) -> Result
         run.items.push(Item::Rdy {
             ce: 0,
             lun: 0,
-            fail: false,
+            fail: Failures::default(),
         })?;
     }
     Ok(())

@@ -4,7 +4,7 @@ use die_model::LunDie;
 use micro_verify::verify;
 use micro_word::{Text, Word};
 use nand_geometry::{Geometry, Parts};
-use onfi_cycle::Lun;
+use onfi_cycle::{Failures, Lun};
 use seq_core::{Core, Job, Stepped};
 use std::alloc::Global;
 use std::test::Fail;
@@ -110,12 +110,20 @@ pub(crate) fn load(
     }
 }
 
+/// What a ready tells: that the work failed, or nothing.
+pub(crate) const fn told(fail: bool) -> Failures {
+    Failures {
+        last: fail,
+        before: false,
+    }
+}
+
 /// One step of a LUN, which becomes ready after a poll that says busy, with its array.
 pub(crate) fn turn(core: &mut Core, lun: Lun, fail: bool) -> Result<Stepped, Fail> {
     let stepped = core.step(lun)?;
     if stepped == Stepped::NotReady {
-        core.ready(lun, fail);
-        core.array_ready(lun);
+        core.ready(lun, told(fail));
+        core.array_ready(lun, false);
     }
     Ok(stepped)
 }

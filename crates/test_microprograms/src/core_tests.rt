@@ -1,9 +1,10 @@
+use crate::channel::told;
 use die_model::LunDie;
 use micro_program::Verified;
 use micro_verify::verify;
 use micro_word::{Text, Word};
 use nand_geometry::{Geometry, Parts, SMALL_CHIP};
-use onfi_cycle::{BusState, Cycle, Item, Kind, Latch, Lun, LunState, Register};
+use onfi_cycle::{BusState, Cycle, Failures, Item, Kind, Latch, Lun, LunState, Register};
 use seq_core::{
     Core, Event, Job, JobFault, JobRefused, LoadFault, Ran, Reply, Stepped, UnloadFault,
     UnloadedJob, run_events,
@@ -115,11 +116,22 @@ const ERASE_OF_BLOCK_1: [Item; 10] = [
     Item::Rdy {
         ce: 0,
         lun: 0,
-        fail: false,
+        fail: NO_FAILURES,
     },
     ASKS,
     IS_READY,
 ];
+
+// What readies tell: of no failure, and of the work's.
+const NO_FAILURES: Failures = Failures {
+    last: false,
+    before: false,
+};
+
+const FAILED: Failures = Failures {
+    last: true,
+    before: false,
+};
 
 // Its items up to the first poll.
 const BEGINNING: [Item; 7] = [OPENS, BLOCK_1, ZEROS, ZEROS, STARTS, ASKS, IS_BUSY];
@@ -129,7 +141,7 @@ const FAILURE: [Item; 3] = [
     Item::Rdy {
         ce: 0,
         lun: 0,
-        fail: true,
+        fail: FAILED,
     },
     ASKS,
     HAS_FAILED,
@@ -150,7 +162,7 @@ const ERASE_OF_LUN_1: [Item; 16] = [
     Item::Rdy {
         ce: 0,
         lun: 1,
-        fail: false,
+        fail: NO_FAILURES,
     },
     ASKS_BY_ROW,
     IN_LUN_1,
@@ -362,7 +374,7 @@ fn is_legal(parts: Parts, targets: u8, items: &[Item]) -> Result<bool, Fail> {
 // No array becomes ready.
 fn no_array_works<A: Allocator + Copy>(core: &mut Core<A>) -> bool {
     for lun in [ZERO, ONE, NEXT] {
-        if core.array_ready(lun) {
+        if core.array_ready(lun, false) {
             return false;
         }
     }
@@ -464,7 +476,7 @@ fn comes<A: Allocator + Copy>(alloc: A, core: &mut Core<A>, wanted: Try) -> Resu
         ),
         Try::Admitted(parts, lun) => Ok(admitted(alloc, core, lun, parts, lun)?.is_ok()),
         Try::Steps(answers) => are_answered(core, answers),
-        Try::Ready(lun, fail, came) => Ok(core.ready(lun, fail) == came),
+        Try::Ready(lun, fail, came) => Ok(core.ready(lun, told(fail)) == came),
         Try::NoArray => Ok(no_array_works(core)),
         Try::Unload(lun, answer) => Ok(is_unloaded(core, lun, answer)),
         Try::Legal(parts, targets) => is_legal(parts, targets, core.trace()),
@@ -752,6 +764,7 @@ const IDLE: LunState = LunState {
     column: None,
     queued: 0,
     caching: false,
+    programming: false,
     array_busy: false,
 };
 
@@ -772,7 +785,7 @@ fn events_of_one<A: Allocator + Copy>(alloc: A) -> Result<Vec<Event<A>, A>, Fail
     for _ in 0..4 {
         events.push(Event::Step(ZERO))?;
     }
-    events.push(Event::Ready(ZERO, false))?;
+    events.push(Event::Ready(ZERO, NO_FAILURES))?;
     events.push(Event::Step(ZERO))?;
     events.push(Event::Step(ZERO))?;
     events.push(Event::Unload(ZERO))?;

@@ -1,4 +1,4 @@
-use crate::channel::{Program, core_of, job_of};
+use crate::channel::{Program, core_of, job_of, told};
 use crate::live_tests::Dies;
 use crate::noted_pins::{NotedChips, are_cycles_of};
 use micro_word::Word;
@@ -68,7 +68,7 @@ impl Chips {
         if self.polls % 3 == 0 {
             for lun in 0..TWO_LUNS.luns {
                 if self.dead != Some(lun) {
-                    self.dies.bus.ready(Lun { ce: 0, lun }, false);
+                    self.dies.bus.ready(Lun { ce: 0, lun }, told(false));
                 }
             }
         }

@@ -1,7 +1,7 @@
-use crate::channel::{Program, core_of, job_of, turn};
+use crate::channel::{Program, core_of, job_of, told, turn};
 use crate::programs::{made, made_with_ways, next};
 use nand_geometry::{Geometry, Parts, SMALL_CHIP};
-use onfi_cycle::{BusState, Cycle, Item, Kind, Lun};
+use onfi_cycle::{BusState, Cycle, Item, Kind, Lun, Status};
 use seq_core::{Core, Stepped};
 use seq_live::{Begun, Live, OutOfTurn, Pins, step_on};
 use std::alloc::Global;
@@ -117,7 +117,7 @@ impl WildChips {
     // The step of a LUN is over: the readies that its status shows, and then its cycles, none of which may break a rule.
     fn settle(&mut self, lun: Lun) {
         if self.is_poll && self.answer & 0x40 != 0 {
-            let fail = self.answer & 1 != 0;
+            let fail = Status(self.answer).failures();
             self.go_on(Item::Rdy {
                 ce: lun.ce,
                 lun: lun.lun,
@@ -127,6 +127,7 @@ impl WildChips {
                 self.go_on(Item::Ard {
                     ce: lun.ce,
                     lun: lun.lun,
+                    fail: false,
                 });
             }
         }
@@ -211,8 +212,8 @@ fn live_turn(live: &mut Live, dies: &mut Dies, lun: Lun) -> Result<Stepped, Fail
     let mut taken = [0u8; 8];
     let stepped = step_on(live, dies, lun, taken.as_mut_slice())?;
     if stepped == Stepped::NotReady {
-        dies.bus.ready(lun, false);
-        dies.bus.array_ready(lun);
+        dies.bus.ready(lun, told(false));
+        dies.bus.array_ready(lun, false);
     }
     Ok(stepped)
 }

@@ -1,4 +1,4 @@
-use crate::channel::{Program, core_of, job_of};
+use crate::channel::{Program, core_of, job_of, told};
 use crate::programs::{made, made_with_ways, next};
 use nand_geometry::{Geometry, Parts, SMALL_CHIP};
 use onfi_cycle::Lun;
@@ -136,10 +136,10 @@ fn run_at_random(core: &mut Core, seed: &mut u32, luns: u8) -> Result<(), Fail> 
             };
             match next(seed) % 4 {
                 0 => {
-                    core.ready(lun, next(seed) % 4 == 0);
+                    core.ready(lun, told(next(seed) % 4 == 0));
                 }
                 1 => {
-                    core.array_ready(lun);
+                    core.array_ready(lun, false);
                 }
                 _ => {
                     core.step(lun)?;

@@ -1,11 +1,12 @@
 use crate::made::{
-    CACHED, COPYING, ELSEWHERE, Operations, PLAIN, PLANED, READING, SELECTING, SHARED, WIDE, made,
+    CACHED, CACHING, COPYING, ELSEWHERE, Operations, PLAIN, PLANED, READING, SELECTING, SHARED,
+    WIDE, made,
 };
 use die_model::LunDie;
 use nand_geometry::{Geometry, Optional, Parts, SMALL_CHIP};
 use onfi_cycle::{
     Cycle, Forbidden, Item, Kind, Lun, LunFacts, LunState, PageAddress, Queued, WorkQueue,
-    is_cache_read, judge,
+    is_cache_program, is_cache_read, judge, keeps_array_busy,
 };
 use oracle_onfi::WrittenPage;
 use oracle_onfi::content::{content, driven_byte};
@@ -83,6 +84,18 @@ const COPYING_LUN: Parts = Parts {
     ..TWO_PLANES
 };
 
+// The same with program cache.
+const CACHING_LUN: Parts = Parts {
+    optional: Optional(0xc051),
+    ..TWO_PLANES
+};
+
+// Two LUNs of it, where several planes aren't programmed so.
+const CACHING_LUNS: Parts = Parts {
+    optional: Optional(0x8001),
+    ..TWO_LUNS
+};
+
 // A kind of traces: a channel of so many targets, the operations on it, and how many items a trace has at most.
 type Traces = (Parts, u8, Operations, usize);
 
@@ -100,6 +113,11 @@ const TRACES: [Traces; 13] = [
     (WIDE_CACHED, 1, SELECTING, 26),
     (WIDE_READING, 1, READING, 26),
     (COPYING_LUN, 1, COPYING, 26),
+];
+
+const CACHING_TRACES: [Traces; 2] = [
+    (CACHING_LUN, 1, CACHING, 26),
+    (CACHING_LUNS, 1, CACHING, 24),
 ];
 
 // The facts of the LUNs of each target, by the look back.
@@ -130,7 +148,7 @@ struct Counts {
     permitted: u32,
     bytes: u32,
     changed: u32,
-    rules: [u32; 17],
+    rules: [u32; 18],
 }
 
 // The item is an output of a byte that is no status and not FF.
@@ -239,7 +257,7 @@ fn answer(bus: &mut Bus, item: Item) -> Result<Told, Fail> {
     let came = match item {
         Item::Cyc(cycle) => return answer_to_cycle(bus, cycle),
         Item::Rdy { ce, lun, fail } => bus.ready(Lun { ce, lun }, fail),
-        Item::Ard { ce, lun } => bus.array_ready(Lun { ce, lun }),
+        Item::Ard { ce, lun, fail } => bus.array_ready(Lun { ce, lun }, fail),
     };
     if came {
         Ok(Told::Came(item))
@@ -309,6 +327,12 @@ fn wanted(
 
 // ---- both beside one another
 
+// The LUN programs behind a Page Cache Program, or its array does.
+fn is_programming(facts: &LunFacts<Vec<Queued>>) -> bool {
+    facts.busy && is_cache_program(facts.closer)
+        || facts.array_busy && keeps_array_busy(facts.closer)
+}
+
 // The running state of a LUN is what the look back tells of it.
 fn lun_agrees(told: LunState, facts: &LunFacts<Vec<Queued>>) -> bool {
     told.busy == facts.busy
@@ -317,6 +341,7 @@ fn lun_agrees(told: LunState, facts: &LunFacts<Vec<Queued>>) -> bool {
         && told.column.map(u64::from) == facts.column.output_column()
         && told.queued == facts.queue.works().len()
         && told.caching == is_cache_read(facts.closer)
+        && told.programming == is_programming(facts)
         && told.array_busy == facts.array_busy
 }
 
@@ -429,7 +454,7 @@ impl Counts {
             permitted: 0,
             bytes: 0,
             changed: 0,
-            rules: [0; 17],
+            rules: [0; 18],
         }
     }
 
@@ -520,13 +545,23 @@ fn play_all(
     Ok(())
 }
 
+// Each rule was broken, but that of cache programs.
+fn breaks_rules(counts: &Counts) -> bool {
+    for (place, count) in counts.rules.iter().enumerate() {
+        if place != Forbidden::CacheProgramMisplaced as usize && *count < 40 {
+            return false;
+        }
+    }
+    true
+}
+
 // Enough of each was played: items, a third of them permitted, bytes, pages that were changed, and each rule broken.
 fn are_enough(counts: &Counts) -> bool {
     counts.items >= 20_000
         && counts.permitted >= counts.items / 3
         && counts.bytes >= 250
         && counts.changed >= 120
-        && counts.rules.iter().all(|count| *count >= 40)
+        && breaks_rules(counts)
 }
 
 #[test]
@@ -537,5 +572,25 @@ fn the_bus_agrees_with_a_look_back(rt: HostRuntime) -> Result<(), Fail> {
         play_all(&rt, rt.alloc(), traces, &mut seed, &mut counts)?;
     }
     assert!(rt; are_enough(&counts), "{counts:?}");
+    Ok(())
+}
+
+// Enough was played where programs go on behind their ready: items, a third of them permitted, pages that were changed, and its rule broken.
+fn are_enough_of_caching(counts: &Counts) -> bool {
+    let broken = counts.rules[Forbidden::CacheProgramMisplaced as usize];
+    counts.items >= 4_000
+        && counts.permitted >= counts.items / 3
+        && counts.changed >= 30
+        && broken >= 20
+}
+
+#[test]
+fn cache_programs_agree_with_a_look_back(rt: HostRuntime) -> Result<(), Fail> {
+    let mut seed = 0x2545_f491;
+    let mut counts = Counts::new();
+    for traces in &CACHING_TRACES {
+        play_all(&rt, rt.alloc(), traces, &mut seed, &mut counts)?;
+    }
+    assert!(rt; are_enough_of_caching(&counts), "{counts:?}");
     Ok(())
 }

@@ -3,7 +3,7 @@ use die_model::LunDie;
 use micro_verify::verify;
 use micro_word::{Text, Word};
 use nand_geometry::{Geometry, Parts, SMALL_CHIP};
-use onfi_cycle::Lun;
+use onfi_cycle::{Failures, Lun};
 use seq_core::{Core, Event, Job, run_events};
 use std::alloc::Global;
 use std::process::Abort;
@@ -73,8 +73,8 @@ fn events_in_turn(alloc: Global, parts: Parts, one: Lun, other: Lun) -> Result<V
         events.push(Event::Step(one))?;
         events.push(Event::Step(other))?;
     }
-    events.push(Event::Ready(one, false))?;
-    events.push(Event::Ready(other, false))?;
+    events.push(Event::Ready(one, Failures::default()))?;
+    events.push(Event::Ready(other, Failures::default()))?;
     for _ in 0..3 {
         events.push(Event::Step(one))?;
         events.push(Event::Step(other))?;

@@ -1,5 +1,5 @@
 //! Made items: operations at a random place, of which some are spoilt.
-use onfi_cycle::{Cycle, Item, Kind};
+use onfi_cycle::{Cycle, Failures, Item, Kind};
 use std::alloc::{AllocError, Global};
 
 /// A part of an operation.
@@ -16,6 +16,9 @@ pub enum Part {
     Output,
     Ready,
     ArrayReady,
+    // A ready that may tell of the page before, and one of the array that may tell of its page.
+    ReadyOfTwo,
+    ArrayEnd,
     // A ready of the LUN of this number.
     ReadyOf(u8),
 }
@@ -23,7 +26,10 @@ pub enum Part {
 /// The operations of which a trace is made.
 pub type Operations = [&'static [Part]; 16];
 
-use Part::{Address, ArrayReady, Column, Command, Input, OtherPlane, Output, Ready, ReadyOf, Row};
+use Part::{
+    Address, ArrayEnd, ArrayReady, Column, Command, Input, OtherPlane, Output, Ready, ReadyOf,
+    ReadyOfTwo, Row,
+};
 
 const READ: [Part; 9] = [
     Command(0x00),
@@ -645,6 +651,128 @@ const COPY_BEHIND: [Part; 5] = [Command(0x85), Column, OtherPlane, Command(0x10)
 
 const PROGRAM_BEHIND: [Part; 5] = [Command(0x80), Column, OtherPlane, Command(0x10), Ready];
 
+// Two pages of a program that goes on, and what the first one holds then.
+const CACHE_PROGRAMS: [Part; 20] = [
+    Command(0x80),
+    Column,
+    Row,
+    Input,
+    Command(0x15),
+    ReadyOfTwo,
+    Command(0x80),
+    Column,
+    OtherPlane,
+    Input,
+    Command(0x10),
+    ReadyOfTwo,
+    Command(0x00),
+    Column,
+    Row,
+    Command(0x30),
+    Ready,
+    Output,
+    Output,
+    Output,
+];
+
+// One page, whose array is waited for.
+const CACHE_AND_WAIT: [Part; 17] = [
+    Command(0x80),
+    Column,
+    Row,
+    Input,
+    Command(0x15),
+    ReadyOfTwo,
+    Command(0x70),
+    Output,
+    ArrayEnd,
+    Output,
+    Command(0x00),
+    Column,
+    Row,
+    Command(0x30),
+    Ready,
+    Output,
+    Output,
+];
+
+// One whose array goes on, and the end of such a program.
+const CACHE_ONE: [Part; 6] = [Command(0x80), Column, Row, Input, Command(0x15), ReadyOfTwo];
+
+// What may not be asked meanwhile.
+const CACHE_AND_ASK: [Part; 10] = [
+    Command(0x80),
+    Column,
+    Row,
+    Input,
+    Command(0x15),
+    ReadyOfTwo,
+    Command(0x90),
+    Command(0xec),
+    Command(0x70),
+    Output,
+];
+
+const END_OF_CACHE: [Part; 8] = [
+    Command(0x80),
+    Column,
+    Row,
+    Input,
+    Command(0x10),
+    ReadyOfTwo,
+    Command(0x70),
+    Output,
+];
+
+// A page in each of two planes.
+const CACHE_PLANES: [Part; 13] = [
+    Command(0x80),
+    Column,
+    Row,
+    Input,
+    Command(0x11),
+    ReadyOfTwo,
+    Command(0x80),
+    Column,
+    OtherPlane,
+    Input,
+    Command(0x15),
+    ReadyOfTwo,
+    ArrayEnd,
+];
+
+// A reset while the array programs.
+const RESET_CACHE: [Part; 8] = [
+    Command(0x80),
+    Column,
+    Row,
+    Input,
+    Command(0x15),
+    ReadyOfTwo,
+    Command(0xff),
+    Ready,
+];
+
+/// Those with programs that go on behind their ready.
+pub const CACHING: Operations = [
+    &PROGRAM_AND_READ,
+    &CACHE_PROGRAMS,
+    &CACHE_PROGRAMS,
+    &CACHE_PROGRAMS,
+    &CACHE_AND_WAIT,
+    &CACHE_AND_WAIT,
+    &CACHE_ONE,
+    &CACHE_AND_ASK,
+    &END_OF_CACHE,
+    &END_OF_CACHE,
+    &CACHE_PLANES,
+    &CACHE_PLANES,
+    &RESET_CACHE,
+    &QUEUE_PROGRAM,
+    &COPY_AND_READ,
+    &ENDING,
+];
+
 /// Those with copies of pages.
 pub const COPYING: Operations = [
     &PROGRAM_AND_READ,
@@ -762,14 +890,32 @@ fn push_part(
         Part::Input => items.push(cycle(ce, Kind::Din, INPUTS[(next(seed) % 8) as usize]))?,
         Part::Output => items.push(cycle(ce, Kind::Dout, 0))?,
         Part::Ready => {
-            let fail = next(seed) % 5 == 0;
+            let fail = Failures {
+                last: next(seed) % 5 == 0,
+                before: false,
+            };
             items.push(Item::Rdy { ce, lun, fail })?;
         }
-        Part::ArrayReady => items.push(Item::Ard { ce, lun })?,
-        Part::ReadyOf(lun) => items.push(Item::Rdy {
+        Part::ArrayReady => items.push(Item::Ard {
             ce,
             lun,
             fail: false,
+        })?,
+        Part::ReadyOfTwo => {
+            let fail = Failures {
+                last: next(seed) % 5 == 0,
+                before: next(seed) % 3 == 0,
+            };
+            items.push(Item::Rdy { ce, lun, fail })?;
+        }
+        Part::ArrayEnd => {
+            let fail = next(seed) % 3 == 0;
+            items.push(Item::Ard { ce, lun, fail })?;
+        }
+        Part::ReadyOf(lun) => items.push(Item::Rdy {
+            ce,
+            lun,
+            fail: Failures::default(),
         })?,
     }
     Ok(())
@@ -822,12 +968,16 @@ fn spoilt(seed: &mut u32, item: Item) -> Item {
                 lun: lun ^ 1,
                 fail,
             },
-            _ => Item::Ard { ce, lun },
+            _ => Item::Ard {
+                ce,
+                lun,
+                fail: false,
+            },
         },
-        Item::Ard { ce, lun } => Item::Rdy {
+        Item::Ard { ce, lun, .. } => Item::Rdy {
             ce,
             lun,
-            fail: false,
+            fail: Failures::default(),
         },
     }
 }

@@ -49,7 +49,7 @@ fn on_target(item: Item, ce: u8) -> Item {
             Item::Cyc(cycle)
         }
         Item::Rdy { lun, fail, .. } => Item::Rdy { ce, lun, fail },
-        Item::Ard { lun, .. } => Item::Ard { ce, lun },
+        Item::Ard { lun, fail, .. } => Item::Ard { ce, lun, fail },
     }
 }
 
@@ -117,7 +117,7 @@ pub(crate) fn luns_agree(
 fn state_agrees(rt: HostRuntime) -> Result<(), Fail> {
     let mut seed = 0x2545_f491;
     let mut permitted: u32 = 0;
-    let mut told = [0u32; 17];
+    let mut told = [0u32; 18];
     for number in 0..2_000 {
         let geometry = Geometry::of(if number % 4 == 0 { ONE_LUN } else { TWO_LUNS })?;
         let mut state = BusState::new(geometry, TARGETS);

@@ -2,7 +2,7 @@
 ghost use Rattle.std.specs.Prelude.{◌<◌, IfOk};
 
 use nand_geometry::{Geometry, Optional, Parts, SMALL_CHIP};
-use onfi_cycle::{Cycle, Forbidden, Item, Kind, TargetCycle, judge, judge_known_cycle};
+use onfi_cycle::{Cycle, Failures, Forbidden, Item, Kind, TargetCycle, judge, judge_known_cycle};
 use oracle_onfi::past::{luns_of, tail_facts};
 use std::alloc::{AllocError, Global};
 use std::process::Abort;
@@ -104,12 +104,17 @@ fn cycle(kind: Kind, high: u8, low: u8) -> Result<Item, Fail> {
 
 fn ready(lun: u8, fail: bool) -> Result<Item, Fail> {
     let lun = digit(lun)?;
+    let fail = Failures {
+        last: fail,
+        before: false,
+    };
     Ok(Item::Rdy { ce: 0, lun, fail })
 }
 
 fn array_ready(lun: u8) -> Result<Item, Fail> {
     let lun = digit(lun)?;
-    Ok(Item::Ard { ce: 0, lun })
+    let fail = false;
+    Ok(Item::Ard { ce: 0, lun, fail })
 }
 
 /// `C60` is a command, `A04` an address, `Ia5` an input, `Oe0` an output, `R0` a ready of LUN 0, `F0` one with

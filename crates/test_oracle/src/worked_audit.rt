@@ -1,7 +1,7 @@
 //! Worked rows that were derived by hand, each before it was run.
 use crate::worked::{CACHED, ONE_LUN, TWO_CACHED, TWO_LUNS, first_broken, past_of, trace};
 use nand_geometry::{Geometry, Parts};
-use onfi_cycle::{Cycle, Forbidden, Item, Kind, Lun, PageAddress};
+use onfi_cycle::{Cycle, Failures, Forbidden, Item, Kind, Lun, PageAddress};
 use oracle_onfi::WrittenPage;
 use oracle_onfi::content::{content, driven_byte, shown, status};
 use oracle_onfi::past::is_busy;
@@ -125,7 +125,7 @@ fn resets_by_hand(rt: HostRuntime) -> Result<(), Fail> {
         Item::Rdy {
             ce: 0,
             lun: 0,
-            fail: false,
+            fail: Failures::default(),
         },
     )?;
     let bytes = content(rt.alloc(), &one, &opening, &past, LUN_0, PAGE_1)?;

@@ -4,7 +4,7 @@ use crate::worked::{
     TWO_PLANES, TWO_SELECTING, UNEVEN, first_broken, trace,
 };
 use nand_geometry::{Geometry, Parts};
-use onfi_cycle::{Cycle, Forbidden, Item, Kind};
+use onfi_cycle::{Cycle, Failures, Forbidden, Item, Kind};
 use oracle_onfi::{broken, check};
 use std::alloc::Global;
 use std::process::Abort;
@@ -562,7 +562,10 @@ const THERE: Item = Item::Cyc(Cycle {
 const BECOMES_READY: Item = Item::Rdy {
     ce: 1,
     lun: 0,
-    fail: false,
+    fail: Failures {
+        last: false,
+        before: false,
+    },
 };
 
 /// How many targets there are, and what is told of an item behind a 60h for target 0.
@@ -571,7 +574,15 @@ const BEHIND_60: &[(u8, Item, Option<Forbidden>)] = &[
     (2, HERE, Some(Forbidden::SequenceOpen)),
     (1, THERE, Some(Forbidden::NotThere)),
     (1, BECOMES_READY, Some(Forbidden::NotThere)),
-    (1, Item::Ard { ce: 1, lun: 0 }, Some(Forbidden::NotThere)),
+    (
+        1,
+        Item::Ard {
+            ce: 1,
+            lun: 0,
+            fail: false,
+        },
+        Some(Forbidden::NotThere),
+    ),
     (2, BECOMES_READY, Some(Forbidden::NotThere)),
 ];
 

@@ -1,4 +1,4 @@
-use crate::table::{COPIES, PLAIN, TWO_LUNS, Try, differences};
+use crate::table::{CACHES, COPIES, PLAIN, TWO_LUNS, Try, differences};
 use std::test::Fail;
 
 const ON_TWO: Try<'static> = Try {
@@ -89,6 +89,41 @@ const COPYING: [Try<'static>; 3] = [
 #[test]
 fn programs_that_copy(rt: HostRuntime) -> Result<(), Fail> {
     assert_eq!(rt; differences(rt.alloc(), &COPYING)?.as_str(), "");
+    Ok(())
+}
+
+// Programs that end, read and program a group while the array may program behind `cmd 15`, or close a copy by it.
+const CACHING: [Try<'static>; 4] = [
+    Try {
+        parts: CACHES,
+        words: "cmd 80\naddr 0 5\nput 1\ncmd 15\nwait\nend 0",
+        told: "V14 at 5: V14 at 5 after 11 items, legal",
+        ..PLAIN
+    },
+    Try {
+        parts: CACHES,
+        words: "cmd 80\naddr 0 5\nput 1\ncmd 15\nwait\ncmd 00\naddr 0 5\ncmd 30\nwait\nend 0",
+        told: "V7 at 6: V7 at 6 after 16 items, F16 at 16",
+        ..PLAIN
+    },
+    Try {
+        parts: CACHES,
+        words: "cmd 80\naddr 0 5\nput 1\ncmd 11\nwait\nplane 1\ncmd 80\naddr 0 5\nput 1\ncmd 15\nwait\nend 0",
+        told: "V7 at 9: V7 at 9 after 18 items, F16 at 18",
+        ..PLAIN
+    },
+    Try {
+        parts: CACHES,
+        rows: 5,
+        words: "cmd 00\naddr 0 5\ncmd 35\nwait\nrow 4\ncmd 85\naddr 0 5\ncmd 15\nwait\nend 0",
+        told: "V7 at 7: V7 at 7 after 16 items, F17 at 16",
+        ..PLAIN
+    },
+];
+
+#[test]
+fn programs_of_caches(rt: HostRuntime) -> Result<(), Fail> {
+    assert_eq!(rt; differences(rt.alloc(), &CACHING)?.as_str(), "");
     Ok(())
 }
 

@@ -31,6 +31,12 @@ pub(crate) const COPIES: Parts = Parts {
     ..ONE_LUN
 };
 
+/// The same, whose array programs a page of one plane while the next one comes.
+pub(crate) const CACHES: Parts = Parts {
+    optional: Optional(0x8e75),
+    ..COPIES
+};
+
 /// A program in assembly text, and what is told of its run.
 #[derive(Clone, Copy)]
 pub(crate) struct Try<'a> {

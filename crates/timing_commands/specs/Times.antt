@@ -2,6 +2,7 @@
 use Rattle.std.specs.Prelude.{◌≡◌, ◌⊎◌, ◌++◌, [], ◌∷◌, ◌==◌, ℕ, Bool, true, false, List, Option, None, Ok, map, take}
 use Rattle.seq_files.specs.Store.{Store, Holds}
 use Rattle.nand_geometry.specs.declared.parts.Parts.{Parts}
+use Rattle.nand_geometry.specs.declared.optional.Profile.{Profile}
 use Rattle.nand_geometry.specs.Reading.{read_as}
 use Rattle.trace_text.specs.declared.recorded_item.RecordedItem.{RecordedItem}
 use Rattle.trace_text.specs.Recorded.{recorded_items}
@@ -62,8 +63,8 @@ abbrev pub timed_of : RecordedItem → TimedItem
 timed_of r = record { time = r.time; item = r.item }
 
 -- the items of a recorded text with their times
-abbrev pub HasTimes : List ℕ → List TimedItem → Type 0
-HasTimes text timed = (items : List RecordedItem) × (recorded_items text ≡ Ok items) × (timed ≡ map timed_of items)
+abbrev pub HasTimes : Profile → List ℕ → List TimedItem → Type 0
+HasTimes profile text timed = (items : List RecordedItem) × (recorded_items profile text ≡ Ok items) × (timed ≡ map timed_of items)
 
 abbrev pub item_of : TimedItem → Item
 item_of i = i.item
@@ -116,7 +117,7 @@ pub record AreJudged (files : Option Store) (request : TimesRequest) (told : Lis
   pub text : List ℕ
   pub judged : IsJudgedFile files files (uncopied request.check) g text told assumed
   pub items : List RecordedItem
-  pub is_read : recorded_items text ≡ Ok items
+  pub is_read : recorded_items request.check.profile text ≡ Ok items
   pub late_is : AreLate request g timings longest (map timed_of items) told late
 
 -- the trace is legal and keeps its times, with readies that are taken for granted and may be, or may not
@@ -136,7 +137,7 @@ RefusesTiming files _ _ = ⊥
 -- the text of the trace has a fault, or the timing file has
 abbrev pub RefusesTimes : Option Store → TimesRequest → RecordingFault → Type 0
 RefusesTimes files request fault =
-    (FileIsRefused files request.check.form request.check.input.now fault) ⊎ RefusesTiming files request.source fault
+    (FileIsRefused files request.check.form request.check.profile request.check.input.now fault) ⊎ RefusesTiming files request.source fault
 
 -- the first of these is what is wrong with the trace
 abbrev pub IsFirst : List BrokenRule → List Violation → RecordingFault → Type 0

@@ -21,7 +21,7 @@ use crate::telling::{fault_of, faulty_text, say_times};
 use crate::times_request::TimesRequest;
 use crate::timing_reading::limits_at;
 use busy_times::{BusyRuler, find_overruns, put_in_order};
-use nand_geometry::Geometry;
+use nand_geometry::{Geometry, Profile};
 use onfi_cycle::Item;
 use seq_files::Files;
 use seq_inputs::{
@@ -103,11 +103,12 @@ fn timed_of<A: Allocator>(alloc: A, items: &[RecordedItem]) -> Result<Vec<TimedI
 fn read_times<'p, A: Allocator + Clone>(
     alloc: A,
     text: &str,
+    profile: Profile,
 ) -> Result<Vec<TimedItem, A>, RecordingStop<'p, A>>
-    ensures ok { IfOk result (λ timed. HasTimes text.now timed.items) }
+    ensures ok { IfOk result (λ timed. HasTimes profile text.now timed.items) }
     ensures err { IfErr result (λ stop. SaysNothing stop) }
 {
-    match parse_timed(alloc.clone()?, text) {
+    match parse_timed(alloc.clone()?, text, profile) {
         Ok(items) => Ok(timed_of(alloc, items.as_slice())?),
         // A text that was read has no fault.
         Err(TraceRefusal::Fault { .. } | TraceRefusal::OutOfMemory) => {
@@ -226,7 +227,7 @@ fn judge_times<'p, A: Allocator + Clone, F: Files, P: CheckProgress>(
     let ruler = ruler_of(request, &geometry, limits.timings);
     let checked = judge_file(alloc.clone()?, files, progress, check, &geometry)?;
     let text = text_of(check.input, checked.text.as_slice())?;
-    let items = read_times(alloc.clone()?, text)?;
+    let items = read_times(alloc.clone()?, text, request.check.profile)?;
     let late = find_late(
         alloc,
         request,

@@ -197,6 +197,19 @@ pub enum Cause {
         lun: u32,
         rows: usize,
     },
+    /// The LUN programs a page behind a cache program.
+    ProgramGoesOn {
+        lun: u32,
+    },
+    /// The LUN has so many rows in its queue, and its chip caches no program of several planes.
+    GroupNotCached {
+        lun: u32,
+        rows: usize,
+    },
+    /// The program of the LUN copies a page, and no copy is cached.
+    CopyNotCached {
+        lun: u32,
+    },
 }
 
 // Of a sequence outside of the profile.
@@ -394,6 +407,15 @@ fn write_copies<W: fmt::Write>(f: &mut fmt::Formatter<W>, lun: u32, rows: usize)
     f.write_str(": `85` and `10` end the queue first")
 }
 
+// Of a LUN with so many rows in its queue, which a cache program doesn't close.
+fn write_group<W: fmt::Write>(f: &mut fmt::Formatter<W>, lun: u32, rows: usize) -> fmt::Result {
+    match rows {
+        1 => write!(f, "LUN {lun} has 1 row in its queue")?,
+        _ => write!(f, "LUN {lun} has {rows} rows in its queue")?,
+    }
+    f.write_str(", and `15` closes no program of several planes on this chip: `10` does")
+}
+
 impl Cause {
     /// The command that its words name, if they name one.
     pub fn named_command(self) -> Option<CommandAt> {
@@ -425,7 +447,10 @@ impl Cause {
             | Cause::CacheGoesOn { .. }
             | Cause::NoPageAlone { .. }
             | Cause::NoCopy { .. }
-            | Cause::CopiesQueued { .. } => None,
+            | Cause::CopiesQueued { .. }
+            | Cause::ProgramGoesOn { .. }
+            | Cause::GroupNotCached { .. }
+            | Cause::CopyNotCached { .. } => None,
         }
     }
 }
@@ -517,6 +542,15 @@ impl fmt::Display for CauseInLine {
                 half,
             } => write_no_copy(f, lun, page, plane, planes, half),
             Cause::CopiesQueued { lun, rows } => write_copies(f, lun, rows),
+            Cause::ProgramGoesOn { lun } => write!(
+                f,
+                "LUN {lun} programs a page behind `15`: the ready of its array ends that first"
+            ),
+            Cause::GroupNotCached { lun, rows } => write_group(f, lun, rows),
+            Cause::CopyNotCached { lun } => write!(
+                f,
+                "the program of LUN {lun} copies a page, and `15` closes no copy: `10` does"
+            ),
         }
     }
 }

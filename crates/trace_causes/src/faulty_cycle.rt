@@ -23,7 +23,10 @@ fn opener_of(command: Command) -> Option<u8> {
         Command::ReadConfirm | Command::ReadPlane | Command::CopybackRead => Some(0x00),
         Command::ChangeReadColumnConfirm => Some(0x05),
         Command::BlockEraseConfirm | Command::BlockErasePlane => Some(0x60),
-        Command::ChangeWriteColumn | Command::ProgramConfirm | Command::ProgramPlane => Some(0x80),
+        Command::ChangeWriteColumn
+        | Command::ProgramConfirm
+        | Command::ProgramPlane
+        | Command::ProgramCache => Some(0x80),
         _ => None,
     }
 }
@@ -64,13 +67,19 @@ impl FaultyCycle {
         }
     }
 
+    // A copyback may come before this closer of programs; none may before that of a cache program.
+    fn may_close_copy(&self, command: u8) -> bool {
+        self.geometry.parts().optional.has_copyback()
+            && Command::of(command) != Command::ProgramCache
+    }
+
     fn command_misplaced(&self) -> Cause {
         let command = self.cycle.byte;
         match (self.open(), opener_of(Command::of(command))) {
             (None, Some(0x05)) if self.geometry.parts().optional.has_enhanced_column() => {
                 Cause::NoColumnOpened { command }
             }
-            (None, Some(0x80)) if self.geometry.parts().optional.has_copyback() => {
+            (None, Some(0x80)) if self.may_close_copy(command) => {
                 Cause::NoProgramOpened { command }
             }
             (None, Some(opener)) => Cause::Unopened { command, opener },
@@ -273,8 +282,12 @@ impl FaultyCycle {
         }
     }
 
-    // A row of a copyback to which nothing may be copied, or of another program while copies wait in the queue.
+    // A row of a copyback to which nothing may be copied, or of another program while copies wait in the queue; or a cache program that closes a copy.
     fn copyback_misplaced(&self) -> Option<Cause> {
+        if self.cycle.kind == Kind::Cmd {
+            let lun = self.named_row().lun;
+            return Some(Cause::CopyNotCached { lun });
+        }
         if self.tail().opening?.opener == Command::ChangeWriteColumn {
             return Some(self.no_copy());
         }
@@ -314,6 +327,37 @@ impl FaultyCycle {
             return None;
         }
         Some(Cause::NoPageAlone { lun })
+    }
+
+    // The LUN of this number programs behind a cache program.
+    fn programming(&self, lun: u32) -> Option<Cause> {
+        if self.lun(lun)?.programming {
+            Some(Cause::ProgramGoesOn { lun })
+        } else {
+            None
+        }
+    }
+
+    // A cache program of several planes, where its chip has none.
+    fn group_not_cached(&self) -> Option<Cause> {
+        let lun = self.named_row().lun;
+        let rows = self.lun(lun)?.queued;
+        Some(Cause::GroupNotCached { lun, rows })
+    }
+
+    // A row, or a command for the whole target, of a LUN that programs behind a cache program; or a cache program of several planes.
+    fn cache_program_misplaced(&self) -> Option<Cause> {
+        match self.cycle.kind {
+            Kind::Adr => self.programming(self.named_row().lun),
+            Kind::Cmd | Kind::Din | Kind::Dout => match Command::of(self.cycle.byte) {
+                Command::ProgramCache => self.group_not_cached(),
+                _ => self
+                    .programming(0)
+                    .or(self.programming(1))
+                    .or(self.programming(2))
+                    .or(self.programming(3)),
+            },
+        }
     }
 
     fn cache_read_misplaced(&self) -> Option<Cause> {
@@ -388,6 +432,7 @@ impl FaultyCycle {
             Forbidden::CopybackMisplaced => self.copyback_misplaced(),
             Forbidden::QueueClash => self.queue_clash(),
             Forbidden::CacheReadMisplaced => self.cache_read_misplaced(),
+            Forbidden::CacheProgramMisplaced => self.cache_program_misplaced(),
             Forbidden::NotThere | Forbidden::CommandUnknown | Forbidden::NoColumnToChange => None,
         }
     }

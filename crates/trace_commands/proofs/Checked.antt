@@ -68,12 +68,12 @@ some_printable (Some i) items here rest = more_printable i items (here i refl) r
 printable_inside : (i : Item) → IsPrintable i → IsInside i
 printable_inside (Cyc c) p = p
 printable_inside (Rdy ce lun fail) p = p
-printable_inside (Ard ce lun) p = p
+printable_inside (Ard ce lun fail) p = p
 
 pub inside_printable : (i : Item) → IsInside i → IsPrintable i
 inside_printable (Cyc c) p = p
 inside_printable (Rdy ce lun fail) p = p
-inside_printable (Ard ce lun) p = p
+inside_printable (Ard ce lun fail) p = p
 
 ready_printable : (s : TraceState) (i r : Item) → IsPrintable i → ready_before s i ≡ Some r → IsPrintable r
 ready_printable s i r p is = inside_printable r (ready_inside s i r (printable_inside i p) is)

@@ -92,7 +92,7 @@ IsCopied files later request g items =
 -- of the trace of a text these faults are told, and these readies are taken for granted; and it is written where a path is given for it
 pub record IsJudgedText (files later : Option Store) (request : CheckRequest) (g : Parts) (bytes : List ℕ) (told : List BrokenRule) (assumed : List NotShown) : Type 0 where
   pub items : List Item
-  pub is_text : IsTraceText request.form bytes items
+  pub is_text : IsTraceText request.form request.profile bytes items
   pub told_is : told ≡ told_faults request g items
   pub assumed_is : assumed ≡ not_shown_as request.beginning request.readies g (count_of request.targets) items
   pub copied : IsCopied files later request g items
@@ -122,21 +122,21 @@ pub record IsLegalTrace (files later : Option Store) (request : CheckRequest) (a
   pub text : List ℕ
   pub is_there : Holds files request.input.now text
   pub items : List Item
-  pub is_text : IsTraceText request.form text items
+  pub is_text : IsTraceText request.form request.profile text items
   pub legal : IsLegalAs request.beginning request.readies g (count_of request.targets) items
   pub assumed_is : assumed ≡ not_shown_as request.beginning request.readies g (count_of request.targets) items
   pub copied : IsCopied files later request g items
 
--- the first fault of the text of a trace, which is to have this form
-abbrev pub RefusesTrace : TraceForm → List ℕ → RecordingFault → Type 0
-RefusesTrace form bytes (Trace fault line) = read_as form bytes ≡ Err (TraceFaultAt fault line)
-RefusesTrace form bytes _ = ⊥
+-- the first fault of the text of a trace, which is to have this form and to be of this profile
+abbrev pub RefusesTrace : TraceForm → Profile → List ℕ → RecordingFault → Type 0
+RefusesTrace form p bytes (Trace fault line) = read_as form p bytes ≡ Err (TraceFaultAt fault line)
+RefusesTrace form p bytes _ = ⊥
 
 -- the same of the trace at a path
-pub record FileIsRefused (files : Option Store) (form : TraceForm) (input : List ℕ) (fault : RecordingFault) : Type 0 where
+pub record FileIsRefused (files : Option Store) (form : TraceForm) (profile : Profile) (input : List ℕ) (fault : RecordingFault) : Type 0 where
   pub text : List ℕ
   pub is_there : Holds files input text
-  pub refuses : RefusesTrace form text fault
+  pub refuses : RefusesTrace form profile text fault
 
 pub record TraceIsRefused (files : Option Store) (form : TraceForm) (page input : List ℕ) (fault : RecordingFault) : Type 0 where
   pub profile : Profile
@@ -144,7 +144,7 @@ pub record TraceIsRefused (files : Option Store) (form : TraceForm) (page input 
   pub has_page : HasPageAs files profile page g
   pub text : List ℕ
   pub is_there : Holds files input text
-  pub refuses : RefusesTrace form text fault
+  pub refuses : RefusesTrace form profile text fault
 
 -- the first of these faults is what is wrong with the trace
 abbrev pub ArePrinted : List BrokenRule → RecordingFault → Type 0

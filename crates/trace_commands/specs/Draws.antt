@@ -16,7 +16,7 @@ pub record IsDrawn (files later : Option Store) (request : DrawRequest) : Type 0
   pub text : List ℕ
   pub is_there : Holds files request.input.now text
   pub items : List Item
-  pub is_text : IsTraceText request.lines text items
+  pub is_text : IsTraceText request.lines request.profile text items
   pub bytes : List ℕ
   pub is_drawing : bytes ≡ drawing_of request.form g (count_of request.targets) items bytes
   pub written : later ≡ with_file files request.target.now bytes

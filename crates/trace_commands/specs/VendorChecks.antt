@@ -75,7 +75,7 @@ vendor_assumed request g steps items =
 -- of the trace of a text these faults are told, and these readies are taken for granted; and what is judged is written where a path is given for it
 pub record IsJudgedVendorText (files later : Option Store) (request : CheckRequest) (g : Parts) (steps : List Step) (bytes : List ℕ) (told : List BrokenRule) (assumed : List NotShown) : Type 0 where
   pub items : List Item
-  pub is_text : IsTraceText request.form bytes items
+  pub is_text : IsTraceText request.form request.profile bytes items
   pub told_is : told ≡ vendor_faults request g steps items
   pub assumed_is : assumed ≡ vendor_assumed request g steps items
   pub copied : IsCopied files later request g (kept request g steps items)

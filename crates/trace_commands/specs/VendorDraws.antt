@@ -24,7 +24,7 @@ pub record IsVendorDrawn (files later : Option Store) (request : VendorDrawReque
   pub text : List ℕ
   pub is_there : Holds files request.draw.input.now text
   pub items : List Item
-  pub is_text : IsTraceText request.draw.lines text items
+  pub is_text : IsTraceText request.draw.lines request.draw.profile text items
   pub bytes : List ℕ
   pub is_drawing : bytes ≡ drawing_of request.draw.form g (count_of request.draw.targets) (kept_items steps Written g (count_of request.draw.targets) items) bytes
   pub written : later ≡ with_file files request.draw.target.now bytes

@@ -316,10 +316,16 @@ fn judge_text<'p, A: Allocator + Clone, F: Files, P: CheckProgress>(
     text: &str,
 ) -> Result<Judged<A>, RecordingStop<'p, A>>
     ensures ok { IfOk result (λ found. IsJudgedText (F.store files.old) (F.store files.new) request.entry geometry.now text.now found.told.items found.assumed.items) }
-    ensures err { IfErr result (SaysOf (λ _. ⊥) (RefusesTrace request.entry.form text.now)) }
+    ensures err { IfErr result (SaysOf (λ _. ⊥) (RefusesTrace request.entry.form request.entry.profile text.now)) }
     ensures stays { OnErr result (F.store files.new ≡ F.store files.old) }
 {
-    let whole = items_of(alloc.clone()?, request.input, text, request.form)?;
+    let whole = items_of(
+        alloc.clone()?,
+        request.input,
+        text,
+        request.form,
+        request.profile,
+    )?;
     let items = whole.as_slice();
     let Told {
         faults,
@@ -368,7 +374,7 @@ pub fn judge_file<'p, A: Allocator + Clone, F: Files, P: CheckProgress>(
     geometry: &Geometry,
 ) -> Result<CheckedTrace<A>, RecordingStop<'p, A>>
     ensures ok { IfOk result (λ found. IsJudgedFile (F.store files.old) (F.store files.new) request.entry geometry.now found.text.items found.told.items found.assumed.items) }
-    ensures err { IfErr result (SaysOf (λ _. ⊥) (FileIsRefused (F.store files.old) request.entry.form request.entry.input.now)) }
+    ensures err { IfErr result (SaysOf (λ _. ⊥) (FileIsRefused (F.store files.old) request.entry.form request.entry.profile request.entry.input.now)) }
     ensures stays { OnErr result (F.store files.new ≡ F.store files.old) }
 {
     let bytes = read_file(alloc.clone()?, files, request.input)?;

@@ -39,7 +39,13 @@ fn draw_at<'p, A: Allocator + Clone, F: Files>(
     let geometry = geometry_as(alloc.clone()?, files, request.profile, request.page)?;
     let bytes = read_file(alloc.clone()?, files, request.input)?;
     let text = text_of(request.input, bytes.as_slice())?;
-    let items = items_of(alloc.clone()?, request.input, text, request.lines)?;
+    let items = items_of(
+        alloc.clone()?,
+        request.input,
+        text,
+        request.lines,
+        request.profile,
+    )?;
     try_file(files, request.target)?;
     let drawing = make_drawing(
         alloc,

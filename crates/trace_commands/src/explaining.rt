@@ -2,6 +2,7 @@
 
 use crate::line_cursor::ItemLine;
 use bus_capture::CaptureFault;
+use nand_geometry::Profile;
 use seq_inputs::Words;
 use shown_text::Shown;
 use std::alloc::Allocator;
@@ -16,10 +17,11 @@ pub fn words_of_trace<'p, A: Allocator>(
     path: &'p str,
     text: &str,
     form: TraceForm,
+    profile: Profile,
     fault: TraceFault,
     line: usize,
 ) -> Option<Words<'p, A>> {
-    let message = TraceMessage::new(TraceRefusal::Fault { fault, line }, text, form);
+    let message = TraceMessage::new(TraceRefusal::Fault { fault, line }, text, form, profile);
     Words::at(path, Some(line), format!(in alloc; "{message}"))
 }
 

@@ -19,7 +19,7 @@ use crate::recording_fault::RecordingFault;
 use crate::recording_stop::{RecordingStop, end_stopped};
 use crate::traces::items_of;
 use bus_capture::{CaptureForm, Setup};
-use nand_geometry::{Geometry, PageFault, SMALL_CHIP};
+use nand_geometry::{Geometry, PageFault, Profile, SMALL_CHIP};
 use onfi_cycle::Item;
 use seq_files::Files;
 use seq_inputs::{
@@ -86,7 +86,7 @@ fn items_at<'p, A: Allocator + Clone>(
     match request.source {
         PageSource::Trace => {
             let text = text_of(path, bytes)?;
-            items_of(alloc, path, text, TraceForm::Recorded)
+            items_of(alloc, path, text, TraceForm::Recorded, Profile::Base)
         }
         PageSource::Capture { form, mappings } => {
             items_of_capture(alloc, path, bytes, form, mappings)

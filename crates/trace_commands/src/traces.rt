@@ -11,27 +11,29 @@ ghost use Rattle.trace_commands.specs.Checks.{RefusesTrace};
 use crate::explaining::words_of_trace;
 use crate::recording_fault::RecordingFault;
 use crate::recording_stop::RecordingStop;
+use nand_geometry::Profile;
 use onfi_cycle::Item;
 use seq_files::Files;
 use seq_inputs::{Stop, write_file};
 use std::alloc::Allocator;
 use trace_text::{TraceForm, TraceRefusal, parse_as, print};
 
-/// The items of the text of this path, which is to have this form.
+/// The items of the text of this path, which is to have this form and to be of this profile.
 pub(crate) fn items_of<'p, A: Allocator + Clone>(
     alloc: A,
     path: &'p str,
     text: &str,
     form: TraceForm,
+    profile: Profile,
 ) -> Result<Vec<Item, A>, RecordingStop<'p, A>>
-    ensures ok { IfOk result (λ items. IsTraceText form text.now items.items) }
+    ensures ok { IfOk result (λ items. IsTraceText form profile text.now items.items) }
     ensures printable { IfOk result (λ items. All IsPrintable items.items) }
-    ensures err { IfErr result (SaysOf (λ _. ⊥) (RefusesTrace form text.now)) }
+    ensures err { IfErr result (SaysOf (λ _. ⊥) (RefusesTrace form profile text.now)) }
 {
-    match parse_as(alloc.clone()?, text, form) {
+    match parse_as(alloc.clone()?, text, form, profile) {
         Ok(items) => Ok(items),
         Err(TraceRefusal::Fault { fault, line }) => {
-            let words = words_of_trace(alloc, path, text, form, fault, line);
+            let words = words_of_trace(alloc, path, text, form, profile, fault, line);
             let fault = RecordingFault::Trace { fault, line };
             Err(RecordingStop::Faulty { fault, words })
         }

@@ -157,10 +157,16 @@ fn judge_vendor_text<'p, A: Allocator + Clone, F: Files>(
     text: &str,
 ) -> Result<Judged<A>, RecordingStop<'p, A>>
     ensures ok { IfOk result (λ found. IsJudgedVendorText (F.store files.old) (F.store files.new) request.entry geometry.now steps.now text.now found.told.items found.assumed.items) }
-    ensures err { IfErr result (SaysOf (λ _. ⊥) (RefusesTrace request.entry.form text.now)) }
+    ensures err { IfErr result (SaysOf (λ _. ⊥) (RefusesTrace request.entry.form request.entry.profile text.now)) }
     ensures stays { OnErr result (F.store files.new ≡ F.store files.old) }
 {
-    let whole = items_of(alloc.clone()?, request.input, text, request.form)?;
+    let whole = items_of(
+        alloc.clone()?,
+        request.input,
+        text,
+        request.form,
+        request.profile,
+    )?;
     let Passed {
         items,
         places,

@@ -98,7 +98,7 @@ fn draw_vendor_at<'p, A: Allocator + Clone, F: Files>(
     };
     let bytes = read_file(alloc.clone()?, files, draw.input)?;
     let text = text_of(draw.input, bytes.as_slice())?;
-    let whole = match items_of(alloc.clone()?, draw.input, text, draw.lines) {
+    let whole = match items_of(alloc.clone()?, draw.input, text, draw.lines, draw.profile) {
         Ok(items) => items,
         Err(stop) => return Err(stop),
     };

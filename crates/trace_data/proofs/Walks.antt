@@ -57,6 +57,9 @@ stands_on old new past all later stands channel is count are =
       works = subst (λ (s : Channel). AreWorks s.geometry new.past later) (sym channel) (subst (λ (p : List Item). AreWorks old.geometry p later) (sym is) are);
     }
 
+pub other_stands : (old new : Traced) (i : Item) (all later : List Works) → Stands old all → IsNext old new i → length later ≡ length all → AreWorks old.geometry (i ∷ old.past) later → Stands new later
+other_stands old new i all later stands next count are = stands_on old new (i ∷ old.past) all later stands next.channel next.past count are
+
 -- ---- what an output gives
 
 shown_lun : (l : Lun) (latch : Latch) (register : Register) (column : Option ℕ) (x : PageShown) → shown_as l latch register column ≡ Some x → x.lun ≡ l

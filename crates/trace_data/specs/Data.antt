@@ -8,6 +8,7 @@ use Rattle.onfi_cycle.specs.declared.latch.Latch.TheVariants.{Data}
 use Rattle.onfi_cycle.specs.declared.register.Register.{Register}
 use Rattle.onfi_cycle.specs.declared.register.Register.TheVariants.{Page}
 use Rattle.onfi_cycle.specs.declared.item.Item.{Item}
+use Rattle.onfi_cycle.specs.declared.item.Failures.{Failures}
 use Rattle.onfi_cycle.specs.declared.item.Item.TheVariants.{Cyc, Rdy, Ard}
 use Rattle.onfi_cycle.specs.declared.item.Kind.{Kind}
 use Rattle.onfi_cycle.specs.declared.item.Kind.TheVariants.{Cmd, Adr, Din, Dout}
@@ -15,7 +16,7 @@ use Rattle.onfi_cycle.specs.declared.page_address.PageAddress.{PageAddress}
 use Rattle.onfi_cycle.specs.declared.queued.Queued.{Queued}
 use Rattle.onfi_cycle.specs.declared.queued.Queued.TheVariants.{Erase, Program, Read}
 use Rattle.onfi_cycle.specs.declared.effect.Effect.{Effect}
-use Rattle.onfi_cycle.specs.declared.effect.Effect.TheVariants.{EraseStarted, ProgramStarted, CopybackReadStarted, ProgramAddressed, ResetStarted, TargetResetStarted, BecameReady}
+use Rattle.onfi_cycle.specs.declared.effect.Effect.TheVariants.{EraseStarted, ProgramStarted, CacheProgramStarted, CopybackReadStarted, ProgramAddressed, ResetStarted, TargetResetStarted, BecameReady, ArrayBecameReady}
 use Rattle.onfi_cycle.specs.declared.forbidden.Forbidden.{Forbidden as Rule}
 use Rattle.onfi_cycle.specs.declared.lun_state.LunState.{LunState}
 use Rattle.onfi_cycle.specs.Content.{same_page}
@@ -86,21 +87,28 @@ origin_by works p before = origin_from (is_unknown before) works p before
 
 -- ---- the works on a LUN
 
--- those that wait for the command that begins them all, those that its next ready ends, and those that are over, each the oldest first; and whether a
--- program copies a page: one was read for a copyback, and no 80 with a row came since
+-- those that wait for the command that begins them all, those that the next ready ends, those that the array goes on with behind the ready of a 15, and
+-- those that are over, each the oldest first; whether a program copies a page: one was read for a copyback, and no 80 with a row came since; and whether
+-- a 15 closed what works
 pub record Works : Type 0 where
   pub copying : Bool
+  pub cached : Bool
   pub queued : List BegunWork
   pub working : List BegunWork
+  pub in_array : List BegunWork
   pub ended : List EndedWork
 
 abbrev pub no_works : Works
-no_works = record { copying = false; queued = []; working = []; ended = [] }
+no_works = record { copying = false; cached = false; queued = []; working = []; in_array = []; ended = [] }
 
 -- a work begins with those that wait, or waits itself
 abbrev pub begun : (queued : Bool) → BegunWork → Works → Works
 begun true work w = record w { queued = w.queued ++ (work ∷ []) }
-begun false work w = record w { queued = []; working = w.queued ++ (work ∷ []) }
+begun false work w = record w { cached = false; queued = []; working = w.queued ++ (work ∷ []) }
+
+-- a 15 begins it with those that wait
+abbrev pub begun_cached : BegunWork → Works → Works
+begun_cached work w = record (begun false work w) { cached = true }
 
 -- a work is over, with failure or without
 abbrev pub ended_as : (failed : Bool) → BegunWork → EndedWork
@@ -110,19 +118,39 @@ ended_as failed w = record { work = w.work; item = w.item; copies = w.copies; fa
 abbrev pub over : (failed : Bool) → Works → Works
 over failed w = record w { working = []; ended = w.ended ++ map (ended_as failed) w.working }
 
+-- what the array goes on with is over
+abbrev pub array_over : (failed : Bool) → Works → Works
+array_over failed w = record w { in_array = []; ended = w.ended ++ map (ended_as failed) w.in_array }
+
+-- the array goes on with what works
+abbrev pub goes_on : Works → Works
+goes_on w = record w { working = []; in_array = w.working }
+
+-- what is told of that: a 15 leaves it to the array
+abbrev pub handed_on : (failed : Bool) → Works → Works
+handed_on failed w = if w.cached then goes_on w else over failed w
+
+-- a ready ends what works, and what the array went on with before it; behind an 11, which begins nothing, the array goes on
+abbrev pub ready_leaves : Failures → (working : List BegunWork) → Works → Works
+ready_leaves fail [] w = w
+ready_leaves fail (work ∷ works) w = handed_on fail.last (array_over fail.before w)
+
 -- a reset drops what waits
 abbrev pub unqueued : Works → Works
 unqueued w = record w { queued = [] }
 
--- the works after an effect of the item of this number; a reset breaks off what works, which leaves its pages as a failure does
+-- the works after an effect of the item of this number; a reset breaks off what works, and what the array goes on with, which leaves their pages as a
+-- failure does
 abbrev pub works_after : Effect → ℕ → Works → Works
 works_after (EraseStarted queued at) n w = begun queued (record { work = Erase at; item = n; copies = false }) w
 works_after (ProgramStarted queued at) n w = begun queued (record { work = Program at; item = n; copies = w.copying }) w
+works_after (CacheProgramStarted at) n w = begun_cached (record { work = Program at; item = n; copies = w.copying }) w
 works_after (CopybackReadStarted at column planes) n w = record w { copying = true }
 works_after ProgramAddressed n w = record w { copying = false }
-works_after ResetStarted n w = over true (unqueued w)
-works_after (TargetResetStarted first) n w = over true (unqueued w)
-works_after (BecameReady failed) n w = over failed w
+works_after ResetStarted n w = over true (array_over true (unqueued w))
+works_after (TargetResetStarted first) n w = over true (array_over true (unqueued w))
+works_after (BecameReady fail) n w = ready_leaves fail w.working w
+works_after (ArrayBecameReady fail) n w = array_over fail w
 works_after _ n w = w
 
 -- the works on a LUN after a past; an item has the number of those before it
@@ -203,7 +231,7 @@ cycle_difference s known past ce Dout byte = output_difference s known past ce b
 abbrev pub difference : Channel → (known : List Bool) → List Item → Item → Option Difference
 difference s known past (Cyc c) = cycle_difference s known past c.ce c.kind c.byte
 difference s known past (Rdy ce lun fail) = None
-difference s known past (Ard ce lun) = None
+difference s known past (Ard ce lun fail) = None
 
 -- ---- a trace on its dies
 
@@ -221,7 +249,7 @@ cycle_given s past ce Dout byte = output_given ce byte (bus_byte s past ce)
 abbrev pub given : Channel → List Item → Item → Item
 given s past (Cyc c) = cycle_given s past c.ce c.kind c.byte
 given s past (Rdy ce lun fail) = Rdy ce lun fail
-given s past (Ard ce lun) = Ard ce lun
+given s past (Ard ce lun fail) = Ard ce lun fail
 
 -- what comes of an item that is permitted, and of one that isn't
 abbrev pub if_permitted : {X : Type 0} → Option Rule → X → (Rule → X) → X

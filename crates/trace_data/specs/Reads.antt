@@ -80,7 +80,7 @@ with_cycle len is_of_target shown Dout byte r = if is_of_target then with_output
 abbrev pub with_bytes : (len : ℕ) → Lun → Option LunState → Item → Gathering → Gathering
 with_bytes len l look (Cyc c) r = with_cycle len (c.ce == l.ce) (shown_of l look) c.kind c.byte r
 with_bytes len l look (Rdy ce lun fail) r = r
-with_bytes len l look (Ard ce lun) r = r
+with_bytes len l look (Ard ce lun fail) r = r
 
 -- which item a work began at isn't asked
 abbrev pub with_effect : Effect → Gathering → Gathering

@@ -1,10 +1,10 @@
 //! The programs and erases of a LUN, as a trace tells them.
-ghost use Rattle.std.specs.Prelude.{◌≡◌, ◌++◌, OnOk, map};
-ghost use Rattle.trace_data.specs.Data.{no_works, begun, over, works_after, is_unknown, origin_from, origin_by, ended_as};
+ghost use Rattle.std.specs.Prelude.{◌≡◌, ◌++◌, OnOk, map, true};
+ghost use Rattle.trace_data.specs.Data.{no_works, begun, begun_cached, over, array_over, goes_on, handed_on, ready_leaves, unqueued, works_after, is_unknown, origin_from, origin_by, ended_as};
 
 use crate::lun_work::{BegunWork, EndedWork};
 use crate::origin::Origin;
-use onfi_cycle::{Effect, PageAddress, Queued};
+use onfi_cycle::{Effect, Failures, PageAddress, Queued};
 use std::alloc::{AllocError, Global};
 use std::marker::Model;
 
@@ -13,10 +13,14 @@ use std::marker::Model;
 pub struct LunWorks {
     /// A program copies a page: one was read for a copyback, and no Page Program with a row came since.
     copying: bool,
+    /// A Page Cache Program closed what works, so the array goes on with that behind the next ready.
+    cached: bool,
     /// Those that wait for the command that begins them all.
     queued: Vec<BegunWork>,
     /// Those that the next ready ends.
     working: Vec<BegunWork>,
+    /// Those that the array goes on with behind the ready of a Page Cache Program.
+    in_array: Vec<BegunWork>,
     ended: Vec<EndedWork>,
 }
 
@@ -25,7 +29,7 @@ impl Model for LunWorks {
 
     ghost Value = { Works };
 
-    ghost view = { λ w. record { copying = w.copying; queued = w.queued.items; working = w.working.items; ended = w.ended.items } };
+    ghost view = { λ w. record { copying = w.copying; cached = w.cached; queued = w.queued.items; working = w.working.items; in_array = w.in_array.items; ended = w.ended.items } };
 }
 
 // Adds works that are over, with failure or without.
@@ -74,8 +78,10 @@ impl LunWorks {
     {
         LunWorks {
             copying: false,
+            cached: false,
             queued: Vec::new(alloc),
             working: Vec::new(alloc),
+            in_array: Vec::new(alloc),
             ended: Vec::new(alloc),
         }
     }
@@ -86,10 +92,20 @@ impl LunWorks {
     {
         self.queued.push(work)?;
         if !is_queued {
+            self.cached = false;
             self.working.clear();
             self.working.extend_from_slice(self.queued.as_slice())?;
             self.queued.clear();
         }
+        Ok(())
+    }
+
+    // A work begins with those that wait, and the array goes on with them behind the next ready.
+    fn begin_cached(&mut self, work: BegunWork) -> Result<(), AllocError>
+        ensures { OnOk result (self.new ≡ begun_cached work self.old) }
+    {
+        self.begin(false, work)?;
+        self.cached = true;
         Ok(())
     }
 
@@ -100,6 +116,56 @@ impl LunWorks {
         push_ended(&mut self.ended, self.working.as_slice(), failed)?;
         self.working.clear();
         Ok(())
+    }
+
+    // What the array goes on with is over, with failure or without.
+    fn end_array(&mut self, failed: bool) -> Result<(), AllocError>
+        ensures { OnOk result (self.new ≡ array_over failed self.old) }
+    {
+        push_ended(&mut self.ended, self.in_array.as_slice(), failed)?;
+        self.in_array.clear();
+        Ok(())
+    }
+
+    // The array goes on with what works.
+    fn go_on_in_array(&mut self) -> Result<(), AllocError>
+        ensures { OnOk result (self.new ≡ goes_on self.old) }
+    {
+        self.in_array.clear();
+        self.in_array.extend_from_slice(self.working.as_slice())?;
+        self.working.clear();
+        Ok(())
+    }
+
+    // What works is over, or left to the array.
+    fn hand_on(&mut self, failed: bool) -> Result<(), AllocError>
+        ensures { OnOk result (self.new ≡ handed_on failed self.old) }
+    {
+        if self.cached {
+            self.go_on_in_array()
+        } else {
+            self.end(failed)
+        }
+    }
+
+    // A ready ends what works, and what the array went on with before it.
+    fn become_ready(&mut self, fail: Failures) -> Result<(), AllocError>
+        ensures { OnOk result (self.new ≡ ready_leaves fail self.old.working self.old) }
+    {
+        if self.working.is_empty() {
+            return Ok(());
+        }
+        self.end_array(fail.before)?;
+        self.hand_on(fail.last)
+    }
+
+    // A reset drops what waits and breaks off the rest.
+    fn break_off(&mut self) -> Result<(), AllocError>
+        ensures { OnOk result (self.new ≡ over true (array_over true (unqueued self.old))) }
+    {
+        self.queued.clear();
+        self.end_array(true)?;
+        self.end(true)
     }
 
     /// Goes on by what an item does to the LUN. Without memory for that nothing is known of it.
@@ -129,6 +195,14 @@ impl LunWorks {
                     },
                 )
             }
+            Effect::CacheProgramStarted { page } => {
+                let work = Queued::Program(page);
+                self.begin_cached(BegunWork {
+                    work,
+                    item,
+                    copies: self.copying,
+                })
+            }
             Effect::CopybackReadStarted { .. } => {
                 self.copying = true;
                 Ok(())
@@ -137,11 +211,9 @@ impl LunWorks {
                 self.copying = false;
                 Ok(())
             }
-            Effect::ResetStarted | Effect::TargetResetStarted { .. } => {
-                self.queued.clear();
-                self.end(true)
-            }
-            Effect::BecameReady { failed } => self.end(failed),
+            Effect::ResetStarted | Effect::TargetResetStarted { .. } => self.break_off(),
+            Effect::BecameReady { fail } => self.become_ready(fail),
+            Effect::ArrayBecameReady { fail } => self.end_array(fail),
             Effect::Unaffected
             | Effect::DataOutputEnabled
             | Effect::StatusSelected
@@ -162,8 +234,7 @@ impl LunWorks {
             | Effect::CacheReadEnded
             | Effect::ReadColumnChanged { .. }
             | Effect::PlaneSelected { .. }
-            | Effect::DataOutput
-            | Effect::ArrayBecameReady => Ok(()),
+            | Effect::DataOutput => Ok(()),
         }
     }
 

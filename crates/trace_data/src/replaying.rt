@@ -210,7 +210,7 @@ fn come_ready(bus: &mut Bus, ready: Item)
     let _ = match ready {
         Item::Cyc(_) => unreachable!(),
         Item::Rdy { ce, lun, fail } => bus.ready(Lun { ce, lun }, fail),
-        Item::Ard { ce, lun } => bus.array_ready(Lun { ce, lun }),
+        Item::Ard { ce, lun, fail } => bus.array_ready(Lun { ce, lun }, fail),
     };
 }
 

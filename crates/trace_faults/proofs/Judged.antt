@@ -9,7 +9,7 @@ use Rattle.nand_geometry.specs.declared.parts.Parts.{Parts}
 use Rattle.onfi_cycle.specs.declared.item.Item.{Item}
 use Rattle.onfi_cycle.specs.declared.item.Item.TheVariants.{Cyc, Rdy, Ard}
 use Rattle.onfi_cycle.specs.declared.command.Command.{Command}
-use Rattle.onfi_cycle.specs.declared.command.Command.TheVariants.{Read, ReadConfirm, ChangeReadColumn, ChangeReadColumnEnhanced, ChangeReadColumnConfirm, BlockErase, BlockEraseConfirm, BlockErasePlane, ReadStatus, ReadStatusEnhanced, PageProgram, ChangeWriteColumn, ProgramConfirm, ProgramPlane, ReadId, ReadParameterPage, Reset, ReadCacheSequential, ReadCacheEnd, ReadUniqueId, GetFeatures, SetFeatures, ResetLun, SynchronousReset, Unknown, ReadPlane, CopybackRead}
+use Rattle.onfi_cycle.specs.declared.command.Command.TheVariants.{Read, ReadConfirm, ChangeReadColumn, ChangeReadColumnEnhanced, ChangeReadColumnConfirm, BlockErase, BlockEraseConfirm, BlockErasePlane, ReadStatus, ReadStatusEnhanced, PageProgram, ChangeWriteColumn, ProgramConfirm, ProgramPlane, ReadId, ReadParameterPage, Reset, ReadCacheSequential, ReadCacheEnd, ReadUniqueId, GetFeatures, SetFeatures, ResetLun, SynchronousReset, Unknown, ReadPlane, CopybackRead, ProgramCache}
 use Rattle.onfi_cycle.specs.declared.target_cycle.TargetCycle.{TargetCycle}
 use Rattle.onfi_cycle.specs.declared.target_cycle.TargetCycle.TheVariants.{CommandCycle, AddressCycle, InputCycle, OutputCycle}
 use Rattle.onfi_cycle.specs.Sequence.{target_cycle}
@@ -48,6 +48,7 @@ command_inside Read = refl
 command_inside ReadConfirm = refl
 command_inside ReadPlane = refl
 command_inside CopybackRead = refl
+command_inside ProgramCache = refl
 command_inside ChangeReadColumn = refl
 command_inside ChangeReadColumnEnhanced = refl
 command_inside ChangeReadColumnConfirm = refl
@@ -84,14 +85,14 @@ standings_inside s (Cyc c) =
     ∙ ap (λ (x : Standing). slice_set all_inside c.ce x) (cycle_inside (target_cycle c.kind c.byte))
     ∙ set_inside c.ce
 standings_inside s (Rdy ce lun fail) = refl
-standings_inside s (Ard ce lun) = refl
+standings_inside s (Ard ce lun fail) = refl
 
 -- nothing is passed over
 pub is_inside : (t : TraceState) (i : Item) → t.standings ≡ all_inside → is_outside t i ≡ false
 is_inside t (Cyc c) inside =
     ap (λ (xs : List Standing). belongs_outside (standing_of xs c.ce) t.bus c) inside ∙ ap (λ (x : Standing). belongs_outside x t.bus c) (inside_at c.ce)
 is_inside t (Rdy ce lun fail) inside = refl
-is_inside t (Ard ce lun) inside = refl
+is_inside t (Ard ce lun fail) inside = refl
 
 pub judged_inside : (t : TraceState) (i : Item) → t.standings ≡ all_inside → judged_here t i ≡ judged t.bus i
 judged_inside t i inside = ap (λ (b : Bool). cond b None (judged t.bus i)) (is_inside t i inside)

@@ -5,10 +5,11 @@ use Rattle.std.proofs.lemmas.Option.{slice_get_within}
 use Rattle.std.proofs.lemmas.Bool.{and_parts}
 use Rattle.std.proofs.lemmas.Bool.Decides.{nat_tests}
 use Rattle.onfi_cycle.specs.declared.item.Item.{Item}
+use Rattle.onfi_cycle.specs.declared.item.Failures.{Failures}
 use Rattle.onfi_cycle.specs.declared.item.Item.TheVariants.{Cyc, Rdy, Ard}
 use Rattle.onfi_cycle.specs.declared.item.Cycle.{Cycle}
 use Rattle.onfi_cycle.specs.declared.forbidden.Forbidden.{Forbidden}
-use Rattle.onfi_cycle.specs.declared.forbidden.Forbidden.TheVariants.{NotThere, CommandUnknown, SequenceOpen, SeveralLuns, NoColumnToChange, CommandMisplaced, AddressMisplaced, RowOutside, LunBusy, QueueClash, InputMisplaced, NoSoleDriver, DataNotReady, ColumnOutside, CacheReadMisplaced, CopybackMisplaced, PlaneNotHeld}
+use Rattle.onfi_cycle.specs.declared.forbidden.Forbidden.TheVariants.{NotThere, CommandUnknown, SequenceOpen, SeveralLuns, NoColumnToChange, CommandMisplaced, AddressMisplaced, RowOutside, LunBusy, QueueClash, InputMisplaced, NoSoleDriver, DataNotReady, ColumnOutside, CacheReadMisplaced, CacheProgramMisplaced, CopybackMisplaced, PlaneNotHeld}
 use Rattle.onfi_cycle.specs.declared.lun_state.LunState.{LunState}
 use Rattle.onfi_cycle.specs.LunView.{LunView}
 use Rattle.onfi_cycle.specs.Rules.{breaks_not_there, lun_is, is_some_and}
@@ -25,7 +26,7 @@ use Rattle.trace_faults.specs.Outside.{is_opening, is_outside, is_status, leaves
 use Rattle.trace_faults.specs.Denied.{lun_drives, driving_lun, has_ready, is_denied}
 use Rattle.trace_faults.specs.Recovery.{fresh_for, judged_here, done_unless, bus_by, gone_on_by, gone_on}
 use Rattle.trace_faults.specs.RowAhead.{given_row}
-use Rattle.trace_faults.specs.ShownReadies.{ready_before, array_ready_before, ready_at, array_ready_at, ready_of, array_ready_of, with_ready, with_readies, gone_on_some, listed, has_array_ready, has_fail, is_output_inside}
+use Rattle.trace_faults.specs.ShownReadies.{ready_before, array_ready_before, ready_at, array_ready_at, ready_of, array_ready_of, with_ready, with_readies, gone_on_some, listed, has_array_ready, shown_failures, shown_array_failure, is_output_inside}
 use Rattle.trace_faults.specs.declared.unshown.UnshownReady.{UnshownReady}
 use Rattle.trace_faults.specs.declared.unshown.NotShown.{NotShown}
 use Rattle.trace_faults.specs.Unshown.{is_working, may_be_done, first_of, first_done, is_named, named_done, if_may_be_done, driving_done, or_else, to_begin, target_done, wanted_by, unshown_of, unshown, needs_each, further, ready_for, ready_taken, rule_without}
@@ -60,7 +61,7 @@ seen_there s ce number lun is = on (slice_get s.targets ce) refl is
     on (Some t) e h = at t e (slice_get t.luns number) refl h
 
 -- a ready of a LUN that is seen busy breaks no rule, nor does that of an array which is seen busy
-busy_there : (s : BusView) (ce number : ℕ) (fail : Bool) (lun : LunState) → IsThere s ce number lun → lun.busy ≡ true → judged s (Rdy ce number fail) ≡ None
+busy_there : (s : BusView) (ce number : ℕ) (fail : Failures) (lun : LunState) → IsThere s ce number lun → lun.busy ≡ true → judged s (Rdy ce number fail) ≡ None
 unfolding breaks_not_there
 busy_there s ce number fail lun f busy =
     let inside = slice_get_within s.targets ce f.t f.is_target in
@@ -69,14 +70,14 @@ busy_there s ce number fail lun f busy =
     let on : judged_on s.geometry (length s.targets) (Some f.t) (Rdy ce number fail) ≡ None = grind (arith, nat_tests) in
     ap (λ o. judged_on s.geometry (length s.targets) o (Rdy ce number fail)) f.is_target ∙ on
 
-array_busy_there : (s : BusView) (ce number : ℕ) (lun : LunState) → IsThere s ce number lun → lun.array_busy ≡ true → judged s (Ard ce number) ≡ None
+array_busy_there : (s : BusView) (ce number : ℕ) (fail : Bool) (lun : LunState) → IsThere s ce number lun → lun.array_busy ≡ true → judged s (Ard ce number fail) ≡ None
 unfolding breaks_not_there
-array_busy_there s ce number lun f busy =
+array_busy_there s ce number fail lun f busy =
     let inside = slice_get_within s.targets ce f.t f.is_target in
     let same : f.v.array_busy ≡ true = ap (λ (l : LunState). l.array_busy) f.is_seen ∙ busy in
     let is : lun_is (λ v. v.array_busy) f.t.luns number ≡ true = ap (λ o. is_some_and (λ (v : LunView). v.array_busy) o) f.is_lun ∙ same in
-    let on : judged_on s.geometry (length s.targets) (Some f.t) (Ard ce number) ≡ None = grind (arith, nat_tests) in
-    ap (λ o. judged_on s.geometry (length s.targets) o (Ard ce number)) f.is_target ∙ on
+    let on : judged_on s.geometry (length s.targets) (Some f.t) (Ard ce number fail) ≡ None = grind (arith, nat_tests) in
+    ap (λ o. judged_on s.geometry (length s.targets) o (Ard ce number fail)) f.is_target ∙ on
 
 only_then : (b : Bool) (o : Option Item) (r : Item) → cond b o None ≡ Some r → o ≡ Some r
 only_then true o r h = h
@@ -93,18 +94,18 @@ given false x r h = cc
 ready_is_permitted : (s : TraceState) (i r : Item) → ready_before s i ≡ Some r → judged_here s r ≡ None
 ready_is_permitted s (Cyc c) r h = at (driving_lun s.bus c.ce) (only_then (is_output_inside s c) (ready_at s.bus c.ce (driving_lun s.bus c.ce) c.byte) r h)
   where
-    of : (number : ℕ) (o : Option LunState) → looked s.bus (record { ce = c.ce; lun = number }) ≡ o → ready_of o c.ce number c.byte ≡ Some r → judged_here s r ≡ None
+    of : (number : ℕ) (o : Option LunState) → looked s.bus (record { ce = c.ce; lun = number }) ≡ o → ready_of s.bus.geometry o c.ce number c.byte ≡ Some r → judged_here s r ≡ None
     of number None e g = cc
     of number (Some lun) e g =
-        let is = given (is_status lun.latch && (lun.busy && has_ready c.byte)) (Rdy c.ce number (has_fail c.byte)) r g in
+        let is = given (is_status lun.latch && (lun.busy && has_ready c.byte)) (Rdy c.ce number (shown_failures s.bus.geometry lun c.byte)) r g in
         let busy = (and_parts lun.busy (has_ready c.byte) (and_parts (is_status lun.latch) (lun.busy && has_ready c.byte) is.holds).1).0 in
-        subst (λ (x : Item). judged_here s x ≡ None) is.same (busy_there s.bus c.ce number (has_fail c.byte) lun (seen_there s.bus c.ce number lun e) busy)
+        subst (λ (x : Item). judged_here s x ≡ None) is.same (busy_there s.bus c.ce number (shown_failures s.bus.geometry lun c.byte) lun (seen_there s.bus c.ce number lun e) busy)
 
     at : (o : Option ℕ) → ready_at s.bus c.ce o c.byte ≡ Some r → judged_here s r ≡ None
     at None g = cc
     at (Some number) g = of number (looked s.bus (record { ce = c.ce; lun = number })) refl g
 ready_is_permitted s (Rdy ce lun fail) r h = cc
-ready_is_permitted s (Ard ce lun) r h = cc
+ready_is_permitted s (Ard ce lun fail) r h = cc
 
 array_ready_is_permitted : (s : TraceState) (i r : Item) → array_ready_before s i ≡ Some r → judged_here s r ≡ None
 array_ready_is_permitted s (Cyc c) r h = at (driving_lun s.bus c.ce) (only_then (is_output_inside s c) (array_ready_at s.bus c.ce (driving_lun s.bus c.ce) c.byte) r h)
@@ -113,16 +114,16 @@ array_ready_is_permitted s (Cyc c) r h = at (driving_lun s.bus c.ce) (only_then 
     of number None e g = cc
     of number (Some lun) e g =
         let shows = has_ready c.byte && has_array_ready c.byte in
-        let is = given (is_status lun.latch && (not lun.busy && (lun.array_busy && shows))) (Ard c.ce number) r g in
+        let is = given (is_status lun.latch && (not lun.busy && (lun.array_busy && shows))) (Ard c.ce number (shown_array_failure lun c.byte)) r g in
         let rest = (and_parts (is_status lun.latch) (not lun.busy && (lun.array_busy && shows)) is.holds).1 in
         let busy = (and_parts lun.array_busy shows (and_parts (not lun.busy) (lun.array_busy && shows) rest).1).0 in
-        subst (λ (x : Item). judged_here s x ≡ None) is.same (array_busy_there s.bus c.ce number lun (seen_there s.bus c.ce number lun e) busy)
+        subst (λ (x : Item). judged_here s x ≡ None) is.same (array_busy_there s.bus c.ce number (shown_array_failure lun c.byte) lun (seen_there s.bus c.ce number lun e) busy)
 
     at : (o : Option ℕ) → array_ready_at s.bus c.ce o c.byte ≡ Some r → judged_here s r ≡ None
     at None g = cc
     at (Some number) g = of number (looked s.bus (record { ce = c.ce; lun = number })) refl g
 array_ready_is_permitted s (Rdy ce lun fail) r h = cc
-array_ready_is_permitted s (Ard ce lun) r h = cc
+array_ready_is_permitted s (Ard ce lun fail) r h = cc
 
 -- ---- 2. whether there is a fault doesn't hang on the number with which one begins to count
 
@@ -150,13 +151,13 @@ passed s (Some x) rest k m permitted =
 
 -- ---- 3. a ready that is taken for granted is permitted
 
-working_is_permitted : (s : TraceState) (ce number : ℕ) → may_be_done s ce number ≡ true → judged_here s (Rdy ce number false) ≡ None
+working_is_permitted : (s : TraceState) (ce number : ℕ) → may_be_done s ce number ≡ true → judged_here s (Rdy ce number (record { last = false; before = false })) ≡ None
 working_is_permitted s ce number h =
     at (looked s.bus (record { ce = ce; lun = number })) refl (and_parts (is_working (looked s.bus (record { ce = ce; lun = number }))) (not (is_denied s ce number)) h).0
   where
-    at : (o : Option LunState) → looked s.bus (record { ce = ce; lun = number }) ≡ o → is_working o ≡ true → judged_here s (Rdy ce number false) ≡ None
+    at : (o : Option LunState) → looked s.bus (record { ce = ce; lun = number }) ≡ o → is_working o ≡ true → judged_here s (Rdy ce number (record { last = false; before = false })) ≡ None
     at None e g = cc
-    at (Some lun) e g = busy_there s.bus ce number false lun (seen_there s.bus ce number lun e) g
+    at (Some lun) e g = busy_there s.bus ce number (record { last = false; before = false }) lun (seen_there s.bus ce number lun e) g
 
 -- a LUN that works, and that a target may have
 record WorksHere (s : TraceState) (ce number : ℕ) : Type 0 where
@@ -250,6 +251,7 @@ wanted_works (Some NoSoleDriver) s c later = none_works s c.ce
 wanted_works (Some DataNotReady) s c later = driving_works s c.ce
 wanted_works (Some ColumnOutside) s c later = none_works s c.ce
 wanted_works (Some CacheReadMisplaced) s c later = where_works s c.ce (is_opening s.bus.geometry (Cyc c)) (driving_done s c.ce) (driving_works s c.ce)
+wanted_works (Some CacheProgramMisplaced) s c later = none_works s c.ce
 wanted_works (Some CopybackMisplaced) s c later = none_works s c.ce
 wanted_works (Some PlaneNotHeld) s c later = none_works s c.ce
 
@@ -265,7 +267,7 @@ taken_at_work s (Cyc c) later ready h = at (wanted_by (judged_here s (Cyc c)) s 
         let same = same_ready (record { lun = record { ce = c.ce; lun = number }; rule = rule_without (judged_here s (Cyc c)) }) ready g in
         subst (WorksThere s (Cyc c)) same (record { target = refl; works = working_is_permitted s c.ce number (wanted_works (judged_here s (Cyc c)) s c later number e).works })
 taken_at_work s (Rdy ce lun fail) later ready h = cc
-taken_at_work s (Ard ce lun) later ready h = cc
+taken_at_work s (Ard ce lun fail) later ready h = cc
 
 -- its ready is of the item's target, and of one of four LUNs
 pub taken_inside : (s : TraceState) (i : Item) (later : List Item) (r : Item) → IsInside i → ready_taken (unshown s i later) ≡ Some r → IsInside r
@@ -276,9 +278,9 @@ taken_inside s (Cyc c) later r p h = at (wanted_by (judged_here s (Cyc c)) s c l
 
     at : (o : Option ℕ) → wanted_by (judged_here s (Cyc c)) s c later ≡ o → ready_taken (unshown_of c.ce (rule_without (judged_here s (Cyc c))) o) ≡ Some r → IsInside r
     at None e g = cc
-    at (Some number) e g = subst IsInside (same_item (Rdy c.ce number false) g) (p, (wanted_works (judged_here s (Cyc c)) s c later number e).few)
+    at (Some number) e g = subst IsInside (same_item (Rdy c.ce number (record { last = false; before = false })) g) (p, (wanted_works (judged_here s (Cyc c)) s c later number e).few)
 taken_inside s (Rdy ce lun fail) later r p h = cc
-taken_inside s (Ard ce lun) later r p h = cc
+taken_inside s (Ard ce lun fail) later r p h = cc
 
 taken_is_permitted : (s : TraceState) (i : Item) (later : List Item) (x : Item) → ready_taken (unshown s i later) ≡ Some x → judged_here s x ≡ None
 taken_is_permitted s i later x h = at (unshown s i later) refl h

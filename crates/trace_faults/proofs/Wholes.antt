@@ -40,7 +40,7 @@ ready_says doubted (Some rule) = chosen doubted rule
 says : (state : TraceState) (k : Known) (i : Item) → Says (verdict_on state k i) (judged_here state i)
 says state k (Cyc c) = cycle_says (doubts state.bus k c.ce) (judged_here state (Cyc c))
 says state k (Rdy ce lun fail) = ready_says (doubts_ready state.bus k ce lun) (judged_here state (Rdy ce lun fail))
-says state k (Ard ce lun) = ready_says (doubts_ready state.bus k ce lun) (judged_here state (Ard ce lun))
+says state k (Ard ce lun fail) = ready_says (doubts_ready state.bus k ce lun) (judged_here state (Ard ce lun fail))
 
 with_says : (o : Option UnshownReady) (v : Verdict) (rule : Option Forbidden) → Says v rule → Says (with_ready_taken o v) rule
 with_says None v rule said = said

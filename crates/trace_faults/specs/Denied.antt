@@ -84,7 +84,7 @@ busy_by bus c OutputCycle shown = busy_at bus c.ce (driving_lun bus c.ce) c.byte
 abbrev pub shown_busy_after : BusView → Item → List Bool → List Bool
 shown_busy_after bus (Cyc c) shown = busy_by bus c (target_cycle c.kind c.byte) shown
 shown_busy_after bus (Rdy ce lun fail) shown = slice_set shown (place_of ce lun) false
-shown_busy_after bus (Ard _ _) shown = shown
+shown_busy_after bus (Ard _ _ _) shown = shown
 
 -- a LUN that works, and shows nothing
 abbrev pub works_unseen : Option LunState → Bool
@@ -110,14 +110,14 @@ abbrev pub after_addresses : BusView → Item → List Bool → List Bool
 after_addresses bus (Cyc c) shown =
     if is_address c.kind then silenced bus c.ce 3 (silenced bus c.ce 2 (silenced bus c.ce 1 (silenced bus c.ce 0 shown))) else shown
 after_addresses bus (Rdy _ _ _) shown = shown
-after_addresses bus (Ard _ _) shown = shown
+after_addresses bus (Ard _ _ _) shown = shown
 
 -- ---- readies that are written
 
 abbrev pub is_ready_of : ℕ → Item → Bool
 is_ready_of ce (Cyc _) = false
 is_ready_of ce (Rdy other _ _) = other == ce
-is_ready_of ce (Ard _ _) = false
+is_ready_of ce (Ard _ _ _) = false
 
 -- items tell when a LUN of this target becomes ready
 abbrev pub tells_readies : ℕ → List Item → Bool

@@ -7,4 +7,4 @@ use Rattle.onfi_cycle.specs.declared.item.Item.TheVariants.{Cyc, Rdy, Ard}
 abbrev pub IsInside : Item → Type 0
 IsInside (Cyc c) = c.ce ≤ 3
 IsInside (Rdy ce lun fail) = (ce ≤ 3) × (lun ≤ 3)
-IsInside (Ard ce lun) = (ce ≤ 3) × (lun ≤ 3)
+IsInside (Ard ce lun fail) = (ce ≤ 3) × (lun ≤ 3)

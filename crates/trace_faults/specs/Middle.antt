@@ -1,11 +1,11 @@
 -- What can be judged of a trace whose recording began in the middle: nobody knows what its LUNs did before.
 use Rattle.std.specs.Prelude.{ℕ, ◌+◌, ◌==◌, Bool, true, false, not, ◌&&◌, ◌||◌, nat_lt, List, [], ◌∷◌, ◌++◌, Option, Some, None, get_or, slice_set, if◌then◌else◌}
-use Rattle.nand_geometry.specs.Optional.{has_enhanced_column, has_plane_reads, has_copyback}
+use Rattle.nand_geometry.specs.Optional.{has_enhanced_column, has_plane_reads, has_copyback, has_program_cache}
 use Rattle.nand_geometry.specs.declared.parts.Parts.{Parts}
 use Rattle.onfi_cycle.specs.declared.item.Item.{Item}
 use Rattle.onfi_cycle.specs.declared.item.Item.TheVariants.{Cyc, Rdy, Ard}
 use Rattle.onfi_cycle.specs.declared.forbidden.Forbidden.{Forbidden}
-use Rattle.onfi_cycle.specs.declared.forbidden.Forbidden.TheVariants.{NotThere, CommandUnknown, SequenceOpen, SeveralLuns, NoColumnToChange, CommandMisplaced, AddressMisplaced, RowOutside, LunBusy, QueueClash, InputMisplaced, NoSoleDriver, DataNotReady, ColumnOutside, CacheReadMisplaced, CopybackMisplaced, PlaneNotHeld}
+use Rattle.onfi_cycle.specs.declared.forbidden.Forbidden.TheVariants.{NotThere, CommandUnknown, SequenceOpen, SeveralLuns, NoColumnToChange, CommandMisplaced, AddressMisplaced, RowOutside, LunBusy, QueueClash, InputMisplaced, NoSoleDriver, DataNotReady, ColumnOutside, CacheReadMisplaced, CacheProgramMisplaced, CopybackMisplaced, PlaneNotHeld}
 use Rattle.onfi_cycle.specs.declared.lun_state.LunState.{LunState}
 use Rattle.onfi_cycle.specs.declared.register.Register.{Register}
 use Rattle.onfi_cycle.specs.declared.register.Register.TheVariants.{Page}
@@ -102,7 +102,7 @@ is_reset_cycle _ = false
 abbrev pub is_reset : Item → Bool
 is_reset (Cyc c) = is_reset_cycle (target_cycle c.kind c.byte)
 is_reset (Rdy _ _ _) = false
-is_reset (Ard _ _) = false
+is_reset (Ard _ _ _) = false
 
 -- the LUN begins work between these looks at it, which sets what it holds and has begun; a cache read that goes on or ends hangs on what it had begun
 abbrev pub begins_anew : (before after : Option LunState) → Bool
@@ -156,13 +156,14 @@ looks_of state ce = record {
 abbrev pub stops_others : Parts → Bool
 stops_others g = is_shared g || (has_enhanced_column g.optional && nat_lt 1 g.luns)
 
--- nothing is sure of a target before a reset: commands of one LUN stop the others, or its chip has a copyback. There an 85 begins one or goes on with a
--- program that nobody saw, and which pages may be copied hangs on reads that nobody saw
+-- nothing is sure of a target before a reset: commands of one LUN stop the others, or its chip has a copyback, or programs caches. There an 85 begins a
+-- copyback or goes on with a program that nobody saw, which pages may be copied hangs on reads that nobody saw, and whether the array goes on with a page
+-- hangs on a program that nobody saw
 abbrev pub waits_for_reset : Parts → Bool
-waits_for_reset g = stops_others g || has_copyback g.optional
+waits_for_reset g = stops_others g || (has_copyback g.optional || has_program_cache g.optional)
 
 -- from this item on its target is judged: from an opener. Where commands stop other LUNs, 70 shows the status of the one that was selected before, and what
--- is for all stops the others: there it is judged from a reset on, after which all is known of it, and so it is where a chip has a copyback
+-- is for all stops the others: there it is judged from a reset on, after which all is known of it, and so it is where a chip has a copyback or programs caches
 abbrev pub begins_here : Parts → Item → Bool
 begins_here g i = if waits_for_reset g then is_reset i else is_opening g i
 
@@ -195,6 +196,7 @@ hangs_on_before NoSoleDriver = true
 hangs_on_before DataNotReady = true
 hangs_on_before ColumnOutside = true
 hangs_on_before CacheReadMisplaced = true
+hangs_on_before CacheProgramMisplaced = true
 hangs_on_before CopybackMisplaced = true
 hangs_on_before PlaneNotHeld = true
 
@@ -211,13 +213,13 @@ of_ready doubted (Some rule) = if doubted then Granted rule else Broken rule
 abbrev pub verdict_on : TraceState → Known → Item → Verdict
 verdict_on t k (Cyc c) = of_cycle (doubts t.bus k c.ce) (judged_here t (Cyc c))
 verdict_on t k (Rdy ce lun fail) = of_ready (doubts_ready t.bus k ce lun) (judged_here t (Rdy ce lun fail))
-verdict_on t k (Ard ce lun) = of_ready (doubts_ready t.bus k ce lun) (judged_here t (Ard ce lun))
+verdict_on t k (Ard ce lun fail) = of_ready (doubts_ready t.bus k ce lun) (judged_here t (Ard ce lun fail))
 
 -- an item that belongs to a sequence whose opener wasn't seen: a cycle of a target before the first from which that is judged
 abbrev pub is_passed_over : Parts → Known → Item → Bool
 is_passed_over g k (Cyc c) = not (k.opened || begins_here g (Cyc c))
 is_passed_over g k (Rdy _ _ _) = false
-is_passed_over g k (Ard _ _) = false
+is_passed_over g k (Ard _ _ _) = false
 
 -- ---- one item after another
 
@@ -229,7 +231,7 @@ pub record Seen : Type 0 where
 abbrev pub granted_to : Item → Seen → Seen
 granted_to (Cyc c) seen = record { state = without_sequence c.ce seen.state; known = slice_set seen.known c.ce nothing_known }
 granted_to (Rdy _ _ _) seen = seen
-granted_to (Ard _ _) seen = seen
+granted_to (Ard _ _ _) seen = seen
 
 -- what an item leaves that is judged
 abbrev pub judged_on : Item → Seen → Seen

@@ -34,7 +34,7 @@ opens_sequence g OutputCycle = false
 abbrev pub is_opening : Parts → Item → Bool
 is_opening g (Cyc c) = opens_sequence g (target_cycle c.kind c.byte)
 is_opening g (Rdy _ _ _) = false
-is_opening g (Ard _ _) = false
+is_opening g (Ard _ _ _) = false
 
 -- the cycle begins a sequence whatever was before: an 85 may go on with the data of a program
 abbrev pub begins_alone : TargetCycle → Bool
@@ -100,7 +100,7 @@ standing_after rule bus c s = if leaves_profile rule bus c.ce then Outside else 
 abbrev pub standings_after : Option Forbidden → BusView → Item → List Standing → List Standing
 standings_after rule bus (Cyc c) standings = slice_set standings c.ce (standing_after rule bus c (standing_of standings c.ce))
 standings_after rule bus (Rdy _ _ _) standings = standings
-standings_after rule bus (Ard _ _) standings = standings
+standings_after rule bus (Ard _ _ _) standings = standings
 
 -- ---- what is passed over
 
@@ -137,4 +137,4 @@ belongs_outside Interrupted bus c = is_output c.kind && not (shows_status bus c.
 abbrev pub is_outside : TraceState → Item → Bool
 is_outside t (Cyc c) = belongs_outside (standing_of t.standings c.ce) t.bus c
 is_outside t (Rdy _ _ _) = false
-is_outside t (Ard _ _) = false
+is_outside t (Ard _ _ _) = false

@@ -29,7 +29,7 @@ step_by Dout coming byte = BrokenOff
 abbrev pub step_of : ℕ → RowComing → Item → RowStep
 step_of ce coming (Cyc c) = if c.ce == ce then step_by c.kind coming c.byte else GoesOn coming
 step_of ce coming (Rdy other lun fail) = if other == ce then BrokenOff else GoesOn coming
-step_of ce coming (Ard other lun) = GoesOn coming
+step_of ce coming (Ard other lun fail) = GoesOn coming
 
 abbrev pub row_by : RowStep → (RowComing → Option ℕ) → Option ℕ
 row_by (Given row) more = Some row

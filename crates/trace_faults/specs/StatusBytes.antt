@@ -44,7 +44,7 @@ doubt_at state ce (Some number) byte = doubt_of (looked state (record { ce = ce;
 abbrev pub byte_doubt : TraceState → Item → Option StatusDoubt
 byte_doubt t (Cyc c) = if is_output_inside t c then doubt_at t.bus c.ce (driving_lun t.bus c.ce) c.byte else None
 byte_doubt state (Rdy _ _ _) = None
-byte_doubt state (Ard _ _) = None
+byte_doubt state (Ard _ _ _) = None
 
 abbrev pub doubted_at : ℕ → Option StatusDoubt → List DoubtedByte
 doubted_at n None = []

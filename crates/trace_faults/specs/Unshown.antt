@@ -4,7 +4,7 @@ use Rattle.onfi_cycle.specs.declared.item.Cycle.{Cycle}
 use Rattle.onfi_cycle.specs.declared.item.Item.{Item}
 use Rattle.onfi_cycle.specs.declared.item.Item.TheVariants.{Cyc, Rdy, Ard}
 use Rattle.onfi_cycle.specs.declared.forbidden.Forbidden.{Forbidden}
-use Rattle.onfi_cycle.specs.declared.forbidden.Forbidden.TheVariants.{NotThere, CommandUnknown, SequenceOpen, SeveralLuns, NoColumnToChange, CommandMisplaced, AddressMisplaced, RowOutside, LunBusy, QueueClash, InputMisplaced, NoSoleDriver, DataNotReady, ColumnOutside, CacheReadMisplaced, CopybackMisplaced, PlaneNotHeld}
+use Rattle.onfi_cycle.specs.declared.forbidden.Forbidden.TheVariants.{NotThere, CommandUnknown, SequenceOpen, SeveralLuns, NoColumnToChange, CommandMisplaced, AddressMisplaced, RowOutside, LunBusy, QueueClash, InputMisplaced, NoSoleDriver, DataNotReady, ColumnOutside, CacheReadMisplaced, CacheProgramMisplaced, CopybackMisplaced, PlaneNotHeld}
 use Rattle.onfi_cycle.specs.declared.lun_state.LunState.{LunState}
 use Rattle.onfi_cycle.specs.declared.target_cycle.TargetCycle.{TargetCycle}
 use Rattle.onfi_cycle.specs.declared.target_cycle.TargetCycle.TheVariants.{CommandCycle, AddressCycle, InputCycle, OutputCycle}
@@ -94,6 +94,7 @@ wanted_by (Some NoSoleDriver) state c later = None
 wanted_by (Some DataNotReady) state c later = driving_done state c.ce
 wanted_by (Some ColumnOutside) state c later = None
 wanted_by (Some CacheReadMisplaced) state c later = if is_opening state.bus.geometry (Cyc c) then driving_done state c.ce else None
+wanted_by (Some CacheProgramMisplaced) state c later = None
 wanted_by (Some CopybackMisplaced) state c later = None
 wanted_by (Some PlaneNotHeld) state c later = None
 
@@ -110,7 +111,7 @@ unshown_of ce rule (Some number) = Some (record { lun = record { ce = ce; lun = 
 abbrev pub unshown : TraceState → Item → (later : List Item) → Option UnshownReady
 unshown state (Cyc c) later = unshown_of c.ce (rule_without (judged_here state (Cyc c))) (wanted_by (judged_here state (Cyc c)) state c later)
 unshown state (Rdy _ _ _) later = None
-unshown state (Ard _ _) later = None
+unshown state (Ard _ _ _) later = None
 
 -- an opener of what stands beside the array
 abbrev pub asks_target : TargetCycle → Bool
@@ -123,7 +124,7 @@ asks_target OutputCycle = false
 abbrev pub needs_each : Parts → Item → Bool
 needs_each g (Cyc c) = is_shared g && asks_target (target_cycle c.kind c.byte)
 needs_each g (Rdy _ _ _) = false
-needs_each g (Ard _ _) = false
+needs_each g (Ard _ _ _) = false
 
 -- a further LUN that is taken for ready before such an item, once those before it are
 abbrev pub further : TraceState → Item → (later : List Item) → Option UnshownReady
@@ -131,7 +132,7 @@ further state i later = if needs_each state.bus.geometry i then unshown state i 
 
 -- its ready, without failure
 abbrev pub ready_for : UnshownReady → Item
-ready_for u = Rdy u.lun.ce u.lun.lun false
+ready_for u = Rdy u.lun.ce u.lun.lun (record { last = false; before = false })
 
 abbrev pub ready_taken : Option UnshownReady → Option Item
 ready_taken None = None

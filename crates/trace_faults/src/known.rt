@@ -42,11 +42,12 @@ fn stops_others(geometry: &Geometry) -> bool
     is_shared(geometry) || (parts.optional.has_enhanced_column() && parts.luns > 1)
 }
 
-// Whether nothing is sure of a target before a reset: commands of one LUN stop the others, or its chip has a copyback.
+// Whether nothing is sure of a target before a reset: commands of one LUN stop the others, or its chip has a copyback or programs caches.
 fn waits_for_reset(geometry: &Geometry) -> bool
     ensures { result ≡ waits_for_reset geometry.now }
 {
-    stops_others(geometry) || geometry.parts().optional.has_copyback()
+    let optional = geometry.parts().optional;
+    stops_others(geometry) || optional.has_copyback() || optional.has_program_cache()
 }
 
 /// From this item on its target, which has this geometry, is judged: from an opener, or from a reset where nothing is sure before one.

@@ -40,7 +40,10 @@ fn verdict_on(state: &TraceState, known: Known, item: Item) -> Verdict
             known.doubts_ready(&state.bus, ce, lun),
             rule,
         ),
-        Item::Ard { ce, lun } => Verdict::of_ready(known.doubts_ready(&state.bus, ce, lun), rule),
+        Item::Ard { ce, lun, .. } => Verdict::of_ready(
+            known.doubts_ready(&state.bus, ce, lun),
+            rule,
+        ),
     }
 }
 

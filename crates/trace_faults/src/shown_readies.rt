@@ -1,16 +1,47 @@
 //! The readies that a status output shows.
 ghost use Rattle.std.specs.Prelude.{◌≡◌};
 ghost use Rattle.onfi_cycle.specs.Look.{looked};
-ghost use Rattle.trace_faults.specs.ShownReadies.{ready_of, array_ready_of, is_output_inside, ready_before, array_ready_before, gone_on_some, with_ready, with_readies, has_array_ready};
+ghost use Rattle.trace_faults.specs.ShownReadies.{ready_of, array_ready_of, is_output_inside, ready_before, array_ready_before, gone_on_some, with_ready, with_readies, has_array_ready, has_fail_before, shown_failures, shown_array_failure};
 
 use crate::denied::find_driver;
 use crate::outside::{is_output, is_status};
 use crate::trace_state::TraceState;
-use onfi_cycle::{Cycle, Item, Lun, LunState, Status};
+use nand_geometry::Geometry;
+use onfi_cycle::{Cycle, Failures, Item, Lun, LunState, Status};
+
+// The status byte says that the page before failed (FAILC).
+fn has_fail_before(byte: u8) -> bool
+    ensures { result ≡ has_fail_before byte }
+{
+    byte & 2 == 2
+}
+
+// What a ready tells that this byte shows: FAIL, unless the array goes on with what was programmed; and FAILC, where the chip programs caches.
+fn shown_failures(geometry: &Geometry, lun: LunState, byte: u8) -> Failures
+    ensures { result ≡ shown_failures geometry.now lun byte }
+{
+    Failures {
+        last: Status(byte).has_failed() && !lun.programming,
+        before: geometry.parts().optional.has_program_cache() && has_fail_before(byte),
+    }
+}
+
+// What a ready of the array tells that this byte shows: FAIL, where that programs.
+fn shown_array_failure(lun: LunState, byte: u8) -> bool
+    ensures { result ≡ shown_array_failure lun byte }
+{
+    lun.programming && Status(byte).has_failed()
+}
 
 // The ready that a byte of a LUN shows.
-fn ready_of(lun: Option<LunState>, ce: u8, number: u8, byte: u8) -> Option<Item>
-    ensures { result ≡ ready_of lun ce number byte }
+fn ready_of(
+    geometry: &Geometry,
+    lun: Option<LunState>,
+    ce: u8,
+    number: u8,
+    byte: u8,
+) -> Option<Item>
+    ensures { result ≡ ready_of geometry.now lun ce number byte }
 {
     let lun = lun?;
     let status = Status(byte);
@@ -18,7 +49,7 @@ fn ready_of(lun: Option<LunState>, ce: u8, number: u8, byte: u8) -> Option<Item>
         return Some(Item::Rdy {
             ce,
             lun: number,
-            fail: status.has_failed(),
+            fail: shown_failures(geometry, lun, byte),
         });
     }
     None
@@ -43,7 +74,11 @@ fn array_ready_of(lun: Option<LunState>, ce: u8, number: u8, byte: u8) -> Option
         && status.is_ready()
         && shows_array_ready(byte)
     {
-        return Some(Item::Ard { ce, lun: number });
+        return Some(Item::Ard {
+            ce,
+            lun: number,
+            fail: shown_array_failure(lun, byte),
+        });
     }
     None
 }
@@ -70,7 +105,13 @@ fn ready_before(state: &TraceState, item: Item) -> Option<Item>
         ce: cycle.ce,
         lun: number,
     };
-    ready_of(state.bus.lun_state(lun), cycle.ce, number, cycle.byte)
+    ready_of(
+        &state.bus.geometry(),
+        state.bus.lun_state(lun),
+        cycle.ce,
+        number,
+        cycle.byte,
+    )
 }
 
 // The ready of an array that an item shows.

@@ -19,7 +19,7 @@ pub enum StatusDoubt {
     ShowsReady,
     /// No RDY, though the LUN has no work.
     ShowsBusy,
-    /// ARDY, though a cache read goes on in the array.
+    /// ARDY, though a cache read or a cache program goes on in the array.
     ShowsArrayReady,
     /// No ARDY, though nothing goes on in the array.
     ShowsArrayBusy,

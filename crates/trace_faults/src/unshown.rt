@@ -9,7 +9,7 @@ use crate::outside::is_opening;
 use crate::row_ahead::given_row;
 use crate::trace_state::TraceState;
 use nand_geometry::Geometry;
-use onfi_cycle::{Cycle, Forbidden, Item, Lun, LunState, TargetCycle, is_shared};
+use onfi_cycle::{Cycle, Failures, Forbidden, Item, Lun, LunState, TargetCycle, is_shared};
 
 /// A LUN that is taken for ready before an item, since that needs it and nothing showed it, and the rule that is broken without that. Where the item needs
 /// several it is the first of them.
@@ -172,6 +172,7 @@ fn wanted_by(
             | Forbidden::InputMisplaced
             | Forbidden::NoSoleDriver
             | Forbidden::ColumnOutside
+            | Forbidden::CacheProgramMisplaced
             | Forbidden::CopybackMisplaced
             | Forbidden::PlaneNotHeld,
         ) => None,
@@ -250,7 +251,7 @@ impl UnshownReady {
         Item::Rdy {
             ce: self.lun.ce,
             lun: self.lun.lun,
-            fail: false,
+            fail: Failures::default(),
         }
     }
 }

@@ -30,6 +30,7 @@ fn hangs_on_before(rule: Forbidden) -> bool
         | Forbidden::DataNotReady
         | Forbidden::ColumnOutside
         | Forbidden::CacheReadMisplaced
+        | Forbidden::CacheProgramMisplaced
         | Forbidden::CopybackMisplaced
         | Forbidden::PlaneNotHeld => true,
         Forbidden::NotThere

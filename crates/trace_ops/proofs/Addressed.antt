@@ -3,9 +3,9 @@ use Rattle.std.proofs.Common.{◌≡◌, ◌⊎◌, inl, inr, ℕ, ◌==◌, Boo
 use Rattle.std.proofs.lemmas.Bool.{and_parts, or_parts}
 use Rattle.nand_geometry.specs.declared.parts.Parts.{Parts}
 use Rattle.nand_geometry.specs.declared.optional.Optional.{Optional}
-use Rattle.nand_geometry.specs.Optional.{no_optional, is_wide, has_features, has_unique_id, has_enhanced_column, has_plane_reads, has_lun_reset, has_synchronous_reset, has_copyback}
+use Rattle.nand_geometry.specs.Optional.{no_optional, is_wide, has_features, has_unique_id, has_enhanced_column, has_plane_reads, has_lun_reset, has_synchronous_reset, has_copyback, has_program_cache}
 use Rattle.onfi_cycle.specs.declared.command.Command.{Command}
-use Rattle.onfi_cycle.specs.declared.command.Command.TheVariants.{Read, ChangeReadColumnEnhanced, ChangeReadColumnConfirm, ReadStatus, ReadStatusEnhanced, ReadId, ReadParameterPage, ReadUniqueId, GetFeatures, SetFeatures, ResetLun, SynchronousReset, Unknown, ReadPlane, CopybackRead}
+use Rattle.onfi_cycle.specs.declared.command.Command.TheVariants.{Read, ChangeReadColumnEnhanced, ChangeReadColumnConfirm, ReadStatus, ReadStatusEnhanced, ReadId, ReadParameterPage, ReadUniqueId, GetFeatures, SetFeatures, ResetLun, SynchronousReset, Unknown, ReadPlane, CopybackRead, ProgramCache}
 use Rattle.onfi_cycle.specs.declared.data_phase.DataPhase.{DataPhase}
 use Rattle.onfi_cycle.specs.declared.data_phase.DataPhase.TheVariants.{Outside, FirstColumn, SecondColumn}
 use Rattle.onfi_cycle.specs.declared.item.Item.{Item}
@@ -38,6 +38,7 @@ record HasNone (o : Optional) : Type 0 where
   enhanced_column : has_enhanced_column o ≡ false
   plane_reads : has_plane_reads o ≡ false
   copyback : has_copyback o ≡ false
+  program_cache : has_program_cache o ≡ false
   features : has_features o ≡ false
   lun_reset : has_lun_reset o ≡ false
   synchronous_reset : has_synchronous_reset o ≡ false
@@ -49,6 +50,7 @@ has_none o h = record {
   enhanced_column = ap has_enhanced_column h;
   plane_reads = ap has_plane_reads h;
   copyback = ap has_copyback h;
+  program_cache = ap has_program_cache h;
   features = ap has_features h;
   lun_reset = ap has_lun_reset h;
   synchronous_reset = ap has_synchronous_reset h;
@@ -65,6 +67,7 @@ unfolding breaks_command_unknown
 base_command g ChangeReadColumnEnhanced base h = absurd (denied (has_enhanced_column g.optional) (has_none g.optional base).enhanced_column h)
 base_command g ReadPlane base h = absurd (denied (has_plane_reads g.optional) (has_none g.optional base).plane_reads h)
 base_command g CopybackRead base h = absurd (denied (has_copyback g.optional) (has_none g.optional base).copyback h)
+base_command g ProgramCache base h = absurd (denied (has_program_cache g.optional) (has_none g.optional base).program_cache h)
 base_command g ReadUniqueId base h = absurd (denied (has_unique_id g.optional) (has_none g.optional base).unique_id h)
 base_command g GetFeatures base h = absurd (denied (has_features g.optional) (has_none g.optional base).features h)
 base_command g SetFeatures base h = absurd (denied (has_features g.optional) (has_none g.optional base).features h)

@@ -3,7 +3,7 @@ use Rattle.std.proofs.Common.{◌≡◌, ℕ, ◌+◌, ◌==◌, Bool, true, fal
 use Rattle.std.proofs.lemmas.Bool.{and_parts, and_right, or_right}
 use Rattle.nand_geometry.specs.declared.parts.Parts.{Parts}
 use Rattle.onfi_cycle.specs.declared.command.Command.{Command}
-use Rattle.onfi_cycle.specs.declared.command.Command.TheVariants.{Read, ReadStatus, ReadStatusEnhanced, ChangeWriteColumn, ProgramConfirm, ProgramPlane}
+use Rattle.onfi_cycle.specs.declared.command.Command.TheVariants.{Read, ReadStatus, ReadStatusEnhanced, ChangeWriteColumn, ProgramConfirm, ProgramPlane, ProgramCache}
 use Rattle.onfi_cycle.specs.declared.data_phase.DataPhase.TheVariants.{Outside, Inputs, FeatureInputs}
 use Rattle.onfi_cycle.specs.declared.item.Item.{Item}
 use Rattle.onfi_cycle.specs.declared.lun.Lun.{Lun}
@@ -57,6 +57,7 @@ pub asking_command : (t : List TargetCycle) (d : Command) → Asking t → wants
 asking_command t ChangeWriteColumn a = ap takes_data a.outside
 asking_command t ProgramConfirm a = ap takes_data a.outside
 asking_command t ProgramPlane a = ap takes_data a.outside
+asking_command t ProgramCache a = ap takes_data a.outside
 asking_command t d a = closer_none t d a
 
 pub asking_input : (t : List TargetCycle) → Asking t → takes_inputs (data_phase t) ≡ false

@@ -262,7 +262,7 @@ new_parent j newest (Cyc c) = at c.kind
     at Din = refl
     at Dout = refl
 new_parent j newest (Rdy ce lun fail) = refl
-new_parent j newest (Ard ce lun) = refl
+new_parent j newest (Ard ce lun fail) = refl
 
 sound_append : (p : Places) (ops : List Operation) (x : Operation) → x.parent ≡ None → Sound p ops → Sound p (ops ++ (x ∷ []))
 sound_append p ops x orphan sound = record {
@@ -300,7 +300,7 @@ loud_folds_none owner j (Cyc c) = at (is_new_opener owner j c.kind)
     at true = refl
     at false = refl
 loud_folds_none owner j (Rdy ce lun fail) = refl
-loud_folds_none owner j (Ard ce lun) = refl
+loud_folds_none owner j (Ard ce lun fail) = refl
 
 plainly_sound : (p : Places) (k : ℕ) (c : Change) (ops : List Operation) → is_plain c ≡ true → Sound p ops → Sound p (changed_at k c ops)
 plainly_sound p k c ops plain sound = sound_at p k c ops (plain_folds_none c plain) sound
@@ -529,7 +529,7 @@ command_of_kind Dout byte = None
 abbrev command_of : Item → Option ℕ
 command_of (Cyc c) = command_of_kind c.kind c.byte
 command_of (Rdy ce lun fail) = None
-command_of (Ard ce lun) = None
+command_of (Ard ce lun fail) = None
 
 -- an opener that closes nothing
 abbrev Alone : ℕ → Type 0
@@ -608,7 +608,7 @@ module _ (j : Judged) (k : ℕ) (ops : List Operation) (o : Operation) (is : sli
     item_fits lun (Cyc c) cmd main =
         if_fits (is_permitted j.said) _ role.Nothing (λ e. kind_fits c (begins_by j (Cyc c) lun) (look_at j.after lun) c.kind cmd main) (λ e. tt)
     item_fits lun (Rdy ce l fail) cmd main = tt
-    item_fits lun (Ard ce l) cmd main = tt
+    item_fits lun (Ard ce l fail) cmd main = tt
 
 role_fits : (j : Judged) (k lun : ℕ) (ops : List Operation) → Context j k ops → (begins_by j j.item lun ≡ true → Main ops k) → RoleFits (role_by j (op_of ops (Some k)) j.item lun) ops k
 role_fits j k lun ops context main = at (slice_get ops k) refl
@@ -677,7 +677,7 @@ opens_new ops p j (Cyc c) byte cmd opens = at c.kind cmd
     at Din e = cc
     at Dout e = cc
 opens_new ops p j (Rdy ce lun fail) byte cmd opens = cc
-opens_new ops p j (Ard ce lun) byte cmd opens = cc
+opens_new ops p j (Ard ce lun fail) byte cmd opens = cc
 
 new_opener : (j : Judged) (newest : Option Operation) (i : Item) (byte : ℕ) → command_of i ≡ Some byte → Alone byte → (new_one j newest i).beginning ≡ begins.Opener byte
 new_opener j newest (Cyc c) byte cmd opens = at c.kind cmd
@@ -692,7 +692,7 @@ new_opener j newest (Cyc c) byte cmd opens = at c.kind cmd
     at Din e = cc
     at Dout e = cc
 new_opener j newest (Rdy ce lun fail) byte cmd opens = cc
-new_opener j newest (Ard ce lun) byte cmd opens = cc
+new_opener j newest (Ard ce lun fail) byte cmd opens = cc
 
 -- the operation of an opener begins with it
 abbrev OpensWith : Judged → ℕ → ℕ → Beginning → Kept → Type 0
@@ -753,7 +753,7 @@ old_closed owner m j (Cyc c) b closer h cmd = at c.kind cmd
     at Din e = cc
     at Dout e = cc
 old_closed owner m j (Rdy ce lun fail) b closer h cmd = cc
-old_closed owner m j (Ard ce lun) b closer h cmd = cc
+old_closed owner m j (Ard ce lun fail) b closer h cmd = cc
 
 new_closed : (j : Judged) (newest : Option Operation) (i : Item) (closer : Option ℕ) → command_of i ≡ Some 0xe0 → (is_some closer || not (asks (new_one j newest i).beginning)) ≡ true
 new_closed j newest (Cyc c) closer cmd = at c.kind cmd
@@ -776,7 +776,7 @@ new_closed j newest (Cyc c) closer cmd = at c.kind cmd
     at Din e = cc
     at Dout e = cc
 new_closed j newest (Rdy ce lun fail) closer cmd = cc
-new_closed j newest (Ard ce lun) closer cmd = cc
+new_closed j newest (Ard ce lun fail) closer cmd = cc
 
 closed_came : (j : Judged) (l : Listing) → Each (ClosedBy j (mark_in j (with_ends j l))) (came j l).ops
 closed_came j l = each_came Anything (ClosedBy j (mark_in j (with_ends j l))) j l (λ k o is. tt) old new

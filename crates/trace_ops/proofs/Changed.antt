@@ -148,7 +148,7 @@ loud_inputs owner j (Cyc c) o lt = at owner c.kind
     at None Dout = omega arith
     at (Some k) Dout = omega arith
 loud_inputs owner j (Rdy ce lun fail) o lt = omega arith
-loud_inputs owner j (Ard ce lun) o lt = omega arith
+loud_inputs owner j (Ard ce lun fail) o lt = omega arith
 
 pub loud_outputs : (owner : Option ℕ) (j : Judged) (i : Item) (o : Operation) → o.outputs < 18446744073709551615 → (changed (change_of owner j i) o).outputs ≡ o.outputs + one_if (is_output_item i)
 loud_outputs owner j (Cyc c) o lt = at owner c.kind
@@ -166,7 +166,7 @@ loud_outputs owner j (Cyc c) o lt = at owner c.kind
     at None Dout = one_more_is o.outputs lt
     at (Some k) Dout = one_more_is o.outputs lt
 loud_outputs owner j (Rdy ce lun fail) o lt = omega arith
-loud_outputs owner j (Ard ce lun) o lt = omega arith
+loud_outputs owner j (Ard ce lun fail) o lt = omega arith
 
 -- ---- whether it is clean
 
@@ -202,7 +202,7 @@ loud_unclean owner j (Cyc c) o h = at (is_new_opener owner j c.kind)
     at true = and_false o.is_clean (is_clean j.said) h
     at false = and_false (with_byte c.kind c.byte o).is_clean (is_clean j.said) h
 loud_unclean owner j (Rdy ce lun fail) o h = and_false o.is_clean (is_clean j.said) h
-loud_unclean owner j (Ard ce lun) o h = and_false o.is_clean (is_clean j.said) h
+loud_unclean owner j (Ard ce lun fail) o h = and_false o.is_clean (is_clean j.said) h
 
 told_set : (ops : List Operation) (m k : ℕ) (o y : Operation) → slice_get ops m ≡ Some o → (o.is_clean ≡ false → y.is_clean ≡ false) → IsTold ops k → IsTold (slice_set ops m y) k
 told_set [] m k o y h stays told = told
@@ -293,7 +293,7 @@ loud_first owner j (Cyc c) o = at (is_new_opener owner j c.kind)
     at true = refl
     at false = kept_first c.kind c.byte o
 loud_first owner j (Rdy ce lun fail) o = refl
-loud_first owner j (Ard ce lun) o = refl
+loud_first owner j (Ard ce lun fail) o = refl
 
 pub loud_last : (owner : Option ℕ) (j : Judged) (i : Item) (o : Operation) → (changed (change_of owner j i) o).last ≡ j.number
 loud_last owner j (Cyc c) o = at (is_new_opener owner j c.kind)
@@ -302,7 +302,7 @@ loud_last owner j (Cyc c) o = at (is_new_opener owner j c.kind)
     at true = refl
     at false = refl
 loud_last owner j (Rdy ce lun fail) o = refl
-loud_last owner j (Ard ce lun) o = refl
+loud_last owner j (Ard ce lun fail) o = refl
 
 -- what stands at a place once another was put somewhere
 pub put : (ops : List Operation) (m k : ℕ) (y w : Operation) → slice_get (slice_set ops m y) k ≡ Some w →

@@ -270,9 +270,9 @@ rows_ready g targets (Rdy x lun fail ∷ past) ce one legal =
     either : (b : Bool) → cond b false false ≡ false
     either true = refl
     either false = refl
-rows_ready g targets (Ard x lun ∷ past) ce one legal =
-    same_ready g (facts_of (tail past ce)) (is_busy g past (at_lun ce 0)) _ (λ rests. array_ready_busy g past x lun (at_lun ce 0) ∙ rests)
-    (rows_ready g targets past ce one (and_parts (is_permitted g targets past (Ard x lun)) (is_legal g targets past) legal).1)
+rows_ready g targets (Ard x lun fail ∷ past) ce one legal =
+    same_ready g (facts_of (tail past ce)) (is_busy g past (at_lun ce 0)) _ (λ rests. array_ready_busy g past x lun fail (at_lun ce 0) ∙ rests)
+    (rows_ready g targets past ce one (and_parts (is_permitted g targets past (Ard x lun fail)) (is_legal g targets past) legal).1)
 
 -- ---- the closer
 

@@ -3,7 +3,7 @@ use Rattle.std.proofs.Common.{◌≡◌, ◌⊎◌, inl, inr, ℕ, ◌==◌, Boo
 use Rattle.std.proofs.Math.Bool.{and-false}
 use Rattle.std.proofs.lemmas.Bool.{and_parts}
 use Rattle.onfi_cycle.specs.declared.command.Command.{Command}
-use Rattle.onfi_cycle.specs.declared.command.Command.TheVariants.{Read, ReadConfirm, ChangeReadColumn, ChangeReadColumnEnhanced, ChangeReadColumnConfirm, BlockErase, BlockEraseConfirm, BlockErasePlane, ReadStatus, ReadStatusEnhanced, PageProgram, ChangeWriteColumn, ProgramConfirm, ProgramPlane, ReadId, ReadParameterPage, Reset, ReadCacheSequential, ReadCacheEnd, ReadUniqueId, GetFeatures, SetFeatures, ResetLun, SynchronousReset, Unknown, ReadPlane, CopybackRead}
+use Rattle.onfi_cycle.specs.declared.command.Command.TheVariants.{Read, ReadConfirm, ChangeReadColumn, ChangeReadColumnEnhanced, ChangeReadColumnConfirm, BlockErase, BlockEraseConfirm, BlockErasePlane, ReadStatus, ReadStatusEnhanced, PageProgram, ChangeWriteColumn, ProgramConfirm, ProgramPlane, ReadId, ReadParameterPage, Reset, ReadCacheSequential, ReadCacheEnd, ReadUniqueId, GetFeatures, SetFeatures, ResetLun, SynchronousReset, Unknown, ReadPlane, CopybackRead, ProgramCache}
 use Rattle.onfi_cycle.specs.declared.data_phase.DataPhase.{DataPhase}
 use Rattle.onfi_cycle.specs.declared.data_phase.DataPhase.TheVariants.{Outside, Inputs, FirstColumn, SecondColumn, FeatureInputs}
 use Rattle.onfi_cycle.specs.declared.opening.Opening.{Opening}
@@ -78,6 +78,7 @@ after_nothing BlockEraseConfirm h = cc
 after_nothing BlockErasePlane h = cc
 after_nothing ReadPlane h = cc
 after_nothing CopybackRead h = cc
+after_nothing ProgramCache h = cc
 after_nothing ReadStatus h = cc
 after_nothing ReadStatusEnhanced h = cc
 after_nothing PageProgram h = cc
@@ -119,6 +120,7 @@ column_alone BlockEraseConfirm d h = cc
 column_alone BlockErasePlane d h = cc
 column_alone ReadPlane d h = cc
 column_alone CopybackRead d h = cc
+column_alone ProgramCache d h = cc
 column_alone ReadStatus d h = cc
 column_alone ReadStatusEnhanced d h = cc
 column_alone PageProgram d h = cc
@@ -225,14 +227,15 @@ content_input b closer byte t was = record { opens = λ o h. none o h; program =
 
 -- ---- which command begins one
 
--- a command that closes a sequence is one of the base profile, or 32h or 35h
-base_closer : (c : Command) → begins_alone (CommandCycle c) ≡ false → is_known c ≡ true → (is_of_base c ≡ true) ⊎ ((c ≡ ReadPlane) ⊎ (c ≡ CopybackRead))
+-- a command that closes a sequence is one of the base profile, or 32h, 35h or 15h
+base_closer : (c : Command) → begins_alone (CommandCycle c) ≡ false → is_known c ≡ true → (is_of_base c ≡ true) ⊎ ((c ≡ ReadPlane) ⊎ ((c ≡ CopybackRead) ⊎ (c ≡ ProgramCache)))
 base_closer ReadConfirm o k = inl refl
 base_closer ChangeReadColumnConfirm o k = inl refl
 base_closer BlockEraseConfirm o k = inl refl
 base_closer BlockErasePlane o k = inl refl
 base_closer ReadPlane o k = inr (inl refl)
-base_closer CopybackRead o k = inr (inr refl)
+base_closer CopybackRead o k = inr (inr (inl refl))
+base_closer ProgramCache o k = inr (inr (inr refl))
 base_closer ChangeWriteColumn o k = inl refl
 base_closer ProgramConfirm o k = inl refl
 base_closer ProgramPlane o k = inl refl
@@ -259,9 +262,12 @@ base_closer SynchronousReset o k = cc
 no_unknown : (byte : ℕ) → opens_alone byte ≡ false → is_known (command byte) ≡ true → (is_unknown byte && not (closes_as_known byte)) ≡ false
 no_unknown byte o k = at (base_closer (command byte) o k)
   where
-    at : ((is_of_base (command byte) ≡ true) ⊎ ((command byte ≡ ReadPlane) ⊎ (command byte ≡ CopybackRead))) → (is_unknown byte && not (closes_as_known byte)) ≡ false
+    at : ((is_of_base (command byte) ≡ true) ⊎ ((command byte ≡ ReadPlane) ⊎ ((command byte ≡ CopybackRead) ⊎ (command byte ≡ ProgramCache)))) → (is_unknown byte && not (closes_as_known byte)) ≡ false
     at (inl base) = ap (λ x. not x && not (closes_as_known byte)) base
-    at (inr (inr copy)) =
+    at (inr (inr (inr cached))) =
+        let is : byte ≡ 0x15 = byte_of byte 0x15 ProgramCache refl cached in
+        ap (λ n. is_unknown byte && not (closes_as_known n)) is ∙ and-false (is_unknown byte)
+    at (inr (inr (inl copy))) =
         let is : byte ≡ 0x35 = byte_of byte 0x35 CopybackRead refl copy in
         ap (λ n. is_unknown byte && not (closes_as_known n)) is ∙ and-false (is_unknown byte)
     at (inr (inl plane)) =

@@ -24,7 +24,7 @@ new_inputs j newest (Cyc c) = at c.kind
     at Din = refl
     at Dout = refl
 new_inputs j newest (Rdy ce lun fail) = refl
-new_inputs j newest (Ard ce lun) = refl
+new_inputs j newest (Ard ce lun fail) = refl
 
 new_outputs : (j : Judged) (newest : Option Operation) (i : Item) → outputs_of (new_one j newest i) ≡ 0
 new_outputs j newest (Cyc c) = at c.kind
@@ -35,7 +35,7 @@ new_outputs j newest (Cyc c) = at c.kind
     at Din = refl
     at Dout = refl
 new_outputs j newest (Rdy ce lun fail) = refl
-new_outputs j newest (Ard ce lun) = refl
+new_outputs j newest (Ard ce lun fail) = refl
 
 pub count_inputs : Counts inputs_of is_input
 count_inputs = record { quiet = quiet_inputs; loud = loud_inputs; new = new_inputs }

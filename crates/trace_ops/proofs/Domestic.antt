@@ -142,7 +142,7 @@ FitsKind Dout byte b = Unit {0}
 abbrev pub FitsItem : Item → Beginning → Type 0
 FitsItem (Cyc c) b = FitsKind c.kind c.byte b
 FitsItem (Rdy ce lun fail) b = Unit {0}
-FitsItem (Ard ce lun) b = Unit {0}
+FitsItem (Ard ce lun fail) b = Unit {0}
 
 byte_domestic : (kind : Kind) (byte : ℕ) (o : Operation) → FitsKind kind byte o.beginning → Domestic o → Domestic (with_byte kind byte o)
 byte_domestic Cmd byte o fits d = record { opener = d.opener; closer = closed_by _ o.closer byte d.closer fits; addresses = d.addresses; long = d.long }
@@ -160,7 +160,7 @@ loud_domestic owner j (Cyc c) o fits d = at (is_new_opener owner j c.kind)
     at true = like o _ refl refl refl refl d
     at false = like (with_byte c.kind c.byte o) _ refl refl refl refl (byte_domestic c.kind c.byte o fits d)
 loud_domestic owner j (Rdy ce lun fail) o fits d = like o _ refl refl refl refl d
-loud_domestic owner j (Ard ce lun) o fits d = like o _ refl refl refl refl d
+loud_domestic owner j (Ard ce lun fail) o fits d = like o _ refl refl refl refl d
 
 pub begun_domestic : (ce n : ℕ) (b : Beginning) → is_foreign_opener (opener_of b) ≡ false → Domestic (begun ce n b)
 begun_domestic ce n b h = record { opener = h; closer = refl; addresses = refl; long = refl }

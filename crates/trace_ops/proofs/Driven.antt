@@ -5,11 +5,12 @@ use Rattle.std.proofs.lemmas.Bool.{or_parts, not-false}
 use Rattle.std.proofs.lemmas.Option.{slice_get_within}
 use Rattle.nand_geometry.specs.declared.parts.Parts.{Parts}
 use Rattle.onfi_cycle.specs.declared.command.Command.{Command}
-use Rattle.onfi_cycle.specs.declared.command.Command.TheVariants.{Read, ReadConfirm, ChangeReadColumn, ChangeReadColumnEnhanced, ChangeReadColumnConfirm, BlockErase, BlockEraseConfirm, BlockErasePlane, ReadStatus, ReadStatusEnhanced, PageProgram, ChangeWriteColumn, ProgramConfirm, ProgramPlane, ReadId, ReadParameterPage, Reset, ReadCacheSequential, ReadCacheEnd, ReadUniqueId, GetFeatures, SetFeatures, ResetLun, SynchronousReset, Unknown, ReadPlane, CopybackRead}
+use Rattle.onfi_cycle.specs.declared.command.Command.TheVariants.{Read, ReadConfirm, ChangeReadColumn, ChangeReadColumnEnhanced, ChangeReadColumnConfirm, BlockErase, BlockEraseConfirm, BlockErasePlane, ReadStatus, ReadStatusEnhanced, PageProgram, ChangeWriteColumn, ProgramConfirm, ProgramPlane, ReadId, ReadParameterPage, Reset, ReadCacheSequential, ReadCacheEnd, ReadUniqueId, GetFeatures, SetFeatures, ResetLun, SynchronousReset, Unknown, ReadPlane, CopybackRead, ProgramCache}
 use Rattle.onfi_cycle.specs.declared.effect.Effect.{Effect}
-use Rattle.onfi_cycle.specs.declared.effect.Effect.TheVariants.{BecameReady, ArrayBecameReady, ReadStarted, ReadQueued, EraseStarted, ProgramStarted, IdRead, IdentityRead, UniqueIdReadStarted, FeaturesReadStarted, FeaturesSet, ParameterPageReadStarted, CacheReadContinued, CacheReadEnded, ResetStarted, TargetResetStarted, CopybackReadStarted}
+use Rattle.onfi_cycle.specs.declared.effect.Effect.TheVariants.{BecameReady, ArrayBecameReady, ReadStarted, ReadQueued, EraseStarted, ProgramStarted, IdRead, IdentityRead, UniqueIdReadStarted, FeaturesReadStarted, FeaturesSet, ParameterPageReadStarted, CacheReadContinued, CacheReadEnded, ResetStarted, TargetResetStarted, CopybackReadStarted, CacheProgramStarted}
 use Rattle.onfi_cycle.specs.declared.forbidden.Forbidden.TheVariants.{NotThere}
 use Rattle.onfi_cycle.specs.declared.item.Cycle.{Cycle}
+use Rattle.onfi_cycle.specs.declared.item.Failures.{Failures}
 use Rattle.onfi_cycle.specs.declared.item.Item.{Item}
 use Rattle.onfi_cycle.specs.declared.item.Item.TheVariants.{Cyc, Rdy, Ard}
 use Rattle.onfi_cycle.specs.declared.item.Kind.TheVariants.{Dout}
@@ -22,7 +23,7 @@ use Rattle.onfi_cycle.specs.declared.target_cycle.TargetCycle.TheVariants.{Comma
 use Rattle.onfi_cycle.specs.LunView.{LunView}
 use Rattle.onfi_cycle.specs.Command.{is_opener}
 use Rattle.onfi_cycle.specs.Effect.{is_off, cycle_effect}
-use Rattle.onfi_cycle.specs.Lun.{latch, latch_after, array_busy_after, effect_on, is_busy, is_caching, is_array_busy, lun_view, luns_of, views_from}
+use Rattle.onfi_cycle.specs.Lun.{latch, latch_after, array_busy_after, leaves_array_busy, keeps_array_busy, closer, effect_on, is_busy, is_array_busy, lun_view, luns_of, views_from}
 use Rattle.onfi_cycle.specs.Permitted.{broken}
 use Rattle.onfi_cycle.specs.Rules.{driving, driver_is, is_some_and, lun_is, breaks_not_there, breaks_no_sole_driver}
 use Rattle.trace_faults.specs.Outside.{begins_alone}
@@ -42,6 +43,7 @@ off_command g selected working BlockEraseConfirm lun h = refl
 off_command g selected working BlockErasePlane lun h = refl
 off_command g selected working ReadPlane lun h = refl
 off_command g selected working CopybackRead lun h = refl
+off_command g selected working ProgramCache lun h = refl
 off_command g selected working ChangeWriteColumn lun h = refl
 off_command g selected working ProgramConfirm lun h = refl
 off_command g selected working ProgramPlane lun h = refl
@@ -78,6 +80,7 @@ command_of_nothing BlockEraseConfirm = refl
 command_of_nothing BlockErasePlane = refl
 command_of_nothing ReadPlane = refl
 command_of_nothing CopybackRead = refl
+command_of_nothing ProgramCache = refl
 command_of_nothing ChangeWriteColumn = refl
 command_of_nothing ProgramConfirm = refl
 command_of_nothing ProgramPlane = refl
@@ -139,9 +142,9 @@ off_after g past (Rdy ce lun fail) l off h = at (ce == l.ce && lun == l.lun) ref
     at : (b : Bool) → (ce == l.ce && lun == l.lun) ≡ b → latch g (Rdy ce lun fail ∷ past) l ≡ Off
     at true e = rw (e) (off h)
     at false e = rw (e) (off h)
-off_after g past (Ard ce lun) l off h = at (ce == l.ce && lun == l.lun) refl
+off_after g past (Ard ce lun fail) l off h = at (ce == l.ce && lun == l.lun) refl
   where
-    at : (b : Bool) → (ce == l.ce && lun == l.lun) ≡ b → latch g (Ard ce lun ∷ past) l ≡ Off
+    at : (b : Bool) → (ce == l.ce && lun == l.lun) ≡ b → latch g (Ard ce lun fail ∷ past) l ≡ Off
     at true e = rw (e) (off h)
     at false e = rw (e) (off h)
 
@@ -196,7 +199,7 @@ pub record IsOf (g : Parts) (targets : ℕ) (l : Lun) (so : Bool) : Type 0 where
   pub is_lun : IsLun g targets l
   pub works : so ≡ true
 
-pub ready_of : (g : Parts) (targets : ℕ) (past : List Item) (ce lun : ℕ) (fail : Bool) → broken g targets past (Rdy ce lun fail) ≡ None →
+pub ready_of : (g : Parts) (targets : ℕ) (past : List Item) (ce lun : ℕ) (fail : Failures) → broken g targets past (Rdy ce lun fail) ≡ None →
     IsOf g targets (record { ce = ce; lun = lun }) (is_busy g past (record { ce = ce; lun = lun }))
 unfolding breaks_not_there
 ready_of g targets past ce lun fail h =
@@ -205,10 +208,10 @@ ready_of g targets past ce lun fail h =
     let there' = there_is (λ v. v.busy) g past ce lun both.1 in
     record { is_lun = record { target = leb-false targets ce both.0; lun = there'.0 }; works = there'.1 }
 
-pub array_ready_of : (g : Parts) (targets : ℕ) (past : List Item) (ce lun : ℕ) → broken g targets past (Ard ce lun) ≡ None →
+pub array_ready_of : (g : Parts) (targets : ℕ) (past : List Item) (ce lun : ℕ) (fail : Bool) → broken g targets past (Ard ce lun fail) ≡ None →
     IsOf g targets (record { ce = ce; lun = lun }) (is_array_busy g past (record { ce = ce; lun = lun }))
 unfolding breaks_not_there
-array_ready_of g targets past ce lun h =
+array_ready_of g targets past ce lun fail h =
     let passed = (first_passed (leb targets ce || not (lun_is (λ v. v.array_busy) (luns_of g past ce) lun)) NotThere None h).0 in
     let both = two_false (leb targets ce) (lun_is (λ v. v.array_busy) (luns_of g past ce) lun) passed in
     let there' = there_is (λ v. v.array_busy) g past ce lun both.1 in
@@ -225,25 +228,31 @@ first_of : (a b : Bool) → a ≡ true → (a || b) ≡ true
 first_of true b h = refl
 first_of false b h = cc
 
-array_after : (e : Effect) (busy caching array : Bool) → array_busy_after e busy caching array ≡ true → (array || busy) ≡ true
-array_after (BecameReady fail) busy caching array h = two_true array busy caching h
-array_after ArrayBecameReady busy caching array h = cc
-array_after (ReadStarted at from) busy caching array h = cc
-array_after (ReadQueued at) busy caching array h = cc
-array_after (CopybackReadStarted at from count) busy caching array h = cc
-array_after (EraseStarted queued at) busy caching array h = cc
-array_after (ProgramStarted queued at) busy caching array h = cc
-array_after IdRead busy caching array h = cc
-array_after (IdentityRead jedec) busy caching array h = cc
-array_after ParameterPageReadStarted busy caching array h = cc
-array_after UniqueIdReadStarted busy caching array h = cc
-array_after (FeaturesReadStarted address) busy caching array h = cc
-array_after (FeaturesSet address) busy caching array h = cc
-array_after (CacheReadContinued to) busy caching array h = cc
-array_after CacheReadEnded busy caching array h = cc
-array_after ResetStarted busy caching array h = cc
-array_after (TargetResetStarted first) busy caching array h = cc
-array_after e busy caching array h = first_of array busy h
+kept_array : (queued keeps array : Bool) → queued && (keeps && array) ≡ true → array ≡ true
+kept_array true true array h = h
+kept_array true false array h = cc
+kept_array false keeps array h = cc
+
+array_after : (e : Effect) (busy : Bool) (last : Option Command) (array : Bool) → array_busy_after e busy last array ≡ true → (array || busy) ≡ true
+array_after (BecameReady fail) busy last array h = two_true array busy (leaves_array_busy last) h
+array_after (ArrayBecameReady fail) busy last array h = cc
+array_after (ReadStarted at from) busy last array h = cc
+array_after (ReadQueued at) busy last array h = cc
+array_after (CopybackReadStarted at from count) busy last array h = cc
+array_after (EraseStarted queued at) busy last array h = cc
+array_after (ProgramStarted queued at) busy last array h = first_of array busy (kept_array queued (keeps_array_busy last) array h)
+array_after (CacheProgramStarted at) busy last array h = cc
+array_after IdRead busy last array h = cc
+array_after (IdentityRead jedec) busy last array h = cc
+array_after ParameterPageReadStarted busy last array h = cc
+array_after UniqueIdReadStarted busy last array h = cc
+array_after (FeaturesReadStarted address) busy last array h = cc
+array_after (FeaturesSet address) busy last array h = cc
+array_after (CacheReadContinued to) busy last array h = cc
+array_after CacheReadEnded busy last array h = cc
+array_after ResetStarted busy last array h = cc
+array_after (TargetResetStarted first) busy last array h = cc
+array_after e busy last array h = first_of array busy h
 
 pub array_before : (g : Parts) (past : List Item) (i : Item) (l : Lun) → is_array_busy g (i ∷ past) l ≡ true → (is_array_busy g past l || is_busy g past l) ≡ true
-array_before g past i l h = array_after (effect_on g past i l) (is_busy g past l) (is_caching g past l) (is_array_busy g past l) h
+array_before g past i l h = array_after (effect_on g past i l) (is_busy g past l) (closer g past l) (is_array_busy g past l) h

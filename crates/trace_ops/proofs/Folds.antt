@@ -4,6 +4,7 @@ use Rattle.std.specs.Prelude.{slice_get}
 use Rattle.std.proofs.lemmas.Bool.{and_parts}
 use Rattle.std.proofs.lemmas.List.{append-nil}
 use Rattle.nand_geometry.specs.declared.parts.Parts.{Parts}
+use Rattle.onfi_cycle.specs.declared.item.Failures.{Failures}
 use Rattle.onfi_cycle.specs.declared.item.Item.{Item}
 use Rattle.onfi_cycle.specs.declared.item.Item.TheVariants.{Cyc, Rdy, Ard}
 use Rattle.onfi_cycle.specs.declared.target_cycle.TargetCycle.{TargetCycle}
@@ -33,11 +34,11 @@ use Rattle.trace_ops.proofs.Works.{onto, legal_before}
 abbrev pub AllParted : List Item → Listing → Type 0
 AllParted past l = Every (Parted l.places.newest past (Unstarted l.ops)) l.ops
 
-pub ready_lone : (one_lun : Bool) (n ce lun : ℕ) (fail : Bool) (before after : Looks) → IsLone (permitted_as one_lun n (Rdy ce lun fail) before after)
+pub ready_lone : (one_lun : Bool) (n ce lun : ℕ) (fail : Failures) (before after : Looks) → IsLone (permitted_as one_lun n (Rdy ce lun fail) before after)
 ready_lone one_lun n ce lun fail before after = record { ready = ready_is one_lun n ce lun fail before after; said = refl; change = λ owner. refl; new = λ newest. refl }
 
-pub array_ready_lone : (one_lun : Bool) (n ce lun : ℕ) (before after : Looks) → IsLone (permitted_as one_lun n (Ard ce lun) before after)
-array_ready_lone one_lun n ce lun before after = record { ready = array_ready_is one_lun n ce lun before after; said = refl; change = λ owner. refl; new = λ newest. refl }
+pub array_ready_lone : (one_lun : Bool) (n ce lun : ℕ) (fail : Bool) (before after : Looks) → IsLone (permitted_as one_lun n (Ard ce lun fail) before after)
+array_ready_lone one_lun n ce lun fail before after = record { ready = array_ready_is one_lun n ce lun fail before after; said = refl; change = λ owner. refl; new = λ newest. refl }
 
 abbrev PartedBy : List Item → Listing → Item → Judged → Type 0
 PartedBy past l i j = AllParted (i ∷ past) (listed j l)
@@ -49,8 +50,8 @@ module _ (g : Parts) (targets n : ℕ) (seen : Seen) (past : List Item) (marks :
       cycle_parted g targets n one_lun past marks c _ _ l pieces (cycle_at g targets n seen past marks l pieces walked c later h) all
   parted_on one_lun (Rdy ce lun fail) later h =
       ready_parted (ItemIs one_lun seen n (Rdy ce lun fail) later) l past (Rdy ce lun fail) (ready_lone one_lun n ce lun fail _ _) (λ d. refl) walked.worked.domestic all
-  parted_on one_lun (Ard ce lun) later h =
-      ready_parted (ItemIs one_lun seen n (Ard ce lun) later) l past (Ard ce lun) (array_ready_lone one_lun n ce lun _ _) (λ d. refl) walked.worked.domestic all
+  parted_on one_lun (Ard ce lun fail) later h =
+      ready_parted (ItemIs one_lun seen n (Ard ce lun fail) later) l past (Ard ce lun fail) (array_ready_lone one_lun n ce lun fail _ _) (λ d. refl) walked.worked.domestic all
 
 -- at the end of a trace
 folded_so : (past : List Item) (l : Listing) → AllParted past l → (k : ℕ) (o : Operation) → slice_get l.ops k ≡ Some o → IsFoldedAsPart o

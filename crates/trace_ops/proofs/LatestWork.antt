@@ -103,7 +103,7 @@ module _ (g : Parts) (targets n : ℕ) (seen : Seen) (past : List Item) (marks :
   latest_by : (one_lun : Bool) (i : Item) (later : List Item) → broken g targets past i ≡ None → LatestAfter l (ItemIs one_lun seen n i later)
   latest_by one_lun (Cyc c) later h = latest_cycle g targets n one_lun past marks c _ _ l pieces (cycle_at g targets n seen past marks l pieces walked c later h) latest
   latest_by one_lun (Rdy ce lun fail) later h = latest_ready (ItemIs one_lun seen n (Rdy ce lun fail) later) l (ready_is one_lun n ce lun fail _ _) walked.worked.domestic latest
-  latest_by one_lun (Ard ce lun) later h = latest_ready (ItemIs one_lun seen n (Ard ce lun) later) l (array_ready_is one_lun n ce lun _ _) walked.worked.domestic latest
+  latest_by one_lun (Ard ce lun fail) later h = latest_ready (ItemIs one_lun seen n (Ard ce lun fail) later) l (array_ready_is one_lun n ce lun fail _ _) walked.worked.domestic latest
 
   pub latest_item : (one_lun : Bool) (i : Item) (later : List Item) → broken g targets past i ≡ None → LatestAfter l (ItemAs one_lun seen n i later)
   latest_item one_lun i later h = as_permitted g targets n seen past marks l pieces walked (LatestAfter l) one_lun i later h (latest_by one_lun i later h)

@@ -5,6 +5,7 @@ use Rattle.std.proofs.lemmas.Bool.Decides.{nat_tests}
 use Rattle.nand_geometry.specs.declared.parts.Parts.{Parts}
 use Rattle.onfi_cycle.specs.declared.command.Command.TheVariants.{Reset}
 use Rattle.onfi_cycle.specs.declared.item.Cycle.{Cycle}
+use Rattle.onfi_cycle.specs.declared.item.Failures.{Failures}
 use Rattle.onfi_cycle.specs.declared.item.Item.{Item}
 use Rattle.onfi_cycle.specs.declared.item.Item.TheVariants.{Cyc, Rdy, Ard}
 use Rattle.onfi_cycle.specs.declared.item.Kind.{Kind}
@@ -134,7 +135,7 @@ apart_false a b c d apart = at (c == a) refl (d == b) refl
     at false e y f = refl
 
 -- a ready ends the work of its LUN
-pub busy_ready : (g : Parts) (targets : ℕ) (past : List Item) (ce lun : ℕ) (fail : Bool) (a b : ℕ) →
+pub busy_ready : (g : Parts) (targets : ℕ) (past : List Item) (ce lun : ℕ) (fail : Failures) (a b : ℕ) →
     busy_of g targets (Rdy ce lun fail ∷ past) a b ≡ put_at (busy_of g targets past) ce lun false a b
 busy_ready g targets past ce lun fail a b = at (same_lun a ce b lun)
   where
@@ -151,23 +152,23 @@ busy_ready g targets past ce lun fail a b = at (same_lun a ce b lun)
         ∙ sym (put_other (busy_of g targets past) ce lun false a b apart)
 
 -- an array ready leaves the work of all
-pub busy_array_ready : (g : Parts) (targets : ℕ) (past : List Item) (ce lun a b : ℕ) → busy_of g targets (Ard ce lun ∷ past) a b ≡ busy_of g targets past a b
-busy_array_ready g targets past ce lun a b = same_busy g targets past (Ard ce lun ∷ past) a b (array_ready_busy g past ce lun (record { ce = a; lun = b }))
+pub busy_array_ready : (g : Parts) (targets : ℕ) (past : List Item) (ce lun : ℕ) (fail : Bool) (a b : ℕ) → busy_of g targets (Ard ce lun fail ∷ past) a b ≡ busy_of g targets past a b
+busy_array_ready g targets past ce lun fail a b = same_busy g targets past (Ard ce lun fail ∷ past) a b (array_ready_busy g past ce lun fail (record { ce = a; lun = b }))
 
 -- no ready begins work
 never : (b : Bool) → (b && (not b || false)) ≡ false
 never true = refl
 never false = refl
 
-pub ready_works : (g : Parts) (past : List Item) (ce lun : ℕ) (fail : Bool) (x : Lun) → begins_work g past (Rdy ce lun fail) x ≡ false
+pub ready_works : (g : Parts) (past : List Item) (ce lun : ℕ) (fail : Failures) (x : Lun) → begins_work g past (Rdy ce lun fail) x ≡ false
 ready_works g past ce lun fail x = ap (λ b. b && (not (works g past x) || false)) (ready_busy g past ce lun fail x) ∙ at (ce == x.ce && lun == x.lun)
   where
     at : (b : Bool) → (cond b false (works g past x) && (not (works g past x) || false)) ≡ false
     at true = refl
     at false = never (works g past x)
 
-pub array_ready_works : (g : Parts) (past : List Item) (ce lun : ℕ) (x : Lun) → begins_work g past (Ard ce lun) x ≡ false
-array_ready_works g past ce lun x = ap (λ b. b && (not (works g past x) || false)) (array_ready_busy g past ce lun x) ∙ never (works g past x)
+pub array_ready_works : (g : Parts) (past : List Item) (ce lun : ℕ) (fail : Bool) (x : Lun) → begins_work g past (Ard ce lun fail) x ≡ false
+array_ready_works g past ce lun fail x = ap (λ b. b && (not (works g past x) || false)) (array_ready_busy g past ce lun fail x) ∙ never (works g past x)
 
 -- ---- cycles
 

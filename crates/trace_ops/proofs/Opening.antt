@@ -60,9 +60,9 @@ module _ (g : Parts) (targets n : ℕ) (seen : Seen) (past : List Item) (marks :
       let is = ready_of g targets past ce lun fail h in
       adds_none (ItemIs one_lun seen n (Rdy ce lun fail) later)
       (some_there (worker l.places ce lun) (busy_worker g targets n seen past marks l pieces walked (record { ce = ce; lun = lun }) is.is_lun is.works))
-  adds one_lun (Ard ce lun) later h =
-      let is = array_ready_of g targets past ce lun h in
-      adds_none (ItemIs one_lun seen n (Ard ce lun) later) (some_there (worker l.places ce lun) (walked.workers (record { ce = ce; lun = lun }) is.is_lun is.works))
+  adds one_lun (Ard ce lun fail) later h =
+      let is = array_ready_of g targets past ce lun fail h in
+      adds_none (ItemIs one_lun seen n (Ard ce lun fail) later) (some_there (worker l.places ce lun) (walked.workers (record { ce = ce; lun = lun }) is.is_lun is.works))
 
 openings_all : (g : Parts) (targets : ℕ) (one_lun : Bool) (items : List Item) (n : ℕ) (seen : Seen) (past : List Item) (marks : List ℕ) (l : Listing) (pieces : ℕ → List TargetCycle) →
     Walked g targets n seen past marks l pieces → is_legal g targets (reverse items ++ past) ≡ true →

@@ -109,7 +109,7 @@ may_fold_by Dout byte b = false
 abbrev pub may_fold : Item → Beginning → Bool
 may_fold (Cyc c) b = may_fold_by c.kind c.byte b
 may_fold (Rdy ce lun fail) b = false
-may_fold (Ard ce lun) b = false
+may_fold (Ard ce lun fail) b = false
 
 never_folds : (b : Bool) (x y : Role) → folding x ≡ false → folding y ≡ false → folding (cond b x y) ≡ false
 never_folds true x y p q = p
@@ -153,7 +153,7 @@ item_folds j o (Cyc c) lun h = at (is_permitted j.said) h
     at true h = kind_folds o c (begins_by j (Cyc c) lun) (look_at j.after lun) c.kind h
     at false h = cc
 item_folds j o (Rdy ce l fail) lun h = cc
-item_folds j o (Ard ce l) lun h = cc
+item_folds j o (Ard ce l fail) lun h = cc
 
 -- ---- what an item selects
 

@@ -9,6 +9,7 @@ use Rattle.std.proofs.lemmas.List.Elements.{All-head, All-tail}
 use Rattle.nand_geometry.specs.declared.parts.Parts.{Parts}
 use Rattle.onfi_cycle.specs.declared.forbidden.Forbidden.{Forbidden}
 use Rattle.onfi_cycle.specs.declared.item.Cycle.{Cycle}
+use Rattle.onfi_cycle.specs.declared.item.Failures.{Failures}
 use Rattle.onfi_cycle.specs.declared.item.Item.{Item}
 use Rattle.onfi_cycle.specs.declared.item.Item.TheVariants.{Cyc, Rdy, Ard}
 use Rattle.onfi_cycle.specs.declared.item.Kind.{Kind}
@@ -16,7 +17,7 @@ use Rattle.onfi_cycle.specs.declared.item.Kind.TheVariants.{Cmd, Adr, Din, Dout}
 use Rattle.onfi_cycle.specs.declared.target_cycle.TargetCycle.{TargetCycle}
 use Rattle.onfi_cycle.specs.declared.target_cycle.TargetCycle.TheVariants.{CommandCycle, OutputCycle}
 use Rattle.onfi_cycle.specs.declared.command.Command.{Command}
-use Rattle.onfi_cycle.specs.declared.command.Command.TheVariants.{ReadConfirm, BlockEraseConfirm, BlockErasePlane, ProgramConfirm, ProgramPlane, ChangeWriteColumn, ReadCacheSequential, ReadPlane, CopybackRead}
+use Rattle.onfi_cycle.specs.declared.command.Command.TheVariants.{ReadConfirm, BlockEraseConfirm, BlockErasePlane, ProgramConfirm, ProgramPlane, ChangeWriteColumn, ReadCacheSequential, ReadPlane, CopybackRead, ProgramCache}
 use Rattle.onfi_cycle.specs.declared.tail_facts.TailFacts.{TailFacts}
 use Rattle.onfi_cycle.specs.LunView.{LunView}
 use Rattle.onfi_cycle.specs.Lun.{luns_of}
@@ -186,7 +187,7 @@ closer_of_kind Dout byte b closer = closer
 abbrev pub closer_with : Option ℕ → Judged → Item → Beginning → Option ℕ → Option ℕ
 closer_with owner j (Cyc c) b closer = if is_new_opener owner j c.kind then closer else closer_of_kind c.kind c.byte b closer
 closer_with owner j (Rdy ce lun fail) b closer = closer
-closer_with owner j (Ard ce lun) b closer = closer
+closer_with owner j (Ard ce lun fail) b closer = closer
 
 -- and whether it still takes addresses, and how many it has
 abbrev pub addressed_of_kind : Kind → Bool → Bool
@@ -198,7 +199,7 @@ addressed_of_kind Dout addressed = addressed
 abbrev pub addressed_with : Option ℕ → Judged → Item → Bool → Bool
 addressed_with owner j (Cyc c) addressed = if is_new_opener owner j c.kind then addressed else addressed_of_kind c.kind addressed
 addressed_with owner j (Rdy ce lun fail) addressed = addressed
-addressed_with owner j (Ard ce lun) addressed = addressed
+addressed_with owner j (Ard ce lun fail) addressed = addressed
 
 abbrev pub count_of_kind : Kind → Kept → ℕ
 count_of_kind Cmd kept = kept.address_count
@@ -209,7 +210,7 @@ count_of_kind Dout kept = kept.address_count
 abbrev pub count_with : Option ℕ → Judged → Item → Kept → ℕ
 count_with owner j (Cyc c) kept = if is_new_opener owner j c.kind then kept.address_count else count_of_kind c.kind kept
 count_with owner j (Rdy ce lun fail) kept = kept.address_count
-count_with owner j (Ard ce lun) kept = kept.address_count
+count_with owner j (Ard ce lun fail) kept = kept.address_count
 
 -- all of that
 abbrev pub kept_with : Option ℕ → Judged → Item → Beginning → Kept → Kept
@@ -241,7 +242,7 @@ loud_kept owner j (Cyc c) o = at (is_new_opener owner j c.kind)
     at true = refl
     at false = byte_kept c.kind c.byte o
 loud_kept owner j (Rdy ce lun fail) o = refl
-loud_kept owner j (Ard ce lun) o = refl
+loud_kept owner j (Ard ce lun fail) o = refl
 
 -- what holds before the item of this mark comes, so that it holds afterwards
 abbrev pub Awaited : (ℕ → Beginning → Kept → Type 0) → ℕ → Option ℕ → Judged → Item → ℕ → Beginning → Kept → Type 0
@@ -570,16 +571,16 @@ FreshlyHeld j c o owner = Held o.beginning (kept_with owner j (Cyc c) o.beginnin
 
 module _ (readies : Readies) (one_lun : Bool) (seen : Seen) (n : ℕ) (later past : List Item) (l : Listing) (pieces : ℕ → List TargetCycle) (stands : Stands past l pieces)
     (w : AreWithin (length l.ops) l.places) where
-  stands_ready : (ce lun : ℕ) (fail : Bool) → StandsAfter readies one_lun seen n later past l pieces (Rdy ce lun fail)
+  stands_ready : (ce lun : ℕ) (fail : Failures) → StandsAfter readies one_lun seen n later past l pieces (Rdy ce lun fail)
   stands_ready ce lun fail =
       let j = JudgedAs readies one_lun seen n (Rdy ce lun fail) later in
       still past (Rdy ce lun fail) j l pieces stands w (listed_newest j l ∙ newest_kept (owner_in j (with_ends j l)) (Rdy ce lun fail) ce (length (with_ends j l).ops) l.places.newest refl)
       (λ d k b kept h c. c) (λ d. refl) (λ d h. h) (λ t. refl) (λ b kept. refl)
 
-  stands_array_ready : (ce lun : ℕ) → StandsAfter readies one_lun seen n later past l pieces (Ard ce lun)
-  stands_array_ready ce lun =
-      let j = JudgedAs readies one_lun seen n (Ard ce lun) later in
-      still past (Ard ce lun) j l pieces stands w (listed_newest j l ∙ newest_kept (owner_in j (with_ends j l)) (Ard ce lun) ce (length (with_ends j l).ops) l.places.newest refl)
+  stands_array_ready : (ce lun : ℕ) (fail : Bool) → StandsAfter readies one_lun seen n later past l pieces (Ard ce lun fail)
+  stands_array_ready ce lun fail =
+      let j = JudgedAs readies one_lun seen n (Ard ce lun fail) later in
+      still past (Ard ce lun fail) j l pieces stands w (listed_newest j l ∙ newest_kept (owner_in j (with_ends j l)) (Ard ce lun fail) ce (length (with_ends j l).ops) l.places.newest refl)
       (λ d k b kept h c. c) (λ d. refl) (λ d h. h) (λ t. refl) (λ b kept. refl)
 
   stands_output : (ce byte : ℕ) → ce < 4 → is_open (facts_of (tail past ce)) ≡ false → StandsAfter readies one_lun seen n later past l pieces (Cyc (record { ce = ce; kind = Dout; byte = byte }))
@@ -784,6 +785,7 @@ module _ (readies : Readies) (one_lun : Bool) (g : Parts) (targets : ℕ) (few :
                 of CopybackRead code h = cc
                 of ProgramConfirm code h = cc
                 of ProgramPlane code h = cc
+                of ProgramCache code h = cc
                 of y code h = h
 
         -- an 85h that no program wants begins an operation
@@ -863,7 +865,7 @@ module _ (readies : Readies) (one_lun : Bool) (g : Parts) (targets : ℕ) (few :
     pub stands_on : (i : Item) → broken g targets past i ≡ None → StandsAfter readies one_lun seen n later past l pieces i
     stands_on (Cyc c) h = stands_cycle c.ce c.byte c.kind h
     stands_on (Rdy ce lun fail) h = stands_ready readies one_lun seen n later past l pieces stands w ce lun fail
-    stands_on (Ard ce lun) h = stands_array_ready readies one_lun seen n later past l pieces stands w ce lun
+    stands_on (Ard ce lun fail) h = stands_array_ready readies one_lun seen n later past l pieces stands w ce lun fail
 
     owner_is_newest : (b : Bool) (x : Option ℕ) (m : ℕ) → cond b None x ≡ Some m → x ≡ Some m
     owner_is_newest true x m h = cc

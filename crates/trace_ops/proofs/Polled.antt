@@ -55,7 +55,7 @@ whole_ends ce i items s w h = ap (λ (x : Option Doing). whole_on x (whole ce it
 -- it is of the same work
 sends_work : (ce : ℕ) (i : Item) (s t : Sequence) → doing_after ce i (Sends s) ≡ Some (Sends t) → t.work ≡ s.work
 sends_work ce (Rdy x lun fail) s t h = ap (λ (x : Sequence). x.work) (sym (sends_same (same_some h)))
-sends_work ce (Ard x lun) s t h = ap (λ (x : Sequence). x.work) (sym (sends_same (same_some h)))
+sends_work ce (Ard x lun fail) s t h = ap (λ (x : Sequence). x.work) (sym (sends_same (same_some h)))
 sends_work ce (Cyc c) s t h = at (c.ce == ce) h
   where
     none : {X : Type 0} {x : X} → None ≡ Some x → ⊥

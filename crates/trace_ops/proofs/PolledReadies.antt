@@ -3,6 +3,7 @@ use Rattle.std.proofs.Common.{◌≡◌, ℕ, ◌+◌, ◌==◌, Bool, true, fal
 use Rattle.std.specs.Prelude.{slice_get}
 use Rattle.nand_geometry.specs.declared.parts.Parts.{Parts}
 use Rattle.onfi_cycle.specs.declared.effect.Effect.TheVariants.{Unaffected, BecameReady, ArrayBecameReady}
+use Rattle.onfi_cycle.specs.declared.item.Failures.{Failures}
 use Rattle.onfi_cycle.specs.declared.item.Item.{Item}
 use Rattle.onfi_cycle.specs.declared.item.Item.TheVariants.{Rdy, Ard}
 use Rattle.onfi_cycle.specs.Lun.{latch, latch_after}
@@ -25,17 +26,17 @@ use Rattle.trace_ops.proofs.PolledItems.{Polls}
 use Rattle.trace_ops.proofs.Readies.{all_same, workers_after}
 use Rattle.trace_ops.proofs.Walks.{came, length_came, length_listed, new_many}
 
-pub ready_shows : (g : Parts) (past : List Item) (ce lun : ℕ) (fail : Bool) (at : ℕ) → latch g (Rdy ce lun fail ∷ past) (at_lun at 0) ≡ latch g past (at_lun at 0)
+pub ready_shows : (g : Parts) (past : List Item) (ce lun : ℕ) (fail : Failures) (at : ℕ) → latch g (Rdy ce lun fail ∷ past) (at_lun at 0) ≡ latch g past (at_lun at 0)
 ready_shows g past ce lun fail at = by _ _ (ce == at && lun == 0)
   where
     by : (selected working b : Bool) → latch_after (cond b (BecameReady fail) Unaffected) selected working (latch g past (at_lun at 0)) ≡ latch g past (at_lun at 0)
     by selected working true = refl
     by selected working false = refl
 
-pub array_ready_shows : (g : Parts) (past : List Item) (ce lun at : ℕ) → latch g (Ard ce lun ∷ past) (at_lun at 0) ≡ latch g past (at_lun at 0)
-array_ready_shows g past ce lun at = by _ _ (ce == at && lun == 0)
+pub array_ready_shows : (g : Parts) (past : List Item) (ce lun : ℕ) (fail : Bool) (at : ℕ) → latch g (Ard ce lun fail ∷ past) (at_lun at 0) ≡ latch g past (at_lun at 0)
+array_ready_shows g past ce lun fail at = by _ _ (ce == at && lun == 0)
   where
-    by : (selected working b : Bool) → latch_after (cond b ArrayBecameReady Unaffected) selected working (latch g past (at_lun at 0)) ≡ latch g past (at_lun at 0)
+    by : (selected working b : Bool) → latch_after (cond b (ArrayBecameReady fail) Unaffected) selected working (latch g past (at_lun at 0)) ≡ latch g past (at_lun at 0)
     by selected working true = refl
     by selected working false = refl
 

@@ -57,7 +57,7 @@ told_in ce items d kind byte = None
 abbrev told_at : ℕ → List Item → Item → Doing → Option Sequence
 told_at ce items (Cyc c) d = cond (c.ce == ce) (told_in ce items d c.kind c.byte) None
 told_at ce items (Rdy x lun fail) d = None
-told_at ce items (Ard x lun) d = None
+told_at ce items (Ard x lun fail) d = None
 
 -- in order
 abbrev pub opened_from : ℕ → List Item → Doing → List Sequence
@@ -290,15 +290,15 @@ module _ (g : Parts) (targets n : ℕ) (seen : Seen) (past : List Item) (marks :
             ready_polls (ItemIs one_lun seen n (Rdy x lun fail) later) l (ready_lone one_lun n x lun fail _ _) (λ k p ops. refl) m.0 m.1 g ce past (Rdy x lun fail) later told d at refl
             (ready_shows g past x lun fail ce) was;
       })
-  goes (Ard x lun) h ce d next at was step =
-      let is = array_ready_of g targets past x lun h in
+  goes (Ard x lun fail) h ce d next at was step =
+      let is = array_ready_of g targets past x lun fail h in
       let m = some_there (worker l.places x lun) (walked.workers (record { ce = x; lun = lun }) is.is_lun is.works) in
-      subst (λ (s : Doing). To ce (Ard x lun) None s) (same_some step)
+      subst (λ (s : Doing). To ce (Ard x lun fail) None s) (same_some step)
       (record {
         at = at;
         polls =
-            ready_polls (ItemIs one_lun seen n (Ard x lun) later) l (array_ready_lone one_lun n x lun _ _) (λ k p ops. refl) m.0 m.1 g ce past (Ard x lun) later told d at refl
-            (array_ready_shows g past x lun ce) was;
+            ready_polls (ItemIs one_lun seen n (Ard x lun fail) later) l (array_ready_lone one_lun n x lun fail _ _) (λ k p ops. refl) m.0 m.1 g ce past (Ard x lun fail) later told d at refl
+            (array_ready_shows g past x lun fail ce) was;
       })
 
 -- ---- a trace
@@ -324,7 +324,7 @@ begun_opens byte w h = (let b = begun_so byte (Sends (begun_with w)) (ap sends_b
 
 told_opens : (ce : ℕ) (items : List Item) (i : Item) (d : Doing) (s : Sequence) → told_at ce items i d ≡ Some s → opens i ≡ true
 told_opens ce items (Rdy x lun fail) d s h = cc
-told_opens ce items (Ard x lun) d s h = cc
+told_opens ce items (Ard x lun fail) d s h = cc
 told_opens ce items (Cyc c) d s h = at (c.ce == ce) h
   where
     by_work : (w : Option Work) → work_by c.byte ≡ w → open_by ce items w ≡ Some s → opens_alone c.byte ≡ true
@@ -493,7 +493,7 @@ turns_own ce c items Dout Sees next own step = absurd (none step)
 
 turns : (ce : ℕ) (i : Item) (items : List Item) (d next : Doing) → doing_after ce i d ≡ Some next → Turns ce i items d (told_at ce items i d) next
 turns ce (Rdy x lun fail) items d next step = ap (pending ce items) (sym (same_some step)) ∙ turns_other ce (Rdy x lun fail) items d refl
-turns ce (Ard x lun) items d next step = ap (pending ce items) (sym (same_some step)) ∙ turns_other ce (Ard x lun) items d refl
+turns ce (Ard x lun fail) items d next step = ap (pending ce items) (sym (same_some step)) ∙ turns_other ce (Ard x lun fail) items d refl
 turns ce (Cyc c) items d next step = at (c.ce == ce) refl step
   where
     at : (b : Bool) → (c.ce == ce) ≡ b → cond b (by_cycle d c.kind c.byte) (Some d) ≡ Some next →

@@ -110,7 +110,7 @@ module _ (P : List Operation → Type 0) (step : (k : ℕ) (c : Change) (ops : L
   by_item j k (Cyc c) places ops p =
       choose P (is_output c.kind && is_permitted j.said) _ ops (by_driver j k c.byte (driver_of j.before) places ops p) p
   by_item j k (Rdy ce lun fail) places ops p = p
-  by_item j k (Ard ce lun) places ops p = p
+  by_item j k (Ard ce lun fail) places ops p = p
 
   pub plain_polls : (j : Judged) (k : ℕ) (l : Listing) → P l.ops → P (with_polls j k l).ops
   plain_polls j k l p = by_item j k j.item l.places l.ops p

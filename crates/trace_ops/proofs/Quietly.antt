@@ -48,7 +48,7 @@ loud_core owner j (Cyc c) o = at (is_new_opener owner j c.kind)
     at true = record { ce = refl; start = refl; end = refl; lun = λ h. refl }
     at false = (let b = byte_core c.kind c.byte o in record { ce = b.ce; start = b.start; end = b.end; lun = b.lun })
 loud_core owner j (Rdy ce lun fail) o = record { ce = refl; start = refl; end = refl; lun = λ h. refl }
-loud_core owner j (Ard ce lun) o = record { ce = refl; start = refl; end = refl; lun = λ h. refl }
+loud_core owner j (Ard ce lun fail) o = record { ce = refl; start = refl; end = refl; lun = λ h. refl }
 
 keep_core : (b : Bool) (o x y : Operation) → Core o x → Core o y → Core o (cond b x y)
 keep_core true o x y p q = p
@@ -214,7 +214,7 @@ item_alike : (j : Judged) (k : ℕ) (i : Item) (places : Places) (ops : List Ope
 item_alike j k (Cyc c) places ops all =
     alike_if (is_output c.kind && is_permitted j.said) ops _ ops (driver_alike j k c.byte (driver_of j.before) places ops all) (alike_self ops)
 item_alike j k (Rdy ce lun fail) places ops all = alike_self ops
-item_alike j k (Ard ce lun) places ops all = alike_self ops
+item_alike j k (Ard ce lun fail) places ops all = alike_self ops
 
 pub rest_alike : (j : Judged) (k : ℕ) (l : Listing) → Every (λ k. Domestic) l.ops → Alike l.ops (with_ready j k (with_polls j k l)).ops
 rest_alike j k l all =

@@ -3,6 +3,7 @@ use Rattle.std.proofs.Common.{◌≡◌, ◌⊎◌, inl, inr, ℕ, zero, suc, �
 use Rattle.std.specs.Prelude.{slice_get}
 use Rattle.std.proofs.lemmas.Bool.{false_from_ne_true}
 use Rattle.nand_geometry.specs.declared.parts.Parts.{Parts}
+use Rattle.onfi_cycle.specs.declared.item.Failures.{Failures}
 use Rattle.onfi_cycle.specs.declared.item.Item.{Item}
 use Rattle.onfi_cycle.specs.declared.item.Item.TheVariants.{Rdy, Ard}
 use Rattle.onfi_cycle.specs.declared.lun.Lun.{Lun}
@@ -43,15 +44,15 @@ pub record IsReady (j : Judged) : Type 0 where
   pub end : (newest : Option Operation) → (new_one j newest j.item).end ≡ None
   pub newest : (owner : Option ℕ) (ce many : ℕ) (newest : List (Option ℕ)) → newest_by owner j.item ce many newest ≡ newest
 
-newest_ready : (ce lun : ℕ) (fail : Bool) (owner : Option ℕ) (at many : ℕ) (newest : List (Option ℕ)) → newest_by owner (Rdy ce lun fail) at many newest ≡ newest
+newest_ready : (ce lun : ℕ) (fail : Failures) (owner : Option ℕ) (at many : ℕ) (newest : List (Option ℕ)) → newest_by owner (Rdy ce lun fail) at many newest ≡ newest
 newest_ready ce lun fail None at many newest = refl
 newest_ready ce lun fail (Some k) at many newest = refl
 
-newest_array_ready : (ce lun : ℕ) (owner : Option ℕ) (at many : ℕ) (newest : List (Option ℕ)) → newest_by owner (Ard ce lun) at many newest ≡ newest
-newest_array_ready ce lun None at many newest = refl
-newest_array_ready ce lun (Some k) at many newest = refl
+newest_array_ready : (ce lun : ℕ) (fail : Bool) (owner : Option ℕ) (at many : ℕ) (newest : List (Option ℕ)) → newest_by owner (Ard ce lun fail) at many newest ≡ newest
+newest_array_ready ce lun fail None at many newest = refl
+newest_array_ready ce lun fail (Some k) at many newest = refl
 
-pub ready_is : (one_lun : Bool) (n ce lun : ℕ) (fail : Bool) (before after : Looks) → IsReady (permitted_as one_lun n (Rdy ce lun fail) before after)
+pub ready_is : (one_lun : Bool) (n ce lun : ℕ) (fail : Failures) (before after : Looks) → IsReady (permitted_as one_lun n (Rdy ce lun fail) before after)
 ready_is one_lun n ce lun fail before after = record {
   address = refl;
   begins = λ l. refl;
@@ -64,8 +65,8 @@ ready_is one_lun n ce lun fail before after = record {
   newest = newest_ready ce lun fail;
 }
 
-pub array_ready_is : (one_lun : Bool) (n ce lun : ℕ) (before after : Looks) → IsReady (permitted_as one_lun n (Ard ce lun) before after)
-array_ready_is one_lun n ce lun before after = record {
+pub array_ready_is : (one_lun : Bool) (n ce lun : ℕ) (fail : Bool) (before after : Looks) → IsReady (permitted_as one_lun n (Ard ce lun fail) before after)
+array_ready_is one_lun n ce lun fail before after = record {
   address = refl;
   begins = λ l. refl;
   input = refl;
@@ -74,7 +75,7 @@ array_ready_is one_lun n ce lun before after = record {
   domestic = λ newest. ready_domestic ce n lun;
   start = λ newest. refl;
   end = λ newest. refl;
-  newest = newest_array_ready ce lun;
+  newest = newest_array_ready ce lun fail;
 }
 
 -- ---- after the ends of work
@@ -187,20 +188,20 @@ module _ (j : Judged) (l : Listing) (ready : IsReady j) where
 
 -- ---- the end of work that a ready is
 
-module _ (one_lun : Bool) (n ce lun : ℕ) (fail : Bool) (before after : Looks) where
+module _ (one_lun : Bool) (n ce lun : ℕ) (fail : Failures) (before after : Looks) where
   abbrev j : Judged
   j = permitted_as one_lun n (Rdy ce lun fail) before after
 
   ended_other : (b : ℕ) → (lun ≡ b → ⊥) → (p : Places) (ops : List Operation) → ended_on j b p ops ≡ ops
-  ended_other b apart p ops = ap (λ x. ended_if (cond (x && true) (Some (ends.Ready n fail)) None) (worker p ce b) ops) (ne_eqb lun b apart)
+  ended_other b apart p ops = ap (λ x. ended_if (cond (x && true) (Some (ends.Ready n fail.last)) None) (worker p ce b) ops) (ne_eqb lun b apart)
 
   ends_far : (lun < 4 → ⊥) → (p : Places) (ops : List Operation) → all_ended j p ops ≡ ops
   ends_far high p ops =
       ended_other 3 (λ e. high (omega (arith, e))) p _ ∙ ended_other 2 (λ e. high (omega (arith, e))) p _ ∙ ended_other 1 (λ e. high (omega (arith, e))) p _
       ∙ ended_other 0 (λ e. high (omega (arith, e))) p ops
 
-ends_near : (one_lun : Bool) (n ce lun : ℕ) (fail : Bool) (before after : Looks) → lun < 4 → (p : Places) (ops : List Operation) →
-    all_ended (permitted_as one_lun n (Rdy ce lun fail) before after) p ops ≡ changed_if (worker p ce lun) (End (ends.Ready n fail)) ops
+ends_near : (one_lun : Bool) (n ce lun : ℕ) (fail : Failures) (before after : Looks) → lun < 4 → (p : Places) (ops : List Operation) →
+    all_ended (permitted_as one_lun n (Rdy ce lun fail) before after) p ops ≡ changed_if (worker p ce lun) (End (ends.Ready n fail.last)) ops
 ends_near one_lun n ce zero fail before after lt p ops = refl
 ends_near one_lun n ce (suc zero) fail before after lt p ops = refl
 ends_near one_lun n ce (suc (suc zero)) fail before after lt p ops = refl
@@ -216,13 +217,13 @@ ended_worker busy ce lun e p ops low tells = at (worker p ce lun) refl
     at None h = tells_off busy p.workers ops ce lun (unworked busy p.workers ops ce lun h tells) tells
     at (Some m) h = tells_end busy p.workers ops ce lun m e low h tells
 
-pub ready_ends : (g : Parts) (targets : ℕ) (past : List Item) (one_lun : Bool) (n ce lun : ℕ) (fail : Bool) (before after : Looks) (l : Listing) → (lun < 4) ⊎ (lun < 4 → ⊥) →
+pub ready_ends : (g : Parts) (targets : ℕ) (past : List Item) (one_lun : Bool) (n ce lun : ℕ) (fail : Failures) (before after : Looks) (l : Listing) → (lun < 4) ⊎ (lun < 4 → ⊥) →
     Tells (busy_of g targets past) l.places.workers l.ops →
     Tells (busy_of g targets (Rdy ce lun fail ∷ past)) l.places.workers (with_ends (permitted_as one_lun n (Rdy ce lun fail) before after) l).ops
 ready_ends g targets past one_lun n ce lun fail before after l (inl low) tells =
     subst (λ (ops : List Operation). Tells (busy_of g targets (Rdy ce lun fail ∷ past)) l.places.workers ops) (sym (ends_near one_lun n ce lun fail before after low l.places l.ops))
-    (tells_same (put_at (busy_of g targets past) ce lun false) (busy_of g targets (Rdy ce lun fail ∷ past)) l.places.workers (changed_if (worker l.places ce lun) (End (ends.Ready n fail)) l.ops)
-    (busy_ready g targets past ce lun fail) (ended_worker (busy_of g targets past) ce lun (ends.Ready n fail) l.places l.ops low tells))
+    (tells_same (put_at (busy_of g targets past) ce lun false) (busy_of g targets (Rdy ce lun fail ∷ past)) l.places.workers (changed_if (worker l.places ce lun) (End (ends.Ready n fail.last)) l.ops)
+    (busy_ready g targets past ce lun fail) (ended_worker (busy_of g targets past) ce lun (ends.Ready n fail.last) l.places l.ops low tells))
 ready_ends g targets past one_lun n ce lun fail before after l (inr high) tells =
     subst (λ (ops : List Operation). Tells (busy_of g targets (Rdy ce lun fail ∷ past)) l.places.workers ops) (sym (ends_far one_lun n ce lun fail before after high l.places l.ops))
     (tells_same (put_at (busy_of g targets past) ce lun false) (busy_of g targets (Rdy ce lun fail ∷ past)) l.places.workers l.ops (busy_ready g targets past ce lun fail)
@@ -235,11 +236,11 @@ resting_ends newest past (Some m) e ops all =
     every_at (Resting newest past) (Resting newest past) m (End e) ops (λ k o away d. d)
     (λ o is d. λ t h. (ended_ce e o ∙ (d t h).0, (λ s. (d t h).1 (ap (λ (x : Option ℕ). is_some x) (sym (ended_start e o)) ∙ s)))) all
 
-pub ready_resting : (newest : List (Option ℕ)) (past : List Item) (one_lun : Bool) (n ce lun : ℕ) (fail : Bool) (before after : Looks) (l : Listing) → (lun < 4) ⊎ (lun < 4 → ⊥) →
+pub ready_resting : (newest : List (Option ℕ)) (past : List Item) (one_lun : Bool) (n ce lun : ℕ) (fail : Failures) (before after : Looks) (l : Listing) → (lun < 4) ⊎ (lun < 4 → ⊥) →
     Every (Resting newest past) l.ops → Every (Resting newest past) (with_ends (permitted_as one_lun n (Rdy ce lun fail) before after) l).ops
 ready_resting newest past one_lun n ce lun fail before after l (inl low) all =
     subst (λ (ops : List Operation). Every (Resting newest past) ops) (sym (ends_near one_lun n ce lun fail before after low l.places l.ops))
-    (resting_ends newest past (worker l.places ce lun) (ends.Ready n fail) l.ops all)
+    (resting_ends newest past (worker l.places ce lun) (ends.Ready n fail.last) l.ops all)
 ready_resting newest past one_lun n ce lun fail before after l (inr high) all =
     subst (λ (ops : List Operation). Every (Resting newest past) ops) (sym (ends_far one_lun n ce lun fail before after high l.places l.ops)) all
 
@@ -248,11 +249,11 @@ dated_if : (g : Parts) (targets : ℕ) (past : List Item) (marks : List ℕ) (bo
 dated_if g targets past marks bound None e ops low dated = dated
 dated_if g targets past marks bound (Some m) e ops low dated = dated_end g targets past marks bound ops m e low dated
 
-pub ready_dated : (g : Parts) (targets : ℕ) (past : List Item) (marks : List ℕ) (one_lun : Bool) (n ce lun : ℕ) (fail : Bool) (before after : Looks) (l : Listing) → (lun < 4) ⊎ (lun < 4 → ⊥) →
+pub ready_dated : (g : Parts) (targets : ℕ) (past : List Item) (marks : List ℕ) (one_lun : Bool) (n ce lun : ℕ) (fail : Failures) (before after : Looks) (l : Listing) → (lun < 4) ⊎ (lun < 4 → ⊥) →
     Dated g targets past marks n l.ops → Dated g targets past marks (n + 1) (with_ends (permitted_as one_lun n (Rdy ce lun fail) before after) l).ops
 ready_dated g targets past marks one_lun n ce lun fail before after l (inl low) dated =
     subst (λ (ops : List Operation). Dated g targets past marks (n + 1) ops) (sym (ends_near one_lun n ce lun fail before after low l.places l.ops))
-    (dated_if g targets past marks (n + 1) (worker l.places ce lun) (ends.Ready n fail) l.ops (omega arith) (dated_later g targets past marks n (n + 1) l.ops (omega arith) dated))
+    (dated_if g targets past marks (n + 1) (worker l.places ce lun) (ends.Ready n fail.last) l.ops (omega arith) (dated_later g targets past marks n (n + 1) l.ops (omega arith) dated))
 ready_dated g targets past marks one_lun n ce lun fail before after l (inr high) dated =
     subst (λ (ops : List Operation). Dated g targets past marks (n + 1) ops) (sym (ends_far one_lun n ce lun fail before after high l.places l.ops))
     (dated_later g targets past marks n (n + 1) l.ops (omega arith) dated)

@@ -16,7 +16,7 @@ use Rattle.trace_ops.specs.Listing.{Listing, may_select, may_select_kind, begins
 no_role : (j : Judged) (o : Option Operation) (i : Item) (lun : ℕ) → may_select i ≡ false → role_by j o i lun ≡ role.Nothing
 no_role j None i lun h = refl
 no_role j (Some o) (Rdy ce l fail) lun h = refl
-no_role j (Some o) (Ard ce l) lun h = refl
+no_role j (Some o) (Ard ce l fail) lun h = refl
 no_role j (Some o) (Cyc c) lun h = at (is_permitted j.said) c.kind h
   where
     at : (b : Bool) (kind : Kind) → may_select_kind kind ≡ false → cond b (role_of_kind o c (begins_by j (Cyc c) lun) (look_at j.after lun) kind) role.Nothing ≡ role.Nothing
@@ -54,7 +54,7 @@ absent_of_kind o c Dout = refl
 absent_role : (j : Judged) (o : Option Operation) (i : Item) (lun : ℕ) → look_at j.after lun ≡ None → role_by j o i lun ≡ role.Nothing
 absent_role j None i lun h = refl
 absent_role j (Some o) (Rdy ce l fail) lun h = refl
-absent_role j (Some o) (Ard ce l) lun h = refl
+absent_role j (Some o) (Ard ce l fail) lun h = refl
 absent_role j (Some o) (Cyc c) lun h = at (is_permitted j.said)
   where
     begins : begins_by j (Cyc c) lun ≡ false

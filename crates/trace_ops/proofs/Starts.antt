@@ -4,12 +4,13 @@ use Rattle.std.proofs.lemmas.Bool.{and_parts, and_left, or_parts}
 use Rattle.std.proofs.lemmas.Bool.Decides.{nat_tests}
 use Rattle.nand_geometry.specs.declared.parts.Parts.{Parts}
 use Rattle.onfi_cycle.specs.declared.command.Command.{Command}
-use Rattle.onfi_cycle.specs.declared.command.Command.TheVariants.{Read, ReadConfirm, ChangeReadColumn, ChangeReadColumnEnhanced, ChangeReadColumnConfirm, BlockErase, BlockEraseConfirm, BlockErasePlane, ReadStatus, ReadStatusEnhanced, PageProgram, ChangeWriteColumn, ProgramConfirm, ProgramPlane, ReadId, ReadParameterPage, Reset, ReadCacheSequential, ReadCacheEnd, ReadUniqueId, GetFeatures, ResetLun, SynchronousReset, ReadPlane, CopybackRead}
+use Rattle.onfi_cycle.specs.declared.command.Command.TheVariants.{Read, ReadConfirm, ChangeReadColumn, ChangeReadColumnEnhanced, ChangeReadColumnConfirm, BlockErase, BlockEraseConfirm, BlockErasePlane, ReadStatus, ReadStatusEnhanced, PageProgram, ChangeWriteColumn, ProgramConfirm, ProgramPlane, ReadId, ReadParameterPage, Reset, ReadCacheSequential, ReadCacheEnd, ReadUniqueId, GetFeatures, ResetLun, SynchronousReset, ReadPlane, CopybackRead, ProgramCache}
 use Rattle.onfi_cycle.specs.declared.data_phase.DataPhase.{DataPhase}
 use Rattle.onfi_cycle.specs.declared.data_phase.DataPhase.TheVariants.{Outside, Inputs, FirstColumn, SecondColumn, FeatureInputs}
 use Rattle.onfi_cycle.specs.declared.effect.Effect.{Effect}
 use Rattle.onfi_cycle.specs.declared.effect.Effect.TheVariants.{Unaffected, BecameReady, IdRead, IdentityRead, AnotherAddressed, Deselected, ResetStarted, TargetResetStarted}
 use Rattle.onfi_cycle.specs.declared.item.Cycle.{Cycle}
+use Rattle.onfi_cycle.specs.declared.item.Failures.{Failures}
 use Rattle.onfi_cycle.specs.declared.item.Item.{Item}
 use Rattle.onfi_cycle.specs.declared.item.Item.TheVariants.{Cyc, Rdy, Ard}
 use Rattle.onfi_cycle.specs.declared.latch.Latch.{Latch}
@@ -53,6 +54,7 @@ confirm_ready g t BlockEraseConfirm = refl
 confirm_ready g t BlockErasePlane = refl
 confirm_ready g t ReadPlane = refl
 confirm_ready g t CopybackRead = refl
+confirm_ready g t ProgramCache = refl
 confirm_ready g t ProgramConfirm = refl
 confirm_ready g t ProgramPlane = refl
 confirm_ready g t c = refl
@@ -131,7 +133,7 @@ cycle_busy g past c l =
     on_target (c.ce == l.ce) _ (is_busy g past l) (cycle_ready g (facts_of (tail past l.ce)) (latch_alone g past l) (target_cycle c.kind c.byte) l.lun)
 
 -- a ready ends the work of its LUN, and changes nothing else
-pub ready_busy : (g : Parts) (past : List Item) (ce lun : ℕ) (fail : Bool) (l : Lun) →
+pub ready_busy : (g : Parts) (past : List Item) (ce lun : ℕ) (fail : Failures) (l : Lun) →
     is_busy g (Rdy ce lun fail ∷ past) l ≡ cond (ce == l.ce && lun == l.lun) false (is_busy g past l)
 unfolding effect_among
 ready_busy g past ce lun fail l = at (ce == l.ce && lun == l.lun)
@@ -140,11 +142,11 @@ ready_busy g past ce lun fail l = at (ce == l.ce && lun == l.lun)
     at true = refl
     at false = refl
 
-pub array_ready_busy : (g : Parts) (past : List Item) (ce lun : ℕ) (l : Lun) → is_busy g (Ard ce lun ∷ past) l ≡ is_busy g past l
+pub array_ready_busy : (g : Parts) (past : List Item) (ce lun : ℕ) (fail : Bool) (l : Lun) → is_busy g (Ard ce lun fail ∷ past) l ≡ is_busy g past l
 unfolding effect_among
-array_ready_busy g past ce lun l = at (ce == l.ce && lun == l.lun)
+array_ready_busy g past ce lun fail l = at (ce == l.ce && lun == l.lun)
   where
-    at : (b : Bool) → busy_after (cond b Effect.ArrayBecameReady Unaffected) (is_busy g past l) ≡ is_busy g past l
+    at : (b : Bool) → busy_after (cond b (Effect.ArrayBecameReady fail) Unaffected) (is_busy g past l) ≡ is_busy g past l
     at true = refl
     at false = refl
 
@@ -185,6 +187,7 @@ command_keeps g past l BlockEraseConfirm h = named_true _ _ _ _ (other_starts g 
 command_keeps g past l BlockErasePlane h = named_true _ _ _ _ (other_starts g (facts_of (tail past l.ce)) BlockErasePlane) h
 command_keeps g past l ReadPlane h = named_true _ _ _ _ (other_starts g (facts_of (tail past l.ce)) ReadPlane) h
 command_keeps g past l CopybackRead h = named_true _ _ _ _ (other_starts g (facts_of (tail past l.ce)) CopybackRead) h
+command_keeps g past l ProgramCache h = named_true _ _ _ _ (other_starts g (facts_of (tail past l.ce)) ProgramCache) h
 command_keeps g past l ProgramConfirm h = named_true _ _ _ _ (other_starts g (facts_of (tail past l.ce)) ProgramConfirm) h
 command_keeps g past l ProgramPlane h = named_true _ _ _ _ (other_starts g (facts_of (tail past l.ce)) ProgramPlane) h
 command_keeps g past l ReadCacheSequential h = at (wants_command (facts_of (tail past l.ce)) ReadCacheSequential) h
@@ -302,6 +305,7 @@ ended_command : (t : TailFacts) (d : Command) → IsEnded t → wants_command t 
 ended_command t ChangeWriteColumn e = rw e.phase refl
 ended_command t ProgramConfirm e = rw e.phase refl
 ended_command t ProgramPlane e = rw e.phase refl
+ended_command t ProgramCache e = rw e.phase refl
 ended_command t d e = wants_opened t d e
 
 addressed_none : (byte : ℕ) (o : Option Opening) → opened goes_on_by o ≡ false → opened (λ c n. is_opener c && ltb n (address_cycles c) && takes_address c byte) o ≡ false
@@ -362,6 +366,7 @@ command_ended g past l BlockEraseConfirm t h = closer_ended BlockEraseConfirm t 
 command_ended g past l BlockErasePlane t h = closer_ended BlockErasePlane t (λ d. refl)
 command_ended g past l ReadPlane t h = closer_ended ReadPlane t (λ d. refl)
 command_ended g past l CopybackRead t h = closer_ended CopybackRead t (λ d. refl)
+command_ended g past l ProgramCache t h = closer_ended ProgramCache t (λ d. refl)
 command_ended g past l ProgramConfirm t h = closer_ended ProgramConfirm t (λ d. refl)
 command_ended g past l ProgramPlane t h = closer_ended ProgramPlane t (λ d. refl)
 command_ended g past l ChangeReadColumnConfirm t h = closer_ended ChangeReadColumnConfirm t (λ d. refl)

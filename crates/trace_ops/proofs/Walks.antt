@@ -255,7 +255,7 @@ new_first j newest (Cyc c) = at c.kind
     at Din = refl
     at Dout = refl
 new_first j newest (Rdy ce lun fail) = refl
-new_first j newest (Ard ce lun) = refl
+new_first j newest (Ard ce lun fail) = refl
 
 awaits_came : (marks : List ℕ) (owner : Option ℕ) (j : Judged) (l : Listing) → j.number ≡ length marks → All (λ m. m < length l.ops) marks → AllSpan marks l.ops →
     Awaits marks (number_of owner l.ops) (with_new owner j l).ops

@@ -64,9 +64,9 @@ said_plain t k (Cyc c) h =
 said_plain t k (Rdy ce lun fail) h =
     ap (λ (w : Known). verdict_on t w (Rdy ce lun fail)) h
     ∙ ready_plain (doubts_ready t.bus all_known ce lun) (judged_here t (Rdy ce lun fail)) (no_doubt (looked t.bus (record { ce = ce; lun = lun })) (has_begun (knows all_known lun)) (ready_known lun))
-said_plain t k (Ard ce lun) h =
-    ap (λ (w : Known). verdict_on t w (Ard ce lun)) h
-    ∙ ready_plain (doubts_ready t.bus all_known ce lun) (judged_here t (Ard ce lun)) (no_doubt (looked t.bus (record { ce = ce; lun = lun })) (has_begun (knows all_known lun)) (ready_known lun))
+said_plain t k (Ard ce lun fail) h =
+    ap (λ (w : Known). verdict_on t w (Ard ce lun fail)) h
+    ∙ ready_plain (doubts_ready t.bus all_known ce lun) (judged_here t (Ard ce lun fail)) (no_doubt (looked t.bus (record { ce = ce; lun = lun })) (has_begun (knows all_known lun)) (ready_known lun))
 
 never_passed : (g : Parts) (k : Known) (i : Item) → k ≡ all_known → is_passed_over g k i ≡ false
 never_passed g k i h = ap (λ (w : Known). is_passed_over g w i) h ∙ at i
@@ -74,7 +74,7 @@ never_passed g k i h = ap (λ (w : Known). is_passed_over g w i) h ∙ at i
     at : (i : Item) → is_passed_over g all_known i ≡ false
     at (Cyc c) = refl
     at (Rdy ce lun fail) = refl
-    at (Ard ce lun) = refl
+    at (Ard ce lun fail) = refl
 
 plain_granted : (rule : Option Forbidden) → is_granted (plain rule) ≡ false
 plain_granted None = refl

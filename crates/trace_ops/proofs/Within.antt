@@ -77,14 +77,14 @@ ready_within n ops p j lun w =
 pub owner_within : (n : ℕ) (ops : List Operation) (p : Places) (j : Judged) (i : Item) → AreWithin n p → Within n (owner_of ops p j i)
 owner_within n ops p j (Cyc c) w = kind_within n ops p j c c.kind w
 owner_within n ops p j (Rdy ce lun fail) w = ready_within n ops p j lun w
-owner_within n ops p j (Ard ce lun) w = ready_within n ops p j lun w
+owner_within n ops p j (Ard ce lun fail) w = ready_within n ops p j lun w
 
 -- ---- what an item makes of them
 
 pub newest_within : (n k ce : ℕ) (i : Item) (newest : List (Option ℕ)) → k < n → All (Within n) newest → All (Within n) (newest_with i ce k newest)
 newest_within n k ce (Cyc c) newest lt h = All-set (Within n) newest ce (Some k) lt h
 newest_within n k ce (Rdy ce' lun fail) newest lt h = h
-newest_within n k ce (Ard ce' lun) newest lt h = h
+newest_within n k ce (Ard ce' lun fail) newest lt h = h
 
 begin_within : (n k : ℕ) (j : Judged) (lun : ℕ) (l : Listing) → k < n → AreWithin n l.places → AreWithin n (begun_on j k lun l).places
 begin_within n k j lun l lt w = at (starts_on j lun k l.ops) _

@@ -115,21 +115,21 @@ module _ (g : Parts) (targets : ℕ) (few : targets ≤ 4) (luns : g.luns ≤ 4)
               ready_dated_after j l is g targets past (Rdy ce lun fail) marks (n + 1) worked.domestic (λ x there'. ready_works g past ce lun fail x)
               (ready_dated g targets past marks one_lun n ce lun fail before after l (few_or lun) worked.dated);
         }
-    worked_by seen later on (Ard ce lun) h =
+    worked_by seen later on (Ard ce lun fail) h =
         let before = looks_of seen.state.bus ce in
-        let after = looks_of (seen_after Written seen (Ard ce lun) later).state.bus ce in
-        let j = permitted_as one_lun n (Ard ce lun) before after in
-        let is = array_ready_is one_lun n ce lun before after in
+        let after = looks_of (seen_after Written seen (Ard ce lun fail) later).state.bus ce in
+        let j = permitted_as one_lun n (Ard ce lun fail) before after in
+        let is = array_ready_is one_lun n ce lun fail before after in
         record {
           domestic = ready_domestic_after j l is worked.domestic;
-          resting = ready_resting_after j l is (Ard ce lun ∷ past) within worked.domestic worked.resting;
+          resting = ready_resting_after j l is (Ard ce lun fail ∷ past) within worked.domestic worked.resting;
           tells =
-              ready_tells_after j l is (busy_of g targets (Ard ce lun ∷ past)) worked.domestic
-              (tells_same (busy_of g targets past) (busy_of g targets (Ard ce lun ∷ past)) l.places.workers l.ops (busy_array_ready g targets past ce lun) worked.tells);
-          number = one_more (Ard ce lun);
-          many = marked (Ard ce lun) (mark_in j (with_ends j l));
+              ready_tells_after j l is (busy_of g targets (Ard ce lun fail ∷ past)) worked.domestic
+              (tells_same (busy_of g targets past) (busy_of g targets (Ard ce lun fail ∷ past)) l.places.workers l.ops (busy_array_ready g targets past ce lun fail) worked.tells);
+          number = one_more (Ard ce lun fail);
+          many = marked (Ard ce lun fail) (mark_in j (with_ends j l));
           dated =
-              ready_dated_after j l is g targets past (Ard ce lun) marks (n + 1) worked.domestic (λ x there'. array_ready_works g past ce lun x)
+              ready_dated_after j l is g targets past (Ard ce lun fail) marks (n + 1) worked.domestic (λ x there'. array_ready_works g past ce lun fail x)
               (dated_later g targets past marks n (n + 1) l.ops (omega arith) worked.dated);
         }
 

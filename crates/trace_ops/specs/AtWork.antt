@@ -60,7 +60,7 @@ WorkIsTheModels =
 abbrev pub resets : Item → Lun → Bool
 resets (Cyc c) l = c.ce == l.ce && is_reset c
 resets (Rdy ce lun fail) l = false
-resets (Ard ce lun) l = false
+resets (Ard ce lun fail) l = false
 
 -- the item begins work of the LUN: that works after it, and didn't before or is reset
 abbrev pub begins_work : Parts → List Item → Item → Lun → Bool

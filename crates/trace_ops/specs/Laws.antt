@@ -55,12 +55,12 @@ is_input_kind Dout = false
 abbrev pub is_input : Item → Bool
 is_input (Cyc c) = is_input_kind c.kind
 is_input (Rdy ce lun fail) = false
-is_input (Ard ce lun) = false
+is_input (Ard ce lun fail) = false
 
 abbrev pub is_output_item : Item → Bool
 is_output_item (Cyc c) = is_output c.kind
 is_output_item (Rdy ce lun fail) = false
-is_output_item (Ard ce lun) = false
+is_output_item (Ard ce lun fail) = false
 
 abbrev pub inputs_of : Operation → ℕ
 inputs_of o = o.inputs
@@ -118,7 +118,7 @@ NoFaultIsHidden =
 abbrev pub with_part : Item → List TargetCycle → List TargetCycle
 with_part (Cyc c) t = if is_output c.kind then t else target_cycle c.kind c.byte ∷ t
 with_part (Rdy ce lun fail) t = t
-with_part (Ard ce lun) t = t
+with_part (Ard ce lun fail) t = t
 
 -- the commands, addresses and inputs of the items with this mark, the newest first, in front of these
 abbrev pub piece_on : ℕ → List TargetCycle → List Item → List ℕ → List TargetCycle

@@ -139,8 +139,8 @@ end_by_cycle j c lun was is =
 -- how an item ends the work of this LUN, if it does
 abbrev pub end_by : Judged → Item → (lun : ℕ) → Option Ending
 end_by j (Cyc c) lun = end_by_cycle j c lun (is_busy (look_at j.before lun)) (is_busy (look_at j.after lun))
-end_by j (Rdy ce l fail) lun = if l == lun && is_permitted j.said then Some (ends.Ready j.number fail) else None
-end_by j (Ard ce l) lun = None
+end_by j (Rdy ce l fail) lun = if l == lun && is_permitted j.said then Some (ends.Ready j.number fail.last) else None
+end_by j (Ard ce l fail) lun = None
 
 abbrev pub ended_if : Option Ending → Option ℕ → List Operation → List Operation
 ended_if None at ops = ops
@@ -239,7 +239,7 @@ ready_owner ops p j lun = if is_permitted j.said || is_waiting (op_of ops (worke
 abbrev pub owner_of : List Operation → Places → Judged → Item → Option ℕ
 owner_of ops p j (Cyc c) = cycle_owner ops p j c c.kind
 owner_of ops p j (Rdy ce lun fail) = ready_owner ops p j lun
-owner_of ops p j (Ard ce lun) = ready_owner ops p j lun
+owner_of ops p j (Ard ce lun fail) = ready_owner ops p j lun
 
 -- ---- a new one
 
@@ -252,13 +252,13 @@ new_by_command j newest c Dout = begun j.ce j.number begins.Cut
 abbrev pub new_one : Judged → Option Operation → Item → Operation
 new_one j newest (Cyc c) = new_by_command j newest c c.kind
 new_one j newest (Rdy ce lun fail) = record (begun j.ce j.number begins.Ready) { lun = Some lun }
-new_one j newest (Ard ce lun) = record (begun j.ce j.number begins.Ready) { lun = Some lun }
+new_one j newest (Ard ce lun fail) = record (begun j.ce j.number begins.Ready) { lun = Some lun }
 
 -- a ready that belongs to none is not the newest of its target
 abbrev pub newest_with : Item → (ce k : ℕ) → List (Option ℕ) → List (Option ℕ)
 newest_with (Cyc c) ce k newest = slice_set newest ce (Some k)
 newest_with (Rdy ce' lun fail) ce k newest = newest
-newest_with (Ard ce' lun) ce k newest = newest
+newest_with (Ard ce' lun fail) ce k newest = newest
 
 abbrev pub number_of : Option ℕ → List Operation → ℕ
 number_of (Some k) ops = k
@@ -284,7 +284,7 @@ is_new_opener (Some k) j kind = false
 abbrev pub change_of : Option ℕ → Judged → Item → Change
 change_of owner j (Cyc c) = if is_new_opener owner j c.kind then change.Opened j.number j.said else change.Cycle j.number c.kind c.byte j.said
 change_of owner j (Rdy ce lun fail) = change.LoneReady j.number j.said
-change_of owner j (Ard ce lun) = change.LoneReady j.number j.said
+change_of owner j (Ard ce lun fail) = change.LoneReady j.number j.said
 
 abbrev pub is_address_kind : Kind → Bool
 is_address_kind Cmd = false
@@ -296,7 +296,7 @@ is_address_kind Dout = false
 abbrev pub is_address : Item → Bool
 is_address (Cyc c) = is_address_kind c.kind
 is_address (Rdy ce lun fail) = false
-is_address (Ard ce lun) = false
+is_address (Ard ce lun fail) = false
 
 abbrev pub is_alone_op : Option Operation → Bool
 is_alone_op None = false
@@ -324,7 +324,7 @@ abbrev pub begins_by : Judged → Item → (lun : ℕ) → Bool
 begins_by j (Cyc c) lun =
     is_permitted j.said && (is_busy (look_at j.after lun) && (not (is_busy (look_at j.before lun)) || (is_taken j.said lun || is_reset c)))
 begins_by j (Rdy ce l fail) lun = false
-begins_by j (Ard ce l) lun = false
+begins_by j (Ard ce l fail) lun = false
 
 -- work of which the model knows nothing, on a target of one LUN
 abbrev pub works_unknown : ℕ → Bool
@@ -346,7 +346,7 @@ works_as_foreign (Some o) = is_working_opener (opener_of o.beginning) || is_work
 abbrev pub is_input_to_chip : Item → Bool
 is_input_to_chip (Cyc c) = not (is_output c.kind)
 is_input_to_chip (Rdy ce lun fail) = false
-is_input_to_chip (Ard ce lun) = false
+is_input_to_chip (Ard ce lun fail) = false
 
 abbrev pub begins_foreign : Judged → (lun : ℕ) → Option Operation → Bool
 begins_foreign j lun o = j.one_lun && (lun == 0 && (is_input_to_chip j.item && works_as_foreign o))
@@ -393,7 +393,7 @@ abbrev pub role_by : Judged → Option Operation → Item → (lun : ℕ) → Ro
 role_by j None i lun = role.Nothing
 role_by j (Some o) (Cyc c) lun = if is_permitted j.said then role_of_kind o c (begins_by j (Cyc c) lun) (look_at j.after lun) c.kind else role.Nothing
 role_by j (Some o) (Rdy ce l fail) lun = role.Nothing
-role_by j (Some o) (Ard ce l) lun = role.Nothing
+role_by j (Some o) (Ard ce l fail) lun = role.Nothing
 
 -- commands and addresses alone select something
 abbrev pub may_select_kind : Kind → Bool
@@ -405,7 +405,7 @@ may_select_kind Dout = false
 abbrev pub may_select : Item → Bool
 may_select (Cyc c) = may_select_kind c.kind
 may_select (Rdy ce lun fail) = false
-may_select (Ard ce lun) = false
+may_select (Ard ce lun fail) = false
 
 -- the work of the LUN hasn't been shown to be over by a status byte
 abbrev pub is_unshown : Option Operation → Bool
@@ -471,7 +471,7 @@ polled_by j k byte (Some lun) p ops = if gives_status (look_at j.before lun) the
 abbrev pub polled : Judged → (k : ℕ) → Item → Places → List Operation → List Operation
 polled j k (Cyc c) p ops = if is_output c.kind && is_permitted j.said then polled_by j k c.byte (driver_of j.before) p ops else ops
 polled j k (Rdy ce lun fail) p ops = ops
-polled j k (Ard ce lun) p ops = ops
+polled j k (Ard ce lun fail) p ops = ops
 
 -- ---- one item
 
@@ -487,8 +487,8 @@ with_polls j k l = record { places = l.places; ops = polled j k j.item l.places 
 -- a ready ends work of which the model knows nothing, permitted or not
 abbrev pub ready_end : Item → ℕ → Option Ending
 ready_end (Cyc c) n = None
-ready_end (Rdy ce lun fail) n = Some (ends.Ready n fail)
-ready_end (Ard ce lun) n = None
+ready_end (Rdy ce lun fail) n = Some (ends.Ready n fail.last)
+ready_end (Ard ce lun fail) n = None
 
 abbrev pub with_ready : Judged → ℕ → Listing → Listing
 with_ready j k l = record { places = l.places; ops = if is_foreign_at l.ops (Some k) then ended_if (ready_end j.item j.number) (Some k) l.ops else l.ops }

@@ -25,12 +25,12 @@ opened_at o = record { first = o.first; ce = o.ce; beginning = o.beginning }
 abbrev pub opens : Item → Bool
 opens (Cyc c) = is_command c.kind && opens_alone c.byte
 opens (Rdy ce lun fail) = false
-opens (Ard ce lun) = false
+opens (Ard ce lun fail) = false
 
 abbrev pub beginning_by : Item → Beginning
 beginning_by (Cyc c) = begins.Opener c.byte
 beginning_by (Rdy ce lun fail) = begins.Ready
-beginning_by (Ard ce lun) = begins.Ready
+beginning_by (Ard ce lun fail) = begins.Ready
 
 -- the item of this number, as one that begins something
 abbrev pub opening : ℕ → Item → Opened

@@ -102,7 +102,7 @@ by_cycle d Dout byte = by_output d byte
 abbrev pub doing_after : ℕ → Item → Doing → Option Doing
 doing_after ce (Cyc c) d = if c.ce == ce then by_cycle d c.kind c.byte else Some d
 doing_after ce (Rdy ce' lun fail) d = Some d
-doing_after ce (Ard ce' lun) d = Some d
+doing_after ce (Ard ce' lun fail) d = Some d
 
 abbrev pub goes_on : Option Doing → (Doing → Option Doing) → Option Doing
 goes_on None more = None
@@ -131,7 +131,7 @@ sent_in d kind byte = None
 abbrev pub sent_at : ℕ → Item → Doing → Option Sequence
 sent_at ce (Cyc c) d = if c.ce == ce then sent_in d c.kind c.byte else None
 sent_at ce (Rdy ce' lun fail) d = None
-sent_at ce (Ard ce' lun) d = None
+sent_at ce (Ard ce' lun fail) d = None
 
 abbrev pub in_front : Option Sequence → List Sequence → List Sequence
 in_front None sequences = sequences

@@ -75,7 +75,7 @@ fn end_by(judged: &Judged, item: Item, lun: u8) -> Option<Ending>
             if ready == lun && is_permitted(judged.said) {
                 Some(Ending::Ready {
                     at: judged.number,
-                    failed: fail,
+                    failed: fail.last,
                 })
             } else {
                 None

@@ -187,7 +187,7 @@ fn ready_end(item: Item, number: usize) -> Option<Ending>
     match item {
         Item::Rdy { fail, .. } => Some(Ending::Ready {
             at: number,
-            failed: fail,
+            failed: fail.last,
         }),
         Item::Cyc(_) | Item::Ard { .. } => None,
     }

@@ -37,7 +37,7 @@ impl Shown {
 /// What stands in a box.
 #[derive(Clone, Copy, Debug, PartialEq, Eq)]
 pub enum Label {
-    /// A sequence: its opener, the row or the column once it is whole, and how many inputs it has.
+    /// A sequence: its opener, or the 15h that closed a program, the row or the column once it is whole, and how many inputs it has.
     Sequence {
         opener: Command,
         row: Option<RowParts>,
@@ -67,6 +67,7 @@ fn opener_name(opener: Command) -> &'static str {
         Command::BlockErase => "erase",
         Command::PageProgram => "program",
         Command::ChangeWriteColumn => "copyback",
+        Command::ProgramCache => "cache program",
         Command::ReadStatus | Command::ReadStatusEnhanced => "status",
         Command::ReadId => "id",
         Command::ReadParameterPage => "parameters",
@@ -144,6 +145,27 @@ impl Label {
                 inputs,
             },
             Label::Status { .. } | Label::Outputs { .. } | Label::Alone | Label::Unjudged => self,
+        }
+    }
+
+    /// The same with a command that goes on with it: 15h makes a program one of a cache.
+    pub(crate) fn with_command(self, command: Command) -> Label {
+        match (self, command) {
+            (
+                Label::Sequence {
+                    opener: Command::PageProgram,
+                    row,
+                    column,
+                    inputs,
+                },
+                Command::ProgramCache,
+            ) => Label::Sequence {
+                opener: Command::ProgramCache,
+                row,
+                column,
+                inputs,
+            },
+            _ => self,
         }
     }
 
@@ -239,7 +261,9 @@ impl Label {
                 | Command::ChangeReadColumnEnhanced
                 | Command::ReadCacheSequential
                 | Command::ReadCacheEnd => "read",
-                Command::PageProgram | Command::ChangeWriteColumn => "program",
+                Command::PageProgram | Command::ChangeWriteColumn | Command::ProgramCache => {
+                    "program"
+                }
                 Command::BlockErase => "erase",
                 _ => "other",
             },

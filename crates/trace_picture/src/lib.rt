@@ -1,7 +1,7 @@
 //! A trace as a picture (SVG 1.1), for a browser or a pull request: [`draw`].
 //!
 //! For each chip enable there is a lane with a box for each sequence of commands, and one for each run of outputs after it; below it, for each of its
-//! LUNs, a lane with the time in which the LUN is busy (dark) or its array works on after a cache read (light), and with its failures. Time goes to the
+//! LUNs, a lane with the time in which the LUN is busy (dark) or its array works on after a cache read or a cache program (light), and with its failures. Time goes to the
 //! right by items, and the small numbers count them. Inputs or outputs in a row take less room the more they are. A picture wider than 1,500 points goes
 //! on in the strip below. Where an item breaks a rule there is a red line; it is grey, and so is what goes on with it.
 //!

@@ -5,7 +5,7 @@
 pub enum Worker {
     /// The LUN: it is busy.
     Lun,
-    /// Its array, after a cache read.
+    /// Its array, after a cache read or a cache program.
     Array,
 }
 

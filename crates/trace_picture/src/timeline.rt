@@ -266,7 +266,10 @@ impl<A: Allocator> Timeline<A> {
         let Cycle { ce, kind, byte } = cycle;
         let label = self.label_of(lane);
         match kind {
-            Kind::Cmd => self.extend(lane, ce, label, item),
+            Kind::Cmd => {
+                let label = label.with_command(Command::of(byte));
+                self.extend(lane, ce, label, item)
+            }
             Kind::Adr => {
                 let lane = lane.with_address(byte);
                 self.extend(lane, ce, lane.label(geometry, label), item)
@@ -319,6 +322,18 @@ impl<A: Allocator> Timeline<A> {
         Ok(())
     }
 
+    // Adds the failure of a LUN that a ready tells, if it tells one.
+    fn draw_failure(&mut self, lun: Lun, failed: bool, item: usize) -> Result<(), AllocError> {
+        if failed {
+            self.failures.push(Failure {
+                ce: lun.ce,
+                lun: lun.lun,
+                item,
+            })?;
+        }
+        Ok(())
+    }
+
     // Adds an item, which comes so.
     fn draw_item(
         &mut self,
@@ -330,13 +345,11 @@ impl<A: Allocator> Timeline<A> {
     ) -> Result<(), AllocError> {
         match item {
             Item::Cyc(cycle) => self.draw_cycle_of(running, geometry, cycle, place, coming),
-            Item::Rdy { ce, lun, fail } if fail && coming != Coming::Broken => {
-                self.failures.push(Failure {
-                    ce,
-                    lun,
-                    item: place,
-                })?;
-                Ok(())
+            Item::Rdy { ce, lun, fail } if coming != Coming::Broken => {
+                self.draw_failure(Lun { ce, lun }, fail.last || fail.before, place)
+            }
+            Item::Ard { ce, lun, fail } if coming != Coming::Broken => {
+                self.draw_failure(Lun { ce, lun }, fail, place)
             }
             Item::Rdy { .. } | Item::Ard { .. } => Ok(()),
         }

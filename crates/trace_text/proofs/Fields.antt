@@ -6,6 +6,7 @@ use Rattle.std.specs.List.{All, onto_first}
 use Rattle.std.proofs.lemmas.List.Elements.{All-from_get_or}
 use Rattle.std.proofs.lemmas.List.Splits.{slice_split_none, slice_split_at}
 use Rattle.std.proofs.lemmas.Str.Pattern.{IsSplitOnceResult, split_parts}
+use Rattle.nand_geometry.specs.declared.optional.Profile.{Profile}
 use Rattle.trace_text.specs.declared.refusal.TraceFault.TheVariants.{BadShape}
 use Rattle.trace_text.specs.Reading.{fields, line_item}
 
@@ -28,13 +29,13 @@ first_none bs None h = slice_split_none is_space bs (no_space bs (split_parts 32
 
 -- ---- too few or too many
 
-pub one_field : (bs : List ℕ) (a : List ℕ) → fields bs ≡ a ∷ [] → line_item bs ≡ Err BadShape
+pub one_field : (p : Profile) (bs : List ℕ) (a : List ℕ) → fields bs ≡ a ∷ [] → line_item p bs ≡ Err BadShape
 unfolding line_item
-one_field bs a e = rw e refl
+one_field p bs a e = rw e refl
 
-pub two_fields : (bs : List ℕ) (a b : List ℕ) → fields bs ≡ a ∷ b ∷ [] → line_item bs ≡ Err BadShape
+pub two_fields : (p : Profile) (bs : List ℕ) (a b : List ℕ) → fields bs ≡ a ∷ b ∷ [] → line_item p bs ≡ Err BadShape
 unfolding line_item
-two_fields bs a b e = rw e refl
+two_fields p bs a b e = rw e refl
 
 -- a line has a field, though it may be empty
 some_field : (bs : List ℕ) → (a : List ℕ) × (more : List (List ℕ)) × (fields bs ≡ a ∷ more)
@@ -46,9 +47,9 @@ some_field (b ∷ bs) = at (is_space b) (fields bs)
     at false [] = (b ∷ [], [], refl)
     at false (f ∷ fs) = (b ∷ f, fs, refl)
 
-pub five_fields : (bs : List ℕ) (a b c d rest : List ℕ) → fields bs ≡ a ∷ b ∷ c ∷ d ∷ fields rest → line_item bs ≡ Err BadShape
+pub five_fields : (p : Profile) (bs : List ℕ) (a b c d rest : List ℕ) → fields bs ≡ a ∷ b ∷ c ∷ d ∷ fields rest → line_item p bs ≡ Err BadShape
 unfolding line_item
-five_fields bs a b c d rest e =
+five_fields p bs a b c d rest e =
     let fifth = some_field rest in
     let all : fields bs ≡ a ∷ b ∷ c ∷ d ∷ fifth.0 ∷ fifth.1 = e ∙ ap (λ (fs : List (List ℕ)). a ∷ b ∷ c ∷ d ∷ fs) fifth.2 in
     rw all refl

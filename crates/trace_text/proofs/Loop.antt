@@ -2,6 +2,7 @@
 use Rattle.std.proofs.Common.{◌≡◌, ℕ, ◌+◌, List, [], ◌∷◌, ◌++◌, Result, Ok, Err, refl, sym, ap, ◌∙◌, append_assoc}
 use Rattle.std.proofs.lemmas.List.{append-nil}
 use Rattle.onfi_cycle.specs.declared.item.Item.{Item}
+use Rattle.nand_geometry.specs.declared.optional.Profile.{Profile}
 use Rattle.trace_text.specs.declared.refusal.TraceFault.{TraceFault}
 use Rattle.trace_text.specs.declared.refusal.TraceRefusal.{TraceRefusal}
 use Rattle.trace_text.specs.declared.refusal.TraceRefusal.TheVariants.{Fault}
@@ -12,8 +13,8 @@ abbrev pub with_front : List Item → Result (List Item) TraceRefusal → Result
 with_front front read = read >>= λ items. Ok (front ++ items)
 
 -- the lines before this one are read, and the rest of the text begins with it
-pub record IsSoFar (line : ℕ) (rest whole : List ℕ) (front : List Item) : Type 0 where
-  pub so_far : with_front front (reading_from line [] rest) ≡ reading whole
+pub record IsSoFar (p : Profile) (line : ℕ) (rest whole : List ℕ) (front : List Item) : Type 0 where
+  pub so_far : with_front front (reading_from p line [] rest) ≡ reading p whole
 
 empty_front : (read : Result (List Item) TraceRefusal) → with_front [] read ≡ read
 empty_front (Ok items) = refl
@@ -23,19 +24,19 @@ regroup : (front : List Item) (item : Item) (read : Result (List Item) TraceRefu
 regroup front item (Ok items) = ap (λ (xs : List Item). Ok xs) (sym (append_assoc front (item ∷ []) items))
 regroup front item (Err e) = refl
 
-pub starts : (whole : List ℕ) → IsSoFar 1 whole whole []
-starts whole = record { so_far = empty_front (reading_from 1 [] whole) }
+pub starts : (p : Profile) (whole : List ℕ) → IsSoFar p 1 whole whole []
+starts p whole = record { so_far = empty_front (reading_from p 1 [] whole) }
 
-pub goes_on : (line : ℕ) (rest whole after : List ℕ) (front : List Item) (item : Item) → BeginsWith rest item after → IsSoFar line rest whole front → IsSoFar (line + 1) after whole (front ++ item ∷ [])
-goes_on line rest whole after front item first before =
-    let one : with_front front (reading_from line [] rest) ≡ with_front (front ++ item ∷ []) (reading_from (line + 1) [] after) = ap (with_front front) (first.read line) ∙ regroup front item (reading_from (line + 1) [] after) in
+pub goes_on : (p : Profile) (line : ℕ) (rest whole after : List ℕ) (front : List Item) (item : Item) → BeginsWith p rest item after → IsSoFar p line rest whole front → IsSoFar p (line + 1) after whole (front ++ item ∷ [])
+goes_on p line rest whole after front item first before =
+    let one : with_front front (reading_from p line [] rest) ≡ with_front (front ++ item ∷ []) (reading_from p (line + 1) [] after) = ap (with_front front) (first.read line) ∙ regroup front item (reading_from p (line + 1) [] after) in
     record { so_far = sym one ∙ before.so_far }
 
-pub ends : (line : ℕ) (rest whole : List ℕ) (front : List Item) (code : TraceFault) → HasFault rest code → IsSoFar line rest whole front → reading whole ≡ Err (Fault code line)
-ends line rest whole front code fault before = sym before.so_far ∙ ap (with_front front) (fault.read line)
+pub ends : (p : Profile) (line : ℕ) (rest whole : List ℕ) (front : List Item) (code : TraceFault) → HasFault p rest code → IsSoFar p line rest whole front → reading p whole ≡ Err (Fault code line)
+ends p line rest whole front code fault before = sym before.so_far ∙ ap (with_front front) (fault.read line)
 
-pub is_done : (line : ℕ) (rest whole : List ℕ) (front : List Item) → rest ≡ [] → IsSoFar line rest whole front → reading whole ≡ Ok front
+pub is_done : (p : Profile) (line : ℕ) (rest whole : List ℕ) (front : List Item) → rest ≡ [] → IsSoFar p line rest whole front → reading p whole ≡ Ok front
 unfolding reading_from
-is_done line rest whole front empty before =
-    let none : reading_from line [] rest ≡ Ok [] = ap (reading_from line []) empty in
+is_done p line rest whole front empty before =
+    let none : (reading_from p) line [] rest ≡ Ok [] = ap (reading_from p line []) empty in
     sym before.so_far ∙ ap (with_front front) none ∙ ap (λ (xs : List Item). Ok xs) (append-nil front)

@@ -1,13 +1,17 @@
 -- Number fields: a field that is read is spelled by its digits, and the digits are read again.
-use Rattle.std.proofs.Common.{◌≡◌, ℕ, ◌+◌, ◌-◌, ◌*◌, ◌/◌, ◌%◌, ◌<◌, ◌≤◌, Bool, true, false, cond, ◌&&◌, eqb, ltb, leb, List, [], ◌∷◌, length, get_or, Option, Some, None, refl, ap, ◌∙◌, arith}
+use Rattle.std.proofs.Common.{◌≡◌, ℕ, ◌+◌, ◌-◌, ◌*◌, ◌/◌, ◌%◌, ◌<◌, ◌≤◌, Bool, true, false, cond, ◌&&◌, not, eqb, ltb, leb, List, [], ◌∷◌, length, get_or, Option, Some, None, refl, sym, ap, ◌∙◌, arith}
 use Rattle.std.proofs.lemmas.Bool.{eqb-true, leb-true, le-leb, ltb-true, ltb-false, lt-ltb, le-ltb, ne_eqb, and_parts as both_true}
 use Rattle.std.proofs.lemmas.Option.{cond_some, same_Some}
 use Rattle.std.proofs.lemmas.Bool.Decides.{nat_tests}
+use Rattle.nand_geometry.specs.declared.optional.Profile.{Profile}
+use Rattle.nand_geometry.specs.declared.optional.Profile.TheVariants.{Base, Onfi}
+use Rattle.onfi_cycle.specs.declared.item.Failures.{Failures}
+use Rattle.onfi_cycle.specs.declared.item.Item.TheVariants.{Rdy}
 use Rattle.onfi_cycle.specs.declared.item.Kind.TheVariants.{Cmd, Adr, Din, Dout}
 use Rattle.trace_text.specs.declared.line.Letter.{Letter}
 use Rattle.trace_text.specs.declared.line.Letter.TheVariants.{CycleOf, Ready, ArrayReady}
-use Rattle.trace_text.specs.Line.{digit, hex_digit, kind_letter, fail_digit}
-use Rattle.trace_text.specs.Reading.{and_then, place_of_digit, place_of, hex_value, byte_of, fail_of_digit, fail_of, letter_of_code, letter_of}
+use Rattle.trace_text.specs.Line.{digit, hex_digit, kind_letter, fail_number, fail_digit, IsKnown}
+use Rattle.trace_text.specs.Reading.{and_then, place_of_digit, place_of, hex_value, byte_of, is_wide, fail_of_digit, fail_of, array_fail_of, letter_of_code, letter_of}
 
 -- ---- lists of one and of two
 
@@ -145,25 +149,72 @@ byte_again n h =
 
 -- ---- a failure
 
-pub fail_takes : (f : List ℕ) (fail : Bool) → fail_of f ≡ Some fail → f ≡ fail_digit fail ∷ []
+pub fail_takes : (p : Profile) (f : List ℕ) (fail : Failures) → fail_of p f ≡ Some fail → (f ≡ fail_digit fail ∷ []) × (IsKnown p (Rdy 0 0 fail))
 unfolding fail_of
-fail_takes f fail e =
-    let first = guarded (eqb (length f) 1) (fail_of_digit (get_or f 0 0)) fail e in
-    one f (eqb-true (length f) 1 first.0) ∙ ap (λ (x : ℕ). x ∷ []) (at (get_or f 0 0) (eqb (get_or f 0 0) 48) (eqb (get_or f 0 0) 49) refl refl first.1)
+fail_takes p f fail e =
+    let first = guarded (eqb (length f) 1) (fail_of_digit p (get_or f 0 0)) fail e in
+    let d : ℕ = get_or f 0 0 in
+    let is = at p d (eqb d 48) (eqb d 49) (eqb d 50) (eqb d 51) refl refl refl refl first.1 in
+    (one f (eqb-true (length f) 1 first.0) ∙ ap (λ (x : ℕ). x ∷ []) is.0, is.1)
   where
-    at : (d : ℕ) (t u : Bool) → eqb d 48 ≡ t → eqb d 49 ≡ u → cond t (Some false) (cond u (Some true) None) ≡ Some fail → d ≡ fail_digit fail
-    at d true u is also h = eqb-true d 48 is ∙ ap fail_digit (same_Some false fail h)
-    at d false true is also h = eqb-true d 49 also ∙ ap fail_digit (same_Some true fail h)
-    at d false false is also h = absurd cc
+    said : (last before : Bool) → Failures
+    said last before = record { last = last; before = before }
 
-pub fail_again : (fail : Bool) → fail_of (fail_digit fail ∷ []) ≡ Some fail
+    at : (p : Profile) (d : ℕ) (t u v w : Bool) → eqb d 48 ≡ t → eqb d 49 ≡ u → eqb d 50 ≡ v → eqb d 51 ≡ w
+        → cond t (Some (record { last = false; before = false })) (cond u (Some (record { last = true; before = false }))
+        (cond (is_wide p && v) (Some (record { last = false; before = true })) (cond (is_wide p && w) (Some (record { last = true; before = true })) None))) ≡ Some fail
+        → (d ≡ fail_digit fail) × IsKnown p (Rdy 0 0 fail)
+    at Base d true u v w i j k l h = let same = same_Some (said false false) fail h in (eqb-true d 48 i ∙ ap fail_digit same, ap (λ (x : Failures). not x.before) (sym same))
+    at Onfi d true u v w i j k l h = (eqb-true d 48 i ∙ ap fail_digit (same_Some (said false false) fail h), refl)
+    at Base d false true v w i j k l h = let same = same_Some (said true false) fail h in (eqb-true d 49 j ∙ ap fail_digit same, ap (λ (x : Failures). not x.before) (sym same))
+    at Onfi d false true v w i j k l h = (eqb-true d 49 j ∙ ap fail_digit (same_Some (said true false) fail h), refl)
+    at Base d false false v w i j k l h = absurd cc
+    at Onfi d false false true w i j k l h = (eqb-true d 50 k ∙ ap fail_digit (same_Some (said false true) fail h), refl)
+    at Onfi d false false false true i j k l h = (eqb-true d 51 l ∙ ap fail_digit (same_Some (said true true) fail h), refl)
+    at Onfi d false false false false i j k l h = absurd cc
+
+-- whether it is known hangs on the failure alone
+pub known_ready : (p : Profile) (ce lun n m : ℕ) (fail : Failures) → IsKnown p (Rdy n m fail) → IsKnown p (Rdy ce lun fail)
+known_ready Base ce lun n m fail h = h
+known_ready Onfi ce lun n m fail h = refl
+
+digit_again : (p : Profile) (last before : Bool) → IsKnown p (Rdy 0 0 (record { last = last; before = before }))
+    → fail_of p (fail_digit (record { last = last; before = before }) ∷ []) ≡ Some (record { last = last; before = before })
 unfolding fail_of
-fail_again true = refl
-fail_again false = refl
+digit_again Base false false h = refl
+digit_again Base true false h = refl
+digit_again Base false true h = cc
+digit_again Base true true h = cc
+digit_again Onfi false false h = refl
+digit_again Onfi true false h = refl
+digit_again Onfi false true h = refl
+digit_again Onfi true true h = refl
 
-pub plain_fail : (fail : Bool) → IsPlain (fail_digit fail)
-plain_fail true = plain 49 (omega arith)
-plain_fail false = plain 48 (omega arith)
+pub fail_again : (p : Profile) (ce lun : ℕ) (fail : Failures) → IsKnown p (Rdy ce lun fail) → fail_of p (fail_digit fail ∷ []) ≡ Some fail
+fail_again p ce lun fail h = digit_again p fail.last fail.before (known_ready p 0 0 ce lun fail h)
+
+number_small : (last before : Bool) → fail_number last before ≤ 3
+number_small false false = omega arith
+number_small true false = omega arith
+number_small false true = omega arith
+number_small true true = omega arith
+
+pub fail_small : (fail : Failures) → fail_number fail.last fail.before ≤ 3
+fail_small fail = number_small fail.last fail.before
+
+pub plain_fail : (fail : Failures) → IsPlain (fail_digit fail)
+plain_fail fail = plain (48 + fail_number fail.last fail.before) (omega arith)
+
+-- that of an array ready
+pub array_fail_takes : (f : List ℕ) (fail : Bool) → array_fail_of f ≡ Some fail → (f ≡ 49 ∷ []) × (fail ≡ true)
+unfolding array_fail_of
+array_fail_takes f fail e =
+    let first = guarded (eqb (length f) 1) (cond (eqb (get_or f 0 0) 49) (Some true) None) fail e in
+    let second = guarded (eqb (get_or f 0 0) 49) (Some true) fail first.1 in
+    (one f (eqb-true (length f) 1 first.0) ∙ ap (λ (x : ℕ). x ∷ []) (eqb-true (get_or f 0 0) 49 second.0), sym (same_Some true fail second.1))
+
+pub plain_one : IsPlain 49
+plain_one = plain 49 (omega arith)
 
 -- ---- a letter
 

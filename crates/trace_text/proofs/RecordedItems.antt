@@ -4,6 +4,7 @@ use Rattle.std.specs.Prelude.{IfOk}
 use Rattle.std.specs.List.{All, AllByRecursion}
 use Rattle.std.proofs.lemmas.List.Elements.{All-from_recursion}
 use Rattle.onfi_cycle.specs.declared.item.Item.{Item}
+use Rattle.nand_geometry.specs.declared.optional.Profile.{Profile}
 use Rattle.trace_text.specs.declared.refusal.TraceFault.{TraceFault}
 use Rattle.trace_text.specs.declared.refusal.TraceRefusal.{TraceRefusal}
 use Rattle.trace_text.specs.declared.recorded_item.RecordedItem.{RecordedItem}
@@ -16,32 +17,32 @@ use Rattle.trace_text.proofs.Lines.{item_takes}
 Fine : Result (Option RecordedItem) TraceFault → Type 0
 Fine r = (i : RecordedItem) → r ≡ Ok (Some i) → IsPrintable i.item
 
-placed_fine : (line : ℕ) (time : Option ℕ) (fields : List (List ℕ)) → Fine (placed line time (item_of fields))
+placed_fine : (p : Profile) (line : ℕ) (time : Option ℕ) (fields : List (List ℕ)) → Fine (placed line time (item_of p fields))
 unfolding Fine
-placed_fine line time fields i h = at (item_of fields) refl h
+placed_fine p line time fields i h = at (item_of p fields) refl h
   where
-    at : (r : Result Item TraceFault) → item_of fields ≡ r → placed line time r ≡ Ok (Some i) → IsPrintable i.item
-    at (Ok item) is g = let same : item ≡ i.item = cc in subst IsPrintable same (item_takes fields item is).printable
+    at : (r : Result Item TraceFault) → item_of p fields ≡ r → placed line time r ≡ Ok (Some i) → IsPrintable i.item
+    at (Ok item) is g = let same : item ≡ i.item = cc in subst IsPrintable same (item_takes p fields item is).printable
     at (Err fault) is g = cc
 
-behind_fine : (line : ℕ) (time : Option ℕ) (fields : List (List ℕ)) → Fine (behind_time line time fields)
+behind_fine : (p : Profile) (line : ℕ) (time : Option ℕ) (fields : List (List ℕ)) → Fine (behind_time p line time fields)
 unfolding Fine
-behind_fine line None fields i h = cc
-behind_fine line (Some time) fields i h = placed_fine line (Some time) fields i h
+behind_fine p line None fields i h = cc
+behind_fine p line (Some time) fields i h = placed_fine p line (Some time) fields i h
 
-first_fine : (line : ℕ) (digits : Option (List ℕ)) (first : List ℕ) (fields : List (List ℕ)) → Fine (by_first line digits first fields)
+first_fine : (p : Profile) (line : ℕ) (digits : Option (List ℕ)) (first : List ℕ) (fields : List (List ℕ)) → Fine (by_first p line digits first fields)
 unfolding Fine
-first_fine line None first fields i h = placed_fine line None (first ∷ fields) i h
-first_fine line (Some digits) first fields i h = behind_fine line (number digits) fields i h
+first_fine p line None first fields i h = placed_fine p line None (first ∷ fields) i h
+first_fine p line (Some digits) first fields i h = behind_fine p line (number digits) fields i h
 
-words_fine : (line : ℕ) (fields : List (List ℕ)) → Fine (item_in line fields)
+words_fine : (p : Profile) (line : ℕ) (fields : List (List ℕ)) → Fine (item_in p line fields)
 unfolding Fine
-words_fine line [] i h = cc
-words_fine line (first ∷ fields) i h = first_fine line (time_text first) first fields i h
+words_fine p line [] i h = cc
+words_fine p line (first ∷ fields) i h = first_fine p line (time_text first) first fields i h
 
-line_fine : (line : ℕ) (text : List ℕ) → Fine (recorded_line line text)
+line_fine : (p : Profile) (line : ℕ) (text : List ℕ) → Fine (recorded_line p line text)
 unfolding Fine recorded_line
-line_fine line text i h = words_fine line (words text) i h
+line_fine p line text i h = words_fine p line (words text) i h
 
 -- what is told can be printed
 abbrev IsFine : Told → Type 0
@@ -62,13 +63,13 @@ end_fine : (line : ℕ) (fields : List (List ℕ)) → AreFine (at_end line fiel
 end_fine line [] = tt
 end_fine line (first ∷ fields) = (tt, tt)
 
-told_fine : (line : ℕ) (front bytes : List ℕ) → AreFine (told_from line front bytes)
-told_fine line front [] = end_fine line (words front)
-told_fine line front (b ∷ bytes) = at (eqb b 10) (told_fine (line + 1) [] bytes) (told_fine line (front ++ b ∷ []) bytes)
+told_fine : (p : Profile) (line : ℕ) (front bytes : List ℕ) → AreFine (told_from p line front bytes)
+told_fine p line front [] = end_fine line (words front)
+told_fine p line front (b ∷ bytes) = at (eqb b 10) (told_fine p (line + 1) [] bytes) (told_fine p line (front ++ b ∷ []) bytes)
   where
-    at : (c : Bool) → AreFine (told_from (line + 1) [] bytes) → AreFine (told_from line (front ++ b ∷ []) bytes)
-        → AreFine (cond c (after_line line (recorded_line line front) (told_from (line + 1) [] bytes)) (told_from line (front ++ b ∷ []) bytes))
-    at true next same = after_fine line (recorded_line line front) (told_from (line + 1) [] bytes) (line_fine line front) next
+    at : (c : Bool) → AreFine (told_from p (line + 1) [] bytes) → AreFine (told_from p line (front ++ b ∷ []) bytes)
+        → AreFine (cond c (after_line line (recorded_line p line front) (told_from p (line + 1) [] bytes)) (told_from p line (front ++ b ∷ []) bytes))
+    at true next same = after_fine line (recorded_line p line front) (told_from p (line + 1) [] bytes) (line_fine p line front) next
     at false next same = same
 
 -- the items are those that are told
@@ -81,10 +82,10 @@ collected_fine done [] items rest fine h = let same : done ≡ items = cc in sub
 collected_fine done (Ok i ∷ ts) items rest fine h = collected_fine (done ++ i.item ∷ []) ts items (one_more done i.item rest fine.0) fine.1 h
 collected_fine done (Err refusal ∷ ts) items rest fine h = cc
 
-recorded_printable : (bytes : List ℕ) (items : List Item) → recorded bytes ≡ Ok items → All IsPrintable items
-recorded_printable bytes items h = All-from_recursion IsPrintable items (collected_fine [] (told bytes) items tt (told_fine 1 [] bytes) h)
+recorded_printable : (p : Profile) (bytes : List ℕ) (items : List Item) → recorded p bytes ≡ Ok items → All IsPrintable items
+recorded_printable p bytes items h = All-from_recursion IsPrintable items (collected_fine [] (told p bytes) items tt (told_fine p 1 [] bytes) h)
 
 -- the same as a text is read
-pub printable_read : {X : Type 0} (view : X → List Item) (bs : List ℕ) (r : Result X TraceRefusal) → IfOk r (λ v. recorded bs ≡ Ok (view v)) → IfOk r (λ v. All IsPrintable (view v))
-printable_read view bs (Ok v) h = recorded_printable bs (view v) h
-printable_read view bs (Err e) h = tt
+pub printable_read : (p : Profile) {X : Type 0} (view : X → List Item) (bs : List ℕ) (r : Result X TraceRefusal) → IfOk r (λ v. recorded p bs ≡ Ok (view v)) → IfOk r (λ v. All IsPrintable (view v))
+printable_read p view bs (Ok v) h = recorded_printable p bs (view v) h
+printable_read p view bs (Err e) h = tt

@@ -12,11 +12,12 @@ use Rattle.std.proofs.lemmas.Fmt.{IsAscii-decimal}
 use Rattle.std.proofs.lemmas.Str.{IsUtf8-from_ascii, IsAscii-append}
 use Rattle.std.proofs.lemmas.Str.Ascii.{IsAscii-nil, IsAscii-from_all}
 use Rattle.onfi_cycle.specs.declared.item.Item.{Item}
+use Rattle.nand_geometry.specs.declared.optional.Profile.{Profile}
 use Rattle.trace_text.specs.declared.refusal.TraceRefusal.{TraceRefusal}
 use Rattle.trace_text.specs.declared.refusal.TraceRefusal.TheVariants.{Fault, OutOfMemory}
 use Rattle.trace_text.specs.declared.recorded_item.RecordedItem.{RecordedItem}
 use Rattle.trace_text.specs.declared.recorded_item.TimedItem.{TimedItem}
-use Rattle.trace_text.specs.Line.{line, text, IsPrintable, is_printable_item, HasByte}
+use Rattle.trace_text.specs.Line.{line, text, IsPrintable, is_printable_item, HasByte, IsKnown}
 use Rattle.trace_text.specs.Reading.{reading, IsRefusalOf}
 use Rattle.trace_text.specs.Recorded.{IsFault, recorded_line, Told, after_line, told_from, told, collecting, recorded, gathering, found_in, first_fault, TimeFits, timed_line, timed_text, plain, timed, RecordedTakesStrict}
 use Rattle.trace_text.proofs.RecordedWords.{front, line_is, recorded_again, timed_front, timed_line_is, timed_again, quiet_front, quiet_timed}
@@ -25,28 +26,28 @@ use Rattle.trace_text.proofs.Printed.{printable_of, is_printable_of, line_ascii}
 
 -- ---- one line after another
 
-pub by_line : (n : ℕ) (front l rest : List ℕ) → HasNoFeed l → told_from n front (l ++ 10 ∷ rest) ≡ after_line n (recorded_line n (front ++ l)) (told_from (n + 1) [] rest)
-by_line n front [] rest h = ap (λ (bs : List ℕ). after_line n (recorded_line n bs) (told_from (n + 1) [] rest)) (sym (append-nil front))
-by_line n front (b ∷ l) rest h =
-    rw h.0 (by_line n (front ++ b ∷ []) l rest h.1 ∙ ap (λ (bs : List ℕ). after_line n (recorded_line n bs) (told_from (n + 1) [] rest)) (append_assoc front (b ∷ []) l))
+pub by_line : (p : Profile) (n : ℕ) (front l rest : List ℕ) → HasNoFeed l → told_from p n front (l ++ 10 ∷ rest) ≡ after_line n (recorded_line p n (front ++ l)) (told_from p (n + 1) [] rest)
+by_line p n front [] rest h = ap (λ (bs : List ℕ). after_line n (recorded_line p n bs) (told_from p (n + 1) [] rest)) (sym (append-nil front))
+by_line p n front (b ∷ l) rest h =
+    rw h.0 (by_line p n (front ++ b ∷ []) l rest h.1 ∙ ap (λ (bs : List ℕ). after_line n (recorded_line p n bs) (told_from p (n + 1) [] rest)) (append_assoc front (b ∷ []) l))
 
 -- items without times
-plain_again : (n : ℕ) (items : List Item) → AllByRecursion IsPrintable items → AllByRecursion HasByte items → told_from n [] (text items) ≡ plain n items
-plain_again n [] printable byte = refl
-plain_again n (i ∷ items) printable byte =
+plain_again : (p : Profile) (n : ℕ) (items : List Item) → AllByRecursion IsPrintable items → AllByRecursion HasByte items → AllByRecursion (IsKnown p) items → told_from p n [] (text items) ≡ plain n items
+plain_again p n [] printable byte known = refl
+plain_again p n (i ∷ items) printable byte known =
     let grouped : line i ++ text items ≡ front i ++ 10 ∷ text items = ap (λ (l : List ℕ). l ++ text items) (line_is i) ∙ append_assoc (front i) (10 ∷ []) (text items) in
-    let others = plain_again (n + 1) items printable.1 byte.1 in
-    ap (told_from n []) grouped ∙ by_line n [] (front i) (text items) (quiet_front i printable.0 byte.0)
-    ∙ ap (λ o. after_line n o (told_from (n + 1) [] (text items))) (recorded_again n i printable.0 byte.0) ∙ ap (λ (l : List Told). Ok (record { line = n; time = None; item = i }) ∷ l) others
+    let others = plain_again p (n + 1) items printable.1 byte.1 known.1 in
+    ap (told_from p n []) grouped ∙ by_line p n [] (front i) (text items) (quiet_front i printable.0 byte.0)
+    ∙ ap (λ o. after_line n o (told_from p (n + 1) [] (text items))) (recorded_again p n i printable.0 byte.0 known.0) ∙ ap (λ (l : List Told). Ok (record { line = n; time = None; item = i }) ∷ l) others
 
 -- items with times
-timed_told : (n : ℕ) (items : List TimedItem) → AllByRecursion (λ t. IsPrintable t.item) items → AllByRecursion TimeFits items → told_from n [] (timed_text items) ≡ timed n items
-timed_told n [] printable fits = refl
-timed_told n (t ∷ items) printable fits =
+timed_told : (p : Profile) (n : ℕ) (items : List TimedItem) → AllByRecursion (λ t. IsPrintable t.item) items → AllByRecursion TimeFits items → AllByRecursion (λ t. IsKnown p t.item) items → told_from p n [] (timed_text items) ≡ timed n items
+timed_told p n [] printable fits known = refl
+timed_told p n (t ∷ items) printable fits known =
     let grouped : timed_line t ++ timed_text items ≡ timed_front t ++ 10 ∷ timed_text items = ap (λ (l : List ℕ). l ++ timed_text items) (timed_line_is t) ∙ append_assoc (timed_front t) (10 ∷ []) (timed_text items) in
-    let others = timed_told (n + 1) items printable.1 fits.1 in
-    ap (told_from n []) grouped ∙ by_line n [] (timed_front t) (timed_text items) (quiet_timed t printable.0 fits.0)
-    ∙ ap (λ o. after_line n o (told_from (n + 1) [] (timed_text items))) (timed_again n t printable.0 fits.0) ∙ ap (λ (l : List Told). Ok (record { line = n; time = Some t.time; item = t.item }) ∷ l) others
+    let others = timed_told p (n + 1) items printable.1 fits.1 known.1 in
+    ap (told_from p n []) grouped ∙ by_line p n [] (timed_front t) (timed_text items) (quiet_timed t printable.0 fits.0)
+    ∙ ap (λ o. after_line n o (told_from p (n + 1) [] (timed_text items))) (timed_again p n t printable.0 fits.0 known.0) ∙ ap (λ (l : List Told). Ok (record { line = n; time = Some t.time; item = t.item }) ∷ l) others
 
 -- ---- what is collected
 
@@ -61,13 +62,13 @@ collected_timed n done (t ∷ items) =
 
 -- ---- the strict form
 
-strict_lines : (bytes : List ℕ) (items : List Item) → reading bytes ≡ Ok items → told bytes ≡ plain 1 items
-strict_lines bytes items e =
-    let is = is_found bytes items e in
-    ap told is.spelled ∙ plain_again 1 items (recursion_from_All IsPrintable items is.printable) (recursion_from_All HasByte items is.bytes_fit)
+strict_lines : (p : Profile) (bytes : List ℕ) (items : List Item) → reading p bytes ≡ Ok items → told p bytes ≡ plain 1 items
+strict_lines p bytes items e =
+    let is = is_found p bytes items e in
+    ap (told p) is.spelled ∙ plain_again p 1 items (recursion_from_All IsPrintable items is.printable) (recursion_from_All HasByte items is.bytes_fit) (recursion_from_All (IsKnown p) items is.known)
 
-strict_items : (bytes : List ℕ) (items : List Item) → reading bytes ≡ Ok items → recorded bytes ≡ Ok items
-strict_items bytes items e = ap (collecting []) (strict_lines bytes items e) ∙ collected_plain 1 [] items
+strict_items : (p : Profile) (bytes : List ℕ) (items : List Item) → reading p bytes ≡ Ok items → recorded p bytes ≡ Ok items
+strict_items p bytes items e = ap (collecting []) (strict_lines p bytes items e) ∙ collected_plain 1 [] items
 
 pub recorded_takes_strict : RecordedTakesStrict
 recorded_takes_strict = record { lines = strict_lines; items = strict_items }
@@ -76,11 +77,11 @@ abbrev done_with : List Item → Result (List Item) TraceRefusal
 done_with items = Ok items
 
 -- what an answer says of the items of a text in the strict form
-pub strict_read : {X : Type 0} (view : X → List Item) (bs : List ℕ) (r : Result X TraceRefusal) → IfOk r (λ v. recorded bs ≡ Ok (view v)) → IfErr r (λ e. IsRefusalOf e (recorded bs))
-    → (items : List Item) → reading bs ≡ Ok items → MatchResult r (λ v. view v ≡ items) (λ e. e ≡ OutOfMemory)
-strict_read view bs (Ok v) e h items is = let both : done_with (view v) ≡ done_with items = sym e ∙ strict_items bs items is in cc
-strict_read view bs (Err OutOfMemory) e h items is = refl
-strict_read view bs (Err (Fault code line)) e h items is = let read = strict_items bs items is in absurd cc
+pub strict_read : (p : Profile) {X : Type 0} (view : X → List Item) (bs : List ℕ) (r : Result X TraceRefusal) → IfOk r (λ v. recorded p bs ≡ Ok (view v)) → IfErr r (λ e. IsRefusalOf e (recorded p bs))
+    → (items : List Item) → reading p bs ≡ Ok items → MatchResult r (λ v. view v ≡ items) (λ e. e ≡ OutOfMemory)
+strict_read p view bs (Ok v) e h items is = let both : done_with (view v) ≡ done_with items = sym e ∙ strict_items p bs items is in cc
+strict_read p view bs (Err OutOfMemory) e h items is = refl
+strict_read p view bs (Err (Fault code line)) e h items is = let read = strict_items p bs items is in absurd cc
 
 -- ---- an item of a number
 
@@ -104,8 +105,8 @@ found_oks (Ok i ∷ later) (suc k) =
     rw other (ap (λ n. option_map (λ (f : RecordedItem). f.item) (found_in n later)) less ∙ found_oks later k)
 found_oks (Err refusal ∷ later) k = refl
 
-pub found_item : (bs : List ℕ) (k : ℕ) (items : List Item) → recorded bs ≡ Ok items → option_map (λ (f : RecordedItem). f.item) (found_in k (told bs)) ≡ slice_get items k
-found_item bs k items e = found_oks (told bs) k ∙ ap (λ (xs : List Item). slice_get xs k) (sym (collected_oks [] (told bs) items e))
+pub found_item : (p : Profile) (bs : List ℕ) (k : ℕ) (items : List Item) → recorded p bs ≡ Ok items → option_map (λ (f : RecordedItem). f.item) (found_in k (told p bs)) ≡ slice_get items k
+found_item p bs k items e = found_oks (told p bs) k ∙ ap (λ (xs : List Item). slice_get xs k) (sym (collected_oks [] (told p bs) items e))
 
 -- ---- where memory was refused
 
@@ -135,12 +136,15 @@ fits_more items i d lt h k = All-same TimeFits (take (i + 1) items) (take i item
 abbrev pub AreTimedPrintable : List TimedItem → Type 0
 AreTimedPrintable items = All (λ t. IsPrintable t.item) items
 
-timed_read : (bs : List ℕ) (items : List TimedItem) → AreTimedPrintable items → All TimeFits items → bs ≡ timed_text items → told bs ≡ timed 1 items
-timed_read bs items printable fits e =
-    ap told e ∙ timed_told 1 items (recursion_from_All (λ (t : TimedItem). IsPrintable t.item) items printable) (recursion_from_All TimeFits items fits)
+abbrev pub AreTimedKnown : (p : Profile) → List TimedItem → Type 0
+AreTimedKnown p items = All (λ t. IsKnown p t.item) items
 
-timed_collected : (bs : List ℕ) (items : List TimedItem) → AreTimedPrintable items → All TimeFits items → bs ≡ timed_text items → recorded bs ≡ Ok (map (λ t. t.item) items)
-timed_collected bs items printable fits e = ap (collecting []) (timed_read bs items printable fits e) ∙ collected_timed 1 [] items
+timed_read : (p : Profile) (bs : List ℕ) (items : List TimedItem) → AreTimedPrintable items → All TimeFits items → AreTimedKnown p items → bs ≡ timed_text items → told p bs ≡ timed 1 items
+timed_read p bs items printable fits known e =
+    ap (told p) e ∙ timed_told p 1 items (recursion_from_All (λ (t : TimedItem). IsPrintable t.item) items printable) (recursion_from_All TimeFits items fits) (recursion_from_All (λ (t : TimedItem). IsKnown p t.item) items known)
+
+timed_collected : (p : Profile) (bs : List ℕ) (items : List TimedItem) → AreTimedPrintable items → All TimeFits items → AreTimedKnown p items → bs ≡ timed_text items → recorded p bs ≡ Ok (map (λ t. t.item) items)
+timed_collected p bs items printable fits known e = ap (collecting []) (timed_read p bs items printable fits known e) ∙ collected_timed 1 [] items
 
 timed_ascii : (items : List TimedItem) → AllByRecursion (λ t. IsPrintable t.item) items → AllByRecursion TimeFits items → IsAscii (timed_text items)
 timed_ascii [] printable fits = IsAscii-nil
@@ -159,12 +163,12 @@ timed_utf8 bs items printable fits e =
 
 -- and all of them
 pub timed_whole : (bs : List ℕ) (items : List TimedItem) (i : ℕ) → length items ≤ i → AreTimedPrintable items → All TimeFits (take i items) → bs ≡ timed_text (take i items)
-    → (recorded bs ≡ Ok (map (λ t. t.item) items)) × (told bs ≡ timed 1 items) × IsUtf8 bs
+    → ((p : Profile) → AreTimedKnown p items → (recorded p bs ≡ Ok (map (λ t. t.item) items)) × (told p bs ≡ timed 1 items)) × IsUtf8 bs
 timed_whole bs items i le printable fits e =
     let whole = take_all i items le in
     let all = All-same TimeFits items (take i items) (sym whole) fits in
     let is : bs ≡ timed_text items = e ∙ ap timed_text whole in
-    (timed_collected bs items printable all is, timed_read bs items printable all is, timed_utf8 bs items printable all is)
+    (λ p known. (timed_collected p bs items printable all known is, timed_read p bs items printable all known is), timed_utf8 bs items printable all is)
 
 -- ---- what can be printed
 

@@ -7,17 +7,20 @@ use Rattle.std.specs.Fmt.{decimal}
 use Rattle.std.specs.Str.Lines.{strip_carriage_return}
 use Rattle.std.proofs.lemmas.Bool.{ne_eqb, ltb-true, lt-ltb, le-leb}
 use Rattle.std.proofs.lemmas.Fmt.{decimal_by_steps, decimal_nonempty}
+use Rattle.onfi_cycle.specs.declared.item.Failures.{Failures}
+use Rattle.nand_geometry.specs.declared.optional.Profile.TheVariants.{Base, Onfi}
 use Rattle.onfi_cycle.specs.declared.item.Kind.{Kind}
 use Rattle.onfi_cycle.specs.declared.item.Kind.TheVariants.{Cmd, Adr, Din, Dout}
 use Rattle.onfi_cycle.specs.declared.item.Item.{Item}
 use Rattle.onfi_cycle.specs.declared.item.Item.TheVariants.{Cyc, Rdy, Ard}
+use Rattle.nand_geometry.specs.declared.optional.Profile.{Profile}
 use Rattle.trace_text.specs.declared.line.Letter.TheVariants.{CycleOf, Ready, ArrayReady}
 use Rattle.trace_text.specs.declared.recorded_item.TimedItem.{TimedItem}
-use Rattle.trace_text.specs.Line.{digit, hex_digit, kind_letter, fail_digit, line, IsPrintable, HasByte}
-use Rattle.trace_text.specs.Reading.{cycle, ready, array_ready, item_of}
+use Rattle.trace_text.specs.Line.{digit, hex_digit, kind_letter, fail_number, fail_digit, line, IsPrintable, HasByte, IsKnown}
+use Rattle.trace_text.specs.Reading.{cycle, ready, array_ready, failed_array, array_fail_of, item_of}
 use Rattle.trace_text.specs.Recorded.{ended, words_from, words, number_from, number, placed, behind_time, item_in, recorded_line, TimeFits, timed_line}
 use Rattle.trace_text.proofs.Texts.{HasNoFeed}
-use Rattle.trace_text.proofs.Ranges.{place_again, byte_again, fail_again, letter_again}
+use Rattle.trace_text.proofs.Ranges.{place_again, byte_again, fail_again, fail_small, letter_again}
 
 -- ---- characters of a word
 
@@ -56,9 +59,8 @@ quiet_letter Adr = quiet 65 (omega arith) refl
 quiet_letter Din = quiet 73 (omega arith) refl
 quiet_letter Dout = quiet 79 (omega arith) refl
 
-quiet_fail : (fail : Bool) → IsQuiet (fail_digit fail)
-quiet_fail false = quiet_digit 0 (omega arith)
-quiet_fail true = quiet_digit 1 (omega arith)
+quiet_fail : (fail : Failures) → IsQuiet (fail_digit fail)
+quiet_fail fail = let small = fail_small fail in quiet_digit (fail_number fail.last fail.before) (omega (arith, small))
 
 abbrev pub AreQuiet : List ℕ → Type 0
 AreQuiet bs = AllByRecursion IsQuiet bs
@@ -92,12 +94,14 @@ one_more b w rest are = word_ends [] (b ∷ w) rest are
 abbrev pub start : Item → List ℕ
 start (Cyc c) = digit c.ce ∷ 32 ∷ kind_letter c.kind ∷ 32 ∷ hex_digit (c.byte / 16) ∷ []
 start (Rdy ce lun fail) = digit ce ∷ 32 ∷ 82 ∷ 32 ∷ digit lun ∷ 32 ∷ []
-start (Ard ce lun) = digit ce ∷ 32 ∷ 89 ∷ 32 ∷ []
+start (Ard ce lun true) = digit ce ∷ 32 ∷ 89 ∷ 32 ∷ digit lun ∷ 32 ∷ []
+start (Ard ce lun false) = digit ce ∷ 32 ∷ 89 ∷ 32 ∷ []
 
 abbrev pub last : Item → ℕ
 last (Cyc c) = hex_digit (c.byte % 16)
 last (Rdy ce lun fail) = fail_digit fail
-last (Ard ce lun) = digit lun
+last (Ard ce lun true) = 49
+last (Ard ce lun false) = digit lun
 
 abbrev pub front : Item → List ℕ
 front item = start item ++ last item ∷ []
@@ -105,12 +109,14 @@ front item = start item ++ last item ∷ []
 pub line_is : (item : Item) → line item ≡ front item ++ 10 ∷ []
 line_is (Cyc c) = refl
 line_is (Rdy ce lun fail) = refl
-line_is (Ard ce lun) = refl
+line_is (Ard ce lun true) = refl
+line_is (Ard ce lun false) = refl
 
 abbrev pub fields_of : Item → List (List ℕ)
 fields_of (Cyc c) = (digit c.ce ∷ []) ∷ (kind_letter c.kind ∷ []) ∷ (hex_digit (c.byte / 16) ∷ hex_digit (c.byte % 16) ∷ []) ∷ []
 fields_of (Rdy ce lun fail) = (digit ce ∷ []) ∷ (82 ∷ []) ∷ (digit lun ∷ []) ∷ (fail_digit fail ∷ []) ∷ []
-fields_of (Ard ce lun) = (digit ce ∷ []) ∷ (89 ∷ []) ∷ (digit lun ∷ []) ∷ []
+fields_of (Ard ce lun true) = (digit ce ∷ []) ∷ (89 ∷ []) ∷ (digit lun ∷ []) ∷ (49 ∷ []) ∷ []
+fields_of (Ard ce lun false) = (digit ce ∷ []) ∷ (89 ∷ []) ∷ (digit lun ∷ []) ∷ []
 
 three_words : (a k : ℕ) (w : List ℕ) → IsQuiet a → IsQuiet k → AreQuiet w → words_from [] (a ∷ 32 ∷ k ∷ 32 ∷ w) ≡ (a ∷ []) ∷ (k ∷ []) ∷ ended w []
 three_words a k w qa qk qw =
@@ -128,14 +134,21 @@ words_again (Cyc c) printable byte =
     (quiet_hex (c.byte / 16) (omega arith), (quiet_hex (c.byte % 16) (omega arith), tt))
 words_again (Rdy ce lun fail) printable byte =
     four_words (digit ce) 82 (digit lun) (fail_digit fail) (quiet_digit ce (omega arith)) (quiet 82 (omega arith) refl) (quiet_digit lun (omega arith)) (quiet_fail fail)
-words_again (Ard ce lun) printable byte =
+words_again (Ard ce lun true) printable byte =
+    four_words (digit ce) 89 (digit lun) 49 (quiet_digit ce (omega arith)) (quiet 89 (omega arith) refl) (quiet_digit lun (omega arith)) (quiet 49 (omega arith) refl)
+words_again (Ard ce lun false) printable byte =
     three_words (digit ce) 89 (digit lun ∷ []) (quiet_digit ce (omega arith)) (quiet 89 (omega arith) refl) (quiet_digit lun (omega arith), tt)
 
-pub item_again : (item : Item) → IsPrintable item → HasByte item → item_of (fields_of item) ≡ Ok item
-unfolding cycle ready array_ready
-item_again (Cyc c) printable byte = rw (letter_again (CycleOf c.kind), place_again c.ce printable, byte_again c.byte byte) refl
-item_again (Rdy ce lun fail) printable byte = rw (letter_again Ready, place_again ce printable.0, place_again lun printable.1, fail_again fail) refl
-item_again (Ard ce lun) printable byte = rw (letter_again ArrayReady, place_again ce printable.0, place_again lun printable.1) refl
+pub item_again : (p : Profile) (item : Item) → IsPrintable item → HasByte item → IsKnown p item → item_of p (fields_of item) ≡ Ok item
+unfolding cycle ready array_ready failed_array array_fail_of
+item_again p (Cyc c) printable byte known = rw (letter_again (CycleOf c.kind), place_again c.ce printable, byte_again c.byte byte) refl
+item_again p (Rdy ce lun fail) printable byte known = rw (letter_again Ready, place_again ce printable.0, place_again lun printable.1, fail_again p ce lun fail known) refl
+item_again p (Ard ce lun true) printable byte known = at p known
+  where
+    at : (q : Profile) → IsKnown q (Ard ce lun true) → item_of q (fields_of (Ard ce lun true)) ≡ Ok (Ard ce lun true)
+    at Base known = cc
+    at Onfi known = rw (letter_again ArrayReady, place_again ce printable.0, place_again lun printable.1) refl
+item_again p (Ard ce lun false) printable byte known = rw (letter_again ArrayReady, place_again ce printable.0, place_again lun printable.1) refl
 
 -- ---- what stands in a line
 
@@ -149,19 +162,21 @@ keeps_end bs c is =
 quiet_last : (item : Item) → IsPrintable item → HasByte item → IsQuiet (last item)
 quiet_last (Cyc c) printable byte = quiet_hex (c.byte % 16) (omega arith)
 quiet_last (Rdy ce lun fail) printable byte = quiet_fail fail
-quiet_last (Ard ce lun) printable byte = quiet_digit lun (omega arith)
+quiet_last (Ard ce lun true) printable byte = quiet 49 (omega arith) refl
+quiet_last (Ard ce lun false) printable byte = quiet_digit lun (omega arith)
 
 -- the line of an item
-pub recorded_again : (n : ℕ) (item : Item) → IsPrintable item → HasByte item → recorded_line n (front item) ≡ Ok (Some (record { line = n; time = None; item = item }))
+pub recorded_again : (p : Profile) (n : ℕ) (item : Item) → IsPrintable item → HasByte item → IsKnown p item → recorded_line p n (front item) ≡ Ok (Some (record { line = n; time = None; item = item }))
 unfolding recorded_line
-recorded_again n item printable byte =
+recorded_again p n item printable byte known =
     let whole : words (front item) ≡ fields_of item = ap (words_from []) (keeps_end (start item) (last item) (quiet_last item printable byte)) ∙ words_again item printable byte in
-    ap (item_in n) whole ∙ (no_time n item printable ∙ ap (placed n None) (item_again item printable byte))
+    ap (item_in p n) whole ∙ (no_time n item printable ∙ ap (placed n None) (item_again p item printable byte known))
   where
-    no_time : (n : ℕ) (item : Item) → IsPrintable item → item_in n (fields_of item) ≡ placed n None (item_of (fields_of item))
+    no_time : (n : ℕ) (item : Item) → IsPrintable item → item_in p n (fields_of item) ≡ placed n None (item_of p (fields_of item))
     no_time n (Cyc c) printable = let place : c.ce ≤ 3 = printable in let other : eqb (digit c.ce) 64 ≡ false = ne_eqb (digit c.ce) 64 (λ e. absurd (omega arith)) in rw other refl
     no_time n (Rdy ce lun fail) printable = let place : ce ≤ 3 = printable.0 in let other : eqb (digit ce) 64 ≡ false = ne_eqb (digit ce) 64 (λ e. absurd (omega arith)) in rw other refl
-    no_time n (Ard ce lun) printable = let place : ce ≤ 3 = printable.0 in let other : eqb (digit ce) 64 ≡ false = ne_eqb (digit ce) 64 (λ e. absurd (omega arith)) in rw other refl
+    no_time n (Ard ce lun true) printable = let place : ce ≤ 3 = printable.0 in let other : eqb (digit ce) 64 ≡ false = ne_eqb (digit ce) 64 (λ e. absurd (omega arith)) in rw other refl
+    no_time n (Ard ce lun false) printable = let place : ce ≤ 3 = printable.0 in let other : eqb (digit ce) 64 ≡ false = ne_eqb (digit ce) 64 (λ e. absurd (omega arith)) in rw other refl
 
 -- ---- a time
 
@@ -214,9 +229,9 @@ pub timed_line_is : (t : TimedItem) → timed_line t ≡ timed_front t ++ 10 ∷
 unfolding timed_front
 timed_line_is t = ap (λ (bs : List ℕ). 64 ∷ (decimal t.time ++ (32 ∷ bs))) (line_is t.item) ∙ ap (λ (bs : List ℕ). 64 ∷ bs) (sym (append_assoc (decimal t.time) (32 ∷ front t.item) (10 ∷ [])))
 
-pub timed_again : (n : ℕ) (t : TimedItem) → IsPrintable t.item → TimeFits t → recorded_line n (timed_front t) ≡ Ok (Some (record { line = n; time = Some t.time; item = t.item }))
+pub timed_again : (p : Profile) (n : ℕ) (t : TimedItem) → IsPrintable t.item → TimeFits t → IsKnown p t.item → recorded_line p n (timed_front t) ≡ Ok (Some (record { line = n; time = Some t.time; item = t.item }))
 unfolding recorded_line timed_front
-timed_again n t printable fits =
+timed_again p n t printable fits known =
     let digits = digits_again t.time fits.1 in
     let grouped : timed_front t ≡ (64 ∷ (decimal t.time ++ (32 ∷ start t.item))) ++ last t.item ∷ [] = ap (λ (bs : List ℕ). 64 ∷ bs) (sym (append_assoc (decimal t.time) (32 ∷ start t.item) (last t.item ∷ []))) in
     let kept : strip_carriage_return (timed_front t) ≡ timed_front t =
@@ -224,7 +239,7 @@ timed_again n t printable fits =
     let cut : words (timed_front t) ≡ (64 ∷ decimal t.time) ∷ fields_of t.item =
     ap (words_from []) kept ∙ one_more 64 (decimal t.time) (front t.item) (quiet 64 (omega arith) refl, digits.0)
     ∙ ap (λ (ws : List (List ℕ)). (64 ∷ decimal t.time) ∷ ws) (words_again t.item printable fits.0) in
-    ap (item_in n) cut ∙ (ap (λ o. behind_time n o (fields_of t.item)) (number_again t.time fits.1) ∙ ap (placed n (Some t.time)) (item_again t.item printable fits.0))
+    ap (item_in p n) cut ∙ (ap (λ o. behind_time p n o (fields_of t.item)) (number_again t.time fits.1) ∙ ap (placed n (Some t.time)) (item_again p t.item printable fits.0 known))
 
 -- ---- no line feed stands in them
 
@@ -243,7 +258,8 @@ quiet_front (Cyc c) printable byte =
     ((quiet_digit c.ce (omega arith)).no_feed, (refl, ((quiet_letter c.kind).no_feed, (refl, ((quiet_hex (c.byte / 16) (omega arith)).no_feed, ((quiet_hex (c.byte % 16) (omega arith)).no_feed, tt))))))
 quiet_front (Rdy ce lun fail) printable byte =
     ((quiet_digit ce (omega arith)).no_feed, (refl, (refl, (refl, ((quiet_digit lun (omega arith)).no_feed, (refl, ((quiet_fail fail).no_feed, tt)))))))
-quiet_front (Ard ce lun) printable byte = ((quiet_digit ce (omega arith)).no_feed, (refl, (refl, (refl, ((quiet_digit lun (omega arith)).no_feed, tt)))))
+quiet_front (Ard ce lun true) printable byte = ((quiet_digit ce (omega arith)).no_feed, (refl, (refl, (refl, ((quiet_digit lun (omega arith)).no_feed, (refl, (refl, tt)))))))
+quiet_front (Ard ce lun false) printable byte = ((quiet_digit ce (omega arith)).no_feed, (refl, (refl, (refl, ((quiet_digit lun (omega arith)).no_feed, tt)))))
 
 pub quiet_timed : (t : TimedItem) → IsPrintable t.item → TimeFits t → HasNoFeed (timed_front t)
 unfolding timed_front

@@ -41,7 +41,7 @@ cycle_is kind k ce i c is at has wants = (
 abbrev byte_of : Item → ℕ
 byte_of (Cyc c) = c.byte
 byte_of (Rdy ce lun fail) = 0
-byte_of (Ard ce lun) = 0
+byte_of (Ard ce lun fail) = 0
 
 abbrev pub bytes_of : List Item → List ℕ
 bytes_of items = map byte_of items

@@ -3,6 +3,9 @@ use Rattle.std.specs.Prelude.{◌≡◌, ℕ, ◌+◌, ◌-◌, ◌*◌, ◌<◌
 use Rattle.std.specs.List.{slice_split}
 use Rattle.onfi_cycle.specs.declared.item.Kind.{Kind}
 use Rattle.onfi_cycle.specs.declared.item.Kind.TheVariants.{Cmd, Adr, Din, Dout}
+use Rattle.nand_geometry.specs.declared.optional.Profile.{Profile}
+use Rattle.nand_geometry.specs.declared.optional.Profile.TheVariants.{Base, Onfi}
+use Rattle.onfi_cycle.specs.declared.item.Failures.{Failures}
 use Rattle.onfi_cycle.specs.declared.item.Item.{Item}
 use Rattle.onfi_cycle.specs.declared.item.Item.TheVariants.{Cyc, Rdy, Ard}
 use Rattle.trace_text.specs.declared.refusal.TraceFault.{TraceFault}
@@ -43,12 +46,25 @@ unfoldable pub byte_of : List ℕ → Option ℕ
 byte_of field =
     if length field == 2 then and_then (hex_value (slice_index field 0)) (λ high. and_then (hex_value (slice_index field 1)) (λ low. Some (16 * high + low))) else None
 
--- a failure: 0 or 1
-abbrev pub fail_of_digit : ℕ → Option Bool
-fail_of_digit d = if d == 48 then Some false else (if d == 49 then Some true else None)
+-- the texts of the profile tell of two failures of a ready, and of that of an array ready
+abbrev pub is_wide : Profile → Bool
+is_wide Base = false
+is_wide Onfi = true
 
-unfoldable pub fail_of : List ℕ → Option Bool
-fail_of field = if length field == 1 then fail_of_digit (slice_index field 0) else None
+-- the failures of a ready: 0 or 1, and in the wider profile 2 and 3 too
+abbrev pub fail_of_digit : Profile → ℕ → Option Failures
+fail_of_digit p d =
+    if d == 48 then Some (record { last = false; before = false }) else (
+    if d == 49 then Some (record { last = true; before = false }) else (
+    if is_wide p && d == 50 then Some (record { last = false; before = true }) else (
+    if is_wide p && d == 51 then Some (record { last = true; before = true }) else None)))
+
+unfoldable pub fail_of : Profile → List ℕ → Option Failures
+fail_of p field = if length field == 1 then fail_of_digit p (slice_index field 0) else None
+
+-- the failure of an array ready: 1
+unfoldable pub array_fail_of : List ℕ → Option Bool
+array_fail_of field = if length field == 1 then (if slice_index field 0 == 49 then Some true else None) else None
 
 -- what the second field says: one of the letters C, A, I, O, R and Y
 abbrev pub letter_of_code : ℕ → Option Letter
@@ -65,34 +81,37 @@ letter_of field = if length field == 1 then letter_of_code (slice_index field 0)
 unfoldable pub cycle : List ℕ → Kind → List ℕ → Option Item
 cycle ce kind byte = and_then (place_of ce) (λ ce. and_then (byte_of byte) (λ byte. Some (Cyc (record { ce = ce; kind = kind; byte = byte }))))
 
-unfoldable pub ready : List ℕ → List ℕ → List ℕ → Option Item
-ready ce lun fail = and_then (place_of ce) (λ ce. and_then (place_of lun) (λ lun. and_then (fail_of fail) (λ fail. Some (Rdy ce lun fail))))
+unfoldable pub ready : Profile → List ℕ → List ℕ → List ℕ → Option Item
+ready p ce lun fail = and_then (place_of ce) (λ ce. and_then (place_of lun) (λ lun. and_then (fail_of p fail) (λ fail. Some (Rdy ce lun fail))))
 
 unfoldable pub array_ready : List ℕ → List ℕ → Option Item
-array_ready ce lun = and_then (place_of ce) (λ ce. and_then (place_of lun) (λ lun. Some (Ard ce lun)))
+array_ready ce lun = and_then (place_of ce) (λ ce. and_then (place_of lun) (λ lun. Some (Ard ce lun false)))
 
--- C, A, I, O and Y want three fields, and R four. Only then are the number fields looked at: one that hasn't its form
--- is X2, whatever bytes it has, none at all included
+unfoldable pub failed_array : List ℕ → List ℕ → List ℕ → Option Item
+failed_array ce lun fail = and_then (place_of ce) (λ ce. and_then (place_of lun) (λ lun. and_then (array_fail_of fail) (λ fail. Some (Ard ce lun fail))))
+
+-- C, A, I, O and Y want three fields, and R four; in the wider profile Y takes a fourth too. Only then are the number fields looked at: one that hasn't its
+-- form is X2, whatever bytes it has, none at all included
 abbrev pub of_three : Option Letter → List ℕ → List ℕ → Result Item TraceFault
 of_three (Some (CycleOf kind)) ce byte = ok_or (cycle ce kind byte) BadNumber
 of_three (Some Ready) ce third = Err BadShape
 of_three (Some ArrayReady) ce lun = ok_or (array_ready ce lun) BadNumber
 of_three None ce third = Err BadShape
 
-abbrev pub of_four : Option Letter → List ℕ → List ℕ → List ℕ → Result Item TraceFault
-of_four (Some (CycleOf kind)) ce third fourth = Err BadShape
-of_four (Some Ready) ce lun fail = ok_or (ready ce lun fail) BadNumber
-of_four (Some ArrayReady) ce third fourth = Err BadShape
-of_four None ce third fourth = Err BadShape
+abbrev pub of_four : Profile → Option Letter → List ℕ → List ℕ → List ℕ → Result Item TraceFault
+of_four p (Some (CycleOf kind)) ce third fourth = Err BadShape
+of_four p (Some Ready) ce lun fail = ok_or (ready p ce lun fail) BadNumber
+of_four p (Some ArrayReady) ce lun fail = if is_wide p then ok_or (failed_array ce lun fail) BadNumber else Err BadShape
+of_four p None ce third fourth = Err BadShape
 
-abbrev pub item_of : List (List ℕ) → Result Item TraceFault
-item_of (ce ∷ letter ∷ third ∷ []) = of_three (letter_of letter) ce third
-item_of (ce ∷ letter ∷ third ∷ fourth ∷ []) = of_four (letter_of letter) ce third fourth
-item_of _ = Err BadShape
+abbrev pub item_of : Profile → List (List ℕ) → Result Item TraceFault
+item_of p (ce ∷ letter ∷ third ∷ []) = of_three (letter_of letter) ce third
+item_of p (ce ∷ letter ∷ third ∷ fourth ∷ []) = of_four p (letter_of letter) ce third fourth
+item_of p _ = Err BadShape
 
 -- the item of a line, or its fault
-unfoldable pub line_item : List ℕ → Result Item TraceFault
-line_item line = item_of (fields line)
+unfoldable pub line_item : Profile → List ℕ → Result Item TraceFault
+line_item p line = item_of p (fields line)
 
 -- ---- the items of a text
 
@@ -102,15 +121,15 @@ at_line line (Ok x) = Ok x
 at_line line (Err code) = Err (Fault code line)
 
 -- From line number `line` on, of which `front` is read: a line feed (10) ends a line, and the text ends after one.
-unfoldable pub reading_from : ℕ → List ℕ → List ℕ → Result (List Item) TraceRefusal
-reading_from line front [] = if length front == 0 then Ok [] else Err (Fault BadShape line)
-reading_from line front (b ∷ bs) =
-    if b == 10 then (at_line line (line_item front) >>= λ item. reading_from (line + 1) [] bs >>= λ items. Ok (item ∷ items))
-    else reading_from line (front ++ b ∷ []) bs
+unfoldable pub reading_from : Profile → ℕ → List ℕ → List ℕ → Result (List Item) TraceRefusal
+reading_from p line front [] = if length front == 0 then Ok [] else Err (Fault BadShape line)
+reading_from p line front (b ∷ bs) =
+    if b == 10 then (at_line line (line_item p front) >>= λ item. reading_from p (line + 1) [] bs >>= λ items. Ok (item ∷ items))
+    else reading_from p line (front ++ b ∷ []) bs
 
 -- a whole text
-abbrev pub reading : List ℕ → Result (List Item) TraceRefusal
-reading text = reading_from 1 [] text
+abbrev pub reading : Profile → List ℕ → Result (List Item) TraceRefusal
+reading p text = reading_from p 1 [] text
 
 -- A refusal is the fault that reading tells; or memory ran out at a text without a fault.
 abbrev pub IsRefusalOf : {A : Type 0} → TraceRefusal → Result A TraceRefusal → Type 0
@@ -120,11 +139,11 @@ IsRefusalOf OutOfMemory read = IsOk read
 -- ---- a text line by line
 
 -- the first line is the item's, and the rest stands after it
-pub record BeginsWith (text : List ℕ) (item : Item) (rest : List ℕ) : Type 0 where
+pub record BeginsWith (p : Profile) (text : List ℕ) (item : Item) (rest : List ℕ) : Type 0 where
   pub shorter : length rest < length text
-  pub read : (line : ℕ) → reading_from line [] text ≡ (reading_from (line + 1) [] rest >>= λ items. Ok (item ∷ items))
+  pub read : (line : ℕ) → reading_from p line [] text ≡ (reading_from p (line + 1) [] rest >>= λ items. Ok (item ∷ items))
 
 -- the first line has this fault
-pub record HasFault (text : List ℕ) (code : TraceFault) : Type 0 where
+pub record HasFault (p : Profile) (text : List ℕ) (code : TraceFault) : Type 0 where
   pub some : 0 < length text
-  pub read : (line : ℕ) → reading_from line [] text ≡ Err (Fault code line)
+  pub read : (line : ℕ) → reading_from p line [] text ≡ Err (Fault code line)

@@ -3,6 +3,7 @@ use Rattle.std.specs.Prelude.{◌≡◌, ⊤, ℕ, ◌+◌, ◌-◌, ◌*◌, �
 use Rattle.std.specs.List.{flat_map}
 use Rattle.std.specs.Str.Lines.{strip_carriage_return}
 use Rattle.std.specs.Fmt.{decimal}
+use Rattle.nand_geometry.specs.declared.optional.Profile.{Profile}
 use Rattle.onfi_cycle.specs.declared.item.Item.{Item}
 use Rattle.trace_text.specs.declared.refusal.TraceFault.{TraceFault}
 use Rattle.trace_text.specs.declared.refusal.TraceFault.TheVariants.{BadShape}
@@ -72,22 +73,22 @@ placed line time (Ok item) = Ok (Some (record { line = line; time = time; item =
 placed line time (Err fault) = Err fault
 
 -- the item behind a time, which has to be a number
-abbrev pub behind_time : ℕ → Option ℕ → List (List ℕ) → Result (Option RecordedItem) TraceFault
-behind_time line None words = Err BadShape
-behind_time line (Some time) words = placed line (Some time) (item_of words)
+abbrev pub behind_time : Profile → ℕ → Option ℕ → List (List ℕ) → Result (Option RecordedItem) TraceFault
+behind_time p line None words = Err BadShape
+behind_time p line (Some time) words = placed line (Some time) (item_of p words)
 
-abbrev pub by_first : ℕ → Option (List ℕ) → (first : List ℕ) → List (List ℕ) → Result (Option RecordedItem) TraceFault
-by_first line None first words = placed line None (item_of (first ∷ words))
-by_first line (Some digits) first words = behind_time line (number digits) words
+abbrev pub by_first : Profile → ℕ → Option (List ℕ) → (first : List ℕ) → List (List ℕ) → Result (Option RecordedItem) TraceFault
+by_first p line None first words = placed line None (item_of p (first ∷ words))
+by_first p line (Some digits) first words = behind_time p line (number digits) words
 
 -- no item, or the one whose fields the words are
-abbrev pub item_in : ℕ → List (List ℕ) → Result (Option RecordedItem) TraceFault
-item_in line [] = Ok None
-item_in line (first ∷ words) = by_first line (time_text first) first words
+abbrev pub item_in : Profile → ℕ → List (List ℕ) → Result (Option RecordedItem) TraceFault
+item_in p line [] = Ok None
+item_in p line (first ∷ words) = by_first p line (time_text first) first words
 
 -- what the line of this number has
-unfoldable pub recorded_line : ℕ → List ℕ → Result (Option RecordedItem) TraceFault
-recorded_line line text = item_in line (words text)
+unfoldable pub recorded_line : Profile → ℕ → List ℕ → Result (Option RecordedItem) TraceFault
+recorded_line p line text = item_in p line (words text)
 
 -- ---- the items of a text
 
@@ -106,14 +107,14 @@ at_end line [] = []
 at_end line (first ∷ words) = Err (Fault BadShape line) ∷ []
 
 -- From line number `line` on, of which `front` is read: a line feed (10) ends a line.
-abbrev pub told_from : (line : ℕ) → (front : List ℕ) → List ℕ → List Told
-told_from line front [] = at_end line (words front)
-told_from line front (b ∷ bytes) =
-    if b == 10 then after_line line (recorded_line line front) (told_from (line + 1) [] bytes) else told_from line (front ++ b ∷ []) bytes
+abbrev pub told_from : Profile → (line : ℕ) → (front : List ℕ) → List ℕ → List Told
+told_from p line front [] = at_end line (words front)
+told_from p line front (b ∷ bytes) =
+    if b == 10 then after_line line (recorded_line p line front) (told_from p (line + 1) [] bytes) else told_from p line (front ++ b ∷ []) bytes
 
 -- what a whole text tells
-abbrev pub told : List ℕ → List Told
-told text = told_from 1 [] text
+abbrev pub told : Profile → List ℕ → List Told
+told p text = told_from p 1 [] text
 
 -- the items after these, or the fault
 abbrev pub collecting : List Item → List Told → Result (List Item) TraceRefusal
@@ -122,8 +123,8 @@ collecting items (Ok i ∷ later) = collecting (items ++ i.item ∷ []) later
 collecting items (Err refusal ∷ later) = Err refusal
 
 -- the items of a whole text, or its first fault
-abbrev pub recorded : List ℕ → Result (List Item) TraceRefusal
-recorded text = collecting [] (told text)
+abbrev pub recorded : Profile → List ℕ → Result (List Item) TraceRefusal
+recorded p text = collecting [] (told p text)
 
 -- the same with their lines and times
 abbrev pub gathering : List RecordedItem → List Told → Result (List RecordedItem) TraceRefusal
@@ -131,8 +132,8 @@ gathering items [] = Ok items
 gathering items (Ok i ∷ later) = gathering (items ++ i ∷ []) later
 gathering items (Err refusal ∷ later) = Err refusal
 
-abbrev pub recorded_items : List ℕ → Result (List RecordedItem) TraceRefusal
-recorded_items text = gathering [] (told text)
+abbrev pub recorded_items : Profile → List ℕ → Result (List RecordedItem) TraceRefusal
+recorded_items p text = gathering [] (told p text)
 
 -- the item of this number, counted from 0, if no fault stands in front of it
 abbrev pub found_in : ℕ → List Told → Option RecordedItem
@@ -176,5 +177,5 @@ timed line (t ∷ items) = Ok (record { line = line; time = Some t.time; item = 
 
 -- A text in the strict form has the same items in the recorded form, each in its line and without a time.
 pub record RecordedTakesStrict : Type 0 where
-  pub lines : (bytes : List ℕ) (items : List Item) → reading bytes ≡ Ok items → told bytes ≡ plain 1 items
-  pub items : (bytes : List ℕ) (items : List Item) → reading bytes ≡ Ok items → recorded bytes ≡ Ok items
+  pub lines : (p : Profile) (bytes : List ℕ) (items : List Item) → reading p bytes ≡ Ok items → told p bytes ≡ plain 1 items
+  pub items : (p : Profile) (bytes : List ℕ) (items : List Item) → reading p bytes ≡ Ok items → recorded p bytes ≡ Ok items

@@ -28,7 +28,7 @@ StartsWord (b ∷ bytes) = is_blank b ≡ false
 
 -- what is left to be told of a text
 abbrev pub told_left : RecordedLines → List Told
-told_left l = told_from l.line [] l.rest.now
+told_left l = told_from l.profile l.line [] l.rest.now
 
 -- an answer is the first of what is told, after which this is left; or there is nothing, or a fault
 abbrev pub IsFirst : Result (Option RecordedItem) TraceRefusal → List Told → List Told → Type 0

@@ -1,8 +1,9 @@
 //! A number field that hasn't its form.
 
 use crate::item_fields::ItemFields;
-use crate::line::{Letter, byte_of, fail_of, letter_of, place_of};
+use crate::line::{Letter, array_fail_of, byte_of, fail_of, is_wide, letter_of, place_of};
 use crate::slip::Slip;
+use nand_geometry::Profile;
 use shown_text::Shown;
 use std::fmt;
 
@@ -12,6 +13,8 @@ enum Number {
     ChipEnable,
     Lun,
     Fail,
+    Failures,
+    ArrayFail,
     Byte,
 }
 
@@ -20,7 +23,9 @@ impl Number {
     fn is_well_formed(self, field: &str) -> bool {
         match self {
             Number::ChipEnable | Number::Lun => place_of(field.as_bytes()).is_some(),
-            Number::Fail => fail_of(field.as_bytes()).is_some(),
+            Number::Fail => fail_of(Profile::Base, field.as_bytes()).is_some(),
+            Number::Failures => fail_of(Profile::Onfi, field.as_bytes()).is_some(),
+            Number::ArrayFail => array_fail_of(field.as_bytes()).is_some(),
             Number::Byte => byte_of(field.as_bytes()).is_some(),
         }
     }
@@ -28,7 +33,11 @@ impl Number {
     // What is wrong with the form of a field.
     fn slip(self, field: &str) -> Slip {
         match self {
-            Number::ChipEnable | Number::Lun | Number::Fail => Slip::in_digit(field),
+            Number::ChipEnable
+            | Number::Lun
+            | Number::Fail
+            | Number::Failures
+            | Number::ArrayFail => Slip::in_digit(field),
             Number::Byte => Slip::in_byte(field),
         }
     }
@@ -40,6 +49,8 @@ impl fmt::Display for Number {
             Number::ChipEnable => "CE is one digit from 0 to 3",
             Number::Lun => "LUN is one digit from 0 to 3",
             Number::Fail => "FAIL is 0 or 1",
+            Number::Failures => "FAIL is one digit from 0 to 3",
+            Number::ArrayFail => "FAIL of an array is 1, and left out without failure",
             Number::Byte => "XX is two hexadecimal digits in lower case",
         })
     }
@@ -54,7 +65,7 @@ pub(crate) struct BadNumber<'a> {
 
 impl<'a> BadNumber<'a> {
     // The first number field of a line that hasn't its form.
-    pub(crate) fn of(fields: ItemFields<'a>) -> BadNumber<'a> {
+    pub(crate) fn of(fields: ItemFields<'a>, profile: Profile) -> BadNumber<'a> {
         let ce = fields.get(0);
         if !Number::ChipEnable.is_well_formed(ce) {
             return BadNumber {
@@ -66,7 +77,15 @@ impl<'a> BadNumber<'a> {
         match letter_of(fields.get(1).as_bytes()) {
             Some(Letter::Ready) if Number::Lun.is_well_formed(third) => BadNumber {
                 field: fields.get(3),
-                number: Number::Fail,
+                number: if is_wide(profile) {
+                    Number::Failures
+                } else {
+                    Number::Fail
+                },
+            },
+            Some(Letter::ArrayReady) if Number::Lun.is_well_formed(third) => BadNumber {
+                field: fields.get(3),
+                number: Number::ArrayFail,
             },
             Some(Letter::Ready | Letter::ArrayReady) => BadNumber {
                 field: third,

@@ -1,7 +1,8 @@
 //! A line that hasn't the shape of an item.
 
 use crate::item_fields::ItemFields;
-use crate::line::{Letter, letter_of};
+use crate::line::{Letter, is_wide, letter_of};
+use nand_geometry::Profile;
 use onfi_cycle::Kind;
 use shown_text::Shown;
 use std::fmt;
@@ -29,7 +30,7 @@ pub(crate) enum BadShape<'a> {
 
 impl<'a> BadShape<'a> {
     // Why a line with these fields hasn't the shape of an item.
-    pub(crate) fn of(fields: ItemFields<'a>) -> BadShape<'a> {
+    pub(crate) fn of(fields: ItemFields<'a>, profile: Profile) -> BadShape<'a> {
         let count = fields.count();
         if count < 2 {
             return BadShape::NoLetter;
@@ -37,20 +38,20 @@ impl<'a> BadShape<'a> {
         let field = fields.get(1);
         match letter_of(field.as_bytes()) {
             Some(letter) => BadShape::FieldCount {
-                layout: layout(letter),
+                layout: layout(letter, profile),
                 count,
             },
-            None => bad_letter(field),
+            None => bad_letter(field, profile),
         }
     }
 }
 
 // Why this field is no letter of an item.
-fn bad_letter(field: &str) -> BadShape<'_> {
+fn bad_letter(field: &str, profile: Profile) -> BadShape<'_> {
     match letter_in_lower_case(field) {
         Some(letter) => BadShape::LowerCase {
             letter: field,
-            layout: layout(letter),
+            layout: layout(letter, profile),
         },
         None => BadShape::NoSuchLetter { field },
     }
@@ -67,13 +68,14 @@ fn letter_in_lower_case(field: &str) -> Option<Letter> {
 }
 
 // The fields of a line with this letter.
-fn layout(letter: Letter) -> &'static str {
+fn layout(letter: Letter, profile: Profile) -> &'static str {
     match letter {
         Letter::CycleOf(Kind::Cmd) => "CE C XX",
         Letter::CycleOf(Kind::Adr) => "CE A XX",
         Letter::CycleOf(Kind::Din) => "CE I XX",
         Letter::CycleOf(Kind::Dout) => "CE O XX",
         Letter::Ready => "CE R LUN FAIL",
+        Letter::ArrayReady if is_wide(profile) => "CE Y LUN` or `CE Y LUN 1",
         Letter::ArrayReady => "CE Y LUN",
     }
 }

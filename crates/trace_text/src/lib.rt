@@ -5,8 +5,9 @@
 //!
 //! ```text
 //! CE K XX          a cycle: K is C (command), A (address), I (input) or O (output), XX its byte
-//! CE R LUN FAIL    a LUN becomes ready, with failure (1) or without (0)
+//! CE R LUN FAIL    a LUN becomes ready, with failure (1) or without (0); in the profile onfi 2 is a failure of the page before, and 3 are both
 //! CE Y LUN         the array of a LUN becomes ready
+//! CE Y LUN 1       the same with failure, in the profile onfi
 //! ```
 //!
 //! CE and LUN are one digit from 0 to 3, and XX is two hexadecimal digits in lower case.
@@ -39,11 +40,11 @@ mod words;
 pub use checking::{CheckRefusal, check, check_watched, first_broken};
 pub use form::{TraceForm, parse_as};
 pub use message::TraceMessage;
-pub use parsing::parse;
+pub use parsing::{parse, parse_in};
 pub use printing::{is_printable, print, print_bytes};
 pub use progress::{CheckProgress, NoProgress};
 pub use recorded_item::{RecordedItem, TimedItem};
 pub use recorded_printing::{is_recording_printable, print_recorded};
-pub use recorded_reading::{find_item, parse_recorded};
+pub use recorded_reading::{find_item, parse_recorded, parse_recorded_in};
 pub use refusal::{TraceFault, TraceRefusal};
 pub use timed_reading::parse_timed;

@@ -1,13 +1,15 @@
 //! Reading a line.
 
 ghost use Rattle.std.specs.Prelude.{◌≡◌, [], ◌∷◌, ◌<◌, IfSome, IfNone};
+ghost use Rattle.nand_geometry.specs.declared.optional.Profile.{Profile as ProfileValue};
 ghost use Rattle.trace_text.specs.declared.refusal.TraceFault.TheVariants.{BadShape};
-ghost use Rattle.trace_text.specs.Reading.{fields, place_of, hex_value, byte_of, fail_of, letter_of, cycle, ready, array_ready, item_of, line_item};
+ghost use Rattle.trace_text.specs.Reading.{fields, place_of, hex_value, byte_of, is_wide, fail_of_digit, fail_of, array_fail_of, letter_of, cycle, ready, array_ready, failed_array, item_of, line_item};
 ghost use Rattle.trace_text.specs.RecordedLines.{shown_fields, words_left};
 
 use crate::refusal::TraceFault;
 use crate::words::Words;
-use onfi_cycle::{Cycle, Item, Kind};
+use nand_geometry::Profile;
+use onfi_cycle::{Cycle, Failures, Item, Kind};
 
 // What the second field of a line says.
 #[derive(Clone, Copy)]
@@ -67,13 +69,63 @@ pub(crate) fn byte_of(field: &[u8]) -> Option<u8>
     }
 }
 
-// Whether a ready tells of failure.
+/// The texts of the profile tell of two failures of a ready, and of that of an array ready.
+pub(crate) fn is_wide(profile: Profile) -> bool
+    ensures { result ≡ is_wide profile }
+{
+    match profile {
+        Profile::Base => false,
+        Profile::Onfi => true,
+    }
+}
+
+// The failures of which a digit tells.
+fn fail_of_digit(profile: Profile, digit: u8) -> Option<Failures>
+    ensures { result ≡ fail_of_digit profile digit }
+{
+    let wide = is_wide(profile);
+    if digit == b'0' {
+        Some(Failures {
+            last: false,
+            before: false,
+        })
+    } else if digit == b'1' {
+        Some(Failures {
+            last: true,
+            before: false,
+        })
+    } else if wide && digit == b'2' {
+        Some(Failures {
+            last: false,
+            before: true,
+        })
+    } else if wide && digit == b'3' {
+        Some(Failures {
+            last: true,
+            before: true,
+        })
+    } else {
+        None
+    }
+}
+
+// The failures of which a ready tells.
 #[tactic(auto, unfolding(crate::specs::Reading::fail_of))]
-pub(crate) fn fail_of(field: &[u8]) -> Option<bool>
-    ensures { result ≡ fail_of field.now }
+pub(crate) fn fail_of(profile: Profile, field: &[u8]) -> Option<Failures>
+    ensures { result ≡ fail_of profile field.now }
 {
     match field {
-        [b'0'] => Some(false),
+        [digit] => fail_of_digit(profile, *digit),
+        _ => None,
+    }
+}
+
+// The failure of which an array ready tells.
+#[tactic(auto, unfolding(crate::specs::Reading::array_fail_of))]
+pub(crate) fn array_fail_of(field: &[u8]) -> Option<bool>
+    ensures { result ≡ array_fail_of field.now }
+{
+    match field {
         [b'1'] => Some(true),
         _ => None,
     }
@@ -91,12 +143,12 @@ fn cycle(ce: &[u8], kind: Kind, byte: &[u8]) -> Option<Item>
 
 // A LUN that becomes ready.
 #[tactic(auto, unfolding(crate::specs::Reading::ready))]
-fn ready(ce: &[u8], lun: &[u8], fail: &[u8]) -> Option<Item>
-    ensures { result ≡ ready ce.now lun.now fail.now }
+fn ready(profile: Profile, ce: &[u8], lun: &[u8], fail: &[u8]) -> Option<Item>
+    ensures { result ≡ ready profile ce.now lun.now fail.now }
 {
     let ce = place_of(ce)?;
     let lun = place_of(lun)?;
-    let fail = fail_of(fail)?;
+    let fail = fail_of(profile, fail)?;
     Some(Item::Rdy { ce, lun, fail })
 }
 
@@ -107,7 +159,22 @@ fn array_ready(ce: &[u8], lun: &[u8]) -> Option<Item>
 {
     let ce = place_of(ce)?;
     let lun = place_of(lun)?;
-    Some(Item::Ard { ce, lun })
+    Some(Item::Ard {
+        ce,
+        lun,
+        fail: false,
+    })
+}
+
+// A LUN whose array becomes ready, and tells of failure.
+#[tactic(auto, unfolding(crate::specs::Reading::failed_array))]
+fn failed_array(ce: &[u8], lun: &[u8], fail: &[u8]) -> Option<Item>
+    ensures { result ≡ failed_array ce.now lun.now fail.now }
+{
+    let ce = place_of(ce)?;
+    let lun = place_of(lun)?;
+    let fail = array_fail_of(fail)?;
+    Some(Item::Ard { ce, lun, fail })
 }
 
 // The field before the first space, and what stands after that space.
@@ -132,7 +199,7 @@ impl<'a> Fields<'a> {
     #[tactic(auto, using(crate::proofs::Fields::one_field, crate::proofs::Fields::two_fields, crate::proofs::Fields::five_fields))]
     fn of(line: &'a str) -> Option<Fields<'a>>
         ensures some { IfSome result (λ f. fields line.entry.now ≡ shown_fields f) }
-        ensures none { IfNone result (line_item line.entry.now ≡ Err BadShape) }
+        ensures none { (p : ProfileValue) → IfNone result (line_item p line.entry.now ≡ Err BadShape) }
     {
         let (ce, rest) = first_field(line)?;
         let (letter, rest) = first_field(rest)?;
@@ -158,7 +225,7 @@ impl<'a> Fields<'a> {
     // The fields that these words are, if there are three or four.
     pub(crate) fn in_words(words: Words<'a>) -> Option<Fields<'a>>
         ensures some { IfSome result (λ f. words_left words.entry ≡ shown_fields f) }
-        ensures none { IfNone result (item_of (words_left words.entry) ≡ Err BadShape) }
+        ensures none { (p : ProfileValue) → IfNone result (item_of p (words_left words.entry) ≡ Err BadShape) }
     {
         let mut words = words;
         let ce = words.next_word()?;
@@ -177,14 +244,17 @@ impl<'a> Fields<'a> {
     }
 
     // The item whose fields these are. The number of fields is wanted by the letter, and the number fields are looked at last.
-    pub(crate) fn item(self) -> Result<Item, TraceFault>
-        ensures { result ≡ item_of (shown_fields self.entry) }
+    pub(crate) fn item(self, profile: Profile) -> Result<Item, TraceFault>
+        ensures { result ≡ item_of profile (shown_fields self.entry) }
     {
         let letter = letter_of(self.letter).ok_or(TraceFault::BadShape)?;
         let item = match (letter, self.fourth) {
             (Letter::CycleOf(kind), None) => cycle(self.ce, kind, self.third),
-            (Letter::Ready, Some(fail)) => ready(self.ce, self.third, fail),
+            (Letter::Ready, Some(fail)) => ready(profile, self.ce, self.third, fail),
             (Letter::ArrayReady, None) => array_ready(self.ce, self.third),
+            (Letter::ArrayReady, Some(fail)) if is_wide(profile) => {
+                failed_array(self.ce, self.third, fail)
+            }
             _ => return Err(TraceFault::BadShape),
         };
         item.ok_or(TraceFault::BadNumber)
@@ -193,9 +263,9 @@ impl<'a> Fields<'a> {
 
 // The item of a line, which is given without its line feed.
 #[tactic(auto, unfolding(crate::specs::Reading::line_item))]
-pub(crate) fn line_item(line: &str) -> Result<Item, TraceFault>
-    ensures { result ≡ line_item line.now }
+pub(crate) fn line_item(line: &str, profile: Profile) -> Result<Item, TraceFault>
+    ensures { result ≡ line_item profile line.now }
 {
     let fields = Fields::of(line).ok_or(TraceFault::BadShape)?;
-    fields.item()
+    fields.item(profile)
 }

@@ -7,6 +7,7 @@ use crate::item_fields::ItemFields;
 use crate::line_advice::LineAdvice;
 use crate::recorded_advice::{RecordedAdvice, item_text};
 use crate::refusal::{TraceFault, TraceRefusal};
+use nand_geometry::Profile;
 use shown_text::{Shown, line_at};
 use std::fmt;
 
@@ -18,15 +19,22 @@ pub struct TraceMessage<'a> {
     refusal: TraceRefusal,
     text: &'a str,
     form: TraceForm,
+    profile: Profile,
 }
 
 impl<'a> TraceMessage<'a> {
-    /// A refusal of this text, which was to have this form.
-    pub fn new(refusal: TraceRefusal, text: &'a str, form: TraceForm) -> TraceMessage<'a> {
+    /// A refusal of this text, which was to have this form, and to be of this profile.
+    pub fn new(
+        refusal: TraceRefusal,
+        text: &'a str,
+        form: TraceForm,
+        profile: Profile,
+    ) -> TraceMessage<'a> {
         TraceMessage {
             refusal,
             text,
             form,
+            profile,
         }
     }
 }
@@ -36,10 +44,11 @@ fn write_fault<W: fmt::Write>(
     f: &mut fmt::Formatter<W>,
     fault: TraceFault,
     fields: ItemFields<'_>,
+    profile: Profile,
 ) -> fmt::Result {
     match fault {
-        TraceFault::BadShape => write!(f, "{}", BadShape::of(fields)),
-        TraceFault::BadNumber => write!(f, "{}", BadNumber::of(fields)),
+        TraceFault::BadShape => write!(f, "{}", BadShape::of(fields, profile)),
+        TraceFault::BadNumber => write!(f, "{}", BadNumber::of(fields, profile)),
     }
 }
 
@@ -49,10 +58,11 @@ fn write_wanted<W: fmt::Write>(
     fault: TraceFault,
     line: &str,
     is_ended: bool,
+    profile: Profile,
 ) -> fmt::Result {
     match LineAdvice::find(line, is_ended) {
         Some(advice) => write!(f, "{advice}"),
-        None => write_fault(f, fault, ItemFields::Strict(line)),
+        None => write_fault(f, fault, ItemFields::Strict(line), profile),
     }
 }
 
@@ -62,10 +72,11 @@ fn write_wanted_recorded<W: fmt::Write>(
     fault: TraceFault,
     line: &str,
     is_ended: bool,
+    profile: Profile,
 ) -> fmt::Result {
     match RecordedAdvice::find(line, is_ended) {
         Some(advice) => write!(f, "{advice}"),
-        None => write_fault(f, fault, ItemFields::Recorded(item_text(line))),
+        None => write_fault(f, fault, ItemFields::Recorded(item_text(line)), profile),
     }
 }
 
@@ -84,8 +95,14 @@ impl fmt::Display for TraceMessage<'_> {
                 }
                 let is_ended = is_ended(self.text, line);
                 match self.form {
-                    TraceForm::Strict => write_wanted(f, fault, stood, is_ended)?,
-                    TraceForm::Recorded => write_wanted_recorded(f, fault, stood, is_ended)?,
+                    TraceForm::Strict => write_wanted(f, fault, stood, is_ended, self.profile)?,
+                    TraceForm::Recorded => write_wanted_recorded(
+                        f,
+                        fault,
+                        stood,
+                        is_ended,
+                        self.profile,
+                    )?,
                 }
                 write!(f, " ({})", fault.code())
             }

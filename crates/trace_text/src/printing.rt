@@ -4,11 +4,13 @@ ghost use Rattle.std.specs.Prelude.{◌≡◌, ◌+◌, ◌++◌, ◌<◌, ◌�
 ghost use Rattle.std.specs.String.{string_bytes};
 ghost use Rattle.std.specs.Vec.{vec_len, vec_capacity};
 ghost use Rattle.std.specs.List.{All, list_all};
+ghost use Rattle.nand_geometry.specs.declared.optional.Profile.{Profile};
+ghost use Rattle.std.specs.Str.{IsUtf8};
 ghost use Rattle.onfi_cycle.specs.declared.item.Item.TheVariants.{Cyc, Rdy, Ard};
-ghost use Rattle.trace_text.specs.Line.{hex_digit, kind_letter, fail_digit, line, text, IsPrintable, is_printable_item, HasByte};
+ghost use Rattle.trace_text.specs.Line.{hex_digit, kind_letter, fail_number, fail_digit, array_end, line, text, IsPrintable, is_printable_item, HasByte, IsKnown};
 ghost use Rattle.trace_text.specs.Reading.{reading};
 
-use onfi_cycle::{Cycle, Item, Kind};
+use onfi_cycle::{Cycle, Failures, Item, Kind};
 use std::alloc::{AllocError, Allocator};
 
 // How many bytes the line of an item has at most.
@@ -38,11 +40,24 @@ fn hex_digit(number: u8) -> u8
     }
 }
 
-// The digit of a failure.
-fn fail_digit(fail: bool) -> u8
+// The number of the failures of a ready.
+fn fail_number(last: bool, before: bool) -> u8
+    ensures value { result ≡ fail_number last before }
+    ensures small { result ≤ 3 }
+{
+    match (last, before) {
+        (false, false) => 0,
+        (true, false) => 1,
+        (false, true) => 2,
+        (true, true) => 3,
+    }
+}
+
+// The digit of the failures of a ready.
+fn fail_digit(fail: Failures) -> u8
     ensures { result ≡ fail_digit fail }
 {
-    if fail { b'1' } else { b'0' }
+    b'0' + fail_number(fail.last, fail.before)
 }
 
 // Adds the line of a cycle to a text that has places for it; so do the two below with theirs.
@@ -64,7 +79,7 @@ fn push_cycle<A: Allocator>(text: &mut Vec<u8, A>, ce: u8, kind: Kind, byte: u8)
 }
 
 // The line of a LUN that becomes ready.
-fn push_ready<A: Allocator>(text: &mut Vec<u8, A>, ce: u8, lun: u8, fail: bool)
+fn push_ready<A: Allocator>(text: &mut Vec<u8, A>, ce: u8, lun: u8, fail: Failures)
     requires ce { ce ≤ 3 }
     requires lun { lun ≤ 3 }
     requires places { vec_len text.old + 8 ≤ vec_capacity text.old }
@@ -82,12 +97,28 @@ fn push_ready<A: Allocator>(text: &mut Vec<u8, A>, ce: u8, lun: u8, fail: bool)
     text.push_reserved(b'\n');
 }
 
+// The end of the line of a LUN whose array becomes ready, with failure or without.
+fn push_array_end<A: Allocator>(text: &mut Vec<u8, A>, fail: bool)
+    requires places { vec_len text.old + 3 ≤ vec_capacity text.old }
+    ensures value { text.new.items ≡ text.old.items ++ array_end fail }
+    ensures len { vec_len text.new ≤ vec_len text.old + 3 }
+    ensures capacity { vec_capacity text.new ≡ vec_capacity text.old }
+{
+    if fail {
+        text.push_reserved(b' ');
+        text.push_reserved(b'1');
+        text.push_reserved(b'\n');
+    } else {
+        text.push_reserved(b'\n');
+    }
+}
+
 // The line of a LUN whose array becomes ready.
-fn push_array_ready<A: Allocator>(text: &mut Vec<u8, A>, ce: u8, lun: u8)
+fn push_array_ready<A: Allocator>(text: &mut Vec<u8, A>, ce: u8, lun: u8, fail: bool)
     requires ce { ce ≤ 3 }
     requires lun { lun ≤ 3 }
     requires places { vec_len text.old + 8 ≤ vec_capacity text.old }
-    ensures value { text.new.items ≡ text.old.items ++ line (Ard ce lun) }
+    ensures value { text.new.items ≡ text.old.items ++ line (Ard ce lun fail) }
     ensures len { vec_len text.new ≤ vec_len text.old + 8 }
     ensures capacity { vec_capacity text.new ≡ vec_capacity text.old }
 {
@@ -96,7 +127,7 @@ fn push_array_ready<A: Allocator>(text: &mut Vec<u8, A>, ce: u8, lun: u8)
     text.push_reserved(b'Y');
     text.push_reserved(b' ');
     text.push_reserved(b'0' + lun);
-    text.push_reserved(b'\n');
+    push_array_end(text, fail);
 }
 
 // Adds the line of an item to a text that has places for it.
@@ -112,7 +143,7 @@ pub(crate) fn push_line<A: Allocator>(text: &mut Vec<u8, A>, item: Item)
     match item {
         Item::Cyc(Cycle { ce, kind, byte }) => push_cycle(text, ce, kind, byte),
         Item::Rdy { ce, lun, fail } => push_ready(text, ce, lun, fail),
-        Item::Ard { ce, lun } => push_array_ready(text, ce, lun),
+        Item::Ard { ce, lun, fail } => push_array_ready(text, ce, lun, fail),
     }
 }
 
@@ -122,7 +153,7 @@ pub(crate) fn is_printable_item(item: Item) -> bool
 {
     match item {
         Item::Cyc(Cycle { ce, .. }) => ce <= 3,
-        Item::Rdy { ce, lun, .. } | Item::Ard { ce, lun } => ce <= 3 && lun <= 3,
+        Item::Rdy { ce, lun, .. } | Item::Ard { ce, lun, .. } => ce <= 3 && lun <= 3,
     }
 }
 
@@ -145,8 +176,8 @@ fn are_printable(items: &[Item]) -> bool
 pub fn print<A: Allocator>(alloc: A, items: &[Item]) -> Result<String<A>, AllocError>
     requires { All IsPrintable items.now }
     ensures value { IfOk result (λ s. string_bytes s ≡ text items.now) }
-    // What was printed is read back.
-    ensures read_back { IfOk result (λ s. reading (string_bytes s) ≡ Ok items.now) }
+    // What was printed is read back, in a profile whose texts have lines for all of it, as that of the profile onfi have.
+    ensures read_back { (p : Profile) → All (IsKnown p) items.now → IfOk result (λ s. reading p (string_bytes s) ≡ Ok items.now) }
 {
     let bytes = print_bytes(alloc, items)?;
     // Each of them is an ASCII character.
@@ -157,7 +188,8 @@ pub fn print<A: Allocator>(alloc: A, items: &[Item]) -> Result<String<A>, AllocE
 pub fn print_bytes<A: Allocator>(alloc: A, items: &[Item]) -> Result<Vec<u8, A>, AllocError>
     requires { All IsPrintable items.now }
     ensures value { IfOk result (λ v. v.items ≡ text items.now) }
-    ensures read_back { IfOk result (λ v. reading v.items ≡ Ok items.now) }
+    ensures read_back { (p : Profile) → All (IsKnown p) items.now → IfOk result (λ v. reading p v.items ≡ Ok items.now) }
+    ensures utf8 { IfOk result (λ v. IsUtf8 v.items) }
 {
     let places = items.len().checked_mul(LONGEST_LINE).ok_or(AllocError)?;
     let mut text = Vec::with_capacity(alloc, places)?;

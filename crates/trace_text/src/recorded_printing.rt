@@ -6,7 +6,8 @@ ghost use Rattle.std.specs.String.{string_bytes};
 ghost use Rattle.std.specs.Vec.{vec_len, vec_capacity};
 ghost use Rattle.std.specs.Str.{IsUtf8};
 ghost use Rattle.std.specs.List.{All, list_all};
-ghost use Rattle.trace_text.specs.Line.{IsPrintable, is_printable_item};
+ghost use Rattle.nand_geometry.specs.declared.optional.Profile.{Profile};
+ghost use Rattle.trace_text.specs.Line.{IsPrintable, is_printable_item, IsKnown};
 ghost use Rattle.trace_text.specs.Recorded.{TimeFits, timed_line, timed_text, timed, told, recorded};
 
 use crate::printing::{LONGEST_LINE, is_printable_item, push_line};
@@ -71,8 +72,8 @@ fn are_printable(items: &[TimedItem]) -> bool
 fn timed_bytes<A: Allocator>(alloc: A, items: &[TimedItem]) -> Result<Vec<u8, A>, AllocError>
     requires { All (λ t. IsPrintable t.item) items.now }
     ensures value { IfOk result (λ v. v.items ≡ timed_text items.now) }
-    ensures read_back { IfOk result (λ v. recorded v.items ≡ Ok (map (λ t. t.item) items.now)) }
-    ensures told { IfOk result (λ v. told v.items ≡ timed 1 items.now) }
+    ensures read_back { (p : Profile) → All (λ t. IsKnown p t.item) items.now → IfOk result (λ v. recorded p v.items ≡ Ok (map (λ t. t.item) items.now)) }
+    ensures told { (p : Profile) → All (λ t. IsKnown p t.item) items.now → IfOk result (λ v. told p v.items ≡ timed 1 items.now) }
     ensures utf8 { IfOk result (λ v. IsUtf8 v.items) }
 {
     let places = items
@@ -91,9 +92,9 @@ fn timed_bytes<A: Allocator>(alloc: A, items: &[TimedItem]) -> Result<Vec<u8, A>
 pub fn print_recorded<A: Allocator>(alloc: A, items: &[TimedItem]) -> Result<String<A>, AllocError>
     requires { All (λ t. IsPrintable t.item) items.now }
     ensures value { IfOk result (λ s. string_bytes s ≡ timed_text items.now) }
-    // What was printed is read back: the items, and the line and the time of each.
-    ensures read_back { IfOk result (λ s. recorded (string_bytes s) ≡ Ok (map (λ t. t.item) items.now)) }
-    ensures told { IfOk result (λ s. told (string_bytes s) ≡ timed 1 items.now) }
+    // What was printed is read back, in a profile whose texts have lines for all of it: the items, and the line and the time of each.
+    ensures read_back { (p : Profile) → All (λ t. IsKnown p t.item) items.now → IfOk result (λ s. recorded p (string_bytes s) ≡ Ok (map (λ t. t.item) items.now)) }
+    ensures told { (p : Profile) → All (λ t. IsKnown p t.item) items.now → IfOk result (λ s. told p (string_bytes s) ≡ timed 1 items.now) }
 {
     let bytes = timed_bytes(alloc, items)?;
     // Each of them is an ASCII character.

@@ -1,7 +1,7 @@
 -- How long work takes at the most.
 use Rattle.std.specs.Prelude.{ℕ, ◌*◌, ◌<◌, ◌^◌, Option, Some, None}
 use Rattle.onfi_cycle.specs.declared.command.Command.{Command}
-use Rattle.onfi_cycle.specs.declared.command.Command.TheVariants.{ReadConfirm, CopybackRead, ReadCacheSequential, ReadCacheEnd, ReadParameterPage, ProgramConfirm, BlockEraseConfirm, Reset, GetFeatures, SetFeatures}
+use Rattle.onfi_cycle.specs.declared.command.Command.TheVariants.{ReadConfirm, CopybackRead, ReadCacheSequential, ReadCacheEnd, ReadParameterPage, ProgramConfirm, ProgramCache, BlockEraseConfirm, Reset, GetFeatures, SetFeatures}
 use Rattle.trace_timing.specs.declared.busy_time.BusyTime.{BusyTime}
 use Rattle.trace_timing.specs.declared.busy_time.BusyTime.TheVariants.{Read, Program, Erase, Features}
 use Rattle.trace_timing.specs.declared.busy_time.BusyTime.TheVariants as busy
@@ -27,6 +27,7 @@ bound_of ReadCacheSequential = Some Read
 bound_of ReadCacheEnd = Some Read
 bound_of ReadParameterPage = Some Read
 bound_of ProgramConfirm = Some Program
+bound_of ProgramCache = Some Program
 bound_of BlockEraseConfirm = Some Erase
 bound_of Reset = Some busy.Reset
 bound_of GetFeatures = Some Features

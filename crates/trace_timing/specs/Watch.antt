@@ -62,17 +62,17 @@ has_pair r c cycle time =
 abbrev pub short_of : Ruler → (n : ℕ) → List Clock → Item → Option ℕ → List Violation
 short_of r n clocks (Cyc c) time = short_of_cycle r n (clock_at clocks c.ce) c time
 short_of r n clocks (Rdy ce lun fail) time = []
-short_of r n clocks (Ard ce lun) time = []
+short_of r n clocks (Ard ce lun fail) time = []
 
 abbrev pub pairs_with : Ruler → List Clock → Item → Option ℕ → Bool
 pairs_with r clocks (Cyc c) time = has_pair r (clock_at clocks c.ce) c time
 pairs_with r clocks (Rdy ce lun fail) time = false
-pairs_with r clocks (Ard ce lun) time = false
+pairs_with r clocks (Ard ce lun fail) time = false
 
 abbrev pub clocks_after : List Clock → Item → Option ℕ → List Clock
 clocks_after clocks (Cyc c) time = slice_set clocks c.ce (clock_after (clock_at clocks c.ce) c.kind c.byte time)
 clocks_after clocks (Rdy ce lun fail) time = slice_set clocks ce (clock_ready (clock_at clocks ce) time)
-clocks_after clocks (Ard ce lun) time = clocks
+clocks_after clocks (Ard ce lun fail) time = clocks
 
 -- ---- item by item
 

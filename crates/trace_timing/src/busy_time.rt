@@ -27,7 +27,7 @@ impl BusyTime {
             | Command::ReadCacheSequential
             | Command::ReadCacheEnd
             | Command::ReadParameterPage => Some(BusyTime::Read),
-            Command::ProgramConfirm => Some(BusyTime::Program),
+            Command::ProgramConfirm | Command::ProgramCache => Some(BusyTime::Program),
             Command::BlockEraseConfirm => Some(BusyTime::Erase),
             Command::Reset => Some(BusyTime::Reset),
             Command::GetFeatures | Command::SetFeatures => Some(BusyTime::Features),

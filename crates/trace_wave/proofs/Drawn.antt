@@ -73,4 +73,4 @@ pub ready_frames : (g : Parts) (targets items rule rule' : ℕ) (past : List Ite
     ≡ at_time (10 * items + 6) (changes (45 + targets) (model_levels g targets past rule) (model_levels g targets (past_next past rule' i) rule'))
 ready_frames g targets items rule rule' past l (Cyc c) h next = cc
 ready_frames g targets items rule rule' past l (Rdy ce lun fail) h next = quiet_frames g targets items rule rule' past l (Rdy ce lun fail) next
-ready_frames g targets items rule rule' past l (Ard ce lun) h next = quiet_frames g targets items rule rule' past l (Ard ce lun) next
+ready_frames g targets items rule rule' past l (Ard ce lun fail) h next = quiet_frames g targets items rule rule' past l (Ard ce lun fail) next

@@ -6,7 +6,7 @@ use Rattle.std.specs.List.{slice_get}
 use Rattle.nand_geometry.specs.declared.parts.Parts.{Parts}
 use Rattle.nand_geometry.specs.Limits.{planes}
 use Rattle.onfi_cycle.specs.declared.command.Command.{Command}
-use Rattle.onfi_cycle.specs.declared.command.Command.TheVariants.{Read, ChangeReadColumnConfirm, ReadStatus, ReadStatusEnhanced, ReadConfirm, ReadPlane, BlockEraseConfirm, BlockErasePlane, ProgramConfirm, ProgramPlane, ReadId, ReadParameterPage, Reset, ReadCacheSequential, ReadCacheEnd, ReadUniqueId, GetFeatures, ResetLun, SynchronousReset, CopybackRead, PageProgram}
+use Rattle.onfi_cycle.specs.declared.command.Command.TheVariants.{Read, ChangeReadColumnConfirm, ReadStatus, ReadStatusEnhanced, ReadConfirm, ReadPlane, BlockEraseConfirm, BlockErasePlane, ProgramConfirm, ProgramPlane, ProgramCache, ReadId, ReadParameterPage, Reset, ReadCacheSequential, ReadCacheEnd, ReadUniqueId, GetFeatures, ResetLun, SynchronousReset, CopybackRead, PageProgram}
 use Rattle.onfi_cycle.specs.declared.effect.Effect.{Effect}
 use Rattle.onfi_cycle.specs.declared.effect.Effect.TheVariants.{Unaffected, FeaturesSet, SelectedForStatus, Deselected, ReadColumnChanged, PlaneSelected, DataOutput, StatusSelected, StatusOfSelected, AnotherAddressed, ProgramAddressed}
 use Rattle.onfi_cycle.specs.declared.item.Kind.{Kind}
@@ -31,7 +31,7 @@ use Rattle.trace_wave.proofs.Counted.{length_targets}
 -- an effect that neither starts work nor ends it
 record Keeps (e : Effect) : Type 0 where
   busy : (b : Bool) → busy_after e b ≡ b
-  array : (b c a : Bool) → array_busy_after e b c a ≡ a
+  array : (b : Bool) (c : Option Command) (a : Bool) → array_busy_after e b c a ≡ a
 
 unaffected : Keeps Unaffected
 unaffected = record { busy = λ b. refl; array = λ b c a. refl }
@@ -49,6 +49,7 @@ confirm_keeps g t BlockEraseConfirm h = cc
 confirm_keeps g t BlockErasePlane h = cc
 confirm_keeps g t ProgramConfirm h = cc
 confirm_keeps g t ProgramPlane h = cc
+confirm_keeps g t ProgramCache h = cc
 confirm_keeps g t c h = unaffected
 
 other_keeps : (g : Parts) (t : TailFacts) (c : Command) → Keeps (other_effect g t c)
@@ -103,7 +104,7 @@ item_keeps g past la (Cyc c) l h = at (c.ce == l.ce) refl
     at true e = subst (λ (k : ℕ). Keeps (cycle_effect g (facts_of (tail past k)) la (target_cycle c.kind c.byte) l.lun)) (eqb-true c.ce l.ce e) (cycle_keeps g past la c.ce c.byte l.lun c.kind h)
     at false e = unaffected
 item_keeps g past la (Rdy ce lun fail) l h = cc
-item_keeps g past la (Ard ce lun) l h = cc
+item_keeps g past la (Ard ce lun fail) l h = cc
 
 effect_keeps : (g : Parts) (past : List Item) (i : Item) (l : Lun) → keeps_work past i ≡ true → Keeps (effect_on g past i l)
 unfolding effect_among
@@ -112,7 +113,7 @@ effect_keeps g past i l h = item_keeps g past (latch_alone g past l) i l h
 tells_none : (past : List Item) (i : Item) (ce lun : ℕ) → keeps_work past i ≡ true → tells_failure (i ∷ past) ce lun ≡ false
 tells_none past (Cyc c) ce lun h = refl
 tells_none past (Rdy at of fail) ce lun h = cc
-tells_none past (Ard at of) ce lun h = cc
+tells_none past (Ard at of fail) ce lun h = cc
 
 -- what the lines of the LUNs are told from is the same after two pasts
 record Same (g : Parts) (p q : List Item) : Type 0 where

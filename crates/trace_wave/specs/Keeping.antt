@@ -45,7 +45,7 @@ kind_keeps_work past ce Dout i = true
 abbrev pub keeps_work : List Item → Item → Bool
 keeps_work past (Cyc c) = kind_keeps_work past c.ce c.kind (Cyc c)
 keeps_work past (Rdy _ _ _) = false
-keeps_work past (Ard _ _) = false
+keeps_work past (Ard _ _ _) = false
 
 -- what is kept begins with the levels of R/B# and the LUNs
 abbrev pub Keeps : Parts → ℕ → List Item → List ℕ → Type 0

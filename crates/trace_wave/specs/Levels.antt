@@ -47,12 +47,12 @@ is_busy g past ce lun = (lun_view g past (record { ce = ce; lun = lun })).busy
 abbrev pub has_busy_array : Parts → List Item → (ce lun : ℕ) → Bool
 has_busy_array g past ce lun = (lun_view g past (record { ce = ce; lun = lun })).array_busy
 
--- the newest item is a ready of this LUN with failure
+-- the newest item is a ready of this LUN, or of its array, that tells a failure of the work that it ends
 abbrev pub tells_failure : List Item → (ce lun : ℕ) → Bool
 tells_failure [] ce lun = false
 tells_failure (Cyc c ∷ past) ce lun = false
-tells_failure (Rdy of_ce of_lun fail ∷ past) ce lun = of_ce == ce && of_lun == lun && fail
-tells_failure (Ard _ _ ∷ past) ce lun = false
+tells_failure (Rdy of_ce of_lun fail ∷ past) ce lun = of_ce == ce && of_lun == lun && fail.last
+tells_failure (Ard of_ce of_lun fail ∷ past) ce lun = of_ce == ce && of_lun == lun && fail
 
 -- some LUN of a target is busy, of so many from number n on
 abbrev pub some_busy : Parts → List Item → (ce count n : ℕ) → Bool

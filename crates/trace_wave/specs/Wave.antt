@@ -30,6 +30,7 @@ rule_number F.NoSoleDriver = 12
 rule_number F.DataNotReady = 13
 rule_number F.ColumnOutside = 14
 rule_number F.CacheReadMisplaced = 15
+rule_number F.CacheProgramMisplaced = 16
 rule_number F.CopybackMisplaced = 17
 rule_number F.PlaneNotHeld = 18
 
@@ -78,7 +79,7 @@ strobe_code targets c = if is_output c then 36 + targets else 35 + targets
 abbrev pub is_ready : Item → Bool
 is_ready (Cyc c) = false
 is_ready (Rdy _ _ _) = true
-is_ready (Ard _ _) = true
+is_ready (Ard _ _ _) = true
 
 -- the first two frames of an item: a cycle is set up, and its strobe falls
 abbrev pub strobe_frames : Parts → ℕ → Drawing → Item → List ℕ
@@ -86,13 +87,13 @@ strobe_frames g targets d (Cyc c) =
     frame (10 * d.items) (levels_at g targets d d.lines) (levels_at g targets d (set_up d.lines c))
     ++ frame (10 * d.items + 2) (levels_at g targets d (set_up d.lines c)) (levels_at g targets d (struck (set_up d.lines c) c))
 strobe_frames g targets d (Rdy _ _ _) = []
-strobe_frames g targets d (Ard _ _) = []
+strobe_frames g targets d (Ard _ _ _) = []
 
 -- the lines when they are drawn
 abbrev pub lines_struck : Lines → Item → Lines
 lines_struck l (Cyc c) = struck (set_up l c) c
 lines_struck l (Rdy _ _ _) = l
-lines_struck l (Ard _ _) = l
+lines_struck l (Ard _ _ _) = l
 
 -- the frames of an item; the last is where its strobe rises, and where it does what it does
 abbrev pub item_frames : Parts → ℕ → Drawing → Item → List ℕ

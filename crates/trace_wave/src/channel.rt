@@ -76,7 +76,7 @@ impl Channel {
         }
     }
 
-    /// The newest item is its ready with failure.
+    /// The newest item is its ready, or that of its array, and tells a failure of the work that it ends.
     pub(crate) fn tells_failure(&self, ce: u8, lun: u8) -> bool
         ensures { (g : Parts) (targets : ℕ) (past : List ItemValue) → Stands g targets past self.now
             → result ≡ tells_failure past ce lun }
@@ -88,8 +88,15 @@ impl Channel {
                     lun: of_lun,
                     fail,
                 },
+            ) => of_ce == ce && of_lun == lun && fail.last,
+            Some(
+                Item::Ard {
+                    ce: of_ce,
+                    lun: of_lun,
+                    fail,
+                },
             ) => of_ce == ce && of_lun == lun && fail,
-            Some(Item::Cyc(_) | Item::Ard { .. }) | None => false,
+            Some(Item::Cyc(_)) | None => false,
         }
     }
 
@@ -118,7 +125,11 @@ impl Channel {
         ensures { (g : Parts) (targets : ℕ) (past : List ItemValue) → Stands g targets past self.now → IsTrue result
             → (ce lun : ℕ) → tells_failure past ce lun ≡ false }
     {
-        !matches!(self.newest, Some(Item::Rdy { fail: true, .. }))
+        match self.newest {
+            Some(Item::Rdy { fail, .. }) => !fail.last,
+            Some(Item::Ard { fail, .. }) => !fail,
+            Some(Item::Cyc(_)) | None => true,
+        }
     }
 
     // An address on this target starts no work and ends none.

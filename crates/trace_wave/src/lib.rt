@@ -6,8 +6,8 @@
 //! - at 2 the strobe falls, WE# or for an output RE#, whose byte is then on DQ;
 //! - at 6 it rises, and there a cycle is sampled. At 6 stands also what the item does: R/B#, and of each LUN busy, array and fail.
 //!
-//! What isn't named keeps its level, and a time at which nothing changes isn't written. `fail` is high from a ready that tells a failure to the item after
-//! it. After the first item that breaks a rule `rule` is the rule's number, and R/B#, busy, array and fail are x: the model says nothing more. The lines of
+//! What isn't named keeps its level, and a time at which nothing changes isn't written. `fail` is high from a ready, also that of an array, that tells a failure of the
+//! work that it ends, to the item after it. After the first item that breaks a rule `rule` is the rule's number, and R/B#, busy, array and fail are x: the model says nothing more. The lines of
 //! the bus go on.
 //!
 //! [`write_dump`] writes a whole trace. A [`Dump`] writes it in pieces, which its caller takes out of the `Vec` as they come.

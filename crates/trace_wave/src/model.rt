@@ -39,6 +39,7 @@ fn rule_number(rule: Forbidden) -> u8
         Forbidden::DataNotReady => 13,
         Forbidden::ColumnOutside => 14,
         Forbidden::CacheReadMisplaced => 15,
+        Forbidden::CacheProgramMisplaced => 16,
         Forbidden::CopybackMisplaced => 17,
         Forbidden::PlaneNotHeld => 18,
     }

@@ -98,7 +98,7 @@ address_in c = if is_address c.kind then Some c.byte else None
 abbrev pub cycle_on : ℕ → Item → Option Cycle
 cycle_on ce (Cyc c) = if c.ce == ce then Some c else None
 cycle_on ce (Rdy _ _ _) = None
-cycle_on ce (Ard _ _) = None
+cycle_on ce (Ard _ _ _) = None
 
 abbrev pub address_or : Option Cycle → Option ℕ → Option ℕ
 address_or None later = later
@@ -210,7 +210,7 @@ part_of_ready steps bus place ce lun = passed_ready steps place (ready_on steps 
 abbrev pub part_of : List Step → Passing → Item → (later : List Item) → Part
 part_of steps p (Cyc c) later = part_of_cycle steps p.state.bus (place_of p.places c.ce) c later
 part_of steps p (Rdy ce lun fail) later = part_of_ready steps p.state.bus (place_of p.places ce) ce lun
-part_of steps p (Ard ce lun) later = kept_in (place_of p.places ce)
+part_of steps p (Ard ce lun fail) later = kept_in (place_of p.places ce)
 
 -- the channel after an item that is kept; one that is passed over leaves it as it was
 abbrev pub state_after : Readies → TraceState → Item → (later : List Item) → (is_kept : Bool) → TraceState

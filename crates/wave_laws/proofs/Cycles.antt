@@ -91,7 +91,7 @@ rests : (g : Parts) (targets : ℕ) (items : List Item) (d : Drawing) → AreHig
 rests g targets [] d h = h
 rests g targets (Cyc c ∷ items) d h = rests g targets items (after g targets d (Cyc c)) (record { we_high = refl; re_high = refl })
 rests g targets (Rdy ce lun fail ∷ items) d h = rests g targets items (after g targets d (Rdy ce lun fail)) (record { we_high = h.we_high; re_high = h.re_high })
-rests g targets (Ard ce lun ∷ items) d h = rests g targets items (after g targets d (Ard ce lun)) (record { we_high = h.we_high; re_high = h.re_high })
+rests g targets (Ard ce lun fail ∷ items) d h = rests g targets items (after g targets d (Ard ce lun fail)) (record { we_high = h.we_high; re_high = h.re_high })
 
 abbrev resting : Lines → Lines
 resting l = record { enabled = l.enabled; cle = l.cle; ale = l.ale; we = true; re = true; dq = l.dq }

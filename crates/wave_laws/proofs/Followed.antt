@@ -75,7 +75,7 @@ module _ (g : Parts) (targets : ℕ) where
       ∙ ap (λ (held : List ℕ). all_heard held (frame_events (10 * d.items + 2) up down)) (frame_follows (10 * d.items) d d d.lines (set_up d.lines c))
       ∙ frame_follows (10 * d.items + 2) d d (set_up d.lines c) (struck_lines (set_up d.lines c) c)
   strobe_follows d (Rdy _ _ _) = refl
-  strobe_follows d (Ard _ _) = refl
+  strobe_follows d (Ard _ _ _) = refl
 
   item_follows : (d : Drawing) (i : Item) → all_heard (levels_at g targets d d.lines) (item_events g targets d i) ≡ levels_at g targets (after g targets d i) (after g targets d i).lines
   item_follows d i =

@@ -30,7 +30,7 @@ module _ (g : Parts) (targets : ℕ) (widths : Widths) (have : have_bits widths 
       (of_frame t t d d d.lines (set_up d.lines c) (omega arith) (omega (arith, small)))
       (of_frame t (t + 2) d d (set_up d.lines c) (struck (set_up d.lines c) c) (omega arith) (omega (arith, small)))
   of_strobe d (Rdy _ _ _) small = says_nothing widths (10 * d.items) (10 * d.items + 2) (omega arith)
-  of_strobe d (Ard _ _) small = says_nothing widths (10 * d.items) (10 * d.items + 2) (omega arith)
+  of_strobe d (Ard _ _ _) small = says_nothing widths (10 * d.items) (10 * d.items + 2) (omega arith)
 
   of_item : (d : Drawing) (i : Item) → 10 * d.items + 10 < 10 ^ 18 → Says widths (10 * d.items) (10 * d.items + 6) (item_frames g targets d i) (item_events g targets d i)
   of_item d i small =

@@ -9,6 +9,7 @@ use Rattle.onfi_cycle.specs.declared.command.Command.{Command}
 use Rattle.onfi_cycle.specs.declared.command.Command.TheVariants as k
 use Rattle.onfi_cycle.specs.declared.effect.Effect.{Effect}
 use Rattle.onfi_cycle.specs.declared.effect.Effect.TheVariants as e
+use Rattle.onfi_cycle.specs.declared.item.Failures.{Failures}
 use Rattle.onfi_cycle.specs.declared.item.Item.{Item}
 use Rattle.onfi_cycle.specs.declared.item.Item.TheVariants.{Cyc, Rdy, Ard}
 use Rattle.onfi_cycle.specs.declared.latch.Latch.{Latch}
@@ -20,7 +21,7 @@ use Rattle.onfi_cycle.specs.declared.target_cycle.TargetCycle.TheVariants.{Comma
 use Rattle.onfi_cycle.specs.Sequence.{tail, facts_of, row, row_with, target_cycle, selects_plane, wants_command, wants_address}
 use Rattle.onfi_cycle.specs.Effect.{is_shared, plane_of_row, acts_for_target, of_target, other_effect, lun_reset_effect, names_lun, is_off, is_data, confirm_effect, command_effect, opening_address_effect, address_effect, cycle_effect, id_effect, ends_features, row_effect, cache_effect, plane_effect, column_effect, program_row_effect}
 use Rattle.onfi_cycle.specs.Command.{closes_row, reads_row}
-use Rattle.onfi_cycle.specs.Lun.{effect_on, effect_among, latch_alone, is_busy as lun_is_busy, is_caching, busy_after, array_busy_after}
+use Rattle.onfi_cycle.specs.Lun.{effect_on, effect_among, latch_alone, is_busy as lun_is_busy, closer, busy_after, array_busy_after}
 use Rattle.bus_lines.specs.declared.lines.Lines.{Lines}
 use Rattle.bus_lines.specs.Lines.{idle}
 use Rattle.trace_wave.specs.Levels.{bit, shown, is_busy, has_busy_array, tells_failure, readies, target_levels, targets_levels, bus_levels, rule_bits, levels}
@@ -88,7 +89,7 @@ cycle_keeps g t latch (AddressCycle byte) lun = opening_keeps g t byte t.opening
 cycle_keeps g t latch (InputCycle byte) lun = either (ends_features t) (of_target g lun (e.FeaturesSet (t.column % 256))) e.Unaffected (target_keeps g lun (e.FeaturesSet (t.column % 256)) refl) refl
 cycle_keeps g t latch OutputCycle lun = either (is_data latch) e.DataOutput e.Unaffected refl refl
 
-ready_ends : (b : Bool) (fail : Bool) → busy_after (cond b (e.BecameReady fail) e.Unaffected) true ≡ not b
+ready_ends : (b : Bool) (fail : Failures) → busy_after (cond b (e.BecameReady fail) e.Unaffected) true ≡ not b
 ready_ends true fail = refl
 ready_ends false fail = refl
 
@@ -97,27 +98,33 @@ busy_ends : (g : Parts) (past : List Item) (i : Item) (l : Lun) → busy_after (
 unfolding effect_among
 busy_ends g past (Cyc c) l = either (c.ce == l.ce) (cycle_effect g (facts_of (tail past l.ce)) (latch_alone g past l) (target_cycle c.kind c.byte) l.lun) e.Unaffected (cycle_keeps g (facts_of (tail past l.ce)) (latch_alone g past l) (target_cycle c.kind c.byte) l.lun) refl
 busy_ends g past (Rdy ce lun fail) l = ready_ends (ce == l.ce && lun == l.lun) fail
-busy_ends g past (Ard ce lun) l = either (ce == l.ce && lun == l.lun) e.ArrayBecameReady e.Unaffected refl refl
+busy_ends g past (Ard ce lun fail) l = either (ce == l.ce && lun == l.lun) (e.ArrayBecameReady fail) e.Unaffected refl refl
 
 -- of a LUN whose array is busy, by an item that isn't seen on the bus
-array_ends : (g : Parts) (past : List Item) (i : Item) (l : Lun) (busy caching : Bool) → is_ready i ≡ true → array_busy_after (effect_on g past i l) busy caching true ≡ not (is_array_ready_of i l.ce l.lun)
+array_ends : (g : Parts) (past : List Item) (i : Item) (l : Lun) (busy : Bool) (last : Option Command) → is_ready i ≡ true → array_busy_after (effect_on g past i l) busy last true ≡ not (is_array_ready_of i l.ce l.lun)
 unfolding effect_among
-array_ends g past (Cyc c) l busy caching h = absurd (false≢true h)
-array_ends g past (Rdy ce lun fail) l busy caching h = by (ce == l.ce && lun == l.lun)
+array_ends g past (Cyc c) l busy last h = absurd (false≢true h)
+array_ends g past (Rdy ce lun fail) l busy last h = by (ce == l.ce && lun == l.lun)
   where
-    by : (b : Bool) → array_busy_after (cond b (e.BecameReady fail) e.Unaffected) busy caching true ≡ true
+    by : (b : Bool) → array_busy_after (cond b (e.BecameReady fail) e.Unaffected) busy last true ≡ true
     by true = refl
     by false = refl
-array_ends g past (Ard ce lun) l busy caching h = by (ce == l.ce && lun == l.lun)
+array_ends g past (Ard ce lun fail) l busy last h = by (ce == l.ce && lun == l.lun)
   where
-    by : (b : Bool) → array_busy_after (cond b e.ArrayBecameReady e.Unaffected) busy caching true ≡ not b
+    by : (b : Bool) → array_busy_after (cond b (e.ArrayBecameReady fail) e.Unaffected) busy last true ≡ not b
     by true = refl
     by false = refl
 
-failure_told : (past : List Item) (ce lun : ℕ) (fail : Bool) → tells_failure (Rdy ce lun fail ∷ past) ce lun ≡ fail
-failure_told past ce lun fail =
+told_there : (ce lun : ℕ) (fail : Bool) → (ce == ce && lun == lun && fail) ≡ fail
+told_there ce lun fail =
     ap (λ (b : Bool). (b && (lun == lun)) && fail) (eq-eqb ce ce refl)
     ∙ ap (λ (b : Bool). b && fail) (eq-eqb lun lun refl)
+
+failure_told : (past : List Item) (ce lun : ℕ) (fail : Failures) → tells_failure (Rdy ce lun fail ∷ past) ce lun ≡ fail.last
+failure_told past ce lun fail = told_there ce lun fail.last
+
+array_failure_told : (past : List Item) (ce lun : ℕ) (fail : Bool) → tells_failure (Ard ce lun fail ∷ past) ce lun ≡ fail
+array_failure_told past ce lun fail = told_there ce lun fail
 
 -- ---- 2. where its lines stand
 
@@ -249,10 +256,14 @@ module _ (g : Parts) (targets : ℕ) (items : List Item) (next : Item) (first : 
     array = λ unseen high.
         let code = busy_code g.luns targets ce lun + 1 in
         held_after 1 code (omega arith) refl
-        ∙ ap (λ (b : Bool). bit (array_busy_after (effect_on g d.past next lun_there) (lun_is_busy g d.past lun_there) (is_caching g d.past lun_there) b)) (bit_back (has_busy_array g d.past ce lun) (sym (held_before 1 code (omega arith) refl) ∙ high))
-        ∙ ap bit (array_ends g d.past next lun_there (lun_is_busy g d.past lun_there) (is_caching g d.past lun_there) unseen);
+        ∙ ap (λ (b : Bool). bit (array_busy_after (effect_on g d.past next lun_there) (lun_is_busy g d.past lun_there) (closer g d.past lun_there) b)) (bit_back (has_busy_array g d.past ce lun) (sym (held_before 1 code (omega arith) refl) ∙ high))
+        ∙ ap bit (array_ends g d.past next lun_there (lun_is_busy g d.past lun_there) (closer g d.past lun_there) unseen);
     failure = λ fail is.
         held_after 2 (busy_code g.luns targets ce lun + 2) (omega arith) refl
         ∙ ap (λ (i : Item). bit (tells_failure (i ∷ d.past) ce lun)) is
         ∙ ap bit (failure_told d.past ce lun fail);
+    array_failure = λ fail is.
+        held_after 2 (busy_code g.luns targets ce lun + 2) (omega arith) refl
+        ∙ ap (λ (i : Item). bit (tells_failure (i ∷ d.past) ce lun)) is
+        ∙ ap bit (array_failure_told d.past ce lun fail);
   }

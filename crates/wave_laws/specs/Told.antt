@@ -36,7 +36,7 @@ strobe_events g targets d (Cyc c) =
     frame_events (10 * d.items) (levels_at g targets d d.lines) (levels_at g targets d (set_up d.lines c))
     ++ frame_events (10 * d.items + 2) (levels_at g targets d (set_up d.lines c)) (levels_at g targets d (struck (set_up d.lines c) c))
 strobe_events g targets d (Rdy _ _ _) = []
-strobe_events g targets d (Ard _ _) = []
+strobe_events g targets d (Ard _ _ _) = []
 
 -- and its strobe rises, where the item does what it does
 abbrev pub item_events : Parts → ℕ → Drawing → Item → List Event

@@ -46,8 +46,8 @@ LIBRARIES: Dict[str, Dict[str, Tuple[Any, List[Any]]]] = {
     },
     "onfiseq_live_c": {
         "onfiseq_live_begin_sized": (u32, [_to(Live), size, u32, _to(Geometry), u8]),
-        "onfiseq_live_ready": (u32, [_to(Live), u8, u8, flag]),
-        "onfiseq_live_array_ready": (u32, [_to(Live), u8, u8]),
+        "onfiseq_live_ready": (u32, [_to(Live), u8, u8, u8]),
+        "onfiseq_live_array_ready": (u32, [_to(Live), u8, u8, flag]),
         "onfiseq_live_begin_target": (u32, [_to(Live), u8]),
         "onfiseq_job_begin": (Step, [_to(Live), u8, u8, u32, _text, size, size, _to(Job)]),
         "onfiseq_job_next": (Turn, [_to(Live), _to(Job), _text, size]),

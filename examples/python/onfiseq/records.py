@@ -73,11 +73,12 @@ class Look(ctypes.Structure):
     caching: bool
     register: int
     has_column: bool
+    programming: bool
     block: int
     page: int
     column: int
     queued: int
-    _fields_ = [("is_there", flag), ("latch", u8), ("busy", flag), ("array_busy", flag), ("caching", flag), ("register", u8), ("has_column", flag), ("block", u32)] + [
+    _fields_ = [("is_there", flag), ("latch", u8), ("busy", flag), ("array_busy", flag), ("caching", flag), ("register", u8), ("has_column", flag), ("programming", flag), ("block", u32)] + [
         (name, u64) for name in ("page", "column", "queued")
     ]
 

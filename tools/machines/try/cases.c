@@ -287,7 +287,7 @@ static void print_step(struct work *it, unsigned which, uint64_t *sum) {
 
 static void print_ready(uint64_t *sum) {
     uint8_t ce = (uint8_t)draw(3), lun = (uint8_t)draw(3), failed = (uint8_t)draw(2), of_array = (uint8_t)draw(2);
-    uint32_t rule = of_array ? onfiseq_live_array_ready(&live, ce, lun) : onfiseq_live_ready(&live, ce, lun, failed != 0);
+    uint32_t rule = of_array ? onfiseq_live_array_ready(&live, ce, lun, failed != 0) : onfiseq_live_ready(&live, ce, lun, failed);
     sum_number(sum, rule);
     printf(",[9,%u,%u,%u,%u,%lu]", ce, lun, failed, of_array, (unsigned long)rule);
 }

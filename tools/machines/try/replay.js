@@ -115,7 +115,7 @@ class Replay {
         this.same("step", [turn.letter, turn.number, step.letter, step.number], wanted);
     }
     ready(live, [, ce, lun, failed, ofArray, wanted], sum) {
-        const rule = ofArray ? this.lib.live_array_ready(live, ce, lun) : this.lib.live_ready(live, ce, lun, failed !== 0);
+        const rule = ofArray ? this.lib.live_array_ready(live, ce, lun, failed !== 0) : this.lib.live_ready(live, ce, lun, failed);
         sum.number(rule);
         this.same("ready", rule, wanted);
     }

@@ -76,6 +76,7 @@ pub struct Look {
     pub caching: bool,
     pub register: u8,
     pub has_column: bool,
+    pub programming: bool,
     pub block: u32,
     pub page: U64,
     pub column: U64,

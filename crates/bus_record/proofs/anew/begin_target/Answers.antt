@@ -1,9 +1,8 @@
-use Rattle.std.proofs.Common.{◌≡◌, ℕ, ◌<◌, ◌≤◌, arith, sym, ap, ◌∙◌, subst, refl, slice_set}
-use Rattle.nand_geometry.specs.declared.parts.Parts.{Parts}
-use Rattle.onfi_cycle.specs.State.{Follows, BusView, bus}
+use Rattle.std.proofs.Common.{◌≤◌, arith, sym, subst, refl}
+use Rattle.onfi_cycle.specs.State.{Follows, BusView}
 use Rattle.target_record.specs.Geometry.{parts_of}
-use Rattle.bus_record.specs.Anew.{KeepsOthers, begun, bus_begun, elsewhere}
-use Rattle.bus_record.specs.Bus.{bus_view, IsSound}
+use Rattle.bus_record.specs.Anew.{begun, elsewhere}
+use Rattle.bus_record.specs.Bus.{bus_view}
 use Rattle.bus_record.specs.Kept.{Kept}
 use Rattle.bus_record.proofs.Begun.{begun_follows, stays_beyond, never_beyond, changed_there, keeps_others, sound_anew}
 use Rattle.bus_record.proofs.Runs.{no_target}

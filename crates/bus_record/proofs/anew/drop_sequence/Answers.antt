@@ -1,7 +1,5 @@
-use Rattle.std.proofs.Common.{◌≡◌, ℕ, ◌<◌, ◌≤◌, arith, sym, ap, ◌∙◌, subst, refl, slice_set}
-use Rattle.onfi_cycle.specs.State.{bus_without, without_sequence}
-use Rattle.bus_record.specs.Anew.{KeepsOthers}
-use Rattle.bus_record.specs.Bus.{bus_view, IsSound}
+use Rattle.std.proofs.Common.{◌≤◌, arith}
+use Rattle.onfi_cycle.specs.State.{without_sequence}
 use Rattle.bus_record.specs.Kept.{Kept}
 use Rattle.bus_record.proofs.Begun.{stays_beyond, changed_there, keeps_others, sound_dropped}
 use Rattle.bus_record.proofs.anew.drop_sequence.Goals as goal

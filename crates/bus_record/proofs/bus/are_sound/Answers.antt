@@ -1,4 +1,4 @@
-use Rattle.std.proofs.Common.{◌≡◌, ◌≤◌, length, arith, rules}
+use Rattle.std.proofs.Common.{◌≡◌, length, arith, rules}
 use Rattle.bus_record.proofs.Sound.{sound_is}
 use Rattle.bus_record.proofs.bus.are_sound.Goals as goal
 

@@ -1,10 +1,10 @@
-use Rattle.std.proofs.Common.{refl, ◌≡◌, None, sym, ap, ◌∙◌, Some, Option, subst}
+use Rattle.std.proofs.Common.{refl, ◌≡◌, None, sym, ap, ◌∙◌, Option, subst}
 use Rattle.onfi_cycle.specs.State.{BusView, judged, bus_after}
 use Rattle.bus_record.specs.Channel.{IsSameChannel}
 use Rattle.onfi_cycle.specs.declared.forbidden.Forbidden.{Forbidden}
 use Rattle.bus_record.specs.Rule.{by_option}
 use Rattle.bus_record.specs.Kept.{Kept}
-use Rattle.bus_record.specs.Bus.{bus_view, bus_pushed}
+use Rattle.bus_record.specs.Bus.{bus_view}
 use Rattle.bus_record.proofs.Pushed.{there_whole, sound_after, judged_there, state_there, pushed_keeps}
 use Rattle.bus_record.proofs.Runs.{no_target}
 use Rattle.onfi_cycle.specs.Sequence.{target_of as target_of_item}

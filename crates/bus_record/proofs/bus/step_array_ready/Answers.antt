@@ -8,7 +8,7 @@ use Rattle.bus_record.proofs.bus.step_array_ready.Goals as goal
 
 pub returns : goal.returns
 returns c =
-    is_step (parts_of c.args.geometry.now) c.requires.limits c.args.targets c.args.kept.now _ (Ard c.args.ce c.args.lun) (record { count = c.requires.numbers.count; luns = c.end_array_work_of.ensures.numbers }) c.requires.fits
+    is_step (parts_of c.args.geometry.now) c.requires.limits c.args.targets c.args.kept.now _ (Ard c.args.ce c.args.lun c.args.fail) (record { count = c.requires.numbers.count; luns = c.end_array_work_of.ensures.numbers }) c.requires.fits
     (sym c.judge_there.ensures ∙ c.in_default.is)
-    (target_array_readied (parts_of c.args.geometry.now) c.args.ce c.args.lun (tail_of c.args.kept.now) (target_of c.args.kept.now).luns _ (target_of c.args.kept.now) c.end_array_work_of.ensures.value refl)
+    (target_array_readied (parts_of c.args.geometry.now) c.args.ce c.args.lun c.args.fail (tail_of c.args.kept.now) (target_of c.args.kept.now).luns _ (target_of c.args.kept.now) c.end_array_work_of.ensures.value refl)
     c.requires.fits.tail.column

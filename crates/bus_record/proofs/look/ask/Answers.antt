@@ -1,9 +1,8 @@
 use Rattle.std.proofs.Common.{sym, ap, ◌∙◌, Option}
-use Rattle.onfi_cycle.specs.State.{judged}
 use Rattle.onfi_cycle.specs.declared.forbidden.Forbidden.{Forbidden}
 use Rattle.bus_record.specs.Rule.{by_option}
 use Rattle.bus_record.specs.Kept.{Kept}
-use Rattle.bus_record.specs.Bus.{rule_code, bus_view}
+use Rattle.bus_record.specs.Bus.{rule_code}
 use Rattle.bus_record.proofs.Pushed.{there_whole, judged_there}
 use Rattle.bus_record.proofs.Runs.{no_target}
 use Rattle.onfi_cycle.specs.Sequence.{target_of as target_of_item}

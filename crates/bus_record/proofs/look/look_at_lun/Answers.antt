@@ -1,4 +1,4 @@
-use Rattle.std.proofs.Common.{◌≡◌, ◌≤◌, Option, length, sym, ap, ◌∙◌, arith}
+use Rattle.std.proofs.Common.{◌≤◌, Option, length, sym, ap, ◌∙◌, arith}
 use Rattle.onfi_cycle.specs.Look.{look_on}
 use Rattle.onfi_cycle.specs.State.{TargetView}
 use Rattle.target_record.specs.Record.{target_of}

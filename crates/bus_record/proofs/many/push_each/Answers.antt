@@ -6,7 +6,7 @@ use Rattle.bus_record.proofs.many.push_each.Goals as goal
 
 pub returns-then-answer-ne0-clause-went : goal.returns-then-answer-ne0-clause-went
 returns-then-answer-ne0-clause-went c =
-    sym (c.items.invariant.so_far ∙ one_stops (bus_view c.items.bus) (bus_view c.push_numbers-answer.new.bus)
+    sym (c.items.invariant.so_far ∙ one_stops c.args.wide (bus_view c.items.bus) (bus_view c.push_numbers-answer.new.bus)
     c.items.rest.now c.in-Some.first.now c.in-Some.behind.now c.items.at c.push_numbers-answer.result c.in-Some.ensures.cases.0 c.push_numbers-answer.ensures.answer
     c.push_numbers-answer.ensures.state c.if-answer-ne0.true)
 
@@ -16,7 +16,7 @@ items-preserved c =
     let counted = c.items.invariant.counted in
     record {
       counted = omega arith;
-      so_far = c.items.invariant.so_far ∙ one_goes (bus_view c.items.bus) (bus_view c.push_numbers-answer.new.bus)
+      so_far = c.items.invariant.so_far ∙ one_goes c.args.wide (bus_view c.items.bus) (bus_view c.push_numbers-answer.new.bus)
           c.items.rest.now c.in-Some.first.now c.in-Some.behind.now c.items.at c.push_numbers-answer.result c.in-Some.ensures.cases.0 c.push_numbers-answer.ensures.answer
           c.push_numbers-answer.ensures.state c.if-answer-ne0.false;
       magic = c.push_numbers-answer.ensures.magic ∙ c.items.invariant.magic;
@@ -26,7 +26,7 @@ items-preserved c =
 
 pub returns-clause-went : goal.returns-clause-went
 returns-clause-went c =
-    sym (c.items.invariant.so_far ∙ all_end (bus_view c.items.bus) c.items.rest.now c.items.at (is_empty c.items.rest.now c.in_default.ensures.cases))
+    sym (c.items.invariant.so_far ∙ all_end c.args.wide (bus_view c.items.bus) c.items.rest.now c.items.at (is_empty c.items.rest.now c.in_default.ensures.cases))
 
 pub returns-then-answer-ne0-clause-magic : goal.returns-then-answer-ne0-clause-magic
 returns-then-answer-ne0-clause-magic c = c.push_numbers-answer.ensures.magic ∙ c.items.invariant.magic

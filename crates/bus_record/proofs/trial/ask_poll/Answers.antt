@@ -1,10 +1,8 @@
-use Rattle.std.proofs.Common.{◌≡◌, ◌<◌, sym, ap, ◌∙◌, arith}
+use Rattle.std.proofs.Common.{◌≡◌, ◌<◌, sym, ◌∙◌, arith}
 use Rattle.onfi_cycle.specs.declared.item.Kind.TheVariants.{Cmd}
 use Rattle.onfi_cycle.specs.Channel.{cycle}
 use Rattle.target_record.specs.Geometry.{parts_of}
 use Rattle.bus_record.specs.Kept.{Kept}
-use Rattle.bus_record.specs.Trial.{judged_poll}
-use Rattle.bus_record.specs.Bus.{bus_view}
 use Rattle.bus_record.proofs.Asked.{poll_asks}
 use Rattle.bus_record.proofs.Pushed.{places_of, fits_there, limits_there, judged_there}
 use Rattle.bus_record.proofs.trial.ask_poll.Goals as goal

@@ -1,4 +1,4 @@
-use Rattle.std.proofs.Common.{ℕ, sym, ap, subst, ◌∙◌}
+use Rattle.std.proofs.Common.{ℕ, sym, ap, subst}
 use Rattle.onfi_cycle.specs.State.{BusView}
 use Rattle.bus_record.specs.Bus.{IsSound, bus_view}
 use Rattle.bus_record.specs.Channel.{IsSameChannel}

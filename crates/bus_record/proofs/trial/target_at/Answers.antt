@@ -1,4 +1,4 @@
-use Rattle.std.proofs.Common.{◌≡◌, ℕ, ◌<◌, get_or, ap, subst, arith}
+use Rattle.std.proofs.Common.{◌≡◌, ℕ, ◌<◌, get_or, subst, arith}
 use Rattle.bus_record.specs.Bus.{bus_view}
 use Rattle.bus_record.specs.Kept.{Kept}
 use Rattle.bus_record.specs.Trial.{IsTried, tried_view}

@@ -1,9 +1,5 @@
-use Rattle.std.proofs.Common.{◌≡◌, ◌<◌, sym, ap, subst, ◌∙◌, arith}
-use Rattle.onfi_cycle.specs.declared.item.Kind.TheVariants.{Din}
-use Rattle.onfi_cycle.specs.Runs.{after_run}
-use Rattle.onfi_cycle.specs.Inputs.{judged_inputs}
+use Rattle.std.proofs.Common.{◌<◌, arith}
 use Rattle.bus_record.specs.Kept.{Kept}
-use Rattle.bus_record.specs.Trial.{IsTried, tried_view}
 use Rattle.bus_record.proofs.Tried.{tried_limits, tried_numbers, tried_fits, tried_inputs_rule, tried_inputs_state, tried_inputs_sound}
 use Rattle.bus_record.proofs.trial.try_inputs.Goals as goal
 

@@ -1,9 +1,7 @@
-use Rattle.std.proofs.Common.{◌≡◌, Some, refl, sym, ap, subst, ◌∙◌}
+use Rattle.std.proofs.Common.{refl}
 use Rattle.onfi_cycle.specs.Sequence.{target_of as target_of_item}
-use Rattle.onfi_cycle.specs.State.{judged}
-use Rattle.bus_record.specs.Bus.{bus_pushed}
 use Rattle.bus_record.specs.Kept.{Kept}
-use Rattle.bus_record.specs.Trial.{IsTried, tried_view}
+use Rattle.bus_record.specs.Trial.{tried_view}
 use Rattle.bus_record.proofs.Tried.{tried_limits, tried_numbers, tried_fits, tried_rule, tried_state, tried_after, tried_sound}
 use Rattle.bus_record.proofs.trial.try_item.Goals as goal
 

@@ -1,9 +1,5 @@
-use Rattle.std.proofs.Common.{◌≡◌, ◌<◌, sym, ap, subst, ◌∙◌, arith}
-use Rattle.onfi_cycle.specs.declared.item.Kind.TheVariants.{Dout}
-use Rattle.onfi_cycle.specs.Runs.{after_run}
-use Rattle.onfi_cycle.specs.Outputs.{judged_outputs}
+use Rattle.std.proofs.Common.{◌<◌, arith}
 use Rattle.bus_record.specs.Kept.{Kept}
-use Rattle.bus_record.specs.Trial.{IsTried, tried_view}
 use Rattle.bus_record.proofs.Tried.{tried_limits, tried_numbers, tried_fits, tried_outputs_rule, tried_outputs_state, tried_outputs_sound, tried_few}
 use Rattle.bus_record.proofs.trial.try_outputs.Goals as goal
 

@@ -1,10 +1,8 @@
-use Rattle.std.proofs.Common.{◌≡◌, Some, refl, sym, ap, subst, ◌∙◌}
+use Rattle.std.proofs.Common.{refl}
 use Rattle.onfi_cycle.specs.declared.item.Kind.TheVariants.{Cmd}
 use Rattle.onfi_cycle.specs.Channel.{cycle}
-use Rattle.onfi_cycle.specs.State.{judged}
-use Rattle.bus_record.specs.Bus.{bus_pushed}
 use Rattle.bus_record.specs.Kept.{Kept}
-use Rattle.bus_record.specs.Trial.{IsTried, tried_view}
+use Rattle.bus_record.specs.Trial.{tried_view}
 use Rattle.bus_record.proofs.Tried.{tried_limits, tried_numbers, tried_fits, tried_rule, tried_state, tried_after, tried_sound}
 use Rattle.bus_record.proofs.trial.try_read_status.Goals as goal
 

@@ -36,9 +36,9 @@ returns-in-Ok-clause-differs g c = λ fault item is.
 pub returns-in-Err-clause-refused : goal.returns-in-Err-clause-refused
 returns-in-Err-clause-refused g c = λ refusal is.
     let k = c.end_stopped-ending.ensures.refused refusal (same_is c.end_stopped-ending.result (ending.Exit (exit.Refused refusal)) is) in
-    (refused (InputIsRefused (g.F.Files.store c.args.files.now) c.args.request.check c.args.request.images.now) (FileIsRefused (g.F.Files.store c.args.files.now) c.args.request.check.form c.args.request.check.input.now) c.in-Err.stop refusal c.in-Err.ensures.err k.0, k.1)
+    (refused (InputIsRefused (g.F.Files.store c.args.files.now) c.args.request.check c.args.request.images.now) (FileIsRefused (g.F.Files.store c.args.files.now) c.args.request.check.form c.args.request.check.profile c.args.request.check.input.now) c.in-Err.stop refusal c.in-Err.ensures.err k.0, k.1)
 
 pub returns-in-Err-clause-faulty : goal.returns-in-Err-clause-faulty
 returns-in-Err-clause-faulty g c = λ fault is.
     let k = c.end_stopped-ending.ensures.faulty fault (same_is c.end_stopped-ending.result (ending.Faulty fault) is) in
-    (fault_line fault, inl (wrong (InputIsRefused (g.F.Files.store c.args.files.now) c.args.request.check c.args.request.images.now) (FileIsRefused (g.F.Files.store c.args.files.now) c.args.request.check.form c.args.request.check.input.now) c.in-Err.stop fault c.in-Err.ensures.err k.0, refl), k.1)
+    (fault_line fault, inl (wrong (InputIsRefused (g.F.Files.store c.args.files.now) c.args.request.check c.args.request.images.now) (FileIsRefused (g.F.Files.store c.args.files.now) c.args.request.check.form c.args.request.check.profile c.args.request.check.input.now) c.in-Err.stop fault c.in-Err.ensures.err k.0, refl), k.1)

@@ -9,12 +9,12 @@ use Rattle.data_commands.proofs.image_writing.write_image.Goals as goal
 pub returns-clause-refused : goal.returns-clause-refused
 returns-clause-refused g c = λ refusal is.
     let k = c.end_stopped.ensures.refused refusal is in
-    (refused (ImageRefuses (g.F.Files.store c.args.files.now) c.args.request) (FileIsRefused (g.F.Files.store c.args.files.now) c.args.request.form c.args.request.input.now) c.in-Err.stop refusal c.in-Err.ensures.err k.0, c.in-Err.ensures.stays, k.1)
+    (refused (ImageRefuses (g.F.Files.store c.args.files.now) c.args.request) (FileIsRefused (g.F.Files.store c.args.files.now) c.args.request.form c.args.request.profile c.args.request.input.now) c.in-Err.stop refusal c.in-Err.ensures.err k.0, c.in-Err.ensures.stays, k.1)
 
 pub returns-clause-faulty : goal.returns-clause-faulty
 returns-clause-faulty g c = λ fault is.
     let k = c.end_stopped.ensures.faulty fault is in
-    (fault_line fault, inl (wrong (ImageRefuses (g.F.Files.store c.args.files.now) c.args.request) (FileIsRefused (g.F.Files.store c.args.files.now) c.args.request.form c.args.request.input.now) c.in-Err.stop fault c.in-Err.ensures.err k.0, refl), c.in-Err.ensures.stays, k.1)
+    (fault_line fault, inl (wrong (ImageRefuses (g.F.Files.store c.args.files.now) c.args.request) (FileIsRefused (g.F.Files.store c.args.files.now) c.args.request.form c.args.request.profile c.args.request.input.now) c.in-Err.stop fault c.in-Err.ensures.err k.0, refl), c.in-Err.ensures.stays, k.1)
 
 pub returns-in-Ok-clause-faulty : goal.returns-in-Ok-clause-faulty
 returns-in-Ok-clause-faulty g c = λ fault is.

@@ -1,4 +1,3 @@
-use Rattle.onfi_cycle.specs.declared.page_address.PageAddress.{PageAddress}
 use Rattle.onfi_cycle.proofs.HeldPages.{first_held, holds_others}
 use Rattle.onfi_cycle.proofs.held.+hold_others.Goals as goal
 

@@ -4,7 +4,7 @@ use Rattle.onfi_cycle.proofs.Applied.{one_set, one_beyond}
 use Rattle.onfi_cycle.proofs.target_state.end_array_work.Goals as goal
 
 pub returns-then-place-luns : goal.returns-then-place-luns
-returns-then-place-luns c = one_set ArrayBecameReady c.args.luns.now c.args.number c.from-place.result c.index-luns-place.result _ (omega arith) c.become_array_ready.ensures
+returns-then-place-luns c = one_set (ArrayBecameReady c.args.fail) c.args.luns.now c.args.number c.from-place.result c.index-luns-place.result _ (omega arith) c.become_array_ready.ensures
 
 pub returns-else-place-luns : goal.returns-else-place-luns
-returns-else-place-luns c = one_beyond ArrayBecameReady c.args.luns.now c.args.number (omega arith)
+returns-else-place-luns c = one_beyond (ArrayBecameReady c.args.fail) c.args.luns.now c.args.number (omega arith)

@@ -27,7 +27,7 @@ finish_array_in-requires g c =
     let can = c.requires.permitted in
     let l : Lun = record { ce = c.in-Ard.ce; lun = c.in-Ard.lun } in
     let luns = ap (λ (g : Parts). g.luns) (c.parts-luns.ensures.value ∙ c.geometry.ensures) in
-    let there = array_ready_there state.geometry (length state.targets) can.past l (ap (broken state.geometry (length state.targets) can.past) (sym c.in-Ard.is) ∙ can.permitted) in
+    let there = array_ready_there state.geometry (length state.targets) can.past l c.in-Ard.fail (ap (broken state.geometry (length state.targets) can.past) (sym c.in-Ard.is) ∙ can.permitted) in
     record {
       inside =
           subst (λ (n : ℕ). n < length c.args.dies.now) (sym (c.place-in-Ard.ensures ∙ ap (λ (n : ℕ). l.ce * n + l.lun) luns))
@@ -52,6 +52,6 @@ returns-in-Ard g c = λ opened past f h.
     let luns = ap (λ (g : Parts). g.luns) (c.parts-luns.ensures.value ∙ c.geometry.ensures) in
     let done = c.finish_array_in.ensures in
     subst (λ (i : Item). StandFor (channel_on state.geometry (length state.targets) opened) (i ∷ past) c.finish_array_in.new.dies) (sym c.in-Ard.is)
-    (subst (StandFor (channel_on state.geometry (length state.targets) opened) (Ard l.ce l.lun ∷ past)) (sym done.4)
-    (stands_array_ready state opened c.args.dies.now past l _ done.0 done.1 f (ap (broken state.geometry (length state.targets) past) (sym c.in-Ard.is) ∙ h)
+    (subst (StandFor (channel_on state.geometry (length state.targets) opened) (Ard l.ce l.lun c.in-Ard.fail ∷ past)) (sym done.4)
+    (stands_array_ready state opened c.args.dies.now past l c.in-Ard.fail _ done.0 done.1 f (ap (broken state.geometry (length state.targets) past) (sym c.in-Ard.is) ∙ h)
     (c.facts_fit.ensures.past state.geometry (length state.targets) past f.follows) (c.place-in-Ard.ensures ∙ ap (λ (n : ℕ). l.ce * n + l.lun) luns) done.2 done.3))

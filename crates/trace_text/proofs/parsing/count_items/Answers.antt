@@ -12,14 +12,14 @@ lines-preserved c =
     record {
       counted = omega arith;
       utf8 = text;
-      so_far = (before.0 ++ c.in-Ok-Some.field-0-0-0 ∷ [], goes_on (c.lines.count + 1) c.lines.rest.now c.args.text.now c.in-Ok-Some.after.now before.0 c.in-Ok-Some.field-0-0-0 first before.1);
+      so_far = (before.0 ++ c.in-Ok-Some.field-0-0-0 ∷ [], goes_on c.args.profile (c.lines.count + 1) c.lines.rest.now c.args.text.now c.in-Ok-Some.after.now before.0 c.in-Ok-Some.field-0-0-0 first before.1);
     }
 
 pub returns-in-Ok-None-clause-ok : goal.returns-in-Ok-None-clause-ok
 returns-in-Ok-None-clause-ok c =
     let before = c.lines.invariant.so_far in
     let empty = rw c.in-Ok-None.field-0-is at c.in-Ok-None.ensures.ok in
-    ap is_ok (is_done (c.lines.count + 1) c.lines.rest.now c.args.text.now before.0 empty before.1)
+    ap is_ok (is_done c.args.profile (c.lines.count + 1) c.lines.rest.now c.args.text.now before.0 empty before.1)
 
 pub lines-preserved-in-Some : goal.lines-preserved-in-Some
 lines-preserved-in-Some c =
@@ -29,5 +29,5 @@ lines-preserved-in-Some c =
     record {
       counted = omega arith;
       utf8 = c.in-Some.ensures.utf8;
-      so_far = (before.0 ++ c.in-Some.field-0-0 ∷ [], goes_on (c.lines.count + 1) c.lines.rest.now c.args.text.now c.in-Some.after.now before.0 c.in-Some.field-0-0 first before.1);
+      so_far = (before.0 ++ c.in-Some.field-0-0 ∷ [], goes_on c.args.profile (c.lines.count + 1) c.lines.rest.now c.args.text.now c.in-Some.after.now before.0 c.in-Some.field-0-0 first before.1);
     }

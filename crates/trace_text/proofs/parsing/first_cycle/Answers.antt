@@ -13,5 +13,5 @@ range_from-requires c =
 pub returns-clause-some : goal.returns-clause-some
 returns-clause-some c =
     let whole = c.as_bytes.ensures.value in
-    begins_spaced c.args.text.now c.range_from.result.now c.in_ok-item.item (rw whole at c.in-len7-up.len_at_least) c.range_from.ensures.value
-    (rw whole at c.if-before-ne32.false) (rw whole at c.if-after-ne32.false) (rw whole at c.if-end-ne10.false) (rw whole at c.in_ok-item.ensures)
+    begins_spaced c.args.profile c.args.text.now c.range_from.result.now c.in_ok-item.item (rw whole at c.in-len7-up.len_at_least) c.range_from.ensures.value
+    (rw whole at c.if-before-ne32.false) (rw whole at c.if-after-ne32.false) (rw whole at c.if-end-ne10.false) (rw whole at c.in_ok-item.ensures c.args.profile)

@@ -10,16 +10,16 @@ loop-item-preserved g c = record {
 }
 
 pub returns-clause-read_back : goal.returns-clause-read_back
-returns-clause-read_back g c =
+returns-clause-read_back g c p known =
     let past : length c.args.items.now ≤ c.loop-item.item-index = omega arith in
-    (timed_whole c.loop-item.text.items c.args.items.now c.loop-item.item-index past c.requires c.loop-item.invariant.fits c.loop-item.invariant.so_far).0
+    ((timed_whole c.loop-item.text.items c.args.items.now c.loop-item.item-index past c.requires c.loop-item.invariant.fits c.loop-item.invariant.so_far).0 p known).0
 
 pub returns-clause-told : goal.returns-clause-told
-returns-clause-told g c =
+returns-clause-told g c p known =
     let past : length c.args.items.now ≤ c.loop-item.item-index = omega arith in
-    (timed_whole c.loop-item.text.items c.args.items.now c.loop-item.item-index past c.requires c.loop-item.invariant.fits c.loop-item.invariant.so_far).1
+    ((timed_whole c.loop-item.text.items c.args.items.now c.loop-item.item-index past c.requires c.loop-item.invariant.fits c.loop-item.invariant.so_far).0 p known).1
 
 pub returns-clause-utf8 : goal.returns-clause-utf8
 returns-clause-utf8 g c =
     let past : length c.args.items.now ≤ c.loop-item.item-index = omega arith in
-    (timed_whole c.loop-item.text.items c.args.items.now c.loop-item.item-index past c.requires c.loop-item.invariant.fits c.loop-item.invariant.so_far).2
+    (timed_whole c.loop-item.text.items c.args.items.now c.loop-item.item-index past c.requires c.loop-item.invariant.fits c.loop-item.invariant.so_far).1

@@ -6,7 +6,7 @@ use Rattle.trace_text.proofs.recorded_reading.items_of.Given as goal
 abbrev pub invariant-items : goal.invariant-items
 invariant-items g l = record {
   room : l.lines.line + length l.lines.rest.now < 2 ^ 64;
-  same : collecting l.items.items (told_left l.lines) ≡ recorded l.text;
+  same : collecting l.items.items (told_left l.lines) ≡ recorded l.fn.profile l.text;
 }
 
 abbrev pub decreases-items : goal.decreases-items

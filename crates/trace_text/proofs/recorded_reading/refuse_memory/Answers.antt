@@ -9,6 +9,6 @@ use Rattle.trace_text.proofs.recorded_reading.refuse_memory.Goals as goal
 pub returns : goal.returns
 returns c =
     let text = c.args.text.now in
-    let is : IfSome (first_fault (told text)) IsFault = subst (λ o. IfSome o IsFault) c.first_fault.ensures.first c.first_fault.ensures.fault in
-    let same : c.unwrap_or.result ≡ unwrap_or (first_fault (told text)) OutOfMemory = c.unwrap_or.ensures ∙ ap (λ o. unwrap_or o OutOfMemory) c.first_fault.ensures.first in
-    subst (λ r. IsRefusalOf r (recorded text)) (sym same) (refused [] (told text) is)
+    let is : IfSome (first_fault (told c.args.profile text)) IsFault = subst (λ o. IfSome o IsFault) c.first_fault.ensures.first c.first_fault.ensures.fault in
+    let same : c.unwrap_or.result ≡ unwrap_or (first_fault (told c.args.profile text)) OutOfMemory = c.unwrap_or.ensures ∙ ap (λ o. unwrap_or o OutOfMemory) c.first_fault.ensures.first in
+    subst (λ r. IsRefusalOf r (recorded c.args.profile text)) (sym same) (refused [] (told c.args.profile text) is)

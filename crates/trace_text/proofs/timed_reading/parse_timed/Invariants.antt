@@ -6,7 +6,7 @@ use Rattle.trace_text.proofs.timed_reading.parse_timed.Given as goal
 abbrev pub invariant-items : goal.invariant-items
 invariant-items g l = record {
   room : l.lines.line + length l.lines.rest.now < 2 ^ 64;
-  same : gathering l.items.items (told_left l.lines) ≡ recorded_items l.text;
+  same : gathering l.items.items (told_left l.lines) ≡ recorded_items l.fn.profile l.text;
 }
 
 abbrev pub decreases-items : goal.decreases-items

@@ -10,5 +10,5 @@ returns-clause-restores g c =
     let i = c.self.inside in
     on_both c.image.result _ _ _ c.image.ensures.value c.image.ensures.order (λ v is order.
     subst (λ (d : Die). Restores v.items d) c.self.view_is
-    (restores (die_of i.geometry i.pages i.planes.items i.activity) v.items is c.self.invariant.die.limits
+    (restores (die_of i.geometry i.pages i.planes.items i.array_planes.items i.activity) v.items is c.self.invariant.die.limits
     (record { inside = c.self.invariant.die.rows.inside; lengths = c.self.invariant.die.rows.lengths }) order))

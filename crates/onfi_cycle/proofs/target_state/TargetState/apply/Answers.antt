@@ -22,8 +22,8 @@ returns-in-Rdy-clause-value c =
 
 pub returns-in-Ard-clause-value : goal.returns-in-Ard-clause-value
 returns-in-Ard-clause-value c =
-    target_array_readied c.args.geometry.now c.in-Ard.ce c.in-Ard.lun c.self-in-Ard.inside.tail c.self-in-Ard.inside.luns.items _ c.args.self.now
+    target_array_readied c.args.geometry.now c.in-Ard.ce c.in-Ard.lun c.in-Ard.fail c.self-in-Ard.inside.tail c.self-in-Ard.inside.luns.items _ c.args.self.now
     (refilled (length c.self-in-Ard.inside.luns.items) c.self-in-Ard.inside.luns.items c.end_array_work.new.luns (c.end_array_work.auto.luns ∙ ap length c.as_mut_slice-in-Ard.ensures.value) refl ∙
-    (c.end_array_work.ensures ∙ ap (one_after ArrayBecameReady c.in-Ard.lun) c.as_mut_slice-in-Ard.ensures.value))
+    (c.end_array_work.ensures ∙ ap (one_after (ArrayBecameReady c.in-Ard.fail) c.in-Ard.lun) c.as_mut_slice-in-Ard.ensures.value))
     c.self-in-Ard.view_is ∙
     ap (λ (i : Item). target_after c.args.geometry.now i c.args.self.now) (sym c.in-Ard.is)

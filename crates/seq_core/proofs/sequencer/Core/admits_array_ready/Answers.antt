@@ -9,5 +9,5 @@ use Rattle.seq_core.proofs.sequencer.Core.admits_array_ready.Goals as goal
 
 pub returns : goal.returns
 returns g c =
-    subst (λ (x : CoreView). IsEvent x (ArrayReady c.args.lun) (ToArrayReady c.is_none.result) (with_item x (Ard c.args.lun.ce c.args.lun.lun) c.is_none.result)) c.self.view_is
-    (array_ready_admitted c.self.inside.bus c.self.inside.slots.items c.self.inside.holder c.args.lun c.judge.result c.is_none.result c.self.invariant (c.judge.ensures.past _ _ _ c.state.ensures) c.is_none.ensures)
+    subst (λ (x : CoreView). IsEvent x (ArrayReady c.args.lun c.args.fail) (ToArrayReady c.is_none.result) (with_item x (Ard c.args.lun.ce c.args.lun.lun c.args.fail) c.is_none.result)) c.self.view_is
+    (array_ready_admitted c.self.inside.bus c.self.inside.slots.items c.self.inside.holder c.args.lun c.args.fail c.judge.result c.is_none.result c.self.invariant (c.judge.ensures.past _ _ _ c.state.ensures) c.is_none.ensures)

@@ -9,8 +9,8 @@ use Rattle.seq_core.proofs.sequencer.Core.array_ready.Goals as goal
 
 pub returns-clause-came : goal.returns-clause-came
 returns-clause-came g c =
-    subst (λ (x : CoreView). IsEvent x (ArrayReady c.args.lun) (ToArrayReady c.array_ready.result) (view_of c.array_ready.new.self c.self.inside.slots.items c.self.inside.holder)) c.self.view_is
-    (array_ready_now c.self.inside.bus c.array_ready.new.self c.self.inside.slots.items c.self.inside.holder c.args.lun c.array_ready.result c.self.invariant c.array_ready.ensures.came c.array_ready.ensures.yes c.array_ready.ensures.no)
+    subst (λ (x : CoreView). IsEvent x (ArrayReady c.args.lun c.args.fail) (ToArrayReady c.array_ready.result) (view_of c.array_ready.new.self c.self.inside.slots.items c.self.inside.holder)) c.self.view_is
+    (array_ready_now c.self.inside.bus c.array_ready.new.self c.self.inside.slots.items c.self.inside.holder c.args.lun c.args.fail c.array_ready.result c.self.invariant c.array_ready.ensures.came c.array_ready.ensures.yes c.array_ready.ensures.no)
 
 pub invariant_of-self : goal.invariant_of-self
 invariant_of-self g c = is_core_after c.args.self.now _ _ _ (subst IsCore c.self.view_is c.self.invariant) (returns-clause-came g c)
