@@ -184,15 +184,18 @@ fn is_short(alloc: Global, run: &Run, size: usize) -> Result<bool, Fail> {
     }
 }
 
+// How many heaps a file runs over, each 16 bytes larger than the one before.
+const HEAPS: usize = 400;
+
 // Runs a file over heaps of all sizes: it is out of memory first, and in the end comes to what it should. Whether both were seen.
 fn over_heaps(alloc: Global, run: &Run) -> Result<bool, Fail> {
     let mut refused_at: usize = 0;
-    for size in 0..200usize {
+    for size in 0..HEAPS {
         if is_short(alloc, run, 16 * size)? {
             refused_at = size + 1;
         }
     }
-    Ok(refused_at > 0 && refused_at < 200)
+    Ok(refused_at > 0 && refused_at < HEAPS)
 }
 
 const SHORT_REFUSAL: Run = Run {

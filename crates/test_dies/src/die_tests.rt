@@ -43,11 +43,20 @@ fn row_of(work: Work) -> Option<PageAddress>
         Work::Read(at)
         | Work::Copyback { page: at, .. }
         | Work::Program(at)
+        | Work::CacheProgram(at)
         | Work::Erase(at)
         | Work::Queue(Queued::Erase(at))
         | Work::Queue(Queued::Program(at))
         | Work::Queue(Queued::Read(at)) => Some(at),
-        _ => None,
+        Work::Identifier
+        | Work::Parameters
+        | Work::Identity { .. }
+        | Work::UniqueId
+        | Work::Features(_)
+        | Work::SetFeatures(_)
+        | Work::Reset
+        | Work::Cache(_)
+        | Work::CacheEnd => None,
     }
 }
 
