@@ -61,7 +61,7 @@ fn judge_on(geometry: &Geometry, targets: &[TargetState], item: Item) -> Option<
         Some(target) => judge(
             geometry,
             targets.len() as u8,
-            target.tail,
+            &target.tail,
             target.luns.as_slice(),
             item,
         ),

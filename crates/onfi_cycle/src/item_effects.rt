@@ -66,8 +66,8 @@ fn status_effect(geometry: &Geometry) -> Effect
 }
 
 /// What the closer of a row does to a LUN that its tail doesn't name.
-fn other_effect(geometry: &Geometry, tail: TailFacts, command: Command) -> Effect
-    ensures value { result ≡ other_effect geometry.now tail command }
+fn other_effect(geometry: &Geometry, tail: &TailFacts, command: Command) -> Effect
+    ensures value { result ≡ other_effect geometry.now tail.now command }
     ensures small { IsSmallEffect result }
 {
     if command.closes_row() && tail.wants_command(command) && is_shared(geometry) {
@@ -80,8 +80,8 @@ fn other_effect(geometry: &Geometry, tail: TailFacts, command: Command) -> Effec
 }
 
 /// What the closer of a row does to the LUN that its tail names.
-fn confirm_effect(geometry: &Geometry, tail: TailFacts, command: Command) -> Effect
-    ensures value { result ≡ confirm_effect geometry.now tail command }
+fn confirm_effect(geometry: &Geometry, tail: &TailFacts, command: Command) -> Effect
+    ensures value { result ≡ confirm_effect geometry.now tail.now command }
     ensures small { IsSmallEffect result }
 {
     let at = PageAddress::of_row(geometry, tail.named_row());
@@ -119,8 +119,8 @@ fn confirm_effect(geometry: &Geometry, tail: TailFacts, command: Command) -> Eff
 }
 
 /// What the closer of a row does to a LUN.
-fn row_effect(geometry: &Geometry, tail: TailFacts, command: Command, lun: u8) -> Effect
-    ensures value { result ≡ row_effect geometry.now tail command lun }
+fn row_effect(geometry: &Geometry, tail: &TailFacts, command: Command, lun: u8) -> Effect
+    ensures value { result ≡ row_effect geometry.now tail.now command lun }
     ensures small { IsSmallEffect result }
 {
     if tail.wants_command(command) && names_lun(geometry, tail.named_row(), lun) {
@@ -151,8 +151,8 @@ fn plane_of_row(geometry: &Geometry, row: u32) -> u32
 
 /// What E0h does behind 06h: the LUN of its row gives the page that it holds in the plane of the row, and the others of its target stop
 /// driving.
-fn plane_effect(geometry: &Geometry, tail: TailFacts, lun: u8) -> Effect
-    ensures value { result ≡ plane_effect geometry.now tail lun }
+fn plane_effect(geometry: &Geometry, tail: &TailFacts, lun: u8) -> Effect
+    ensures value { result ≡ plane_effect geometry.now tail.now lun }
     ensures small { IsSmallEffect result }
 {
     if names_lun(geometry, tail.named_row(), lun) {
@@ -167,8 +167,8 @@ fn plane_effect(geometry: &Geometry, tail: TailFacts, lun: u8) -> Effect
 }
 
 /// What E0h does else: the one driver gives its register from another column on.
-fn column_effect(tail: TailFacts, latch_alone: Latch) -> Effect
-    ensures value { result ≡ column_effect tail latch_alone }
+fn column_effect(tail: &TailFacts, latch_alone: Latch) -> Effect
+    ensures value { result ≡ column_effect tail.now latch_alone }
     ensures small { IsSmallEffect result }
 {
     if tail.wants_command(Command::ChangeReadColumnConfirm) && !latch_alone.is_off() {
@@ -184,12 +184,12 @@ fn column_effect(tail: TailFacts, latch_alone: Latch) -> Effect
 /// the one driver of its target, and else `Off`.
 fn command_effect(
     geometry: &Geometry,
-    tail: TailFacts,
+    tail: &TailFacts,
     latch_alone: Latch,
     command: Command,
     lun: u8,
 ) -> Effect
-    ensures value { result ≡ command_effect geometry.now tail latch_alone command lun }
+    ensures value { result ≡ command_effect geometry.now tail.now latch_alone command lun }
     ensures small { IsSmallEffect result }
 {
     let drives = !latch_alone.is_off();
@@ -210,8 +210,8 @@ fn command_effect(
 }
 
 /// What the third address of a Read Status Enhanced does to a LUN.
-fn selection_effect(geometry: &Geometry, tail: TailFacts, byte: u8, lun: u8) -> Effect
-    ensures value { result ≡ address_effect geometry.now tail byte Command.ReadStatusEnhanced 2 lun }
+fn selection_effect(geometry: &Geometry, tail: &TailFacts, byte: u8, lun: u8) -> Effect
+    ensures value { result ≡ address_effect geometry.now tail.now byte Command.ReadStatusEnhanced 2 lun }
     ensures small { IsSmallEffect result }
 {
     if names_lun(geometry, tail.row_with(byte), lun) {
@@ -261,8 +261,8 @@ fn id_effect(byte: u8) -> Effect
 }
 
 /// What an address does to a LUN of its target, after this tail.
-fn address_effect(geometry: &Geometry, tail: TailFacts, byte: u8, lun: u8) -> Effect
-    ensures value { result ≡ opening_address_effect geometry.now tail byte tail.opening lun }
+fn address_effect(geometry: &Geometry, tail: &TailFacts, byte: u8, lun: u8) -> Effect
+    ensures value { result ≡ opening_address_effect geometry.now tail.now byte tail.now.opening lun }
     ensures small { IsSmallEffect result }
 {
     let Some(opening) = tail.opening else {
@@ -293,15 +293,15 @@ fn address_effect(geometry: &Geometry, tail: TailFacts, byte: u8, lun: u8) -> Ef
 }
 
 /// The next input is the last one of a Set Features.
-pub(crate) fn ends_features(tail: TailFacts) -> bool
-    ensures { result ≡ ends_features tail }
+pub(crate) fn ends_features(tail: &TailFacts) -> bool
+    ensures { result ≡ ends_features tail.now }
 {
     tail.phase.takes_features() && tail.inputs == FEATURE_BYTES - 1
 }
 
 /// What an input does: the last one of a Set Features starts it.
-fn input_effect(geometry: &Geometry, tail: TailFacts, lun: u8) -> Effect
-    ensures value { result ≡ input_effect geometry.now tail lun }
+fn input_effect(geometry: &Geometry, tail: &TailFacts, lun: u8) -> Effect
+    ensures value { result ≡ input_effect geometry.now tail.now lun }
     ensures small { IsSmallEffect result }
 {
     if ends_features(tail) {
@@ -316,12 +316,12 @@ fn input_effect(geometry: &Geometry, tail: TailFacts, lun: u8) -> Effect
 /// one driver of its target, and else `Off`.
 pub fn cycle_effect(
     geometry: &Geometry,
-    tail: TailFacts,
+    tail: &TailFacts,
     latch_alone: Latch,
     cycle: TargetCycle,
     lun: u8,
 ) -> Effect
-    ensures value { result ≡ cycle_effect geometry.now tail latch_alone cycle lun }
+    ensures value { result ≡ cycle_effect geometry.now tail.now latch_alone cycle lun }
     ensures small { IsSmallEffect result }
 {
     match cycle {
@@ -342,12 +342,12 @@ pub fn cycle_effect(
 /// What an item does to a LUN, by the facts of the tail of that LUN's target. `latch_alone` is as of [`cycle_effect`].
 pub fn item_effect(
     geometry: &Geometry,
-    tail: TailFacts,
+    tail: &TailFacts,
     latch_alone: Latch,
     item: Item,
     lun: Lun,
 ) -> Effect
-    ensures value { result ≡ item_effect geometry.now tail latch_alone item lun }
+    ensures value { result ≡ item_effect geometry.now tail.now latch_alone item lun }
     ensures small { IsSmallEffect result }
 {
     match item {

@@ -1,4 +1,4 @@
-//! The rules F1 to F15, F17 and F18, and the judge that tries them in order, by the facts of one target.
+//! The rules F1 to F18, and the judge that tries them in order, by the facts of one target.
 ghost use Rattle.std.specs.Prelude.{◌≡◌, ◌+◌, ◌^◌, ◌<◌, ◌≤◌, length, true, false, not, slice_get};
 ghost use Rattle.std.specs.List.{list_all, list_any};
 ghost use Rattle.std.specs.Option.{option_copied};
@@ -10,8 +10,8 @@ ghost use Rattle.onfi_cycle.specs.Rules.{breaks_not_there, breaks_command_unknow
 ghost use Rattle.onfi_cycle.specs.Permitted.{judge, judge_cycle, judge_known_cycle};
 
 use crate::{
-    Command, Forbidden, Item, LunFacts, PageAddress, Queued, TailFacts, TargetCycle, WorkQueue,
-    is_shared,
+    Command, Forbidden, Item, LunFacts, Opening, PageAddress, Queued, TailFacts, TargetCycle,
+    WorkQueue, is_shared,
 };
 use nand_geometry::Geometry;
 
@@ -118,8 +118,8 @@ fn opens_here(geometry: &Geometry, command: Command) -> bool
 }
 
 #[tactic(auto, unfolding(crate::specs::Rules::breaks_sequence_open))]
-fn breaks_sequence_open(geometry: &Geometry, tail: TailFacts, cycle: TargetCycle) -> bool
-    ensures { result ≡ breaks_sequence_open geometry.now tail cycle }
+fn breaks_sequence_open(geometry: &Geometry, tail: &TailFacts, cycle: TargetCycle) -> bool
+    ensures { result ≡ breaks_sequence_open geometry.now tail.now cycle }
 {
     match cycle {
         TargetCycle::CommandCycle(command) => {
@@ -190,8 +190,8 @@ fn breaks_no_column_to_change<Q: WorkQueue>(luns: &[LunFacts<Q>], cycle: TargetC
 }
 
 #[tactic(auto, unfolding(crate::specs::Rules::breaks_command_misplaced))]
-fn breaks_command_misplaced(geometry: &Geometry, tail: TailFacts, cycle: TargetCycle) -> bool
-    ensures { result ≡ breaks_command_misplaced geometry.now tail cycle }
+fn breaks_command_misplaced(geometry: &Geometry, tail: &TailFacts, cycle: TargetCycle) -> bool
+    ensures { result ≡ breaks_command_misplaced geometry.now tail.now cycle }
 {
     match cycle {
         TargetCycle::CommandCycle(command) => !opens_here(geometry, command)
@@ -201,19 +201,23 @@ fn breaks_command_misplaced(geometry: &Geometry, tail: TailFacts, cycle: TargetC
 }
 
 /// The address of a Read ID that the base profile hasn't.
-fn is_undeclared_address(geometry: &Geometry, tail: TailFacts, byte: u8) -> bool
-    ensures { result ≡ is_undeclared_address geometry.now tail byte }
+fn is_undeclared_address(geometry: &Geometry, tail: &TailFacts, byte: u8) -> bool
+    ensures { result ≡ is_undeclared_address geometry.now tail.now byte }
 {
-    let reads_id = match tail.opening {
-        None => false,
-        Some(opening) => opening.opener == Command::ReadId,
-    };
-    !geometry.parts().optional.is_wide() && reads_id && byte != 0x20
+    match tail.opening {
+        Some(
+            Opening {
+                opener: Command::ReadId,
+                ..
+            },
+        ) => { byte != 0x20 && !geometry.parts().optional.is_wide() }
+        _ => false,
+    }
 }
 
 #[tactic(auto, unfolding(crate::specs::Rules::breaks_address_misplaced))]
-fn breaks_address_misplaced(geometry: &Geometry, tail: TailFacts, cycle: TargetCycle) -> bool
-    ensures { result ≡ breaks_address_misplaced geometry.now tail cycle }
+fn breaks_address_misplaced(geometry: &Geometry, tail: &TailFacts, cycle: TargetCycle) -> bool
+    ensures { result ≡ breaks_address_misplaced geometry.now tail.now cycle }
 {
     match cycle {
         TargetCycle::AddressCycle(byte) => {
@@ -224,8 +228,8 @@ fn breaks_address_misplaced(geometry: &Geometry, tail: TailFacts, cycle: TargetC
 }
 
 #[tactic(auto, unfolding(crate::specs::Rules::breaks_row_outside))]
-fn breaks_row_outside(geometry: &Geometry, tail: TailFacts, cycle: TargetCycle) -> bool
-    ensures { result ≡ breaks_row_outside geometry.now tail cycle }
+fn breaks_row_outside(geometry: &Geometry, tail: &TailFacts, cycle: TargetCycle) -> bool
+    ensures { result ≡ breaks_row_outside geometry.now tail.now cycle }
 {
     match cycle {
         TargetCycle::AddressCycle(byte) => {
@@ -259,8 +263,8 @@ fn named_is_busy<Q: WorkQueue>(geometry: &Geometry, row: u32, luns: &[LunFacts<Q
 
 /// The command begins a sequence and wants a ready LUN for it.
 #[inline(always)]
-fn begins_on_ready(tail: TailFacts, command: Command) -> bool
-    ensures { result ≡ begins_on_ready tail command }
+fn begins_on_ready(tail: &TailFacts, command: Command) -> bool
+    ensures { result ≡ begins_on_ready tail.now command }
 {
     command.wants_ready() && !tail.goes_on_with(command)
 }
@@ -268,11 +272,11 @@ fn begins_on_ready(tail: TailFacts, command: Command) -> bool
 #[tactic(auto, unfolding(crate::specs::Rules::breaks_lun_busy))]
 fn breaks_lun_busy<Q: WorkQueue>(
     geometry: &Geometry,
-    tail: TailFacts,
+    tail: &TailFacts,
     luns: &[LunFacts<Q>],
     cycle: TargetCycle,
 ) -> bool
-    ensures { result ≡ breaks_lun_busy geometry.now tail luns.now cycle }
+    ensures { result ≡ breaks_lun_busy geometry.now tail.now luns.now cycle }
 {
     match cycle {
         TargetCycle::CommandCycle(command) => {
@@ -364,8 +368,8 @@ fn refused_by(geometry: &Geometry, opener: Command, page: PageAddress, queue: &[
     }
 }
 
-fn is_refused_by(geometry: &Geometry, tail: TailFacts, page: PageAddress, queue: &[Queued]) -> bool
-    ensures { result ≡ is_refused_by geometry.now tail.opening page queue.now }
+fn is_refused_by(geometry: &Geometry, tail: &TailFacts, page: PageAddress, queue: &[Queued]) -> bool
+    ensures { result ≡ is_refused_by geometry.now tail.now.opening page queue.now }
 {
     match tail.opening {
         None => false,
@@ -383,11 +387,11 @@ fn some_queue<Q: WorkQueue>(luns: &[LunFacts<Q>]) -> bool
 #[tactic(auto, unfolding(crate::specs::Rules::breaks_queue_clash))]
 fn breaks_queue_clash<Q: WorkQueue>(
     geometry: &Geometry,
-    tail: TailFacts,
+    tail: &TailFacts,
     luns: &[LunFacts<Q>],
     cycle: TargetCycle,
 ) -> bool
-    ensures { result ≡ breaks_queue_clash geometry.now tail luns.now cycle }
+    ensures { result ≡ breaks_queue_clash geometry.now tail.now luns.now cycle }
 {
     match cycle {
         TargetCycle::CommandCycle(command) => command.reads_identity() && some_queue(luns),
@@ -403,8 +407,8 @@ fn breaks_queue_clash<Q: WorkQueue>(
 }
 
 #[tactic(auto, unfolding(crate::specs::Rules::breaks_input_misplaced))]
-fn breaks_input_misplaced(tail: TailFacts, cycle: TargetCycle) -> bool
-    ensures { result ≡ breaks_input_misplaced tail cycle }
+fn breaks_input_misplaced(tail: &TailFacts, cycle: TargetCycle) -> bool
+    ensures { result ≡ breaks_input_misplaced tail.now cycle }
 {
     match cycle {
         TargetCycle::InputCycle(_) => !tail.phase.takes_inputs(),
@@ -414,11 +418,11 @@ fn breaks_input_misplaced(tail: TailFacts, cycle: TargetCycle) -> bool
 
 #[tactic(auto, unfolding(crate::specs::Rules::breaks_no_sole_driver))]
 fn breaks_no_sole_driver<Q: WorkQueue>(
-    tail: TailFacts,
+    tail: &TailFacts,
     luns: &[LunFacts<Q>],
     cycle: TargetCycle,
 ) -> bool
-    ensures { result ≡ breaks_no_sole_driver tail luns.now cycle }
+    ensures { result ≡ breaks_no_sole_driver tail.now luns.now cycle }
 {
     match cycle {
         TargetCycle::OutputCycle => tail.is_open() || driver(luns).is_none(),
@@ -443,22 +447,22 @@ fn breaks_data_not_ready<Q: WorkQueue>(luns: &[LunFacts<Q>], cycle: TargetCycle)
 #[tactic(auto, unfolding(crate::specs::Rules::breaks_column_outside))]
 fn breaks_column_outside<Q: WorkQueue>(
     geometry: &Geometry,
-    tail: TailFacts,
+    tail: &TailFacts,
     luns: &[LunFacts<Q>],
     cycle: TargetCycle,
 ) -> bool
-    requires { (tail.column < 2 ^ 16) × (tail.inputs < 2 ^ 63) }
-    ensures { result ≡ breaks_column_outside geometry.now tail luns.now cycle }
+    requires { (tail.now.column < 2 ^ 16) × (tail.now.inputs < 2 ^ 63) }
+    ensures { result ≡ breaks_column_outside geometry.now tail.now luns.now cycle }
 {
     match cycle {
         TargetCycle::CommandCycle(_) => false,
         TargetCycle::AddressCycle(byte) => {
-            let column = tail.column_with(byte);
-            let past_page = tail.is_at_second_column_of_page() && geometry.page_len() <= column;
+            let past_page = tail.is_at_second_column_of_page()
+                && geometry.page_len() <= tail.column_with(byte);
             let past_register = tail.is_at_second_column_of_register()
                 && match driver(luns) {
                     None => false,
-                    Some(lun) => lun.register.len(geometry) <= column,
+                    Some(lun) => lun.register.len(geometry) <= tail.column_with(byte),
                 };
             past_page || past_register
         }
@@ -512,10 +516,10 @@ fn driver_continues_cache<Q: WorkQueue>(geometry: &Geometry, luns: &[LunFacts<Q>
 #[inline(always)]
 fn finds_no_cache_read<Q: WorkQueue>(
     geometry: &Geometry,
-    tail: TailFacts,
+    tail: &TailFacts,
     luns: &[LunFacts<Q>],
 ) -> bool
-    ensures { result ≡ finds_no_cache_read geometry.now tail luns.now }
+    ensures { result ≡ finds_no_cache_read geometry.now tail.now luns.now }
 {
     if tail.wants_command(Command::ReadCacheSequential) {
         !named_has_read(geometry, tail.named_row(), luns)
@@ -537,8 +541,8 @@ fn excludes_cache(geometry: &Geometry, opener: Command) -> bool
 }
 
 /// The next address is the last row cycle of such an opener.
-fn ends_row_without_cache(geometry: &Geometry, tail: TailFacts) -> bool
-    ensures { result ≡ ends_row (excludes_cache geometry.now) tail }
+fn ends_row_without_cache(geometry: &Geometry, tail: &TailFacts) -> bool
+    ensures { result ≡ ends_row (excludes_cache geometry.now) tail.now }
 {
     match tail.opening {
         None => false,
@@ -550,11 +554,11 @@ fn ends_row_without_cache(geometry: &Geometry, tail: TailFacts) -> bool
 #[tactic(auto, unfolding(crate::specs::Rules::breaks_cache_read_misplaced))]
 fn breaks_cache_read_misplaced<Q: WorkQueue>(
     geometry: &Geometry,
-    tail: TailFacts,
+    tail: &TailFacts,
     luns: &[LunFacts<Q>],
     cycle: TargetCycle,
 ) -> bool
-    ensures { result ≡ breaks_cache_read_misplaced geometry.now tail luns.now cycle }
+    ensures { result ≡ breaks_cache_read_misplaced geometry.now tail.now luns.now cycle }
 {
     match cycle {
         TargetCycle::CommandCycle(Command::ReadCacheSequential) => {
@@ -630,8 +634,8 @@ fn excludes_program(opener: Command) -> bool
 }
 
 /// The next address is the last row cycle of such an opener.
-fn ends_row_without_program(tail: TailFacts) -> bool
-    ensures { result ≡ ends_row excludes_program tail }
+fn ends_row_without_program(tail: &TailFacts) -> bool
+    ensures { result ≡ ends_row excludes_program tail.now }
 {
     match tail.opening {
         None => false,
@@ -643,11 +647,11 @@ fn ends_row_without_program(tail: TailFacts) -> bool
 #[tactic(auto, unfolding(crate::specs::Rules::breaks_cache_program_misplaced))]
 fn breaks_cache_program_misplaced<Q: WorkQueue>(
     geometry: &Geometry,
-    tail: TailFacts,
+    tail: &TailFacts,
     luns: &[LunFacts<Q>],
     cycle: TargetCycle,
 ) -> bool
-    ensures { result ≡ breaks_cache_program_misplaced geometry.now tail luns.now cycle }
+    ensures { result ≡ breaks_cache_program_misplaced geometry.now tail.now luns.now cycle }
 {
     match cycle {
         TargetCycle::CommandCycle(Command::ProgramCache) => {
@@ -689,11 +693,11 @@ fn named_is_copying<Q: WorkQueue>(geometry: &Geometry, row: u32, luns: &[LunFact
 #[tactic(auto, unfolding(crate::specs::Rules::breaks_copyback_misplaced))]
 fn breaks_copyback_misplaced<Q: WorkQueue>(
     geometry: &Geometry,
-    tail: TailFacts,
+    tail: &TailFacts,
     luns: &[LunFacts<Q>],
     cycle: TargetCycle,
 ) -> bool
-    ensures { result ≡ breaks_copyback_misplaced geometry.now tail luns.now cycle }
+    ensures { result ≡ breaks_copyback_misplaced geometry.now tail.now luns.now cycle }
 {
     match cycle {
         TargetCycle::CommandCycle(Command::ProgramCache) => {
@@ -726,11 +730,11 @@ fn named_holds_no_plane<Q: WorkQueue>(geometry: &Geometry, row: u32, luns: &[Lun
 #[tactic(auto, unfolding(crate::specs::Rules::breaks_plane_not_held))]
 fn breaks_plane_not_held<Q: WorkQueue>(
     geometry: &Geometry,
-    tail: TailFacts,
+    tail: &TailFacts,
     luns: &[LunFacts<Q>],
     cycle: TargetCycle,
 ) -> bool
-    ensures { result ≡ breaks_plane_not_held geometry.now tail luns.now cycle }
+    ensures { result ≡ breaks_plane_not_held geometry.now tail.now luns.now cycle }
 {
     match cycle {
         TargetCycle::AddressCycle(byte) => {
@@ -744,11 +748,11 @@ fn breaks_plane_not_held<Q: WorkQueue>(
 #[tactic(auto, using(crate::proofs::Closers::closer_misplaced, crate::proofs::Closers::closer_reads, crate::proofs::Closers::closer_programs, crate::proofs::Closers::closer_copies, crate::proofs::Closers::closer_passes), unfolding(crate::specs::Rules::breaks_sequence_open, crate::specs::Rules::breaks_several_luns, crate::specs::Rules::breaks_no_column_to_change, crate::specs::Rules::breaks_command_misplaced, crate::specs::Rules::breaks_address_misplaced, crate::specs::Rules::breaks_row_outside, crate::specs::Rules::breaks_lun_busy, crate::specs::Rules::breaks_queue_clash, crate::specs::Rules::breaks_input_misplaced, crate::specs::Rules::breaks_no_sole_driver, crate::specs::Rules::breaks_data_not_ready, crate::specs::Rules::breaks_column_outside, crate::specs::Rules::breaks_cache_read_misplaced, crate::specs::Rules::breaks_cache_program_misplaced, crate::specs::Rules::breaks_copyback_misplaced, crate::specs::Rules::breaks_plane_not_held))]
 fn judge_command<Q: WorkQueue>(
     geometry: &Geometry,
-    tail: TailFacts,
+    tail: &TailFacts,
     luns: &[LunFacts<Q>],
     command: Command,
 ) -> Option<Forbidden>
-    ensures { result ≡ judge_known_cycle geometry.now tail luns.now (TargetCycle.CommandCycle command) }
+    ensures { result ≡ judge_known_cycle geometry.now tail.now luns.now (TargetCycle.CommandCycle command) }
 {
     let cycle = TargetCycle::CommandCycle(command);
     if !opens_here(geometry, command) {
@@ -786,13 +790,13 @@ fn judge_command<Q: WorkQueue>(
 #[tactic(auto, unfolding(crate::specs::Rules::breaks_sequence_open, crate::specs::Rules::breaks_several_luns, crate::specs::Rules::breaks_no_column_to_change, crate::specs::Rules::breaks_command_misplaced, crate::specs::Rules::breaks_input_misplaced, crate::specs::Rules::breaks_no_sole_driver, crate::specs::Rules::breaks_data_not_ready))]
 fn judge_end_of_row<Q: WorkQueue>(
     geometry: &Geometry,
-    tail: TailFacts,
+    tail: &TailFacts,
     luns: &[LunFacts<Q>],
     byte: u8,
 ) -> Option<Forbidden>
-    requires small { (tail.column < 2 ^ 16) × (tail.inputs < 2 ^ 63) }
-    requires wanted { breaks_address_misplaced geometry.now tail (TargetCycle.AddressCycle byte) ≡ false }
-    ensures { result ≡ judge_known_cycle geometry.now tail luns.now (TargetCycle.AddressCycle byte) }
+    requires small { (tail.now.column < 2 ^ 16) × (tail.now.inputs < 2 ^ 63) }
+    requires wanted { breaks_address_misplaced geometry.now tail.now (TargetCycle.AddressCycle byte) ≡ false }
+    ensures { result ≡ judge_known_cycle geometry.now tail.now luns.now (TargetCycle.AddressCycle byte) }
 {
     let cycle = TargetCycle::AddressCycle(byte);
     if breaks_row_outside(geometry, tail, cycle) {
@@ -820,12 +824,12 @@ fn judge_end_of_row<Q: WorkQueue>(
 #[tactic(auto, using(crate::proofs::NoRow::no_copyback), unfolding(crate::specs::Rules::breaks_sequence_open, crate::specs::Rules::breaks_several_luns, crate::specs::Rules::breaks_no_column_to_change, crate::specs::Rules::breaks_command_misplaced, crate::specs::Rules::breaks_row_outside, crate::specs::Rules::breaks_lun_busy, crate::specs::Rules::breaks_queue_clash, crate::specs::Rules::breaks_input_misplaced, crate::specs::Rules::breaks_no_sole_driver, crate::specs::Rules::breaks_data_not_ready, crate::specs::Rules::breaks_cache_read_misplaced, crate::specs::Rules::breaks_cache_program_misplaced, crate::specs::Rules::breaks_plane_not_held))]
 fn judge_address<Q: WorkQueue>(
     geometry: &Geometry,
-    tail: TailFacts,
+    tail: &TailFacts,
     luns: &[LunFacts<Q>],
     byte: u8,
 ) -> Option<Forbidden>
-    requires { (tail.column < 2 ^ 16) × (tail.inputs < 2 ^ 63) }
-    ensures { result ≡ judge_known_cycle geometry.now tail luns.now (TargetCycle.AddressCycle byte) }
+    requires { (tail.now.column < 2 ^ 16) × (tail.now.inputs < 2 ^ 63) }
+    ensures { result ≡ judge_known_cycle geometry.now tail.now luns.now (TargetCycle.AddressCycle byte) }
 {
     let cycle = TargetCycle::AddressCycle(byte);
     if breaks_address_misplaced(geometry, tail, cycle) {
@@ -843,12 +847,12 @@ fn judge_address<Q: WorkQueue>(
 #[tactic(auto, unfolding(crate::specs::Rules::breaks_sequence_open, crate::specs::Rules::breaks_several_luns, crate::specs::Rules::breaks_no_column_to_change, crate::specs::Rules::breaks_command_misplaced, crate::specs::Rules::breaks_address_misplaced, crate::specs::Rules::breaks_row_outside, crate::specs::Rules::breaks_lun_busy, crate::specs::Rules::breaks_queue_clash, crate::specs::Rules::breaks_no_sole_driver, crate::specs::Rules::breaks_data_not_ready, crate::specs::Rules::breaks_cache_read_misplaced, crate::specs::Rules::breaks_cache_program_misplaced, crate::specs::Rules::breaks_copyback_misplaced, crate::specs::Rules::breaks_plane_not_held))]
 fn judge_input<Q: WorkQueue>(
     geometry: &Geometry,
-    tail: TailFacts,
+    tail: &TailFacts,
     luns: &[LunFacts<Q>],
     byte: u8,
 ) -> Option<Forbidden>
-    requires { (tail.column < 2 ^ 16) × (tail.inputs < 2 ^ 63) }
-    ensures { result ≡ judge_known_cycle geometry.now tail luns.now (TargetCycle.InputCycle byte) }
+    requires { (tail.now.column < 2 ^ 16) × (tail.now.inputs < 2 ^ 63) }
+    ensures { result ≡ judge_known_cycle geometry.now tail.now luns.now (TargetCycle.InputCycle byte) }
 {
     let cycle = TargetCycle::InputCycle(byte);
     if breaks_input_misplaced(tail, cycle) {
@@ -864,11 +868,11 @@ fn judge_input<Q: WorkQueue>(
 #[tactic(auto, unfolding(crate::specs::Rules::breaks_sequence_open, crate::specs::Rules::breaks_several_luns, crate::specs::Rules::breaks_no_column_to_change, crate::specs::Rules::breaks_command_misplaced, crate::specs::Rules::breaks_address_misplaced, crate::specs::Rules::breaks_row_outside, crate::specs::Rules::breaks_lun_busy, crate::specs::Rules::breaks_queue_clash, crate::specs::Rules::breaks_input_misplaced, crate::specs::Rules::breaks_cache_read_misplaced, crate::specs::Rules::breaks_cache_program_misplaced, crate::specs::Rules::breaks_copyback_misplaced, crate::specs::Rules::breaks_plane_not_held))]
 fn judge_output<Q: WorkQueue>(
     geometry: &Geometry,
-    tail: TailFacts,
+    tail: &TailFacts,
     luns: &[LunFacts<Q>],
 ) -> Option<Forbidden>
-    requires { (tail.column < 2 ^ 16) × (tail.inputs < 2 ^ 63) }
-    ensures { result ≡ judge_known_cycle geometry.now tail luns.now TargetCycle.OutputCycle }
+    requires { (tail.now.column < 2 ^ 16) × (tail.now.inputs < 2 ^ 63) }
+    ensures { result ≡ judge_known_cycle geometry.now tail.now luns.now TargetCycle.OutputCycle }
 {
     let cycle = TargetCycle::OutputCycle;
     if breaks_no_sole_driver(tail, luns, cycle) {
@@ -886,12 +890,12 @@ fn judge_output<Q: WorkQueue>(
 #[inline(always)]
 pub fn judge_known_cycle<Q: WorkQueue>(
     geometry: &Geometry,
-    tail: TailFacts,
+    tail: &TailFacts,
     luns: &[LunFacts<Q>],
     cycle: TargetCycle,
 ) -> Option<Forbidden>
-    requires { (tail.column < 2 ^ 16) × (tail.inputs < 2 ^ 63) }
-    ensures { result ≡ judge_known_cycle geometry.now tail luns.now cycle }
+    requires { (tail.now.column < 2 ^ 16) × (tail.now.inputs < 2 ^ 63) }
+    ensures { result ≡ judge_known_cycle geometry.now tail.now luns.now cycle }
 {
     match cycle {
         TargetCycle::CommandCycle(command) => judge_command(geometry, tail, luns, command),
@@ -905,12 +909,12 @@ pub fn judge_known_cycle<Q: WorkQueue>(
 #[inline(always)]
 pub fn judge_cycle<Q: WorkQueue>(
     geometry: &Geometry,
-    tail: TailFacts,
+    tail: &TailFacts,
     luns: &[LunFacts<Q>],
     cycle: TargetCycle,
 ) -> Option<Forbidden>
-    requires { (tail.column < 2 ^ 16) × (tail.inputs < 2 ^ 63) }
-    ensures { result ≡ judge_cycle geometry.now tail luns.now cycle }
+    requires { (tail.now.column < 2 ^ 16) × (tail.now.inputs < 2 ^ 63) }
+    ensures { result ≡ judge_cycle geometry.now tail.now luns.now cycle }
 {
     if breaks_command_unknown(geometry, cycle) {
         Some(Forbidden::CommandUnknown)
@@ -925,12 +929,12 @@ pub fn judge_cycle<Q: WorkQueue>(
 pub fn judge<Q: WorkQueue>(
     geometry: &Geometry,
     targets: u8,
-    tail: TailFacts,
+    tail: &TailFacts,
     luns: &[LunFacts<Q>],
     item: Item,
 ) -> Option<Forbidden>
-    requires { (tail.column < 2 ^ 16) × (tail.inputs < 2 ^ 63) }
-    ensures { result ≡ judge geometry.now targets tail luns.now item }
+    requires { (tail.now.column < 2 ^ 16) × (tail.now.inputs < 2 ^ 63) }
+    ensures { result ≡ judge geometry.now targets tail.now luns.now item }
 {
     if breaks_not_there(targets, luns, item) {
         return Some(Forbidden::NotThere);

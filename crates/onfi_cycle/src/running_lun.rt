@@ -161,7 +161,7 @@ impl LunFacts<RowQueue> {
             (cycle_effect geometry.now tail.now (if has_driver then self.old.latch else Off) cycle number) self.old }
     {
         let latch_alone = if has_driver { self.latch } else { Latch::Off };
-        self.apply(cycle_effect(geometry, *tail, latch_alone, cycle, number));
+        self.apply(cycle_effect(geometry, tail, latch_alone, cycle, number));
     }
 
     /// It gives so many bytes more, where it shows data.

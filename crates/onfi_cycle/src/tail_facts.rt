@@ -133,6 +133,7 @@ impl TailFacts {
     }
 
     /// Goes on with a tail by one cycle, as [`after`](TailFacts::after) does.
+    #[inline(always)]
     pub fn extend(&mut self, cycle: TargetCycle)
         requires { AreSmall (2 ^ 63) self.old }
         ensures value { self.new ≡ facts_after cycle self.old }

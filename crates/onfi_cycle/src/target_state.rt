@@ -118,7 +118,7 @@ fn may_act(tail: &TailFacts, luns: &[LunFacts<RowQueue>], cycle: TargetCycle) ->
             None => false,
             Some(opening) => { acts_by_address(opening.opener) || opening.ends_program_row() }
         },
-        TargetCycle::InputCycle(_) => ends_features(*tail),
+        TargetCycle::InputCycle(_) => ends_features(tail),
         TargetCycle::OutputCycle => some_shows_data(luns),
     }
 }
@@ -327,7 +327,7 @@ impl TargetState {
             ce: item.target(),
             lun: number,
         };
-        item_effect(geometry, self.tail, latch_alone, item, lun)
+        item_effect(geometry, &self.tail, latch_alone, item, lun)
     }
 
     /// What an item does to the page registers of a LUN of this target.

@@ -188,9 +188,9 @@ fn stepped(
     ensures value { IfOk result (λ v. v ≡ stepped geometry.now tail item lun numbers.now before.now) }
     ensures short { IfOk result (IsShort (most + 1)) }
 {
-    let given = item_effect(geometry, tail, before.latch, item, lun);
+    let given = item_effect(geometry, &tail, before.latch, item, lun);
     let alone = given_alone(numbers, lun.lun, before.latch);
-    let effect = item_effect(geometry, tail, alone, item, lun);
+    let effect = item_effect(geometry, &tail, alone, item, lun);
     facts_after(alloc, given, effect, before, most)
 }
 
@@ -362,7 +362,8 @@ pub fn effect_on(
     ensures small { IfOk result IsSmallEffect }
 {
     let latch = latch_alone(alloc, geometry, past, lun)?;
-    Ok(item_effect(geometry, tail_facts(past, lun.ce), latch, item, lun))
+    let tail = tail_facts(past, lun.ce);
+    Ok(item_effect(geometry, &tail, latch, item, lun))
 }
 
 /// Work was started on the LUN, and no ready of it came since.

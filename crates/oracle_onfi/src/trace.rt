@@ -20,7 +20,7 @@ fn broken_after(
     let ce = item.target();
     let t = tail_facts(past, ce);
     let luns = luns_of(alloc, geometry, past, ce)?;
-    Ok(judge(geometry, targets, t, &luns, item))
+    Ok(judge(geometry, targets, &t, &luns, item))
 }
 
 /// The first rule that an item breaks after these items, which stand in the order of time. None where the item

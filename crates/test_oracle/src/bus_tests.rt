@@ -281,10 +281,10 @@ fn broken(channel: &Channel, looks: &Looks, past: &[Item], item: Item) -> Option
     let ce = item.target();
     let t = tail_facts(past, ce);
     match looks.get(usize::from(ce)) {
-        Some(luns) => judge(&channel.geometry, channel.targets, t, luns, item),
+        Some(luns) => judge(&channel.geometry, channel.targets, &t, luns, item),
         None => {
             let none: [LunFacts<Vec<Queued>>; 0] = [];
-            judge(&channel.geometry, channel.targets, t, &none, item)
+            judge(&channel.geometry, channel.targets, &t, &none, item)
         }
     }
 }

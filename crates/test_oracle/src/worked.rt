@@ -167,8 +167,8 @@ fn known_broken(
     let t = tail_facts(past, ce);
     let luns = luns_of(alloc, geometry, past, ce)?;
     Ok(match item {
-        Item::Cyc(c) => judge_known_cycle(geometry, t, &luns, TargetCycle::of(c.kind, c.byte)),
-        _ => judge(geometry, 1, t, &luns, item),
+        Item::Cyc(c) => judge_known_cycle(geometry, &t, &luns, TargetCycle::of(c.kind, c.byte)),
+        _ => judge(geometry, 1, &t, &luns, item),
     })
 }
 
