@@ -59,7 +59,7 @@ def clause_of(said):
 
 
 def try_edits(gate, crate, edits):
-    """What comes of each edit, over a copy of what `rt check` keeps of the crate: its name, whether a clause refuses it, and what is said."""
+    """What comes of each edit, over a copy of what `rt check` keeps of the crate: its name, whether the prover refuses it, and what is said."""
     with tempfile.TemporaryDirectory(prefix="wrong-bodies-") as room:
         kept = f"{room}/kept"
         if crate.has_kept():
@@ -67,8 +67,8 @@ def try_edits(gate, crate, edits):
         else:
             os.mkdir(kept)
         for edit in edits:
-            refused, said = gate.must_fail(crate, edit, ["--jobs", "1"], kept)
-            yield name_of(edit), refused, said
+            came, said = gate.must_fail(crate, edit, ["--jobs", "1"], kept)
+            yield name_of(edit), came in (gate.REFUSED, gate.AT_LIMIT), said
 
 
 def read_rows():
@@ -114,10 +114,10 @@ def main():
         kept = {name_of(edit) for edit in edits_of(crate)} - {name_of(edit) for edit in edits}
         rows = {key: row for key, row in rows.items() if key[0] != crate.name or key[1] in kept}
         for edit, refused, said in try_edits(gate, crate, edits):
-            clause = clause_of(said) if refused else "NOT REFUSED"
-            print(f"{crate.name} {edit}: {clause if refused else said}", flush=True)
-            rows[crate.name, edit] = clause, commit
+            print(f"{crate.name} {edit}: {clause_of(said) if refused else said}", flush=True)
             passed = passed and refused
+            if refused:
+                rows[crate.name, edit] = clause_of(said), commit
     if "--write" in words:
         write_rows(rows)
     sys.exit(0 if passed else 1)

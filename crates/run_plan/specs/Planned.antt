@@ -1,12 +1,13 @@
--- What a run file says of the outputs of its jobs and of its images, and what is planned of its lines.
+-- What a run file says of the outputs of its jobs, of its images and of its failures, and what is planned of its lines.
 use Rattle.std.specs.Prelude.{ℕ, ◌+◌, ◌*◌, List, Option, Some, None, map, filter_map}
 use Rattle.std.specs.Option.{option_copied}
 use Rattle.nand_geometry.specs.declared.parts.Parts.{Parts}
 use Rattle.micro_program.specs.Program.{Job}
 use Rattle.channel_work.specs.declared.stored.Name.{Name}
 use Rattle.run_file.specs.Line.{Statement}
-use Rattle.run_file.specs.Line.{Image as ImageLine, Job as JobLine}
+use Rattle.run_file.specs.Line.{Image as ImageLine, Job as JobLine, Fail as FailLine}
 use Rattle.run_plan.specs.Judged.{Numbered}
+use Rattle.run_plan.specs.declared.failing.Failing.{Failing}
 use Rattle.run_plan.specs.declared.plan.PlannedImage.{PlannedImage}
 use Rattle.run_plan.specs.declared.plan.PlannedJob.{PlannedJob}
 use Rattle.run_plan.specs.declared.plan.TargetJobs.{TargetJobs}
@@ -28,6 +29,15 @@ image_in g _ = None
 -- the same of each image, in the order of the lines
 abbrev pub images_in : Parts → List Numbered → List (ℕ × List ℕ)
 images_in g statements = filter_map (λ (s : Numbered). image_in g s.1) statements
+
+-- the ready that a line tells to be with failure
+abbrev pub failing_in : Statement → Option Failing
+failing_in (FailLine target lun ready before) = Some (record { target = target; lun = lun; ready = ready; before = before })
+failing_in _ = None
+
+-- the same of each such line, in their order
+abbrev pub failing_of : List Numbered → List Failing
+failing_of statements = filter_map (λ (s : Numbered). failing_in s.1) statements
 
 -- where the buffers of planned jobs go
 abbrev pub planned_outputs : List PlannedJob → List (Option (List ℕ))

@@ -189,7 +189,7 @@ impl<'a> RunPlan<'a> {
     ) -> Result<RunPlan<'a>, AllocError>
         requires { (1 ≤ targets) × (targets ≤ 4) }
         ensures channel { IfOk result (λ plan. (plan.dies.geometry ≡ geometry) × (plan.dies.targets ≡ targets)) }
-        ensures empty { IfOk result (λ plan. (plan.jobs.all.items ≡ []) × (plan.images.items ≡ [])) }
+        ensures empty { IfOk result (λ plan. (plan.jobs.all.items ≡ []) × (plan.images.items ≡ []) × (plan.fails.items ≡ [])) }
         ensures setup { IfOk result (λ plan. HasSetUp plan (erased geometry targets)) }
     {
         Ok(RunPlan {

@@ -3,7 +3,7 @@ ghost use Rattle.std.specs.Prelude.{◌≡◌, ◌≤◌, ◌+◌, ◌*◌, ◌�
 ghost use Rattle.std.specs.Option.{option_copied, option_map};
 ghost use Rattle.run_file.specs.Line.{Image as ImageLine};
 ghost use Rattle.run_file.specs.Shown.{shown_statement, shown_numbered, shown_all, shown_text};
-ghost use Rattle.run_plan.specs.Planned.{output_in, outputs_of, image_in, images_in, planned_outputs, planned_images};
+ghost use Rattle.run_plan.specs.Planned.{output_in, outputs_of, image_in, images_in, failing_in, failing_of, planned_outputs, planned_images};
 ghost use Rattle.run_plan.specs.Setup.{IsJobOf};
 ghost use Rattle.run_plan.specs.Plans.{PlansOne, PlansJob, PlansAll, IsSetUpFrom};
 ghost use Rattle.seq_inputs.specs.Stops.{IsRefusal, Says, SaysAt};
@@ -105,15 +105,13 @@ fn find_failing<'a>(
     before: bool,
 ) -> Result<Lun, Stop<'a>>
     ensures ok { OnOk result (FailPasses geometry.now targets target lun before) }
+    ensures found { IfOk result (λ found. found ≡ lun_at target lun) }
     ensures err { IfErr result (Says (FailIsRefused geometry.now targets target lun before)) }
 {
     if !may_tell(geometry, before) {
         return Err(refuse_before(alloc));
     }
-    match find_lun(alloc, geometry, targets, target, lun) {
-        Ok(found) => Ok(found),
-        Err(stop) => Err(stop),
-    }
+    find_lun(alloc, geometry, targets, target, lun)
 }
 
 // A job, and the header that was counted for its program, if one was.
@@ -174,6 +172,7 @@ impl<'a> RunPlan<'a> {
             ++ filter_map output_in (shown_statement statement.entry ∷ [])) }
         ensures images { OnOk result (planned_images self.new.images.items ≡ planned_images self.old.images.items
             ++ filter_map (image_in self.old.dies.geometry) (shown_statement statement.entry ∷ [])) }
+        ensures fails { OnOk result (self.new.fails.items ≡ self.old.fails.items ++ filter_map failing_in (shown_statement statement.entry ∷ [])) }
         ensures setup { OnOk result (PlansOne (F.store files.old) self.old.dies.geometry (shown_statement statement.entry) self.old self.new) }
         ensures stays { F.store files.new ≡ F.store files.old }
     {
@@ -222,6 +221,7 @@ impl<'a> RunPlan<'a> {
         ensures jobs { self.new.jobs ≡ self.old.jobs }
         ensures images { OnOk result (planned_images self.new.images.items ≡ planned_images self.old.images.items
             ++ ((target * self.old.dies.geometry.luns + lun, path.now) ∷ [])) }
+        ensures fails { self.new.fails ≡ self.old.fails }
         ensures setup { OnOk result (PlansOne (F.store files.old) self.old.dies.geometry (ImageLine target lun path.now) self.old self.new) }
         ensures stays { F.store files.new ≡ F.store files.old }
     {
@@ -254,6 +254,7 @@ impl<'a> RunPlan<'a> {
         ensures jobs { OnOk result (planned_outputs self.new.jobs.all.items ≡ planned_outputs self.old.jobs.all.items
             ++ (option_copied output.entry ∷ [])) }
         ensures images { self.new.images ≡ self.old.images }
+        ensures fails { self.new.fails ≡ self.old.fails }
         ensures setup { OnOk result (PlansJob (F.store files.old) self.old.dies.geometry lun base text.now (option_copied input.entry) self.old self.new) }
         ensures stays { F.store files.new ≡ F.store files.old }
     {
@@ -277,6 +278,7 @@ impl<'a> RunPlan<'a> {
         ensures dies { self.new.dies ≡ self.old.dies }
         ensures jobs { self.new.jobs ≡ self.old.jobs }
         ensures images { self.new.images ≡ self.old.images }
+        ensures fails { self.new.fails ≡ self.old.fails }
     {
         let count = u64::from(count);
         match of {
@@ -307,6 +309,8 @@ impl<'a> RunPlan<'a> {
         ensures dies { self.new.dies ≡ self.old.dies }
         ensures jobs { self.new.jobs ≡ self.old.jobs }
         ensures images { self.new.images ≡ self.old.images }
+        ensures fails { OnOk result (self.new.fails.items ≡ self.old.fails.items
+            ++ (record { target = target; lun = lun; ready = ready; before = before } ∷ [])) }
     {
         let (geometry, targets) = (self.dies.geometry, self.dies.targets);
         let lun = find_failing(alloc, &geometry, targets, target, lun, before)?;
@@ -336,6 +340,7 @@ impl<'a> RunPlan<'a> {
             ++ outputs_of (shown_numbered numbered.entry ∷ [])) }
         ensures images { OnOk result (planned_images self.new.images.items ≡ planned_images self.old.images.items
             ++ images_in self.old.dies.geometry (shown_numbered numbered.entry ∷ [])) }
+        ensures fails { OnOk result (self.new.fails.items ≡ self.old.fails.items ++ failing_of (shown_numbered numbered.entry ∷ [])) }
         ensures setup { OnOk result (PlansOne (F.store files.old) self.old.dies.geometry (shown_statement numbered.entry.statement)
             self.old self.new) }
         ensures stays { F.store files.new ≡ F.store files.old }
@@ -364,6 +369,7 @@ impl<'a> RunPlan<'a> {
             ++ outputs_of (shown_all rest.now)) }
         ensures images { OnOk result (planned_images self.new.images.items ≡ planned_images self.old.images.items
             ++ images_in self.old.dies.geometry (shown_all rest.now)) }
+        ensures fails { OnOk result (self.new.fails.items ≡ self.old.fails.items ++ failing_of (shown_all rest.now)) }
         ensures setup { OnOk result (PlansAll (F.store files.old) self.old.dies.geometry (shown_all rest.now) self.old self.new) }
         ensures stays { F.store files.new ≡ F.store files.old }
     {
@@ -444,6 +450,7 @@ fn plan_rest<'a, F: Files>(
     ensures ok { OnOk result (RestPasses (F.store files.old) geometry targets (shown_all rest.now) last) }
     ensures jobs { IfOk result (λ plan. planned_outputs plan.jobs.all.items ≡ outputs_of (shown_all rest.now)) }
     ensures images { IfOk result (λ plan. planned_images plan.images.items ≡ images_in geometry (shown_all rest.now)) }
+    ensures fails { IfOk result (λ plan. plan.fails.items ≡ failing_of (shown_all rest.now)) }
     ensures setup { IfOk result (IsSetUpFrom (F.store files.old) geometry targets (shown_all rest.now)) }
     ensures err { IfErr result (SaysAt (RestIsRefused (F.store files.old) geometry targets (shown_all rest.now) last)) }
     ensures stays { F.store files.new ≡ F.store files.old }
@@ -468,6 +475,7 @@ pub fn plan_run<'a, F: Files>(
     ensures jobs { IfOk result (λ plan. planned_outputs plan.jobs.all.items ≡ outputs_of (drop 2 (shown_text text.now).statements)) }
     ensures images { IfOk result (λ plan. planned_images plan.images.items
         ≡ images_in plan.dies.geometry (drop 2 (shown_text text.now).statements)) }
+    ensures fails { IfOk result (λ plan. plan.fails.items ≡ failing_of (drop 2 (shown_text text.now).statements)) }
     ensures setup { IfOk result (λ plan. IsSetUpFrom (F.store files.old) plan.dies.geometry plan.dies.targets
         (drop 2 (shown_text text.now).statements) plan) }
     ensures err { IfErr result (SaysAt (PlanIsRefused (F.store files.old) profile (shown_text text.now))) }

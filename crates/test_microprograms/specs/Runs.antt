@@ -15,6 +15,7 @@ use Rattle.micro_walk.specs.Erase.{erase_words}
 use Rattle.seq_core.specs.declared.load_fault.LoadFault.TheVariants.{SlotTaken, OtherLun, OtherGeometry}
 use Rattle.seq_core.specs.declared.stepped.Stepped.TheVariants.{Empty, Held, Ended, HandedOver, NotReady, Went}
 use Rattle.seq_core.specs.declared.unload_fault.UnloadFault.TheVariants.{NoJob, StillRunning}
+use Rattle.seq_core.specs.Alone.{no_failures}
 use Rattle.seq_core.specs.World.{fresh}
 use Rattle.seq_core.specs.Event.{Event, Load, Step, Ready, ArrayReady, Unload}
 use Rattle.seq_core.specs.Reply.{Reply, ToLoad, ToStep, ToReady, ToArrayReady, ToUnload, Loaded, NotLoaded, Unloaded, NotUnloaded}
@@ -51,10 +52,7 @@ o byte = Cyc (record { ce = 0; kind = Dout; byte = byte })
 abbrev pub job : Parts → ℕ → ℕ → Microprogram → List ℕ → Job
 job g l base text buffer = record { lun = lun l; base = base; text = text; geometry = g; buffer = buffer }
 
--- work that went well, and work that failed
-abbrev pub no_failures : Failures
-no_failures = record { last = false; before = false }
-
+-- work that failed
 abbrev pub fails : Failures
 fails = record { last = true; before = false }
 

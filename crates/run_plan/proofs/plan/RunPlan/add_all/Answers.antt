@@ -2,7 +2,7 @@ use Rattle.std.proofs.Common.{arith, ◌∙◌, refl, sym, subst}
 use Rattle.run_file.specs.Shown.{shown_all}
 use Rattle.seq_inputs.specs.Stops.{SaysAt}
 use Rattle.run_plan.specs.Judged.{Numbered, RestIsRefused}
-use Rattle.run_plan.specs.Planned.{output_in}
+use Rattle.run_plan.specs.Planned.{output_in, failing_in}
 use Rattle.run_plan.proofs.Resting.{passes_on, stops_here, all_pass, text_stops, planned_more, images_more}
 use Rattle.run_plan.proofs.Settings.{planned_next, planned_all}
 use Rattle.run_plan.proofs.plan.RunPlan.add_all.Goals as goal
@@ -28,6 +28,7 @@ loop-numbered-preserved g c =
       images_more c.args.self.now.dies.geometry c.loop-numbered.self.dies.geometry c.args.rest.now k _ _ _ _ c.loop-numbered-test.true i.1 c.in_default.ensures.images i.5,
       planned_next (g.F.Files.store c.args.files.now) (g.F.Files.store c.loop-numbered.files) c.args.self.now.dies.geometry c.loop-numbered.self.dies.geometry
           c.args.self.now c.loop-numbered.self c.add_numbered.new.self c.args.rest.now k _ c.loop-numbered-test.true i.0 i.1 c.in_default.ensures.setup i.6,
+      planned_more (λ (s : Numbered). failing_in s.1) c.args.rest.now k _ _ _ _ c.loop-numbered-test.true c.in_default.ensures.fails i.7,
     )
 
 pub returns-in-Some-clause-err : goal.returns-in-Some-clause-err

@@ -1,6 +1,6 @@
 use Rattle.std.proofs.Common.{◌≡◌, ◌++◌, drop}
 use Rattle.run_file.specs.Shown.{shown_all}
-use Rattle.run_plan.specs.Planned.{outputs_of, images_in, planned_outputs, planned_images}
+use Rattle.run_plan.specs.Planned.{outputs_of, images_in, failing_of, planned_outputs, planned_images}
 use Rattle.run_plan.proofs.Resting.{LeadsTo}
 use Rattle.run_plan.proofs.Settings.{PlansSoFar}
 use Rattle.run_plan.proofs.plan.RunPlan.add_all.Given as goal
@@ -14,3 +14,4 @@ invariant-loop-numbered g l =
     × (planned_outputs l.self.jobs.all.items ++ outputs_of (shown_all (drop l.numbered-index l.rest)) ≡ planned_outputs l.initial.self.jobs.all.items ++ outputs_of (shown_all l.rest))
     × (planned_images l.self.images.items ++ images_in l.initial.self.dies.geometry (shown_all (drop l.numbered-index l.rest)) ≡ planned_images l.initial.self.images.items ++ images_in l.initial.self.dies.geometry (shown_all l.rest))
     × PlansSoFar (g.F.Files.store l.initial.files) l.initial.self.dies.geometry l.initial.self l.self (shown_all (drop l.numbered-index l.rest)) (shown_all l.rest)
+    × (l.self.fails.items ++ failing_of (shown_all (drop l.numbered-index l.rest)) ≡ l.initial.self.fails.items ++ failing_of (shown_all l.rest))
