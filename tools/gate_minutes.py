@@ -1,29 +1,33 @@
 """Passes on what the gate prints, and lists before its last line the minute at which each step ended, the processor time of each crate, and once more each
 line that says what failed, since whoever reads a long print reads its end.
-Where a file is named, the last line goes there, and with --table the minutes go into docs/develop/minutes.tsv, which `tools/house.py` reads.
+Where a file is named, the last line goes there. With --table the minutes go into docs/develop/minutes.tsv (`tools/minutes.py`): the rows of the crates that this
+run proved, divided by its pace; the others stay.
 
-    rt ci | python3 tools/gate_minutes.py [--table] [FILE]
+    python3 tools/kept | python3 tools/gate_minutes.py [--table] [FILE]
 
 A step is a crate's proof or tests proved, its edits begun, or a program or tests run. Processor time is read each second off the provers of this
 session. Other work beside the gate makes each of them slower by what it takes of the caches. The last line but one says how fast the machine is beside that of
 the table: the median of what each step takes longer. docs/develop/GATE.md says what the minutes are for.
 """
 import collections
+import datetime
 import glob
 import os
 import re
 import statistics
+import subprocess
 import sys
 import threading
 import time
+
+import minutes
+from minutes import KINDS, TABLE
 
 STEP = re.compile(r"^rt: (\S+?):? (proved|NOT PROVED|its tests (are )?(proved|NOT PROVED|passed|FAILED)|trying its must-fail edits.*|ran\b.*)$")
 FAILURE = re.compile(r"NOT PROVED|FAILED|BAD EDIT|: no proof|is not proved|must prove:|error\[|^error|was not refused|^test .* FAILED|they differ first")
 # How many of those lines are said again, each cut after so many characters.
 MOST_FAILURES, LONGEST = 60, 300
 LAST = re.compile(r"^\d+ passed, \d+ failed$")
-KINDS = ("proof", "tests", "edits")
-TABLE = "docs/develop/minutes.tsv"
 
 
 def kind_of(words, folder):
@@ -53,15 +57,6 @@ def read_prover(folder):
     return crate, kind_of(words, where), sum(map(int, ticks[11:15])) / os.sysconf("SC_CLK_TCK")
 
 
-def read_table():
-    """The minutes of each crate that the repository keeps."""
-    if not os.path.exists(TABLE):
-        return {}
-    with open(TABLE, encoding="utf-8") as table:
-        rows = [line.split() for line in table if line.strip() and not line.startswith("#")]
-    return {name: dict(zip(KINDS, map(float, minutes))) for name, *minutes in rows}
-
-
 class Provers:
     """The processor time of the provers of a run."""
 
@@ -85,18 +80,27 @@ class Provers:
             crates[crate][kind] += seconds / 60
         return sorted(crates.items(), key=lambda row: -sum(row[1].values()))
 
-    def pace(self):
-        """How many times as long the steps take as those of the table that take a minute at least."""
-        before = read_table()
-        ratios = [row[kind] / before[name][kind] for name, row in self.minutes() if name in before for kind in KINDS if before[name][kind] >= 1 and row[kind] > 0]
-        return f"pace: {statistics.median(ratios):.2f} times the minutes of {TABLE}, the median of {len(ratios)} steps\n" if ratios else ""
+    def ratios(self):
+        """How many times as long as in the table each step takes that takes a minute there."""
+        before, _ = minutes.read()
+        given = {name: row.minutes for name, row in before.items()}
+        return [row[kind] / given[name][kind] for name, row in self.minutes() if name in given for kind in KINDS if given[name][kind] >= 1 and row[kind] > 0]
 
-    def write(self):
-        """Keeps the minutes of each crate."""
-        with open(TABLE, "w", encoding="utf-8") as table:
-            table.write("# Processor minutes of each crate: its proof, its tests, its wrong bodies in the gate.\n")
-            for name, row in sorted(self.minutes()):
-                table.write("\t".join([name, *(f"{row[kind]:.1f}" for kind in KINDS)]) + "\n")
+    def pace(self):
+        """The median of those, 1 where there are none."""
+        return statistics.median(self.ratios() or [1])
+
+    def write(self, clock):
+        """Puts the minutes of the crates that were proved into the table."""
+        rows, measured = minutes.read()
+        pace, found = self.pace(), dict(self.minutes())
+        for name, row in found.items():
+            before = rows[name].minutes if name in rows else dict.fromkeys(KINDS, 0.0)
+            rows[name] = minutes.Row({kind: row[kind] / pace if row[kind] else before[kind] for kind in KINDS}, minutes.sum_of(name))
+        crates = {os.path.basename(folder) for folder in glob.glob("crates/*")}
+        kit = subprocess.run(["rt", "version"], capture_output=True, text=True, check=False).stdout.split()
+        line = f"{datetime.date.today()}, {len(found)} crates, {kit[0] if kit else 'no kit'}, {os.cpu_count()} processors, pace {pace:.2f}, {clock / 60:.0f} minutes by the clock"
+        minutes.write({name: row for name, row in rows.items() if name in crates}, [*(measured if len(found) < len(crates) else []), line])
 
     def table(self):
         """A line for each crate, the dearest first, and one for all."""
@@ -124,11 +128,13 @@ def main():
         sys.stdout.flush()
     provers.is_over = True
     watch.join()
+    clock = time.monotonic() - begun
     steps = [step if step.endswith("\n") else step + "\n" for step in steps]
-    sys.stdout.write("".join([*steps, *provers.table(), provers.pace(), *failures]))
+    pace = f"pace: {provers.pace():.2f} times the minutes of {TABLE}, the median of {len(provers.ratios())} steps\n"
+    sys.stdout.write("".join([*steps, *provers.table(), pace, f"minutes by the clock: {clock / 60:.1f}\n", *failures]))
     words = [word for word in sys.argv[1:] if word != "--table"]
     if "--table" in sys.argv:
-        provers.write()
+        provers.write(clock)
     if last and words:
         with open(words[0], "w", encoding="utf-8") as file:
             file.write(last)

@@ -7,7 +7,8 @@ at the root; it takes seconds and proves nothing. It looks at
 
 - the crates by layer: docs/develop/ARCHITECTURE.md's picture and counts, from crates.txt, whose lines stand under headings;
 - the way of the data, as a picture;
-- what a change of a crate proves again, in minutes: docs/develop/GATE.md, from docs/develop/minutes.tsv, which `gate_minutes.py --table` writes;
+- what a change of a crate proves again, in minutes, and which rows are older than their crate's text: docs/develop/GATE.md, from docs/develop/minutes.tsv
+  (`minutes.py`), which `gate_minutes.py --table` writes;
 - the wrong bodies by what they do: docs/model/WRONG_BODIES.md, from the edits of the crates and from the rows of that page that say which were tried;
 - each name in backticks of four pages, which must stand somewhere in the repository;
 - each crate that crates.txt names for another, which must stand in a file of that one.
@@ -18,6 +19,8 @@ import html
 import re
 import sys
 from pathlib import Path
+
+import minutes
 
 ROOT = Path(__file__).resolve().parent.parent
 WRONG_BODIES = "docs/model/WRONG_BODIES.md"
@@ -160,24 +163,20 @@ def count_house(crates):
             f"{sum(crate.functions() for crate in tests)}.\n{in_gate} wrong bodies are tried by the gate, {beside} beside it.\n")
 
 
-def read_minutes():
-    """The minutes of each crate: proof, tests, edits."""
-    rows = (ROOT / "docs/develop/minutes.tsv").read_text(encoding="utf-8").splitlines()
-    return {name: list(map(float, numbers)) for name, *numbers in (row.split("\t") for row in rows if row and not row.startswith("#"))}
-
-
 def table_costs(crates):
-    """What each crate costs, and what a change of it proves again."""
-    minutes = read_minutes()
-    own = {name: sum(minutes.get(name, [0, 0, 0])) for name in crates}
-    lines = ["| crate | proof | tests | edits | a change of it proves again |", "|---|---|---|---|---|"]
+    """What each crate costs, and what a change of it proves again; an older row is of another text of its crate."""
+    rows, measured = minutes.read()
+    none = minutes.Row(dict.fromkeys(minutes.KINDS, 0.0))
+    own = {name: rows.get(name, none).total() for name in crates}
+    lines = ["| crate | proof | tests | edits | a change of it proves again | row |", "|---|---|---|---|---|---|"]
     for name in sorted(crates, key=lambda name: -own[name]):
-        proof, tests, edits = minutes.get(name, [0, 0, 0])
-        above = list_above(crates, name)
-        lines.append(f"| `{name}` | {proof:.1f} | {tests:.1f} | {edits:.1f} | {sum(own[it] for it in sorted(above)):.0f} min, {len(above)} crates |")
-    every = [sum(minutes.get(name, [0, 0, 0])[kind] for name in crates) for kind in range(3)]
-    lines.append(f"| all | {every[0]:.0f} | {every[1]:.0f} | {every[2]:.0f} | {sum(every):.0f} min |")
-    return "\n".join(lines) + "\n"
+        row, above = rows.get(name, none), list_above(crates, name)
+        numbers = " | ".join(f"{row.minutes[kind]:.1f}" for kind in minutes.KINDS)
+        lines.append(f"| `{name}` | {numbers} | {sum(own[it] for it in sorted(above)):.0f} min, {len(above)} crates | {'older' if row.is_older(name) else ''} |")
+    every = " | ".join(f"{sum(rows.get(name, none).minutes[kind] for name in crates):.0f}" for kind in minutes.KINDS)
+    older = sum(rows.get(name, none).is_older(name) for name in crates)
+    lines.append(f"| all | {every} | {sum(own.values()):.0f} min | {older} older |")
+    return "\n".join([*lines, "", *(f"Measured {line}." for line in measured)]) + "\n"
 
 
 def meaning_of(edit):
