@@ -8,6 +8,7 @@ way by itself. SMALLEST is of how many refused programs, for each code and word,
 import ctypes
 import os
 import random
+import re
 import sys
 from collections import Counter
 from pathlib import Path
@@ -119,13 +120,22 @@ class State:
         return tuple(getattr(self, name) for name in State.__slots__)
 
 
-u8, u32, u64 = ctypes.c_uint8, ctypes.c_uint32, ctypes.c_uint64
-# The inside of the record of a channel, which the library keeps to itself.
-Queued = onfiseq.record("Queued", page=u64, block=u32, is_program=u8)
-Lun = onfiseq.record("Lun", latch=u8, busy=u8, has_closer=u8, closer=u8, array_busy=u8, register=u8, has_column=u8, lost=u8, column=u32, array_block=u32,
-                     array_page=u64, register_block=u32, register_page=u64, outputs=u64, queued=u64, queue=Queued * 4)
-Target = onfiseq.record("Target", is_open=u8, opener=u8, phase=u8, r1=u8, r2=u8, r3=u8, is_empty=u8, column=u32, addresses=u64, inputs=u64, count=u64, luns=Lun * 4)
-Inside = onfiseq.record("Inside", magic=u32, geometry=onfiseq.Geometry, count=u64, targets=Target * 4)
+NUMBERS = {"u8": ctypes.c_uint8, "u16": ctypes.c_uint16, "u32": ctypes.c_uint32, "u64": ctypes.c_uint64, "usize": ctypes.c_uint64}
+
+
+def inner_records(*sources):
+    """The records that the library keeps to itself, by their names, as these sources of its crates have them, each behind those that it holds."""
+    records = dict(NUMBERS)
+    for source in sources:
+        text = (Path(__file__).resolve().parents[1] / "crates" / source).read_text(encoding="utf-8")
+        for name, body in re.findall(r"(?s)pub struct (Onfiseq\w+) \{\n(.*?)\n\}", text):
+            fields = re.findall(r"(?m)^    pub (\w+): \[?(\w+)(?:; (\d+)\])?,$", body)
+            records[name] = onfiseq.record(name, **{field: records[kind] * int(count) if count else records[kind] for field, kind, count in fields})
+    return records
+
+
+INNER = inner_records("target_record/src/geometry.rt", "target_record/src/record.rt", "bus_record/src/bus.rt")
+Inside, Target = INNER["OnfiseqBus"], INNER["OnfiseqTarget"]
 assert ctypes.sizeof(Inside) == ctypes.sizeof(onfiseq.Bus)
 
 
@@ -344,7 +354,7 @@ class Oracle:
         self.load(state.bus)
         target, lun = self.inside.targets[0], self.lun
         tail = (target.opener, state.want, state.left) if self.lib.onfiseq_ask(self.work, self.reset) == SEQUENCE_OPEN or state.left else None
-        queue = tuple((row.is_program, row.block % PLANES) for row in lun.queue[: lun.queued])
+        queue = tuple((row.kind, row.block % PLANES) for row in lun.queue[: lun.queued])
         closer = lun.closer if lun.has_closer and lun.closer in (0x30, 0x31) else 0
         shown = (lun.latch, self.luns > 1 and self.drives_alone(state.bus))
         column = lun.has_column and not lun.lost and (lun.outputs > 0 and "read" or "given")
