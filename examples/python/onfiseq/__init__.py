@@ -15,5 +15,7 @@ from .records import Bus, Geometry, Item, Look, Part, Spot, record, size
 
 Broken = Fault  # its name before
 
+__version__ = "0.2.0"
+
 __all__ = ["Broken", "Bus", "Fault", "Geometry", "Item", "Look", "Missing", "Monitor", "Part", "Refused", "Spot", "VERSION"]
 __all__ += ["assemble", "disassemble", "load", "load_own", "name_of", "record", "size", "trace", "verify", "words"]
