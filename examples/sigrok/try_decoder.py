@@ -77,10 +77,12 @@ def record(folder, bug):
 
 
 def differing_operations(program, folder, told):
-    """What `onfiseq ops` says otherwise: names, places, data, polls and ends. libsigrokdecode tells no decoder of the end, so the last operation isn't there."""
+    """What `onfiseq ops` says otherwise: names, places, data, polls and ends. Of a change of the column the decoder has the column alone, and of a command outside of
+    the profile the end by R/B#. libsigrokdecode tells no decoder of the end of the recording, so the last operation isn't there."""
     listed = subprocess.run([program, "ops", PAGE, "1", folder + "/host.trace"], stdout=subprocess.PIPE, text=True).stdout
-    wanted = [re.sub(r"\s+", " ", line[28:]).strip() for line in listed.splitlines() if re.match(r" *\d+ +- ", line)]
-    here = [re.sub(r"; busy [^;]*", "", text) for _, _, text in told]
+    wanted = [" ".join(line.split()[3:]) for line in listed.splitlines() if re.match(r" *\d+ +- ", line)]
+    wanted = [re.sub(r"abandoned at \d+", "ready", re.sub(r"^column b\d+ p\d+", "column", text)) for text in wanted]
+    here = [re.sub(r"busy [^;]*; ", "", text) for _, _, text in told]
     return None if here == wanted[:-1] else next(("%r, and not %r" % pair for pair in zip(here, wanted) if pair[0] != pair[1]), "%d, and not %d" % (len(here), len(wanted) - 1))
 
 

@@ -6,6 +6,7 @@ CLOSERS = {0x00: (0x30, 0x31, 0x32, 0x35), 0x05: (0xE0,), 0x06: (0xE0,), 0x60: (
 READS = {0x31: "read-cache-random", 0x32: "read-plane", 0x35: "copyback-read"}
 NAMES = {0x05: "column", 0x06: "column-enhanced", 0x31: "read-cache", 0x3F: "read-cache-end", 0x70: "status", 0x78: "status", 0x90: "id", 0xEC: "parameters"}
 NAMES.update({0xED: "unique-id", 0xEE: "get-features", 0xEF: "set-features", 0xFA: "reset-lun", 0xFC: "synchronous-reset", 0xFF: "reset"})
+ONE_ADDRESS = (0x90, 0xEC, 0xED, 0xEE, 0xEF)
 STATUS, WORKS_ALONE = (0x70, 0x78), (0x31, 0x3F, 0xEC, 0xED, 0xEE, 0xEF, 0xFA, 0xFC, 0xFF)
 RDY, FAIL = 0x40, 0x01
 
@@ -34,7 +35,11 @@ class Operation:
         return begun and not (self.status is not None and self.status & RDY)
 
     def place(self, geometry):
-        """Its block, page and column, by the chip's geometry; nothing where there is none."""
+        """Its block, page and column, by the chip's geometry, or its one address; nothing where there is none."""
+        if self.opener in ONE_ADDRESS and self.addresses:
+            return "a%02x" % self.addresses[0]
+        if self.opener == 0x05 and len(self.addresses) == 2:
+            return "c%d" % int.from_bytes(bytes(self.addresses), "little")
         wants = {0x60: 3, 0x00: 5, 0x80: 5, 0x85: 5}.get(self.opener)
         if geometry is None or wants is None or len(self.addresses) < wants:
             return ""
@@ -52,7 +57,9 @@ class Operation:
         parts += ["polls %d" % self.polls] * bool(self.polls)
         if self.status is not None and self.status & RDY:
             parts.append("%s %02x" % ("failed" if self.status & FAIL else "ready", self.status))
-        return "; ".join([self.name() + (" " + place if place else "")] + parts)
+        elif self.ready_at is not None:
+            parts.append("ready")
+        return self.name() + " " * bool(place or parts) + "; ".join([place] * bool(place) + parts)
 
 
 class Operations:
