@@ -49,6 +49,10 @@ extern "C" {
 /** Counts up where a call or a record changes. The calls that begin a record compare it. */
 #define ONFISEQ_VERSION 3
 
+/** The release that this header is of. docs/use/C.md, "Releases", says what is kept until when. */
+#define ONFISEQ_RELEASE "0.2.0"
+static inline const char *onfiseq_version(void) { return ONFISEQ_RELEASE; }
+
 /** 64 bits at a multiple of 8 bytes: so a record has its fields at the same places everywhere. */
 #ifdef __GNUC__
 typedef uint64_t onfiseq_u64 __attribute__((aligned(8)));
@@ -119,7 +123,7 @@ enum onfiseq_optional {
     ONFISEQ_PLANE_READS = 0x0400,       /**< 32h */
     ONFISEQ_SYNCHRONOUS_RESET = 0x0800, /**< FCh */
     ONFISEQ_FREE_BLOCKS = 0x1000,       /**< blocks of one queue may differ above the plane */
-    ONFISEQ_ODD_EVEN = 0x2000,          /**< copies between odd and even pages */
+    ONFISEQ_ODD_EVEN = 0.1.00,          /**< copies between odd and even pages */
     ONFISEQ_WIDE = 0x8000               /**< 90h at 00h and 40h, and FFh in an open sequence */
 };
 

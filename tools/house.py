@@ -11,7 +11,8 @@ at the root; it takes seconds and proves nothing. It looks at
   (`minutes.py`), which `gate_minutes.py --table` writes;
 - the wrong bodies by what they do: docs/model/WRONG_BODIES.md, from the edits of the crates and from the rows of that page that say which were tried;
 - each name in backticks of four pages, which must stand somewhere in the repository;
-- each crate that crates.txt names for another, which must stand in a file of that one.
+- each crate that crates.txt names for another, which must stand in a file of that one;
+- the number of the release: what says it besides release/VERSION, which has it.
 
 What is made stands in a page between a line `<!-- house: NAME -->` and a line `<!-- end -->`.
 """
@@ -32,6 +33,20 @@ TRIED = re.compile(r"^\| `(\w+)` \| `(\w+)` \| .* \| `?[0-9a-f]+`? \|$", re.M)
 MADE = re.compile(r"(<!-- house: (\w+) -->\n).*?(<!-- end -->)", re.S)
 # Words in backticks that no file of ours has, as they are of the kit, of the system or of another tool.
 ELSEWHERE = set("rt rattle gcc clang main std core apt gtkwave vcd2fst iverilog vvp dac8208d650f15bf".split())
+
+
+# What says the number of the release besides release/VERSION, and how it stands there.
+NUMBERED = {
+    "crates/seq_cli/src/command_line.rt": r'\.version\("(.+?)"\)',
+    "crates/stored_runs/stdout": r"(?m)^onfiseq (\d[\d.]*)$",
+    "tools/cases/stored_runs.case": r"(?m)^\| onfiseq (\d[\d.]*)$",
+    "include/onfiseq.h": r'#define ONFISEQ_RELEASE "(.+?)"',
+    "examples/python/onfiseq/__init__.py": r'__version__ = "(.+?)"',
+    "examples/python/pyproject.toml": r'(?m)^version = "(.+?)"$',
+    "examples/rust/Cargo.toml": r'(?m)^version = "(.+?)"$',
+    "examples/rust/onfiseq-sys/Cargo.toml": r'(?m)^version = "(.+?)"$',
+    "examples/systemverilog/onfiseq.core": r"(?m)^name: ::onfiseq:(.+)$",
+}
 
 
 class Crate:
@@ -241,6 +256,22 @@ def find_unused(crates):
                 yield f"crates.txt: no file of {crate.name} names {name}"
 
 
+def number_release(path, pattern, number):
+    """A file with the release's number where it says one."""
+    text = (ROOT / path).read_text(encoding="utf-8")
+    found = re.search(pattern, text)
+    if not found:
+        sys.exit(f"house: {path} doesn't say the number of the release any more: change NUMBERED")
+    return text[: found.start(1)] + number + text[found.end(1) :]
+
+
+def find_unnamed_release(number):
+    """Whether the first heading of the changelog is this release's."""
+    first = re.search(r"(?m)^## (\S+), \d{4}-\d\d-\d\d$", (ROOT / "CHANGELOG.md").read_text(encoding="utf-8"))
+    if not first or first[1] != number:
+        yield f"CHANGELOG.md: its first heading is to be `## {number}, ` and the day, as release/VERSION says"
+
+
 def make(page, made):
     """The page with what is made put in."""
     return MADE.sub(lambda found: f"{found[1]}{made[found[2]]()}{found[3]}" if found[2] in made else found[0], page)
@@ -252,6 +283,8 @@ def main():
     wanted = {"docs/develop/layers.svg": draw_layers(crates), "docs/develop/data.svg": draw_data()}
     for page in (*LOOKED_UP, WRONG_BODIES):
         wanted[page] = make((ROOT / page).read_text(encoding="utf-8"), made)
+    number = (ROOT / "release/VERSION").read_text(encoding="utf-8").strip()
+    wanted.update({path: number_release(path, pattern, number) for path, pattern in NUMBERED.items()})
     places = {name for text in wanted.values() for _, name, _ in MADE.findall(text)}
     faults = [f"no page has a place for `{name}`: a line <!-- house: {name} --> and a line <!-- end -->" for name in made if name not in places]
     for path, text in wanted.items():
@@ -259,8 +292,8 @@ def main():
         if "--write" in sys.argv:
             file.write_text(text, encoding="utf-8")
         if not file.exists() or file.read_text(encoding="utf-8") != text:
-            faults.append(f"{path} isn't what the crates say: python3 tools/house.py --write")
-    faults += [*find_stale_names(), *find_unused(crates)]
+            faults.append(f"{path} isn't what the crates and release/VERSION say: python3 tools/house.py --write")
+    faults += [*find_stale_names(), *find_unused(crates), *find_unnamed_release(number)]
     print("\n".join(faults) or f"house: {len(crates)} crates, and the pages say what they are")
     sys.exit(1 if faults else 0)
 

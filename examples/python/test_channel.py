@@ -7,8 +7,9 @@ AssertionError.
 import copy
 import os
 import pickle
+import re
 from pathlib import Path
-from typing import Any, Callable, Type, TypeVar
+from typing import Any, Callable, Iterator, Tuple, Type, TypeVar
 
 import onfiseq
 
@@ -149,6 +150,42 @@ def test_numbers_out_of_range_are_refused_by_name() -> None:
     assert bus.count == 0
     assert raised(onfiseq.Refused, channel, 5).code == "T0"
     assert raised(onfiseq.Fault, bus.push, 0, "Z", 0).code == "I"
+
+
+# ---- whole traces, as cases of the program have them
+
+
+def cases_of_profiles() -> Iterator[Tuple[str, str, str]]:
+    """The trace, the profile and the first line of each check in tools/cases/profiles.case."""
+    text = (EXAMPLES.parent / "tools/cases/profiles.case").read_text()
+    for case in text.split("\n== ")[1:]:
+        trace = "".join(line + "\n" for line in re.findall(r"(?m)^\| (.*)$", case.split("\n$ ")[0]))
+        for profile, first in re.findall(r"\n\$ onfiseq check die\.page 1 bus\.trace(?: --profile (\w+))?\nstatus [01]\nout\n\| (.*)", case):
+            yield trace, profile or "base", first
+
+
+def test_the_profiles() -> None:
+    text = (EXAMPLES.parent / "tools/cases/profiles.case").read_text().split("\n== ")[0]
+    page, played = bytes.fromhex("".join(re.findall(r"(?m)^hex (.*)$", text))), 0
+    for trace, profile, first in cases_of_profiles():
+        told = onfiseq.check(page, 1, trace, profile, lib=LIB)
+        fault = told["fault"]
+        assert (first == "legal") == told["legal"] and (not fault or "refused %s at %d" % (fault["code"], fault["item"]) == first), (trace, profile, told)
+        played += 1
+    assert played == 33
+    assert onfiseq.Monitor(LIB, page, profile="onfi").geometry.optional and not onfiseq.Monitor(LIB, page).geometry.optional
+    assert str(raised(ValueError, onfiseq.Monitor, LIB, page, 1, True, "wide")) == "the profile is base or onfi, and not wide"
+
+
+def test_a_verdict() -> None:
+    text = "# as people record it\n\n@10 0 C 80\n@20 0 A 00 ; a column\r\n\n 0 C 60\n"
+    fault = {"code": "F3", "item": 2, "line": 6, "words": "a sequence is open on the target, so none may begin", "cause": "a sequence is open: `80` wants address 2 of 5 next (F3)"}
+    assert onfiseq.check(PAGE, 1, text, lib=LIB) == {"legal": False, "items": 2, "fault": fault}
+    assert onfiseq.check(PAGE, 1, text[:-8], lib=LIB) == {"legal": True, "items": 2, "fault": None}
+    for told, code, line in ((onfiseq.check(PAGE, 1, text + "0 Z 00\n", lib=LIB), "X1", 7), (onfiseq.check(b"", 1, text, lib=LIB), "P1", None), (onfiseq.check(PAGE, 5, text, lib=LIB), "T0", None)):
+        assert not told["legal"] and (told["fault"]["code"], told["fault"]["line"], told["fault"]["item"]) == (code, line, None)
+    polled = (EXAMPLES / "c/no_ready.trace").read_text()
+    assert not onfiseq.check(PAGE, 1, polled, lib=LIB)["legal"] and onfiseq.check(PAGE, 1, polled, sees_ready=False, lib=LIB)["legal"]
 
 
 # ---- ways out, copies, texts

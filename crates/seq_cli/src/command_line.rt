@@ -205,7 +205,7 @@ const MOST_SEARCHED: u64 = 100_000;
 fn declare<'a>(alloc: Global) -> Result<clap::Command<'a>, Error> {
     let mut command = clap::Command::new(alloc, "onfiseq")
         .bin_name("onfiseq")?
-        .version("0.1.0")
+        .version("0.2.0")
         .about("Verifies microprograms of NAND flash, and runs them on a modelled channel")
         .after_help(
             "Examples: onfiseq verify die.page erase.asm; onfiseq check die.page 1 bus.trace; onfiseq run channel.run",

@@ -42,6 +42,7 @@ LIBRARIES: Dict[str, Dict[str, Tuple[Any, List[Any]]]] = {
         "onfiseq_assemble": (Placed, [_text, size, _text, size]),
         "onfiseq_disassemble": (Placed, [_text, size, _text, size]),
         "onfiseq_trace": (Placed, [_text, size, u8, _to(Item), size]),
+        "onfiseq_explain": (size, [_to(Bus), _to(Item), _text, size]),
         "onfiseq_words": (size, [u32, _text, size]),
     },
     "onfiseq_live_c": {
@@ -58,6 +59,17 @@ LIBRARIES: Dict[str, Dict[str, Tuple[Any, List[Any]]]] = {
 
 # The records whose sizes a library tells, by the call that does.
 TOLD = {"onfiseq_sizes": "Geometry Page Item Answer Bus Look Part Spot", "onfiseq_live_sizes": "Loops Job Live Burst Turn Step"}
+
+
+# The profiles by their names; none is the base profile.
+PROFILES = {None: 0, "base": 0, "onfi": 1}
+
+
+def number_of_profile(profile: Optional[str]) -> int:
+    """A profile as onfiseq.h has it; else a ValueError."""
+    if profile not in PROFILES:
+        raise ValueError("the profile is base or onfi, and not %s" % profile)
+    return PROFILES[profile]
 
 
 class Missing(OSError):
@@ -94,10 +106,11 @@ def _compare_sizes(lib: ctypes.CDLL, path: str, call: str) -> None:
 
 def load(path: Union[str, "os.PathLike[str]", None] = None) -> ctypes.CDLL:
     """The library of this path; where there is none, of ONFISEQ_LIBRARY, or the one beside this package. It raises Missing where it isn't there, and a ValueError
-    where its records aren't those here. It may lack all but the checker: a call that it hasn't raises Missing."""
+    where its records aren't those here. It may lack all but the checker: a call that it hasn't raises Missing. One thread at a time is in its calls, as the one C
+    file wants it."""
     its = os.fspath(path) if path is not None else _find()
     try:
-        lib = ctypes.CDLL(its)
+        lib = ctypes.PyDLL(its)  # it keeps the interpreter's lock
     except OSError as why:
         raise Missing("%s can't be loaded: %s" % (its, why)) from why
     for library, calls in LIBRARIES.items():
