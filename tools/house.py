@@ -38,8 +38,6 @@ ELSEWHERE = set("rt rattle gcc clang main std core apt gtkwave vcd2fst iverilog 
 # What says the number of the release besides release/VERSION, and how it stands there.
 NUMBERED = {
     "crates/seq_cli/src/command_line.rt": r'\.version\("(.+?)"\)',
-    "crates/stored_runs/stdout": r"(?m)^onfiseq (\d[\d.]*)$",
-    "tools/cases/stored_runs.case": r"(?m)^\| onfiseq (\d[\d.]*)$",
     "include/onfiseq.h": r'#define ONFISEQ_RELEASE "(.+?)"',
     "examples/python/onfiseq/__init__.py": r'__version__ = "(.+?)"',
     "examples/python/pyproject.toml": r'(?m)^version = "(.+?)"$',
