@@ -20,7 +20,7 @@
  *     libonfiseq_show_c.a    pictures and notes    memory by onfiseq_alloc, all of it given back
  *
  * The header is the same for every processor and byte order. release/onfiseq.c has the calls of
- * the first four libraries for whatever has a C compiler, one thread at a time.
+ * the first four libraries for whatever has a C compiler.
  *
  * No call aborts, and none keeps anything behind your back. A call may be made from several
  * threads at once, as long as they don't share what it writes.

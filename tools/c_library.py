@@ -48,6 +48,7 @@ USERS = (
     ("stuck", ["{out}/stuck"], None, 0),
     ("driver", ["{out}/driver"], None, 0),
     ("exec_op", ["{out}/exec_op", CHIP], None, 0),
+    ("threads", ["{out}/threads", CHIP], None, 0),
     ("first", ["{out}/first"], None, 0),
     ("monitor_cpp", ["{out}/monitor_cpp", CHIP], ERASE + ".trace", 0),
     ("page", ["{out}/page", CHIP], "examples/c/busy.trace", 1),
@@ -181,6 +182,7 @@ def compile_all():
     if archives_at == BUILT:  # the one C file has neither pictures nor notes, and asks for memory by realloc
         run(*CC, "-DROOM=16777216", "examples/c/loader.c", "examples/c/pool.c", *archives, "-o", OUT + "/loader_pool")
         run(*CC, "-std=gnu11", "examples/c/stack.c", *archives, "-pthread", "-o", OUT + "/stack")
+    run(*CC, "examples/c/threads.c", *archives, "-pthread", "-o", OUT + "/threads")
     write_page_programs()
     for name in ("page", "first"):
         run(*CC, "%s/%s.c" % (OUT, name), *archives, "-o", "%s/%s" % (OUT, name))
@@ -249,8 +251,7 @@ def run_cargo():
     """Builds the crate onfiseq-sys without a registry, tries it, and runs its example."""
     names = {"CARGO_TARGET_DIR": os.path.abspath(OUT + "/cargo"), "RUSTFLAGS": "-D warnings"}
     if archives_at == PORTABLE:
-        # one thread at a time may be in the calls of the one C file
-        names.update({"ONFISEQ_LIB": os.path.abspath(os.path.dirname(PORTABLE)), "RUST_TEST_THREADS": "1"})
+        names["ONFISEQ_LIB"] = os.path.abspath(os.path.dirname(PORTABLE))
     for words in (["build", "--no-default-features"], ["build", "--examples"], ["test"]):
         ran = subprocess.run(["cargo", *words, "--offline", "--quiet"], cwd="examples/rust/onfiseq-sys", env={**os.environ, **names}, stdout=subprocess.PIPE, stderr=subprocess.STDOUT, text=True)
         if ran.returncode:

@@ -6,11 +6,14 @@
  * its memory and out. It needs memcpy, memmove and memset, and malloc, calloc and free unless ONFISEQ_MEMORY says otherwise:
  *
  *     ONFISEQ_MEMORY      the module's memory is a static array of so many bytes: its stack, its data, and room for what a call is given.
- *                         Without it, the memory is taken by malloc at the first call, grows as calls need it, and is kept.
+ *                         One thread at a time may then be in its calls. Without it, each thread has a memory, which is taken by calloc
+ *                         at its first call, grows as its calls need it, and is kept.
+ *     ONFISEQ_THREAD      what the compiler calls a variable of each thread: _Thread_local, __thread or __declspec(thread), if nothing is said.
+ *                         Defined as nothing, there is one memory for all, and one thread at a time may be in the calls.
  *     ONFISEQ_TRAP(why)   is called where the module can't go on, as where the memory is too small for what a call is given, and must not come back.
  *                         Without it, abort is called.
  *
- * One thread at a time may be in its calls, whatever records they are given, since the module has one memory. */
+ * Threads may be in its calls at once, each with records of its own. */
 #include "onfiseq.h"
 #include <stdlib.h>
 #include <string.h>
@@ -20,6 +23,19 @@
 #endif
 #ifndef ONFISEQ_TRAP
 #define ONFISEQ_TRAP(why) abort()
+#endif
+#ifndef ONFISEQ_THREAD
+#if ONFISEQ_MEMORY || defined(__TINYC__)
+#define ONFISEQ_THREAD
+#elif defined(__STDC_VERSION__) && __STDC_VERSION__ >= 201112L && !defined(__STDC_NO_THREADS__)
+#define ONFISEQ_THREAD _Thread_local
+#elif defined(_MSC_VER)
+#define ONFISEQ_THREAD __declspec(thread)
+#elif defined(__GNUC__)
+#define ONFISEQ_THREAD __thread
+#else
+#define ONFISEQ_THREAD
+#endif
 #endif
 
 /* ---- what a module runs on */

@@ -1,8 +1,8 @@
 
 /* ---- the memory that a call uses, from heap_base on: it is free again when the call ends */
 
-static struct module module;
-static u64 room_at;
+static ONFISEQ_THREAD struct module module;
+static ONFISEQ_THREAD u64 room_at;
 
 #if ONFISEQ_MEMORY
 static union {
@@ -20,9 +20,10 @@ static bool has_memory(struct memory *memory, u64 size) {
     u8 *data;
     if (size <= memory->size) return true;
     if (wanted > 0x7fff0000u) return false;
-    data = (u8 *)realloc(memory->data, (size_t)wanted);
+    /* (what calloc gives is often no memory yet, and most of the stack is never touched) */
+    data = memory->data == NULL ? (u8 *)calloc((size_t)wanted, 1) : (u8 *)realloc(memory->data, (size_t)wanted);
     if (data == NULL) return false;
-    memset(data + memory->size, 0, (size_t)(wanted - memory->size));
+    if (memory->data != NULL) memset(data + memory->size, 0, (size_t)(wanted - memory->size));
     memory->data = data, memory->size = wanted;
     return true;
 }
@@ -60,7 +61,7 @@ static void get_bytes(u64 at, void *bytes, u64 count) {
 
 /* ---- the memory that the module asks for: of the room, behind what the call was given. A block that is given back is room again where it stands last. */
 
-static u64 last_block;
+static ONFISEQ_THREAD u64 last_block;
 
 /* An answer is a struct {u64 ok; void *memory;}, a pointer of 8 bytes. */
 static void answer_block(u32 answer, u64 at) {

@@ -1,5 +1,4 @@
 //! The calls of `onfiseq.h` (`sys`), and a channel over them whose calls are safe, also from several threads.
-//! Only over `release/onfiseq.c` in place of the libraries they aren't: one thread at a time may be in its calls.
 //!
 //! ```
 //! use onfiseq_sys::{Channel, Fault, Geometry, Item};
