@@ -1,6 +1,6 @@
 /* The monitor of ../systemverilog/onfiseq_dpi.c for simulators that have VPI and no DPI, as Icarus Verilog:
  *
- *     $onfiseq_open(PAGE, LUNS, SEES_READY, PASSES)   a handle, or -1 where PAGE is no chip
+ *     $onfiseq_open(PAGE, LUNS, SEES_READY, PASSES, PROFILE)   a handle, or -1 where PAGE is no chip
  *     $onfiseq_see(handle, kind, byte)                0, -1, or the code of a rule, as onfiseq_dpi_see has it; a byte with a bit that is x or z is below 0
  *     $onfiseq_words(code)                            what a code means
  *
@@ -10,7 +10,7 @@
 #include <stdio.h>
 #include <vpi_user.h>
 
-void *onfiseq_dpi_open(const char *page_path, int targets);
+void *onfiseq_dpi_open(const char *page_path, int targets, int profile);
 void onfiseq_dpi_watch(void *channel, int luns, int sees_ready, const uint32_t *passes);
 int onfiseq_dpi_see(void *channel, int kind, int byte);
 const char *onfiseq_dpi_words(int code);
@@ -58,8 +58,9 @@ static PLI_INT32 open_chip(PLI_BYTE8 *data) {
     snprintf(kept, sizeof kept, "%s", path.value.str); /* the next value stands in the same place */
     int luns = scan_number(arguments), sees_ready = scan_number(arguments);
     scan_bits(arguments, passes, WORDS);
+    int profile = scan_number(arguments);
     vpi_free_object(arguments);
-    void *it = opened < MOST ? onfiseq_dpi_open(kept, 1) : NULL;
+    void *it = opened < MOST ? onfiseq_dpi_open(kept, 1, profile) : NULL;
     if (it == NULL) return answer(-1), 0;
     onfiseq_dpi_watch(it, luns, sees_ready, passes);
     channels[opened] = it;
@@ -100,7 +101,7 @@ static PLI_INT32 count_arguments(PLI_BYTE8 *data) {
 
 static void begin(void) {
     static s_vpi_systf_data calls[] = {
-        {vpiSysFunc, vpiIntFunc, "$onfiseq_open", open_chip, count_arguments, NULL, "4"},
+        {vpiSysFunc, vpiIntFunc, "$onfiseq_open", open_chip, count_arguments, NULL, "5"},
         {vpiSysFunc, vpiIntFunc, "$onfiseq_see", see, count_arguments, NULL, "3"},
         {vpiSysFunc, vpiSizedFunc, "$onfiseq_words", words, count_arguments, bits_of_words, "1"},
     };

@@ -7,7 +7,7 @@
 #ifdef __cplusplus
 extern "C" {
 #endif
-void *onfiseq_dpi_open(const char *page_path, int targets);
+void *onfiseq_dpi_open(const char *page_path, int targets, int profile);
 int onfiseq_dpi_push(void *channel, int ce, int kind, int byte, int fail);
 int onfiseq_dpi_push_status(void *channel, int ce, int kind, int byte, int fail);
 int onfiseq_dpi_ask(void *channel, int ce, int kind, int byte, int fail);
@@ -32,13 +32,14 @@ struct channel {
     uint32_t foreign[8]; /* a bit for each command whose sequences are no fault */
 };
 
-/* A channel of so many targets of the chip whose parameter page stands in a file; null where there is none such. */
-void *onfiseq_dpi_open(const char *page_path, int targets) {
+/* A channel of so many targets of the chip whose parameter page stands in a file, with the optional commands that the page declares where the profile is 1; null where
+ * there is none such. */
+void *onfiseq_dpi_open(const char *page_path, int targets, int profile) {
     uint8_t page[4096];
     FILE *file = fopen(page_path, "rb");
     size_t length = file ? fread(page, 1, sizeof page, file) : 0;
     if (file) fclose(file);
-    struct onfiseq_page read = onfiseq_read_page(page, length);
+    struct onfiseq_page read = onfiseq_read_page_as(page, length, profile != 0);
     struct channel *it = (struct channel *)calloc(1, sizeof *it);
     if (it == NULL) return NULL;
     it->sees_ready = true;
