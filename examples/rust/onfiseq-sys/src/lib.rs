@@ -1,5 +1,6 @@
 //! The calls of `onfiseq.h` (`sys`), and a channel over them whose calls are safe, also from several threads.
-//! Only over `release/onfiseq.c` in place of the libraries they aren't: one thread at a time may be in its calls.
+//! Where `ONFISEQ_LIB` names a library that is made of `release/onfiseq.c` they aren't: one thread at a time may be in its calls.
+//! Where `build.rs` compiles that file, the channel sees to it.
 //!
 //! ```
 //! use onfiseq_sys::{Channel, Fault, Geometry, Item};
