@@ -123,7 +123,7 @@ enum onfiseq_optional {
     ONFISEQ_PLANE_READS = 0x0400,       /**< 32h */
     ONFISEQ_SYNCHRONOUS_RESET = 0x0800, /**< FCh */
     ONFISEQ_FREE_BLOCKS = 0x1000,       /**< blocks of one queue may differ above the plane */
-    ONFISEQ_ODD_EVEN = 0.1.00,          /**< copies between odd and even pages */
+    ONFISEQ_ODD_EVEN = 0x2000,          /**< copies between odd and even pages */
     ONFISEQ_WIDE = 0x8000               /**< 90h at 00h and 40h, and FFh in an open sequence */
 };
 
