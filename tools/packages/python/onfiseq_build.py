@@ -1,6 +1,6 @@
 """Makes the wheel of onfiseq of its sources, by a C compiler and nothing else: pip calls it, by PEP 517, in the folder of the sources.
 
-CC names the compiler (cc if it doesn't), CFLAGS its options (-O1). SOURCE_DATE_EPOCH is the time of the files in the wheel. Where the sources have no program, the
+CC names the compiler (cc if it doesn't), CFLAGS its options (-O1), LDFLAGS those for linking. SOURCE_DATE_EPOCH is the time of the files in the wheel. Where the sources have no program, the
 wheel has the library alone.
 """
 import base64
@@ -31,6 +31,10 @@ def compiler():
     return [*shlex.split(os.environ.get("CC", "cc")), *shlex.split(os.environ.get("CFLAGS", "-O1"))]
 
 
+def link_options():
+    return shlex.split(os.environ.get("LDFLAGS", ""))
+
+
 def compile_c(*words):
     """Calls the compiler, and ends with what it says where it isn't there or refuses."""
     try:
@@ -45,7 +49,7 @@ def make_library(sources, folder):
     """The shared object of the one C file, and its object for an archive."""
     made = folder + "/onfiseq.o"
     compile_c("-fPIC", "-I" + sources, "-c", sources + "/onfiseq.c", "-o", made)
-    compile_c("-shared", "-s", made, "-o", folder + "/libonfiseq.so")
+    compile_c("-shared", "-s", made, "-o", folder + "/libonfiseq.so", *link_options())
     return folder + "/libonfiseq.so", made
 
 
@@ -57,7 +61,7 @@ def make_program(sources, folder):
     objects = ["%s/%s.o" % (folder, os.path.basename(file)) for file in files]
     with ThreadPoolExecutor(os.cpu_count()) as pool:
         list(pool.map(lambda pair: compile_c("-c", pair[0], "-o", pair[1]), zip(files, objects)))
-    compile_c("-s", *objects, "-o", folder + "/onfiseq", "-pthread")
+    compile_c("-s", *objects, "-o", folder + "/onfiseq", "-pthread", *link_options())
     return folder + "/onfiseq"
 
 
