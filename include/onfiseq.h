@@ -49,7 +49,7 @@ extern "C" {
 /** Counts up where a call or a record changes. The calls that begin a record compare it. */
 #define ONFISEQ_VERSION 3
 
-/** The release that this header is of. docs/use/C.md, "Releases", says what is kept until when. */
+/** The release that this header is of. docs/use/COMMANDS.md, "Releases", says what is kept. */
 #define ONFISEQ_RELEASE "0.2.0"
 static inline const char *onfiseq_version(void) { return ONFISEQ_RELEASE; }
 

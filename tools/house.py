@@ -44,6 +44,7 @@ NUMBERED = {
     "examples/rust/Cargo.toml": r'(?m)^version = "(.+?)"$',
     "examples/rust/onfiseq-sys/Cargo.toml": r'(?m)^version = "(.+?)"$',
     "examples/systemverilog/onfiseq.core": r"(?m)^name: ::onfiseq:(.+)$",
+    "tools/packages/debian/changelog": r"^onfiseq \((.+?)\)",
 }
 
 

@@ -1,66 +1,98 @@
-"""Writes a Debian package for amd64: the program, its manual page and its completions.
-
-    python3 tools/packages/deb.py PROGRAM FOLDER      at the root; it needs dpkg-deb
-"""
+"""The Debian packages: of the folder debian/, which says what each is and what it has, built by dpkg-deb alone; tools/dist calls it. Where debhelper is installed,
+dpkg-buildpackage builds them too, of a copy of that folder at the root of the sources."""
 import gzip
 import os
+import re
 import shutil
 import subprocess
-import sys
 import tempfile
 
+import archive
 import version
+import wheel
 
-CONTROL = """Package: onfiseq
-Version: {version}
-Architecture: amd64
-Maintainer: the onfiseq developers <onfiseq@localhost>
-Depends: libc6
-Section: utils
-Priority: optional
-Installed-Size: {kilobytes}
-Description: {said}
- It checks traces of ONFI channels, verifies microprograms, assembles them,
- reads captures of logic analyzers, and runs channels on modelled dies.
-"""
+FOLDER = "tools/packages/debian"
+PYTHON = "lib/python3/dist-packages/onfiseq/"
 
 
-def write(path, content, mode=0o644):
-    os.makedirs(os.path.dirname(path), exist_ok=True)
-    with open(path, "wb") as it:
-        it.write(content)
-    os.chmod(path, mode)
+def stage(installed, folder):
+    """Writes what the packages have below a folder, where it stands once it is installed."""
+    files = {"usr/" + name: content for name, content in installed.items() if not name.endswith("libonfiseq.so")}
+    files.update({"usr/" + PYTHON + name: content for name, content in wheel.package().items()})
+    files["usr/" + PYTHON + "libonfiseq.so"] = installed["lib/libonfiseq.so"]
+    files["usr/" + PYTHON + "onfiseq"] = archive.Link(b"../../../../bin/onfiseq")
+    archive.write_folder(files, folder)
 
 
-def read(path):
-    with open(path, "rb") as it:
-        return it.read()
+def paragraphs():
+    """What control says of each package, by its name."""
+    found = archive.read(FOLDER + "/control").decode().split("\n\n")[1:]
+    return {re.match(r"Package: (\S+)", text)[1]: text.strip() + "\n" for text in found}
 
 
-def fill(top, program):
-    """Puts the files of the package where they are to stand."""
-    write(top + "/usr/bin/onfiseq", read(program), 0o755)
-    with tempfile.TemporaryDirectory() as room:
-        subprocess.run([sys.executable, "tools/man.py", top + "/usr/bin/onfiseq", room], check=True, stdout=subprocess.DEVNULL)
-        write(top + "/usr/share/man/man1/onfiseq.1.gz", gzip.compress(read(room + "/onfiseq.1"), mtime=0))
-        write(top + "/usr/share/bash-completion/completions/onfiseq", read(room + "/onfiseq.bash"))
-    write(top + "/usr/share/doc/onfiseq/copyright", read("LICENSE"))
-    size = sum(os.path.getsize(os.path.join(at, name)) for at, _, names in os.walk(top) for name in names)
-    write(top + "/DEBIAN/control", CONTROL.format(version=version.local(), kilobytes=size // 1024 + 1, said=version.SAID).encode())
+def told(words):
+    return subprocess.run(words, check=True, stdout=subprocess.PIPE, text=True).stdout.strip()
 
 
-def main():
-    program, folder = sys.argv[1:3]
+def control_of(text, size):
+    """What stands in a package of its paragraph: this machine's architecture, and the C library that it was linked with."""
+    libc = told(["dpkg-query", "-W", "-f", "${Version}", "libc6"]).split("-")[0]
+    text = text.replace("${shlibs:Depends}", "libc6 (>= %s)" % libc).replace("${binary:Version}", version.number())
+    text = re.sub(r"(?m)^Depends: \$\{misc:Depends\}\n|, \$\{misc:Depends\}", "", text)
+    maintainer = re.search(r"(?m)^Maintainer: .*$", archive.read(FOLDER + "/control").decode())[0]
+    head = "Version: %s\n%s\nPriority: optional\nInstalled-Size: %d\n" % (version.number(), maintainer, size // 1024 + 1)
+    return re.sub(r"(?m)^Architecture: any\n", "Architecture: %s\n" % told(["dpkg", "--print-architecture"]) + head, text)
+
+
+def documents():
+    """The files that every package has."""
+    return {"copyright": archive.read("LICENSE"), "changelog.gz": gzip.compress(archive.read(FOLDER + "/changelog"), mtime=0)}
+
+
+def copy(staged, top, path):
+    source, target = "%s/%s" % (staged, path), "%s/%s" % (top, path)
+    os.makedirs(os.path.dirname(target), exist_ok=True)
+    if os.path.isdir(source):
+        shutil.copytree(source, target, symlinks=True)
+    else:
+        shutil.copy2(source, target)
+
+
+def fill(name, staged, top):
+    """Copies the paths that a package's list names, and packs its manual page."""
+    for path in archive.read("%s/%s.install" % (FOLDER, name)).decode().split():
+        copy(staged, top, path)
+    page = top + "/usr/share/man/man1/onfiseq.1"
+    if os.path.isfile(page):
+        archive.write_folder({"onfiseq.1.gz": gzip.compress(archive.read(page), mtime=0)}, os.path.dirname(page))
+        os.remove(page)
+    archive.write_folder(documents(), "%s/usr/share/doc/%s" % (top, name))
+
+
+def pack(name, text, top, folder):
+    """Writes one package, all of it or nothing."""
+    size = sum(os.lstat(os.path.join(at, it)).st_size for at, _, names in os.walk(top) for it in names)
+    archive.write_folder({"control": control_of(text, size).encode()}, top + "/DEBIAN")
+    for at, folders, _ in os.walk(top):
+        for it in [at] + [os.path.join(at, it) for it in folders]:
+            os.chmod(it, 0o755)
+            os.utime(it, (version.time(), version.time()))
+    path = "%s/%s_%s_%s.deb" % (folder, name, version.number(), told(["dpkg", "--print-architecture"]))
+    names = {**os.environ, "SOURCE_DATE_EPOCH": str(version.time())}
+    subprocess.run(["dpkg-deb", "--root-owner-group", "--build", top, path + ".new"], check=True, stdout=subprocess.DEVNULL, env=names)
+    os.replace(path + ".new", path)
+    print("%s, %d bytes" % (path, os.path.getsize(path)), flush=True)
+
+
+def write(installed, folder):
     if shutil.which("dpkg-deb") is None:
-        sys.exit("deb: dpkg-deb isn't installed")
-    path = "%s/%s_%s_amd64.deb" % (folder, version.NAME, version.local())
-    os.makedirs(folder, exist_ok=True)
-    with tempfile.TemporaryDirectory() as top:
-        os.chmod(top, 0o755)
-        fill(top, program)
-        subprocess.run(["dpkg-deb", "--root-owner-group", "--build", top, path], check=True, stdout=subprocess.DEVNULL)
-    print("%s, %d bytes" % (path, os.path.getsize(path)))
-
-
-if __name__ == "__main__":
-    main()
+        print("dist: skipped: the Debian packages, as dpkg-deb isn't installed")
+        return
+    with tempfile.TemporaryDirectory() as room:
+        stage(installed, room + "/staged")
+        for name, text in paragraphs().items():
+            if name != "libonfiseq-dev" and "bin/onfiseq" not in installed:
+                print("dist: skipped: the Debian package %s, as there is no release/program" % name)
+                continue
+            fill(name, room + "/staged", "%s/%s" % (room, name))
+            pack(name, text, "%s/%s" % (room, name), folder)

@@ -1,13 +1,11 @@
-"""Writes a package for Node and for bundlers: the WebAssembly module, the script that calls it, and its types.
-
-    python3 tools/packages/npm.py MODULE.wasm FOLDER      at the root
-"""
-import io
+"""The package for Node and for bundlers: the WebAssembly module, the script that calls it, and its types; tools/dist calls it."""
+import base64
 import json
 import os
+import re
 import sys
-import tarfile
 
+import archive
 import version
 
 sys.path.insert(0, "tools/machines")
@@ -23,9 +21,15 @@ module.exports.shape = shape;
 NUMBERS = {"bool": "boolean"}
 
 
-def read(path):
-    with open(path, "rb") as it:
-        return it.read()
+# A module of WebAssembly in base64, as a page has it.
+MODULE = re.compile(rb"AGFzbQEA[A-Za-z0-9+/]+=*")
+
+
+def find_module():
+    """The module with the calls of the header: that of release/, the one in its page, or the one that tools/machines has built; None where there is none."""
+    modules = [archive.read(path) for path in ("release/onfiseq.wasm", "out/machines/wasm/whole.wasm") if os.path.isfile(path)]
+    modules[1:1] = [base64.b64decode(it) for it in MODULE.findall(archive.read("release/playground.html"))]
+    return next((it for it in modules if b"onfiseq_read_page" in it), None)
 
 
 def type_name(kind):
@@ -63,28 +67,19 @@ def types(records, calls):
 def contents(module):
     """The files of the package, by their names in it."""
     records, calls = header.read("include/onfiseq.h")
-    manifest = {"name": version.NAME, "version": "%s-g%s" % (version.number(), version.commit()), "description": version.SAID, "license": "MIT", "main": "index.js", "types": "index.d.ts"}
+    manifest = {"name": version.NAME, "version": version.number(), "description": version.SAID, "license": "MIT", "main": "index.js", "types": "index.d.ts"}
     return {
         "package.json": (json.dumps(manifest, indent=2) + "\n").encode(),
         "index.js": INDEX.format(shape=json.dumps({"records": records, "calls": calls})).encode(),
         "index.d.ts": types(records, calls).encode(),
-        "onfiseq.js": read("tools/machines/page/onfiseq.js"),
-        "onfiseq.wasm": read(module),
-        "LICENSE": read("LICENSE"),
+        "onfiseq.js": archive.read("tools/machines/page/onfiseq.js"),
+        "onfiseq.wasm": module,
+        "LICENSE": archive.read("LICENSE"),
     }
 
 
-def main():
-    module, folder = sys.argv[1:3]
-    path = "%s/%s-%s.tgz" % (folder, version.NAME, version.local())
-    os.makedirs(folder, exist_ok=True)
-    with tarfile.open(path, "w:gz") as it:
-        for name, content in contents(module).items():
-            entry = tarfile.TarInfo("package/" + name)
-            entry.size = len(content)
-            it.addfile(entry, io.BytesIO(content))
-    print("%s, %d bytes" % (path, os.path.getsize(path)))
-
-
-if __name__ == "__main__":
-    main()
+def write(folder):
+    module = find_module()
+    if module is None:
+        sys.exit("dist: no module with the calls of onfiseq.h is in release/, and tools/machines hasn't built it: the package for Node isn't made")
+    archive.write_tar("%s/%s-%s.tgz" % (folder, version.NAME, version.number()), contents(module), "package")

@@ -1,5 +1,5 @@
-"""The version of the packages: that of the changelog, and the commit."""
-import re
+"""What the packages say of themselves: the number of release/VERSION, the commit, and its time, which is that of every file in them."""
+import os
 import subprocess
 
 NAME = "onfiseq"
@@ -7,17 +7,26 @@ SAID = "A proved checker, verifier and sequencer for the channels of NAND flash"
 
 
 def number():
-    """The version that the changelog names."""
-    with open("CHANGELOG.md") as it:
-        return re.search(r"the version is (\d+\.\d+\.\d+)", it.read()).group(1)
+    """The number of the release."""
+    with open("release/VERSION") as it:
+        return it.read().strip()
+
+
+def git(*words):
+    return subprocess.run(["git", *words], check=True, stdout=subprocess.PIPE, stderr=subprocess.DEVNULL, text=True).stdout.strip()
 
 
 def commit():
-    """The commit, with .dirty where a file isn't as that has it."""
-    told = subprocess.run(["git", "describe", "--always", "--dirty", "--exclude", "*"], check=True, stdout=subprocess.PIPE, text=True).stdout
-    return told.strip().replace("-", ".")
+    """The commit, with -dirty where a file isn't as that has it; unknown outside of a repository."""
+    try:
+        return git("rev-parse", "HEAD") + ("-dirty" if git("status", "--porcelain", "--untracked-files=no") else "")
+    except (OSError, subprocess.CalledProcessError):
+        return "unknown"
 
 
-def local():
-    """As pip and dpkg order it."""
-    return "%s+g%s" % (number(), commit())
+def time():
+    """The seconds that SOURCE_DATE_EPOCH names, else those of the commit; that of the first day of ZIP outside of a repository."""
+    try:
+        return int(os.environ.get("SOURCE_DATE_EPOCH") or git("log", "-1", "--format=%ct"))
+    except (OSError, subprocess.CalledProcessError):
+        return 315532800

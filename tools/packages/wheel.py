@@ -1,57 +1,47 @@
-"""Writes a wheel: the package of examples/python with the shared object beside it, for Linux on x86-64.
-
-    python3 tools/packages/wheel.py libonfiseq.so FOLDER      at the root
-"""
-import base64
-import hashlib
+"""The package for Python: its sources, which pip compiles by a C compiler alone, and the wheel that they make here; tools/dist calls it."""
 import os
+import subprocess
 import sys
-import zipfile
+import tempfile
 
+import archive
 import version
 
-TAG = "py3-none-linux_x86_64"
-PACKAGE = "examples/python/onfiseq"
+PACKAGE, SOURCES = "examples/python/onfiseq", "tools/packages/python"
+METADATA = "Metadata-Version: 2.1\nName: %s\nVersion: %s\nSummary: %s\nRequires-Python: >=3.8\nLicense: MIT\n"
+BUILD = "import sys; sys.dont_write_bytecode = True; sys.path.insert(0, '.'); import onfiseq_build; print(onfiseq_build.build_wheel(sys.argv[1]))"
 
 
-def read(path):
-    with open(path, "rb") as it:
-        return it.read()
+def package():
+    """The files of the package itself, by their names in it."""
+    return {name: archive.read("%s/%s" % (PACKAGE, name)) for name in sorted(os.listdir(PACKAGE)) if name.endswith((".py", ".typed"))}
 
 
-def contents(library):
-    """The files of the wheel, by their names in it."""
-    info = "%s-%s.dist-info" % (version.NAME, version.local())
-    metadata = "Metadata-Version: 2.1\nName: %s\nVersion: %s\nSummary: %s\nRequires-Python: >=3.8\nLicense: MIT\n" % (version.NAME, version.local(), version.SAID)
-    return info, {
-        **{"onfiseq/" + name: read("%s/%s" % (PACKAGE, name)) for name in sorted(os.listdir(PACKAGE)) if name.endswith((".py", ".typed"))},
-        "onfiseq/libonfiseq.so": read(library),
-        info + "/METADATA": metadata.encode(),
-        info + "/WHEEL": ("Wheel-Version: 1.0\nGenerator: onfiseq\nRoot-Is-Purelib: false\nTag: %s\n" % TAG).encode(),
-        info + "/LICENSE": read("LICENSE"),
-    }
+def c_sources():
+    """The C files of release/: the library, and the program where it is there."""
+    files = {name: archive.read("release/" + name) for name in ("onfiseq.c", "onfiseq.h")}
+    return {**files, **(archive.read_folder("release/program", "program") if os.path.isdir("release/program") else {})}
 
 
-def record_of(files, info):
-    """The list of files with their checksums."""
-    lines = []
-    for name, content in files.items():
-        digest = base64.urlsafe_b64encode(hashlib.sha256(content).digest()).rstrip(b"=").decode()
-        lines.append("%s,sha256=%s,%d" % (name, digest, len(content)))
-    return "\n".join(lines + [info + "/RECORD,,"]) + "\n"
+def contents():
+    """The files of the sources, by their names in them."""
+    files = {"c/" + name: content for name, content in c_sources().items()}
+    files.update({"onfiseq/" + name: content for name, content in package().items()})
+    files.update({name: archive.read("%s/%s" % (SOURCES, name)) for name in ("pyproject.toml", "onfiseq_build.py")})
+    files["PKG-INFO"] = (METADATA % (version.NAME, version.number(), version.SAID)).encode()
+    files["LICENSE"] = archive.read("LICENSE")
+    return files
 
 
-def main():
-    library, folder = sys.argv[1:3]
-    info, files = contents(library)
-    files[info + "/RECORD"] = record_of(files, info).encode()
-    path = "%s/%s-%s-%s.whl" % (folder, version.NAME, version.local(), TAG)
-    os.makedirs(folder, exist_ok=True)
-    with zipfile.ZipFile(path, "w", zipfile.ZIP_DEFLATED) as it:
-        for name, content in files.items():
-            it.writestr(zipfile.ZipInfo(name, (1980, 1, 1, 0, 0, 0)), content, zipfile.ZIP_DEFLATED)
-    print("%s, %d bytes" % (path, os.path.getsize(path)))
-
-
-if __name__ == "__main__":
-    main()
+def write(folder):
+    """The sources, and the wheel that they make."""
+    top, files = "%s-%s" % (version.NAME, version.number()), contents()
+    archive.write_tar("%s/%s.tar.gz" % (folder, top), files, top)
+    with tempfile.TemporaryDirectory() as room:
+        archive.write_folder(files, room)
+        names = {**os.environ, "SOURCE_DATE_EPOCH": str(version.time())}
+        ran = subprocess.run([sys.executable, "-c", BUILD, os.path.abspath(folder)], cwd=room, env=names, stdout=subprocess.PIPE, text=True)
+    if ran.returncode:
+        sys.exit("dist: the wheel isn't made")
+    made = "%s/%s" % (folder, ran.stdout.strip())
+    print("%s, %d bytes" % (made, os.path.getsize(made)), flush=True)

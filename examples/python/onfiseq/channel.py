@@ -98,7 +98,7 @@ class Monitor:
             raise self._fault_of(code, item)
         self.count += 1
 
-    def push_all(self, items: Sequence[Item]) -> None:
+    def push_all(self, items: Union[Sequence[Item], "ctypes.Array[Item]"]) -> None:
         """Items, as `onfiseq.trace` reads them. Those before the one that is refused have come."""
         if not self.sees_ready and any(item.kind == ord("O") for item in items):
             for item in items:
