@@ -106,8 +106,8 @@ def _compare_sizes(lib: ctypes.CDLL, path: str, call: str) -> None:
 
 def load(path: Union[str, "os.PathLike[str]", None] = None) -> ctypes.CDLL:
     """The library of this path; where there is none, of ONFISEQ_LIBRARY, or the one beside this package. It raises Missing where it isn't there, and a ValueError
-    where its records aren't those here. It may lack all but the checker: a call that it hasn't raises Missing. One thread at a time is in its calls, as the one C
-    file wants it."""
+    where its records aren't those here. It may lack all but the checker: a call that it hasn't raises Missing. Its calls keep the interpreter's
+    lock, so one thread at a time is in them."""
     its = os.fspath(path) if path is not None else _find()
     try:
         lib = ctypes.PyDLL(its)  # it keeps the interpreter's lock

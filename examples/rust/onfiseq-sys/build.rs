@@ -49,14 +49,12 @@ fn compile() {
     let out = PathBuf::from(std::env::var("OUT_DIR").expect("cargo names the folder"));
     let (source, made, packed) = (folder.join("onfiseq.c"), out.join("onfiseq.o"), out.join("libonfiseq.a"));
     println!("cargo:rerun-if-changed={}", source.display());
-    println!("cargo:rustc-cfg=onfiseq_one_file");
     run(&tool("CC", "cc"), &["-O1", "-fPIC", "-I", text(folder), "-c", text(&source), "-o", text(&made)]);
     run(&tool("AR", "ar"), &["rcs", text(&packed), text(&made)]);
     link(&out, "onfiseq");
 }
 
 fn main() {
-    println!("cargo:rustc-check-cfg=cfg(onfiseq_one_file)");
     let words = std::env::var_os("CARGO_FEATURE_WORDS").is_some();
     match (folder_of("onfiseq_c"), folder_of("onfiseq_text_c")) {
         (Some(checker), Some(texts)) => {

@@ -1,4 +1,4 @@
-use crate::sys::{self, alone, Bus, Geometry, Item, Look, Part, Spot, U64};
+use crate::sys::{self, Bus, Geometry, Item, Look, Part, Spot, U64};
 use crate::{Fault, ItemRefused, PartRefused};
 
 impl Item {
@@ -83,7 +83,7 @@ impl Channel {
     /// A channel of so many targets, 1 to 4, of the chip of a parameter page.
     pub fn of_page(page: &[u8], targets: u8) -> Result<Channel, Fault> {
         // SAFETY: a slice is a pointer to as many bytes.
-        let read = alone(|| unsafe { sys::onfiseq_read_page(page.as_ptr(), page.len()) });
+        let read = unsafe { sys::onfiseq_read_page(page.as_ptr(), page.len()) };
         match read.fault {
             0 => Channel::new(&read.geometry, targets),
             number => Err(Fault { letter: 'P', number: number as u8 }),
@@ -94,65 +94,65 @@ impl Channel {
     pub fn new(geometry: &Geometry, targets: u8) -> Result<Channel, Fault> {
         let mut bus = Bus { state: [U64(0); 409] };
         // SAFETY: both records are there, and `bus` is this function's alone.
-        told(alone(|| unsafe { sys::onfiseq_begin_sized(&mut bus, size_of::<Bus>(), sys::VERSION, geometry, targets) }))?;
+        told(unsafe { sys::onfiseq_begin_sized(&mut bus, size_of::<Bus>(), sys::VERSION, geometry, targets) })?;
         Ok(Channel(bus))
     }
 
     pub fn push(&mut self, item: Item) -> Result<(), Fault> {
         // SAFETY: the record is borrowed alone, and the item is there.
-        told(alone(|| unsafe { sys::onfiseq_push(&mut self.0, &item) }))
+        told(unsafe { sys::onfiseq_push(&mut self.0, &item) })
     }
 
     /// Items one by one, up to the first that is refused.
     pub fn push_all(&mut self, items: &[Item]) -> Result<(), ItemRefused> {
         let mut at = 0;
         // SAFETY: the record is borrowed alone, a slice is a pointer to as many items, and `at` is this function's alone.
-        told(alone(|| unsafe { sys::onfiseq_push_all(&mut self.0, items.as_ptr(), items.len(), &mut at) })).map_err(|fault| ItemRefused { at, fault })
+        told(unsafe { sys::onfiseq_push_all(&mut self.0, items.as_ptr(), items.len(), &mut at) }).map_err(|fault| ItemRefused { at, fault })
     }
 
     /// An item of a bus whose R/B# isn't seen: a status output that shows a busy LUN ready brings the ready.
     pub fn push_status(&mut self, item: Item) -> Result<(), Fault> {
         let mut done = 0;
         // SAFETY: the record is borrowed alone, the item is there, and `done` is this function's alone.
-        told(alone(|| unsafe { sys::onfiseq_push_status(&mut self.0, &item, &mut done) }))
+        told(unsafe { sys::onfiseq_push_status(&mut self.0, &item, &mut done) })
     }
 
     /// A whole operation, all of it or none.
     pub fn operate(&mut self, ce: u8, parts: &[Part]) -> Result<(), PartRefused> {
         let mut spot = Spot::default();
         // SAFETY: the record is borrowed alone, a slice is a pointer to as many parts, and `spot` is this function's alone.
-        told_at(alone(|| unsafe { sys::onfiseq_push_op(&mut self.0, ce, parts.as_ptr(), parts.len(), &mut spot) }), spot)
+        told_at(unsafe { sys::onfiseq_push_op(&mut self.0, ce, parts.as_ptr(), parts.len(), &mut spot) }, spot)
     }
 
     /// What `push` would answer; nothing changes.
     pub fn ask(&self, item: Item) -> Result<(), Fault> {
         // SAFETY: the record and the item are there, and nothing writes them.
-        told(alone(|| unsafe { sys::onfiseq_ask(&self.0, &item) }))
+        told(unsafe { sys::onfiseq_ask(&self.0, &item) })
     }
 
     /// What `operate` would answer; nothing changes.
     pub fn ask_operation(&self, ce: u8, parts: &[Part]) -> Result<(), PartRefused> {
         let mut spot = Spot::default();
         // SAFETY: the record and the parts are there, nothing writes them, and `spot` is this function's alone.
-        told_at(alone(|| unsafe { sys::onfiseq_ask_op(&self.0, ce, parts.as_ptr(), parts.len(), &mut spot) }), spot)
+        told_at(unsafe { sys::onfiseq_ask_op(&self.0, ce, parts.as_ptr(), parts.len(), &mut spot) }, spot)
     }
 
     /// A target is as at the start: its chip was reset on the pins, or lost its power.
     pub fn begin_target(&mut self, ce: u8) -> Result<(), Fault> {
         // SAFETY: the record is borrowed alone.
-        told(alone(|| unsafe { sys::onfiseq_begin_target(&mut self.0, ce) }))
+        told(unsafe { sys::onfiseq_begin_target(&mut self.0, ce) })
     }
 
     /// A target forgets its open sequence: for whoever goes on after a cycle that isn't permitted.
     pub fn drop_sequence(&mut self, ce: u8) -> Result<(), Fault> {
         // SAFETY: the record is borrowed alone.
-        told(alone(|| unsafe { sys::onfiseq_drop(&mut self.0, ce) }))
+        told(unsafe { sys::onfiseq_drop(&mut self.0, ce) })
     }
 
     /// What a LUN is doing, where it is there.
     pub fn look(&self, ce: u8, lun: u8) -> Option<Look> {
         // SAFETY: the record is there, and nothing writes it.
-        Some(alone(|| unsafe { sys::onfiseq_look_at(&self.0, ce, lun) })).filter(|look| look.is_there)
+        Some(unsafe { sys::onfiseq_look_at(&self.0, ce, lun) }).filter(|look| look.is_there)
     }
 }
 

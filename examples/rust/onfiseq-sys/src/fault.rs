@@ -27,7 +27,7 @@ impl Fault {
     fn write_words(self, bytes: &mut [u8; 160]) -> usize {
         let code = u32::from(self.letter) << 8 | u32::from(self.number);
         // SAFETY: the call is told how many bytes there are, and they are borrowed alone.
-        let length = crate::sys::alone(|| unsafe { crate::sys::onfiseq_words(code, bytes.as_mut_ptr(), bytes.len()) });
+        let length = unsafe { crate::sys::onfiseq_words(code, bytes.as_mut_ptr(), bytes.len()) };
         length.min(bytes.len() - 1)
     }
 

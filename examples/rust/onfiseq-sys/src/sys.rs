@@ -1,5 +1,4 @@
-//! The records and calls of `onfiseq.h`, which says what each answers and what a caller owes. Where `build.rs` compiles the one C file, a call owes besides that no other
-//! thread is in one: make it within `alone`, as the channel does.
+//! The records and calls of `onfiseq.h`, which says what each answers and what a caller owes.
 
 /// 64 bits at a multiple of 8 bytes, so that a record has its fields at the same places on every processor.
 #[repr(C, align(8))]
@@ -97,25 +96,6 @@ const _: () = {
     assert!(size_of::<Spot>() == 16);
     assert!(size_of::<Look>() == 40);
 };
-
-/// Makes a call, and no other at the same time: the one C file has one memory for all calls.
-#[cfg(onfiseq_one_file)]
-pub fn alone<T>(call: impl FnOnce() -> T) -> T {
-    use core::sync::atomic::{AtomicBool, Ordering};
-    static IS_BUSY: AtomicBool = AtomicBool::new(false);
-    while IS_BUSY.swap(true, Ordering::Acquire) {
-        core::hint::spin_loop();
-    }
-    let answer = call();
-    IS_BUSY.store(false, Ordering::Release);
-    answer
-}
-
-/// Makes a call: those of the libraries may come from several threads at once.
-#[cfg(not(onfiseq_one_file))]
-pub fn alone<T>(call: impl FnOnce() -> T) -> T {
-    call()
-}
 
 extern "C" {
     pub fn onfiseq_read_page(page: *const u8, length: usize) -> Page;
