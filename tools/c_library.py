@@ -6,7 +6,7 @@
     python3 tools/c_library.py --damage N   N damaged records, each given to some calls
     python3 tools/c_library.py --portable   all users over release/onfiseq.c, which needs no kit
 
-at the root, after `rt ci`: a library is built over what that proved of the crates below it, which takes a minute or two each, once. It stands in
+at the root, after `rt ci`: a library is built over what that proved of the crates below it, which takes a minute or two each, once a machine (tools/kept/made.py). It stands in
 crates/NAME/out/libNAME.a; a shared object of all of them, for Python, in out/libonfiseq.so. The users are the programs of examples/c and examples/python;
 what each must print stands in the folder `expected` beside it. Where rustc, Verilator and Icarus Verilog are installed, the programs of examples/rust and the
 test benches of examples/systemverilog and examples/icarus run too.
@@ -22,7 +22,8 @@ import sys
 import time
 from concurrent.futures import ThreadPoolExecutor
 
-sys.path.insert(0, "tools/machines")
+sys.path[:0] = ["tools/machines", "tools/kept"]
+import made
 import memory
 import simulators
 
@@ -73,12 +74,12 @@ CARGO = (("rust_sys", ["{out}/cargo/debug/examples/watch"], None, 0),)
 def load_kit():
     """The kit's own `rt`, as a module, so that a library is built as that would build it."""
     loader = importlib.machinery.SourceFileLoader("gate", os.path.realpath(shutil.which("rt")))
-    made = importlib.util.module_from_spec(importlib.util.spec_from_loader("gate", loader))
-    sys.modules["gate"] = made
-    loader.exec_module(made)
-    library = made.rtlib
-    library.stop, library.Crate = made.stop, made.Crate
-    made.Crate.cuts_libraries, made.Crate.allowed = True, made.handles_of(os.getcwd())
+    gate = importlib.util.module_from_spec(importlib.util.spec_from_loader("gate", loader))
+    sys.modules["gate"] = gate
+    loader.exec_module(gate)
+    library = gate.rtlib
+    library.stop, library.Crate = gate.stop, gate.Crate
+    gate.Crate.cuts_libraries, gate.Crate.allowed = True, gate.handles_of(os.getcwd())
     return library
 
 
@@ -101,22 +102,34 @@ def is_built(path, stamp):
     return os.path.isfile(path) and os.path.isfile(path + ".stamp") and read(path + ".stamp") == stamp
 
 
+class NotBuilt(Exception):
+    """What the kit says of a crate that it didn't build."""
+
+
+def make_archive(library, crate, path):
+    """Builds the archive of a crate over crates that are proved. What is kept of this check, tools/machines takes for the other processors."""
+    words = [library.RATTLE, "build", *crate.words([]), *library.KEPT, "--toolchain", library.KIT + "/toolchain"]
+    words += ["-o", os.path.abspath(path)]
+    ran = subprocess.run(words, cwd=crate.folder, stdout=subprocess.PIPE, stderr=subprocess.STDOUT, text=True, errors="replace")
+    if ran.returncode or not os.path.isfile(path):
+        raise NotBuilt(ran.stdout[-2000:])
+    memory.give(path, library.KIT + "/toolchain", ["-O2", "-fPIC"])
+
+
 def build(library, crate):
-    """Builds the archive of a crate, and says why where it can't."""
+    """Brings the archive of a crate here: what this machine has built of the same, or a new one. Says why where it can't."""
     path, stamp = archive_of(crate.name), "%s\nmemory %s\n" % (crate.stamp(), memory.sum_of_sources())
     if is_built(path, stamp):
         return None
     lacking = [below.name for below in crate.below() if not os.path.isfile("%s/format" % below.rlib)]
     if lacking:
         return "%s isn't proved here: run rt ci first" % lacking[0]
-    os.makedirs(os.path.dirname(path), exist_ok=True)
-    # what is kept of this check, tools/machines takes for the other processors
-    words = [library.RATTLE, "build", *crate.words([]), *library.KEPT, "--toolchain", library.KIT + "/toolchain"]
-    words += ["-o", os.path.abspath(path)]
-    ran = subprocess.run(words, cwd=crate.folder, stdout=subprocess.PIPE, stderr=subprocess.STDOUT, text=True, errors="replace")
-    if ran.returncode or not os.path.isfile(path):
-        return ran.stdout[-2000:]
-    memory.give(path, library.KIT + "/toolchain", ["-O2", "-fPIC"])
+    folder, name = os.path.split(path)
+    os.makedirs(folder, exist_ok=True)
+    try:
+        made.take_or_make(sys.modules["gate"], ["x86-64", stamp], folder, [name], lambda: make_archive(library, crate, path))
+    except NotBuilt as why:
+        return str(why)
     with open(path + ".stamp", "w") as it:
         it.write(stamp)
     return None
