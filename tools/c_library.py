@@ -11,7 +11,6 @@ crates/NAME/out/libNAME.a; a shared object of all of them, for Python, in out/li
 what each must print stands in the folder `expected` beside it. Where rustc, Verilator and Icarus Verilog are installed, the programs of examples/rust and the
 test benches of examples/systemverilog and examples/icarus run too.
 """
-import importlib.machinery
 import importlib.util
 import os
 import re
@@ -26,6 +25,7 @@ sys.path[:0] = ["tools/machines", "tools/kept"]
 import made
 import memory
 import simulators
+from kit_gate import load_gate
 
 LIBRARIES = ("onfiseq_c", "onfiseq_verify_c", "onfiseq_text_c", "onfiseq_live_c", "onfiseq_show_c")
 CC = ["cc", "-std=c99", "-Wall", "-Wextra", "-Werror", "-pedantic", "-O2", "-Iinclude"]
@@ -73,10 +73,7 @@ CARGO = (("rust_sys", ["{out}/cargo/debug/examples/watch"], None, 0),)
 
 def load_kit():
     """The kit's own `rt`, as a module, so that a library is built as that would build it."""
-    loader = importlib.machinery.SourceFileLoader("gate", os.path.realpath(shutil.which("rt")))
-    gate = importlib.util.module_from_spec(importlib.util.spec_from_loader("gate", loader))
-    sys.modules["gate"] = gate
-    loader.exec_module(gate)
+    gate = load_gate()
     library = gate.rtlib
     library.stop, library.Crate = gate.stop, gate.Crate
     gate.Crate.cuts_libraries, gate.Crate.allowed = True, gate.handles_of(os.getcwd())
