@@ -1,7 +1,8 @@
-//! One worker on a channel, leases, and passes.
+//! One worker on a channel, and what its jobs come to.
 ghost use Rattle.std.specs.Prelude.{◌≡◌, None};
 
-use channel_work::{ChannelState, Gate, GatherRefused, Gathered, NamedJob, Turns, WorkerPass};
+use channel_work::{Gate, Gathered, NamedJob, Turns};
+use nand_geometry::Parts;
 use onfi_cycle::{Failures, Lun};
 use std::alloc::Global;
 use std::cell::Cell;
@@ -11,8 +12,8 @@ use std::sync::Wait;
 use std::sync::ledger::Blank;
 use std::test::*;
 use test_channel_scenes::{
-    Erase, FOUR_LUNS, ON_ONE, ON_ZERO, ONE, ONE_LUN, TWO_LUNS, Told, ZERO, gather, make_erasing,
-    make_two_passes, read_trace, run_alone, start, tell_done,
+    Erase, FOUR_LUNS, ON_ONE, ON_ZERO, ONE, ONE_LUN, TWO_LUNS, Told, ZERO, make_erasing,
+    read_trace, run_alone, tell_done,
 };
 
 /// A gate that gives every turn, and lets each LUN be ready after a busy poll.
@@ -59,82 +60,6 @@ const ERASE_OF_ONE: &str = "0 C 60\n0 A 20\n0 A 00\n0 A 00\n0 C d0\n\
     0 C 78\n0 A 20\n0 A 00\n0 A 00\n0 O 80\n0 R 1 0\n\
     0 C 78\n0 A 20\n0 A 00\n0 A 00\n0 O e0\n";
 
-// These erases, by one worker on a target of two LUNs.
-fn erase_alone<L: Turns, R: Wait + AllocGlobal>(
-    rt: &R,
-    blank: Blank,
-    erases: &[Erase],
-) -> Result<Gathered, Fail>
-    requires name { blank.name ≡ L.name }
-    requires parts { (blank.parts ≡ L.parts) × (L.all ≡ L.parts) × (L.parts ≡ 9) × (L.origin ≡ None) }
-{
-    let state = make_erasing::<L, R>(rt, blank, TWO_LUNS, 1, erases)?;
-    run_alone(rt, state, &Open)
-}
-
-// Erases of one worker, and what must come of them.
-struct Work {
-    erases: &'static [Erase],
-    // What stands on the bus.
-    trace: &'static str,
-    // The jobs that are done, and how many aren't.
-    done: &'static [Told],
-    left: usize,
-}
-
-// These jobs are done, in this order, and no others.
-fn are_done(done: &[NamedJob], wanted: &[Told]) -> bool {
-    for (place, told) in wanted.iter().enumerate() {
-        if tell_done(done, place) != Some(*told) {
-            return false;
-        }
-    }
-    done.len() == wanted.len()
-}
-
-// The work is done as it must be. How many turns it took.
-fn do_work<L: Turns, R: Wait + AllocGlobal>(rt: &R, blank: Blank, work: &Work) -> Result<u64, Fail>
-    requires name { blank.name ≡ L.name }
-    requires parts { (blank.parts ≡ L.parts) × (L.all ≡ L.parts) × (L.parts ≡ 9) × (L.origin ≡ None) }
-{
-    let trace = read_trace(rt.alloc(), work.trace)?;
-    let gathered = erase_alone::<L, R>(rt, blank, work.erases)?;
-    if gathered.core.trace() != trace.as_slice() {
-        return Err(Fail::from("the trace is another one"));
-    }
-    if are_done(gathered.done.as_slice(), work.done) && gathered.backlog.len() == work.left {
-        Ok(gathered.turns)
-    } else {
-        Err(Fail::from("other jobs are done"))
-    }
-}
-
-const TWO_JOBS: Work = Work {
-    erases: &[ON_ZERO, ON_ONE],
-    trace: TWO_ERASES,
-    done: &[(0, 0, ZERO, 0), (0, 1, ONE, 0)],
-    left: 0,
-};
-
-const ONE_ELSEWHERE: Work = Work {
-    erases: &[ELSEWHERE, ON_ONE],
-    trace: ERASE_OF_ONE,
-    done: &[(0, 1, ONE, 0)],
-    left: 1,
-};
-
-#[test]
-fn two_jobs_of_one_worker(rt: HostRuntime) -> Result<(), Fail> {
-    assert_eq!(rt; do_work::<Brand, _>(&rt, Blank::new(9), &TWO_JOBS)?, 4);
-    Ok(())
-}
-
-#[test]
-fn a_job_of_another_geometry_stays(rt: HostRuntime) -> Result<(), Fail> {
-    do_work::<Brand, _>(&rt, Blank::new(9), &ONE_ELSEWHERE)?;
-    Ok(())
-}
-
 // Erases of nine LUNs of four targets.
 const FIRST: Erase = Erase {
     parts: FOUR_LUNS,
@@ -180,52 +105,6 @@ const NINE: [Erase; 9] = [
     },
 ];
 
-// Starts so many jobs, and parks their leases, for which there must be room.
-fn start_and_park<L: Turns, R: Wait>(
-    rt: &R,
-    state: &mut ChannelState<L>,
-    count: u32,
-) -> Result<(), Fail> {
-    for _ in 0..count {
-        let lease = start(rt, state)?;
-        if state.park(lease).is_err() {
-            return Err(Fail::from("there was room"));
-        }
-    }
-    Ok(())
-}
-
-// Starts a job, and tries to park its lease, for which there must be no room. Its LUN, and that of the first lease taken out.
-fn start_and_keep<L: Turns, R: Wait>(
-    rt: &R,
-    state: &mut ChannelState<L>,
-) -> Result<(u32, u32), Fail> {
-    let lease = start(rt, state)?;
-    match state.park(lease) {
-        Ok(()) => Err(Fail::from("there was no room")),
-        Err(kept) => {
-            let first = state.unpark().ok_or("eight leases are parked")?;
-            Ok((kept.lun(), first.lun()))
-        }
-    }
-}
-
-// Nine jobs are started, and eight of their leases parked.
-fn park_nine<L: Turns, R: Wait + AllocGlobal>(rt: &R, blank: Blank) -> Result<(u32, u32), Fail>
-    requires name { blank.name ≡ L.name }
-    requires parts { (blank.parts ≡ L.parts) × (L.all ≡ L.parts) × (L.parts ≡ 9) × (L.origin ≡ None) }
-{
-    let mut state = make_erasing::<L, R>(rt, blank, FOUR_LUNS, 4, &NINE)?;
-    start_and_park(rt, &mut state, 8)?;
-    start_and_keep(rt, &mut state)
-}
-
-#[test]
-fn nine_leases(rt: HostRuntime) -> Result<(), Fail> {
-    assert_eq!(rt; park_nine::<Brand, _>(&rt, Blank::new(9))?, (15, 0));
-    Ok(())
-}
-
 // A gate that refuses so many turns, and then gives every one.
 #[derive(Drop)]
 struct Late {
@@ -252,67 +131,115 @@ impl Gate for Late {
     }
 }
 
-// Nine jobs are started before any has a turn, so that the lease of the last can't be parked. Which job is done first, how many are, and how many leases are parked.
-fn work_late<L: Turns, R: Wait + AllocGlobal>(
-    rt: &R,
-    blank: Blank,
-) -> Result<(Option<Told>, usize, usize), Fail>
-    requires name { blank.name ≡ L.name }
-    requires parts { (blank.parts ≡ L.parts) × (L.all ≡ L.parts) × (L.parts ≡ 9) × (L.origin ≡ None) }
-{
-    let state = make_erasing::<L, R>(rt, blank, FOUR_LUNS, 4, &NINE)?;
-    let gate = Late {
-        refusals: Cell::new(9),
-    };
-    let gathered = run_alone(rt, state, &gate)?;
-    let first = tell_done(gathered.done.as_slice(), 0);
-    Ok((first, gathered.done.len(), gathered.parked.len()))
+// Erases of one worker, and what must come of them.
+struct Work {
+    parts: Parts,
+    targets: u8,
+    erases: &'static [Erase],
+    // How many turns are refused before the first.
+    refusals: u32,
+    // What stands on the bus, where it is told here.
+    trace: Option<&'static str>,
+    // The jobs that are done first, how many are done, and how many aren't.
+    first: &'static [Told],
+    done: usize,
+    left: usize,
+    turns: u64,
 }
 
-// What the job of the ninth LUN is told as.
-const NINTH: Told = (0, 8, Lun { ce: 3, lun: 3 }, 0);
-
-// The worker goes on with that lease, and so its job is done first.
-#[test]
-fn a_lease_without_room_is_gone_on_with(rt: HostRuntime) -> Result<(), Fail> {
-    assert_eq!(rt;
-        work_late::<Brand, _>(&rt, Blank::new(9))?,
-        (Some(NINTH), 9, 0)
-    );
-    Ok(())
-}
-
-// A channel isn't gathered with one of two passes, and then it is with both. The turns that it tells.
-fn gather_late<L: Turns>(
-    alloc: Global,
-    state: ChannelState<L>,
-    first: WorkerPass<L>,
-    second: WorkerPass<L>,
-) -> Result<u64, Fail>
-    requires { L.all ≡ L.parts }
-{
-    match state.gather(vec![in alloc; first]?) {
-        Ok(_) => Err(Fail::from("a pass is missing")),
-        Err(refused) => {
-            let GatherRefused { state, mut passes } = refused;
-            passes.push(second)?;
-            Ok(gather(state, passes)?.turns)
+// These jobs are done first, in this order.
+fn are_done(done: &[NamedJob], wanted: &[Told]) -> bool {
+    for (place, told) in wanted.iter().enumerate() {
+        if tell_done(done, place) != Some(*told) {
+            return false;
         }
     }
+    true
 }
 
-// A channel with two passes.
-fn gather_two<L: Turns, R: Wait + AllocGlobal>(rt: &R, blank: Blank) -> Result<u64, Fail>
+// The worker does its jobs.
+fn do_work<L: Turns, R: Wait + AllocGlobal>(
+    rt: &R,
+    blank: Blank,
+    work: &Work,
+) -> Result<Gathered, Fail>
     requires name { blank.name ≡ L.name }
     requires parts { (blank.parts ≡ L.parts) × (L.all ≡ L.parts) × (L.parts ≡ 9) × (L.origin ≡ None) }
 {
-    let mut state = make_erasing::<L, R>(rt, blank, TWO_LUNS, 1, &[])?;
-    let (first, second) = make_two_passes(&mut state)?;
-    gather_late(rt.alloc(), state, first, second)
+    let state = make_erasing::<L, R>(rt, blank, work.parts, work.targets, work.erases)?;
+    let gate = Late {
+        refusals: Cell::new(work.refusals),
+    };
+    run_alone(rt, state, &gate)
 }
 
+// The jobs came to what they must, and all is given back.
+fn has_come_to(alloc: Global, gathered: &Gathered, work: &Work) -> Result<bool, Fail> {
+    let done = gathered.done.as_slice();
+    let is_traced = match work.trace {
+        None => true,
+        Some(text) => gathered.core.trace() == read_trace(alloc, text)?.as_slice(),
+    };
+    Ok(
+        is_traced
+            && are_done(done, work.first)
+            && done.len() == work.done
+            && gathered.backlog.len() == work.left
+            && gathered.parked.len() == 0
+            && gathered.turns == work.turns,
+    )
+}
+
+// Whether they do.
+fn play<R: Wait + AllocGlobal>(rt: &R, work: &Work) -> Result<bool, Fail> {
+    let gathered = do_work::<Brand, _>(rt, Blank::new(9), work)?;
+    has_come_to(rt.alloc(), &gathered, work)
+}
+
+// Two jobs; one of another geometry, which stays; and nine that are started before any has a turn, so that the lease of the last can't be parked: the
+// worker goes on with that lease, and its job is done first.
+const WORKS: [Work; 3] = [
+    Work {
+        parts: TWO_LUNS,
+        targets: 1,
+        erases: &[ON_ZERO, ON_ONE],
+        refusals: 0,
+        trace: Some(TWO_ERASES),
+        first: &[(0, 0, ZERO, 0), (0, 1, ONE, 0)],
+        done: 2,
+        left: 0,
+        turns: 4,
+    },
+    Work {
+        parts: TWO_LUNS,
+        targets: 1,
+        erases: &[ELSEWHERE, ON_ONE],
+        refusals: 0,
+        trace: Some(ERASE_OF_ONE),
+        first: &[(0, 1, ONE, 0)],
+        done: 1,
+        left: 1,
+        turns: 2,
+    },
+    Work {
+        parts: FOUR_LUNS,
+        targets: 4,
+        erases: &NINE,
+        refusals: 9,
+        trace: None,
+        first: &[(0, 8, Lun { ce: 3, lun: 3 }, 0)],
+        done: 9,
+        left: 0,
+        turns: 18,
+    },
+];
+
 #[test]
-fn a_channel_waits_for_each_pass(rt: HostRuntime) -> Result<(), Fail> {
-    assert_eq!(rt; gather_two::<Brand, _>(&rt, Blank::new(9))?, 0);
+fn one_worker_does_its_jobs(rt: HostRuntime) -> Result<(), Fail> {
+    for (place, work) in WORKS.iter().enumerate() {
+        if !play(&rt, work)? {
+            return Err(Fail::new(format_args!("work {place} came to something else")));
+        }
+    }
     Ok(())
 }

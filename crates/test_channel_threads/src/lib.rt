@@ -2,6 +2,8 @@
 #![tactic(auto)]
 
 #[cfg(test)]
-mod many_tests;
+mod chance;
 #[cfg(test)]
-mod thread_tests;
+mod scene;
+#[cfg(test)]
+mod scene_tests;

@@ -1,5 +1,5 @@
 use Rattle.std.proofs.Common.{None}
-use Rattle.test_channel_calls.proofs.tests.two_jobs_of_one_worker.Given as goal
+use Rattle.test_channel_calls.proofs.tests.play.Given as goal
 
 abbrev pub ghosts-do_work-L-Ledger : goal.ghosts-do_work-L-Ledger
 ghosts-do_work-L-Ledger g a = record { name = a.blank.name; parts = a.blank.parts }
