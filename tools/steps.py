@@ -34,6 +34,7 @@ STEPS = {
     ),
     "processors": (
         "tools/machines --check",
+        "tools/machines/try/retarget.py",
         "tools/machines --only i686-linux",
         "tools/machines/try/compare.py --short",
     ),

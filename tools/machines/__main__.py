@@ -2,8 +2,9 @@
 
     python3 tools/machines [OUT]             all of them, into out/machines where no folder is named
     python3 tools/machines --only NAME,.. [OUT]    some: names of tools/machines/targets.py, wasm, portable
+    python3 tools/machines --program [OUT]   the whole program as C alone, into OUT/program; with --unproved of the program as it stands, to try a change
     python3 tools/machines --release         the folder release/ anew
-    python3 tools/machines --check           whether release/ is made of the sources that stand here
+    python3 tools/machines --check           whether release/ is made of the sources that stand here, and as it was made
 
 at the root. Everything is built over crates that are proved here (rt ci, or rt check and rt lib in each); a crate that isn't proved as it stands is refused.
 """
@@ -11,6 +12,7 @@ import argparse
 import os
 import sys
 
+import program
 import release
 from building import Building
 from kit import Kit, stop
@@ -37,8 +39,8 @@ def main():
     words = argparse.ArgumentParser(prog="tools/machines")
     words.add_argument("out", nargs="?", default="out/machines")
     words.add_argument("--only", default="")
-    words.add_argument("--release", action="store_true")
-    words.add_argument("--check", action="store_true")
+    for name in ("--release", "--check", "--program", "--unproved"):
+        words.add_argument(name, action="store_true")
     given = words.parse_args()
     if not os.path.isfile("crates.txt"):
         stop("call it at the root of the repository")
@@ -46,6 +48,8 @@ def main():
         return release.check()
     if given.release:
         return release.make(given.out)
+    if given.program:
+        return program.write_to(given.out + "/program", program.make(given.out, not given.unproved))
     return build(given.out, [it for it in given.only.split(",") if it])
 
 

@@ -51,7 +51,7 @@ class Building:
 
     def stamp(self, folder, compilers=()):
         """Writes the stamp of a folder."""
-        files = [HEADER] + ["%s/%s" % (os.path.relpath(HERE), it) for it in ("retarget.py", "targets.py", "memory.py", "c/requests.c", "c/heap.c")]
+        files = [HEADER] + ["%s/%s" % (os.path.relpath(HERE), it) for it in ("lines.py", "retarget.py", "targets.py", "memory.py", "c/requests.c", "c/heap.c")]
         write(self.path(folder, "STAMP"), stamp.written(self.kit, self.kit.below(LIBRARIES), files, compilers))
 
     def aarch64(self):

@@ -1,10 +1,12 @@
 """The folder release/: what a clone without the kit needs for a first answer."""
 import os
+import re
 import shutil
 import subprocess
 import sys
 
 import header
+import program
 import stamp
 from building import HEADER, Building, read, write
 from kit import Kit, stop
@@ -14,7 +16,8 @@ FOLDER = "release"
 HERE = os.path.relpath(os.path.dirname(os.path.abspath(__file__)))
 
 # What shapes the files beside the crates: a change of one of them makes release/ another.
-MAKERS = ("header.py", "retarget.py", "portable.py", "targets.py", "c/multi3.c", "c/portable_head.c", "c/portable_shim.c")
+MAKERS = ("header.py", "lines.py", "retarget.py", "portable.py", "targets.py", "c/multi3.c", "c/portable_head.c", "c/portable_shim.c")
+PROGRAM_MAKERS = ("program.py", "wasm.py", "wasm_c.py", "c/module.h", "c/system.c", "c/int128.c")
 PAGE_MAKERS = ("page/onfiseq.js", "page/page.py", "page/playground.html.in", "page/playground.js")
 
 
@@ -25,7 +28,7 @@ def page_of(module):
 
 def files():
     """The files that release/ is made of, beside the crates."""
-    return [HEADER, "LICENSE"] + ["%s/%s" % (HERE, it) for it in MAKERS + PAGE_MAKERS]
+    return [HEADER, "LICENSE", "tools/man.py"] + ["%s/%s" % (HERE, it) for it in MAKERS + PROGRAM_MAKERS + PAGE_MAKERS]
 
 
 def has_new_words_alone(the_stamp):
@@ -34,16 +37,36 @@ def has_new_words_alone(the_stamp):
         return False
     old = read(FOLDER + "/STAMP")
     made_by = [[line for line in text.splitlines() if line.startswith(("kit ", "compiler "))] for text in (old, the_stamp)]
-    return made_by[0] == made_by[1] and set(stamp.differing(old)) <= {HEADER, "LICENSE"} and header.read(HEADER) == header.read(FOLDER + "/onfiseq.h")
+    made_of = [re.findall(r"(?m)^(?:crate|file) (\S+)", text) for text in (old, the_stamp)]
+    is_built = made_by[0] == made_by[1] and made_of[0] == made_of[1] and "\nmade " in old and not stamp.differing(old, "made")
+    return is_built and set(stamp.differing(old)) <= {HEADER, "LICENSE"} and header.read(HEADER) == header.read(FOLDER + "/onfiseq.h")
+
+
+def pages_of(out):
+    """The manual page and the completions, of the program that the C files in OUT/program make."""
+    made = out + "/onfiseq"
+    subprocess.run(["make", "-s", "-j%d" % os.cpu_count(), "SOURCES=%s/program" % out, "OUT=%s/make" % out, "PROGRAM=" + made], check=True)
+    subprocess.run([sys.executable, "tools/man.py", made, out + "/man"], check=True, stdout=subprocess.DEVNULL)
+    return {name: read("%s/man/%s" % (out, name)) for name in ("onfiseq.1", "onfiseq.bash")}
 
 
 def built(kit, out):
-    """The C file and the page, built anew."""
+    """The program, the C file of the libraries and the page, built anew."""
+    files = program.make(out, True)
+    program.write_to(out + "/program", files)
     building = Building(kit, out)
     building.aarch64()
     building.wasm()
     building.portable()
-    return {"onfiseq.c": read(building.path("portable", "onfiseq.c")), "playground.html": page_of(building.path("wasm", "whole.wasm"))}
+    made = {"program/" + name: text for name, text in files.items()}
+    made.update(pages_of(out))
+    return {**made, "onfiseq.c": read(building.path("portable", "onfiseq.c")), "playground.html": page_of(building.path("wasm", "whole.wasm"))}
+
+
+def made_files():
+    """The files that stand in release/, but for the stamp."""
+    found = [os.path.join(top, name) for top, _, names in os.walk(FOLDER) for name in names]
+    return sorted(set(found) - {FOLDER + "/STAMP"})
 
 
 def make(out):
@@ -51,25 +74,29 @@ def make(out):
     if shutil.which("wasm2c") is None:
         stop("the portable C file needs wasm2c: it is in Debian's package wabt")
     kit = Kit()
-    the_stamp = stamp.written(kit, kit.below(LIBRARIES), files(), ["wasm2c " + stamp.version_of(["wasm2c", "--version"])])
+    the_stamp = stamp.written(kit, kit.below((*LIBRARIES, program.NAME)), files(), ["wasm2c " + stamp.version_of(["wasm2c", "--version"])])
     made = {} if has_new_words_alone(the_stamp) else built(kit, out)
-    made.update({"onfiseq.h": read(HEADER), "LICENSE": read("LICENSE"), "STAMP": the_stamp})
+    made.update({"onfiseq.h": read(HEADER), "LICENSE": read("LICENSE")})
     for name, text in made.items():
         write("%s/%s" % (FOLDER, name), text)
         print("%s/%s: %d bytes" % (FOLDER, name, len(text.encode())))
+    write(FOLDER + "/STAMP", the_stamp + "".join("made %s %s\n" % (path, stamp.sum_of([path])) for path in made_files()))
     return 0
 
 
 def check():
-    """Whether release/ is made of the sources that stand here: 0, or 1 and what differs."""
+    """Whether release/ is made of the sources that stand here, and each of its files is as it was made: 0, or 1 and what differs."""
     if not os.path.isfile(FOLDER + "/STAMP"):
         print("machines: there is no release/: python3 tools/machines --release makes it")
         return 1
-    differing = stamp.differing(read(FOLDER + "/STAMP"))
-    if read(FOLDER + "/onfiseq.h") != read(HEADER):
-        differing.append(FOLDER + "/onfiseq.h")
+    text = read(FOLDER + "/STAMP")
+    changed = stamp.differing(text, "made") + [path for path in made_files() if "\nmade %s " % path not in text]
+    if changed:
+        print("machines: changed since it was made: %s" % ", ".join(changed))
+    differing = stamp.differing(text)
     if differing:
         print("machines: release/ is made of other sources than those that stand here: %s" % ", ".join(differing))
+    if changed or differing:
         print("machines: python3 tools/machines --release makes it anew")
         return 1
     print("machines: release/ is made of the sources that stand here")

@@ -55,10 +55,10 @@ def written(the_kit, crates, files, compilers):
     return "\n".join(lines + lines_of(crates, files)) + "\n"
 
 
-def differing(text):
-    """What stands here otherwise than a stamp says: the names of crates and files."""
+def differing(text, kinds="crate|file"):
+    """What stands here otherwise than a stamp says: the names of crates, of files that it was made of, and of files that were made."""
     found = []
-    for what, name, wanted in re.findall(r"(?m)^(crate|file) (\S+) (\S+)$", text):
+    for what, name, wanted in re.findall(r"(?m)^(%s) (\S+) (\S+)$" % kinds, text):
         there = os.path.isdir("crates/%s/src" % name) if what == "crate" else os.path.isfile(name)
         if not there or wanted != (sum_of_crate(name) if what == "crate" else sum_of([name])):
             found.append(name)
