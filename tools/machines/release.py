@@ -18,7 +18,7 @@ HERE = os.path.relpath(os.path.dirname(os.path.abspath(__file__)))
 # What shapes the files beside the crates: a change of one of them makes release/ another.
 MAKERS = ("header.py", "lines.py", "retarget.py", "portable.py", "targets.py", "c/multi3.c", "c/portable_head.c", "c/portable_shim.c")
 PROGRAM_MAKERS = ("program.py", "wasm.py", "wasm_c.py", "c/module.h", "c/system.c", "c/int128.c")
-PAGE_MAKERS = ("page/onfiseq.js", "page/page.py", "page/playground.html.in", "page/playground.js")
+PAGE_MAKERS = ("page/system.js", "page/page.py", "page/playground.html.in", "page/playground.js")
 
 
 def page_of(module):
@@ -60,7 +60,7 @@ def built(kit, out):
     building.portable()
     made = {"program/" + name: text for name, text in files.items()}
     made.update(pages_of(out))
-    return {**made, "onfiseq.c": read(building.path("portable", "onfiseq.c")), "playground.html": page_of(building.path("wasm", "whole.wasm"))}
+    return {**made, "onfiseq.c": read(building.path("portable", "onfiseq.c")), "playground.html": page_of(program.page_module(out))}
 
 
 def made_files():

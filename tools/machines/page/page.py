@@ -1,4 +1,4 @@
-"""Writes the playground: one HTML file with the module in it, which asks for nothing else.
+"""Writes the playground: one HTML file with the whole program in it, which asks for nothing else.
 
     python3 tools/machines/page/page.py MODULE.wasm > playground.html      at the root
 """
@@ -8,22 +8,21 @@ import os
 import sys
 
 HERE = os.path.dirname(os.path.abspath(__file__))
-sys.path.insert(0, os.path.join(HERE, ".."))
-import header
-
-# The examples that can be clicked, of each kind: a name, and a path or the text itself.
-TRACES = (
-    ("an erase", "examples/small_chip/erase_block.trace"),
-    ("too soon", "examples/c/busy.trace"),
+CHIP = ("chip.page", "examples/small_chip/chip.page")
+TOO_SOON = b"0 C 60\n0 A 00\n0 A 00\n0 A 00\n0 C d0\n0 C 60\n"
+NO_WAIT = b"rows 1\nbuffer 0\nbudget 10\ncmd 60\naddr 2 3\ncmd d0\ncmd 60\naddr 2 3\ncmd d0\nwait\nend 0\n"
+TWO_LUNS = ("chip.page", "erase_block.nmp", "program_page.nmp", "data")
+# The examples: a name, the files (a name, and a path or the bytes), the commands, and which file is open.
+EXAMPLES = (
+    ("A trace: too soon", [CHIP, ("bus.trace", TOO_SOON)], ["check chip.page 1 bus.trace --recorded --all", "draw chip.page 1 bus.trace bus.svg"]),
+    ("A capture", [CHIP, ("erase_block.vcd", "examples/small_chip/erase_block.vcd")],
+     ["capture chip.page 1 erase_block.vcd erase.trace --map CE=CS,WE=P17,RE=P18", "check chip.page 1 erase.trace --recorded --all", "draw chip.page 1 erase.trace erase.svg"]),
+    ("A program", [CHIP, ("erase_block.asm", "examples/small_chip/erase_block.asm")], ["verify chip.page erase_block.asm", "lint chip.page erase_block.asm"]),
+    ("A refused program", [CHIP, ("twice.asm", NO_WAIT)], ["verify chip.page twice.asm --draw twice.svg --counter twice.trace", "explain chip.page twice.asm"]),
+    ("A run on two dies", [("two_luns.run", "examples/two_luns.run"), *(("examples/two_luns/" + name, "examples/two_luns/" + name) for name in TWO_LUNS)],
+     ["run two_luns.run --quiet --draw run.svg"]),
+    ("Make a page", [CHIP], ["page my.page --data 2048 --spare 64 --pages 64 --blocks 1024 --luns 2 --status-enhanced", "page --show my.page"]),
 )
-PROGRAMS = (
-    ("erase a block", "examples/small_chip/erase_block.asm"),
-    ("read the spare bytes", "examples/small_chip/read_spare.asm"),
-    ("erase twice, no wait", "rows 1\nbuffer 0\nbudget 10\ncmd 60\naddr 2 3\ncmd d0\ncmd 60\naddr 2 3\ncmd d0\nwait\nend 0\n"),
-    ("nobody looks", "rows 1\nbuffer 0\nbudget 9\ncmd 60\naddr 2 3\ncmd d0\nwait\nend 0\n"),
-)
-# What the page doesn't call.
-UNUSED = ("onfiseq_abi", "onfiseq_sample", "onfiseq_live")
 
 
 def read(path):
@@ -31,25 +30,19 @@ def read(path):
         return it.read()
 
 
-def example(name, what):
-    return {"name": name, "text": what if "\n" in what else read(what).decode()}
-
-
-def base64_of(path):
-    return base64.b64encode(read(path)).decode()
+def example(name, files, commands):
+    given = [{"name": at, "base64": base64.b64encode(what if isinstance(what, bytes) else read(what)).decode()} for at, what in files]
+    return {"name": name, "files": given, "commands": commands, "open": given[-1]["name"] if not name.startswith("A run") else given[0]["name"]}
 
 
 def written(module):
     """The page."""
-    examples = {"trace": [example(*it) for it in TRACES], "program": [example(*it) for it in PROGRAMS]}
     text = read(HERE + "/playground.html.in").decode()
     for mark, what in (
-        ("/*ONFISEQ_JS*/", read(HERE + "/onfiseq.js").decode()),
+        ("/*SYSTEM_JS*/", read(HERE + "/system.js").decode()),
         ("/*PLAYGROUND_JS*/", read(HERE + "/playground.js").decode()),
-        ("/*SHAPE*/", header.shape("include/onfiseq.h", UNUSED)),
-        ("/*MODULE*/", base64_of(module)),
-        ("/*CHIP*/", base64_of("examples/small_chip/chip.page")),
-        ("/*EXAMPLES*/", json.dumps(examples)),
+        ("/*MODULE*/", base64.b64encode(read(module)).decode()),
+        ("/*EXAMPLES*/", json.dumps([example(*it) for it in EXAMPLES])),
     ):
         text = text.replace(mark, what.replace("</script", "<\\/script"), 1)
     return text

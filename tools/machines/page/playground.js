@@ -1,283 +1,273 @@
-// The page: what is typed is judged by the library, and what it answers is shown.
+// The page: a folder of files and commands of the program, which run anew at each edit of either.
 const $ = id => document.getElementById(id);
 const bytesOf = base64 => Uint8Array.from(atob(base64), it => it.charCodeAt(0));
-const base64Of = bytes => btoa(String.fromCharCode(...bytes));
-const NUMBERS = ["page_bytes", "spare_bytes", "pages", "blocks", "luns", "plane_bits"], FLAGS = ["enhanced", "multi_plane", "cache"];
-const texts = { trace: "", program: "" };
-let lib, page, chip, mode = "trace", assembled = null, waiting = 0, marked = 0;
+const textOf = bytes => new TextDecoder().decode(bytes);
+const MOST_SHOWN = 200000, MOST_LINKED = 200000;
+// What a button puts into each command of these kinds, or takes out again.
+const OPTIONS = [
+    { name: "all faults", option: "--all", kinds: ["check"] },
+    { name: "R/B# isn't recorded", option: "--readies-from-status", kinds: ["check"] },
+    { name: "begins in the middle", option: "--from-middle", kinds: ["check"] },
+    { name: "the wider profile", option: "--profile onfi", kinds: ["check", "verify", "capture", "ops", "lint", "explain", "draw", "wave"] },
+];
+// The commands for a file that comes, by what it is.
+const FOR_KIND = {
+    capture: name => [`capture chip.page 1 ${name} ${name}.trace`, `check chip.page 1 ${name}.trace --recorded --readies-from-status --all`, `ops chip.page 1 ${name}.trace`],
+    trace: name => [`check chip.page 1 ${name} --recorded --all`, `draw chip.page 1 ${name} ${name}.svg`],
+    program: name => [`verify chip.page ${name} --draw ${name}.svg`, `lint chip.page ${name}`],
+    run: name => [`run ${name} --quiet --draw ${name}.svg`],
+    page: name => [`page --show ${name}`],
+};
+let compiled, files = new Map(), open = "", waiting = 0, takes = 0, turn = 0;
 
-// ---- the chip
+// ---- what a file is
 
-// The checksum of a parameter page: CRC-16 of the polynomial 8005h, begun with 4F4Eh.
-function checksumOf(bytes) {
-    let sum = 0x4f4e;
-    for (const byte of bytes) {
-        sum ^= byte << 8;
-        for (let k = 0; k < 8; k++) sum = sum & 0x8000 ? (sum << 1 ^ 0x8005) & 0xffff : sum << 1;
-    }
-    return sum;
-}
-// The parameter page of a chip with these numbers.
-function pageOf(numbers) {
-    const bytes = new Uint8Array(256), view = new DataView(bytes.buffer);
-    bytes.set(new TextEncoder().encode("ONFI"));
-    bytes[6] = (numbers.luns > 1 ? 2 : 0) | (numbers.multi_plane ? 8 : 0);
-    bytes[8] = (numbers.enhanced ? 8 : 0) | (numbers.cache ? 2 : 0);
-    view.setUint32(80, numbers.page_bytes, true);
-    view.setUint16(84, numbers.spare_bytes, true);
-    view.setUint32(92, numbers.pages, true);
-    view.setUint32(96, numbers.blocks, true);
-    bytes[100] = numbers.luns;
-    bytes[101] = 0x23;
-    bytes[113] = numbers.plane_bits;
-    view.setUint16(254, checksumOf(bytes.subarray(0, 254)), true);
-    return bytes;
-}
-const numbersOfForm = () => Object.fromEntries([...NUMBERS.map(it => [it, +$(it).value]), ...FLAGS.map(it => [it, $(it).checked])]);
-
-function describe(it) {
-    const planes = it.plane_bits ? ", " + (1 << it.plane_bits) + " planes" : "";
-    const flags = (it.enhanced ? ", Read Status Enhanced" : "") + (it.multi_plane ? ", multi-plane operations" : "") + (it.cache ? ", cache reads" : "");
-    return it.page_bytes + " + " + it.spare_bytes + " bytes a page, " + it.pages + " pages a block, " + it.blocks + " blocks, " + it.luns + (it.luns > 1 ? " LUNs" : " LUN") + planes + flags;
-}
-function takePage(bytes, fillsForm) {
-    page = bytes;
-    chip = lib.read_page(page);
-    $("chip").textContent = chip.fault ? "refused P" + chip.fault + " at 0: " + lib.says("P".charCodeAt(0), chip.fault) : describe(chip.geometry);
-    if (fillsForm && !chip.fault) {
-        for (const it of NUMBERS) $(it).value = chip.geometry[it];
-        for (const it of FLAGS) $(it).checked = chip.geometry[it];
-    }
-    judge();
+function isText(bytes) { return !bytes.subarray(0, 4096).includes(0); }
+function kindOf(name, bytes) {
+    if (textOf(bytes.subarray(0, 4)) === "ONFI") return "page";
+    if (/\.(vcd|csv)$/i.test(name) || /^\s*\$(date|version|timescale|comment)/.test(textOf(bytes.subarray(0, 64)))) return "capture";
+    if (/\.(asm|nmp)$/i.test(name) || textOf(bytes.subarray(0, 3)) === "NMP") return "program";
+    if (/\.run$/i.test(name)) return "run";
+    return isText(bytes) ? "trace" : "";
 }
 
-// ---- the lines of a text
+// ---- the files and the editor
 
-// The items of a trace, each with its line, up to the first line with a fault: as `check --recorded` reads them.
-function itemsOf(text) {
-    const items = [], lines = text.split("\n");
-    for (let at = 0; at < lines.length; at++) {
-        const fields = lines[at].replace(/[#;].*$/, "").replace(/\r$/, "").split(/[ \t]+/).filter(it => it !== "");
-        if (fields.length > 1 && /^@\d+$/.test(fields[0])) fields.shift();
-        if (fields.length === 0) continue;
-        const [ce, kind, first, second] = fields, wanted = kind === "R" ? 4 : 3, isByte = /^[CAIO]$/.test(kind);
-        if (!/^[CAIORY]$/.test(kind) || fields.length !== wanted) return { items, fault: { line: at + 1, code: "X1", why: "a line is a target, one of C A I O R Y, and a byte or a LUN" } };
-        if (!/^[0-3]$/.test(ce) || !(isByte ? /^[0-9a-f]{2}$/ : /^[0-3]$/).test(first) || (kind === "R" && !/^[01]$/.test(second)))
-            return { items, fault: { line: at + 1, code: "X2", why: "a number isn't of its form: 0 to 3, or two hexadecimal digits in lower case" } };
-        items.push({ ce: +ce, kind: kind.charCodeAt(0), byte: parseInt(first, isByte ? 16 : 10), fail: +(second || 0), line: at + 1 });
-    }
-    return { items };
-}
-function lineOfItem(it) {
-    const kind = String.fromCharCode(it.kind);
-    return it.ce + " " + kind + " " + (kind === "R" ? it.byte + " " + it.fail : kind === "Y" ? it.byte : it.byte.toString(16).padStart(2, "0"));
-}
-// The line of a word: those of the header, labels and comments are none.
-function lineOfWord(text, word) {
-    const lines = text.split("\n");
-    for (let at = 0, header = 3; at < lines.length; at++) {
-        const line = lines[at].replace(/;.*$/, "").trim();
-        if (line === "" || (header === 0 && /^[A-Za-z]\w*:$/.test(line))) continue;
-        if (header > 0) header--;
-        else if (word-- === 0) return at + 1;
-    }
-    return 0;
-}
-
-// ---- judging: each answers what is shown
-
-const codeOf = (letter, number) => String.fromCharCode(letter) + number;
-
-function refusedAt(letter, number, items, at) {
-    const item = items[at], where = item ? ", line " + item.line + ": " + lineOfItem(item) : "";
-    return { line: item && item.line, text: "refused " + codeOf(letter, number) + " at " + at + where + "\n" + lib.says(letter, number) };
-}
-// The items with the readies that status outputs show, or what is refused.
-function withReadies(items, targets) {
-    const bus = lib.begun(chip.geometry, targets), done = { value: 0 };
-    for (let at = 0; at < items.length; at++) {
-        const rule = lib.push_status(bus, items[at], done);
-        if (rule) return refusedAt(rule >> 8, rule & 255, items, at);
-    }
-    return null;
-}
-function judgeTrace() {
-    const { items, fault } = itemsOf(texts.trace), targets = +$("targets").value;
-    if (fault) return { line: fault.line, text: "refused " + fault.code + " at " + fault.line + "\n" + fault.why };
-    const picture = { items, targets };
-    if ($("no_ready").checked) return { ...(withReadies(items, targets) || { isGood: true, text: "legal: " + items.length + " items" }), picture };
-    const answer = lib.check(chip.geometry, targets, items);
-    return answer.letter ? { ...refusedAt(answer.letter, answer.number, items, answer.at), picture } : { isGood: true, text: "legal: " + items.length + " items", picture };
-}
-
-function judgeProgram() {
-    const file = new Uint8Array(4112), made = lib.assemble(new TextEncoder().encode(texts.program), file);
-    if (made.letter) return { line: made.at, text: "refused " + codeOf(made.letter, made.number) + " at " + made.at + "\n" + lib.says(made.letter, made.number) };
-    return judgeFile(file.subarray(0, made.length));
-}
-function judgeFile(file) {
-    const end = { count: 0, at: 0, number: 0, forbidden: 0 }, run = Array.from({ length: 2048 }, () => ({ ce: 0, kind: 0, byte: 0, fail: 0 })), verdict = lib.verify_run(page, file, 100000, run, end);
-    if (verdict.letter === 0) {
-        assembled = file;
-        const told = "accepted\n" + (file.length - 16) / 4 + " words, a file of " + file.length + " bytes. Whatever the die answers, no rule is broken, no row or buffer is left, and it ends within its budget.";
-        return { isGood: true, text: told, notes: notesOf(file) };
-    }
-    const line = lineOfWord(texts.program, verdict.at), items = run.slice(0, Math.min(end.count, run.length));
-    const told = "refused " + codeOf(verdict.letter, verdict.number) + " at " + verdict.at + (line ? ", line " + line : "") + "\n" + lib.says(verdict.letter, verdict.number);
-    return items.length ? { line, text: told, run: items, picture: { items, targets: 1 } } : { line, text: told };
-}
-// The lines of a run as a trace, with the rule behind the item that breaks it.
-function linesOfRun(items) {
-    const answer = lib.check(chip.geometry, 1, items), why = answer.letter ? lib.says(answer.letter, answer.number) + " (" + codeOf(answer.letter, answer.number) + ")" : "";
-    return items.map((it, at) => lineOfItem(it) + (why && at === answer.at ? "    " + why : "")).join("\n");
-}
-
-// ---- pictures and notes, by a call that writes into a buffer: a second time where the first was too short
-
-function textOf(call) {
-    for (let room = 65536; ; ) {
-        const bytes = new Uint8Array(room), placed = call(bytes);
-        if (placed.letter === "B".charCodeAt(0) && placed.length > room) { room = placed.length; continue; }
-        return placed.letter ? "" : new TextDecoder().decode(bytes.subarray(0, placed.length));
-    }
-}
-function notesOf(file) {
-    return lib.notes ? textOf(bytes => lib.notes(chip.geometry, file, bytes)).split("\n").filter(it => it !== "") : [];
-}
-function pictureOf({ items, targets }) {
-    return lib.picture && items.length > 0 && items.length <= 5000 ? textOf(bytes => lib.picture(chip.geometry, targets, items, bytes)) : "";
-}
-
-// ---- showing
-
-function showLines(line) {
-    const count = $("text").value.split("\n").length;
-    marked = line || 0;
-    $("lines").innerHTML = Array.from({ length: count }, (_, k) => k + 1 === marked ? "<b>&#9654;" + (k + 1) + "</b>" : k + 1).join("\n");
-    $("lines").scrollTop = $("text").scrollTop;
-    $("go").hidden = marked === 0;
-    $("go").textContent = "Go to line " + marked;
-    $("text").setAttribute("aria-invalid", marked !== 0);
-}
-function showNotes(notes) {
-    $("notes").replaceChildren(...notes.map(note => {
-        const [, code, word, why] = note.match(/^(\S+) (\S+) (.*)$/), line = word === "-" ? 0 : lineOfWord(texts.program, +word), it = document.createElement("li");
-        it.textContent = (line ? "line " + line + ": " : "") + why + " (" + code + ")";
-        return it;
-    }));
-    $("notes_part").hidden = notes.length === 0;
-}
-function showPicture(picture) {
-    const svg = picture ? pictureOf(picture) : "", image = document.createElement("img");
-    $("picture_part").hidden = svg === "";
-    image.alt = "The commands of each target as boxes in the order of time, with the times in which LUNs are busy below them";
-    if (svg !== "") image.src = "data:image/svg+xml;charset=utf-8," + encodeURIComponent(svg);
-    $("picture").replaceChildren(image);
-}
-function judged() {
-    if (chip.fault) return { text: "the chip is refused: P" + chip.fault };
-    try { return mode === "trace" ? judgeTrace() : judgeProgram(); } catch (fault) { return { text: "this page stopped: " + fault }; }
-}
-function judge() {
-    assembled = null;
-    waiting = 0;
-    const told = judged();
-    $("answer").textContent = told.text;
-    $("answer").className = told.isGood ? "good" : "bad";
-    $("save").hidden = !assembled;
-    $("run_part").hidden = !told.run;
-    $("run").textContent = told.run ? linesOfRun(told.run) : "";
-    showLines(told.line);
-    showNotes(told.notes || []);
-    showPicture(told.picture);
-}
-function showExamples() {
-    $("examples").replaceChildren("Examples:", ...EXAMPLES[mode].map(({ name, text }) => {
+function showNames() {
+    $("names").replaceChildren(...[...files.keys()].map(name => {
         const it = document.createElement("button");
         it.type = "button";
         it.textContent = name;
-        it.onclick = () => { $("text").value = texts[mode] = text; judge(); $("text").focus(); };
+        it.setAttribute("aria-pressed", name === open);
+        it.onclick = () => openFile(name);
         return it;
     }));
 }
-function show(which) {
-    mode = which;
-    for (const it of ["trace", "program"]) {
-        $("tab_" + it).setAttribute("aria-selected", it === which);
-        $("tab_" + it).tabIndex = it === which ? 0 : -1;
-        $(it + "_words").hidden = it !== which;
+function openFile(name) {
+    open = name;
+    const bytes = files.get(name) || new Uint8Array(0), canEdit = isText(bytes) && bytes.length <= 4 * MOST_SHOWN;
+    $("text").value = canEdit ? textOf(bytes) : `${bytes.length} bytes, which aren't shown`;
+    $("text").readOnly = !canEdit;
+    $("text").scrollTop = 0;
+    showNames();
+    showLines(0);
+}
+function showLines(marked) {
+    const count = Math.min($("text").value.split("\n").length, 100000), numbers = [];
+    for (let line = 1; line <= count; line++) numbers.push(line === marked ? `<b>${line}</b>` : line);
+    $("lines").innerHTML = numbers.join("\n");
+    $("lines").scrollTop = $("text").scrollTop;
+}
+function goTo(name, line) {
+    if (name !== open) openFile(name);
+    const lines = $("text").value.split("\n"), begin = lines.slice(0, line - 1).reduce((sum, it) => sum + it.length + 1, 0);
+    $("text").focus();
+    $("text").setSelectionRange(begin, begin + (lines[line - 1] || "").length);
+    $("text").scrollTop = (line - 8) * 14 * 1.45;
+    showLines(line);
+}
+// The files that come: a parameter page becomes the chip, and the first other one tells which commands run.
+async function addFiles(given) {
+    let commands = null;
+    for (const it of given) {
+        const bytes = new Uint8Array(await it.arrayBuffer()), kind = kindOf(it.name, bytes), name = kind === "page" ? "chip.page" : it.name.replace(/\s+/g, "_");
+        files.set(name, bytes);
+        if (kind && (!commands || commands[0].startsWith("page"))) {
+            commands = FOR_KIND[kind](name);
+            open = name;
+        }
     }
-    $("panel").setAttribute("aria-labelledby", "tab_" + which);
-    $("text").setAttribute("aria-label", which === "trace" ? "The trace" : "The microprogram");
-    $("text").value = texts[which];
-    showExamples();
+    if (commands) $("commands").value = commands.join("\n");
+    openFile(open);
     judge();
 }
-function goToLine() {
-    const lines = $("text").value.split("\n"), begin = lines.slice(0, marked - 1).reduce((sum, it) => sum + it.length + 1, 0);
-    $("text").focus();
-    $("text").setSelectionRange(begin, begin + lines[marked - 1].length);
+
+// ---- the commands
+
+// The words of a line, and where its streams are: as a shell reads quotes and `<` and `>`.
+function readLine(line) {
+    const words = [], streams = {};
+    let next = null;
+    for (const [whole, quoted, plain] of line.matchAll(/"([^"]*)"|'[^']*'|([^\s"']+)/g)) {
+        const word = quoted !== undefined ? quoted : plain !== undefined ? plain : whole.slice(1, -1);
+        if (plain === "<" || plain === ">") next = plain;
+        else if (next) { streams[next] = word; next = null; }
+        else words.push(word);
+    }
+    if (words[0] === "onfiseq" || /\/onfiseq$/.test(words[0] || "")) words.shift();
+    return { words, streams };
 }
-function saveFile() {
+async function runAll() {
+    const folder = new Map(files), done = [];
+    for (const line of $("commands").value.split("\n")) {
+        const { words, streams } = readLine(line);
+        if (words.length === 0) continue;
+        const input = streams["<"] === undefined ? new Uint8Array(0) : folder.get(streams["<"]);
+        if (input === undefined) {
+            done.push({ line, status: 2, output: new Uint8Array(0), errors: new TextEncoder().encode(`there is no file ${streams["<"]}\n`), made: [] });
+            continue;
+        }
+        const ran = await runOnfiseq(compiled, ["onfiseq", ...words], folder, input);
+        const made = [...ran.files].filter(([name, bytes]) => { const before = folder.get(name); return !before || before.length !== bytes.length || before.some((it, at) => it !== bytes[at]); });
+        if (streams[">"] !== undefined) made.push([streams[">"], ran.output]);
+        for (const [name, bytes] of made) folder.set(name, bytes);
+        done.push({ line, status: ran.status, output: streams[">"] === undefined ? ran.output : new Uint8Array(0), errors: ran.errors, made });
+    }
+    return done;
+}
+
+// ---- the answers
+
+function saved(name, bytes) {
     const it = document.createElement("a");
-    it.href = URL.createObjectURL(new Blob([assembled]));
-    it.download = "program.nmp";
-    it.click();
-    setTimeout(() => URL.revokeObjectURL(it.href), 1000);
+    it.textContent = `${name}, ${bytes.length} bytes`;
+    it.href = URL.createObjectURL(new Blob([bytes]));
+    it.download = name.split("/").pop();
+    return it;
+}
+// What a stream says; its places, as `FILE:LINE:`, are links that go there.
+function placed(text, stream) {
+    const it = document.createElement("pre"), shown = text.length > MOST_SHOWN ? text.slice(0, MOST_SHOWN) + "\n.." : text;
+    let from = 0;
+    it.className = stream;
+    for (const found of shown.matchAll(/^(\S+?):(\d+):/gm)) {
+        if (!files.has(found[1])) continue;
+        it.append(shown.slice(from, found.index));
+        const link = document.createElement("a");
+        link.href = "#";
+        link.textContent = found[0];
+        link.onclick = event => { event.preventDefault(); goTo(found[1], +found[2]); };
+        it.append(link);
+        from = found.index + found[0].length;
+    }
+    it.append(shown.slice(from));
+    return it;
+}
+function pictureOf(name, bytes) {
+    const it = document.createElement("div"), picture = document.createElement("img");
+    it.className = "picture";
+    it.tabIndex = 0;
+    picture.alt = name;
+    picture.src = URL.createObjectURL(new Blob([bytes], { type: "image/svg+xml" }));
+    it.append(picture);
+    return it;
+}
+function answerOf({ line, status, output, errors, made }) {
+    const it = document.createElement("div"), head = document.createElement("div"), name = document.createElement("code");
+    it.className = "ran" + (status === 0 ? " good" : "");
+    name.textContent = "onfiseq " + line.trim();
+    head.append(name, status === 0 ? "" : `, status ${status}`);
+    it.append(head);
+    if (output.length) it.append(placed(textOf(output), "output"));
+    if (errors.length) it.append(placed(textOf(errors), "errors"));
+    for (const [path, bytes] of made) {
+        if (/\.svg$/.test(path)) it.append(pictureOf(path, bytes));
+        it.append(saved(path, bytes), " ");
+    }
+    return it;
+}
+function markFirst(done) {
+    for (const { errors } of done) {
+        for (const found of textOf(errors.subarray(0, MOST_SHOWN)).matchAll(/^(\S+?):(\d+):/gm))
+            if (found[1] === open) return showLines(+found[2]);
+    }
+    showLines(0);
+}
+async function judge() {
+    waiting = 0;
+    const mine = ++turn, begun = performance.now();
+    let done, fault = null;
+    try { done = await runAll(); } catch (it) { fault = it; }
+    if (mine !== turn) return;
+    takes = performance.now() - begun;
+    if (fault) $("answers").textContent = "The program can't go on: " + fault;
+    else {
+        $("answers").replaceChildren(...done.map(answerOf));
+        markFirst(done);
+    }
+    $("answers").dataset.turn = turn;
+    $("answers").dataset.milliseconds = takes.toFixed(1);
+    showOptions();
+}
+function judgeSoon() {
+    if (!waiting) waiting = setTimeout(judge, Math.min(2000, 10 + 2 * takes));
 }
 
-// ---- a link that holds all of it
+// ---- options, examples, links
 
+const isOf = (line, kinds) => kinds.includes(line.trim().replace(/^onfiseq\s+/, "").split(/\s/)[0]);
+function showOptions() {
+    const lines = $("commands").value.split("\n");
+    $("options").replaceChildren(...OPTIONS.filter(it => lines.some(line => isOf(line, it.kinds))).map(({ name, option, kinds }) => {
+        const it = document.createElement("button"), has = lines.some(line => isOf(line, kinds) && line.includes(option));
+        it.type = "button";
+        it.textContent = name;
+        it.title = option;
+        it.setAttribute("aria-pressed", has);
+        it.onclick = () => {
+            $("commands").value = lines.map(line => !isOf(line, kinds) ? line : has ? line.replace(new RegExp(` *${option}`), "") : line.includes(option) ? line : `${line.trimEnd()} ${option}`).join("\n");
+            judge();
+        };
+        return it;
+    }));
+}
+function takeExample({ files: given, commands, open: name }) {
+    files = new Map(given.map(it => [it.name, bytesOf(it.base64)]));
+    $("commands").value = commands.join("\n");
+    openFile(name);
+    judge();
+}
+function showExamples() {
+    $("examples").replaceChildren(...EXAMPLES.map(it => {
+        const button = document.createElement("button");
+        button.type = "button";
+        button.textContent = it.name;
+        button.onclick = () => takeExample(it);
+        return button;
+    }));
+}
 function makeLink() {
-    const words = new URLSearchParams({ mode, text: texts[mode], targets: $("targets").value, page: base64Of(page.subarray(0, 256)) });
-    if ($("no_ready").checked) words.set("no_ready", "1");
-    location.hash = words.toString();
+    const given = [...files].map(([name, bytes]) => ({ name, base64: btoa([...bytes].map(it => String.fromCharCode(it)).join("")) }));
+    const text = encodeURIComponent(JSON.stringify({ files: given, commands: $("commands").value.split("\n"), open }));
+    if (text.length > MOST_LINKED) { $("linked").textContent = "The files are too long for a link."; return; }
+    location.hash = text;
     $("linked").textContent = "It stands in the address line.";
     if (navigator.clipboard) navigator.clipboard.writeText(location.href).then(() => { $("linked").textContent = "Copied."; }, () => {});
 }
 function readLink() {
-    const words = new URLSearchParams(location.hash.slice(1)), which = words.get("mode");
-    if (which !== "trace" && which !== "program") return false;
-    texts[which] = words.get("text") || "";
-    mode = which;
-    $("targets").value = /^[1-4]$/.test(words.get("targets")) ? words.get("targets") : "1";
-    $("no_ready").checked = words.get("no_ready") === "1";
-    try { page = bytesOf(words.get("page") || SMALL); } catch (fault) { page = bytesOf(SMALL); }
-    return true;
+    if (location.hash.length < 2) return null;
+    try {
+        const it = JSON.parse(decodeURIComponent(location.hash.slice(1)));
+        return Array.isArray(it.files) && Array.isArray(it.commands) ? it : null;
+    } catch (fault) { return null; }
 }
 
 function listen() {
-    const tabs = ["trace", "program"];
-    for (const it of tabs) $("tab_" + it).onclick = () => show(it);
-    document.querySelector("[role=tablist]").onkeydown = event => {
-        if (event.key !== "ArrowLeft" && event.key !== "ArrowRight") return;
-        show(tabs[1 - tabs.indexOf(mode)]);
-        $("tab_" + mode).focus();
-    };
     $("text").oninput = () => {
-        texts[mode] = $("text").value;
-        showLines(0);
-        if (!waiting) waiting = setTimeout(judge, texts[mode].length > 20000 ? 400 : 30);
+        if (!open) openFile("new.trace");
+        files.set(open, new TextEncoder().encode($("text").value));
+        showNames();
+        judgeSoon();
     };
     $("text").onscroll = () => { $("lines").scrollTop = $("text").scrollTop; };
-    $("targets").onchange = $("no_ready").onchange = judge;
-    $("small").onclick = () => takePage(bytesOf(SMALL), true);
-    $("file").onchange = async event => takePage(new Uint8Array(await event.target.files[0].arrayBuffer()), true);
-    for (const it of [...NUMBERS, ...FLAGS]) $(it).oninput = () => takePage(pageOf(numbersOfForm()), false);
-    $("go").onclick = goToLine;
-    $("save").onclick = saveFile;
+    $("commands").oninput = judgeSoon;
+    $("add").onchange = event => addFiles(event.target.files);
+    $("new").onclick = () => {
+        const name = prompt("The file's name", "new.asm");
+        if (name) { files.set(name, files.get(name) || new Uint8Array(0)); openFile(name); }
+    };
+    $("remove").onclick = () => { files.delete(open); openFile([...files.keys()][0] || ""); judge(); };
     $("link").onclick = makeLink;
-    window.onhashchange = () => { if (readLink()) { show(mode); takePage(page, true); } };
+    document.ondragover = event => { event.preventDefault(); $("files").classList.add("over"); };
+    document.ondragleave = () => $("files").classList.remove("over");
+    document.ondrop = event => { event.preventDefault(); $("files").classList.remove("over"); addFiles(event.dataTransfer.files); };
+    window.onhashchange = () => { const it = readLink(); if (it) takeExample(it); };
 }
 
-onfiseqLoad(bytesOf(MODULE), SHAPE).then(it => {
-    lib = it;
-    texts.trace = EXAMPLES.trace[0].text;
-    texts.program = EXAMPLES.program[0].text;
-    if (!readLink()) page = bytesOf(SMALL);
-    chip = lib.read_page(page);
+WebAssembly.compile(bytesOf(MODULE)).then(it => {
+    compiled = it;
+    showExamples();
     listen();
-    show(mode);
-    takePage(page, true);
+    takeExample(readLink() || EXAMPLES[0]);
     document.body.dataset.ready = "yes";
 });

@@ -11,7 +11,6 @@ import base64
 import json
 import os
 import random
-import re
 import shutil
 import socket
 import subprocess
@@ -145,6 +144,9 @@ def wait_for_port(port):
 
 # ---- what is typed
 
+CHECKS = [["check", "chip.page", "1", "typed", *options] for options in ([], ["--recorded", "--all"], ["--readies-from-status"], ["--profile", "onfi"])]
+VERIFIES = [["verify", "chip.page", "typed"], ["lint", "chip.page", "typed"], ["explain", "chip.page", "typed"]]
+
 KINDS = ("C 60", "C d0", "C 70", "C 00", "C 30", "C 80", "C 10", "C ff", "C 31", "A 00", "A 04", "A 01", "I 5a", "O 80", "O e0", "R 0 0", "R 0 1", "Y 0", "C D0", "A 0", "Q 00", "C", "O e0 1")
 ERASE = "0 C 60\n0 A 04\n0 A 00\n0 A 00\n0 C d0\n0 C 70\n0 O 80\n0 R 0 0\n0 C 70\n0 O e0\n"
 PARTS = (
@@ -166,87 +168,111 @@ def draw_program(draw):
     return "rows %d\nbuffer %d\nbudget %d\n%s%send 0\n" % (1 + draw.randrange(3), 16 * draw.randrange(3), draw.choice((40, 400)), body, label)
 
 
-def program_says(program, mode, text, room):
-    """The line of the program: its command's first line of standard output."""
-    path = room + "/typed"
-    with open(path, "w") as it:
-        it.write(text)
-    words = [program, "check", CHIP, "1", path] if mode == "trace" else [program, "verify", CHIP, path]
-    return subprocess.run(words, stdout=subprocess.PIPE, stderr=subprocess.DEVNULL, text=True).stdout.split("\n")[0]
+def program_says(program, words, text, room):
+    """What the program says of the text, on both streams."""
+    for name, what in (("typed", text.encode()), ("chip.page", open(CHIP, "rb").read())):
+        with open("%s/%s" % (room, name), "wb") as it:
+            it.write(what)
+    ran = subprocess.run([program, *words], cwd=room, stdout=subprocess.PIPE, stderr=subprocess.PIPE, text=True, check=False)
+    return ran.stdout, ran.stderr
 
 
 # ---- the page
 
-PUT = "document.getElementById('text').value = arguments[0]; document.getElementById('text').dispatchEvent(new Event('input')); judge();"
-READY = "document.body && document.body.dataset.ready"
-ANSWER = "return document.getElementById('answer').textContent;"
+PUT = """const before = document.getElementById('answers').dataset.turn || '0';
+takeExample({ files: arguments[0], commands: arguments[1], open: arguments[0][arguments[0].length - 1].name }); return before;"""
+READY = "document.body && document.body.dataset.ready && document.getElementById('answers').dataset.turn"
+TURN = "return document.getElementById('answers').dataset.turn || '0';"
+SAID = "return [...document.querySelectorAll('#answers .' + arguments[0])].map(it => it.textContent).join('');"
+EXAMPLE = "[...document.querySelectorAll('#examples button')].find(it => it.textContent === arguments[0]).click();"
 
 
 def wait_until(browser, condition):
     """Waits until a condition holds in the page."""
-    for _ in range(300):
+    for _ in range(3000):
         if browser.run("return !!(%s);" % condition):
             return
-        time.sleep(0.1)
+        time.sleep(0.01)
     raise RuntimeError("the page never came to: " + condition)
 
 
-def page_says(answer):
-    """The line of the page in the program's form."""
-    first = answer.split("\n")[0]
-    return "legal" if first.startswith("legal") else re.sub(r"^(refused \w+ at \d+).*", r"\1", first)
+def file_of(name, text):
+    return {"name": name, "base64": base64.b64encode(text if isinstance(text, bytes) else text.encode()).decode()}
+
+
+def put(browser, files, commands):
+    """Puts files and commands into the page, and waits for the answer."""
+    before = browser.run(PUT, files, commands)
+    wait_until(browser, "document.getElementById('answers').dataset.turn > %s" % before)
+
+
+def click_example(browser, name):
+    """Clicks an example, and waits for its answer."""
+    before = browser.run(TURN)
+    browser.run(EXAMPLE, name)
+    wait_until(browser, "document.getElementById('answers').dataset.turn > %s" % before)
 
 
 def differing_texts(browser, typed):
-    """The texts to which the page says something else than the program."""
-    found, was = [], None
-    for mode, text, wanted in typed:
-        if mode != was:
-            browser.run("show(arguments[0]);", mode)
-            was = mode
-        browser.run(PUT, text)
-        told = page_says(browser.run(ANSWER))
+    """The texts to which the page says something else than the program, on either stream."""
+    with open(CHIP, "rb") as it:
+        chip = file_of("chip.page", it.read())
+    found = []
+    for words, text, wanted in typed:
+        put(browser, [chip, file_of("typed", text)], [" ".join(words)])
+        told = browser.run(SAID, "output"), browser.run(SAID, "errors")
         if told != wanted:
             found.append("%r: the page says %r, the program %r" % (text, told, wanted))
     return found
 
 
 def wrong_by_hand(browser):
-    """What goes wrong where a person types, clicks and uses the keyboard."""
+    """What goes wrong where a person types and clicks."""
     found = []
 
     def want(what, condition):
         if not browser.run("return !!(%s);" % condition):
             found.append(what)
 
-    browser.run("show('trace'); document.getElementById('text').value = ''; document.getElementById('text').focus();")
-    browser.type("#text", "0 C 60\n0 A 00\n0 A 00\n0 A 00\n0 C d0\n0 C 60\n")
-    wait_until(browser, "document.getElementById('answer').textContent.startsWith('refused F9 at 5')")
-    want("the faulty line is marked", "document.querySelector('#lines b').textContent.endsWith('6') && document.getElementById('text').getAttribute('aria-invalid') === 'true'")
-    want("the picture is drawn", "!document.getElementById('picture_part').hidden && document.querySelector('#picture img').src.startsWith('data:image/svg')")
-    browser.run("document.getElementById('go').click();")
+    click_example(browser, "A trace: too soon")
+    want("the first example is refused", "document.querySelector('#answers .output').textContent.startsWith('refused F9 at 5')")
+    want("the faulty line is marked", "document.querySelector('#lines b').textContent === '6'")
+    want("the picture is drawn", "document.querySelector('.picture img').src.startsWith('blob:')")
+    browser.run("document.querySelector('#answers .errors a').click();")
     want("the line can be gone to", "document.activeElement.id === 'text' && document.getElementById('text').selectionStart === 35")
-    browser.run("document.getElementById('tab_trace').focus();")
-    browser.type("#tab_trace", "\ue014")
-    want("the arrow key changes the tab", "document.activeElement.id === 'tab_program' && document.getElementById('tab_program').getAttribute('aria-selected') === 'true'")
-    browser.run("[...document.querySelectorAll('#examples button')].find(it => it.textContent.startsWith('erase twice')).click();")
-    want("the run of a refusal is shown", "document.getElementById('answer').textContent.startsWith('refused V7 at 3') && document.getElementById('run').textContent.includes('(F9)')")
-    browser.run("[...document.querySelectorAll('#examples button')].find(it => it.textContent.startsWith('nobody')).click();")
-    want("the notes are shown", "document.getElementById('answer').textContent.startsWith('accepted') && /line 6: .*[(]N4[)]/.test(document.getElementById('notes').textContent)")
+    browser.run("[...document.querySelectorAll('#options button')].find(it => it.title === '--all').click();")
+    want("an option is taken out", "!document.getElementById('commands').value.includes('--all')")
+    browser.run("document.getElementById('text').value = ''; document.getElementById('text').focus();")
+    browser.type("#text", "0 C 60\n0 C 60\n")
+    wait_until(browser, "document.getElementById('answers').textContent.includes('refused F3 at 1')")
+    click_example(browser, "A refused program")
+    want("the run of a refusal is drawn", "document.querySelector('#answers .output').textContent.startsWith('refused V7 at 3') && document.querySelector('.picture img')")
+    click_example(browser, "A run on two dies")
+    want("threads take turns", "typeof WebAssembly.Suspending !== 'function' || document.querySelector('#answers .output').textContent === 'job 1 end 0\\njob 2 end 0\\n'")
+    browser.run("addFiles([new File(['$date today $end'], 'a b.VCD')]);")
+    wait_until(browser, "document.getElementById('commands').value.startsWith('capture chip.page 1 a_b.VCD')")
+    click_example(browser, "A program")
     browser.run("document.getElementById('link').click();")
     link = browser.run("return location.href;")
     browser.open("about:blank")
     browser.open(link)
     wait_until(browser, READY)
-    want("the link holds the text", "document.getElementById('tab_program').getAttribute('aria-selected') === 'true' && document.getElementById('text').value.startsWith('rows 1')")
-    browser.run("document.getElementById('blocks').value = 3000000; document.getElementById('blocks').dispatchEvent(new Event('input'));")
-    want("a chip by its numbers is refused", "document.getElementById('chip').textContent.startsWith('refused P')")
-    browser.run("document.getElementById('blocks').value = 16; document.getElementById('blocks').dispatchEvent(new Event('input'));")
-    want("a chip by its numbers is taken", "document.getElementById('chip').textContent.includes('16 blocks')")
-    browser.run("document.getElementById('small').click();")
+    want("the link holds the files", "document.getElementById('text').value.includes('cmd 60') && document.querySelector('#answers .output').textContent === 'accepted\\n'")
     want("each control has a name", "[...document.querySelectorAll('button, input, select, textarea')].every(it => it.textContent.trim() || it.getAttribute('aria-label') || it.closest('label'))")
     want("nothing was asked for", "performance.getEntriesByType('resource').filter(it => !it.name.startsWith('data:') && !it.name.startsWith('blob:')).length === 0")
     return found
+
+
+def slow_answers(browser):
+    """Whether 3,000 items are judged in 100 ms, each fault told and the readies taken from status: the least of five tries."""
+    with open(CHIP, "rb") as it:
+        files = [file_of("chip.page", it.read()), file_of("long.trace", ERASE.replace("0 R 0 0\n", "") * 333)]
+    tries = []
+    for _ in range(5):
+        put(browser, files, ["check chip.page 1 long.trace --recorded --readies-from-status --all"])
+        tries.append(float(browser.run("return document.getElementById('answers').dataset.milliseconds;")))
+    print("browser: %s: 3,000 items in %.0f ms" % (browser.name, min(tries)))
+    return ["3,000 items take %.0f ms" % min(tries)] if min(tries) > 100 else []
 
 
 def wrong_on_a_phone(browser):
@@ -262,8 +288,9 @@ def take_shots(browser, folder):
     """Pictures of the page, for docs."""
     os.makedirs(folder, exist_ok=True)
     browser.size(1000, 1250)
-    for name, mode, example in (("playground_trace", "trace", "too soon"), ("playground_program", "program", "erase twice")):
-        browser.run("show(arguments[0]); [...document.querySelectorAll('#examples button')].find(it => it.textContent.startsWith(arguments[1])).click(); scrollTo(0, 0);", mode, example)
+    for name, example in (("playground_trace", "A trace: too soon"), ("playground_program", "A refused program")):
+        click_example(browser, example)
+        browser.run("scrollTo(0, 0);")
         time.sleep(0.5)
         with open("%s/%s.png" % (folder, name), "wb") as it:
             it.write(browser.shot())
@@ -277,7 +304,7 @@ def try_browser(kind, page, typed, shots):
         browser.size(1100, 1500)
         browser.open("file://" + os.path.abspath(page))
         wait_until(browser, READY)
-        wrong = differing_texts(browser, typed) + wrong_by_hand(browser) + wrong_on_a_phone(browser)
+        wrong = differing_texts(browser, typed) + wrong_by_hand(browser) + slow_answers(browser) + wrong_on_a_phone(browser)
         if shots and kind is Chromium:
             take_shots(browser, shots)
         return wrong
@@ -298,8 +325,8 @@ def given_words():
 def main():
     given, draw, is_right = given_words(), random.Random(55), True
     with tempfile.TemporaryDirectory() as room:
-        drawn = [("trace", draw_trace(draw)) for _ in range(given.texts)] + [("program", draw_program(draw)) for _ in range(given.texts)]
-        typed = [(mode, text, program_says(os.path.abspath(given.program), mode, text, room)) for mode, text in drawn]
+        drawn = [(draw.choice(CHECKS), draw_trace(draw)) for _ in range(given.texts)] + [(draw.choice(VERIFIES), draw_program(draw)) for _ in range(given.texts)]
+        typed = [(words, text, program_says(os.path.abspath(given.program), words, text, room)) for words, text in drawn]
     for kind in (Chromium, Firefox):
         lacking = [it for it in kind.needs if shutil.which(it) is None]
         if lacking:
