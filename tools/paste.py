@@ -3,7 +3,7 @@
     python3 tools/paste.py [PROGRAM]
 
 PROGRAM is the built program (crates/onfiseq/out/onfiseq when none is given). A page is pasted from top to bottom in a fresh folder that has
-examples/, release/ and bin/onfiseq. In an indented block a line that begins with a command is one; it goes on below where it ends with `\\`. The lines
+examples/, release/, bin/onfiseq and onfiseq. In an indented block a line that begins with a command is one; it goes on below where it ends with `\\`. The lines
 under it, up to the next command or the end of the block, are what it must print on standard output. A command without such lines may print
 anything; none may end but with the statuses 0, 1 and 5, and none may say that a command or a file isn't there. What builds the program
 (`rt`) isn't run.
@@ -24,7 +24,7 @@ from pathlib import Path
 ROOT = Path(__file__).resolve().parent.parent
 PROGRAM = Path(sys.argv[1] if len(sys.argv) > 1 else ROOT / "crates/onfiseq/out/onfiseq").resolve()
 PAGES = ("README.md", *(f"docs/use/{name}.md" for name in ("COMMANDS", "ASSEMBLY", "WORDS", "JSON", "TRACES", "RUNFILES", "IMAGES", "NOTES", "WAVES", "CAPTURES", "PAGES", "VENDOR", "OPERATIONS", "TIMING", "DATA", "TUTORIAL", "TROUBLESHOOTING")))
-COMMANDS = ("onfiseq", "bin/onfiseq", "cc", "./onfiseq-mini", "cd", "printf", "echo", "sed", "python3")
+COMMANDS = ("onfiseq", "./onfiseq", "bin/onfiseq", "cc", "./onfiseq-mini", "cd", "printf", "echo", "sed", "python3")
 SECONDS = 180
 # For a machine without this tool of vim's.
 XXD = "xxd() { python3 -c 'import sys; sys.stdout.buffer.write(bytes.fromhex(sys.stdin.read()))'; }\n"
@@ -90,6 +90,7 @@ def make_folder(folder):
     (folder / "release").symlink_to(ROOT / "release")
     (folder / "bin").mkdir()
     (folder / "bin/onfiseq").symlink_to(PROGRAM)
+    (folder / "onfiseq").symlink_to(PROGRAM)
 
 
 def paste(command, here, path):
