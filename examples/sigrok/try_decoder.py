@@ -113,6 +113,29 @@ def try_two_chips(library, folder):
     return None
 
 
+def edo_dump(outputs):
+    """A dump of 90h at 20h by a chip that holds its data until RE# falls next (EDO): each comes only once RE# has risen."""
+    lines = "".join("$var wire 1 %s %s $end\n" % (code, name) for code, name in zip("ABCDEF", ("CE_n", "CLE", "ALE", "WE_n", "RE_n", "R_B_n")))
+    text = "$timescale 1ns $end\n%s$var wire 8 G DQ [7:0] $end\n$enddefinitions $end\n#0\n0A\n0B\n0C\n1D\n1E\n1F\nb0 G\n" % lines
+    cycle, at = "#%d\n1%s\n#%d\nb%s G\n0D\n#%d\n1D\n#%d\n0%s\n", 100
+    for latch, byte in (("B", 0x90), ("C", 0x20)):
+        text += cycle % (at, latch, at + 5, format(byte, "b"), at + 20, at + 30, latch)
+        at += 50
+    for byte in outputs:
+        text += "#%d\n0E\n#%d\n1E\n#%d\nb%s G\n" % (at, at + 10, at + 15, format(byte, "b"))
+        at += 25
+    return text + "#%d\n1A\n" % (at + 20)
+
+
+def try_edo(library, folder):
+    """The outputs of a chip that holds its data: right where they are taken at the fall of RE#, and wrong at its rise."""
+    vcd, outputs = folder + "/edo.vcd", b"ONFI"
+    Path(vcd).write_text(split_vectors(edo_dump(outputs)))
+    seen = {edge: [text[-2:].upper() for _, text in Decoded(library, vcd, LINES, ":outputs=" + edge).items() if " O " in text] for edge in ("fall", "rise")}
+    wanted = ["%02X" % byte for byte in outputs]
+    return None if seen["fall"] == wanted != seen["rise"] else "it tells %s" % seen
+
+
 def main():
     if shutil.which("sigrok-cli") is None:
         print("sigrok: not tried: no sigrok-cli")
@@ -122,6 +145,7 @@ def main():
         tried = {"a Linux boot, profile %s" % profile: try_host(library, program, folder, None, profile) for profile in NOTES}
         tried.update({"mistake %d of the host" % bug: try_host(library, program, folder, bug, "base") for bug in BUGS})
         tried["two chips"] = try_two_chips(library, folder)
+        tried["outputs that are held"] = try_edo(library, folder)
     for name, why in tried.items():
         print("sigrok: %s: %s" % (name, why or "ok"))
     return 1 if any(tried.values()) else 0
