@@ -66,10 +66,10 @@ class Decoded:
         return sorted(found, key=lambda it: it[0])
 
 
-def record(folder, bug):
-    """A recording of the host in single lines, its items, and the item of its mistake."""
+def record(folder, bug, polls):
+    """A recording of the host in single lines, with R/B# or by polls, its items, and the item of its mistake."""
     vcd, trace = folder + "/host.vcd", folder + "/host.trace"
-    words = [sys.executable, HOSTS / "linux_boot.py", *(["--bug", str(bug)] if bug else []), vcd, trace]
+    words = [sys.executable, HOSTS / "linux_boot.py", *["--polls"] * polls, *(["--bug", str(bug)] if bug else []), vcd, trace]
     at = subprocess.run(words, stdout=subprocess.PIPE, text=True, check=True).stdout.strip()
     lines = [re.sub(r"( R \d) \d", r"\1", line) for line in Path(trace).read_text().splitlines()]
     Path(vcd).write_text(split_vectors(Path(vcd).read_text()))
@@ -86,14 +86,14 @@ def differing_operations(program, folder, told):
     return None if here == wanted[:-1] else next(("%r, and not %r" % pair for pair in zip(here, wanted) if pair[0] != pair[1]), "%d, and not %d" % (len(here), len(wanted) - 1))
 
 
-def try_host(library, program, folder, bug, profile):
-    """Tries a recording: what differs, if something does."""
-    vcd, lines, at = record(folder, bug)
-    decoded = Decoded(library, vcd, LINES, ":profile=" + profile)
-    items = decoded.items()
-    if [text for _, text in items] != lines:
+def try_host(library, program, folder, bug, profile="base", polls=False):
+    """Tries a recording, of a host that polls without R/B#: what differs, if something does."""
+    vcd, lines, at = record(folder, bug, polls)
+    decoded = Decoded(library, vcd, LINES.replace(":rb=R_B_n", "" if polls else ":rb=R_B_n"), ":profile=" + profile)
+    items, numbers = decoded.items(), [number for number, line in enumerate(lines) if not (polls and " R " in line)]
+    if [text for _, text in items] != [lines[number] for number in numbers]:
         return "its items aren't those of the host"
-    places = {end: number for number, (end, text) in enumerate(items)}
+    places = {end: number for number, (end, _) in zip(numbers, items)}
     faults = [(places[end], text) for _, end, text in decoded.told("fault")]
     own = faults[NOTES[profile] :]
     if bug and own[:1] != [(at, BUGS[bug])] or not bug and own or len(faults) < NOTES[profile]:
@@ -143,7 +143,8 @@ def main():
     library, program = sys.argv[1], os.path.abspath(sys.argv[2]) if len(sys.argv) > 2 else None
     with tempfile.TemporaryDirectory() as folder:
         tried = {"a Linux boot, profile %s" % profile: try_host(library, program, folder, None, profile) for profile in NOTES}
-        tried.update({"mistake %d of the host" % bug: try_host(library, program, folder, bug, "base") for bug in BUGS})
+        tried.update({"mistake %d of the host" % bug: try_host(library, program, folder, bug) for bug in BUGS})
+        tried["mistake 1 of a host that polls"] = try_host(library, program, folder, 1, polls=True)
         tried["two chips"] = try_two_chips(library, folder)
         tried["outputs that are held"] = try_edo(library, folder)
     for name, why in tried.items():
