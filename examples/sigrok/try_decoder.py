@@ -66,10 +66,10 @@ class Decoded:
         return sorted(found, key=lambda it: it[0])
 
 
-def record(folder, bug):
-    """A recording of the host in single lines, its items, and the item of its mistake."""
+def record(folder, bug, polls):
+    """A recording of the host in single lines, with R/B# or by polls, its items, and the item of its mistake."""
     vcd, trace = folder + "/host.vcd", folder + "/host.trace"
-    words = [sys.executable, HOSTS / "linux_boot.py", *(["--bug", str(bug)] if bug else []), vcd, trace]
+    words = [sys.executable, HOSTS / "linux_boot.py", *["--polls"] * polls, *(["--bug", str(bug)] if bug else []), vcd, trace]
     at = subprocess.run(words, stdout=subprocess.PIPE, text=True, check=True).stdout.strip()
     lines = [re.sub(r"( R \d) \d", r"\1", line) for line in Path(trace).read_text().splitlines()]
     Path(vcd).write_text(split_vectors(Path(vcd).read_text()))
@@ -86,14 +86,14 @@ def differing_operations(program, folder, told):
     return None if here == wanted[:-1] else next(("%r, and not %r" % pair for pair in zip(here, wanted) if pair[0] != pair[1]), "%d, and not %d" % (len(here), len(wanted) - 1))
 
 
-def try_host(library, program, folder, bug, profile):
-    """Tries a recording: what differs, if something does."""
-    vcd, lines, at = record(folder, bug)
-    decoded = Decoded(library, vcd, LINES, ":profile=" + profile)
-    items = decoded.items()
-    if [text for _, text in items] != lines:
+def try_host(library, program, folder, bug, profile="base", polls=False):
+    """Tries a recording, of a host that polls without R/B#: what differs, if something does."""
+    vcd, lines, at = record(folder, bug, polls)
+    decoded = Decoded(library, vcd, LINES.replace(":rb=R_B_n", "" if polls else ":rb=R_B_n"), ":profile=" + profile)
+    items, numbers = decoded.items(), [number for number, line in enumerate(lines) if not (polls and " R " in line)]
+    if [text for _, text in items] != [lines[number] for number in numbers]:
         return "its items aren't those of the host"
-    places = {end: number for number, (end, text) in enumerate(items)}
+    places = {end: number for number, (end, _) in zip(numbers, items)}
     faults = [(places[end], text) for _, end, text in decoded.told("fault")]
     own = faults[NOTES[profile] :]
     if bug and own[:1] != [(at, BUGS[bug])] or not bug and own or len(faults) < NOTES[profile]:
@@ -113,6 +113,29 @@ def try_two_chips(library, folder):
     return None
 
 
+def edo_dump(outputs):
+    """A dump of 90h at 20h by a chip that holds its data until RE# falls next (EDO): each comes only once RE# has risen."""
+    lines = "".join("$var wire 1 %s %s $end\n" % (code, name) for code, name in zip("ABCDEF", ("CE_n", "CLE", "ALE", "WE_n", "RE_n", "R_B_n")))
+    text = "$timescale 1ns $end\n%s$var wire 8 G DQ [7:0] $end\n$enddefinitions $end\n#0\n0A\n0B\n0C\n1D\n1E\n1F\nb0 G\n" % lines
+    cycle, at = "#%d\n1%s\n#%d\nb%s G\n0D\n#%d\n1D\n#%d\n0%s\n", 100
+    for latch, byte in (("B", 0x90), ("C", 0x20)):
+        text += cycle % (at, latch, at + 5, format(byte, "b"), at + 20, at + 30, latch)
+        at += 50
+    for byte in outputs:
+        text += "#%d\n0E\n#%d\n1E\n#%d\nb%s G\n" % (at, at + 10, at + 15, format(byte, "b"))
+        at += 25
+    return text + "#%d\n1A\n" % (at + 20)
+
+
+def try_edo(library, folder):
+    """The outputs of a chip that holds its data: right where they are taken at the fall of RE#, and wrong at its rise."""
+    vcd, outputs = folder + "/edo.vcd", b"ONFI"
+    Path(vcd).write_text(split_vectors(edo_dump(outputs)))
+    seen = {edge: [text[-2:].upper() for _, text in Decoded(library, vcd, LINES, ":outputs=" + edge).items() if " O " in text] for edge in ("fall", "rise")}
+    wanted = ["%02X" % byte for byte in outputs]
+    return None if seen["fall"] == wanted != seen["rise"] else "it tells %s" % seen
+
+
 def main():
     if shutil.which("sigrok-cli") is None:
         print("sigrok: not tried: no sigrok-cli")
@@ -120,8 +143,10 @@ def main():
     library, program = sys.argv[1], os.path.abspath(sys.argv[2]) if len(sys.argv) > 2 else None
     with tempfile.TemporaryDirectory() as folder:
         tried = {"a Linux boot, profile %s" % profile: try_host(library, program, folder, None, profile) for profile in NOTES}
-        tried.update({"mistake %d of the host" % bug: try_host(library, program, folder, bug, "base") for bug in BUGS})
+        tried.update({"mistake %d of the host" % bug: try_host(library, program, folder, bug) for bug in BUGS})
+        tried["mistake 1 of a host that polls"] = try_host(library, program, folder, 1, polls=True)
         tried["two chips"] = try_two_chips(library, folder)
+        tried["outputs that are held"] = try_edo(library, folder)
     for name, why in tried.items():
         print("sigrok: %s: %s" % (name, why or "ok"))
     return 1 if any(tried.values()) else 0

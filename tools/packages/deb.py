@@ -19,7 +19,7 @@ def stage(installed, folder):
     """Writes what the packages have below a folder, where it stands once it is installed."""
     files = {"usr/" + name: content for name, content in installed.items() if not name.endswith("libonfiseq.so")}
     files.update({"usr/" + PYTHON + name: content for name, content in wheel.package().items()})
-    files["usr/" + PYTHON + "libonfiseq.so"] = installed["lib/libonfiseq.so"]
+    files["usr/" + PYTHON + "libonfiseq.so"] = bytes(installed["lib/libonfiseq.so"])
     files["usr/" + PYTHON + "onfiseq"] = archive.Link(b"../../../../bin/onfiseq")
     archive.write_folder(files, folder)
 
@@ -39,8 +39,9 @@ def control_of(text, size):
     libc = told(["dpkg-query", "-W", "-f", "${Version}", "libc6"]).split("-")[0]
     text = text.replace("${shlibs:Depends}", "libc6 (>= %s)" % libc).replace("${binary:Version}", version.number())
     text = re.sub(r"(?m)^Depends: \$\{misc:Depends\}\n|, \$\{misc:Depends\}", "", text)
-    maintainer = re.search(r"(?m)^Maintainer: .*$", archive.read(FOLDER + "/control").decode())[0]
-    head = "Version: %s\n%s\nPriority: optional\nInstalled-Size: %d\n" % (version.number(), maintainer, size // 1024 + 1)
+    source = archive.read(FOLDER + "/control").decode().split("\n\n")[0]
+    fields = re.findall(r"(?m)^(?:Maintainer|Priority%s): .*\n" % ("" if "\nSection: " in text else "|Section"), source)
+    head = "Version: %s\n%sInstalled-Size: %d\n" % (version.number(), "".join(fields), size // 1024 + 1)
     return re.sub(r"(?m)^Architecture: any\n", "Architecture: %s\n" % told(["dpkg", "--print-architecture"]) + head, text)
 
 

@@ -57,13 +57,12 @@ def pack_library(shared, made, folder):
     return {"lib/libonfiseq.a": archive.read(folder + "/libonfiseq.a"), "lib/libonfiseq.so": archive.Content(archive.read(shared))}
 
 
-def document_program(program, folder):
+def document_program(program):
     """The program with its manual page and its completions, where man and bash-completion look for them; nothing where there is no release/program."""
     if program is None:
         return {}
-    subprocess.run([sys.executable, "tools/man.py", program, folder], check=True, stdout=subprocess.DEVNULL)
-    completions = archive.read(folder + "/onfiseq.bash")
-    return {"bin/onfiseq": archive.read(program), "share/man/man1/onfiseq.1": archive.read(folder + "/onfiseq.1"), "share/bash-completion/completions/onfiseq": completions}
+    pages = {"share/man/man1/onfiseq.1": "release/onfiseq.1", "share/bash-completion/completions/onfiseq": "release/onfiseq.bash"}
+    return {"bin/onfiseq": archive.read(program), **{place: archive.read(path) for place, path in pages.items()}}
 
 
 def build():
@@ -75,7 +74,7 @@ def build():
     files["lib/cmake/onfiseq/onfiseq-config-version.cmake"] = CMAKE_VERSION.format(**words).encode()
     with tempfile.TemporaryDirectory() as folder:
         shared, made, program = onfiseq_build.make_all("release", folder)
-        return {**files, **pack_library(shared, made, folder), **document_program(program, folder)}
+        return {**files, **pack_library(shared, made, folder), **document_program(program)}
 
 
 def write(installed, folder):

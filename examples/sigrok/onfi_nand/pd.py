@@ -93,15 +93,16 @@ class Decoder(srd.Decoder):
                 self.tell(self.samplenum, self.samplenum + 1, READY, [self.of_target(ce) + 'LUN %d is ready' % lun, 'R %d' % lun, 'R'])
 
     def take_late(self, byte):
-        """An output that is taken behind the rise of its RE#."""
+        """An output that is taken behind the rise of its RE#: where RE# falls next, or a latch or a chip enable rises."""
         late, self.late = self.late, None
         if late:
             self.cycle(*late, 'O', byte)
 
-    def see(self, pins, falls, we_rises, re_rises):
+    def see(self, pins, ends, falls, we_rises, re_rises):
         at, byte = self.samplenum, sum((pins[DQ + k] & 1) << k for k in range(8))
-        if falls:
+        if ends or falls:
             self.take_late(byte)
+        if falls:
             self.begun = at
         if self.begun is None:
             return
@@ -114,6 +115,8 @@ class Decoder(srd.Decoder):
 
     def decode(self):
         waits = [{WE: 'f'}, {WE: 'r'}, {RE: 'f'}, {RE: 'r'}] + [{pin: 'r'} for pin in self.readies]
+        if self.options['outputs'] == 'fall':
+            waits += [{pin: 'r'} for pin in (CLE, ALE, *self.enables.values())]
         while True:
             try:
                 pins = self.wait(waits)
@@ -124,4 +127,4 @@ class Decoder(srd.Decoder):
             for targets, has_risen in zip(self.readies.values(), self.matched[4:]):
                 if has_risen and self.samplenum:
                     self.rise(targets)
-            self.see(pins, self.matched[0] or self.matched[2], self.matched[1], self.matched[3])
+            self.see(pins, any(self.matched[4 + len(self.readies):]), self.matched[0] or self.matched[2], self.matched[1], self.matched[3])

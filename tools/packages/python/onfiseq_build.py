@@ -60,7 +60,7 @@ def make_program(sources, folder):
         return None
     objects = ["%s/%s.o" % (folder, os.path.basename(file)) for file in files]
     with ThreadPoolExecutor(os.cpu_count()) as pool:
-        list(pool.map(lambda pair: compile_c("-c", pair[0], "-o", pair[1]), zip(files, objects)))
+        list(pool.map(lambda pair: compile_c("-pthread", "-c", pair[0], "-o", pair[1]), zip(files, objects)))
     compile_c("-s", *objects, "-o", folder + "/onfiseq", "-pthread", *link_options())
     return folder + "/onfiseq"
 
