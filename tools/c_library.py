@@ -50,6 +50,8 @@ USERS = (
     ("driver", ["{out}/driver"], None, 0),
     ("exec_op", ["{out}/exec_op", CHIP], None, 0),
     ("threads", ["{out}/threads", CHIP], None, 0),
+    ("check", ["{out}/check", CHIP, ERASE + ".trace"], None, 0),
+    ("check_busy", ["{out}/check", CHIP, "examples/c/busy.trace"], None, 1),
     ("first", ["{out}/first"], None, 0),
     ("monitor_cpp", ["{out}/monitor_cpp", CHIP], ERASE + ".trace", 0),
     ("page", ["{out}/page", CHIP], "examples/c/busy.trace", 1),
@@ -187,7 +189,7 @@ def compile_all():
     def run(*words):
         subprocess.run(words, check=True)
 
-    for name in ("layout", "monitor", "status", "loader", "live", "stuck", "driver", "exec_op"):
+    for name in ("layout", "monitor", "status", "loader", "live", "stuck", "driver", "exec_op", "check"):
         run(*CC, "examples/c/%s.c" % name, *archives, "-o", "%s/%s" % (OUT, name))
     if archives_at == BUILT:  # the one C file has neither pictures nor notes, and asks for memory by realloc
         run(*CC, "-DROOM=16777216", "examples/c/loader.c", "examples/c/pool.c", *archives, "-o", OUT + "/loader_pool")

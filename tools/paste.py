@@ -24,7 +24,7 @@ from pathlib import Path
 ROOT = Path(__file__).resolve().parent.parent
 PROGRAM = Path(sys.argv[1] if len(sys.argv) > 1 else ROOT / "crates/onfiseq/out/onfiseq").resolve()
 PAGES = ("README.md", *(f"docs/use/{name}.md" for name in ("COMMANDS", "ASSEMBLY", "WORDS", "JSON", "TRACES", "RUNFILES", "IMAGES", "NOTES", "WAVES", "CAPTURES", "PAGES", "VENDOR", "OPERATIONS", "TIMING", "DATA", "TUTORIAL", "TROUBLESHOOTING")))
-COMMANDS = ("onfiseq", "./onfiseq", "bin/onfiseq", "cc", "./onfiseq-mini", "cd", "printf", "echo", "sed", "python3")
+COMMANDS = ("onfiseq", "./onfiseq", "bin/onfiseq", "cc", "make", "cd", "printf", "echo", "sed", "python3")
 SECONDS = 180
 # For a machine without this tool of vim's.
 XXD = "xxd() { python3 -c 'import sys; sys.stdout.buffer.write(bytes.fromhex(sys.stdin.read()))'; }\n"
@@ -90,7 +90,9 @@ def make_folder(folder):
     (folder / "release").symlink_to(ROOT / "release")
     (folder / "bin").mkdir()
     (folder / "bin/onfiseq").symlink_to(PROGRAM)
-    (folder / "onfiseq").symlink_to(PROGRAM)
+    # what `make` builds is this program
+    (folder / "bin/make").write_text(f'#!/bin/sh\nln -sf "{PROGRAM}" onfiseq\n')
+    (folder / "bin/make").chmod(0o755)
 
 
 def paste(command, here, path):

@@ -28,6 +28,7 @@ STEPS = {
     ),
     "libraries": (
         "tools/c_library.py",
+        "tools/machines/try/beside.py 20000",
         "bench/acceptance.py 5",
         "bench/refused_runs.py 3 1 straight " + PROGRAM,
         "examples/sigrok/try_decoder.py out/libonfiseq.so " + PROGRAM,

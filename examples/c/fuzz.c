@@ -32,7 +32,7 @@ static void must(int holds, const char *what) {
 }
 
 static struct onfiseq_geometry random_chip(void) {
-    struct onfiseq_geometry chip = {512u << draw(3), 16 * draw(5), 4 << draw(3), 8 << draw(4), (uint8_t)(1 + draw(4)), (uint8_t)draw(3), draw(16) != 0, draw(2), draw(2), 0};
+    struct onfiseq_geometry chip = {512u << draw(3), 16 * draw(5), 4 << draw(3), 8 << draw(4), (uint8_t)(1 + draw(4)), (uint8_t)draw(3), draw(16) != 0, draw(2), draw(2), (uint16_t)(draw(2) ? draw(65536) : 0)};
     if (draw(32) == 0) chip.luns = (uint8_t)draw(256);
     if (draw(32) == 0) chip.pages = draw(0xffffffff);
     return chip;
@@ -45,7 +45,7 @@ static struct onfiseq_item random_item(uint32_t targets) {
     if (item.kind == 'C') item.byte = bytes[draw(sizeof bytes)];
     else if (item.kind == 'R' || item.kind == 'Y') item.byte = (uint8_t)(draw(8) ? draw(4) : draw(256));
     else item.byte = (uint8_t)(draw(4) ? 0 : draw(draw(8) ? 16 : 256));
-    if (item.kind == 'R' || draw(32) == 0) item.fail = (uint8_t)draw(draw(8) ? 2 : 256);
+    if (item.kind == 'R' || item.kind == 'Y' || draw(32) == 0) item.fail = (uint8_t)draw(draw(8) ? 4 : 256);
     return item;
 }
 
@@ -59,7 +59,7 @@ static struct onfiseq_item likely_item(const struct onfiseq_bus *bus) {
 /* A look at every LUN that there may be. */
 static void look_around(const struct onfiseq_bus *bus) {
     struct onfiseq_look look = onfiseq_look_at(bus, (uint8_t)draw(6), (uint8_t)draw(6));
-    must(look.queued <= 4 && look.latch <= 2 && look.register_ <= 3, "a look");
+    must(look.queued <= 4 && look.latch <= 2 && look.register_ <= 4, "a look");
     must(look.is_there || (!look.busy && look.queued == 0), "a look at nothing");
 }
 
@@ -204,6 +204,14 @@ static void refuse_damaged(struct onfiseq_bus bus) {
     must(memcmp(&copy, &bus, sizeof bus) == 0, "a damaged record is written");
 }
 
+/* The length of the words that say why an item isn't permitted, which fit. */
+static size_t explain(const struct onfiseq_bus *bus, const struct onfiseq_item *item) {
+    char text[512];
+    size_t room = draw(sizeof text + 1), length = onfiseq_explain(bus, item, text, room);
+    must(length < sizeof text && (room == 0 || length == 0 || strlen(text) < room), "the words of a cause");
+    return length;
+}
+
 /* A channel of its own with random items, permitted ones more often than not. */
 static unsigned long play_channel(void) {
     static struct onfiseq_item kept[HISTORY], some[8];
@@ -230,6 +238,7 @@ static unsigned long play_channel(void) {
         if (answer == 0) kept[length++] = item, permitted++;
         else refused++;
         stuck = answer ? stuck + 1 : 0;
+        must((explain(&copy, &item) == 0) == (answer == 0), "a cause of what is permitted, or none of what isn't");
         if (draw(4) == 0) look_around(&bus), calls++;
         if (draw(8) == 0) length += play_status(&bus, kept + length), calls += 2;
         if (draw(8) == 0) calls += play_damaged_bus(&bus);
@@ -387,6 +396,7 @@ static unsigned long play_jobs(void) {
         play_step(&live, &jobs[which], files[which], lengths[which], -1);
         if (draw(8) == 0) onfiseq_live_ready(&live, (uint8_t)draw(4), (uint8_t)draw(4), (uint8_t)draw(4));
         if (draw(16) == 0) onfiseq_live_array_ready(&live, (uint8_t)draw(4), (uint8_t)draw(4), draw(2));
+        if (draw(256) == 0) onfiseq_live_begin_target(&live, (uint8_t)draw(4));
     }
     ((uint8_t *)&live)[draw(4)] ^= (uint8_t)(1u << draw(8)); /* what stands first */
     must(onfiseq_job_next(&live, &jobs[0], files[0], lengths[0]).letter == 'D', "a damaged channel");
@@ -459,6 +469,28 @@ static unsigned long play_words(void) {
     return 2;
 }
 
+/* A page in each profile, the pauses between random cycles, a text of a trace, and what the libraries say of themselves. */
+static unsigned long play_rest(void) {
+    static const char *const lines[] = {"0 C 60\n", "0 A 00\n", "0 C d0\n", "0 R 0 0\n", "0 R 0 3\n", "0 Y 0 1\n", "0 I 5a\n", "0 O e0\n", "; words\n", "\n", "12 0 C ff\n", "bad\n", "\xc3\xa9\n"};
+    struct onfiseq_page read = onfiseq_read_page_as(page, draw(4) ? page_length : draw((uint32_t)page_length), (uint8_t)draw(3));
+    struct onfiseq_last last = {0, 0, 0};
+    struct onfiseq_item items[32];
+    char text[512] = "";
+    must(read.fault <= 9, "a page in a profile");
+    for (unsigned k = draw(40); k > 0; k--) {
+        struct onfiseq_item item = random_item(1);
+        struct onfiseq_pauses pauses = onfiseq_pauses_before(&last, item.kind);
+        must(pauses.cycle <= ONFISEQ_TRR && pauses.busy <= ONFISEQ_TRR && pauses.ready <= ONFISEQ_TRR, "a pause");
+        onfiseq_note(&last, item.kind, item.byte);
+    }
+    for (unsigned k = draw(20); k > 0; k--) strcat(text, lines[draw(sizeof lines / sizeof *lines)]);
+    memset(items, 0x77, sizeof items);
+    struct onfiseq_placed placed = onfiseq_trace((const uint8_t *)text, strlen(text), (uint8_t)draw(5), items, draw(33));
+    must(placed.letter || placed.length <= 32, "the items of a text");
+    onfiseq_sizes(), onfiseq_live_sizes(), onfiseq_make_sample(draw(0xffffffff)), onfiseq_live_make_sample();
+    return 90;
+}
+
 /* Damaged records of channels, with and without jobs, in states that random items and jobs lead to. */
 static unsigned long play_damaged(void) {
     struct onfiseq_geometry chip = random_chip();
@@ -483,7 +515,7 @@ int main(int count, char **words) {
     while (count > 4 && damaged_records < wanted) calls += play_damaged();
     while (count <= 4 && calls < wanted) {
         if (draw(4) == 0) calls += draw(4) ? play_jobs() : play_accepted();
-        else calls += draw(8) == 0 ? play_channel() : draw(4) ? play_program() : play_words();
+        else calls += draw(8) == 0 ? play_channel() : draw(4) ? play_program() : draw(2) ? play_words() : play_rest();
     }
     must(count > 4 || (permitted > 0 && refused > 0 && accepted > 0 && runs > 0 && steps > 0 && ends > 0), "nothing was tried");
     must(damaged_records > 0 && taken_records > 0 && taken_records < damaged_records, "no damage was tried");
