@@ -1,6 +1,7 @@
 """What the packages say of themselves: the number of release/VERSION, the commit, and its time, which is that of every file in them."""
 import os
 import subprocess
+import sys
 
 NAME = "onfiseq"
 SAID = "A proved checker, verifier and sequencer for the channels of NAND flash"
@@ -24,9 +25,15 @@ def commit():
         return "unknown"
 
 
+# The first day of 1980, before which ZIP has no times.
+FIRST_DAY = 315532800
+
+
 def time():
-    """The seconds that SOURCE_DATE_EPOCH names, else those of the commit; that of the first day of ZIP outside of a repository."""
+    """The seconds that SOURCE_DATE_EPOCH names, else those of the commit; the first day of 1980 outside of a repository."""
     try:
-        return int(os.environ.get("SOURCE_DATE_EPOCH") or git("log", "-1", "--format=%ct"))
+        return max(FIRST_DAY, int(os.environ.get("SOURCE_DATE_EPOCH") or git("log", "-1", "--format=%ct")))
+    except ValueError:
+        sys.exit("SOURCE_DATE_EPOCH is a number of seconds, and not `%s`" % os.environ["SOURCE_DATE_EPOCH"])
     except (OSError, subprocess.CalledProcessError):
-        return 315532800
+        return FIRST_DAY

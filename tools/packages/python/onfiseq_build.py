@@ -19,6 +19,8 @@ import time
 import zipfile
 from concurrent.futures import ThreadPoolExecutor
 
+# The first day of 1980, before which ZIP has no times.
+FIRST_DAY = 315532800
 ENTRY_POINTS = "[console_scripts]\nonfiseq = onfiseq.__main__:main\n"
 
 
@@ -95,7 +97,7 @@ def record_of(files, info):
 
 def write_wheel(path, files, runs):
     """Writes the wheel, all of it or nothing; those of `runs` may be run."""
-    at, packed = time.gmtime(int(os.environ.get("SOURCE_DATE_EPOCH", 315532800)))[:6], io.BytesIO()
+    at, packed = time.gmtime(max(FIRST_DAY, int(os.environ.get("SOURCE_DATE_EPOCH", 0))))[:6], io.BytesIO()
     with zipfile.ZipFile(packed, "w", zipfile.ZIP_DEFLATED) as it:
         for name, content in files.items():
             entry = zipfile.ZipInfo(name, at)
