@@ -40,6 +40,7 @@ STEPS = {
         "tools/machines/try/compare.py --short",
     ),
     "deliveries": (
+        "tools/fresh_clone.py",
         "tools/dist --try",
         "tools/release --try --packages out/packages",
     ),
