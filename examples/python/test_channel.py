@@ -16,6 +16,7 @@ import onfiseq
 EXAMPLES = Path(__file__).resolve().parents[1]
 PAGE = (EXAMPLES / "small_chip/chip.page").read_bytes()  # 512 and 16 bytes a page, 4 pages a block, 8 blocks, one LUN
 ROW = bytes([4, 0, 0])  # block 1
+CASES = EXAMPLES.parent / "tools/cases/profiles.case"
 LIB = onfiseq.load()
 
 Raised = TypeVar("Raised", bound=BaseException)
@@ -157,16 +158,16 @@ def test_numbers_out_of_range_are_refused_by_name() -> None:
 
 def cases_of_profiles() -> Iterator[Tuple[str, str, str]]:
     """The trace, the profile and the first line of each check in tools/cases/profiles.case."""
-    text = (EXAMPLES.parent / "tools/cases/profiles.case").read_text()
-    for case in text.split("\n== ")[1:]:
+    for case in CASES.read_text().split("\n== ")[1:]:
         trace = "".join(line + "\n" for line in re.findall(r"(?m)^\| (.*)$", case.split("\n$ ")[0]))
         for profile, first in re.findall(r"\n\$ onfiseq check die\.page 1 bus\.trace(?: --profile (\w+))?\nstatus [01]\nout\n\| (.*)", case):
             yield trace, profile or "base", first
 
 
 def test_the_profiles() -> None:
-    text = (EXAMPLES.parent / "tools/cases/profiles.case").read_text().split("\n== ")[0]
-    page, played = bytes.fromhex("".join(re.findall(r"(?m)^hex (.*)$", text))), 0
+    if not CASES.is_file():  # outside of the repository
+        return
+    page, played = bytes.fromhex("".join(re.findall(r"(?m)^hex (.*)$", CASES.read_text().split("\n== ")[0]))), 0
     for trace, profile, first in cases_of_profiles():
         told = onfiseq.check(page, 1, trace, profile, lib=LIB)
         fault = told["fault"]
