@@ -19,7 +19,8 @@ OUT = out/make
 SOURCES = release/program
 COMPILE = $(CC) $(CFLAGS) $(THREADS) -c
 OBJECTS = $(OUT)/module_01.o $(OUT)/module_02.o $(OUT)/module_03.o $(OUT)/module_04.o $(OUT)/module_05.o $(OUT)/module_06.o $(OUT)/module_07.o \
-	$(OUT)/module_08.o $(OUT)/module_09.o $(OUT)/module_10.o $(OUT)/module_11.o $(OUT)/module_12.o $(OUT)/module_data.o $(OUT)/system.o
+	$(OUT)/module_08.o $(OUT)/module_09.o $(OUT)/module_10.o $(OUT)/module_11.o $(OUT)/module_12.o $(OUT)/module_13.o $(OUT)/module_14.o \
+	$(OUT)/module_15.o $(OUT)/module_16.o $(OUT)/module_data.o $(OUT)/system.o
 
 all: $(PROGRAM)
 
@@ -96,6 +97,22 @@ $(OUT)/module_11.o: $(SOURCES)/module_11.c $(SOURCES)/module.h $(OUT)/how
 
 $(OUT)/module_12.o: $(SOURCES)/module_12.c $(SOURCES)/module.h $(OUT)/how
 	@$(COMPILE) $(SOURCES)/module_12.c -o $@.new
+	@mv -f $@.new $@
+
+$(OUT)/module_13.o: $(SOURCES)/module_13.c $(SOURCES)/module.h $(OUT)/how
+	@$(COMPILE) $(SOURCES)/module_13.c -o $@.new
+	@mv -f $@.new $@
+
+$(OUT)/module_14.o: $(SOURCES)/module_14.c $(SOURCES)/module.h $(OUT)/how
+	@$(COMPILE) $(SOURCES)/module_14.c -o $@.new
+	@mv -f $@.new $@
+
+$(OUT)/module_15.o: $(SOURCES)/module_15.c $(SOURCES)/module.h $(OUT)/how
+	@$(COMPILE) $(SOURCES)/module_15.c -o $@.new
+	@mv -f $@.new $@
+
+$(OUT)/module_16.o: $(SOURCES)/module_16.c $(SOURCES)/module.h $(OUT)/how
+	@$(COMPILE) $(SOURCES)/module_16.c -o $@.new
 	@mv -f $@.new $@
 
 $(OUT)/module_data.o: $(SOURCES)/module_data.c $(SOURCES)/module.h $(OUT)/how

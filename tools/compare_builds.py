@@ -30,7 +30,7 @@ MADE = {
         "ops chip.page 1 @", "draw chip.page 1 @ %", "wave chip.page 1 @ %", "image chip.page 1 @ %",
     ),
     "vcd": ("capture chip.page 1 @ %", "capture chip.page 1 @ % --times", "timing chip.page 1 @ --mode 0", "capture chip.page 1 @ - --vendor linux"),
-    "run": ("run @", "run @ --quiet --trace %", "run @ --workers 3"),
+    "run": ("run @", "run @ --quiet --trace %", "run @ --workers 3 --quiet"),
     "page": ("page @", "check @ 1 boot.trace", "verify @ seed0.asm"),
 }
 TIMES = re.compile(rb"seconds [0-9.]+, cycles a second \d+")

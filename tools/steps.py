@@ -40,7 +40,9 @@ STEPS = {
         "tools/machines/try/compare.py --short",
     ),
     "deliveries": (
-        "tools/fresh_clone.py",
+        "tools/clone.py",
+        "make -s -j4",
+        "tools/compare_builds.py --made 500",
         "tools/dist --try",
         "tools/release --try --packages out/packages",
     ),
@@ -51,7 +53,8 @@ printing = threading.Lock()
 def run_step(words):
     """Runs a step, prints what it said, and tells whether it passed."""
     begun = time.monotonic()
-    ran = subprocess.run([sys.executable, *words.split()], stdout=subprocess.PIPE, stderr=subprocess.STDOUT, text=True, errors="replace", check=False)
+    tool = [sys.executable] if "/" in words.split()[0] else []
+    ran = subprocess.run([*tool, *words.split()], stdout=subprocess.PIPE, stderr=subprocess.STDOUT, text=True, errors="replace", check=False)
     with printing:
         print(ran.stdout, end="")
         print(f"step: {words}: {'passed' if ran.returncode == 0 else 'FAILED'}, {(time.monotonic() - begun) / 60:.1f} minutes", flush=True)

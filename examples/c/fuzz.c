@@ -240,7 +240,8 @@ static unsigned long play_channel(void) {
         stuck = answer ? stuck + 1 : 0;
         must((explain(&copy, &item) == 0) == (answer == 0), "a cause of what is permitted, or none of what isn't");
         if (draw(4) == 0) look_around(&bus), calls++;
-        if (draw(8) == 0) length += play_status(&bus, kept + length), calls += 2;
+        if (chip.optional == 0 && draw(8) == 0) length += play_status(&bus, kept + length), calls += 2;
+        else if (draw(8) == 0) copy = bus, onfiseq_push_status(&copy, &item, &done), calls++; /* beyond the base a status shows more than complete knows */
         if (draw(8) == 0) calls += play_damaged_bus(&bus);
         if (draw(16) == 0) copy = bus, play_op(&copy), calls += 2;
         if (draw(16) == 0) {

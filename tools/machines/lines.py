@@ -13,15 +13,17 @@ SIZES = {"i1": 1, "i8": 1, "i16": 2, "i32": 4, "i64": 8, "i128": 16, "double": 8
 NUMBER = r"(?:i1|i8|i16|i32|i64|i128|double)"
 BYTES = r"(?:%s|\[\d+ x %s\])" % (NUMBER, NUMBER)
 PLAIN = r"(?:%s|<\d+ x (?:i8|i16|i32|i64)>)" % BYTES
+# What is read or written at once where several bytes go together: its bytes are the same wherever the lowest comes first.
+JOINED = r"(?:%s|i24|i40|i48|i56)" % PLAIN
 NAME = r'(?:"[^"]*"|[\w.$-]+)'
 LOCAL = "%" + NAME
 PLACE = r"(?:[%%@]%s|null)" % NAME
 TOLD = r"(?:, ![\w.]+ ![\w.]+)*"
 
 ALLOCA = re.compile(r"  (%s) = alloca (%s|ptr), align (\d+)$" % (LOCAL, PLAIN))
-LOAD = re.compile(r"  %s = load (?:volatile )?(?:%s|ptr), ptr %s, align \d+%s$" % (LOCAL, PLAIN, PLACE, TOLD))
+LOAD = re.compile(r"  %s = load (?:volatile )?(?:%s|ptr), ptr %s, align \d+%s$" % (LOCAL, JOINED, PLACE, TOLD))
 LOAD_TWO = re.compile(r"  (%s) = load \{ (\w+), (\w+) \}, ptr (%s), align (\d+)$" % (LOCAL, PLACE))
-STORE = re.compile(r"  store (?:volatile )?%s .+, ptr %s, align \d+$" % (PLAIN, PLACE))
+STORE = re.compile(r"  store (?:volatile )?%s .+, ptr %s, align \d+$" % (JOINED, PLACE))
 STORE_TWO = re.compile(r"  store \{ (\w+), (\w+) \} (%s), ptr (%s), align (\d+)$" % (LOCAL, PLACE))
 STORE_POINTER = re.compile(r"  store ptr .+, ptr (%s), align \d+$" % PLACE)
 MEMORY = re.compile(r"  (?:%s = )?(alloca|load|store|atomicrmw|cmpxchg|fence|va_arg) " % LOCAL)

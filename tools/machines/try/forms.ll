@@ -51,6 +51,19 @@ define i32 @answer(i32 %n) {
 !0 = !{i8 0, i8 127}
 !1 = !{}
 
+; takes: three bytes, written and read at once
+define i32 @answer(i32 %n) {
+  %at = alloca [8 x i8], align 8
+  store i64 -1, ptr %at, align 8
+  %three = trunc i32 %n to i24
+  store i24 %three, ptr %at, align 1
+  %beside = load i32, ptr %at, align 4
+  %again = load i24, ptr %at, align 1
+  %wide = zext i24 %again to i32
+  %sum = add i32 %beside, %wide
+  ret i32 %sum
+}
+
 ; takes: a pointer and a length, loaded at once
 @bytes = private unnamed_addr constant [8 x i8] c"\01\02\04\08\10 @\80", align 1
 define internal { ptr, i64 } @slice(ptr %at) noinline {
