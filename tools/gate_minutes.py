@@ -122,7 +122,7 @@ def main():
             continue
         if STEP.match(line):
             steps.append(f"minute {(time.monotonic() - begun) / 60:5.1f}  {line[4:]}")
-        if FAILURE.search(line) and len(failures) < MOST_FAILURES:
+        if FAILURE.search(line) and "refused, as it must be" not in line and len(failures) < MOST_FAILURES:
             failures.append(f"failed: {line.strip()[:LONGEST]}\n")
         sys.stdout.write(line)
         sys.stdout.flush()
