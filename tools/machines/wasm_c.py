@@ -3,6 +3,9 @@
 A function of the module is a function of C with the same arguments, and a local is a local. c/module.h has what they use: L1 L2 L4 L8 load, S1 S2 S4 S8 store, FILL and COPY
 move bytes. A value waits on a stack as an expression until it is used, or until what comes next would change it; then it is written into a local of its own.
 """
+import math
+import struct
+
 from wasm import TYPES, Reader, refuse
 
 # How tight an expression binds: C's unary operators, sums, products, and what needs no brackets.
@@ -399,13 +402,20 @@ def comparison(bits, sign, is_signed):
     return lambda it: it.compare(sign, is_signed, bits)
 
 
+def real_constant(value):
+    """A constant as C has it: in hexadecimal, or by its bits where it is no number or without a bound."""
+    if not math.isfinite(value):
+        return "FLOAT_OF(0x%xull)" % struct.unpack("<Q", struct.pack("<d", value))
+    return "(%s)" % value.hex() if math.copysign(1, value) < 0 else value.hex()
+
+
 # How each instruction is written.
 HOW = {
     0x00: Function.do_unreachable, 0x01: lambda it: None, 0x02: Function.do_block, 0x03: Function.do_loop, 0x04: Function.do_if, 0x05: Function.do_else, 0x0B: Function.do_end,
     0x0C: Function.do_branch, 0x0D: Function.do_branch_if, 0x0E: Function.do_branch_table, 0x0F: Function.do_return, 0x10: Function.do_call, 0x1A: lambda it: it.stack.pop(),
     0x1B: Function.do_select, 0x20: Function.read_local, 0x21: Function.do_set, 0x22: Function.do_tee, 0x23: Function.read_global, 0x24: Function.set_global,
     0x41: lambda it, value: it.stack.append(constant(value, 32)), 0x42: lambda it, value: it.stack.append(constant(value, 64)),
-    0x44: lambda it, value: it.push(value.hex(), PRIMARY, "f64"), (0xFC, 10): lambda it, *_: it.move("COPY"), (0xFC, 11): lambda it, *_: it.move("FILL"),
+    0x44: lambda it, value: it.push(real_constant(value), PRIMARY, "f64"), (0xFC, 10): lambda it, *_: it.move("COPY"), (0xFC, 11): lambda it, *_: it.move("FILL"),
     0x45: Function.is_zero, 0x50: Function.is_zero,
 }
 HOW.update({code: lambda it, aligned, offset, code=code: it.do_load(code, offset) for code in LOADS})
