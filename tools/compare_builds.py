@@ -33,6 +33,8 @@ MADE = {
     "run": ("run @", "run @ --quiet --trace %", "run @ --workers 3 --quiet"),
     "page": ("page @", "check @ 1 boot.trace", "verify @ seed0.asm"),
 }
+# How often a run that differed is made again.
+TURNS = 8
 TIMES = re.compile(rb"seconds [0-9.]+, cycles a second \d+")
 NUMBERS = [b"0", b"1", b"3", b"7", b"16", b"255", b"4096", b"65536", b"99999999999", b"-1", b"ff", b"60", b"d0", b"30", b"x"]
 
@@ -71,8 +73,17 @@ def twin(reference, other, log, words):
     with tempfile.TemporaryDirectory() as room:
         copy = Path(room) / "copy"
         shutil.copytree(here, copy, symlinks=True)
+        shutil.copytree(here, Path(room) / "before", symlinks=True)
         one, two = Ran(reference, words, copy, given), Ran(other, words, here, given)
         told = differing(words, one, two, (copy, here))
+        for turn in range(TURNS if words[:1] == ["run"] else 0):
+            # a host stores jobs while a worker runs, so two runs of one build may differ in the order on the bus: they must come to the same once
+            if not told:
+                break
+            folders = [Path(room) / ("again%d.%d" % (turn, which)) for which in (0, 1)]
+            for folder in folders:
+                shutil.copytree(Path(room) / "before", folder, symlinks=True)
+            told = differing(words, *(Ran(program, words, folder, given) for program, folder in zip((reference, other), folders)), folders)
     with open(log, "a") as it:
         it.write("%s\t%s\n" % (told.replace("\n", " "), " ".join(words)))
     sys.stdout.buffer.write(two.told[1])
