@@ -265,7 +265,8 @@ uint32_t onfiseq_ask(const struct onfiseq_bus *bus, const struct onfiseq_item *i
 /**
  * A look at a LUN. latch is what it drives the bus with: 0 nothing, 1 its status, 2 data. register_
  * is what its register holds: 0 nothing, 1 the page of block and page, 2 the parameter page, 3 the
- * identifier. column, where has_column, is the place in the register that the next output gives.
+ * identifier; in the wider profile 4 what 90h gives at 00h, 5 at 40h, 6 the unique identifier, and 7
+ * the features at the address block. column, where has_column, is the place in the register that the next output gives.
  * queued counts the rows of its queue. programming: it programs behind a 15h, or its array does.
  * is_there is false where no such LUN is there, or the record
  * is damaged.

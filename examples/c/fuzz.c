@@ -59,7 +59,7 @@ static struct onfiseq_item likely_item(const struct onfiseq_bus *bus) {
 /* A look at every LUN that there may be. */
 static void look_around(const struct onfiseq_bus *bus) {
     struct onfiseq_look look = onfiseq_look_at(bus, (uint8_t)draw(6), (uint8_t)draw(6));
-    must(look.queued <= 4 && look.latch <= 2 && look.register_ <= 4, "a look");
+    must(look.queued <= 4 && look.latch <= 2 && look.register_ <= 7, "a look");
     must(look.is_there || (!look.busy && look.queued == 0), "a look at nothing");
 }
 

@@ -37,7 +37,7 @@ POINTED = re.compile(r"ptr (?:null|@%s|getelementptr \(i8, ptr @%s, i64 \d+\))$"
 # number or hides what it does.
 OFFSET = r"getelementptr\b(?!(?: inbounds| nuw| nusw)* \(?%s, ptr )" % BYTES
 IN_MEMORY = r"\b(?:byval|byref|sret|inalloca|preallocated|elementtype)\((?!\[\d+ x i8\]\))"
-INTRINSIC = r"@llvm\.(?!mem(?:cpy|move|set)\.)[\w.]*p0|@llvm\.va_"
+INTRINSIC = r"@llvm\.(?!mem(?:cpy|move|set)\.)[\w.]*p0|@llvm\.(?:va_|x86\.)"
 REFUSED = re.compile(r"\bx ptr\b|\b(?:inttoptr|addrspacecast|asm)\b |%s|%s|%s" % (OFFSET, IN_MEMORY, INTRINSIC))
 QUOTED = re.compile(r'"[^"]*"')
 

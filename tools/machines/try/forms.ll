@@ -382,3 +382,10 @@ define ptr @answer(ptr %list) {
   %v = va_arg ptr %list, ptr
   ret ptr %v
 }
+
+; refuses: an instruction of one processor
+declare void @llvm.x86.sse2.pause()
+define i32 @answer(i32 %n) {
+  call void @llvm.x86.sse2.pause()
+  ret i32 %n
+}
