@@ -51,7 +51,7 @@ def pages_of(out):
 
 
 def built(kit, out):
-    """The program, the C file of the libraries and the page, built anew."""
+    """The program, the C file of the libraries, their module for Node and the page, built anew."""
     files = program.make(out, True)
     program.write_to(out + "/program", files)
     building = Building(kit, out)
@@ -60,6 +60,7 @@ def built(kit, out):
     building.portable()
     made = {"program/" + name: text for name, text in files.items()}
     made.update(pages_of(out))
+    shutil.copyfile(building.path("wasm", "whole.wasm"), FOLDER + "/onfiseq.wasm")
     return {**made, "onfiseq.c": read(building.path("portable", "onfiseq.c")), "playground.html": page_of(program.page_module(out))}
 
 
