@@ -282,10 +282,11 @@ def run_all():
         else:
             print("c_library: %s isn't installed, so its users in examples/rust aren't tried" % tool)
     for tool, bench in simulators.BENCHES.items():
-        if shutil.which(tool):
-            found[tool] = bench([archive_of("onfiseq_c"), archive_of("onfiseq_text_c")])
+        why = simulators.why_not(tool)
+        if why:
+            print("c_library: %s, so its bench isn't tried" % why)
         else:
-            print("c_library: %s isn't installed, so its bench isn't tried" % tool)
+            found[tool] = bench([archive_of("onfiseq_c"), archive_of("onfiseq_text_c")])
     return found
 
 

@@ -66,5 +66,12 @@ def run_icarus(archives):
     return differing(printed.splitlines(), "examples/icarus/expected/icarus", printed)
 
 
+def why_not(tool):
+    """Why a bench can't be run here, if it can't."""
+    if shutil.which(tool) is None:
+        return "%s isn't installed" % tool
+    return "Verilator builds in no folder with a blank in its name" if tool == "verilator" and " " in os.getcwd() else None
+
+
 # Each bench: the tool that it needs, and what runs it.
 BENCHES = {"verilator": run_verilator, "iverilog": run_icarus}
