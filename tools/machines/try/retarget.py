@@ -8,6 +8,7 @@ import os
 import shutil
 import subprocess
 import sys
+import tempfile
 
 HERE = os.path.dirname(os.path.abspath(__file__))
 sys.path.insert(0, os.path.join(HERE, ".."))
@@ -102,15 +103,17 @@ class Tries:
 
     def proved(self):
         """The module of the proved library, as the kit makes it for AArch64."""
-        home, repository = os.getcwd(), self.room + "/repository"
-        write(repository + "/crates/tiny/src/lib.rt", read(HERE + "/locals.rt.in"))
-        write(repository + "/crates.txt", "tiny staticlib:\n")
-        self.run("git", "init", "-q", repository)
-        os.chdir(repository)
-        its = kit.Kit()
-        kept = its.keeping_toolchain(self.room + "/toolchain")
-        its.build("tiny", self.room + "/libtiny.a", self.room + "/toolchain")
-        os.chdir(home)
+        home = os.getcwd()
+        # (elsewhere, since a crate below the root is one of the gate's)
+        with tempfile.TemporaryDirectory() as repository:
+            write(repository + "/crates/tiny/src/lib.rt", read(HERE + "/locals.rt.in"))
+            write(repository + "/crates.txt", "tiny staticlib:\n")
+            self.run("git", "init", "-q", repository)
+            os.chdir(repository)
+            its = kit.Kit()
+            kept = its.keeping_toolchain(self.room + "/toolchain")
+            its.build("tiny", self.room + "/libtiny.a", self.room + "/toolchain")
+            os.chdir(home)
         path = self.path("ll")
         self.run(self.kit.tool("clang"), "--target=" + kit.AARCH64, "-x", "ir", kept, "-S", "-emit-llvm", "-O1", "-Xclang", "-disable-llvm-passes", "-o", path)
         return read(path) + CALLER
