@@ -32,7 +32,7 @@ UNTRIED = ("csv_text", "vendor_file")
 TRIED = re.compile(r"^\| `(\w+)` \| `(\w+)` \| .* \| `?[0-9a-f]+`? \|$", re.M)
 MADE = re.compile(r"(<!-- house: (\w+) -->\n).*?(<!-- end -->)", re.S)
 # Words in backticks that no file of ours has, as they are of the kit, of the system or of another tool.
-ELSEWHERE = set("rt rattle gcc clang main std core apt gtkwave vcd2fst iverilog vvp dac8208d650f15bf".split())
+ELSEWHERE = set("PID autogroup rt rattle gcc clang main std core apt gtkwave vcd2fst iverilog vvp dac8208d650f15bf".split())
 
 
 # What says the number of the release besides release/VERSION, and how it stands there.

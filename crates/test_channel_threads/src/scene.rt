@@ -34,7 +34,7 @@ impl Scene {
                 ce: (place / 4) as u8,
                 lun: (place % 4) as u8,
             },
-            base: first_row(host, number) as u32,
+            base: first_row(host, number),
             tells: true,
         }
     }
@@ -60,6 +60,11 @@ impl Scene {
         seen == [self.count; 4]
     }
 
+    // The trace is legal on a channel of so many targets.
+    fn is_legal(&self, trace: &[Item]) -> Result<bool, Fail> {
+        Ok(check(&Geometry::of(self.parts)?, self.targets.min(4), trace).is_ok())
+    }
+
     /// All was done, in order, on a legal trace that tells the failures; on one LUN the jobs are told as they stand on the bus.
     pub(crate) fn is_done(
         &self,
@@ -79,24 +84,24 @@ impl Scene {
                 && gathered.seats.len() == 16
                 && gathered.parked.len() == 0
                 && gate.has_kept_turns()
-                && check(&Geometry::of(self.parts)?, self.targets, trace).is_ok(),
+                && self.is_legal(trace)?,
         )
     }
 }
 
 // The first row byte of a host's job.
-fn first_row(host: u64, number: u64) -> u64 {
-    (host % 4 * 2 + number % 2) * 2
+fn first_row(host: u64, number: u64) -> u32 {
+    ((host % 4) as u32 * 2 + (number % 2) as u32) * 2
 }
 
 // The first row byte of each erase in a trace.
-fn list_rows(alloc: Global, trace: &[Item]) -> Result<Vec<u64>, Fail> {
+fn list_rows(alloc: Global, trace: &[Item]) -> Result<Vec<u32>, Fail> {
     let mut rows = Vec::new(alloc);
     let mut opens = false;
     for item in trace {
         if let Item::Cyc(Cycle { kind, byte, .. }) = *item {
             if opens {
-                rows.push(u64::from(byte))?;
+                rows.push(u32::from(byte))?;
             }
             opens = kind == Kind::Cmd && byte == 0x60;
         }
@@ -105,7 +110,7 @@ fn list_rows(alloc: Global, trace: &[Item]) -> Result<Vec<u64>, Fail> {
 }
 
 // The first row byte of each job that is done, by its name.
-fn list_done(alloc: Global, done: &[NamedJob]) -> Result<Vec<u64>, Fail> {
+fn list_done(alloc: Global, done: &[NamedJob]) -> Result<Vec<u32>, Fail> {
     let mut rows = Vec::new(alloc);
     for one in done {
         rows.push(first_row(u64::from(one.name.host), one.name.number))?;
