@@ -39,10 +39,12 @@ STEPS = {
         "tools/machines --only i686-linux",
         "tools/machines/try/compare.py --short",
     ),
-    "deliveries": (
-        "tools/clone.py",
+    "clone": ("tools/clone.py",),
+    "builds": (
         "make -s -j4",
         "tools/compare_builds.py --made 500",
+    ),
+    "packages": (
         "tools/dist --try",
         "tools/release --try --packages out/packages",
     ),
