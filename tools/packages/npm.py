@@ -1,8 +1,6 @@
 """The package for Node and for bundlers: the WebAssembly module, the script that calls it, and its types; tools/dist calls it."""
-import base64
 import json
 import os
-import re
 import sys
 
 import archive
@@ -21,15 +19,9 @@ module.exports.shape = shape;
 NUMBERS = {"bool": "boolean"}
 
 
-# A module of WebAssembly in base64, as a page has it.
-MODULE = re.compile(rb"AGFzbQEA[A-Za-z0-9+/]+=*")
-
-
 def find_module():
-    """The module with the calls of the header: that of release/, the one in its page, or the one that tools/machines has built; None where there is none."""
-    modules = [archive.read(path) for path in ("release/onfiseq.wasm", "out/machines/wasm/whole.wasm") if os.path.isfile(path)]
-    modules[1:1] = [base64.b64decode(it) for it in MODULE.findall(archive.read("release/playground.html"))]
-    return next((it for it in modules if b"onfiseq_read_page" in it), None)
+    """The module with the calls of the header: that of release/, or the one that tools/machines has built; None where there is none."""
+    return next((archive.read(path) for path in ("release/onfiseq.wasm", "out/machines/wasm/whole.wasm") if os.path.isfile(path)), None)
 
 
 def type_name(kind):
