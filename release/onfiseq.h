@@ -20,7 +20,7 @@
  *     libonfiseq_show_c.a    pictures and notes    memory by onfiseq_alloc, all of it given back
  *
  * The header is the same for every processor and byte order. release/onfiseq.c has the calls of
- * the first four libraries for whatever has a C compiler, one thread at a time.
+ * the first four libraries for whatever has a C compiler.
  *
  * No call aborts, and none keeps anything behind your back. A call may be made from several
  * threads at once, as long as they don't share what it writes.
@@ -48,6 +48,10 @@ extern "C" {
 
 /** Counts up where a call or a record changes. The calls that begin a record compare it. */
 #define ONFISEQ_VERSION 3
+
+/** The release that this header is of. docs/use/COMMANDS.md, "Releases", says what is kept. */
+#define ONFISEQ_RELEASE "0.2.0"
+static inline const char *onfiseq_version(void) { return ONFISEQ_RELEASE; }
 
 /** 64 bits at a multiple of 8 bytes: so a record has its fields at the same places everywhere. */
 #ifdef __GNUC__
@@ -261,7 +265,8 @@ uint32_t onfiseq_ask(const struct onfiseq_bus *bus, const struct onfiseq_item *i
 /**
  * A look at a LUN. latch is what it drives the bus with: 0 nothing, 1 its status, 2 data. register_
  * is what its register holds: 0 nothing, 1 the page of block and page, 2 the parameter page, 3 the
- * identifier. column, where has_column, is the place in the register that the next output gives.
+ * identifier; in the wider profile 4 what 90h gives at 00h, 5 at 40h, 6 the unique identifier, and 7
+ * the features at the address block. column, where has_column, is the place in the register that the next output gives.
  * queued counts the rows of its queue. programming: it programs behind a 15h, or its array does.
  * is_there is false where no such LUN is there, or the record
  * is damaged.
