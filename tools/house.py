@@ -10,7 +10,11 @@ at the root; it takes seconds and proves nothing. It looks at
 - what a change of a crate proves again, in minutes, and which rows are older than their crate's text: docs/develop/GATE.md, from docs/develop/minutes.tsv
   (`minutes.py`), which `gate_minutes.py --table` writes;
 - the wrong bodies by what they do: docs/model/WRONG_BODIES.md, from the edits of the crates and from the rows of that page that say which were tried;
-- each name in backticks of four pages, which must stand somewhere in the repository;
+- the tables of pauses (PINS), of bounds of work (TIMING), of the sizes of records (C), and of where commands of the bus and catch-alls stand (ARCHITECTURE),
+  from the sources (`tables.py`);
+- each name in backticks of four pages, which must stand somewhere in the repository, and of each page in the crate or the file that the page names for it
+  (`signpost.py`); each file that a page names;
+- the crates of ARCHITECTURE's table, which must be all; lines over 200 characters outside of tables; and PROVED.md's lines, at most 200;
 - each crate that crates.txt names for another, which must stand in a file of that one;
 - the number of the release: what says it besides release/VERSION, which has it.
 
@@ -22,9 +26,17 @@ import sys
 from pathlib import Path
 
 import minutes
+import signpost
+import tables
 
 ROOT = Path(__file__).resolve().parent.parent
 WRONG_BODIES = "docs/model/WRONG_BODIES.md"
+# What a page has of the sources, and which function makes it (`tables.py`).
+OF_SOURCES = {
+    "pauses": tables.table_pauses, "bounds": tables.table_bounds, "records": tables.table_records,
+    "commands": tables.table_commands, "catch_alls": tables.table_catch_alls,
+}
+PAGES_OF_SOURCES = ("docs/use/PINS.md", "docs/use/TIMING.md", "docs/use/C.md")
 LOOKED_UP = ("docs/model/PROVED.md", "docs/model/PROOF.md", "docs/develop/ARCHITECTURE.md", "docs/develop/GATE.md")
 SOURCES = ("crates", "tools", "examples", "bench", "include", "bin", "release")
 # Crates whose wrong bodies were written and not tried since; one that `wrong_bodies.py --write` has tried has a row, and so no such words.
@@ -278,9 +290,9 @@ def make(page, made):
 
 def main():
     crates = read_crates()
-    made = {"counts": lambda: count_house(crates), "costs": lambda: table_costs(crates), "wrong": lambda: table_wrong_bodies(crates)}
+    made = {"counts": lambda: count_house(crates), "costs": lambda: table_costs(crates), "wrong": lambda: table_wrong_bodies(crates), **OF_SOURCES}
     wanted = {"docs/develop/layers.svg": draw_layers(crates), "docs/develop/data.svg": draw_data()}
-    for page in (*LOOKED_UP, WRONG_BODIES):
+    for page in (*LOOKED_UP, WRONG_BODIES, *PAGES_OF_SOURCES):
         wanted[page] = make((ROOT / page).read_text(encoding="utf-8"), made)
     number = (ROOT / "release/VERSION").read_text(encoding="utf-8").strip()
     wanted.update({path: number_release(path, pattern, number) for path, pattern in NUMBERED.items()})
@@ -292,7 +304,7 @@ def main():
             file.write_text(text, encoding="utf-8")
         if not file.exists() or file.read_text(encoding="utf-8") != text:
             faults.append(f"{path} isn't what the crates and release/VERSION say: python3 tools/house.py --write")
-    faults += [*find_stale_names(), *find_unused(crates), *find_unnamed_release(number)]
+    faults += [*find_stale_names(), *find_unused(crates), *find_unnamed_release(number), *signpost.find_all(crates)]
     print("\n".join(faults) or f"house: {len(crates)} crates, and the pages say what they are")
     sys.exit(1 if faults else 0)
 

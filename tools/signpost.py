@@ -1,0 +1,84 @@
+"""Whether the pages are in form, and whether a name stands where a page says that it stands."""
+import re
+
+from sources import ROOT
+
+PROVED, MOST_LINES = "docs/model/PROVED.md", 200
+LONGEST = 200
+# A page whose names of edits `house.py` writes itself.
+WRITTEN = "docs/model/WRONG_BODIES.md"
+# Names in backticks, and behind them where they stand: `a`, `b` of `place`, `a` in `place`, `a` (`place`).
+PLACED = re.compile(r"((?:`[^`]+`(?:, | and |, and ))*`[^`]+`) (?:(?:of|in) (?:the crate )?`([^`]+)`|\(`([^`]+)`\))")
+SOURCE = re.compile(r"`((?:[\w.]+/)+[\w.]+\.(?:rt|antt|py|sh|c|h|sv|rs|case|run|asm|tsv|txt))`")
+# Folders of a crate, in front of a file of which the page names no crate; and what stands for a name, or is of another project.
+IN_CRATES, NOT_OURS = {"src", "specs", "proofs"}, re.compile(r"\bNAME\b|^include/linux/")
+UNMADE = {"out", ".git"}
+
+
+def list_pages():
+    """Each page of the repository: its path and its lines."""
+    for file in sorted(ROOT.rglob("*.md")):
+        path = file.relative_to(ROOT)
+        if not UNMADE & set(path.parts) and not any(part.startswith("tmp") for part in path.parts):
+            yield path.as_posix(), file.read_text(encoding="utf-8").splitlines()
+
+
+def find_long_lines():
+    """Lines of pages that are too long, outside of tables; and whether PROVED is."""
+    for path, lines in list_pages():
+        if path == PROVED and len(lines) > MOST_LINES:
+            yield f"{path}: {len(lines)} lines, and at most {MOST_LINES} are to be"
+        for number, line in enumerate(lines, 1):
+            if len(line) > LONGEST and not line.lstrip().startswith("|"):
+                yield f"{path}:{number}: {len(line)} characters, and at most {LONGEST} are to be"
+
+
+def words_at(place, crates, known):
+    """The words of a crate or of a file, and the names of its files; None where there is no such place."""
+    if place not in known:
+        files = [file for file in crates[place].folder.rglob("*") if file.is_file() and "out" not in file.parts] if place in crates else []
+        files = files or [ROOT / top / place for top in ("", "crates") if "/" in place and (ROOT / top / place).is_file()]
+        texts = (file.stem + " " + file.read_text(encoding="utf-8", errors="replace") for file in files)
+        known[place] = set(re.findall(r"\w+", " ".join(texts))) if files else None
+    return known[place]
+
+
+def find_misplaced(crates):
+    """Names that don't stand in the file or the crate that a page names for them."""
+    known = {}
+    pages = ((path, number, line) for path, lines in list_pages() if path != WRITTEN and path.startswith("docs") for number, line in enumerate(lines, 1))
+    for path, number, line in pages:
+        for names, place, other in PLACED.findall(line):
+            words = words_at(place or other, crates, known) if place or other in crates else None
+            lost = [word for word in re.findall(r"[A-Za-z]\w{2,}", names) if words is not None and word not in words]
+            if lost:
+                yield f"{path}:{number}: {', '.join(lost)} isn't in {place or other}"
+
+
+def is_there(file, crates):
+    """The file is there by its path or that in crates/; one of a crate is in some crate, and one of no folder of ours is another's."""
+    top = file.partition("/")[0]
+    if top in IN_CRATES:
+        return any((crate.folder / file).is_file() for crate in crates.values())
+    return not (ROOT / top).is_dir() and top not in crates or (ROOT / file).is_file() or (ROOT / "crates" / file).is_file()
+
+
+def find_missing_files(crates):
+    """Files that a page names and that aren't there."""
+    pages = ((path, number, line) for path, lines in list_pages() if path != WRITTEN and path.startswith("docs") for number, line in enumerate(lines, 1))
+    for path, number, line in pages:
+        yield from (f"{path}:{number}: there is no file {file}" for file in SOURCE.findall(line) if not NOT_OURS.search(file) and not is_there(file, crates))
+
+
+def find_unlisted(crates):
+    """Crates without a row of ARCHITECTURE's table, and rows without a crate."""
+    page = "docs/develop/ARCHITECTURE.md"
+    text = (ROOT / page).read_text(encoding="utf-8")
+    table = text[text.index("## Crates") :].split("\n## ")[0]
+    named = {name for cell in re.findall(r"^\| (`[^|]*) \|", table, re.M) for name in re.findall(r"`(\w+)`", cell)}
+    yield from (f"{page}: no row of the table is of {name}" for name in crates if name not in named)
+    yield from (f"{page}: a row is of {name}, and no crate" for name in sorted(named) if name not in crates)
+
+
+def find_all(crates):
+    return [*find_long_lines(), *find_misplaced(crates), *find_missing_files(crates), *find_unlisted(crates)]
