@@ -1,8 +1,8 @@
 -- A command ends as its own function does.
 use Rattle.std.proofs.Common.{◌≡◌, ap, refl}
 use Rattle.seq_inputs.specs.declared.exit.Exit.{Exit}
-use Rattle.seq_commands.specs.declared.lint_ending.LintEnding.{LintEnding}
-use Rattle.seq_commands.specs.declared.lint_ending.LintEnding.TheVariants as lint
+use Rattle.program_commands.specs.declared.lint_ending.LintEnding.{LintEnding}
+use Rattle.program_commands.specs.declared.lint_ending.LintEnding.TheVariants as lint
 use Rattle.trace_commands.specs.declared.ending.Ending.{Ending}
 use Rattle.trace_commands.specs.declared.ending.Ending.TheVariants as ending
 use Rattle.data_commands.specs.declared.data_ending.DataEnding.TheVariants.{Recording}

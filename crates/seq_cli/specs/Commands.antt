@@ -7,12 +7,12 @@ use Rattle.nand_geometry.specs.declared.optional.Profile.TheVariants.{Base}
 use Rattle.seq_inputs.specs.Inputs.{HasPageAs, PageIsRefused, FileIsRefused}
 use Rattle.seq_inputs.specs.Stops.{Tells}
 use Rattle.seq_inputs.specs.Refusals.{line_of}
-use Rattle.seq_commands.specs.Commands.{IsAssembled, SourceIsRefused, IsAssembledFor, AssembleForRefuses, IsDisassembled, IsUpgraded, IsAccepted, VerifyRefuses, VerifyLeaves}
-use Rattle.explain_commands.specs.Explains.{IsExplained, ExplainRefuses}
+use Rattle.program_commands.specs.Commands.{IsAssembled, SourceIsRefused, IsAssembledFor, AssembleForRefuses, IsDisassembled, IsUpgraded, IsAccepted, VerifyRefuses, VerifyLeaves}
+use Rattle.program_commands.specs.Explains.{IsExplained, ExplainRefuses}
 use Rattle.nand_geometry.specs.declared.parts.Parts.{Parts}
 use Rattle.page_commands.specs.Pages.{IsPageMade, PartsAreRefused}
-use Rattle.seq_commands.specs.declared.lint_ending.LintEnding.{LintEnding}
-use Rattle.seq_commands.specs.declared.lint_ending.LintEnding.TheVariants as lint
+use Rattle.program_commands.specs.declared.lint_ending.LintEnding.{LintEnding}
+use Rattle.program_commands.specs.declared.lint_ending.LintEnding.TheVariants as lint
 use Rattle.trace_commands.specs.declared.ending.Ending.{Ending}
 use Rattle.trace_commands.specs.declared.ending.Ending.TheVariants as ending
 use Rattle.trace_commands.specs.declared.recording_fault.RecordingFault.{RecordingFault}

@@ -9,7 +9,7 @@ use crate::named_lines::NamedLines;
 use clap::Error;
 use clap::error::ErrorKind;
 use data_commands::{DataEnding, check_data};
-use seq_commands::lint_file;
+use program_commands::lint_file;
 use seq_files::{FileError, Files};
 use seq_inputs::{Console, Exit, Stop, end_without_memory, fail};
 use seq_run::{NoClock, RunProgress};

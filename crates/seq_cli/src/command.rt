@@ -8,15 +8,14 @@ ghost use Rattle.seq_cli.specs.Commands.{ending_of, IsDone, MayFlag, MayRefuse, 
 
 use data_commands::{DataEnding, DataRequest, ImageRequest, check_data, write_image};
 use edge_commands::{EdgeRequest, time_capture};
-use explain_commands::explain_file;
 use nand_geometry::Parts;
 use operation_commands::{OpsRequest, list_operations};
 use page_commands::{make_page, show_page};
-use run_once::run_program;
-use seq_commands::{
-    LintEnding, LintRequest, assemble_file, assemble_file_for, disassemble_file, lint_file,
-    upgrade_file, verify_file,
+use program_commands::{
+    LintEnding, LintRequest, assemble_file, assemble_file_for, disassemble_file, explain_file,
+    lint_file, upgrade_file, verify_file,
 };
+use run_once::run_program;
 use seq_files::Files;
 use seq_inputs::{Console, Exit, PageFile, Style};
 use seq_run::{RunProgress, RunRequest, run_watched};
@@ -264,7 +263,7 @@ pub(crate) fn ending_of(lint: LintEnding) -> Ending
     }
 }
 
-/// Does a command, as its own function says: [`run_program`] of the input, [`run_watched`], or one of `page_commands`, `seq_commands`, `explain_commands`, `trace_commands`, `timing_commands`, `edge_commands`, `operation_commands` or `data_commands`. What is wrong with a file is said in
+/// Does a command, as its own function says: [`run_program`] of the input, [`run_watched`], or one of `page_commands`, `program_commands`, `trace_commands`, `timing_commands`, `edge_commands`, `operation_commands` or `data_commands`. What is wrong with a file is said in
 /// words on the console's errors, and so is a fault of a file or a stream, or that there is no memory; its progress is told how far a check or a run has
 /// come. A run starts threads by the handle and takes the time by the clock.
 pub fn command_on<

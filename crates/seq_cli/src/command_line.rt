@@ -15,7 +15,7 @@ use data_commands::{GivenImage, ImageRequest};
 use edge_commands::EdgeRequest;
 use nand_geometry::{Optional, Parts, Profile};
 use onfi_cycle::Lun;
-use seq_commands::{LintOutput, LintRequest, NoteRules};
+use program_commands::{LintOutput, LintRequest, NoteRules};
 use seq_inputs::{PageFile, Style};
 use seq_run::{MOST_STEPS, RunRequest};
 use std::alloc::Global;

@@ -2,7 +2,7 @@
 
 use crate::command::Command;
 use data_commands::DataRequest;
-use seq_commands::LintRequest;
+use program_commands::LintRequest;
 use timing_commands::TimesRequest;
 use trace_commands::{CheckRequest, VendorCheckRequest};
 

@@ -1,6 +1,6 @@
 //! The commands that are tried, with what each is given.
 
-use seq_commands::{assemble_file, disassemble_file, upgrade_file, verify_file};
+use program_commands::{assemble_file, disassemble_file, upgrade_file, verify_file};
 use seq_files::MapFiles;
 use seq_inputs::{Console, PageFile, Style};
 use std::alloc::Allocator;
