@@ -118,12 +118,12 @@ counter_before_printable s x at =
     (λ r. counter_after s (lone_job s.geometry x) r word)
     (calm_printable s (lone_job s.geometry x) (take at x.words) new_run tt) (λ r k. counter_after_printable s (lone_job s.geometry x) r word k))
 
-pub counter_printable : (g : Parts) (x : Microprogram) (fault : Fault) → IfSome (counter_of g x fault) RunCanBePrinted
+counter_printable : (g : Parts) (x : Microprogram) (fault : Fault) → IfSome (counter_of g x fault) RunCanBePrinted
 counter_printable g x fault =
     either RunCanBePrinted (may_show g x fault) (counter_before (lone_channel g (parameter_bytes g)) x fault.word) None (counter_before_printable (lone_channel g (parameter_bytes g)) x fault.word) tt
 
 -- what the code shows of it
-pub shown_printable : {A : Type 0} (o : Option (Counted A)) (c : Option Counter) → Shown o c → IfSome c RunCanBePrinted → CanBePrinted o
+shown_printable : {A : Type 0} (o : Option (Counted A)) (c : Option Counter) → Shown o c → IfSome c RunCanBePrinted → CanBePrinted o
 shown_printable None c shown h = tt
 shown_printable (Some run) c shown h = subst (λ (o : Option Counter). IfSome o RunCanBePrinted) shown.1 h
 

@@ -1,5 +1,5 @@
+pub mod CountedHeaders
 pub mod CountersPrinted
-pub mod Headeds
 pub mod Leaving
 pub mod Lints
 pub mod Said

@@ -20,8 +20,7 @@ use Rattle.program_commands.specs.Commands.{VerifyRefuses, VerifyLeaves, Refuses
 -- what `verify` leaves, however it fails
 left_by : (files later : Option Store) (page : PageFile) (input : List ℕ) (counter : TraceOutputs) (f : Fault) → VerifyRefuses files later page input counter f → VerifyLeaves files later page input counter
 left_by files later page input counter f (inl h) = record { left = inl h.1 }
-left_by files later page input counter f (inr (inl h)) = record { left = inl h.1 }
-left_by files later page input counter f (inr (inr h)) = record { left = inr (f, h) }
+left_by files later page input counter f (inr h) = record { left = inr (f, h) }
 
 pub left : {A : Type 0} (files later : Option Store) (page : PageFile) (input : List ℕ) (counter : TraceOutputs) (stop : Stop A) → SaysElse (VerifyRefuses files later page input counter) (later ≡ files) stop → VerifyLeaves files later page input counter
 left files later page input counter (Refused r words) h = left_by files later page input counter r.fault h.0
@@ -43,8 +42,7 @@ kept_by g x files later _ h = absurd h
 
 kept : (files later : Option Store) (page : PageFile) (input : List ℕ) (f : Fault) → VerifyRefuses files later page input no_outputs f → later ≡ files
 kept files later page input f (inl h) = h.1
-kept files later page input f (inr (inl h)) = h.1
-kept files later page input f (inr (inr h)) = kept_by h.g h.x files later f h.refuses
+kept files later page input f (inr h) = kept_by h.g h.x files later f h.refuses
 
 pub said_kept : {A : Type 0} (files later : Option Store) (page : PageFile) (input : List ℕ) (stop : Stop A) (r : Refusal) → SaysElse (VerifyRefuses files later page input no_outputs) (later ≡ files) stop → refusal_in stop ≡ Some r → Tells (VerifyRefuses files files page input no_outputs) r
 said_kept files later page input stop r says is =

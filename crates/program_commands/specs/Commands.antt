@@ -102,6 +102,27 @@ pub record IsUpgraded (files later : Option Store) (input target : List ℕ) : T
   pub has_file : HasFile files input x
   pub written : later ≡ with_file files target (file2 x)
 
+-- ---- a page and a microprogram that are read one after the other
+
+-- the file is refused, and the page before it isn't
+pub record FileIsRefusedNext (files : Option Store) (page : PageFile) (input : List ℕ) (fault : Fault) : Type 0 where
+  pub g : Parts
+  pub has_page : HasPage files page g
+  pub file_refused : ProgramIsRefused files input fault
+
+-- the page is refused, or else the file
+abbrev pub ReadRefuses : Option Store → (page : PageFile) → (input : List ℕ) → Fault → Type 0
+ReadRefuses files page input fault = PageIsRefused files page.path.now fault ⊎ FileIsRefusedNext files page input fault
+
+-- ---- explain
+
+-- the page and the microprogram can be read; whether the microprogram is accepted is no matter
+pub record IsExplained (files : Option Store) (page : PageFile) (input : List ℕ) : Type 0 where
+  pub g : Parts
+  pub has_page : HasPage files page g
+  pub x : Microprogram
+  pub has_program : HasProgram files input x
+
 -- ---- verify
 
 -- the file, an assembly text or a word file, is that of a microprogram which is safe for the geometry of the page, and against which there is nothing
@@ -162,17 +183,10 @@ pub record TextIsRefused (files later : Option Store) (page : PageFile) (input :
   pub has_program : HasProgram files input x
   pub refuses : RefusesText g x counter files later fault
 
--- the file is refused, and the page before it isn't
-pub record FileIsRefusedNext (files : Option Store) (page : PageFile) (input : List ℕ) (fault : Fault) : Type 0 where
-  pub g : Parts
-  pub has_page : HasPage files page g
-  pub file_refused : ProgramIsRefused files input fault
-
--- the page is refused, or the word file, or its text; the run of a text alone is left
+-- the page is refused, or the file, or its text; the run of a text alone is left
 abbrev pub VerifyRefuses : (files later : Option Store) → (page : PageFile) → (input : List ℕ) → (counter : TraceOutputs) → Fault → Type 0
 VerifyRefuses files later page input counter fault =
-    (PageIsRefused files page.path.now fault × (later ≡ files))
-    ⊎ ((FileIsRefusedNext files page input fault × (later ≡ files)) ⊎ TextIsRefused files later page input counter fault)
+    (ReadRefuses files page input fault × (later ≡ files)) ⊎ TextIsRefused files later page input counter fault
 
 -- files are as they were, or those of the run of a refusal are left
 pub record VerifyLeaves (files later : Option Store) (page : PageFile) (input : List ℕ) (counter : TraceOutputs) : Type 0 where

@@ -9,37 +9,28 @@ ghost use Rattle.seq_inputs.specs.Stops.{Says, Tells};
 ghost use Rattle.seq_inputs.specs.Refusals.{line_of};
 ghost use Rattle.program_commands.specs.Commands.{HasSafeWordsOf, RefusesFor, AssembleForRefuses, IsAssembledFor};
 
+use crate::header_lines::HeaderLines;
 use micro_lint::Header;
 use micro_program::Verified;
-use micro_verify::{TextRefused, VerifyRefusal, verify};
 use micro_word::{Text, write};
 use nand_geometry::Geometry;
 use seq_files::Files;
 use seq_inputs::{
-    Console, Exit, Fault, Headed, PageFile, Stop, Words, end_without_memory, fail, finish,
-    geometry_at, read_file, read_headed, with_least_header, words_of_reason, write_file,
+    Console, Exit, Headed, PageFile, Stop, Words, end_without_memory, fail, finish, geometry_at,
+    read_file, read_headed, verify_program, with_least_header, write_file,
 };
 use std::alloc::Allocator;
 use std::io::Write;
 
-// What is against a word of a text, whose line is counted in the text without the header that was added.
-fn words_in_source<'p, A: Allocator + Clone>(
-    alloc: A,
-    path: &'p str,
-    headed: &Headed<A>,
-    text: &Text<A>,
-    geometry: &Geometry,
-    fault: Fault,
-) -> Option<Words<'p, A>> {
-    let Fault::Text { reason, word } = fault else {
-        return None;
-    };
-    let bytes = headed.text.as_str().as_bytes();
-    let words = words_of_reason(alloc, path, bytes, text, geometry, word, reason)?;
-    Some(words.lines_up(headed.lines_added))
+// What is said of a line, so many lines further up.
+fn raise_line<'p, A: Allocator>(words: Option<Words<'p, A>>, count: usize) -> Option<Words<'p, A>> {
+    match words {
+        Some(words) => Some(words.lines_up(count)),
+        None => None,
+    }
 }
 
-// Whether a text is safe for a geometry.
+// Whether a text is safe for a geometry. What is against it is said of a line of the text without the header that was added.
 fn verify_headed<'p, A: Allocator + Clone>(
     alloc: A,
     path: &'p str,
@@ -52,26 +43,22 @@ fn verify_headed<'p, A: Allocator + Clone>(
     ensures faultless { IfOk result (λ v. fault_of geometry text ≡ None) }
     ensures err { IfErr result (Says (RefusesReason geometry text)) }
 {
-    let TextRefused { refusal, text } = match verify(text, geometry) {
-        Ok(verified) => {
-            // The call hands out that the text is safe.
-            let _ = verified.text();
-            return Ok(verified);
-        }
-        Err(refused) => refused,
-    };
-    match refusal {
-        VerifyRefusal::Refusal { word, reason, .. } => {
-            let fault = Fault::Text { reason, word };
-            let words = words_in_source(alloc, path, headed, &text, &geometry, fault);
-            Err(Stop::refused(fault, words))
-        }
-        VerifyRefusal::OutOfMemory => Err(Stop::OutOfMemory),
+    let bytes = headed.text.as_str().as_bytes();
+    match verify_program(alloc, path, bytes, text, geometry) {
+        Ok(verified) => Ok(verified),
+        Err(Stop::Refused { refusal, words }) => Err(Stop::Refused {
+            refusal,
+            words: raise_line(words, headed.lines_added),
+        }),
+        Err(Stop::FileFault { path, fault, line }) => Err(Stop::FileFault { path, fault, line }),
+        Err(Stop::ReaderGone) => Err(Stop::ReaderGone),
+        Err(Stop::BuffersTooLarge { bytes, line }) => Err(Stop::BuffersTooLarge { bytes, line }),
+        Err(Stop::OutOfMemory) => Err(Stop::OutOfMemory),
     }
 }
 
 // The microprogram of an assembly text for a geometry, with the header that is counted.
-#[tactic(auto, using(crate::proofs::Headeds::headed_said))]
+#[tactic(auto, using(crate::proofs::CountedHeaders::headed_said))]
 fn assemble_for<'p, A: Allocator + Clone>(
     alloc: A,
     path: &'p str,
@@ -114,12 +101,7 @@ fn assemble_at<'p, A: Allocator + Clone, F: Files>(
 
 // Says which header was counted.
 fn say_header<E: Write>(errors: &mut E, header: Header) {
-    let Header {
-        rows,
-        buffer,
-        budget,
-    } = header;
-    let _ = writeln!(errors, "rows {rows}\nbuffer {buffer}\nbudget {budget}");
+    let _ = write!(errors, "{}", HeaderLines(header));
     let _ = errors.flush();
 }
 

@@ -8,6 +8,14 @@ use micro_word::Text;
 use nand_geometry::Geometry;
 use std::alloc::{AllocError, Allocator};
 
+// How many lines the header has.
+const HEADER_LINES: usize = 3;
+
+/// Whether a line of the assembly, counted from 0, is a word: it is none of the header and no label.
+pub(crate) fn is_word(line: usize, text: &str) -> bool {
+    HEADER_LINES <= line && !text.ends_with(':')
+}
+
 /// A microprogram with what is known before each of its words, and its refusal, where it is refused.
 #[derive(Drop)]
 pub(crate) struct Explained<A: Allocator> {

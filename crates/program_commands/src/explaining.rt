@@ -4,16 +4,14 @@ ghost use Rattle.std.specs.Io.KnownBytes.{Appends};
 ghost use Rattle.seq_inputs.specs.declared.refusal.Refusal.{Refusal};
 ghost use Rattle.seq_inputs.specs.Stops.{Says, Tells};
 ghost use Rattle.seq_inputs.specs.Refusals.{line_of};
-ghost use Rattle.program_commands.specs.Explains.{IsExplained, ExplainRefuses};
+ghost use Rattle.program_commands.specs.Commands.{ReadRefuses, IsExplained};
 
 use crate::explained::Explained;
 use crate::json_lines::lines_of_json;
+use crate::paged_program::{PagedProgram, read_paged};
 use crate::text_lines::lines_of_text;
 use seq_files::Files;
-use seq_inputs::{
-    Console, Exit, PageFile, Stop, Style, end_without_memory, fail_as, finish, geometry_at,
-    read_file, read_program,
-};
+use seq_inputs::{Console, Exit, PageFile, Stop, Style, end_without_memory, fail_as, finish};
 use std::alloc::Allocator;
 use std::io::Write;
 
@@ -26,12 +24,10 @@ fn explain_at<'p, A: Allocator + Clone, F: Files>(
     style: Style,
 ) -> Result<String<A>, Stop<'p, A>>
     ensures ok { IfOk result (λ lines. IsExplained (F.store files.old) page.entry input.now) }
-    ensures err { IfErr result (Says (ExplainRefuses (F.store files.old) page.entry input.now)) }
+    ensures err { IfErr result (Says (ReadRefuses (F.store files.old) page.entry input.now)) }
     ensures stays { F.store files.new ≡ F.store files.old }
 {
-    let geometry = geometry_at(alloc.clone()?, files, page)?;
-    let bytes = read_file(alloc.clone()?, files, input)?;
-    let text = read_program(alloc.clone()?, input, bytes.as_slice(), &geometry)?;
+    let PagedProgram { geometry, text, .. } = read_paged(alloc.clone()?, files, page, input)?;
     let explained = Explained::new(alloc.clone()?, text, geometry)?;
     let lines = match style {
         Style::Plain => lines_of_text(alloc, &explained)?,
@@ -56,7 +52,7 @@ pub fn explain_file<'p, A: Allocator + Clone, F: Files, W: Write, E: Write, P>(
     ensures done { result ≡ Exit.Done → (printed : List ℕ) × IsExplained (F.store files.old) page.entry input.now
         × Appends (W.contents console.old.output) (W.contents console.new.output) printed }
     ensures refused { (refusal : Refusal) → result ≡ Exit.Refused refusal
-        → Tells (ExplainRefuses (F.store files.old) page.entry input.now) refusal
+        → Tells (ReadRefuses (F.store files.old) page.entry input.now) refusal
         × Appends (W.contents console.old.output) (W.contents console.new.output) (line_of refusal) }
     ensures stays { F.store files.new ≡ F.store files.old }
 {

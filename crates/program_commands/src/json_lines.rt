@@ -1,12 +1,9 @@
 //! What is known before each word of a microprogram as JSON, an object a line.
 
-use crate::explained::Explained;
+use crate::explained::{Explained, is_word};
 use micro_known::Aspect;
 use seq_inputs::Quoted;
 use std::alloc::{AllocError, Allocator};
-
-// How many lines the header has.
-const HEADER_LINES: usize = 3;
 
 // Adds each aspect.
 fn push_aspects<A: Allocator>(
@@ -48,7 +45,7 @@ pub(crate) fn lines_of_json<A: Allocator + Clone>(
     let mut lines = String::new(alloc.clone()?);
     let mut word: usize = 0;
     for (line, text) in explained.assembly.as_str().lines().enumerate() {
-        if HEADER_LINES <= line && !text.ends_with(':') {
+        if is_word(line, text) {
             push_word(&mut lines, alloc.clone()?, explained, word, text)?;
             word = word.saturating_add(1);
         }

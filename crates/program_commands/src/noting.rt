@@ -1,5 +1,6 @@
 //! The lines of the notes to a microprogram.
 
+use crate::header_lines::HeaderLines;
 use crate::note_rules::NoteRules;
 use micro_asm::disassemble;
 use micro_lint::{Header, Note, least_header, lint};
@@ -129,17 +130,9 @@ pub(crate) fn lines_of_header<A: Allocator + Clone>(
 ) -> Result<ToldNotes<A>, AllocError> {
     let text = verified.text();
     let least = least_header(alloc.clone()?, text, verified.geometry())?;
-    let Header {
-        rows,
-        buffer,
-        budget,
-    } = least.unwrap_or(Header::of(text));
-    let mut lines = String::new(alloc);
-    writeln!(&mut lines, "rows {rows}")?;
-    writeln!(&mut lines, "buffer {buffer}")?;
-    writeln!(&mut lines, "budget {budget}")?;
+    let header = least.unwrap_or(Header::of(text));
     Ok(ToldNotes {
-        lines,
+        lines: format!(in alloc; "{}", HeaderLines(header))?,
         is_denied: false,
         count: 0,
     })

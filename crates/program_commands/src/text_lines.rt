@@ -1,10 +1,7 @@
 //! The assembly of a microprogram, with what is known before each word as comments.
 
-use crate::explained::Explained;
+use crate::explained::{Explained, is_word};
 use std::alloc::{AllocError, Allocator};
-
-// How many lines the header has.
-const HEADER_LINES: usize = 3;
 
 // How many of the aspects are of the program's registers.
 const OF_REGISTERS: usize = 5;
@@ -139,7 +136,7 @@ pub(crate) fn lines_of_text<A: Allocator + Clone>(
     };
     let mut word: usize = 0;
     for (line, text) in explained.assembly.as_str().lines().enumerate() {
-        if HEADER_LINES <= line && !text.ends_with(':') {
+        if is_word(line, text) {
             comments.push_before(alloc.clone()?, explained, word)?;
             word = word.saturating_add(1);
         }

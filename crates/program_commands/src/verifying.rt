@@ -17,7 +17,9 @@ ghost use Rattle.seq_inputs.specs.Stops.{SaysElse, RefusesNothing, Tells};
 ghost use Rattle.seq_inputs.specs.Refusals.{line_of};
 
 use crate::noting::say_notes;
+use crate::paged_program::{PagedProgram, read_paged};
 use crate::shown_run::{Sought, is_of_whole, say_sought};
+use crate::verify_request::VerifyRequest;
 use micro_claims::Fault as TextFault;
 use micro_program::Verified;
 use micro_verify::{Counter, TextRefused, VerifyRefusal, verify};
@@ -28,7 +30,7 @@ use refused_run::{Found, Run, find_run};
 use seq_files::{Files, MadeFile, list_made};
 use seq_inputs::{
     Console, Exit, Fault, PageFile, Stop, Style, Words, end_without_memory, fail_as, finish,
-    geometry_at, read_file, read_program, say_counted, words_of_reason, write_files,
+    say_counted, words_of_reason, write_files,
 };
 use std::alloc::{AllocError, Allocator};
 use std::io::Write;
@@ -248,9 +250,11 @@ pub(crate) fn verify_at<'p, A: Allocator + Clone, F: Files>(
     ensures err { IfErr result (SaysElse (VerifyRefuses (F.store files.old) (F.store files.new) page.entry input.now counter.entry)
         (F.store files.new ≡ F.store files.old)) }
 {
-    let geometry = geometry_at(alloc.clone()?, files, page)?;
-    let bytes = read_file(alloc.clone()?, files, input)?;
-    let text = read_program(alloc.clone()?, input, bytes.as_slice(), &geometry)?;
+    let PagedProgram {
+        geometry,
+        bytes,
+        text,
+    } = read_paged(alloc.clone()?, files, page, input)?;
     let verified = accept(
         alloc,
         files,
@@ -262,6 +266,19 @@ pub(crate) fn verify_at<'p, A: Allocator + Clone, F: Files>(
         most,
     )?;
     Ok((bytes, verified))
+}
+
+// Says the notes to a microprogram that is accepted, and its header, where that was counted.
+fn say_accepted<A: Allocator + Clone, E: Write>(
+    alloc: A,
+    errors: &mut E,
+    style: Style,
+    input: &str,
+    bytes: &[u8],
+    verified: &Verified<A>,
+) {
+    say_counted(errors, style, input, bytes, verified.text());
+    say_notes(alloc, errors, style, input, bytes, verified);
 }
 
 /// Verifies a microprogram, as a word file or an assembly text, for the geometry of a parameter page.
@@ -278,36 +295,32 @@ pub fn verify_file<A: Allocator + Clone, F: Files, W: Write, E: Write, P>(
     alloc: A,
     files: &mut F,
     console: &mut Console<W, E, P>,
-    page: PageFile<'_>,
-    input: &str,
-    counter: TraceOutputs<'_>,
-    most: u64,
-    is_quiet: bool,
-    style: Style,
+    request: VerifyRequest<'_>,
 ) -> Exit
-    ensures done { result ≡ Exit.Done → IsAccepted (F.store files.old) page.entry input.now × (F.store files.new ≡ F.store files.old)
+    ensures done { result ≡ Exit.Done → IsAccepted (F.store files.old) request.entry.page request.entry.input.now × (F.store files.new ≡ F.store files.old)
         × Appends (W.contents console.old.output) (W.contents console.new.output) (codes "accepted\n") }
     ensures refused { (refusal : Refusal) → result ≡ Exit.Refused refusal
-        → Tells (VerifyRefuses (F.store files.old) (F.store files.new) page.entry input.now counter.entry) refusal
+        → Tells (VerifyRefuses (F.store files.old) (F.store files.new) request.entry.page request.entry.input.now request.entry.counter) refusal
         × Appends (W.contents console.old.output) (W.contents console.new.output) (line_of refusal) }
-    ensures files { VerifyLeaves (F.store files.old) (F.store files.new) page.entry input.now counter.entry }
+    ensures files { VerifyLeaves (F.store files.old) (F.store files.new) request.entry.page request.entry.input.now request.entry.counter }
 {
+    let VerifyRequest {
+        page,
+        input,
+        counter,
+        search,
+        is_quiet,
+        style,
+    } = request;
     let copy = match alloc.clone() {
         Ok(copy) => copy,
         Err(_) => return end_without_memory(console),
     };
-    match verify_at(copy, files, page, input, counter, most) {
+    match verify_at(copy, files, page, input, counter, search) {
         Ok((bytes, verified)) => {
             let exit = finish(console, "accepted\n");
             if !is_quiet && matches!(exit, Exit::Done) {
-                say_counted(
-                    &mut console.errors,
-                    style,
-                    input,
-                    bytes.as_slice(),
-                    verified.text(),
-                );
-                say_notes(
+                say_accepted(
                     alloc,
                     &mut console.errors,
                     style,

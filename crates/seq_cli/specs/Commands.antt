@@ -7,8 +7,7 @@ use Rattle.nand_geometry.specs.declared.optional.Profile.TheVariants.{Base}
 use Rattle.seq_inputs.specs.Inputs.{HasPageAs, PageIsRefused, FileIsRefused}
 use Rattle.seq_inputs.specs.Stops.{Tells}
 use Rattle.seq_inputs.specs.Refusals.{line_of}
-use Rattle.program_commands.specs.Commands.{IsAssembled, SourceIsRefused, IsAssembledFor, AssembleForRefuses, IsDisassembled, IsUpgraded, IsAccepted, VerifyRefuses, VerifyLeaves}
-use Rattle.program_commands.specs.Explains.{IsExplained, ExplainRefuses}
+use Rattle.program_commands.specs.Commands.{IsAssembled, SourceIsRefused, IsAssembledFor, AssembleForRefuses, IsDisassembled, IsUpgraded, ReadRefuses, IsExplained, IsAccepted, VerifyRefuses, VerifyLeaves}
 use Rattle.nand_geometry.specs.declared.parts.Parts.{Parts}
 use Rattle.page_commands.specs.Pages.{IsPageMade, PartsAreRefused}
 use Rattle.program_commands.specs.declared.lint_ending.LintEnding.{LintEnding}
@@ -45,7 +44,7 @@ ending_of lint.Denied = ending.Flagged
 abbrev pub IsDone : Command → (input : Option (List ℕ)) → (files later : Option Store) → (printed : List ℕ) → Type 0
 IsDone (Assemble text target) input files later printed = IsAssembled files later text.now target.now × (printed ≡ codes "ok\n")
 IsDone (AssembleFor page text target) input files later printed = IsAssembledFor files later page text.now target.now × (printed ≡ codes "ok\n")
-IsDone (Verify page text counter search quiet style) input files later printed = IsAccepted files page text.now × (later ≡ files) × (printed ≡ codes "accepted\n")
+IsDone (Verify request) input files later printed = IsAccepted files request.page request.input.now × (later ≡ files) × (printed ≡ codes "accepted\n")
 IsDone (Lint request) input files later printed = IsAccepted files request.page request.input.now × (later ≡ files)
 IsDone (Explain page text style) input files later printed = IsExplained files page text.now × (later ≡ files)
 IsDone (Once base) input files later printed = IfSome input (λ bytes. IsProgramRun base bytes printed) × (later ≡ files)
@@ -83,12 +82,12 @@ abbrev pub MayRefuse : Command → (input : Option (List ℕ)) → (files later 
 MayRefuse (Assemble text target) input files later refusal printed = Tells (SourceIsRefused files text.now) refusal × (later ≡ files) × (printed ≡ line_of refusal)
 MayRefuse (AssembleFor page text target) input files later refusal printed =
     Tells (AssembleForRefuses files page text.now) refusal × (later ≡ files) × (printed ≡ line_of refusal)
-MayRefuse (Verify page text counter search quiet style) input files later refusal printed =
-    Tells (VerifyRefuses files later page text.now counter) refusal × (printed ≡ line_of refusal)
+MayRefuse (Verify request) input files later refusal printed =
+    Tells (VerifyRefuses files later request.page request.input.now request.counter) refusal × (printed ≡ line_of refusal)
 MayRefuse (Lint request) input files later refusal printed =
     Tells (VerifyRefuses files files request.page request.input.now no_outputs) refusal × (later ≡ files) × (printed ≡ line_of refusal)
 MayRefuse (Explain page text style) input files later refusal printed =
-    Tells (ExplainRefuses files page text.now) refusal × (later ≡ files) × (printed ≡ line_of refusal)
+    Tells (ReadRefuses files page text.now) refusal × (later ≡ files) × (printed ≡ line_of refusal)
 MayRefuse (Once base) input files later refusal printed = IfSome input (λ bytes. Tells (ProgramMayBeRefused base bytes) refusal) × (later ≡ files) × (printed ≡ line_of refusal)
 MayRefuse (Run request) input files later refusal printed = RunIsRefused files request refusal × (later ≡ files) × (printed ≡ line_of refusal)
 MayRefuse (Capture request) input files later refusal printed = Tells (PageIsRefused files request.page.now) refusal × (later ≡ files) × (printed ≡ line_of refusal)
@@ -144,7 +143,7 @@ MayDiffer _ files later fault item printed = ⊥
 abbrev pub MayLeave : Command → (files later : Option Store) → Type 0
 MayLeave (Assemble text target) files later = (later ≡ files) ⊎ IsAssembled files later text.now target.now
 MayLeave (AssembleFor page text target) files later = (later ≡ files) ⊎ IsAssembledFor files later page text.now target.now
-MayLeave (Verify page text counter search quiet style) files later = VerifyLeaves files later page text.now counter
+MayLeave (Verify request) files later = VerifyLeaves files later request.page request.input.now request.counter
 MayLeave (Lint request) files later = later ≡ files
 MayLeave (Explain page text style) files later = later ≡ files
 MayLeave (Once base) files later = later ≡ files

@@ -12,8 +12,8 @@ use nand_geometry::Parts;
 use operation_commands::{OpsRequest, list_operations};
 use page_commands::{make_page, show_page};
 use program_commands::{
-    LintEnding, LintRequest, assemble_file, assemble_file_for, disassemble_file, explain_file,
-    lint_file, upgrade_file, verify_file,
+    LintEnding, LintRequest, VerifyRequest, assemble_file, assemble_file_for, disassemble_file,
+    explain_file, lint_file, upgrade_file, verify_file,
 };
 use run_once::run_program;
 use seq_files::Files;
@@ -50,14 +50,7 @@ pub enum Command<'a> {
     },
     /// To verify a microprogram, as a word file or an assembly text, for the geometry of a parameter page. Where a refusal has its run, the files
     /// that are asked for of it are written. The notes to one that is accepted are said on standard error, unless it is to be quiet. What is said there is in a style.
-    Verify {
-        page: PageFile<'a>,
-        input: &'a str,
-        counter: TraceOutputs<'a>,
-        search: u64,
-        is_quiet: bool,
-        style: Style,
-    },
+    Verify(VerifyRequest<'a>),
     /// To print the notes to a microprogram that is accepted, or the header that is enough for it.
     Lint(LintRequest<'a>),
     /// To tell what is known before each word of a microprogram.
@@ -180,14 +173,12 @@ impl<'a> Command<'a> {
                 input,
                 target,
             } => (both(page.path, input), one(Some(target))),
-            Command::Verify {
-                page,
-                input,
-                counter,
-                search: _,
-                is_quiet: _,
-                style: _,
-            } => (both(page.path, input), paths_of(counter)),
+            Command::Verify(request) => {
+                (
+                    both(request.page.path, request.input),
+                    paths_of(request.counter),
+                )
+            }
             Command::Lint(request) => (both(request.page.path, request.input), one(None)),
             Command::Explain {
                 page,
@@ -311,16 +302,9 @@ pub fn command_on<
         } => DataEnding::Recording(Ending::Exit(assemble_file_for(
             alloc, files, console, page, input, target,
         ))),
-        Command::Verify {
-            page,
-            input,
-            counter,
-            search,
-            is_quiet,
-            style,
-        } => DataEnding::Recording(Ending::Exit(verify_file(
-            alloc, files, console, page, input, counter, search, is_quiet, style,
-        ))),
+        Command::Verify(request) => {
+            DataEnding::Recording(Ending::Exit(verify_file(alloc, files, console, request)))
+        }
         Command::Lint(request) => {
             DataEnding::Recording(ending_of(lint_file(alloc, files, console, request)))
         }

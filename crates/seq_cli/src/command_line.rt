@@ -15,7 +15,7 @@ use data_commands::{GivenImage, ImageRequest};
 use edge_commands::EdgeRequest;
 use nand_geometry::{Optional, Parts, Profile};
 use onfi_cycle::Lun;
-use program_commands::{LintOutput, LintRequest, NoteRules};
+use program_commands::{LintOutput, LintRequest, NoteRules, VerifyRequest};
 use seq_inputs::{PageFile, Style};
 use seq_run::{MOST_STEPS, RunRequest};
 use std::alloc::Global;
@@ -148,14 +148,14 @@ impl Verb {
         let target = find_word(matches, "OUT");
         Ok(match self {
             Verb::Assemble => read_assemble(matches),
-            Verb::Verify => Command::Verify {
+            Verb::Verify => Command::Verify(VerifyRequest {
                 page: read_page_file(matches, page),
                 input,
                 counter: read_outputs(matches, "counter"),
                 search: read_steps("--search", matches.get_str("search"), MOST_SEARCHED)?,
                 is_quiet: matches.get_flag("quiet"),
                 style: read_style(matches),
-            },
+            }),
             Verb::Lint => Command::Lint(LintRequest {
                 page: read_page_file(matches, page),
                 input,

@@ -27,7 +27,7 @@ impl<'a> NamedCommand<'a> {
             Command::Lint(request) => Some(NamedCommand::Lint(request)),
             Command::Assemble { .. }
             | Command::AssembleFor { .. }
-            | Command::Verify { .. }
+            | Command::Verify(_)
             | Command::Explain { .. }
             | Command::Once { .. }
             | Command::Run(_)

@@ -312,7 +312,7 @@ fn name_of(asked: Command<'_>) -> &'static str {
         Command::MakePage { .. } | Command::TakePage(_) | Command::ShowPage { .. } => "page",
         Command::Upgrade { .. } => "upgrade",
         Command::AssembleFor { .. } => "asm --auto",
-        Command::Verify { .. } => "verify",
+        Command::Verify(_) => "verify",
         Command::Lint(_) => "lint",
         Command::Explain { .. } => "explain",
         Command::Capture(_) => "capture",

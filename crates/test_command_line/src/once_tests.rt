@@ -2,6 +2,7 @@ use clap::error::ErrorKind as UsageKind;
 use linked_list_allocator::LocalHeap;
 use micro_claims::Reason;
 use nand_geometry::Profile;
+use program_commands::VerifyRequest;
 use run_once::once_on;
 use seq_cli::{Command, Mistake, parse};
 use seq_files::{SlowReader, SlowWriter};
@@ -396,18 +397,18 @@ const FILE_LINES: &[Asked] = &[
     },
     Asked {
         words: &["onfiseq", "verify", "a", "b"],
-        asked: Ok(Command::Verify {
+        asked: Ok(Command::Verify(VerifyRequest {
             page: BASE_A,
             input: "b",
             counter: TraceOutputs::NONE,
             search: 100_000,
             is_quiet: false,
             style: Style::Plain,
-        }),
+        })),
     },
     Asked {
         words: &["onfiseq", "verify", "a", "b", "--counter", "c"],
-        asked: Ok(Command::Verify {
+        asked: Ok(Command::Verify(VerifyRequest {
             page: BASE_A,
             input: "b",
             counter: TraceOutputs {
@@ -417,13 +418,13 @@ const FILE_LINES: &[Asked] = &[
             search: 100_000,
             is_quiet: false,
             style: Style::Plain,
-        }),
+        })),
     },
     Asked {
         words: &[
             "onfiseq", "verify", "a", "b", "--draw", "d.html", "--wave", "w",
         ],
-        asked: Ok(Command::Verify {
+        asked: Ok(Command::Verify(VerifyRequest {
             page: BASE_A,
             input: "b",
             counter: TraceOutputs {
@@ -437,7 +438,7 @@ const FILE_LINES: &[Asked] = &[
             search: 100_000,
             is_quiet: false,
             style: Style::Plain,
-        }),
+        })),
     },
     Asked {
         words: &["onfiseq", "dis", "a"],

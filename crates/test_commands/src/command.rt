@@ -1,39 +1,21 @@
 //! The commands that are tried, with what each is given.
 
-use program_commands::{assemble_file, disassemble_file, upgrade_file, verify_file};
+use program_commands::{VerifyRequest, assemble_file, disassemble_file, upgrade_file, verify_file};
 use seq_files::MapFiles;
-use seq_inputs::{Console, PageFile, Style};
+use seq_inputs::Console;
 use std::alloc::Allocator;
 use std::io::Write;
 use trace_commands::{CheckRequest, Ending, check_trace};
-use trace_files::TraceOutputs;
 use trace_text::NoProgress;
-
-// How many steps a search may take.
-const SEARCHED: u64 = 100_000;
 
 /// A command on files.
 #[derive(Clone, Copy)]
 pub(crate) enum Command<'a> {
-    Assemble {
-        input: &'a str,
-        target: &'a str,
-    },
-    Verify {
-        page: PageFile<'a>,
-        input: &'a str,
-        counter: TraceOutputs<'a>,
-        is_quiet: bool,
-        style: Style,
-    },
+    Assemble { input: &'a str, target: &'a str },
+    Verify(VerifyRequest<'a>),
     Check(CheckRequest<'a>),
-    Disassemble {
-        input: &'a str,
-    },
-    Upgrade {
-        input: &'a str,
-        target: &'a str,
-    },
+    Disassemble { input: &'a str },
+    Upgrade { input: &'a str, target: &'a str },
 }
 
 impl Command<'_> {
@@ -49,15 +31,7 @@ impl Command<'_> {
             Command::Assemble { input, target } => {
                 assemble_file(alloc, files, console, input, target)
             }
-            Command::Verify {
-                page,
-                input,
-                counter,
-                is_quiet,
-                style,
-            } => verify_file(
-                alloc, files, console, page, input, counter, SEARCHED, is_quiet, style,
-            ),
+            Command::Verify(request) => verify_file(alloc, files, console, request),
             Command::Disassemble { input } => disassemble_file(alloc, files, console, input),
             Command::Upgrade { input, target } => {
                 upgrade_file(alloc, files, console, input, target)

@@ -1,6 +1,7 @@
 // The runs that `verify` leaves of its refusals, where a file of them can't be written.
 use crate::command::Command;
-use crate::tests::{ASSEMBLE, DIE, ONE_LUN, do_command, files_of, is_right};
+use crate::tests::{ASSEMBLE, DIE, ONE_LUN, SEARCHED, do_command, files_of, is_right};
+use program_commands::VerifyRequest;
 use seq_files::{FileError, FileFault, MapFiles};
 use seq_inputs::{Exit, Style};
 use std::alloc::Global;
@@ -9,7 +10,7 @@ use trace_commands::Ending;
 use trace_files::{DrawForm, Drawing, TraceOutputs};
 
 // To verify, and to leave the text of the run.
-const VERIFY: Command<'static> = Command::Verify {
+const VERIFY: Command<'static> = Command::Verify(VerifyRequest {
     page: DIE,
     input: "out",
     counter: TraceOutputs {
@@ -17,12 +18,13 @@ const VERIFY: Command<'static> = Command::Verify {
         wave: None,
         drawing: None,
     },
+    search: SEARCHED,
     is_quiet: false,
     style: Style::Plain,
-};
+});
 
 // To verify, and to leave the text of the run, its waveform and its picture.
-const VERIFY_ALL: Command<'static> = Command::Verify {
+const VERIFY_ALL: Command<'static> = Command::Verify(VerifyRequest {
     page: DIE,
     input: "out",
     counter: TraceOutputs {
@@ -33,9 +35,10 @@ const VERIFY_ALL: Command<'static> = Command::Verify {
             path: "drawing",
         }),
     },
+    search: SEARCHED,
     is_quiet: false,
     style: Style::Plain,
-};
+});
 
 // An erase, and another one while the LUN is busy.
 const ERASE_TWICE: &str =

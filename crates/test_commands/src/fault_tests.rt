@@ -36,7 +36,7 @@ fn files_with(alloc: Global, text: &str) -> Result<MapFiles, Fail> {
 fn path_of(command: Command<'_>, call: usize) -> &'static str {
     match command {
         Command::Assemble { .. } | Command::Upgrade { .. } if call == 1 => "out",
-        Command::Verify { .. } | Command::Check(_) if call == 0 => "die.page",
+        Command::Verify(_) | Command::Check(_) if call == 0 => "die.page",
         _ => "in",
     }
 }

@@ -1,5 +1,6 @@
 use crate::command::Command;
 use nand_geometry::{Geometry, Parts, Profile, SMALL_CHIP};
+use program_commands::VerifyRequest;
 use seq_files::MapFiles;
 use seq_inputs::{Console, Exit, Fault, PageFile, Refusal, Style};
 use std::alloc::Global;
@@ -31,13 +32,17 @@ pub(crate) const DIE: PageFile<'static> = PageFile {
     profile: Profile::Base,
 };
 
-pub(crate) const VERIFY: Command<'static> = Command::Verify {
+// How many steps the search for a run may take.
+pub(crate) const SEARCHED: u64 = 100_000;
+
+pub(crate) const VERIFY: Command<'static> = Command::Verify(VerifyRequest {
     page: DIE,
     input: "in",
     counter: TraceOutputs::NONE,
+    search: SEARCHED,
     is_quiet: true,
     style: Style::Plain,
-};
+});
 
 pub(crate) const CHECK: Command<'static> = Command::Check(CheckRequest {
     page: "die.page",

@@ -1,4 +1,4 @@
-use Rattle.program_commands.proofs.Headeds.{assembled}
+use Rattle.program_commands.proofs.CountedHeaders.{assembled}
 use Rattle.program_commands.proofs.assembling_for.assemble_at.Goals as goal
 
 pub returns-clause-ok : goal.returns-clause-ok

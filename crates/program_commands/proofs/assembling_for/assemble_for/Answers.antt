@@ -1,4 +1,4 @@
-use Rattle.program_commands.proofs.Headeds.{reason_said, safe_words}
+use Rattle.program_commands.proofs.CountedHeaders.{reason_said, safe_words}
 use Rattle.program_commands.proofs.assembling_for.assemble_for.Goals as goal
 
 pub returns-in-Ok-verify_headed-clause-ok : goal.returns-in-Ok-verify_headed-clause-ok
