@@ -2,6 +2,8 @@
 #![tactic(auto)]
 
 #[cfg(test)]
+mod found_run_tests;
+#[cfg(test)]
 mod notes;
 #[cfg(test)]
 mod rule_tests;

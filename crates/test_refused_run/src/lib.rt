@@ -1,7 +1,0 @@
-//! The runs of refused microprograms. Only tests stand here.
-#![tactic(auto)]
-
-#[cfg(test)]
-mod run_tests;
-#[cfg(test)]
-mod table;
