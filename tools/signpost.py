@@ -16,21 +16,27 @@ UNMADE = {"out", ".git"}
 
 
 def list_pages():
-    """Each page of the repository: its path and its lines."""
+    """Each page of the repository, by its path."""
     for file in sorted(ROOT.rglob("*.md")):
         path = file.relative_to(ROOT)
-        if not UNMADE & set(path.parts) and not any(part.startswith("tmp") for part in path.parts):
+        if not UNMADE & set(path.parts) and not path.parts[0].startswith("tmp"):
             yield path.as_posix(), file.read_text(encoding="utf-8").splitlines()
 
 
-def find_long_lines():
+def list_lines(folder=""):
+    """Each line of the pages below a folder: its page, its number and its text."""
+    pages = [(path, lines) for path, lines in list_pages() if path.startswith(folder)]
+    return [(path, number, line) for path, lines in pages for number, line in enumerate(lines, 1)]
+
+
+def find_long():
     """Lines of pages that are too long, outside of tables; and whether PROVED is."""
-    for path, lines in list_pages():
-        if path == PROVED and len(lines) > MOST_LINES:
-            yield f"{path}: {len(lines)} lines, and at most {MOST_LINES} are to be"
-        for number, line in enumerate(lines, 1):
-            if len(line) > LONGEST and not line.lstrip().startswith("|"):
-                yield f"{path}:{number}: {len(line)} characters, and at most {LONGEST} are to be"
+    count = len((ROOT / PROVED).read_text(encoding="utf-8").splitlines())
+    if count > MOST_LINES:
+        yield f"{PROVED}: {count} lines, and at most {MOST_LINES} are to be"
+    for path, number, line in list_lines():
+        if len(line) > LONGEST and not line.lstrip().startswith("|"):
+            yield f"{path}:{number}: {len(line)} characters, and at most {LONGEST} are to be"
 
 
 def words_at(place, crates, known):
@@ -46,13 +52,12 @@ def words_at(place, crates, known):
 def find_misplaced(crates):
     """Names that don't stand in the file or the crate that a page names for them."""
     known = {}
-    pages = ((path, number, line) for path, lines in list_pages() if path != WRITTEN and path.startswith("docs") for number, line in enumerate(lines, 1))
-    for path, number, line in pages:
-        for names, place, other in PLACED.findall(line):
-            words = words_at(place or other, crates, known) if place or other in crates else None
-            lost = [word for word in re.findall(r"[A-Za-z]\w{2,}", names) if words is not None and word not in words]
-            if lost:
-                yield f"{path}:{number}: {', '.join(lost)} isn't in {place or other}"
+    placed = [(f"{path}:{number}", *found) for path, number, line in list_lines("docs") if path != WRITTEN for found in PLACED.findall(line)]
+    for where, names, place, other in placed:
+        words = words_at(place or other, crates, known) if place or other in crates else None
+        lost = [word for word in re.findall(r"[A-Za-z]\w{2,}", names) if words is not None and word not in words]
+        if lost:
+            yield f"{where}: {', '.join(lost)} isn't in {place or other}"
 
 
 def is_there(file, crates):
@@ -65,9 +70,8 @@ def is_there(file, crates):
 
 def find_missing_files(crates):
     """Files that a page names and that aren't there."""
-    pages = ((path, number, line) for path, lines in list_pages() if path != WRITTEN and path.startswith("docs") for number, line in enumerate(lines, 1))
-    for path, number, line in pages:
-        yield from (f"{path}:{number}: there is no file {file}" for file in SOURCE.findall(line) if not NOT_OURS.search(file) and not is_there(file, crates))
+    named = [(f"{path}:{number}", file) for path, number, line in list_lines("docs") if path != WRITTEN for file in SOURCE.findall(line)]
+    return [f"{where}: there is no file {file}" for where, file in named if not NOT_OURS.search(file) and not is_there(file, crates)]
 
 
 def find_unlisted(crates):
@@ -81,4 +85,4 @@ def find_unlisted(crates):
 
 
 def find_all(crates):
-    return [*find_long_lines(), *find_misplaced(crates), *find_missing_files(crates), *find_unlisted(crates)]
+    return [*find_long(), *find_misplaced(crates), *find_missing_files(crates), *find_unlisted(crates)]

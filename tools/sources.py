@@ -80,13 +80,19 @@ def variants_of(path, name):
     return {variant: " ".join(comment.replace("///", " ").split()) for comment, variant in found}
 
 
+def flatten(block):
+    """The text without what stands in braces; the braces stay."""
+    flat, depth = "", 0
+    for letter in block:
+        depth -= letter == "}"
+        flat += "" if depth else letter
+        depth += letter == "{"
+    return flat
+
+
 def catch_alls(code):
     """Each `_ =>`: the patterns beside it, without the fields of their variants."""
     for found in re.finditer(r"(?<=[\s(|])_ (?:if [^\n]*)?=>", code):
         opened = start_of(code, found.start())
-        block, depth, beside = code[opened + 1 : end_of(code, opened) - 1], 0, ""
-        for letter in block:
-            depth -= letter == "}"
-            beside += "" if depth else letter
-            depth += letter == "{"
-        yield " ".join(re.findall(r"([^,{}]*(?:\{\})?[^,{}]*)=>", beside))
+        block = flatten(code[opened + 1 : end_of(code, opened) - 1])
+        yield " ".join(re.findall(r"([^,{}]*(?:\{\})?[^,{}]*)=>", block))

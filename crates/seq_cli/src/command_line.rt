@@ -757,7 +757,7 @@ fn images_in<'a>(
 }
 
 /// The images that these words give of what LUNs held, which [`parse_all`] takes; the first word is the name of the program.
-pub fn read_images<'a>(
+pub(crate) fn read_images<'a>(
     alloc: Global,
     words: &'a [String],
 ) -> Result<Vec<GivenImage<'a>>, Mistake<'a>> {
@@ -804,7 +804,7 @@ pub fn parse<'a>(
 }
 
 /// The commands that these words ask for, in order, where they give these images: one, or one for each of several files; the first word is the name of the program.
-pub fn parse_all<'a>(
+pub(crate) fn parse_all<'a>(
     alloc: Global,
     words: &'a [String],
     images: &'a [GivenImage<'a>],

@@ -23,7 +23,7 @@ mod times_reading;
 
 pub use answering::{answer, answer_watched};
 pub use command::{Command, command_on};
-pub use command_line::{parse, parse_all, read_images};
+pub use command_line::parse;
 pub use data_reading::DataMistake;
 pub use mistake::{Mistake, PathMistake};
 pub use ops_reading::OpsMistake;
