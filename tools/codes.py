@@ -22,8 +22,7 @@ ENUMS = (
     ("TimingFault", "crates/trace_timing/src/timing_fault.rt", "the times of a trace", "the item, from 0"),
     ("EdgeFault", "crates/edge_timing/src/edge_fault.rt", "the edges of a capture, with T0 to T8 of a trace", "the time, in the unit of the capture"),
     ("TimingFileFault", "crates/trace_timing/src/file.rt", "a timing file", "the line, from 1"),
-    ("DataFault", "crates/data_commands/src/data_fault.rt", "the data of a trace", "the item, from 0"),
-    ("VendorFault", "crates/vendor_file/src/fault.rt", "a vendor file, of `check --vendor`", "the line, from 1"),
+    ("VendorFault", "crates/vendor_file/src/fault.rt", "a vendor file, of `--vendor`", "the line, from 1"),
     ("ImageFault", "crates/die_model/src/refusal.rt", "the image of a die", "0"),
     ("RunFault", "crates/run_file/src/refusal.rt", "a line of a run file", "the line, from 1"),
     ("DumpFault", "crates/vcd_text/src/fault.rt", "the file of a capture", "the line, from 1"),
@@ -34,6 +33,9 @@ ENUMS = (
 NOTES = "crates/micro_lint/src/note.rt"
 PAGE = "docs/use/CODES.md"
 CAPTURES = "crates/bus_capture/src/fault.rt"
+# An output that differs is a variant of its own, with the first words of its docstring.
+RECORDINGS = "crates/recording/src/recording_fault.rt"
+OUTPUT = (None, RECORDINGS, "the data of a trace", "the item, from 0")
 HEAD = """# Codes
 
 A file that is refused gets a line `refused CODE at N` on standard output. The code says what is wrong, and N where. In a run N is the line of the run file that is
@@ -63,6 +65,13 @@ def read_notes():
     return re.findall(r"/// (N\d+): (.*)\.\n", open(NOTES).read())
 
 
+def read_output():
+    """The code of an output that isn't what its die holds, with its words."""
+    text = open(RECORDINGS).read()
+    words = re.search(r"/// (An output [^,\n]*), at this item[^\n]*\n    Output \{", text).group(1)
+    return [(re.search(r'RecordingFault::Output \{ \.\. \} => "(\w+)"', text).group(1), words[0].lower() + words[1:])]
+
+
 def make_page(tables, notes):
     """The page of all codes."""
     parts = [HEAD]
@@ -88,6 +97,7 @@ def find_differences(known):
 
 def main():
     tables = [(enum, read_enum(enum[0], enum[1])) for enum in ENUMS]
+    tables.insert([enum for enum, _ in tables].index(next(enum for enum in ENUMS if enum[0] == "VendorFault")), (OUTPUT, read_output()))
     notes = read_notes()
     page = make_page(tables, notes)
     if "--write" in sys.argv[1:]:

@@ -1,4 +1,4 @@
-"""Runs `onfiseq run` with each of its requests for memory refused in turn, and with each of its threads.
+"""Runs `onfiseq run` and `onfiseq check` with each of their requests for memory refused in turn, and runs with each of their threads.
 
     python3 tools/fail_runs.py [PROGRAM]
 
@@ -6,7 +6,9 @@ PROGRAM is the built program (crates/onfiseq/out/onfiseq when none is given). A 
 made by one worker and by three. Where a request is refused, it ends with status 4 and `out of memory`, prints nothing on standard output,
 and every file is as it was before, or all are written where only the printing was left; so it does where a thread can't be started.
 Otherwise it ends as a run to which nothing is refused, with the same files: a list that is made of others asks for all its room at first,
-and goes on without it. Ends with status 1 at the first run that isn't so.
+and goes on without it. The trace of such a run is judged alone, and with a vendor's sequences, times, images and a copy. Where a request is
+refused, a check ends with status 4 and prints nothing, or with the status and the lines of one to which nothing is refused, and its copy is
+whole or as before. Ends with status 1 at the first run that isn't so.
 """
 import shutil
 import sys
@@ -19,6 +21,11 @@ ROOT = Path(__file__).resolve().parent.parent
 PROGRAM = Path(sys.argv[1] if len(sys.argv) > 1 else ROOT / "crates/onfiseq/out/onfiseq").resolve()
 CHIP = ROOT / "examples/two_luns"
 OUTPUTS = ("die.img", "first", "second", "trace")
+# How a trace is judged, behind its page, its targets and its path.
+CHECKS = (
+    (),
+    ("--all", "--vendor", "linux", "--timing", "0", "--data", "--write", "copy"),
+)
 MOST = 100_000
 
 
@@ -112,6 +119,43 @@ def refuse_each(refuser, folder, workers):
           f"{whole[0].threads} threads refused, and out of memory")
 
 
+def try_check(refuser, folder, words, request):
+    """A check with a request refused: how it ended, and its copy."""
+    (folder / "copy").write_text("as before\n")
+    ended = run_refused(refuser, words, request=request)
+    return ended, (folder / "copy").read_bytes()
+
+
+def judge_check(what, ran, whole, before):
+    """Whether a check of which a request was refused was out of memory; stops where it went wrong."""
+    ended, copy = ran
+    if ended.status == 4 and ended.output == "" and "out of memory" in ended.errors and copy in (before, whole[1]):
+        return True
+    if (ended.status, ended.output, copy) == (whole[0].status, whole[0].output, whole[1]):
+        return False
+    stop(f"{what}: status {ended.status}, {ended.output!r}, {ended.errors!r}")
+
+
+def refuse_check(refuser, folder, options):
+    """Refuses each request of a check in turn."""
+    put_outputs(folder)
+    made = run_refused("", [PROGRAM, "run", folder / "run", "--quiet", "--times", "--trace", folder / "trace"])
+    if made.status != 0:
+        stop(f"a run with times ended with {made}")
+    named = [folder / "copy" if word == "copy" else word for word in options]
+    words = [PROGRAM, "check", folder / "chip.page", "1", folder / "trace", "--recorded", *named]
+    whole = try_check(refuser, folder, words, 0)
+    if whole[0].status not in (0, 2) or whole[0].requests is None:
+        stop(f"a check to which nothing is refused ended with {whole[0]}")
+    short = 0
+    for number in range(1, whole[0].requests + 1):
+        ran = try_check(refuser, folder, words, number)
+        short += judge_check(f"request {number} of {' '.join(map(str, words))}", ran, whole, b"as before\n")
+    if short == 0:
+        stop(f"no request of a check {options} was out of memory")
+    print(f"onfiseq check {' '.join(options)}: {short} of {whole[0].requests} requests refused, and out of memory")
+
+
 def main():
     if not PROGRAM.is_file():
         stop(f"{PROGRAM} isn't there: run rt ci, or bin/onfiseq")
@@ -121,6 +165,8 @@ def main():
         make_inputs(folder)
         for workers in (1, 3):
             refuse_each(refuser, folder, workers)
+        for options in CHECKS:
+            refuse_check(refuser, folder, options)
 
 
 main()

@@ -7,14 +7,14 @@ use Rattle.nand_geometry.specs.Reading.{read_as}
 use Rattle.bus_capture.specs.declared.reading.Setup.{Setup}
 use Rattle.bus_capture.specs.declared.inferring.Stamped.{Stamped}
 use Rattle.bus_capture.specs.Inferring.{captured}
-use Rattle.trace_commands.specs.declared.recording_fault.RecordingFault.{RecordingFault}
-use Rattle.trace_commands.specs.declared.recording_fault.RecordingFault.TheVariants.{Edge}
-use Rattle.trace_commands.specs.declared.recording_stop.RecordingStop.{RecordingStop}
-use Rattle.trace_commands.specs.declared.recording_stop.RecordingStop.TheVariants.{Stop as ForAll, Faulty}
-use Rattle.trace_commands.specs.Captures.{RefusesCapture, AreSaid}
-use Rattle.trace_commands.specs.Recordings.{fault_line}
-use Rattle.trace_commands.specs.Targets.{count_of}
-use Rattle.timing_commands.specs.Times.{RefusesTiming}
+use Rattle.recording.specs.declared.recording_fault.RecordingFault.{RecordingFault}
+use Rattle.recording.specs.declared.recording_fault.RecordingFault.TheVariants.{Edge}
+use Rattle.recording.specs.declared.recording_stop.RecordingStop.{RecordingStop}
+use Rattle.recording.specs.declared.recording_stop.RecordingStop.TheVariants.{Stop as ForAll, Faulty}
+use Rattle.recording.specs.Captures.{RefusesCapture, AreSaid}
+use Rattle.recording.specs.Recordings.{fault_line}
+use Rattle.recording.specs.Targets.{count_of}
+use Rattle.recording.specs.Times.{RefusesTiming}
 use Rattle.seq_inputs.specs.Stops.{RefusesNothing}
 use Rattle.trace_timing.specs.declared.timing_fault.TimingFault.TheVariants.{NoTimes}
 use Rattle.edge_timing.specs.declared.edge_fault.EdgeFault.TheVariants.{Pause}
@@ -100,10 +100,10 @@ EdgesTell files request fault printed = (EdgesRefuse files request fault × (pri
 
 -- ---- why a step isn't done
 
-abbrev pub IsNotJudged : {A : Type 0} → RecordingStop A → Type 0
+abbrev pub IsNotJudged : RecordingStop → Type 0
 IsNotJudged (ForAll stop) = ⊥
 IsNotJudged (Faulty fault words) = fault ≡ Edge (Pause NoTimes) 0
 
-abbrev pub MayNotBeJudged : {A : Type 0} → RecordingStop A → Type 0
+abbrev pub MayNotBeJudged : RecordingStop → Type 0
 MayNotBeJudged (ForAll stop) = RefusesNothing stop
 MayNotBeJudged (Faulty fault words) = fault ≡ Edge (Pause NoTimes) 0

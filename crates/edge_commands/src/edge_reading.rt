@@ -1,27 +1,26 @@
 //! By what the edges of a capture are judged.
 ghost use Rattle.std.specs.Prelude.{◌≡◌, IfOk, IfErr};
-ghost use Rattle.trace_commands.specs.Endings.{SaysOf};
-ghost use Rattle.timing_commands.specs.Times.{RefusesTiming};
+ghost use Rattle.recording.specs.Endings.{SaysOf};
+ghost use Rattle.recording.specs.Times.{RefusesTiming};
 ghost use Rattle.edge_timing.specs.Times.{AreEdgeBounded};
 
 use bus_capture::CaptureForm;
 use edge_timing::{EdgeTimes, find_unit};
+use recording::{RecordingStop, TimingSource, timing_file_at};
 use seq_files::Files;
-use std::alloc::Allocator;
-use timing_commands::{TimingSource, timing_file_at};
-use trace_commands::RecordingStop;
+use std::alloc::Global;
 use trace_timing::PageTimes;
 
 // A CSV tells its times in picoseconds.
 const PICOSECOND: u64 = 1_000;
 
 /// The least times that are asked for, for a chip whose page has these.
-pub(crate) fn edge_times_at<'p, A: Allocator + Clone, F: Files>(
-    alloc: A,
+pub(crate) fn edge_times_at<'p, F: Files>(
+    alloc: Global,
     files: &mut F,
     page: PageTimes,
     source: TimingSource<'p>,
-) -> Result<EdgeTimes, RecordingStop<'p, A>>
+) -> Result<EdgeTimes, RecordingStop<'p>>
     ensures bounded { IfOk result (λ t. AreEdgeBounded t) }
     ensures err { IfErr result (SaysOf (λ _. ⊥) (RefusesTiming (F.store files.old) source.entry)) }
     ensures stays { F.store files.new ≡ F.store files.old }

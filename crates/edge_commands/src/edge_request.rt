@@ -2,8 +2,7 @@
 
 use bus_capture::CaptureForm;
 use nand_geometry::Profile;
-use timing_commands::TimingSource;
-use trace_commands::Targets;
+use recording::{Targets, TimingSource};
 
 /// What the edges of a capture are judged for. `-` as a path that is read is standard input.
 #[derive(Clone, Copy, Debug, PartialEq, Eq)]

@@ -6,14 +6,10 @@ ghost use Rattle.edge_commands.specs.Edges.{fault_of, late_lines};
 use crate::edge_request::EdgeRequest;
 use crate::edge_words::{LateEdge, Margin};
 use edge_timing::{EdgeJudge, EdgeTiming, EdgeViolation};
+use recording::{MOST_SAID, RecordingFault, push_message, undeclared_mode};
 use seq_inputs::{Style, Words, say_words};
-use std::alloc::{AllocError, Allocator};
+use std::alloc::{AllocError, Global};
 use std::io::Write;
-use timing_commands::undeclared_mode;
-use trace_commands::{RecordingFault, push_message};
-
-// How many edges that come too soon are said in words at most; the lines of the output name all.
-const MOST_SAID: usize = 100;
 
 /// What is wrong with an edge that comes too soon.
 pub(crate) fn fault_of(late: EdgeViolation) -> RecordingFault
@@ -26,10 +22,7 @@ pub(crate) fn fault_of(late: EdgeViolation) -> RecordingFault
 }
 
 /// The lines of edges that come too soon.
-pub(crate) fn late_text<A: Allocator>(
-    alloc: A,
-    late: &[EdgeViolation],
-) -> Result<String<A>, AllocError>
+pub(crate) fn late_text(alloc: Global, late: &[EdgeViolation]) -> Result<String, AllocError>
     ensures { IfOk result (λ text. string_bytes text ≡ late_lines late.now) }
 {
     let mut lines = String::new(alloc);
@@ -40,9 +33,9 @@ pub(crate) fn late_text<A: Allocator>(
 }
 
 // Adds what is said of an edge that comes too soon.
-fn push_late<A: Allocator + Clone>(
-    lines: &mut String<A>,
-    alloc: A,
+fn push_late(
+    lines: &mut String,
+    alloc: Global,
     path: &str,
     late: EdgeViolation,
 ) -> Result<(), AllocError> {
@@ -53,11 +46,7 @@ fn push_late<A: Allocator + Clone>(
 }
 
 // Adds how many there are beside those that are said.
-fn push_more<A: Allocator>(
-    lines: &mut String<A>,
-    alloc: A,
-    count: usize,
-) -> Result<(), AllocError> {
+fn push_more(lines: &mut String, alloc: Global, count: usize) -> Result<(), AllocError> {
     if MOST_SAID < count {
         let words = format!(in alloc; "and {} more that come too soon", count - MOST_SAID)?;
         push_message(lines, Style::Plain, words.as_str())?;
@@ -66,9 +55,9 @@ fn push_more<A: Allocator>(
 }
 
 // Adds that the page doesn't declare the mode, where it declares others.
-fn push_mode<A: Allocator>(
-    lines: &mut String<A>,
-    alloc: A,
+fn push_mode(
+    lines: &mut String,
+    alloc: Global,
     request: EdgeRequest<'_>,
     modes: u16,
 ) -> Result<(), AllocError> {
@@ -80,10 +69,7 @@ fn push_mode<A: Allocator>(
 }
 
 // Adds how near a capture comes to each time.
-fn push_margins<A: Allocator, B: Allocator>(
-    lines: &mut String<A>,
-    judge: &EdgeJudge<B>,
-) -> Result<(), AllocError> {
+fn push_margins(lines: &mut String, judge: &EdgeJudge<Global>) -> Result<(), AllocError> {
     for (timing, nearest) in EdgeTiming::ALL.iter().zip(judge.nearest.iter()) {
         if let Some(nearest) = *nearest {
             let timing = *timing;
@@ -94,18 +80,18 @@ fn push_margins<A: Allocator, B: Allocator>(
 }
 
 // What is said of the edges of a capture.
-fn words_of<A: Allocator + Clone>(
-    alloc: A,
+fn words_of(
+    alloc: Global,
     request: EdgeRequest<'_>,
-    judge: &EdgeJudge<A>,
+    judge: &EdgeJudge<Global>,
     modes: u16,
-) -> Result<String<A>, AllocError> {
+) -> Result<String, AllocError> {
     let late = judge.told.as_slice();
-    let mut lines = String::new(alloc.clone()?);
+    let mut lines = String::new(alloc);
     for found in late.iter().take(MOST_SAID) {
-        push_late(&mut lines, alloc.clone()?, request.input, *found)?;
+        push_late(&mut lines, alloc, request.input, *found)?;
     }
-    push_more(&mut lines, alloc.clone()?, late.len())?;
+    push_more(&mut lines, alloc, late.len())?;
     push_mode(&mut lines, alloc, request, modes)?;
     if request.tells_all {
         push_margins(&mut lines, judge)?;
@@ -114,11 +100,11 @@ fn words_of<A: Allocator + Clone>(
 }
 
 /// Says which edges come too soon and, where all are told, how near a capture comes to each time, unless there is no memory for that.
-pub(crate) fn say_edges<A: Allocator + Clone, E: Write>(
-    alloc: A,
+pub(crate) fn say_edges<E: Write>(
+    alloc: Global,
     errors: &mut E,
     request: EdgeRequest<'_>,
-    judge: &EdgeJudge<A>,
+    judge: &EdgeJudge<Global>,
     modes: u16,
 ) {
     if let Ok(words) = words_of(alloc, request, judge, modes) {

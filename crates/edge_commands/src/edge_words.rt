@@ -1,8 +1,8 @@
 //! Edges that come too soon, in words.
 
 use edge_timing::{EdgeNearest, EdgeTiming, EdgeViolation};
+use recording::Nanoseconds;
 use std::fmt;
-use timing_commands::Nanoseconds;
 
 /// An edge that comes too soon.
 #[derive(Clone, Copy)]

@@ -5,8 +5,8 @@ ghost use Rattle.seq_inputs.specs.declared.refusal.Refusal.{Refusal};
 ghost use Rattle.seq_inputs.specs.Inputs.{PageIsRefused};
 ghost use Rattle.seq_inputs.specs.Stops.{Tells};
 ghost use Rattle.seq_inputs.specs.Refusals.{line_of};
-ghost use Rattle.trace_commands.specs.declared.recording_fault.RecordingFault.{RecordingFault};
-ghost use Rattle.trace_commands.specs.Endings.{SaysOf};
+ghost use Rattle.recording.specs.declared.recording_fault.RecordingFault.{RecordingFault};
+ghost use Rattle.recording.specs.Endings.{SaysOf};
 ghost use Rattle.edge_timing.specs.Times.{AreEdgeBounded};
 ghost use Rattle.edge_timing.specs.Judged.{MayJudge};
 ghost use Rattle.edge_commands.specs.Edges.{fault_of, late_lines, AreEdgesJudged, AreJudgedIn, EdgesRefuse, EdgesTell, IsNotJudged, IsNotJudgedIn, MayNotBeJudged};
@@ -19,26 +19,24 @@ use edge_timing::{
     EdgeFault, EdgeJudge, EdgeRuler, EdgeTimes, EdgeViolation, Recorded, judge_edges,
 };
 use nand_geometry::Geometry;
+use recording::{Ending, RecordingFault, RecordingStop, end_stopped, mappings_of, see_capture};
 use seq_files::Files;
 use seq_inputs::{
     Console, Exit, Stop, Style, Words, end_without_memory, finish, geometry_in, read_file,
 };
-use std::alloc::Allocator;
+use std::alloc::Global;
 use std::io::Write;
-use trace_commands::{
-    Ending, RecordingFault, RecordingStop, end_stopped, mappings_of, see_capture,
-};
 use trace_timing::{PageTimes, TimingFault};
 
 // The edges of a capture, judged, and the timing modes that the page declares.
 #[derive(Drop)]
-struct JudgedEdges<A: Allocator> {
-    judge: EdgeJudge<A>,
+struct JudgedEdges {
+    judge: EdgeJudge<Global>,
     modes: u16,
 }
 
 // Why no edges of a capture are judged, for this reason.
-fn not_judged<'p, A: Allocator>(alloc: A, path: &'p str, why: &str) -> RecordingStop<'p, A>
+fn not_judged<'p>(alloc: Global, path: &'p str, why: &str) -> RecordingStop<'p>
     ensures { IsNotJudged result }
 {
     let fault = EdgeFault::Pause(TimingFault::NoTimes);
@@ -56,18 +54,18 @@ const OF_MODEL: &str =
 const NO_EDGES: &str = "no two edges of the capture can be compared";
 
 // Judges the edges of a capture that shows a trace.
-fn judge_capture<'p, A: Allocator + Clone>(
-    alloc: A,
+fn judge_capture<'p>(
+    alloc: Global,
     path: &'p str,
     ruler: EdgeRuler,
     setup: &Setup<'_>,
     capture: &[u8],
-) -> Result<EdgeJudge<A>, RecordingStop<'p, A>>
+) -> Result<EdgeJudge<Global>, RecordingStop<'p>>
     requires judging { MayJudge setup.now.targets ruler }
     ensures err { IfErr result MayNotBeJudged }
 {
-    let mut judge = EdgeJudge::new(alloc.clone()?, ruler);
-    match judge_edges(alloc.clone()?, &mut judge, setup, capture) {
+    let mut judge = EdgeJudge::new(alloc, ruler);
+    match judge_edges(alloc, &mut judge, setup, capture) {
         Ok(Recorded::Bus) if judge.has_judged => Ok(judge),
         Ok(Recorded::Bus) => Err(not_judged(alloc, path, NO_EDGES)),
         Ok(Recorded::Model) => Err(not_judged(alloc, path, OF_MODEL)),
@@ -79,20 +77,20 @@ fn judge_capture<'p, A: Allocator + Clone>(
 }
 
 // Reads a capture, and judges its edges by these times.
-fn judge_file<'p, A: Allocator + Clone, F: Files>(
-    alloc: A,
+fn judge_file<'p, F: Files>(
+    alloc: Global,
     files: &mut F,
     request: EdgeRequest<'p>,
     geometry: Geometry,
     times: EdgeTimes,
-) -> Result<EdgeJudge<A>, RecordingStop<'p, A>>
+) -> Result<EdgeJudge<Global>, RecordingStop<'p>>
     requires bounded { AreEdgeBounded times }
     ensures ok { IfOk result (λ _. AreJudgedIn (F.store files.old) request.entry geometry) }
     ensures err { IfErr result (SaysOf (λ _. ⊥) (IsNotJudgedIn (F.store files.old) request.entry geometry)) }
     ensures stays { F.store files.new ≡ F.store files.old }
 {
-    let capture = read_file(alloc.clone()?, files, request.input)?;
-    let mappings = mappings_of(alloc.clone()?, request.mappings)?;
+    let capture = read_file(alloc, files, request.input)?;
+    let mappings = mappings_of(alloc, request.mappings)?;
     let setup = Setup {
         form: request.form,
         geometry,
@@ -100,7 +98,7 @@ fn judge_file<'p, A: Allocator + Clone, F: Files>(
         mappings: mappings.as_slice(),
         glitch: 0,
     };
-    let _ = see_capture(alloc.clone()?, request.input, &setup, capture.as_slice())?;
+    let _ = see_capture(alloc, request.input, &setup, capture.as_slice())?;
     let Some(unit) = unit_of(request.unit, request.form, capture.as_slice()) else {
         return Err(not_judged(alloc, request.input, NO_UNIT));
     };
@@ -114,24 +112,19 @@ fn judge_file<'p, A: Allocator + Clone, F: Files>(
 }
 
 // Reads a page, a timing file and a capture, and judges its edges.
-fn judge_at<'p, A: Allocator + Clone, F: Files>(
-    alloc: A,
+fn judge_at<'p, F: Files>(
+    alloc: Global,
     files: &mut F,
     request: EdgeRequest<'p>,
-) -> Result<JudgedEdges<A>, RecordingStop<'p, A>>
+) -> Result<JudgedEdges, RecordingStop<'p>>
     ensures ok { IfOk result (λ _. AreEdgesJudged (F.store files.old) request.entry) }
     ensures err { IfErr result (SaysOf (PageIsRefused (F.store files.old) request.entry.page.now) (EdgesRefuse (F.store files.old) request.entry)) }
     ensures stays { F.store files.new ≡ F.store files.old }
 {
-    let page = read_file(alloc.clone()?, files, request.page)?;
-    let geometry = geometry_in(
-        alloc.clone()?,
-        request.profile,
-        request.page,
-        page.as_slice(),
-    )?;
+    let page = read_file(alloc, files, request.page)?;
+    let geometry = geometry_in(alloc, request.profile, request.page, page.as_slice())?;
     let page_times = PageTimes::read(page.as_slice());
-    let times = edge_times_at(alloc.clone()?, files, page_times, request.source)?;
+    let times = edge_times_at(alloc, files, page_times, request.source)?;
     let mut judge = judge_file(alloc, files, request, geometry, times)?;
     if !request.tells_all {
         judge.told.truncate(1);
@@ -143,11 +136,11 @@ fn judge_at<'p, A: Allocator + Clone, F: Files>(
 }
 
 // Prints the lines of edges that come too soon, of which this is the first, and says each in words.
-fn tell_late<A: Allocator + Clone, W: Write, E: Write, P>(
-    alloc: A,
+fn tell_late<W: Write, E: Write, P>(
+    alloc: Global,
     console: &mut Console<W, E, P>,
     request: EdgeRequest<'_>,
-    edges: &JudgedEdges<A>,
+    edges: &JudgedEdges,
     first: EdgeViolation,
 ) -> Ending
     ensures done { result ≡ Ending.Exit Exit.Done → ⊥ }
@@ -157,10 +150,7 @@ fn tell_late<A: Allocator + Clone, W: Write, E: Write, P>(
         × Appends (W.contents console.old.output) (W.contents console.new.output) (late_lines edges.now.judge.told.items) }
 {
     let late = edges.judge.told.as_slice();
-    let Ok(copy) = alloc.clone() else {
-        return Ending::Exit(end_without_memory(console));
-    };
-    let Ok(lines) = late_text(copy, late) else {
+    let Ok(lines) = late_text(alloc, late) else {
         return Ending::Exit(end_without_memory(console));
     };
     match finish(console, lines.as_str()) {
@@ -179,11 +169,11 @@ fn tell_late<A: Allocator + Clone, W: Write, E: Write, P>(
 }
 
 // Prints that the times are kept.
-fn tell_kept<A: Allocator + Clone, W: Write, E: Write, P>(
-    alloc: A,
+fn tell_kept<W: Write, E: Write, P>(
+    alloc: Global,
     console: &mut Console<W, E, P>,
     request: EdgeRequest<'_>,
-    edges: &JudgedEdges<A>,
+    edges: &JudgedEdges,
 ) -> Ending
     ensures done { result ≡ Ending.Exit Exit.Done → Appends (W.contents console.old.output) (W.contents console.new.output) (codes "kept\n") }
     ensures flagged { result ≡ Ending.Flagged → ⊥ }
@@ -209,8 +199,8 @@ fn tell_kept<A: Allocator + Clone, W: Write, E: Write, P>(
 /// the code of its [`EdgeTiming`](edge_timing::EdgeTiming) and N its time in the unit of the capture; or T0, where no two edges can be compared; or a G fault of the
 /// capture, or a fault of the timing file. `Refused`: a P fault of the page. The page is read first, then the timing file, then the capture. On the console's errors stands
 /// each in words, and where all are told how near the capture comes to each time.
-pub fn time_capture<A: Allocator + Clone, F: Files, W: Write, E: Write, P>(
-    alloc: A,
+pub fn time_capture<F: Files, W: Write, E: Write, P>(
+    alloc: Global,
     files: &mut F,
     console: &mut Console<W, E, P>,
     request: EdgeRequest<'_>,
@@ -226,10 +216,7 @@ pub fn time_capture<A: Allocator + Clone, F: Files, W: Write, E: Write, P>(
         × Appends (W.contents console.old.output) (W.contents console.new.output) printed }
     ensures stays { F.store files.new ≡ F.store files.old }
 {
-    let Ok(copy) = alloc.clone() else {
-        return Ending::Exit(end_without_memory(console));
-    };
-    match judge_at(copy, files, request) {
+    match judge_at(alloc, files, request) {
         Ok(edges) => match edges.judge.told.as_slice() {
             [] => tell_kept(alloc, console, request, &edges),
             [first, ..] => tell_late(alloc, console, request, &edges, *first),

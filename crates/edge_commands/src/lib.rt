@@ -1,6 +1,6 @@
 //! The command that judges the edges of a capture: what it does to files, what it prints, and how it ends.
 //!
-//! [`time_capture`] reads a capture of a bus as [`capture_trace`](trace_commands::capture_trace) does, and tells which edges come too soon after others
+//! [`time_capture`] reads a capture of a bus as `capture_trace` of `trace_commands` does, and tells which edges come too soon after others
 //! ([`edge_timing`]).
 #![tactic(auto)]
 

@@ -2,7 +2,7 @@
 
 use crate::listed_trace::ListedTrace;
 use onfi_cycle::{Item, Kind};
-use std::alloc::Allocator;
+use std::alloc::Global;
 use std::fmt;
 use trace_ops::{Beginning, Ending, Operation};
 
@@ -24,7 +24,7 @@ impl fmt::Display for Busy {
 }
 
 // Whether the item behind a ready is a status output of the same time: so `capture` writes a ready that it took from a status.
-fn is_from_status<A: Allocator>(trace: &ListedTrace<A>, at: usize) -> bool {
+fn is_from_status(trace: &ListedTrace, at: usize) -> bool {
     let next = at.saturating_add(1);
     match trace.item(next) {
         Some(Item::Cyc(cycle)) => {
@@ -37,13 +37,13 @@ fn is_from_status<A: Allocator>(trace: &ListedTrace<A>, at: usize) -> bool {
 }
 
 // The time from the beginning of work to an item.
-fn time_to<A: Allocator>(trace: &ListedTrace<A>, operation: Operation, at: usize) -> Option<u64> {
+fn time_to(trace: &ListedTrace, operation: Operation, at: usize) -> Option<u64> {
     let start = trace.time(operation.start?)?;
     Some(trace.time(at)?.saturating_sub(start))
 }
 
 // The least time: up to the last status byte that said busy.
-fn least_time<A: Allocator>(trace: &ListedTrace<A>, operation: Operation) -> Option<u64> {
+fn least_time(trace: &ListedTrace, operation: Operation) -> Option<u64> {
     match operation.last_busy {
         None => Some(0),
         Some(at) => time_to(trace, operation, at),
@@ -52,7 +52,7 @@ fn least_time<A: Allocator>(trace: &ListedTrace<A>, operation: Operation) -> Opt
 
 impl Busy {
     /// How long an operation's LUN was busy, where times tell it.
-    pub(crate) fn of<A: Allocator>(trace: &ListedTrace<A>, operation: Operation) -> Option<Busy> {
+    pub(crate) fn of(trace: &ListedTrace, operation: Operation) -> Option<Busy> {
         let (at, is_exact) = match operation.end? {
             Ending::Ready { at, .. } => (at, !is_from_status(trace, at)),
             Ending::Shown { at, .. } | Ending::NotShown { at } => (at, false),

@@ -3,7 +3,7 @@
 use crate::listed_trace::ListedTrace;
 use crate::place::Place;
 use onfi_cycle::{Cycle, Item, Kind};
-use std::alloc::{AllocError, Allocator};
+use std::alloc::{AllocError, Global};
 use trace_ops::Operation;
 
 // How many bytes stand in a line.
@@ -11,9 +11,9 @@ const LINE_BYTES: usize = 16;
 
 /// Data that stand in a row: the column of the first, and how many there are.
 #[derive(Drop)]
-pub(crate) struct Stretch<A: Allocator> {
+pub(crate) struct Stretch {
     pub(crate) column: u32,
-    pub(crate) bytes: Vec<u8, A>,
+    pub(crate) bytes: Vec<u8>,
 }
 
 // The column that an 85h gives, as far as its addresses came.
@@ -26,16 +26,16 @@ struct GivenColumn {
 
 /// The data of an operation, in stretches.
 #[derive(Drop)]
-pub(crate) struct Data<A: Allocator> {
-    pub(crate) stretches: Vec<Stretch<A>, A>,
+pub(crate) struct Data {
+    pub(crate) stretches: Vec<Stretch>,
     column: u32,
     given: GivenColumn,
     is_broken: bool,
 }
 
-impl<A: Allocator + Clone> Data<A> {
+impl Data {
     // Adds a byte.
-    fn push_byte(&mut self, alloc: A, byte: u8) -> Result<(), AllocError> {
+    fn push_byte(&mut self, alloc: Global, byte: u8) -> Result<(), AllocError> {
         if self.is_broken || self.stretches.is_empty() {
             self.stretches.push(Stretch {
                 column: self.column,
@@ -66,7 +66,7 @@ impl<A: Allocator + Clone> Data<A> {
     }
 
     // Goes on by a cycle of the operation.
-    fn take(&mut self, alloc: A, cycle: Cycle) -> Result<(), AllocError> {
+    fn take(&mut self, alloc: Global, cycle: Cycle) -> Result<(), AllocError> {
         match cycle.kind {
             Kind::Cmd => {
                 let left = if cycle.byte == 0x85 { 2 } else { 0 };
@@ -82,7 +82,7 @@ impl<A: Allocator + Clone> Data<A> {
     }
 
     // Goes on by an item of the operation.
-    fn take_item(&mut self, alloc: A, item: Option<Item>) -> Result<(), AllocError> {
+    fn take_item(&mut self, alloc: Global, item: Option<Item>) -> Result<(), AllocError> {
         match item {
             Some(Item::Cyc(cycle)) => self.take(alloc, cycle),
             Some(Item::Rdy { .. } | Item::Ard { .. }) | None => Ok(()),
@@ -91,31 +91,27 @@ impl<A: Allocator + Clone> Data<A> {
 
     /// The data of the operation of this number.
     pub(crate) fn of(
-        alloc: A,
-        trace: &ListedTrace<A>,
+        alloc: Global,
+        trace: &ListedTrace,
         number: usize,
         operation: Operation,
-    ) -> Result<Data<A>, AllocError> {
+    ) -> Result<Data, AllocError> {
         let place = Place::of(&trace.geometry, operation);
         let mut data = Data {
-            stretches: Vec::new(alloc.clone()?),
+            stretches: Vec::new(alloc),
             column: place.column.unwrap_or(0),
             given: GivenColumn { left: 0, column: 0 },
             is_broken: false,
         };
         for item in trace.groups.items(number) {
-            data.take_item(alloc.clone()?, trace.item(*item))?;
+            data.take_item(alloc, trace.item(*item))?;
         }
         Ok(data)
     }
 }
 
 // Adds a line of data, from this column on.
-fn push_line<A: Allocator>(
-    text: &mut String<A>,
-    column: usize,
-    bytes: &[u8],
-) -> Result<(), AllocError> {
+fn push_line(text: &mut String, column: usize, bytes: &[u8]) -> Result<(), AllocError> {
     write!(text, "{column:>28}:")?;
     for byte in bytes {
         write!(text, " {byte:02x}")?;
@@ -124,10 +120,7 @@ fn push_line<A: Allocator>(
 }
 
 // Adds the lines of a stretch.
-fn push_stretch<A: Allocator, B: Allocator>(
-    text: &mut String<A>,
-    stretch: &Stretch<B>,
-) -> Result<(), AllocError> {
+fn push_stretch(text: &mut String, stretch: &Stretch) -> Result<(), AllocError> {
     let mut column = stretch.column as usize;
     for bytes in stretch.bytes.as_slice().chunks(LINE_BYTES) {
         push_line(text, column, bytes)?;
@@ -137,10 +130,7 @@ fn push_stretch<A: Allocator, B: Allocator>(
 }
 
 /// Adds the data of an operation.
-pub(crate) fn push_data<A: Allocator>(
-    text: &mut String<A>,
-    data: &Data<A>,
-) -> Result<(), AllocError> {
+pub(crate) fn push_data(text: &mut String, data: &Data) -> Result<(), AllocError> {
     for stretch in data.stretches.iter() {
         push_stretch(text, stretch)?;
     }

@@ -1,7 +1,7 @@
 //! The faults beneath an operation.
 
 use crate::listed_trace::ListedTrace;
-use std::alloc::{AllocError, Allocator};
+use std::alloc::{AllocError, Global};
 use trace_faults::{BrokenRule, NotShown};
 
 // Blanks before what stands beneath a line.
@@ -21,10 +21,11 @@ impl Run {
     }
 
     // Adds its line.
-    fn push_line<A: Allocator>(self, text: &mut String<A>) -> Result<(), AllocError> {
+    fn push_line(self, text: &mut String, trace: &ListedTrace) -> Result<(), AllocError> {
         let BrokenRule { item, rule } = self.first;
         let code = rule.code();
-        let last = item.saturating_add(self.count.saturating_sub(1));
+        let last = trace.place(item.saturating_add(self.count.saturating_sub(1)));
+        let item = trace.place(item);
         if item == last {
             writeln!(text, "{INDENT}{code} at {item}: {rule}")
         } else {
@@ -34,8 +35,9 @@ impl Run {
 }
 
 // Goes on by a fault: the run that it belongs to. The line of one that has ended is added.
-fn go_on<A: Allocator>(
-    text: &mut String<A>,
+fn go_on(
+    text: &mut String,
+    trace: &ListedTrace,
     run: Option<Run>,
     fault: BrokenRule,
 ) -> Result<Run, AllocError> {
@@ -50,24 +52,25 @@ fn go_on<A: Allocator>(
             count: run.count.saturating_add(1),
         }),
         Some(run) => {
-            run.push_line(text)?;
+            run.push_line(text, trace)?;
             Ok(begun)
         }
     }
 }
 
 // Adds the faults of an operation.
-fn push_faults<A: Allocator>(
-    text: &mut String<A>,
+fn push_faults(
+    text: &mut String,
+    trace: &ListedTrace,
     faults: &[BrokenRule],
 ) -> Result<(), AllocError> {
     let mut run = None;
     for fault in faults {
-        run = Some(go_on(text, run, *fault)?);
+        run = Some(go_on(text, trace, run, *fault)?);
     }
     match run {
         None => Ok(()),
-        Some(run) => run.push_line(text),
+        Some(run) => run.push_line(text, trace),
     }
 }
 
@@ -90,11 +93,11 @@ fn not_shown_at(told: &[NotShown], item: usize) -> Option<NotShown> {
 }
 
 /// The faults of the items of an operation, in the order of time.
-pub(crate) fn faults_of<A: Allocator>(
-    alloc: A,
-    trace: &ListedTrace<A>,
+pub(crate) fn faults_of(
+    alloc: Global,
+    trace: &ListedTrace,
     number: usize,
-) -> Result<Vec<BrokenRule, A>, AllocError> {
+) -> Result<Vec<BrokenRule>, AllocError> {
     let mut faults = Vec::new(alloc);
     for item in trace.groups.items(number) {
         if let Some(fault) = fault_at(trace.faults.as_slice(), *item) {
@@ -105,26 +108,20 @@ pub(crate) fn faults_of<A: Allocator>(
 }
 
 // Adds what was taken for granted of an item.
-fn push_granted<A: Allocator>(
-    text: &mut String<A>,
-    trace: &ListedTrace<A>,
-    item: usize,
-) -> Result<(), AllocError> {
+fn push_granted(text: &mut String, trace: &ListedTrace, item: usize) -> Result<(), AllocError> {
     if let Some(granted) = fault_at(trace.granted.as_slice(), item) {
         let code = granted.rule.code();
+        let item = trace.place(item);
         writeln!(text, "{INDENT}at {item}: taken for granted (else {code})")?;
     }
     Ok(())
 }
 
 // Adds the LUN that was taken for ready before an item.
-fn push_not_shown<A: Allocator>(
-    text: &mut String<A>,
-    trace: &ListedTrace<A>,
-    item: usize,
-) -> Result<(), AllocError> {
+fn push_not_shown(text: &mut String, trace: &ListedTrace, item: usize) -> Result<(), AllocError> {
     if let Some(told) = not_shown_at(trace.not_shown.as_slice(), item) {
         let lun = told.ready.lun.lun;
+        let item = trace.place(item);
         writeln!(
             text,
             "{INDENT}at {item}: not shown ready: LUN {lun} is taken for ready here"
@@ -134,14 +131,14 @@ fn push_not_shown<A: Allocator>(
 }
 
 /// Adds what is wrong with an operation, and what was taken for granted.
-pub(crate) fn push_beneath<A: Allocator>(
-    text: &mut String<A>,
-    alloc: A,
-    trace: &ListedTrace<A>,
+pub(crate) fn push_beneath(
+    text: &mut String,
+    alloc: Global,
+    trace: &ListedTrace,
     number: usize,
 ) -> Result<(), AllocError> {
     let faults = faults_of(alloc, trace, number)?;
-    push_faults(text, faults.as_slice())?;
+    push_faults(text, trace, faults.as_slice())?;
     for item in trace.groups.items(number) {
         push_granted(text, trace, *item)?;
         push_not_shown(text, trace, *item)?;

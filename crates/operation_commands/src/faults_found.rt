@@ -1,17 +1,17 @@
 //! What is wrong with the items of a trace.
 
-use std::alloc::{AllocError, Allocator};
+use std::alloc::{AllocError, Global};
 use trace_faults::{BrokenRule, NotShown, Verdict};
 
 /// What is wrong with a trace, and what was taken for granted or for ready.
 #[derive(Drop)]
-pub(crate) struct FaultsFound<A: Allocator> {
-    pub(crate) faults: Vec<BrokenRule, A>,
-    pub(crate) granted: Vec<BrokenRule, A>,
-    pub(crate) not_shown: Vec<NotShown, A>,
+pub(crate) struct FaultsFound {
+    pub(crate) faults: Vec<BrokenRule>,
+    pub(crate) granted: Vec<BrokenRule>,
+    pub(crate) not_shown: Vec<NotShown>,
 }
 
-impl<A: Allocator> FaultsFound<A> {
+impl FaultsFound {
     // Notes what is said of an item.
     fn note(&mut self, item: usize, said: Verdict) -> Result<(), AllocError> {
         match said {
@@ -24,12 +24,12 @@ impl<A: Allocator> FaultsFound<A> {
     }
 }
 
-impl<A: Allocator + Clone> FaultsFound<A> {
+impl FaultsFound {
     /// That of which this is said, item by item.
-    pub(crate) fn of(alloc: A, verdicts: &[Verdict]) -> Result<FaultsFound<A>, AllocError> {
+    pub(crate) fn of(alloc: Global, verdicts: &[Verdict]) -> Result<FaultsFound, AllocError> {
         let mut found = FaultsFound {
-            faults: Vec::new(alloc.clone()?),
-            granted: Vec::new(alloc.clone()?),
+            faults: Vec::new(alloc),
+            granted: Vec::new(alloc),
             not_shown: Vec::new(alloc),
         };
         for (item, said) in verdicts.iter().enumerate() {

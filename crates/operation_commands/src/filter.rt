@@ -3,7 +3,7 @@
 use crate::listed_trace::ListedTrace;
 use crate::ops_request::{OpsFilter, OpsForm, OpsRequest, OpsText};
 use crate::place::Place;
-use std::alloc::{AllocError, Allocator};
+use std::alloc::{AllocError, Global};
 use trace_ops::Operation;
 
 // A name is among those, with commas between.
@@ -47,10 +47,10 @@ fn has_polls(form: OpsForm) -> bool {
 }
 
 /// Whether an operation is printed.
-pub(crate) fn is_printed<A: Allocator + Clone>(
-    alloc: A,
+pub(crate) fn is_printed(
+    alloc: Global,
     request: OpsRequest<'_>,
-    trace: &ListedTrace<A>,
+    trace: &ListedTrace,
     operation: Operation,
 ) -> Result<bool, AllocError> {
     if operation.is_folded() && !has_polls(request.form) {
@@ -69,7 +69,7 @@ pub(crate) fn is_printed<A: Allocator + Clone>(
         is_none_or(filter.lun.map(|asked| asked.0), Some(operation.ce))
             && is_none_or(filter.lun.map(|asked| asked.1), lun)
             && is_none_or(filter.block, place.block())
-            && is_item_within(filter.items, operation.first)
+            && is_item_within(filter.items, trace.place(operation.first))
             && is_within(filter, trace.time(operation.first)),
     )
 }

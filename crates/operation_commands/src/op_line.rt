@@ -3,7 +3,7 @@
 use crate::busy::{Busy, End, status_of};
 use crate::listed_trace::ListedTrace;
 use crate::place::Place;
-use std::alloc::{AllocError, Allocator};
+use std::alloc::{AllocError, Global};
 use std::fmt;
 use trace_ops::Operation;
 
@@ -30,18 +30,15 @@ impl fmt::Display for OrDash<u8> {
 }
 
 // What is said before a detail: a blank before the first, a semicolon before each other.
-fn push_separator<A: Allocator>(
-    line: &mut String<A>,
-    is_first: &mut bool,
-) -> Result<(), AllocError> {
+fn push_separator(line: &mut String, is_first: &mut bool) -> Result<(), AllocError> {
     let separator = if *is_first { " " } else { "; " };
     *is_first = false;
     line.push_str(separator)
 }
 
 // Adds a count of a thing, if there is one.
-fn push_count<A: Allocator>(
-    line: &mut String<A>,
+fn push_count(
+    line: &mut String,
     is_first: &mut bool,
     name: &str,
     count: u64,
@@ -54,9 +51,10 @@ fn push_count<A: Allocator>(
 }
 
 // Adds how an operation ended.
-fn push_end<A: Allocator>(
-    line: &mut String<A>,
+fn push_end(
+    line: &mut String,
     is_first: &mut bool,
+    trace: &ListedTrace,
     operation: Operation,
 ) -> Result<(), AllocError> {
     let end = End::of(operation);
@@ -68,7 +66,7 @@ fn push_end<A: Allocator>(
     match end {
         None => {}
         Some(End::NotShown) => line.push_str("ready, not shown")?,
-        Some(End::Abandoned(at)) => write!(line, "abandoned at {at}")?,
+        Some(End::Abandoned(at)) => write!(line, "abandoned at {}", trace.place(at))?,
         Some(end) => line.push_str(end.word())?,
     }
     match (end, status) {
@@ -79,20 +77,20 @@ fn push_end<A: Allocator>(
 }
 
 // The name of an operation.
-fn name_of<A: Allocator>(alloc: A, operation: Operation) -> Result<String<A>, AllocError> {
+fn name_of(alloc: Global, operation: Operation) -> Result<String, AllocError> {
     let name = operation.name();
     format!(in alloc; "{name}")
 }
 
 // Adds a name, which has 16 places.
-fn push_name<A: Allocator>(line: &mut String<A>, name: &str) -> Result<(), AllocError> {
+fn push_name(line: &mut String, name: &str) -> Result<(), AllocError> {
     write!(line, "{name:<16}")
 }
 
 // Adds what there is to be said of an operation.
-fn push_details<A: Allocator>(
-    line: &mut String<A>,
-    trace: &ListedTrace<A>,
+fn push_details(
+    line: &mut String,
+    trace: &ListedTrace,
     operation: Operation,
     place: Place,
 ) -> Result<(), AllocError> {
@@ -108,21 +106,22 @@ fn push_details<A: Allocator>(
         write!(line, "{busy}")?;
     }
     push_count(line, &mut is_first, "polls", operation.polls)?;
-    push_end(line, &mut is_first, operation)
+    push_end(line, &mut is_first, trace, operation)
 }
 
 /// Adds the line of an operation.
-pub(crate) fn push_line<A: Allocator + Clone>(
-    text: &mut String<A>,
-    alloc: A,
-    trace: &ListedTrace<A>,
+pub(crate) fn push_line(
+    text: &mut String,
+    alloc: Global,
+    trace: &ListedTrace,
     operation: Operation,
 ) -> Result<(), AllocError> {
     let place = Place::of(&trace.geometry, operation);
     let lun = OrDash(place.lun_of(&trace.geometry, operation));
     let time = OrDash(trace.time(operation.first));
-    let Operation { first, ce, .. } = operation;
-    let name = name_of(alloc.clone()?, operation)?;
+    let ce = operation.ce;
+    let first = trace.place(operation.first);
+    let name = name_of(alloc, operation)?;
     let mut line = String::new(alloc);
     write!(&mut line, "{first:>8} {time}  {ce}.{lun}  ")?;
     push_name(&mut line, name.as_str())?;

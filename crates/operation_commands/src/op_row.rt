@@ -5,7 +5,7 @@ use crate::data_lines::{Data, Stretch};
 use crate::fault_lines::faults_of;
 use crate::listed_trace::ListedTrace;
 use crate::place::Place;
-use std::alloc::{AllocError, Allocator};
+use std::alloc::{AllocError, Global};
 use std::fmt;
 use trace_faults::BrokenRule;
 use trace_ops::Operation;
@@ -22,8 +22,8 @@ enum RowForm {
 }
 
 // Adds a field: in CSV one more comma, in JSON the key with its value, if there is one.
-fn push_field<A: Allocator, D: fmt::Display + Drop>(
-    row: &mut String<A>,
+fn push_field<D: fmt::Display + Drop>(
+    row: &mut String,
     form: RowForm,
     name: &str,
     value: Option<D>,
@@ -63,10 +63,10 @@ impl fmt::Display for Hexadecimal {
 }
 
 // Adds where an operation stands.
-fn push_front<A: Allocator>(
-    row: &mut String<A>,
+fn push_front(
+    row: &mut String,
     form: RowForm,
-    trace: &ListedTrace<A>,
+    trace: &ListedTrace,
     operation: Operation,
 ) -> Result<(), AllocError> {
     let place = Place::of(&trace.geometry, operation);
@@ -74,8 +74,8 @@ fn push_front<A: Allocator>(
         form,
         text: operation.name(),
     };
-    push_field(row, form, "item", Some(operation.first))?;
-    push_field(row, form, "last", Some(operation.last))?;
+    push_field(row, form, "item", Some(trace.place(operation.first)))?;
+    push_field(row, form, "last", Some(trace.place(operation.last)))?;
     push_field(row, form, "time", trace.time(operation.first))?;
     push_field(row, form, "ce", Some(operation.ce))?;
     push_field(row, form, "lun", place.lun_of(&trace.geometry, operation))?;
@@ -87,10 +87,10 @@ fn push_front<A: Allocator>(
 }
 
 // Adds what it did.
-fn push_back<A: Allocator>(
-    row: &mut String<A>,
+fn push_back(
+    row: &mut String,
     form: RowForm,
-    trace: &ListedTrace<A>,
+    trace: &ListedTrace,
     operation: Operation,
 ) -> Result<(), AllocError> {
     let busy = Busy::of(trace, operation);
@@ -105,8 +105,8 @@ fn push_back<A: Allocator>(
     push_field(row, form, "in", Some(operation.inputs))?;
     push_field(row, form, "out", Some(operation.outputs))?;
     push_field(row, form, "polls", Some(operation.polls))?;
-    push_field(row, form, "start", operation.start)?;
-    push_field(row, form, "ready", end_item(operation))?;
+    push_field(row, form, "start", trace.place_if(operation.start))?;
+    push_field(row, form, "ready", trace.place_if(end_item(operation)))?;
     push_field(row, form, "busy_least", busy.map(|busy| busy.least))?;
     push_field(row, form, "busy_most", busy.map(|busy| busy.most))?;
     push_field(row, form, "end", end)?;
@@ -114,21 +114,28 @@ fn push_back<A: Allocator>(
 }
 
 // Adds the faults of a row of CSV: `F8@3 F6@4`.
-fn push_fault_field<A: Allocator>(
-    row: &mut String<A>,
+fn push_fault_field(
+    row: &mut String,
+    trace: &ListedTrace,
     faults: &[BrokenRule],
 ) -> Result<(), AllocError> {
     let mut separator = "";
     for fault in faults {
-        write!(row, "{separator}{}@{}", fault.rule.code(), fault.item)?;
+        write!(
+            row,
+            "{separator}{}@{}",
+            fault.rule.code(),
+            trace.place(fault.item)
+        )?;
         separator = " ";
     }
     Ok(())
 }
 
 // Adds the faults of an object, if there are some.
-fn push_fault_objects<A: Allocator>(
-    row: &mut String<A>,
+fn push_fault_objects(
+    row: &mut String,
+    trace: &ListedTrace,
     faults: &[BrokenRule],
 ) -> Result<(), AllocError> {
     if faults.is_empty() {
@@ -140,7 +147,7 @@ fn push_fault_objects<A: Allocator>(
         write!(
             row,
             "{separator}{{\"item\":{},\"code\":\"{code}\"}}",
-            fault.item
+            trace.place(fault.item)
         )?;
         separator = ",";
     }
@@ -148,10 +155,7 @@ fn push_fault_objects<A: Allocator>(
 }
 
 // Adds a stretch of data.
-fn push_stretch<A: Allocator, B: Allocator>(
-    row: &mut String<A>,
-    stretch: &Stretch<B>,
-) -> Result<(), AllocError> {
+fn push_stretch(row: &mut String, stretch: &Stretch) -> Result<(), AllocError> {
     write!(row, "{{\"column\":{},\"bytes\":\"", stretch.column)?;
     for byte in stretch.bytes.iter() {
         write!(row, "{byte:02x}")?;
@@ -160,7 +164,7 @@ fn push_stretch<A: Allocator, B: Allocator>(
 }
 
 // Adds the data of an object, if there are some.
-fn push_data<A: Allocator>(row: &mut String<A>, data: &Data<A>) -> Result<(), AllocError> {
+fn push_data(row: &mut String, data: &Data) -> Result<(), AllocError> {
     if data.stretches.is_empty() {
         return Ok(());
     }
@@ -174,15 +178,15 @@ fn push_data<A: Allocator>(row: &mut String<A>, data: &Data<A>) -> Result<(), Al
 }
 
 // The object without the comma behind its last key.
-fn push_object<A: Allocator>(text: &mut String<A>, row: &str) -> Result<(), AllocError> {
+fn push_object(text: &mut String, row: &str) -> Result<(), AllocError> {
     writeln!(text, "{{{}}}", row.strip_suffix(',').unwrap_or(row))
 }
 
 // Adds what stands in front of the faults.
-fn push_fields<A: Allocator>(
-    row: &mut String<A>,
+fn push_fields(
+    row: &mut String,
     form: RowForm,
-    trace: &ListedTrace<A>,
+    trace: &ListedTrace,
     operation: Operation,
 ) -> Result<(), AllocError> {
     push_front(row, form, trace, operation)?;
@@ -190,25 +194,25 @@ fn push_fields<A: Allocator>(
 }
 
 /// Adds the row of an operation in CSV.
-pub(crate) fn push_csv<A: Allocator + Clone>(
-    text: &mut String<A>,
-    alloc: A,
-    trace: &ListedTrace<A>,
+pub(crate) fn push_csv(
+    text: &mut String,
+    alloc: Global,
+    trace: &ListedTrace,
     number: usize,
     operation: Operation,
 ) -> Result<(), AllocError> {
-    let mut row = String::new(alloc.clone()?);
+    let mut row = String::new(alloc);
     push_fields(&mut row, RowForm::Csv, trace, operation)?;
     let faults = faults_of(alloc, trace, number)?;
-    push_fault_field(&mut row, faults.as_slice())?;
+    push_fault_field(&mut row, trace, faults.as_slice())?;
     writeln!(text, "{}", row.as_str())
 }
 
 // Adds the data of an operation.
-fn push_its_data<A: Allocator + Clone>(
-    row: &mut String<A>,
-    alloc: A,
-    trace: &ListedTrace<A>,
+fn push_its_data(
+    row: &mut String,
+    alloc: Global,
+    trace: &ListedTrace,
     number: usize,
     operation: Operation,
 ) -> Result<(), AllocError> {
@@ -217,18 +221,18 @@ fn push_its_data<A: Allocator + Clone>(
 }
 
 /// Adds an operation as an object of JSON, with its data where they are asked for.
-pub(crate) fn push_json<A: Allocator + Clone>(
-    text: &mut String<A>,
-    alloc: A,
-    trace: &ListedTrace<A>,
+pub(crate) fn push_json(
+    text: &mut String,
+    alloc: Global,
+    trace: &ListedTrace,
     number: usize,
     operation: Operation,
     has_bytes: bool,
 ) -> Result<(), AllocError> {
-    let mut row = String::new(alloc.clone()?);
+    let mut row = String::new(alloc);
     push_fields(&mut row, RowForm::Json, trace, operation)?;
-    let faults = faults_of(alloc.clone()?, trace, number)?;
-    push_fault_objects(&mut row, faults.as_slice())?;
+    let faults = faults_of(alloc, trace, number)?;
+    push_fault_objects(&mut row, trace, faults.as_slice())?;
     if has_bytes {
         push_its_data(&mut row, alloc, trace, number, operation)?;
     }

@@ -1,15 +1,15 @@
 //! The command that lists the operations of a trace.
-ghost use Rattle.std.specs.Prelude.{◌≡◌, ℕ, List, Ok, IfOk, IfErr};
+ghost use Rattle.std.specs.Prelude.{◌≡◌, ℕ, true, List, IfOk, IfErr};
 ghost use Rattle.std.specs.Io.KnownBytes.{Appends};
 ghost use Rattle.seq_inputs.specs.declared.refusal.Refusal.{Refusal};
 ghost use Rattle.seq_inputs.specs.Inputs.{PageIsRefused};
 ghost use Rattle.seq_inputs.specs.Refusals.{line_of};
 ghost use Rattle.seq_inputs.specs.Stops.{Tells};
-ghost use Rattle.trace_text.specs.Recorded.{recorded_items};
-ghost use Rattle.trace_commands.specs.declared.recording_fault.RecordingFault.{RecordingFault};
-ghost use Rattle.trace_commands.specs.Endings.{SaysOf};
-ghost use Rattle.trace_commands.specs.Recordings.{fault_line};
-ghost use Rattle.operation_commands.specs.Ops.{CanBeListed, RefusesText, IsNoTrace};
+ghost use Rattle.recording.specs.declared.recording_fault.RecordingFault.{RecordingFault};
+ghost use Rattle.recording.specs.Endings.{SaysOf};
+ghost use Rattle.recording.specs.Recordings.{fault_line};
+ghost use Rattle.recording.specs.Traces.{TraceIsRefused};
+ghost use Rattle.operation_commands.specs.Ops.{CanBeListed};
 
 use crate::busy::Busy;
 use crate::data_lines::{Data, push_data};
@@ -23,84 +23,40 @@ use crate::op_row::{NAMES, push_csv, push_json};
 use crate::ops_request::{OpsForm, OpsRequest, OpsText};
 use crate::overlap::Overlap;
 use crate::summary::Summary;
-use nand_geometry::{Geometry, Profile};
-use onfi_cycle::Item;
-use seq_files::Files;
-use seq_inputs::{
-    Console, Exit, Stop, Style, end_without_memory, finish, geometry_as, read_file, text_of,
+use nand_geometry::Geometry;
+use recording::{
+    Ending, KeptTrace, RecordingStop, TraceView, end_stopped, keep_timed, read_timed, steps_at,
 };
-use std::alloc::{AllocError, Allocator};
+use seq_files::Files;
+use seq_inputs::{Console, Exit, Style, finish, geometry_as, read_file, text_of};
+use std::alloc::{AllocError, Global};
 use std::io::Write;
-use trace_commands::{Ending, RecordingFault, RecordingStop, end_stopped, words_of_trace};
 use trace_faults::Readies;
 use trace_ops::{Operation, Operations, find_operations};
-use trace_text::{RecordedItem, TraceForm, TraceRefusal, parse_timed};
-
-// The items of the text of a trace, with their times.
-fn read_items<'p, A: Allocator + Clone>(
-    alloc: A,
-    path: &'p str,
-    text: &str,
-    profile: Profile,
-) -> Result<Vec<RecordedItem, A>, RecordingStop<'p, A>>
-    ensures ok { IfOk result (λ items. recorded_items profile text.now ≡ Ok items.items) }
-    ensures err { IfErr result (SaysOf (λ _. ⊥) (RefusesText profile text.now)) }
-{
-    match parse_timed(alloc.clone()?, text, profile) {
-        Ok(items) => Ok(items),
-        Err(TraceRefusal::Fault { fault, line }) => {
-            let words = words_of_trace(
-                alloc,
-                path,
-                text,
-                TraceForm::Recorded,
-                profile,
-                fault,
-                line,
-            );
-            Err(RecordingStop::Faulty {
-                fault: RecordingFault::Trace { fault, line },
-                words,
-            })
-        }
-        Err(TraceRefusal::OutOfMemory) => Err(RecordingStop::Stop(Stop::OutOfMemory)),
-    }
-}
 
 // The operations of a trace, and what is said of them.
-fn list_items<A: Allocator + Clone>(
-    alloc: A,
-    request: OpsRequest<'_>,
-    geometry: &Geometry,
-    found: Vec<RecordedItem, A>,
-) -> Result<ListedTrace<A>, AllocError> {
-    let items: Vec<Item, A> = found
-        .iter()
-        .map(|found| found.item)
-        .collect(alloc.clone()?)?;
-    let items = items.as_slice();
-    let targets = request.targets.count();
+fn list_items(alloc: Global, view: TraceView, kept: KeptTrace) -> Result<ListedTrace, AllocError> {
     let Operations {
         operations,
         marks,
         verdicts,
     } = find_operations(
-        alloc.clone()?,
-        geometry,
-        targets,
-        items,
-        Readies::Shown,
-        request.beginning,
+        alloc,
+        &view.geometry,
+        view.targets.count(),
+        kept.items(),
+        view.readies,
+        view.beginning,
     )?;
-    let groups = ItemGroups::of(alloc.clone()?, marks.as_slice(), operations.len())?;
+    let groups = ItemGroups::of(alloc, marks.as_slice(), operations.len())?;
     let FaultsFound {
         faults,
         granted,
         not_shown,
     } = FaultsFound::of(alloc, verdicts.as_slice())?;
     Ok(ListedTrace {
-        geometry: *geometry,
-        items: found,
+        geometry: view.geometry,
+        kept,
         operations,
         groups,
         faults,
@@ -110,16 +66,16 @@ fn list_items<A: Allocator + Clone>(
 }
 
 // Adds an operation in lines for people.
-fn push_text<A: Allocator + Clone>(
-    text: &mut String<A>,
-    alloc: A,
+fn push_text(
+    text: &mut String,
+    alloc: Global,
     form: OpsText,
-    trace: &ListedTrace<A>,
+    trace: &ListedTrace,
     number: usize,
     operation: Operation,
 ) -> Result<(), AllocError> {
-    push_line(text, alloc.clone()?, trace, operation)?;
-    push_beneath(text, alloc.clone()?, trace, number)?;
+    push_line(text, alloc, trace, operation)?;
+    push_beneath(text, alloc, trace, number)?;
     if form.has_bytes {
         let data = Data::of(alloc, trace, number, operation)?;
         push_data(text, &data)?;
@@ -128,11 +84,11 @@ fn push_text<A: Allocator + Clone>(
 }
 
 // Adds an operation.
-fn push_operation<A: Allocator + Clone>(
-    text: &mut String<A>,
-    alloc: A,
+fn push_operation(
+    text: &mut String,
+    alloc: Global,
     form: OpsForm,
-    trace: &ListedTrace<A>,
+    trace: &ListedTrace,
     number: usize,
     operation: Operation,
 ) -> Result<(), AllocError> {
@@ -154,12 +110,12 @@ fn head_of(form: OpsForm) -> &'static str {
 }
 
 // Adds how many there are, where that is asked for.
-fn push_summary<A: Allocator>(
-    text: &mut String<A>,
-    alloc: A,
+fn push_summary(
+    text: &mut String,
+    alloc: Global,
     form: OpsForm,
-    trace: &ListedTrace<A>,
-    summary: &Summary<A>,
+    trace: &ListedTrace,
+    summary: &Summary,
 ) -> Result<(), AllocError> {
     let OpsForm::Text(
         OpsText {
@@ -178,24 +134,17 @@ fn push_summary<A: Allocator>(
 }
 
 // What is printed of a trace.
-fn text_of_trace<A: Allocator + Clone>(
-    alloc: A,
+fn text_of_trace(
+    alloc: Global,
     request: OpsRequest<'_>,
-    trace: &ListedTrace<A>,
-) -> Result<String<A>, AllocError> {
-    let mut text = String::new(alloc.clone()?);
+    trace: &ListedTrace,
+) -> Result<String, AllocError> {
+    let mut text = String::new(alloc);
     text.push_str(head_of(request.form))?;
-    let mut summary = Summary::nothing(alloc.clone()?);
+    let mut summary = Summary::nothing(alloc);
     for (number, operation) in trace.operations.iter().enumerate() {
-        if is_printed(alloc.clone()?, request, trace, *operation)? {
-            push_operation(
-                &mut text,
-                alloc.clone()?,
-                request.form,
-                trace,
-                number,
-                *operation,
-            )?;
+        if is_printed(alloc, request, trace, *operation)? {
+            push_operation(&mut text, alloc, request.form, trace, number, *operation)?;
             summary.take(*operation, Busy::of(trace, *operation))?;
         }
     }
@@ -203,50 +152,69 @@ fn text_of_trace<A: Allocator + Clone>(
     Ok(text)
 }
 
-// Reads a page and the text of a trace: what is printed of its operations.
-fn list_at<'p, A: Allocator + Clone, F: Files>(
-    alloc: A,
+// How the trace is looked at.
+fn view_of(request: OpsRequest<'_>, geometry: Geometry) -> TraceView {
+    TraceView {
+        geometry,
+        targets: request.trace.targets,
+        readies: Readies::Shown,
+        beginning: request.beginning,
+    }
+}
+
+// Reads a page, a vendor file and the text of a trace: what is printed of its operations.
+fn list_at<'p, F: Files>(
+    alloc: Global,
     files: &mut F,
     request: OpsRequest<'p>,
-) -> Result<String<A>, RecordingStop<'p, A>>
+) -> Result<String, RecordingStop<'p>>
     ensures ok { IfOk result (λ _. CanBeListed (F.store files.old) request.entry) }
-    ensures err { IfErr result (SaysOf (PageIsRefused (F.store files.old) request.entry.page.now) (IsNoTrace (F.store files.old) request.entry.profile request.entry.input.now)) }
+    ensures err { IfErr result (SaysOf (PageIsRefused (F.store files.old) request.entry.trace.page.now) (TraceIsRefused (F.store files.old) true request.entry.trace)) }
     ensures stays { F.store files.new ≡ F.store files.old }
 {
-    let geometry = geometry_as(alloc.clone()?, files, request.profile, request.page)?;
-    let bytes = read_file(alloc.clone()?, files, request.input)?;
-    let text = text_of(request.input, bytes.as_slice())?;
-    let items = read_items(alloc.clone()?, request.input, text, request.profile)?;
-    let trace = list_items(alloc.clone()?, request, &geometry, items)?;
-    Ok(text_of_trace(alloc, request, &trace)?)
+    let trace = request.trace;
+    let geometry = geometry_as(alloc, files, trace.profile, trace.page)?;
+    let steps = match steps_at(alloc, files, trace.profile, trace.vendor) {
+        Ok(steps) => steps,
+        Err(stop) => return Err(stop),
+    };
+    let bytes = read_file(alloc, files, trace.input)?;
+    let text = text_of(trace.input, bytes.as_slice())?;
+    let timed = match read_timed(alloc, trace.input, text, trace.profile) {
+        Ok(timed) => timed,
+        Err(stop) => return Err(stop),
+    };
+    let view = view_of(request, geometry);
+    let kept = keep_timed(alloc, steps.as_slice(), &view, timed)?;
+    let listed = list_items(alloc, view, kept)?;
+    Ok(text_of_trace(alloc, request, &listed)?)
 }
 
 /// Lists the operations of a trace on a channel of so many targets of the geometry of a parameter page ([`find_operations`]): a line for each, and beneath it its
-/// faults. The trace is read in the recorded form, with the readies that are written, that status outputs show and that cycles need. It needn't be legal.
+/// faults, but for what belongs to a vendor's sequences, where a vendor file is given. The trace is read in the recorded form, with the readies that are written, that
+/// status outputs show and that cycles need. It needn't be legal.
 ///
-/// `Done`: they are printed. `Refused`: the line `refused NAME at N` is printed, a P fault of the page. `Faulty`: so is it, an X fault of the text with its line.
+/// `Done`: they are printed. `Refused`: the line `refused NAME at N` is printed, a P fault of the page. `Faulty`: so is it, an N fault of the vendor file or
+/// an X fault of the text, with its line.
 /// `FileFault`: a file couldn't be read, the text isn't UTF-8, or the output couldn't be written. No file changes.
-pub fn list_operations<A: Allocator + Clone, F: Files, W: Write, E: Write, P>(
-    alloc: A,
+pub fn list_operations<F: Files, W: Write, E: Write, P>(
+    alloc: Global,
     files: &mut F,
     console: &mut Console<W, E, P>,
     request: OpsRequest<'_>,
 ) -> Ending
     ensures done { result ≡ Ending.Exit Exit.Done → (printed : List ℕ) × CanBeListed (F.store files.old) request.entry
         × Appends (W.contents console.old.output) (W.contents console.new.output) printed }
-    ensures assumed { result ≡ Ending.Flagged → ⊥ }
+    ensures flagged { result ≡ Ending.Flagged → ⊥ }
     ensures refused { (refusal : Refusal) → result ≡ Ending.Exit (Exit.Refused refusal)
-        → Tells (PageIsRefused (F.store files.old) request.entry.page.now) refusal
+        → Tells (PageIsRefused (F.store files.old) request.entry.trace.page.now) refusal
         × Appends (W.contents console.old.output) (W.contents console.new.output) (line_of refusal) }
     ensures faulty { (fault : RecordingFault) → result ≡ Ending.Faulty fault
-        → IsNoTrace (F.store files.old) request.entry.profile request.entry.input.now fault
+        → TraceIsRefused (F.store files.old) true request.entry.trace fault
         × Appends (W.contents console.old.output) (W.contents console.new.output) (fault_line fault) }
     ensures stays { F.store files.new ≡ F.store files.old }
 {
-    let Ok(copy) = alloc.clone() else {
-        return Ending::Exit(end_without_memory(console));
-    };
-    match list_at(copy, files, request) {
+    match list_at(alloc, files, request) {
         Ok(text) => Ending::Exit(finish(console, text.as_str())),
         Err(stop) => end_stopped(alloc, console, Style::Plain, stop),
     }

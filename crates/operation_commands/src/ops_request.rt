@@ -1,7 +1,6 @@
 //! What a list of operations is asked for.
 
-use nand_geometry::Profile;
-use trace_commands::Targets;
+use recording::TraceRequest;
 use trace_faults::Beginning;
 
 /// What a list for people has besides its lines.
@@ -40,16 +39,10 @@ pub struct OpsFilter<'a> {
     pub to: Option<u64>,
 }
 
-/// What a list of operations is asked for. `-` as a path that is read is standard input.
+/// What a list of operations is asked for: of a trace whose text is in the recorded form.
 #[derive(Clone, Copy, Debug, PartialEq, Eq)]
 pub struct OpsRequest<'a> {
-    /// The parameter page of each die.
-    pub page: &'a str,
-    /// What the page is read for.
-    pub profile: Profile,
-    pub targets: Targets,
-    /// The text of the trace, in the recorded form.
-    pub input: &'a str,
+    pub trace: TraceRequest<'a>,
     /// Where the recording of the trace begins.
     pub beginning: Beginning,
     pub form: OpsForm,

@@ -3,7 +3,7 @@
 use crate::busy::end_item;
 use crate::listed_trace::ListedTrace;
 use onfi_cycle::Item;
-use std::alloc::{AllocError, Allocator};
+use std::alloc::{AllocError, Global};
 use std::fmt;
 use trace_ops::{Ending, Operation};
 
@@ -23,10 +23,10 @@ pub(crate) struct Overlap {
 }
 
 // The times of a trace where each item has one, and none falls: the first and the last.
-fn ends_of<A: Allocator>(trace: &ListedTrace<A>) -> Option<(u64, u64)> {
+fn ends_of(trace: &ListedTrace) -> Option<(u64, u64)> {
     let first = trace.time(0)?;
     let mut last = first;
-    for found in trace.items.iter() {
+    for found in trace.timed().iter() {
         let time = found.time?;
         if time < last {
             return None;
@@ -37,7 +37,7 @@ fn ends_of<A: Allocator>(trace: &ListedTrace<A>) -> Option<(u64, u64)> {
 }
 
 // The time at which work ended; that of the end of the trace, where it wasn't seen to end.
-fn end_time<A: Allocator>(trace: &ListedTrace<A>, operation: Operation, last: u64) -> u64 {
+fn end_time(trace: &ListedTrace, operation: Operation, last: u64) -> u64 {
     let at = match operation.end {
         Some(Ending::Abandoned { at }) => Some(at),
         Some(_) | None => end_item(operation),
@@ -50,11 +50,7 @@ fn end_time<A: Allocator>(trace: &ListedTrace<A>, operation: Operation, last: u6
 
 // The times at which work begins (false) and ends (true), in the order of time. Beginnings stand before the ends of the same time, so that work of no length ends
 // after it has begun.
-fn edges_of<A: Allocator>(
-    alloc: A,
-    trace: &ListedTrace<A>,
-    last: u64,
-) -> Result<Vec<(u64, bool), A>, AllocError> {
+fn edges_of(alloc: Global, trace: &ListedTrace, last: u64) -> Result<Vec<(u64, bool)>, AllocError> {
     let mut edges = Vec::new(alloc);
     for operation in trace.operations.iter() {
         if let Some(start) = operation.start {
@@ -69,11 +65,11 @@ fn edges_of<A: Allocator>(
 }
 
 // The least time between two cycles in a row, and how many cycles there are.
-fn measure_cycles<A: Allocator>(trace: &ListedTrace<A>) -> (u64, u64) {
+fn measure_cycles(trace: &ListedTrace) -> (u64, u64) {
     let mut before: Option<u64> = None;
     let mut least: Option<u64> = None;
     let mut count: u64 = 0;
-    for found in trace.items.iter() {
+    for found in trace.timed().iter() {
         if let Item::Cyc(_) = found.item {
             count = count.saturating_add(1);
             let step = match (before, found.time) {
@@ -118,10 +114,7 @@ impl Overlap {
     }
 
     /// Those of a trace, where each item has a time, none falls, and the last is later than the first.
-    pub(crate) fn of<A: Allocator>(
-        alloc: A,
-        trace: &ListedTrace<A>,
-    ) -> Result<Option<Overlap>, AllocError> {
+    pub(crate) fn of(alloc: Global, trace: &ListedTrace) -> Result<Option<Overlap>, AllocError> {
         let Some((first, last)) = ends_of(trace) else {
             return Ok(None);
         };

@@ -3,7 +3,7 @@
 use crate::busy::{Busy, End};
 use crate::listed_trace::ListedTrace;
 use onfi_cycle::Item;
-use std::alloc::{AllocError, Allocator};
+use std::alloc::{AllocError, Global};
 use trace_ops::{Operation, OperationName};
 
 /// What there is of the operations of one name.
@@ -29,10 +29,10 @@ pub(crate) struct KindSummary {
 
 /// How many operations there are.
 #[derive(Drop)]
-pub(crate) struct Summary<A: Allocator> {
+pub(crate) struct Summary {
     count: u64,
     polls: u64,
-    kinds: Vec<KindSummary, A>,
+    kinds: Vec<KindSummary>,
 }
 
 // One more.
@@ -94,7 +94,7 @@ impl KindSummary {
     }
 
     // Adds how long they were busy.
-    fn push_busy<A: Allocator>(&self, text: &mut String<A>) -> Result<(), AllocError> {
+    fn push_busy(&self, text: &mut String) -> Result<(), AllocError> {
         if self.timed == 0 {
             return Ok(());
         }
@@ -113,7 +113,7 @@ impl KindSummary {
     }
 
     // Adds their line.
-    fn push_line<A: Allocator>(&self, text: &mut String<A>) -> Result<(), AllocError> {
+    fn push_line(&self, text: &mut String) -> Result<(), AllocError> {
         write!(text, "{} {}", self.name, self.count)?;
         let counts = [
             ("failed", self.failed),
@@ -136,19 +136,15 @@ impl KindSummary {
 }
 
 // So many of a thing.
-fn push_counted<A: Allocator>(
-    text: &mut String<A>,
-    number: u64,
-    name: &str,
-) -> Result<(), AllocError> {
+fn push_counted(text: &mut String, number: u64, name: &str) -> Result<(), AllocError> {
     let plural = if number == 1 { "" } else { "s" };
     write!(text, "{number} {name}{plural}")
 }
 
 // How many cycles a trace has.
-fn count_cycles<A: Allocator>(trace: &ListedTrace<A>) -> u64 {
+fn count_cycles(trace: &ListedTrace) -> u64 {
     let mut cycles: u64 = 0;
-    for found in trace.items.iter() {
+    for found in trace.timed().iter() {
         if let Item::Cyc(_) = found.item {
             count(&mut cycles);
         }
@@ -156,9 +152,9 @@ fn count_cycles<A: Allocator>(trace: &ListedTrace<A>) -> u64 {
     cycles
 }
 
-impl<A: Allocator> Summary<A> {
+impl Summary {
     /// Nothing was counted yet.
-    pub(crate) fn nothing(alloc: A) -> Summary<A> {
+    pub(crate) fn nothing(alloc: Global) -> Summary {
         Summary {
             count: 0,
             polls: 0,
@@ -195,8 +191,8 @@ impl<A: Allocator> Summary<A> {
     /// Adds its lines.
     pub(crate) fn push_lines(
         &self,
-        text: &mut String<A>,
-        trace: &ListedTrace<A>,
+        text: &mut String,
+        trace: &ListedTrace,
     ) -> Result<(), AllocError> {
         push_counted(text, self.count, "operation")?;
         text.push_str(", ")?;

@@ -3,21 +3,12 @@ use Rattle.std.proofs.Common.{◌≡◌, ap, refl}
 use Rattle.seq_inputs.specs.declared.exit.Exit.{Exit}
 use Rattle.program_commands.specs.declared.lint_ending.LintEnding.{LintEnding}
 use Rattle.program_commands.specs.declared.lint_ending.LintEnding.TheVariants as lint
-use Rattle.trace_commands.specs.declared.ending.Ending.{Ending}
-use Rattle.trace_commands.specs.declared.ending.Ending.TheVariants as ending
-use Rattle.data_commands.specs.declared.data_ending.DataEnding.TheVariants.{Recording}
-use Rattle.trace_commands.specs.declared.recording_fault.RecordingFault.{RecordingFault}
+use Rattle.recording.specs.declared.ending.Ending.{Ending}
+use Rattle.recording.specs.declared.ending.Ending.TheVariants as ending
+use Rattle.recording.specs.declared.recording_fault.RecordingFault.{RecordingFault}
 use Rattle.seq_cli.specs.Commands.{ending_of}
 
--- a command on a recording ends as its function says
-pub same_is : (one other : Ending) → Recording one ≡ Recording other → one ≡ other
-same_is one other is = cc
-
--- and so does any other
-pub exit_is : (one other : Exit) → Recording (ending.Exit one) ≡ Recording (ending.Exit other) → one ≡ other
-exit_is one other is = cc
-
-exits_same : (one other : Exit) → ending.Exit one ≡ ending.Exit other → one ≡ other
+pub exits_same : (one other : Exit) → ending.Exit one ≡ ending.Exit other → one ≡ other
 exits_same one other is = cc
 
 -- ---- a lint

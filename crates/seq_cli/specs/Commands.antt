@@ -12,28 +12,24 @@ use Rattle.nand_geometry.specs.declared.parts.Parts.{Parts}
 use Rattle.page_commands.specs.Pages.{IsPageMade, PartsAreRefused}
 use Rattle.program_commands.specs.declared.lint_ending.LintEnding.{LintEnding}
 use Rattle.program_commands.specs.declared.lint_ending.LintEnding.TheVariants as lint
-use Rattle.trace_commands.specs.declared.ending.Ending.{Ending}
-use Rattle.trace_commands.specs.declared.ending.Ending.TheVariants as ending
-use Rattle.trace_commands.specs.declared.recording_fault.RecordingFault.{RecordingFault}
-use Rattle.trace_commands.specs.Recordings.{fault_line}
-use Rattle.trace_commands.specs.Checks.{TraceIsRefused, IsPassed, CheckRefuses, CheckLeaves}
-use Rattle.timing_commands.specs.Times.{IsKept, TimesRefuse}
+use Rattle.recording.specs.declared.ending.Ending.{Ending}
+use Rattle.recording.specs.declared.ending.Ending.TheVariants as ending
+use Rattle.recording.specs.declared.recording_fault.RecordingFault.{RecordingFault}
+use Rattle.recording.specs.Captures.{IsCaptured, text_printed, CaptureIsRefused}
+use Rattle.recording.specs.Checks.{InputIsRefused}
+use Rattle.recording.specs.Recordings.{fault_line}
+use Rattle.recording.specs.Traces.{TraceIsRefused}
+use Rattle.operation_commands.specs.Ops.{CanBeListed}
+use Rattle.trace_commands.specs.Checks.{IsPassed, CheckRefuses, CheckLeaves}
+use Rattle.trace_commands.specs.Images.{IsDieWritten, done_text, ImageRefuses, ImageTells}
 use Rattle.edge_commands.specs.Edges.{AreEdgesJudged, EdgesTell}
-use Rattle.operation_commands.specs.Ops.{CanBeListed, IsNoTrace}
-use Rattle.data_commands.specs.declared.data_fault.DataFault.{DataFault}
-use Rattle.data_commands.specs.Checked.{InputIsRefused, AllAgrees, DataRefuses, DataDiffer}
-use Rattle.data_commands.specs.Images.{IsDieWritten, done_text, ImageRefuses, ImageTells}
 use Rattle.trace_faults.specs.declared.unshown.NotShown.{NotShown}
 use Rattle.trace_commands.specs.Draws.{IsDrawn}
 use Rattle.trace_commands.specs.TakenPages.{IsPageTaken}
-use Rattle.trace_commands.specs.Captures.{IsCaptured, IsShownFor, CaptureIsRefused}
-use Rattle.trace_commands.specs.VendorCaptures.{IsKeptShownFor, IsVendorCaptured, VendorCaptureIsRefused}
-use Rattle.trace_commands.specs.VendorDraws.{IsVendorDrawn, VendorDrawIsRefused}
-use Rattle.trace_commands.specs.VendorChecks.{IsVendorPassed, VendorCheckRefuses, VendorCheckLeaves}
 use Rattle.seq_run.specs.Runs.{IsRunDone, RunIsRefused, RunMayLeave}
 use Rattle.run_once.specs.Once.{IsProgramRun, ProgramMayBeRefused}
 use Rattle.seq_cli.specs.declared.command.Command.{Command}
-use Rattle.seq_cli.specs.declared.command.Command.TheVariants.{Assemble, AssembleFor, Verify, Lint, Explain, Once, Run, Capture, PrintCapture, CaptureVendor, PrintCaptureVendor, Check, CheckTimes, CheckVendor, CheckData, Timing, WriteImage, ListOperations, Draw, DrawVendor, Disassemble, MakePage, TakePage, ShowPage, Upgrade}
+use Rattle.seq_cli.specs.declared.command.Command.TheVariants.{Assemble, AssembleFor, Verify, Lint, Explain, Once, Run, Capture, Check, Timing, WriteImage, ListOperations, Draw, Disassemble, MakePage, TakePage, ShowPage, Upgrade}
 
 -- a command ends as a lint does
 abbrev pub ending_of : LintEnding → Ending
@@ -49,19 +45,12 @@ IsDone (Lint request) input files later printed = IsAccepted files request.page 
 IsDone (Explain page text style) input files later printed = IsExplained files page text.now × (later ≡ files)
 IsDone (Once base) input files later printed = IfSome input (λ bytes. IsProgramRun base bytes printed) × (later ≡ files)
 IsDone (Run request) input files later printed = IsRunDone files later request printed
-IsDone (Capture request) input files later printed = IsCaptured files later request × (printed ≡ codes "ok\n")
-IsDone (PrintCapture request) input files later printed = IsShownFor files request printed × (later ≡ files)
-IsDone (CaptureVendor request) input files later printed = IsVendorCaptured files later request × (printed ≡ codes "ok\n")
-IsDone (PrintCaptureVendor request) input files later printed = IsKeptShownFor files request printed × (later ≡ files)
+IsDone (Capture request) input files later printed = (handed : Option (List ℕ)) × IsCaptured files later request handed × (printed ≡ text_printed handed)
 IsDone (Check request) input files later printed = IsPassed files later request true printed
-IsDone (CheckVendor request) input files later printed = IsVendorPassed files later request true printed
-IsDone (CheckTimes request) input files later printed = IsKept files request true printed × (later ≡ files)
-IsDone (CheckData request) input files later printed = AllAgrees files request true printed × (later ≡ files)
 IsDone (Timing request) input files later printed = AreEdgesJudged files request × (later ≡ files) × (printed ≡ codes "kept\n")
 IsDone (WriteImage request) input files later printed = (assumed : List NotShown) × IsDieWritten files later request assumed × (printed ≡ done_text assumed)
 IsDone (ListOperations request) input files later printed = CanBeListed files request × (later ≡ files)
 IsDone (Draw request) input files later printed = IsDrawn files later request × (printed ≡ codes "ok\n")
-IsDone (DrawVendor request) input files later printed = IsVendorDrawn files later request × (printed ≡ codes "ok\n")
 IsDone (Disassemble file) input files later printed = IsDisassembled files file.now printed × (later ≡ files)
 IsDone (MakePage parts target) input files later printed = IsPageMade files later parts target.now × (printed ≡ codes "ok\n")
 IsDone (TakePage request) input files later printed = IsPageTaken files later request.target.now × (printed ≡ codes "ok\n")
@@ -72,9 +61,6 @@ IsDone (Upgrade file target) input files later printed = IsUpgraded files later 
 abbrev pub MayFlag : Command → (files later : Option Store) → (printed : List ℕ) → Type 0
 MayFlag (Lint request) files later printed = IsAccepted files request.page request.input.now × (later ≡ files)
 MayFlag (Check request) files later printed = IsPassed files later request false printed
-MayFlag (CheckVendor request) files later printed = IsVendorPassed files later request false printed
-MayFlag (CheckTimes request) files later printed = IsKept files request false printed × (later ≡ files)
-MayFlag (CheckData request) files later printed = AllAgrees files request false printed × (later ≡ files)
 MayFlag _ files later printed = ⊥
 
 -- what a command may refuse, and what it leaves and prints then: one line
@@ -91,24 +77,14 @@ MayRefuse (Explain page text style) input files later refusal printed =
 MayRefuse (Once base) input files later refusal printed = IfSome input (λ bytes. Tells (ProgramMayBeRefused base bytes) refusal) × (later ≡ files) × (printed ≡ line_of refusal)
 MayRefuse (Run request) input files later refusal printed = RunIsRefused files request refusal × (later ≡ files) × (printed ≡ line_of refusal)
 MayRefuse (Capture request) input files later refusal printed = Tells (PageIsRefused files request.page.now) refusal × (later ≡ files) × (printed ≡ line_of refusal)
-MayRefuse (PrintCapture request) input files later refusal printed = Tells (PageIsRefused files request.page.now) refusal × (later ≡ files) × (printed ≡ line_of refusal)
-MayRefuse (CaptureVendor request) input files later refusal printed =
-    Tells (PageIsRefused files request.capture.page.now) refusal × (later ≡ files) × (printed ≡ line_of refusal)
-MayRefuse (PrintCaptureVendor request) input files later refusal printed =
-    Tells (PageIsRefused files request.capture.page.now) refusal × (later ≡ files) × (printed ≡ line_of refusal)
-MayRefuse (Check request) input files later refusal printed = Tells (PageIsRefused files request.page.now) refusal × (later ≡ files) × (printed ≡ line_of refusal)
-MayRefuse (CheckVendor request) input files later refusal printed = Tells (PageIsRefused files request.check.page.now) refusal × (later ≡ files) × (printed ≡ line_of refusal)
-MayRefuse (CheckTimes request) input files later refusal printed =
-    Tells (PageIsRefused files request.check.page.now) refusal × (later ≡ files) × (printed ≡ line_of refusal)
-MayRefuse (CheckData request) input files later refusal printed =
-    Tells (InputIsRefused files request.check request.images.now) refusal × (later ≡ files) × (printed ≡ line_of refusal)
+MayRefuse (Check request) input files later refusal printed =
+    Tells (InputIsRefused files request request.dies) refusal × (later ≡ files) × (printed ≡ line_of refusal)
 MayRefuse (Timing request) input files later refusal printed = Tells (PageIsRefused files request.page.now) refusal × (later ≡ files) × (printed ≡ line_of refusal)
 MayRefuse (WriteImage request) input files later refusal printed = Tells (ImageRefuses files request) refusal × (later ≡ files) × (printed ≡ line_of refusal)
 MayRefuse (ListOperations request) input files later refusal printed =
-    Tells (PageIsRefused files request.page.now) refusal × (later ≡ files) × (printed ≡ line_of refusal)
-MayRefuse (Draw request) input files later refusal printed = Tells (PageIsRefused files request.page.now) refusal × (later ≡ files) × (printed ≡ line_of refusal)
-MayRefuse (DrawVendor request) input files later refusal printed =
-    Tells (PageIsRefused files request.draw.page.now) refusal × (later ≡ files) × (printed ≡ line_of refusal)
+    Tells (PageIsRefused files request.trace.page.now) refusal × (later ≡ files) × (printed ≡ line_of refusal)
+MayRefuse (Draw request) input files later refusal printed =
+    Tells (PageIsRefused files request.trace.page.now) refusal × (later ≡ files) × (printed ≡ line_of refusal)
 MayRefuse (Disassemble file) input files later refusal printed = Tells (FileIsRefused files file.now) refusal × (later ≡ files) × (printed ≡ line_of refusal)
 MayRefuse (MakePage parts target) input files later refusal printed = Tells (PartsAreRefused parts) refusal × (later ≡ files) × (printed ≡ line_of refusal)
 MayRefuse (TakePage request) input files later refusal printed = (later ≡ files) × (printed ≡ line_of refusal)
@@ -118,26 +94,13 @@ MayRefuse (Upgrade file target) input files later refusal printed = Tells (FileI
 -- what a command may find wrong with a trace or a capture, and what it leaves and prints then: one line, but for all faults of a trace
 abbrev pub MayTell : Command → (files later : Option Store) → RecordingFault → (printed : List ℕ) → Type 0
 MayTell (Capture request) files later fault printed = CaptureIsRefused files request fault × (later ≡ files) × (printed ≡ fault_line fault)
-MayTell (PrintCapture request) files later fault printed = CaptureIsRefused files request fault × (later ≡ files) × (printed ≡ fault_line fault)
-MayTell (CaptureVendor request) files later fault printed = VendorCaptureIsRefused files request fault × (later ≡ files) × (printed ≡ fault_line fault)
-MayTell (PrintCaptureVendor request) files later fault printed = VendorCaptureIsRefused files request fault × (later ≡ files) × (printed ≡ fault_line fault)
 MayTell (Check request) files later fault printed = CheckRefuses files later request fault printed
-MayTell (CheckVendor request) files later fault printed = VendorCheckRefuses files later request fault printed
-MayTell (CheckTimes request) files later fault printed = TimesRefuse files request fault printed × (later ≡ files)
-MayTell (CheckData request) files later fault printed = DataRefuses files request fault printed × (later ≡ files)
 MayTell (Timing request) files later fault printed = EdgesTell files request fault printed × (later ≡ files)
-MayTell (WriteImage request) files later fault printed = ImageTells files request fault printed × (later ≡ files)
-MayTell (ListOperations request) files later fault printed = IsNoTrace files request.profile request.input.now fault × (later ≡ files) × (printed ≡ fault_line fault)
-MayTell (Draw request) files later fault printed =
-    TraceIsRefused files request.lines request.page.now request.input.now fault × (later ≡ files) × (printed ≡ fault_line fault)
-MayTell (DrawVendor request) files later fault printed = VendorDrawIsRefused files request fault × (later ≡ files) × (printed ≡ fault_line fault)
+MayTell (WriteImage request) files later fault printed = ImageTells files later request fault printed × (later ≡ files)
+MayTell (ListOperations request) files later fault printed = TraceIsRefused files true request.trace fault × (later ≡ files) × (printed ≡ fault_line fault)
+MayTell (Draw request) files later fault printed = TraceIsRefused files false request.trace fault × (later ≡ files) × (printed ≡ fault_line fault)
 MayTell (TakePage request) files later fault printed = (later ≡ files) × (printed ≡ fault_line fault)
 MayTell _ files later fault printed = ⊥
-
--- which command may find that the data of a trace differ, and what it leaves and prints then
-abbrev pub MayDiffer : Command → (files later : Option Store) → DataFault → (item : ℕ) → (printed : List ℕ) → Type 0
-MayDiffer (CheckData request) files later fault item printed = DataDiffer files request fault item printed × (later ≡ files)
-MayDiffer _ files later fault item printed = ⊥
 
 -- what a command may leave, however it ends: the files as they were, or what it writes when it is done
 abbrev pub MayLeave : Command → (files later : Option Store) → Type 0
@@ -148,19 +111,12 @@ MayLeave (Lint request) files later = later ≡ files
 MayLeave (Explain page text style) files later = later ≡ files
 MayLeave (Once base) files later = later ≡ files
 MayLeave (Run request) files later = RunMayLeave files later request
-MayLeave (Capture request) files later = (later ≡ files) ⊎ IsCaptured files later request
-MayLeave (PrintCapture request) files later = later ≡ files
-MayLeave (CaptureVendor request) files later = (later ≡ files) ⊎ IsVendorCaptured files later request
-MayLeave (PrintCaptureVendor request) files later = later ≡ files
+MayLeave (Capture request) files later = (later ≡ files) ⊎ ((handed : Option (List ℕ)) × IsCaptured files later request handed)
 MayLeave (Check request) files later = CheckLeaves files later request
-MayLeave (CheckVendor request) files later = VendorCheckLeaves files later request
-MayLeave (CheckTimes request) files later = later ≡ files
-MayLeave (CheckData request) files later = later ≡ files
 MayLeave (Timing request) files later = later ≡ files
 MayLeave (WriteImage request) files later = (later ≡ files) ⊎ ((assumed : List NotShown) × IsDieWritten files later request assumed)
 MayLeave (ListOperations request) files later = later ≡ files
 MayLeave (Draw request) files later = (later ≡ files) ⊎ IsDrawn files later request
-MayLeave (DrawVendor request) files later = (later ≡ files) ⊎ IsVendorDrawn files later request
 MayLeave (Disassemble file) files later = later ≡ files
 MayLeave (MakePage parts target) files later = (later ≡ files) ⊎ IsPageMade files later parts target.now
 MayLeave (TakePage request) files later = (later ≡ files) ⊎ IsPageTaken files later request.target.now

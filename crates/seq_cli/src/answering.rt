@@ -8,8 +8,8 @@ use crate::named_command::NamedCommand;
 use crate::named_lines::NamedLines;
 use clap::Error;
 use clap::error::ErrorKind;
-use data_commands::{DataEnding, check_data};
 use program_commands::lint_file;
+use recording::Ending;
 use seq_files::{FileError, Files};
 use seq_inputs::{Console, Exit, Stop, end_without_memory, fail};
 use seq_run::{NoClock, RunProgress};
@@ -19,8 +19,7 @@ use std::io::{self, Read, Write};
 use std::sync::Wait;
 use std::thread::Threads;
 use std::time::Clock;
-use timing_commands::check_times;
-use trace_commands::{Ending, check_trace, check_vendor_trace};
+use trace_commands::check_trace;
 use trace_text::CheckProgress;
 
 // Shows the parser's text: help on the output, or a mistake on the errors.
@@ -62,6 +61,7 @@ fn say_mistake<W: Write, E: Write, P>(
         | Mistake::NoteTwice(_)
         | Mistake::NoPage
         | Mistake::PageNumber { .. }
+        | Mistake::FromMiddle(_)
         | Mistake::Timing(_)
         | Mistake::Data(_)
         | Mistake::Ops(_)
@@ -84,27 +84,15 @@ fn end_without_words<W: Write, E: Write, P>(
     Exit::Usage
 }
 
-// The program ends as any command may.
-fn exited(exit: Exit) -> DataEnding {
-    DataEnding::Recording(Ending::Exit(exit))
-}
-
 // How two commands end, one after the other: as the first of them that isn't done.
-fn end_of_both(first: DataEnding, second: DataEnding) -> DataEnding {
+fn end_of_both(first: Ending, second: Ending) -> Ending {
     match first {
-        DataEnding::Recording(Ending::Exit(Exit::Done)) => second,
-        DataEnding::Recording(
-            Ending::Exit(
-                Exit::Refused(_)
-                | Exit::FileFault
-                | Exit::ReaderGone
-                | Exit::Usage
-                | Exit::OutOfMemory,
-            )
-            | Ending::Faulty(_)
-            | Ending::Flagged,
+        Ending::Exit(Exit::Done) => second,
+        Ending::Exit(
+            Exit::Refused(_) | Exit::FileFault | Exit::ReaderGone | Exit::Usage | Exit::OutOfMemory,
         )
-        | DataEnding::Data { .. } => first,
+        | Ending::Faulty(_)
+        | Ending::Flagged => first,
     }
 }
 
@@ -114,23 +102,12 @@ fn do_to_file<F: Files, W: Write, E: Write, P: CheckProgress>(
     files: &mut F,
     console: &mut Console<W, E, P>,
     command: NamedCommand<'_>,
-) -> DataEnding {
+) -> Ending {
     let ending = match command {
-        NamedCommand::Check(request) => {
-            DataEnding::Recording(check_trace(alloc, files, console, request))
-        }
-        NamedCommand::CheckVendor(request) => {
-            DataEnding::Recording(check_vendor_trace(alloc, files, console, request))
-        }
-        NamedCommand::CheckTimes(request) => {
-            DataEnding::Recording(check_times(alloc, files, console, request))
-        }
-        NamedCommand::CheckData(request) => check_data(alloc, files, console, request),
-        NamedCommand::Lint(request) => {
-            DataEnding::Recording(ending_of(lint_file(alloc, files, console, request)))
-        }
+        NamedCommand::Check(request) => check_trace(alloc, files, console, request),
+        NamedCommand::Lint(request) => ending_of(lint_file(alloc, files, console, request)),
     };
-    if matches!(ending, DataEnding::Recording(Ending::Exit(Exit::FileFault))) {
+    if matches!(ending, Ending::Exit(Exit::FileFault)) {
         let _ = writeln!(&mut console.output, "unreadable");
     }
     ending
@@ -142,7 +119,7 @@ fn do_to_named<F: Files, W: Write, E: Write, P: CheckProgress>(
     files: &mut F,
     console: &mut Console<W, E, P>,
     command: NamedCommand<'_>,
-) -> DataEnding {
+) -> Ending {
     let Console {
         output,
         errors,
@@ -173,11 +150,11 @@ fn do_one<
     input: &mut R,
     console: &mut Console<W, E, P>,
     command: Command<'_>,
-) -> DataEnding {
+) -> Ending {
     match PathMistake::among_files(alloc, files, command) {
         Ok(None) => command_on(rt, clock, alloc, files, input, console, command),
-        Ok(Some(mistake)) => exited(say_mistake(alloc, console, Mistake::Paths(mistake))),
-        Err(_) => exited(end_without_memory(console)),
+        Ok(Some(mistake)) => Ending::Exit(say_mistake(alloc, console, Mistake::Paths(mistake))),
+        Err(_) => Ending::Exit(end_without_memory(console)),
     }
 }
 
@@ -198,8 +175,8 @@ fn do_all<
     input: &mut R,
     console: &mut Console<W, E, P>,
     commands: &[Command<'_>],
-) -> DataEnding {
-    let mut ending = exited(Exit::Done);
+) -> Ending {
+    let mut ending = Ending::Exit(Exit::Done);
     for command in commands {
         let next = match NamedCommand::among(commands, *command) {
             Some(named) => do_to_named(alloc, files, console, named),
@@ -227,18 +204,18 @@ pub fn answer_watched<
     files: &mut F,
     input: &mut R,
     console: &mut Console<W, E, P>,
-) -> DataEnding {
+) -> Ending {
     let words = match words {
         Ok(words) => words,
-        Err(error) => return exited(end_without_words(console, &error)),
+        Err(error) => return Ending::Exit(end_without_words(console, &error)),
     };
     let images = match command_line::read_images(alloc, words.as_slice()) {
         Ok(images) => images,
-        Err(mistake) => return exited(say_mistake(alloc, console, mistake)),
+        Err(mistake) => return Ending::Exit(say_mistake(alloc, console, mistake)),
     };
     match command_line::parse_all(alloc, words.as_slice(), images.as_slice()) {
         Ok(commands) => do_all(rt, clock, alloc, files, input, console, commands.as_slice()),
-        Err(mistake) => exited(say_mistake(alloc, console, mistake)),
+        Err(mistake) => Ending::Exit(say_mistake(alloc, console, mistake)),
     }
 }
 
@@ -257,6 +234,6 @@ pub fn answer<
     files: &mut F,
     input: &mut R,
     console: &mut Console<W, E, P>,
-) -> DataEnding {
+) -> Ending {
     answer_watched(rt, &NoClock, alloc, words, files, input, console)
 }

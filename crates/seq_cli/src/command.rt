@@ -2,11 +2,9 @@
 ghost use Rattle.std.specs.Prelude.{◌≡◌, List, ℕ};
 ghost use Rattle.std.specs.Io.KnownBytes.{Appends};
 ghost use Rattle.seq_inputs.specs.declared.refusal.Refusal.{Refusal};
-ghost use Rattle.trace_commands.specs.declared.recording_fault.RecordingFault.{RecordingFault};
-ghost use Rattle.data_commands.specs.declared.data_fault.DataFault.{DataFault};
-ghost use Rattle.seq_cli.specs.Commands.{ending_of, IsDone, MayFlag, MayRefuse, MayTell, MayDiffer, MayLeave};
+ghost use Rattle.recording.specs.declared.recording_fault.RecordingFault.{RecordingFault};
+ghost use Rattle.seq_cli.specs.Commands.{ending_of, IsDone, MayFlag, MayRefuse, MayTell, MayLeave};
 
-use data_commands::{DataEnding, DataRequest, ImageRequest, check_data, write_image};
 use edge_commands::{EdgeRequest, time_capture};
 use nand_geometry::Parts;
 use operation_commands::{OpsRequest, list_operations};
@@ -14,6 +12,9 @@ use page_commands::{make_page, show_page};
 use program_commands::{
     LintEnding, LintRequest, VerifyRequest, assemble_file, assemble_file_for, disassemble_file,
     explain_file, lint_file, upgrade_file, verify_file,
+};
+use recording::{
+    CaptureRequest, CheckRequest, Ending, LINUX, TimesRequest, TimingSource, TraceRequest,
 };
 use run_once::run_program;
 use seq_files::Files;
@@ -24,12 +25,9 @@ use std::io::{Read, Write};
 use std::sync::Wait;
 use std::thread::Threads;
 use std::time::Clock;
-use timing_commands::{TimesRequest, TimingSource, check_times};
 use trace_commands::{
-    CaptureRequest, CheckRequest, DrawRequest, Ending, PageRequest, VendorCaptureRequest,
-    VendorCheckRequest, VendorDrawRequest, capture_trace, capture_vendor_trace, check_trace,
-    check_vendor_trace, draw_trace, draw_vendor_trace, print_capture, print_vendor_capture,
-    take_page,
+    DrawRequest, ImageRequest, PageRequest, capture_trace, check_trace, draw_trace, take_page,
+    write_image,
 };
 use trace_files::TraceOutputs;
 use trace_text::CheckProgress;
@@ -65,21 +63,10 @@ pub enum Command<'a> {
     },
     /// To run a channel as a run file says.
     Run(RunRequest<'a>),
-    /// To write the trace that a capture of a bus shows.
+    /// To write or to print the trace that a capture of a bus shows.
     Capture(CaptureRequest<'a>),
-    /// To print the trace that a capture of a bus shows.
-    PrintCapture(CaptureRequest<'a>),
-    /// The same two, but for the items that belong to a vendor's sequences.
-    CaptureVendor(VendorCaptureRequest<'a>),
-    PrintCaptureVendor(VendorCaptureRequest<'a>),
-    /// To check whether the trace of a text is legal on a channel.
+    /// To check a trace: whether it is legal on a channel, and where it is asked for, whether its times keep those of a chip and its outputs give what its dies hold.
     Check(CheckRequest<'a>),
-    /// The same, but for the items that belong to a vendor's sequences.
-    CheckVendor(VendorCheckRequest<'a>),
-    /// To check whether the trace of a text is legal, and whether its times keep those of a chip.
-    CheckTimes(TimesRequest<'a>),
-    /// The same, and whether its outputs give what its dies hold.
-    CheckData(DataRequest<'a, 'a>),
     /// To judge the edges of a capture.
     Timing(EdgeRequest<'a>),
     /// To write what a die holds after a trace.
@@ -88,8 +75,6 @@ pub enum Command<'a> {
     ListOperations(OpsRequest<'a>),
     /// To draw a trace, as a waveform, as a picture or as a page.
     Draw(DrawRequest<'a>),
-    /// The same, but for the items that belong to a vendor's sequences.
-    DrawVendor(VendorDrawRequest<'a>),
     /// To print the assembly text of a word file.
     Disassemble {
         input: &'a str,
@@ -115,27 +100,26 @@ pub enum Command<'a> {
 /// The files that a command names: those that it reads, and those that it writes.
 #[derive(Clone, Copy)]
 pub(crate) struct Paths<'a> {
-    pub inputs: [Option<&'a str>; 3],
+    pub inputs: [Option<&'a str>; 4],
     pub outputs: [Option<&'a str>; 3],
 }
 
+// One file that is read.
+fn one_read<'a>(input: &'a str) -> [Option<&'a str>; 4] {
+    [Some(input), None, None, None]
+}
+
 // Two files that are read.
-fn both<'a>(first: &'a str, second: &'a str) -> [Option<&'a str>; 3] {
-    [Some(first), Some(second), None]
+fn both<'a>(first: &'a str, second: &'a str) -> [Option<&'a str>; 4] {
+    [Some(first), Some(second), None, None]
 }
 
-// The vendor file, unless it is the one that is built in.
-fn file_of(vendor: &str) -> Option<&str> {
-    if vendor == "linux" {
-        None
-    } else {
-        Some(vendor)
+// The vendor file that is read, unless it is the one that is built in.
+fn file_of(vendor: Option<&str>) -> Option<&str> {
+    match vendor {
+        Some(path) if path != LINUX => Some(path),
+        Some(_) | None => None,
     }
-}
-
-// A page, a vendor file and a third file that are read.
-fn with_vendor<'a>(page: &'a str, vendor: &'a str, input: &'a str) -> [Option<&'a str>; 3] {
-    [Some(page), file_of(vendor), Some(input)]
 }
 
 // One file that is written, if there is one.
@@ -161,12 +145,27 @@ fn timing_file_of<'a>(source: TimingSource<'a>) -> Option<&'a str> {
     }
 }
 
+// What is read of a trace, and a file beside it.
+fn inputs_of<'a>(trace: TraceRequest<'a>, beside: Option<&'a str>) -> [Option<&'a str>; 4] {
+    [
+        Some(trace.page),
+        file_of(trace.vendor),
+        beside,
+        Some(trace.input),
+    ]
+}
+
+// The timing file of a check, if it has one.
+fn timing_of<'a>(times: Option<TimesRequest<'a>>) -> Option<&'a str> {
+    timing_file_of(times?.source)
+}
+
 impl<'a> Command<'a> {
-    /// Its paths.
+    /// Its paths. No image that a check is given is `-`, and none is one of the files that it writes.
     pub(crate) fn paths(self) -> Paths<'a> {
         let (inputs, outputs) = match self {
             Command::Assemble { input, target } | Command::Upgrade { input, target } => {
-                ([Some(input), None, None], one(Some(target)))
+                (one_read(input), one(Some(target)))
             }
             Command::AssembleFor {
                 page,
@@ -185,58 +184,44 @@ impl<'a> Command<'a> {
                 input,
                 style: _,
             } => (both(page.path, input), one(None)),
-            Command::Once { .. } => ([None, None, None], one(None)),
-            Command::Run(request) => ([Some(request.path), None, None], paths_of(request.trace)),
-            Command::Capture(request) => {
-                (both(request.page, request.input), one(Some(request.target)))
-            }
-            Command::CaptureVendor(VendorCaptureRequest { capture, vendor }) => (
-                with_vendor(capture.page, vendor, capture.input),
-                one(Some(capture.target)),
+            Command::Once { .. } => ([None, None, None, None], one(None)),
+            Command::Run(request) => (one_read(request.path), paths_of(request.trace)),
+            Command::Capture(request) => (
+                [
+                    Some(request.page),
+                    file_of(request.vendor),
+                    Some(request.input),
+                    None,
+                ],
+                one(request.target),
             ),
-            Command::PrintCaptureVendor(VendorCaptureRequest { capture, vendor }) => {
-                (with_vendor(capture.page, vendor, capture.input), one(None))
-            }
-            Command::CheckTimes(TimesRequest { check, source, .. }) => (
-                [Some(check.page), timing_file_of(source), Some(check.input)],
-                one(None),
+            Command::Check(request) => (
+                inputs_of(request.trace, timing_of(request.times)),
+                one(request.copy),
             ),
             Command::Timing(request) => (
                 [
                     Some(request.page),
                     timing_file_of(request.source),
                     Some(request.input),
+                    None,
                 ],
                 one(None),
             ),
-            // No image that is given is `-`, and nothing is written that could be one of them.
-            Command::CheckData(DataRequest { check, .. }) => {
-                (both(check.page, check.input), one(None))
+            Command::WriteImage(request) => {
+                (
+                    inputs_of(request.trace, request.on),
+                    one(Some(request.output)),
+                )
             }
-            Command::WriteImage(request) => (
-                [Some(request.page), Some(request.input), request.on],
-                one(Some(request.output)),
-            ),
-            Command::PrintCapture(request) => (both(request.page, request.input), one(None)),
-            Command::ListOperations(request) => (both(request.page, request.input), one(None)),
-            Command::Check(request) => (both(request.page, request.input), one(request.copy)),
-            Command::CheckVendor(VendorCheckRequest { check, vendor }) => (
-                with_vendor(check.page, vendor, check.input),
-                one(check.copy),
-            ),
-            Command::Draw(request) => {
-                (both(request.page, request.input), one(Some(request.target)))
-            }
-            Command::DrawVendor(VendorDrawRequest { draw, vendor }) => (
-                with_vendor(draw.page, vendor, draw.input),
-                one(Some(draw.target)),
-            ),
+            Command::ListOperations(request) => (inputs_of(request.trace, None), one(None)),
+            Command::Draw(request) => (inputs_of(request.trace, None), one(Some(request.target))),
             Command::Disassemble { input } | Command::ShowPage { page: input } => {
-                ([Some(input), None, None], one(None))
+                (one_read(input), one(None))
             }
-            Command::MakePage { parts: _, target } => ([None, None, None], one(Some(target))),
+            Command::MakePage { parts: _, target } => ([None, None, None, None], one(Some(target))),
             Command::TakePage(request) => (
-                [Some(request.input), None, None],
+                [file_of(request.vendor), Some(request.input), None, None],
                 one(Some(request.target)),
             ),
         };
@@ -254,7 +239,7 @@ pub(crate) fn ending_of(lint: LintEnding) -> Ending
     }
 }
 
-/// Does a command, as its own function says: [`run_program`] of the input, [`run_watched`], or one of `page_commands`, `program_commands`, `trace_commands`, `timing_commands`, `edge_commands`, `operation_commands` or `data_commands`. What is wrong with a file is said in
+/// Does a command, as its own function says: [`run_program`] of the input, [`run_watched`], or one of `page_commands`, `program_commands`, `trace_commands`, `edge_commands` or `operation_commands`. What is wrong with a file is said in
 /// words on the console's errors, and so is a fault of a file or a stream, or that there is no memory; its progress is told how far a check or a run has
 /// come. A run starts threads by the handle and takes the time by the clock.
 pub fn command_on<
@@ -273,101 +258,55 @@ pub fn command_on<
     input: &mut R,
     console: &mut Console<W, E, P>,
     command: Command<'_>,
-) -> DataEnding
-    ensures done { result ≡ DataEnding.Recording (Ending.Exit Exit.Done) → (printed : List ℕ)
+) -> Ending
+    ensures done { result ≡ Ending.Exit Exit.Done → (printed : List ℕ)
         × IsDone command.entry (R.remaining input.old) (F.store files.old) (F.store files.new) printed
         × Appends (W.contents console.old.output) (W.contents console.new.output) printed }
-    ensures flagged { result ≡ DataEnding.Recording Ending.Flagged → (printed : List ℕ)
+    ensures flagged { result ≡ Ending.Flagged → (printed : List ℕ)
         × MayFlag command.entry (F.store files.old) (F.store files.new) printed
         × Appends (W.contents console.old.output) (W.contents console.new.output) printed }
-    ensures refused { (refusal : Refusal) → result ≡ DataEnding.Recording (Ending.Exit (Exit.Refused refusal)) → (printed : List ℕ)
+    ensures refused { (refusal : Refusal) → result ≡ Ending.Exit (Exit.Refused refusal) → (printed : List ℕ)
         × MayRefuse command.entry (R.remaining input.old) (F.store files.old) (F.store files.new) refusal printed
         × Appends (W.contents console.old.output) (W.contents console.new.output) printed }
-    ensures faulty { (fault : RecordingFault) → result ≡ DataEnding.Recording (Ending.Faulty fault) → (printed : List ℕ)
+    ensures faulty { (fault : RecordingFault) → result ≡ Ending.Faulty fault → (printed : List ℕ)
         × MayTell command.entry (F.store files.old) (F.store files.new) fault printed
-        × Appends (W.contents console.old.output) (W.contents console.new.output) printed }
-    ensures differs { (fault : DataFault) (item : ℕ) → result ≡ DataEnding.Data fault item → (printed : List ℕ)
-        × MayDiffer command.entry (F.store files.old) (F.store files.new) fault item printed
         × Appends (W.contents console.old.output) (W.contents console.new.output) printed }
     ensures files { MayLeave command.entry (F.store files.old) (F.store files.new) }
 {
     match command {
         Command::Assemble { input, target } => {
-            DataEnding::Recording(Ending::Exit(assemble_file(alloc, files, console, input, target)))
+            Ending::Exit(assemble_file(alloc, files, console, input, target))
         }
         Command::AssembleFor {
             page,
             input,
             target,
-        } => DataEnding::Recording(Ending::Exit(assemble_file_for(
-            alloc, files, console, page, input, target,
-        ))),
-        Command::Verify(request) => {
-            DataEnding::Recording(Ending::Exit(verify_file(alloc, files, console, request)))
-        }
-        Command::Lint(request) => {
-            DataEnding::Recording(ending_of(lint_file(alloc, files, console, request)))
-        }
+        } => Ending::Exit(assemble_file_for(alloc, files, console, page, input, target)),
+        Command::Verify(request) => Ending::Exit(verify_file(alloc, files, console, request)),
+        Command::Lint(request) => ending_of(lint_file(alloc, files, console, request)),
         Command::Explain { page, input, style } => {
-            DataEnding::Recording(Ending::Exit(explain_file(
-                alloc, files, console, page, input, style,
-            )))
+            Ending::Exit(explain_file(alloc, files, console, page, input, style))
         }
-        Command::Once { base } => DataEnding::Recording(Ending::Exit(run_program(
-            &alloc, input, console, base,
-        ))),
-        Command::Run(request) => DataEnding::Recording(Ending::Exit(run_watched(
-            rt, clock, alloc, files, console, request,
-        ))),
-        Command::Capture(request) => {
-            DataEnding::Recording(capture_trace(alloc, files, console, request))
+        Command::Once { base } => Ending::Exit(run_program(&alloc, input, console, base)),
+        Command::Run(request) => {
+            Ending::Exit(run_watched(rt, clock, alloc, files, console, request))
         }
-        Command::PrintCapture(request) => {
-            DataEnding::Recording(print_capture(alloc, files, console, request))
-        }
-        Command::CaptureVendor(request) => {
-            DataEnding::Recording(capture_vendor_trace(alloc, files, console, request))
-        }
-        Command::PrintCaptureVendor(request) => {
-            DataEnding::Recording(print_vendor_capture(alloc, files, console, request))
-        }
-        Command::Check(request) => {
-            DataEnding::Recording(check_trace(alloc, files, console, request))
-        }
-        Command::CheckVendor(request) => {
-            DataEnding::Recording(check_vendor_trace(alloc, files, console, request))
-        }
-        Command::CheckTimes(request) => {
-            DataEnding::Recording(check_times(alloc, files, console, request))
-        }
-        Command::CheckData(request) => check_data(alloc, files, console, request),
-        Command::Timing(request) => {
-            DataEnding::Recording(time_capture(alloc, files, console, request))
-        }
-        Command::WriteImage(request) => {
-            DataEnding::Recording(write_image(alloc, files, console, request))
-        }
-        Command::ListOperations(request) => {
-            DataEnding::Recording(list_operations(alloc, files, console, request))
-        }
-        Command::Draw(request) => DataEnding::Recording(draw_trace(alloc, files, console, request)),
-        Command::DrawVendor(request) => {
-            DataEnding::Recording(draw_vendor_trace(alloc, files, console, request))
-        }
+        Command::Capture(request) => capture_trace(alloc, files, console, request),
+        Command::Check(request) => check_trace(alloc, files, console, request),
+        Command::Timing(request) => time_capture(alloc, files, console, request),
+        Command::WriteImage(request) => write_image(alloc, files, console, request),
+        Command::ListOperations(request) => list_operations(alloc, files, console, request),
+        Command::Draw(request) => draw_trace(alloc, files, console, request),
         Command::Disassemble { input } => {
-            DataEnding::Recording(Ending::Exit(disassemble_file(alloc, files, console, input)))
+            Ending::Exit(disassemble_file(alloc, files, console, input))
         }
         Command::MakePage { parts, target } => {
-            DataEnding::Recording(Ending::Exit(make_page(alloc, files, console, parts, target)))
+            Ending::Exit(make_page(alloc, files, console, parts, target))
         }
-        Command::TakePage(request) => {
-            DataEnding::Recording(take_page(alloc, files, console, request))
-        }
-        Command::ShowPage { page } => DataEnding::Recording(Ending::Exit(show_page(
-            alloc, files, console, page,
-        ))),
+        Command::TakePage(request) => take_page(alloc, files, console, request),
+        Command::ShowPage { page } => Ending::Exit(show_page(alloc, files, console, page)),
         Command::Upgrade { input, target } => {
-            DataEnding::Recording(Ending::Exit(upgrade_file(alloc, files, console, input, target)))
+            Ending::Exit(upgrade_file(alloc, files, console, input, target))
         }
     }
 }

@@ -11,18 +11,15 @@ use crate::times_reading::{EdgeOptions, read_edge_options, read_times};
 use bus_capture::CaptureForm;
 use bus_signals::{Family, named, plain_of};
 use clap::{ArgMatches, Error};
-use data_commands::{GivenImage, ImageRequest};
 use edge_commands::EdgeRequest;
 use nand_geometry::{Optional, Parts, Profile};
 use onfi_cycle::Lun;
 use program_commands::{LintOutput, LintRequest, NoteRules, VerifyRequest};
+use recording::{CaptureRequest, CheckRequest, GivenImage, Targets, TraceRequest};
 use seq_inputs::{PageFile, Style};
 use seq_run::{MOST_STEPS, RunRequest};
 use std::alloc::Global;
-use trace_commands::{
-    CaptureRequest, CheckRequest, DrawRequest, PageRequest, PageSource, Targets,
-    VendorCaptureRequest, VendorCheckRequest, VendorDrawRequest,
-};
+use trace_commands::{DrawRequest, ImageRequest, PageRequest, PageSource};
 use trace_faults::{Beginning, Readies};
 use trace_files::{DrawForm, Drawing, TraceOutputs};
 use trace_text::TraceForm;
@@ -171,26 +168,20 @@ impl Verb {
                 base: read_base(find_word(matches, "base"))?,
             },
             Verb::Run => Command::Run(read_run(matches)?),
-            Verb::Capture => capture_with(read_capture(matches)?, matches.get_str("vendor")),
-            Verb::Check => read_check_command(matches, images)?,
+            Verb::Capture => Command::Capture(read_capture(matches)?),
+            Verb::Check => Command::Check(read_check(matches, images)?),
             Verb::Timing => Command::Timing(read_edges(matches)?),
             Verb::Image => Command::WriteImage(read_image_request(matches)),
             Verb::Ops => read_ops(
                 matches,
-                page,
-                read_profile(matches),
-                read_targets(find_word(matches, "TARGETS")),
-                find_word(matches, "TRACE"),
+                TraceRequest {
+                    form: TraceForm::Recorded,
+                    ..read_trace(matches)
+                },
                 read_beginning(matches),
             )?,
-            Verb::Wave => draw_with(
-                read_draw(matches, DrawForm::Waveform),
-                matches.get_str("vendor"),
-            ),
-            Verb::Draw => draw_with(
-                read_draw(matches, form_of(target)),
-                matches.get_str("vendor"),
-            ),
+            Verb::Wave => Command::Draw(read_draw(matches, DrawForm::Waveform)),
+            Verb::Draw => Command::Draw(read_draw(matches, form_of(target))),
             Verb::Disassemble => Command::Disassemble { input },
             Verb::Page => read_page(matches)?,
             Verb::Upgrade => Command::Upgrade { input, target },
@@ -307,9 +298,9 @@ fn read_page_file<'a>(matches: &ArgMatches<'_>, path: &'a str) -> PageFile<'a> {
     }
 }
 
-// The form of a trace.
+// The form of a trace; times stand in a recorded one.
 fn read_form(matches: &ArgMatches<'_>) -> TraceForm {
-    if matches.get_flag("recorded") {
+    if matches.get_flag("recorded") || matches.get_str("timing").is_some() {
         TraceForm::Recorded
     } else {
         TraceForm::Strict
@@ -400,52 +391,31 @@ fn read_capture<'a>(matches: &ArgMatches<'a>) -> Result<CaptureRequest<'a>, Mist
         targets: read_targets(find_word(matches, "TARGETS")),
         input,
         form: form_of_capture(matches, input),
-        target: find_word(matches, "OUT"),
+        target: target_of(find_word(matches, "OUT")),
         mappings: read_mappings(matches)?,
         has_times: matches.get_flag("times"),
         glitch: read_glitch(matches.get_str("glitch"))?,
+        vendor: matches.get_str("vendor"),
     })
 }
 
-// Where the trace of a capture goes: into a file, or to standard output.
-fn capture_to(request: CaptureRequest<'_>) -> Command<'_> {
-    if request.target == "-" {
-        Command::PrintCapture(request)
-    } else {
-        Command::Capture(request)
+// Where the trace of a capture is written to; `-` prints it.
+fn target_of(word: &str) -> Option<&str> {
+    match word {
+        "-" => None,
+        _ => Some(word),
     }
 }
 
-// The same without a vendor's sequences.
-fn capture_vendor_to(request: VendorCaptureRequest<'_>) -> Command<'_> {
-    if request.capture.target == "-" {
-        Command::PrintCaptureVendor(request)
-    } else {
-        Command::CaptureVendor(request)
-    }
-}
-
-// A capture, with a vendor's sequences or without.
-fn capture_with<'a>(capture: CaptureRequest<'a>, vendor: Option<&'a str>) -> Command<'a> {
-    match vendor {
-        None => capture_to(capture),
-        Some(vendor) => capture_vendor_to(VendorCaptureRequest { capture, vendor }),
-    }
-}
-
-// A drawing, with a vendor's sequences or without.
-fn draw_with<'a>(draw: DrawRequest<'a>, vendor: Option<&'a str>) -> Command<'a> {
-    match vendor {
-        None => Command::Draw(draw),
-        Some(vendor) => Command::DrawVendor(VendorDrawRequest { draw, vendor }),
-    }
-}
-
-// A check, with a vendor's sequences or without.
-fn check_with<'a>(check: CheckRequest<'a>, vendor: Option<&'a str>) -> Command<'a> {
-    match vendor {
-        None => Command::Check(check),
-        Some(vendor) => Command::CheckVendor(VendorCheckRequest { check, vendor }),
+// Which trace is read.
+fn read_trace<'a>(matches: &ArgMatches<'a>) -> TraceRequest<'a> {
+    TraceRequest {
+        page: find_word(matches, "PAGE"),
+        profile: read_profile(matches),
+        targets: read_targets(find_word(matches, "TARGETS")),
+        input: find_word(matches, "TRACE"),
+        form: read_form(matches),
+        vendor: matches.get_str("vendor"),
     }
 }
 
@@ -524,6 +494,7 @@ fn read_page<'a>(matches: &ArgMatches<'a>) -> Result<Command<'a>, Mistake<'a>> {
         (None, Some(target), Some(input)) => Ok(Command::TakePage(PageRequest {
             source: read_page_source(matches, input)?,
             input,
+            vendor: matches.get_str("vendor"),
             target,
         })),
         (Some(_), Some(_), _) | (Some(_), _, Some(_)) | (None, None, _) => Err(Mistake::NoPage),
@@ -553,33 +524,45 @@ fn read_beginning(matches: &ArgMatches<'_>) -> Beginning {
     }
 }
 
-// What a check is asked for.
-fn read_check<'a>(matches: &ArgMatches<'a>) -> CheckRequest<'a> {
-    CheckRequest {
-        page: find_word(matches, "PAGE"),
-        profile: read_profile(matches),
-        targets: read_targets(find_word(matches, "TARGETS")),
-        input: find_word(matches, "TRACE"),
+// Nobody knows what the dies held, nor what a LUN was at, where a recording begins in the middle.
+fn refuse_middle<'a>(matches: &ArgMatches<'a>) -> Result<(), Mistake<'a>> {
+    if !matches.get_flag("from-middle") {
+        return Ok(());
+    }
+    if matches.get_flag("data") {
+        return Err(Mistake::FromMiddle("data"));
+    }
+    match matches.get_str("write") {
+        Some(_) => Err(Mistake::FromMiddle("write")),
+        None => Ok(()),
+    }
+}
+
+// What a check is asked for, where these images are given.
+fn read_check<'a>(
+    matches: &ArgMatches<'a>,
+    images: &'a [GivenImage<'a>],
+) -> Result<CheckRequest<'a>, Mistake<'a>> {
+    refuse_middle(matches)?;
+    Ok(CheckRequest {
+        trace: read_trace(matches),
         tells_all: matches.get_flag("all"),
         readies: read_readies(matches),
         assumes_ready: matches.get_flag("assume-ready"),
         beginning: read_beginning(matches),
         judges_bytes: matches.get_flag("bytes"),
         has_notes: matches.get_flag("notes"),
-        form: read_form(matches),
+        times: read_times(matches)?,
+        dies: read_data(matches, images)?,
         style: read_style(matches),
         copy: matches.get_str("write"),
-    }
+    })
 }
 
 // What an image is asked for; the parser takes no other number of a chip enable and of a LUN than 0 to 3.
 fn read_image_request<'a>(matches: &ArgMatches<'a>) -> ImageRequest<'a> {
     ImageRequest {
-        page: find_word(matches, "PAGE"),
-        profile: read_profile(matches),
-        targets: read_targets(find_word(matches, "TARGETS")),
-        input: find_word(matches, "TRACE"),
-        form: read_form(matches),
+        trace: read_trace(matches),
         readies: read_readies(matches),
         lun: Lun {
             ce: number_of(find_word(matches, "CE")).unwrap_or(0),
@@ -589,21 +572,6 @@ fn read_image_request<'a>(matches: &ArgMatches<'a>) -> ImageRequest<'a> {
         on: matches.get_str("on"),
         fills_reads: matches.get_flag("reads"),
     }
-}
-
-// A check, of data or of times too where that is asked for.
-fn read_check_command<'a>(
-    matches: &ArgMatches<'a>,
-    images: &'a [GivenImage<'a>],
-) -> Result<Command<'a>, Mistake<'a>> {
-    let check = read_check(matches);
-    if let Some(request) = read_data(matches, check, images)? {
-        return Ok(Command::CheckData(request));
-    }
-    Ok(match read_times(matches, check)? {
-        None => check_with(check, matches.get_str("vendor")),
-        Some(request) => Command::CheckTimes(request),
-    })
 }
 
 // As what a trace is drawn into a file of this name.
@@ -631,11 +599,7 @@ fn read_outputs<'a>(matches: &ArgMatches<'a>, text: &str) -> TraceOutputs<'a> {
 fn read_draw<'a>(matches: &ArgMatches<'a>, form: DrawForm) -> DrawRequest<'a> {
     DrawRequest {
         form,
-        page: find_word(matches, "PAGE"),
-        profile: read_profile(matches),
-        targets: read_targets(find_word(matches, "TARGETS")),
-        lines: read_form(matches),
-        input: find_word(matches, "TRACE"),
+        trace: read_trace(matches),
         target: find_word(matches, "OUT"),
     }
 }

@@ -1,11 +1,10 @@
 //! The options of a check that say whether its data are judged, and what its dies held.
 
 use clap::ArgMatches;
-use data_commands::{DataRequest, GivenImage};
 use onfi_cycle::Lun;
+use recording::{DataRequest, GivenImage};
 use shown_text::Shown;
 use std::fmt;
-use trace_commands::CheckRequest;
 
 /// What is wrong with the options about data.
 #[derive(Clone, Copy, Debug, PartialEq, Eq)]
@@ -23,7 +22,7 @@ impl fmt::Display for DataMistake<'_> {
         match self {
             DataMistake::Image(word) => write!(
                 f,
-                "--on takes CE,LUN=IMAGE, a chip enable and a LUN of 0 to 3 and a file, as in 0,1=old.image, and not `{}`",
+                "--on takes CE.LUN=IMAGE, a chip enable and a LUN of 0 to 3 and a file, as in 0.1=old.image, and not `{}`",
                 Shown::line(word)
             ),
             DataMistake::Twice(word) => write!(
@@ -50,7 +49,8 @@ pub(crate) fn number_of(word: &str) -> Option<u8> {
 // The image of a LUN, which is a file.
 fn image_of(word: &str) -> Option<GivenImage<'_>> {
     let (place, path) = word.split_once('=')?;
-    let (ce, lun) = place.split_once(',')?;
+    // With a comma it was written before.
+    let (ce, lun) = place.split_once('.').or(place.split_once(','))?;
     let lun = Lun {
         ce: number_of(ce)?,
         lun: number_of(lun)?,
@@ -78,16 +78,11 @@ pub(crate) fn read_image<'a>(
 /// How the data of a trace are judged, if they are, where these images are given.
 pub(crate) fn read_data<'a>(
     matches: &ArgMatches<'a>,
-    check: CheckRequest<'a>,
     images: &'a [GivenImage<'a>],
 ) -> Result<Option<DataRequest<'a, 'a>>, DataMistake<'a>> {
     let are_erased = matches.get_flag("erased");
     if matches.get_flag("data") {
-        return Ok(Some(DataRequest {
-            check,
-            images,
-            are_erased,
-        }));
+        return Ok(Some(DataRequest { images, are_erased }));
     }
     if are_erased || !images.is_empty() {
         return Err(DataMistake::NoData);

@@ -343,7 +343,6 @@ pub(crate) const CHECK: Declaration = Declaration {
         Declared {
             name: "from-middle",
             help: "For a trace whose recording began while the bus was in use: what hangs on what was before is taken for granted, and said",
-            conflicts: &["write"],
             ..FLAG
         },
         Declared {
@@ -363,14 +362,11 @@ pub(crate) const CHECK: Declaration = Declaration {
             ..REQUIRED
         },
         JSON_ERRORS,
-        Declared {
-            conflicts: &["from-middle", "timing", "data"],
-            ..VENDOR
-        },
+        VENDOR,
         Declared {
             name: "timing",
             form: Form::Value("MODE|FILE"),
-            help: "With --recorded and --unit: judges the times too, by a timing mode, 0 to 5, or by a timing file",
+            help: "With --unit: judges the times too, by a timing mode, 0 to 5, or by a timing file; the trace is read as --recorded",
             ..REQUIRED
         },
         Declared {
@@ -388,13 +384,12 @@ pub(crate) const CHECK: Declaration = Declaration {
         Declared {
             name: "data",
             help: "Judges the data too: each output of a known page is to give what the die holds, as docs/use/DATA.md has it",
-            conflicts: &["write", "from-middle", "timing"],
             ..FLAG
         },
         Declared {
             name: "on",
-            form: Form::Values("CE,LUN=IMAGE"),
-            help: "With --data: the image of what a LUN held at the beginning, as in 0,1=old.image; once for each LUN",
+            form: Form::Values("CE.LUN=IMAGE"),
+            help: "With --data: the image of what a LUN held at the beginning, as in 0.1=old.image; once for each LUN",
             ..REQUIRED
         },
         Declared {
@@ -483,6 +478,7 @@ pub(crate) const WRITE_IMAGE: Declaration = Declaration {
         },
         RECORDED,
         READIES_FROM_STATUS,
+        VENDOR,
     ],
 };
 
@@ -561,6 +557,7 @@ pub(crate) const OPS: Declaration = Declaration {
             help: "Leaves out what stands behind the last line",
             ..FLAG
         },
+        VENDOR,
     ],
 };
 
@@ -680,6 +677,10 @@ pub(crate) const MAKE_PAGE: Declaration = Declaration {
             name: "status-enhanced",
             help: "Declares read status enhanced, 78h, which several LUNs need",
             ..FLAG
+        },
+        Declared {
+            help: "With --from: leaves out the items of the sequences of this vendor file, or of the built-in one, `linux`",
+            ..VENDOR
         },
     ],
 };

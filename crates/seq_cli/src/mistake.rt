@@ -69,12 +69,12 @@ impl fmt::Display for PathMistake<'_> {
 // The files of these paths, which are used so.
 fn list_uses<'a>(
     alloc: Global,
-    paths: [Option<&'a str>; 3],
+    paths: &[Option<&'a str>],
     usage: Use,
 ) -> Result<Vec<UsedFile<'a>>, AllocError> {
     let mut uses = Vec::new(alloc);
     for path in paths {
-        if let Some(path) = path {
+        if let Some(path) = *path {
             uses.push(UsedFile {
                 path,
                 usage,
@@ -110,8 +110,8 @@ impl<'a> PathMistake<'a> {
             return Ok(None);
         }
         let Paths { inputs, outputs } = command.paths();
-        let outputs = list_uses(alloc, outputs, Use::Written)?;
-        let inputs = list_uses(alloc, inputs, Use::Read)?;
+        let outputs = list_uses(alloc, &outputs, Use::Written)?;
+        let inputs = list_uses(alloc, &inputs, Use::Read)?;
         let clash = find_clash(alloc, files, outputs.as_slice(), inputs.as_slice())?;
         Ok(clash.map(PathMistake::from))
     }
@@ -190,6 +190,8 @@ pub enum Mistake<'a> {
     NoPage,
     /// The number of an option of `page` isn't one.
     PageNumber { option: &'static str, word: &'a str },
+    /// This option doesn't go with `--from-middle`.
+    FromMiddle(&'static str),
     /// The options about times don't go together, or one isn't what it takes.
     Timing(TimingMistake<'a>),
     /// The options about data don't go together, or one isn't what it takes.
@@ -271,6 +273,10 @@ impl fmt::Display for Mistake<'_> {
                 f,
                 "error: --{option} takes a decimal number, 0 to 4294967295, and not `{}`",
                 Shown::line(word)
+            ),
+            Mistake::FromMiddle(option) => writeln!(
+                f,
+                "error: --{option} and --from-middle don't go together: what the dies held and what their LUNs were at when the recording began isn't known"
             ),
             Mistake::Ops(mistake) => writeln!(f, "error: {mistake}"),
             Mistake::Timing(mistake) => writeln!(f, "error: {mistake}"),

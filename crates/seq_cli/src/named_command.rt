@@ -1,18 +1,13 @@
 //! A command on one of several files.
 
 use crate::command::Command;
-use data_commands::DataRequest;
 use program_commands::LintRequest;
-use timing_commands::TimesRequest;
-use trace_commands::{CheckRequest, VendorCheckRequest};
+use recording::{CheckRequest, TraceRequest};
 
 /// A command on one of several files, whose lines name that.
 #[derive(Clone, Copy)]
 pub(crate) enum NamedCommand<'a> {
     Check(CheckRequest<'a>),
-    CheckVendor(VendorCheckRequest<'a>),
-    CheckTimes(TimesRequest<'a>),
-    CheckData(DataRequest<'a, 'a>),
     Lint(LintRequest<'a>),
 }
 
@@ -21,9 +16,6 @@ impl<'a> NamedCommand<'a> {
     pub(crate) fn of(command: Command<'a>) -> Option<NamedCommand<'a>> {
         match command {
             Command::Check(request) => Some(NamedCommand::Check(request)),
-            Command::CheckVendor(request) => Some(NamedCommand::CheckVendor(request)),
-            Command::CheckTimes(request) => Some(NamedCommand::CheckTimes(request)),
-            Command::CheckData(request) => Some(NamedCommand::CheckData(request)),
             Command::Lint(request) => Some(NamedCommand::Lint(request)),
             Command::Assemble { .. }
             | Command::AssembleFor { .. }
@@ -32,14 +24,10 @@ impl<'a> NamedCommand<'a> {
             | Command::Once { .. }
             | Command::Run(_)
             | Command::Capture(_)
-            | Command::PrintCapture(_)
-            | Command::CaptureVendor(_)
-            | Command::PrintCaptureVendor(_)
             | Command::Timing(_)
             | Command::WriteImage(_)
             | Command::ListOperations(_)
             | Command::Draw(_)
-            | Command::DrawVendor(_)
             | Command::Disassemble { .. }
             | Command::MakePage { .. }
             | Command::TakePage(_)
@@ -63,10 +51,7 @@ impl<'a> NamedCommand<'a> {
     /// The path of its file.
     pub(crate) fn path(self) -> &'a str {
         match self {
-            NamedCommand::Check(request) => request.input,
-            NamedCommand::CheckVendor(request) => request.check.input,
-            NamedCommand::CheckTimes(request) => request.check.input,
-            NamedCommand::CheckData(request) => request.check.input,
+            NamedCommand::Check(request) => request.trace.input,
             NamedCommand::Lint(request) => request.input,
         }
     }
@@ -74,24 +59,10 @@ impl<'a> NamedCommand<'a> {
     /// The same for another file.
     pub(crate) fn with_path(self, input: &'a str) -> Command<'a> {
         match self {
-            NamedCommand::Check(request) => Command::Check(CheckRequest { input, ..request }),
-            NamedCommand::CheckVendor(VendorCheckRequest { check, vendor }) => {
-                Command::CheckVendor(VendorCheckRequest {
-                    check: CheckRequest { input, ..check },
-                    vendor,
-                })
-            }
-            NamedCommand::CheckTimes(request) => Command::CheckTimes(TimesRequest {
-                check: CheckRequest {
+            NamedCommand::Check(request) => Command::Check(CheckRequest {
+                trace: TraceRequest {
                     input,
-                    ..request.check
-                },
-                ..request
-            }),
-            NamedCommand::CheckData(request) => Command::CheckData(DataRequest {
-                check: CheckRequest {
-                    input,
-                    ..request.check
+                    ..request.trace
                 },
                 ..request
             }),

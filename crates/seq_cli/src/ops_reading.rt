@@ -2,11 +2,10 @@
 
 use crate::command::Command;
 use clap::ArgMatches;
-use nand_geometry::Profile;
 use operation_commands::{OpsFilter, OpsForm, OpsRequest, OpsText};
+use recording::TraceRequest;
 use shown_text::Shown;
 use std::fmt;
-use trace_commands::Targets;
 use trace_faults::Beginning;
 
 /// An option of a list of operations that isn't what it takes.
@@ -200,17 +199,11 @@ fn read_form(matches: &ArgMatches<'_>) -> OpsForm {
 /// What a list of operations is asked for, of these files.
 pub(crate) fn read_ops<'a>(
     matches: &ArgMatches<'a>,
-    page: &'a str,
-    profile: Profile,
-    targets: Targets,
-    input: &'a str,
+    trace: TraceRequest<'a>,
     beginning: Beginning,
 ) -> Result<Command<'a>, OpsMistake<'a>> {
     Ok(Command::ListOperations(OpsRequest {
-        page,
-        profile,
-        targets,
-        input,
+        trace,
         beginning,
         form: read_form(matches),
         filter: read_filter(matches)?,

@@ -1,18 +1,14 @@
 //! The options of a check that say how its times are judged.
 
 use clap::ArgMatches;
+use recording::{TimesRequest, TimingSource};
 use shown_text::Shown;
 use std::fmt;
-use timing_commands::{TimesRequest, TimingSource};
-use trace_commands::CheckRequest;
-use trace_text::TraceForm;
 use trace_timing::TimingMode;
 
 /// What is wrong with the options about times.
 #[derive(Clone, Copy, Debug, PartialEq, Eq)]
 pub enum TimingMistake<'a> {
-    /// `--timing` is for a trace with times.
-    NotRecorded,
     /// `--timing` wants a unit.
     NoUnit,
     /// This is no unit.
@@ -23,16 +19,11 @@ pub enum TimingMistake<'a> {
     NoTiming,
     /// Edges are judged by a mode or by a timing file.
     NoSource,
-    /// A trace whose times are judged isn't written.
-    Written,
 }
 
 impl fmt::Display for TimingMistake<'_> {
     fn fmt<W: fmt::Write>(&self, f: &mut fmt::Formatter<W>) -> fmt::Result {
         match self {
-            TimingMistake::NotRecorded => f.write_str(
-                "--timing judges the times of a recorded trace: give --recorded with it",
-            ),
             TimingMistake::NoUnit => f.write_str(
                 "--timing wants --unit, what 1 of a time is: 1ns, 10ns, 100ps; the dump of a capture says it as its $timescale",
             ),
@@ -50,7 +41,6 @@ impl fmt::Display for TimingMistake<'_> {
             TimingMistake::NoSource => f.write_str(
                 "`timing` wants --timing, a timing mode, 0 to 5, or a timing file",
             ),
-            TimingMistake::Written => f.write_str("--timing and --write don't go together"),
         }
     }
 }
@@ -105,7 +95,6 @@ fn source_of(word: &str) -> TimingSource<'_> {
 /// How the times of a trace are judged, if they are.
 pub(crate) fn read_times<'a>(
     matches: &ArgMatches<'a>,
-    check: CheckRequest<'a>,
 ) -> Result<Option<TimesRequest<'a>>, TimingMistake<'a>> {
     let (unit, slack) = (matches.get_str("unit"), matches.get_str("slack"));
     let Some(word) = matches.get_str("timing") else {
@@ -114,14 +103,8 @@ pub(crate) fn read_times<'a>(
             (Some(_), _) | (None, Some(_)) => Err(TimingMistake::NoTiming),
         };
     };
-    match (check.form, check.copy) {
-        (TraceForm::Strict, _) => return Err(TimingMistake::NotRecorded),
-        (TraceForm::Recorded, Some(_)) => return Err(TimingMistake::Written),
-        (TraceForm::Recorded, None) => {}
-    }
     let unit = read_unit(unit)?;
     Ok(Some(TimesRequest {
-        check,
         source: source_of(word),
         unit,
         slack: read_slack(slack)?.saturating_mul(unit),

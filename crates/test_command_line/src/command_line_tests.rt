@@ -4,6 +4,7 @@ use crate::once_tests::{new_console, no_line_is_wrong};
 use bus_capture::CaptureForm;
 use clap::error::ErrorKind as UsageKind;
 use nand_geometry::Profile;
+use recording::{CaptureRequest, Targets};
 use run_once::once_on;
 use seq_cli::{Command, Mistake, parse};
 use seq_inputs::Exit;
@@ -12,7 +13,7 @@ use std::alloc::{AllocError, Global};
 use std::io::{self, Read};
 use std::process::Abort;
 use std::test::Fail;
-use trace_commands::{CaptureRequest, DrawRequest, Targets};
+use trace_commands::DrawRequest;
 use trace_files::{DrawForm, Drawing, TraceOutputs};
 use trace_timing::TimingMode;
 
@@ -199,10 +200,11 @@ const CAPTURE: CaptureRequest<'static> = CaptureRequest {
     targets: Targets::Two,
     input: "x",
     form: CaptureForm::Dump,
-    target: "t",
+    target: Some("t"),
     mappings: None,
     has_times: false,
     glitch: 0,
+    vendor: None,
 };
 
 // Words, and the capture that they ask for.
@@ -316,12 +318,7 @@ fn name_of(asked: Command<'_>) -> &'static str {
         Command::Lint(_) => "lint",
         Command::Explain { .. } => "explain",
         Command::Capture(_) => "capture",
-        Command::PrintCapture(_) => "capture -",
-        Command::CaptureVendor(_) | Command::PrintCaptureVendor(_) => "capture --vendor",
         Command::Check(_) => "check",
-        Command::CheckVendor(_) => "check --vendor",
-        Command::CheckTimes(_) => "check --timing",
-        Command::CheckData(_) => "check --data",
         Command::Timing(_) => "timing",
         Command::WriteImage(_) => "image",
         Command::ListOperations(_) => "ops",
@@ -329,7 +326,6 @@ fn name_of(asked: Command<'_>) -> &'static str {
             DrawForm::Waveform => "wave",
             DrawForm::Picture | DrawForm::Page => "draw",
         },
-        Command::DrawVendor(_) => "draw --vendor",
     }
 }
 

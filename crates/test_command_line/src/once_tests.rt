@@ -3,6 +3,7 @@ use linked_list_allocator::LocalHeap;
 use micro_claims::Reason;
 use nand_geometry::Profile;
 use program_commands::VerifyRequest;
+use recording::{CheckRequest, Targets, TraceRequest};
 use run_once::once_on;
 use seq_cli::{Command, Mistake, parse};
 use seq_files::{SlowReader, SlowWriter};
@@ -11,7 +12,6 @@ use std::alloc::{AllocError, Global};
 use std::io::{self, sink};
 use std::process::Abort;
 use std::test::Fail;
-use trace_commands::{CheckRequest, Targets};
 use trace_faults::{Beginning, Readies};
 use trace_files::{DrawForm, Drawing, TraceOutputs};
 use trace_text::{NoProgress, TraceForm};
@@ -236,7 +236,9 @@ fn kind_of(mistake: &Mistake<'_>) -> UsageKind {
         | Mistake::Ops(_)
         | Mistake::NoteCode { .. }
         | Mistake::PageNumber { .. } => UsageKind::ValueValidation,
-        Mistake::NoteTwice(_) | Mistake::Paths(_) => UsageKind::ArgumentConflict,
+        Mistake::NoteTwice(_) | Mistake::FromMiddle(_) | Mistake::Paths(_) => {
+            UsageKind::ArgumentConflict
+        }
     }
 }
 
@@ -365,19 +367,26 @@ const BASE_A: PageFile<'static> = PageFile {
 
 // A check of a trace, strict and until its first fault.
 const CHECK: CheckRequest<'static> = CheckRequest {
-    page: "a",
-    profile: Profile::Base,
-    targets: Targets::One,
-    input: "b",
+    trace: TRACE,
     tells_all: false,
     readies: Readies::Written,
     assumes_ready: false,
     beginning: Beginning::Start,
     judges_bytes: false,
     has_notes: false,
-    form: TraceForm::Strict,
+    times: None,
+    dies: None,
     style: Style::Plain,
     copy: None,
+};
+
+const TRACE: TraceRequest<'static> = TraceRequest {
+    page: "a",
+    profile: Profile::Base,
+    targets: Targets::One,
+    input: "b",
+    form: TraceForm::Strict,
+    vendor: None,
 };
 
 const FILE_LINES: &[Asked] = &[
@@ -451,21 +460,30 @@ const FILE_LINES: &[Asked] = &[
     Asked {
         words: &["onfiseq", "check", "a", "2", "b"],
         asked: Ok(Command::Check(CheckRequest {
-            targets: Targets::Two,
+            trace: TraceRequest {
+                targets: Targets::Two,
+                ..TRACE
+            },
             ..CHECK
         })),
     },
     Asked {
         words: &["onfiseq", "check", "a", "3", "b"],
         asked: Ok(Command::Check(CheckRequest {
-            targets: Targets::Three,
+            trace: TraceRequest {
+                targets: Targets::Three,
+                ..TRACE
+            },
             ..CHECK
         })),
     },
     Asked {
         words: &["onfiseq", "check", "a", "4", "b"],
         asked: Ok(Command::Check(CheckRequest {
-            targets: Targets::Four,
+            trace: TraceRequest {
+                targets: Targets::Four,
+                ..TRACE
+            },
             ..CHECK
         })),
     },

@@ -2,11 +2,11 @@
 use crate::command::Command;
 use crate::tests::{ASSEMBLE, DIE, ONE_LUN, SEARCHED, do_command, files_of, is_right};
 use program_commands::VerifyRequest;
+use recording::Ending;
 use seq_files::{FileError, FileFault, MapFiles};
 use seq_inputs::{Exit, Style};
 use std::alloc::Global;
 use std::test::Fail;
-use trace_commands::Ending;
 use trace_files::{DrawForm, Drawing, TraceOutputs};
 
 // To verify, and to leave the text of the run.

@@ -4,13 +4,13 @@ use crate::tests::{
     files_of, is_right, none_is_wrong,
 };
 use linked_list_allocator::LocalHeap;
+use recording::Ending;
 use seq_files::{FileError, FileFault, FullWriter, MapFiles};
 use seq_inputs::{Console, Exit};
 use std::alloc::{AllocError, Global};
 use std::io::{self, sink};
 use std::process::Abort;
 use std::test::Fail;
-use trace_commands::Ending;
 use trace_text::NoProgress;
 
 // Each command with the text that it reads, none for a word file, and how many files it reads and writes.
@@ -134,7 +134,7 @@ fn fails_so(
         errors: Vec::new(alloc),
         progress: NoProgress,
     };
-    let got = command.carry_out(alloc, files, &mut console);
+    let got = command.carry_out(alloc, alloc, files, &mut console);
     got == Ending::Exit(exit) && console.errors.as_slice() == said
 }
 
@@ -181,7 +181,7 @@ fn refuse_unheard(alloc: Global, files: &mut MapFiles) -> (u8, Vec<u8>) {
         },
         progress: NoProgress,
     };
-    let exit = VERIFY.carry_out(alloc, files, &mut console);
+    let exit = VERIFY.carry_out(alloc, alloc, files, &mut console);
     (exit.status(), console.output)
 }
 
@@ -205,7 +205,7 @@ fn carry_out_on(
         errors: sink(),
         progress: NoProgress,
     };
-    let exit = command.carry_out(heap, files, &mut console);
+    let exit = command.carry_out(heap, alloc, files, &mut console);
     (exit, console.output.len())
 }
 
@@ -237,10 +237,10 @@ fn is_done_at_last(alloc: Global, command: Command<'_>, text: &str) -> Result<bo
     Ok(refused > 0 && refused < 200)
 }
 
-// The place of the first command of which that isn't so.
+// The place of the first command of which that isn't so. Of a check `tools/fail_runs.py` refuses each request for memory.
 fn first_not_done(alloc: Global) -> Result<Option<usize>, Fail> {
     for (place, (command, text, _)) in COMMANDS.iter().enumerate() {
-        if !is_done_at_last(alloc, *command, text)? {
+        if command.is_of_program() && !is_done_at_last(alloc, *command, text)? {
             return Ok(Some(place));
         }
     }

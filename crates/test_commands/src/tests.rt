@@ -1,11 +1,11 @@
 use crate::command::Command;
 use nand_geometry::{Geometry, Parts, Profile, SMALL_CHIP};
 use program_commands::VerifyRequest;
+use recording::{CheckRequest, Ending, Targets, TraceRequest};
 use seq_files::MapFiles;
 use seq_inputs::{Console, Exit, Fault, PageFile, Refusal, Style};
 use std::alloc::Global;
 use std::test::Fail;
-use trace_commands::{CheckRequest, Ending, Targets};
 use trace_faults::{Beginning, Readies};
 use trace_files::TraceOutputs;
 use trace_text::{NoProgress, TraceForm};
@@ -45,17 +45,22 @@ pub(crate) const VERIFY: Command<'static> = Command::Verify(VerifyRequest {
 });
 
 pub(crate) const CHECK: Command<'static> = Command::Check(CheckRequest {
-    page: "die.page",
-    profile: Profile::Base,
-    targets: Targets::One,
-    input: "in",
+    trace: TraceRequest {
+        page: "die.page",
+        profile: Profile::Base,
+        targets: Targets::One,
+        input: "in",
+        form: TraceForm::Strict,
+        vendor: None,
+    },
     tells_all: false,
     readies: Readies::Written,
     assumes_ready: false,
     beginning: Beginning::Start,
     judges_bytes: false,
     has_notes: false,
-    form: TraceForm::Strict,
+    times: None,
+    dies: None,
     style: Style::Plain,
     copy: None,
 });
@@ -100,7 +105,7 @@ pub(crate) fn do_command(alloc: Global, files: &mut MapFiles, command: Command<'
         errors: Vec::new(alloc),
         progress: NoProgress,
     };
-    let exit = command.carry_out(alloc, files, &mut console);
+    let exit = command.carry_out(alloc, alloc, files, &mut console);
     let Console { output, errors, .. } = console;
     Seen {
         exit,

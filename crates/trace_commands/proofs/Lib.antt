@@ -1,7 +1,5 @@
-pub mod Captured
-pub mod Checked
-pub mod Conversions
-pub mod Kept
-pub mod Sayings
-pub mod Stopped
-pub mod VendorChecked
+pub mod Filled
+pub mod Left
+pub mod Places
+pub mod Verdicts
+pub mod Written

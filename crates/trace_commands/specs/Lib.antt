@@ -1,10 +1,5 @@
-pub mod Captures
+pub mod Reports
 pub mod Checks
 pub mod Draws
-pub mod Endings
-pub mod Recordings
-pub mod Targets
-pub mod VendorChecks
+pub mod Images
 pub mod TakenPages
-pub mod VendorCaptures
-pub mod VendorDraws

@@ -1,7 +1,7 @@
 //! The bytes that parameter pages have on the bus.
 
 use onfi_cycle::{Cycle, Item, Kind};
-use std::alloc::{AllocError, Allocator};
+use std::alloc::{AllocError, Global};
 
 /// How many bytes a copy of a page has.
 pub(crate) const COPY_LEN: usize = 256;
@@ -39,12 +39,12 @@ impl Asked {
 
 /// What a target has put out of its parameter page, in all reads of it.
 #[derive(Drop)]
-pub(crate) struct PageOutputs<A: Allocator> {
-    pub bytes: Vec<u8, A>,
+pub(crate) struct PageOutputs {
+    pub bytes: Vec<u8>,
     asked: Asked,
 }
 
-impl<A: Allocator> PageOutputs<A> {
+impl PageOutputs {
     // Goes on by a cycle. What was read before of a copy that isn't whole counts for nothing once another read begins.
     fn take(&mut self, cycle: Cycle) -> Result<(), AllocError> {
         let asked = self.asked.after(cycle);
@@ -60,7 +60,7 @@ impl<A: Allocator> PageOutputs<A> {
     }
 
     /// Those of one target among these items.
-    pub(crate) fn of(alloc: A, items: &[Item], target: u8) -> Result<PageOutputs<A>, AllocError> {
+    pub(crate) fn of(alloc: Global, items: &[Item], target: u8) -> Result<PageOutputs, AllocError> {
         let mut outputs = PageOutputs {
             bytes: Vec::new(alloc),
             asked: Asked::Nothing,

@@ -14,12 +14,14 @@ pub enum PageSource<'a> {
     },
 }
 
-/// The taking of a parameter page. `-` as a path that is read is standard input.
+/// The taking of a parameter page. `-` as a path is standard input.
 #[derive(Clone, Copy, Debug, PartialEq, Eq)]
 pub struct PageRequest<'a> {
     pub source: PageSource<'a>,
     /// The trace or the capture.
     pub input: &'a str,
+    /// The vendor file whose sequences are left out, if there is one; `linux` is the one that is built in.
+    pub vendor: Option<&'a str>,
     /// Where the page is written to.
     pub target: &'a str,
 }

@@ -3,7 +3,7 @@ use Rattle.std.specs.Option.{option_map}
 use Rattle.bus_signals.specs.declared.mapping.Mapping.{Mapping}
 use Rattle.bus_capture.specs.declared.reading.Setup.{Setup}
 use Rattle.bus_capture.specs.Inferring.{captured}
-use Rattle.trace_commands.specs.Captures.{AreSaid}
+use Rattle.recording.specs.Captures.{AreSaid}
 use Rattle.edge_commands.specs.Edges.{AreJudgedIn, IsEdgeSetup}
 use Rattle.edge_commands.proofs.Done.{any_ok}
 use Rattle.edge_commands.proofs.edges_judging.judge_file.Goals as goal

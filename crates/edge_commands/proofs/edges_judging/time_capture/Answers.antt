@@ -1,7 +1,7 @@
 use Rattle.std.proofs.Common.{inl, refl}
 use Rattle.seq_inputs.specs.Inputs.{PageIsRefused}
-use Rattle.trace_commands.specs.Recordings.{fault_line}
-use Rattle.trace_commands.proofs.Stopped.{refused, wrong}
+use Rattle.recording.specs.Recordings.{fault_line}
+use Rattle.recording.proofs.Stopped.{refused, wrong}
 use Rattle.edge_commands.specs.Edges.{EdgesRefuse}
 use Rattle.edge_commands.proofs.edges_judging.time_capture.Goals as goal
 

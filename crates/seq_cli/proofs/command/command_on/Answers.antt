@@ -2,16 +2,17 @@ use Rattle.std.proofs.Common.{codes, refl, subst, sym, ◌∙◌}
 use Rattle.seq_inputs.specs.Refusals.{line_of}
 use Rattle.seq_cli.specs.declared.command.Command.{Command}
 use Rattle.seq_inputs.specs.declared.exit.Exit.TheVariants as exit
-use Rattle.trace_commands.specs.declared.ending.Ending.TheVariants as ending
-use Rattle.trace_commands.specs.Recordings.{fault_line}
-use Rattle.data_commands.specs.Images.{done_text}
-use Rattle.seq_cli.specs.Commands.{IsDone, MayFlag, MayRefuse, MayTell, MayDiffer}
-use Rattle.seq_cli.proofs.Endings.{same_is, exit_is, lint_is, denied_is, never_faulty}
+use Rattle.recording.specs.declared.ending.Ending.TheVariants as ending
+use Rattle.recording.specs.Recordings.{fault_line}
+use Rattle.trace_commands.specs.Images.{done_text}
+use Rattle.recording.specs.Captures.{text_printed}
+use Rattle.seq_cli.specs.Commands.{IsDone, MayFlag, MayRefuse, MayTell}
+use Rattle.seq_cli.proofs.Endings.{exits_same, lint_is, denied_is, never_faulty}
 use Rattle.seq_cli.proofs.command.command_on.Goals as goal
 
 pub returns-in-Assemble-clause-refused : goal.returns-in-Assemble-clause-refused
 returns-in-Assemble-clause-refused g c = λ refusal is.
-    let k = c.assemble_file.ensures.refused refusal (exit_is c.assemble_file.result (exit.Refused refusal) is) in (
+    let k = c.assemble_file.ensures.refused refusal (exits_same c.assemble_file.result (exit.Refused refusal) is) in (
       line_of refusal,
       subst (λ (m : Command). MayRefuse m (g.R.Read.remaining c.args.input.now) (g.F.Files.store c.args.files.now) (g.F.Files.store c.assemble_file.new.files) refusal (line_of refusal)) (sym c.in-Assemble.is) (k.0, k.1, refl),
       k.2,
@@ -19,7 +20,7 @@ returns-in-Assemble-clause-refused g c = λ refusal is.
 
 pub returns-in-AssembleFor-clause-refused : goal.returns-in-AssembleFor-clause-refused
 returns-in-AssembleFor-clause-refused g c = λ refusal is.
-    let k = c.assemble_file_for.ensures.refused refusal (exit_is c.assemble_file_for.result (exit.Refused refusal) is) in (
+    let k = c.assemble_file_for.ensures.refused refusal (exits_same c.assemble_file_for.result (exit.Refused refusal) is) in (
       line_of refusal,
       subst (λ (m : Command). MayRefuse m (g.R.Read.remaining c.args.input.now) (g.F.Files.store c.args.files.now) (g.F.Files.store c.assemble_file_for.new.files) refusal (line_of refusal)) (sym c.in-AssembleFor.is) (k.0, k.1, refl),
       k.2,
@@ -27,7 +28,7 @@ returns-in-AssembleFor-clause-refused g c = λ refusal is.
 
 pub returns-in-Verify-clause-refused : goal.returns-in-Verify-clause-refused
 returns-in-Verify-clause-refused g c = λ refusal is.
-    let k = c.verify_file.ensures.refused refusal (exit_is c.verify_file.result (exit.Refused refusal) is) in (
+    let k = c.verify_file.ensures.refused refusal (exits_same c.verify_file.result (exit.Refused refusal) is) in (
       line_of refusal,
       subst (λ (m : Command). MayRefuse m (g.R.Read.remaining c.args.input.now) (g.F.Files.store c.args.files.now) (g.F.Files.store c.verify_file.new.files) refusal (line_of refusal)) (sym c.in-Verify.is) (k.0, refl),
       k.1,
@@ -35,17 +36,17 @@ returns-in-Verify-clause-refused g c = λ refusal is.
 
 pub returns-in-Lint-clause-done : goal.returns-in-Lint-clause-done
 returns-in-Lint-clause-done g c = λ is.
-    let k = c.lint_file.ensures.done (lint_is c.lint_file.result exit.Done (sym c.ending_of.ensures ∙ same_is c.ending_of.result (ending.Exit exit.Done) is)) in
+    let k = c.lint_file.ensures.done (lint_is c.lint_file.result exit.Done (sym c.ending_of.ensures ∙ is)) in
     (k.0, subst (λ (m : Command). IsDone m (g.R.Read.remaining c.args.input.now) (g.F.Files.store c.args.files.now) (g.F.Files.store c.lint_file.new.files) k.0) (sym c.in-Lint.is) (k.1, c.lint_file.ensures.stays), k.2)
 
 pub returns-in-Lint-clause-flagged : goal.returns-in-Lint-clause-flagged
 returns-in-Lint-clause-flagged g c = λ is.
-    let k = c.lint_file.ensures.denied (denied_is c.lint_file.result (sym c.ending_of.ensures ∙ same_is c.ending_of.result ending.Flagged is)) in
+    let k = c.lint_file.ensures.denied (denied_is c.lint_file.result (sym c.ending_of.ensures ∙ is)) in
     (k.0, subst (λ (m : Command). MayFlag m (g.F.Files.store c.args.files.now) (g.F.Files.store c.lint_file.new.files) k.0) (sym c.in-Lint.is) (k.1, c.lint_file.ensures.stays), k.2)
 
 pub returns-in-Lint-clause-refused : goal.returns-in-Lint-clause-refused
 returns-in-Lint-clause-refused g c = λ refusal is.
-    let k = c.lint_file.ensures.refused refusal (lint_is c.lint_file.result (exit.Refused refusal) (sym c.ending_of.ensures ∙ same_is c.ending_of.result (ending.Exit (exit.Refused refusal)) is)) in (
+    let k = c.lint_file.ensures.refused refusal (lint_is c.lint_file.result (exit.Refused refusal) (sym c.ending_of.ensures ∙ is)) in (
       line_of refusal,
       subst (λ (m : Command). MayRefuse m (g.R.Read.remaining c.args.input.now) (g.F.Files.store c.args.files.now) (g.F.Files.store c.lint_file.new.files) refusal (line_of refusal)) (sym c.in-Lint.is) (k.0, c.lint_file.ensures.stays, refl),
       k.1,
@@ -53,7 +54,7 @@ returns-in-Lint-clause-refused g c = λ refusal is.
 
 pub returns-in-Explain-clause-refused : goal.returns-in-Explain-clause-refused
 returns-in-Explain-clause-refused g c = λ refusal is.
-    let k = c.explain_file.ensures.refused refusal (exit_is c.explain_file.result (exit.Refused refusal) is) in (
+    let k = c.explain_file.ensures.refused refusal (exits_same c.explain_file.result (exit.Refused refusal) is) in (
       line_of refusal,
       subst (λ (m : Command). MayRefuse m (g.R.Read.remaining c.args.input.now) (g.F.Files.store c.args.files.now) (g.F.Files.store c.explain_file.new.files) refusal (line_of refusal)) (sym c.in-Explain.is) (k.0, c.explain_file.ensures.stays, refl),
       k.1,
@@ -61,16 +62,16 @@ returns-in-Explain-clause-refused g c = λ refusal is.
 
 pub returns-in-Lint-clause-faulty : goal.returns-in-Lint-clause-faulty
 returns-in-Lint-clause-faulty g c = λ fault is.
-    absurd (never_faulty c.lint_file.result fault (sym c.ending_of.ensures ∙ same_is c.ending_of.result (ending.Faulty fault) is))
+    absurd (never_faulty c.lint_file.result fault (sym c.ending_of.ensures ∙ is))
 
 pub returns-in-Once-clause-done : goal.returns-in-Once-clause-done
 returns-in-Once-clause-done g c = λ is.
-    let k = c.run_program.ensures.done (exit_is c.run_program.result exit.Done is) in
+    let k = c.run_program.ensures.done (exits_same c.run_program.result exit.Done is) in
     (k.0, subst (λ (m : Command). IsDone m (g.R.Read.remaining c.args.input.now) (g.F.Files.store c.args.files.now) (g.F.Files.store c.args.files.now) k.0) (sym c.in-Once.is) (k.1, refl), k.2)
 
 pub returns-in-Once-clause-refused : goal.returns-in-Once-clause-refused
 returns-in-Once-clause-refused g c = λ refusal is.
-    let k = c.run_program.ensures.refused refusal (exit_is c.run_program.result (exit.Refused refusal) is) in (
+    let k = c.run_program.ensures.refused refusal (exits_same c.run_program.result (exit.Refused refusal) is) in (
       line_of refusal,
       subst (λ (m : Command). MayRefuse m (g.R.Read.remaining c.args.input.now) (g.F.Files.store c.args.files.now) (g.F.Files.store c.args.files.now) refusal (line_of refusal)) (sym c.in-Once.is) (k.0, refl, refl),
       k.1,
@@ -78,7 +79,7 @@ returns-in-Once-clause-refused g c = λ refusal is.
 
 pub returns-in-Run-clause-refused : goal.returns-in-Run-clause-refused
 returns-in-Run-clause-refused g c = λ refusal is.
-    let k = c.run_watched.ensures.refused refusal (exit_is c.run_watched.result (exit.Refused refusal) is) in (
+    let k = c.run_watched.ensures.refused refusal (exits_same c.run_watched.result (exit.Refused refusal) is) in (
       line_of refusal,
       subst (λ (m : Command). MayRefuse m (g.R.Read.remaining c.args.input.now) (g.F.Files.store c.args.files.now) (g.F.Files.store c.run_watched.new.files) refusal (line_of refusal)) (sym c.in-Run.is) (k.0, k.1, refl),
       k.2,
@@ -86,7 +87,7 @@ returns-in-Run-clause-refused g c = λ refusal is.
 
 pub returns-in-Capture-clause-refused : goal.returns-in-Capture-clause-refused
 returns-in-Capture-clause-refused g c = λ refusal is.
-    let k = c.capture_trace.ensures.refused refusal (same_is c.capture_trace.result (ending.Exit (exit.Refused refusal)) is) in (
+    let k = c.capture_trace.ensures.refused refusal is in (
       line_of refusal,
       subst (λ (m : Command). MayRefuse m (g.R.Read.remaining c.args.input.now) (g.F.Files.store c.args.files.now) (g.F.Files.store c.capture_trace.new.files) refusal (line_of refusal)) (sym c.in-Capture.is) (k.0, k.1, refl),
       k.2,
@@ -94,7 +95,7 @@ returns-in-Capture-clause-refused g c = λ refusal is.
 
 pub returns-in-Draw-clause-refused : goal.returns-in-Draw-clause-refused
 returns-in-Draw-clause-refused g c = λ refusal is.
-    let k = c.draw_trace.ensures.refused refusal (same_is c.draw_trace.result (ending.Exit (exit.Refused refusal)) is) in (
+    let k = c.draw_trace.ensures.refused refusal is in (
       line_of refusal,
       subst (λ (m : Command). MayRefuse m (g.R.Read.remaining c.args.input.now) (g.F.Files.store c.args.files.now) (g.F.Files.store c.draw_trace.new.files) refusal (line_of refusal)) (sym c.in-Draw.is) (k.0, k.1, refl),
       k.2,
@@ -102,7 +103,7 @@ returns-in-Draw-clause-refused g c = λ refusal is.
 
 pub returns-in-Disassemble-clause-refused : goal.returns-in-Disassemble-clause-refused
 returns-in-Disassemble-clause-refused g c = λ refusal is.
-    let k = c.disassemble_file.ensures.refused refusal (exit_is c.disassemble_file.result (exit.Refused refusal) is) in (
+    let k = c.disassemble_file.ensures.refused refusal (exits_same c.disassemble_file.result (exit.Refused refusal) is) in (
       line_of refusal,
       subst (λ (m : Command). MayRefuse m (g.R.Read.remaining c.args.input.now) (g.F.Files.store c.args.files.now) (g.F.Files.store c.disassemble_file.new.files) refusal (line_of refusal)) (sym c.in-Disassemble.is) (k.0, c.disassemble_file.ensures.stays, refl),
       k.1,
@@ -110,7 +111,7 @@ returns-in-Disassemble-clause-refused g c = λ refusal is.
 
 pub returns-in-Upgrade-clause-refused : goal.returns-in-Upgrade-clause-refused
 returns-in-Upgrade-clause-refused g c = λ refusal is.
-    let k = c.upgrade_file.ensures.refused refusal (exit_is c.upgrade_file.result (exit.Refused refusal) is) in (
+    let k = c.upgrade_file.ensures.refused refusal (exits_same c.upgrade_file.result (exit.Refused refusal) is) in (
       line_of refusal,
       subst (λ (m : Command). MayRefuse m (g.R.Read.remaining c.args.input.now) (g.F.Files.store c.args.files.now) (g.F.Files.store c.upgrade_file.new.files) refusal (line_of refusal)) (sym c.in-Upgrade.is) (k.0, k.1, refl),
       k.2,
@@ -118,7 +119,7 @@ returns-in-Upgrade-clause-refused g c = λ refusal is.
 
 pub returns-in-Capture-clause-faulty : goal.returns-in-Capture-clause-faulty
 returns-in-Capture-clause-faulty g c = λ fault is.
-    let k = c.capture_trace.ensures.faulty fault (same_is c.capture_trace.result (ending.Faulty fault) is) in (
+    let k = c.capture_trace.ensures.faulty fault is in (
       fault_line fault,
       subst (λ (m : Command). MayTell m (g.F.Files.store c.args.files.now) (g.F.Files.store c.capture_trace.new.files) fault (fault_line fault)) (sym c.in-Capture.is) (k.0, k.1, refl),
       k.2,
@@ -126,7 +127,7 @@ returns-in-Capture-clause-faulty g c = λ fault is.
 
 pub returns-in-Draw-clause-faulty : goal.returns-in-Draw-clause-faulty
 returns-in-Draw-clause-faulty g c = λ fault is.
-    let k = c.draw_trace.ensures.faulty fault (same_is c.draw_trace.result (ending.Faulty fault) is) in (
+    let k = c.draw_trace.ensures.faulty fault is in (
       fault_line fault,
       subst (λ (m : Command). MayTell m (g.F.Files.store c.args.files.now) (g.F.Files.store c.draw_trace.new.files) fault (fault_line fault)) (sym c.in-Draw.is) (k.0, k.1, refl),
       k.2,
@@ -134,7 +135,7 @@ returns-in-Draw-clause-faulty g c = λ fault is.
 
 pub returns-in-Check-clause-refused : goal.returns-in-Check-clause-refused
 returns-in-Check-clause-refused g c = λ refusal is.
-    let k = c.check_trace.ensures.refused refusal (same_is c.check_trace.result (ending.Exit (exit.Refused refusal)) is) in (
+    let k = c.check_trace.ensures.refused refusal is in (
       line_of refusal,
       subst (λ (m : Command). MayRefuse m (g.R.Read.remaining c.args.input.now) (g.F.Files.store c.args.files.now) (g.F.Files.store c.check_trace.new.files) refusal (line_of refusal)) (sym c.in-Check.is) (k.0, k.1, refl),
       k.2,
@@ -142,7 +143,7 @@ returns-in-Check-clause-refused g c = λ refusal is.
 
 pub returns-in-MakePage-clause-refused : goal.returns-in-MakePage-clause-refused
 returns-in-MakePage-clause-refused g c = λ refusal is.
-    let k = c.make_page.ensures.refused refusal (exit_is c.make_page.result (exit.Refused refusal) is) in (
+    let k = c.make_page.ensures.refused refusal (exits_same c.make_page.result (exit.Refused refusal) is) in (
       line_of refusal,
       subst (λ (m : Command). MayRefuse m (g.R.Read.remaining c.args.input.now) (g.F.Files.store c.args.files.now) (g.F.Files.store c.make_page.new.files) refusal (line_of refusal)) (sym c.in-MakePage.is) (k.0, k.1, refl),
       k.2,
@@ -150,84 +151,35 @@ returns-in-MakePage-clause-refused g c = λ refusal is.
 
 pub returns-in-ShowPage-clause-done : goal.returns-in-ShowPage-clause-done
 returns-in-ShowPage-clause-done g c = λ is.
-    let k = c.show_page.ensures.done (exit_is c.show_page.result exit.Done is) in
+    let k = c.show_page.ensures.done (exits_same c.show_page.result exit.Done is) in
     (k.1, subst (λ (m : Command). IsDone m (g.R.Read.remaining c.args.input.now) (g.F.Files.store c.args.files.now) (g.F.Files.store c.show_page.new.files) k.1) (sym c.in-ShowPage.is) (k.0, c.show_page.ensures.stays), k.2)
 
 pub returns-in-ShowPage-clause-refused : goal.returns-in-ShowPage-clause-refused
 returns-in-ShowPage-clause-refused g c = λ refusal is.
-    let k = c.show_page.ensures.refused refusal (exit_is c.show_page.result (exit.Refused refusal) is) in (
+    let k = c.show_page.ensures.refused refusal (exits_same c.show_page.result (exit.Refused refusal) is) in (
       line_of refusal,
       subst (λ (m : Command). MayRefuse m (g.R.Read.remaining c.args.input.now) (g.F.Files.store c.args.files.now) (g.F.Files.store c.show_page.new.files) refusal (line_of refusal)) (sym c.in-ShowPage.is) (k.0, c.show_page.ensures.stays, refl),
       k.1,
     )
 
-pub returns-in-CheckTimes-clause-done : goal.returns-in-CheckTimes-clause-done
-returns-in-CheckTimes-clause-done g c = λ is.
-    let k = c.check_times.ensures.done (same_is c.check_times.result (ending.Exit exit.Done) is) in
-    (k.0, subst (λ (m : Command). IsDone m (g.R.Read.remaining c.args.input.now) (g.F.Files.store c.args.files.now) (g.F.Files.store c.check_times.new.files) k.0) (sym c.in-CheckTimes.is) (k.1, c.check_times.ensures.stays), k.2)
-
-pub returns-in-CheckTimes-clause-refused : goal.returns-in-CheckTimes-clause-refused
-returns-in-CheckTimes-clause-refused g c = λ refusal is.
-    let k = c.check_times.ensures.refused refusal (same_is c.check_times.result (ending.Exit (exit.Refused refusal)) is) in
-    (line_of refusal, subst (λ (m : Command). MayRefuse m (g.R.Read.remaining c.args.input.now) (g.F.Files.store c.args.files.now) (g.F.Files.store c.check_times.new.files) refusal (line_of refusal)) (sym c.in-CheckTimes.is) (k.0, c.check_times.ensures.stays, refl), k.1)
-
 pub returns-in-ListOperations-clause-done : goal.returns-in-ListOperations-clause-done
 returns-in-ListOperations-clause-done g c = λ is.
-    let k = c.list_operations.ensures.done (same_is c.list_operations.result (ending.Exit exit.Done) is) in
+    let k = c.list_operations.ensures.done is in
     (k.0, subst (λ (m : Command). IsDone m (g.R.Read.remaining c.args.input.now) (g.F.Files.store c.args.files.now) (g.F.Files.store c.list_operations.new.files) k.0) (sym c.in-ListOperations.is) (k.1, c.list_operations.ensures.stays), k.2)
 
 pub returns-in-ListOperations-clause-refused : goal.returns-in-ListOperations-clause-refused
 returns-in-ListOperations-clause-refused g c = λ refusal is.
-    let k = c.list_operations.ensures.refused refusal (same_is c.list_operations.result (ending.Exit (exit.Refused refusal)) is) in
+    let k = c.list_operations.ensures.refused refusal is in
     (line_of refusal, subst (λ (m : Command). MayRefuse m (g.R.Read.remaining c.args.input.now) (g.F.Files.store c.args.files.now) (g.F.Files.store c.list_operations.new.files) refusal (line_of refusal)) (sym c.in-ListOperations.is) (k.0, c.list_operations.ensures.stays, refl), k.1)
-
-pub returns-in-CheckTimes-clause-flagged : goal.returns-in-CheckTimes-clause-flagged
-returns-in-CheckTimes-clause-flagged g c = λ is.
-    let k = c.check_times.ensures.assumed (same_is c.check_times.result ending.Flagged is) in
-    (k.0, subst (λ (m : Command). MayFlag m (g.F.Files.store c.args.files.now) (g.F.Files.store c.check_times.new.files) k.0) (sym c.in-CheckTimes.is) (k.1, c.check_times.ensures.stays), k.2)
-
-pub returns-in-CheckTimes-clause-faulty : goal.returns-in-CheckTimes-clause-faulty
-returns-in-CheckTimes-clause-faulty g c = λ fault is.
-    let k = c.check_times.ensures.faulty fault (same_is c.check_times.result (ending.Faulty fault) is) in
-    (k.0, subst (λ (m : Command). MayTell m (g.F.Files.store c.args.files.now) (g.F.Files.store c.check_times.new.files) fault k.0) (sym c.in-CheckTimes.is) (k.1, c.check_times.ensures.stays), k.2)
 
 pub returns-in-ListOperations-clause-faulty : goal.returns-in-ListOperations-clause-faulty
 returns-in-ListOperations-clause-faulty g c = λ fault is.
-    let k = c.list_operations.ensures.faulty fault (same_is c.list_operations.result (ending.Faulty fault) is) in
+    let k = c.list_operations.ensures.faulty fault is in
     (fault_line fault, subst (λ (m : Command). MayTell m (g.F.Files.store c.args.files.now) (g.F.Files.store c.list_operations.new.files) fault (fault_line fault)) (sym c.in-ListOperations.is) (k.0, c.list_operations.ensures.stays, refl), k.1)
-
-pub returns-in-CheckVendor-clause-refused : goal.returns-in-CheckVendor-clause-refused
-returns-in-CheckVendor-clause-refused g c = λ refusal is.
-    let k = c.check_vendor_trace.ensures.refused refusal (same_is c.check_vendor_trace.result (ending.Exit (exit.Refused refusal)) is) in (
-      line_of refusal,
-      subst (λ (m : Command). MayRefuse m (g.R.Read.remaining c.args.input.now) (g.F.Files.store c.args.files.now) (g.F.Files.store c.check_vendor_trace.new.files) refusal (line_of refusal)) (sym c.in-CheckVendor.is) (k.0, k.1, refl),
-      k.2,
-    )
-
-pub returns-in-PrintCapture-clause-done : goal.returns-in-PrintCapture-clause-done
-returns-in-PrintCapture-clause-done g c = λ is.
-    let k = c.print_capture.ensures.done (same_is c.print_capture.result (ending.Exit exit.Done) is) in
-    (k.0, subst (λ (m : Command). IsDone m (g.R.Read.remaining c.args.input.now) (g.F.Files.store c.args.files.now) (g.F.Files.store c.print_capture.new.files) k.0) (sym c.in-PrintCapture.is) (k.1, c.print_capture.ensures.files), k.2)
-
-pub returns-in-PrintCapture-clause-refused : goal.returns-in-PrintCapture-clause-refused
-returns-in-PrintCapture-clause-refused g c = λ refusal is.
-    let k = c.print_capture.ensures.refused refusal (same_is c.print_capture.result (ending.Exit (exit.Refused refusal)) is) in (
-      line_of refusal,
-      subst (λ (m : Command). MayRefuse m (g.R.Read.remaining c.args.input.now) (g.F.Files.store c.args.files.now) (g.F.Files.store c.print_capture.new.files) refusal (line_of refusal)) (sym c.in-PrintCapture.is) (k.0, c.print_capture.ensures.files, refl),
-      k.1,
-    )
-
-pub returns-in-PrintCapture-clause-faulty : goal.returns-in-PrintCapture-clause-faulty
-returns-in-PrintCapture-clause-faulty g c = λ fault is.
-    let k = c.print_capture.ensures.faulty fault (same_is c.print_capture.result (ending.Faulty fault) is) in (
-      fault_line fault,
-      subst (λ (m : Command). MayTell m (g.F.Files.store c.args.files.now) (g.F.Files.store c.print_capture.new.files) fault (fault_line fault)) (sym c.in-PrintCapture.is) (k.0, c.print_capture.ensures.files, refl),
-      k.1,
-    )
 
 pub returns-in-TakePage-clause-refused : goal.returns-in-TakePage-clause-refused
 returns-in-TakePage-clause-refused g c = λ refusal is.
-    let k = c.take_page.ensures.refused refusal (same_is c.take_page.result (ending.Exit (exit.Refused refusal)) is) in (
+    let k = c.take_page.ensures.refused refusal is in (
       line_of refusal,
       subst (λ (m : Command). MayRefuse m (g.R.Read.remaining c.args.input.now) (g.F.Files.store c.args.files.now) (g.F.Files.store c.take_page.new.files) refusal (line_of refusal)) (sym c.in-TakePage.is) (k.0, refl),
       k.1,
@@ -235,116 +187,48 @@ returns-in-TakePage-clause-refused g c = λ refusal is.
 
 pub returns-in-TakePage-clause-faulty : goal.returns-in-TakePage-clause-faulty
 returns-in-TakePage-clause-faulty g c = λ fault is.
-    let k = c.take_page.ensures.faulty fault (same_is c.take_page.result (ending.Faulty fault) is) in (
+    let k = c.take_page.ensures.faulty fault is in (
       fault_line fault,
       subst (λ (m : Command). MayTell m (g.F.Files.store c.args.files.now) (g.F.Files.store c.take_page.new.files) fault (fault_line fault)) (sym c.in-TakePage.is) (k.0, refl),
       k.1,
     )
 
-pub returns-in-CaptureVendor-clause-refused : goal.returns-in-CaptureVendor-clause-refused
-returns-in-CaptureVendor-clause-refused g c = λ refusal is.
-    let k = c.capture_vendor_trace.ensures.refused refusal (same_is c.capture_vendor_trace.result (ending.Exit (exit.Refused refusal)) is) in (
-      line_of refusal,
-      subst (λ (m : Command). MayRefuse m (g.R.Read.remaining c.args.input.now) (g.F.Files.store c.args.files.now) (g.F.Files.store c.capture_vendor_trace.new.files) refusal (line_of refusal)) (sym c.in-CaptureVendor.is) (k.0, k.1, refl),
-      k.2,
-    )
-
-pub returns-in-CaptureVendor-clause-faulty : goal.returns-in-CaptureVendor-clause-faulty
-returns-in-CaptureVendor-clause-faulty g c = λ fault is.
-    let k = c.capture_vendor_trace.ensures.faulty fault (same_is c.capture_vendor_trace.result (ending.Faulty fault) is) in (
-      fault_line fault,
-      subst (λ (m : Command). MayTell m (g.F.Files.store c.args.files.now) (g.F.Files.store c.capture_vendor_trace.new.files) fault (fault_line fault)) (sym c.in-CaptureVendor.is) (k.0, k.1, refl),
-      k.2,
-    )
-
-pub returns-in-PrintCaptureVendor-clause-done : goal.returns-in-PrintCaptureVendor-clause-done
-returns-in-PrintCaptureVendor-clause-done g c = λ is.
-    let k = c.print_vendor_capture.ensures.done (same_is c.print_vendor_capture.result (ending.Exit exit.Done) is) in
-    (k.0, subst (λ (m : Command). IsDone m (g.R.Read.remaining c.args.input.now) (g.F.Files.store c.args.files.now) (g.F.Files.store c.print_vendor_capture.new.files) k.0) (sym c.in-PrintCaptureVendor.is) (k.1, c.print_vendor_capture.ensures.files), k.2)
-
-pub returns-in-PrintCaptureVendor-clause-refused : goal.returns-in-PrintCaptureVendor-clause-refused
-returns-in-PrintCaptureVendor-clause-refused g c = λ refusal is.
-    let k = c.print_vendor_capture.ensures.refused refusal (same_is c.print_vendor_capture.result (ending.Exit (exit.Refused refusal)) is) in (
-      line_of refusal,
-      subst (λ (m : Command). MayRefuse m (g.R.Read.remaining c.args.input.now) (g.F.Files.store c.args.files.now) (g.F.Files.store c.print_vendor_capture.new.files) refusal (line_of refusal)) (sym c.in-PrintCaptureVendor.is) (k.0, c.print_vendor_capture.ensures.files, refl),
-      k.1,
-    )
-
-pub returns-in-PrintCaptureVendor-clause-faulty : goal.returns-in-PrintCaptureVendor-clause-faulty
-returns-in-PrintCaptureVendor-clause-faulty g c = λ fault is.
-    let k = c.print_vendor_capture.ensures.faulty fault (same_is c.print_vendor_capture.result (ending.Faulty fault) is) in (
-      fault_line fault,
-      subst (λ (m : Command). MayTell m (g.F.Files.store c.args.files.now) (g.F.Files.store c.print_vendor_capture.new.files) fault (fault_line fault)) (sym c.in-PrintCaptureVendor.is) (k.0, c.print_vendor_capture.ensures.files, refl),
-      k.1,
-    )
-
-pub returns-in-DrawVendor-clause-refused : goal.returns-in-DrawVendor-clause-refused
-returns-in-DrawVendor-clause-refused g c = λ refusal is.
-    let k = c.draw_vendor_trace.ensures.refused refusal (same_is c.draw_vendor_trace.result (ending.Exit (exit.Refused refusal)) is) in (
-      line_of refusal,
-      subst (λ (m : Command). MayRefuse m (g.R.Read.remaining c.args.input.now) (g.F.Files.store c.args.files.now) (g.F.Files.store c.draw_vendor_trace.new.files) refusal (line_of refusal)) (sym c.in-DrawVendor.is) (k.0, k.1, refl),
-      k.2,
-    )
-
-pub returns-in-DrawVendor-clause-faulty : goal.returns-in-DrawVendor-clause-faulty
-returns-in-DrawVendor-clause-faulty g c = λ fault is.
-    let k = c.draw_vendor_trace.ensures.faulty fault (same_is c.draw_vendor_trace.result (ending.Faulty fault) is) in (
-      fault_line fault,
-      subst (λ (m : Command). MayTell m (g.F.Files.store c.args.files.now) (g.F.Files.store c.draw_vendor_trace.new.files) fault (fault_line fault)) (sym c.in-DrawVendor.is) (k.0, k.1, refl),
-      k.2,
-    )
-
-pub returns-in-CheckData-clause-done : goal.returns-in-CheckData-clause-done
-returns-in-CheckData-clause-done g c = λ is.
-    let k = c.check_data.ensures.done is in
-    (k.0, subst (λ (m : Command). IsDone m (g.R.Read.remaining c.args.input.now) (g.F.Files.store c.args.files.now) (g.F.Files.store c.check_data.new.files) k.0) (sym c.in-CheckData.is) (k.1, c.check_data.ensures.stays), k.2)
-
-pub returns-in-CheckData-clause-flagged : goal.returns-in-CheckData-clause-flagged
-returns-in-CheckData-clause-flagged g c = λ is.
-    let k = c.check_data.ensures.assumed is in
-    (k.0, subst (λ (m : Command). MayFlag m (g.F.Files.store c.args.files.now) (g.F.Files.store c.check_data.new.files) k.0) (sym c.in-CheckData.is) (k.1, c.check_data.ensures.stays), k.2)
-
-pub returns-in-CheckData-clause-refused : goal.returns-in-CheckData-clause-refused
-returns-in-CheckData-clause-refused g c = λ refusal is.
-    let k = c.check_data.ensures.refused refusal is in
-    (line_of refusal, subst (λ (m : Command). MayRefuse m (g.R.Read.remaining c.args.input.now) (g.F.Files.store c.args.files.now) (g.F.Files.store c.check_data.new.files) refusal (line_of refusal)) (sym c.in-CheckData.is) (k.0, c.check_data.ensures.stays, refl), k.1)
-
-pub returns-in-CheckData-clause-faulty : goal.returns-in-CheckData-clause-faulty
-returns-in-CheckData-clause-faulty g c = λ fault is.
-    let k = c.check_data.ensures.faulty fault is in
-    (k.0, subst (λ (m : Command). MayTell m (g.F.Files.store c.args.files.now) (g.F.Files.store c.check_data.new.files) fault k.0) (sym c.in-CheckData.is) (k.1, c.check_data.ensures.stays), k.2)
-
-pub returns-in-CheckData-clause-differs : goal.returns-in-CheckData-clause-differs
-returns-in-CheckData-clause-differs g c = λ fault item is.
-    let k = c.check_data.ensures.differs fault item is in
-    (k.0, subst (λ (m : Command). MayDiffer m (g.F.Files.store c.args.files.now) (g.F.Files.store c.check_data.new.files) fault item k.0) (sym c.in-CheckData.is) (k.1, c.check_data.ensures.stays), k.2)
-
 pub returns-in-WriteImage-clause-done : goal.returns-in-WriteImage-clause-done
 returns-in-WriteImage-clause-done g c = λ is.
-    let k = c.write_image.ensures.done (same_is c.write_image.result (ending.Exit exit.Done) is) in
+    let k = c.write_image.ensures.done is in
     (done_text k.0, subst (λ (m : Command). IsDone m (g.R.Read.remaining c.args.input.now) (g.F.Files.store c.args.files.now) (g.F.Files.store c.write_image.new.files) (done_text k.0)) (sym c.in-WriteImage.is) (k.0, k.1, refl), k.2)
 
 pub returns-in-WriteImage-clause-refused : goal.returns-in-WriteImage-clause-refused
 returns-in-WriteImage-clause-refused g c = λ refusal is.
-    let k = c.write_image.ensures.refused refusal (same_is c.write_image.result (ending.Exit (exit.Refused refusal)) is) in
+    let k = c.write_image.ensures.refused refusal is in
     (line_of refusal, subst (λ (m : Command). MayRefuse m (g.R.Read.remaining c.args.input.now) (g.F.Files.store c.args.files.now) (g.F.Files.store c.write_image.new.files) refusal (line_of refusal)) (sym c.in-WriteImage.is) (k.0, k.1, refl), k.2)
 
 pub returns-in-WriteImage-clause-faulty : goal.returns-in-WriteImage-clause-faulty
 returns-in-WriteImage-clause-faulty g c = λ fault is.
-    let k = c.write_image.ensures.faulty fault (same_is c.write_image.result (ending.Faulty fault) is) in
+    let k = c.write_image.ensures.faulty fault is in
     (k.0, subst (λ (m : Command). MayTell m (g.F.Files.store c.args.files.now) (g.F.Files.store c.write_image.new.files) fault k.0) (sym c.in-WriteImage.is) (k.1, k.2), k.3)
+
+pub returns-in-Check-clause-faulty : goal.returns-in-Check-clause-faulty
+returns-in-Check-clause-faulty g c = λ fault is.
+    let k = c.check_trace.ensures.faulty fault is in
+    (k.0, subst (λ (m : Command). MayTell m (g.F.Files.store c.args.files.now) (g.F.Files.store c.check_trace.new.files) fault k.0) (sym c.in-Check.is) k.1, k.2)
 
 pub returns-in-Timing-clause-done : goal.returns-in-Timing-clause-done
 returns-in-Timing-clause-done g c = λ is.
-    let k = c.time_capture.ensures.done (same_is c.time_capture.result (ending.Exit exit.Done) is) in
+    let k = c.time_capture.ensures.done is in
     (codes "kept\n", subst (λ (m : Command). IsDone m (g.R.Read.remaining c.args.input.now) (g.F.Files.store c.args.files.now) (g.F.Files.store c.time_capture.new.files) (codes "kept\n")) (sym c.in-Timing.is) (k.0, c.time_capture.ensures.stays, refl), k.1)
 
 pub returns-in-Timing-clause-refused : goal.returns-in-Timing-clause-refused
 returns-in-Timing-clause-refused g c = λ refusal is.
-    let k = c.time_capture.ensures.refused refusal (same_is c.time_capture.result (ending.Exit (exit.Refused refusal)) is) in
+    let k = c.time_capture.ensures.refused refusal is in
     (line_of refusal, subst (λ (m : Command). MayRefuse m (g.R.Read.remaining c.args.input.now) (g.F.Files.store c.args.files.now) (g.F.Files.store c.time_capture.new.files) refusal (line_of refusal)) (sym c.in-Timing.is) (k.0, c.time_capture.ensures.stays, refl), k.1)
 
 pub returns-in-Timing-clause-faulty : goal.returns-in-Timing-clause-faulty
 returns-in-Timing-clause-faulty g c = λ fault is.
-    let k = c.time_capture.ensures.faulty fault (same_is c.time_capture.result (ending.Faulty fault) is) in
+    let k = c.time_capture.ensures.faulty fault is in
     (k.0, subst (λ (m : Command). MayTell m (g.F.Files.store c.args.files.now) (g.F.Files.store c.time_capture.new.files) fault k.0) (sym c.in-Timing.is) (k.1, c.time_capture.ensures.stays), k.2)
+
+pub returns-in-Capture-clause-done : goal.returns-in-Capture-clause-done
+returns-in-Capture-clause-done g c = λ is.
+    let k = c.capture_trace.ensures.done is in
+    (text_printed k.0, subst (λ (m : Command). IsDone m (g.R.Read.remaining c.args.input.now) (g.F.Files.store c.args.files.now) (g.F.Files.store c.capture_trace.new.files) (text_printed k.0)) (sym c.in-Capture.is) (k.0, k.1, refl), k.2)

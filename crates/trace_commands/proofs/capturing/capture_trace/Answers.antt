@@ -1,14 +1,14 @@
 use Rattle.seq_inputs.specs.Inputs.{PageIsRefused}
-use Rattle.trace_commands.specs.Captures.{CaptureIsRefused}
-use Rattle.trace_commands.proofs.Stopped.{refused, wrong}
+use Rattle.recording.specs.Captures.{CaptureIsRefused}
+use Rattle.recording.proofs.Stopped.{refused, wrong}
 use Rattle.trace_commands.proofs.capturing.capture_trace.Goals as goal
 
-pub returns-in-Err-capture_at-clause-refused : goal.returns-in-Err-capture_at-clause-refused
-returns-in-Err-capture_at-clause-refused g c = λ refusal is.
+pub returns-in-Err-clause-refused : goal.returns-in-Err-clause-refused
+returns-in-Err-clause-refused g c = λ refusal is.
     let k = c.end_stopped.ensures.refused refusal is in
-    (refused (PageIsRefused (g.F.Files.store c.args.files.now) c.args.request.page.now) (CaptureIsRefused (g.F.Files.store c.args.files.now) c.args.request) c.in-Err-capture_at.stop refusal c.in-Err-capture_at.ensures.err k.0, c.in-Err-capture_at.ensures.stays, k.1)
+    (refused (PageIsRefused (g.F.Files.store c.args.files.now) c.args.request.page.now) (CaptureIsRefused (g.F.Files.store c.args.files.now) c.args.request) c.in-Err.stop refusal c.in-Err.ensures.err k.0, c.in-Err.ensures.stays, k.1)
 
-pub returns-in-Err-capture_at-clause-faulty : goal.returns-in-Err-capture_at-clause-faulty
-returns-in-Err-capture_at-clause-faulty g c = λ fault is.
+pub returns-in-Err-clause-faulty : goal.returns-in-Err-clause-faulty
+returns-in-Err-clause-faulty g c = λ fault is.
     let k = c.end_stopped.ensures.faulty fault is in
-    (wrong (PageIsRefused (g.F.Files.store c.args.files.now) c.args.request.page.now) (CaptureIsRefused (g.F.Files.store c.args.files.now) c.args.request) c.in-Err-capture_at.stop fault c.in-Err-capture_at.ensures.err k.0, c.in-Err-capture_at.ensures.stays, k.1)
+    (wrong (PageIsRefused (g.F.Files.store c.args.files.now) c.args.request.page.now) (CaptureIsRefused (g.F.Files.store c.args.files.now) c.args.request) c.in-Err.stop fault c.in-Err.ensures.err k.0, c.in-Err.ensures.stays, k.1)

@@ -1,7 +1,0 @@
-mod Going
-mod Places
-mod Refusing
-mod Verdicts
-mod Endings
-mod Written
-mod Filled

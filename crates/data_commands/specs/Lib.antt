@@ -1,4 +1,0 @@
-pub mod Codes
-pub mod Opened
-pub mod Checked
-pub mod Images

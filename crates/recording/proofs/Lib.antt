@@ -1,0 +1,10 @@
+pub mod Captured
+pub mod Checked
+pub mod Conversions
+pub mod Going
+pub mod Judged
+pub mod Kept
+pub mod Late
+pub mod Sayings
+pub mod Stopped
+pub mod Texts

@@ -1,0 +1,11 @@
+pub mod Targets
+pub mod Recordings
+pub mod Endings
+pub mod Vendors
+pub mod Rules
+pub mod Kept
+pub mod Traces
+pub mod Times
+pub mod Opened
+pub mod Checks
+pub mod Captures
