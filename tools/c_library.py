@@ -281,12 +281,12 @@ def run_all():
             found.update(runs())
         else:
             print("c_library: %s isn't installed, so its users in examples/rust aren't tried" % tool)
-    for tool, bench in simulators.BENCHES.items():
+    for tool, benches in simulators.BENCHES.items():
         why = simulators.why_not(tool)
         if why:
-            print("c_library: %s, so its bench isn't tried" % why)
+            print("c_library: %s, so its benches aren't tried" % why)
         else:
-            found[tool] = bench([archive_of("onfiseq_c"), archive_of("onfiseq_text_c")])
+            found.update({bench.__name__[len("run_"):]: bench([archive_of("onfiseq_c"), archive_of("onfiseq_text_c")]) for bench in benches})
     return found
 
 
