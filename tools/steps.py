@@ -40,6 +40,7 @@ STEPS = {
         "tools/machines/try/compare.py --short",
     ),
     "clone": ("tools/clone.py",),
+    "c_file": ("tools/c_file.py",),
     "builds": (
         "make -s -j4",
         "tools/compare_builds.py --made 500",
