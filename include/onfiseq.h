@@ -33,8 +33,9 @@
  *  - what a call writes by a pointer that isn't const overlaps nothing else that it is given, and
  *    no other thread reads or writes it meanwhile;
  *  - there is stack enough: 32 KB for libonfiseq_c.a, 36 KB for libonfiseq_show_c.a, 14 KB for
- *    libonfiseq_live_c.a, 8 KB for libonfiseq_text_c.a; 108 KB for onfiseq_verify, and 160 KB for
- *    onfiseq_verify_run.
+ *    libonfiseq_live_c.a, 8 KB for libonfiseq_text_c.a; 108 KB for onfiseq_verify, 160 KB for
+ *    onfiseq_verify_run; onfiseq_push_op and onfiseq_ask_op take 1000 bytes more for each part of
+ *    the operation; 14 KB for release/onfiseq.c, which has the rest in its memory.
  */
 #ifndef ONFISEQ_H
 #define ONFISEQ_H

@@ -1,6 +1,6 @@
 """Tries what release/onfiseq.c says of itself: what can be left out of it, the memory that it takes, memory that is refused, and calls that come at once.
 
-    python3 tools/c_file.py [NAME..]             all of it, or some: options, memory, refused, at_once
+    python3 tools/c_file.py [NAME..]             all of it, or some: options, memory, refused, at_once, handler
     python3 tools/c_file.py --calls N at_once    so many calls of each thread and of the interrupt, also over the libraries for x86-64 where those are built
     python3 tools/c_file.py --sanitize at_once   under ThreadSanitizer
 
@@ -95,13 +95,20 @@ def try_memory():
     return wrong, "the least memory: " + ", ".join(told)
 
 
+def plain_object():
+    """The C file as it is, compiled, where it isn't yet."""
+    made = ROOM + "/plain.o"
+    if not os.path.isfile(made) or os.path.getmtime(made) < max(os.path.getmtime(it) for it in (SOURCE, HEADER)):
+        build("-std=c99", "-O1", "-Iinclude", "-c", SOURCE, "-o", made)
+    return made
+
+
 def try_refused():
     """Memory refused to each call, from each request on, and by the system."""
     with open(ROOM + "/refused_calls.h", "w") as it:
         subprocess.run([sys.executable, "tools/machines/try/refused.py", HEADER, SOURCE], stdout=it, check=True)
-    build("-std=c99", "-O1", "-Iinclude", "-c", SOURCE, "-o", ROOM + "/plain.o")
     source, program = "tools/machines/try/refused.c", ROOM + "/refused"
-    build("-std=gnu11", *STRICT[2:], "-O1", "-I" + ROOM, source, ROOM + "/plain.o", "-Wl,--wrap=calloc,--wrap=realloc", "-o", program)
+    build("-std=gnu11", *STRICT[2:], "-O1", "-I" + ROOM, source, plain_object(), "-Wl,--wrap=calloc,--wrap=realloc", "-o", program)
     runs = [["each"], ["turn", CHIP, TEXT, TRACE]] + [["limit", str(kilobytes)] for kilobytes in LIMITS]
     ran = [(words, *run(program, *words)) for words in runs]
     wrong = ["%s: %s%d" % (" ".join(words), said, status) for words, status, said in ran if status]
@@ -132,7 +139,17 @@ def try_at_once(calls=100000, sanitized=()):
     return wrong, "%d calls%s" % (3 * calls, " beside the library for x86-64" if len(programs) > 1 else "")
 
 
-TRIED = {"options": try_options, "memory": try_memory, "refused": try_refused, "at_once": try_at_once}
+def try_handler():
+    """The same without a memory for the interrupt: a call that comes in the midst of another is refused, and the threads are answered as ever."""
+    program = at_once_over("handler", [plain_object()], [], ())
+    status, said = run(program, CHIP)
+    with open("examples/c/expected/interrupt") as it:
+        wanted = it.read().splitlines()[:2]
+    is_right = said.splitlines()[:2] == wanted and status in (0, 1)
+    return [] if is_right else ["it ended with %d and printed\n%s" % (status, said)], "the threads are answered as ever, the interrupt %s" % ("too" if status == 0 else "was refused")
+
+
+TRIED = {"options": try_options, "memory": try_memory, "refused": try_refused, "at_once": try_at_once, "handler": try_handler}
 
 
 def main():

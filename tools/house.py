@@ -12,7 +12,8 @@ at the root; it takes seconds and proves nothing. It looks at
 - the wrong bodies by what they do: docs/model/WRONG_BODIES.md, from the edits of the crates and from the rows of that page that say which were tried;
 - each name in backticks of four pages, which must stand somewhere in the repository;
 - each crate that crates.txt names for another, which must stand in a file of that one;
-- the number of the release: what says it besides release/VERSION, which has it.
+- the number of the release: what says it besides release/VERSION, which has it;
+- the figures of the libraries for C: the tables of C.md and SPEED.md, and whether they are of the header's records (`figures.py`).
 
 What is made stands in a page between a line `<!-- house: NAME -->` and a line `<!-- end -->`.
 """
@@ -21,6 +22,7 @@ import re
 import sys
 from pathlib import Path
 
+import figures
 import minutes
 
 ROOT = Path(__file__).resolve().parent.parent
@@ -292,7 +294,7 @@ def main():
             file.write_text(text, encoding="utf-8")
         if not file.exists() or file.read_text(encoding="utf-8") != text:
             faults.append(f"{path} isn't what the crates and release/VERSION say: python3 tools/house.py --write")
-    faults += [*find_stale_names(), *find_unused(crates), *find_unnamed_release(number)]
+    faults += [*find_stale_names(), *find_unused(crates), *find_unnamed_release(number), *figures.faults()]
     print("\n".join(faults) or f"house: {len(crates)} crates, and the pages say what they are")
     sys.exit(1 if faults else 0)
 
