@@ -6,7 +6,7 @@ import frames
 
 PREFIX = "w2c_w_onfiseq_"
 # What may be left out, and what goes with it.
-PARTS = {"VERIFY": ("RUN",), "RUN": (), "TEXT": (), "LIVE": ()}
+PARTS = {"VERIFY": ("RUN",), "RUN": (), "TEXT": (), "LIVE": (), "SHOW": ()}
 # The sets of calls: the part that has them, or none where no part may leave them out, and their names.
 SETS = {
     "PUSH": (None, "read_page read_page_as push push_all push_status ask look_at drop pauses_before note sizes make_sample"),
@@ -18,6 +18,7 @@ SETS = {
     "TEXT": ("TEXT", "assemble disassemble trace words explain"),
     "LIVE": ("LIVE", "job_begin job_next job_finish live_ready live_array_ready live_sizes live_make_sample"),
     "LIVE_BEGIN": ("LIVE", "live_begin_sized live_begin_target"),
+    "SHOW": ("SHOW", "picture notes"),
 }
 # The stack of a memory that calloc gives, where nothing is said: most of it is never touched.
 USUAL_STACK = 262144
@@ -51,10 +52,10 @@ def stacks(module):
     return {name: found[name] for name in SETS if name in found}
 
 
-def switches():
-    """HAS_ and the name of a part: 1 where it isn't left out."""
+def switches(found):
+    """HAS_ and the name of a part that has a set of calls here: 1 where it isn't left out."""
     lines = []
-    for name in PARTS:
+    for name in [it for it in PARTS if any(SETS[its][0] == it for its in found)]:
         without = [name] + [it for it, others in PARTS.items() if name in others]
         condition = " && ".join("!defined(ONFISEQ_WITHOUT_%s)" % it for it in without)
         lines += ["#if " + condition, "#define HAS_%s 1" % name, "#else", "#define HAS_%s 0" % name, "#endif"]
@@ -90,7 +91,8 @@ def refusals(found, data, room, end):
 def numbers(module, text, room):
     """The parts that are there, the stack of each set of calls, and the least memory."""
     end, base = (int(re.search(r"it->%s = (\d+)u;" % name, text).group(1)) for name in ("stack_pointer", "heap_base"))
-    lines, found = ["/* ---- the parts that are there, and what their calls take */", ""] + switches() + [""], stacks(module)
+    found = stacks(module)
+    lines = ["/* ---- the parts that are there, and what their calls take */", "", *switches(found), ""]
     lines.append("/* The stack of each set of calls, in bytes: the most that any of them can take. */")
     for name, (most, each) in found.items():
         calls = ", ".join("onfiseq_" + it for it in names_of(module) if set_of(it) == name)
