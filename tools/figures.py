@@ -1,9 +1,10 @@
 """The figures of docs/use/C.md and docs/use/SPEED.md about the libraries for C: measured into one file, docs/use/figures.tsv, of which the pages' tables are made.
 
-    python3 tools/figures.py                    says which tables of the pages aren't those of the file, and which figures are older than the records of the header
-    python3 tools/figures.py --write            writes the tables
-    python3 tools/figures.py --measure [OUT]    measures what can be measured here, and writes both: the one C file where gcc and qemu are, the libraries for x86-64
-                                                behind `tools/c_library.py --build`, and those of other processors behind `tools/machines OUT`
+    python3 tools/figures.py                        says which tables of the pages aren't those of the file, and which figures are older than the records of the header
+    python3 tools/figures.py --write                writes the tables
+    python3 tools/figures.py --measure [PLACE..]    measures what can be measured here, and writes both: the one C file where gcc and qemu are, the libraries for x86-64
+                                                    behind `tools/c_library.py --build`, and those of other processors behind `tools/machines`; of all places, or of
+                                                    those whose name has one of these words
 
 at the root. A place of the file is a processor with its library; it says the day, the commit of its sources, the compiler, and the records that it was measured with.
 `tools/house.py` asks `faults`. A place whose records the header no longer has is to be measured anew, or its lines go.
@@ -155,14 +156,16 @@ def measure_libraries():
     return found
 
 
-def measure(out):
-    """Measures each place that can be measured here."""
+def measure(wanted):
+    """Measures each place that can be measured here, or those that are wanted."""
     sys.path[:0] = ["tools/machines/try", "tools/machines", "tools"]
     import cost
 
     places = read()
-    for name, compiler, runs, sources in cost.places(out):
+    for name, compiler, runs, sources in cost.places("out/machines"):
         place = NATIVE if name == "x86_64-linux" else name if name.startswith("one C file") else "libraries, " + name
+        if wanted and not any(it in place for it in wanted):
+            continue
         why = cost.lacking(compiler, runs, sources)
         if why:
             print("figures: not measured: %s, as %s isn't there" % (place, why[0]), flush=True)
@@ -177,7 +180,7 @@ def measure(out):
 def main():
     os.chdir(ROOT)
     if "--measure" in sys.argv:
-        measure(sys.argv[2] if len(sys.argv) > 2 else "out/machines")
+        measure(sys.argv[2:])
     if {"--measure", "--write"} & set(sys.argv):
         for page in PAGES:
             (ROOT / page).write_text(made((ROOT / page).read_text(encoding="utf-8"), read()), encoding="utf-8")

@@ -76,22 +76,31 @@ static void stop(int why) {
 /* The memory begins where the stack does: places below are none, as there is no more stack than ONFISEQ_STACK. */
 #define LOWEST (STACK_END - STACK_BYTES)
 
+/* How far from there a place is. On a processor of 32 bits a sum past those begins anew; what it leads to is tested as ever. */
+#if SIZE_MAX > 0xffffffffu
+typedef u64 distance;
+#else
+typedef u32 distance;
+#endif
+
 struct memory {
     u8 *data;
-    u64 size; /* without the last LONGEST bytes, so that a number that begins within it stands in the memory */
+    distance size; /* without the last LONGEST bytes, so that a number that begins within it stands in the memory */
 };
 enum { LONGEST = 8 };
 
 /* The place of so many bytes. */
 static inline u8 *place(const struct memory *memory, u64 at, u64 count) {
-    if (count > memory->size || at - LOWEST > memory->size - count) stop(OUT_OF_MEMORY);
-    return memory->data + (at - LOWEST);
+    distance from = (distance)at - LOWEST;
+    if (count > memory->size || from > memory->size - (distance)count) stop(OUT_OF_MEMORY);
+    return memory->data + from;
 }
 
 /* The place of a number. */
 static inline u8 *number_at(const struct memory *memory, u64 at) {
-    if (at - LOWEST > memory->size) stop(OUT_OF_MEMORY);
-    return memory->data + (at - LOWEST);
+    distance from = (distance)at - LOWEST;
+    if (from > memory->size) stop(OUT_OF_MEMORY);
+    return memory->data + from;
 }
 
 /* Numbers stand in the memory with their lowest byte first, in whatever order the processor has them. */

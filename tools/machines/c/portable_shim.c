@@ -38,7 +38,7 @@ static bool has_grown(struct module *it, u64 size) {
     data = kept.data == NULL ? (u8 *)calloc(bytes, 1) : (u8 *)realloc(kept.data, bytes);
     if (data == NULL) return false;
     if (kept.data != NULL) memset(data + kept.size + LONGEST, 0, (size_t)(size - kept.size));
-    kept.data = data, kept.size = size;
+    kept.data = data, kept.size = (distance)size;
     it->memory = kept;
     return true;
 }
