@@ -1,6 +1,6 @@
 """Tries what release/onfiseq.c says of itself: what can be left out of it, the memory that it takes, memory that is refused, and calls that come at once.
 
-    python3 tools/c_file.py [NAME..]             all of it, or some: options, memory, refused, at_once, handler
+    python3 tools/c_file.py [NAME..]             all of it, or some: options, memory, refused, lent, at_once, handler
     python3 tools/c_file.py --calls N at_once    so many calls of each thread and of the interrupt, also over the libraries for x86-64 where those are built
     python3 tools/c_file.py --sanitize at_once   under ThreadSanitizer
 
@@ -82,6 +82,11 @@ def named_least(name, stack):
     return int(found.group(2)) + stack * bool(found.group(1)) if found else 0
 
 
+def lent_options(name):
+    """The checker alone, in the least memory for a set of calls, which is lent to it."""
+    return ["-DONFISEQ_STACK=" + name, *CHECKER_ALONE, "-DONFISEQ_ROOM=lend_room", "-DONFISEQ_MEMORY=%d" % named_least(name, stacks()[name])]
+
+
 def try_memory():
     """A memory that is too small is an error that names the least, for each set of calls, and the least is taken; so is a stack that is too small."""
     wrong, told = [], []
@@ -103,12 +108,28 @@ def plain_object():
     return made
 
 
+def refused_program(name, source, words):
+    """The program that refuses memory to the calls of a source, or of what the preprocessor leaves of it."""
+    room, program = "%s/of_%s" % (ROOM, name), "%s/%s" % (ROOM, name)
+    os.makedirs(room, exist_ok=True)
+    with open(room + "/refused_calls.h", "w") as it:
+        subprocess.run([sys.executable, "tools/machines/try/refused.py", HEADER, source], stdout=it, check=True)
+    build("-std=gnu11", *STRICT[2:], "-O1", "-I" + room, "tools/machines/try/refused.c", *words, "-Wl,--wrap=calloc,--wrap=realloc", "-o", program)
+    return program
+
+
+def try_lent():
+    """A memory that is lent, and no more of it than the compiler names: no room for a call, and room that is too small for what it is given."""
+    made, options = ROOM + "/of_lent.i", lent_options("ONFISEQ_STACK_CHECK")
+    build("-std=c99", "-E", "-P", "-Iinclude", *options, SOURCE, "-o", made)
+    build("-std=c99", "-O1", "-Iinclude", *options, "-c", SOURCE, "-o", ROOM + "/of_lent.o")
+    status, said = run(refused_program("lent", made, [ROOM + "/of_lent.o", *options]), "each")
+    return [said] if status else [], said.strip()
+
+
 def try_refused():
     """Memory refused to each call, from each request on, and by the system."""
-    with open(ROOM + "/refused_calls.h", "w") as it:
-        subprocess.run([sys.executable, "tools/machines/try/refused.py", HEADER, SOURCE], stdout=it, check=True)
-    source, program = "tools/machines/try/refused.c", ROOM + "/refused"
-    build("-std=gnu11", *STRICT[2:], "-O1", "-I" + ROOM, source, plain_object(), "-Wl,--wrap=calloc,--wrap=realloc", "-o", program)
+    program = refused_program("refused", SOURCE, [plain_object()])
     runs = [["each"], ["turn", CHIP, TEXT, TRACE]] + [["limit", str(kilobytes)] for kilobytes in LIMITS]
     ran = [(words, *run(program, *words)) for words in runs]
     wrong = ["%s: %s%d" % (" ".join(words), said, status) for words, status, said in ran if status]
@@ -127,10 +148,9 @@ def at_once_over(name, words, options, sanitized):
 
 def try_at_once(calls=100000, sanitized=()):
     """Two threads and an interrupt in the calls at once, each with the least memory that the compiler names; beside the library for x86-64 where that is built."""
-    least = named_least(OF_FOUR_PARTS, stacks()[OF_FOUR_PARTS])
-    options = ["-DONFISEQ_STACK=" + OF_FOUR_PARTS, *CHECKER_ALONE, "-DONFISEQ_MEMORY=%d" % least, "-DONFISEQ_ROOM=lend_room"]
+    options = lent_options(OF_FOUR_PARTS)
     build("-std=c99", "-O1", "-Iinclude", *sanitized, *options, "-c", SOURCE, "-o", ROOM + "/lent.o")
-    programs = [at_once_over("at_once", [ROOM + "/lent.o"], options[-2:], sanitized)]
+    programs = [at_once_over("at_once", [ROOM + "/lent.o"], options[-1:], sanitized)]
     programs += [at_once_over("at_once_native", [NATIVE], [], sanitized)] if os.path.isfile(NATIVE) else []
     ran = [run(program, CHIP, str(calls)) for program in programs]
     with open("examples/c/expected/interrupt") as it:
@@ -149,7 +169,7 @@ def try_handler():
     return [] if is_right else ["it ended with %d and printed\n%s" % (status, said)], "the threads are answered as ever, the interrupt %s" % ("too" if status == 0 else "was refused")
 
 
-TRIED = {"options": try_options, "memory": try_memory, "refused": try_refused, "at_once": try_at_once, "handler": try_handler}
+TRIED = {"options": try_options, "memory": try_memory, "refused": try_refused, "lent": try_lent, "at_once": try_at_once, "handler": try_handler}
 
 
 def main():

@@ -4,7 +4,7 @@
  *     refused turn PAGE TEXT TRACE   no memory from the first request of a call on, from the second on, and so forth: it answers 'O', or what it answers otherwise
  *     refused limit KILOBYTES        a trace of 4,000,000 items, with so much of addresses for the process
  *
- * refused_calls.h, which refused.py writes, has a function for each call. */
+ * With ONFISEQ_MEMORY the memory is lent, or isn't, and there is `each` alone. refused_calls.h, which refused.py writes, has a function for each call. */
 #define _GNU_SOURCE
 #include "onfiseq.h"
 
@@ -31,6 +31,12 @@ void *__wrap_calloc(size_t count, size_t size) { return is_refused(count * size)
 void *__wrap_realloc(void *old, size_t size) { return is_refused(size) ? NULL : __real_realloc(old, size); }
 
 static uint8_t *large, *large_before;
+
+#ifdef ONFISEQ_MEMORY
+static uint64_t lent[(ONFISEQ_MEMORY) / 8];
+void *lend_room(void);
+void *lend_room(void) { return most == 0 ? NULL : lent; }
+#endif
 
 #include "refused_calls.h"
 
@@ -59,6 +65,7 @@ static int try_each(void) {
     return !is_right;
 }
 
+#ifndef ONFISEQ_MEMORY
 static uint8_t page[4096], text[65536], trace[65536], room[65536], *file;
 static size_t page_length, file_length, text_length, trace_length;
 static struct onfiseq_item items[4096];
@@ -151,9 +158,13 @@ static int try_limit(const char *kilobytes) {
     return answer.letter == 'O' || (answer.letter == 0 && answer.at == LARGE) ? 0 : 1;
 }
 
+#endif
+
 int main(int count, char **words) {
     if (count == 2 && strcmp(words[1], "each") == 0) return try_each();
+#ifndef ONFISEQ_MEMORY
     if (count == 5 && strcmp(words[1], "turn") == 0) return try_turns(words + 2);
     if (count == 3 && strcmp(words[1], "limit") == 0) return try_limit(words[2]);
+#endif
     return 2;
 }
