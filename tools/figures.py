@@ -1,4 +1,4 @@
-"""The figures of docs/use/C.md and docs/use/SPEED.md about the libraries for C: measured into one file, docs/use/figures.tsv, of which the pages' tables are made.
+"""The figures of docs/use/C.md and docs/use/SPEED.md about the libraries for C: measured into one file, docs/develop/figures.tsv, of which the pages' tables are made.
 
     python3 tools/figures.py                        says which tables of the pages aren't those of the file, and which figures are older than the records of the header
     python3 tools/figures.py --write                writes the tables
@@ -17,7 +17,7 @@ import sys
 from pathlib import Path
 
 ROOT = Path(__file__).resolve().parent.parent
-FILE, HEADER = ROOT / "docs/use/figures.tsv", ROOT / "include/onfiseq.h"
+FILE, HEADER = ROOT / "docs/develop/figures.tsv", ROOT / "include/onfiseq.h"
 PAGES = ("docs/use/C.md", "docs/use/SPEED.md")
 HEAD = "# What the libraries for C take, as tools/figures.py --measure found it: a place, what is measured, and the number.\n"
 MADE = re.compile(r"(<!-- figures: (\w+) -->\n).*?(<!-- end -->)", re.S)
@@ -108,11 +108,11 @@ def faults():
     places, now = read(), records()
     for place, found in places.items():
         if found.get("records") != now:
-            yield f"docs/use/figures.tsv: {place} was measured with other records: python3 tools/figures.py --measure, or take its lines out"
+            yield f"docs/develop/figures.tsv: {place} was measured with other records: python3 tools/figures.py --measure, or take its lines out"
     for page in PAGES:
         text = (ROOT / page).read_text(encoding="utf-8")
         if made(text, places) != text:
-            yield f"{page} hasn't the figures of docs/use/figures.tsv: python3 tools/figures.py --write"
+            yield f"{page} hasn't the figures of docs/develop/figures.tsv: python3 tools/figures.py --write"
 
 
 # ---- measuring
@@ -185,7 +185,7 @@ def main():
         for page in PAGES:
             (ROOT / page).write_text(made((ROOT / page).read_text(encoding="utf-8"), read()), encoding="utf-8")
     found = list(faults())
-    print("\n".join(found) or "figures: the pages have those of docs/use/figures.tsv, and the records are those of the header")
+    print("\n".join(found) or "figures: the pages have those of docs/develop/figures.tsv, and the records are those of the header")
     return 1 if found else 0
 
 
