@@ -32,13 +32,18 @@ def run(*words, **how):
     return subprocess.run(words, check=True, stdout=subprocess.PIPE, text=True, **how).stdout
 
 
+def given_as(it):
+    """An argument as C declares it."""
+    return "%s%s %s%s" % ("const " if it["const"] else "", header.c_type(it["kind"]), "*" if it["by"] in ("pointer", "slice") else "", it["name"])
+
+
 def layer(calls):
     """The C file between a program and the library: each call painted and measured."""
     lines = ['#include "onfiseq.h"', '#include "tools/machines/try/painted.c"', "static struct measured calls[] = {"]
     lines += ['    {"%s", 0, 0, 0},' % name for name in calls] + ["};", "static struct measured many[sizeof calls / sizeof *calls];"]
     for number, (name, call) in enumerate(calls.items()):
         answer = header.c_type(call["answer"])
-        given = ", ".join("%s%s %s%s" % ("const " if it["const"] else "", header.c_type(it["kind"]), "*" if it["by"] in ("pointer", "slice") else "", it["name"]) for it in call["given"]) or "void"
+        given = ", ".join(given_as(it) for it in call["given"]) or "void"
         words = ", ".join(it["name"] for it in call["given"])
         lines += ["%s one_%s(%s);" % (answer, name, given), "%s %s(%s) {" % (answer, name, given), "    %s answer;" % answer, "    paint();"]
         place = "calls[%d]" % number if name not in BY_PARTS else "(count <= %d ? calls : many)[%d]" % (FEW, number)

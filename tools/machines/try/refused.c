@@ -42,6 +42,7 @@ void *lend_room(void) { return most == 0 ? NULL : lent; }
 
 /* A call in a process of its own, which has no memory yet: what is wrong, by the status. */
 static bool passes(const struct one *it) {
+    static const char *const wrong[] = {"it aborts", "it isn't refused", "it is refused with memory", "it isn't refused where it is given too much"};
     int status;
     pid_t child = fork();
     if (child == 0) {
@@ -53,7 +54,7 @@ static bool passes(const struct one *it) {
         _exit(it->has_slice && !it->call(LARGE) ? 3 : 0);
     }
     if (waitpid(child, &status, 0) == child && WIFEXITED(status) && WEXITSTATUS(status) == 0) return true;
-    printf("%s: %s\n", it->name, !WIFEXITED(status) ? "it aborts" : WEXITSTATUS(status) == 1 ? "it isn't refused" : WEXITSTATUS(status) == 2 ? "it is refused with memory" : "it isn't refused where it is given too much");
+    printf("%s: %s\n", it->name, wrong[WIFEXITED(status) ? WEXITSTATUS(status) % 4 : 0]);
     return false;
 }
 

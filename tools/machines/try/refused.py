@@ -74,7 +74,8 @@ def written(header_path, source):
     records, every = header.read(header_path)
     calls = [Call(name, call, records) for name, call in every.items() if "w2c_w_%s(" % name in source]
     lines = ["struct one {", "    const char *name;", "    bool (*call)(size_t count);", "    bool has_slice, is_told_apart;", "};"]
-    lines += ["static bool answer_is_empty(const void *answer, size_t size) {", "    for (size_t k = 0; k < size; k++)", "        if (((const uint8_t *)answer)[k]) return false;", "    return true;", "}"]
+    lines += ["static bool answer_is_empty(const void *answer, size_t size) {", "    for (size_t k = 0; k < size; k++)"]
+    lines += ["        if (((const uint8_t *)answer)[k]) return false;", "    return true;", "}"]
     for it in calls:
         lines += it.written()
     lines += ["static const struct one each[] = {"] + ['    {"%s", call_%s, %d, %d},' % (it.name, it.name, it.has_slice, it.name not in TOLD_ALIKE) for it in calls] + ["};"]
