@@ -32,10 +32,11 @@
  *    a count of 0 a slice's pointer may be any, null too;
  *  - what a call writes by a pointer that isn't const overlaps nothing else that it is given, and
  *    no other thread reads or writes it meanwhile;
- *  - there is stack enough: 32 KB for libonfiseq_c.a, 36 KB for libonfiseq_show_c.a, 14 KB for
- *    libonfiseq_live_c.a, 8 KB for libonfiseq_text_c.a; 108 KB for onfiseq_verify, 160 KB for
- *    onfiseq_verify_run; onfiseq_push_op and onfiseq_ask_op take 1000 bytes more for each part of
- *    the operation; 14 KB for release/onfiseq.c, which has the rest in its memory.
+ *  - there is stack enough: 40 KB for libonfiseq_c.a, and 80 KB for onfiseq_check; 24 KB for
+ *    libonfiseq_live_c.a; 24 KB for libonfiseq_verify_c.a, and 160 KB for onfiseq_verify_run; 8 KB
+ *    for libonfiseq_text_c.a; 100 KB for libonfiseq_show_c.a. onfiseq_push_op and onfiseq_ask_op
+ *    take 1000 bytes more for each part of the operation. It is 14 KB for release/onfiseq.c, which
+ *    has the rest in its memory.
  */
 #ifndef ONFISEQ_H
 #define ONFISEQ_H
