@@ -61,8 +61,11 @@ USERS = (
     ("python_busy", [sys.executable, "examples/python/monitor.py", SHARED, CHIP, "examples/c/no_wait.asm"], "examples/c/busy.trace", 0),
 )
 
-# The user that brings memory of its own; the one C file doesn't ask it.
-POOL = (("loader_pool", ["{out}/loader_pool"] + LOADER[1:], None, 1),)
+# The users that tools/c_file.py tries over the one C file in another way: one that brings memory of its own, and one with an interrupt.
+OF_LIBRARIES = (
+    ("loader_pool", ["{out}/loader_pool"] + LOADER[1:], None, 1),
+    ("interrupt", ["{out}/interrupt", CHIP], None, 0),
+)
 
 # The users in Rust, where rustc is installed.
 RUST = (
@@ -193,7 +196,8 @@ def compile_all():
         run(*CC, "examples/c/%s.c" % name, *archives, "-o", "%s/%s" % (OUT, name))
     if archives_at == BUILT:  # the one C file has neither pictures nor notes, and asks for memory by realloc
         run(*CC, "-DROOM=16777216", "examples/c/loader.c", "examples/c/pool.c", *archives, "-o", OUT + "/loader_pool")
-        run(*CC, "-std=gnu11", "examples/c/stack.c", *archives, "-pthread", "-o", OUT + "/stack")
+        for name in ("stack", "interrupt"):
+            run(*CC, "-std=gnu11", "examples/c/%s.c" % name, *archives, "-pthread", "-o", "%s/%s" % (OUT, name))
     run(*CC, "examples/c/threads.c", *archives, "-pthread", "-o", OUT + "/threads")
     write_page_programs()
     for name in ("page", "first"):
@@ -273,7 +277,7 @@ def run_cargo():
 
 def run_all():
     """Runs each user: what differs, by its name."""
-    found = {name: run_user(name, *how) for name, *how in USERS + (POOL if archives_at == BUILT else ())}
+    found = {name: run_user(name, *how) for name, *how in USERS + (OF_LIBRARIES if archives_at == BUILT else ())}
     found["words"] = compare_words()
     found["python_bench"] = run_python_bench()
     for tool, runs in (("rustc", run_rust), ("cargo", run_cargo)):
@@ -281,12 +285,12 @@ def run_all():
             found.update(runs())
         else:
             print("c_library: %s isn't installed, so its users in examples/rust aren't tried" % tool)
-    for tool, bench in simulators.BENCHES.items():
+    for tool, benches in simulators.BENCHES.items():
         why = simulators.why_not(tool)
         if why:
-            print("c_library: %s, so its bench isn't tried" % why)
+            print("c_library: %s, so its benches aren't tried" % why)
         else:
-            found[tool] = bench([archive_of("onfiseq_c"), archive_of("onfiseq_text_c")])
+            found.update({bench.__name__[len("run_"):]: bench([archive_of("onfiseq_c"), archive_of("onfiseq_text_c")]) for bench in benches})
     return found
 
 

@@ -16,7 +16,8 @@ at the root; it takes seconds and proves nothing. It looks at
   (`signpost.py`); each file that a page names;
 - the crates of ARCHITECTURE's table, which must be all; lines over 200 characters outside of tables; and PROVED.md's lines, at most 200;
 - each crate that crates.txt names for another, which must stand in a file of that one;
-- the number of the release: what says it besides release/VERSION, which has it.
+- the number of the release: what says it besides release/VERSION, which has it;
+- the figures of the libraries for C: the tables of C.md and SPEED.md, and whether they are of the header's records (`figures.py`).
 
 What is made stands in a page between a line `<!-- house: NAME -->` and a line `<!-- end -->`.
 """
@@ -25,6 +26,7 @@ import re
 import sys
 from pathlib import Path
 
+import figures
 import minutes
 import signpost
 import tables
@@ -298,6 +300,7 @@ def main():
     wanted.update({path: number_release(path, pattern, number) for path, pattern in NUMBERED.items()})
     places = {name for text in wanted.values() for _, name, _ in MADE.findall(text)}
     faults = [f"no page has a place for `{name}`: a line <!-- house: {name} --> and a line <!-- end -->" for name in made if name not in places]
+    faults += figures.faults()
     for path, text in wanted.items():
         file = ROOT / path
         if "--write" in sys.argv:

@@ -28,6 +28,7 @@ STEPS = {
     ),
     "libraries": (
         "tools/c_library.py",
+        "tools/stacks.py",
         "tools/machines/try/beside.py 20000",
         "bench/acceptance.py 5",
         "bench/refused_runs.py 3 1 straight " + PROGRAM,
@@ -40,6 +41,7 @@ STEPS = {
         "tools/machines/try/compare.py --short",
     ),
     "clone": ("tools/clone.py",),
+    "c_file": ("tools/c_file.py", "tools/stacks.py --portable"),
     "builds": (
         "make -s -j4",
         "tools/compare_builds.py --made 500",

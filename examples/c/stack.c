@@ -1,6 +1,8 @@
 /* How much stack each call takes, painted: a thread on a stack that is filled with one byte, and what of it is changed.
  *
- *     stack chip.page program.. */
+ *     stack chip.page program..     word files, or assembly texts
+ *
+ * release/onfiseq.c has no pictures and notes: -DWITHOUT_PICTURES leaves them out. `tools/stacks.py` measures each call by itself. */
 #include "onfiseq.h"
 #include <pthread.h>
 #include <stdio.h>
@@ -12,12 +14,13 @@ enum { STACK = 4 << 20 };
 static uint8_t page[4096], file[65536], room[65536];
 static size_t page_length, file_length;
 static struct onfiseq_geometry chip;
+static const struct onfiseq_geometry large = {2048, 64, 64, 1024, 4, 2, 1, 1, 1, 0xffff}; /* four LUNs of four planes, and every command */
 static struct onfiseq_bus bus;
 static const struct onfiseq_item erase[] = {
     {0, 'C', 0x60, 0}, {0, 'A', 4, 0}, {0, 'A', 0, 0}, {0, 'A', 0, 0}, {0, 'C', 0xd0, 0}, {0, 'C', 0x70, 0},
     {0, 'O', 0x80, 0}, {0, 'R', 0, 0},
 };
-enum { ITEMS = sizeof erase / sizeof *erase };
+enum { ITEMS = sizeof erase / sizeof *erase, FEW = 4, MANY = 64 };
 
 static void *do_nothing(void *it) { return it; }
 static void *do_page(void *it) { return chip = onfiseq_read_page(page, page_length).geometry, it; }
@@ -30,6 +33,33 @@ static void *do_push(void *it) {
 static void *do_push_all(void *it) {
     size_t done;
     return onfiseq_begin(&bus, &chip, 1), onfiseq_push_all(&bus, erase, ITEMS, &done), it;
+}
+/* An erase of four planes, whose rows wait in the queue. */
+static void *do_planes(void *it) {
+    onfiseq_begin(&bus, &large, 4);
+    for (uint8_t plane = 0; plane < 4; plane++) {
+        uint8_t bytes[5] = {0x60, (uint8_t)(plane << 6), 0, 0, plane < 3 ? 0xd1 : 0xd0};
+        for (int k = 0; k < 5; k++) {
+            struct onfiseq_item item = {3, k % 4 ? 'A' : 'C', bytes[k], 0}, ready = {3, 'R', 0, 0};
+            if (onfiseq_push(&bus, &item)) abort();
+            if (k == 4) onfiseq_push(&bus, &ready);
+        }
+    }
+    return it;
+}
+static void *operate(size_t count) {
+    static struct onfiseq_part parts[MANY];
+    struct onfiseq_spot spot;
+    for (size_t k = 0; k < MANY; k++) parts[k] = (struct onfiseq_part){1, k % 2 ? 'O' : 'C', {0x70}};
+    onfiseq_begin(&bus, &large, 1);
+    return onfiseq_push_op(&bus, 0, parts, count, &spot) ? NULL : &chip;
+}
+static void *do_few(void *it) { return operate(FEW), it; }
+static void *do_many(void *it) { return operate(MANY), it; }
+static void *do_data(void *it) {
+    struct onfiseq_part read[] = {{1, 'C', {0x00}}, {5, 'A', {0}}, {1, 'C', {0x30}}, {0, 'W', {0}}, {0xffffffff, 'O', {0}}};
+    struct onfiseq_spot spot;
+    return onfiseq_begin(&bus, &large, 1), onfiseq_push_op(&bus, 0, read, 5, &spot), it;
 }
 static void *do_look(void *it) { return onfiseq_ask(&bus, erase), onfiseq_look_at(&bus, 0, 0), it; }
 static void *do_verify(void *it) { return onfiseq_verify(page, page_length, file, file_length), it; }
@@ -60,8 +90,10 @@ static void *do_job(void *it) {
 }
 static void *do_words(void *it) { return onfiseq_words(ONFISEQ_CODE('V', 14), (char *)room, 160), it; }
 
+#ifndef WITHOUT_PICTURES
 static void *do_picture(void *it) { return onfiseq_picture(&chip, 1, erase, ITEMS, room, sizeof room), it; }
 static void *do_notes(void *it) { return onfiseq_notes(&chip, file, file_length, room, sizeof room), it; }
+#endif
 
 static size_t stack_of(void *(*call)(void *)) {
     pthread_attr_t how;
@@ -85,6 +117,15 @@ static size_t read_all(const char *path, uint8_t *bytes, size_t most) {
     return length;
 }
 
+/* A word file, or one of an assembly text. */
+static void read_program(const char *path) {
+    static uint8_t text[65536];
+    size_t length = read_all(path, text, sizeof text);
+    struct onfiseq_placed placed = onfiseq_assemble(text, length, file, sizeof file);
+    file_length = placed.letter ? length : (size_t)placed.length;
+    if (placed.letter) memcpy(file, text, length);
+}
+
 static void tell(const char *what, void *(*call)(void *), size_t idle) {
     size_t used = stack_of(call);
     printf("%-13s %6zu bytes of stack\n", what, used > idle ? used - idle : 0);
@@ -98,17 +139,25 @@ int main(int count, char **words) {
     tell("begin", do_begin, idle);
     tell("push", do_push, idle);
     tell("push_all", do_push_all, idle);
+    tell("push, planes", do_planes, idle);
+    tell("push_op, 4", do_few, idle);
+    tell("push_op, 64", do_many, idle);
+    tell("push_op, data", do_data, idle);
     tell("ask and look", do_look, idle);
     tell("words", do_words, idle);
+#ifndef WITHOUT_PICTURES
     tell("picture", do_picture, idle);
+#endif
     for (int k = 2; k < count; k++) {
-        file_length = read_all(words[k], file, sizeof file);
+        read_program(words[k]);
         tell("verify", do_verify, idle);
         tell("verify_run", do_verify_run, idle);
         tell("job", do_job, idle);
         tell("disassemble", do_disassemble, idle);
         tell("assemble", do_assemble, idle);
+#ifndef WITHOUT_PICTURES
         tell("notes", do_notes, idle);
+#endif
     }
     return 0;
 }

@@ -123,12 +123,11 @@ class Building:
         tell(path)
 
     def portable(self):
-        """The one C file, and that of the checker alone; it needs wasm2c."""
+        """The one C file; it needs wasm2c."""
         if shutil.which("wasm2c") is None:
             print("machines: skipped: the portable C file, as wasm2c (Debian's wabt) isn't installed", flush=True)
             return
         self.portable_file("onfiseq.wasm", "onfiseq.c")
-        self.portable_file("checker.wasm", "onfiseq_checker.c")
         shutil.copy(HEADER, self.path("portable"))
         self.stamp("portable", ["wasm2c " + stamp.version_of(["wasm2c", "--version"])])
 

@@ -9,10 +9,15 @@ import os
 import re
 import sys
 
+import frames
 import header
+import parts
 
 HERE = os.path.dirname(os.path.abspath(__file__))
 PREFIX = "w2c_w_"
+NUMBERS = "/* NUMBERS */\n"  # where c/portable_head.c has what parts.py says
+# Records that a call writes without reading them.
+WRITTEN_ALONE = ("onfiseq_spot", "onfiseq_run")
 
 # What c/portable_head.c has of the names that wasm2c's functions use; a module that uses another is refused.
 KNOWN = {"sizeof", "if", "switch", "memory_fill", "memory_copy", "init_globals", "init_memories", "LOAD_DATA", "DIV_U", "REM_U"}
@@ -75,9 +80,9 @@ def field_mover(verb, field):
     if field["count"]:
         place, at, loop = place + "[k]", at + " + %du * k" % field["size"], "for (u32 k = 0; k < %du; k++) " % field["count"]
     if header.is_record(field["kind"]):
-        return "    %s%s_%s(%s, &%s);" % (loop, verb, field["kind"], at, place)
+        return "    %s%s_%s(it, %s, &%s);" % (loop, verb, field["kind"], at, place)
     bits = 8 * field["size"]
-    where = "::place(&module.memory, %s, %d)".replace("::", "") % (at, field["size"])
+    where = "number_at(&it->memory, %s)" % at
     if verb == "put":
         return "    %sput%d(%s, (u%d)%s);" % (loop, bits, where, bits, place)
     return "    %s%s = (%s)get%d(%s);" % (loop, place, field["kind"], bits, where)
@@ -87,22 +92,28 @@ def movers_of(name, record):
     """put_X and get_X of a record, as a whole where its bytes are those of the module."""
     lines = []
     for verb, const in (("put", "const "), ("get", "")):
-        lines.append("INSTRUCTION void %s_%s(u64 at, %sstruct %s *x) {" % (verb, name, const, name))
-        lines += ["#if IS_LITTLE_ENDIAN", "    %s_bytes(at, x, sizeof *x);" % verb, "#else"]
+        lines.append("INSTRUCTION void %s_%s(struct module *it, u64 at, %sstruct %s *x) {" % (verb, name, const, name))
+        lines += ["#if IS_LITTLE_ENDIAN", "    %s_bytes(it, at, x, sizeof *x);" % verb, "#else"]
         lines += [field_mover(verb, field) for field in record["fields"]]
         lines += ["#endif", "}"]
     return lines
 
 
+def rounded(size):
+    """How much room a record takes: the next one begins at a multiple of 16."""
+    return (size + 15) // 16 * 16
+
+
 class Shim:
     """The function of a call: what it is given, what stands before the module's function and behind it, and that function's arguments."""
 
-    def __init__(self, name, call, records):
-        self.name, self.call, self.records = name, call, records
-        self.given, self.before, self.after, self.words = [], [], [], ["&module"]
+    def __init__(self, name, call, records, stack):
+        self.name, self.call, self.records, self.stack = name, call, records, stack
+        self.given, self.cleared, self.rooms, self.before, self.after, self.words = [], [], [], [], [], ["&it"]
+        self.record_room, self.slice_rooms = 0, []
         self.is_by_room = call["answer"] in records
         if self.is_by_room:
-            self.before.append("u64 at_answer = take_room(%d);" % records[call["answer"]]["size"])
+            self.take_room("answer", records[call["answer"]]["size"])
             self.words.append("(u32)at_answer")
         for it in call["given"]:
             self.take(it)
@@ -119,40 +130,69 @@ class Shim:
             self.take_record(it)
         self.words.append("(u32)at_" + it["name"] if star else it["name"])
 
+    def take_room(self, name, size):
+        """Room for a value of a size that is known."""
+        self.rooms.append(name)
+        self.record_room += rounded(size)
+        self.before.append("at_%s = take_room(&it, %d);" % (name, rounded(size)))
+
     def take_slice(self, it):
         """Bytes, or items, which are bytes too."""
         each = self.records[it["kind"]]["size"] if it["kind"] in self.records else 1
-        size = "(u64)%s * %d" % (it["length"], each)
-        self.before.append("u64 at_%s = take_room(%s);" % (it["name"], size))
-        self.before.append("put_bytes(at_%s, %s, %s);" % (it["name"], it["name"], size))
+        room, size = "room_of(%s, %d)" % (it["length"], each), "(u64)%s * %d" % (it["length"], each)
+        self.rooms.append(it["name"])
+        self.slice_rooms.append(room)
+        self.before.append("at_%s = take_room(&it, %s);" % (it["name"], room))
+        self.before.append("put_bytes(&it, at_%s, %s, %s);" % (it["name"], it["name"], size))
         if not it["const"]:
-            self.after.append("get_bytes(at_%s, %s, %s);" % (it["name"], it["name"], size))
+            self.after.append("get_bytes(&it, at_%s, %s, %s);" % (it["name"], it["name"], size))
 
     def take_count(self, it):
         """A count that the call writes."""
-        self.before.append("u64 at_%s = take_room(8);" % it["name"])
-        self.before.append("i64_store(&module.memory, at_%s, 0);" % it["name"])
-        self.after.append("*%s = (size_t)i64_load(&module.memory, at_%s);" % (it["name"], it["name"]))
+        self.cleared.append("*%s = 0;" % it["name"])
+        self.take_room(it["name"], 8)
+        self.before.append("i64_store(&it.memory, at_%s, 0);" % it["name"])
+        self.after.append("*%s = (size_t)i64_load(&it.memory, at_%s);" % (it["name"], it["name"]))
 
     def take_record(self, it):
-        """A record."""
-        self.before.append("u64 at_%s = take_room(%d);" % (it["name"], self.records[it["kind"]]["size"]))
-        self.before.append("put_%s(at_%s, %s);" % (it["kind"], it["name"], it["name"]))
+        """A record; one that the call writes alone is empty where there is no memory for it."""
+        if it["kind"] in WRITTEN_ALONE:
+            self.cleared.append("memset(%s, 0, sizeof *%s);" % (it["name"], it["name"]))
+        self.take_room(it["name"], self.records[it["kind"]]["size"])
+        self.before.append("put_%s(&it, at_%s, %s);" % (it["kind"], it["name"], it["name"]))
         if not it["const"]:
-            self.after.append("get_%s(at_%s, %s);" % (it["kind"], it["name"], it["name"]))
+            self.after.append("get_%s(&it, at_%s, %s);" % (it["kind"], it["name"], it["name"]))
+
+    def stack_taken(self):
+        """How much stack the call takes, as C."""
+        most, each = self.stack
+        counts = [it["length"] for it in self.call["given"] if it["by"] == "slice"]
+        if each and len(counts) != 1:
+            sys.exit("portable: %s takes stack for each element, and not of one slice" % self.name)
+        return "%d + room_of(%s, %d)" % (most, counts[0], each) if each else "%d" % most
+
+    def refusal(self):
+        """What it answers where there is no memory."""
+        answer, fields = self.call["answer"], self.records.get(self.call["answer"], {"fields": []})["fields"]
+        if answer == "size_t":
+            return [], "say_no_memory(%s)" % ", ".join((it["name"] + ", " + it["length"]) for it in self.call["given"] if it["by"] == "slice" and not it["const"])
+        if not self.is_by_room:
+            return ["answer = ONFISEQ_NO_MEMORY;"], "answer"
+        told = {"letter": "'O'", "fault": "ONFISEQ_NO_MEMORY"}
+        told.update(dict.fromkeys(("cycle", "busy", "ready"), "'O'") if answer == "onfiseq_pauses" else {})
+        return ["memset(&answer, 0, sizeof answer);"] + ["answer.%s = %s;" % (it["name"], told[it["name"]]) for it in fields if it["name"] in told], "answer"
 
     def lines(self):
         """The function."""
-        answer = self.call["answer"]
+        answer, (told, refused) = self.call["answer"], self.refusal()
         call = "%s%s(%s)" % (PREFIX, self.name, ", ".join(self.words))
+        room = " + ".join(["%d" % self.record_room] * (self.record_room != 0) + self.slice_rooms) or "0"
         lines = ["%s %s(%s) {" % (header.c_type(answer), self.name, ", ".join(self.given) or "void")]
-        declared = [line.split(" = ")[0] + ";" for line in self.before if line.startswith("u64 ")]
-        lines += ["    %s answer;" % header.c_type(answer)] + ["    " + line for line in declared]
-        lines += ["    begin_call();"] + ["    " + line.replace("u64 at_", "at_", 1) if line.startswith("u64 ") else "    " + line for line in self.before]
-        lines.append("    %s;" % call if self.is_by_room else "    answer = (%s)%s;" % (answer, call))
-        if self.is_by_room:
-            lines += ["    memset(&answer, 0, sizeof answer);", "    get_%s(at_answer, &answer);" % answer]
-        return lines + ["    " + line for line in self.after] + ["    return answer;", "}"]
+        lines += ["    struct module it;", "    %s answer;" % header.c_type(answer)] + ["    u64 at_%s;" % name for name in self.rooms]
+        lines += ["    " + line for line in told + self.cleared]
+        lines += ["    if (!begin_call(&it, %s, %s)) return %s;" % (self.stack_taken(), room, refused)] + ["    " + line for line in self.before]
+        lines += ["    %s;" % call, "    get_%s(&it, at_answer, &answer);" % answer] if self.is_by_room else ["    answer = (%s)%s;" % (answer, call)]
+        return lines + ["    " + line for line in self.after] + ["    end_call(&it);", "    return answer;", "}"]
 
 
 def needed_records(calls, records):
@@ -166,15 +206,21 @@ def needed_records(calls, records):
 
 def written(header_path, module_path):
     """The C file."""
-    records, calls = header.read(header_path)
-    module = shortened(functions_of(read(module_path)))
-    refuse_unknown(module)
-    calls = {name: call for name, call in calls.items() if PREFIX + name + "(" in module}
-    parts = [read(HERE + "/c/portable_head.c"), module, read(HERE + "/c/portable_shim.c")]
-    parts += ["\n".join(movers_of(name, records[name])) for name in needed_records(calls, records)]
-    parts += ["", "/* ---- the calls */", ""]
-    parts += ["\n".join(Shim(name, call, records).lines()) for name, call in calls.items()]
-    return "\n".join(parts) + "\n"
+    return written_around(shortened(functions_of(read(module_path))), header_path)
+
+
+def written_around(text, header_path):
+    """The C file around a module's functions."""
+    records, every = header.read(header_path)
+    module = frames.Module(text)
+    refuse_unknown(text)
+    calls = {name: call for name, call in every.items() if PREFIX + name in module.texts}
+    shims = {name: Shim(name, call, records, module.most(PREFIX + name)) for name, call in calls.items()}
+    head, rest = read(HERE + "/c/portable_head.c").split(NUMBERS)
+    made = [head, parts.numbers(module, text, max(it.record_room for it in shims.values())), rest, parts.functions(module, text), read(HERE + "/c/portable_shim.c")]
+    made += ["\n".join(movers_of(name, records[name])) for name in needed_records(calls, records)]
+    made += ["", "/* ---- the calls */", "", parts.calls({name: it.lines() for name, it in shims.items()})]
+    return "\n".join(made) + "\n"
 
 
 if __name__ == "__main__":

@@ -1,7 +1,6 @@
 """The processors: how the kit's clang is told of each."""
 
-# The libraries for C: the checker, those that the one C file has, and all, which the page has.
-CHECKER = ("onfiseq_c",)
+# The libraries for C: those that the one C file has, and all, which the page has.
 PORTABLE = ("onfiseq_c", "onfiseq_verify_c", "onfiseq_text_c", "onfiseq_live_c")
 LIBRARIES = PORTABLE + ("onfiseq_show_c",)
 
@@ -24,4 +23,4 @@ TARGETS = {
 WASM = ["--target=wasm32-unknown-unknown", "-mcpu=lime1", "-O2"]
 
 # The modules: their libraries, and the bytes of their stack.
-MODULES = {"checker": (CHECKER, 36864), "onfiseq": (PORTABLE, 2621440), "whole": (LIBRARIES, 2621440)}
+MODULES = {"onfiseq": (PORTABLE, 2621440), "whole": (LIBRARIES, 2621440)}

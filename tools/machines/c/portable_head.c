@@ -1,25 +1,36 @@
-/* onfiseq in one C file: every call of onfiseq.h, for any processor with a C99 compiler. It was written by tools/machines: don't edit it.
+/* onfiseq in one C file: every call of onfiseq.h but onfiseq_picture and onfiseq_notes, for any processor with a C99 compiler. It was written by tools/machines:
+ * don't edit it.
  *
  *     cc -O2 -c onfiseq.c
  *
  * It is the WebAssembly module of the proved libraries, turned to C by wasm2c of wabt, between what runs such a module and what copies a call's records into
- * its memory and out. It needs memcpy, memmove and memset, and malloc, calloc and free unless ONFISEQ_MEMORY says otherwise:
+ * its memory and out. It needs memcpy, memmove and memset, and malloc's kin unless ONFISEQ_MEMORY says otherwise:
  *
- *     ONFISEQ_MEMORY      the module's memory is a static array of so many bytes: its stack, its data, and room for what a call is given.
- *                         One thread at a time may then be in its calls. Without it, each thread has a memory, which is taken by calloc
- *                         at its first call, grows as its calls need it, and is kept.
+ *     ONFISEQ_WITHOUT_VERIFY, ONFISEQ_WITHOUT_RUN, ONFISEQ_WITHOUT_TEXT, ONFISEQ_WITHOUT_LIVE
+ *                         leave out the calls of libonfiseq_verify_c.a, of these onfiseq_verify_run alone, of libonfiseq_text_c.a, of libonfiseq_live_c.a, and all
+ *                         that no other call needs.
+ *     ONFISEQ_STACK       how much of the memory is the stack of the calls. The least for each set of calls has a name below, as ONFISEQ_STACK_PUSH. A call for
+ *                         which it isn't enough answers 'O'.
+ *     ONFISEQ_MEMORY      the memory is a static array of so many bytes: the stack, the data, and room for what a call is given. Without it, each thread has a
+ *                         memory, which is taken by calloc at its first call, grows as its calls need it, and is kept.
+ *     ONFISEQ_ROOM        a function of yours that lends the memory of whoever calls: void *ONFISEQ_ROOM(void) gives ONFISEQ_MEMORY bytes, at a multiple of 8,
+ *                         which are all 0 before their first call; NULL where there is none. With one memory for each, any number of threads, tasks and
+ *                         interrupts may be in the calls at once.
  *     ONFISEQ_THREAD      what the compiler calls a variable of each thread: _Thread_local, __thread or __declspec(thread), if nothing is said.
  *                         Defined as nothing, there is one memory for all, and one thread at a time may be in the calls.
- *     ONFISEQ_TRAP(why)   is called where the module can't go on, as where the memory is too small for what a call is given, and must not come back.
- *                         Without it, abort is called.
+ *     ONFISEQ_TRAP(why)   is called where the module can't go on, which the proofs exclude, and must not come back. Without it, abort is called.
  *
- * Threads may be in its calls at once, each with records of its own. */
+ * Where there is no memory for a call, it answers 'O' and changes nothing: the code ONFISEQ_NO_MEMORY, or that letter in its answer. So does a call that comes
+ * while another is in the same memory, as from a signal's handler. Without ONFISEQ_MEMORY threads may be in the calls at once, each with records of its own. */
 #include "onfiseq.h"
 #include <stdlib.h>
 #include <string.h>
 
 #ifndef ONFISEQ_MEMORY
 #define ONFISEQ_MEMORY 0
+#endif
+#if defined(ONFISEQ_ROOM) && !ONFISEQ_MEMORY
+#error "ONFISEQ_MEMORY says how many bytes ONFISEQ_ROOM lends"
 #endif
 #ifndef ONFISEQ_TRAP
 #define ONFISEQ_TRAP(why) abort()
@@ -38,6 +49,7 @@
 #endif
 #endif
 
+/* NUMBERS */
 /* ---- what a module runs on */
 
 typedef uint8_t u8;
@@ -61,15 +73,34 @@ static void stop(int why) {
     }
 }
 
+/* The memory begins where the stack does: places below are none, as there is no more stack than ONFISEQ_STACK. */
+#define LOWEST (STACK_END - STACK_BYTES)
+
+/* How far from there a place is. On a processor of 32 bits a sum past those begins anew; what it leads to is tested as ever. */
+#if SIZE_MAX > 0xffffffffu
+typedef u64 distance;
+#else
+typedef u32 distance;
+#endif
+
 struct memory {
     u8 *data;
-    u64 size;
+    distance size; /* without the last LONGEST bytes, so that a number that begins within it stands in the memory */
 };
+enum { LONGEST = 8 };
 
 /* The place of so many bytes. */
 static inline u8 *place(const struct memory *memory, u64 at, u64 count) {
-    if (at + count > memory->size) stop(OUT_OF_MEMORY);
-    return memory->data + at;
+    distance from = (distance)at - LOWEST;
+    if (count > memory->size || from > memory->size - (distance)count) stop(OUT_OF_MEMORY);
+    return memory->data + from;
+}
+
+/* The place of a number. */
+static inline u8 *number_at(const struct memory *memory, u64 at) {
+    distance from = (distance)at - LOWEST;
+    if (from > memory->size) stop(OUT_OF_MEMORY);
+    return memory->data + from;
 }
 
 /* Numbers stand in the memory with their lowest byte first, in whatever order the processor has them. */
@@ -111,9 +142,9 @@ NUMBER(64)
 #define INSTRUCTION static inline
 #endif
 #define LOAD(name, answer, bits, extended) \
-    INSTRUCTION answer name(const struct memory *memory, u64 at) { return extended(get##bits(place(memory, at, bits / 8))); }
+    INSTRUCTION answer name(const struct memory *memory, u64 at) { return extended(get##bits(number_at(memory, at))); }
 #define STORE(name, given, bits) \
-    INSTRUCTION void name(const struct memory *memory, u64 at, given it) { put##bits(place(memory, at, bits / 8), (u##bits)it); }
+    INSTRUCTION void name(const struct memory *memory, u64 at, given it) { put##bits(number_at(memory, at), (u##bits)it); }
 #define AS_IT_IS(it) (it)
 #define SIGNED_32(it) ((u32)(s32)(s8)(it))
 #define SIGNED_32_OF_16(it) ((u32)(s32)(s16)(it))
@@ -186,9 +217,12 @@ INSTRUCTION u32 zeros_below(u64 it, u32 bits) {
 #define I64_ROTR(x, y) ROTATED(x, 64 - ((y)&63), y, 63)
 #define UNREACHABLE stop(UNREACHED)
 
+/* A call's module: it is begun anew for each call, over the memory of whoever calls. */
 struct module {
     struct memory memory;
     u32 stack_pointer, heap_base;
+    u64 room_at, last_block; /* where the room is free, and the block that stands last in it */
+    volatile u8 *marks;
 };
 
 /* What it asks for: memory, for onfiseq_verify and the assembler. */

@@ -1,89 +1,123 @@
 
-/* ---- the memory that a call uses, from heap_base on: it is free again when the call ends */
+/* ---- the memory of whoever calls: the stack, the data, and from heap_base on room, which is free again when the call ends */
 
-static ONFISEQ_THREAD struct module module;
-static ONFISEQ_THREAD u64 room_at;
+enum { IS_IN_CALL, IS_FILLED, MARKS = 16 };
+#define MOST 0x7fff0000u
 
 #if ONFISEQ_MEMORY
-static union {
-    u64 aligned;
-    u8 bytes[ONFISEQ_MEMORY];
-} module_bytes;
-
-static bool has_memory(struct memory *memory, u64 size) {
-    memory->data = module_bytes.bytes, memory->size = sizeof module_bytes.bytes;
-    return size <= memory->size;
-}
+#ifdef ONFISEQ_ROOM
+void *ONFISEQ_ROOM(void);
+static void *room_of_caller(void) { return ONFISEQ_ROOM(); }
 #else
-static bool has_memory(struct memory *memory, u64 size) {
-    u64 wanted = size + memory->size / 2;
-    u8 *data;
-    if (size <= memory->size) return true;
-    if (wanted > 0x7fff0000u) return false;
-    /* (what calloc gives is often no memory yet, and most of the stack is never touched) */
-    data = memory->data == NULL ? (u8 *)calloc((size_t)wanted, 1) : (u8 *)realloc(memory->data, (size_t)wanted);
-    if (data == NULL) return false;
-    if (memory->data != NULL) memset(data + memory->size, 0, (size_t)(wanted - memory->size));
-    memory->data = data, memory->size = wanted;
+static u64 only_room[(ONFISEQ_MEMORY) / 8];
+static void *room_of_caller(void) { return only_room; }
+#endif
+
+static bool find_memory(struct module *it) {
+    u8 *room = (u8 *)room_of_caller();
+    it->marks = room;
+    it->memory.data = room == NULL ? NULL : room + MARKS;
+    it->memory.size = (ONFISEQ_MEMORY) / 8 * 8 - MARKS - LONGEST;
+    return room != NULL;
+}
+static bool reaches(struct module *it, u64 end) { return end - LOWEST <= it->memory.size; }
+#else
+static ONFISEQ_THREAD struct memory kept;
+static ONFISEQ_THREAD volatile u8 kept_marks[MARKS];
+
+static bool find_memory(struct module *it) {
+    it->marks = kept_marks;
+    it->memory = kept;
     return true;
+}
+/* What calloc gives is often no memory yet, and most of the stack is never touched. */
+static bool has_grown(struct module *it, u64 size) {
+    size_t bytes = (size_t)(size + LONGEST);
+    u8 *data;
+    if (size > MOST || bytes < size) return false;
+    data = kept.data == NULL ? (u8 *)calloc(bytes, 1) : (u8 *)realloc(kept.data, bytes);
+    if (data == NULL) return false;
+    if (kept.data != NULL) memset(data + kept.size + LONGEST, 0, (size_t)(size - kept.size));
+    kept.data = data, kept.size = (distance)size;
+    it->memory = kept;
+    return true;
+}
+static bool reaches(struct module *it, u64 end) {
+    u64 size = end - LOWEST;
+    return size <= it->memory.size || has_grown(it, size + it->memory.size / 2) || has_grown(it, size);
 }
 #endif
 
+/* How much room so many values take, or more than there is. */
+static u64 room_of(u64 count, u64 each) { return count > MOST / each ? MOST : (count * each + 15) & ~(u64)15; }
+
 /* The place of so many bytes of room, or 0 where there are none. */
-static u64 find_room(u64 size) {
-    u64 at = (room_at + 15) & ~(u64)15;
-    if (size > 0x7fff0000u || !has_memory(&module.memory, at + size)) return 0;
-    room_at = at + size;
+static u64 find_room(struct module *it, u64 size) {
+    u64 at = (it->room_at + 15) & ~(u64)15;
+    if (size > MOST || !reaches(it, at + size)) return 0;
+    it->room_at = at + size;
     return at;
 }
 
-/* The place of so many bytes of room for what a call is given. */
-static u64 take_room(u64 size) {
-    u64 at = find_room(size);
-    if (at == 0) stop(OUT_OF_MEMORY);
+/* The place of so much of the room that begin_call has found. */
+static u64 take_room(struct module *it, u64 room) {
+    u64 at = it->room_at;
+    it->room_at += room;
     return at;
 }
 
-static void begin_call(void) {
-    bool is_first = module.memory.data == NULL;
-    init_globals(&module);
-    if (!has_memory(&module.memory, module.heap_base)) stop(OUT_OF_MEMORY);
-    if (is_first) init_memories(&module);
-    room_at = module.heap_base;
+static void end_call(struct module *it) { it->marks[IS_IN_CALL] = 0; }
+
+/* Begins a call that takes so much of the stack, and so much room for what it is given. */
+static bool begin_call(struct module *it, u64 stack, u64 room) {
+    if (stack > STACK_BYTES || !find_memory(it) || it->marks[IS_IN_CALL]) return false;
+    it->marks[IS_IN_CALL] = 1;
+    init_globals(it);
+    it->room_at = it->heap_base, it->last_block = 0;
+    if (!reaches(it, it->room_at + room)) return end_call(it), false;
+    if (!it->marks[IS_FILLED]) init_memories(it);
+    it->marks[IS_FILLED] = 1;
+    return true;
 }
 
-static void put_bytes(u64 at, const void *bytes, u64 count) {
-    if (count != 0) memcpy(place(&module.memory, at, count), bytes, (size_t)count);
+INSTRUCTION void put_bytes(struct module *it, u64 at, const void *bytes, u64 count) {
+    if (count != 0) memcpy(place(&it->memory, at, count), bytes, (size_t)count);
 }
-static void get_bytes(u64 at, void *bytes, u64 count) {
-    if (count != 0) memcpy(bytes, place(&module.memory, at, count), (size_t)count);
+INSTRUCTION void get_bytes(struct module *it, u64 at, void *bytes, u64 count) {
+    if (count != 0) memcpy(bytes, place(&it->memory, at, count), (size_t)count);
+}
+
+/* What onfiseq_words and onfiseq_explain say where they have no memory. */
+INSTRUCTION size_t say_no_memory(char *text, size_t room) {
+    static const char words[] = "out of memory";
+    size_t length = room < sizeof words ? room : sizeof words;
+    if (length != 0) memcpy(text, words, length - 1), text[length - 1] = 0;
+    return sizeof words - 1;
 }
 
 /* ---- the memory that the module asks for: of the room, behind what the call was given. A block that is given back is room again where it stands last. */
 
-static ONFISEQ_THREAD u64 last_block;
-
 /* An answer is a struct {u64 ok; void *memory;}, a pointer of 8 bytes. */
-static void answer_block(u32 answer, u64 at) {
-    i64_store(&module.memory, answer, at != 0);
-    i64_store(&module.memory, (u64)answer + 8, at != 0 ? at : 16);
-    if (at != 0) last_block = at;
+static void answer_block(struct module *it, u32 answer, u64 at) {
+    i64_store(&it->memory, answer, at != 0);
+    i64_store(&it->memory, (u64)answer + 8, at != 0 ? at : 16);
+    if (at != 0) it->last_block = at;
 }
-INSTRUCTION void module_alloc(struct module *its, u32 answer, u64 size, u64 alignment) {
-    (void)its;
-    answer_block(answer, find_room(size != 0 ? size : alignment));
+INSTRUCTION void module_alloc(struct module *it, u32 answer, u64 size, u64 alignment) { answer_block(it, answer, find_room(it, size != 0 ? size : alignment)); }
+INSTRUCTION void module_realloc(struct module *it, u32 answer, u32 old, u64 kept_bytes, u64 size, u64 alignment) {
+    u64 wanted = size != 0 ? size : alignment, at = old;
+    if (old != it->last_block) {
+        at = find_room(it, wanted);
+        if (at != 0) memory_copy(&it->memory, &it->memory, (u32)at, old, (u32)(kept_bytes < wanted ? kept_bytes : wanted));
+    } else if (wanted <= MOST && reaches(it, old + wanted)) {
+        it->room_at = old + wanted;
+    } else {
+        at = 0;
+    }
+    answer_block(it, answer, at);
 }
-INSTRUCTION void module_realloc(struct module *its, u32 answer, u32 old, u64 kept, u64 size, u64 alignment) {
-    u64 wanted = size != 0 ? size : alignment, end = room_at, at;
-    if (old == last_block) room_at = old;
-    at = find_room(wanted);
-    if (at == 0) room_at = end;
-    if (at != 0 && at != old) memory_copy(&its->memory, &its->memory, (u32)at, old, (u32)(kept < wanted ? kept : wanted));
-    answer_block(answer, at);
-}
-INSTRUCTION void module_dealloc(struct module *its, u32 old) {
-    (void)its;
-    if (old == last_block) room_at = old, last_block = 0;
+INSTRUCTION void module_dealloc(struct module *it, u32 old) {
+    if (old == it->last_block) it->room_at = old, it->last_block = 0;
 }
 
 /* ---- records, in the module's memory and out of it */

@@ -2,8 +2,8 @@
 
     python3 tools/machines/try/cost.py [OUT]      at the root, after `python3 tools/machines OUT` (out/machines where no folder is named)
 
-Code is that of the checker's library, and of all four. Stack is painted. Instructions are those that qemu runs, one by one, as the difference of 200 items and
-100. A processor whose tools aren't installed is skipped by name.
+Code is that of the checker's library, and of all four; of the one C file, compiled for size. Stack is painted. Instructions are those that qemu runs, one by one,
+as the difference of 200 items and 100. A processor whose tools aren't installed is skipped by name. tools/figures.py keeps the numbers for the pages.
 """
 import os
 import shutil
@@ -12,6 +12,9 @@ import sys
 import tempfile
 
 HERE = os.path.dirname(os.path.abspath(__file__))
+sys.path.insert(0, os.path.join(HERE, ".."))
+from parts import PARTS
+
 LIBRARIES = ("onfiseq_c", "onfiseq_verify_c", "onfiseq_text_c", "onfiseq_live_c")
 CALLS = ("push", "push_all", "push_status", "ask", "check", "step", "verify")
 # The code of a Cortex-M runs on larger ARM processors too, so its library is linked into a program for Linux.
@@ -65,36 +68,51 @@ def stacks(program, runs):
 
 
 def code(sources, compiler, room):
-    """The bytes of code and constants of the checker, and of all libraries; of the one C file, of all."""
+    """The bytes of code and constants of the checker, and of all libraries; of the one C file, of that with the checker's calls alone, and of the whole."""
     archives = [it for it in sources if it.endswith(".a")]
-    if not archives:
-        subprocess.run([*compiler, "-O2", "-Iinclude", "-c", sources[0], "-o", room + "/whole.o"], check=True)
-        archives = [room + "/whole.o"]
-    lines = subprocess.run(["size", *archives], check=True, stdout=subprocess.PIPE, text=True).stdout.splitlines()[1:]
-    whole, checker = (sum(int(line.split()[0]) for line in lines if part in line) for part in ("", "onfiseq_c."))
-    return "%s | %s" % ("{:,}".format(checker) if checker else "", "{:,}".format(whole))
+    if archives:
+        lines = subprocess.run(["size", *archives], check=True, stdout=subprocess.PIPE, text=True).stdout.splitlines()[1:]
+        return [sum(int(line.split()[0]) for line in lines if part in line) for part in ("onfiseq_c.", "")]
+    return [compiled_code(sources[0], [*compiler, *options], room) for options in (["-DONFISEQ_WITHOUT_%s" % part for part in PARTS], [])]
 
 
-def measure(name, compiler, runs, sources, room):
-    """Prints the numbers of a processor, as a line of a table."""
-    lacking = [it for it in (compiler[0], runs[0]) if shutil.which(it) is None] + [it for it in sources if not os.path.exists(it)]
-    if lacking:
-        print("cost: skipped: %s, as %s isn't there" % (name, lacking[0]), flush=True)
-        return
-    program = room + "/program"
-    subprocess.run([*compiler, "-O2", "-Wl,--gc-sections", "-Iinclude", HERE + "/cost.c", *sources, "-o", program], check=True)
-    stack, counts = stacks(program, runs), [instructions(program, runs, call, room) for call in CALLS]
-    print("| %s | %s | %s | %s |" % (name, code(sources, compiler, room), " | ".join("{:,}".format(it) for it in counts), " | ".join("{:,}".format(stack[it]) for it in ("push", "check", "step", "verify"))), flush=True)
+def compiled_code(source, compiler, room):
+    """The bytes of code and constants of a C file, compiled for size."""
+    subprocess.run([*compiler, "-Os", "-Iinclude", "-c", source, "-o", room + "/whole.o"], check=True)
+    return int(subprocess.run(["size", room + "/whole.o"], check=True, stdout=subprocess.PIPE, text=True).stdout.splitlines()[1].split()[0])
+
+
+def lacking(compiler, runs, sources):
+    """What isn't there to measure a processor with."""
+    return [it for it in (compiler[0], runs[0]) if shutil.which(it) is None] + [it for it in sources if not os.path.exists(it)]
+
+
+def measure(compiler, runs, sources):
+    """The numbers of a processor, by what they are of."""
+    with tempfile.TemporaryDirectory() as room:
+        program = room + "/program"
+        subprocess.run([*compiler, "-O2", "-Wl,--gc-sections", "-Iinclude", HERE + "/cost.c", *sources, "-o", program], check=True)
+        stack, found = stacks(program, runs), dict(zip(("code of the checker", "code of the four"), code(sources, compiler, room)))
+        found.update({call: instructions(program, runs, call, room) for call in CALLS})
+        found.update({"stack of " + call: stack[call] for call in ("push", "check", "step", "verify")})
+    return found
+
+
+def places(out):
+    """Each processor: its name, its compiler, what runs its programs, and what is linked."""
+    for name, compiler, runs in PROCESSORS:
+        yield name, compiler, runs, linked(out, name)
+    for name, compiler, runs in PORTABLE:
+        yield name, compiler, runs, ["release/onfiseq.c"]
 
 
 def main():
     out = sys.argv[1] if len(sys.argv) > 1 else "out/machines"
-    print("| processor | code of the checker | of all four | %s | stack of push | of check | of a step | of verify |" % " | ".join(CALLS), flush=True)
-    with tempfile.TemporaryDirectory() as room:
-        for name, compiler, runs in PROCESSORS:
-            measure(name, compiler, runs, linked(out, name), room)
-        for name, compiler, runs in PORTABLE:
-            measure(name, compiler, runs, ["release/onfiseq.c"], room)
+    for name, *how in places(out):
+        if lacking(*how):
+            print("cost: skipped: %s, as %s isn't there" % (name, lacking(*how)[0]), flush=True)
+            continue
+        print("%s: %s" % (name, ", ".join("%s %s" % (what, "{:,}".format(number)) for what, number in measure(*how).items())), flush=True)
     return 0
 
 
