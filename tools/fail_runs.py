@@ -24,7 +24,7 @@ OUTPUTS = ("die.img", "first", "second", "trace")
 # How a trace is judged, behind its page, its targets and its path.
 CHECKS = (
     (),
-    ("--all", "--vendor", "linux", "--timing", "0", "--data", "--write", "copy"),
+    ("--all", "--vendor", "linux", "--timing", "0", "--unit", "1ns", "--data", "--write", "copy"),
 )
 MOST = 100_000
 
@@ -139,7 +139,7 @@ def judge_check(what, ran, whole, before):
 def refuse_check(refuser, folder, options):
     """Refuses each request of a check in turn."""
     put_outputs(folder)
-    made = run_refused("", [PROGRAM, "run", folder / "run", "--quiet", "--times", "--trace", folder / "trace"])
+    made = run_refused("", [PROGRAM, "run", folder / "run", "--quiet", "--times", "0", "--trace", folder / "trace"])
     if made.status != 0:
         stop(f"a run with times ended with {made}")
     named = [folder / "copy" if word == "copy" else word for word in options]
