@@ -18,12 +18,12 @@ _onfiseq() {
         capture) options='--profile --map --csv --times --glitch --vendor -h --help' places=('FILE' '1 2 3 4' 'FILE' 'FILE') ;;
         check) options='--profile --all --recorded --readies-from-status --assume-ready --from-middle --bytes --notes --write --json --vendor --timing --unit --slack --data --on --erased -h --help' places=('FILE' '1 2 3 4' 'FILE') ;;
         timing) options='--profile --timing --all --unit --slack --map --csv -h --help' places=('FILE' '1 2 3 4' 'FILE') ;;
-        image) options='--profile --on --reads --recorded --readies-from-status -h --help' places=('FILE' '1 2 3 4' 'FILE' '0 1 2 3' '0 1 2 3' 'FILE') ;;
-        ops) options='--profile --from-middle --polls --bytes --csv --json --lun --block --kind --items --from --to --no-summary -h --help' places=('FILE' '1 2 3 4' 'FILE') ;;
+        image) options='--profile --on --reads --recorded --readies-from-status --vendor -h --help' places=('FILE' '1 2 3 4' 'FILE' '0 1 2 3' '0 1 2 3' 'FILE') ;;
+        ops) options='--profile --from-middle --polls --bytes --csv --json --lun --block --kind --items --from --to --no-summary --vendor -h --help' places=('FILE' '1 2 3 4' 'FILE') ;;
         wave) options='--profile --recorded --vendor -h --help' places=('FILE' '1 2 3 4' 'FILE' 'FILE') ;;
         draw) options='--profile --recorded --vendor -h --help' places=('FILE' '1 2 3 4' 'FILE' 'FILE') ;;
         dis) options='-h --help' places=('FILE') ;;
-        page) options='--show --from --map --csv --data --spare --pages --blocks --luns --planes --cache --status-enhanced -h --help' places=('FILE') ;;
+        page) options='--show --from --map --csv --data --spare --pages --blocks --luns --planes --cache --status-enhanced --vendor -h --help' places=('FILE') ;;
         upgrade) options='-h --help' places=('FILE' 'FILE') ;;
         help) options='' places=('COMMAND') ;;
         *) return ;;
@@ -83,10 +83,12 @@ _onfiseq_value() {
         timing--slack) value='FILE' ;;
         image--profile) value='base onfi' ;;
         image--on) value='FILE' ;;
+        image--vendor) value='FILE' ;;
         ops--profile) value='base onfi' ;;
         ops--block) value='FILE' ;;
         ops--from) value='FILE' ;;
         ops--to) value='FILE' ;;
+        ops--vendor) value='FILE' ;;
         wave--profile) value='base onfi' ;;
         wave--vendor) value='FILE' ;;
         draw--profile) value='base onfi' ;;
@@ -99,6 +101,7 @@ _onfiseq_value() {
         page--blocks) value='ANY' ;;
         page--luns) value='ANY' ;;
         page--planes) value='1 2 4' ;;
+        page--vendor) value='FILE' ;;
     esac
 }
 

@@ -1,25 +1,36 @@
-/* onfiseq in one C file: every call of onfiseq.h, for any processor with a C99 compiler. It was written by tools/machines: don't edit it.
+/* onfiseq in one C file: every call of onfiseq.h but onfiseq_picture and onfiseq_notes, for any processor with a C99 compiler. It was written by tools/machines:
+ * don't edit it.
  *
  *     cc -O2 -c onfiseq.c
  *
  * It is the WebAssembly module of the proved libraries, turned to C by wasm2c of wabt, between what runs such a module and what copies a call's records into
- * its memory and out. It needs memcpy, memmove and memset, and malloc, calloc and free unless ONFISEQ_MEMORY says otherwise:
+ * its memory and out. It needs memcpy, memmove and memset, and malloc's kin unless ONFISEQ_MEMORY says otherwise:
  *
- *     ONFISEQ_MEMORY      the module's memory is a static array of so many bytes: its stack, its data, and room for what a call is given.
- *                         One thread at a time may then be in its calls. Without it, each thread has a memory, which is taken by calloc
- *                         at its first call, grows as its calls need it, and is kept.
+ *     ONFISEQ_WITHOUT_VERIFY, ONFISEQ_WITHOUT_RUN, ONFISEQ_WITHOUT_TEXT, ONFISEQ_WITHOUT_LIVE
+ *                         leave out the calls of libonfiseq_verify_c.a, of these onfiseq_verify_run alone, of libonfiseq_text_c.a, of libonfiseq_live_c.a, and all
+ *                         that no other call needs.
+ *     ONFISEQ_STACK       how much of the memory is the stack of the calls. The least for each set of calls has a name below, as ONFISEQ_STACK_PUSH. A call for
+ *                         which it isn't enough answers 'O'.
+ *     ONFISEQ_MEMORY      the memory is a static array of so many bytes: the stack, the data, and room for what a call is given. Without it, each thread has a
+ *                         memory, which is taken by calloc at its first call, grows as its calls need it, and is kept.
+ *     ONFISEQ_ROOM        a function of yours that lends the memory of whoever calls: void *ONFISEQ_ROOM(void) gives ONFISEQ_MEMORY bytes, at a multiple of 8,
+ *                         which are all 0 before their first call; NULL where there is none. With one memory for each, any number of threads, tasks and
+ *                         interrupts may be in the calls at once.
  *     ONFISEQ_THREAD      what the compiler calls a variable of each thread: _Thread_local, __thread or __declspec(thread), if nothing is said.
  *                         Defined as nothing, there is one memory for all, and one thread at a time may be in the calls.
- *     ONFISEQ_TRAP(why)   is called where the module can't go on, as where the memory is too small for what a call is given, and must not come back.
- *                         Without it, abort is called.
+ *     ONFISEQ_TRAP(why)   is called where the module can't go on, which the proofs exclude, and must not come back. Without it, abort is called.
  *
- * Threads may be in its calls at once, each with records of its own. */
+ * Where there is no memory for a call, it answers 'O' and changes nothing: the code ONFISEQ_NO_MEMORY, or that letter in its answer. So does a call that comes
+ * while another is in the same memory, as from a signal's handler. Without ONFISEQ_MEMORY threads may be in the calls at once, each with records of its own. */
 #include "onfiseq.h"
 #include <stdlib.h>
 #include <string.h>
 
 #ifndef ONFISEQ_MEMORY
 #define ONFISEQ_MEMORY 0
+#endif
+#if defined(ONFISEQ_ROOM) && !ONFISEQ_MEMORY
+#error "ONFISEQ_MEMORY says how many bytes ONFISEQ_ROOM lends"
 #endif
 #ifndef ONFISEQ_TRAP
 #define ONFISEQ_TRAP(why) abort()
@@ -35,6 +46,81 @@
 #define ONFISEQ_THREAD __thread
 #else
 #define ONFISEQ_THREAD
+#endif
+#endif
+
+
+/* ---- the parts that are there, and what their calls take */
+
+#if !defined(ONFISEQ_WITHOUT_VERIFY)
+#define HAS_VERIFY 1
+#else
+#define HAS_VERIFY 0
+#endif
+#if !defined(ONFISEQ_WITHOUT_RUN) && !defined(ONFISEQ_WITHOUT_VERIFY)
+#define HAS_RUN 1
+#else
+#define HAS_RUN 0
+#endif
+#if !defined(ONFISEQ_WITHOUT_TEXT)
+#define HAS_TEXT 1
+#else
+#define HAS_TEXT 0
+#endif
+#if !defined(ONFISEQ_WITHOUT_LIVE)
+#define HAS_LIVE 1
+#else
+#define HAS_LIVE 0
+#endif
+
+/* The stack of each set of calls, in bytes: the most that any of them can take. */
+#define ONFISEQ_STACK_PUSH 8176 /* onfiseq_ask, onfiseq_drop, onfiseq_look_at, onfiseq_note, onfiseq_pauses_before, onfiseq_push, onfiseq_push_all, onfiseq_sizes, onfiseq_read_page_as, onfiseq_read_page, onfiseq_make_sample, onfiseq_push_status */
+#define ONFISEQ_STACK_OP(parts) (37264 + 832 * (parts)) /* onfiseq_ask_op, onfiseq_push_op */
+#define ONFISEQ_STACK_BEGIN 17744 /* onfiseq_begin_sized, onfiseq_begin_target */
+#define ONFISEQ_STACK_CHECK 71312 /* onfiseq_check */
+#define ONFISEQ_STACK_VERIFY 16176 /* onfiseq_verify */
+#define ONFISEQ_STACK_RUN 152608 /* onfiseq_verify_run */
+#define ONFISEQ_STACK_TEXT 4000 /* onfiseq_assemble, onfiseq_disassemble, onfiseq_trace, onfiseq_words, onfiseq_explain */
+#define ONFISEQ_STACK_LIVE 9104 /* onfiseq_live_array_ready, onfiseq_live_ready, onfiseq_live_sizes, onfiseq_live_make_sample, onfiseq_job_begin, onfiseq_job_finish, onfiseq_job_next */
+#define ONFISEQ_STACK_LIVE_BEGIN 17728 /* onfiseq_live_begin_sized, onfiseq_live_begin_target */
+#ifndef ONFISEQ_STACK
+#if !ONFISEQ_MEMORY
+#define ONFISEQ_STACK 262144
+#elif HAS_RUN
+#define ONFISEQ_STACK ONFISEQ_STACK_RUN
+#else
+#define ONFISEQ_STACK ONFISEQ_STACK_CHECK
+#endif
+#endif
+#define STACK_END 2621440u
+#define STACK_BYTES (((ONFISEQ_STACK) + 15u) / 16u * 16u)
+#if ONFISEQ_STACK < 4000
+#error "ONFISEQ_STACK is too small: the least is 4000, which is ONFISEQ_STACK_TEXT"
+#endif
+#if ONFISEQ_STACK > 2621440
+#error "ONFISEQ_STACK is too large: the most is 2621440"
+#endif
+#if ONFISEQ_MEMORY && ONFISEQ_MEMORY < STACK_BYTES + 12744
+#if ONFISEQ_STACK == 4000
+#error "ONFISEQ_MEMORY is too small: the least is 16744"
+#elif ONFISEQ_STACK == 8176
+#error "ONFISEQ_MEMORY is too small: the least is 20920"
+#elif ONFISEQ_STACK == 9104
+#error "ONFISEQ_MEMORY is too small: the least is 21848"
+#elif ONFISEQ_STACK == 16176
+#error "ONFISEQ_MEMORY is too small: the least is 28920"
+#elif ONFISEQ_STACK == 17728
+#error "ONFISEQ_MEMORY is too small: the least is 30472"
+#elif ONFISEQ_STACK == 17744
+#error "ONFISEQ_MEMORY is too small: the least is 30488"
+#elif ONFISEQ_STACK == 37264
+#error "ONFISEQ_MEMORY is too small: the least is 50008"
+#elif ONFISEQ_STACK == 71312
+#error "ONFISEQ_MEMORY is too small: the least is 84056"
+#elif ONFISEQ_STACK == 152608
+#error "ONFISEQ_MEMORY is too small: the least is 165352"
+#else
+#error "ONFISEQ_MEMORY is too small: the least is ONFISEQ_STACK and 12759"
 #endif
 #endif
 
@@ -61,15 +147,34 @@ static void stop(int why) {
     }
 }
 
+/* The memory begins where the stack does: places below are none, as there is no more stack than ONFISEQ_STACK. */
+#define LOWEST (STACK_END - STACK_BYTES)
+
+/* How far from there a place is. On a processor of 32 bits a sum past those begins anew; what it leads to is tested as ever. */
+#if SIZE_MAX > 0xffffffffu
+typedef u64 distance;
+#else
+typedef u32 distance;
+#endif
+
 struct memory {
     u8 *data;
-    u64 size;
+    distance size; /* without the last LONGEST bytes, so that a number that begins within it stands in the memory */
 };
+enum { LONGEST = 8 };
 
 /* The place of so many bytes. */
 static inline u8 *place(const struct memory *memory, u64 at, u64 count) {
-    if (at + count > memory->size) stop(OUT_OF_MEMORY);
-    return memory->data + at;
+    distance from = (distance)at - LOWEST;
+    if (count > memory->size || from > memory->size - (distance)count) stop(OUT_OF_MEMORY);
+    return memory->data + from;
+}
+
+/* The place of a number. */
+static inline u8 *number_at(const struct memory *memory, u64 at) {
+    distance from = (distance)at - LOWEST;
+    if (from > memory->size) stop(OUT_OF_MEMORY);
+    return memory->data + from;
 }
 
 /* Numbers stand in the memory with their lowest byte first, in whatever order the processor has them. */
@@ -111,9 +216,9 @@ NUMBER(64)
 #define INSTRUCTION static inline
 #endif
 #define LOAD(name, answer, bits, extended) \
-    INSTRUCTION answer name(const struct memory *memory, u64 at) { return extended(get##bits(place(memory, at, bits / 8))); }
+    INSTRUCTION answer name(const struct memory *memory, u64 at) { return extended(get##bits(number_at(memory, at))); }
 #define STORE(name, given, bits) \
-    INSTRUCTION void name(const struct memory *memory, u64 at, given it) { put##bits(place(memory, at, bits / 8), (u##bits)it); }
+    INSTRUCTION void name(const struct memory *memory, u64 at, given it) { put##bits(number_at(memory, at), (u##bits)it); }
 #define AS_IT_IS(it) (it)
 #define SIGNED_32(it) ((u32)(s32)(s8)(it))
 #define SIGNED_32_OF_16(it) ((u32)(s32)(s16)(it))
@@ -186,9 +291,12 @@ INSTRUCTION u32 zeros_below(u64 it, u32 bits) {
 #define I64_ROTR(x, y) ROTATED(x, 64 - ((y)&63), y, 63)
 #define UNREACHABLE stop(UNREACHED)
 
+/* A call's module: it is begun anew for each call, over the memory of whoever calls. */
 struct module {
     struct memory memory;
     u32 stack_pointer, heap_base;
+    u64 room_at, last_block; /* where the room is free, and the block that stands last in it */
+    volatile u8 *marks;
 };
 
 /* What it asks for: memory, for onfiseq_verify and the assembler. */
@@ -197,6 +305,7 @@ INSTRUCTION void module_realloc(struct module *module, u32 answer, u32 old, u64 
 INSTRUCTION void module_dealloc(struct module *module, u32 old);
 
 /* ---- the module */
+
 
 
 static u32 w2c_target_record__whole__is_whole(struct module*, u32, u32);
@@ -271,6 +380,7 @@ static void w2c_w_onfiseq_read_page_as(struct module*, u32, u32, u64, u32);
 static void w2c_w_onfiseq_read_page(struct module*, u32, u32, u64);
 static void w2c_w_onfiseq_make_sample(struct module*, u32, u32);
 static u32 w2c_w_onfiseq_push_status(struct module*, u32, u32, u32);
+#if HAS_VERIFY || HAS_RUN
 static void w2c_onfiseq_verify_c__verdict__read_program(struct module*, u32, u32, u64, u32, u64);
 static void w2c_micro_word__header__Header__read_word(struct module*, u32, u32, u64, u32);
 static u32 w2c_std_alloc__vec__Vec__grow_amortized____3c27f4cc8f0f340d_(struct module*, u32, u64);
@@ -296,6 +406,8 @@ static void w2c_micro_claims__state__State__go_on(struct module*, u32, u32, u32,
 static void w2c_micro_claims__state__State__move_index(struct module*, u32, u32, u32, u32, u32, u32);
 static u32 w2c_micro_claims__place__Place__is_same(struct module*, u32, u32);
 static void w2c_micro_claims__loop_place__LoopPlace__number(struct module*, u32, u32, u32, u32, u32);
+#endif
+#if HAS_RUN
 static void w2c_die_model__lun_die__registers____33c51ad52f7e454f_(struct module*, u32, u32, u64, u64);
 static u32 w2c_std_alloc__vec__Vec__grow_amortized____46d3b89976fc9e5a_(struct module*, u32);
 static void w2c_std_collections__btree__node__Node__destroy____d721814107686560_(struct module*, u32);
@@ -358,8 +470,14 @@ static u32 w2c_std_alloc__vec__Vec__grow_amortized____85b333accc2c9b19_(struct m
 static u32 w2c_std_alloc__vec__Vec__grow_amortized____6011e62aba85fb31_(struct module*, u32);
 static void w2c_refused_run__search__act____eb046075f114324d_(struct module*, u32, u32, u32, u32, u32);
 static void w2c_refused_run__bench__Bench__push____eb046075f114324d_(struct module*, u32, u32, u32);
+#endif
+#if HAS_VERIFY
 static void w2c_w_onfiseq_verify(struct module*, u32, u32, u64, u32, u64);
+#endif
+#if HAS_RUN
 static void w2c_w_onfiseq_verify_run(struct module*, u32, u32, u64, u32, u64, u64, u32, u64, u32);
+#endif
+#if HAS_TEXT
 static void w2c_core__str__utf8__from_utf8(struct module*, u32, u32, u64);
 static u64 w2c_core__slice__words__skip_far____52f9edcae2f82f51_(struct module*, u32, u64, u64);
 static u64 w2c_micro_asm__lines__last_word(struct module*, u32, u64);
@@ -450,6 +568,8 @@ static void w2c_w_onfiseq_disassemble(struct module*, u32, u32, u64, u32, u64);
 static void w2c_w_onfiseq_trace(struct module*, u32, u32, u64, u32, u32, u64);
 static u64 w2c_w_onfiseq_words(struct module*, u32, u32, u64);
 static u64 w2c_w_onfiseq_explain(struct module*, u32, u32, u32, u64);
+#endif
+#if HAS_LIVE
 static u32 w2c_onfiseq_live_c__live__go_on(struct module*, u32, u32);
 static u32 w2c_onfiseq_live_c__live__OnfiseqLive__is_live(struct module*, u32);
 static u32 w2c_onfi_cycle__command__Command__of_3(struct module*, u32);
@@ -502,6 +622,7 @@ static void w2c_w_onfiseq_live_make_sample(struct module*, u32);
 static void w2c_w_onfiseq_job_begin(struct module*, u32, u32, u32, u32, u32, u32, u64, u64, u32);
 static void w2c_w_onfiseq_job_finish(struct module*, u32, u32, u32, u32, u64, u32, u64);
 static void w2c_w_onfiseq_job_next(struct module*, u32, u32, u32, u32, u64);
+#endif
 static void init_globals(struct module* it) {
 it->stack_pointer = 2621440u;
 it->heap_base = 2630720u;
@@ -40360,6 +40481,7 @@ it->stack_pointer = i0;
 i0 = l4;
 return i0;
 }
+#if HAS_VERIFY || HAS_RUN
 static void w2c_onfiseq_verify_c__verdict__read_program(struct module* it, u32 p0, u32 p1, u64 p2, u32 p3, u64 p4) {
 u32 l5 = 0, l6 = 0, l7 = 0, l8 = 0, l9 = 0, l10 = 0, l12 = 0, l13 = 0, 
 l14 = 0, l15 = 0, l16 = 0, l17 = 0, l18 = 0, l19 = 0, l21 = 0, l22 = 0, 
@@ -64671,6 +64793,8 @@ i0 = p0;
 i1 = l10;
 i32_store(&it->memory, (u64)(i0), i1);
 }
+#endif
+#if HAS_RUN
 static void w2c_die_model__lun_die__registers____33c51ad52f7e454f_(struct module* it, u32 p0, u32 p1, u64 p2, u64 p3) {
 u32 l4 = 0, l6 = 0, l7 = 0, l8 = 0, l9 = 0, l11 = 0;
 u64 l5 = 0, l10 = 0, l12 = 0;
@@ -107093,6 +107217,8 @@ i1 = 32u;
 i0 += i1;
 it->stack_pointer = i0;
 }
+#endif
+#if HAS_VERIFY
 static void w2c_w_onfiseq_verify(struct module* it, u32 p0, u32 p1, u64 p2, u32 p3, u64 p4) {
 u32 l5 = 0;
 u64 l6 = 0, l7 = 0;
@@ -107348,6 +107474,8 @@ i1 = 96u;
 i0 += i1;
 it->stack_pointer = i0;
 }
+#endif
+#if HAS_RUN
 static void w2c_w_onfiseq_verify_run(struct module* it, u32 p0, u32 p1, u64 p2, u32 p3, u64 p4, u64 p5, u32 p6, u64 p7, 
 u32 p8) {
 u32 l9 = 0, l10 = 0, l13 = 0, l14 = 0, l15 = 0, l16 = 0, l18 = 0, l19 = 0, 
@@ -112099,6 +112227,8 @@ i1 = 56736u;
 i0 += i1;
 it->stack_pointer = i0;
 }
+#endif
+#if HAS_TEXT
 static void w2c_core__str__utf8__from_utf8(struct module* it, u32 p0, u32 p1, u64 p2) {
 u32 l3 = 0, l5 = 0, l8 = 0, l9 = 0, l12 = 0, l13 = 0;
 u64 l4 = 0, l6 = 0, l7 = 0, l10 = 0, l11 = 0;
@@ -187569,6 +187699,8 @@ it->stack_pointer = i0;
 j0 = l5;
 return j0;
 }
+#endif
+#if HAS_LIVE
 static u32 w2c_onfiseq_live_c__live__go_on(struct module* it, u32 p0, u32 p1) {
 u32 l2 = 0, l3 = 0, l4 = 0, l5 = 0, l7 = 0, l9 = 0, l10 = 0;
 u64 l6 = 0, l8 = 0;
@@ -219451,1076 +219583,1220 @@ i1 = 960u;
 i0 += i1;
 it->stack_pointer = i0;
 }
+#endif
 
 
-/* ---- the memory that a call uses, from heap_base on: it is free again when the call ends */
+/* ---- the memory of whoever calls: the stack, the data, and from heap_base on room, which is free again when the call ends */
 
-static ONFISEQ_THREAD struct module module;
-static ONFISEQ_THREAD u64 room_at;
+enum { IS_IN_CALL, IS_FILLED, MARKS = 16 };
+#define MOST 0x7fff0000u
 
 #if ONFISEQ_MEMORY
-static union {
-    u64 aligned;
-    u8 bytes[ONFISEQ_MEMORY];
-} module_bytes;
-
-static bool has_memory(struct memory *memory, u64 size) {
-    memory->data = module_bytes.bytes, memory->size = sizeof module_bytes.bytes;
-    return size <= memory->size;
-}
+#ifdef ONFISEQ_ROOM
+void *ONFISEQ_ROOM(void);
+static void *room_of_caller(void) { return ONFISEQ_ROOM(); }
 #else
-static bool has_memory(struct memory *memory, u64 size) {
-    u64 wanted = size + memory->size / 2;
-    u8 *data;
-    if (size <= memory->size) return true;
-    if (wanted > 0x7fff0000u) return false;
-    /* (what calloc gives is often no memory yet, and most of the stack is never touched) */
-    data = memory->data == NULL ? (u8 *)calloc((size_t)wanted, 1) : (u8 *)realloc(memory->data, (size_t)wanted);
-    if (data == NULL) return false;
-    if (memory->data != NULL) memset(data + memory->size, 0, (size_t)(wanted - memory->size));
-    memory->data = data, memory->size = wanted;
+static u64 only_room[(ONFISEQ_MEMORY) / 8];
+static void *room_of_caller(void) { return only_room; }
+#endif
+
+static bool find_memory(struct module *it) {
+    u8 *room = (u8 *)room_of_caller();
+    it->marks = room;
+    it->memory.data = room == NULL ? NULL : room + MARKS;
+    it->memory.size = (ONFISEQ_MEMORY) / 8 * 8 - MARKS - LONGEST;
+    return room != NULL;
+}
+static bool reaches(struct module *it, u64 end) { return end - LOWEST <= it->memory.size; }
+#else
+static ONFISEQ_THREAD struct memory kept;
+static ONFISEQ_THREAD volatile u8 kept_marks[MARKS];
+
+static bool find_memory(struct module *it) {
+    it->marks = kept_marks;
+    it->memory = kept;
     return true;
+}
+/* What calloc gives is often no memory yet, and most of the stack is never touched. */
+static bool has_grown(struct module *it, u64 size) {
+    size_t bytes = (size_t)(size + LONGEST);
+    u8 *data;
+    if (size > MOST || bytes < size) return false;
+    data = kept.data == NULL ? (u8 *)calloc(bytes, 1) : (u8 *)realloc(kept.data, bytes);
+    if (data == NULL) return false;
+    if (kept.data != NULL) memset(data + kept.size + LONGEST, 0, (size_t)(size - kept.size));
+    kept.data = data, kept.size = (distance)size;
+    it->memory = kept;
+    return true;
+}
+static bool reaches(struct module *it, u64 end) {
+    u64 size = end - LOWEST;
+    return size <= it->memory.size || has_grown(it, size + it->memory.size / 2) || has_grown(it, size);
 }
 #endif
 
+/* How much room so many values take, or more than there is. */
+static u64 room_of(u64 count, u64 each) { return count > MOST / each ? MOST : (count * each + 15) & ~(u64)15; }
+
 /* The place of so many bytes of room, or 0 where there are none. */
-static u64 find_room(u64 size) {
-    u64 at = (room_at + 15) & ~(u64)15;
-    if (size > 0x7fff0000u || !has_memory(&module.memory, at + size)) return 0;
-    room_at = at + size;
+static u64 find_room(struct module *it, u64 size) {
+    u64 at = (it->room_at + 15) & ~(u64)15;
+    if (size > MOST || !reaches(it, at + size)) return 0;
+    it->room_at = at + size;
     return at;
 }
 
-/* The place of so many bytes of room for what a call is given. */
-static u64 take_room(u64 size) {
-    u64 at = find_room(size);
-    if (at == 0) stop(OUT_OF_MEMORY);
+/* The place of so much of the room that begin_call has found. */
+static u64 take_room(struct module *it, u64 room) {
+    u64 at = it->room_at;
+    it->room_at += room;
     return at;
 }
 
-static void begin_call(void) {
-    bool is_first = module.memory.data == NULL;
-    init_globals(&module);
-    if (!has_memory(&module.memory, module.heap_base)) stop(OUT_OF_MEMORY);
-    if (is_first) init_memories(&module);
-    room_at = module.heap_base;
+static void end_call(struct module *it) { it->marks[IS_IN_CALL] = 0; }
+
+/* Begins a call that takes so much of the stack, and so much room for what it is given. */
+static bool begin_call(struct module *it, u64 stack, u64 room) {
+    if (stack > STACK_BYTES || !find_memory(it) || it->marks[IS_IN_CALL]) return false;
+    it->marks[IS_IN_CALL] = 1;
+    init_globals(it);
+    it->room_at = it->heap_base, it->last_block = 0;
+    if (!reaches(it, it->room_at + room)) return end_call(it), false;
+    if (!it->marks[IS_FILLED]) init_memories(it);
+    it->marks[IS_FILLED] = 1;
+    return true;
 }
 
-static void put_bytes(u64 at, const void *bytes, u64 count) {
-    if (count != 0) memcpy(place(&module.memory, at, count), bytes, (size_t)count);
+INSTRUCTION void put_bytes(struct module *it, u64 at, const void *bytes, u64 count) {
+    if (count != 0) memcpy(place(&it->memory, at, count), bytes, (size_t)count);
 }
-static void get_bytes(u64 at, void *bytes, u64 count) {
-    if (count != 0) memcpy(bytes, place(&module.memory, at, count), (size_t)count);
+INSTRUCTION void get_bytes(struct module *it, u64 at, void *bytes, u64 count) {
+    if (count != 0) memcpy(bytes, place(&it->memory, at, count), (size_t)count);
+}
+
+/* What onfiseq_words and onfiseq_explain say where they have no memory. */
+INSTRUCTION size_t say_no_memory(char *text, size_t room) {
+    static const char words[] = "out of memory";
+    size_t length = room < sizeof words ? room : sizeof words;
+    if (length != 0) memcpy(text, words, length - 1), text[length - 1] = 0;
+    return sizeof words - 1;
 }
 
 /* ---- the memory that the module asks for: of the room, behind what the call was given. A block that is given back is room again where it stands last. */
 
-static ONFISEQ_THREAD u64 last_block;
-
 /* An answer is a struct {u64 ok; void *memory;}, a pointer of 8 bytes. */
-static void answer_block(u32 answer, u64 at) {
-    i64_store(&module.memory, answer, at != 0);
-    i64_store(&module.memory, (u64)answer + 8, at != 0 ? at : 16);
-    if (at != 0) last_block = at;
+static void answer_block(struct module *it, u32 answer, u64 at) {
+    i64_store(&it->memory, answer, at != 0);
+    i64_store(&it->memory, (u64)answer + 8, at != 0 ? at : 16);
+    if (at != 0) it->last_block = at;
 }
-INSTRUCTION void module_alloc(struct module *its, u32 answer, u64 size, u64 alignment) {
-    (void)its;
-    answer_block(answer, find_room(size != 0 ? size : alignment));
+INSTRUCTION void module_alloc(struct module *it, u32 answer, u64 size, u64 alignment) { answer_block(it, answer, find_room(it, size != 0 ? size : alignment)); }
+INSTRUCTION void module_realloc(struct module *it, u32 answer, u32 old, u64 kept_bytes, u64 size, u64 alignment) {
+    u64 wanted = size != 0 ? size : alignment, at = old;
+    if (old != it->last_block) {
+        at = find_room(it, wanted);
+        if (at != 0) memory_copy(&it->memory, &it->memory, (u32)at, old, (u32)(kept_bytes < wanted ? kept_bytes : wanted));
+    } else if (wanted <= MOST && reaches(it, old + wanted)) {
+        it->room_at = old + wanted;
+    } else {
+        at = 0;
+    }
+    answer_block(it, answer, at);
 }
-INSTRUCTION void module_realloc(struct module *its, u32 answer, u32 old, u64 kept, u64 size, u64 alignment) {
-    u64 wanted = size != 0 ? size : alignment, end = room_at, at;
-    if (old == last_block) room_at = old;
-    at = find_room(wanted);
-    if (at == 0) room_at = end;
-    if (at != 0 && at != old) memory_copy(&its->memory, &its->memory, (u32)at, old, (u32)(kept < wanted ? kept : wanted));
-    answer_block(answer, at);
-}
-INSTRUCTION void module_dealloc(struct module *its, u32 old) {
-    (void)its;
-    if (old == last_block) room_at = old, last_block = 0;
+INSTRUCTION void module_dealloc(struct module *it, u32 old) {
+    if (old == it->last_block) it->room_at = old, it->last_block = 0;
 }
 
 /* ---- records, in the module's memory and out of it */
 
 
-INSTRUCTION void put_onfiseq_geometry(u64 at, const struct onfiseq_geometry *x) {
+INSTRUCTION void put_onfiseq_geometry(struct module *it, u64 at, const struct onfiseq_geometry *x) {
 #if IS_LITTLE_ENDIAN
-    put_bytes(at, x, sizeof *x);
+    put_bytes(it, at, x, sizeof *x);
 #else
-    put32(place(&module.memory, at + 0, 4), (u32)x->page_bytes);
-    put32(place(&module.memory, at + 4, 4), (u32)x->spare_bytes);
-    put32(place(&module.memory, at + 8, 4), (u32)x->pages);
-    put32(place(&module.memory, at + 12, 4), (u32)x->blocks);
-    put8(place(&module.memory, at + 16, 1), (u8)x->luns);
-    put8(place(&module.memory, at + 17, 1), (u8)x->plane_bits);
-    put8(place(&module.memory, at + 18, 1), (u8)x->enhanced);
-    put8(place(&module.memory, at + 19, 1), (u8)x->multi_plane);
-    put8(place(&module.memory, at + 20, 1), (u8)x->cache);
-    put16(place(&module.memory, at + 22, 2), (u16)x->optional);
+    put32(number_at(&it->memory, at + 0), (u32)x->page_bytes);
+    put32(number_at(&it->memory, at + 4), (u32)x->spare_bytes);
+    put32(number_at(&it->memory, at + 8), (u32)x->pages);
+    put32(number_at(&it->memory, at + 12), (u32)x->blocks);
+    put8(number_at(&it->memory, at + 16), (u8)x->luns);
+    put8(number_at(&it->memory, at + 17), (u8)x->plane_bits);
+    put8(number_at(&it->memory, at + 18), (u8)x->enhanced);
+    put8(number_at(&it->memory, at + 19), (u8)x->multi_plane);
+    put8(number_at(&it->memory, at + 20), (u8)x->cache);
+    put16(number_at(&it->memory, at + 22), (u16)x->optional);
 #endif
 }
-INSTRUCTION void get_onfiseq_geometry(u64 at, struct onfiseq_geometry *x) {
+INSTRUCTION void get_onfiseq_geometry(struct module *it, u64 at, struct onfiseq_geometry *x) {
 #if IS_LITTLE_ENDIAN
-    get_bytes(at, x, sizeof *x);
+    get_bytes(it, at, x, sizeof *x);
 #else
-    x->page_bytes = (uint32_t)get32(place(&module.memory, at + 0, 4));
-    x->spare_bytes = (uint32_t)get32(place(&module.memory, at + 4, 4));
-    x->pages = (uint32_t)get32(place(&module.memory, at + 8, 4));
-    x->blocks = (uint32_t)get32(place(&module.memory, at + 12, 4));
-    x->luns = (uint8_t)get8(place(&module.memory, at + 16, 1));
-    x->plane_bits = (uint8_t)get8(place(&module.memory, at + 17, 1));
-    x->enhanced = (uint8_t)get8(place(&module.memory, at + 18, 1));
-    x->multi_plane = (uint8_t)get8(place(&module.memory, at + 19, 1));
-    x->cache = (uint8_t)get8(place(&module.memory, at + 20, 1));
-    x->optional = (uint16_t)get16(place(&module.memory, at + 22, 2));
+    x->page_bytes = (uint32_t)get32(number_at(&it->memory, at + 0));
+    x->spare_bytes = (uint32_t)get32(number_at(&it->memory, at + 4));
+    x->pages = (uint32_t)get32(number_at(&it->memory, at + 8));
+    x->blocks = (uint32_t)get32(number_at(&it->memory, at + 12));
+    x->luns = (uint8_t)get8(number_at(&it->memory, at + 16));
+    x->plane_bits = (uint8_t)get8(number_at(&it->memory, at + 17));
+    x->enhanced = (uint8_t)get8(number_at(&it->memory, at + 18));
+    x->multi_plane = (uint8_t)get8(number_at(&it->memory, at + 19));
+    x->cache = (uint8_t)get8(number_at(&it->memory, at + 20));
+    x->optional = (uint16_t)get16(number_at(&it->memory, at + 22));
 #endif
 }
-INSTRUCTION void put_onfiseq_page(u64 at, const struct onfiseq_page *x) {
+INSTRUCTION void put_onfiseq_page(struct module *it, u64 at, const struct onfiseq_page *x) {
 #if IS_LITTLE_ENDIAN
-    put_bytes(at, x, sizeof *x);
+    put_bytes(it, at, x, sizeof *x);
 #else
-    put32(place(&module.memory, at + 0, 4), (u32)x->fault);
-    put_onfiseq_geometry(at + 4, &x->geometry);
+    put32(number_at(&it->memory, at + 0), (u32)x->fault);
+    put_onfiseq_geometry(it, at + 4, &x->geometry);
 #endif
 }
-INSTRUCTION void get_onfiseq_page(u64 at, struct onfiseq_page *x) {
+INSTRUCTION void get_onfiseq_page(struct module *it, u64 at, struct onfiseq_page *x) {
 #if IS_LITTLE_ENDIAN
-    get_bytes(at, x, sizeof *x);
+    get_bytes(it, at, x, sizeof *x);
 #else
-    x->fault = (uint32_t)get32(place(&module.memory, at + 0, 4));
-    get_onfiseq_geometry(at + 4, &x->geometry);
+    x->fault = (uint32_t)get32(number_at(&it->memory, at + 0));
+    get_onfiseq_geometry(it, at + 4, &x->geometry);
 #endif
 }
-INSTRUCTION void put_onfiseq_item(u64 at, const struct onfiseq_item *x) {
+INSTRUCTION void put_onfiseq_item(struct module *it, u64 at, const struct onfiseq_item *x) {
 #if IS_LITTLE_ENDIAN
-    put_bytes(at, x, sizeof *x);
+    put_bytes(it, at, x, sizeof *x);
 #else
-    put8(place(&module.memory, at + 0, 1), (u8)x->ce);
-    put8(place(&module.memory, at + 1, 1), (u8)x->kind);
-    put8(place(&module.memory, at + 2, 1), (u8)x->byte);
-    put8(place(&module.memory, at + 3, 1), (u8)x->fail);
+    put8(number_at(&it->memory, at + 0), (u8)x->ce);
+    put8(number_at(&it->memory, at + 1), (u8)x->kind);
+    put8(number_at(&it->memory, at + 2), (u8)x->byte);
+    put8(number_at(&it->memory, at + 3), (u8)x->fail);
 #endif
 }
-INSTRUCTION void get_onfiseq_item(u64 at, struct onfiseq_item *x) {
+INSTRUCTION void get_onfiseq_item(struct module *it, u64 at, struct onfiseq_item *x) {
 #if IS_LITTLE_ENDIAN
-    get_bytes(at, x, sizeof *x);
+    get_bytes(it, at, x, sizeof *x);
 #else
-    x->ce = (uint8_t)get8(place(&module.memory, at + 0, 1));
-    x->kind = (uint8_t)get8(place(&module.memory, at + 1, 1));
-    x->byte = (uint8_t)get8(place(&module.memory, at + 2, 1));
-    x->fail = (uint8_t)get8(place(&module.memory, at + 3, 1));
+    x->ce = (uint8_t)get8(number_at(&it->memory, at + 0));
+    x->kind = (uint8_t)get8(number_at(&it->memory, at + 1));
+    x->byte = (uint8_t)get8(number_at(&it->memory, at + 2));
+    x->fail = (uint8_t)get8(number_at(&it->memory, at + 3));
 #endif
 }
-INSTRUCTION void put_onfiseq_answer(u64 at, const struct onfiseq_answer *x) {
+INSTRUCTION void put_onfiseq_answer(struct module *it, u64 at, const struct onfiseq_answer *x) {
 #if IS_LITTLE_ENDIAN
-    put_bytes(at, x, sizeof *x);
+    put_bytes(it, at, x, sizeof *x);
 #else
-    put8(place(&module.memory, at + 0, 1), (u8)x->letter);
-    put32(place(&module.memory, at + 4, 4), (u32)x->number);
-    put64(place(&module.memory, at + 8, 8), (u64)x->at);
+    put8(number_at(&it->memory, at + 0), (u8)x->letter);
+    put32(number_at(&it->memory, at + 4), (u32)x->number);
+    put64(number_at(&it->memory, at + 8), (u64)x->at);
 #endif
 }
-INSTRUCTION void get_onfiseq_answer(u64 at, struct onfiseq_answer *x) {
+INSTRUCTION void get_onfiseq_answer(struct module *it, u64 at, struct onfiseq_answer *x) {
 #if IS_LITTLE_ENDIAN
-    get_bytes(at, x, sizeof *x);
+    get_bytes(it, at, x, sizeof *x);
 #else
-    x->letter = (uint8_t)get8(place(&module.memory, at + 0, 1));
-    x->number = (uint32_t)get32(place(&module.memory, at + 4, 4));
-    x->at = (onfiseq_u64)get64(place(&module.memory, at + 8, 8));
+    x->letter = (uint8_t)get8(number_at(&it->memory, at + 0));
+    x->number = (uint32_t)get32(number_at(&it->memory, at + 4));
+    x->at = (onfiseq_u64)get64(number_at(&it->memory, at + 8));
 #endif
 }
-INSTRUCTION void put_onfiseq_bus(u64 at, const struct onfiseq_bus *x) {
+INSTRUCTION void put_onfiseq_bus(struct module *it, u64 at, const struct onfiseq_bus *x) {
 #if IS_LITTLE_ENDIAN
-    put_bytes(at, x, sizeof *x);
+    put_bytes(it, at, x, sizeof *x);
 #else
-    for (u32 k = 0; k < 409u; k++) put64(place(&module.memory, at + 0 + 8u * k, 8), (u64)x->state[k]);
+    for (u32 k = 0; k < 409u; k++) put64(number_at(&it->memory, at + 0 + 8u * k), (u64)x->state[k]);
 #endif
 }
-INSTRUCTION void get_onfiseq_bus(u64 at, struct onfiseq_bus *x) {
+INSTRUCTION void get_onfiseq_bus(struct module *it, u64 at, struct onfiseq_bus *x) {
 #if IS_LITTLE_ENDIAN
-    get_bytes(at, x, sizeof *x);
+    get_bytes(it, at, x, sizeof *x);
 #else
-    for (u32 k = 0; k < 409u; k++) x->state[k] = (onfiseq_u64)get64(place(&module.memory, at + 0 + 8u * k, 8));
+    for (u32 k = 0; k < 409u; k++) x->state[k] = (onfiseq_u64)get64(number_at(&it->memory, at + 0 + 8u * k));
 #endif
 }
-INSTRUCTION void put_onfiseq_part(u64 at, const struct onfiseq_part *x) {
+INSTRUCTION void put_onfiseq_part(struct module *it, u64 at, const struct onfiseq_part *x) {
 #if IS_LITTLE_ENDIAN
-    put_bytes(at, x, sizeof *x);
+    put_bytes(it, at, x, sizeof *x);
 #else
-    put32(place(&module.memory, at + 0, 4), (u32)x->count);
-    put8(place(&module.memory, at + 4, 1), (u8)x->kind);
-    for (u32 k = 0; k < 7u; k++) put8(place(&module.memory, at + 5 + 1u * k, 1), (u8)x->bytes[k]);
+    put32(number_at(&it->memory, at + 0), (u32)x->count);
+    put8(number_at(&it->memory, at + 4), (u8)x->kind);
+    for (u32 k = 0; k < 7u; k++) put8(number_at(&it->memory, at + 5 + 1u * k), (u8)x->bytes[k]);
 #endif
 }
-INSTRUCTION void get_onfiseq_part(u64 at, struct onfiseq_part *x) {
+INSTRUCTION void get_onfiseq_part(struct module *it, u64 at, struct onfiseq_part *x) {
 #if IS_LITTLE_ENDIAN
-    get_bytes(at, x, sizeof *x);
+    get_bytes(it, at, x, sizeof *x);
 #else
-    x->count = (uint32_t)get32(place(&module.memory, at + 0, 4));
-    x->kind = (uint8_t)get8(place(&module.memory, at + 4, 1));
-    for (u32 k = 0; k < 7u; k++) x->bytes[k] = (uint8_t)get8(place(&module.memory, at + 5 + 1u * k, 1));
+    x->count = (uint32_t)get32(number_at(&it->memory, at + 0));
+    x->kind = (uint8_t)get8(number_at(&it->memory, at + 4));
+    for (u32 k = 0; k < 7u; k++) x->bytes[k] = (uint8_t)get8(number_at(&it->memory, at + 5 + 1u * k));
 #endif
 }
-INSTRUCTION void put_onfiseq_spot(u64 at, const struct onfiseq_spot *x) {
+INSTRUCTION void put_onfiseq_spot(struct module *it, u64 at, const struct onfiseq_spot *x) {
 #if IS_LITTLE_ENDIAN
-    put_bytes(at, x, sizeof *x);
+    put_bytes(it, at, x, sizeof *x);
 #else
-    put64(place(&module.memory, at + 0, 8), (u64)x->part);
-    put64(place(&module.memory, at + 8, 8), (u64)x->cycle);
+    put64(number_at(&it->memory, at + 0), (u64)x->part);
+    put64(number_at(&it->memory, at + 8), (u64)x->cycle);
 #endif
 }
-INSTRUCTION void get_onfiseq_spot(u64 at, struct onfiseq_spot *x) {
+INSTRUCTION void get_onfiseq_spot(struct module *it, u64 at, struct onfiseq_spot *x) {
 #if IS_LITTLE_ENDIAN
-    get_bytes(at, x, sizeof *x);
+    get_bytes(it, at, x, sizeof *x);
 #else
-    x->part = (onfiseq_u64)get64(place(&module.memory, at + 0, 8));
-    x->cycle = (onfiseq_u64)get64(place(&module.memory, at + 8, 8));
+    x->part = (onfiseq_u64)get64(number_at(&it->memory, at + 0));
+    x->cycle = (onfiseq_u64)get64(number_at(&it->memory, at + 8));
 #endif
 }
-INSTRUCTION void put_onfiseq_look(u64 at, const struct onfiseq_look *x) {
+INSTRUCTION void put_onfiseq_look(struct module *it, u64 at, const struct onfiseq_look *x) {
 #if IS_LITTLE_ENDIAN
-    put_bytes(at, x, sizeof *x);
+    put_bytes(it, at, x, sizeof *x);
 #else
-    put8(place(&module.memory, at + 0, 1), (u8)x->is_there);
-    put8(place(&module.memory, at + 1, 1), (u8)x->latch);
-    put8(place(&module.memory, at + 2, 1), (u8)x->busy);
-    put8(place(&module.memory, at + 3, 1), (u8)x->array_busy);
-    put8(place(&module.memory, at + 4, 1), (u8)x->caching);
-    put8(place(&module.memory, at + 5, 1), (u8)x->register_);
-    put8(place(&module.memory, at + 6, 1), (u8)x->has_column);
-    put8(place(&module.memory, at + 7, 1), (u8)x->programming);
-    put32(place(&module.memory, at + 8, 4), (u32)x->block);
-    put64(place(&module.memory, at + 16, 8), (u64)x->page);
-    put64(place(&module.memory, at + 24, 8), (u64)x->column);
-    put64(place(&module.memory, at + 32, 8), (u64)x->queued);
+    put8(number_at(&it->memory, at + 0), (u8)x->is_there);
+    put8(number_at(&it->memory, at + 1), (u8)x->latch);
+    put8(number_at(&it->memory, at + 2), (u8)x->busy);
+    put8(number_at(&it->memory, at + 3), (u8)x->array_busy);
+    put8(number_at(&it->memory, at + 4), (u8)x->caching);
+    put8(number_at(&it->memory, at + 5), (u8)x->register_);
+    put8(number_at(&it->memory, at + 6), (u8)x->has_column);
+    put8(number_at(&it->memory, at + 7), (u8)x->programming);
+    put32(number_at(&it->memory, at + 8), (u32)x->block);
+    put64(number_at(&it->memory, at + 16), (u64)x->page);
+    put64(number_at(&it->memory, at + 24), (u64)x->column);
+    put64(number_at(&it->memory, at + 32), (u64)x->queued);
 #endif
 }
-INSTRUCTION void get_onfiseq_look(u64 at, struct onfiseq_look *x) {
+INSTRUCTION void get_onfiseq_look(struct module *it, u64 at, struct onfiseq_look *x) {
 #if IS_LITTLE_ENDIAN
-    get_bytes(at, x, sizeof *x);
+    get_bytes(it, at, x, sizeof *x);
 #else
-    x->is_there = (bool)get8(place(&module.memory, at + 0, 1));
-    x->latch = (uint8_t)get8(place(&module.memory, at + 1, 1));
-    x->busy = (bool)get8(place(&module.memory, at + 2, 1));
-    x->array_busy = (bool)get8(place(&module.memory, at + 3, 1));
-    x->caching = (bool)get8(place(&module.memory, at + 4, 1));
-    x->register_ = (uint8_t)get8(place(&module.memory, at + 5, 1));
-    x->has_column = (bool)get8(place(&module.memory, at + 6, 1));
-    x->programming = (bool)get8(place(&module.memory, at + 7, 1));
-    x->block = (uint32_t)get32(place(&module.memory, at + 8, 4));
-    x->page = (onfiseq_u64)get64(place(&module.memory, at + 16, 8));
-    x->column = (onfiseq_u64)get64(place(&module.memory, at + 24, 8));
-    x->queued = (onfiseq_u64)get64(place(&module.memory, at + 32, 8));
+    x->is_there = (bool)get8(number_at(&it->memory, at + 0));
+    x->latch = (uint8_t)get8(number_at(&it->memory, at + 1));
+    x->busy = (bool)get8(number_at(&it->memory, at + 2));
+    x->array_busy = (bool)get8(number_at(&it->memory, at + 3));
+    x->caching = (bool)get8(number_at(&it->memory, at + 4));
+    x->register_ = (uint8_t)get8(number_at(&it->memory, at + 5));
+    x->has_column = (bool)get8(number_at(&it->memory, at + 6));
+    x->programming = (bool)get8(number_at(&it->memory, at + 7));
+    x->block = (uint32_t)get32(number_at(&it->memory, at + 8));
+    x->page = (onfiseq_u64)get64(number_at(&it->memory, at + 16));
+    x->column = (onfiseq_u64)get64(number_at(&it->memory, at + 24));
+    x->queued = (onfiseq_u64)get64(number_at(&it->memory, at + 32));
 #endif
 }
-INSTRUCTION void put_onfiseq_last(u64 at, const struct onfiseq_last *x) {
+INSTRUCTION void put_onfiseq_last(struct module *it, u64 at, const struct onfiseq_last *x) {
 #if IS_LITTLE_ENDIAN
-    put_bytes(at, x, sizeof *x);
+    put_bytes(it, at, x, sizeof *x);
 #else
-    put8(place(&module.memory, at + 0, 1), (u8)x->kind);
-    put8(place(&module.memory, at + 1, 1), (u8)x->command);
-    put8(place(&module.memory, at + 2, 1), (u8)x->ready);
+    put8(number_at(&it->memory, at + 0), (u8)x->kind);
+    put8(number_at(&it->memory, at + 1), (u8)x->command);
+    put8(number_at(&it->memory, at + 2), (u8)x->ready);
 #endif
 }
-INSTRUCTION void get_onfiseq_last(u64 at, struct onfiseq_last *x) {
+INSTRUCTION void get_onfiseq_last(struct module *it, u64 at, struct onfiseq_last *x) {
 #if IS_LITTLE_ENDIAN
-    get_bytes(at, x, sizeof *x);
+    get_bytes(it, at, x, sizeof *x);
 #else
-    x->kind = (uint8_t)get8(place(&module.memory, at + 0, 1));
-    x->command = (uint8_t)get8(place(&module.memory, at + 1, 1));
-    x->ready = (uint8_t)get8(place(&module.memory, at + 2, 1));
+    x->kind = (uint8_t)get8(number_at(&it->memory, at + 0));
+    x->command = (uint8_t)get8(number_at(&it->memory, at + 1));
+    x->ready = (uint8_t)get8(number_at(&it->memory, at + 2));
 #endif
 }
-INSTRUCTION void put_onfiseq_pauses(u64 at, const struct onfiseq_pauses *x) {
+INSTRUCTION void put_onfiseq_pauses(struct module *it, u64 at, const struct onfiseq_pauses *x) {
 #if IS_LITTLE_ENDIAN
-    put_bytes(at, x, sizeof *x);
+    put_bytes(it, at, x, sizeof *x);
 #else
-    put8(place(&module.memory, at + 0, 1), (u8)x->cycle);
-    put8(place(&module.memory, at + 1, 1), (u8)x->busy);
-    put8(place(&module.memory, at + 2, 1), (u8)x->ready);
+    put8(number_at(&it->memory, at + 0), (u8)x->cycle);
+    put8(number_at(&it->memory, at + 1), (u8)x->busy);
+    put8(number_at(&it->memory, at + 2), (u8)x->ready);
 #endif
 }
-INSTRUCTION void get_onfiseq_pauses(u64 at, struct onfiseq_pauses *x) {
+INSTRUCTION void get_onfiseq_pauses(struct module *it, u64 at, struct onfiseq_pauses *x) {
 #if IS_LITTLE_ENDIAN
-    get_bytes(at, x, sizeof *x);
+    get_bytes(it, at, x, sizeof *x);
 #else
-    x->cycle = (uint8_t)get8(place(&module.memory, at + 0, 1));
-    x->busy = (uint8_t)get8(place(&module.memory, at + 1, 1));
-    x->ready = (uint8_t)get8(place(&module.memory, at + 2, 1));
+    x->cycle = (uint8_t)get8(number_at(&it->memory, at + 0));
+    x->busy = (uint8_t)get8(number_at(&it->memory, at + 1));
+    x->ready = (uint8_t)get8(number_at(&it->memory, at + 2));
 #endif
 }
-INSTRUCTION void put_onfiseq_verdict(u64 at, const struct onfiseq_verdict *x) {
+INSTRUCTION void put_onfiseq_verdict(struct module *it, u64 at, const struct onfiseq_verdict *x) {
 #if IS_LITTLE_ENDIAN
-    put_bytes(at, x, sizeof *x);
+    put_bytes(it, at, x, sizeof *x);
 #else
-    put8(place(&module.memory, at + 0, 1), (u8)x->letter);
-    put32(place(&module.memory, at + 4, 4), (u32)x->number);
-    put64(place(&module.memory, at + 8, 8), (u64)x->at);
+    put8(number_at(&it->memory, at + 0), (u8)x->letter);
+    put32(number_at(&it->memory, at + 4), (u32)x->number);
+    put64(number_at(&it->memory, at + 8), (u64)x->at);
 #endif
 }
-INSTRUCTION void get_onfiseq_verdict(u64 at, struct onfiseq_verdict *x) {
+INSTRUCTION void get_onfiseq_verdict(struct module *it, u64 at, struct onfiseq_verdict *x) {
 #if IS_LITTLE_ENDIAN
-    get_bytes(at, x, sizeof *x);
+    get_bytes(it, at, x, sizeof *x);
 #else
-    x->letter = (uint8_t)get8(place(&module.memory, at + 0, 1));
-    x->number = (uint32_t)get32(place(&module.memory, at + 4, 4));
-    x->at = (onfiseq_u64)get64(place(&module.memory, at + 8, 8));
+    x->letter = (uint8_t)get8(number_at(&it->memory, at + 0));
+    x->number = (uint32_t)get32(number_at(&it->memory, at + 4));
+    x->at = (onfiseq_u64)get64(number_at(&it->memory, at + 8));
 #endif
 }
-INSTRUCTION void put_onfiseq_run(u64 at, const struct onfiseq_run *x) {
+INSTRUCTION void put_onfiseq_run(struct module *it, u64 at, const struct onfiseq_run *x) {
 #if IS_LITTLE_ENDIAN
-    put_bytes(at, x, sizeof *x);
+    put_bytes(it, at, x, sizeof *x);
 #else
-    put64(place(&module.memory, at + 0, 8), (u64)x->count);
-    put64(place(&module.memory, at + 8, 8), (u64)x->at);
-    put32(place(&module.memory, at + 16, 4), (u32)x->number);
-    put32(place(&module.memory, at + 20, 4), (u32)x->forbidden);
+    put64(number_at(&it->memory, at + 0), (u64)x->count);
+    put64(number_at(&it->memory, at + 8), (u64)x->at);
+    put32(number_at(&it->memory, at + 16), (u32)x->number);
+    put32(number_at(&it->memory, at + 20), (u32)x->forbidden);
 #endif
 }
-INSTRUCTION void get_onfiseq_run(u64 at, struct onfiseq_run *x) {
+INSTRUCTION void get_onfiseq_run(struct module *it, u64 at, struct onfiseq_run *x) {
 #if IS_LITTLE_ENDIAN
-    get_bytes(at, x, sizeof *x);
+    get_bytes(it, at, x, sizeof *x);
 #else
-    x->count = (onfiseq_u64)get64(place(&module.memory, at + 0, 8));
-    x->at = (onfiseq_u64)get64(place(&module.memory, at + 8, 8));
-    x->number = (uint32_t)get32(place(&module.memory, at + 16, 4));
-    x->forbidden = (uint32_t)get32(place(&module.memory, at + 20, 4));
+    x->count = (onfiseq_u64)get64(number_at(&it->memory, at + 0));
+    x->at = (onfiseq_u64)get64(number_at(&it->memory, at + 8));
+    x->number = (uint32_t)get32(number_at(&it->memory, at + 16));
+    x->forbidden = (uint32_t)get32(number_at(&it->memory, at + 20));
 #endif
 }
-INSTRUCTION void put_onfiseq_placed(u64 at, const struct onfiseq_placed *x) {
+INSTRUCTION void put_onfiseq_placed(struct module *it, u64 at, const struct onfiseq_placed *x) {
 #if IS_LITTLE_ENDIAN
-    put_bytes(at, x, sizeof *x);
+    put_bytes(it, at, x, sizeof *x);
 #else
-    put8(place(&module.memory, at + 0, 1), (u8)x->letter);
-    put32(place(&module.memory, at + 4, 4), (u32)x->number);
-    put64(place(&module.memory, at + 8, 8), (u64)x->at);
-    put64(place(&module.memory, at + 16, 8), (u64)x->length);
+    put8(number_at(&it->memory, at + 0), (u8)x->letter);
+    put32(number_at(&it->memory, at + 4), (u32)x->number);
+    put64(number_at(&it->memory, at + 8), (u64)x->at);
+    put64(number_at(&it->memory, at + 16), (u64)x->length);
 #endif
 }
-INSTRUCTION void get_onfiseq_placed(u64 at, struct onfiseq_placed *x) {
+INSTRUCTION void get_onfiseq_placed(struct module *it, u64 at, struct onfiseq_placed *x) {
 #if IS_LITTLE_ENDIAN
-    get_bytes(at, x, sizeof *x);
+    get_bytes(it, at, x, sizeof *x);
 #else
-    x->letter = (uint8_t)get8(place(&module.memory, at + 0, 1));
-    x->number = (uint32_t)get32(place(&module.memory, at + 4, 4));
-    x->at = (onfiseq_u64)get64(place(&module.memory, at + 8, 8));
-    x->length = (onfiseq_u64)get64(place(&module.memory, at + 16, 8));
+    x->letter = (uint8_t)get8(number_at(&it->memory, at + 0));
+    x->number = (uint32_t)get32(number_at(&it->memory, at + 4));
+    x->at = (onfiseq_u64)get64(number_at(&it->memory, at + 8));
+    x->length = (onfiseq_u64)get64(number_at(&it->memory, at + 16));
 #endif
 }
-INSTRUCTION void put_onfiseq_loop(u64 at, const struct onfiseq_loop *x) {
+INSTRUCTION void put_onfiseq_loop(struct module *it, u64 at, const struct onfiseq_loop *x) {
 #if IS_LITTLE_ENDIAN
-    put_bytes(at, x, sizeof *x);
+    put_bytes(it, at, x, sizeof *x);
 #else
-    put16(place(&module.memory, at + 0, 2), (u16)x->start);
-    put16(place(&module.memory, at + 2, 2), (u16)x->left);
+    put16(number_at(&it->memory, at + 0), (u16)x->start);
+    put16(number_at(&it->memory, at + 2), (u16)x->left);
 #endif
 }
-INSTRUCTION void get_onfiseq_loop(u64 at, struct onfiseq_loop *x) {
+INSTRUCTION void get_onfiseq_loop(struct module *it, u64 at, struct onfiseq_loop *x) {
 #if IS_LITTLE_ENDIAN
-    get_bytes(at, x, sizeof *x);
+    get_bytes(it, at, x, sizeof *x);
 #else
-    x->start = (uint16_t)get16(place(&module.memory, at + 0, 2));
-    x->left = (uint16_t)get16(place(&module.memory, at + 2, 2));
+    x->start = (uint16_t)get16(number_at(&it->memory, at + 0));
+    x->left = (uint16_t)get16(number_at(&it->memory, at + 2));
 #endif
 }
-INSTRUCTION void put_onfiseq_loops(u64 at, const struct onfiseq_loops *x) {
+INSTRUCTION void put_onfiseq_loops(struct module *it, u64 at, const struct onfiseq_loops *x) {
 #if IS_LITTLE_ENDIAN
-    put_bytes(at, x, sizeof *x);
+    put_bytes(it, at, x, sizeof *x);
 #else
-    put8(place(&module.memory, at + 0, 1), (u8)x->depth);
-    for (u32 k = 0; k < 4u; k++) put_onfiseq_loop(at + 2 + 4u * k, &x->around[k]);
+    put8(number_at(&it->memory, at + 0), (u8)x->depth);
+    for (u32 k = 0; k < 4u; k++) put_onfiseq_loop(it, at + 2 + 4u * k, &x->around[k]);
 #endif
 }
-INSTRUCTION void get_onfiseq_loops(u64 at, struct onfiseq_loops *x) {
+INSTRUCTION void get_onfiseq_loops(struct module *it, u64 at, struct onfiseq_loops *x) {
 #if IS_LITTLE_ENDIAN
-    get_bytes(at, x, sizeof *x);
+    get_bytes(it, at, x, sizeof *x);
 #else
-    x->depth = (uint8_t)get8(place(&module.memory, at + 0, 1));
-    for (u32 k = 0; k < 4u; k++) get_onfiseq_loop(at + 2 + 4u * k, &x->around[k]);
+    x->depth = (uint8_t)get8(number_at(&it->memory, at + 0));
+    for (u32 k = 0; k < 4u; k++) get_onfiseq_loop(it, at + 2 + 4u * k, &x->around[k]);
 #endif
 }
-INSTRUCTION void put_onfiseq_job(u64 at, const struct onfiseq_job *x) {
+INSTRUCTION void put_onfiseq_job(struct module *it, u64 at, const struct onfiseq_job *x) {
 #if IS_LITTLE_ENDIAN
-    put_bytes(at, x, sizeof *x);
+    put_bytes(it, at, x, sizeof *x);
 #else
-    put32(place(&module.memory, at + 0, 4), (u32)x->magic);
-    put8(place(&module.memory, at + 4, 1), (u8)x->ce);
-    put8(place(&module.memory, at + 5, 1), (u8)x->lun);
-    put8(place(&module.memory, at + 6, 1), (u8)x->has_ended);
-    put8(place(&module.memory, at + 7, 1), (u8)x->code);
-    put32(place(&module.memory, at + 8, 4), (u32)x->base);
-    put32(place(&module.memory, at + 12, 4), (u32)x->buffer);
-    put32(place(&module.memory, at + 16, 4), (u32)x->index);
-    put32(place(&module.memory, at + 20, 4), (u32)x->place);
-    put16(place(&module.memory, at + 24, 2), (u16)x->column);
-    put16(place(&module.memory, at + 26, 2), (u16)x->at);
-    put8(place(&module.memory, at + 28, 1), (u8)x->plane);
-    put8(place(&module.memory, at + 29, 1), (u8)x->status);
-    put_onfiseq_loops(at + 30, &x->loops);
+    put32(number_at(&it->memory, at + 0), (u32)x->magic);
+    put8(number_at(&it->memory, at + 4), (u8)x->ce);
+    put8(number_at(&it->memory, at + 5), (u8)x->lun);
+    put8(number_at(&it->memory, at + 6), (u8)x->has_ended);
+    put8(number_at(&it->memory, at + 7), (u8)x->code);
+    put32(number_at(&it->memory, at + 8), (u32)x->base);
+    put32(number_at(&it->memory, at + 12), (u32)x->buffer);
+    put32(number_at(&it->memory, at + 16), (u32)x->index);
+    put32(number_at(&it->memory, at + 20), (u32)x->place);
+    put16(number_at(&it->memory, at + 24), (u16)x->column);
+    put16(number_at(&it->memory, at + 26), (u16)x->at);
+    put8(number_at(&it->memory, at + 28), (u8)x->plane);
+    put8(number_at(&it->memory, at + 29), (u8)x->status);
+    put_onfiseq_loops(it, at + 30, &x->loops);
 #endif
 }
-INSTRUCTION void get_onfiseq_job(u64 at, struct onfiseq_job *x) {
+INSTRUCTION void get_onfiseq_job(struct module *it, u64 at, struct onfiseq_job *x) {
 #if IS_LITTLE_ENDIAN
-    get_bytes(at, x, sizeof *x);
+    get_bytes(it, at, x, sizeof *x);
 #else
-    x->magic = (uint32_t)get32(place(&module.memory, at + 0, 4));
-    x->ce = (uint8_t)get8(place(&module.memory, at + 4, 1));
-    x->lun = (uint8_t)get8(place(&module.memory, at + 5, 1));
-    x->has_ended = (uint8_t)get8(place(&module.memory, at + 6, 1));
-    x->code = (uint8_t)get8(place(&module.memory, at + 7, 1));
-    x->base = (uint32_t)get32(place(&module.memory, at + 8, 4));
-    x->buffer = (uint32_t)get32(place(&module.memory, at + 12, 4));
-    x->index = (uint32_t)get32(place(&module.memory, at + 16, 4));
-    x->place = (uint32_t)get32(place(&module.memory, at + 20, 4));
-    x->column = (uint16_t)get16(place(&module.memory, at + 24, 2));
-    x->at = (uint16_t)get16(place(&module.memory, at + 26, 2));
-    x->plane = (uint8_t)get8(place(&module.memory, at + 28, 1));
-    x->status = (uint8_t)get8(place(&module.memory, at + 29, 1));
-    get_onfiseq_loops(at + 30, &x->loops);
+    x->magic = (uint32_t)get32(number_at(&it->memory, at + 0));
+    x->ce = (uint8_t)get8(number_at(&it->memory, at + 4));
+    x->lun = (uint8_t)get8(number_at(&it->memory, at + 5));
+    x->has_ended = (uint8_t)get8(number_at(&it->memory, at + 6));
+    x->code = (uint8_t)get8(number_at(&it->memory, at + 7));
+    x->base = (uint32_t)get32(number_at(&it->memory, at + 8));
+    x->buffer = (uint32_t)get32(number_at(&it->memory, at + 12));
+    x->index = (uint32_t)get32(number_at(&it->memory, at + 16));
+    x->place = (uint32_t)get32(number_at(&it->memory, at + 20));
+    x->column = (uint16_t)get16(number_at(&it->memory, at + 24));
+    x->at = (uint16_t)get16(number_at(&it->memory, at + 26));
+    x->plane = (uint8_t)get8(number_at(&it->memory, at + 28));
+    x->status = (uint8_t)get8(number_at(&it->memory, at + 29));
+    get_onfiseq_loops(it, at + 30, &x->loops);
 #endif
 }
-INSTRUCTION void put_onfiseq_live(u64 at, const struct onfiseq_live *x) {
+INSTRUCTION void put_onfiseq_live(struct module *it, u64 at, const struct onfiseq_live *x) {
 #if IS_LITTLE_ENDIAN
-    put_bytes(at, x, sizeof *x);
+    put_bytes(it, at, x, sizeof *x);
 #else
-    for (u32 k = 0; k < 410u; k++) put64(place(&module.memory, at + 0 + 8u * k, 8), (u64)x->state[k]);
+    for (u32 k = 0; k < 410u; k++) put64(number_at(&it->memory, at + 0 + 8u * k), (u64)x->state[k]);
 #endif
 }
-INSTRUCTION void get_onfiseq_live(u64 at, struct onfiseq_live *x) {
+INSTRUCTION void get_onfiseq_live(struct module *it, u64 at, struct onfiseq_live *x) {
 #if IS_LITTLE_ENDIAN
-    get_bytes(at, x, sizeof *x);
+    get_bytes(it, at, x, sizeof *x);
 #else
-    for (u32 k = 0; k < 410u; k++) x->state[k] = (onfiseq_u64)get64(place(&module.memory, at + 0 + 8u * k, 8));
+    for (u32 k = 0; k < 410u; k++) x->state[k] = (onfiseq_u64)get64(number_at(&it->memory, at + 0 + 8u * k));
 #endif
 }
-INSTRUCTION void put_onfiseq_burst(u64 at, const struct onfiseq_burst *x) {
+INSTRUCTION void put_onfiseq_burst(struct module *it, u64 at, const struct onfiseq_burst *x) {
 #if IS_LITTLE_ENDIAN
-    put_bytes(at, x, sizeof *x);
+    put_bytes(it, at, x, sizeof *x);
 #else
-    put8(place(&module.memory, at + 0, 1), (u8)x->kind);
-    put8(place(&module.memory, at + 1, 1), (u8)x->ce);
-    for (u32 k = 0; k < 5u; k++) put8(place(&module.memory, at + 2 + 1u * k, 1), (u8)x->bytes[k]);
-    put64(place(&module.memory, at + 8, 8), (u64)x->place);
-    put64(place(&module.memory, at + 16, 8), (u64)x->len);
+    put8(number_at(&it->memory, at + 0), (u8)x->kind);
+    put8(number_at(&it->memory, at + 1), (u8)x->ce);
+    for (u32 k = 0; k < 5u; k++) put8(number_at(&it->memory, at + 2 + 1u * k), (u8)x->bytes[k]);
+    put64(number_at(&it->memory, at + 8), (u64)x->place);
+    put64(number_at(&it->memory, at + 16), (u64)x->len);
 #endif
 }
-INSTRUCTION void get_onfiseq_burst(u64 at, struct onfiseq_burst *x) {
+INSTRUCTION void get_onfiseq_burst(struct module *it, u64 at, struct onfiseq_burst *x) {
 #if IS_LITTLE_ENDIAN
-    get_bytes(at, x, sizeof *x);
+    get_bytes(it, at, x, sizeof *x);
 #else
-    x->kind = (uint8_t)get8(place(&module.memory, at + 0, 1));
-    x->ce = (uint8_t)get8(place(&module.memory, at + 1, 1));
-    for (u32 k = 0; k < 5u; k++) x->bytes[k] = (uint8_t)get8(place(&module.memory, at + 2 + 1u * k, 1));
-    x->place = (onfiseq_u64)get64(place(&module.memory, at + 8, 8));
-    x->len = (onfiseq_u64)get64(place(&module.memory, at + 16, 8));
+    x->kind = (uint8_t)get8(number_at(&it->memory, at + 0));
+    x->ce = (uint8_t)get8(number_at(&it->memory, at + 1));
+    for (u32 k = 0; k < 5u; k++) x->bytes[k] = (uint8_t)get8(number_at(&it->memory, at + 2 + 1u * k));
+    x->place = (onfiseq_u64)get64(number_at(&it->memory, at + 8));
+    x->len = (onfiseq_u64)get64(number_at(&it->memory, at + 16));
 #endif
 }
-INSTRUCTION void put_onfiseq_turn(u64 at, const struct onfiseq_turn *x) {
+INSTRUCTION void put_onfiseq_turn(struct module *it, u64 at, const struct onfiseq_turn *x) {
 #if IS_LITTLE_ENDIAN
-    put_bytes(at, x, sizeof *x);
+    put_bytes(it, at, x, sizeof *x);
 #else
-    put8(place(&module.memory, at + 0, 1), (u8)x->letter);
-    put32(place(&module.memory, at + 4, 4), (u32)x->number);
-    put64(place(&module.memory, at + 8, 8), (u64)x->count);
-    put64(place(&module.memory, at + 16, 8), (u64)x->taken);
-    for (u32 k = 0; k < 3u; k++) put_onfiseq_burst(at + 24 + 24u * k, &x->bursts[k]);
+    put8(number_at(&it->memory, at + 0), (u8)x->letter);
+    put32(number_at(&it->memory, at + 4), (u32)x->number);
+    put64(number_at(&it->memory, at + 8), (u64)x->count);
+    put64(number_at(&it->memory, at + 16), (u64)x->taken);
+    for (u32 k = 0; k < 3u; k++) put_onfiseq_burst(it, at + 24 + 24u * k, &x->bursts[k]);
 #endif
 }
-INSTRUCTION void get_onfiseq_turn(u64 at, struct onfiseq_turn *x) {
+INSTRUCTION void get_onfiseq_turn(struct module *it, u64 at, struct onfiseq_turn *x) {
 #if IS_LITTLE_ENDIAN
-    get_bytes(at, x, sizeof *x);
+    get_bytes(it, at, x, sizeof *x);
 #else
-    x->letter = (uint8_t)get8(place(&module.memory, at + 0, 1));
-    x->number = (uint32_t)get32(place(&module.memory, at + 4, 4));
-    x->count = (onfiseq_u64)get64(place(&module.memory, at + 8, 8));
-    x->taken = (onfiseq_u64)get64(place(&module.memory, at + 16, 8));
-    for (u32 k = 0; k < 3u; k++) get_onfiseq_burst(at + 24 + 24u * k, &x->bursts[k]);
+    x->letter = (uint8_t)get8(number_at(&it->memory, at + 0));
+    x->number = (uint32_t)get32(number_at(&it->memory, at + 4));
+    x->count = (onfiseq_u64)get64(number_at(&it->memory, at + 8));
+    x->taken = (onfiseq_u64)get64(number_at(&it->memory, at + 16));
+    for (u32 k = 0; k < 3u; k++) get_onfiseq_burst(it, at + 24 + 24u * k, &x->bursts[k]);
 #endif
 }
-INSTRUCTION void put_onfiseq_step(u64 at, const struct onfiseq_step *x) {
+INSTRUCTION void put_onfiseq_step(struct module *it, u64 at, const struct onfiseq_step *x) {
 #if IS_LITTLE_ENDIAN
-    put_bytes(at, x, sizeof *x);
+    put_bytes(it, at, x, sizeof *x);
 #else
-    put8(place(&module.memory, at + 0, 1), (u8)x->letter);
-    put32(place(&module.memory, at + 4, 4), (u32)x->number);
+    put8(number_at(&it->memory, at + 0), (u8)x->letter);
+    put32(number_at(&it->memory, at + 4), (u32)x->number);
 #endif
 }
-INSTRUCTION void get_onfiseq_step(u64 at, struct onfiseq_step *x) {
+INSTRUCTION void get_onfiseq_step(struct module *it, u64 at, struct onfiseq_step *x) {
 #if IS_LITTLE_ENDIAN
-    get_bytes(at, x, sizeof *x);
+    get_bytes(it, at, x, sizeof *x);
 #else
-    x->letter = (uint8_t)get8(place(&module.memory, at + 0, 1));
-    x->number = (uint32_t)get32(place(&module.memory, at + 4, 4));
+    x->letter = (uint8_t)get8(number_at(&it->memory, at + 0));
+    x->number = (uint32_t)get32(number_at(&it->memory, at + 4));
 #endif
 }
-INSTRUCTION void put_onfiseq_abi(u64 at, const struct onfiseq_abi *x) {
+INSTRUCTION void put_onfiseq_abi(struct module *it, u64 at, const struct onfiseq_abi *x) {
 #if IS_LITTLE_ENDIAN
-    put_bytes(at, x, sizeof *x);
+    put_bytes(it, at, x, sizeof *x);
 #else
-    put32(place(&module.memory, at + 0, 4), (u32)x->version);
-    put64(place(&module.memory, at + 8, 8), (u64)x->geometry);
-    put64(place(&module.memory, at + 16, 8), (u64)x->page);
-    put64(place(&module.memory, at + 24, 8), (u64)x->item);
-    put64(place(&module.memory, at + 32, 8), (u64)x->answer);
-    put64(place(&module.memory, at + 40, 8), (u64)x->bus);
-    put64(place(&module.memory, at + 48, 8), (u64)x->look);
-    put64(place(&module.memory, at + 56, 8), (u64)x->part);
-    put64(place(&module.memory, at + 64, 8), (u64)x->spot);
-    put64(place(&module.memory, at + 72, 8), (u64)x->sample);
+    put32(number_at(&it->memory, at + 0), (u32)x->version);
+    put64(number_at(&it->memory, at + 8), (u64)x->geometry);
+    put64(number_at(&it->memory, at + 16), (u64)x->page);
+    put64(number_at(&it->memory, at + 24), (u64)x->item);
+    put64(number_at(&it->memory, at + 32), (u64)x->answer);
+    put64(number_at(&it->memory, at + 40), (u64)x->bus);
+    put64(number_at(&it->memory, at + 48), (u64)x->look);
+    put64(number_at(&it->memory, at + 56), (u64)x->part);
+    put64(number_at(&it->memory, at + 64), (u64)x->spot);
+    put64(number_at(&it->memory, at + 72), (u64)x->sample);
 #endif
 }
-INSTRUCTION void get_onfiseq_abi(u64 at, struct onfiseq_abi *x) {
+INSTRUCTION void get_onfiseq_abi(struct module *it, u64 at, struct onfiseq_abi *x) {
 #if IS_LITTLE_ENDIAN
-    get_bytes(at, x, sizeof *x);
+    get_bytes(it, at, x, sizeof *x);
 #else
-    x->version = (uint32_t)get32(place(&module.memory, at + 0, 4));
-    x->geometry = (onfiseq_u64)get64(place(&module.memory, at + 8, 8));
-    x->page = (onfiseq_u64)get64(place(&module.memory, at + 16, 8));
-    x->item = (onfiseq_u64)get64(place(&module.memory, at + 24, 8));
-    x->answer = (onfiseq_u64)get64(place(&module.memory, at + 32, 8));
-    x->bus = (onfiseq_u64)get64(place(&module.memory, at + 40, 8));
-    x->look = (onfiseq_u64)get64(place(&module.memory, at + 48, 8));
-    x->part = (onfiseq_u64)get64(place(&module.memory, at + 56, 8));
-    x->spot = (onfiseq_u64)get64(place(&module.memory, at + 64, 8));
-    x->sample = (onfiseq_u64)get64(place(&module.memory, at + 72, 8));
+    x->version = (uint32_t)get32(number_at(&it->memory, at + 0));
+    x->geometry = (onfiseq_u64)get64(number_at(&it->memory, at + 8));
+    x->page = (onfiseq_u64)get64(number_at(&it->memory, at + 16));
+    x->item = (onfiseq_u64)get64(number_at(&it->memory, at + 24));
+    x->answer = (onfiseq_u64)get64(number_at(&it->memory, at + 32));
+    x->bus = (onfiseq_u64)get64(number_at(&it->memory, at + 40));
+    x->look = (onfiseq_u64)get64(number_at(&it->memory, at + 48));
+    x->part = (onfiseq_u64)get64(number_at(&it->memory, at + 56));
+    x->spot = (onfiseq_u64)get64(number_at(&it->memory, at + 64));
+    x->sample = (onfiseq_u64)get64(number_at(&it->memory, at + 72));
 #endif
 }
-INSTRUCTION void put_onfiseq_sample(u64 at, const struct onfiseq_sample *x) {
+INSTRUCTION void put_onfiseq_sample(struct module *it, u64 at, const struct onfiseq_sample *x) {
 #if IS_LITTLE_ENDIAN
-    put_bytes(at, x, sizeof *x);
+    put_bytes(it, at, x, sizeof *x);
 #else
-    put_onfiseq_geometry(at + 0, &x->geometry);
-    put_onfiseq_item(at + 24, &x->item);
-    put_onfiseq_answer(at + 32, &x->answer);
-    put_onfiseq_look(at + 48, &x->look);
-    put_onfiseq_part(at + 88, &x->part);
-    put_onfiseq_spot(at + 104, &x->spot);
+    put_onfiseq_geometry(it, at + 0, &x->geometry);
+    put_onfiseq_item(it, at + 24, &x->item);
+    put_onfiseq_answer(it, at + 32, &x->answer);
+    put_onfiseq_look(it, at + 48, &x->look);
+    put_onfiseq_part(it, at + 88, &x->part);
+    put_onfiseq_spot(it, at + 104, &x->spot);
 #endif
 }
-INSTRUCTION void get_onfiseq_sample(u64 at, struct onfiseq_sample *x) {
+INSTRUCTION void get_onfiseq_sample(struct module *it, u64 at, struct onfiseq_sample *x) {
 #if IS_LITTLE_ENDIAN
-    get_bytes(at, x, sizeof *x);
+    get_bytes(it, at, x, sizeof *x);
 #else
-    get_onfiseq_geometry(at + 0, &x->geometry);
-    get_onfiseq_item(at + 24, &x->item);
-    get_onfiseq_answer(at + 32, &x->answer);
-    get_onfiseq_look(at + 48, &x->look);
-    get_onfiseq_part(at + 88, &x->part);
-    get_onfiseq_spot(at + 104, &x->spot);
+    get_onfiseq_geometry(it, at + 0, &x->geometry);
+    get_onfiseq_item(it, at + 24, &x->item);
+    get_onfiseq_answer(it, at + 32, &x->answer);
+    get_onfiseq_look(it, at + 48, &x->look);
+    get_onfiseq_part(it, at + 88, &x->part);
+    get_onfiseq_spot(it, at + 104, &x->spot);
 #endif
 }
-INSTRUCTION void put_onfiseq_live_abi(u64 at, const struct onfiseq_live_abi *x) {
+INSTRUCTION void put_onfiseq_live_abi(struct module *it, u64 at, const struct onfiseq_live_abi *x) {
 #if IS_LITTLE_ENDIAN
-    put_bytes(at, x, sizeof *x);
+    put_bytes(it, at, x, sizeof *x);
 #else
-    put32(place(&module.memory, at + 0, 4), (u32)x->version);
-    put64(place(&module.memory, at + 8, 8), (u64)x->loops);
-    put64(place(&module.memory, at + 16, 8), (u64)x->job);
-    put64(place(&module.memory, at + 24, 8), (u64)x->live);
-    put64(place(&module.memory, at + 32, 8), (u64)x->burst);
-    put64(place(&module.memory, at + 40, 8), (u64)x->turn);
-    put64(place(&module.memory, at + 48, 8), (u64)x->step);
-    put64(place(&module.memory, at + 56, 8), (u64)x->sample);
+    put32(number_at(&it->memory, at + 0), (u32)x->version);
+    put64(number_at(&it->memory, at + 8), (u64)x->loops);
+    put64(number_at(&it->memory, at + 16), (u64)x->job);
+    put64(number_at(&it->memory, at + 24), (u64)x->live);
+    put64(number_at(&it->memory, at + 32), (u64)x->burst);
+    put64(number_at(&it->memory, at + 40), (u64)x->turn);
+    put64(number_at(&it->memory, at + 48), (u64)x->step);
+    put64(number_at(&it->memory, at + 56), (u64)x->sample);
 #endif
 }
-INSTRUCTION void get_onfiseq_live_abi(u64 at, struct onfiseq_live_abi *x) {
+INSTRUCTION void get_onfiseq_live_abi(struct module *it, u64 at, struct onfiseq_live_abi *x) {
 #if IS_LITTLE_ENDIAN
-    get_bytes(at, x, sizeof *x);
+    get_bytes(it, at, x, sizeof *x);
 #else
-    x->version = (uint32_t)get32(place(&module.memory, at + 0, 4));
-    x->loops = (onfiseq_u64)get64(place(&module.memory, at + 8, 8));
-    x->job = (onfiseq_u64)get64(place(&module.memory, at + 16, 8));
-    x->live = (onfiseq_u64)get64(place(&module.memory, at + 24, 8));
-    x->burst = (onfiseq_u64)get64(place(&module.memory, at + 32, 8));
-    x->turn = (onfiseq_u64)get64(place(&module.memory, at + 40, 8));
-    x->step = (onfiseq_u64)get64(place(&module.memory, at + 48, 8));
-    x->sample = (onfiseq_u64)get64(place(&module.memory, at + 56, 8));
+    x->version = (uint32_t)get32(number_at(&it->memory, at + 0));
+    x->loops = (onfiseq_u64)get64(number_at(&it->memory, at + 8));
+    x->job = (onfiseq_u64)get64(number_at(&it->memory, at + 16));
+    x->live = (onfiseq_u64)get64(number_at(&it->memory, at + 24));
+    x->burst = (onfiseq_u64)get64(number_at(&it->memory, at + 32));
+    x->turn = (onfiseq_u64)get64(number_at(&it->memory, at + 40));
+    x->step = (onfiseq_u64)get64(number_at(&it->memory, at + 48));
+    x->sample = (onfiseq_u64)get64(number_at(&it->memory, at + 56));
 #endif
 }
-INSTRUCTION void put_onfiseq_live_sample(u64 at, const struct onfiseq_live_sample *x) {
+INSTRUCTION void put_onfiseq_live_sample(struct module *it, u64 at, const struct onfiseq_live_sample *x) {
 #if IS_LITTLE_ENDIAN
-    put_bytes(at, x, sizeof *x);
+    put_bytes(it, at, x, sizeof *x);
 #else
-    put_onfiseq_job(at + 0, &x->job);
-    put_onfiseq_turn(at + 48, &x->turn);
-    put_onfiseq_step(at + 144, &x->step);
+    put_onfiseq_job(it, at + 0, &x->job);
+    put_onfiseq_turn(it, at + 48, &x->turn);
+    put_onfiseq_step(it, at + 144, &x->step);
 #endif
 }
-INSTRUCTION void get_onfiseq_live_sample(u64 at, struct onfiseq_live_sample *x) {
+INSTRUCTION void get_onfiseq_live_sample(struct module *it, u64 at, struct onfiseq_live_sample *x) {
 #if IS_LITTLE_ENDIAN
-    get_bytes(at, x, sizeof *x);
+    get_bytes(it, at, x, sizeof *x);
 #else
-    get_onfiseq_job(at + 0, &x->job);
-    get_onfiseq_turn(at + 48, &x->turn);
-    get_onfiseq_step(at + 144, &x->step);
+    get_onfiseq_job(it, at + 0, &x->job);
+    get_onfiseq_turn(it, at + 48, &x->turn);
+    get_onfiseq_step(it, at + 144, &x->step);
 #endif
 }
 
 /* ---- the calls */
 
 struct onfiseq_page onfiseq_read_page(const uint8_t *page, size_t length) {
+    struct module it;
     struct onfiseq_page answer;
     u64 at_answer;
     u64 at_page;
-    begin_call();
-    at_answer = take_room(28);
-    at_page = take_room((u64)length * 1);
-    put_bytes(at_page, page, (u64)length * 1);
-    w2c_w_onfiseq_read_page(&module, (u32)at_answer, (u32)at_page, length);
     memset(&answer, 0, sizeof answer);
-    get_onfiseq_page(at_answer, &answer);
+    answer.fault = ONFISEQ_NO_MEMORY;
+    if (!begin_call(&it, 32, 32 + room_of(length, 1))) return answer;
+    at_answer = take_room(&it, 32);
+    at_page = take_room(&it, room_of(length, 1));
+    put_bytes(&it, at_page, page, (u64)length * 1);
+    w2c_w_onfiseq_read_page(&it, (u32)at_answer, (u32)at_page, length);
+    get_onfiseq_page(&it, at_answer, &answer);
+    end_call(&it);
     return answer;
 }
 struct onfiseq_page onfiseq_read_page_as(const uint8_t *page, size_t length, uint8_t profile) {
+    struct module it;
     struct onfiseq_page answer;
     u64 at_answer;
     u64 at_page;
-    begin_call();
-    at_answer = take_room(28);
-    at_page = take_room((u64)length * 1);
-    put_bytes(at_page, page, (u64)length * 1);
-    w2c_w_onfiseq_read_page_as(&module, (u32)at_answer, (u32)at_page, length, profile);
     memset(&answer, 0, sizeof answer);
-    get_onfiseq_page(at_answer, &answer);
+    answer.fault = ONFISEQ_NO_MEMORY;
+    if (!begin_call(&it, 0, 32 + room_of(length, 1))) return answer;
+    at_answer = take_room(&it, 32);
+    at_page = take_room(&it, room_of(length, 1));
+    put_bytes(&it, at_page, page, (u64)length * 1);
+    w2c_w_onfiseq_read_page_as(&it, (u32)at_answer, (u32)at_page, length, profile);
+    get_onfiseq_page(&it, at_answer, &answer);
+    end_call(&it);
     return answer;
 }
 struct onfiseq_answer onfiseq_check(const struct onfiseq_geometry *geometry, uint8_t targets, const struct onfiseq_item *items, size_t count) {
+    struct module it;
     struct onfiseq_answer answer;
     u64 at_answer;
     u64 at_geometry;
     u64 at_items;
-    begin_call();
-    at_answer = take_room(16);
-    at_geometry = take_room(24);
-    put_onfiseq_geometry(at_geometry, geometry);
-    at_items = take_room((u64)count * 4);
-    put_bytes(at_items, items, (u64)count * 4);
-    w2c_w_onfiseq_check(&module, (u32)at_answer, (u32)at_geometry, targets, (u32)at_items, count);
     memset(&answer, 0, sizeof answer);
-    get_onfiseq_answer(at_answer, &answer);
+    answer.letter = 'O';
+    if (!begin_call(&it, 71312, 48 + room_of(count, 4))) return answer;
+    at_answer = take_room(&it, 16);
+    at_geometry = take_room(&it, 32);
+    put_onfiseq_geometry(&it, at_geometry, geometry);
+    at_items = take_room(&it, room_of(count, 4));
+    put_bytes(&it, at_items, items, (u64)count * 4);
+    w2c_w_onfiseq_check(&it, (u32)at_answer, (u32)at_geometry, targets, (u32)at_items, count);
+    get_onfiseq_answer(&it, at_answer, &answer);
+    end_call(&it);
     return answer;
 }
 uint32_t onfiseq_begin_sized(struct onfiseq_bus *bus, size_t size, uint32_t version, const struct onfiseq_geometry *geometry, uint8_t targets) {
+    struct module it;
     uint32_t answer;
     u64 at_bus;
     u64 at_geometry;
-    begin_call();
-    at_bus = take_room(3272);
-    put_onfiseq_bus(at_bus, bus);
-    at_geometry = take_room(24);
-    put_onfiseq_geometry(at_geometry, geometry);
-    answer = (uint32_t)w2c_w_onfiseq_begin_sized(&module, (u32)at_bus, size, version, (u32)at_geometry, targets);
-    get_onfiseq_bus(at_bus, bus);
+    answer = ONFISEQ_NO_MEMORY;
+    if (!begin_call(&it, 17744, 3312)) return answer;
+    at_bus = take_room(&it, 3280);
+    put_onfiseq_bus(&it, at_bus, bus);
+    at_geometry = take_room(&it, 32);
+    put_onfiseq_geometry(&it, at_geometry, geometry);
+    answer = (uint32_t)w2c_w_onfiseq_begin_sized(&it, (u32)at_bus, size, version, (u32)at_geometry, targets);
+    get_onfiseq_bus(&it, at_bus, bus);
+    end_call(&it);
     return answer;
 }
 uint32_t onfiseq_push(struct onfiseq_bus *bus, const struct onfiseq_item *item) {
+    struct module it;
     uint32_t answer;
     u64 at_bus;
     u64 at_item;
-    begin_call();
-    at_bus = take_room(3272);
-    put_onfiseq_bus(at_bus, bus);
-    at_item = take_room(4);
-    put_onfiseq_item(at_item, item);
-    answer = (uint32_t)w2c_w_onfiseq_push(&module, (u32)at_bus, (u32)at_item);
-    get_onfiseq_bus(at_bus, bus);
+    answer = ONFISEQ_NO_MEMORY;
+    if (!begin_call(&it, 8112, 3296)) return answer;
+    at_bus = take_room(&it, 3280);
+    put_onfiseq_bus(&it, at_bus, bus);
+    at_item = take_room(&it, 16);
+    put_onfiseq_item(&it, at_item, item);
+    answer = (uint32_t)w2c_w_onfiseq_push(&it, (u32)at_bus, (u32)at_item);
+    get_onfiseq_bus(&it, at_bus, bus);
+    end_call(&it);
     return answer;
 }
 uint32_t onfiseq_push_all(struct onfiseq_bus *bus, const struct onfiseq_item *items, size_t count, size_t *done) {
+    struct module it;
     uint32_t answer;
     u64 at_bus;
     u64 at_items;
     u64 at_done;
-    begin_call();
-    at_bus = take_room(3272);
-    put_onfiseq_bus(at_bus, bus);
-    at_items = take_room((u64)count * 4);
-    put_bytes(at_items, items, (u64)count * 4);
-    at_done = take_room(8);
-    i64_store(&module.memory, at_done, 0);
-    answer = (uint32_t)w2c_w_onfiseq_push_all(&module, (u32)at_bus, (u32)at_items, count, (u32)at_done);
-    get_onfiseq_bus(at_bus, bus);
-    *done = (size_t)i64_load(&module.memory, at_done);
+    answer = ONFISEQ_NO_MEMORY;
+    *done = 0;
+    if (!begin_call(&it, 8112, 3296 + room_of(count, 4))) return answer;
+    at_bus = take_room(&it, 3280);
+    put_onfiseq_bus(&it, at_bus, bus);
+    at_items = take_room(&it, room_of(count, 4));
+    put_bytes(&it, at_items, items, (u64)count * 4);
+    at_done = take_room(&it, 16);
+    i64_store(&it.memory, at_done, 0);
+    answer = (uint32_t)w2c_w_onfiseq_push_all(&it, (u32)at_bus, (u32)at_items, count, (u32)at_done);
+    get_onfiseq_bus(&it, at_bus, bus);
+    *done = (size_t)i64_load(&it.memory, at_done);
+    end_call(&it);
     return answer;
 }
 uint32_t onfiseq_push_status(struct onfiseq_bus *bus, const struct onfiseq_item *item, size_t *done) {
+    struct module it;
     uint32_t answer;
     u64 at_bus;
     u64 at_item;
     u64 at_done;
-    begin_call();
-    at_bus = take_room(3272);
-    put_onfiseq_bus(at_bus, bus);
-    at_item = take_room(4);
-    put_onfiseq_item(at_item, item);
-    at_done = take_room(8);
-    i64_store(&module.memory, at_done, 0);
-    answer = (uint32_t)w2c_w_onfiseq_push_status(&module, (u32)at_bus, (u32)at_item, (u32)at_done);
-    get_onfiseq_bus(at_bus, bus);
-    *done = (size_t)i64_load(&module.memory, at_done);
+    answer = ONFISEQ_NO_MEMORY;
+    *done = 0;
+    if (!begin_call(&it, 8176, 3312)) return answer;
+    at_bus = take_room(&it, 3280);
+    put_onfiseq_bus(&it, at_bus, bus);
+    at_item = take_room(&it, 16);
+    put_onfiseq_item(&it, at_item, item);
+    at_done = take_room(&it, 16);
+    i64_store(&it.memory, at_done, 0);
+    answer = (uint32_t)w2c_w_onfiseq_push_status(&it, (u32)at_bus, (u32)at_item, (u32)at_done);
+    get_onfiseq_bus(&it, at_bus, bus);
+    *done = (size_t)i64_load(&it.memory, at_done);
+    end_call(&it);
     return answer;
 }
 uint32_t onfiseq_push_op(struct onfiseq_bus *bus, uint8_t ce, const struct onfiseq_part *parts, size_t count, struct onfiseq_spot *spot) {
+    struct module it;
     uint32_t answer;
     u64 at_bus;
     u64 at_parts;
     u64 at_spot;
-    begin_call();
-    at_bus = take_room(3272);
-    put_onfiseq_bus(at_bus, bus);
-    at_parts = take_room((u64)count * 12);
-    put_bytes(at_parts, parts, (u64)count * 12);
-    at_spot = take_room(16);
-    put_onfiseq_spot(at_spot, spot);
-    answer = (uint32_t)w2c_w_onfiseq_push_op(&module, (u32)at_bus, ce, (u32)at_parts, count, (u32)at_spot);
-    get_onfiseq_bus(at_bus, bus);
-    get_onfiseq_spot(at_spot, spot);
+    answer = ONFISEQ_NO_MEMORY;
+    memset(spot, 0, sizeof *spot);
+    if (!begin_call(&it, 37264 + room_of(count, 832), 3296 + room_of(count, 12))) return answer;
+    at_bus = take_room(&it, 3280);
+    put_onfiseq_bus(&it, at_bus, bus);
+    at_parts = take_room(&it, room_of(count, 12));
+    put_bytes(&it, at_parts, parts, (u64)count * 12);
+    at_spot = take_room(&it, 16);
+    put_onfiseq_spot(&it, at_spot, spot);
+    answer = (uint32_t)w2c_w_onfiseq_push_op(&it, (u32)at_bus, ce, (u32)at_parts, count, (u32)at_spot);
+    get_onfiseq_bus(&it, at_bus, bus);
+    get_onfiseq_spot(&it, at_spot, spot);
+    end_call(&it);
     return answer;
 }
 uint32_t onfiseq_ask_op(const struct onfiseq_bus *bus, uint8_t ce, const struct onfiseq_part *parts, size_t count, struct onfiseq_spot *spot) {
+    struct module it;
     uint32_t answer;
     u64 at_bus;
     u64 at_parts;
     u64 at_spot;
-    begin_call();
-    at_bus = take_room(3272);
-    put_onfiseq_bus(at_bus, bus);
-    at_parts = take_room((u64)count * 12);
-    put_bytes(at_parts, parts, (u64)count * 12);
-    at_spot = take_room(16);
-    put_onfiseq_spot(at_spot, spot);
-    answer = (uint32_t)w2c_w_onfiseq_ask_op(&module, (u32)at_bus, ce, (u32)at_parts, count, (u32)at_spot);
-    get_onfiseq_spot(at_spot, spot);
+    answer = ONFISEQ_NO_MEMORY;
+    memset(spot, 0, sizeof *spot);
+    if (!begin_call(&it, 37264 + room_of(count, 832), 3296 + room_of(count, 12))) return answer;
+    at_bus = take_room(&it, 3280);
+    put_onfiseq_bus(&it, at_bus, bus);
+    at_parts = take_room(&it, room_of(count, 12));
+    put_bytes(&it, at_parts, parts, (u64)count * 12);
+    at_spot = take_room(&it, 16);
+    put_onfiseq_spot(&it, at_spot, spot);
+    answer = (uint32_t)w2c_w_onfiseq_ask_op(&it, (u32)at_bus, ce, (u32)at_parts, count, (u32)at_spot);
+    get_onfiseq_spot(&it, at_spot, spot);
+    end_call(&it);
     return answer;
 }
 uint32_t onfiseq_begin_target(struct onfiseq_bus *bus, uint8_t ce) {
+    struct module it;
     uint32_t answer;
     u64 at_bus;
-    begin_call();
-    at_bus = take_room(3272);
-    put_onfiseq_bus(at_bus, bus);
-    answer = (uint32_t)w2c_w_onfiseq_begin_target(&module, (u32)at_bus, ce);
-    get_onfiseq_bus(at_bus, bus);
+    answer = ONFISEQ_NO_MEMORY;
+    if (!begin_call(&it, 12480, 3280)) return answer;
+    at_bus = take_room(&it, 3280);
+    put_onfiseq_bus(&it, at_bus, bus);
+    answer = (uint32_t)w2c_w_onfiseq_begin_target(&it, (u32)at_bus, ce);
+    get_onfiseq_bus(&it, at_bus, bus);
+    end_call(&it);
     return answer;
 }
 uint32_t onfiseq_drop(struct onfiseq_bus *bus, uint8_t ce) {
+    struct module it;
     uint32_t answer;
     u64 at_bus;
-    begin_call();
-    at_bus = take_room(3272);
-    put_onfiseq_bus(at_bus, bus);
-    answer = (uint32_t)w2c_w_onfiseq_drop(&module, (u32)at_bus, ce);
-    get_onfiseq_bus(at_bus, bus);
+    answer = ONFISEQ_NO_MEMORY;
+    if (!begin_call(&it, 80, 3280)) return answer;
+    at_bus = take_room(&it, 3280);
+    put_onfiseq_bus(&it, at_bus, bus);
+    answer = (uint32_t)w2c_w_onfiseq_drop(&it, (u32)at_bus, ce);
+    get_onfiseq_bus(&it, at_bus, bus);
+    end_call(&it);
     return answer;
 }
 uint32_t onfiseq_ask(const struct onfiseq_bus *bus, const struct onfiseq_item *item) {
+    struct module it;
     uint32_t answer;
     u64 at_bus;
     u64 at_item;
-    begin_call();
-    at_bus = take_room(3272);
-    put_onfiseq_bus(at_bus, bus);
-    at_item = take_room(4);
-    put_onfiseq_item(at_item, item);
-    answer = (uint32_t)w2c_w_onfiseq_ask(&module, (u32)at_bus, (u32)at_item);
+    answer = ONFISEQ_NO_MEMORY;
+    if (!begin_call(&it, 400, 3296)) return answer;
+    at_bus = take_room(&it, 3280);
+    put_onfiseq_bus(&it, at_bus, bus);
+    at_item = take_room(&it, 16);
+    put_onfiseq_item(&it, at_item, item);
+    answer = (uint32_t)w2c_w_onfiseq_ask(&it, (u32)at_bus, (u32)at_item);
+    end_call(&it);
     return answer;
 }
 struct onfiseq_look onfiseq_look_at(const struct onfiseq_bus *bus, uint8_t ce, uint8_t lun) {
+    struct module it;
     struct onfiseq_look answer;
     u64 at_answer;
     u64 at_bus;
-    begin_call();
-    at_answer = take_room(40);
-    at_bus = take_room(3272);
-    put_onfiseq_bus(at_bus, bus);
-    w2c_w_onfiseq_look_at(&module, (u32)at_answer, (u32)at_bus, ce, lun);
     memset(&answer, 0, sizeof answer);
-    get_onfiseq_look(at_answer, &answer);
+    if (!begin_call(&it, 128, 3328)) return answer;
+    at_answer = take_room(&it, 48);
+    at_bus = take_room(&it, 3280);
+    put_onfiseq_bus(&it, at_bus, bus);
+    w2c_w_onfiseq_look_at(&it, (u32)at_answer, (u32)at_bus, ce, lun);
+    get_onfiseq_look(&it, at_answer, &answer);
+    end_call(&it);
     return answer;
 }
 struct onfiseq_pauses onfiseq_pauses_before(const struct onfiseq_last *last, uint8_t kind) {
+    struct module it;
     struct onfiseq_pauses answer;
     u64 at_answer;
     u64 at_last;
-    begin_call();
-    at_answer = take_room(3);
-    at_last = take_room(3);
-    put_onfiseq_last(at_last, last);
-    w2c_w_onfiseq_pauses_before(&module, (u32)at_answer, (u32)at_last, kind);
     memset(&answer, 0, sizeof answer);
-    get_onfiseq_pauses(at_answer, &answer);
+    answer.cycle = 'O';
+    answer.busy = 'O';
+    answer.ready = 'O';
+    if (!begin_call(&it, 0, 32)) return answer;
+    at_answer = take_room(&it, 16);
+    at_last = take_room(&it, 16);
+    put_onfiseq_last(&it, at_last, last);
+    w2c_w_onfiseq_pauses_before(&it, (u32)at_answer, (u32)at_last, kind);
+    get_onfiseq_pauses(&it, at_answer, &answer);
+    end_call(&it);
     return answer;
 }
 uint32_t onfiseq_note(struct onfiseq_last *last, uint8_t kind, uint8_t byte) {
+    struct module it;
     uint32_t answer;
     u64 at_last;
-    begin_call();
-    at_last = take_room(3);
-    put_onfiseq_last(at_last, last);
-    answer = (uint32_t)w2c_w_onfiseq_note(&module, (u32)at_last, kind, byte);
-    get_onfiseq_last(at_last, last);
+    answer = ONFISEQ_NO_MEMORY;
+    if (!begin_call(&it, 0, 16)) return answer;
+    at_last = take_room(&it, 16);
+    put_onfiseq_last(&it, at_last, last);
+    answer = (uint32_t)w2c_w_onfiseq_note(&it, (u32)at_last, kind, byte);
+    get_onfiseq_last(&it, at_last, last);
+    end_call(&it);
     return answer;
 }
+#if HAS_VERIFY
 struct onfiseq_verdict onfiseq_verify(const uint8_t *page, size_t page_length, const uint8_t *file, size_t file_length) {
+    struct module it;
     struct onfiseq_verdict answer;
     u64 at_answer;
     u64 at_page;
     u64 at_file;
-    begin_call();
-    at_answer = take_room(16);
-    at_page = take_room((u64)page_length * 1);
-    put_bytes(at_page, page, (u64)page_length * 1);
-    at_file = take_room((u64)file_length * 1);
-    put_bytes(at_file, file, (u64)file_length * 1);
-    w2c_w_onfiseq_verify(&module, (u32)at_answer, (u32)at_page, page_length, (u32)at_file, file_length);
     memset(&answer, 0, sizeof answer);
-    get_onfiseq_verdict(at_answer, &answer);
+    answer.letter = 'O';
+    if (!begin_call(&it, 16176, 16 + room_of(page_length, 1) + room_of(file_length, 1))) return answer;
+    at_answer = take_room(&it, 16);
+    at_page = take_room(&it, room_of(page_length, 1));
+    put_bytes(&it, at_page, page, (u64)page_length * 1);
+    at_file = take_room(&it, room_of(file_length, 1));
+    put_bytes(&it, at_file, file, (u64)file_length * 1);
+    w2c_w_onfiseq_verify(&it, (u32)at_answer, (u32)at_page, page_length, (u32)at_file, file_length);
+    get_onfiseq_verdict(&it, at_answer, &answer);
+    end_call(&it);
     return answer;
 }
+#endif
+#if HAS_RUN
 struct onfiseq_verdict onfiseq_verify_run(const uint8_t *page, size_t page_length, const uint8_t *file, size_t file_length, onfiseq_u64 steps, struct onfiseq_item *items, size_t room, struct onfiseq_run *run) {
+    struct module it;
     struct onfiseq_verdict answer;
     u64 at_answer;
     u64 at_page;
     u64 at_file;
     u64 at_items;
     u64 at_run;
-    begin_call();
-    at_answer = take_room(16);
-    at_page = take_room((u64)page_length * 1);
-    put_bytes(at_page, page, (u64)page_length * 1);
-    at_file = take_room((u64)file_length * 1);
-    put_bytes(at_file, file, (u64)file_length * 1);
-    at_items = take_room((u64)room * 4);
-    put_bytes(at_items, items, (u64)room * 4);
-    at_run = take_room(24);
-    put_onfiseq_run(at_run, run);
-    w2c_w_onfiseq_verify_run(&module, (u32)at_answer, (u32)at_page, page_length, (u32)at_file, file_length, steps, (u32)at_items, room, (u32)at_run);
     memset(&answer, 0, sizeof answer);
-    get_onfiseq_verdict(at_answer, &answer);
-    get_bytes(at_items, items, (u64)room * 4);
-    get_onfiseq_run(at_run, run);
+    answer.letter = 'O';
+    memset(run, 0, sizeof *run);
+    if (!begin_call(&it, 152608, 48 + room_of(page_length, 1) + room_of(file_length, 1) + room_of(room, 4))) return answer;
+    at_answer = take_room(&it, 16);
+    at_page = take_room(&it, room_of(page_length, 1));
+    put_bytes(&it, at_page, page, (u64)page_length * 1);
+    at_file = take_room(&it, room_of(file_length, 1));
+    put_bytes(&it, at_file, file, (u64)file_length * 1);
+    at_items = take_room(&it, room_of(room, 4));
+    put_bytes(&it, at_items, items, (u64)room * 4);
+    at_run = take_room(&it, 32);
+    put_onfiseq_run(&it, at_run, run);
+    w2c_w_onfiseq_verify_run(&it, (u32)at_answer, (u32)at_page, page_length, (u32)at_file, file_length, steps, (u32)at_items, room, (u32)at_run);
+    get_onfiseq_verdict(&it, at_answer, &answer);
+    get_bytes(&it, at_items, items, (u64)room * 4);
+    get_onfiseq_run(&it, at_run, run);
+    end_call(&it);
     return answer;
 }
+#endif
+#if HAS_TEXT
 struct onfiseq_placed onfiseq_assemble(const uint8_t *text, size_t text_length, uint8_t *file, size_t room) {
+    struct module it;
     struct onfiseq_placed answer;
     u64 at_answer;
     u64 at_text;
     u64 at_file;
-    begin_call();
-    at_answer = take_room(24);
-    at_text = take_room((u64)text_length * 1);
-    put_bytes(at_text, text, (u64)text_length * 1);
-    at_file = take_room((u64)room * 1);
-    put_bytes(at_file, file, (u64)room * 1);
-    w2c_w_onfiseq_assemble(&module, (u32)at_answer, (u32)at_text, text_length, (u32)at_file, room);
     memset(&answer, 0, sizeof answer);
-    get_onfiseq_placed(at_answer, &answer);
-    get_bytes(at_file, file, (u64)room * 1);
+    answer.letter = 'O';
+    if (!begin_call(&it, 1616, 32 + room_of(text_length, 1) + room_of(room, 1))) return answer;
+    at_answer = take_room(&it, 32);
+    at_text = take_room(&it, room_of(text_length, 1));
+    put_bytes(&it, at_text, text, (u64)text_length * 1);
+    at_file = take_room(&it, room_of(room, 1));
+    put_bytes(&it, at_file, file, (u64)room * 1);
+    w2c_w_onfiseq_assemble(&it, (u32)at_answer, (u32)at_text, text_length, (u32)at_file, room);
+    get_onfiseq_placed(&it, at_answer, &answer);
+    get_bytes(&it, at_file, file, (u64)room * 1);
+    end_call(&it);
     return answer;
 }
 struct onfiseq_placed onfiseq_disassemble(const uint8_t *file, size_t file_length, uint8_t *text, size_t room) {
+    struct module it;
     struct onfiseq_placed answer;
     u64 at_answer;
     u64 at_file;
     u64 at_text;
-    begin_call();
-    at_answer = take_room(24);
-    at_file = take_room((u64)file_length * 1);
-    put_bytes(at_file, file, (u64)file_length * 1);
-    at_text = take_room((u64)room * 1);
-    put_bytes(at_text, text, (u64)room * 1);
-    w2c_w_onfiseq_disassemble(&module, (u32)at_answer, (u32)at_file, file_length, (u32)at_text, room);
     memset(&answer, 0, sizeof answer);
-    get_onfiseq_placed(at_answer, &answer);
-    get_bytes(at_text, text, (u64)room * 1);
+    answer.letter = 'O';
+    if (!begin_call(&it, 3872, 32 + room_of(file_length, 1) + room_of(room, 1))) return answer;
+    at_answer = take_room(&it, 32);
+    at_file = take_room(&it, room_of(file_length, 1));
+    put_bytes(&it, at_file, file, (u64)file_length * 1);
+    at_text = take_room(&it, room_of(room, 1));
+    put_bytes(&it, at_text, text, (u64)room * 1);
+    w2c_w_onfiseq_disassemble(&it, (u32)at_answer, (u32)at_file, file_length, (u32)at_text, room);
+    get_onfiseq_placed(&it, at_answer, &answer);
+    get_bytes(&it, at_text, text, (u64)room * 1);
+    end_call(&it);
     return answer;
 }
 struct onfiseq_placed onfiseq_trace(const uint8_t *text, size_t text_length, uint8_t recorded, struct onfiseq_item *items, size_t room) {
+    struct module it;
     struct onfiseq_placed answer;
     u64 at_answer;
     u64 at_text;
     u64 at_items;
-    begin_call();
-    at_answer = take_room(24);
-    at_text = take_room((u64)text_length * 1);
-    put_bytes(at_text, text, (u64)text_length * 1);
-    at_items = take_room((u64)room * 4);
-    put_bytes(at_items, items, (u64)room * 4);
-    w2c_w_onfiseq_trace(&module, (u32)at_answer, (u32)at_text, text_length, recorded, (u32)at_items, room);
     memset(&answer, 0, sizeof answer);
-    get_onfiseq_placed(at_answer, &answer);
-    get_bytes(at_items, items, (u64)room * 4);
+    answer.letter = 'O';
+    if (!begin_call(&it, 448, 32 + room_of(text_length, 1) + room_of(room, 4))) return answer;
+    at_answer = take_room(&it, 32);
+    at_text = take_room(&it, room_of(text_length, 1));
+    put_bytes(&it, at_text, text, (u64)text_length * 1);
+    at_items = take_room(&it, room_of(room, 4));
+    put_bytes(&it, at_items, items, (u64)room * 4);
+    w2c_w_onfiseq_trace(&it, (u32)at_answer, (u32)at_text, text_length, recorded, (u32)at_items, room);
+    get_onfiseq_placed(&it, at_answer, &answer);
+    get_bytes(&it, at_items, items, (u64)room * 4);
+    end_call(&it);
     return answer;
 }
 size_t onfiseq_words(uint32_t code, char *text, size_t room) {
+    struct module it;
     size_t answer;
     u64 at_text;
-    begin_call();
-    at_text = take_room((u64)room * 1);
-    put_bytes(at_text, text, (u64)room * 1);
-    answer = (size_t)w2c_w_onfiseq_words(&module, code, (u32)at_text, room);
-    get_bytes(at_text, text, (u64)room * 1);
+    if (!begin_call(&it, 1152, room_of(room, 1))) return say_no_memory(text, room);
+    at_text = take_room(&it, room_of(room, 1));
+    put_bytes(&it, at_text, text, (u64)room * 1);
+    answer = (size_t)w2c_w_onfiseq_words(&it, code, (u32)at_text, room);
+    get_bytes(&it, at_text, text, (u64)room * 1);
+    end_call(&it);
     return answer;
 }
 size_t onfiseq_explain(const struct onfiseq_bus *bus, const struct onfiseq_item *item, char *text, size_t room) {
+    struct module it;
     size_t answer;
     u64 at_bus;
     u64 at_item;
     u64 at_text;
-    begin_call();
-    at_bus = take_room(3272);
-    put_onfiseq_bus(at_bus, bus);
-    at_item = take_room(4);
-    put_onfiseq_item(at_item, item);
-    at_text = take_room((u64)room * 1);
-    put_bytes(at_text, text, (u64)room * 1);
-    answer = (size_t)w2c_w_onfiseq_explain(&module, (u32)at_bus, (u32)at_item, (u32)at_text, room);
-    get_bytes(at_text, text, (u64)room * 1);
+    if (!begin_call(&it, 4000, 3296 + room_of(room, 1))) return say_no_memory(text, room);
+    at_bus = take_room(&it, 3280);
+    put_onfiseq_bus(&it, at_bus, bus);
+    at_item = take_room(&it, 16);
+    put_onfiseq_item(&it, at_item, item);
+    at_text = take_room(&it, room_of(room, 1));
+    put_bytes(&it, at_text, text, (u64)room * 1);
+    answer = (size_t)w2c_w_onfiseq_explain(&it, (u32)at_bus, (u32)at_item, (u32)at_text, room);
+    get_bytes(&it, at_text, text, (u64)room * 1);
+    end_call(&it);
     return answer;
 }
+#endif
+#if HAS_LIVE
 uint32_t onfiseq_live_begin_sized(struct onfiseq_live *live, size_t size, uint32_t version, const struct onfiseq_geometry *geometry, uint8_t targets) {
+    struct module it;
     uint32_t answer;
     u64 at_live;
     u64 at_geometry;
-    begin_call();
-    at_live = take_room(3280);
-    put_onfiseq_live(at_live, live);
-    at_geometry = take_room(24);
-    put_onfiseq_geometry(at_geometry, geometry);
-    answer = (uint32_t)w2c_w_onfiseq_live_begin_sized(&module, (u32)at_live, size, version, (u32)at_geometry, targets);
-    get_onfiseq_live(at_live, live);
+    answer = ONFISEQ_NO_MEMORY;
+    if (!begin_call(&it, 17728, 3312)) return answer;
+    at_live = take_room(&it, 3280);
+    put_onfiseq_live(&it, at_live, live);
+    at_geometry = take_room(&it, 32);
+    put_onfiseq_geometry(&it, at_geometry, geometry);
+    answer = (uint32_t)w2c_w_onfiseq_live_begin_sized(&it, (u32)at_live, size, version, (u32)at_geometry, targets);
+    get_onfiseq_live(&it, at_live, live);
+    end_call(&it);
     return answer;
 }
 struct onfiseq_step onfiseq_job_begin(const struct onfiseq_live *live, uint8_t ce, uint8_t lun, uint32_t base, const uint8_t *file, size_t file_length, size_t buffer, struct onfiseq_job *job) {
+    struct module it;
     struct onfiseq_step answer;
     u64 at_answer;
     u64 at_live;
     u64 at_file;
     u64 at_job;
-    begin_call();
-    at_answer = take_room(8);
-    at_live = take_room(3280);
-    put_onfiseq_live(at_live, live);
-    at_file = take_room((u64)file_length * 1);
-    put_bytes(at_file, file, (u64)file_length * 1);
-    at_job = take_room(48);
-    put_onfiseq_job(at_job, job);
-    w2c_w_onfiseq_job_begin(&module, (u32)at_answer, (u32)at_live, ce, lun, base, (u32)at_file, file_length, buffer, (u32)at_job);
     memset(&answer, 0, sizeof answer);
-    get_onfiseq_step(at_answer, &answer);
-    get_onfiseq_job(at_job, job);
+    answer.letter = 'O';
+    if (!begin_call(&it, 128, 3344 + room_of(file_length, 1))) return answer;
+    at_answer = take_room(&it, 16);
+    at_live = take_room(&it, 3280);
+    put_onfiseq_live(&it, at_live, live);
+    at_file = take_room(&it, room_of(file_length, 1));
+    put_bytes(&it, at_file, file, (u64)file_length * 1);
+    at_job = take_room(&it, 48);
+    put_onfiseq_job(&it, at_job, job);
+    w2c_w_onfiseq_job_begin(&it, (u32)at_answer, (u32)at_live, ce, lun, base, (u32)at_file, file_length, buffer, (u32)at_job);
+    get_onfiseq_step(&it, at_answer, &answer);
+    get_onfiseq_job(&it, at_job, job);
+    end_call(&it);
     return answer;
 }
 struct onfiseq_turn onfiseq_job_next(const struct onfiseq_live *live, const struct onfiseq_job *job, const uint8_t *file, size_t file_length) {
+    struct module it;
     struct onfiseq_turn answer;
     u64 at_answer;
     u64 at_live;
     u64 at_job;
     u64 at_file;
-    begin_call();
-    at_answer = take_room(96);
-    at_live = take_room(3280);
-    put_onfiseq_live(at_live, live);
-    at_job = take_room(48);
-    put_onfiseq_job(at_job, job);
-    at_file = take_room((u64)file_length * 1);
-    put_bytes(at_file, file, (u64)file_length * 1);
-    w2c_w_onfiseq_job_next(&module, (u32)at_answer, (u32)at_live, (u32)at_job, (u32)at_file, file_length);
     memset(&answer, 0, sizeof answer);
-    get_onfiseq_turn(at_answer, &answer);
+    answer.letter = 'O';
+    if (!begin_call(&it, 9088, 3424 + room_of(file_length, 1))) return answer;
+    at_answer = take_room(&it, 96);
+    at_live = take_room(&it, 3280);
+    put_onfiseq_live(&it, at_live, live);
+    at_job = take_room(&it, 48);
+    put_onfiseq_job(&it, at_job, job);
+    at_file = take_room(&it, room_of(file_length, 1));
+    put_bytes(&it, at_file, file, (u64)file_length * 1);
+    w2c_w_onfiseq_job_next(&it, (u32)at_answer, (u32)at_live, (u32)at_job, (u32)at_file, file_length);
+    get_onfiseq_turn(&it, at_answer, &answer);
+    end_call(&it);
     return answer;
 }
 struct onfiseq_step onfiseq_job_finish(struct onfiseq_live *live, struct onfiseq_job *job, const uint8_t *file, size_t file_length, const uint8_t *taken, size_t count) {
+    struct module it;
     struct onfiseq_step answer;
     u64 at_answer;
     u64 at_live;
     u64 at_job;
     u64 at_file;
     u64 at_taken;
-    begin_call();
-    at_answer = take_room(8);
-    at_live = take_room(3280);
-    put_onfiseq_live(at_live, live);
-    at_job = take_room(48);
-    put_onfiseq_job(at_job, job);
-    at_file = take_room((u64)file_length * 1);
-    put_bytes(at_file, file, (u64)file_length * 1);
-    at_taken = take_room((u64)count * 1);
-    put_bytes(at_taken, taken, (u64)count * 1);
-    w2c_w_onfiseq_job_finish(&module, (u32)at_answer, (u32)at_live, (u32)at_job, (u32)at_file, file_length, (u32)at_taken, count);
     memset(&answer, 0, sizeof answer);
-    get_onfiseq_step(at_answer, &answer);
-    get_onfiseq_live(at_live, live);
-    get_onfiseq_job(at_job, job);
+    answer.letter = 'O';
+    if (!begin_call(&it, 9104, 3344 + room_of(file_length, 1) + room_of(count, 1))) return answer;
+    at_answer = take_room(&it, 16);
+    at_live = take_room(&it, 3280);
+    put_onfiseq_live(&it, at_live, live);
+    at_job = take_room(&it, 48);
+    put_onfiseq_job(&it, at_job, job);
+    at_file = take_room(&it, room_of(file_length, 1));
+    put_bytes(&it, at_file, file, (u64)file_length * 1);
+    at_taken = take_room(&it, room_of(count, 1));
+    put_bytes(&it, at_taken, taken, (u64)count * 1);
+    w2c_w_onfiseq_job_finish(&it, (u32)at_answer, (u32)at_live, (u32)at_job, (u32)at_file, file_length, (u32)at_taken, count);
+    get_onfiseq_step(&it, at_answer, &answer);
+    get_onfiseq_live(&it, at_live, live);
+    get_onfiseq_job(&it, at_job, job);
+    end_call(&it);
     return answer;
 }
 uint32_t onfiseq_live_ready(struct onfiseq_live *live, uint8_t ce, uint8_t lun, uint8_t failures) {
+    struct module it;
     uint32_t answer;
     u64 at_live;
-    begin_call();
-    at_live = take_room(3280);
-    put_onfiseq_live(at_live, live);
-    answer = (uint32_t)w2c_w_onfiseq_live_ready(&module, (u32)at_live, ce, lun, failures);
-    get_onfiseq_live(at_live, live);
+    answer = ONFISEQ_NO_MEMORY;
+    if (!begin_call(&it, 8048, 3280)) return answer;
+    at_live = take_room(&it, 3280);
+    put_onfiseq_live(&it, at_live, live);
+    answer = (uint32_t)w2c_w_onfiseq_live_ready(&it, (u32)at_live, ce, lun, failures);
+    get_onfiseq_live(&it, at_live, live);
+    end_call(&it);
     return answer;
 }
 uint32_t onfiseq_live_array_ready(struct onfiseq_live *live, uint8_t ce, uint8_t lun, bool failed) {
+    struct module it;
     uint32_t answer;
     u64 at_live;
-    begin_call();
-    at_live = take_room(3280);
-    put_onfiseq_live(at_live, live);
-    answer = (uint32_t)w2c_w_onfiseq_live_array_ready(&module, (u32)at_live, ce, lun, failed);
-    get_onfiseq_live(at_live, live);
+    answer = ONFISEQ_NO_MEMORY;
+    if (!begin_call(&it, 8048, 3280)) return answer;
+    at_live = take_room(&it, 3280);
+    put_onfiseq_live(&it, at_live, live);
+    answer = (uint32_t)w2c_w_onfiseq_live_array_ready(&it, (u32)at_live, ce, lun, failed);
+    get_onfiseq_live(&it, at_live, live);
+    end_call(&it);
     return answer;
 }
 uint32_t onfiseq_live_begin_target(struct onfiseq_live *live, uint8_t ce) {
+    struct module it;
     uint32_t answer;
     u64 at_live;
-    begin_call();
-    at_live = take_room(3280);
-    put_onfiseq_live(at_live, live);
-    answer = (uint32_t)w2c_w_onfiseq_live_begin_target(&module, (u32)at_live, ce);
-    get_onfiseq_live(at_live, live);
+    answer = ONFISEQ_NO_MEMORY;
+    if (!begin_call(&it, 9840, 3280)) return answer;
+    at_live = take_room(&it, 3280);
+    put_onfiseq_live(&it, at_live, live);
+    answer = (uint32_t)w2c_w_onfiseq_live_begin_target(&it, (u32)at_live, ce);
+    get_onfiseq_live(&it, at_live, live);
+    end_call(&it);
     return answer;
 }
+#endif
 struct onfiseq_abi onfiseq_sizes(void) {
+    struct module it;
     struct onfiseq_abi answer;
     u64 at_answer;
-    begin_call();
-    at_answer = take_room(80);
-    w2c_w_onfiseq_sizes(&module, (u32)at_answer);
     memset(&answer, 0, sizeof answer);
-    get_onfiseq_abi(at_answer, &answer);
+    if (!begin_call(&it, 0, 80)) return answer;
+    at_answer = take_room(&it, 80);
+    w2c_w_onfiseq_sizes(&it, (u32)at_answer);
+    get_onfiseq_abi(&it, at_answer, &answer);
+    end_call(&it);
     return answer;
 }
 struct onfiseq_sample onfiseq_make_sample(uint32_t flags) {
+    struct module it;
     struct onfiseq_sample answer;
     u64 at_answer;
-    begin_call();
-    at_answer = take_room(120);
-    w2c_w_onfiseq_make_sample(&module, (u32)at_answer, flags);
     memset(&answer, 0, sizeof answer);
-    get_onfiseq_sample(at_answer, &answer);
+    if (!begin_call(&it, 0, 128)) return answer;
+    at_answer = take_room(&it, 128);
+    w2c_w_onfiseq_make_sample(&it, (u32)at_answer, flags);
+    get_onfiseq_sample(&it, at_answer, &answer);
+    end_call(&it);
     return answer;
 }
+#if HAS_LIVE
 struct onfiseq_live_abi onfiseq_live_sizes(void) {
+    struct module it;
     struct onfiseq_live_abi answer;
     u64 at_answer;
-    begin_call();
-    at_answer = take_room(64);
-    w2c_w_onfiseq_live_sizes(&module, (u32)at_answer);
     memset(&answer, 0, sizeof answer);
-    get_onfiseq_live_abi(at_answer, &answer);
+    if (!begin_call(&it, 0, 64)) return answer;
+    at_answer = take_room(&it, 64);
+    w2c_w_onfiseq_live_sizes(&it, (u32)at_answer);
+    get_onfiseq_live_abi(&it, at_answer, &answer);
+    end_call(&it);
     return answer;
 }
 struct onfiseq_live_sample onfiseq_live_make_sample(void) {
+    struct module it;
     struct onfiseq_live_sample answer;
     u64 at_answer;
-    begin_call();
-    at_answer = take_room(152);
-    w2c_w_onfiseq_live_make_sample(&module, (u32)at_answer);
     memset(&answer, 0, sizeof answer);
-    get_onfiseq_live_sample(at_answer, &answer);
+    if (!begin_call(&it, 0, 160)) return answer;
+    at_answer = take_room(&it, 160);
+    w2c_w_onfiseq_live_make_sample(&it, (u32)at_answer);
+    get_onfiseq_live_sample(&it, at_answer, &answer);
+    end_call(&it);
     return answer;
 }
+#endif

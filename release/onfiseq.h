@@ -22,8 +22,9 @@
  * The header is the same for every processor and byte order. release/onfiseq.c has the calls of
  * the first four libraries for whatever has a C compiler.
  *
- * No call aborts, and none keeps anything behind your back. A call may be made from several
- * threads at once, as long as they don't share what it writes.
+ * No call aborts. None keeps anything behind your back, but for release/onfiseq.c, which keeps its
+ * memory. A call may be made from several threads at once, as long as they don't share what it
+ * writes.
  *
  * Any bytes may stand in a record that you hand in: one whose numbers no channel can have is
  * answered ONFISEQ_DAMAGED, and stays as it is. What you owe, as a proof ends at the border to C:
@@ -31,9 +32,11 @@
  *    a count of 0 a slice's pointer may be any, null too;
  *  - what a call writes by a pointer that isn't const overlaps nothing else that it is given, and
  *    no other thread reads or writes it meanwhile;
- *  - there is stack enough: 32 KB for libonfiseq_c.a, 36 KB for libonfiseq_show_c.a, 14 KB for
- *    libonfiseq_live_c.a, 8 KB for libonfiseq_text_c.a; 108 KB for onfiseq_verify, and 160 KB for
- *    onfiseq_verify_run.
+ *  - there is stack enough: 40 KB for libonfiseq_c.a, and 80 KB for onfiseq_check; 24 KB for
+ *    libonfiseq_live_c.a; 24 KB for libonfiseq_verify_c.a, and 160 KB for onfiseq_verify_run; 8 KB
+ *    for libonfiseq_text_c.a; 100 KB for libonfiseq_show_c.a. onfiseq_push_op and onfiseq_ask_op
+ *    take 1000 bytes more for each part of the operation. It is 14 KB for release/onfiseq.c, which
+ *    has the rest in its memory.
  */
 #ifndef ONFISEQ_H
 #define ONFISEQ_H
@@ -93,6 +96,7 @@ enum onfiseq_code {
     ONFISEQ_DAMAGED = 0x4400,            /**< the record isn't one that a channel can have */
     ONFISEQ_OTHER_VERSION = 0x4401,      /**< the record to begin has another size or version */
     ONFISEQ_NO_ITEM = 0x4900,            /**< the numbers are no item, or no part */
+    ONFISEQ_NO_MEMORY = 0x4f00,          /**< release/onfiseq.c has no memory for the call */
     ONFISEQ_WRONG_TARGETS = 0x5400       /**< the targets aren't 1 to 4 */
 };
 
@@ -581,8 +585,12 @@ uint32_t onfiseq_live_begin_target(struct onfiseq_live *live, uint8_t ce);
  * The libraries that ask for memory ask by these three functions, and bring them over malloc,
  * realloc and free. A program that defines all three has its own in their place; examples/c/pool.c
  * does, without a heap. A block is aligned as malloc's are, and a call that returns has given all
- * of it back. release/onfiseq.c doesn't ask by them: it has its memory by realloc, or in a static
- * array of ONFISEQ_MEMORY bytes. */
+ * of it back.
+ *
+ * release/onfiseq.c doesn't ask by them; its head says where it has its memory. Where it has none
+ * for a call, that changes nothing and answers 'O' in its letter, ONFISEQ_NO_MEMORY as its code or
+ * as the fault of a page, 'O' as each pause, or an empty record; onfiseq_words and onfiseq_explain
+ * say "out of memory". */
 
 /** A block of so many bytes, 1 at least; NULL where there is none, and the call answers 'O'. */
 void *onfiseq_alloc(size_t size);
