@@ -1,4 +1,4 @@
-//! Runs, texts and queues that go far: past a million items, a thousand steps, a whole queue of jobs. A body that gives up before would
+//! Queues and channels that go far: past a whole queue of jobs, with jobs that can't start, and what a gate is asked. A body that gives up before would
 //! meet its contract. Only tests stand here.
 #![tactic(auto)]
 
@@ -7,10 +7,4 @@ mod backlog_tests;
 #[cfg(test)]
 mod gate_tests;
 #[cfg(test)]
-mod item_tests;
-#[cfg(test)]
 mod queue_tests;
-#[cfg(test)]
-mod text_tests;
-#[cfg(test)]
-mod turn_tests;
