@@ -21,8 +21,8 @@ use Rattle.bus_capture.specs.declared.sampler.Observed.{Observed}
 use Rattle.bus_capture.specs.declared.sampler.Sampler.{Sampler}
 use Rattle.bus_capture.specs.declared.sampler.Strobing.{Strobing}
 use Rattle.bus_capture.specs.declared.inferring.Stamped.{Stamped}
-use Rattle.bus_capture.specs.Sampling.{level, with_enable, enabled_from, kind_of, byte_of, apart, cycle_of, cycle_if, rises, is_lost, lost_if, line_of, other_line, seen_of, is_short, steady, item_of, falls, is_high, array_is_done, ready_of}
-use Rattle.bus_capture.specs.Capturing.{with_item, with_release, with_releases, with_readies, at_time, with_seen, strobe_seen, settled}
+use Rattle.bus_capture.specs.Sampling.{level, with_enable, enabled_from, kind_of, byte_of, apart, cycle_of, cycle_if, rises, is_lost, lost_if, line_of, other_line, seen_if, is_short, steady, item_of, falls, is_high, array_is_done, ready_of}
+use Rattle.bus_capture.specs.Capturing.{with_item, with_release, with_releases, with_readies, at_time, with_seen, output_time, late_of, is_taken, strobe_seen, settled, last_seen, closed}
 use Rattle.bus_capture.specs.Telling.{told_at}
 use Rattle.bus_capture.specs.Inferring.{stamps, with_shown, is_waiting, is_awaited, lun_fails, release_of, lun_release_of, rise_of, rise_stamps, fails_within}
 use Rattle.bus_capture.specs.Inside.{AreInside, IsSeenInside, AreSeenInside}
@@ -131,12 +131,16 @@ choice true c x y z seen h f g k = f h
 choice false true x y z seen h f g k = g h
 choice false false x y z seen h f g k = k h
 
-seen_fine : (targets : ℕ) (strobe : Strobe) (driven : Bool) (before after : List Level) (seen : Seen) → targets ≤ 4 → seen_of targets strobe driven before after ≡ Ok seen → IsSeenFine seen
-seen_fine targets strobe driven before after seen few h =
-    choice (rises (level before (line_of strobe)) (level after (line_of strobe))) (is_lost driven (level before (line_of strobe)) (level after (line_of strobe)))
+cycle_taken_fine : (targets : ℕ) (strobe : Strobe) (levels : List Level) (seen : Seen) → targets ≤ 4 → (enabled_from levels targets 0 None >>= λ enabled. cycle_if strobe enabled levels) ≡ Ok seen → IsSeenFine seen
+cycle_taken_fine targets strobe levels seen few r =
+    let k = bind_ok (enabled_from levels targets 0 None) (λ enabled. cycle_if strobe enabled levels) seen r in
+    cycle_if_fine strobe targets k.0 levels seen few (enabled_below levels targets 0 targets None k.0 (omega arith) tt k.1) k.2
+
+seen_fine : (taken : Bool) (targets : ℕ) (strobe : Strobe) (driven : Bool) (before after : List Level) (seen : Seen) → targets ≤ 4 → seen_if taken targets strobe driven before after ≡ Ok seen → IsSeenFine seen
+seen_fine taken targets strobe driven before after seen few h =
+    choice taken (is_lost driven (level before (line_of strobe)) (level after (line_of strobe)))
     (enabled_from before targets 0 None >>= λ enabled. cycle_if strobe enabled before) (enabled_from before targets 0 None >>= λ enabled. lost_if enabled) (Ok Nothing) seen h
-    (λ r. let k = bind_ok (enabled_from before targets 0 None) (λ enabled. cycle_if strobe enabled before) seen r in
-    cycle_if_fine strobe targets k.0 before seen few (enabled_below before targets 0 targets None k.0 (omega arith) tt k.1) k.2)
+    (λ r. cycle_taken_fine targets strobe before seen few r)
     (λ r. let k = bind_ok (enabled_from before targets 0 None) (λ enabled. lost_if enabled) seen r in lost_fine k.0 seen k.2)
     (λ r. subst IsSeenFine (same_ok Nothing seen r) tt)
 
@@ -153,8 +157,9 @@ at_time_ok time (Err e) a h = cc
 
 strobe_fine : (s : Sampler) (strobe : Strobe) (known : Strobing) (seen : Seen) → s.targets ≤ 4 → strobe_seen s strobe known ≡ Ok seen → IsSeenFine seen
 strobe_fine s strobe known seen few h =
-    let k = bind_ok (steady s.targets strobe (is_short s.glitch s.time known.since) s.before.of s.after.of) (λ _. seen_of s.targets strobe known.driven s.before.of s.after.of) seen h in
-    seen_fine s.targets strobe known.driven s.before.of s.after.of seen few k.2
+    let taken = is_taken (late_of s strobe) s strobe known in
+    let k = bind_ok (steady s.targets strobe (is_short s.glitch s.time known.since) s.before.of s.after.of) (λ _. seen_if taken s.targets strobe known.driven s.before.of s.after.of) seen h in
+    seen_fine taken s.targets strobe known.driven s.before.of s.after.of seen few k.2
 
 pub settled_fine : (s : Sampler) (os now : List Observed) → s.targets ≤ 4 → AreSeenInside os → settled s os ≡ Ok now → AreSeenInside now
 settled_fine s os now few rest h =
@@ -163,10 +168,20 @@ settled_fine s os now few rest h =
     let written = strobe_fine s strobe.Write s.we w.0 few (at_time_ok s.time (strobe_seen s strobe.Write s.we) w.0 w.1) in
     let read = strobe_fine s strobe.Read s.re r.0 few (at_time_ok s.time (strobe_seen s strobe.Read s.re) r.0 r.1) in
     subst AreSeenInside (same_ok (with_seen s w.0 r.0 os) now r.2)
-    (fine_releases s.time s.before.of s.after.of (with_readies s.caches s.time s.before.of s.after.of (with_item s.time (item_of r.0) (with_item s.time (item_of w.0) os)) (4 * s.targets) 0) s.targets 0 (omega (arith, few))
-    (fine_readies s.caches s.time s.before.of s.after.of (with_item s.time (item_of r.0) (with_item s.time (item_of w.0) os)) (4 * s.targets) 0 (omega (arith, few))
-    (fine_item s.time (item_of r.0) (with_item s.time (item_of w.0) os) (λ i is. item_fine r.0 i read is)
+    (fine_releases s.time s.before.of s.after.of (with_readies s.caches s.time s.before.of s.after.of (with_item (output_time s) (item_of r.0) (with_item s.time (item_of w.0) os)) (4 * s.targets) 0) s.targets 0 (omega (arith, few))
+    (fine_readies s.caches s.time s.before.of s.after.of (with_item (output_time s) (item_of r.0) (with_item s.time (item_of w.0) os)) (4 * s.targets) 0 (omega (arith, few))
+    (fine_item (output_time s) (item_of r.0) (with_item s.time (item_of w.0) os) (λ i is. item_fine r.0 i read is)
     (fine_item s.time (item_of w.0) os (λ i is. item_fine w.0 i written is) rest))))
+
+last_fine : (owed : Bool) (targets : ℕ) (levels : List Level) (seen : Seen) → targets ≤ 4 → cond owed (enabled_from levels targets 0 None >>= λ enabled. cycle_if strobe.Read enabled levels) (Ok Nothing) ≡ Ok seen → IsSeenFine seen
+last_fine true targets levels seen few h = cycle_taken_fine targets strobe.Read levels seen few h
+last_fine false targets levels seen few h = subst IsSeenFine (same_ok Nothing seen h) tt
+
+pub closed_fine : (s : Sampler) (os now : List Observed) → s.targets ≤ 4 → AreSeenInside os → closed s os ≡ Ok now → AreSeenInside now
+closed_fine s os now few rest h =
+    let r = bind_ok (at_time s.time (last_seen s)) (λ read. Ok (with_item (output_time s) (item_of read) os)) now h in
+    let read = last_fine s.re.owed s.targets s.before.of r.0 few (at_time_ok s.time (last_seen s) r.0 r.1) in
+    subst AreSeenInside (same_ok (with_item (output_time s) (item_of r.0) os) now r.2) (fine_item (output_time s) (item_of r.0) os (λ i is. item_fine r.0 i read is) rest)
 
 pub seen_drop : (n : ℕ) (os : List Observed) → AreSeenInside os → AreSeenInside (drop n os)
 seen_drop zero os inside = inside

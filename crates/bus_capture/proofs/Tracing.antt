@@ -39,7 +39,7 @@ use Rattle.bus_capture.specs.declared.tracer.Tracer.{Tracer}
 use Rattle.bus_capture.specs.declared.reading.Setup.{Setup}
 use Rattle.bus_capture.specs.declared.reading.CaptureForm.TheVariants as form
 use Rattle.bus_capture.specs.Sampling.{level, rises, item_of, ready_of}
-use Rattle.bus_capture.specs.Capturing.{with_item, with_release, with_releases, with_readies, with_seen, at_time, strobe_seen, settled, later, changed, capturing, in_roles, sources_in, told_items, tells_readies, IsRefusalOf}
+use Rattle.bus_capture.specs.Capturing.{with_item, with_release, with_releases, with_readies, with_seen, output_time, at_time, strobe_seen, settled, last_seen, closed, later, changed, capturing, in_roles, sources_in, told_items, tells_readies, IsRefusalOf}
 use Rattle.bus_capture.specs.Inferring.{items_after, captured_by}
 use Rattle.bus_capture.specs.Tracing.{MayFollow, inferred_on, traced, items_told, read_after, table_read}
 
@@ -77,12 +77,12 @@ releases_front time before after xs ys (suc count) n =
 seen_front : (s : Sampler) (written read : Seen) (xs ys : List Observed) → with_seen s written read (xs ++ ys) ≡ xs ++ with_seen s written read ys
 seen_front s written read xs ys =
     let w = item_front s.time (item_of written) xs ys in
-    let r = item_front s.time (item_of read) xs (with_item s.time (item_of written) ys) in
-    let both : with_item s.time (item_of read) (with_item s.time (item_of written) (xs ++ ys)) ≡ xs ++ with_item s.time (item_of read) (with_item s.time (item_of written) ys) = ap (with_item s.time (item_of read)) w ∙ r in
+    let r = item_front (output_time s) (item_of read) xs (with_item s.time (item_of written) ys) in
+    let both : with_item (output_time s) (item_of read) (with_item s.time (item_of written) (xs ++ ys)) ≡ xs ++ with_item (output_time s) (item_of read) (with_item s.time (item_of written) ys) = ap (with_item (output_time s) (item_of read)) w ∙ r in
     ap (λ os. with_releases s.time s.before.of s.after.of (with_readies s.caches s.time s.before.of s.after.of os (4 * s.targets) 0) s.targets 0) both
     ∙ (ap (λ os. with_releases s.time s.before.of s.after.of os s.targets 0)
-    (readies_front s.caches s.time s.before.of s.after.of xs (with_item s.time (item_of read) (with_item s.time (item_of written) ys)) (4 * s.targets) 0)
-    ∙ releases_front s.time s.before.of s.after.of xs (with_readies s.caches s.time s.before.of s.after.of (with_item s.time (item_of read) (with_item s.time (item_of written) ys)) (4 * s.targets) 0) s.targets 0)
+    (readies_front s.caches s.time s.before.of s.after.of xs (with_item (output_time s) (item_of read) (with_item s.time (item_of written) ys)) (4 * s.targets) 0)
+    ∙ releases_front s.time s.before.of s.after.of xs (with_readies s.caches s.time s.before.of s.after.of (with_item (output_time s) (item_of read) (with_item s.time (item_of written) ys)) (4 * s.targets) 0) s.targets 0)
 
 settled_front : (s : Sampler) (xs ys : List Observed) → settled s (xs ++ ys) ≡ in_front xs (settled s ys)
 settled_front s xs ys = at (at_time s.time (strobe_seen s strobe.Write s.we)) (at_time s.time (strobe_seen s strobe.Read s.re))
@@ -92,8 +92,22 @@ settled_front s xs ys = at (at_time s.time (strobe_seen s strobe.Write s.we)) (a
     at (Ok written) (Err e) = refl
     at (Ok written) (Ok read) = ap Ok (seen_front s written read xs ys)
 
+closed_front : (s : Sampler) (xs ys : List Observed) → closed s (xs ++ ys) ≡ in_front xs (closed s ys)
+closed_front s xs ys = at (at_time s.time (last_seen s))
+  where
+    at : (r : Result Seen CaptureFault) → (r >>= λ read. Ok (with_item (output_time s) (item_of read) (xs ++ ys))) ≡ in_front xs (r >>= λ read. Ok (with_item (output_time s) (item_of read) ys))
+    at (Err e) = refl
+    at (Ok read) = ap Ok (item_front (output_time s) (item_of read) xs ys)
+
+ended_front : (s : Sampler) (xs ys : List Observed) → (settled s (xs ++ ys) >>= λ more. closed (later s s.time) more) ≡ in_front xs (settled s ys >>= λ more. closed (later s s.time) more)
+ended_front s xs ys = ap (λ r. r >>= λ more. closed (later s s.time) more) (settled_front s xs ys) ∙ at (settled s ys)
+  where
+    at : (r : Result (List Observed) CaptureFault) → (in_front xs r >>= λ more. closed (later s s.time) more) ≡ in_front xs (r >>= λ more. closed (later s s.time) more)
+    at (Err e) = refl
+    at (Ok more) = closed_front (later s s.time) xs more
+
 capturing_front : (sources : List Source) (s : Sampler) (xs ys : List Observed) (ts : List Told) → capturing sources s (xs ++ ys) ts ≡ in_front xs (capturing sources s ys ts)
-capturing_front sources s xs ys [] = settled_front s xs ys
+capturing_front sources s xs ys [] = ended_front s xs ys
 capturing_front sources s xs ys (Err f ∷ ts) = refl
 capturing_front sources s xs ys (Ok (Change code bits) ∷ ts) = capturing_front sources (changed sources code bits s) xs ys ts
 capturing_front sources s xs ys (Ok (Time time) ∷ ts) =
@@ -129,6 +143,16 @@ handed sources now_sources s now_s i j old new xs ys same_sources same_s goes ts
     ∙ (ap (items_of j new) (sym (capturing_all sources s ys ts))
     ∙ (ap (λ sources. items_of j new (capturing sources s ys ts)) (sym same_sources) ∙ ap (λ s. items_of j new (capturing now_sources s ys ts)) (sym same_s))))
 
+ended_as : (s after : Sampler) (os more : List Observed) → settled s os ≡ Ok more → after ≡ later s s.time → (settled s os >>= λ more. closed (later s s.time) more) ≡ closed after more
+ended_as s after os more settles is = ap (λ r. r >>= λ more. closed (later s s.time) more) settles ∙ ap (λ a. closed a more) (sym is)
+
+pub closes : (s after : Sampler) (os more now : List Observed) → settled s os ≡ Ok more → after ≡ later s s.time → closed after more ≡ Ok now → (settled s os >>= λ more. closed (later s s.time) more) ≡ Ok now
+closes s after os more now settles is done = ended_as s after os more settles is ∙ done
+
+pub closing_fails : (s after : Sampler) (os more : List Observed) (e : CaptureRefusal) → settled s os ≡ Ok more → after ≡ later s s.time → IsRefusalOf e (closed after more)
+    → IsRefusalOf e (settled s os >>= λ more. closed (later s s.time) more)
+closing_fails s after os more e settles is why = subst (IsRefusalOf e) (sym (ended_as s after os more settles is)) why
+
 drop_all : {X : Type 0} (n : ℕ) (xs : List X) → n ≡ length xs → drop n xs ≡ []
 drop_all zero [] e = refl
 drop_all zero (x ∷ xs) e = absurd (omega (arith, e))
@@ -146,7 +170,7 @@ drop_next (suc n) (z ∷ xs) x ys e = let next = drop_next n xs x ys e in
     let one : suc n + 1 ≡ suc (n + 1) = omega arith in
     (ap (λ k. drop k (z ∷ xs)) one ∙ next.0, omega (arith, next.1))
 
-pub finishes : (sources : List Source) (s : Sampler) (xs now : List Observed) (i j : Inferring) (old new : List Stamped) (count : ℕ) → settled s xs ≡ Ok now → count ≡ length now
+pub finishes : (sources : List Source) (s : Sampler) (xs now : List Observed) (i j : Inferring) (old new : List Stamped) (count : ℕ) → capturing sources s xs [] ≡ Ok now → count ≡ length now
     → inferred_on i old (now ++ []) ≡ inferred_on j new (drop count now ++ []) → items_of i old (capturing sources s xs []) ≡ Ok new
 finishes sources s xs now i j old new count settles all goes =
     ap (items_of i old) settles

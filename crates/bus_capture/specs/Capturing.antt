@@ -1,5 +1,6 @@
 -- A capture as items, each with its time.
-use Rattle.std.specs.Prelude.{◌≡◌, ⊤, ℕ, zero, suc, ◌+◌, ◌-◌, ◌^◌, min, ◌*◌, ◌/◌, ◌%◌, ◌==◌, ◌||◌, Bool, true, false, if◌then◌else◌, List, [], ◌∷◌, ◌++◌, Option, Some, None, Result, Ok, Err}
+use Rattle.std.specs.Prelude.{◌≡◌, ⊤, ℕ, zero, suc, ◌+◌, ◌-◌, ◌^◌, min, ◌*◌, ◌/◌, ◌%◌, ◌==◌, ◌&&◌, ◌||◌, not, Bool, true, false, if◌then◌else◌, List, [], ◌∷◌, ◌++◌, Option, Some, None, Result, Ok, Err}
+use Rattle.std.specs.Option.{unwrap_or}
 use Rattle.onfi_cycle.specs.declared.item.Item.{Item}
 use Rattle.vcd_text.specs.declared.fault.LineFault.{LineFault}
 use Rattle.vcd_text.specs.declared.tokens.Level.{Level}
@@ -34,7 +35,7 @@ use Rattle.bus_capture.specs.declared.sampler.Sampler.{Sampler}
 use Rattle.bus_capture.specs.declared.sampler.Strobing.{Strobing}
 use Rattle.bus_capture.specs.declared.reading.Setup.{Setup}
 use Rattle.bus_signals.specs.Roles.{carriers_of, sources_of}
-use Rattle.bus_capture.specs.Sampling.{level, with_change, seen_of, item_of, rises, is_edge, is_short, steady, ready_of}
+use Rattle.bus_capture.specs.Sampling.{level, with_change, cycle_taken, seen_if, item_of, rises, is_edge, is_short, is_moved, line_of, steady, ready_of}
 
 -- ---- what is seen at a time
 
@@ -67,17 +68,38 @@ abbrev pub at_time : {A : Type 0} → ℕ → Result A BusFault → Result A Cap
 at_time time (Ok x) = Ok x
 at_time time (Err fault) = Err (Bus fault time)
 
+-- the time of an output that is taken now: where that is behind the rise of RE#, when RE# rose
+abbrev pub time_of : (late : Option ℕ) → (time : ℕ) → (since : Option ℕ) → ℕ
+time_of None time since = time
+time_of (Some late) time since = unwrap_or since time
+
+abbrev pub output_time : Sampler → ℕ
+output_time s = time_of s.late s.time s.re.since
+
 -- with what strobes and a model tell now
 abbrev pub with_seen : Sampler → (written read : Seen) → List Observed → List Observed
 with_seen s written read observed =
     with_releases s.time s.before.of s.after.of
-    (with_readies s.caches s.time s.before.of s.after.of (with_item s.time (item_of read) (with_item s.time (item_of written) observed)) (4 * s.targets) 0) s.targets 0
+    (with_readies s.caches s.time s.before.of s.after.of (with_item (output_time s) (item_of read) (with_item s.time (item_of written) observed)) (4 * s.targets) 0) s.targets 0
+
+-- how far behind its rise a strobe's cycle is taken: of RE# so far; None where it is taken as the strobe rises
+abbrev pub late_of : Sampler → Strobe → Option ℕ
+late_of s Write = None
+late_of s strobe.Read = s.late
+
+-- a cycle is owed, and is taken by the levels before: so far behind the rise, or earlier where another line than DQ changes now
+abbrev pub is_due : Sampler → Strobing → (late : ℕ) → Bool
+is_due s known late = known.owed && (is_moved s.before.of s.after.of || not (is_short late s.time known.since))
+
+abbrev pub is_taken : Option ℕ → Sampler → Strobe → Strobing → Bool
+is_taken None s strobe known = rises (level s.before.of (line_of strobe)) (level s.after.of (line_of strobe))
+is_taken (Some late) s strobe known = is_due s known late
 
 -- what is seen of a strobe of which this is known, where the levels before become those of now
 abbrev pub strobe_seen : Sampler → Strobe → Strobing → Result Seen BusFault
 strobe_seen s strobe known = do
   _ ← steady s.targets strobe (is_short s.glitch s.time known.since) s.before.of s.after.of
-  seen_of s.targets strobe known.driven s.before.of s.after.of
+  seen_if (is_taken (late_of s strobe) s strobe known) s.targets strobe known.driven s.before.of s.after.of
 
 -- items with what is seen: of WE#, of RE#, of a model, and of R/B#
 abbrev pub settled : Sampler → List Observed → Result (List Observed) CaptureFault
@@ -94,26 +116,41 @@ is_known High = true
 is_known Unknown = false
 
 abbrev pub untouched : Strobing
-untouched = record { driven = false; since = None }
+untouched = record { driven = false; since = None; owed = false }
 
--- what is known of a strobe after these levels before and after a time
-abbrev pub strobing_after : Strobing → ℕ → (before after : Level) → Strobing
-strobing_after known time before after =
-    record { driven = known.driven || is_known after; since = if is_edge before after then Some time else known.since }
+-- what is known of a strobe after these levels before and after a time, and whether its cycle is still to be taken
+abbrev pub strobing_after : (owed : Bool) → Strobing → ℕ → (before after : Level) → Strobing
+strobing_after owed known time before after =
+    record { driven = known.driven || is_known after; since = if is_edge before after then Some time else known.since; owed = owed }
 
 -- nothing has been seen
-abbrev pub begun : ℕ → (glitch : ℕ) → (caches : Bool) → List Level → Sampler
-begun targets glitch caches unknown =
-    record { targets = targets; glitch = glitch; caches = caches; time = 0; before = record { of = unknown }; after = record { of = unknown }; we = untouched; re = untouched }
+abbrev pub begun : ℕ → (glitch : ℕ) → (late : Option ℕ) → (caches : Bool) → List Level → Sampler
+begun targets glitch late caches unknown =
+    record { targets = targets; glitch = glitch; late = late; caches = caches; time = 0; before = record { of = unknown }; after = record { of = unknown }; we = untouched; re = untouched }
+
+-- a cycle of RE# is still to be taken after this time: it rises now, or it was so before and isn't taken now
+abbrev pub owes : Option ℕ → Sampler → Bool
+owes None s = false
+owes (Some late) s = rises (level s.before.of Re) (level s.after.of Re) || s.re.owed && not (is_due s s.re late)
 
 -- at a later time
 abbrev pub later : Sampler → ℕ → Sampler
 later s time = record s {
   time = time;
   before = s.after;
-  we = strobing_after s.we s.time (level s.before.of We) (level s.after.of We);
-  re = strobing_after s.re s.time (level s.before.of Re) (level s.after.of Re);
+  we = strobing_after false s.we s.time (level s.before.of We) (level s.after.of We);
+  re = strobing_after (owes s.late s) s.re s.time (level s.before.of Re) (level s.after.of Re);
 }
+
+-- what is seen of RE# where nothing more comes
+abbrev pub last_seen : Sampler → Result Seen BusFault
+last_seen s = if s.re.owed then cycle_taken s.targets strobe.Read s.before.of else Ok seen.Nothing
+
+-- items with the last output, where one is still to be taken
+abbrev pub closed : Sampler → List Observed → Result (List Observed) CaptureFault
+closed s observed = do
+  read ← at_time s.time (last_seen s)
+  Ok (with_item (output_time s) (item_of read) observed)
 
 -- after a change
 abbrev pub changed : List Source → ℕ → List ℕ → Sampler → Sampler
@@ -121,7 +158,7 @@ changed sources code bits s = record s { after = record { of = with_change sourc
 
 -- the items of what is told, after these
 abbrev pub capturing : List Source → Sampler → List Observed → List Told → Result (List Observed) CaptureFault
-capturing sources s observed [] = settled s observed
+capturing sources s observed [] = settled s observed >>= λ more. closed (later s s.time) more
 capturing sources s observed (Err f ∷ told) = Err (File f)
 capturing sources s observed (Ok (Change code bits) ∷ told) = capturing sources (changed sources code bits s) observed told
 capturing sources s observed (Ok (Time time) ∷ told) =
@@ -150,7 +187,7 @@ sources_in setup read = in_roles (sources_of setup.targets (carriers_of setup.ma
 
 -- the items of what is told
 abbrev pub told_items : Setup → List Source → List Told → Result (List Observed) CaptureFault
-told_items setup sources told = capturing sources (begun setup.targets setup.glitch (has_program_cache setup.geometry.optional) unknown) [] told
+told_items setup sources told = capturing sources (begun setup.targets setup.glitch setup.late (has_program_cache setup.geometry.optional) unknown) [] told
 
 -- the items of a body
 abbrev pub body_items : Setup → Read → List Source → Result (List Observed) CaptureFault

@@ -21,9 +21,12 @@ use Rattle.bus_signals.specs.Roles.{place_of}
 
 -- ---- levels
 
--- the level of a line, of those of all lines
+-- the level at a place, and that of a line, of those of all lines
+abbrev pub level_at : List Level → ℕ → Level
+level_at levels n = unwrap_or (slice_get levels n) Unknown
+
 abbrev pub level : List Level → Role → Level
-level levels role = unwrap_or (slice_get levels (place_of role)) Unknown
+level levels role = level_at levels (place_of role)
 
 -- a bit that stands in a change, and one that stands no more: 0, or x or z where the first bit is
 abbrev pub shown_bit : ℕ → Level
@@ -152,11 +155,19 @@ abbrev pub lost_if : Option ℕ → Result Seen BusFault
 lost_if None = Ok Nothing
 lost_if (Some ce) = Err UnknownStrobe
 
--- what is seen of a strobe where the levels before become those after
-abbrev pub seen_of : ℕ → Strobe → (driven : Bool) → (before after : List Level) → Result Seen BusFault
-seen_of targets strobe driven before after =
-    if rises (level before (line_of strobe)) (level after (line_of strobe)) then (enabled_from before targets 0 None >>= λ enabled. cycle_if strobe enabled before) else (
+-- the cycle of a strobe that is taken by these levels
+abbrev pub cycle_taken : ℕ → Strobe → List Level → Result Seen BusFault
+cycle_taken targets strobe levels = enabled_from levels targets 0 None >>= λ enabled. cycle_if strobe enabled levels
+
+-- what is seen of a strobe whose cycle is taken by the levels before, or not, where these become those after
+abbrev pub seen_if : (taken : Bool) → ℕ → Strobe → (driven : Bool) → (before after : List Level) → Result Seen BusFault
+seen_if taken targets strobe driven before after =
+    if taken then cycle_taken targets strobe before else (
     if is_lost driven (level before (line_of strobe)) (level after (line_of strobe)) then (enabled_from before targets 0 None >>= λ enabled. lost_if enabled) else Ok Nothing)
+
+-- the same of one whose cycle is taken as it rises
+abbrev pub seen_of : ℕ → Strobe → (driven : Bool) → (before after : List Level) → Result Seen BusFault
+seen_of targets strobe driven before after = seen_if (rises (level before (line_of strobe)) (level after (line_of strobe))) targets strobe driven before after
 
 abbrev pub item_of : Seen → Option Item
 item_of Nothing = None
@@ -188,6 +199,28 @@ glitch_if (Some ce) = Err Glitch
 abbrev pub steady : ℕ → Strobe → (short : Bool) → (before after : List Level) → Result Bool BusFault
 steady targets strobe short before after =
     if short && is_edge (level before (line_of strobe)) (level after (line_of strobe)) then (enabled_from before targets 0 None >>= λ enabled. glitch_if enabled) else Ok false
+
+-- ---- a line that changes
+
+abbrev pub same_level : Level → Level → Bool
+same_level Low Low = true
+same_level Low High = false
+same_level Low Unknown = false
+same_level High Low = false
+same_level High High = true
+same_level High Unknown = false
+same_level Unknown Low = false
+same_level Unknown High = false
+same_level Unknown Unknown = true
+
+-- one of so many lines from number n on
+abbrev pub moved_from : (before after : List Level) → (count n : ℕ) → Bool
+moved_from before after zero n = false
+moved_from before after (suc count) n = not (same_level (level_at before n) (level_at after n)) || moved_from before after count (n + 1)
+
+-- any line but those of DQ, which stand at eight places behind the first eight
+abbrev pub is_moved : (before after : List Level) → Bool
+is_moved before after = moved_from before after 8 0 || moved_from before after 52 16
 
 -- ---- what lines of a model tell
 

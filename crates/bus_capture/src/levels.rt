@@ -2,7 +2,7 @@
 ghost use Rattle.std.specs.Prelude.{◌≡◌, false, slice_set, drop};
 ghost use Rattle.bus_signals.specs.Roles.{place_of};
 ghost use Rattle.bus_capture.specs.Capturing.{unknown};
-ghost use Rattle.bus_capture.specs.Sampling.{level, shown_bit, filled, bit_at, with_source, with_change};
+ghost use Rattle.bus_capture.specs.Sampling.{level, level_at, shown_bit, filled, bit_at, with_source, with_change};
 
 use bus_signals::{Role, Source};
 use vcd_text::{Level, level_of};
@@ -57,12 +57,20 @@ impl Levels {
         }
     }
 
+    /// The level at a place among all lines.
+    #[inline(always)]
+    pub(crate) fn level_at(&self, place: usize) -> Level
+        ensures { result ≡ level_at self.now.of place }
+    {
+        self.of.get(place).copied().unwrap_or(Level::Unknown)
+    }
+
     /// The level of a line.
     #[inline(always)]
     pub fn level(&self, role: Role) -> Level
         ensures { result ≡ level self.now.of role }
     {
-        self.of.get(role.place()).copied().unwrap_or(Level::Unknown)
+        self.level_at(role.place())
     }
 
     // A line has this level.

@@ -38,6 +38,8 @@ pub struct Setup<'m> {
     pub mappings: &'m [Mapping<'m>],
     /// A strobe that changes again before so much time, in the capture's unit, is a fault; 0 where none is.
     pub glitch: u64,
+    /// An output is taken so long behind the rise of RE#, in the capture's unit, or before a line changes that is none of DQ; None where it is taken as RE# rises.
+    pub late: Option<u64>,
 }
 
 // What a header comes to: the body after it, or it isn't whole yet.
@@ -77,7 +79,7 @@ fn list_names<A: Allocator>(
 /// A capture that is read piece by piece: its pieces are given one after the other to [`CaptureReader::take`], which adds the items that are known then,
 /// and at its end [`CaptureReader::finish`] adds the others.
 ///
-/// A cycle is sampled where a strobe rises and a chip is enabled, by the levels before that time. Where lines of a model are there (`busy0_1`), they tell the
+/// A cycle is sampled where a strobe rises and a chip is enabled, by the levels before that time; an output may be taken later ([`Setup::late`]). Where lines of a model are there (`busy0_1`), they tell the
 /// readies; else a ready stands before the status output that shows it, and on a target of one LUN where R/B# rises, as long as all items are permitted.
 ///
 /// The faults of a dump, in this order: of the header (G1, G2), of the lines' signals (G3), and then of the changes (G4) and of the levels (G5 to G8, G10) in

@@ -1,12 +1,15 @@
 //! What is seen of a bus, from one time to the next.
 ghost use Rattle.std.specs.Prelude.{◌≡◌, ◌+◌, ◌*◌, ◌/◌, ◌%◌, ◌<◌, ◌≤◌, [], ◌∷◌, ◌++◌, true, Ok, IfErr, OnOk};
 ghost use Rattle.bus_capture.specs.Sampling.{level, item_of};
-ghost use Rattle.bus_capture.specs.Capturing.{counted, with_item, with_release, with_releases, with_readies, with_seen, at_time, settled, is_known, unknown, untouched, strobing_after, begun, later, changed, strobe_seen, IsSeen, IsRefusalOf};
+ghost use Rattle.bus_capture.specs.Capturing.{counted, time_of, output_time, late_of, is_due, is_taken, owes, last_seen, closed, with_item, with_release, with_releases, with_readies, with_seen, at_time, settled, is_known, unknown, untouched, strobing_after, begun, later, changed, strobe_seen, IsSeen, IsRefusalOf};
 ghost use Rattle.bus_capture.specs.Still.{IsStill, IsStillUnless};
 
 use crate::fault::{BusFault, CaptureFault, CaptureRefusal};
 use crate::levels::Levels;
-use crate::sampling::{Seen, Strobe, is_edge, is_short, ready_of, rises, seen_of, steady};
+use crate::sampling::{
+    Seen, Strobe, is_edge, is_moved, is_short, ready_of, rises, same_level, seen_if, steady,
+    take_cycle,
+};
 use bus_signals::{Role, Source};
 use onfi_cycle::Item;
 use std::alloc::Allocator;
@@ -28,19 +31,21 @@ pub struct Observed {
     pub observation: Observation,
 }
 
-// What is known of a strobe: whether somebody has driven it, and when it last went from low to high or back.
+// What is known of a strobe: whether somebody has driven it, when it last went from low to high or back, and whether its cycle is still to be taken.
 #[derive(Clone, Copy)]
 pub(crate) struct Strobing {
     driven: bool,
     since: Option<u64>,
+    owed: bool,
 }
 
 // The bus of so many targets at a time: its levels before and after it, and what is known of the strobes before. A strobe that changes again before the time
-// of a glitch is one. Its chips program caches or not.
+// of a glitch is one. An output may be taken late, so far behind the rise of RE#. Its chips program caches or not.
 #[derive(Clone, Copy)]
 pub(crate) struct Sampler {
     pub(crate) targets: u8,
     pub(crate) glitch: u64,
+    pub(crate) late: Option<u64>,
     pub(crate) caches: bool,
     pub(crate) time: u64,
     before: Levels,
@@ -56,19 +61,6 @@ fn is_known(level: Level) -> bool
     match level {
         Level::Low | Level::High => true,
         Level::Unknown => false,
-    }
-}
-
-#[inline(always)]
-fn is_same(first: Level, second: Level) -> bool
-    ensures { result ≡ true → first ≡ second }
-{
-    match (first, second) {
-        (Level::Low, Level::Low) | (Level::High, Level::High) | (Level::Unknown, Level::Unknown) =>
-            true,
-        (Level::Low, Level::High | Level::Unknown)
-        | (Level::High, Level::Low | Level::Unknown)
-        | (Level::Unknown, Level::Low | Level::High) => false,
     }
 }
 
@@ -204,13 +196,14 @@ impl Strobing {
         Strobing {
             driven: false,
             since: None,
+            owed: false,
         }
     }
 
-    // After these levels of the strobe before and after a time.
+    // After these levels of the strobe before and after a time, where its cycle is still to be taken or not.
     #[inline(always)]
-    fn after(self, time: u64, before: Level, after: Level) -> Strobing
-        ensures { result ≡ strobing_after self time before after }
+    fn after(self, owed: bool, time: u64, before: Level, after: Level) -> Strobing
+        ensures { result ≡ strobing_after owed self time before after }
     {
         Strobing {
             driven: self.driven || is_known(after),
@@ -219,19 +212,21 @@ impl Strobing {
             } else {
                 self.since
             },
+            owed,
         }
     }
 }
 
 impl Sampler {
     /// Nothing has been seen of a bus of so many targets.
-    pub(crate) fn begun(targets: u8, glitch: u64, caches: bool) -> Sampler
-        ensures begun { result ≡ begun targets glitch caches unknown }
+    pub(crate) fn begun(targets: u8, glitch: u64, late: Option<u64>, caches: bool) -> Sampler
+        ensures begun { result ≡ begun targets glitch late caches unknown }
         ensures still { IsStill result }
     {
         Sampler {
             targets,
             glitch,
+            late,
             caches,
             time: 0,
             before: Levels::unknown(),
@@ -241,22 +236,42 @@ impl Sampler {
         }
     }
 
-    // What is seen of a strobe now.
+    // How far behind its rise the cycle of a strobe is taken, if it is.
+    #[inline(always)]
+    fn late_of(&self, strobe: Strobe) -> Option<u64>
+        ensures { result ≡ late_of self.now strobe }
+    {
+        match strobe {
+            Strobe::Write => None,
+            Strobe::Read => self.late,
+        }
+    }
+
+    // A cycle is still to be taken, and is now.
+    fn is_due(&self, known: Strobing, late: u64) -> bool
+        ensures { result ≡ is_due self.now known late }
+    {
+        known.owed
+            && (is_moved(&self.before, &self.after) || !is_short(late, self.time, known.since))
+    }
+
+    // What is seen now of a strobe whose cycle is taken as it rises.
     #[inline(always)]
     #[tactic(auto, using(crate::proofs::Strobes::nothing_seen))]
     fn look(&self, strobe: Strobe, known: Strobing) -> Result<Seen, BusFault>
         requires few { self.now.targets ≤ 4 }
+        requires early { late_of self.now strobe ≡ None }
         ensures { result ≡ strobe_seen self.now strobe known }
     {
-        if is_same(
-            self.before.level(strobe.line()),
-            self.after.level(strobe.line()),
-        ) {
+        let was = self.before.level(strobe.line());
+        let is = self.after.level(strobe.line());
+        if same_level(was, is) {
             return Ok(Seen::Nothing);
         }
         let short = is_short(self.glitch, self.time, known.since);
         let _ = steady(self.targets, strobe, short, &self.before, &self.after)?;
-        seen_of(
+        seen_if(
+            rises(was, is),
             self.targets,
             strobe,
             known.driven,
@@ -265,18 +280,66 @@ impl Sampler {
         )
     }
 
+    // What is seen now of a strobe whose cycle is taken so far behind its rise.
+    fn look_late(&self, strobe: Strobe, known: Strobing, late: u64) -> Result<Seen, BusFault>
+        requires few { self.now.targets ≤ 4 }
+        requires late { late_of self.now strobe ≡ Some late }
+        ensures { result ≡ strobe_seen self.now strobe known }
+    {
+        let short = is_short(self.glitch, self.time, known.since);
+        let _ = steady(self.targets, strobe, short, &self.before, &self.after)?;
+        seen_if(
+            self.is_due(known, late),
+            self.targets,
+            strobe,
+            known.driven,
+            &self.before,
+            &self.after,
+        )
+    }
+
+    // What is seen of a strobe now.
+    #[inline(always)]
+    fn look_at(&self, strobe: Strobe, known: Strobing) -> Result<Seen, BusFault>
+        requires few { self.now.targets ≤ 4 }
+        ensures { result ≡ strobe_seen self.now strobe known }
+    {
+        match self.late_of(strobe) {
+            None => self.look(strobe, known),
+            Some(late) => self.look_late(strobe, known, late),
+        }
+    }
+
+    // What is wrong now.
+    fn refusal_of(&self, fault: BusFault) -> CaptureRefusal
+        ensures { result ≡ CaptureRefusal.Fault (CaptureFault.Bus fault self.now.time) }
+    {
+        CaptureRefusal::Fault(CaptureFault::Bus {
+            fault,
+            time: self.time,
+        })
+    }
+
     // The same, with the time of what is wrong.
     #[inline(always)]
     fn seen(&self, strobe: Strobe, known: Strobing) -> Result<Seen, CaptureRefusal>
         requires few { self.now.targets ≤ 4 }
         ensures { IsSeen result (at_time self.now.time (strobe_seen self.now strobe known)) }
     {
-        match self.look(strobe, known) {
+        match self.look_at(strobe, known) {
             Ok(seen) => Ok(seen),
-            Err(fault) => Err(CaptureRefusal::Fault(CaptureFault::Bus {
-                fault,
-                time: self.time,
-            })),
+            Err(fault) => Err(self.refusal_of(fault)),
+        }
+    }
+
+    // The time of an output that is taken now.
+    #[inline(always)]
+    fn output_time(&self) -> u64
+        ensures { result ≡ output_time self.now }
+    {
+        match self.late {
+            None => self.time,
+            Some(_) => self.re.since.unwrap_or(self.time),
         }
     }
 
@@ -325,7 +388,7 @@ impl Sampler {
         ensures err { IfErr result (λ e. e ≡ CaptureRefusal.OutOfMemory) }
     {
         push_item(observed, self.time, item_of(written))?;
-        push_item(observed, self.time, item_of(read))?;
+        push_item(observed, self.output_time(), item_of(read))?;
         if beside {
             self.push_beside(observed)
         } else {
@@ -359,18 +422,68 @@ impl Sampler {
         }
     }
 
+    // An output is still to be taken after this time.
+    #[inline(always)]
+    fn owes(&self) -> bool
+        ensures { result ≡ owes self.now.late self.now }
+    {
+        match self.late {
+            None => false,
+            Some(late) => {
+                rises(self.before.level(Role::Re), self.after.level(Role::Re))
+                    || self.re.owed && !self.is_due(self.re, late)
+            }
+        }
+    }
+
+    // What is seen of RE# where nothing more comes.
+    fn last_seen(&self) -> Result<Seen, CaptureRefusal>
+        requires few { self.now.targets ≤ 4 }
+        ensures { IsSeen result (at_time self.now.time (last_seen self.now)) }
+    {
+        if !self.re.owed {
+            return Ok(Seen::Nothing);
+        }
+        match take_cycle(self.targets, Strobe::Read, &self.before) {
+            Ok(seen) => Ok(seen),
+            Err(fault) => Err(self.refusal_of(fault)),
+        }
+    }
+
+    /// Adds the last output, where one is still to be taken and nothing more comes.
+    pub(crate) fn close<A: Allocator>(
+        &self,
+        observed: &mut Vec<Observed, A>,
+        unselected: &mut u64,
+    ) -> Result<(), CaptureRefusal>
+        requires few { self.now.targets ≤ 4 }
+        ensures ok { OnOk result (closed self.now observed.old.items ≡ Ok observed.new.items) }
+        ensures err { IfErr result (λ e. IsRefusalOf e (closed self.now observed.old.items)) }
+    {
+        match self.last_seen() {
+            Ok(read) => {
+                count_unselected(unselected, read);
+                push_item(observed, self.output_time(), item_of(read))
+            }
+            Err(refusal) => Err(refusal),
+        }
+    }
+
     /// Goes on to a later time.
     #[inline(always)]
     pub(crate) fn go_on_to(&mut self, time: u64)
         ensures later { self.new ≡ later self.old time }
         ensures still { IsStill self.new }
     {
+        let owed = self.owes();
         self.we = self.we.after(
+            false,
             self.time,
             self.before.level(Role::We),
             self.after.level(Role::We),
         );
         self.re = self.re.after(
+            owed,
             self.time,
             self.before.level(Role::Re),
             self.after.level(Role::Re),

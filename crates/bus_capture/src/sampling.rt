@@ -1,6 +1,6 @@
 //! What is sampled where the levels of a bus change.
-ghost use Rattle.std.specs.Prelude.{◌≡◌, ◌+◌, ◌*◌, ◌/◌, ◌%◌, ◌<◌, ◌≤◌, IfOk, None};
-ghost use Rattle.bus_capture.specs.Sampling.{level, with_enable, enabled_from, written_kind, read_kind, kind_of, line_of, other_line, weighed, byte_of, apart, cycle_of, cycle_if, rises, is_lost, lost_if, seen_of, is_edge, is_short, glitch_if, steady, falls, is_high, is_low, strobe_rises, array_is_done, ready_of};
+ghost use Rattle.std.specs.Prelude.{◌≡◌, ◌+◌, ◌*◌, ◌/◌, ◌%◌, ◌<◌, ◌≤◌, IfOk, None, true, false};
+ghost use Rattle.bus_capture.specs.Sampling.{level, with_enable, enabled_from, written_kind, read_kind, kind_of, line_of, other_line, weighed, byte_of, apart, cycle_of, cycle_if, rises, is_lost, lost_if, cycle_taken, seen_if, seen_of, same_level, moved_from, is_moved, is_edge, is_short, glitch_if, steady, falls, is_high, is_low, strobe_rises, array_is_done, ready_of};
 
 use crate::fault::BusFault;
 use crate::levels::Levels;
@@ -216,7 +216,45 @@ fn lost_if(enabled: Option<u8>) -> Result<Seen, BusFault>
     }
 }
 
-/// What is seen of a strobe where the levels before become those after, on a bus of so many targets; somebody may have driven it before.
+/// The cycle of a strobe that is taken by these levels, on a bus of so many targets.
+#[inline(always)]
+pub(crate) fn take_cycle(targets: u8, strobe: Strobe, levels: &Levels) -> Result<Seen, BusFault>
+    requires few { targets ≤ 4 }
+    ensures { result ≡ cycle_taken targets strobe levels.now.of }
+{
+    let enabled = enabled_of(levels, targets)?;
+    cycle_if(strobe, enabled, levels)
+}
+
+/// What is seen of a strobe whose cycle is taken by the levels before, or not, where these become those after, on a bus of so many targets; somebody may have driven
+/// it before.
+#[inline(always)]
+pub(crate) fn seen_if(
+    taken: bool,
+    targets: u8,
+    strobe: Strobe,
+    driven: bool,
+    before: &Levels,
+    after: &Levels,
+) -> Result<Seen, BusFault>
+    requires few { targets ≤ 4 }
+    ensures { result ≡ seen_if taken targets strobe driven before.now.of after.now.of }
+{
+    if taken {
+        return take_cycle(targets, strobe, before);
+    }
+    if is_lost(
+        driven,
+        before.level(strobe.line()),
+        after.level(strobe.line()),
+    ) {
+        let enabled = enabled_of(before, targets)?;
+        return lost_if(enabled);
+    }
+    Ok(Seen::Nothing)
+}
+
+/// What is seen of a strobe whose cycle is taken as it rises.
 #[inline(always)]
 pub fn seen_of(
     targets: u8,
@@ -228,17 +266,43 @@ pub fn seen_of(
     requires few { targets ≤ 4 }
     ensures { result ≡ seen_of targets strobe driven before.now.of after.now.of }
 {
-    let was = before.level(strobe.line());
-    let is = after.level(strobe.line());
-    if rises(was, is) {
-        let enabled = enabled_of(before, targets)?;
-        return cycle_if(strobe, enabled, before);
+    let taken = rises(before.level(strobe.line()), after.level(strobe.line()));
+    seen_if(taken, targets, strobe, driven, before, after)
+}
+
+/// Two levels are the same.
+#[inline(always)]
+pub(crate) fn same_level(first: Level, second: Level) -> bool
+    ensures value { result ≡ same_level first second }
+    ensures same { result ≡ true → first ≡ second }
+{
+    match (first, second) {
+        (Level::Low, Level::Low) | (Level::High, Level::High) | (Level::Unknown, Level::Unknown) =>
+            true,
+        (Level::Low, Level::High | Level::Unknown)
+        | (Level::High, Level::Low | Level::Unknown)
+        | (Level::Unknown, Level::Low | Level::High) => false,
     }
-    if is_lost(driven, was, is) {
-        let enabled = enabled_of(before, targets)?;
-        return lost_if(enabled);
+}
+
+// One of so many lines changes, from this number on.
+fn moved_from(before: &Levels, after: &Levels, count: u8, number: u8) -> bool
+    requires few { count + number ≤ 68 }
+    ensures { result ≡ moved_from before.now.of after.now.of count number }
+{
+    if count == 0 {
+        return false;
     }
-    Ok(Seen::Nothing)
+    let place = number as usize;
+    !same_level(before.level_at(place), after.level_at(place))
+        || moved_from(before, after, count - 1, number + 1)
+}
+
+/// A line changes that is none of DQ.
+pub(crate) fn is_moved(before: &Levels, after: &Levels) -> bool
+    ensures { result ≡ is_moved before.now.of after.now.of }
+{
+    moved_from(before, after, 8, 0) || moved_from(before, after, 52, 16)
 }
 
 // The strobe goes from low to high or back.

@@ -85,6 +85,7 @@ impl<A: Allocator + Clone> Tracer<A> {
             sampler: Sampler::begun(
                 setup.targets,
                 setup.glitch,
+                setup.late,
                 setup.geometry.parts().optional.has_program_cache(),
             ),
             beside: false,
@@ -187,6 +188,27 @@ impl<A: Allocator + Clone> Tracer<A> {
         }
     }
 
+    // What is seen where nothing more is told.
+    fn settle_last(&mut self) -> Result<(), CaptureRefusal>
+        requires tracing { IsTracing self.old }
+        ensures ok { OnOk result (capturing self.old.sources.items self.old.sampler self.old.observed.items [] ≡ Ok self.new.observed.items) }
+        ensures inside { OnOk result (AreSeenInside self.new.observed.items) }
+        ensures same { self.new.inferring ≡ self.old.inferring }
+        ensures err { IfErr result (λ e. IsRefusalOf e (capturing self.old.sources.items self.old.sampler self.old.observed.items [])) }
+    {
+        match self
+            .sampler
+            .settle(&mut self.observed, self.beside, &mut self.unselected)
+        {
+            Ok(()) => {
+                let now = self.sampler.time;
+                self.sampler.go_on_to(now);
+                self.sampler.close(&mut self.observed, &mut self.unselected)
+            }
+            Err(refusal) => Err(refusal),
+        }
+    }
+
     /// Adds the items of what is seen where nothing more is told.
     pub(crate) fn finish<B: Allocator>(
         &mut self,
@@ -198,10 +220,7 @@ impl<A: Allocator + Clone> Tracer<A> {
         ensures inside { OnOk result (AreInside stamped.new.items) }
         ensures err { IfErr result (λ e. IsRefusalOf e (traced self.old stamped.old.items [])) }
     {
-        match self
-            .sampler
-            .settle(&mut self.observed, self.beside, &mut self.unselected)
-        {
+        match self.settle_last() {
             Ok(()) => {
                 let _ = self.infer(stamped, true)?;
                 Ok(())

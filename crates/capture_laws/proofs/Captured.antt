@@ -75,16 +75,16 @@ unknown_shown targets luns fit p few =
 
 -- ---- 2. it goes on to the end
 
-events_end : (g : Parts) (targets glitch : ℕ) (items : List Item) → glitch ≡ 0 → Fits targets g.luns → targets ≤ 4 → g.luns ≤ 4 → (drawn_by g targets items).rule ≡ 0 → carry_bytes items ≡ true →
-    Ends (lines_of targets g.luns) (blank targets glitch (has_program_cache g.optional) unknown) [] (events_of g targets items) (stamped_from 0 (map told_of items))
-events_end g targets glitch items none fit few four legal bytes =
+events_end : (g : Parts) (targets glitch : ℕ) (late : Option ℕ) (items : List Item) → (glitch ≡ 0) × (late ≡ None) → Fits targets g.luns → targets ≤ 4 → g.luns ≤ 4 → (drawn_by g targets items).rule ≡ 0 → carry_bytes items ≡ true →
+    Ends (lines_of targets g.luns) (blank targets glitch late (has_program_cache g.optional) unknown) [] (events_of g targets items) (stamped_from 0 (map told_of items))
+events_end g targets glitch late items prompt fit few four legal bytes =
     let sources = lines_of targets g.luns in
-    let s = blank targets glitch (has_program_cache g.optional) unknown in
+    let s = blank targets glitch late (has_program_cache g.optional) unknown in
     let first = levels g targets [] 0 idle in
     let long : length (unknowns (line_count targets g.luns)) ≡ length first = length_unknowns (line_count targets g.luns) ∙ sym (length_levels g targets [] 0 idle) in
     let c = settings_go sources fit.apart first (unknowns (line_count targets g.luns)) [] 33 s [] refl long (unknown_shown targets g.luns fit) in
     let fresh : IsFresh (with_levels s c.xs) = record { before = refl; we = refl; re = refl } in
-    let waits : Waits sources targets (has_program_cache g.optional) (with_levels s c.xs) [] first [] = record { of_targets = refl; of_caches = refl; glitch = none; shows = c.shows; settles = fresh_settles (with_levels s c.xs) [] fresh none } in
+    let waits : Waits sources targets (has_program_cache g.optional) (with_levels s c.xs) [] first [] = record { of_targets = refl; of_caches = refl; prompt = prompt; shows = c.shows; settles = fresh_settles (with_levels s c.xs) [] fresh prompt } in
     let rest = events_from g targets begun items ++ last_events g targets (after_all g targets begun items) in
     let e = items_end g targets fit few four items begun [] refl legal bytes (record { we = refl; re = refl }) (with_levels s c.xs) [] [] waits (IsFirst refl fresh) in
     record { all = e.all; is = c.goes rest ∙ e.is; seen = e.seen }
@@ -107,7 +107,7 @@ told_by_lines luns state stamped (o ∷ os) = by o.observation (λ state stamped
 -- ---- 4. the law
 
 captured_from : (setup : Setup) (text : List ℕ) (signals : List Variable) (events : List Event) (sources : List Source) (stamped : List Stamped) → setup.form ≡ Dump → Tells text signals events →
-    sources_of setup.targets (carriers_of setup.mappings.now signals) ≡ Ok sources → Ends sources (blank setup.targets setup.glitch (has_program_cache setup.geometry.optional) unknown) [] events stamped → tells_readies sources ≡ true → captured setup text ≡ Ok stamped
+    sources_of setup.targets (carriers_of setup.mappings.now signals) ≡ Ok sources → Ends sources (blank setup.targets setup.glitch setup.late (has_program_cache setup.geometry.optional) unknown) [] events stamped → tells_readies sources ≡ true → captured setup text ≡ Ok stamped
 captured_from setup text signals events sources stamped form tells found ends ready =
     let there : sources_in setup tells.read ≡ Ok sources = ap (λ (vs : List Variable). in_roles (sources_of setup.targets (carriers_of setup.mappings.now vs))) tells.declared ∙ ap in_roles found in
     let body : body_items setup tells.read sources ≡ Ok ends.all = ap (told_items setup sources) tells.told ∙ ends.is in
@@ -147,7 +147,7 @@ drawn_is_captured setup items plain legal bytes short =
     captured_from setup (dump g targets items) (signals_of targets g.luns) (events_of g targets items) (lines_of targets g.luns) (stamped_from 0 (map told_of items)) plain.form
     (drawn g targets items plain.some plain.few plain.luns plain.few_luns short)
     (ap (λ (ms : List Mapping). sources_of targets (carriers_of ms (signals_of targets g.luns))) plain.names ∙ names_are_lines targets g.luns plain.some plain.few plain.luns plain.few_luns)
-    (events_end g targets setup.glitch items plain.glitch (fits targets g.luns plain.some plain.few plain.luns plain.few_luns) plain.few plain.few_luns
+    (events_end g targets setup.glitch setup.late items (plain.glitch, plain.late) (fits targets g.luns plain.some plain.few plain.luns plain.few_luns) plain.few plain.few_luns
     (legal_drawn g targets items begun refl (ap (is_legal g targets) (append-nil (reverse items)) ∙ legal)) bytes)
     (lines_tell targets g.luns plain.some plain.few plain.luns plain.few_luns)
 

@@ -1,5 +1,5 @@
 -- A capture follows what is drawn, item by item.
-use Rattle.std.proofs.Common.{◌≡◌, ℕ, suc, ◌+◌, ◌*◌, ◌<◌, ◌≤◌, ◌==◌, ◌||◌, Bool, true, false, not, List, [], ◌∷◌, ◌++◌, length, Ok, refl, sym, ap, ◌∙◌, subst, arith, append_assoc, append-nil}
+use Rattle.std.proofs.Common.{◌≡◌, ℕ, suc, ◌+◌, ◌*◌, ◌<◌, ◌≤◌, ◌==◌, ◌||◌, Bool, true, false, not, List, [], ◌∷◌, ◌++◌, length, Ok, refl, sym, ap, ◌∙◌, subst, arith, append_assoc, append-nil, None}
 use Rattle.std.specs.Prelude.{map}
 use Rattle.std.proofs.lemmas.Bool.{leb-true, and_parts}
 use Rattle.nand_geometry.specs.declared.parts.Parts.{Parts}
@@ -21,7 +21,7 @@ use Rattle.bus_signals.specs.declared.source.Source.{Source}
 use Rattle.bus_capture.specs.declared.sampler.Observed.{Observed}
 use Rattle.bus_capture.specs.declared.sampler.Sampler.{Sampler}
 use Rattle.bus_capture.specs.declared.inferring.Stamped.{Stamped}
-use Rattle.bus_capture.specs.Capturing.{capturing}
+use Rattle.bus_capture.specs.Capturing.{capturing, settled}
 use Rattle.wave_laws.specs.Told.{frame_events, item_events, events_from, last_events}
 use Rattle.wave_laws.specs.Heard.{drawn_by}
 use Rattle.wave_laws.specs.Lines.{lines_of}
@@ -33,7 +33,7 @@ use Rattle.capture_laws.proofs.Placed.{Shows}
 use Rattle.capture_laws.proofs.Tables.{Fits}
 use Rattle.capture_laws.proofs.Standing.{told, told_at, bus_at, Stands, stands}
 use Rattle.capture_laws.proofs.Moving.{stood, all_stood, Names, names, array_seen, drawn_legal, Moves, moves}
-use Rattle.capture_laws.proofs.Settling.{seen_items, Settles}
+use Rattle.capture_laws.proofs.Settling.{IsPrompt, ends_settled, seen_items, Settles}
 use Rattle.capture_laws.proofs.Seeing.{of_kind, itself, still_settles, cycle_settles, busy_settles, array_settles}
 use Rattle.capture_laws.proofs.Going.{all_ok, Waits, MayCome, IsLater, IsFirst, Gone, Sees, still_goes, still_frame, telling_frame, then_goes}
 
@@ -63,9 +63,9 @@ module _ (g : Parts) (targets : ℕ) (fit : Fits targets g.luns) (few : targets 
   -- ---- 1. what is seen at each time
 
   still_sees : (d : Drawing) (l m : Lines) (items : List Stamped) (t : ℕ) → d.rule ≡ 0 → l.we ≡ true → l.re ≡ true → Sees sources targets caches (levels_at g targets d l) (levels_at g targets d m) items items t
-  still_sees d l m items t none we re s os e same glitch time b a seen =
+  still_sees d l m items t none we re s os e same prompt time b a seen =
       subst (λ (is : List Stamped). Settles s os is) seen
-      (still_settles g s os d.past l m glitch (standing s s.before.of d.past d.rule l e none b) (standing s s.after.of d.past d.rule m e none a) (rw we refl) (rw re refl))
+      (still_settles g s os d.past l m prompt (standing s s.before.of d.past d.rule l e none b) (standing s s.after.of d.past d.rule m e none a) (rw we refl) (rw re refl))
 
   -- an item that is seen is one more
   one_more : (s : Sampler) (os : List Observed) (items : List Stamped) (t : ℕ) (i : Item) → s.time ≡ t → seen_items os ≡ items → Settles s os (seen_items os ++ (record { time = s.time; item = i } ∷ [])) → Settles s os (items ++ (record { time = t; item = i } ∷ []))
@@ -92,11 +92,11 @@ module _ (g : Parts) (targets : ℕ) (fit : Fits targets g.luns) (few : targets 
     standing_next s e shows = subst (λ (past : List Item). Stands g s.targets s.after.of past next.lines) past_is (standing s s.after.of next.past next.rule next.lines e legal shows)
 
     ready_sees : (items : List Stamped) (t : ℕ) → next.lines ≡ d.lines →
-        ((s : Sampler) (os : List Observed) → s.targets ≡ targets → s.caches ≡ caches → s.glitch ≡ 0 → Stands g s.targets s.before.of d.past d.lines → Stands g s.targets s.after.of (i ∷ d.past) d.lines → Settles s os (seen_items os ++ (record { time = s.time; item = told_of i } ∷ []))) →
+        ((s : Sampler) (os : List Observed) → s.targets ≡ targets → s.caches ≡ caches → IsPrompt s → Stands g s.targets s.before.of d.past d.lines → Stands g s.targets s.after.of (i ∷ d.past) d.lines → Settles s os (seen_items os ++ (record { time = s.time; item = told_of i } ∷ []))) →
         Sees sources targets caches (levels_at g targets d d.lines) (levels_at g targets next next.lines) items (items ++ (record { time = t; item = told_of i } ∷ [])) t
-    ready_sees items t lines h s os e same glitch time b a seen =
+    ready_sees items t lines h s os e same prompt time b a seen =
         one_more s os items t (told_of i) time seen
-        (h s os e same glitch (standing s s.before.of d.past d.rule d.lines e none b) (subst (λ (l : Lines). Stands g s.targets s.after.of (i ∷ d.past) l) lines (standing_next s e a)))
+        (h s os e same prompt (standing s s.before.of d.past d.rule d.lines e none b) (subst (λ (l : Lines). Stands g s.targets s.after.of (i ∷ d.past) l) lines (standing_next s e a)))
 
     -- a line of the model that changes
     told_differs : (part ce lun : ℕ) → part < 3 → ce < targets → lun < g.luns → told true g d.past part ce lun ≡ bit true → told true g (i ∷ d.past) part ce lun ≡ bit false →
@@ -170,8 +170,8 @@ module _ (g : Parts) (targets : ℕ) (fit : Fits targets g.luns) (few : targets 
       (then_goes sources targets caches s os first (second ++ third) (levels_at g targets d up) (levels_at g targets next (released down)) items (items ++ stamp d (Cyc c)) t (t + 6) one both)
     where
       sees : Sees sources targets caches (levels_at g targets d (struck (set_up d.lines c) c)) (levels_at g targets (after g targets d (Cyc c)) (released (struck (set_up d.lines c) c))) items (items ++ (record { time = 10 * d.items + 6; item = Cyc c } ∷ [])) (10 * d.items + 6)
-      sees s os e same glitch time b a seen = one_more s os items (10 * d.items + 6) (Cyc c) time seen
-          (cycle_settles g s os d.past d.lines c (moved d (Cyc c) done is legal s e) glitch (subst (λ (n : ℕ). c.ce < n) (sym e) (names g targets d (Cyc c) (none d (Cyc c) done is legal) legal)) small high.we high.re
+      sees s os e same prompt time b a seen = one_more s os items (10 * d.items + 6) (Cyc c) time seen
+          (cycle_settles g s os d.past d.lines c (moved d (Cyc c) done is legal s e) prompt (subst (λ (n : ℕ). c.ce < n) (sym e) (names g targets d (Cyc c) (none d (Cyc c) done is legal) legal)) small high.we high.re
           (standing s s.before.of d.past d.rule (struck (set_up d.lines c) c) e (none d (Cyc c) done is legal) b) (standing_next d (Cyc c) done is legal s e a))
 
   -- a LUN, of a sampler
@@ -185,8 +185,8 @@ module _ (g : Parts) (targets : ℕ) (fit : Fits targets g.luns) (few : targets 
       let next = after g targets d i in
       let free = none d i done is legal in
       let name : Names g targets d.past true ce lun = names g targets d i free legal in
-      let settle : (s : Sampler) (os : List Observed) → s.targets ≡ targets → s.caches ≡ caches → s.glitch ≡ 0 → Stands g s.targets s.before.of d.past d.lines → Stands g s.targets s.after.of (i ∷ d.past) d.lines → Settles s os (seen_items os ++ (record { time = s.time; item = told_of i } ∷ [])) =
-      λ s os e same glitch b a. busy_settles g s os d.past d.lines ce lun fail (moved d i done is legal s e) glitch few_luns (named s d.past true ce lun e name) b a in
+      let settle : (s : Sampler) (os : List Observed) → s.targets ≡ targets → s.caches ≡ caches → IsPrompt s → Stands g s.targets s.before.of d.past d.lines → Stands g s.targets s.after.of (i ∷ d.past) d.lines → Settles s os (seen_items os ++ (record { time = s.time; item = told_of i } ∷ [])) =
+      λ s os e same prompt b a. busy_settles g s os d.past d.lines ce lun fail (moved d i done is legal s e) prompt few_luns (named s d.past true ce lun e name) b a in
       let falls : is_busy g (i ∷ d.past) ce lun ≡ false = (moved_at d i done is legal).busy ce lun name.target name.within name.works ∙ ap not (itself ce lun) in
       telling_frame sources fit.apart targets caches s os (levels_at g targets d d.lines) (levels_at g targets next next.lines) items (10 * d.items + 6) waits (as_long d next d.lines next.lines)
       (items ++ stamp d i) (comes_later s (10 * d.items) (10 * d.items + 6) may (omega arith)) (ready_sees d i done is legal items (10 * d.items + 6) refl settle)
@@ -202,8 +202,8 @@ module _ (g : Parts) (targets : ℕ) (fit : Fits targets g.luns) (few : targets 
       let past : is_legal g targets d.past ≡ true = ap (λ (d : Drawing). is_legal g targets d.past) is ∙ drawn_legal g targets done begun refl in
       let shown : (s : Sampler) → s.caches ≡ caches → (s.caches || not (is_busy g d.past ce lun)) ≡ true =
       λ s same. ap (λ (b : Bool). b || not (is_busy g d.past ce lun)) same ∙ array_seen g targets d.past past ce lun name.works in
-      let settle : (s : Sampler) (os : List Observed) → s.targets ≡ targets → s.caches ≡ caches → s.glitch ≡ 0 → Stands g s.targets s.before.of d.past d.lines → Stands g s.targets s.after.of (i ∷ d.past) d.lines → Settles s os (seen_items os ++ (record { time = s.time; item = told_of i } ∷ [])) =
-      λ s os e same glitch b a. array_settles g s os d.past d.lines ce lun fail (moved d i done is legal s e) glitch few_luns (named s d.past false ce lun e name) (shown s same) b a in
+      let settle : (s : Sampler) (os : List Observed) → s.targets ≡ targets → s.caches ≡ caches → IsPrompt s → Stands g s.targets s.before.of d.past d.lines → Stands g s.targets s.after.of (i ∷ d.past) d.lines → Settles s os (seen_items os ++ (record { time = s.time; item = told_of i } ∷ [])) =
+      λ s os e same prompt b a. array_settles g s os d.past d.lines ce lun fail (moved d i done is legal s e) prompt few_luns (named s d.past false ce lun e name) (shown s same) b a in
       let falls : has_busy_array g (i ∷ d.past) ce lun ≡ false = (moved_at d i done is legal).array ce lun name.target name.within refl name.works ∙ ap not (itself ce lun) in
       telling_frame sources fit.apart targets caches s os (levels_at g targets d d.lines) (levels_at g targets next next.lines) items (10 * d.items + 6) waits (as_long d next d.lines next.lines)
       (items ++ stamp d i) (comes_later s (10 * d.items) (10 * d.items + 6) may (omega arith)) (ready_sees d i done is legal items (10 * d.items + 6) refl settle)
@@ -222,13 +222,16 @@ module _ (g : Parts) (targets : ℕ) (fit : Fits targets g.luns) (few : targets 
 
   -- ---- 3. all items
 
+  ended : (s : Sampler) (os now : List Observed) → settled s os ≡ Ok now → s.late ≡ None → capturing sources s os [] ≡ Ok now
+  ended s os now is early = rw is (ends_settled s now early)
+
   last_ends : (d : Drawing) → d.rule ≡ 0 → AreHigh d.lines → (s : Sampler) (os : List Observed) (items : List Stamped) → Waits sources targets caches s os (levels_at g targets d d.lines) items → MayCome s (10 * d.items) → Ends sources s os (last_events g targets d) items
   last_ends d free high s os items waits may =
       let one = still_goes sources fit.apart targets caches s os (levels_at g targets d d.lines) (levels_at g targets d (at_rest d.lines)) items (10 * d.items) waits (as_long d d d.lines (at_rest d.lines)) may
       (still_sees d d.lines (at_rest d.lines) items (10 * d.items) free high.we high.re) in
       record {
         all = one.waits.settles.now;
-        is = ap (λ (es : List Event). capturing sources s os (all_ok es)) (sym (append-nil (last_events g targets d))) ∙ one.goes [] ∙ one.waits.settles.is;
+        is = ap (λ (es : List Event). capturing sources s os (all_ok es)) (sym (append-nil (last_events g targets d))) ∙ one.goes [] ∙ ended one.to one.now one.waits.settles.now one.waits.settles.is one.waits.prompt.1;
         seen = one.waits.settles.seen;
       }
 

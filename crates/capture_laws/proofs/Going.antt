@@ -21,7 +21,7 @@ use Rattle.bus_capture.specs.Sampling.{level, with_change, line_of, rises, is_lo
 use Rattle.bus_capture.specs.Capturing.{capturing, later, changed, settled, unknown, unknown_from}
 use Rattle.wave_laws.specs.Told.{change_events, events_at, frame_events, setting_events}
 use Rattle.capture_laws.proofs.Placed.{are_apart, Shows, one_shown}
-use Rattle.capture_laws.proofs.Settling.{seen_items, none_ready, strobe_is, quiet_strobe, Settles, settles}
+use Rattle.capture_laws.proofs.Settling.{IsPrompt, seen_items, none_ready, strobe_is, quiet_strobe, Settles, settles}
 
 -- ---- 1. at first nothing is known, and nothing is seen
 
@@ -53,10 +53,10 @@ fresh_ready : (caches : Bool) (after : List Level) (ce lun : ℕ) → ready_of c
 fresh_ready true after ce lun = rw (unknown_level (Busy ce lun), unknown_level (ArrayBusy ce lun)) refl
 fresh_ready false after ce lun = rw (unknown_level (Busy ce lun)) refl
 
-pub fresh_settles : (s : Sampler) (os : List Observed) → IsFresh s → s.glitch ≡ 0 → Settles s os (seen_items os)
-fresh_settles s os h glitch = settles s os Nothing Nothing (seen_items os)
-    (strobe_is s Write s.we glitch ∙ fresh_strobe s Write s.we.driven h.before h.we)
-    (strobe_is s Read s.re glitch ∙ fresh_strobe s Read s.re.driven h.before h.re)
+pub fresh_settles : (s : Sampler) (os : List Observed) → IsFresh s → IsPrompt s → Settles s os (seen_items os)
+fresh_settles s os h prompt = settles s os prompt Nothing Nothing (seen_items os)
+    (strobe_is s Write s.we prompt ∙ fresh_strobe s Write s.we.driven h.before h.we)
+    (strobe_is s Read s.re prompt ∙ fresh_strobe s Read s.re.driven h.before h.re)
     (ap seen_items (none_ready s.caches s.time s.before.of s.after.of os (4 * s.targets) 0
     (λ n from to. ap (λ (xs : List Level). ready_of s.caches xs s.after.of (n / 4) (n % 4)) h.before ∙ fresh_ready s.caches s.after.of (n / 4) (n % 4))))
 
@@ -129,7 +129,7 @@ none_changed (b ∷ before) (a ∷ after) code same h = by (b == a) refl h (none
 pub record Waits (sources : List Source) (targets : ℕ) (caches : Bool) (s : Sampler) (os : List Observed) (held : List ℕ) (items : List Stamped) : Type 0 where
   pub of_targets : s.targets ≡ targets
   pub of_caches : s.caches ≡ caches
-  pub glitch : s.glitch ≡ 0
+  pub prompt : IsPrompt s
   pub shows : Shows sources s.after.of held
   pub settles : Settles s os items
 
@@ -148,7 +148,7 @@ pub record Gone (sources : List Source) (targets : ℕ) (caches : Bool) (s : Sam
 -- what is seen where these levels become those
 abbrev pub Sees : List Source → ℕ → (caches : Bool) → (held next : List ℕ) → (items more : List Stamped) → ℕ → Type 0
 Sees sources targets caches held next items more t =
-    (s : Sampler) (os : List Observed) → s.targets ≡ targets → s.caches ≡ caches → s.glitch ≡ 0 → s.time ≡ t → Shows sources s.before.of held → Shows sources s.after.of next → seen_items os ≡ items → Settles s os more
+    (s : Sampler) (os : List Observed) → s.targets ≡ targets → s.caches ≡ caches → IsPrompt s → s.time ≡ t → Shows sources s.before.of held → Shows sources s.after.of next → seen_items os ≡ items → Settles s os more
 
 module _ (sources : List Source) (apart : are_apart sources ≡ true) (targets : ℕ) (caches : Bool) (s : Sampler) (os : List Observed) (held next : List ℕ) (items : List Stamped) (t : ℕ)
     (waits : Waits sources targets caches s os held items) (same : length held ≡ length next) where
@@ -162,9 +162,9 @@ module _ (sources : List Source) (apart : are_apart sources ≡ true) (targets :
         waits = record {
           of_targets = waits.of_targets;
           of_caches = waits.of_caches;
-          glitch = waits.glitch;
+          prompt = waits.prompt;
           shows = c.shows;
-          settles = sees (with_levels (later s t) c.xs) waits.settles.now waits.of_targets waits.of_caches waits.glitch refl waits.shows c.shows waits.settles.seen;
+          settles = sees (with_levels (later s t) c.xs) waits.settles.now waits.of_targets waits.of_caches waits.prompt refl waits.shows c.shows waits.settles.seen;
         };
         time = omega arith;
       }
@@ -189,9 +189,9 @@ module _ (sources : List Source) (apart : are_apart sources ≡ true) (targets :
         waits = record {
           of_targets = waits.of_targets;
           of_caches = waits.of_caches;
-          glitch = waits.glitch;
+          prompt = waits.prompt;
           shows = c.shows;
-          settles = subst (λ (is : List Stamped). Settles (with_levels s c.xs) os is) seen (fresh_settles (with_levels s c.xs) os (record { before = fresh.before; we = fresh.we; re = fresh.re }) waits.glitch);
+          settles = subst (λ (is : List Stamped). Settles (with_levels s c.xs) os is) seen (fresh_settles (with_levels s c.xs) os (record { before = fresh.before; we = fresh.we; re = fresh.re }) waits.prompt);
         };
         time = omega (arith, at);
       }
@@ -204,7 +204,7 @@ module _ (sources : List Source) (apart : are_apart sources ≡ true) (targets :
 
       seen : seen_items os ≡ items
       seen =
-          let f = fresh_settles s os fresh waits.glitch in
+          let f = fresh_settles s os fresh waits.prompt in
           sym f.seen ∙ ap seen_items (same_now f.now waits.settles.now f.is waits.settles.is) ∙ waits.settles.seen
 
   come_before : MayCome s t → s.time ≤ t
@@ -227,7 +227,7 @@ module _ (sources : List Source) (apart : are_apart sources ≡ true) (targets :
         waits = record {
           of_targets = waits.of_targets;
           of_caches = waits.of_caches;
-          glitch = waits.glitch;
+          prompt = waits.prompt;
           settles = waits.settles;
           shows = subst (λ (xs : List ℕ). Shows sources s.after.of xs) (none_changed held next 33 same is) waits.shows;
         };

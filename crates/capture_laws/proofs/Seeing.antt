@@ -30,7 +30,7 @@ use Rattle.wave_laws.specs.Readies.{is_ready_of, is_array_ready_of}
 use Rattle.capture_laws.proofs.Standing.{lv, Stands}
 use Rattle.capture_laws.proofs.Moving.{Names, Moves}
 use Rattle.capture_laws.specs.Drawn.{told_of}
-use Rattle.capture_laws.proofs.Settling.{seen_items, seen_at, seen_both, none_ready, one_ready, strobe_is, rising_strobe, rises_lv, strobe_quiet, Settles, settles}
+use Rattle.capture_laws.proofs.Settling.{IsPrompt, seen_items, seen_at, seen_both, none_ready, one_ready, strobe_is, rising_strobe, rises_lv, strobe_quiet, Settles, settles}
 
 -- ---- 1. what is seen of a LUN
 
@@ -99,12 +99,12 @@ still_by false false true f r ce lun = refl
 still_by false false false f r ce lun = refl
 
 -- the model's lines stay, and no strobe rises
-pub still_settles : (g : Parts) (s : Sampler) (os : List Observed) (past : List Item) (l m : Lines) → s.glitch ≡ 0 → Stands g s.targets s.before.of past l → Stands g s.targets s.after.of past m →
+pub still_settles : (g : Parts) (s : Sampler) (os : List Observed) (past : List Item) (l m : Lines) → IsPrompt s → Stands g s.targets s.before.of past l → Stands g s.targets s.after.of past m →
     (not l.we && m.we) ≡ false → (not l.re && m.re) ≡ false → Settles s os (seen_items os)
-still_settles g s os past l m glitch b a we re =
-    settles s os Nothing Nothing (seen_items os)
-    (strobe_is s Write s.we glitch ∙ strobe_quiet s.targets Write s.we.driven l.we m.we s.before.of s.after.of b.we a.we we)
-    (strobe_is s Read s.re glitch ∙ strobe_quiet s.targets Read s.re.driven l.re m.re s.before.of s.after.of b.re a.re re)
+still_settles g s os past l m prompt b a we re =
+    settles s os prompt Nothing Nothing (seen_items os)
+    (strobe_is s Write s.we prompt ∙ strobe_quiet s.targets Write s.we.driven l.we m.we s.before.of s.after.of b.we a.we we)
+    (strobe_is s Read s.re prompt ∙ strobe_quiet s.targets Read s.re.driven l.re m.re s.before.of s.after.of b.re a.re re)
     (ap seen_items (none_ready s.caches s.time s.before.of s.after.of os (4 * s.targets) 0
     (λ n from to. ready_if s.caches g s.targets s.before.of s.after.of past past l m b a n (omega (arith, to)) None
     (λ there. still_by s.caches (is_busy g past (n / 4) (n % 4)) (has_busy_array g past (n / 4) (n % 4)) (tells_failure past (n / 4) (n % 4)) (rising_from l m) (n / 4) (n % 4)) (λ none. refl))))
@@ -161,7 +161,7 @@ kept_by false true true y y' f r ce lun h k = refl
 kept_by true false x' y y' f r ce lun h k = no_end y y' f r ce lun h
 kept_by false false x' y y' f r ce lun h k = no_end y y' f r ce lun h
 
-module _ (g : Parts) (s : Sampler) (os : List Observed) (past : List Item) (l m : Lines) (c : Cycle) (moves : Moves g s.targets past (Cyc c)) (glitch : s.glitch ≡ 0) (there : c.ce < s.targets) (small : c.byte < 256)
+module _ (g : Parts) (s : Sampler) (os : List Observed) (past : List Item) (l m : Lines) (c : Cycle) (moves : Moves g s.targets past (Cyc c)) (prompt : IsPrompt s) (there : c.ce < s.targets) (small : c.byte < 256)
     (b : Stands g s.targets s.before.of past l) (a : Stands g s.targets s.after.of (Cyc c ∷ past) m) where
   no_ready : rising_from l m ≡ true → (xs : List Observed) → with_readies s.caches s.time s.before.of s.after.of xs (4 * s.targets) 0 ≡ xs
   no_ready rises xs = none_ready s.caches s.time s.before.of s.after.of xs (4 * s.targets) 0
@@ -180,16 +180,16 @@ module _ (g : Parts) (s : Sampler) (os : List Observed) (past : List Item) (l m 
   chip is = enabled_is g s.targets s.before.of past l c.ce b is s.targets 0 (omega arith) (omega (arith, there)) (omega arith)
 
   pub written_settles : l.enabled ≡ Some c.ce → l.dq ≡ Some c.byte → l.we ≡ false → l.re ≡ true → m.we ≡ true → m.re ≡ true → written_kind (lv l.cle) (lv l.ale) ≡ Ok c.kind → Settles s os with_cycle
-  written_settles enabled dq we re we' re' kind = settles s os (Sampled c) Nothing with_cycle
-      (strobe_is s Write s.we glitch ∙ rising_strobe s.targets Write s.we.driven s.before.of s.after.of c.ce (Ok (Sampled c)) (rw (b.we, a.we, we, we') refl) (chip enabled)
+  written_settles enabled dq we re we' re' kind = settles s os prompt (Sampled c) Nothing with_cycle
+      (strobe_is s Write s.we prompt ∙ rising_strobe s.targets Write s.we.driven s.before.of s.after.of c.ce (Ok (Sampled c)) (rw (b.we, a.we, we, we') refl) (chip enabled)
       (cycle_is Write c.ce c.byte c.kind s.before.of (b.re ∙ ap lv re) (rw (b.cle, b.ale) kind) (b.byte c.byte dq small)))
-      (strobe_is s Read s.re glitch ∙ strobe_quiet s.targets Read s.re.driven l.re m.re s.before.of s.after.of b.re a.re (rw re refl))
+      (strobe_is s Read s.re prompt ∙ strobe_quiet s.targets Read s.re.driven l.re m.re s.before.of s.after.of b.re a.re (rw re refl))
       (cycle_seen (rw (we, we') refl))
 
   pub read_settles : l.enabled ≡ Some c.ce → l.dq ≡ Some c.byte → l.we ≡ true → l.re ≡ false → m.we ≡ true → m.re ≡ true → read_kind (lv l.cle) (lv l.ale) ≡ Ok c.kind → Settles s os with_cycle
-  read_settles enabled dq we re we' re' kind = settles s os Nothing (Sampled c) with_cycle
-      (strobe_is s Write s.we glitch ∙ strobe_quiet s.targets Write s.we.driven l.we m.we s.before.of s.after.of b.we a.we (rw we refl))
-      (strobe_is s Read s.re glitch ∙ rising_strobe s.targets Read s.re.driven s.before.of s.after.of c.ce (Ok (Sampled c)) (rw (b.re, a.re, re, re') refl) (chip enabled)
+  read_settles enabled dq we re we' re' kind = settles s os prompt Nothing (Sampled c) with_cycle
+      (strobe_is s Write s.we prompt ∙ strobe_quiet s.targets Write s.we.driven l.we m.we s.before.of s.after.of b.we a.we (rw we refl))
+      (strobe_is s Read s.re prompt ∙ rising_strobe s.targets Read s.re.driven s.before.of s.after.of c.ce (Ok (Sampled c)) (rw (b.re, a.re, re, re') refl) (chip enabled)
       (cycle_is Read c.ce c.byte c.kind s.before.of (b.we ∙ ap lv we) (rw (b.cle, b.ale) kind) (b.byte c.byte dq small)))
       (cycle_seen (rw (we, re, re') refl))
 
@@ -197,16 +197,16 @@ abbrev pub of_kind : Cycle → Kind → Cycle
 of_kind c kind = record { ce = c.ce; kind = kind; byte = c.byte }
 
 -- a cycle is seen where its strobe rises
-pub cycle_settles : (g : Parts) (s : Sampler) (os : List Observed) (past : List Item) (l : Lines) (c : Cycle) → Moves g s.targets past (Cyc c) → s.glitch ≡ 0 → c.ce < s.targets → c.byte < 256 → l.we ≡ true → l.re ≡ true →
+pub cycle_settles : (g : Parts) (s : Sampler) (os : List Observed) (past : List Item) (l : Lines) (c : Cycle) → Moves g s.targets past (Cyc c) → IsPrompt s → c.ce < s.targets → c.byte < 256 → l.we ≡ true → l.re ≡ true →
     Stands g s.targets s.before.of past (struck (set_up l c) c) → Stands g s.targets s.after.of (Cyc c ∷ past) (released (struck (set_up l c) c)) → Settles s os (seen_items os ++ (record { time = s.time; item = Cyc c } ∷ []))
-cycle_settles g s os past l c moves glitch there small we re b a = by c.kind moves b a
+cycle_settles g s os past l c moves prompt there small we re b a = by c.kind moves b a
   where
     by : (kind : Kind) → Moves g s.targets past (Cyc (of_kind c kind)) → Stands g s.targets s.before.of past (struck (set_up l (of_kind c kind)) (of_kind c kind)) →
         Stands g s.targets s.after.of (Cyc (of_kind c kind) ∷ past) (released (struck (set_up l (of_kind c kind)) (of_kind c kind))) → Settles s os (seen_items os ++ (record { time = s.time; item = Cyc (of_kind c kind) } ∷ []))
-    by Cmd moves b a = written_settles g s os past (struck (set_up l (of_kind c Cmd)) (of_kind c Cmd)) (released (struck (set_up l (of_kind c Cmd)) (of_kind c Cmd))) (of_kind c Cmd) moves glitch there small b a refl refl refl re refl refl refl
-    by Adr moves b a = written_settles g s os past (struck (set_up l (of_kind c Adr)) (of_kind c Adr)) (released (struck (set_up l (of_kind c Adr)) (of_kind c Adr))) (of_kind c Adr) moves glitch there small b a refl refl refl re refl refl refl
-    by Din moves b a = written_settles g s os past (struck (set_up l (of_kind c Din)) (of_kind c Din)) (released (struck (set_up l (of_kind c Din)) (of_kind c Din))) (of_kind c Din) moves glitch there small b a refl refl refl re refl refl refl
-    by Dout moves b a = read_settles g s os past (struck (set_up l (of_kind c Dout)) (of_kind c Dout)) (released (struck (set_up l (of_kind c Dout)) (of_kind c Dout))) (of_kind c Dout) moves glitch there small b a refl refl we refl refl refl refl
+    by Cmd moves b a = written_settles g s os past (struck (set_up l (of_kind c Cmd)) (of_kind c Cmd)) (released (struck (set_up l (of_kind c Cmd)) (of_kind c Cmd))) (of_kind c Cmd) moves prompt there small b a refl refl refl re refl refl refl
+    by Adr moves b a = written_settles g s os past (struck (set_up l (of_kind c Adr)) (of_kind c Adr)) (released (struck (set_up l (of_kind c Adr)) (of_kind c Adr))) (of_kind c Adr) moves prompt there small b a refl refl refl re refl refl refl
+    by Din moves b a = written_settles g s os past (struck (set_up l (of_kind c Din)) (of_kind c Din)) (released (struck (set_up l (of_kind c Din)) (of_kind c Din))) (of_kind c Din) moves prompt there small b a refl refl refl re refl refl refl
+    by Dout moves b a = read_settles g s os past (struck (set_up l (of_kind c Dout)) (of_kind c Dout)) (released (struck (set_up l (of_kind c Dout)) (of_kind c Dout))) (of_kind c Dout) moves prompt there small b a refl refl we refl refl refl refl
 
 -- ---- 4. a ready
 
@@ -252,14 +252,14 @@ others ce lun n h = by (ce == n / 4) (lun == n % 4) refl refl
 pub itself : (ce lun : ℕ) → (ce == ce && lun == lun) ≡ true
 itself ce lun = rw (eq-eqb ce ce refl, eq-eqb lun lun refl) refl
 
-module _ (g : Parts) (s : Sampler) (os : List Observed) (past : List Item) (l : Lines) (i : Item) (moves : Moves g s.targets past i) (glitch : s.glitch ≡ 0) (four : g.luns ≤ 4)
+module _ (g : Parts) (s : Sampler) (os : List Observed) (past : List Item) (l : Lines) (i : Item) (moves : Moves g s.targets past i) (prompt : IsPrompt s) (four : g.luns ≤ 4)
     (b : Stands g s.targets s.before.of past l) (a : Stands g s.targets s.after.of (i ∷ past) l) (ready : is_ready i ≡ true) where
   ready_settles : (ce lun : ℕ) → ce < s.targets → lun < g.luns → ready_of s.caches s.before.of s.after.of ((4 * ce + lun) / 4) ((4 * ce + lun) % 4) ≡ Some (told_of i) →
       ((n : ℕ) → (n ≡ 4 * ce + lun → ⊥) → is_ready_of i (n / 4) (n % 4) ≡ false) → ((n : ℕ) → (n ≡ 4 * ce + lun → ⊥) → is_array_ready_of i (n / 4) (n % 4) ≡ false) →
       Settles s os (seen_items os ++ (record { time = s.time; item = told_of i } ∷ []))
-  ready_settles ce lun h k is none no_array = settles s os Nothing Nothing (seen_items os ++ (record { time = s.time; item = told_of i } ∷ []))
-      (strobe_is s Write s.we glitch ∙ strobe_quiet s.targets Write s.we.driven l.we l.we s.before.of s.after.of b.we a.we (not_and l.we))
-      (strobe_is s Read s.re glitch ∙ strobe_quiet s.targets Read s.re.driven l.re l.re s.before.of s.after.of b.re a.re (not_and l.re))
+  ready_settles ce lun h k is none no_array = settles s os prompt Nothing Nothing (seen_items os ++ (record { time = s.time; item = told_of i } ∷ []))
+      (strobe_is s Write s.we prompt ∙ strobe_quiet s.targets Write s.we.driven l.we l.we s.before.of s.after.of b.we a.we (not_and l.we))
+      (strobe_is s Read s.re prompt ∙ strobe_quiet s.targets Read s.re.driven l.re l.re s.before.of s.after.of b.re a.re (not_and l.re))
       (ap seen_items (one_ready s.caches s.time s.before.of s.after.of os (4 * s.targets) 0 (4 * ce + lun) (told_of i) (omega arith) (omega (arith, h, k, four)) is
       (λ n ne from to. ready_if s.caches g s.targets s.before.of s.after.of past (i ∷ past) l l b a n (omega (arith, to)) None
       (λ there. same_by s.caches (is_busy g past (n / 4) (n % 4)) (is_busy g (i ∷ past) (n / 4) (n % 4)) (has_busy_array g past (n / 4) (n % 4)) (has_busy_array g (i ∷ past) (n / 4) (n % 4)) (tells_failure (i ∷ past) (n / 4) (n % 4))
@@ -286,21 +286,21 @@ told_there ce lun fail =
     ∙ ap (λ (b : Bool). b && fail) (eq-eqb lun lun refl)
 
 -- a ready is seen where it is told
-pub busy_settles : (g : Parts) (s : Sampler) (os : List Observed) (past : List Item) (l : Lines) (ce lun : ℕ) (fail : Failures) → Moves g s.targets past (Rdy ce lun fail) → s.glitch ≡ 0 → g.luns ≤ 4 → Names g s.targets past true ce lun →
+pub busy_settles : (g : Parts) (s : Sampler) (os : List Observed) (past : List Item) (l : Lines) (ce lun : ℕ) (fail : Failures) → Moves g s.targets past (Rdy ce lun fail) → IsPrompt s → g.luns ≤ 4 → Names g s.targets past true ce lun →
     Stands g s.targets s.before.of past l → Stands g s.targets s.after.of (Rdy ce lun fail ∷ past) l → Settles s os (seen_items os ++ (record { time = s.time; item = told_of (Rdy ce lun fail) } ∷ []))
-busy_settles g s os past l ce lun fail moves glitch four named b a =
-    ready_settles g s os past l (Rdy ce lun fail) moves glitch four b a refl ce lun named.target named.within
-    (ready_from g s os past l (Rdy ce lun fail) moves glitch four b a refl ce lun named.target named.within
+busy_settles g s os past l ce lun fail moves prompt four named b a =
+    ready_settles g s os past l (Rdy ce lun fail) moves prompt four b a refl ce lun named.target named.within
+    (ready_from g s os past l (Rdy ce lun fail) moves prompt four b a refl ce lun named.target named.within
     (ready_here s.caches (is_busy g past ce lun) (is_busy g (Rdy ce lun fail ∷ past) ce lun) (has_busy_array g past ce lun) (has_busy_array g (Rdy ce lun fail ∷ past) ce lun) (tells_failure (Rdy ce lun fail ∷ past) ce lun) (rising_from l l) ce lun fail.last
     named.works (moves.busy ce lun named.target named.within named.works ∙ ap not (itself ce lun)) (told_there ce lun fail.last)))
     (others ce lun) (λ n ne. refl)
 
 -- and that of an array
-pub array_settles : (g : Parts) (s : Sampler) (os : List Observed) (past : List Item) (l : Lines) (ce lun : ℕ) (fail : Bool) → Moves g s.targets past (Ard ce lun fail) → s.glitch ≡ 0 → g.luns ≤ 4 → Names g s.targets past false ce lun → (s.caches || not (is_busy g past ce lun)) ≡ true →
+pub array_settles : (g : Parts) (s : Sampler) (os : List Observed) (past : List Item) (l : Lines) (ce lun : ℕ) (fail : Bool) → Moves g s.targets past (Ard ce lun fail) → IsPrompt s → g.luns ≤ 4 → Names g s.targets past false ce lun → (s.caches || not (is_busy g past ce lun)) ≡ true →
     Stands g s.targets s.before.of past l → Stands g s.targets s.after.of (Ard ce lun fail ∷ past) l → Settles s os (seen_items os ++ (record { time = s.time; item = Ard ce lun fail } ∷ []))
-array_settles g s os past l ce lun fail moves glitch four named alone b a =
-    ready_settles g s os past l (Ard ce lun fail) moves glitch four b a refl ce lun named.target named.within
-    (ready_from g s os past l (Ard ce lun fail) moves glitch four b a refl ce lun named.target named.within
+array_settles g s os past l ce lun fail moves prompt four named alone b a =
+    ready_settles g s os past l (Ard ce lun fail) moves prompt four b a refl ce lun named.target named.within
+    (ready_from g s os past l (Ard ce lun fail) moves prompt four b a refl ce lun named.target named.within
     (array_here s.caches (is_busy g past ce lun) (is_busy g (Ard ce lun fail ∷ past) ce lun) (has_busy_array g past ce lun) (has_busy_array g (Ard ce lun fail ∷ past) ce lun) (tells_failure (Ard ce lun fail ∷ past) ce lun) (rising_from l l) ce lun fail
     (λ is. moves.busy ce lun named.target named.within is) alone named.works (moves.array ce lun named.target named.within refl named.works ∙ ap not (itself ce lun)) (stays l) (told_there ce lun fail)))
     (λ n ne. refl) (others ce lun)

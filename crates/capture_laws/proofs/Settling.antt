@@ -16,7 +16,7 @@ use Rattle.bus_capture.specs.declared.sampler.Sampler.{Sampler}
 use Rattle.bus_capture.specs.declared.sampler.Strobing.{Strobing}
 use Rattle.bus_capture.specs.declared.inferring.Stamped.{Stamped}
 use Rattle.bus_capture.specs.Sampling.{level, enabled_from, cycle_of, line_of, rises, is_lost, seen_of, item_of, is_short, ready_of}
-use Rattle.bus_capture.specs.Capturing.{with_item, with_release, with_releases, with_readies, with_seen, strobe_seen, settled}
+use Rattle.bus_capture.specs.Capturing.{time_of, output_time, late_of, is_taken, owes, later, closed, with_item, with_release, with_releases, with_readies, with_seen, strobe_seen, settled}
 use Rattle.capture_laws.proofs.Standing.{lv}
 
 -- ---- 1. the items among what is seen
@@ -81,8 +81,16 @@ not_short : (glitch time : ℕ) (since : Option ℕ) → glitch ≡ 0 → is_sho
 not_short glitch time None h = refl
 not_short glitch time (Some t) h = lt-leb (suc (time - t)) glitch (omega (arith, h))
 
-pub strobe_is : (s : Sampler) (strobe : Strobe) (known : Strobing) → s.glitch ≡ 0 → strobe_seen s strobe known ≡ seen_of s.targets strobe known.driven s.before.of s.after.of
-strobe_is s strobe known h = rw (not_short s.glitch s.time known.since h) refl
+-- no change is too early, and outputs are taken as RE# rises
+abbrev pub IsPrompt : Sampler → Type 0
+IsPrompt s = (s.glitch ≡ 0) × (s.late ≡ None)
+
+taken_is : (s : Sampler) (strobe : Strobe) (known : Strobing) → s.late ≡ None → is_taken (late_of s strobe) s strobe known ≡ rises (level s.before.of (line_of strobe)) (level s.after.of (line_of strobe))
+taken_is s Write known h = refl
+taken_is s Read known h = ap (λ (late : Option ℕ). is_taken late s Read known) h
+
+pub strobe_is : (s : Sampler) (strobe : Strobe) (known : Strobing) → IsPrompt s → strobe_seen s strobe known ≡ seen_of s.targets strobe known.driven s.before.of s.after.of
+strobe_is s strobe known h = rw (not_short s.glitch s.time known.since h.0) (rw (taken_is s strobe known h.1) refl)
 
 pub quiet_strobe : (targets : ℕ) (strobe : Strobe) (driven : Bool) (before after : List Level) → rises (level before (line_of strobe)) (level after (line_of strobe)) ≡ false →
     is_lost driven (level before (line_of strobe)) (level after (line_of strobe)) ≡ false → seen_of targets strobe driven before after ≡ Ok Nothing
@@ -116,10 +124,17 @@ pub record Settles (s : Sampler) (os : List Observed) (items : List Stamped) : T
   pub is : settled s os ≡ Ok now
   pub seen : seen_items now ≡ items
 
-pub settles : (s : Sampler) (os : List Observed) (written read : Seen) (items : List Stamped) → strobe_seen s Write s.we ≡ Ok written → strobe_seen s Read s.re ≡ Ok read →
+pub settles : (s : Sampler) (os : List Observed) → IsPrompt s → (written read : Seen) (items : List Stamped) → strobe_seen s Write s.we ≡ Ok written → strobe_seen s Read s.re ≡ Ok read →
     seen_items (with_readies s.caches s.time s.before.of s.after.of (with_item s.time (item_of read) (with_item s.time (item_of written) os)) (4 * s.targets) 0) ≡ items → Settles s os items
-settles s os written read items w r h = record {
+settles s os prompt written read items w r h = record {
   now = with_seen s written read os;
   is = rw w (rw r refl);
-  seen = releases_unseen s.time s.before.of s.after.of (with_readies s.caches s.time s.before.of s.after.of (with_item s.time (item_of read) (with_item s.time (item_of written) os)) (4 * s.targets) 0) s.targets 0 ∙ h;
+  seen =
+      releases_unseen s.time s.before.of s.after.of (with_readies s.caches s.time s.before.of s.after.of (with_item (output_time s) (item_of read) (with_item s.time (item_of written) os)) (4 * s.targets) 0) s.targets 0
+      ∙ ap (λ (late : Option ℕ). seen_items (with_readies s.caches s.time s.before.of s.after.of (with_item (time_of late s.time s.re.since) (item_of read) (with_item s.time (item_of written) os)) (4 * s.targets) 0)) prompt.1
+      ∙ h;
 }
+
+-- where outputs are taken as RE# rises, nothing is left for the end
+pub ends_settled : (s : Sampler) (now : List Observed) → s.late ≡ None → closed (later s s.time) now ≡ Ok now
+ends_settled s now h = rw (ap (λ (late : Option ℕ). owes late s) h) refl

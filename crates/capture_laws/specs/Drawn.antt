@@ -1,5 +1,5 @@
 -- The dump of a legal trace is captured as this trace, without the failures of the page before: these have no line.
-use Rattle.std.specs.Prelude.{◌≡◌, ℕ, ◌+◌, ◌*◌, ◌^◌, ◌<◌, ◌≤◌, nat_lt, ◌&&◌, Bool, true, false, not, List, [], ◌∷◌, length, map, reverse, Ok}
+use Rattle.std.specs.Prelude.{◌≡◌, ℕ, ◌+◌, ◌*◌, ◌^◌, ◌<◌, ◌≤◌, nat_lt, ◌&&◌, Bool, true, false, not, List, [], ◌∷◌, length, map, reverse, None, Ok}
 use Rattle.onfi_cycle.specs.declared.item.Item.{Item}
 use Rattle.onfi_cycle.specs.declared.item.Item.TheVariants.{Cyc, Rdy, Ard}
 use Rattle.onfi_cycle.specs.Permitted.{is_legal}
@@ -30,11 +30,12 @@ abbrev pub stamped_from : (n : ℕ) → List Item → List Stamped
 stamped_from n [] = []
 stamped_from n (i ∷ items) = record { time = 10 * n + 6; item = i } ∷ stamped_from (n + 1) items
 
--- a capture of a dump, of 1 to 4 targets of 1 to 4 LUNs, whose signals go by their names, and in which no change is too early
+-- a capture of a dump, of 1 to 4 targets of 1 to 4 LUNs, whose signals go by their names, in which no change is too early and outputs are taken as RE# rises
 pub record IsPlain (setup : Setup) : Type 0 where
   pub form : setup.form ≡ Dump
   pub names : setup.mappings.now ≡ []
   pub glitch : setup.glitch ≡ 0
+  pub late : setup.late ≡ None
   pub some : 1 ≤ setup.targets
   pub few : setup.targets ≤ 4
   pub luns : 1 ≤ setup.geometry.luns

@@ -41,6 +41,7 @@ pub record IsEdgeSetup (request : EdgeRequest) (g : Parts) (setup : Setup) : Typ
   pub targets : setup.targets ≡ count_of request.targets
   pub mappings : AreSaid (option_map (λ line. line.now) request.mappings) setup.mappings.now
   pub glitch : setup.glitch ≡ 0
+  pub late : setup.late ≡ None
 
 -- the capture at the path shows the items of a bus of this geometry
 pub record AreJudgedIn (files : Option Store) (request : EdgeRequest) (g : Parts) : Type 0 where

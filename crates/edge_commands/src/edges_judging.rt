@@ -97,6 +97,7 @@ fn judge_file<'p, F: Files>(
         targets: request.targets.count(),
         mappings: mappings.as_slice(),
         glitch: 0,
+        late: None,
     };
     let _ = see_capture(alloc, request.input, &setup, capture.as_slice())?;
     let Some(unit) = unit_of(request.unit, request.form, capture.as_slice()) else {

@@ -24,7 +24,7 @@ pub(crate) struct KindSummary {
     is_range: bool,
     least: u64,
     most: u64,
-    sum: u64,
+    sum: u128,
 }
 
 /// How many operations there are.
@@ -81,7 +81,7 @@ impl KindSummary {
             self.is_range = self.is_range || least != most;
             self.least = self.least.min(most);
             self.most = self.most.max(most);
-            self.sum = self.sum.saturating_add(most);
+            self.sum = self.sum.saturating_add(u128::from(most));
         }
     }
 
@@ -107,7 +107,7 @@ impl KindSummary {
             text,
             "; {words} least {}, mean {}, most {}",
             self.least,
-            self.sum / self.timed,
+            self.sum / u128::from(self.timed),
             self.most
         )
     }

@@ -1,6 +1,7 @@
 //! What a parameter page declares, as it is shown.
 
-use nand_geometry::{Geometry, Parts};
+use crate::optional_parts::OPTIONAL_PARTS;
+use nand_geometry::{Geometry, Optional, Parts};
 use std::fmt;
 
 // The bits that numbers below a count have.
@@ -73,6 +74,22 @@ fn said(is_declared: bool) -> &'static str {
     }
 }
 
+// What a page declares of the wider profile, if it is read for that.
+#[derive(Clone, Copy)]
+struct DeclaredParts(Optional);
+
+impl fmt::Display for DeclaredParts {
+    fn fmt<W: fmt::Write>(&self, f: &mut fmt::Formatter<W>) -> fmt::Result {
+        if !self.0.is_wide() {
+            return Ok(());
+        }
+        for part in OPTIONAL_PARTS {
+            writeln!(f, "{}: {}", part.words, said(part.is_in(self.0)))?;
+        }
+        Ok(())
+    }
+}
+
 /// What a page declares, a line for each fact.
 #[derive(Clone, Copy)]
 pub(crate) struct Declared<'a>(pub &'a Geometry);
@@ -94,6 +111,7 @@ impl fmt::Display for Declared<'_> {
             f,
             "11h D1h multi-plane program and erase: {}",
             said(parts.multi_plane)
-        )
+        )?;
+        write!(f, "{}", DeclaredParts(parts.optional))
     }
 }

@@ -6,7 +6,9 @@
 mod copies;
 mod declared;
 mod making;
+mod optional_parts;
 mod showing;
 
 pub use making::make_page;
+pub use optional_parts::declared_by;
 pub use showing::show_page;

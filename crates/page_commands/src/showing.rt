@@ -3,16 +3,17 @@ ghost use Rattle.std.specs.Prelude.{◌≡◌, ℕ, List, OnOk, IfErr};
 ghost use Rattle.nand_geometry.specs.declared.parts.Parts.{Parts};
 ghost use Rattle.std.specs.Io.KnownBytes.{Appends};
 ghost use Rattle.seq_inputs.specs.declared.refusal.Refusal.{Refusal};
-ghost use Rattle.seq_inputs.specs.Inputs.{HasPageAs, PageIsRefused};
+ghost use Rattle.seq_inputs.specs.Inputs.{HasPage, PageIsRefused};
 ghost use Rattle.seq_inputs.specs.Stops.{Says, Tells};
 ghost use Rattle.seq_inputs.specs.Refusals.{line_of};
 
 use crate::copies::PageCopies;
 use crate::declared::Declared;
-use nand_geometry::{Geometry, Profile};
+use nand_geometry::Geometry;
 use seq_files::Files;
 use seq_inputs::{
-    Console, Exit, Stop, end_without_memory, fail, finish, geometry_in, read_file, say_words,
+    Console, Exit, PageFile, Stop, end_without_memory, fail, finish, geometry_in, read_file,
+    say_words,
 };
 use std::alloc::{AllocError, Allocator};
 use std::io::Write;
@@ -38,14 +39,14 @@ fn show_at<'p, A: Allocator + Clone, F: Files, E: Write>(
     alloc: A,
     files: &mut F,
     errors: &mut E,
-    path: &'p str,
+    page: PageFile<'p>,
 ) -> Result<String<A>, Stop<'p, A>>
-    ensures ok { OnOk result ((g : Parts) × HasPageAs (F.store files.old) Profile.Base path.now g) }
-    ensures err { IfErr result (Says (PageIsRefused (F.store files.old) path.now)) }
+    ensures ok { OnOk result ((g : Parts) × HasPage (F.store files.old) page.entry g) }
+    ensures err { IfErr result (Says (PageIsRefused (F.store files.old) page.entry.path.now)) }
     ensures stays { F.store files.new ≡ F.store files.old }
 {
-    let bytes = read_file(alloc.clone()?, files, path)?;
-    match geometry_in(alloc.clone()?, Profile::Base, path, bytes.as_slice()) {
+    let bytes = read_file(alloc.clone()?, files, page.path)?;
+    match geometry_in(alloc.clone()?, page.profile, page.path, bytes.as_slice()) {
         Ok(geometry) => Ok(lines_of(alloc, &geometry, bytes.as_slice())?),
         Err(stop) => {
             say_copies(alloc, errors, bytes.as_slice());
@@ -54,7 +55,7 @@ fn show_at<'p, A: Allocator + Clone, F: Files, E: Write>(
     }
 }
 
-/// Shows all that is read of the parameter page at a path: the geometry, how a row is made of a LUN, a block and a page, which commands it declares, and
+/// Shows all that is read of the parameter page at a path for a profile: the geometry, how a row is made of a LUN, a block and a page, which commands it declares, and
 /// each copy of the page with its checksum.
 ///
 /// `Done`: all that is printed. `Refused`: the line `refused NAME at 0` is printed, a P fault of the page, and what there is of each copy is said on the
@@ -63,11 +64,11 @@ pub fn show_page<A: Allocator + Clone, F: Files, W: Write, E: Write, P>(
     alloc: A,
     files: &mut F,
     console: &mut Console<W, E, P>,
-    path: &str,
+    page: PageFile<'_>,
 ) -> Exit
-    ensures done { result ≡ Exit.Done → ((g : Parts) × HasPageAs (F.store files.old) Profile.Base path.now g)
+    ensures done { result ≡ Exit.Done → ((g : Parts) × HasPage (F.store files.old) page.entry g)
         × (printed : List ℕ) × Appends (W.contents console.old.output) (W.contents console.new.output) printed }
-    ensures refused { (refusal : Refusal) → result ≡ Exit.Refused refusal → Tells (PageIsRefused (F.store files.old) path.now) refusal
+    ensures refused { (refusal : Refusal) → result ≡ Exit.Refused refusal → Tells (PageIsRefused (F.store files.old) page.entry.path.now) refusal
         × Appends (W.contents console.old.output) (W.contents console.new.output) (line_of refusal) }
     ensures stays { F.store files.new ≡ F.store files.old }
 {
@@ -75,7 +76,7 @@ pub fn show_page<A: Allocator + Clone, F: Files, W: Write, E: Write, P>(
         Ok(copy) => copy,
         Err(_) => return end_without_memory(console),
     };
-    match show_at(copy, files, &mut console.errors, path) {
+    match show_at(copy, files, &mut console.errors, page) {
         Ok(lines) => finish(console, lines.as_str()),
         Err(stop) => fail(alloc, console, None, stop),
     }

@@ -68,6 +68,7 @@ pub record IsSetup (request : CaptureRequest) (g : Parts) (setup : Setup) : Type
   pub targets : setup.targets ≡ count_of request.targets
   pub mappings : AreSaid (option_map (λ line. line.now) request.mappings) setup.mappings.now
   pub glitch : setup.glitch ≡ request.glitch
+  pub late : setup.late ≡ request.late
 
 -- ---- what is seen
 

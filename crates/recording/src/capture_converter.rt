@@ -6,6 +6,7 @@ ghost use Rattle.bus_capture.specs.Inferring.{captured_after};
 ghost use Rattle.recording.specs.Captures.{items_in, timed_in, seen_text, IsConverter};
 
 use crate::capture_unit::unit_of;
+use crate::echoed_statuses::EchoedStatuses;
 use crate::latest_lines::LatestLines;
 use bus_capture::{CaptureFault, CaptureReader, CaptureRefusal, Setup, Stamped};
 use onfi_cycle::Item;
@@ -85,6 +86,8 @@ pub struct CaptureTally {
     /// The strobes while no chip of the channel was enabled.
     pub unselected: u64,
     pub strobe_changes: u64,
+    /// How often the first output after a status command was that command's own byte.
+    pub echoes: u64,
     /// How many femtoseconds 1 of a written time is, where times are written and the capture says it.
     pub unit: Option<u64>,
 }
@@ -101,6 +104,7 @@ pub struct CaptureConverter<'m> {
     latest: LatestLines,
     items: usize,
     unselected: u64,
+    echoes: EchoedStatuses,
     // A piece was read.
     has_begun: bool,
     unit: Option<u64>,
@@ -126,6 +130,7 @@ impl<'m> CaptureConverter<'m> {
             latest,
             items: 0,
             unselected: 0,
+            echoes: EchoedStatuses::default(),
             has_begun: false,
             unit: None,
         })
@@ -145,6 +150,7 @@ impl<'m> CaptureConverter<'m> {
         ensures err { IfErr result (λ e. e ≡ CaptureRefusal.OutOfMemory) }
     {
         self.items = self.items.saturating_add(stamped.len());
+        self.echoes.count_in(stamped);
         match push_text(self.alloc, self.has_times, stamped, output) {
             Ok(()) => Ok(()),
             Err(_) => Err(CaptureRefusal::OutOfMemory),
@@ -172,6 +178,7 @@ impl<'m> CaptureConverter<'m> {
             items: self.items,
             unselected: self.unselected,
             strobe_changes: self.strobe_changes(),
+            echoes: self.echoes.count(),
             unit: self.unit,
         }
     }

@@ -23,6 +23,8 @@ pub struct CaptureRequest<'a> {
     pub has_times: bool,
     /// A strobe that changes again before so much time, in the capture's unit, is a fault; 0 where none is.
     pub glitch: u64,
+    /// An output is taken so long behind the rise of RE#, in the capture's unit, or before a line changes that is none of DQ; None where it is taken as RE# rises.
+    pub late: Option<u64>,
     /// The vendor file whose sequences are left out, if there is one; `linux` is the one that is built in.
     pub vendor: Option<&'a str>,
 }

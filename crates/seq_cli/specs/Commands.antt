@@ -3,8 +3,7 @@ use Rattle.std.specs.Prelude.{◌≡◌, ◌⊎◌, ℕ, true, false, List, Opti
 use Rattle.seq_files.specs.Store.{Store}
 use Rattle.trace_files.specs.Files.{no_outputs}
 use Rattle.seq_inputs.specs.declared.refusal.Refusal.{Refusal}
-use Rattle.nand_geometry.specs.declared.optional.Profile.TheVariants.{Base}
-use Rattle.seq_inputs.specs.Inputs.{HasPageAs, PageIsRefused, FileIsRefused}
+use Rattle.seq_inputs.specs.Inputs.{HasPage, PageIsRefused, FileIsRefused}
 use Rattle.seq_inputs.specs.Stops.{Tells}
 use Rattle.seq_inputs.specs.Refusals.{line_of}
 use Rattle.program_commands.specs.Commands.{IsAssembled, SourceIsRefused, IsAssembledFor, AssembleForRefuses, IsDisassembled, IsUpgraded, ReadRefuses, IsExplained, IsAccepted, VerifyRefuses, VerifyLeaves}
@@ -54,7 +53,7 @@ IsDone (Draw request) input files later printed = IsDrawn files later request ×
 IsDone (Disassemble file) input files later printed = IsDisassembled files file.now printed × (later ≡ files)
 IsDone (MakePage parts target) input files later printed = IsPageMade files later parts target.now × (printed ≡ codes "ok\n")
 IsDone (TakePage request) input files later printed = IsPageTaken files later request.target.now × (printed ≡ codes "ok\n")
-IsDone (ShowPage page) input files later printed = ((g : Parts) × HasPageAs files Base page.now g) × (later ≡ files)
+IsDone (ShowPage page) input files later printed = ((g : Parts) × HasPage files page g) × (later ≡ files)
 IsDone (Upgrade file target) input files later printed = IsUpgraded files later file.now target.now × (printed ≡ codes "ok\n")
 
 -- a command is done, with what isn't to pass: a trace is legal with readies that are taken for granted, or a program is accepted with a note that is denied
@@ -88,7 +87,7 @@ MayRefuse (Draw request) input files later refusal printed =
 MayRefuse (Disassemble file) input files later refusal printed = Tells (FileIsRefused files file.now) refusal × (later ≡ files) × (printed ≡ line_of refusal)
 MayRefuse (MakePage parts target) input files later refusal printed = Tells (PartsAreRefused parts) refusal × (later ≡ files) × (printed ≡ line_of refusal)
 MayRefuse (TakePage request) input files later refusal printed = (later ≡ files) × (printed ≡ line_of refusal)
-MayRefuse (ShowPage page) input files later refusal printed = Tells (PageIsRefused files page.now) refusal × (later ≡ files) × (printed ≡ line_of refusal)
+MayRefuse (ShowPage page) input files later refusal printed = Tells (PageIsRefused files page.path.now) refusal × (later ≡ files) × (printed ≡ line_of refusal)
 MayRefuse (Upgrade file target) input files later refusal printed = Tells (FileIsRefused files file.now) refusal × (later ≡ files) × (printed ≡ line_of refusal)
 
 -- what a command may find wrong with a trace or a capture, and what it leaves and prints then: one line, but for all faults of a trace

@@ -56,6 +56,9 @@ fn say_mistake<W: Write, E: Write, P>(
         | Mistake::Base(_)
         | Mistake::Steps { .. }
         | Mistake::Glitch(_)
+        | Mistake::Outputs(_)
+        | Mistake::Declared(_)
+        | Mistake::NotMade(_)
         | Mistake::Mapping(_)
         | Mistake::NoteCode { .. }
         | Mistake::NoteTwice(_)
@@ -84,15 +87,24 @@ fn end_without_words<W: Write, E: Write, P>(
     Exit::Usage
 }
 
-// How two commands end, one after the other: as the first of them that isn't done.
+// How grave an ending is beside others: one that another run may change most, then what is refused, what isn't to pass, and what is done.
+fn gravity_of(ending: Ending) -> u8 {
+    match ending {
+        Ending::Exit(Exit::Done) => 0,
+        Ending::Flagged => 1,
+        Ending::Exit(Exit::Refused(_)) | Ending::Faulty(_) => 2,
+        Ending::Exit(Exit::FileFault | Exit::ReaderGone) => 3,
+        Ending::Exit(Exit::Usage) => 4,
+        Ending::Exit(Exit::OutOfMemory) => 5,
+    }
+}
+
+// How two commands end, one after the other: as the graver ending says.
 fn end_of_both(first: Ending, second: Ending) -> Ending {
-    match first {
-        Ending::Exit(Exit::Done) => second,
-        Ending::Exit(
-            Exit::Refused(_) | Exit::FileFault | Exit::ReaderGone | Exit::Usage | Exit::OutOfMemory,
-        )
-        | Ending::Faulty(_)
-        | Ending::Flagged => first,
+    if gravity_of(second) > gravity_of(first) {
+        second
+    } else {
+        first
     }
 }
 

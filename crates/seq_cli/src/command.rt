@@ -87,9 +87,7 @@ pub enum Command<'a> {
     /// To take a parameter page of a trace or a capture.
     TakePage(PageRequest<'a>),
     /// To show what a parameter page declares.
-    ShowPage {
-        page: &'a str,
-    },
+    ShowPage(PageFile<'a>),
     /// To write a word file of either format as one of format 2.
     Upgrade {
         input: &'a str,
@@ -216,9 +214,8 @@ impl<'a> Command<'a> {
             }
             Command::ListOperations(request) => (inputs_of(request.trace, None), one(None)),
             Command::Draw(request) => (inputs_of(request.trace, None), one(Some(request.target))),
-            Command::Disassemble { input } | Command::ShowPage { page: input } => {
-                (one_read(input), one(None))
-            }
+            Command::Disassemble { input } => (one_read(input), one(None)),
+            Command::ShowPage(page) => (one_read(page.path), one(None)),
             Command::MakePage { parts: _, target } => ([None, None, None, None], one(Some(target))),
             Command::TakePage(request) => (
                 [file_of(request.vendor), Some(request.input), None, None],
@@ -304,7 +301,7 @@ pub fn command_on<
             Ending::Exit(make_page(alloc, files, console, parts, target))
         }
         Command::TakePage(request) => take_page(alloc, files, console, request),
-        Command::ShowPage { page } => Ending::Exit(show_page(alloc, files, console, page)),
+        Command::ShowPage(page) => Ending::Exit(show_page(alloc, files, console, page)),
         Command::Upgrade { input, target } => {
             Ending::Exit(upgrade_file(alloc, files, console, input, target))
         }

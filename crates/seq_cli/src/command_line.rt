@@ -14,6 +14,7 @@ use clap::{ArgMatches, Error};
 use edge_commands::EdgeRequest;
 use nand_geometry::{Optional, Parts, Profile};
 use onfi_cycle::Lun;
+use page_commands::declared_by;
 use program_commands::{LintOutput, LintRequest, NoteRules, VerifyRequest};
 use recording::{CaptureRequest, CheckRequest, GivenImage, Targets, TraceRequest};
 use seq_inputs::{PageFile, Style};
@@ -343,9 +344,18 @@ fn read_mappings<'a>(matches: &ArgMatches<'a>) -> Result<Option<&'a str>, Mistak
     }
 }
 
+// A name ends so, in small letters or in capitals.
+fn has_extension(path: &str, extension: &str) -> bool {
+    let name = path.as_bytes();
+    match name.len().checked_sub(extension.len()) {
+        Some(start) => name[start..].eq_ignore_ascii_case(extension.as_bytes()),
+        None => false,
+    }
+}
+
 // As what a capture of this name is read.
 fn form_of_capture(matches: &ArgMatches<'_>, input: &str) -> CaptureForm {
-    if matches.get_flag("csv") || input.ends_with(".csv") {
+    if matches.get_flag("csv") || has_extension(input, ".csv") {
         CaptureForm::Table
     } else {
         CaptureForm::Dump
@@ -382,6 +392,23 @@ fn read_glitch<'a>(given: Option<&'a str>) -> Result<u64, Mistake<'a>> {
     u64::from_str_radix(word, 10).map_err(|_| Mistake::Glitch(word))
 }
 
+// How far behind the rise of RE# an output is taken: `rise`, or `+` and a number.
+fn read_output_delay<'a>(given: Option<&'a str>) -> Result<Option<u64>, Mistake<'a>> {
+    let Some(word) = given else {
+        return Ok(None);
+    };
+    if word == "rise" {
+        return Ok(None);
+    }
+    let Some(digits) = word.strip_prefix('+') else {
+        return Err(Mistake::Outputs(word));
+    };
+    match u64::from_str_radix(digits, 10) {
+        Ok(late) if !digits.starts_with('+') => Ok(Some(late)),
+        Ok(_) | Err(_) => Err(Mistake::Outputs(word)),
+    }
+}
+
 // What a capture is read for.
 fn read_capture<'a>(matches: &ArgMatches<'a>) -> Result<CaptureRequest<'a>, Mistake<'a>> {
     let input = find_word(matches, "IN");
@@ -395,6 +422,7 @@ fn read_capture<'a>(matches: &ArgMatches<'a>) -> Result<CaptureRequest<'a>, Mist
         mappings: read_mappings(matches)?,
         has_times: matches.get_flag("times"),
         glitch: read_glitch(matches.get_str("glitch"))?,
+        late: read_output_delay(matches.get_str("outputs"))?,
         vendor: matches.get_str("vendor"),
     })
 }
@@ -450,6 +478,14 @@ fn read_plane_bits(given: Option<&str>) -> u8 {
     }
 }
 
+// What the page declares beyond the base profile.
+fn read_declared<'a>(names: Option<&'a str>) -> Result<Optional, Mistake<'a>> {
+    match names {
+        None => Ok(Optional::NONE),
+        Some(names) => declared_by(names).map_err(Mistake::Declared),
+    }
+}
+
 // The chip whose page is made. A number of LUNs that no byte holds is one that no chip has, as the greatest byte is.
 fn read_chip<'a>(matches: &ArgMatches<'a>) -> Result<Parts, Mistake<'a>> {
     let luns = read_chip_number(matches, "luns")?.unwrap_or(1);
@@ -464,7 +500,7 @@ fn read_chip<'a>(matches: &ArgMatches<'a>) -> Result<Parts, Mistake<'a>> {
         enhanced: matches.get_flag("status-enhanced"),
         multi_plane: plane_bits > 0,
         cache: matches.get_flag("cache"),
-        optional: Optional::NONE,
+        optional: read_declared(matches.get_str("declare"))?,
     })
 }
 
@@ -475,18 +511,40 @@ fn read_page_source<'a>(
 ) -> Result<PageSource<'a>, Mistake<'a>> {
     let form = form_of_capture(matches, input);
     let mappings = read_mappings(matches)?;
-    if form == CaptureForm::Table || input.ends_with(".vcd") || mappings.is_some() {
+    if form == CaptureForm::Table || has_extension(input, ".vcd") || mappings.is_some() {
         Ok(PageSource::Capture { form, mappings })
     } else {
         Ok(PageSource::Trace)
     }
 }
 
+// The options of `page` that describe a chip: those with a value, and flags.
+const CHIP_VALUES: [&str; 7] = [
+    "data", "spare", "pages", "blocks", "luns", "planes", "declare",
+];
+
+const CHIP_FLAGS: [&str; 2] = ["cache", "status-enhanced"];
+
+// The page isn't made of numbers: no option describes a chip.
+fn refuse_chip<'a>(matches: &ArgMatches<'a>) -> Result<(), Mistake<'a>> {
+    let value = CHIP_VALUES
+        .iter()
+        .find(|name| matches.get_str(name).is_some());
+    match value.or_else(|| CHIP_FLAGS.iter().find(|name| matches.get_flag(name))) {
+        Some(option) => Err(Mistake::NotMade(option)),
+        None => Ok(()),
+    }
+}
+
 // What is asked of a parameter page.
 fn read_page<'a>(matches: &ArgMatches<'a>) -> Result<Command<'a>, Mistake<'a>> {
     let from = matches.get_str("from");
-    match (matches.get_str("show"), matches.get_str("OUT"), from) {
-        (Some(page), None, None) => Ok(Command::ShowPage { page }),
+    let show = matches.get_str("show");
+    if from.is_some() || show.is_some() {
+        refuse_chip(matches)?;
+    }
+    match (show, matches.get_str("OUT"), from) {
+        (Some(page), None, None) => Ok(Command::ShowPage(read_page_file(matches, page))),
         (None, Some(target), None) => Ok(Command::MakePage {
             parts: read_chip(matches)?,
             target,
@@ -576,7 +634,7 @@ fn read_image_request<'a>(matches: &ArgMatches<'a>) -> ImageRequest<'a> {
 
 // As what a trace is drawn into a file of this name.
 fn form_of(target: &str) -> DrawForm {
-    if target.ends_with(".html") {
+    if has_extension(target, ".html") {
         DrawForm::Page
     } else {
         DrawForm::Picture

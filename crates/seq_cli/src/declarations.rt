@@ -313,6 +313,12 @@ pub(crate) const CAPTURE: Declaration = Declaration {
             help: "Refuses a capture in which WE# or RE# changes again after less than n units of its time, while a chip is enabled; 0 if not given, which refuses none",
             ..REQUIRED
         },
+        Declared {
+            name: "outputs",
+            form: Form::Value("when"),
+            help: "When an output is taken: `rise`, as RE# rises, or `+n`, n units of the capture's time behind that, at the latest before RE# falls again, as timing modes 4 and 5 (EDO) want; `rise` if not given",
+            ..REQUIRED
+        },
         VENDOR,
     ],
 };
@@ -678,6 +684,13 @@ pub(crate) const MAKE_PAGE: Declaration = Declaration {
             help: "Declares read status enhanced, 78h, which several LUNs need",
             ..FLAG
         },
+        Declared {
+            name: "declare",
+            form: Form::Value("NAMES"),
+            help: "Declares besides what --profile onfi takes, with commas between several: program-cache, group-cache, features, copyback, odd-even, unique-id, enhanced-column, lun-reset, synchronous-reset, plane-reads, free-blocks",
+            ..REQUIRED
+        },
+        PROFILE,
         Declared {
             help: "With --from: leaves out the items of the sequences of this vendor file, or of the built-in one, `linux`",
             ..VENDOR

@@ -180,8 +180,14 @@ pub enum Mistake<'a> {
     Steps { option: &'static str, word: &'a str },
     /// The number of `--glitch` isn't one of 64 bits.
     Glitch(&'a str),
+    /// The word of `--outputs` is neither `rise` nor `+` and a number of 64 bits.
+    Outputs(&'a str),
     /// A part of `--map` isn't a role and the name of a signal.
     Mapping(&'a str),
+    /// This option describes a chip whose page is made, and none is.
+    NotMade(&'static str),
+    /// A word of `--declare` names nothing that a page declares beyond the base profile.
+    Declared(&'a str),
     /// A word of `--deny` or `--allow` isn't the code of a note.
     NoteCode { option: &'static str, word: &'a str },
     /// A code stands in both.
@@ -247,6 +253,20 @@ impl fmt::Display for Mistake<'_> {
             Mistake::Glitch(word) => writeln!(
                 f,
                 "error: --glitch takes a decimal number, 0 to 18446744073709551615, and not `{}`",
+                Shown::line(word)
+            ),
+            Mistake::NotMade(option) => writeln!(
+                f,
+                "error: --{option} describes a chip whose page is made, so it goes with neither --from nor --show"
+            ),
+            Mistake::Declared(word) => writeln!(
+                f,
+                "error: --declare takes names with commas between several, program-cache, group-cache, features, copyback, odd-even, unique-id, enhanced-column, lun-reset, synchronous-reset, plane-reads and free-blocks, and not `{}`",
+                Shown::line(word)
+            ),
+            Mistake::Outputs(word) => writeln!(
+                f,
+                "error: --outputs takes rise, or + and a decimal number, 0 to 18446744073709551615, and not `{}`",
                 Shown::line(word)
             ),
             Mistake::Mapping(part) => writeln!(

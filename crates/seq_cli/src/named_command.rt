@@ -31,7 +31,7 @@ impl<'a> NamedCommand<'a> {
             | Command::Disassemble { .. }
             | Command::MakePage { .. }
             | Command::TakePage(_)
-            | Command::ShowPage { .. }
+            | Command::ShowPage(_)
             | Command::Upgrade { .. } => None,
         }
     }

@@ -3,7 +3,7 @@
 use crate::command::Command;
 use clap::ArgMatches;
 use operation_commands::{OpsFilter, OpsForm, OpsRequest, OpsText};
-use recording::TraceRequest;
+use recording::{Targets, TraceRequest};
 use shown_text::Shown;
 use std::fmt;
 use trace_faults::Beginning;
@@ -64,15 +64,18 @@ fn lun_of(word: &str) -> Option<(u8, u8)> {
     Some((digit_of(ce)?, digit_of(lun)?))
 }
 
-fn read_lun<'a>(matches: &ArgMatches<'a>) -> Result<Option<(u8, u8)>, OpsMistake<'a>> {
+fn read_lun<'a>(
+    matches: &ArgMatches<'a>,
+    targets: Targets,
+) -> Result<Option<(u8, u8)>, OpsMistake<'a>> {
     let Some(word) = matches.get_str("lun") else {
         return Ok(None);
     };
     match lun_of(word) {
-        Some(lun) => Ok(Some(lun)),
-        None => Err(OpsMistake {
+        Some((ce, lun)) if ce < targets.count() => Ok(Some((ce, lun))),
+        Some(_) | None => Err(OpsMistake {
             option: "lun",
-            takes: "a chip enable and a LUN of it, as in 0.1",
+            takes: "a chip enable below TARGETS and a LUN of it, as in 0.1",
             word,
         }),
     }
@@ -168,14 +171,33 @@ fn read_kinds<'a>(matches: &ArgMatches<'a>) -> Result<Option<&'a str>, OpsMistak
     }
 }
 
-fn read_filter<'a>(matches: &ArgMatches<'a>) -> Result<OpsFilter<'a>, OpsMistake<'a>> {
+// The time up to which operations are listed, where it isn't before that of the first.
+fn read_end<'a>(
+    matches: &ArgMatches<'a>,
+    from: Option<u64>,
+) -> Result<Option<u64>, OpsMistake<'a>> {
+    match read_number(matches, "to")? {
+        Some(to) if to < from.unwrap_or(0) => Err(OpsMistake {
+            option: "to",
+            takes: "a time that isn't before that of --from",
+            word: matches.get_str("to").unwrap_or(""),
+        }),
+        to => Ok(to),
+    }
+}
+
+fn read_filter<'a>(
+    matches: &ArgMatches<'a>,
+    targets: Targets,
+) -> Result<OpsFilter<'a>, OpsMistake<'a>> {
+    let from = read_number(matches, "from")?;
     Ok(OpsFilter {
-        lun: read_lun(matches)?,
+        lun: read_lun(matches, targets)?,
         block: read_block(matches)?,
         kinds: read_kinds(matches)?,
         items: read_items(matches)?,
-        from: read_number(matches, "from")?,
-        to: read_number(matches, "to")?,
+        from,
+        to: read_end(matches, from)?,
     })
 }
 
@@ -206,6 +228,6 @@ pub(crate) fn read_ops<'a>(
         trace,
         beginning,
         form: read_form(matches),
-        filter: read_filter(matches)?,
+        filter: read_filter(matches, trace.targets)?,
     }))
 }

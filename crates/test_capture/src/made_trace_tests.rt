@@ -138,6 +138,7 @@ fn shown_of(
         targets,
         mappings: &[],
         glitch: 0,
+        late: None,
     };
     match read_capture(alloc, &setup, dump.as_slice()) {
         Ok(capture) => Ok(items_of(alloc, capture.stamped.as_slice())?),

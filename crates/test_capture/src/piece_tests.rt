@@ -34,6 +34,7 @@ fn shown(alloc: Global, form: CaptureForm, text: &str, length: usize) -> Result<
         targets: 1,
         mappings: &[],
         glitch: 0,
+        late: None,
     };
     match read_in_pieces(alloc, &setup, text.as_bytes(), length) {
         Ok(stamped) => {
@@ -134,6 +135,7 @@ fn memory_of_a_long_dump(rt: HostRuntime) -> Result<(), Fail> {
         targets: 1,
         mappings: &[],
         glitch: 0,
+        late: None,
     };
     let count = count_commands(&heap, rt.alloc(), &setup, 5_000)?;
     assert_eq!(rt; count, 5_000);
@@ -176,6 +178,7 @@ fn memory_of_a_long_table(rt: HostRuntime) -> Result<(), Fail> {
         targets: 1,
         mappings: &[],
         glitch: 0,
+        late: None,
     };
     let names = "CE#,CLE,ALE,WE#,RE#,DQ0,DQ1,DQ2,DQ3,DQ4,DQ5,DQ6,DQ7\n";
     let rows = "0,1,0,0,1,0,0,0,0,1,1,1,0\n0,1,0,1,1,0,0,0,0,1,1,1,0\n";

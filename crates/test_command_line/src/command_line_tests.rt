@@ -204,6 +204,7 @@ const CAPTURE: CaptureRequest<'static> = CaptureRequest {
     mappings: None,
     has_times: false,
     glitch: 0,
+    late: None,
     vendor: None,
 };
 
@@ -229,6 +230,14 @@ const CAPTURES: &[(&str, CaptureRequest<'static>)] = &[
         "capture p 2 x t --glitch 10",
         CaptureRequest {
             glitch: 10,
+            ..CAPTURE
+        },
+    ),
+    // How far behind the rise of RE# an output is taken.
+    (
+        "capture p 2 x t --outputs +12",
+        CaptureRequest {
+            late: Some(12),
             ..CAPTURE
         },
     ),
@@ -311,7 +320,7 @@ fn name_of(asked: Command<'_>) -> &'static str {
         Command::Run(_) => "run",
         Command::Assemble { .. } => "asm",
         Command::Disassemble { .. } => "dis",
-        Command::MakePage { .. } | Command::TakePage(_) | Command::ShowPage { .. } => "page",
+        Command::MakePage { .. } | Command::TakePage(_) | Command::ShowPage(_) => "page",
         Command::Upgrade { .. } => "upgrade",
         Command::AssembleFor { .. } => "asm --auto",
         Command::Verify(_) => "verify",

@@ -230,6 +230,9 @@ fn kind_of(mistake: &Mistake<'_>) -> UsageKind {
         Mistake::Base(_)
         | Mistake::Steps { .. }
         | Mistake::Glitch(_)
+        | Mistake::Outputs(_)
+        | Mistake::Declared(_)
+        | Mistake::NotMade(_)
         | Mistake::Mapping(_)
         | Mistake::Timing(_)
         | Mistake::Data(_)

@@ -17,8 +17,8 @@ use bus_capture::{Capture, CaptureRefusal, Setup, Stamped};
 use nand_geometry::Geometry;
 use recording::{
     CaptureConverter, CaptureRequest, CaptureTally, Ending, KeptCapture, PassedAmount,
-    RecordingFault, RecordingStop, TimeUnit, end_stopped, mappings_of, push_text, see_capture,
-    seen_at, steps_at, unit_of, words_of_fault,
+    RecordingFault, RecordingStop, TimeUnit, count_echoes, end_stopped, mappings_of, push_text,
+    see_capture, seen_at, steps_at, unit_of, words_of_fault,
 };
 use seq_files::{Files, NotConverted};
 use seq_inputs::{
@@ -213,6 +213,7 @@ fn show_capture<'p, F: Files>(
                 items,
                 unselected,
                 strobe_changes: 0,
+                echoes: count_echoes(seen.stamped.as_slice()),
                 unit: unit_of(request.has_times, capture.as_slice()),
             },
             amount,
@@ -299,6 +300,7 @@ fn capture_at<'p, F: Files>(
         targets: request.targets.count(),
         mappings: mappings.as_slice(),
         glitch: request.glitch,
+        late: request.late,
     };
     match give_capture(alloc, files, request, &setup, steps.as_slice()) {
         Ok(captured) => Ok(captured),
@@ -320,6 +322,13 @@ fn say_tally<E: Write>(errors: &mut E, tally: CaptureTally) {
             errors,
             "strobes left out, as no chip of this channel was enabled: {}",
             tally.unselected
+        );
+    }
+    if tally.echoes != 0 {
+        let _ = writeln!(
+            errors,
+            "the first output after `70` is 70, {} times: outputs of timing modes 4 and 5 (EDO) come behind the rise of RE#, where `--outputs +N` takes them",
+            tally.echoes
         );
     }
     if tally.items == 0 {

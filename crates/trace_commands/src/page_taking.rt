@@ -66,6 +66,7 @@ fn items_of_capture<'p>(
         targets: 1,
         mappings: mappings.as_slice(),
         glitch: 0,
+        late: None,
     };
     let seen = match see_capture(alloc, path, &setup, bytes) {
         Ok(seen) => seen,

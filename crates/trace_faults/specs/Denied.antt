@@ -114,15 +114,43 @@ after_addresses bus (Ard _ _ _) shown = shown
 
 -- ---- readies that are written
 
-abbrev pub is_ready_of : ℕ → Item → Bool
-is_ready_of ce (Cyc _) = false
-is_ready_of ce (Rdy other _ _) = other == ce
-is_ready_of ce (Ard _ _ _) = false
+-- the last command of a target asks for a status, by 70h or by 78h
+abbrev pub asks_by : Kind → (byte : ℕ) → (asks : Bool) → Bool
+asks_by Cmd byte asks = byte == 112 || byte == 120
+asks_by Adr byte asks = asks
+asks_by Din byte asks = asks
+asks_by Dout byte asks = asks
 
--- items tell when a LUN of this target becomes ready
+abbrev pub asks_after : ℕ → (asks : Bool) → Item → Bool
+asks_after ce asks (Cyc c) = if c.ce == ce then asks_by c.kind c.byte asks else asks
+asks_after ce asks (Rdy _ _ _) = asks
+asks_after ce asks (Ard _ _ _) = asks
+
+-- a ready of the target is written, and no cycle of it stands behind that yet
+abbrev pub waits_after : ℕ → (waits : Bool) → Item → Bool
+waits_after ce waits (Cyc c) = waits && not (c.ce == ce)
+waits_after ce waits (Rdy other _ _) = waits || other == ce
+waits_after ce waits (Ard _ _ _) = waits
+
+abbrev pub is_output : Kind → Bool
+is_output Cmd = false
+is_output Adr = false
+is_output Din = false
+is_output Dout = true
+
+-- the first cycle behind a ready shows that the ready is no more than what a status says, or it doesn't: only a line of the bus tells it then
+abbrev pub tells_by : ℕ → (asks waits : Bool) → Item → Bool
+tells_by ce asks waits (Cyc c) = waits && (c.ce == ce && not (asks && is_output c.kind))
+tells_by ce asks waits (Rdy _ _ _) = false
+tells_by ce asks waits (Ard _ _ _) = false
+
+abbrev pub tells_from : ℕ → (asks waits : Bool) → List Item → Bool
+tells_from ce asks waits [] = waits
+tells_from ce asks waits (i ∷ items) = tells_by ce asks waits i || tells_from ce (asks_after ce asks i) (waits_after ce waits i) items
+
+-- items tell when a LUN of this target becomes ready: by a ready that doesn't stand right before a status output of the target
 abbrev pub tells_readies : ℕ → List Item → Bool
-tells_readies ce [] = false
-tells_readies ce (i ∷ items) = is_ready_of ce i || tells_readies ce items
+tells_readies ce items = tells_from ce false false items
 
 -- the same of each of four targets
 abbrev pub told_in : List Item → List Bool

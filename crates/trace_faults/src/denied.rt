@@ -1,7 +1,7 @@
 //! Readies that a recording denies.
 ghost use Rattle.std.specs.Prelude.{◌≡◌, false, get_or, slice_set};
 ghost use Rattle.onfi_cycle.specs.Look.{looked};
-ghost use Rattle.trace_faults.specs.Denied.{drives, lun_drives, driving_lun, place_of, says_busy, busy_at, none_shown, reset_shown, busy_by, shown_busy_after, works_unseen, is_silent, silenced, is_address, after_addresses, is_ready_of, tells_readies, told_in, is_denied};
+ghost use Rattle.trace_faults.specs.Denied.{drives, lun_drives, driving_lun, place_of, says_busy, busy_at, none_shown, reset_shown, busy_by, shown_busy_after, works_unseen, is_silent, silenced, is_address, after_addresses, asks_by, asks_after, waits_after, is_output, tells_by, tells_from, tells_readies, told_in, is_denied};
 
 use crate::outside::is_status;
 use crate::trace_state::TraceState;
@@ -172,12 +172,52 @@ pub(crate) fn note_addresses(shown: &mut [bool; 16], bus: &BusState, item: Item)
     }
 }
 
-fn is_ready_of(ce: u8, item: Item) -> bool
-    ensures { result ≡ is_ready_of ce item }
+// Whether the last command of a target asks for a status.
+fn asks_by(kind: Kind, byte: u8, asks: bool) -> bool
+    ensures { result ≡ asks_by kind byte asks }
+{
+    match kind {
+        Kind::Cmd => byte == 0x70 || byte == 0x78,
+        Kind::Adr | Kind::Din | Kind::Dout => asks,
+    }
+}
+
+fn asks_after(ce: u8, asks: bool, item: Item) -> bool
+    ensures { result ≡ asks_after ce asks item }
 {
     match item {
-        Item::Rdy { ce: other, .. } => other == ce,
-        Item::Cyc(_) | Item::Ard { .. } => false,
+        Item::Cyc(cycle) if cycle.ce == ce => asks_by(cycle.kind, cycle.byte, asks),
+        Item::Cyc(_) | Item::Rdy { .. } | Item::Ard { .. } => asks,
+    }
+}
+
+// Whether a ready of the target is written, and no cycle of it stands behind that yet.
+fn waits_after(ce: u8, waits: bool, item: Item) -> bool
+    ensures { result ≡ waits_after ce waits item }
+{
+    match item {
+        Item::Cyc(cycle) => waits && cycle.ce != ce,
+        Item::Rdy { ce: other, .. } => waits || other == ce,
+        Item::Ard { .. } => waits,
+    }
+}
+
+fn is_output(kind: Kind) -> bool
+    ensures { result ≡ is_output kind }
+{
+    match kind {
+        Kind::Cmd | Kind::Adr | Kind::Din => false,
+        Kind::Dout => true,
+    }
+}
+
+// Whether the first cycle behind a ready shows that a line of the bus tells it, and no status.
+fn tells_by(ce: u8, asks: bool, waits: bool, item: Item) -> bool
+    ensures { result ≡ tells_by ce asks waits item }
+{
+    match item {
+        Item::Cyc(cycle) => waits && (cycle.ce == ce && !(asks && is_output(cycle.kind))),
+        Item::Rdy { .. } | Item::Ard { .. } => false,
     }
 }
 
@@ -185,12 +225,16 @@ fn is_ready_of(ce: u8, item: Item) -> bool
 fn tells_readies(ce: u8, items: &[Item]) -> bool
     ensures { result ≡ tells_readies ce items.now }
 {
+    let mut asks = false;
+    let mut waits = false;
     for item in items {
-        if is_ready_of(ce, *item) {
+        if tells_by(ce, asks, waits, *item) {
             return true;
         }
+        asks = asks_after(ce, asks, *item);
+        waits = waits_after(ce, waits, *item);
     }
-    false
+    waits
 }
 
 /// The targets whose readies items tell.

@@ -11,13 +11,14 @@ use Rattle.edge_commands.proofs.edges_judging.judge_file.Goals as goal
 pub returns-clause-ok : goal.returns-clause-ok
 returns-clause-ok g c =
     let request = c.args.request in
-    let setup : Setup = record { form = request.form; geometry = c.args.geometry; targets = c.count.result; mappings = c.as_slice.result; glitch = 0 } in
+    let setup : Setup = record { form = request.form; geometry = c.args.geometry; targets = c.count.result; mappings = c.as_slice.result; glitch = 0; late = None } in
     let is : IsEdgeSetup request c.args.geometry setup = record {
       form = refl;
       geometry = refl;
       targets = c.count.ensures.value;
       mappings = subst (λ (l : List Mapping). AreSaid (option_map (λ line. line.now) request.mappings) l) (sym c.as_slice.ensures.value) c.in_ok-mappings.ensures;
       glitch = refl;
+      late = refl;
     } in
     let judged : AreJudgedIn (g.F.Files.store c.args.files.now) request c.args.geometry = record {
       setup = setup;

@@ -1,6 +1,6 @@
-use Rattle.std.proofs.Common.{◌≡◌, drop}
-use Rattle.trace_faults.specs.Denied.{tells_readies}
+use Rattle.std.proofs.Common.{◌≡◌, drop, false}
+use Rattle.trace_faults.specs.Denied.{tells_from}
 use Rattle.trace_faults.proofs.denied.tells_readies.Given as goal
 
 abbrev pub invariant-loop-item : goal.invariant-loop-item
-invariant-loop-item l = tells_readies l.ce (drop l.item-index l.items) ≡ tells_readies l.ce l.items
+invariant-loop-item l = tells_from l.ce l.asks l.waits (drop l.item-index l.items) ≡ tells_from l.ce false false l.items
