@@ -150,6 +150,10 @@ static void note(struct channel *it, const struct cycle *at) {
     struct target *of = &it->of[at->ce];
     int command = at->bits & 0xff;
     if (at->kind == 'O') return;
+    if (at->kind == 'R') {
+        of->works = it->has_arrays;
+        return;
+    }
     if (at->kind != 'C') {
         of->works |= of->last != 0x78;
         return;
@@ -186,16 +190,18 @@ static int push_status(struct channel *it, const struct cycle *at) {
     return onfiseq_dpi_push_status(it, at->ce, 'O', at->bits & 0xff, 0);
 }
 
-/* Whether an output gives the status of the one LUN, which changes nothing: it shows no ready, or none of a LUN that works. */
+/* Whether what comes changes nothing of the one LUN: it doesn't work and is ready, or gives its status, which shows no ready, or none of a LUN that works. */
 static bool changes_nothing(const struct channel *it, const struct cycle *at) {
     const struct target *of = &it->of[at->ce];
+    if (at->kind == 'R') return it->targets == 1 && it->luns == 1 && !of->works;
     return at->kind == 'O' && it->luns == 1 && of->last == 0x70 && !of->passes && (!of->works || !(at->bits & (IS_READY | IS_ARRAY_READY)));
 }
 
 /* Whether what a target saw is judged with others in one call; a bit of data that is x or z looks like 0, as no rule looks at it. */
 static bool is_plain(const struct channel *it, const struct cycle *at) {
     const struct target *of = &it->of[at->ce];
-    if (of->passes || at->kind == 'R' || at->kind == UNCLEAR || at->kind == CLASH) return false;
+    if (at->kind == 'R') return it->targets == 1 && it->luns == 1;
+    if (of->passes || at->kind == UNCLEAR || at->kind == CLASH) return false;
     if (at->kind == 'O') return of->shows == DATA;
     return at->kind == 'I' || is_known(at);
 }
