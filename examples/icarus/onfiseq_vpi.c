@@ -87,7 +87,7 @@ static PLI_INT32 see(PLI_BYTE8 *data) {
     uint32_t unknown = scan_bits(arguments, &byte, 1);
     vpi_get_value(vpi_scan(arguments), &time);
     vpi_free_object(arguments);
-    answer(it == NULL ? 0 : onfiseq_dpi_see(it, enabled, kind, (int)(byte | unknown << 8), (long long)time.value.real));
+    answer(it == NULL ? 0 : onfiseq_dpi_see(it, enabled, kind, (int)((byte & ~unknown) | unknown << 8), (long long)time.value.real));
     return 0;
 }
 
