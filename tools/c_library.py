@@ -48,7 +48,6 @@ USERS = (
     ("live", ["{out}/live", CHIP, ERASE + ".asm", "4", "examples/small_chip/read_spare.asm", "0"], None, 0),
     ("stuck", ["{out}/stuck"], None, 0),
     ("driver", ["{out}/driver"], None, 0),
-    ("exec_op", ["{out}/exec_op", CHIP], None, 0),
     ("threads", ["{out}/threads", CHIP], None, 0),
     ("check", ["{out}/check", CHIP, ERASE + ".trace"], None, 0),
     ("check_busy", ["{out}/check", CHIP, "examples/c/busy.trace"], None, 1),
@@ -192,7 +191,7 @@ def compile_all():
     def run(*words):
         subprocess.run(words, check=True)
 
-    for name in ("layout", "monitor", "status", "loader", "live", "stuck", "driver", "exec_op", "check"):
+    for name in ("layout", "monitor", "status", "loader", "live", "stuck", "driver", "check"):
         run(*CC, "examples/c/%s.c" % name, *archives, "-o", "%s/%s" % (OUT, name))
     if archives_at == BUILT:  # the one C file has neither pictures nor notes, and asks for memory by realloc
         run(*CC, "-DROOM=16777216", "examples/c/loader.c", "examples/c/pool.c", *archives, "-o", OUT + "/loader_pool")

@@ -46,7 +46,7 @@ STEPS = {
         "tools/machines/try/compare.py --short",
     ),
     "clone": ("tools/clone.py",),
-    "c_file": ("tools/c_file.py", "tools/stacks.py --portable"),
+    "c_file": ("tools/c_file.py", "tools/stacks.py --portable", "tools/kernel_module.py"),
     "builds": (
         "make -s -j4",
         "tools/compare_builds.py --made 500",

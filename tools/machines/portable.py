@@ -12,6 +12,7 @@ import sys
 import frames
 import header
 import parts
+import runs
 
 HERE = os.path.dirname(os.path.abspath(__file__))
 PREFIX = "w2c_w_"
@@ -22,7 +23,7 @@ WRITTEN_ALONE = ("onfiseq_spot", "onfiseq_run")
 # What c/portable_head.c has of the names that wasm2c's functions use; a module that uses another is refused.
 KNOWN = {"sizeof", "if", "switch", "memory_fill", "memory_copy", "init_globals", "init_memories", "LOAD_DATA", "DIV_U", "REM_U"}
 KNOWN |= {"i%d_%s" % (bits, name) for bits in (32, 64) for name in ("load", "store", "load8_u", "load16_u", "load8_s", "load16_s", "store8", "store16")}
-KNOWN |= {"i64_load32_u", "i64_load32_s", "i64_store32", "module_alloc", "module_realloc", "module_dealloc"}
+KNOWN |= {"fill_zeros", "copy_bytes", "i64_load32_u", "i64_load32_s", "i64_store32", "module_alloc", "module_realloc", "module_dealloc"}
 KNOWN |= {"I%d_%s" % (bits, name) for bits in (32, 64) for name in ("CLZ", "CTZ", "POPCNT", "ROTL", "ROTR")}
 
 
@@ -206,7 +207,7 @@ def needed_records(calls, records):
 
 def written(header_path, module_path):
     """The C file."""
-    return written_around(shortened(functions_of(read(module_path))), header_path)
+    return written_around(runs.all_joined(shortened(functions_of(read(module_path)))), header_path)
 
 
 def written_around(text, header_path):

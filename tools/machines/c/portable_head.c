@@ -18,13 +18,19 @@
  *                         interrupts may be in the calls at once.
  *     ONFISEQ_THREAD      what the compiler calls a variable of each thread: _Thread_local, __thread or __declspec(thread), if nothing is said.
  *                         Defined as nothing, there is one memory for all, and one thread at a time may be in the calls.
- *     ONFISEQ_TRAP(why)   is called where the module can't go on, which the proofs exclude, and must not come back. Without it, abort is called.
+ *     ONFISEQ_TRAP(why)   is called where the module can't go on, which the proofs exclude, and must not come back. Without it, abort is called, and BUG in a kernel.
  *
  * Where there is no memory for a call, it answers 'O' and changes nothing: the code ONFISEQ_NO_MEMORY, or that letter in its answer. So does a call that comes
  * while another is in the same memory, as from a signal's handler. Without ONFISEQ_MEMORY threads may be in the calls at once, each with records of its own. */
 #include "onfiseq.h"
+#ifdef __KERNEL__
+#include <linux/bug.h>
+#define HAS_64_BITS (BITS_PER_LONG == 64)
+#else
 #include <stdlib.h>
 #include <string.h>
+#define HAS_64_BITS (SIZE_MAX > 0xffffffffu)
+#endif
 
 #ifndef ONFISEQ_MEMORY
 #define ONFISEQ_MEMORY 0
@@ -33,7 +39,11 @@
 #error "ONFISEQ_MEMORY says how many bytes ONFISEQ_ROOM lends"
 #endif
 #ifndef ONFISEQ_TRAP
+#ifdef __KERNEL__
+#define ONFISEQ_TRAP(why) BUG()
+#else
 #define ONFISEQ_TRAP(why) abort()
+#endif
 #endif
 #ifndef ONFISEQ_THREAD
 #if ONFISEQ_MEMORY || defined(__TINYC__)
@@ -77,7 +87,7 @@ static void stop(int why) {
 #define LOWEST (STACK_END - STACK_BYTES)
 
 /* How far from there a place is. On a processor of 32 bits a sum past those begins anew; what it leads to is tested as ever. */
-#if SIZE_MAX > 0xffffffffu
+#if HAS_64_BITS
 typedef u64 distance;
 #else
 typedef u32 distance;
@@ -175,6 +185,18 @@ INSTRUCTION void memory_fill(const struct memory *memory, u32 at, u32 value, u32
 
 INSTRUCTION void memory_copy(const struct memory *to_memory, const struct memory *from_memory, u32 to, u32 from, u32 count) {
     memmove(place(to_memory, to, count), place(from_memory, from, count), count);
+}
+
+/* The stores of a function that writes out a record, those side by side joined. In a line they would have each of their places kept in that function's frame. */
+#ifdef __GNUC__
+#define APART __attribute__((unused, __noinline__)) static
+#else
+#define APART static inline
+#endif
+APART void fill_zeros(const struct memory *memory, u32 base, u32 from, u32 count) { memset(place(memory, (u64)base + from, count), 0, count); }
+
+APART void copy_bytes(const struct memory *memory, u32 base, u32 to, u32 of, u32 from, u32 count) {
+    memmove(place(memory, (u64)base + to, count), place(memory, (u64)of + from, count), count);
 }
 
 INSTRUCTION u32 I64_POPCNT_32(u64 it) {
