@@ -1,5 +1,5 @@
 -- What judging the edges of a capture comes to.
-use Rattle.std.specs.Prelude.{◌≡◌, ◌⊎◌, ◌++◌, ℕ, List, [], ◌∷◌, Option, Ok}
+use Rattle.std.specs.Prelude.{◌≡◌, ◌⊎◌, ◌++◌, ℕ, List, [], ◌∷◌, Option, Ok, None}
 use Rattle.std.specs.Option.{option_map}
 use Rattle.seq_files.specs.Store.{Store, Holds}
 use Rattle.nand_geometry.specs.declared.parts.Parts.{Parts}

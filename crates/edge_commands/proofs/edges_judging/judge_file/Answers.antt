@@ -1,4 +1,4 @@
-use Rattle.std.proofs.Common.{◌≡◌, ℕ, List, Ok, Option, sym, subst, refl}
+use Rattle.std.proofs.Common.{◌≡◌, ℕ, List, Ok, Option, sym, subst, refl, None}
 use Rattle.std.specs.Option.{option_map}
 use Rattle.bus_signals.specs.declared.mapping.Mapping.{Mapping}
 use Rattle.bus_capture.specs.declared.reading.Setup.{Setup}
