@@ -15,7 +15,7 @@ _onfiseq() {
         explain) options='--profile --json -h --help' places=('FILE' 'FILE') ;;
         once) options='--base -h --help' places=() ;;
         run) options='--profile --workers --max-steps --quiet --times --trace --wave --draw --stats -h --help' places=('FILE') ;;
-        capture) options='--profile --map --csv --times --glitch --vendor -h --help' places=('FILE' '1 2 3 4' 'FILE' 'FILE') ;;
+        capture) options='--profile --map --csv --times --glitch --outputs --vendor -h --help' places=('FILE' '1 2 3 4' 'FILE' 'FILE') ;;
         check) options='--profile --all --recorded --readies-from-status --assume-ready --from-middle --bytes --notes --write --json --vendor --timing --unit --slack --data --on --erased -h --help' places=('FILE' '1 2 3 4' 'FILE') ;;
         timing) options='--profile --timing --all --unit --slack --map --csv -h --help' places=('FILE' '1 2 3 4' 'FILE') ;;
         image) options='--profile --on --reads --recorded --readies-from-status --vendor -h --help' places=('FILE' '1 2 3 4' 'FILE' '0 1 2 3' '0 1 2 3' 'FILE') ;;
@@ -23,7 +23,7 @@ _onfiseq() {
         wave) options='--profile --recorded --vendor -h --help' places=('FILE' '1 2 3 4' 'FILE' 'FILE') ;;
         draw) options='--profile --recorded --vendor -h --help' places=('FILE' '1 2 3 4' 'FILE' 'FILE') ;;
         dis) options='-h --help' places=('FILE') ;;
-        page) options='--show --from --map --csv --data --spare --pages --blocks --luns --planes --cache --status-enhanced --vendor -h --help' places=('FILE') ;;
+        page) options='--show --from --map --csv --data --spare --pages --blocks --luns --planes --cache --status-enhanced --declare --profile --vendor -h --help' places=('FILE') ;;
         upgrade) options='-h --help' places=('FILE' 'FILE') ;;
         help) options='' places=('COMMAND') ;;
         *) return ;;
@@ -72,6 +72,7 @@ _onfiseq_value() {
         run--draw) value='FILE' ;;
         capture--profile) value='base onfi' ;;
         capture--glitch) value='ANY' ;;
+        capture--outputs) value='ANY' ;;
         capture--vendor) value='FILE' ;;
         check--profile) value='base onfi' ;;
         check--write) value='FILE' ;;
@@ -101,6 +102,8 @@ _onfiseq_value() {
         page--blocks) value='ANY' ;;
         page--luns) value='ANY' ;;
         page--planes) value='1 2 4' ;;
+        page--declare) value='FILE' ;;
+        page--profile) value='base onfi' ;;
         page--vendor) value='FILE' ;;
     esac
 }
