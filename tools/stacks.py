@@ -16,7 +16,9 @@ sys.path[:0] = ["tools/machines"]
 import header
 import parts
 
-HEADER, SOURCE, ROOM = "include/onfiseq.h", os.environ.get("SOURCE", "release/onfiseq.c"), "out/stacks"
+HEADER, SOURCE = "include/onfiseq.h", os.environ.get("SOURCE", "release/onfiseq.c")
+# Both forms are measured at once in the gate.
+ROOM = "out/stacks" + "_portable" * ("--portable" in sys.argv)
 LIBRARIES = ("onfiseq_c", "onfiseq_verify_c", "onfiseq_text_c", "onfiseq_live_c", "onfiseq_show_c")
 ARCHIVES = ["crates/{0}/out/lib{0}.a".format(name) for name in LIBRARIES]
 CHIP = "examples/small_chip/chip.page"
