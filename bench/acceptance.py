@@ -3,9 +3,11 @@
 N random programs of each shape are judged twice: by `onfiseq_verify`, and by going all their ways, each cycle asked of `onfiseq_push_all` on a channel
 of its own. Nothing of the verifier is used for the second. LIBRARY names libonfiseq.so, else it is out/libonfiseq.so (tools/c_library.py builds it).
 SHAPE is a part of a name as `loops2` is, all of them if it is empty. With `ways` the second judgement is compared with what the verifier says of each
-way by itself. SMALLEST is of how many refused programs, for each code and word, the smallest one like it is looked for.
+way by itself. SMALLEST is of how many refused programs, for each code and word, the smallest one like it is looked for. ROWS names the table of the page,
+docs/model/acceptance.tsv, to which a row for each shape goes; `tools/house.py --write` brings it into the page.
 """
 import ctypes
+import datetime
 import os
 import random
 import re
@@ -13,8 +15,10 @@ import sys
 from collections import Counter
 from pathlib import Path
 
-sys.path.insert(0, str(Path(__file__).resolve().parents[1] / "examples/python"))
+ROOT = Path(__file__).resolve().parents[1]
+sys.path[:0] = [str(ROOT / "examples/python"), str(ROOT / "tools")]
 import onfiseq
+import shares
 
 DATA, SPARE, PAGES, BLOCKS, PLANES = 512, 16, 8, 1024, 2
 ROWS, BUFFER, BUDGET = 4096, 1_000_000, 4_000_000_000  # of the header: ample, and the rows are all there are
@@ -882,6 +886,12 @@ def compare(lib, shape, luns, count, seed):
         print("    %s: %s" % (fault, "; ".join(map(line_of, words))))
 
 
+def row_of(shape, luns, tally):
+    """A row of the page's table."""
+    clear = (tally.clear_right, sum(tally.clear_refused.values()))
+    return shares.Share(shape, luns, tally.programs, tally.right, len(tally.refused), *clear, str(datetime.date.today()), shares.sum_of(shares.VERIFIER))
+
+
 def main():
     count, seed = int(sys.argv[1]), sys.argv[2] if len(sys.argv) > 2 else "1"
     only = sys.argv[3] if len(sys.argv) > 3 else ""
@@ -894,6 +904,8 @@ def main():
         else:
             oracle, tally = measure(lib, shape, luns, count, seed)
             report(lib, shape, luns, oracle, tally, int(os.environ.get("SMALLEST", "8")))
+            if "ROWS" in os.environ:
+                shares.keep(Path(os.environ["ROWS"]), row_of(shape, luns, tally))
 
 
 if __name__ == "__main__":

@@ -4,8 +4,10 @@ N random programs of each shape are made and judged as `acceptance.py` makes and
 refused with `--counter`, and `check` judges the trace that it writes. A line of a shape counts the refused programs that are wrong by the oracle, how many of
 them have a run and how many have it at the refused word; the refused programs that are right, and how many of them have a run, which none should; those that
 break on ways alone that no status byte leads along; and the runs of which `check` says something else than `verify`.
-LIBRARY is as in `acceptance.py`. SHOWN=1 prints each wrong program without a run.
+LIBRARY is as in `acceptance.py`. SHOWN=1 prints each wrong program without a run. ROWS names the table of the page, docs/model/refused_runs.tsv, to which a row for
+each shape goes.
 """
+import datetime
 import os
 import random
 import re
@@ -17,6 +19,7 @@ from pathlib import Path
 
 import acceptance
 import onfiseq
+import shares
 
 RULES = {"V7", "V11", "V12", "V16"}
 
@@ -67,6 +70,12 @@ def measure(lib, program, shape, luns, count, seed, folder):
     return tally
 
 
+def row_of(shape, luns, count, tally):
+    """A row of the page's table."""
+    counted = (tally[key] for key in ("wrong", ("wrong", "run"), ("wrong", "same"), "right", ("right", "run"), "unmet"))
+    return shares.Runs(shape, luns, count, *counted, str(datetime.date.today()), shares.sum_of(shares.SEARCH))
+
+
 def main():
     count, seed = int(sys.argv[1]), sys.argv[2] if len(sys.argv) > 2 else "1"
     only, program = sys.argv[3] if len(sys.argv) > 3 else "", os.path.abspath(sys.argv[4] if len(sys.argv) > 4 else "bin/onfiseq")
@@ -81,6 +90,8 @@ def main():
             % (shape, luns, *(tally[key] for key in ("wrong", ("wrong", "run"), ("wrong", "same"), "right", ("right", "run"), "unmet", ("unmet", "run"))), sum(tally[kind, "untrue"] for kind in ("wrong", "right", "unmet"))),
             flush=True,
         )
+        if "ROWS" in os.environ:
+            shares.keep(Path(os.environ["ROWS"]), row_of(shape, luns, count, tally))
 
 
 main()

@@ -51,7 +51,7 @@ from pathlib import Path
 
 ROOT = Path(__file__).resolve().parent.parent
 FOLDER = ROOT / "tools/cases"
-SECONDS = 60
+SECONDS = 600  # beside other work a command takes many times what it takes alone
 MOST_SHOWN = 500
 ESCAPES = {"n": "\n", "r": "\r", "t": "\t", "\\": "\\"}
 STREAMS = ("out", "err")

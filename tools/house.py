@@ -5,18 +5,21 @@
 
 at the root; it takes seconds and proves nothing. It looks at
 
-- the crates by layer: docs/develop/ARCHITECTURE.md's picture and counts, from crates.txt, whose lines stand under headings;
+- the crates that carry the house, with what they stand on: docs/develop/ARCHITECTURE.md's picture, and its counts, from crates.txt, whose lines stand under headings;
 - the way of the data, as a picture;
 - what a change of a crate proves again, in minutes, and which rows are older than their crate's text: docs/develop/GATE.md, from docs/develop/minutes.tsv
   (`minutes.py`), which `gate_minutes.py --table` writes;
 - the wrong bodies by what they do: docs/model/WRONG_BODIES.md, from the edits of the crates and from the rows of that page that say which were tried;
 - the tables of pauses (PINS), of bounds of work (TIMING), of the sizes of records (C), and of where commands of the bus and catch-alls stand (ARCHITECTURE),
   from the sources (`tables.py`);
-- each name in backticks of four pages, which must stand somewhere in the repository, and of each page in the crate or the file that the page names for it
-  (`signpost.py`); each file that a page names;
+- the shares of right programs that are refused: docs/model/ACCEPTANCE.md, from what two benches have written (`shares.py`);
+- the names of `page --declare` in DATASHEET's table;
+- each name in backticks of five pages, which must stand somewhere in the repository, and of each page in the crate or the file that the page names for it
+  (`signpost.py`); each file that a page names; each link, and that each page of docs has one to it;
 - the crates of ARCHITECTURE's table, which must be all; lines over 200 characters outside of tables; and PROVED.md's lines, at most 200;
 - each crate that crates.txt names for another, which must stand in a file of that one;
 - the number of the release: what says it besides release/VERSION, which has it;
+- what the header declares: docs/develop/declarations.txt, and that ONFISEQ_VERSION counts up where a declaration has changed or is gone (`declarations.py`);
 - the figures of the libraries for C: the tables of C.md and SPEED.md, and whether they are of the header's records (`figures.py`).
 
 What is made stands in a page between a line `<!-- house: NAME -->` and a line `<!-- end -->`.
@@ -26,8 +29,10 @@ import re
 import sys
 from pathlib import Path
 
+import declarations
 import figures
 import minutes
+import shares
 import signpost
 import tables
 
@@ -36,10 +41,10 @@ WRONG_BODIES = "docs/model/WRONG_BODIES.md"
 # What a page has of the sources, and which function makes it (`tables.py`).
 OF_SOURCES = {
     "pauses": tables.table_pauses, "bounds": tables.table_bounds, "records": tables.table_records,
-    "commands": tables.table_commands, "catch_alls": tables.table_catch_alls,
+    "commands": tables.table_commands, "catch_alls": tables.table_catch_alls, "shares": shares.table_shares, "runs": shares.table_runs,
 }
-PAGES_OF_SOURCES = ("docs/use/PINS.md", "docs/use/TIMING.md", "docs/use/C.md")
-LOOKED_UP = ("docs/model/PROVED.md", "docs/model/PROOF.md", "docs/develop/ARCHITECTURE.md", "docs/develop/GATE.md")
+PAGES_OF_SOURCES = ("docs/use/PINS.md", "docs/use/TIMING.md", "docs/use/C.md", "docs/model/ACCEPTANCE.md")
+LOOKED_UP = ("docs/model/PROVED.md", "docs/model/PROOF.md", "docs/develop/ARCHITECTURE.md", "docs/develop/DOORS.md", "docs/develop/GATE.md")
 SOURCES = ("crates", "tools", "examples", "bench", "include", "bin", "release")
 # Crates whose wrong bodies were written and not tried since; one that `wrong_bodies.py --write` has tried has a row, and so no such words.
 UNTRIED = ("csv_text", "vendor_file")
@@ -119,40 +124,56 @@ def sheet(wide, high, name, drawn):
             f'<title>{html.escape(name)}</title>\n<rect width="{wide}" height="{high}" fill="#ffffff"/>\n{drawn}</svg>\n')
 
 
-def draw_layer(crates, y, wide):
-    """The boxes of a layer's crates in rows, and where the next layer begins."""
-    drawn, x = "", 12
-    for crate in crates:
-        width = 16 + 7 * len(crate.name)
-        if x + width > wide:
-            x, y = 12, y + 30
-        note = f"{crate.name} stands on " + (", ".join(crate.named) or "nothing")
-        drawn, x = drawn + box(x, y, width, crate.name, note), x + width + 8
-    return drawn, y + 38
+# The crates that carry the house: the middle of each box from left to right, and its row.
+CARRIERS = {
+    "seq_cli": (430, 0), "program_commands": (130, 1), "seq_run": (430, 1), "trace_commands": (740, 1), "micro_verify": (90, 2), "recording": (740, 2),
+    "seq_inputs": (300, 3), "channel_work": (480, 3), "seq_live": (610, 3), "trace_faults": (800, 3), "micro_walk": (130, 4), "seq_core": (450, 4),
+    "micro_program": (250, 5), "target_bus": (470, 5), "onfi_cycle": (430, 6), "nand_geometry": (430, 7),
+}
+WIDE, ROW = 870, 56
+
+
+def list_below(crates, name):
+    """The crates on which this one stands."""
+    below = {it for it in crates[name].named if it in crates}
+    return below.union(*(list_below(crates, it) for it in below))
+
+
+def list_edges(crates):
+    """From each crate that carries the house to those of them that its line names, where none of these stands on another."""
+    for name in CARRIERS:
+        named = [it for it in crates[name].named if it in CARRIERS]
+        yield from ((name, under) for under in named if not any(under in list_below(crates, between) for between in named))
 
 
 def draw_layers(crates):
-    """The crates in their layers: what is higher stands on what is lower."""
-    layers = list(dict.fromkeys(crate.layer for crate in crates.values()))
-    drawn, y, wide = "", 8, 860
-    for layer in reversed(layers):
-        drawn += f'<text x="12" y="{y + 12}" font-weight="bold">{html.escape(layer)}</text>\n'
-        boxes, y = draw_layer([crate for crate in crates.values() if crate.layer == layer], y + 20, wide)
-        drawn += boxes
-    return sheet(wide, y, "The crates by layer; what is higher stands on what is lower", drawn)
+    """The crates that carry the house, each with an arrow to what it stands on."""
+    lines = boxes = ""
+    for name, under in list_edges(crates):
+        (x, row), (to_x, to_row) = CARRIERS[name], CARRIERS[under]
+        lines += f'<line x1="{x}" y1="{36 + ROW * row}" x2="{to_x}" y2="{12 + ROW * to_row}" stroke="#333" marker-end="url(#head)"/>\n'
+    for name, (x, row) in CARRIERS.items():
+        wide, above = 16 + 7 * len(name), len(list_above(crates, name)) - 1
+        boxes += box(x - wide / 2, 12 + ROW * row, wide, name, f"{name} stands on {', '.join(crates[name].named) or 'nothing'}; {above} crates stand on it")
+    high = 48 + ROW * max(row for _, row in CARRIERS.values())
+    return sheet(WIDE, high, "The crates that carry the house; an arrow goes to what a crate stands on", HEAD + lines + boxes)
 
 
 # Each step of the data, where it stands, and the crates that make it.
 STEPS = {
-    "assembly text": (20, 20, "micro_asm"), "words": (180, 20, "micro_word, word_file"), "verified program": (300, 20, "micro_verify"),
-    "job": (460, 20, "job_queue, run_plan"), "sequencer": (560, 20, "seq_core, channel_work"), "modelled dies": (700, 20, "target_bus, die_model"),
-    "real pins": (700, 80, "seq_live"), "trace": (560, 140, "trace_text"), "check": (420, 140, "trace_faults, trace_commands"),
-    "waveform": (700, 130, "trace_wave"), "picture": (700, 164, "trace_picture, trace_page"), "capture (VCD, CSV)": (500, 206, "vcd_text, csv_text, bus_capture"),
-    "refusal, and its run": (300, 80, "micro_explain, micro_verify"), "libraries for C": (120, 140, "onfiseq_c, onfiseq_verify_c, onfiseq_text_c, onfiseq_live_c"),
+    "assembly text": (20, 20, "micro_asm"), "words": (180, 20, "micro_word, word_file"), "verified program": (290, 20, "micro_verify"),
+    "job": (470, 20, "job_queue, run_plan"), "sequencer": (560, 20, "seq_core, channel_work"), "modelled dies": (710, 20, "target_bus, die_model"),
+    "refusal, and its run": (290, 84, "micro_explain, refused_run"), "real pins": (600, 84, "seq_live"),
+    "capture (VCD, CSV)": (20, 148, "vcd_text, csv_text, bus_capture"), "trace": (420, 148, "trace_text"), "image of a die": (700, 148, "trace_data, die_model"),
+    "edges judged": (20, 222, "edge_timing, edge_commands"), "rules judged": (148, 222, "trace_faults, recording"), "times judged": (270, 222, "trace_timing, busy_times"),
+    "data judged": (392, 222, "trace_data"), "operations": (506, 222, "trace_ops, operation_commands"), "waveform": (612, 222, "trace_wave"),
+    "picture": (704, 222, "trace_picture, trace_page"),
 }
 ARROWS = (("assembly text", "words"), ("words", "verified program"), ("verified program", "job"), ("job", "sequencer"), ("sequencer", "modelled dies"),
-          ("sequencer", "real pins"), ("verified program", "refusal, and its run"), ("sequencer", "trace"), ("trace", "check"), ("trace", "waveform"),
-          ("trace", "picture"), ("capture (VCD, CSV)", "trace"), ("refusal, and its run", "trace"), ("check", "libraries for C"), ("verified program", "libraries for C"))
+          ("sequencer", "real pins"), ("verified program", "refusal, and its run"), ("sequencer", "trace"), ("refusal, and its run", "trace"),
+          ("capture (VCD, CSV)", "trace"), ("capture (VCD, CSV)", "edges judged"), ("trace", "rules judged"), ("trace", "times judged"), ("trace", "data judged"),
+          ("trace", "operations"), ("trace", "waveform"), ("trace", "picture"), ("trace", "image of a die"), ("image of a die", "modelled dies"))
+HEAD = '<defs><marker id="head" markerWidth="8" markerHeight="8" refX="7" refY="4" orient="auto"><path d="M0 0 L8 4 L0 8 z" fill="#333"/></marker></defs>\n'
 
 
 def wide_of(step):
@@ -160,12 +181,10 @@ def wide_of(step):
 
 
 def draw_arrow(start, end):
-    """A line between two boxes, with a head: from side to side where one stands beside the other, and else from edge to edge."""
+    """A line between two boxes, with a head: from side to side in a row, else from edge to edge."""
     (x, y, _), (to_x, to_y, _) = STEPS[start], STEPS[end]
-    if x + wide_of(start) < to_x:
+    if y == to_y:
         here, there = (x + wide_of(start), y + 12), (to_x, to_y + 12)
-    elif to_x + wide_of(end) < x:
-        here, there = (x, y + 12), (to_x + wide_of(end), to_y + 12)
     else:
         here = (x + wide_of(start) / 2, y + 24 if y < to_y else y)
         there = (to_x + wide_of(end) / 2, to_y if y < to_y else to_y + 24)
@@ -174,10 +193,9 @@ def draw_arrow(start, end):
 
 def draw_data():
     """The way of the data: from a text to cycles on a bus, and from a bus to a verdict."""
-    head = '<defs><marker id="head" markerWidth="8" markerHeight="8" refX="7" refY="4" orient="auto"><path d="M0 0 L8 4 L0 8 z" fill="#333"/></marker></defs>\n'
     arrows = "".join(draw_arrow(start, end) for start, end in ARROWS)
     boxes = "".join(box(x, y, wide_of(step), step, f"{step}: {made}") for step, (x, y, made) in STEPS.items())
-    return sheet(860, 240, "The way of the data", head + arrows + boxes)
+    return sheet(WIDE, 262, "The way of the data: each arrow is what becomes of it", HEAD + arrows + boxes)
 
 
 # ---- tables
@@ -189,6 +207,12 @@ def count_house(crates):
     beside = sum(len(crate.edits("wrong")) for crate in crates.values())
     return (f"{len(others)} crates with {sum(crate.functions() for crate in others)} functions, and {len(tests)} crates of tests with "
             f"{sum(crate.functions() for crate in tests)}.\n{in_gate} wrong bodies are tried by the gate, {beside} beside it.\n")
+
+
+def say_measured(measured):
+    """When the rows were measured, by which kits, and at which paces, of the lines that say it of each run."""
+    days, kits, paces = (sorted({found[1] for line in measured for found in [re.search(pattern, line)] if found}) for pattern in (r"^([\d-]+)", r"(rattle-kit-\w+)", r"pace ([\d.]+)"))
+    return f"Measured in {len(measured)} runs, on {', '.join(days)}, by {', '.join(kits)}, at paces of {paces[0]} to {paces[-1]}."
 
 
 def table_costs(crates):
@@ -204,7 +228,7 @@ def table_costs(crates):
     every = " | ".join(f"{sum(rows.get(name, none).minutes[kind] for name in crates):.0f}" for kind in minutes.KINDS)
     older = sum(rows.get(name, none).is_older(name) for name in crates)
     lines.append(f"| all | {every} | {sum(own.values()):.0f} min | {older} older |")
-    return "\n".join([*lines, "", *(f"Measured {line}." for line in measured)]) + "\n"
+    return "\n".join([*lines, "", say_measured(measured)]) + "\n"
 
 
 def meaning_of(edit):
@@ -300,14 +324,16 @@ def main():
     wanted.update({path: number_release(path, pattern, number) for path, pattern in NUMBERED.items()})
     places = {name for text in wanted.values() for _, name, _ in MADE.findall(text)}
     faults = [f"no page has a place for `{name}`: a line <!-- house: {name} --> and a line <!-- end -->" for name in made if name not in places]
-    faults += figures.faults()
+    faults += [*figures.faults(), *declarations.faults()]
+    if not declarations.faults():
+        wanted["docs/develop/declarations.txt"] = declarations.written(declarations.HEADER.read_text(encoding="utf-8"))
     for path, text in wanted.items():
         file = ROOT / path
         if "--write" in sys.argv:
             file.write_text(text, encoding="utf-8")
         if not file.exists() or file.read_text(encoding="utf-8") != text:
             faults.append(f"{path} isn't what the crates and release/VERSION say: python3 tools/house.py --write")
-    faults += [*find_stale_names(), *find_unused(crates), *find_unnamed_release(number), *signpost.find_all(crates)]
+    faults += [*find_stale_names(), *find_unused(crates), *find_unnamed_release(number), *tables.find_unnamed(), *signpost.find_all(crates)]
     print("\n".join(faults) or f"house: {len(crates)} crates, and the pages say what they are")
     sys.exit(1 if faults else 0)
 

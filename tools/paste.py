@@ -23,7 +23,7 @@ from pathlib import Path
 
 ROOT = Path(__file__).resolve().parent.parent
 PROGRAM = Path(sys.argv[1] if len(sys.argv) > 1 else ROOT / "crates/onfiseq/out/onfiseq").resolve()
-PAGES = ("README.md", *(f"docs/use/{name}.md" for name in ("COMMANDS", "ASSEMBLY", "WORDS", "JSON", "TRACES", "RUNFILES", "IMAGES", "NOTES", "WAVES", "CAPTURES", "PAGES", "VENDOR", "OPERATIONS", "TIMING", "DATA", "TUTORIAL", "TROUBLESHOOTING")))
+PAGES = ("README.md", *(f"docs/use/{name}.md" for name in ("COMMANDS", "ASSEMBLY", "WORDS", "JSON", "TRACES", "RUNFILES", "IMAGES", "NOTES", "WAVES", "CAPTURES", "PAGES", "VENDOR", "OPERATIONS", "TIMING", "DATA", "TUTORIAL", "TROUBLESHOOTING", "DATASHEET", "PINS")))
 COMMANDS = ("onfiseq", "./onfiseq", "bin/onfiseq", "cc", "make", "cd", "printf", "echo", "sed", "python3")
 SECONDS = 180
 # For a machine without this tool of vim's.

@@ -1,4 +1,5 @@
 """Whether the pages are in form, and whether a name stands where a page says that it stands."""
+import os
 import re
 
 from sources import ROOT
@@ -84,5 +85,31 @@ def find_unlisted(crates):
     yield from (f"{page}: a row is of {name}, and no crate" for name in sorted(named) if name not in crates)
 
 
+def anchor_of(heading):
+    """The anchor that a heading of Markdown gets."""
+    return re.sub(r"[^\w\- ]", "", heading.strip().lower()).replace(" ", "-")
+
+
+def list_links(path, lines):
+    """The links of a page to files of the repository: the line, the path and the anchor."""
+    for number, line in enumerate(lines, 1):
+        for target in re.findall(r"\]\(([^)\s]+)\)", line):
+            if "://" not in target:
+                file, _, anchor = target.partition("#")
+                yield number, os.path.normpath(os.path.join(os.path.dirname(path), file)) if file else path, anchor
+
+
+def find_lost_links():
+    """Links to a file or a heading that isn't there, and pages of docs to which no other page has a link."""
+    pages, linked = dict(list_pages()), set()
+    anchors = {path: {anchor_of(line.lstrip("#")) for line in lines if line.startswith("#")} for path, lines in pages.items()}
+    for path, lines in pages.items():
+        for number, target, anchor in list_links(path, lines):
+            linked.add(target if target != path else "")
+            if not (ROOT / target).exists() or anchor and target in anchors and anchor not in anchors[target]:
+                yield f"{path}:{number}: there is no {target}{'#' if anchor else ''}{anchor}"
+    yield from (f"{path}: no other page has a link to it" for path in pages if path.startswith("docs/") and path not in linked)
+
+
 def find_all(crates):
-    return [*find_long(), *find_misplaced(crates), *find_missing_files(crates), *find_unlisted(crates)]
+    return [*find_long(), *find_misplaced(crates), *find_missing_files(crates), *find_unlisted(crates), *find_lost_links()]

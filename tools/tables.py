@@ -9,6 +9,8 @@ BOUNDS = "crates/busy_times/src/bound.rt"
 BUSY_TIMES = "crates/trace_timing/src/busy_time.rt"
 PAGE_TIMES = "crates/trace_timing/src/page_times.rt"
 HEADER = "include/onfiseq.h"
+OPTIONAL = "crates/page_commands/src/optional_parts.rt"
+DATASHEET = "docs/use/DATASHEET.md"
 # A command of the bus for which ARCHITECTURE says where it stands.
 SAMPLE = "ProgramCache"
 # The enums of ARCHITECTURE's "To add something", and where each stands.
@@ -145,6 +147,16 @@ def table_records():
     """The sizes of the records, as the header has each compiler compare them; those with which two libraries are compared are left out."""
     sizes = re.findall(r"^ONFISEQ_SIZE\((?!\w*abi|\w*sample)(\w+), (\d+)\);", read_text(HEADER), re.M)
     return head("record", "bytes") + "".join(row(f"`struct onfiseq_{name}`", f"{int(size):,}") for name, size in sizes)
+
+
+# ---- names of `page --declare`
+
+def find_unnamed():
+    """Names of `page --declare` that DATASHEET's table leaves out, and names there that `page` doesn't take."""
+    known = set(re.findall(r'name: "([\w-]+)"', read_text(OPTIONAL)))
+    table = read_text(DATASHEET).partition("## What wants")[2].partition("\n## ")[0]
+    named = {name for name in re.findall(r"\| `([\w-]+)` \|$", table, re.M) if not name.startswith("--")}
+    yield from (f"{DATASHEET}: {name} is {'left out' if name in known else 'no name of page --declare'}" for name in sorted(known ^ named))
 
 
 # ---- where a new variant goes

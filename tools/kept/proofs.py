@@ -48,7 +48,7 @@ class Kept:
         return sum_of_json(rows)
 
     def key(self, crate, part):
-        """A sum of all that the verdict hangs on: the kit, HANDLES, the crate's line and text, and the libraries below. None where they aren't known."""
+        """A sum of all that the verdict depends on: the kit, HANDLES, the crate's line and text, and the libraries below. None where they aren't known."""
         below = [[it.name, self.libraries.get(it.name)] for it in crate.below()]
         sources = self.sources(crate)
         if sources is None or any(it is None for _, it in below):

@@ -83,7 +83,7 @@ fn fault_at(faults: &[BrokenRule], item: usize) -> Option<BrokenRule> {
     }
 }
 
-// What was taken for ready before an item, among these.
+// The LUN that was assumed ready before an item, among these.
 fn not_shown_at(told: &[NotShown], item: usize) -> Option<NotShown> {
     let place = told.partition_point(|told| told.item < item);
     match told.get(place) {
@@ -117,15 +117,12 @@ fn push_granted(text: &mut String, trace: &ListedTrace, item: usize) -> Result<(
     Ok(())
 }
 
-// Adds the LUN that was taken for ready before an item.
+// Adds the LUN that was assumed ready before an item.
 fn push_not_shown(text: &mut String, trace: &ListedTrace, item: usize) -> Result<(), AllocError> {
     if let Some(told) = not_shown_at(trace.not_shown.as_slice(), item) {
         let lun = told.ready.lun.lun;
         let item = trace.place(item);
-        writeln!(
-            text,
-            "{INDENT}at {item}: not shown ready: LUN {lun} is taken for ready here"
-        )?;
+        writeln!(text, "{INDENT}at {item}: LUN {lun} is assumed ready")?;
     }
     Ok(())
 }

@@ -6,6 +6,9 @@ use std::alloc::{AllocError, Allocator};
 // How many of the aspects are of the program's registers.
 const OF_REGISTERS: usize = 5;
 
+// How many are told before the first word: those, that nothing is open, and that the LUN is ready.
+const OF_BEGINNING: usize = 7;
+
 // The comments before the words, what was said last of each aspect, and whether nothing was known before the last word.
 #[derive(Drop)]
 struct Comments<A: Allocator> {
@@ -80,17 +83,26 @@ impl<A: Allocator + Clone> Comments<A> {
         )
     }
 
-    // What is known before a word: all where ways meet and at the first word, else what is new.
+    // What a program begins with.
+    fn push_beginning(&mut self, facts: &[String<A>]) -> Result<(), AllocError> {
+        let (told, _) = facts.split_at(OF_BEGINNING.min(facts.len()));
+        push_facts(&mut self.lines, told)
+    }
+
+    // What is known before a word: all where ways meet, what it begins with before the first word, else what is new.
     fn push_known(
         &mut self,
         facts: Option<Vec<String<A>, A>>,
+        is_first: bool,
         is_whole: bool,
     ) -> Result<(), AllocError> {
         let Some(facts) = facts else {
             return self.push_lost();
         };
         self.is_lost = false;
-        if is_whole {
+        if is_first {
+            self.push_beginning(facts.as_slice())?;
+        } else if is_whole {
             self.push_all(facts.as_slice())?;
         } else {
             push_new_facts(&mut self.lines, facts.as_slice(), self.said.as_slice())?;
@@ -111,7 +123,7 @@ impl<A: Allocator + Clone> Comments<A> {
             writeln!(self.lines, "; ways meet: {brought}")?;
         }
         let facts = explained.facts(alloc, word)?;
-        self.push_known(facts, word == 0 || meeting.is_some())?;
+        self.push_known(facts, word == 0, meeting.is_some())?;
         match explained.refusal_at(word) {
             None => Ok(()),
             Some(fault) => writeln!(

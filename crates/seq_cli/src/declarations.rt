@@ -67,7 +67,7 @@ const RECORDED: Declared = Declared {
 
 const READIES_FROM_STATUS: Declared = Declared {
     name: "readies-from-status",
-    help: "For a trace that was recorded on a bus: a status output that shows RDY or ARDY has the ready before it that it shows",
+    help: "For a recording without readies: where a status output first shows a LUN or its array ready, that ready is put before it",
     ..FLAG
 };
 
@@ -81,7 +81,7 @@ const VENDOR: Declared = Declared {
 const PROFILE: Declared = Declared {
     name: "profile",
     form: Form::Value("PROFILE"),
-    help: "`onfi` takes besides the commands of the base profile the optional ones that the page declares; `base` if nothing is said",
+    help: "Which commands are known: `base`, or `onfi`, the optional ones too that the page declares; `base` if not given",
     choices: Choices::Profiles,
     ..REQUIRED
 };
@@ -122,7 +122,7 @@ pub(crate) const ASSEMBLE: Declaration = Declaration {
             ..REQUIRED
         },
         Declared {
-            help: "With `--auto`: `onfi` takes besides the commands of the base profile the optional ones that the page declares; `base` if nothing is said",
+            help: "With `--auto`: which commands are known, as `verify --profile` says",
             ..PROFILE
         },
     ],
@@ -200,7 +200,7 @@ pub(crate) const LINT: Declaration = Declaration {
 };
 
 pub(crate) const EXPLAIN: Declaration = Declaration {
-    about: "Prints a microprogram with what is known before each word, as comments",
+    about: "Prints a microprogram, with comments that say what is open, ready and held in the register before each word",
     example: "Example: onfiseq explain die.page retry.asm",
     arguments: &[
         PAGE,
@@ -324,7 +324,7 @@ pub(crate) const CAPTURE: Declaration = Declaration {
 };
 
 pub(crate) const CHECK: Declaration = Declaration {
-    about: "Checks whether a trace is legal on a channel, and prints `legal`",
+    about: "Says whether a trace keeps the rules of the bus, and if not, at which item and why; prints `legal`",
     example: "Example: onfiseq check die.page 1 bus.trace --all --readies-from-status",
     arguments: &[
         PAGE_OF_EACH,
@@ -343,12 +343,12 @@ pub(crate) const CHECK: Declaration = Declaration {
         READIES_FROM_STATUS,
         Declared {
             name: "assume-ready",
-            help: "With --readies-from-status: ends with status 0, and not 5, where a LUN is taken for ready that nothing showed",
+            help: "With --readies-from-status: status 0, and not 5, where a LUN is assumed ready",
             ..FLAG
         },
         Declared {
             name: "from-middle",
-            help: "For a trace whose recording began while the bus was in use: what hangs on what was before is taken for granted, and said",
+            help: "For a recording that began while the bus was in use: what depends on the time before it is assumed, and said",
             ..FLAG
         },
         Declared {

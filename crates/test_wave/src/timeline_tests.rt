@@ -162,6 +162,7 @@ fn an_interrupted_sequence(rt: HostRuntime) -> Result<(), Fail> {
 fn outputs_and_a_broken_rule(rt: HostRuntime) -> Result<(), Fail> {
     let timeline = timeline_of(rt.alloc(), SMALL_CHIP, 1, BROKEN)?;
     let broken = Broken {
+        ce: 0,
         item: 13,
         rule: Forbidden::InputMisplaced,
     };

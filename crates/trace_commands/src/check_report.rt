@@ -66,7 +66,7 @@ fn push_runs(lines: &mut String, runs: &[DifferenceRun]) -> Result<(), AllocErro
     Ok(())
 }
 
-// Adds the line of an item before which a LUN is taken for ready.
+// Adds the line of an item before which a LUN is assumed ready.
 fn push_assumed_line(lines: &mut String, told: NotShown) -> Result<(), AllocError>
     ensures { OnOk result (string_bytes lines.new ≡ string_bytes lines.old ++ assumed_line told) }
 {

@@ -37,7 +37,7 @@ struct CheckVerdict<'a> {
     items: u64,
     // The faults that are told.
     faults: usize,
-    // The items before which a LUN is taken for ready, and those that are taken for granted.
+    // The items before which a LUN is assumed ready, and those that are taken for granted.
     assumed: usize,
     // The items that aren't judged.
     passed_over: usize,

@@ -75,11 +75,11 @@ fn tell_found<W: Write, E: Write, P>(
 /// of a timing mode or of a timing file, and whether its outputs of known pages give what their dies hold. What belongs to a vendor's sequences is passed over, where a
 /// vendor file is given ([`vendor_file`]): the verdict is that of the trace without it, at its places.
 ///
-/// `Done`: it is, and `legal` is printed, and a line `assumed ready at N` for each item before which a LUN is taken for ready that nothing showed, where that is
+/// `Done`: it is, and `legal` is printed, and a line `assumed ready at N` for each item before which a LUN is assumed ready, where that is
 /// asked for. `Flagged`: so are they, where it isn't. `Refused`: the line `refused NAME at N` is printed: a P fault of the page, an I fault of an image, or S2 of one
 /// whose LUN isn't there. `Faulty`: so is it: an N fault of the vendor file, a fault of the timing file or an X fault of the text, with its line; or the first item that
 /// is forbidden, with the first rule that it breaks, that comes too soon or shows that work takes too long, or whose output differs. Where all faults are asked for, the
-/// line of each other one stands after it, and behind these the lines of what is taken for ready. The data are judged up to the first forbidden item.
+/// line of each other one stands after it, and behind these those of the LUNs that are assumed ready. The data are judged up to the first forbidden item.
 ///
 /// The page is read first, then the vendor file, the timing file, the images and the text. `FileFault`: a file couldn't be read or written, the text isn't UTF-8, or
 /// the output couldn't be written. Where a path is given for it, the trace that is judged is written there before anything is printed, and no other file is. The

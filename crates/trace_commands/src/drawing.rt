@@ -14,16 +14,18 @@ ghost use Rattle.trace_commands.specs.Draws.{view_of, IsDrawn};
 use crate::draw_request::DrawRequest;
 use nand_geometry::Geometry;
 use recording::{
-    Ending, KeptTrace, RecordingStop, TraceView, end_stopped, keep_items, read_items, steps_at,
+    Ending, KeptTrace, RecordingStop, TraceRequest, TraceView, end_stopped, keep_items, read_items,
+    steps_at,
 };
 use seq_files::Files;
 use seq_inputs::{
     Console, Exit, Style, finish, geometry_as, read_file, text_of, try_file, write_file,
 };
-use std::alloc::Global;
+use std::alloc::{AllocError, Global};
 use std::io::Write;
 use trace_faults::{Beginning, Readies};
 use trace_files::make_drawing;
+use trace_text::{RecordedItem, TraceForm, TraceRefusal, parse_timed};
 
 // How the trace is looked at.
 fn view_of(request: DrawRequest<'_>, geometry: Geometry) -> TraceView
@@ -34,6 +36,37 @@ fn view_of(request: DrawRequest<'_>, geometry: Geometry) -> TraceView
         targets: request.trace.targets,
         readies: Readies::Written,
         beginning: Beginning::Start,
+    }
+}
+
+// The time of the item that stands there, where it has one.
+fn time_at(items: &[RecordedItem], place: usize) -> Option<u64> {
+    match items.get(place) {
+        Some(found) => found.time,
+        None => None,
+    }
+}
+
+// The times of what is kept of a text that has been read, where it is a recorded one.
+fn times_of(
+    alloc: Global,
+    trace: TraceRequest<'_>,
+    text: &str,
+    kept: &KeptTrace,
+) -> Result<Vec<Option<u64>>, AllocError> {
+    if trace.form != TraceForm::Recorded {
+        return Ok(Vec::new(alloc));
+    }
+    match parse_timed(alloc, text, trace.profile) {
+        Ok(items) => {
+            let mut times = Vec::new(alloc);
+            for place in 0..kept.items().len() {
+                times.push(time_at(items.as_slice(), kept.place_of(place)))?;
+            }
+            Ok(times)
+        }
+        Err(TraceRefusal::Fault { .. }) => Ok(Vec::new(alloc)),
+        Err(TraceRefusal::OutOfMemory) => Err(AllocError),
     }
 }
 
@@ -61,12 +94,14 @@ fn draw_at<'p, F: Files>(
     };
     try_file(files, request.target)?;
     let kept = keep_items(alloc, steps.as_slice(), &view_of(request, geometry), items)?;
+    let times = times_of(alloc, trace, text, &kept)?;
     let drawing = make_drawing(
         alloc,
         request.form,
         &geometry,
         trace.targets.count(),
         kept.items(),
+        times.as_slice(),
     )?;
     write_file(files, request.target, drawing.as_slice())?;
     Ok(kept)
@@ -88,7 +123,7 @@ fn say_kept<E: Write>(errors: &mut E, request: DrawRequest<'_>, kept: &KeptTrace
     let _ = errors.flush();
 }
 
-/// Draws the trace of a text on a channel of so many targets of the geometry of a parameter page, as a waveform, as a picture or as a page, without what belongs to a
+/// Draws the trace of a text on a channel of so many targets of the geometry of a parameter page, as a waveform, as a picture or as a page, with its times if it is a recorded trace, without what belongs to a
 /// vendor's sequences, where a vendor file is given ([`vendor_file`]). A trace needn't be legal.
 ///
 /// `Done`: the drawing is written, and `ok` is printed; a waveform is exactly the dump of the trace (`trace_wave`). `Refused`: the line

@@ -267,7 +267,7 @@ fn tell_fault<W: Write, E: Write, P>(
 /// beginning, with each program and each erase that ended without failure. The other dies were erased. Where it is asked for, a page that it doesn't keep and that
 /// no work of the trace has left otherwise is filled with its first whole read.
 ///
-/// `Done`: it is written, and `ok` is printed, and a line `assumed ready at N` for each item before which a LUN is taken for ready that nothing showed. `Refused`: the line
+/// `Done`: it is written, and `ok` is printed, and a line `assumed ready at N` for each item before which a LUN is assumed ready. `Refused`: the line
 /// `refused NAME at N` is printed, a P fault of the page, an I fault of the image that is given, or S2 where the channel has no such LUN. `Faulty`: so is it, an X
 /// fault of the text or the first fault of the trace. `FileFault`: a file couldn't be read or written, or the text isn't UTF-8. However it ends, files are as they
 /// were, or that one file is written whole.

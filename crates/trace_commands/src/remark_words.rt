@@ -53,7 +53,7 @@ impl Remark for HostNoteAt {
     }
 }
 
-// A LUN that is taken for ready, since nothing showed it.
+// A LUN that is assumed ready.
 impl Remark for NotShown {
     fn item(self) -> usize {
         self.item
@@ -67,7 +67,7 @@ impl Remark for NotShown {
         let (lun, rule) = (self.ready.lun, self.ready.rule);
         write!(
             f,
-            "not shown ready: LUN {} of target {} is taken for ready here (else {}: {rule})",
+            "assumed ready: LUN {} of target {} (else {}: {rule})",
             lun.lun,
             lun.ce,
             rule.code()
@@ -142,7 +142,7 @@ fn push_not_shown(
         return Ok(());
     }
     push_remarks(lines, alloc, request, text, not_shown)?;
-    let words = format!(in alloc; "not shown ready: {} in all", not_shown.len())?;
+    let words = format!(in alloc; "assumed ready: {} in all", not_shown.len())?;
     push_message(lines, request.style, words.as_str())
 }
 

@@ -1,6 +1,6 @@
 //! As what a trace is drawn.
 
-/// As what a trace is drawn.
+/// The form of a drawing: as what a trace is drawn.
 #[derive(Clone, Copy, Debug, PartialEq, Eq)]
 pub enum DrawForm {
     /// A value change dump, which waveform viewers open.

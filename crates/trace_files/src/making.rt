@@ -69,7 +69,7 @@ fn push_drawing<'p, A: Allocator + Clone>(
         × (map made_of made.new.items ≡ map made_of made.old.items ++ drawing_at drawing.entry geometry.now targets items.now drawn)) }
 {
     if let Some(Drawing { form, path }) = drawing {
-        let bytes = make_drawing(alloc, form, geometry, targets, items)?;
+        let bytes = make_drawing(alloc, form, geometry, targets, items, &[])?;
         made.push(MadeFile { path, bytes })?;
     }
     Ok(())

@@ -4,7 +4,7 @@ ghost use Rattle.std.specs.Prelude.{◌≤◌};
 use nand_geometry::Geometry;
 use onfi_cycle::Item;
 use std::alloc::{AllocError, Allocator};
-use trace_picture::draw;
+use trace_picture::draw_timed;
 
 // What stands before the picture.
 const HEAD: &str = "<!DOCTYPE html>
@@ -64,18 +64,19 @@ fn push_items<A: Allocator>(page: &mut String<A>, text: &str) -> Result<(), Allo
     Ok(())
 }
 
-/// The page of a trace on a channel of so many targets, 4 at most, of this geometry: these items, which have this text, a line for each. `AllocError` is
-/// answered only where memory was refused.
+/// The page of a trace on a channel of so many targets, 4 at most, of this geometry: these items, which have these times ([`draw_timed`]) and this text, a line
+/// for each. `AllocError` is answered only where memory was refused.
 pub fn write_page<A: Allocator + Clone>(
     alloc: A,
     geometry: &Geometry,
     targets: u8,
     items: &[Item],
+    times: &[Option<u64>],
     text: &str,
 ) -> Result<String<A>, AllocError>
     requires { targets ≤ 4 }
 {
-    let picture = draw(alloc.clone()?, geometry, targets, items)?;
+    let picture = draw_timed(alloc.clone()?, geometry, targets, items, times)?;
     let mut page = String::new(alloc);
     page.push_str(HEAD)?;
     page.push_str(picture.as_str())?;

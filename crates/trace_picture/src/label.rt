@@ -4,7 +4,7 @@ use crate::word::Word;
 use nand_geometry::RowParts;
 use onfi_cycle::{Command, Status};
 
-/// What a status says of its LUN.
+/// What the status byte of a poll says of its LUN.
 #[derive(Clone, Copy, Debug, PartialEq, Eq)]
 pub enum Shown {
     Busy,
@@ -27,14 +27,23 @@ impl Shown {
 
     fn name(self) -> &'static str {
         match self {
+            Shown::Busy => "poll: busy",
+            Shown::Ready => "poll: ready",
+            Shown::Failed => "poll: failed",
+        }
+    }
+
+    // The same in a narrow box.
+    fn short_name(self) -> &'static str {
+        match self {
             Shown::Busy => "busy",
             Shown::Ready => "ready",
-            Shown::Failed => "failed",
+            Shown::Failed => "fail",
         }
     }
 }
 
-/// What stands in a box.
+/// The label of a box: a sequence, a poll, or a run of outputs.
 #[derive(Clone, Copy, Debug, PartialEq, Eq)]
 pub enum Label {
     /// A sequence: its opener, or the 15h that closed a program, the row or the column once it is whole, and how many inputs it has.
@@ -89,6 +98,15 @@ fn opener_name(opener: Command) -> &'static str {
         | Command::ProgramPlane
         | Command::Unknown => "",
     }
+}
+
+// The words of a poll that are called so. A LUN is named where a target has several.
+fn poll_words(lun: Option<u32>, name: &'static str, several: bool) -> [Option<Word>; 5] {
+    let lun = match lun {
+        Some(lun) if several => Some(Word::Lun(lun)),
+        Some(_) | None => None,
+    };
+    [lun, Some(Word::Name(name)), None, None, None]
 }
 
 impl Label {
@@ -228,19 +246,13 @@ impl Label {
                     None
                 },
             ],
-            Label::Status { lun, shown } => [
-                match lun {
-                    Some(lun) if several => Some(Word::Lun(lun)),
-                    Some(_) | None => None,
-                },
-                Some(Word::Name(match shown {
+            Label::Status { lun, shown } => {
+                let name = match shown {
                     Some(shown) => shown.name(),
-                    None => "status",
-                })),
-                None,
-                None,
-                None,
-            ],
+                    None => "poll",
+                };
+                poll_words(lun, name, several)
+            }
             Label::Outputs { count } => [
                 Some(Word::Name("out")),
                 Some(Word::Count(count)),
@@ -249,6 +261,17 @@ impl Label {
                 None,
             ],
             Label::Alone | Label::Unjudged => [None, None, None, None, None],
+        }
+    }
+
+    /// Its words in a narrow box: those of a poll say its answer alone.
+    pub(crate) fn short_words(self, several: bool) -> [Option<Word>; 5] {
+        match self {
+            Label::Status {
+                lun,
+                shown: Some(shown),
+            } => poll_words(lun, shown.short_name(), several),
+            _ => self.words(several),
         }
     }
 

@@ -11,6 +11,19 @@ const ROOM: u64 = 14_140;
 // The height of the heading.
 const TOP: u64 = 34;
 
+// The height of a row of times, and of one with what is wrong.
+const ROW: u64 = 14;
+
+// The width of a character of the heading, in tenths of a point, and what is left free beside its text, in points.
+const CHARACTER: u64 = 76;
+
+const MARGIN: u64 = 20;
+
+/// How wide the legend is, and how high its row, in points.
+pub(crate) const LEGEND: u64 = 590;
+
+const LEGEND_ROW: u64 = 20;
+
 /// The height of a lane of a chip enable, in points, and that of a LUN.
 pub(crate) const ENABLE_LANE: u64 = 30;
 
@@ -58,6 +71,17 @@ pub(crate) struct Layout {
     pub(crate) targets: u8,
     pub(crate) luns: u8,
     pub(crate) length: u64,
+    /// How many characters the heading has.
+    pub(crate) heading: usize,
+    /// Items have times, which stand in a row above the lanes.
+    pub(crate) has_times: bool,
+    /// A rule is broken: below the lanes of each target is a row for what is wrong.
+    pub(crate) is_marked: bool,
+}
+
+// The height of a row that is there or isn't.
+fn row_if(is_there: bool) -> u64 {
+    if is_there { ROW } else { 0 }
 }
 
 impl Layout {
@@ -68,14 +92,19 @@ impl Layout {
 
     // The height of the lanes of a target.
     fn target_height(self) -> u64 {
-        ENABLE_LANE + LUN_LANE * u64::from(self.luns)
+        (ENABLE_LANE + LUN_LANE * u64::from(self.luns)).saturating_add(row_if(self.is_marked))
+    }
+
+    /// How far the lanes stand below the upper edge of a strip, in points, but for a margin of 3.
+    pub(crate) fn scale_height(self) -> u64 {
+        row_if(self.has_times).saturating_add(13)
     }
 
     /// The height of a strip.
     pub(crate) fn strip_height(self) -> u64 {
         self.target_height()
             .saturating_mul(u64::from(self.targets))
-            .saturating_add(26)
+            .saturating_add(self.scale_height().saturating_add(13))
     }
 
     /// The upper edge of a strip.
@@ -88,7 +117,7 @@ impl Layout {
     /// The upper edge of the lane of a chip enable in a strip.
     pub(crate) fn enable_y(self, strip: u64, ce: u8) -> u64 {
         self.strip_y(strip)
-            .saturating_add(16)
+            .saturating_add(self.scale_height().saturating_add(3))
             .saturating_add(self.target_height().saturating_mul(u64::from(ce)))
     }
 
@@ -103,13 +132,21 @@ impl Layout {
         cut_at(0, self.length, strip).width
     }
 
-    /// The width of the whole picture, in points.
+    /// The width of the whole picture, in points: the lanes, the heading and the legend have room.
     pub(crate) fn width(self) -> u64 {
-        LEFT + self.length.min(ROOM).max(4_200) / 10 + 10
+        let heading = (self.heading as u64).saturating_mul(CHARACTER) / 10;
+        (LEFT + self.length.min(ROOM) / 10 + 10)
+            .max(heading.saturating_add(MARGIN))
+            .max(LEGEND + MARGIN)
     }
 
-    /// Its height.
+    /// Where the legend stands.
+    pub(crate) fn legend_y(self) -> u64 {
+        self.strip_y(self.strips())
+    }
+
+    /// The height of the whole picture.
     pub(crate) fn height(self) -> u64 {
-        self.strip_y(self.strips()).saturating_add(6)
+        self.legend_y().saturating_add(LEGEND_ROW)
     }
 }

@@ -4,7 +4,7 @@ use onfi_cycle::{Item, Kind};
 use std::alloc::{AllocError, Allocator};
 
 /// The width of an item, in tenths of a point.
-pub(crate) const ITEM: u64 = 130;
+pub(crate) const ITEM: u64 = 170;
 
 // How many inputs or outputs in a row have the whole width of items.
 const WHOLE: u64 = 8;

@@ -1,6 +1,6 @@
 //! The time in which a LUN works, and its failures.
 
-/// What works.
+/// What works in a [`Span`]: the LUN, or its array.
 #[derive(Clone, Copy, Debug, PartialEq, Eq)]
 pub enum Worker {
     /// The LUN: it is busy.

@@ -14,7 +14,7 @@ use trace_faults::{Beginning, Readies, TraceJudge, Verdict};
 // How many LUNs a channel has at most.
 const LUNS: usize = 16;
 
-/// What is in the picture of a trace.
+/// The timeline of a trace: what is in its picture.
 #[derive(Drop)]
 pub struct Timeline<A: Allocator> {
     /// The boxes.
@@ -367,7 +367,11 @@ impl<A: Allocator> Timeline<A> {
         let begins = begins_sequence(&judge.state.bus, item);
         let rule = broken_by(judge.take(Readies::Written, item, later));
         if let Some(rule) = rule {
-            self.broken.push(Broken { item: place, rule })?;
+            self.broken.push(Broken {
+                ce: item.target(),
+                item: place,
+                rule,
+            })?;
         }
         let geometry = judge.state.bus.geometry();
         let coming = coming_by(rule, begins);

@@ -2,7 +2,7 @@
 
 use std::fmt;
 
-/// A word in a box.
+/// A word of the label of a box.
 #[derive(Clone, Copy, Debug, PartialEq, Eq)]
 pub enum Word {
     /// What is done.
@@ -19,8 +19,8 @@ pub enum Word {
     Count(usize),
 }
 
-// How many digits a number has; those above a thousand million are all taken for as wide.
-fn digits(number: u64) -> usize {
+/// How many digits a number has; a number above a thousand million counts as 20 digits.
+pub(crate) fn digits(number: u64) -> usize {
     match number {
         0..=9 => 1,
         10..=99 => 2,

@@ -10,11 +10,19 @@ import sys
 HERE = os.path.dirname(os.path.abspath(__file__))
 CHIP = ("chip.page", "examples/small_chip/chip.page")
 TOO_SOON = b"0 C 60\n0 A 00\n0 A 00\n0 A 00\n0 C d0\n0 C 60\n"
+TWO_LUNS_TRACE = b"0 C 60\n0 A 20\n0 A 00\n0 A 00\n0 C d0\n0 C 60\n0 A 00\n0 A 00\n0 A 00\n0 C d0\n0 C 78\n0 A 00\n0 A 00\n0 A 00\n0 O e0\n0 C 78\n0 A 20\n0 A 00\n0 A 00\n0 O 80\n0 C 60\n0 A 24\n0 A 00\n0 A 00\n"
+COPY = b"0 C 00\n0 A 00\n0 A 00\n0 A 00\n0 A 00\n0 A 00\n0 C 35\n0 R 0 0\n0 C 85\n0 A 00\n0 A 00\n0 A 08\n0 A 00\n0 A 00\n0 C 10\n0 R 0 0\n"
 NO_WAIT = b"rows 1\nbuffer 0\nbudget 10\ncmd 60\naddr 2 3\ncmd d0\ncmd 60\naddr 2 3\ncmd d0\nwait\nend 0\n"
 TWO_LUNS = ("chip.page", "erase_block.nmp", "program_page.nmp", "data")
 # The examples: a name, the files (a name, and a path or the bytes), the commands, and which file is open.
 EXAMPLES = (
     ("A trace: too soon", [CHIP, ("bus.trace", TOO_SOON)], ["check chip.page 1 bus.trace --recorded --all", "draw chip.page 1 bus.trace bus.svg"]),
+    ("A trace of two LUNs", [("bus.trace", TWO_LUNS_TRACE)],
+     ["page two.page --data 512 --spare 16 --pages 4 --blocks 8 --luns 2 --status-enhanced", "check two.page 1 bus.trace --recorded --all --readies-from-status",
+      "draw two.page 1 bus.trace bus.svg"]),
+    ("A copyback, by the profile onfi", [("copy.trace", COPY)],
+     ["page copies.page --data 512 --spare 16 --pages 4 --blocks 8 --declare copyback", "check copies.page 1 copy.trace --recorded --all --profile onfi",
+      "draw copies.page 1 copy.trace copy.svg --profile onfi"]),
     ("A capture", [CHIP, ("erase_block.vcd", "examples/small_chip/erase_block.vcd")],
      ["capture chip.page 1 erase_block.vcd erase.trace --map CE=CS,WE=P17,RE=P18", "check chip.page 1 erase.trace --recorded --all", "draw chip.page 1 erase.trace erase.svg"]),
     ("A program", [CHIP, ("erase_block.asm", "examples/small_chip/erase_block.asm")], ["verify chip.page erase_block.asm", "lint chip.page erase_block.asm"]),

@@ -8,7 +8,7 @@ const OPTIONS = [
     { name: "all faults", option: "--all", kinds: ["check"] },
     { name: "R/B# isn't recorded", option: "--readies-from-status", kinds: ["check"] },
     { name: "begins in the middle", option: "--from-middle", kinds: ["check"] },
-    { name: "the wider profile", option: "--profile onfi", kinds: ["check", "verify", "capture", "ops", "lint", "explain", "draw", "wave"] },
+    { name: "optional commands", option: "--profile onfi", kinds: ["check", "verify", "capture", "ops", "lint", "explain", "draw", "wave"] },
 ];
 // The commands for a file that comes, by what it is.
 const FOR_KIND = {
@@ -125,6 +125,18 @@ function saved(name, bytes) {
     it.download = name.split("/").pop();
     return it;
 }
+// Adds a text; what stands between backticks is code, and the backticks stay for whoever copies it.
+function addText(it, text) {
+    let from = 0;
+    const tick = () => { const mark = document.createElement("span"); mark.className = "tick"; mark.textContent = "`"; return mark; };
+    for (const found of text.matchAll(/`([^`\n]+)`/g)) {
+        const code = document.createElement("code");
+        code.textContent = found[1];
+        it.append(text.slice(from, found.index), tick(), code, tick());
+        from = found.index + found[0].length;
+    }
+    it.append(text.slice(from));
+}
 // What a stream says; its places, as `FILE:LINE:`, are links that go there.
 function placed(text, stream) {
     const it = document.createElement("pre"), shown = text.length > MOST_SHOWN ? text.slice(0, MOST_SHOWN) + "\n.." : text;
@@ -132,7 +144,7 @@ function placed(text, stream) {
     it.className = stream;
     for (const found of shown.matchAll(/^(\S+?):(\d+):/gm)) {
         if (!files.has(found[1])) continue;
-        it.append(shown.slice(from, found.index));
+        addText(it, shown.slice(from, found.index));
         const link = document.createElement("a");
         link.href = "#";
         link.textContent = found[0];
@@ -140,7 +152,7 @@ function placed(text, stream) {
         it.append(link);
         from = found.index + found[0].length;
     }
-    it.append(shown.slice(from));
+    addText(it, shown.slice(from));
     return it;
 }
 function pictureOf(name, bytes) {
