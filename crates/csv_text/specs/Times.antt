@@ -47,6 +47,10 @@ unit_of (b ∷ digits) = if b == 45 then and_then (decimal digits) smaller_unit 
 abbrev pub with_exponent : List ℕ → Option ℕ
 with_exponent text = and_then (unit_of (after_first is_exponent text)) (λ unit. number_of unit (before_first is_exponent text))
 
+-- a time is in seconds as all of its column are, or because it has a point or an exponent
+abbrev pub is_in_seconds : (in_seconds : Bool) → List ℕ → Bool
+is_in_seconds in_seconds text = in_seconds || (has_point text || has_exponent text)
+
 -- a time without a sign: seconds, as picoseconds, where it has a point or an exponent or its column is in seconds; else a whole number of a unit of its own
 abbrev pub size_of : (in_seconds : Bool) → List ℕ → Option ℕ
 size_of in_seconds text =

@@ -9,6 +9,7 @@ mod heading;
 mod rows;
 mod table;
 mod times;
+mod unit;
 
 pub use body::{Body, Standing};
 pub use fields::Fields;
@@ -16,3 +17,4 @@ pub use form::Form;
 pub use rows::{Row, Rows, is_note, whole_lines_len};
 pub use table::{Table, open_table, read_table};
 pub use times::{Moment, moment_of};
+pub use unit::find_unit;

@@ -184,14 +184,14 @@ impl<'a> Heading<'a> {
 
 // The columns that a row names: how the rows below are read, the number of the first signal's column, and the names of the signals.
 #[derive(Clone, Copy)]
-struct Columns<'a> {
-    form: Form,
+pub(crate) struct Columns<'a> {
+    pub(crate) form: Form,
     first: u64,
     names: Names<'a>,
 }
 
 // What the columns of a row of names are, after these comments.
-fn columns_of<'a>(heading: Heading<'a>, separator: u8, names: &'a [u8]) -> Columns<'a>
+pub(crate) fn columns_of<'a>(heading: Heading<'a>, separator: u8, names: &'a [u8]) -> Columns<'a>
     ensures columns { columns_of (shown_heading heading.entry) separator (fields separator names.entry.now)
         ≡ record { form = result.form; variables = variables_from result.first (fields_in result.names.separator (option_copied result.names.fields.rest)) } }
     ensures separator { result.form.separator ≡ separator }
@@ -233,7 +233,7 @@ pub(crate) struct Headed<'a> {
 }
 
 impl<'a> Headed<'a> {
-    fn heading(self) -> Heading<'a>
+    pub(crate) fn heading(self) -> Heading<'a>
         ensures { shown_heading result ≡ heading_of self.entry }
     {
         Heading {
@@ -244,7 +244,7 @@ impl<'a> Headed<'a> {
 }
 
 // The first row that is no comment.
-fn find_names<'a>(rows: &mut Rows<'a>) -> Option<Headed<'a>>
+pub(crate) fn find_names<'a>(rows: &mut Rows<'a>) -> Option<Headed<'a>>
     requires room { rows.old.line + length rows.old.rest.now < 2 ^ 64 }
     ensures some { IfSome result (λ h. (more : List ℕ) → MayFollow rows.old.rest.now more
         → table_of (rows_before rows.old more) ≡ named_table (heading_of h) (names_of h) (rows_before rows.new more)) }

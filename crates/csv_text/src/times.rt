@@ -4,7 +4,7 @@ ghost use Rattle.std.specs.List.{position_or_len};
 ghost use Rattle.std.specs.Str.{bytes_eq};
 ghost use Rattle.std.specs.Option.{option_map};
 ghost use Rattle.vcd_text.specs.Tokens.{is_digit};
-ghost use Rattle.csv_text.specs.Times.{is_point, is_exponent, fraction_from, scaled, number_of, smaller_unit, unit_of, with_exponent, size_of, before_origin, from_origin, moment_of, hertz_in, rate_of, below_limit, sample_time};
+ghost use Rattle.csv_text.specs.Times.{is_point, is_exponent, fraction_from, scaled, number_of, smaller_unit, unit_of, with_exponent, is_in_seconds, size_of, before_origin, from_origin, moment_of, hertz_in, rate_of, below_limit, sample_time};
 
 use crate::fields::{from_place, place_of_either, trim};
 use vcd_text::decimal;
@@ -144,6 +144,13 @@ fn with_exponent(text: &[u8], at: usize) -> Option<u64>
         None => None,
         Some(unit) => number_of(unit, front),
     }
+}
+
+/// Whether a time is in seconds: as all of its column are, or because it has a point or an exponent.
+pub(crate) fn is_in_seconds(in_seconds: bool, text: &[u8]) -> bool
+    ensures { result ≡ is_in_seconds in_seconds text.now }
+{
+    in_seconds || point_at(text) < text.len() || exponent_at(text) < text.len()
 }
 
 // A time without a sign.

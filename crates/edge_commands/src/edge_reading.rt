@@ -11,9 +11,6 @@ use seq_files::Files;
 use std::alloc::Global;
 use trace_timing::PageTimes;
 
-// A CSV tells its times in picoseconds.
-const PICOSECOND: u64 = 1_000;
-
 /// The least times that are asked for, for a chip whose page has these.
 pub(crate) fn edge_times_at<'p, F: Files>(
     alloc: Global,
@@ -34,11 +31,30 @@ pub(crate) fn edge_times_at<'p, F: Files>(
     }
 }
 
-/// How many femtoseconds 1 of a time of a capture is: as the caller says, or the dump, or a picosecond in a CSV. None where nobody says it.
-pub(crate) fn unit_of(given: Option<u64>, form: CaptureForm, capture: &[u8]) -> Option<u64> {
-    match (given, form) {
-        (Some(unit), _) => Some(unit),
-        (None, CaptureForm::Dump) => find_unit(capture),
-        (None, CaptureForm::Table) => Some(PICOSECOND),
+/// Who says how many femtoseconds 1 of a time of a capture is.
+#[derive(Clone, Copy, Debug, PartialEq, Eq)]
+pub(crate) enum TimeScale {
+    /// The capture does, or the caller, or both say the same.
+    Told(u64),
+    /// Nobody does.
+    Untold,
+    /// The capture says this, and the caller another.
+    Contradicted(u64),
+}
+
+impl TimeScale {
+    /// Of a capture, where the caller says this.
+    pub(crate) fn of(given: Option<u64>, form: CaptureForm, capture: &[u8]) -> TimeScale {
+        match (given, find_unit(form, capture)) {
+            (None, None) => TimeScale::Untold,
+            (Some(unit), None) | (None, Some(unit)) => TimeScale::Told(unit),
+            (Some(given), Some(unit)) => {
+                if given == unit {
+                    TimeScale::Told(unit)
+                } else {
+                    TimeScale::Contradicted(unit)
+                }
+            }
+        }
     }
 }

@@ -1,5 +1,5 @@
 //! The command that judges the edges of a capture.
-ghost use Rattle.std.specs.Prelude.{◌≡◌, ◌≤◌, List, ℕ, IfOk, IfErr, codes};
+ghost use Rattle.std.specs.Prelude.{◌≡◌, ◌≤◌, ◌∷◌, List, ℕ, IfOk, IfErr, codes};
 ghost use Rattle.std.specs.Io.KnownBytes.{Appends};
 ghost use Rattle.seq_inputs.specs.declared.refusal.Refusal.{Refusal};
 ghost use Rattle.seq_inputs.specs.Inputs.{PageIsRefused};
@@ -11,7 +11,7 @@ ghost use Rattle.edge_timing.specs.Times.{AreEdgeBounded};
 ghost use Rattle.edge_timing.specs.Judged.{MayJudge};
 ghost use Rattle.edge_commands.specs.Edges.{fault_of, late_lines, AreEdgesJudged, AreJudgedIn, EdgesRefuse, EdgesTell, IsNotJudged, IsNotJudgedIn, MayNotBeJudged};
 
-use crate::edge_reading::{edge_times_at, unit_of};
+use crate::edge_reading::{TimeScale, edge_times_at};
 use crate::edge_request::EdgeRequest;
 use crate::edge_telling::{fault_of, late_text, say_edges};
 use bus_capture::{CaptureRefusal, Setup};
@@ -19,11 +19,14 @@ use edge_timing::{
     EdgeFault, EdgeJudge, EdgeRuler, EdgeTimes, EdgeViolation, Recorded, judge_edges,
 };
 use nand_geometry::Geometry;
-use recording::{Ending, RecordingFault, RecordingStop, end_stopped, mappings_of, see_capture};
+use recording::{
+    Ending, RecordingFault, RecordingStop, TimeUnit, end_stopped, mappings_of, see_capture,
+};
 use seq_files::Files;
 use seq_inputs::{
     Console, Exit, Stop, Style, Words, end_without_memory, finish, geometry_in, read_file,
 };
+use shown_text::Shown;
 use std::alloc::Global;
 use std::io::Write;
 use trace_timing::{PageTimes, TimingFault};
@@ -33,6 +36,14 @@ use trace_timing::{PageTimes, TimingFault};
 struct JudgedEdges {
     judge: EdgeJudge<Global>,
     modes: u16,
+}
+
+// What comes of a capture that shows a trace.
+#[derive(Drop)]
+enum ReadEdges {
+    Judged(JudgedEdges),
+    // It says that 1 of its times is so many femtoseconds, and the caller says another.
+    OtherUnit(u64),
 }
 
 // Why no edges of a capture are judged, for this reason.
@@ -46,7 +57,7 @@ fn not_judged<'p>(alloc: Global, path: &'p str, why: &str) -> RecordingStop<'p>
     }
 }
 
-const NO_UNIT: &str = "the dump doesn't say what 1 of a time is: --unit says it, as in 1ns";
+const NO_UNIT: &str = "the capture doesn't say what 1 of a time is: --unit says it, as in 1ns";
 
 const OF_MODEL: &str =
     "the dump is one of `onfiseq wave`, whose times are numbers of items: nothing of it is judged";
@@ -76,6 +87,14 @@ fn judge_capture<'p>(
     }
 }
 
+// All edges that come too soon, or the first of them.
+fn cut_told(mut judge: EdgeJudge<Global>, tells_all: bool) -> EdgeJudge<Global> {
+    if !tells_all {
+        judge.told.truncate(1);
+    }
+    judge
+}
+
 // Reads a capture, and judges its edges by these times.
 fn judge_file<'p, F: Files>(
     alloc: Global,
@@ -83,7 +102,8 @@ fn judge_file<'p, F: Files>(
     request: EdgeRequest<'p>,
     geometry: Geometry,
     times: EdgeTimes,
-) -> Result<EdgeJudge<Global>, RecordingStop<'p>>
+    modes: u16,
+) -> Result<ReadEdges, RecordingStop<'p>>
     requires bounded { AreEdgeBounded times }
     ensures ok { IfOk result (λ _. AreJudgedIn (F.store files.old) request.entry geometry) }
     ensures err { IfErr result (SaysOf (λ _. ⊥) (IsNotJudgedIn (F.store files.old) request.entry geometry)) }
@@ -100,8 +120,10 @@ fn judge_file<'p, F: Files>(
         late: None,
     };
     let _ = see_capture(alloc, request.input, &setup, capture.as_slice())?;
-    let Some(unit) = unit_of(request.unit, request.form, capture.as_slice()) else {
-        return Err(not_judged(alloc, request.input, NO_UNIT));
+    let unit = match TimeScale::of(request.unit, request.form, capture.as_slice()) {
+        TimeScale::Told(unit) => unit,
+        TimeScale::Untold => return Err(not_judged(alloc, request.input, NO_UNIT)),
+        TimeScale::Contradicted(unit) => return Ok(ReadEdges::OtherUnit(unit)),
     };
     let ruler = EdgeRuler {
         times,
@@ -109,7 +131,13 @@ fn judge_file<'p, F: Files>(
         slack: request.slack.saturating_mul(unit),
         one_lun: geometry.parts().luns == 1,
     };
-    judge_capture(alloc, request.input, ruler, &setup, capture.as_slice())
+    match judge_capture(alloc, request.input, ruler, &setup, capture.as_slice()) {
+        Ok(judge) => Ok(ReadEdges::Judged(JudgedEdges {
+            judge: cut_told(judge, request.tells_all),
+            modes,
+        })),
+        Err(stop) => Err(stop),
+    }
 }
 
 // Reads a page, a timing file and a capture, and judges its edges.
@@ -117,7 +145,7 @@ fn judge_at<'p, F: Files>(
     alloc: Global,
     files: &mut F,
     request: EdgeRequest<'p>,
-) -> Result<JudgedEdges, RecordingStop<'p>>
+) -> Result<ReadEdges, RecordingStop<'p>>
     ensures ok { IfOk result (λ _. AreEdgesJudged (F.store files.old) request.entry) }
     ensures err { IfErr result (SaysOf (PageIsRefused (F.store files.old) request.entry.page.now) (EdgesRefuse (F.store files.old) request.entry)) }
     ensures stays { F.store files.new ≡ F.store files.old }
@@ -126,14 +154,47 @@ fn judge_at<'p, F: Files>(
     let geometry = geometry_in(alloc, request.profile, request.page, page.as_slice())?;
     let page_times = PageTimes::read(page.as_slice());
     let times = edge_times_at(alloc, files, page_times, request.source)?;
-    let mut judge = judge_file(alloc, files, request, geometry, times)?;
-    if !request.tells_all {
-        judge.told.truncate(1);
+    match judge_file(alloc, files, request, geometry, times, page_times.modes) {
+        Ok(edges) => Ok(edges),
+        Err(stop) => Err(stop),
     }
-    Ok(JudgedEdges {
-        judge,
-        modes: page_times.modes,
-    })
+}
+
+// Says that the capture knows its unit.
+fn say_other_unit<W: Write, E: Write, P>(
+    console: &mut Console<W, E, P>,
+    path: &str,
+    unit: u64,
+) -> Exit
+    ensures { result ≡ Exit.Usage }
+{
+    let _ = writeln!(
+        &mut console.errors,
+        "error: {} says that 1 of its times is {}: leave `--unit` out",
+        Shown::path(path),
+        TimeUnit(unit)
+    );
+    let _ = console.errors.flush();
+    Exit::Usage
+}
+
+// Tells what is found.
+fn tell_edges<W: Write, E: Write, P>(
+    alloc: Global,
+    console: &mut Console<W, E, P>,
+    request: EdgeRequest<'_>,
+    edges: &JudgedEdges,
+) -> Ending
+    ensures done { result ≡ Ending.Exit Exit.Done → Appends (W.contents console.old.output) (W.contents console.new.output) (codes "kept\n") }
+    ensures flagged { result ≡ Ending.Flagged → ⊥ }
+    ensures refused { (refusal : Refusal) → result ≡ Ending.Exit (Exit.Refused refusal) → ⊥ }
+    ensures faulty { (fault : RecordingFault) → result ≡ Ending.Faulty fault → (first : EdgeViolation) × (late : List EdgeViolation) × (fault ≡ fault_of first)
+        × Appends (W.contents console.old.output) (W.contents console.new.output) (late_lines (first ∷ late)) }
+{
+    match edges.judge.told.as_slice() {
+        [] => tell_kept(alloc, console, request, edges),
+        [first, ..] => tell_late(alloc, console, request, edges, *first),
+    }
 }
 
 // Prints the lines of edges that come too soon, of which this is the first, and says each in words.
@@ -218,10 +279,10 @@ pub fn time_capture<F: Files, W: Write, E: Write, P>(
     ensures stays { F.store files.new ≡ F.store files.old }
 {
     match judge_at(alloc, files, request) {
-        Ok(edges) => match edges.judge.told.as_slice() {
-            [] => tell_kept(alloc, console, request, &edges),
-            [first, ..] => tell_late(alloc, console, request, &edges, *first),
-        },
+        Ok(ReadEdges::Judged(edges)) => tell_edges(alloc, console, request, &edges),
+        Ok(ReadEdges::OtherUnit(unit)) => {
+            Ending::Exit(say_other_unit(console, request.input, unit))
+        }
         Err(stop) => end_stopped(alloc, console, Style::Plain, stop),
     }
 }

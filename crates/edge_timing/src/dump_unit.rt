@@ -86,7 +86,7 @@ fn is_end(word: &[u8]) -> bool {
 }
 
 /// How many femtoseconds 1 of a time of this dump is, if its header says so.
-pub fn find_unit(text: &[u8]) -> Option<u64> {
+pub(crate) fn find_unit(text: &[u8]) -> Option<u64> {
     let mut words = Words::of(text);
     let mut section = Section::None;
     let mut scale = Scale::new();

@@ -6,6 +6,7 @@
 #![tactic(auto)]
 
 mod capture_edges;
+mod capture_unit;
 mod distance;
 mod dump_unit;
 mod edge;
@@ -23,8 +24,8 @@ mod strobed;
 mod target_edges;
 
 pub use capture_edges::{Recorded, judge_edges};
+pub use capture_unit::find_unit;
 pub use distance::Distance;
-pub use dump_unit::find_unit;
 pub use edge::Edge;
 pub use edge_fault::EdgeFault;
 pub use edge_times::EdgeTimes;

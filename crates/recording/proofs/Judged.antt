@@ -27,9 +27,9 @@ use Rattle.recording.specs.declared.recording_stop.RecordingStop.{RecordingStop}
 use Rattle.recording.specs.declared.recording_stop.RecordingStop.TheVariants.{Stop as ForAll, Faulty}
 use Rattle.recording.specs.declared.time_rulers.TimeRulers.{TimeRulers}
 use Rattle.recording.specs.declared.trace_view.TraceView.{TraceView}
-use Rattle.recording.specs.Checks.{view_of, is_asked, told_faults, assumed_readies, AreLateIn, AreDifferent, AreInputs, IsRead, with_copy, IsJudged, InputIsRefused, RecordingIsRefused}
+use Rattle.recording.specs.Checks.{view_of, is_asked, told_faults, assumed_readies, AreLateIn, AreDifferent, AreInputs, IsRead, copied_to, with_copy, IsJudged, InputIsRefused, RecordingIsRefused}
 use Rattle.recording.specs.Endings.{SaysOf}
-use Rattle.recording.specs.Kept.{kept, kept_timed, is_whole, places, broken, faults_from, readies_from, late_from, differences_from, faults_back, readies_back, late_back, differences_back, ArePlaces, IsKept}
+use Rattle.recording.specs.Kept.{kept, kept_timed, is_whole, places, broken, faults_from, readies_from, late_from, differences_from, faults_back, readies_back, late_back, differences_back, breaks_off, some_breaks_off, ArePlaces, IsKept}
 use Rattle.recording.specs.Opened.{AreOf, AreOpenedIf, AreReplayed, IsReplayed, IsReplayedIf}
 use Rattle.recording.specs.Rules.{told_of, judged_in, faults_in, not_shown_in}
 use Rattle.recording.specs.Targets.{count_of}
@@ -74,6 +74,11 @@ pub differences_at : (steps : List Step) (v : TraceView) (items : List Item) (wh
     differences_from whole at found ≡ differences_back steps v items found
 differences_at [] v items whole at left found are = ap (λ (w : Bool). differences_from w at found) are
 differences_at (s ∷ steps) v items whole at left found are = rw (are.0, are.1) refl
+
+pub breaks_at : (steps : List Step) (v : TraceView) (items : List Item) (whole : Bool) (at : List ℕ) (left : List BrokenRule) → ArePlaces steps v items whole at left →
+    breaks_off whole left ≡ some_breaks_off steps v items
+breaks_at [] v items whole at left are = ap (λ (w : Bool). breaks_off w left) are
+breaks_at (s ∷ steps) v items whole at left are = rw (are.0, are.2) refl
 
 -- ---- the dies that are opened
 
@@ -121,16 +126,17 @@ pub left_printable : (steps slice : List Step) (v : TraceView) (items left : Lis
 left_printable steps slice v items left timed k same is_kept is all = items_printable slice v items left (is ∙ is_kept.items_are) all
 
 pub judged : (files read before later : Option Store) (request : CheckRequest) (given : Option DataRequest) (g : Parts) (steps slice : List Step) (rulers : Option TimeRulers) (opened : Option OpenedDies)
-    (items copied : List Item) (timed : List TimedItem) (k : KeptTrace) (told seen : List BrokenRule) (late : List Violation) (found : List Difference) (dies : List Die) (whole : List Item) (assumed : List NotShown) →
+    (items copied : List Item) (timed : List TimedItem) (k : KeptTrace) (told seen : List BrokenRule) (late : List Violation) (found : List Difference) (dies : List Die) (whole : List Item) (assumed : List NotShown) (copy : Option (List ℕ)) (broken_off : Bool) →
     read ≡ files → before ≡ files → slice ≡ steps → seen ≡ told → copied ≡ k.items.items →
     AreInputs files request g steps rulers → AreOpenedIf files g (count_of request.trace.targets) given opened → IsRead read request items timed → IsKept slice (view_of request g) items timed k →
     told ≡ told_of request.tells_all (faults_from k.is_whole k.places.items k.broken.items (faults_in (view_of request g) k.items.items)) →
     assumed ≡ readies_from k.is_whole k.places.items (not_shown_in (view_of request g) k.items.items) →
     ((all : List Violation) × AreLate rulers (view_of request g) k.timed.items all × (late ≡ late_told request.tells_all seen (late_from k.is_whole k.places.items all))) →
     ((differ : List Difference) × AreReplayed request.readies opened k.items.items differ dies whole × (found ≡ differences_from k.is_whole k.places.items differ)) →
-    later ≡ with_copy (option_map (λ path. path.now) request.copy) (judged_in (view_of request g) copied) before →
+    broken_off ≡ breaks_off k.is_whole k.broken.items → copy ≡ copied_to request broken_off →
+    later ≡ with_copy copy (judged_in (view_of request g) copied) before →
     IsJudged files later request given g told late found dies whole assumed
-judged files read before later request given g steps slice rulers opened items copied timed k told seen late found dies whole assumed same_read same_before same_steps same_told same_copied inputs are_opened is_read is_kept t a l d w =
+judged files read before later request given g steps slice rulers opened items copied timed k told seen late found dies whole assumed copy broken_off same_read same_before same_steps same_told same_copied inputs are_opened is_read is_kept t a l d off to w =
     let v = view_of request g in
     let left = kept steps v items in
     let kept_is : IsKept steps v items timed k = subst (λ (ss : List Step). IsKept ss v items timed k) same_steps is_kept in
@@ -156,6 +162,7 @@ judged files read before later request given g steps slice rulers opened items c
         replayed = replayed_if files v given opened left d.0 dies whole are_opened (subst (λ (is : List Item). AreReplayed request.readies opened is d.0 dies whole) kept_is.items_are d.1);
         found_is = d.2 ∙ differences_at steps v items k.is_whole at unmet d.0 are;
       };
-      copied = w ∙ (ap (λ (is : List Item). with_copy (option_map (λ path. path.now) request.copy) (judged_in v is) before) (same_copied ∙ kept_is.items_are)
-          ∙ ap (with_copy (option_map (λ path. path.now) request.copy) (judged_in v left)) same_before);
+      copied = w ∙ (ap (λ (is : List Item). with_copy copy (judged_in v is) before) (same_copied ∙ kept_is.items_are)
+          ∙ (ap (λ (c : Option (List ℕ)). with_copy c (judged_in v left) before) (to ∙ ap (copied_to request) (off ∙ breaks_at steps v items k.is_whole at unmet are))
+          ∙ ap (with_copy (copied_to request (some_breaks_off steps v items)) (judged_in v left)) same_before));
     }

@@ -22,7 +22,7 @@ use Rattle.recording.specs.declared.recording_fault.RecordingFault.{RecordingFau
 use Rattle.recording.specs.declared.times_request.TimesRequest.{TimesRequest}
 use Rattle.recording.specs.declared.time_rulers.TimeRulers.{TimeRulers}
 use Rattle.recording.specs.declared.trace_view.TraceView.{TraceView}
-use Rattle.recording.specs.Kept.{kept, kept_timed, faults_back, readies_back, late_back, differences_back}
+use Rattle.recording.specs.Kept.{kept, kept_timed, some_breaks_off, faults_back, readies_back, late_back, differences_back}
 use Rattle.recording.specs.Opened.{IsReplayedIf, ImagesAreRefused}
 use Rattle.recording.specs.Rules.{told_of, judged_in, faults_in, not_shown_in}
 use Rattle.recording.specs.Targets.{count_of}
@@ -78,14 +78,19 @@ pub record IsRead (files : Option Store) (request : CheckRequest) (items : List 
   pub is_text : IsTraceText (form_of (is_asked request.times) request.trace.form) request.trace.profile text items
   pub has_times : HasTimesIf (is_asked request.times) request.trace.profile text timed
 
--- the trace that is judged is written where a path is given for it, and no other file changes
+-- where the trace that is judged is written: nowhere, if a sequence of the vendor breaks off, since what is left of it doesn't show that
+abbrev pub copied_to : CheckRequest → (breaks_off : Bool) → Option (List ℕ)
+copied_to request true = None
+copied_to request false = option_map (λ path. path.now) request.copy
+
+-- it is written where a path is given for it, and no other file changes
 abbrev pub with_copy : Option (List ℕ) → List Item → Option Store → Option Store
 with_copy None items files = files
 with_copy (Some path) items files = with_file files path (text items)
 
 abbrev pub IsCopied : (files later : Option Store) → CheckRequest → Parts → List Step → List Item → Type 0
 IsCopied files later request g steps items =
-    later ≡ with_copy (option_map (λ path. path.now) request.copy) (judged_in (view_of request g) (kept steps (view_of request g) items)) files
+    later ≡ with_copy (copied_to request (some_breaks_off steps (view_of request g) items)) (judged_in (view_of request g) (kept steps (view_of request g) items)) files
 
 -- on chips of this geometry this is found of the trace of a request, and it is written where a path is given for it
 pub record IsJudged (files later : Option Store) (request : CheckRequest) (given : Option DataRequest) (g : Parts) (told : List BrokenRule) (late : List Violation) (found : List Difference) (dies : List Die) (whole : List Item) (assumed : List NotShown) : Type 0 where

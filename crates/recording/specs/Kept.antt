@@ -84,6 +84,15 @@ late_back steps v items late = late_from (is_whole steps) (places steps v items)
 abbrev pub differences_back : List Step → TraceView → List Item → List Difference → List Difference
 differences_back steps v items found = differences_from (is_whole steps) (places steps v items) found
 
+-- a sequence that is passed over breaks off: some cycle isn't next in it
+abbrev pub breaks_off : (is_whole : Bool) → (broken : List BrokenRule) → Bool
+breaks_off true broken = false
+breaks_off false [] = false
+breaks_off false (cycle ∷ broken) = true
+
+abbrev pub some_breaks_off : List Step → TraceView → List Item → Bool
+some_breaks_off steps v items = breaks_off (is_whole steps) (broken steps v items)
+
 -- ---- what a program keeps of a trace
 
 -- where it is kept whole its places don't matter

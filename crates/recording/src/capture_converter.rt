@@ -8,7 +8,7 @@ ghost use Rattle.recording.specs.Captures.{items_in, timed_in, seen_text, IsConv
 use crate::capture_unit::unit_of;
 use crate::echoed_statuses::EchoedStatuses;
 use crate::latest_lines::LatestLines;
-use bus_capture::{CaptureFault, CaptureReader, CaptureRefusal, Setup, Stamped};
+use bus_capture::{CaptureFault, CaptureForm, CaptureReader, CaptureRefusal, Setup, Stamped};
 use onfi_cycle::Item;
 use seq_files::Convert;
 use std::alloc::{AllocError, Allocator, Global};
@@ -100,6 +100,7 @@ const MOST_KEPT: usize = 512 << 20;
 pub struct CaptureConverter<'m> {
     alloc: Global,
     reader: CaptureReader<'m, Global>,
+    form: CaptureForm,
     has_times: bool,
     latest: LatestLines,
     items: usize,
@@ -126,6 +127,7 @@ impl<'m> CaptureConverter<'m> {
         Ok(CaptureConverter {
             alloc,
             reader,
+            form: setup.form,
             has_times,
             latest,
             items: 0,
@@ -163,7 +165,7 @@ impl<'m> CaptureConverter<'m> {
         ensures err { IfErr result (λ e. e ≡ CaptureRefusal.OutOfMemory) }
     {
         if !self.has_begun {
-            self.unit = unit_of(self.has_times, piece);
+            self.unit = unit_of(self.has_times, self.form, piece);
         }
         self.has_begun = true;
         match self.latest.push(piece) {

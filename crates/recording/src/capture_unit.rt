@@ -1,11 +1,16 @@
 //! The unit of the times of a capture.
 
+use bus_capture::CaptureForm;
 use edge_timing::find_unit;
 use std::fmt;
 
-/// How many femtoseconds 1 of a written time is, where times are written and the dump says it.
-pub fn unit_of(has_times: bool, capture: &[u8]) -> Option<u64> {
-    if has_times { find_unit(capture) } else { None }
+/// How many femtoseconds 1 of a written time is, where times are written and the capture says it.
+pub fn unit_of(has_times: bool, form: CaptureForm, capture: &[u8]) -> Option<u64> {
+    if has_times {
+        find_unit(form, capture)
+    } else {
+        None
+    }
 }
 
 /// A unit of times of so many femtoseconds.

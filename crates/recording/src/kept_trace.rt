@@ -4,7 +4,7 @@ ghost use Rattle.std.specs.List.{All};
 ghost use Rattle.trace_text.specs.Line.{IsPrintable};
 ghost use Rattle.trace_data.specs.Numbers.{numbered_by};
 ghost use Rattle.vendor_file.specs.Carried.{kept_items, kept_places, broken_lines, carried_faults, carried_readies, merged};
-ghost use Rattle.recording.specs.Kept.{kept, kept_timed, places, broken, is_whole, timed_at, timed_at_places, carried_violation, carried_violations, faults_from, readies_from, late_from, differences_from, IsKept};
+ghost use Rattle.recording.specs.Kept.{kept, kept_timed, places, broken, is_whole, timed_at, timed_at_places, carried_violation, carried_violations, faults_from, readies_from, late_from, differences_from, breaks_off, IsKept};
 ghost use Rattle.recording.specs.Targets.{count_of};
 
 use crate::passed_amount::PassedAmount;
@@ -228,6 +228,13 @@ impl KeptTrace {
 
     pub fn broken(&self) -> usize {
         self.broken.len()
+    }
+
+    /// A sequence that is passed over breaks off: some cycle isn't next in it.
+    pub(crate) fn breaks_off(&self) -> bool
+        ensures { result ≡ breaks_off self.now.is_whole self.now.broken.items }
+    {
+        !self.is_whole && !self.broken.is_empty()
     }
 
     /// Where its items stand in the trace.

@@ -60,6 +60,14 @@ impl Remarks {
         self.explanations.cause_of(fault.item)
     }
 
+    /// A sequence that is passed over breaks off, so that the trace that is judged isn't written.
+    pub fn breaks_off(&self) -> bool {
+        match &self.passed {
+            Some(passed) => !passed.broken.is_empty(),
+            None => false,
+        }
+    }
+
     /// How many items aren't judged.
     pub fn passed_over(&self) -> usize {
         let passed = self.passed.as_ref().map_or(0, |passed| passed.amount.items);

@@ -11,7 +11,7 @@ ghost use Rattle.trace_timing.specs.declared.violation.Violation.{Violation};
 ghost use Rattle.trace_data.specs.declared.difference.Difference.{Difference};
 ghost use Rattle.seq_inputs.specs.Inputs.{PageIsRefused};
 ghost use Rattle.seq_inputs.specs.Stops.{RefusesNothing};
-ghost use Rattle.recording.specs.Checks.{view_of, is_asked, with_copy, AreInputs, IsRead, IsJudged, InputIsRefused, RecordingIsRefused};
+ghost use Rattle.recording.specs.Checks.{view_of, is_asked, copied_to, with_copy, AreInputs, IsRead, IsJudged, InputIsRefused, RecordingIsRefused};
 ghost use Rattle.recording.specs.Endings.{SaysOf};
 ghost use Rattle.recording.specs.Kept.{faults_from, readies_from, late_from, differences_from, IsKept};
 ghost use Rattle.recording.specs.Opened.{AreOf, AreOpenedIf, AreReplayed, ImagesAreRefused};
@@ -283,6 +283,13 @@ fn put_items<'p, F: Files>(
     write_file(files, path, text.as_str().as_bytes())
 }
 
+// Where the trace that is judged is written.
+fn copied_to(request: CheckRequest<'_>, breaks_off: bool) -> Option<&str>
+    ensures { option_map (λ path. path.now) result ≡ copied_to request.entry breaks_off }
+{
+    if breaks_off { None } else { request.copy }
+}
+
 // Writes the trace that is judged, where a path is given for it.
 fn copy_trace<'p, F: Files>(
     alloc: Global,
@@ -368,7 +375,8 @@ pub fn judge_trace<'p, F: Files, P: CheckProgress>(
         unknown,
     };
     let remarks = Remarks::find(alloc, request, &view, rulers, &kept, explained, rules)?;
-    copy_trace(alloc, files, request.copy, &view, kept.items.as_slice())?;
+    let copy = copied_to(request, kept.breaks_off());
+    copy_trace(alloc, files, copy, &view, kept.items.as_slice())?;
     Ok(CheckedTrace {
         geometry,
         modes,

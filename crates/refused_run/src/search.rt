@@ -38,6 +38,12 @@ pub struct Found<A: Allocator> {
 // The most plans that are kept.
 const MOST_PLANS: usize = 50_000;
 
+// The most cycles that a run may have.
+const MOST_CYCLES: u64 = 1 << 19;
+
+// How many cycles may come for each step that a search may take, in all the runs that it tries.
+const CYCLES_A_STEP: u64 = 32;
+
 // The reasons that need no cycle, by number.
 const REASONS: [Reason; 8] = [
     Reason::AddressUnaligned,
@@ -72,6 +78,38 @@ struct Search<A: Allocator> {
     tried: usize,
     tried_later: usize,
     steps: u64,
+    cycles_left: u64,
+}
+
+// How many cycles a word has at most.
+fn most_cycles_of(word: Word) -> u64 {
+    match word {
+        Word::Get { len } | Word::Put { len } => u64::from(len),
+        Word::Address { .. } | Word::Wait | Word::ReadStatus => 5,
+        Word::Command { .. } => 1,
+        Word::End { .. }
+        | Word::Seek { .. }
+        | Word::Column { .. }
+        | Word::RowAdd { .. }
+        | Word::Row { .. }
+        | Word::Plane { .. }
+        | Word::Yield
+        | Word::BranchOnStatus { .. }
+        | Word::Loop { .. }
+        | Word::Next
+        | Word::Jump { .. } => 0,
+    }
+}
+
+// Whether the cycles of a word may come in the run that is tried, behind so many: neither it nor the search has too many then. If so, they are counted.
+fn admit_cycles<A: Allocator>(search: &mut Search<A>, behind: usize, word: Word) -> bool {
+    let count = most_cycles_of(word);
+    let is_admitted = count <= search.cycles_left
+        && (behind as u64).saturating_add(count) <= MOST_CYCLES;
+    if is_admitted {
+        search.cycles_left -= count;
+    }
+    is_admitted
 }
 
 // Whether the loops around the next word are in a turn that is tried first.
@@ -251,6 +289,9 @@ fn advance<A: Allocator>(
         return Ok(false);
     }
     search.steps = search.steps.saturating_add(1);
+    if !admit_cycles(search, course.items().len(), word) {
+        return Ok(false);
+    }
     let Some(offer) = list_options(search, course, words, word) else {
         return Ok(false);
     };
@@ -416,12 +457,13 @@ fn take_run<A: Allocator + Clone>(
     }))
 }
 
-// A search that begins.
+// A search that begins, of so many steps at most.
 fn begin<A: Allocator + Clone>(
     alloc: A,
     words: &[Word],
     geometry: &Geometry,
     fault: Fault,
+    most: u64,
 ) -> Result<Search<A>, AllocError> {
     let mut plans = Vec::new(alloc.clone()?);
     plans.push(Plan::FIRST)?;
@@ -438,6 +480,7 @@ fn begin<A: Allocator + Clone>(
         tried: 0,
         tried_later: 0,
         steps: 0,
+        cycles_left: CYCLES_A_STEP.saturating_mul(most),
     })
 }
 
@@ -454,7 +497,8 @@ fn bounds_of<A: Allocator>(text: &Text<A>) -> Bounds
 }
 
 /// Searches for a run of a text that the verifier refuses with this fault: what may happen on a channel of one target of this geometry, whose LUN 0 runs the
-/// text from row 0 on, up to the refused word. It tries so many steps at most: words that come, in all the runs that it tries.
+/// text from row 0 on, up to the refused word. It tries so many steps at most: words that come, in all the runs that it tries. For each step 32 cycles
+/// may come besides, and a run has 524,288 at most: one that needs more isn't tried.
 ///
 /// What it finds is a run: each item is permitted where it stands, each word comes where the text leads, and at its end the reason stands, or the item
 /// that breaks the rule comes next. A run that ends at another word, or for another reason, is found where none ends as the refusal says. That
@@ -469,10 +513,11 @@ pub fn find_run<A: Allocator + Clone>(
 {
     let alloc = text.allocator();
     let words = text.words();
-    let mut search = begin(alloc.clone()?, words, geometry, fault)?;
+    let mut search = begin(alloc.clone()?, words, geometry, fault, most)?;
     let bench = Bench::new(alloc.clone()?, *geometry);
     let mut course = Course::begin(copied(alloc.clone()?, words)?, bounds_of(text), bench);
     if let Some(plan) = try_all(&mut search, &mut course, words, most)? {
+        search.cycles_left = CYCLES_A_STEP.saturating_mul(most);
         try_plan(&mut search, &mut course, words, &plan, most)?;
     }
     let Search { choices, steps, .. } = search;

@@ -95,7 +95,7 @@ fn gravity_of(ending: Ending) -> u8 {
         Ending::Exit(Exit::Refused(_)) | Ending::Faulty(_) => 2,
         Ending::Exit(Exit::FileFault | Exit::ReaderGone) => 3,
         Ending::Exit(Exit::Usage) => 4,
-        Ending::Exit(Exit::OutOfMemory) => 5,
+        Ending::Exit(Exit::TooManySteps | Exit::OutOfMemory) => 5,
     }
 }
 

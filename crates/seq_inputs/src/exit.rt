@@ -17,7 +17,9 @@ pub enum Exit {
     ReaderGone,
     /// The command line couldn't be read, which standard error says.
     Usage,
-    /// Memory was refused, a thread couldn't be started, or a run would take too many steps, which standard error says.
+    /// The programs of a run may step more words than it allows, which standard error says.
+    TooManySteps,
+    /// Memory was refused, or a thread couldn't be started, which standard error says.
     OutOfMemory,
 }
 
@@ -31,7 +33,7 @@ impl Exit {
             Exit::Refused(_) => 1,
             Exit::FileFault | Exit::ReaderGone => 2,
             Exit::Usage => 3,
-            Exit::OutOfMemory => 4,
+            Exit::TooManySteps | Exit::OutOfMemory => 4,
         }
     }
 }

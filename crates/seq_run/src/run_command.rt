@@ -220,7 +220,7 @@ fn run_text<R: Threads + Wait + Sync, C: Clock, F: Files, W: Write, E: Write, P:
         }
     };
     if !admit_steps(&mut console.errors, request, &plan.jobs) {
-        return Exit::OutOfMemory;
+        return Exit::TooManySteps;
     }
     say_no_job(&mut console.errors, request, &plan.jobs);
     say_counted_headers(alloc, &mut console.errors, &plan.jobs);

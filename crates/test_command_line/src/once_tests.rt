@@ -48,6 +48,7 @@ const EXITS: &[(Exit, u8)] = &[
     (Exit::FileFault, 2),
     (Exit::ReaderGone, 2),
     (Exit::Usage, 3),
+    (Exit::TooManySteps, 4),
     (Exit::OutOfMemory, 4),
 ];
 

@@ -1,5 +1,5 @@
 -- The image of a die is written.
-use Rattle.std.proofs.Common.{◌≡◌, ◌<◌, ◌≤◌, ◌*◌, ℕ, Bool, Option, Some, List, [], ◌∷◌, length, get_or, Result, Ok, Err, OnOk, None, inl, inr, ap, sym, subst, ◌∙◌, arith, refl, true}
+use Rattle.std.proofs.Common.{◌≡◌, ◌<◌, ◌≤◌, ◌*◌, ℕ, Bool, Option, Some, List, [], ◌∷◌, length, get_or, Result, Ok, Err, OnOk, None, inl, inr, ap, sym, subst, ◌∙◌, arith, refl, true, false}
 use Rattle.std.specs.Prelude.{slice_get}
 use Rattle.std.proofs.lemmas.Option.{slice_get-get_or}
 use Rattle.seq_files.specs.Store.{Store, with_file}
@@ -15,7 +15,9 @@ use Rattle.recording.specs.declared.recording_fault.RecordingFault.{RecordingFau
 use Rattle.recording.specs.declared.recording_fault.RecordingFault.TheVariants.{Item as ItemAt}
 use Rattle.recording.specs.Captures.{IsFirst}
 use Rattle.recording.specs.declared.data_request.DataRequest.{DataRequest}
-use Rattle.recording.specs.Checks.{IsJudged, InputIsRefused, RecordingIsRefused}
+use Rattle.recording.specs.Kept.{kept, some_breaks_off}
+use Rattle.recording.specs.Rules.{judged_in}
+use Rattle.recording.specs.Checks.{view_of, copied_to, with_copy, IsJudged, InputIsRefused, RecordingIsRefused}
 use Rattle.recording.specs.Endings.{SaysOf}
 use Rattle.recording.specs.declared.recording_stop.RecordingStop.{RecordingStop}
 use Rattle.recording.specs.declared.recording_stop.RecordingStop.TheVariants.{Stop as ForAll, Faulty}
@@ -55,10 +57,16 @@ written_at files judged later request images given g told late found dies whole 
   left = subst (λ (f : Option Store). IsLeft f later request g told dies whole) same left;
 }
 
+never_copied : (request : ImageRequest) (breaks_off : Bool) → copied_to (check_of request) breaks_off ≡ None
+never_copied request true = refl
+never_copied request false = refl
+
 -- a check that writes no trace leaves the files as they were
 pub uncopied : (files later : Option Store) (request : ImageRequest) (given : DataRequest) (g : Parts) (told : List BrokenRule) (late : List Violation) (found : List Difference) (dies : List Die) (whole : List Item)
     (assumed : List NotShown) → IsJudged files later (check_of request) (Some given) g told late found dies whole assumed → later ≡ files
-uncopied files later request given g told late found dies whole assumed j = j.copied
+uncopied files later request given g told late found dies whole assumed j =
+    let v = view_of (check_of request) g in
+    j.copied ∙ ap (λ (c : Option (List ℕ)). with_copy c (judged_in v (kept j.steps v j.items)) files) (never_copied request (some_breaks_off j.steps v j.items))
 
 -- what is refused of its inputs is refused of the command
 says_more : {A : Type 0} (May More : Fault → Type 0) (stop : Stop A) → ((fault : Fault) → May fault → More fault) → Says May stop → Says More stop

@@ -214,7 +214,7 @@ fn show_capture<'p, F: Files>(
                 unselected,
                 strobe_changes: 0,
                 echoes: count_echoes(seen.stamped.as_slice()),
-                unit: unit_of(request.has_times, capture.as_slice()),
+                unit: unit_of(request.has_times, request.form, capture.as_slice()),
             },
             amount,
         }),

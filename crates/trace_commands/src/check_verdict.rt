@@ -112,7 +112,9 @@ pub(crate) fn say_unjudged<E: Write>(errors: &mut E, request: CheckRequest<'_>, 
     let verdict = match ending {
         Ending::Faulty(_) | Ending::Exit(Exit::Refused(_)) => Verdict::Refused,
         Ending::Exit(Exit::FileFault) => Verdict::Unreadable,
-        Ending::Exit(Exit::Done | Exit::ReaderGone | Exit::Usage | Exit::OutOfMemory)
+        Ending::Exit(
+            Exit::Done | Exit::ReaderGone | Exit::Usage | Exit::TooManySteps | Exit::OutOfMemory,
+        )
         | Ending::Flagged => return,
     };
     let verdict = CheckVerdict::of_nothing(request.trace.input, verdict);

@@ -147,7 +147,7 @@ fn write_left<'p, F: Files>(
 }
 
 // Reads what an image is made of, and writes the image, unless the trace has a fault.
-#[tactic(auto, using(crate::proofs::Written::dies_count))]
+#[tactic(auto, using(crate::proofs::Written::dies_count, crate::proofs::Written::uncopied, crate::proofs::Written::written_at))]
 fn write_at<'p, F: Files, P: CheckProgress>(
     alloc: Global,
     files: &mut F,

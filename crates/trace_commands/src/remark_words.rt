@@ -6,6 +6,7 @@ use recording::{
     CheckRequest, CheckedTrace, LineCursor, Remarks, push_at_item, push_message, words_at_item,
 };
 use seq_inputs::{Style, say_words};
+use shown_text::Shown;
 use std::alloc::{AllocError, Global};
 use std::fmt;
 use std::io::Write;
@@ -188,6 +189,25 @@ fn push_amounts(
     }
 }
 
+// Adds that the trace that is judged isn't written, where a sequence of the vendor breaks off.
+fn push_unwritten(
+    lines: &mut String,
+    alloc: Global,
+    request: CheckRequest<'_>,
+    remarks: &Remarks,
+) -> Result<(), AllocError> {
+    match request.copy {
+        Some(path) if remarks.breaks_off() => {
+            let path = Shown::path(path);
+            let words = format!(in alloc;
+                "{path} isn't written, since a sequence of the vendor breaks off"
+            )?;
+            push_message(lines, request.style, words.as_str())
+        }
+        _ => Ok(()),
+    }
+}
+
 // What is said beside the faults of a trace with this text.
 fn words_of(
     alloc: Global,
@@ -202,6 +222,7 @@ fn words_of(
     push_not_shown(&mut lines, alloc, request, text, trace.assumed.as_slice())?;
     push_unknown(&mut lines, alloc, request, text, remarks)?;
     push_amounts(&mut lines, alloc, request, trace)?;
+    push_unwritten(&mut lines, alloc, request, remarks)?;
     Ok(lines)
 }
 

@@ -1,15 +1,14 @@
-use Rattle.std.proofs.Common.{◌≡◌, ℕ, List, Ok, Option, sym, subst, refl, None}
+use Rattle.std.proofs.Common.{◌≡◌, ℕ, List, Ok, sym, subst, refl, None}
 use Rattle.std.specs.Option.{option_map}
 use Rattle.bus_signals.specs.declared.mapping.Mapping.{Mapping}
 use Rattle.bus_capture.specs.declared.reading.Setup.{Setup}
 use Rattle.bus_capture.specs.Inferring.{captured}
 use Rattle.recording.specs.Captures.{AreSaid}
 use Rattle.edge_commands.specs.Edges.{AreJudgedIn, IsEdgeSetup}
-use Rattle.edge_commands.proofs.Done.{any_ok}
 use Rattle.edge_commands.proofs.edges_judging.judge_file.Goals as goal
 
-pub returns-clause-ok : goal.returns-clause-ok
-returns-clause-ok g c =
+pub returns-in-Ok-clause-ok : goal.returns-in-Ok-clause-ok
+returns-in-Ok-clause-ok g c =
     let request = c.args.request in
     let setup : Setup = record { form = request.form; geometry = c.args.geometry; targets = c.count.result; mappings = c.as_slice.result; glitch = 0; late = None } in
     let is : IsEdgeSetup request c.args.geometry setup = record {
@@ -28,4 +27,4 @@ returns-clause-ok g c =
       items = c.in_ok-see_capture.field-0.stamped.items;
       shows = subst (λ (bytes : List ℕ). captured setup bytes ≡ Ok c.in_ok-see_capture.field-0.stamped.items) c.as_slice-2.ensures.value c.in_ok-see_capture.ensures.ok;
     } in
-    any_ok c.judge_capture.result judged
+    judged
